@@ -1,0 +1,108 @@
+-- Laws on rules that are asked in an order.
+use Rattle.std.proofs.Common.{◌≡◌, ℕ, zero, suc, ◌+◌, ◌-◌, ◌<◌, ◌≤◌, true, false, List, [], ◌∷◌, ◌++◌, Some, None, Result, Ok, Err, refl, sym, ap, arith, ◌∙◌}
+use Rattle.field_words.specs.Questions.{Question, Ask, first_of, NoneStands, IsFirst, each, answered, Refuses, Answers}
+use Rattle.field_words.specs.declared.stop.Stop.{Stop}
+use Rattle.field_words.specs.declared.stop.Stop.TheVariants.{Fault, NoMemory}
+
+-- Where no question of the front stands, the rest decides.
+pub passes : {F : Type 0} → (front rest : List (Question F)) → first_of front ≡ None → first_of (front ++ rest) ≡ first_of rest
+passes [] rest none = refl
+passes (Ask true answer ∷ front) rest none = cc
+passes (Ask false answer ∷ front) rest none = passes front rest none
+
+-- Where one of the front stands, the rest is not asked.
+pub stops : {F : Type 0} → (front rest : List (Question F)) (f : F) → first_of front ≡ Some f → first_of (front ++ rest) ≡ Some f
+stops [] rest f some = cc
+stops (Ask true answer ∷ front) rest f some = some
+stops (Ask false answer ∷ front) rest f some = stops front rest f some
+
+-- the list form and the answer of the first agree: none stands exactly where the answer is None
+pub none_stands : {F : Type 0} → (questions : List (Question F)) → first_of questions ≡ None → NoneStands questions
+none_stands [] none = tt
+none_stands (Ask true answer ∷ later) none = cc
+none_stands (Ask false answer ∷ later) none = (refl, none_stands later none)
+
+pub stands_none : {F : Type 0} → (questions : List (Question F)) → NoneStands questions → first_of questions ≡ None
+stands_none [] none = refl
+stands_none (Ask true answer ∷ later) none = cc
+stands_none (Ask false answer ∷ later) none = stands_none later none.1
+
+-- The answer of the first question that stands is the first that stands, as a sentence about the
+-- whole list, and the other way round.
+pub first_is : {F : Type 0} → (questions : List (Question F)) (f : F) → first_of questions ≡ Some f → IsFirst questions f
+first_is [] f some = cc
+first_is {F} (Ask true answer ∷ later) f some =
+    let e : answer ≡ f = cc in
+    record { earlier = []; later = later; here = ap (λ a. Ask true a ∷ later) e; before = tt }
+first_is (Ask false answer ∷ rest) f some =
+    let found = first_is rest f some in
+    record {
+      earlier = Ask false answer ∷ found.earlier;
+      later = found.later;
+      here = ap (λ l. Ask false answer ∷ l) found.here;
+      before = (refl, found.before);
+    }
+
+pub is_first : {F : Type 0} → (questions : List (Question F)) (f : F) → IsFirst questions f → first_of questions ≡ Some f
+is_first questions f found =
+    ap first_of found.here ∙ passes found.earlier (Ask true f ∷ found.later) (stands_none found.earlier found.before)
+
+-- The answer changes with the change of the answers.
+pub answered_none : {F G : Type 0} (change : F → G) → (questions : List (Question F)) → first_of questions ≡ None → first_of (answered change questions) ≡ None
+unfolding answered
+answered_none change [] none = refl
+answered_none change (Ask true answer ∷ later) none = cc
+answered_none change (Ask false answer ∷ later) none = answered_none change later none
+
+pub answered_some : {F G : Type 0} (change : F → G) → (questions : List (Question F)) (f : F) → first_of questions ≡ Some f → first_of (answered change questions) ≡ Some (change f)
+unfolding answered
+answered_some change [] f some = cc
+answered_some change (Ask true answer ∷ later) f some = let e : answer ≡ f = cc in ap (λ a. Some (change a)) e
+answered_some change (Ask false answer ∷ later) f some = answered_some change later f some
+
+-- One item of a loop over items: its questions first, and then those of the items after it.
+pub each_step : {F : Type 0} (questions : ℕ → List (Question F)) (i n : ℕ) → each questions i (suc n) ≡ questions i ++ each questions (i + 1) n
+unfolding each
+each_step questions i n = refl
+
+-- The loop over items 0 to n - 1 stands at item k, and no item before k has a fault: the same at k + 1.
+pub each_on : {F : Type 0} (questions : ℕ → List (Question F)) (k n : ℕ) → k < n → first_of (questions k) ≡ None
+    → first_of (each questions (k + 1) (n - (k + 1))) ≡ first_of (each questions k (n - k))
+each_on questions k n below none =
+    let e : n - k ≡ suc (n - (k + 1)) = omega arith in
+    sym (ap (λ m. first_of (each questions k m)) e
+    ∙ ap first_of (each_step questions k (n - (k + 1)))
+    ∙ passes (questions k) (each questions (k + 1) (n - (k + 1))) none)
+
+-- the same where item k has a fault, which is then the first of all from k on
+pub each_stop : {F : Type 0} (questions : ℕ → List (Question F)) (k n : ℕ) (f : F) → k < n → first_of (questions k) ≡ Some f
+    → first_of (each questions k (n - k)) ≡ Some f
+each_stop questions k n f below some =
+    let e : n - k ≡ suc (n - (k + 1)) = omega arith in
+    ap (λ m. first_of (each questions k m)) e
+    ∙ ap first_of (each_step questions k (n - (k + 1)))
+    ∙ stops (questions k) (each questions (k + 1) (n - (k + 1))) f some
+
+-- no item is left
+pub each_end : {F : Type 0} (questions : ℕ → List (Question F)) (k n : ℕ) → n ≤ k → first_of (each questions k (n - k)) ≡ None
+unfolding each
+each_end questions k n past =
+    let e : n - k ≡ zero = omega arith in
+    ap (λ m. first_of (each questions k m)) e
+
+-- A front without faults: what answers the rest answers the whole.
+pub answers_later : {X F : Type 0} (front rest : List (Question F)) (P : X → Type 0) → (result : Result X (Stop F))
+    → first_of front ≡ None → Answers rest P result → Answers (front ++ rest) P result
+answers_later front rest P (Ok made) none answers = (passes front rest none ∙ answers.0, answers.1)
+answers_later front rest P (Err (Fault f)) none answers = passes front rest none ∙ answers
+answers_later front rest P (Err NoMemory) none answers = tt
+
+-- A refusal by the front is a refusal by the whole.
+pub refuses_front : {F : Type 0} (front rest : List (Question F)) → (stop : Stop F) → Refuses front stop → Refuses (front ++ rest) stop
+refuses_front front rest (Fault f) refuses = stops front rest f refuses
+refuses_front front rest NoMemory refuses = tt
+
+-- A refusal by rules is a refusal by the same rules under other answers.
+pub refuses_answered : {F G : Type 0} (change : F → G) (questions : List (Question F)) (f : F) → first_of questions ≡ Some f
+    → Refuses (answered change questions) (Fault (change f))
+refuses_answered change questions f some = answered_some change questions f some

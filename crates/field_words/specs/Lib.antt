@@ -1,0 +1,4 @@
+pub mod Pieces
+pub mod Questions
+pub mod Words
+pub mod Writes

@@ -1,0 +1,18 @@
+-- A text made of pieces, one after the other.
+use Rattle.std.specs.Prelude.{◌≡◌, ◌≤◌, ℕ, ◌+◌, List, [], ◌∷◌, ◌++◌, length, take, drop}
+
+-- n bytes from a place on are the text
+pub record IsPiece (bytes : List ℕ) (at n : ℕ) (text : List ℕ) : Type 0 where
+  pub size : length text ≡ n
+  pub inside : at + n ≤ length bytes
+  pub same : take n (drop at bytes) ≡ text
+
+-- the texts joined in order
+abbrev pub joined : List (List ℕ) → List ℕ
+joined [] = []
+joined (text ∷ texts) = text ++ joined texts
+
+-- from a place on the texts stand one after the other
+abbrev pub ArePieces : List ℕ → ℕ → List (List ℕ) → Type 0
+ArePieces bytes at [] = at ≤ length bytes
+ArePieces bytes at (text ∷ texts) = IsPiece bytes at (length text) text × ArePieces bytes (at + length text) texts

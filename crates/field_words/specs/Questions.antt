@@ -1,0 +1,46 @@
+-- Rules asked in the order of refusal. A question says whether its rule stands, and what is
+-- answered where it is the first that does.
+use Rattle.std.specs.Prelude.{◌≡◌, ℕ, zero, suc, ◌+◌, Bool, true, false, List, [], ◌∷◌, ◌++◌, Option, Some, None, Result, Ok, Err, if◌then◌else◌}
+use Rattle.field_words.specs.declared.stop.Stop.{Stop}
+use Rattle.field_words.specs.declared.stop.Stop.TheVariants.{Fault, NoMemory}
+
+pub data Question (F : Type 0) : Type 0 where
+  Ask : Bool → F → Question F
+
+-- the answer of the first question that stands
+abbrev pub first_of : {F : Type 0} → List (Question F) → Option F
+first_of [] = None
+first_of (Ask stands answer ∷ later) = if stands then Some answer else first_of later
+
+-- no question stands
+abbrev pub NoneStands : {F : Type 0} → List (Question F) → Type 0
+NoneStands [] = Unit {0}
+NoneStands (Ask stands answer ∷ later) = (stands ≡ false) × NoneStands later
+
+-- The same as a sentence about the whole list: the answer is that of a question that stands,
+-- and none before it does.
+pub record IsFirst {F : Type 0} (questions : List (Question F)) (answer : F) : Type 0 where
+  pub earlier : List (Question F)
+  pub later : List (Question F)
+  pub here : questions ≡ earlier ++ (Ask true answer ∷ later)
+  pub before : NoneStands earlier
+
+-- the questions of items i, i + 1 and so on, n items
+unfoldable pub each : {F : Type 0} → (ℕ → List (Question F)) → ℕ → ℕ → List (Question F)
+each questions i zero = []
+each questions i (suc n) = questions i ++ each questions (i + 1) n
+
+-- the same rules with other answers
+unfoldable pub answered : {F G : Type 0} → (F → G) → List (Question F) → List (Question G)
+answered change [] = []
+answered change (Ask stands answer ∷ later) = Ask stands (change answer) ∷ answered change later
+
+-- a fault is the first that stands; want of memory says nothing
+abbrev pub Refuses : {F : Type 0} → List (Question F) → Stop F → Type 0
+Refuses questions (Fault answer) = first_of questions ≡ Some answer
+Refuses questions NoMemory = Unit {0}
+
+-- Ok comes only where no rule stands, with P of what was made; a fault is the first that stands
+abbrev pub Answers : {X F : Type 0} → List (Question F) → (X → Type 0) → Result X (Stop F) → Type 0
+Answers questions P (Ok made) = (first_of questions ≡ None) × P made
+Answers questions P (Err stop) = Refuses questions stop

@@ -1,0 +1,54 @@
+//! Answers for want of memory.
+ghost use Rattle.std.specs.Prelude.{◌≡◌};
+ghost use Rattle.field_words.specs.declared.stop.Stop.TheVariants.{NoMemory as OutOfMemory};
+
+use std::alloc::{AllocError, AllocFailed};
+
+/// Memory ran out. It may come from any call that allocates, and says nothing else.
+#[derive(Clone, Copy, Debug, PartialEq, Eq)]
+pub struct NoMemory;
+
+impl From<AllocError> for NoMemory {
+    fn from(_error: AllocError) -> NoMemory {
+        NoMemory
+    }
+}
+
+impl<T: Drop> From<AllocFailed<T>> for NoMemory {
+    fn from(_error: AllocFailed<T>) -> NoMemory {
+        NoMemory
+    }
+}
+
+/// Why a call stopped: a fault of its input, or want of memory. The two are never merged.
+#[derive(Clone, Copy, Debug, PartialEq, Eq)]
+pub enum Stop<F> {
+    /// The input breaks this rule.
+    Fault(F),
+    /// Memory ran out.
+    NoMemory,
+}
+
+impl<F> From<AllocError> for Stop<F> {
+    ghost from_gives = { λ _ stop. stop ≡ OutOfMemory };
+
+    fn from(_error: AllocError) -> Stop<F> {
+        Stop::NoMemory
+    }
+}
+
+impl<F, T: Drop> From<AllocFailed<T>> for Stop<F> {
+    ghost from_gives = { λ _ stop. stop ≡ OutOfMemory };
+
+    fn from(_error: AllocFailed<T>) -> Stop<F> {
+        Stop::NoMemory
+    }
+}
+
+impl<F> From<NoMemory> for Stop<F> {
+    ghost from_gives = { λ _ stop. stop ≡ OutOfMemory };
+
+    fn from(_error: NoMemory) -> Stop<F> {
+        Stop::NoMemory
+    }
+}
