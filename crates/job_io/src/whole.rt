@@ -1,0 +1,81 @@
+//! Reading to the end of input, and writing all of a part.
+ghost use Rattle.std.specs.Prelude.{◌≤◌, ◌<◌, ◌≡◌, ◌↔◌, length, vec_len, IfOk, OnOk, OnErr, IfSome, IsErrOf};
+ghost use Rattle.std.specs.Io.KnownBytes.{Appends, IsAtEnd};
+ghost use Rattle.job_io.specs.Faults.{Rose};
+ghost use Rattle.job_io.specs.Traffic.{count_taken, AppendsFront};
+ghost use Rattle.job_io.specs.declared.whole.ReadEnd.TheVariants.{ReadFault as Fault, NoMemory as OutOfMemory};
+
+use super::traffic::{Failed, Sink, Source};
+use std::alloc::{AllocError, Global};
+
+/// Why a reading stopped before the end of input.
+#[derive(Clone, Copy, Debug, PartialEq, Eq)]
+pub enum ReadEnd {
+    /// The source failed.
+    ReadFault,
+    /// More bytes came than the limit.
+    TooLong,
+    /// Memory ran out.
+    NoMemory,
+}
+
+impl From<Failed> for ReadEnd {
+    ghost from_gives = { λ _ end. end ≡ Fault };
+
+    fn from(_failed: Failed) -> ReadEnd {
+        ReadEnd::ReadFault
+    }
+}
+
+impl From<AllocError> for ReadEnd {
+    ghost from_gives = { λ _ end. end ≡ OutOfMemory };
+
+    fn from(_error: AllocError) -> ReadEnd {
+        ReadEnd::NoMemory
+    }
+}
+
+/// How many bytes one call asks for.
+const PIECE: usize = 16384;
+
+/// Reads to the end of input, at most `limit` bytes. It stops at once where the source fails, and
+/// as soon as more than `limit` bytes were taken, which want of memory never hides. Each turn takes
+/// a byte or ends.
+pub fn read_all<S: Source>(alloc: Global, source: &mut S, limit: usize) -> Result<Vec<u8>, ReadEnd>
+    ensures whole { IfOk result (λ bytes. IfSome (S.left source.old) (λ all. bytes.items ≡ all)) }
+    ensures end { OnOk result (IsAtEnd (S.left source.new)) }
+    ensures within { IfOk result (λ bytes. vec_len bytes ≤ limit) }
+
+    ensures fault { IsErrOf result ReadEnd.ReadFault → Rose (S.faults source.old) (S.faults source.new) }
+    ensures long { IfSome (S.left source.old) (λ _. IsErrOf result ReadEnd.TooLong ↔
+        (limit < count_taken (S.left source.old) (S.left source.new))) }
+    ensures counted { S.faults source.old ≤ S.faults source.new }
+{
+    let mut bytes = Vec::new(alloc);
+    let mut piece = [0u8; PIECE];
+    loop {
+        let count = source.read(&mut piece)?;
+        if count == 0 {
+            return Ok(bytes);
+        }
+        if count > limit - bytes.len() {
+            return Err(ReadEnd::TooLong);
+        }
+        bytes.extend_from_slice(&piece[..count])?;
+    }
+}
+
+/// Appends all of `part`, in as many writes as the sink wants. A failure ends it at once, and the
+/// sink then has a front of the part. It takes no memory.
+pub fn write_all<K: Sink>(sink: &mut K, part: &[u8]) -> Result<(), Failed>
+    ensures ok { OnOk result (Appends (K.held sink.old) (K.held sink.new) part.now) }
+    ensures front { OnErr result (AppendsFront (K.held sink.old) (K.held sink.new) part.now) }
+    ensures failed { OnErr result (Rose (K.faults sink.old) (K.faults sink.new)) }
+    ensures counted { K.faults sink.old ≤ K.faults sink.new }
+{
+    let mut at = 0;
+    while at < part.len() {
+        at += sink.write(&part[at..])?;
+    }
+    Ok(())
+}
