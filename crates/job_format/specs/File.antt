@@ -1,0 +1,92 @@
+-- When bytes are a job file of version 1: they are its text, its numbers fit their fields, and it
+-- is well formed.
+use Rattle.std.specs.Prelude.{◌≡◌, ℕ, ◌+◌, ◌*◌, ◌%◌, ◌≤◌, ◌<◌, ◌^◌, List, length, map}
+use Rattle.std.specs.List.{AllByRecursion}
+use Rattle.field_words.specs.Words.{IsBytes}
+use Rattle.buffer_table.specs.declared.buffer.Kind.{Kind}
+use Rattle.buffer_table.specs.declared.buffer.Kind.TheVariants.{Plain, Code}
+use Rattle.buffer_table.specs.declared.buffer.Buffer.{Buffer}
+use Rattle.buffer_table.specs.declared.buffer.Regions.{Regions}
+use Rattle.job_format.specs.declared.file.Surface.{Surface}
+use Rattle.job_format.specs.declared.file.Frame.{Frame}
+use Rattle.job_format.specs.Model.{JobModel, FileModel}
+use Rattle.job_format.specs.Text.{file_text}
+
+-- Each number fits the bytes that hold it.
+pub record RegionsFit (r : Regions) : Type 0 where
+  pub lists_place : r.lists_place < 2 ^ 32
+  pub lists_size : r.lists_size < 2 ^ 32
+  pub tile_place : r.tile_place < 2 ^ 32
+  pub tile_slots : r.tile_slots < 2 ^ 32
+
+pub record BufferFits (b : Buffer) : Type 0 where
+  pub place : b.place < 2 ^ 32
+  pub size : b.size < 2 ^ 32
+  pub client : b.client < 2 ^ 32
+  pub content : b.content < 2 ^ 32
+
+pub record SurfaceFits (s : Surface) : Type 0 where
+  pub hindex : s.hindex < 2 ^ 32
+  pub offset : s.offset < 2 ^ 32
+  pub bits : s.bits < 2 ^ 16
+  pub flags : s.flags < 2 ^ 16
+
+pub record FrameFits (f : Frame) : Type 0 where
+  pub width : f.width < 2 ^ 16
+  pub height : f.height < 2 ^ 16
+  pub min_x : f.min_x < 256
+  pub min_y : f.min_y < 256
+  pub max_x : f.max_x < 256
+  pub max_y : f.max_y < 256
+  pub six : length f.surfaces ≡ 6
+  pub surfaces : AllByRecursion SurfaceFits f.surfaces
+  pub two : length f.clear_color ≡ 2
+  pub clear_color : AllByRecursion (λ c. c < 2 ^ 32) f.clear_color
+  pub clear_z : f.clear_z < 2 ^ 32
+  pub clear_s : f.clear_s < 256
+
+pub record JobFits (j : JobModel) : Type 0 where
+  pub client : j.client < 2 ^ 32
+  pub handles : AllByRecursion (λ h. h < 2 ^ 32) j.handles
+  pub bin : IsBytes j.bin
+  pub records : IsBytes j.records
+  pub declared : j.declared < 2 ^ 32
+  pub uniforms : IsBytes j.uniforms
+  pub frame : FrameFits j.frame
+
+pub record Fits (f : FileModel) : Type 0 where
+  pub version : f.version < 2 ^ 32
+  pub mem_size : f.mem_size < 2 ^ 32
+  pub regions : RegionsFit f.regions
+  pub buffers : AllByRecursion BufferFits f.buffers
+  pub contents : AllByRecursion IsBytes f.contents
+  pub jobs : AllByRecursion JobFits f.jobs
+
+-- a shader has at most 65,536 bytes
+abbrev pub FitsShader : Kind → ℕ → Type 0
+FitsShader Plain content = Unit {0}
+FitsShader Code content = content ≤ 65536
+
+pub record IsJobWellFormed (j : JobModel) : Type 0 where
+  pub handles : length j.handles ≤ 64
+  pub bin : length j.bin ≤ 1048576
+  pub records : length j.records ≤ 1048576
+  pub declared : j.declared ≤ 65536
+  pub uniforms : length j.uniforms ≤ 1048576
+  pub whole_words : length j.uniforms % 4 ≡ 0
+
+-- What a file that was read is, and what a file needs to be written: the limits hold, and there
+-- is one list of contents per buffer, as long as its entry says.
+pub record IsWellFormed (f : FileModel) : Type 0 where
+  pub version : f.version ≡ 1
+  pub buffers : length f.buffers ≤ 64
+  pub code : AllByRecursion (λ b. FitsShader b.kind b.content) f.buffers
+  pub contents : map length f.contents ≡ map (λ b. b.content) f.buffers
+  pub one_job : length f.jobs ≡ 1
+  pub jobs : AllByRecursion IsJobWellFormed f.jobs
+
+-- The bytes are this file.
+pub record IsFileOf (bytes : List ℕ) (f : FileModel) : Type 0 where
+  pub fits : Fits f
+  pub well_formed : IsWellFormed f
+  pub text : bytes ≡ file_text f

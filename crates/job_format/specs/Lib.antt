@@ -1,0 +1,4 @@
+pub mod File
+pub mod Model
+pub mod Rules
+pub mod Text

@@ -1,0 +1,20 @@
+-- How a rule is printed: its letter, and its number in decimal.
+use Rattle.std.specs.Prelude.{ℕ, List, ◌++◌, codes}
+use Rattle.std.specs.Fmt.{decimal}
+use Rattle.job_format.specs.declared.rule.Stage.{Stage}
+use Rattle.job_format.specs.declared.rule.Stage.TheVariants.{F, M, S, H, B, A, U, G, X}
+use Rattle.job_format.specs.declared.rule.Rule.{Rule}
+
+abbrev pub letter : Stage → List ℕ
+letter F = codes "F"
+letter M = codes "M"
+letter S = codes "S"
+letter H = codes "H"
+letter B = codes "B"
+letter A = codes "A"
+letter U = codes "U"
+letter G = codes "G"
+letter X = codes "X"
+
+abbrev pub rule_text : Rule → List ℕ
+rule_text rule = letter rule.stage ++ decimal rule.number
