@@ -1,0 +1,5 @@
+pub mod Word
+pub mod Inst
+pub mod Fields
+pub mod Terms
+pub mod Told
