@@ -1,0 +1,54 @@
+-- Laws on intervals, and on bytes that are read and written.
+use Rattle.std.proofs.Common.{◌≡◌, ◌≢◌, ◌≤◌, ◌<◌, ℕ, zero, suc, ◌+◌, ◌⊎◌, inl, inr, List, [], ◌∷◌, length, slice_index, slice_set, refl, sym, ◌∙◌, ap, arith}
+use Rattle.std.proofs.lemmas.Grind.{common_steps}
+use Rattle.std.proofs.lemmas.List.{get_or-set_same, get_or-set_other, length-set}
+use Rattle.machine_plan.specs.Memory.{bytes_at, stored}
+use Rattle.machine_plan.specs.Regions.{Interval, LiesIn, Inside, Agree}
+
+-- a part of what lies inside lies inside
+pub inside_part : (rs : List Interval) (p n q k : ℕ) → Inside rs p n → p ≤ q → q + k ≤ p + n → Inside rs q k
+inside_part [] p n q k h low high = absurd h
+inside_part (r ∷ rs) p n q k (inl h) low high = inl (record { from = omega (arith, h.from); upto = omega (arith, h.upto) })
+inside_part (r ∷ rs) p n q k (inr h) low high = inr (inside_part rs p n q k h low high)
+
+pub length-bytes_at : (m : List ℕ) (p n : ℕ) → length (bytes_at m p n) ≡ n
+unfolding bytes_at
+length-bytes_at m p zero = refl
+length-bytes_at m p (suc n) = ap suc (length-bytes_at m (suc p) n)
+
+pub length-stored : (m : List ℕ) (p : ℕ) (bs : List ℕ) → length (stored m p bs) ≡ length m
+unfolding stored
+length-stored m p [] = refl
+length-stored m p (b ∷ bs) = length-stored (slice_set m p b) (suc p) bs ∙ length-set m p b
+
+-- memories that agree give the same bytes inside
+pub bytes_agree : (rs : List Interval) (m k : List ℕ) → Agree rs m k → (p n : ℕ) → Inside rs p n → bytes_at m p n ≡ bytes_at k p n
+unfolding bytes_at
+bytes_agree rs m k agree p zero h = refl
+bytes_agree rs m k agree p (suc n) h =
+    let here : slice_index m p ≡ slice_index k p = agree.same p (inside_part rs p (suc n) p 1 h (omega arith) (omega arith)) in
+    let rest : bytes_at m (suc p) n ≡ bytes_at k (suc p) n = bytes_agree rs m k agree (suc p) n (inside_part rs p (suc n) (suc p) n h (omega arith) (omega arith)) in
+    cc
+
+-- one byte written in both keeps what was the same
+pub same-set : (m k : List ℕ) (p b q : ℕ) → length m ≡ length k → slice_index m q ≡ slice_index k q → slice_index (slice_set m p b) q ≡ slice_index (slice_set k p b) q
+same-set m k p b q long same = grind (arith, common_steps, get_or-set_same, get_or-set_other)
+
+-- the same write keeps the agreement, wherever it goes
+pub stored_agree : (rs : List Interval) (bs : List ℕ) (m k : List ℕ) (p : ℕ) → Agree rs m k → Agree rs (stored m p bs) (stored k p bs)
+unfolding stored
+stored_agree rs [] m k p agree = agree
+stored_agree rs (b ∷ bs) m k p agree =
+    stored_agree rs bs (slice_set m p b) (slice_set k p b) (suc p) (record {
+      long = length-set m p b ∙ (agree.long ∙ sym (length-set k p b));
+      same = λ q h. same-set m k p b q agree.long (agree.same q h)
+    })
+
+-- a write keeps each byte outside it
+pub stored_keeps : (bs : List ℕ) (m : List ℕ) (p q : ℕ) → (p ≤ q → q < p + length bs → ⊥) → slice_index (stored m p bs) q ≡ slice_index m q
+unfolding stored
+stored_keeps [] m p q out = refl
+stored_keeps (b ∷ bs) m p q out =
+    let later : suc p ≤ q → q < suc p + length bs → ⊥ = λ low high. out (omega arith) (omega arith) in
+    let other : q ≢ p = λ e. out (omega arith) (omega arith) in
+    stored_keeps bs (slice_set m p b) (suc p) q later ∙ get_or-set_other m p q b 0 other

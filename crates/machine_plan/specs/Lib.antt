@@ -1,0 +1,4 @@
+pub mod Memory
+pub mod Regions
+pub mod Plan
+pub mod Runs
