@@ -1,9 +1,10 @@
 //! The names of the machine's units and of what they do to memory.
 
 /// A unit of the machine.
-#[derive(Clone, Copy, Debug, PartialEq, Eq)]
+#[derive(Clone, Copy, Debug, Default, PartialEq, Eq)]
 pub enum Actor {
     /// The binner, which reads binner lists and writes tile memory.
+    #[default]
     Binner,
     /// The renderer, which reads renderer lists and tile memory and writes surfaces.
     Renderer,
@@ -27,7 +28,7 @@ pub enum Way {
 
 /// One access of a unit to memory: `len` bytes from the byte address `place` on, on behalf of
 /// the job of this number. A wild access has place 0 and length 0.
-#[derive(Clone, Copy, Debug, PartialEq, Eq)]
+#[derive(Clone, Copy, Debug, Default, PartialEq, Eq)]
 pub struct Access {
     pub way: Way,
     pub place: u64,
