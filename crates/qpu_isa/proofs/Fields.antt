@@ -1,5 +1,5 @@
 -- The fields of a word, joined, give the word again.
-use Rattle.std.proofs.Common.{◌≡◌, ℕ, zero, suc, ◌+◌, ◌*◌, ◌/◌, ◌%◌, ◌^◌, ◌<◌, List, [], ◌∷◌, refl, sym, ◌∙◌, ap, arith, Bool, ◌==◌}
+use Rattle.std.proofs.Common.{◌≡◌, ℕ, ◌+◌, ◌*◌, ◌/◌, ◌%◌, ◌^◌, List, [], ◌∷◌, sym, ◌∙◌, ap, arith}
 use Rattle.std.proofs.Math.Nat.{div-one, div-div-eq-div-mul, div-add-mod}
 use Rattle.std.proofs.lemmas.Nat.{pow-add}
 use Rattle.qpu_isa.specs.Fields.{width_of, values_of, joined}
@@ -9,7 +9,7 @@ pub quotient_split : (word high low : ℕ) → word / 2 ^ (high + low) * 2 ^ hig
 quotient_split word high low =
     let q : ℕ = word / 2 ^ low in
     let above : word / 2 ^ (high + low) ≡ q / 2 ^ high =
-      ap (λ n. word / n) (pow-add 2 high low) ∙ (ap (λ n. word / n) (omega arith) ∙ sym (div-div-eq-div-mul word (2 ^ low) (2 ^ high))) in
+    ap (λ n. word / n) (pow-add 2 high low) ∙ (ap (λ n. word / n) (omega arith) ∙ sym (div-div-eq-div-mul word (2 ^ low) (2 ^ high))) in
     rw above (omega (arith, div-add-mod q (2 ^ high)))
 
 pub joined-values_of : (widths : List ℕ) (word : ℕ) → joined (word / 2 ^ width_of widths) widths (values_of widths word) ≡ word

@@ -1,7 +1,7 @@
 -- Each word is the word of its fields.
-use Rattle.std.proofs.Common.{◌≡◌, ℕ, ◌+◌, ◌*◌, ◌/◌, ◌%◌, ◌^◌, ◌<◌, List, [], ◌∷◌, refl, sym, ◌∙◌, ap, arith, Bool, true, false, ◌==◌, cond, if◌then◌else◌, eqb-true}
+use Rattle.std.proofs.Common.{◌≡◌, ℕ, ◌/◌, ◌%◌, ◌^◌, ◌<◌, refl, sym, ◌∙◌, ap, arith, Bool, true, false, ◌==◌, if◌then◌else◌, eqb-true}
 use Rattle.std.proofs.lemmas.Bool.Decides.{nat_tests}
-use Rattle.std.proofs.Math.Nat.{div-eq_of_lt, div-div-eq-div-mul}
+use Rattle.std.proofs.Math.Nat.{div-eq_of_lt}
 use Rattle.qpu_isa.specs.declared.inst.Alu.{Alu}
 use Rattle.qpu_isa.specs.declared.inst.LoadImm.{LoadImm}
 use Rattle.qpu_isa.specs.declared.inst.Branch.{Branch}
@@ -43,8 +43,8 @@ pub alu_word-alu_of : (word : ℕ) → word < 2 ^ 64 → alu_word (alu_of word) 
 unfolding width_of
 alu_word-alu_of word small =
     alu_word-joined (alu_of word)
-      ∙ (ap (joined 0 alu_widths) (alu_values-alu_of word)
-        ∙ (ap (λ n. joined n alu_widths (values_of alu_widths word)) (sym (div-eq_of_lt small)) ∙ joined-values_of alu_widths word))
+    ∙ (ap (joined 0 alu_widths) (alu_values-alu_of word)
+    ∙ (ap (λ n. joined n alu_widths (values_of alu_widths word)) (sym (div-eq_of_lt small)) ∙ joined-values_of alu_widths word))
 
 -- the signal is what stands above bit 60
 pub above-sig : (word : ℕ) → word < 2 ^ 64 → word / 2 ^ 60 ≡ sig_of word
@@ -55,19 +55,18 @@ pub load_imm_word-load_imm_of : (word : ℕ) → word < 2 ^ 64 → sig_of word �
 unfolding width_of
 load_imm_word-load_imm_of word small is =
     load_imm_word-joined (load_imm_of word)
-      ∙ (ap (joined 14 load_imm_widths) (load_imm_values-load_imm_of word)
-        ∙ (ap (λ n. joined n load_imm_widths (values_of load_imm_widths word)) (sym (above-sig word small ∙ is)) ∙ joined-values_of load_imm_widths word))
+    ∙ (ap (joined 14 load_imm_widths) (load_imm_values-load_imm_of word)
+    ∙ (ap (λ n. joined n load_imm_widths (values_of load_imm_widths word)) (sym (above-sig word small ∙ is)) ∙ joined-values_of load_imm_widths word))
 
 pub branch_word-branch_of : (word : ℕ) → word < 2 ^ 64 → sig_of word ≡ 15 → branch_word (branch_of word) ≡ word
 unfolding width_of
 branch_word-branch_of word small is =
     branch_word-joined (branch_of word)
-      ∙ (ap (joined 15 branch_widths) (branch_values-branch_of word)
-        ∙ (ap (λ n. joined n branch_widths (values_of branch_widths word)) (sym (above-sig word small ∙ is)) ∙ joined-values_of branch_widths word))
-
+    ∙ (ap (joined 15 branch_widths) (branch_values-branch_of word)
+    ∙ (ap (λ n. joined n branch_widths (values_of branch_widths word)) (sym (above-sig word small ∙ is)) ∙ joined-values_of branch_widths word))
 
 by_signal : (word : ℕ) → word < 2 ^ 64 → (loads branches : Bool) → (sig_of word == 14) ≡ loads → (sig_of word == 15) ≡ branches
-  → word_of (if loads then kind.LoadImm (load_imm_of word) else (if branches then kind.Branch (branch_of word) else kind.Alu (alu_of word))) ≡ word
+    → word_of (if loads then kind.LoadImm (load_imm_of word) else (if branches then kind.Branch (branch_of word) else kind.Alu (alu_of word))) ≡ word
 by_signal word small true branches is other = load_imm_word-load_imm_of word small (eqb-true _ _ is)
 by_signal word small false true is other = branch_word-branch_of word small (eqb-true _ _ other)
 by_signal word small false false is other = alu_word-alu_of word small

@@ -34,15 +34,15 @@ branch_widths = 4 ∷ 4 ∷ 1 ∷ 1 ∷ 5 ∷ 1 ∷ 6 ∷ 6 ∷ 32 ∷ []
 unfoldable pub alu_values : Alu → List ℕ
 alu_values alu =
     alu.sig ∷ alu.unpack ∷ bit alu.pm ∷ alu.pack ∷ alu.cond_add ∷ alu.cond_mul ∷ bit alu.sf ∷ bit alu.ws
-        ∷ alu.waddr_add ∷ alu.waddr_mul ∷ alu.op_mul ∷ alu.op_add ∷ alu.raddr_a ∷ alu.raddr_b ∷ alu.add_a
-        ∷ alu.add_b ∷ alu.mul_a ∷ alu.mul_b ∷ []
+    ∷ alu.waddr_add ∷ alu.waddr_mul ∷ alu.op_mul ∷ alu.op_add ∷ alu.raddr_a ∷ alu.raddr_b ∷ alu.add_a
+    ∷ alu.add_b ∷ alu.mul_a ∷ alu.mul_b ∷ []
 
 unfoldable pub load_imm_values : LoadImm → List ℕ
 load_imm_values load =
     load.mode ∷ bit load.pm ∷ load.pack ∷ load.cond_add ∷ load.cond_mul ∷ bit load.sf ∷ bit load.ws
-        ∷ load.waddr_add ∷ load.waddr_mul ∷ load.imm ∷ []
+    ∷ load.waddr_add ∷ load.waddr_mul ∷ load.imm ∷ []
 
 unfoldable pub branch_values : Branch → List ℕ
 branch_values branch =
     branch.spare ∷ branch.cond ∷ bit branch.relative ∷ bit branch.register ∷ branch.raddr ∷ bit branch.ws
-        ∷ branch.waddr_add ∷ branch.waddr_mul ∷ branch.imm ∷ []
+    ∷ branch.waddr_add ∷ branch.waddr_mul ∷ branch.imm ∷ []

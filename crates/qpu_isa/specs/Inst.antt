@@ -10,20 +10,52 @@ use Rattle.qpu_isa.specs.Word.{sig_of, unpack_of, pm_of, pack_of, cond_add_of, c
 -- the fields of a word, by its signal
 unfoldable pub alu_of : ℕ → Alu
 alu_of word = record {
-    sig = sig_of word; unpack = unpack_of word; pm = pm_of word; pack = pack_of word; cond_add = cond_add_of word;
-    cond_mul = cond_mul_of word; sf = sf_of word; ws = ws_of word; waddr_add = waddr_add_of word;
-    waddr_mul = waddr_mul_of word; op_mul = op_mul_of word; op_add = op_add_of word; raddr_a = raddr_a_of word;
-    raddr_b = raddr_b_of word; add_a = add_a_of word; add_b = add_b_of word; mul_a = mul_a_of word; mul_b = mul_b_of word }
+  sig = sig_of word;
+  unpack = unpack_of word;
+  pm = pm_of word;
+  pack = pack_of word;
+  cond_add = cond_add_of word;
+  cond_mul = cond_mul_of word;
+  sf = sf_of word;
+  ws = ws_of word;
+  waddr_add = waddr_add_of word;
+  waddr_mul = waddr_mul_of word;
+  op_mul = op_mul_of word;
+  op_add = op_add_of word;
+  raddr_a = raddr_a_of word;
+  raddr_b = raddr_b_of word;
+  add_a = add_a_of word;
+  add_b = add_b_of word;
+  mul_a = mul_a_of word;
+  mul_b = mul_b_of word;
+}
 
 unfoldable pub load_imm_of : ℕ → LoadImm
 load_imm_of word = record {
-    mode = mode_of word; pm = pm_of word; pack = pack_of word; cond_add = cond_add_of word; cond_mul = cond_mul_of word;
-    sf = sf_of word; ws = ws_of word; waddr_add = waddr_add_of word; waddr_mul = waddr_mul_of word; imm = imm_of word }
+  mode = mode_of word;
+  pm = pm_of word;
+  pack = pack_of word;
+  cond_add = cond_add_of word;
+  cond_mul = cond_mul_of word;
+  sf = sf_of word;
+  ws = ws_of word;
+  waddr_add = waddr_add_of word;
+  waddr_mul = waddr_mul_of word;
+  imm = imm_of word;
+}
 
 unfoldable pub branch_of : ℕ → Branch
 branch_of word = record {
-    spare = spare_of word; cond = cond_of word; relative = relative_of word; register = register_of word;
-    raddr = raddr_of word; ws = ws_of word; waddr_add = waddr_add_of word; waddr_mul = waddr_mul_of word; imm = imm_of word }
+  spare = spare_of word;
+  cond = cond_of word;
+  relative = relative_of word;
+  register = register_of word;
+  raddr = raddr_of word;
+  ws = ws_of word;
+  waddr_add = waddr_add_of word;
+  waddr_mul = waddr_mul_of word;
+  imm = imm_of word;
+}
 
 unfoldable pub inst_of : ℕ → Inst
 inst_of word =
@@ -78,21 +110,21 @@ bit flag = if flag then 1 else 0
 unfoldable pub alu_word : Alu → ℕ
 alu_word alu =
     alu.sig * 2 ^ 60 + alu.unpack * 2 ^ 57 + bit alu.pm * 2 ^ 56 + alu.pack * 2 ^ 52 + alu.cond_add * 2 ^ 49
-        + alu.cond_mul * 2 ^ 46 + bit alu.sf * 2 ^ 45 + bit alu.ws * 2 ^ 44 + alu.waddr_add * 2 ^ 38
-        + alu.waddr_mul * 2 ^ 32 + alu.op_mul * 2 ^ 29 + alu.op_add * 2 ^ 24 + alu.raddr_a * 2 ^ 18
-        + alu.raddr_b * 2 ^ 12 + alu.add_a * 2 ^ 9 + alu.add_b * 2 ^ 6 + alu.mul_a * 2 ^ 3 + alu.mul_b
+    + alu.cond_mul * 2 ^ 46 + bit alu.sf * 2 ^ 45 + bit alu.ws * 2 ^ 44 + alu.waddr_add * 2 ^ 38
+    + alu.waddr_mul * 2 ^ 32 + alu.op_mul * 2 ^ 29 + alu.op_add * 2 ^ 24 + alu.raddr_a * 2 ^ 18
+    + alu.raddr_b * 2 ^ 12 + alu.add_a * 2 ^ 9 + alu.add_b * 2 ^ 6 + alu.mul_a * 2 ^ 3 + alu.mul_b
 
 unfoldable pub load_imm_word : LoadImm → ℕ
 load_imm_word load =
     14 * 2 ^ 60 + load.mode * 2 ^ 57 + bit load.pm * 2 ^ 56 + load.pack * 2 ^ 52 + load.cond_add * 2 ^ 49
-        + load.cond_mul * 2 ^ 46 + bit load.sf * 2 ^ 45 + bit load.ws * 2 ^ 44 + load.waddr_add * 2 ^ 38
-        + load.waddr_mul * 2 ^ 32 + load.imm
+    + load.cond_mul * 2 ^ 46 + bit load.sf * 2 ^ 45 + bit load.ws * 2 ^ 44 + load.waddr_add * 2 ^ 38
+    + load.waddr_mul * 2 ^ 32 + load.imm
 
 unfoldable pub branch_word : Branch → ℕ
 branch_word branch =
     15 * 2 ^ 60 + branch.spare * 2 ^ 56 + branch.cond * 2 ^ 52 + bit branch.relative * 2 ^ 51
-        + bit branch.register * 2 ^ 50 + branch.raddr * 2 ^ 45 + bit branch.ws * 2 ^ 44 + branch.waddr_add * 2 ^ 38
-        + branch.waddr_mul * 2 ^ 32 + branch.imm
+    + bit branch.register * 2 ^ 50 + branch.raddr * 2 ^ 45 + bit branch.ws * 2 ^ 44 + branch.waddr_add * 2 ^ 38
+    + branch.waddr_mul * 2 ^ 32 + branch.imm
 
 abbrev pub word_of : Inst → ℕ
 word_of (kind.Alu alu) = alu_word alu

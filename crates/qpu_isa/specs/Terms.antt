@@ -144,8 +144,8 @@ is_operand word selector (Acc number) = is_plain word selector && selector == nu
 unfoldable pub is_register_operand : ℕ → ℕ → Bool
 is_register_operand word selector =
     is_plain word selector
-        && (nat_lt selector 4
-            || ((selector == 6 && nat_lt (raddr_a_of word) 32) || (selector == 7 && (nat_lt (raddr_b_of word) 32 && not (has_small word)))))
+    && (nat_lt selector 4
+    || ((selector == 6 && nat_lt (raddr_a_of word) 32) || (selector == 7 && (nat_lt (raddr_b_of word) 32 && not (has_small word)))))
 
 -- the register that a register operand is
 unfoldable pub operand_register : ℕ → ℕ → Reg

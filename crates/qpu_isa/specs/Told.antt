@@ -1,8 +1,10 @@
 -- What the calls tell of an instruction: whether it takes a uniform, which TMU it writes, which registers it names.
-use Rattle.std.specs.Prelude.{ℕ, ◌+◌, ◌≡◌, ◌<◌, ◌==◌, Bool, true, false, not, ◌&&◌, ◌||◌, nat_lt, nat_le, if◌then◌else◌}
+use Rattle.std.specs.Prelude.{ℕ, ◌+◌, ◌^◌, ◌≡◌, ◌<◌, ◌==◌, Bool, false, not, ◌&&◌, ◌||◌, nat_lt, if◌then◌else◌, is_some}
 use Rattle.std.specs.declared.option.Option.{Option}
 use Rattle.std.specs.declared.option.Option.TheVariants.{None, Some}
 use Rattle.qpu_isa.specs.declared.inst.Inst.{Inst}
+use Rattle.qpu_isa.specs.Inst.{inst_of}
+use Rattle.qpu_isa.specs.Terms.{reads_uniform_of, names, has_tmu_write}
 use Rattle.qpu_isa.specs.declared.inst.Inst.TheVariants as kind
 use Rattle.qpu_isa.specs.declared.inst.Reg.{Reg}
 use Rattle.qpu_isa.specs.declared.inst.Reg.TheVariants.{A, B, Acc}
@@ -46,3 +48,12 @@ abbrev pub IsRegister : Reg → Type 0
 IsRegister (A number) = number < 32
 IsRegister (B number) = number < 32
 IsRegister (Acc number) = number < 4
+
+-- Of a word's instruction they tell what the terms on words say.
+pub record TellsTerms (word : ℕ) : Type 0 where
+  pub uniform : takes_uniform (inst_of word) ≡ reads_uniform_of word
+  pub named : (reg : Reg) → names_written (inst_of word) reg ≡ names word reg
+  pub tmu : is_some (tmu_written (inst_of word)) ≡ has_tmu_write word
+
+abbrev pub TermsAgree : Type 0
+TermsAgree = (word : ℕ) → word < 2 ^ 64 → TellsTerms word

@@ -1,6 +1,6 @@
 ghost use Rattle.std.specs.Prelude.{◌≡◌, ◌<◌, ◌^◌, ℕ, Bool, not};
 ghost use Rattle.qpu_isa.specs.Inst.{inst_of};
-ghost use Rattle.qpu_isa.specs.Told.{takes_uniform, tmu_at, tmu_written, first_given, is_named, names_written, IsRegister};
+ghost use Rattle.qpu_isa.specs.Told.{takes_uniform, tmu_at, tmu_written, first_given, is_named, names_written, IsRegister, TermsAgree};
 
 use crate::inst::{Inst, Reg};
 
@@ -71,7 +71,13 @@ pub fn writes_reg(inst: &Inst, reg: Reg) -> bool
 {
     match inst {
         Inst::Alu(alu) => names(!alu.ws, alu.waddr_add, reg) || names(alu.ws, alu.waddr_mul, reg),
-        Inst::LoadImm(load) => names(!load.ws, load.waddr_add, reg) || names(load.ws, load.waddr_mul, reg),
+        Inst::LoadImm(load) => names(!load.ws, load.waddr_add, reg)
+            || names(load.ws, load.waddr_mul, reg),
         Inst::Branch(_) => false,
     }
 }
+
+/// A law: of a word's instruction the calls here tell what the terms on words say.
+pub fn terms_agree()
+    ensures { TermsAgree }
+{}

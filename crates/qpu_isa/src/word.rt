@@ -120,7 +120,12 @@ pub fn fits(inst: &Inst) -> bool
 fn fits_alu(alu: &Alu) -> bool
     ensures { IsTrue result ↔ IsAluWithin alu.now }
 {
-    if alu.sig >= 16 || alu.unpack >= 8 || alu.pack >= 16 || alu.cond_add >= 8 || alu.cond_mul >= 8 {
+    if alu.sig >= 16
+        || alu.unpack >= 8
+        || alu.pack >= 16
+        || alu.cond_add >= 8
+        || alu.cond_mul >= 8
+    {
         return false;
     }
     if alu.waddr_add >= 64 || alu.waddr_mul >= 64 || alu.op_mul >= 8 || alu.op_add >= 32 {
@@ -148,7 +153,11 @@ fn fits_branch(branch: &Branch) -> bool
     ensures { IsTrue result ↔ IsBranchWithin branch.now }
 {
     let _imm = branch.imm;
-    branch.spare < 16 && branch.cond < 16 && branch.raddr < 32 && branch.waddr_add < 64 && branch.waddr_mul < 64
+    branch.spare < 16
+        && branch.cond < 16
+        && branch.raddr < 32
+        && branch.waddr_add < 64
+        && branch.waddr_mul < 64
 }
 
 /// The word with these fields.
@@ -228,5 +237,4 @@ fn put_branch(branch: &Branch) -> u64
 #[tactic(auto, using(crate::proofs::Words::each_returns))]
 pub fn words_return()
     ensures { WordsReturn }
-{
-}
+{}
