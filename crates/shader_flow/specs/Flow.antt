@@ -1,0 +1,60 @@
+-- Where a shader may go: its end, its checked instructions, and the targets of its branches. A shader is its list of words.
+use Rattle.std.specs.Prelude.{◌≡◌, ◌≤◌, ℕ, suc, ◌+◌, ◌/◌, ◌%◌, ◌==◌, Bool, false, not, ◌&&◌, ◌||◌, List, [], ◌∷◌, length, min, nat_lt, slice_index, slice_index_or, if◌then◌else◌}
+use Rattle.qpu_isa.specs.Word.{imm_of, relative_of, register_of}
+use Rattle.qpu_isa.specs.Terms.{is_end, is_branch, is_switch, back_by, leads_to}
+use Rattle.shader_flow.specs.Bounded.{some_below, is_back}
+
+-- the instruction at an index
+abbrev pub word : List ℕ → ℕ → ℕ
+word code i = slice_index code i
+
+-- the index of the first program end, or the number of words where there is none
+unfoldable pub end_of : List ℕ → ℕ
+end_of [] = 0
+end_of (first ∷ later) = if is_end first then 0 else suc (end_of later)
+
+-- How many instructions are checked: those up to the program end, and the two after it, which it still executes.
+unfoldable pub checked_of : List ℕ → ℕ
+checked_of code = min (length code) (end_of code + 3)
+
+-- the three instructions after a branch are executed before it acts; they are its slots
+unfoldable pub in_slots : List ℕ → ℕ → Bool
+in_slots code i =
+    is_back i 1 (λ k. is_branch (word code k)) || (is_back i 2 (λ k. is_branch (word code k)) || is_back i 3 (λ k. is_branch (word code k)))
+
+-- a switch acts after two further instructions
+unfoldable pub after_switch : List ℕ → ℕ → Bool
+after_switch code i = is_back i 1 (λ k. is_switch (word code k)) || is_back i 2 (λ k. is_switch (word code k))
+
+-- A branch at i leads to a number below 0, or above the program end. Its target is i + 4 and the immediate's eighth, and
+-- 2 ^ 29 less where the immediate is negative.
+unfoldable pub leads_outside : List ℕ → ℕ → Bool
+leads_outside code i =
+    nat_lt (i + 4 + imm_of (word code i) / 8) (back_by (word code i))
+    || nat_lt (end_of code + back_by (word code i)) (i + 4 + imm_of (word code i) / 8)
+
+-- a branch whose target is known: relative, by no register, to a whole instruction inside the program
+unfoldable pub is_sound_branch : List ℕ → ℕ → Bool
+is_sound_branch code i =
+    (is_branch (word code i) && (relative_of (word code i) && not (register_of (word code i))))
+    && (imm_of (word code i) % 8 == 0 && not (leads_outside code i))
+
+-- a sound branch at b makes i a target: it leads there, or its slots end there
+unfoldable pub makes_target : List ℕ → ℕ → ℕ → Bool
+makes_target code b i = is_sound_branch code b && (i == b + 4 || leads_to (word code b) b i)
+
+-- execution may come to i otherwise than from the instruction before it, by a branch before the program end
+unfoldable pub is_target : List ℕ → ℕ → Bool
+is_target code i = some_below (end_of code) (λ b. makes_target code b i)
+
+-- a checked instruction is a switch, so two threads share the processor
+unfoldable pub is_threaded : List ℕ → Bool
+is_threaded code = some_below (checked_of code) (λ k. is_switch (word code k))
+
+-- What `flow` keeps of a shader: its program end, a mark for each target from 0 to the number of words, and whether it
+-- switches threads.
+pub record IsFlow (code : List ℕ) (last : ℕ) (targets : List Bool) (threaded : Bool) : Type 0 where
+  pub last_is : last ≡ end_of code
+  pub size : length targets ≡ length code + 1
+  pub marks : (i : ℕ) → i ≤ length code → slice_index_or targets i false ≡ is_target code i
+  pub threaded_is : threaded ≡ is_threaded code

@@ -1,0 +1,123 @@
+//! The program end and the targets.
+ghost use Rattle.std.specs.Prelude.{◌≡◌, ◌<◌, ◌≤◌, ◌+◌, ◌==◌, ◌||◌, ℕ, false, length, slice_index_or, IfOk};
+ghost use Rattle.qpu_isa.specs.Terms.{leads_to};
+ghost use Rattle.shader_flow.specs.Bounded.{some_below};
+ghost use Rattle.shader_flow.specs.Flow.{end_of, checked_of, is_threaded, is_target, makes_target, IsFlow};
+
+use crate::rules::is_sound;
+use crate::state::Flow;
+use crate::word::{immediate, is_end, is_switch};
+use field_words::NoMemory;
+use std::alloc::Global;
+
+// The index of the first program end, or the number of words where there is none.
+fn program_end(code: &[u64]) -> u32
+    requires { length code.now ≤ 8192 }
+    ensures { result ≡ end_of code.now }
+{
+    let mut end = 0;
+    for word in code {
+        if is_end(*word) {
+            return end;
+        }
+        end += 1;
+    }
+    end
+}
+
+/// The number of instructions that are checked: those up to the program end `end`, and the two after it.
+#[tactic(auto, unfolding(crate::specs::Flow::checked_of))]
+pub fn checked(code: &[u64], end: u32) -> usize
+    requires few { length code.now ≤ 8192 }
+    requires last { end ≡ end_of code.now }
+    ensures value { result ≡ checked_of code.now }
+    ensures inside { result ≤ length code.now }
+{
+    code.len().min(end as usize + 3)
+}
+
+// Whether a checked instruction is a switch.
+#[tactic(auto, unfolding(crate::specs::Flow::is_threaded))]
+fn switches(code: &[u64], end: u32) -> bool
+    requires few { length code.now ≤ 8192 }
+    requires last { end ≡ end_of code.now }
+    ensures { result ≡ is_threaded code.now }
+{
+    for at in 0..checked(code, end) {
+        if is_switch(code[at]) {
+            return true;
+        }
+    }
+    false
+}
+
+// Marks the index `at`, where there is one.
+fn mark(targets: &mut [bool], at: usize)
+    ensures size { length targets.new ≡ length targets.old }
+    ensures marks { (i : ℕ) → i < length targets.old → slice_index_or targets.new i false ≡ (slice_index_or targets.old i false || i == at) }
+{
+    if at < targets.len() {
+        targets[at] = true;
+    }
+}
+
+// Marks where the branch `word` at index `at` leads, and where its slots end.
+#[tactic(auto, unfolding(qpu_isa::specs::Terms::leads_to, qpu_isa::specs::Terms::back_by))]
+fn mark_branch(targets: &mut [bool], word: u64, at: usize)
+    requires { at < 8192 }
+    ensures size { length targets.new ≡ length targets.old }
+    ensures marks { (i : ℕ) → i < length targets.old → slice_index_or targets.new i false ≡ (slice_index_or targets.old i false || (i == at + 4 || leads_to word at i)) }
+{
+    let number = immediate(word);
+    let sum = at + 4 + number as usize / 8;
+    let back = if number >= 1 << 31 { 1 << 29 } else { 0 };
+    mark(targets, at + 4);
+    if back <= sum {
+        mark(targets, sum - back);
+    }
+}
+
+// Marks what the instruction at `at` makes a target, where it is a branch that can be followed.
+#[tactic(auto, unfolding(crate::specs::Flow::makes_target))]
+fn mark_from(targets: &mut [bool], code: &[u64], end: u32, at: usize)
+    requires inside { at < length code.now }
+    requires few { length code.now ≤ 8192 }
+    requires last { end ≡ end_of code.now }
+    ensures size { length targets.new ≡ length targets.old }
+    ensures marks { (i : ℕ) → i < length targets.old → slice_index_or targets.new i false ≡ (slice_index_or targets.old i false || makes_target code.now at i) }
+{
+    if is_sound(code, end, at) {
+        mark_branch(targets, code[at], at);
+    }
+}
+
+// Marks all targets.
+#[tactic(auto, unfolding(crate::specs::Flow::is_target))]
+fn mark_all(targets: &mut [bool], code: &[u64], end: u32)
+    requires clear { (i : ℕ) → slice_index_or targets.old i false ≡ false }
+    requires few { length code.now ≤ 8192 }
+    requires last { end ≡ end_of code.now }
+    ensures size { length targets.new ≡ length targets.old }
+    ensures marks { (i : ℕ) → i < length targets.old → slice_index_or targets.new i false ≡ is_target code.now i }
+{
+    for at in 0..end as usize {
+        mark_from(targets, code, end, at);
+    }
+}
+
+/// Walks a shader of at most 8,192 words for its program end, its targets and whether it switches threads. Only want of
+/// memory fails.
+pub fn flow(alloc: Global, code: &[u64]) -> Result<Flow, NoMemory>
+    requires { length code.now ≤ 8192 }
+    ensures { IfOk result (λ f. IsFlow code.now f.end f.targets.items f.threaded) }
+{
+    let end = program_end(code);
+    let mut targets = vec![in alloc; false; code.len() + 1]?;
+    mark_all(&mut targets, code, end);
+    let threaded = switches(code, end);
+    Ok(Flow {
+        end,
+        targets,
+        threaded,
+    })
+}

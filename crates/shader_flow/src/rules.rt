@@ -1,0 +1,246 @@
+//! The rules on signals, branches and switches at one instruction.
+ghost use Rattle.std.specs.Prelude.{◌≡◌, ◌<◌, ◌≤◌, length};
+ghost use Rattle.field_words.specs.Questions.{first_of};
+ghost use Rattle.shader_flow.specs.Bounded.{is_back};
+ghost use Rattle.qpu_isa.specs.Terms.{is_branch, is_switch};
+ghost use Rattle.shader_flow.specs.Flow.{word, end_of, in_slots, after_switch, leads_outside, is_sound_branch, IsFlow};
+ghost use Rattle.shader_flow.specs.Rules.{s3, s4, s5, s6, s7, s8, s9, s10, s11, s12, s13, s27, flow_questions};
+
+use crate::state::Flow;
+use crate::word::{
+    add_address, immediate, is_branch, is_by_register, is_load_immediate, is_relative, is_switch,
+    mode, multiply_address, signal,
+};
+
+// A branch stands `distance` before.
+#[tactic(auto, unfolding(crate::specs::Bounded::is_back))]
+fn is_branch_back(code: &[u64], at: usize, distance: usize) -> bool
+    requires { at < length code.now }
+    ensures { result ≡ is_back at distance (λ k. is_branch (word code.now k)) }
+{
+    distance <= at && is_branch(code[at - distance])
+}
+
+// A switch stands `distance` before.
+#[tactic(auto, unfolding(crate::specs::Bounded::is_back))]
+fn is_switch_back(code: &[u64], at: usize, distance: usize) -> bool
+    requires { at < length code.now }
+    ensures { result ≡ is_back at distance (λ k. is_switch (word code.now k)) }
+{
+    distance <= at && is_switch(code[at - distance])
+}
+
+/// Whether the instruction at `at` stands in the three slots of a branch.
+#[tactic(auto, unfolding(crate::specs::Flow::in_slots))]
+pub fn is_in_slots(code: &[u64], at: usize) -> bool
+    requires { at < length code.now }
+    ensures { result ≡ in_slots code.now at }
+{
+    is_branch_back(code, at, 1) || is_branch_back(code, at, 2) || is_branch_back(code, at, 3)
+}
+
+// A switch stands one or two before.
+#[tactic(auto, unfolding(crate::specs::Flow::after_switch))]
+fn is_after_switch(code: &[u64], at: usize) -> bool
+    requires { at < length code.now }
+    ensures { result ≡ after_switch code.now at }
+{
+    is_switch_back(code, at, 1) || is_switch_back(code, at, 2)
+}
+
+// A branch leads to before the first instruction, or past the program end.
+#[tactic(auto, unfolding(crate::specs::Flow::leads_outside, qpu_isa::specs::Terms::back_by))]
+fn is_outside(code: &[u64], end: u32, at: usize) -> bool
+    requires inside { at < length code.now }
+    requires few { length code.now ≤ 8192 }
+    requires last { end ≡ end_of code.now }
+    ensures { result ≡ leads_outside code.now at }
+{
+    let number = immediate(code[at]);
+    let sum = at as u64 + 4 + number as u64 / 8;
+    let back = if number >= 1 << 31 { 1 << 29 } else { 0 };
+    sum < back || end as u64 + back < sum
+}
+
+/// Whether the instruction at `at` is a branch whose target is known and lies in the program.
+#[tactic(auto, unfolding(crate::specs::Flow::is_sound_branch))]
+pub(crate) fn is_sound(code: &[u64], end: u32, at: usize) -> bool
+    requires inside { at < length code.now }
+    requires few { length code.now ≤ 8192 }
+    requires last { end ≡ end_of code.now }
+    ensures { result ≡ is_sound_branch code.now at }
+{
+    let word = code[at];
+    is_branch(word)
+        && is_relative(word)
+        && !is_by_register(word)
+        && immediate(word).is_multiple_of(8)
+        && !is_outside(code, end, at)
+}
+
+// Signals that no shader may use.
+#[tactic(auto, unfolding(crate::specs::Rules::s3))]
+fn breaks_s3(code: &[u64], at: usize) -> bool
+    requires { at < length code.now }
+    ensures { result ≡ s3 code.now at }
+{
+    let sig = signal(code[at]);
+    sig == 0 || sig == 7 || sig == 9 || sig == 12
+}
+
+// A branch in the slots of a branch.
+#[tactic(auto, unfolding(crate::specs::Rules::s4))]
+fn breaks_s4(code: &[u64], at: usize) -> bool
+    requires { at < length code.now }
+    ensures { result ≡ s4 code.now at }
+{
+    is_branch(code[at]) && is_in_slots(code, at)
+}
+
+// A branch by a register.
+#[tactic(auto, unfolding(crate::specs::Rules::s5))]
+fn breaks_s5(code: &[u64], at: usize) -> bool
+    requires { at < length code.now }
+    ensures { result ≡ s5 code.now at }
+{
+    is_branch(code[at]) && is_by_register(code[at])
+}
+
+// A branch to an absolute place.
+#[tactic(auto, unfolding(crate::specs::Rules::s6))]
+fn breaks_s6(code: &[u64], at: usize) -> bool
+    requires { at < length code.now }
+    ensures { result ≡ s6 code.now at }
+{
+    is_branch(code[at]) && !is_relative(code[at])
+}
+
+// A branch into the middle of an instruction.
+#[tactic(auto, unfolding(crate::specs::Rules::s7))]
+fn breaks_s7(code: &[u64], at: usize) -> bool
+    requires { at < length code.now }
+    ensures { result ≡ s7 code.now at }
+{
+    is_branch(code[at]) && immediate(code[at]) % 8 != 0
+}
+
+// A branch out of the program.
+#[tactic(auto, unfolding(crate::specs::Rules::s8))]
+fn breaks_s8(code: &[u64], end: u32, at: usize) -> bool
+    requires inside { at < length code.now }
+    requires few { length code.now ≤ 8192 }
+    requires last { end ≡ end_of code.now }
+    ensures { result ≡ s8 code.now at }
+{
+    is_branch(code[at]) && immediate(code[at]) % 8 == 0 && is_outside(code, end, at)
+}
+
+// A branch whose slots go past the program end.
+#[tactic(auto, unfolding(crate::specs::Rules::s9))]
+fn breaks_s9(code: &[u64], end: u32, at: usize) -> bool
+    requires inside { at < length code.now }
+    requires few { length code.now ≤ 8192 }
+    requires last { end ≡ end_of code.now }
+    ensures { result ≡ s9 code.now at }
+{
+    is_branch(code[at]) && (end as usize) < at + 4
+}
+
+// A branch that also writes.
+#[tactic(auto, unfolding(crate::specs::Rules::s10))]
+fn breaks_s10(code: &[u64], at: usize) -> bool
+    requires { at < length code.now }
+    ensures { result ≡ s10 code.now at }
+{
+    is_branch(code[at]) && !(add_address(code[at]) == 39 && multiply_address(code[at]) == 39)
+}
+
+// A switch while a switch is on its way.
+#[tactic(auto, unfolding(crate::specs::Rules::s11))]
+fn breaks_s11(code: &[u64], at: usize) -> bool
+    requires { at < length code.now }
+    ensures { result ≡ s11 code.now at }
+{
+    is_switch(code[at]) && is_after_switch(code, at)
+}
+
+// A branch while a switch is on its way.
+#[tactic(auto, unfolding(crate::specs::Rules::s12))]
+fn breaks_s12(code: &[u64], at: usize) -> bool
+    requires { at < length code.now }
+    ensures { result ≡ s12 code.now at }
+{
+    is_branch(code[at]) && is_after_switch(code, at)
+}
+
+// A switch in a branch's slots, or one that acts after the program end.
+#[tactic(auto, unfolding(crate::specs::Rules::s13))]
+fn breaks_s13(code: &[u64], end: u32, at: usize) -> bool
+    requires inside { at < length code.now }
+    requires few { length code.now ≤ 8192 }
+    requires last { end ≡ end_of code.now }
+    ensures { result ≡ s13 code.now at }
+{
+    is_switch(code[at]) && (is_in_slots(code, at) || (end as usize) < at + 3)
+}
+
+// A load immediate in a mode that does not exist.
+#[tactic(auto, unfolding(crate::specs::Rules::s27))]
+fn breaks_s27(code: &[u64], at: usize) -> bool
+    requires { at < length code.now }
+    ensures { result ≡ s27 code.now at }
+{
+    let mode = mode(code[at]);
+    is_load_immediate(code[at]) && !(mode == 0 || mode == 1 || mode == 3)
+}
+
+/// The number of the first of the rules S3 to S13 and S27 that stands at the instruction `at`; `None` where none of them
+/// does. They keep a shader inside its own words: each branch goes where the checker can follow it, and no branch or
+/// switch comes while another is on its way.
+#[tactic(auto, unfolding(crate::specs::Rules::flow_questions))]
+pub fn flow_fault(code: &[u64], flow: &Flow, at: u32) -> Option<u8>
+    requires inside { at < length code.now }
+    requires few { length code.now ≤ 8192 }
+    requires made { IsFlow code.now flow.now.end flow.now.targets.items flow.now.threaded }
+    ensures { result ≡ first_of (flow_questions code.now at) }
+{
+    let at = at as usize;
+    let end = flow.end;
+    if breaks_s3(code, at) {
+        return Some(3);
+    }
+    if breaks_s4(code, at) {
+        return Some(4);
+    }
+    if breaks_s5(code, at) {
+        return Some(5);
+    }
+    if breaks_s6(code, at) {
+        return Some(6);
+    }
+    if breaks_s7(code, at) {
+        return Some(7);
+    }
+    if breaks_s8(code, end, at) {
+        return Some(8);
+    }
+    if breaks_s9(code, end, at) {
+        return Some(9);
+    }
+    if breaks_s10(code, at) {
+        return Some(10);
+    }
+    if breaks_s11(code, at) {
+        return Some(11);
+    }
+    if breaks_s12(code, at) {
+        return Some(12);
+    }
+    if breaks_s13(code, end, at) {
+        return Some(13);
+    }
+    if breaks_s27(code, at) {
+        return Some(27);
+    }
+    None
+}
