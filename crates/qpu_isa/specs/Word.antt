@@ -1,9 +1,6 @@
 -- The fields of an instruction word of 64 bits. Each is a quotient by a power of two, taken modulo a power of two.
-use Rattle.std.specs.Prelude.{ℕ, ◌+◌, ◌-◌, ◌/◌, ◌%◌, ◌^◌, ◌==◌, Bool}
-
--- the bits of a word from high down to low
-abbrev pub bits_of : ℕ → ℕ → ℕ → ℕ
-bits_of word high low = word / 2 ^ low % 2 ^ (high + 1 - low)
+use Rattle.std.specs.Prelude.{ℕ, ◌==◌, Bool}
+use Rattle.field_words.specs.Words.{bits_of}
 
 -- the fields of an ALU instruction
 unfoldable pub sig_of : ℕ → ℕ
