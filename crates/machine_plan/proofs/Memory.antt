@@ -1,7 +1,9 @@
 -- Laws on intervals, and on bytes that are read and written.
-use Rattle.std.proofs.Common.{◌≡◌, ◌≢◌, ◌≤◌, ◌<◌, ℕ, zero, suc, ◌+◌, ◌⊎◌, inl, inr, List, [], ◌∷◌, length, slice_index, slice_set, refl, sym, ◌∙◌, ap, arith}
+use Rattle.std.proofs.Common.{◌≡◌, ◌≢◌, ◌≤◌, ◌<◌, ℕ, zero, suc, ◌+◌, ◌⊎◌, inl, inr, List, [], ◌∷◌, length, slice_index, slice_set, refl, sym, ◌∙◌, ap, arith, take, drop, ◌++◌, add-one, add-zero, append_assoc}
 use Rattle.std.proofs.lemmas.Grind.{common_steps}
 use Rattle.std.proofs.lemmas.List.{get_or-set_same, get_or-set_other, length-set}
+use Rattle.std.proofs.lemmas.List.Edits.{sets, sets-eq}
+use Rattle.field_words.specs.Writes.{with_bytes}
 use Rattle.machine_plan.specs.Memory.{bytes_at, stored}
 use Rattle.machine_plan.specs.Regions.{Interval, LiesIn, Inside, Agree}
 
@@ -52,3 +54,25 @@ stored_keeps (b ∷ bs) m p q out =
     let later : suc p ≤ q → q < suc p + length bs → ⊥ = λ low high. out (omega arith) (omega arith) in
     let other : q ≢ p = λ e. out (omega arith) (omega arith) in
     stored_keeps bs (slice_set m p b) (suc p) q later ∙ get_or-set_other m p q b 0 other
+
+-- one more byte
+bytes_suc : (m : List ℕ) (p n : ℕ) → bytes_at m p (suc n) ≡ bytes_at m p n ++ slice_index m (p + n) ∷ []
+unfolding bytes_at
+bytes_suc m p zero = ap (λ q. slice_index m q ∷ []) (sym (add-zero p))
+bytes_suc m p (suc n) =
+    let e : suc p + n ≡ p + suc n = omega arith in
+    let h : bytes_at m (suc p) (suc n) ≡ bytes_at m (suc p) n ++ slice_index m (suc p + n) ∷ [] = bytes_suc m (suc p) n in
+    ap (λ rest. slice_index m p ∷ rest) (h ∙ ap (λ q. bytes_at m (suc p) n ++ slice_index m q ∷ []) e)
+
+pub bytes_more : (m : List ℕ) (p n : ℕ) → bytes_at m p (n + 1) ≡ bytes_at m p n ++ slice_index m (p + n) ∷ []
+bytes_more m p n = rw add-one (bytes_suc m p n)
+
+-- a write of one byte inside the memory
+pub with_one_byte : (m : List ℕ) (p b : ℕ) → p < length m → with_bytes m p (b ∷ []) ≡ slice_set m p b
+with_one_byte m p b inside = sym (sets-eq (b ∷ []) m p (omega arith) ∙ append_assoc (take p m) (b ∷ []) (drop (p + 1) m))
+
+-- a write past the end of the memory changes nothing
+pub set_outside : (m : List ℕ) (p b : ℕ) → length m ≤ p → slice_set m p b ≡ m
+set_outside [] p b outside = refl
+set_outside (x ∷ m) zero b outside = absurd (omega arith)
+set_outside (x ∷ m) (suc p) b outside = ap (λ rest. x ∷ rest) (set_outside m p b (omega arith))

@@ -1,9 +1,12 @@
 //! The ground of the machine: steps as plans, their accesses and memory, intervals and runs.
 //!
 //! The definitions in `specs/` and the laws in `proofs/` know no unit: each unit of the machine
-//! states its step as a plan, and the safety laws of all jobs are stated over them.
+//! states its step as a plan, and the safety laws of all jobs are stated over them. The functions
+//! read and write memory as the machine sees it, where a place outside reads as zero.
 #![tactic(auto)]
 
+mod bytes;
 mod who;
 
+pub use bytes::{byte_at, list_access, put_byte, read_bytes};
 pub use who::Who;

@@ -1,0 +1,3 @@
+pub mod Packet
+pub mod Store
+pub mod Renderer
