@@ -1,3 +1,4 @@
+pub mod Faults
 pub mod File
 pub mod Model
 pub mod Rules
