@@ -1,10 +1,11 @@
 -- The rules of the format, in the order in which they are asked: part by part, and in a part
 -- first whether the file ends before it does, then its fields by offset.
-use Rattle.std.specs.Prelude.{◌≡◌, ℕ, zero, suc, ◌+◌, ◌-◌, ◌*◌, ◌%◌, Bool, true, false, not, ◌||◌, ◌&&◌, nat_lt, nat_le, ◌==◌, List, [], ◌∷◌, ◌++◌, length, slice_index, codes}
+use Rattle.std.specs.Prelude.{◌≡◌, ℕ, zero, suc, ◌+◌, ◌-◌, ◌*◌, ◌%◌, Bool, true, false, not, ◌||◌, ◌&&◌, nat_lt, nat_le, ◌==◌, List, [], ◌∷◌, ◌++◌, length, slice_index, codes, Option, Some, None, Result, Ok, Err}
 use Rattle.std.specs.Int.{from_le_bytes, w32}
 use Rattle.field_words.specs.Words.{u32_at}
-use Rattle.field_words.specs.Questions.{Question, Ask, each}
+use Rattle.field_words.specs.Questions.{Question, Ask, first_of, each}
 use Rattle.job_format.specs.declared.rule.FormatFault.{FormatFault}
+use Rattle.job_format.specs.Places.{job_place, content_size, content_place, handles_place, bin_place, records_place, uniforms_place, end_place}
 
 -- rule F number at an offset in the file
 abbrev pub fault : ℕ → ℕ → FormatFault
@@ -58,45 +59,10 @@ job_questions bytes at =
     ∷ (is_nonzero bytes (at + 122)
     ∷ (is_nonzero bytes (at + 123) ∷ []))))))))))
 
--- Where the parts stand. Buffer b's entry stands at 36 + 20 b, the job entry after the last
--- buffer's, then the contents of the buffers, the handles, the binner list, the records, the
--- uniforms.
-abbrev pub buffers_of : List ℕ → ℕ
-buffers_of bytes = u32_at bytes 28
+-- the entry and the contents of buffer b
+unfoldable pub buffer_questions : List ℕ → ℕ → List (Question FormatFault)
+buffer_questions bytes b = entry_questions bytes (36 + 20 * b)
 
-abbrev pub entry_place : ℕ → ℕ
-entry_place b = 36 + 20 * b
-
-abbrev pub job_place : List ℕ → ℕ
-job_place bytes = 36 + 20 * u32_at bytes 28
-
-abbrev pub content_size : List ℕ → ℕ → ℕ
-content_size bytes b = u32_at bytes (36 + 20 * b + 16)
-
--- the sizes of n contents from buffer b on
-unfoldable pub contents_size : List ℕ → ℕ → ℕ → ℕ
-contents_size bytes b zero = 0
-contents_size bytes b (suc n) = content_size bytes b + contents_size bytes (b + 1) n
-
-unfoldable pub content_place : List ℕ → ℕ → ℕ
-content_place bytes b = job_place bytes + 124 + contents_size bytes 0 b
-
-unfoldable pub handles_place : List ℕ → ℕ
-handles_place bytes = content_place bytes (buffers_of bytes)
-
-unfoldable pub bin_place : List ℕ → ℕ
-bin_place bytes = handles_place bytes + 4 * u32_at bytes (job_place bytes + 8)
-
-unfoldable pub records_place : List ℕ → ℕ
-records_place bytes = bin_place bytes + u32_at bytes (job_place bytes + 12)
-
-unfoldable pub uniforms_place : List ℕ → ℕ
-uniforms_place bytes = records_place bytes + u32_at bytes (job_place bytes + 16)
-
-unfoldable pub end_place : List ℕ → ℕ
-end_place bytes = uniforms_place bytes + u32_at bytes (job_place bytes + 24)
-
--- the contents of a buffer
 unfoldable pub content_questions : List ℕ → ℕ → List (Question FormatFault)
 content_questions bytes b = ends_before bytes (content_place bytes b) (content_size bytes b) ∷ []
 
@@ -109,14 +75,16 @@ parts_questions bytes =
     ∷ (Ask (nat_lt (length bytes) (end_place bytes)) (fault 2 (uniforms_place bytes))
     ∷ (Ask (nat_lt (end_place bytes) (length bytes)) (fault 3 (end_place bytes)) ∷ []))))
 
--- all rules of the format
-unfoldable pub format_questions : List ℕ → List (Question FormatFault)
-format_questions bytes =
-    header_questions bytes
-    ++ (each (λ b. entry_questions bytes (entry_place b)) 0 (buffers_of bytes)
+-- all rules of the format: those after the header, and the whole
+abbrev pub body_questions : List ℕ → List (Question FormatFault)
+body_questions bytes =
+    each (buffer_questions bytes) 0 (u32_at bytes 28)
     ++ (job_questions bytes (job_place bytes)
-    ++ (each (content_questions bytes) 0 (buffers_of bytes)
-    ++ parts_questions bytes)))
+    ++ (each (content_questions bytes) 0 (u32_at bytes 28)
+    ++ parts_questions bytes))
+
+unfoldable pub format_questions : List ℕ → List (Question FormatFault)
+format_questions bytes = header_questions bytes ++ body_questions bytes
 
 -- F6: a part that is not built yet: a Code buffer, or a binner list, records, declared states or
 -- uniforms.
@@ -131,4 +99,9 @@ list_questions bytes at =
     ∷ (Ask (not (u32_at bytes (at + 24) == 0)) (fault 6 (at + 24)) ∷ [])))
 
 unfoldable pub unbuilt_questions : List ℕ → List (Question FormatFault)
-unbuilt_questions bytes = each (code_questions bytes) 0 (buffers_of bytes) ++ list_questions bytes (job_place bytes)
+unbuilt_questions bytes = each (code_questions bytes) 0 (u32_at bytes 28) ++ list_questions bytes (job_place bytes)
+
+-- Ok comes only where no rule stands, with P of what it holds; Err is the first that stands.
+abbrev pub Tells : {X F : Type 0} → List (Question F) → (X → Type 0) → Result X F → Type 0
+Tells questions P (Ok made) = (first_of questions ≡ None) × P made
+Tells questions P (Err fault) = first_of questions ≡ Some fault

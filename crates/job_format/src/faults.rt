@@ -1,8 +1,9 @@
 //! The rules of the format.
-ghost use Rattle.std.specs.Prelude.{◌≡◌, ◌+◌, ◌*◌, ◌<◌, ◌≤◌, length, Some, IfNone};
+ghost use Rattle.std.specs.Prelude.{◌≡◌, ◌+◌, ◌*◌, ◌++◌, ◌<◌, ◌≤◌, length, Some, IfNone};
 ghost use Rattle.field_words.specs.Words.{u32_at};
 ghost use Rattle.field_words.specs.Questions.{first_of, each};
-ghost use Rattle.job_format.specs.Faults.{header_questions, entry_questions, entry_place, job_questions, code_questions, list_questions};
+ghost use Rattle.job_format.specs.Faults.{header_questions, entry_questions, buffer_questions, job_questions, content_questions, parts_questions, body_questions, format_questions, code_questions, list_questions, Tells};
+ghost use Rattle.job_format.specs.Places.{job_place, content_place, handles_place};
 
 use crate::rule::FormatFault;
 use crate::words::word;
@@ -117,4 +118,155 @@ fn job_fault(bytes: &[u8], at: usize) -> Option<FormatFault>
         return fault(5, at + 123);
     }
     None
+}
+
+/// The entry of buffer `b`.
+#[tactic(auto, unfolding(crate::specs::Faults::buffer_questions))]
+fn buffer_fault(bytes: &[u8], b: usize) -> Option<FormatFault>
+    requires few { b ≤ 64 }
+    requires before { 36 + 20 * b ≤ length bytes.now }
+    ensures first { result ≡ first_of (buffer_questions bytes.now b) }
+    ensures inside { IfNone result (36 + 20 * b + 20 ≤ length bytes.now) }
+{
+    entry_fault(bytes, 36 + 20 * b)
+}
+
+/// The entries of `count` buffers.
+fn buffers_fault(bytes: &[u8], count: usize) -> Option<FormatFault>
+    requires before { 36 ≤ length bytes.now }
+    requires few { count ≤ 64 }
+    ensures first { result ≡ first_of (each (buffer_questions bytes.now) 0 count) }
+    ensures inside { IfNone result (36 + 20 * count ≤ length bytes.now) }
+{
+    for b in 0..count {
+        if let Some(fault) = buffer_fault(bytes, b) {
+            return Some(fault);
+        }
+    }
+    None
+}
+
+/// The contents of buffer `b`, which begin at `at`, and the place where they end.
+#[tactic(auto, unfolding(crate::specs::Faults::content_questions), using(crate::proofs::Standing::content_place_step))]
+fn content_fault(bytes: &[u8], b: usize, at: usize) -> Result<usize, FormatFault>
+    requires few { b ≤ 64 }
+    requires entry { 36 + 20 * b + 20 ≤ length bytes.now }
+    requires here { at ≡ content_place bytes.now b }
+    requires before { at ≤ length bytes.now }
+    ensures { Tells (content_questions bytes.now b) (λ end. (end ≡ content_place bytes.now (b + 1)) × (end ≤ length bytes.now)) result }
+{
+    let size = word(bytes, 36 + 20 * b + 16) as usize;
+    if bytes.len() - at < size {
+        return Err(FormatFault {
+            number: 2,
+            offset: at as u64,
+        });
+    }
+    Ok(at + size)
+}
+
+/// The contents of the buffers, and the place where they end.
+fn contents_fault(bytes: &[u8], count: usize) -> Result<usize, FormatFault>
+    requires few { count ≤ 64 }
+    requires count { count ≡ u32_at bytes.now 28 }
+    requires before { 36 + 20 * count + 124 ≤ length bytes.now }
+    ensures { Tells (each (content_questions bytes.now) 0 count) (λ end. (end ≡ handles_place bytes.now) × (end ≤ length bytes.now)) result }
+{
+    let mut at = 36 + 20 * count + 124;
+    for b in 0..count {
+        match content_fault(bytes, b, at) {
+            Ok(end) => at = end,
+            Err(fault) => return Err(fault),
+        }
+    }
+    Ok(at)
+}
+
+/// The handles, the binner list, the records and the uniforms, which begin at `at`, and the end of
+/// the file.
+#[tactic(auto, unfolding(crate::specs::Faults::parts_questions, crate::specs::Places::bin_place, crate::specs::Places::records_place, crate::specs::Places::uniforms_place, crate::specs::Places::end_place))]
+fn parts_fault(bytes: &[u8], job: usize, at: usize) -> Option<FormatFault>
+    requires job { job ≡ job_place bytes.now }
+    requires here { at ≡ handles_place bytes.now }
+    requires entry { job + 124 ≤ length bytes.now }
+    requires before { at ≤ length bytes.now }
+    ensures { result ≡ first_of (parts_questions bytes.now) }
+{
+    let handles = 4 * word(bytes, job + 8) as usize;
+    if bytes.len() - at < handles {
+        return fault(2, at);
+    }
+    let at = at + handles;
+    let bin = word(bytes, job + 12) as usize;
+    if bytes.len() - at < bin {
+        return fault(2, at);
+    }
+    let at = at + bin;
+    let records = word(bytes, job + 16) as usize;
+    if bytes.len() - at < records {
+        return fault(2, at);
+    }
+    let at = at + records;
+    let uniforms = word(bytes, job + 24) as usize;
+    if bytes.len() - at < uniforms {
+        return fault(2, at);
+    }
+    let end = at + uniforms;
+    if end < bytes.len() {
+        return fault(3, end);
+    }
+    None
+}
+
+/// The contents of the buffers, and the parts after them.
+#[tactic(auto, using(field_words::proofs::Questions::passes, field_words::proofs::Questions::stops))]
+fn rest_fault(bytes: &[u8], count: usize) -> Option<FormatFault>
+    requires few { count ≤ 64 }
+    requires count { count ≡ u32_at bytes.now 28 }
+    requires before { 36 + 20 * count + 124 ≤ length bytes.now }
+    ensures { result ≡ first_of (each (content_questions bytes.now) 0 (u32_at bytes.now 28) ++ parts_questions bytes.now) }
+{
+    match contents_fault(bytes, count) {
+        Err(fault) => Some(fault),
+        Ok(at) => parts_fault(bytes, 36 + 20 * count, at),
+    }
+}
+
+/// The job's entry, and what follows it.
+#[tactic(auto, using(field_words::proofs::Questions::passes, field_words::proofs::Questions::stops))]
+fn job_and_rest_fault(bytes: &[u8], count: usize) -> Option<FormatFault>
+    requires few { count ≤ 64 }
+    requires count { count ≡ u32_at bytes.now 28 }
+    requires before { 36 + 20 * count ≤ length bytes.now }
+    ensures { result ≡ first_of (job_questions bytes.now (job_place bytes.now) ++ (each (content_questions bytes.now) 0 (u32_at bytes.now 28) ++ parts_questions bytes.now)) }
+{
+    match job_fault(bytes, 36 + 20 * count) {
+        Some(fault) => Some(fault),
+        None => rest_fault(bytes, count),
+    }
+}
+
+/// The buffers' entries, and what follows them.
+#[tactic(auto, using(field_words::proofs::Questions::passes, field_words::proofs::Questions::stops))]
+fn body_fault(bytes: &[u8], count: usize) -> Option<FormatFault>
+    requires few { count ≤ 64 }
+    requires count { count ≡ u32_at bytes.now 28 }
+    requires before { 36 ≤ length bytes.now }
+    ensures { result ≡ first_of (body_questions bytes.now) }
+{
+    match buffers_fault(bytes, count) {
+        Some(fault) => Some(fault),
+        None => job_and_rest_fault(bytes, count),
+    }
+}
+
+/// The first of F1 to F5.
+#[tactic(auto, unfolding(crate::specs::Faults::format_questions), using(field_words::proofs::Questions::passes, field_words::proofs::Questions::stops))]
+pub(crate) fn format_fault(bytes: &[u8]) -> Option<FormatFault>
+    ensures { result ≡ first_of (format_questions bytes.now) }
+{
+    match header_fault(bytes) {
+        Some(fault) => Some(fault),
+        None => body_fault(bytes, word(bytes, 28) as usize),
+    }
 }
