@@ -1,8 +1,10 @@
 //! The job file: its bytes, its values, and the rules of its format.
 #![tactic(auto)]
 
+mod faults;
 mod file;
 mod rule;
+mod words;
 
 pub use file::{Frame, Job, JobFile, Surface};
 pub use rule::{FormatFault, Refusal, Rule, Stage};
