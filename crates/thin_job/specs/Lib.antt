@@ -1,0 +1,4 @@
+pub mod Memory
+pub mod Places
+pub mod Shape
+pub mod Thin
