@@ -66,7 +66,4 @@ fn refuses_other_words(rt: HostRuntime) {
         }
         assert!(rt; read_thin(&bytes).is_none(), "at {at}");
     }
-    let bytes = file();
-    let shorter = &bytes[..183];
-    assert!(rt; read_thin(shorter).is_none());
 }
