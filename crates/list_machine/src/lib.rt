@@ -7,5 +7,5 @@ mod renderer;
 mod state;
 mod store;
 
-//pub use renderer::step_renderer;
+pub use renderer::step_renderer;
 pub use state::{Frame, Renderer, Rows};

@@ -1,0 +1,9 @@
+//! The machine: memory, and for each of its jobs the units that step for it. So far the renderer
+//! is its only unit.
+#![tactic(auto)]
+
+mod job;
+mod machine;
+
+pub use job::{JobState, Start};
+pub use machine::{Machine, Stepped};
