@@ -1,7 +1,8 @@
 -- Where the parts stand.
-use Rattle.std.proofs.Common.{◌≡◌, ◌<◌, ◌≤◌, ℕ, zero, suc, ◌+◌, ◌-◌, ◌*◌, List, refl, ap, subst, sym, ◌∙◌, add-one, add-zero, arith}
+use Rattle.std.proofs.Common.{◌≡◌, ◌<◌, ◌≤◌, ℕ, zero, suc, ◌+◌, ◌-◌, ◌*◌, List, length, refl, ap, subst, sym, ◌∙◌, add-one, add-zero, arith}
 use Rattle.field_words.specs.Words.{u32_at}
-use Rattle.job_format.specs.Places.{job_place, content_size, content_place, handles_place}
+use Rattle.job_format.specs.Places.{job_place, content_size, content_place, handles_place, bin_place, records_place, uniforms_place, end_place}
+use Rattle.job_format.specs.Whole.{HasParts}
 
 pub content_place_step : (bytes : List ℕ) (b : ℕ) → content_place bytes (b + 1) ≡ content_place bytes b + content_size bytes b
 unfolding content_place
@@ -28,3 +29,8 @@ content_ends bytes b count below =
     let e : (b + 1) + (count - (b + 1)) ≡ count = omega arith in
     let up : content_place bytes (b + 1) ≤ content_place bytes count = subst (λ k. content_place bytes (b + 1) ≤ content_place bytes k) e rest in
     omega arith
+
+-- The handles begin before the file's end.
+pub handles_inside : (bytes : List ℕ) → HasParts bytes → content_place bytes (u32_at bytes 28) ≤ length bytes
+unfolding end_place uniforms_place records_place bin_place handles_place
+handles_inside bytes parts = let end = parts.end in omega arith

@@ -122,14 +122,15 @@ fn bytes_at(alloc: Global, bytes: &[u8], at: usize, size: usize) -> Result<Vec<u
     Ok(Vec::from_slice(alloc, &bytes[at..at + size])?)
 }
 
-/// The contents of `count` buffers, one after the other.
+/// The contents of `count` buffers, one after the other, and the place where they end.
 #[tactic(auto, using(crate::proofs::Listed::contents_none, crate::proofs::Listed::contents_more, crate::proofs::Standing::content_place_step, crate::proofs::Standing::content_place_first, crate::proofs::Standing::content_ends))]
-fn contents(alloc: Global, bytes: &[u8], count: usize) -> Result<Vec<Vec<u8>>, AllocError>
+fn contents(alloc: Global, bytes: &[u8], count: usize) -> Result<(Vec<Vec<u8>>, usize), AllocError>
     requires few { count ≤ 64 }
     requires count { count ≡ u32_at bytes.now 28 }
     requires entries { 36 + 20 * count + 124 ≤ length bytes.now }
     requires inside { content_place bytes.now count ≤ length bytes.now }
-    ensures { IfOk result (λ v. map (λ c. c.items) v.items ≡ contents_at bytes.now count) }
+    ensures values { IfOk result (λ v. map (λ c. c.items) v.0.items ≡ contents_at bytes.now count) }
+    ensures place { IfOk result (λ v. v.1 ≡ content_place bytes.now count) }
 {
     let mut contents = Vec::new(alloc);
     let mut at = 36 + 20 * count + 124;
@@ -138,7 +139,7 @@ fn contents(alloc: Global, bytes: &[u8], count: usize) -> Result<Vec<Vec<u8>>, A
         contents.push(bytes_at(alloc, bytes, at, size)?)?;
         at += size;
     }
-    Ok(contents)
+    Ok((contents, at))
 }
 
 /// The job, whose entry begins at `at` and whose parts begin at `handles`.
@@ -164,5 +165,26 @@ fn job(alloc: Global, bytes: &[u8], at: usize, handles: usize) -> Result<Job, Al
         declared: word(bytes, at + 20),
         uniforms: bytes_at(alloc, bytes, uniforms, uniforms_size)?,
         frame: frame(bytes, at),
+    })
+}
+
+/// The file that the bytes are.
+#[tactic(auto, unfolding(crate::specs::Reading::file_at, crate::specs::Places::handles_place), using(crate::proofs::Standing::handles_inside))]
+pub(crate) fn file_of(alloc: Global, bytes: &[u8]) -> Result<JobFile, AllocError>
+    requires whole { HasParts bytes.now }
+    ensures { IfOk result (λ f. file_view f ≡ file_at bytes.now) }
+{
+    let count = word(bytes, 28) as usize;
+    let at = 36 + 20 * count;
+    let (contents, handles) = contents(alloc, bytes, count)?;
+    let mut jobs = Vec::new(alloc);
+    jobs.push(job(alloc, bytes, at, handles)?)?;
+    Ok(JobFile {
+        version: word(bytes, 4),
+        mem_size: word(bytes, 8),
+        regions: regions(bytes),
+        buffers: buffers(alloc, bytes, count)?,
+        contents,
+        jobs,
     })
 }
