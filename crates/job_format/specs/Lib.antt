@@ -2,5 +2,7 @@ pub mod Faults
 pub mod File
 pub mod Model
 pub mod Places
+pub mod Reading
 pub mod Rules
 pub mod Text
+pub mod Whole

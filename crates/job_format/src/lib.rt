@@ -3,7 +3,9 @@
 
 mod faults;
 mod file;
+mod reading;
 mod rule;
+mod unbuilt;
 mod words;
 
 pub use file::{Frame, Job, JobFile, Surface};
