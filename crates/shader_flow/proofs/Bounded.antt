@@ -1,7 +1,8 @@
 -- Laws on tests over ranges of indexes.
-use Rattle.std.proofs.Common.{◌≡◌, ◌<◌, ℕ, zero, suc, ◌+◌, Bool, true, false, ◌||◌, inl, inr, refl, sym, ap, subst, arith, ◌∙◌}
-use Rattle.std.proofs.lemmas.Bool.{cases_eq, or_from, or_left, or_right, or_cases, true≢false, false_from_ne_true}
-use Rattle.shader_flow.specs.Bounded.{some_below}
+use Rattle.std.proofs.Common.{◌≡◌, ◌≤◌, ◌<◌, ℕ, zero, suc, ◌+◌, Bool, true, false, ◌&&◌, ◌||◌, nat_le, [], ◌∷◌, ◌++◌, map, if◌then◌else◌, inl, inr, refl, sym, ap, subst, arith, ◌∙◌, append-nil}
+use Rattle.std.proofs.lemmas.Bool.{cases_eq, cases_Bool, or_from, or_left, or_right, or_cases, and_from, and_left, and_right, le-leb, leb-true, true≢false, false_from_ne_true}
+use Rattle.std.proofs.lemmas.List.{map-append}
+use Rattle.shader_flow.specs.Bounded.{some_below, some_in, indexes}
 
 -- one more index
 pub some_below-suc : (n : ℕ) (p : ℕ → Bool) → some_below (n + 1) p ≡ (some_below n p || p n)
@@ -45,3 +46,41 @@ unfolding some_below
 some_below_same zero p q same = refl
 some_below_same (suc n) p q same =
     ap (λ a. a || p n) (some_below_same n p q (λ k below. same k (omega arith))) ∙ ap (λ b. some_below n q || b) (same n (omega arith))
+
+-- the same from an index on
+pub some_in_here : (from to k : ℕ) (p : ℕ → Bool) → from ≤ k → k < to → p k ≡ true → some_in from to p ≡ true
+unfolding some_in
+some_in_here from to k p after below here =
+    some_below_here to k (λ m. nat_le from m && p m) below (and_from (nat_le from k) (p k) (le-leb from k after) here)
+
+pub some_in_none : (from to : ℕ) (p : ℕ → Bool) → ((k : ℕ) → from ≤ k → k < to → p k ≡ false) → some_in from to p ≡ false
+unfolding some_in
+some_in_none from to p none =
+    some_below_none to (λ m. nat_le from m && p m)
+    (λ k below. elim (cases_Bool (nat_le from k)) [
+      | inl after ↦ and_right (nat_le from k) (p k) (none k (leb-true from k after) below)
+      | inr before ↦ and_left (nat_le from k) (p k) before
+    ])
+
+pub some_in_not : (from to k : ℕ) (p : ℕ → Bool) → some_in from to p ≡ false → from ≤ k → k < to → p k ≡ false
+some_in_not from to k p none after below =
+    false_from_ne_true (p k) (λ here. true≢false (sym (some_in_here from to k p after below here) ∙ none))
+
+-- the list of indexes, with one more
+pub indexes_here : (n : ℕ) (p : ℕ → Bool) → p n ≡ true → indexes (n + 1) p ≡ indexes n p ++ (n ∷ [])
+unfolding indexes
+indexes_here n p here =
+    let e : n + 1 ≡ suc n = omega arith in
+    ap (λ m. indexes m p) e ∙ ap (λ b. indexes n p ++ (if b then n ∷ [] else [])) here
+
+pub indexes_not : (n : ℕ) (p : ℕ → Bool) → p n ≡ false → indexes (n + 1) p ≡ indexes n p
+unfolding indexes
+indexes_not n p none =
+    let e : n + 1 ≡ suc n = omega arith in
+    ap (λ m. indexes m p) e ∙ ap (λ b. indexes n p ++ (if b then n ∷ [] else [])) none ∙ append-nil (indexes n p)
+
+pub map_indexes_here : (f : ℕ → ℕ) (n : ℕ) (p : ℕ → Bool) → p n ≡ true → map f (indexes (n + 1) p) ≡ map f (indexes n p) ++ (f n ∷ [])
+map_indexes_here f n p here = ap (map f) (indexes_here n p here) ∙ map-append f (indexes n p) (n ∷ [])
+
+pub map_indexes_not : (f : ℕ → ℕ) (n : ℕ) (p : ℕ → Bool) → p n ≡ false → map f (indexes (n + 1) p) ≡ map f (indexes n p)
+map_indexes_not f n p none = ap (map f) (indexes_not n p none)

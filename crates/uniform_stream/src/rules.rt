@@ -1,0 +1,210 @@
+//! The rules on the uniform stream and on TMU writes at one instruction.
+ghost use Rattle.std.specs.Prelude.{◌≡◌, ◌<◌, ◌≤◌, ◌+◌, length};
+ghost use Rattle.field_words.specs.Questions.{first_of};
+ghost use Rattle.qpu_isa.specs.Terms.{is_address_write};
+ghost use Rattle.shader_flow.specs.Bounded.{is_back};
+ghost use Rattle.shader_flow.specs.Flow.{word, end_of, checked_of, is_target, IsFlow};
+ghost use Rattle.uniform_stream.specs.Pending.{pending_of, takes};
+ghost use Rattle.uniform_stream.specs.Stream.{IsStream};
+ghost use Rattle.uniform_stream.specs.Rules.{s14, s15, s17, after_address_write, s18, s19, s20, s21, is_full, s22, s23, s25, stream_questions};
+
+use crate::position::known;
+use crate::state::Stream;
+use crate::word::{
+    has_conditional_tmu_write, has_setup, has_two_tmu_writes, is_address_write,
+    is_relative_address_write, reads_uniform, takes, writes_forbidden, writes_tmu,
+};
+use shader_flow::{Flow, checked, is_in_slots};
+
+// An address write stands `distance` before.
+#[tactic(auto, unfolding(shader_flow::specs::Bounded::is_back))]
+fn is_address_write_back(code: &[u64], at: usize, distance: usize) -> bool
+    requires { at < length code.now }
+    ensures { result ≡ is_back at distance (λ k. is_address_write (word code.now k)) }
+{
+    distance <= at && is_address_write(code[at - distance])
+}
+
+// An address write stands one or two before.
+#[tactic(auto, unfolding(crate::specs::Rules::after_address_write))]
+fn is_after_address_write(code: &[u64], at: usize) -> bool
+    requires { at < length code.now }
+    ensures { result ≡ after_address_write code.now at }
+{
+    is_address_write_back(code, at, 1) || is_address_write_back(code, at, 2)
+}
+
+/// Whether the checked instruction at `at` takes a uniform, where the TMUs keep `pending0` and `pending1` setup words.
+#[tactic(auto, unfolding(crate::specs::Pending::takes))]
+pub fn takes_at(code: &[u64], end: u32, at: usize, pending0: u16, pending1: u16) -> bool
+    requires inside { at < length code.now }
+    requires few { length code.now ≤ 8192 }
+    requires last { end ≡ end_of code.now }
+    requires first { pending0 ≡ pending_of code.now 0 at }
+    requires second { pending1 ≡ pending_of code.now 1 at }
+    ensures { result ≡ takes code.now at }
+{
+    at < checked(code, end) && takes(code[at], pending0, pending1)
+}
+
+// A register that reaches other units is written.
+#[tactic(auto, unfolding(crate::specs::Rules::s14))]
+fn breaks_s14(code: &[u64], at: usize) -> bool
+    requires { at < length code.now }
+    ensures { result ≡ s14 code.now at }
+{
+    writes_forbidden(code[at])
+}
+
+// A relative address of the uniforms.
+#[tactic(auto, unfolding(crate::specs::Rules::s15))]
+fn breaks_s15(code: &[u64], at: usize) -> bool
+    requires { at < length code.now }
+    ensures { result ≡ s15 code.now at }
+{
+    is_relative_address_write(code[at])
+}
+
+// An address write in a branch's slots.
+#[tactic(auto, unfolding(crate::specs::Rules::s17))]
+fn breaks_s17(code: &[u64], at: usize) -> bool
+    requires { at < length code.now }
+    ensures { result ≡ s17 code.now at }
+{
+    is_address_write(code[at]) && is_in_slots(code, at)
+}
+
+// A uniform taken before a new address is in force.
+#[tactic(auto, unfolding(crate::specs::Rules::s18))]
+fn breaks_s18(code: &[u64], at: usize, takes: bool) -> bool
+    requires inside { at < length code.now }
+    requires taken { takes ≡ Rattle.uniform_stream.specs.Pending.takes code.now at }
+    ensures { result ≡ s18 code.now at }
+{
+    takes && is_after_address_write(code, at)
+}
+
+// A uniform taken, by no address write, where the position isn't known.
+#[tactic(auto, unfolding(crate::specs::Rules::s19))]
+fn breaks_s19(code: &[u64], flow: &Flow, at: u32, takes: bool) -> bool
+    requires inside { at < length code.now }
+    requires few { length code.now ≤ 8192 }
+    requires made { IsFlow code.now flow.now.end flow.now.targets.items flow.now.threaded }
+    requires taken { takes ≡ Rattle.uniform_stream.specs.Pending.takes code.now at }
+    ensures { result ≡ s19 code.now at }
+{
+    takes && !is_address_write(code[at as usize]) && !known(code, flow, at)
+}
+
+// Both units write a TMU.
+#[tactic(auto, unfolding(crate::specs::Rules::s20))]
+fn breaks_s20(code: &[u64], at: usize) -> bool
+    requires { at < length code.now }
+    ensures { result ≡ s20 code.now at }
+{
+    has_two_tmu_writes(code[at])
+}
+
+// A TMU write under a condition.
+#[tactic(auto, unfolding(crate::specs::Rules::s21))]
+fn breaks_s21(code: &[u64], at: usize) -> bool
+    requires { at < length code.now }
+    ensures { result ≡ s21 code.now at }
+{
+    has_conditional_tmu_write(code[at])
+}
+
+// A write of this TMU finds four setup words.
+#[tactic(auto, unfolding(crate::specs::Rules::is_full))]
+fn is_full(code: &[u64], at: usize, tmu: u8, pending: u16) -> bool
+    requires inside { at < length code.now }
+    requires number { tmu < 2 }
+    requires kept { pending ≡ pending_of code.now tmu at }
+    ensures { result ≡ is_full code.now at tmu }
+{
+    writes_tmu(code[at], tmu) && 4 <= pending
+}
+
+// A TMU write finds four setup words.
+#[tactic(auto, unfolding(crate::specs::Rules::s22))]
+fn breaks_s22(code: &[u64], at: usize, pending0: u16, pending1: u16) -> bool
+    requires inside { at < length code.now }
+    requires first { pending0 ≡ pending_of code.now 0 at }
+    requires second { pending1 ≡ pending_of code.now 1 at }
+    ensures { result ≡ s22 code.now at }
+{
+    is_full(code, at, 0, pending0) || is_full(code, at, 1, pending1)
+}
+
+// A setup write in an instruction that reads a uniform.
+#[tactic(auto, unfolding(crate::specs::Rules::s23))]
+fn breaks_s23(code: &[u64], at: usize, pending0: u16, pending1: u16) -> bool
+    requires inside { at < length code.now }
+    requires first { pending0 ≡ pending_of code.now 0 at }
+    requires second { pending1 ≡ pending_of code.now 1 at }
+    ensures { result ≡ s23 code.now at }
+{
+    has_setup(code[at], pending0, pending1) && reads_uniform(code[at])
+}
+
+// A target while a TMU keeps setup words.
+#[tactic(auto, unfolding(crate::specs::Rules::s25))]
+fn breaks_s25(code: &[u64], at: usize, target: bool, pending0: u16, pending1: u16) -> bool
+    requires inside { at < length code.now }
+    requires marked { target ≡ is_target code.now at }
+    requires first { pending0 ≡ pending_of code.now 0 at }
+    requires second { pending1 ≡ pending_of code.now 1 at }
+    ensures { result ≡ s25 code.now at }
+{
+    target && (0 < pending0 || 0 < pending1)
+}
+
+/// The number of the first of the rules S14, S15, S17 to S23 and S25 that stands at the instruction `at`; `None` where none
+/// of them does. They keep the uniforms that a shader takes those that the checker counts, and the words that a texture unit
+/// gets those that it was shown. At an instruction past the checked ones, which is never executed, the rules on the word
+/// alone can stand too.
+#[tactic(auto, unfolding(crate::specs::Rules::stream_questions))]
+pub fn stream_fault(code: &[u64], flow: &Flow, stream: &Stream, at: u32) -> Option<u8>
+    requires inside { at < length code.now }
+    requires few { length code.now ≤ 8192 }
+    requires made { IsFlow code.now flow.now.end flow.now.targets.items flow.now.threaded }
+    requires counted { IsStream code.now stream.now.counts.items stream.now.pending0.items stream.now.pending1.items stream.now.address_words.items }
+    ensures { result ≡ first_of (stream_questions code.now at) }
+{
+    let i = at as usize;
+    let pending0 = stream.pending0[i];
+    let pending1 = stream.pending1[i];
+    let target = flow.targets[i];
+    let takes = takes_at(code, flow.end, i, pending0, pending1);
+    if breaks_s14(code, i) {
+        return Some(14);
+    }
+    if breaks_s15(code, i) {
+        return Some(15);
+    }
+    if breaks_s17(code, i) {
+        return Some(17);
+    }
+    if breaks_s18(code, i, takes) {
+        return Some(18);
+    }
+    if breaks_s19(code, flow, at, takes) {
+        return Some(19);
+    }
+    if breaks_s20(code, i) {
+        return Some(20);
+    }
+    if breaks_s21(code, i) {
+        return Some(21);
+    }
+    if breaks_s22(code, i, pending0, pending1) {
+        return Some(22);
+    }
+    if breaks_s23(code, i, pending0, pending1) {
+        return Some(23);
+    }
+    if breaks_s25(code, i, target, pending0, pending1) {
+        return Some(25);
+    }
+    None
+}
