@@ -2,5 +2,11 @@
 #![tactic(auto)]
 
 mod buffer;
+mod handles;
+mod item;
+mod table;
 
 pub use buffer::{Buffer, Kind, Regions, TableFault};
+pub use handles::{Handles, use_code, use_data};
+pub use item::Item;
+pub use table::Table;

@@ -1,4 +1,8 @@
+pub mod Faults
 pub mod File
 pub mod Model
+pub mod Places
+pub mod Reading
 pub mod Rules
 pub mod Text
+pub mod Whole

@@ -1,8 +1,12 @@
 //! The job file: its bytes, its values, and the rules of its format.
 #![tactic(auto)]
 
+mod faults;
 mod file;
+mod reading;
 mod rule;
+mod unbuilt;
+mod words;
 
 pub use file::{Frame, Job, JobFile, Surface};
 pub use rule::{FormatFault, Refusal, Rule, Stage};

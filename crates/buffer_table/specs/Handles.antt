@@ -1,0 +1,32 @@
+-- What a job's handles name.
+use Rattle.std.specs.Prelude.{ℕ, ◌<◌, Bool, true, false, not, ◌||◌, ◌&&◌, nat_lt, nat_le, ◌==◌, List, [], ◌∷◌, length, slice_index, Option, Some, None, if◌then◌else◌}
+use Rattle.field_words.specs.Questions.{Question, Ask, each}
+use Rattle.buffer_table.specs.declared.buffer.Kind.{Kind}
+use Rattle.buffer_table.specs.declared.buffer.Kind.TheVariants.{Plain, Code}
+use Rattle.buffer_table.specs.Table.{TableModel, buffer_at}
+
+-- H1 at a handle: it is no buffer's number, or that buffer's client isn't the job's. What is
+-- answered is the handle's index.
+unfoldable pub handle_questions : TableModel → ℕ → List ℕ → ℕ → List (Question ℕ)
+handle_questions t client numbers i =
+    Ask (nat_le (length t.buffers) (slice_index numbers i) || not ((buffer_at t.buffers (slice_index numbers i)).client == client)) i ∷ []
+
+unfoldable pub handles_questions : TableModel → ℕ → List ℕ → List (Question ℕ)
+handles_questions t client numbers = each (handle_questions t client numbers) 0 (length numbers)
+
+-- each handle is the number of a buffer of the table
+abbrev pub AreNumbersOf : TableModel → List ℕ → Type 0
+AreNumbersOf t handles = (i : ℕ) → i < length handles → slice_index handles i < length t.buffers
+
+abbrev pub is_plain : Kind → Bool
+is_plain Plain = true
+is_plain Code = false
+
+-- the number of the buffer that a handle names, where that buffer has the kind
+unfoldable pub data_of : TableModel → List ℕ → ℕ → Option ℕ
+data_of t handles i =
+    if nat_lt i (length handles) && is_plain (buffer_at t.buffers (slice_index handles i)).kind then Some (slice_index handles i) else None
+
+unfoldable pub code_of : TableModel → List ℕ → ℕ → Option ℕ
+code_of t handles i =
+    if nat_lt i (length handles) && not (is_plain (buffer_at t.buffers (slice_index handles i)).kind) then Some (slice_index handles i) else None

@@ -1,0 +1,83 @@
+-- The rules of a memory table, and what they promise.
+use Rattle.std.specs.Prelude.{ℕ, ◌+◌, ◌*◌, ◌%◌, ◌≤◌, ◌<◌, min, max, Bool, not, ◌||◌, nat_lt, ◌==◌, List, [], ◌∷◌, ◌++◌, length, map, take, slice_index_or}
+use Rattle.std.specs.List.{list_any}
+use Rattle.field_words.specs.Questions.{Question, Ask, each}
+use Rattle.buffer_table.specs.declared.buffer.Kind.TheVariants.{Plain}
+use Rattle.buffer_table.specs.declared.buffer.Buffer.{Buffer}
+use Rattle.buffer_table.specs.declared.buffer.Regions.{Regions}
+use Rattle.buffer_table.specs.declared.buffer.TableFault.{TableFault}
+use Rattle.buffer_table.specs.declared.item.Item.{Item}
+
+-- what contracts see of a Table
+pub record TableModel : Type 0 where
+  pub memory : ℕ
+  pub regions : Regions
+  pub buffers : List Buffer
+
+-- a fault of rule M number at an item
+abbrev pub fault : ℕ → ℕ → TableFault
+fault number item = record { number = number; item = item }
+
+-- The items after the memory: the lists' region, the tile region, the buffers in order.
+abbrev pub lists_item : Regions → Item
+lists_item r = record { place = r.lists_place; size = r.lists_size; content = 0 }
+
+abbrev pub tile_item : Regions → Item
+tile_item r = record { place = r.tile_place; size = 524288 * r.tile_slots; content = 0 }
+
+abbrev pub buffer_item : Buffer → Item
+buffer_item b = record { place = b.place; size = b.size; content = b.content }
+
+abbrev pub items_of : Regions → List Buffer → List Item
+items_of r buffers = lists_item r ∷ (tile_item r ∷ map buffer_item buffers)
+
+abbrev pub no_item : Item
+no_item = record { place = 0; size = 0; content = 0 }
+
+abbrev pub item_at : List Item → ℕ → Item
+item_at items k = slice_index_or items k no_item
+
+-- a byte of the memory lies in an item; a byte lies in both
+pub record IsIn (byte : ℕ) (x : Item) : Type 0 where
+  pub from : x.place ≤ byte
+  pub before : byte < x.place + x.size
+
+abbrev pub ShareByte : Item → Item → Type 0
+ShareByte x y = (byte : ℕ) × IsIn byte x × IsIn byte y
+
+unfoldable pub shares : Item → Item → Bool
+shares x y = nat_lt (max x.place y.place) (min (x.place + x.size) (y.place + y.size))
+
+unfoldable pub is_unaligned : Item → Bool
+is_unaligned x = not (x.place % 4096 == 0) || (not (x.size % 4096 == 0) || x.size == 0)
+
+-- M1: the memory's size is 0, no multiple of 4,096 or over 64 MiB
+unfoldable pub memory_questions : ℕ → List (Question TableFault)
+memory_questions memory = Ask (memory == 0 || (not (memory % 4096 == 0) || nat_lt 67108864 memory)) (fault 1 0) ∷ []
+
+-- M2: a place or size is no multiple of 4,096, or the size is 0
+-- M3: the end is past the memory
+-- M4: an earlier item other than the memory has a byte of it
+-- M5: more content than bytes
+-- Item k of the list is item k + 1 of a fault, since the memory is item 0.
+unfoldable pub item_questions : ℕ → List Item → ℕ → List (Question TableFault)
+item_questions memory items k =
+    Ask (is_unaligned (item_at items k)) (fault 2 (k + 1))
+    ∷ (Ask (nat_lt memory ((item_at items k).place + (item_at items k).size)) (fault 3 (k + 1))
+    ∷ (Ask (list_any (shares (item_at items k)) (take k items)) (fault 4 (k + 1))
+    ∷ (Ask (nat_lt (item_at items k).size (item_at items k).content) (fault 5 (k + 1)) ∷ [])))
+
+-- all rules, in the order of refusal
+unfoldable pub all_questions : ℕ → List Item → List (Question TableFault)
+all_questions memory items = memory_questions memory ++ each (item_questions memory items) 0 (length items)
+
+-- all rules of the memory table of a file
+abbrev pub table_questions : ℕ → Regions → List Buffer → List (Question TableFault)
+table_questions memory r buffers = all_questions memory (items_of r buffers)
+
+-- the entry of a buffer; past the end an entry of zeros
+abbrev pub no_buffer : Buffer
+no_buffer = record { place = 0; size = 0; client = 0; kind = Plain; content = 0 }
+
+unfoldable pub buffer_at : List Buffer → ℕ → Buffer
+buffer_at buffers number = slice_index_or buffers number no_buffer

@@ -1,0 +1,106 @@
+//! The handles of a job: which buffers it may name.
+ghost use Rattle.std.specs.Prelude.{◌≡◌, ◌<◌, ◌≤◌, length, slice_index, IfOk, IfSome};
+ghost use Rattle.std.specs.Option.{SomeIff};
+ghost use Rattle.field_words.specs.Questions.{Answers, first_of, each};
+ghost use Rattle.buffer_table.specs.declared.buffer.Kind.TheVariants.{Plain, Code as CodeKind};
+ghost use Rattle.buffer_table.specs.Table.{TableModel, buffer_at};
+ghost use Rattle.buffer_table.specs.Handles.{handle_questions, handles_questions, AreNumbersOf, data_of, code_of};
+
+use crate::buffer::Kind;
+use crate::table::Table;
+use field_words::Stop;
+use std::alloc::Global;
+use std::marker::Model;
+
+/// The numbers of the buffers that a job may name, by handle.
+#[derive(Drop)]
+pub struct Handles {
+    numbers: Vec<u32>,
+}
+
+impl Model for Handles {
+    ghost use Rattle.std.specs.Prelude.{List, ℕ};
+
+    ghost Value = { List ℕ };
+
+    ghost view = { λ h. h.numbers.items };
+}
+
+/// Whether a handle is no buffer's number, or names a buffer of another client.
+#[tactic(auto, unfolding(crate::specs::Handles::handle_questions))]
+fn handle_fault(table: &Table, client: u32, numbers: &[u32], index: usize) -> Option<u32>
+    requires inside { index < length numbers.now }
+    requires few { length numbers.now ≤ 1024 }
+    ensures { result ≡ first_of (handle_questions table.now client numbers.now index) }
+{
+    let number = numbers[index] as usize;
+    if number >= table.count() || table.buffer(number).client != client {
+        return Some(index as u32);
+    }
+    None
+}
+
+/// The first handle at which H1 stands.
+fn handles_fault(table: &Table, client: u32, numbers: &[u32]) -> Option<u32>
+    requires few { length numbers.now ≤ 1024 }
+    ensures { result ≡ first_of (handles_questions table.now client numbers.now) }
+{
+    for index in 0..numbers.len() {
+        if let Some(fault) = handle_fault(table, client, numbers, index) {
+            return Some(fault);
+        }
+    }
+    None
+}
+
+impl Handles {
+    /// The handles of a job of `client`. The fault is the least index at which H1 stands: the
+    /// number is no buffer's, or the buffer belongs to another client.
+    pub fn make(
+        alloc: Global,
+        table: &Table,
+        client: u32,
+        numbers: &[u32],
+    ) -> Result<Handles, Stop<u32>>
+        requires few { length numbers.now ≤ 1024 }
+        ensures made { Answers (handles_questions table.now client numbers.now) (λ h. h ≡ numbers.now) result }
+        ensures numbers { IfOk result (λ h. AreNumbersOf table.now h) }
+    {
+        if let Some(fault) = handles_fault(table, client, numbers) {
+            return Err(Stop::Fault(fault));
+        }
+        Ok(Handles {
+            numbers: Vec::from_slice(alloc, numbers)?,
+        })
+    }
+}
+
+/// The number of the Plain buffer that a handle names. `None` comes exactly where `index` is
+/// outside the handles or the buffer isn't Plain.
+#[tactic(auto, unfolding(crate::specs::Handles::data_of))]
+pub fn use_data(table: &Table, handles: &Handles, index: u32) -> Option<usize>
+    requires made { AreNumbersOf table.now handles.now }
+    ensures value { result ≡ data_of table.now handles.now index }
+    ensures below { IfSome result (λ number. number < length table.now.buffers) }
+{
+    let number = *handles.numbers.get(index as usize)? as usize;
+    match table.buffer(number).kind {
+        Kind::Plain => Some(number),
+        Kind::Code => None,
+    }
+}
+
+/// The number of the Code buffer that a handle names. `None` comes exactly where `index` is
+/// outside the handles or the buffer isn't Code.
+#[tactic(auto, unfolding(crate::specs::Handles::code_of))]
+pub fn use_code(table: &Table, handles: &Handles, index: u32) -> Option<usize>
+    requires made { AreNumbersOf table.now handles.now }
+    ensures value { result ≡ code_of table.now handles.now index }
+    ensures below { IfSome result (λ number. number < length table.now.buffers) }
+{
+    let number = *handles.numbers.get(index as usize)? as usize;
+    match table.buffer(number).kind {
+        Kind::Plain => None,
+        Kind::Code => Some(number),
+    }
+}

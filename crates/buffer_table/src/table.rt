@@ -1,0 +1,72 @@
+//! The memory table.
+ghost use Rattle.std.specs.Prelude.{◌≡◌, ◌<◌, ◌≤◌, length, IfOk};
+ghost use Rattle.field_words.specs.Questions.{Answers};
+ghost use Rattle.buffer_table.specs.Table.{TableModel, table_questions, buffer_at};
+ghost use Rattle.buffer_table.specs.Sound.{IsSound, IsSoundBuffer};
+
+use crate::buffer::{Buffer, Regions, TableFault};
+use crate::item::{items, table_fault};
+use field_words::Stop;
+use std::alloc::Global;
+use std::marker::Model;
+
+/// The memory of a job file, with its regions and buffers, of which no memory rule fails: all of
+/// them are made of whole pages inside the memory, and no two have a byte in common.
+#[derive(Drop)]
+pub struct Table {
+    memory: u32,
+    regions: Regions,
+    buffers: Vec<Buffer>,
+}
+
+impl Model for Table {
+    ghost use Rattle.buffer_table.specs.Table.{TableModel};
+    ghost use Rattle.buffer_table.specs.Sound.{IsSound};
+
+    ghost Value = { TableModel };
+
+    ghost view = { λ t. record { memory = t.memory; regions = t.regions; buffers = t.buffers.items } };
+
+    ghost invariant = { λ t. IsSound t.memory t.regions t.buffers.items };
+}
+
+impl Table {
+    /// The table of a memory of `mem_size` bytes. The fault is the first of M1 to M5, by item and
+    /// number.
+    pub fn make(
+        alloc: Global,
+        mem_size: u32,
+        regions: Regions,
+        buffers: &Vec<Buffer>,
+    ) -> Result<Table, Stop<TableFault>>
+        requires few { length buffers.now.items ≤ 1024 }
+        ensures made { Answers (table_questions mem_size regions buffers.now.items) (λ t. t ≡ record { memory = mem_size; regions = regions; buffers = buffers.now.items }) result }
+        ensures sound { IfOk result (λ t. IsSound t.memory t.regions t.buffers) }
+    {
+        let items = items(alloc, &regions, buffers)?;
+        if let Some(fault) = table_fault(mem_size, &items) {
+            return Err(Stop::Fault(fault));
+        }
+        Ok(Table {
+            memory: mem_size,
+            regions,
+            buffers: Vec::from_slice(alloc, buffers)?,
+        })
+    }
+
+    /// How many buffers there are.
+    pub fn count(&self) -> usize
+        ensures { result ≡ length self.now.buffers }
+    {
+        self.buffers.len()
+    }
+
+    /// The entry of a buffer.
+    pub fn buffer(&self, number: usize) -> Buffer
+        requires { number < length self.now.buffers }
+        ensures entry { result ≡ buffer_at self.now.buffers number }
+        ensures sound { IsSoundBuffer self.now.memory result }
+    {
+        self.buffers[number]
+    }
+}

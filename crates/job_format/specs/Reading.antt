@@ -1,0 +1,75 @@
+-- The file that bytes hold, field by field, each at its place. Where no rule of the format stands
+-- this is the one file whose text the bytes are.
+use Rattle.std.specs.Prelude.{◌≡◌, ℕ, ◌+◌, ◌*◌, Bool, true, false, ◌==◌, List, [], ◌∷◌, map, take, drop, slice_index, if◌then◌else◌}
+use Rattle.std.specs.List.{range_with_len}
+use Rattle.field_words.specs.Words.{u16_at, u32_at}
+use Rattle.buffer_table.specs.declared.buffer.Kind.{Kind}
+use Rattle.buffer_table.specs.declared.buffer.Kind.TheVariants.{Plain, Code}
+use Rattle.buffer_table.specs.declared.buffer.Buffer.{Buffer}
+use Rattle.buffer_table.specs.declared.buffer.Regions.{Regions}
+use Rattle.job_format.specs.declared.file.Surface.{Surface}
+use Rattle.job_format.specs.declared.file.Frame.{Frame}
+use Rattle.job_format.specs.Model.{JobModel, FileModel}
+use Rattle.job_format.specs.Places.{job_place, content_size, content_place, handles_place, bin_place, records_place, uniforms_place}
+
+-- n bytes from a place on
+abbrev pub cut : List ℕ → ℕ → ℕ → List ℕ
+cut bytes at n = take n (drop at bytes)
+
+abbrev pub kind_of : ℕ → Kind
+kind_of n = if n == 1 then Code else Plain
+
+unfoldable pub regions_at : List ℕ → Regions
+regions_at bytes = record { lists_place = u32_at bytes 12; lists_size = u32_at bytes 16; tile_place = u32_at bytes 20; tile_slots = u32_at bytes 24 }
+
+unfoldable pub entry_at : List ℕ → ℕ → Buffer
+entry_at bytes at = record { place = u32_at bytes at; size = u32_at bytes (at + 4); client = u32_at bytes (at + 8); kind = kind_of (u32_at bytes (at + 12)); content = u32_at bytes (at + 16) }
+
+unfoldable pub surface_at : List ℕ → ℕ → Surface
+surface_at bytes at = record { hindex = u32_at bytes at; offset = u32_at bytes (at + 4); bits = u16_at bytes (at + 8); flags = u16_at bytes (at + 10) }
+
+-- at the job's entry
+unfoldable pub frame_at : List ℕ → ℕ → Frame
+frame_at bytes at = record {
+  width = u16_at bytes (at + 28);
+  height = u16_at bytes (at + 30);
+  min_x = slice_index bytes (at + 32);
+  min_y = slice_index bytes (at + 33);
+  max_x = slice_index bytes (at + 34);
+  max_y = slice_index bytes (at + 35);
+  surfaces = surface_at bytes (at + 36) ∷ surface_at bytes (at + 48) ∷ surface_at bytes (at + 60) ∷ surface_at bytes (at + 72) ∷ surface_at bytes (at + 84) ∷ surface_at bytes (at + 96) ∷ [];
+  clear = u32_at bytes (at + 4) == 1;
+  clear_color = u32_at bytes (at + 108) ∷ u32_at bytes (at + 112) ∷ [];
+  clear_z = u32_at bytes (at + 116);
+  clear_s = slice_index bytes (at + 120);
+}
+
+unfoldable pub words_at : List ℕ → ℕ → ℕ → List ℕ
+words_at bytes at n = map (λ i. u32_at bytes (at + 4 * i)) (range_with_len 0 n)
+
+unfoldable pub buffers_at : List ℕ → ℕ → List Buffer
+buffers_at bytes n = map (λ b. entry_at bytes (36 + 20 * b)) (range_with_len 0 n)
+
+unfoldable pub contents_at : List ℕ → ℕ → List (List ℕ)
+contents_at bytes n = map (λ b. cut bytes (content_place bytes b) (content_size bytes b)) (range_with_len 0 n)
+
+unfoldable pub job_at : List ℕ → JobModel
+job_at bytes = record {
+  client = u32_at bytes (job_place bytes);
+  handles = words_at bytes (handles_place bytes) (u32_at bytes (job_place bytes + 8));
+  bin = cut bytes (bin_place bytes) (u32_at bytes (job_place bytes + 12));
+  records = cut bytes (records_place bytes) (u32_at bytes (job_place bytes + 16));
+  declared = u32_at bytes (job_place bytes + 20);
+  uniforms = cut bytes (uniforms_place bytes) (u32_at bytes (job_place bytes + 24));
+  frame = frame_at bytes (job_place bytes);
+}
+
+unfoldable pub file_at : List ℕ → FileModel
+file_at bytes = record {
+  version = u32_at bytes 4;
+  mem_size = u32_at bytes 8;
+  regions = regions_at bytes;
+  buffers = buffers_at bytes (u32_at bytes 28);
+  contents = contents_at bytes (u32_at bytes 28);
+  jobs = job_at bytes ∷ [];
+}

@@ -1,0 +1,190 @@
+//! The values of a job file of which no format rule fails.
+ghost use Rattle.std.specs.Prelude.{◌≡◌, ◌+◌, ◌*◌, ◌<◌, ◌≤◌, length, map, IfOk};
+ghost use Rattle.field_words.specs.Words.{u32_at};
+ghost use Rattle.job_format.specs.Model.{job_view, file_view};
+ghost use Rattle.job_format.specs.Places.{job_place, content_place, handles_place, bin_place, records_place, uniforms_place, end_place};
+ghost use Rattle.job_format.specs.Whole.{HasParts};
+ghost use Rattle.job_format.specs.Reading.{cut, regions_at, entry_at, surface_at, frame_at, kind_of, words_at, buffers_at, contents_at, job_at, file_at};
+
+use crate::file::{Frame, Job, JobFile, Surface};
+use crate::words::{half, word};
+use buffer_table::{Buffer, Kind, Regions};
+use std::alloc::{AllocError, Global};
+
+#[tactic(auto, unfolding(crate::specs::Reading::regions_at))]
+fn regions(bytes: &[u8]) -> Regions
+    requires inside { 36 ≤ length bytes.now }
+    ensures { result ≡ regions_at bytes.now }
+{
+    Regions {
+        lists_place: word(bytes, 12),
+        lists_size: word(bytes, 16),
+        tile_place: word(bytes, 20),
+        tile_slots: word(bytes, 24),
+    }
+}
+
+fn kind(number: u32) -> Kind
+    ensures { result ≡ kind_of number }
+{
+    if number == 1 { Kind::Code } else { Kind::Plain }
+}
+
+/// A buffer's entry.
+#[tactic(auto, unfolding(crate::specs::Reading::entry_at))]
+fn entry(bytes: &[u8], at: usize) -> Buffer
+    requires inside { at + 20 ≤ length bytes.now }
+    ensures { result ≡ entry_at bytes.now at }
+{
+    Buffer {
+        place: word(bytes, at),
+        size: word(bytes, at + 4),
+        client: word(bytes, at + 8),
+        kind: kind(word(bytes, at + 12)),
+        content: word(bytes, at + 16),
+    }
+}
+
+#[tactic(auto, unfolding(crate::specs::Reading::surface_at))]
+fn surface(bytes: &[u8], at: usize) -> Surface
+    requires inside { at + 12 ≤ length bytes.now }
+    ensures { result ≡ surface_at bytes.now at }
+{
+    Surface {
+        hindex: word(bytes, at),
+        offset: word(bytes, at + 4),
+        bits: half(bytes, at + 8),
+        flags: half(bytes, at + 10),
+    }
+}
+
+/// The frame in the job's entry, which begins at `at`.
+#[tactic(auto, unfolding(crate::specs::Reading::frame_at))]
+fn frame(bytes: &[u8], at: usize) -> Frame
+    requires inside { at + 124 ≤ length bytes.now }
+    ensures { result ≡ frame_at bytes.now at }
+{
+    Frame {
+        width: half(bytes, at + 28),
+        height: half(bytes, at + 30),
+        min_x: bytes[at + 32],
+        min_y: bytes[at + 33],
+        max_x: bytes[at + 34],
+        max_y: bytes[at + 35],
+        surfaces: [
+            surface(bytes, at + 36),
+            surface(bytes, at + 48),
+            surface(bytes, at + 60),
+            surface(bytes, at + 72),
+            surface(bytes, at + 84),
+            surface(bytes, at + 96),
+        ],
+        clear: word(bytes, at + 4) == 1,
+        clear_color: [word(bytes, at + 108), word(bytes, at + 112)],
+        clear_z: word(bytes, at + 116),
+        clear_s: bytes[at + 120],
+    }
+}
+
+/// `count` words from `at` on.
+#[tactic(auto, using(crate::proofs::Listed::words_none, crate::proofs::Listed::words_more))]
+fn words(alloc: Global, bytes: &[u8], at: usize, count: usize) -> Result<Vec<u32>, AllocError>
+    requires few { count ≤ 64 }
+    requires inside { at + 4 * count ≤ length bytes.now }
+    ensures { IfOk result (λ v. v.items ≡ words_at bytes.now at count) }
+{
+    let mut words = Vec::new(alloc);
+    for i in 0..count {
+        words.push(word(bytes, at + 4 * i))?;
+    }
+    Ok(words)
+}
+
+/// The entries of `count` buffers.
+#[tactic(auto, using(crate::proofs::Listed::buffers_none, crate::proofs::Listed::buffers_more))]
+fn buffers(alloc: Global, bytes: &[u8], count: usize) -> Result<Vec<Buffer>, AllocError>
+    requires few { count ≤ 64 }
+    requires inside { 36 + 20 * count ≤ length bytes.now }
+    ensures { IfOk result (λ v. v.items ≡ buffers_at bytes.now count) }
+{
+    let mut buffers = Vec::new(alloc);
+    for b in 0..count {
+        buffers.push(entry(bytes, 36 + 20 * b))?;
+    }
+    Ok(buffers)
+}
+
+/// The contents of a buffer: `size` bytes from `at` on.
+fn bytes_at(alloc: Global, bytes: &[u8], at: usize, size: usize) -> Result<Vec<u8>, AllocError>
+    requires inside { at + size ≤ length bytes.now }
+    ensures { IfOk result (λ v. v.items ≡ cut bytes.now at size) }
+{
+    Ok(Vec::from_slice(alloc, &bytes[at..at + size])?)
+}
+
+/// The contents of `count` buffers, one after the other, and the place where they end.
+#[tactic(auto, using(crate::proofs::Listed::contents_none, crate::proofs::Listed::contents_more, crate::proofs::Standing::content_place_step, crate::proofs::Standing::content_place_first, crate::proofs::Standing::content_ends))]
+fn contents(alloc: Global, bytes: &[u8], count: usize) -> Result<(Vec<Vec<u8>>, usize), AllocError>
+    requires few { count ≤ 64 }
+    requires count { count ≡ u32_at bytes.now 28 }
+    requires entries { 36 + 20 * count + 124 ≤ length bytes.now }
+    requires inside { content_place bytes.now count ≤ length bytes.now }
+    ensures values { IfOk result (λ v. map (λ c. c.items) v.0.items ≡ contents_at bytes.now count) }
+    ensures place { IfOk result (λ v. v.1 ≡ content_place bytes.now count) }
+{
+    let mut contents = Vec::new(alloc);
+    let mut at = 36 + 20 * count + 124;
+    for b in 0..count {
+        let size = word(bytes, 36 + 20 * b + 16) as usize;
+        contents.push(bytes_at(alloc, bytes, at, size)?)?;
+        at += size;
+    }
+    Ok((contents, at))
+}
+
+/// The job, whose entry begins at `at` and whose parts begin at `handles`.
+#[tactic(auto, unfolding(crate::specs::Reading::job_at, crate::specs::Places::bin_place, crate::specs::Places::records_place, crate::specs::Places::uniforms_place, crate::specs::Places::end_place))]
+fn job(alloc: Global, bytes: &[u8], at: usize, handles: usize) -> Result<Job, AllocError>
+    requires whole { HasParts bytes.now }
+    requires entry { at ≡ job_place bytes.now }
+    requires parts { handles ≡ handles_place bytes.now }
+    ensures { IfOk result (λ j. job_view j ≡ job_at bytes.now) }
+{
+    let count = word(bytes, at + 8) as usize;
+    let bin = handles + 4 * count;
+    let bin_size = word(bytes, at + 12) as usize;
+    let records = bin + bin_size;
+    let records_size = word(bytes, at + 16) as usize;
+    let uniforms = records + records_size;
+    let uniforms_size = word(bytes, at + 24) as usize;
+    Ok(Job {
+        client: word(bytes, at),
+        handles: words(alloc, bytes, handles, count)?,
+        bin: bytes_at(alloc, bytes, bin, bin_size)?,
+        records: bytes_at(alloc, bytes, records, records_size)?,
+        declared: word(bytes, at + 20),
+        uniforms: bytes_at(alloc, bytes, uniforms, uniforms_size)?,
+        frame: frame(bytes, at),
+    })
+}
+
+/// The file that the bytes are.
+#[tactic(auto, unfolding(crate::specs::Reading::file_at, crate::specs::Places::handles_place), using(crate::proofs::Standing::handles_inside))]
+pub(crate) fn file_of(alloc: Global, bytes: &[u8]) -> Result<JobFile, AllocError>
+    requires whole { HasParts bytes.now }
+    ensures { IfOk result (λ f. file_view f ≡ file_at bytes.now) }
+{
+    let count = word(bytes, 28) as usize;
+    let at = 36 + 20 * count;
+    let (contents, handles) = contents(alloc, bytes, count)?;
+    let mut jobs = Vec::new(alloc);
+    jobs.push(job(alloc, bytes, at, handles)?)?;
+    Ok(JobFile {
+        version: word(bytes, 4),
+        mem_size: word(bytes, 8),
+        regions: regions(bytes),
+        buffers: buffers(alloc, bytes, count)?,
+        contents,
+        jobs,
+    })
+}
