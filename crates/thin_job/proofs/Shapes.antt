@@ -210,3 +210,7 @@ file_of bytes small t keeps = record {
     rules = keeps;
   };
 }
+
+-- Bytes are a thin file in one way at most.
+pub thin_once : (bytes : List ℕ) (f g : FileModel) → IsThinFile bytes f → IsThinFile bytes g → thin_of f ≡ thin_of g
+thin_once bytes f g is_f is_g = sym ((places_of bytes f is_f).1) ∙ (places_of bytes g is_g).1

@@ -1,0 +1,21 @@
+use Rattle.std.proofs.Common.{◌≢◌, arith, sym, subst, ◌∙◌}
+use Rattle.std.specs.Io.KnownBytes.{Appends}
+use Rattle.vc4check.specs.Answer.{IsCheckAnswer}
+use Rattle.vc4check.proofs.check.respond.Goals as goal
+
+pub returns-clause-answered : goal.returns-clause-answered
+returns-clause-answered g c = λ low.
+    let wrote : c.reply.result ≢ 4 = λ e. omega (arith, e, low) in (
+      c.in-Ok.answer.text.items,
+      subst (λ status. IsCheckAnswer c.args.bytes.now status c.in-Ok.answer.text.items) (sym (c.reply.ensures.status wrote)) c.in-Ok.ensures.answers,
+      c.reply.ensures.written wrote,
+    )
+
+pub returns-clause-cut : goal.returns-clause-cut
+returns-clause-cut g c = λ cut. (c.in-Ok.answer.status, c.in-Ok.answer.text.items, c.in-Ok.ensures.answers, c.reply.ensures.cut cut)
+
+pub returns-clause-accepted : goal.returns-clause-accepted
+returns-clause-accepted g c = λ f h low.
+    let wrote : c.reply.result ≢ 4 = λ e. omega (arith, e, low) in
+    let accepted = c.in-Ok.ensures.thin f h in
+    (c.reply.ensures.status wrote ∙ accepted.0, subst (Appends _ _) accepted.1 (c.reply.ensures.written wrote))

@@ -1,0 +1,30 @@
+//! An answer to all of the input, and its way into the sink.
+ghost use Rattle.std.specs.Prelude.{◌≡◌, ◌≢◌, ◌≤◌, ◌<◌};
+ghost use Rattle.std.specs.Io.KnownBytes.{Appends};
+ghost use Rattle.job_io.specs.Faults.{Rose};
+ghost use Rattle.job_io.specs.Traffic.{AppendsFront};
+
+use job_io::{Failed, Sink, write_all};
+
+/// Status 0 or 1, and the text that goes with it.
+#[derive(Debug, Drop)]
+pub struct Answer {
+    pub status: u8,
+    pub text: Vec<u8>,
+}
+
+/// Writes the answer's text, and says its status; or 4 where the sink failed, which then has a front
+/// of the text. It takes no memory.
+pub fn reply<K: Sink>(sink: &mut K, answer: &Answer) -> u8
+    requires { answer.now.status < 2 }
+    ensures status { result ≢ 4 → result ≡ answer.now.status }
+    ensures failing { result ≤ 4 }
+    ensures written { result ≢ 4 → Appends (K.held sink.old) (K.held sink.new) answer.now.text.items }
+    ensures cut { result ≡ 4 → AppendsFront (K.held sink.old) (K.held sink.new) answer.now.text.items }
+    ensures failed { result ≡ 4 → Rose (K.faults sink.old) (K.faults sink.new) }
+{
+    match write_all(sink, &answer.text) {
+        Ok(()) => answer.status,
+        Err(Failed) => 4,
+    }
+}

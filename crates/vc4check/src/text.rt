@@ -1,0 +1,150 @@
+//! The text that `check` prints of an accepted job.
+ghost use Rattle.std.specs.Prelude.{◌≡◌, ◌≤◌, ◌<◌, ◌^◌, ◌+◌, ◌++◌, ◌/◌, length, IfOk, OnOk, string_bytes};
+ghost use Rattle.vc4check.specs.Text.{place_text, span_line, memory_line, slot_line, row_line, row_at, is_blank, row_text, rows_text, layout_text, accepted_text};
+
+use super::layout::{Layout, Span};
+use field_words::NoMemory;
+use phys_mem::PhysMem;
+use std::alloc::{AllocError, Global};
+
+#[tactic(auto, using(crate::proofs::Rows::place_shown))]
+fn place_text(alloc: Global, place: u32) -> Result<String, AllocError>
+    ensures { IfOk result (λ text. string_bytes text ≡ place_text place) }
+{
+    format!(in alloc; "{place:08x}")
+}
+
+#[tactic(auto, unfolding(crate::specs::Text::span_line))]
+fn span_line(alloc: Global, name: &str, span: &Span) -> Result<String, AllocError>
+    ensures { IfOk result (λ line. string_bytes line ≡ span_line name.now span.now) }
+{
+    let place = place_text(alloc, span.place)?;
+    let length = span.length;
+    format!(in alloc; "{name} {place} {length}\n")
+}
+
+#[tactic(auto, unfolding(crate::specs::Text::memory_line))]
+fn memory_line(alloc: Global, size: u32) -> Result<String, AllocError>
+    ensures { IfOk result (λ line. string_bytes line ≡ memory_line size) }
+{
+    format!(in alloc; "memory {size}\n")
+}
+
+#[tactic(auto, unfolding(crate::specs::Text::slot_line))]
+fn slot_line(alloc: Global, place: u32) -> Result<String, AllocError>
+    ensures { IfOk result (λ line. string_bytes line ≡ slot_line place) }
+{
+    let place = place_text(alloc, place)?;
+    format!(in alloc; "slot {place}\n")
+}
+
+/// The sixteen bytes at a place.
+#[tactic(auto, using(crate::proofs::Rows::row_cells))]
+fn row_at(memory: &PhysMem, place: u32) -> [u8; 16]
+    requires inside { place + 16 ≤ length memory.now }
+    requires fits { length memory.now < 2 ^ 32 }
+    ensures { result ≡ row_at memory.now place }
+{
+    [
+        memory.read_byte(place),
+        memory.read_byte(place + 1),
+        memory.read_byte(place + 2),
+        memory.read_byte(place + 3),
+        memory.read_byte(place + 4),
+        memory.read_byte(place + 5),
+        memory.read_byte(place + 6),
+        memory.read_byte(place + 7),
+        memory.read_byte(place + 8),
+        memory.read_byte(place + 9),
+        memory.read_byte(place + 10),
+        memory.read_byte(place + 11),
+        memory.read_byte(place + 12),
+        memory.read_byte(place + 13),
+        memory.read_byte(place + 14),
+        memory.read_byte(place + 15),
+    ]
+}
+
+/// Whether the sixteen bytes at a place are all zero.
+#[inline]
+#[tactic(auto, using(crate::proofs::Rows::blank_is))]
+fn is_blank(memory: &PhysMem, place: u32) -> bool
+    requires inside { place + 16 ≤ length memory.now }
+    requires fits { length memory.now < 2 ^ 32 }
+    ensures { result ≡ is_blank (row_at memory.now place) }
+{
+    let first = u64::from(memory.read_word(place));
+    let second = u64::from(memory.read_word(place + 4));
+    let third = u64::from(memory.read_word(place + 8));
+    let fourth = u64::from(memory.read_word(place + 12));
+    first + second + third + fourth == 0
+}
+
+#[tactic(auto, unfolding(crate::specs::Text::row_line))]
+fn row_line(alloc: Global, place: u32, row: &[u8]) -> Result<String, AllocError>
+    ensures { IfOk result (λ line. string_bytes line ≡ row_line place row.now) }
+{
+    let place = place_text(alloc, place)?;
+    let digits = hex::encode(alloc, row)?;
+    format!(in alloc; "{place} {digits}\n")
+}
+
+/// Appends the line of the sixteen bytes at a place, or nothing where they are all zero.
+#[inline]
+#[tactic(auto, unfolding(crate::specs::Text::row_text))]
+fn push_row(
+    alloc: Global,
+    out: &mut Vec<u8>,
+    memory: &PhysMem,
+    place: u32,
+) -> Result<(), AllocError>
+    requires inside { place + 16 ≤ length memory.now }
+    requires fits { length memory.now < 2 ^ 32 }
+    ensures { OnOk result (out.new.items ≡ out.old.items ++ row_text memory.now place) }
+{
+    if is_blank(memory, place) {
+        return Ok(());
+    }
+    let line = row_line(alloc, place, &row_at(memory, place))?;
+    out.extend_from_slice(line.as_bytes())
+}
+
+/// Appends the lines of all rows of the memory that aren't all zero.
+fn push_rows(alloc: Global, out: &mut Vec<u8>, memory: &PhysMem) -> Result<(), AllocError>
+    ensures { OnOk result (out.new.items ≡ out.old.items ++ rows_text memory.now 0 (length memory.now / 16)) }
+{
+    let rows = memory.len() / 16;
+    for row in 0..rows {
+        push_row(alloc, out, memory, 16 * row)?;
+    }
+    Ok(())
+}
+
+#[tactic(auto, unfolding(crate::specs::Text::layout_text))]
+fn push_layout(alloc: Global, out: &mut Vec<u8>, layout: &Layout) -> Result<(), AllocError>
+    ensures { OnOk result (out.new.items ≡ out.old.items ++ layout_text layout.now) }
+{
+    out.extend_from_slice(span_line(alloc, "bin", &layout.bin)?.as_bytes())?;
+    out.extend_from_slice(span_line(alloc, "records", &layout.records)?.as_bytes())?;
+    out.extend_from_slice(span_line(alloc, "uniforms", &layout.uniforms)?.as_bytes())?;
+    out.extend_from_slice(span_line(alloc, "render", &layout.render)?.as_bytes())?;
+    out.extend_from_slice(slot_line(alloc, layout.slot)?.as_bytes())
+}
+
+/// The text of an accepted job, from the memory that it runs in and where its parts lie there. A
+/// row whose bytes are all zero is left out.
+#[tactic(auto, unfolding(crate::specs::Text::accepted_text))]
+pub fn accepted_text(
+    alloc: Global,
+    memory: &PhysMem,
+    layout: &Layout,
+) -> Result<Vec<u8>, AllocError>
+    ensures { IfOk result (λ text. text.items ≡ accepted_text memory.now layout.now) }
+{
+    let mut out = b"accepted\n".to_vec(alloc)?;
+    out.extend_from_slice(memory_line(alloc, memory.len())?.as_bytes())?;
+    push_layout(alloc, &mut out, layout)?;
+    push_rows(alloc, &mut out, memory)?;
+    out.extend_from_slice(b"end\n")?;
+    Ok(out)
+}
