@@ -1,5 +1,5 @@
 //! Steps of small machines, with their accesses.
-ghost use Rattle.std.specs.Prelude.{◌≡◌, IfOk, length};
+ghost use Rattle.std.specs.Prelude.{◌≡◌};
 
 use crate::job::Start;
 use crate::machine::{Machine, Stepped};
@@ -20,19 +20,17 @@ fn start(render_place: u32, render_len: u32) -> Start
     }
 }
 
-// The list at place 0 of a memory of 0x82000 bytes: a frame of 16x16 pixels of four bytes, in
-// raster order at 0x81000, its tile (0, 0), and the store.
-fn frame_memory(alloc: Global) -> Result<PhysMem, NoMemory>
-    ensures { IfOk result (λ m. length m ≡ 532480) }
-{
-    let mut memory = PhysMem::new(alloc, 532_480)?;
-    memory.write_bytes(
-        0,
-        &[
-            0x71, 0x00, 0x10, 0x08, 0x00, 0x10, 0x00, 0x10, 0x00, 0x04, 0x00, 0x73, 0x00, 0x00,
-            0x19,
-        ],
-    );
+// A frame of 16x16 pixels of four bytes, in raster order at 0x81000, its tile (0, 0), and the store.
+const FRAME: [u8; 15] = [
+    0x71, 0x00, 0x10, 0x08, 0x00, 0x10, 0x00, 0x10, 0x00, 0x04, 0x00, 0x73, 0x00, 0x00, 0x19,
+];
+
+// A memory of `size` bytes with this list at place 0.
+fn memory_with(alloc: Global, size: u32, list: &[u8]) -> Result<PhysMem, NoMemory> {
+    let mut memory = PhysMem::new(alloc, size)?;
+    if list.len() <= memory.len() as usize {
+        memory.write_bytes(0, list);
+    }
     Ok(memory)
 }
 
@@ -58,7 +56,7 @@ fn lists(machine: &mut Machine, words: &[u32], want: &[Access]) -> bool {
 // words stand in the rows.
 #[test]
 fn stores_a_frame(rt: HostRuntime) -> Result<(), NoMemory> {
-    let memory = frame_memory(rt.alloc())?;
+    let memory = memory_with(rt.alloc(), 532_480, &FRAME)?;
     let mut machine = Machine::new(rt.alloc(), memory, &[start(0, 15)])?;
     assert!(rt; lists(&mut machine, &[], &[access(Way::Read, 0, 11)]));
     assert!(rt; lists(&mut machine, &[], &[access(Way::Read, 11, 3)]));
@@ -76,8 +74,7 @@ fn stores_a_frame(rt: HostRuntime) -> Result<(), NoMemory> {
 // An opcode that does nothing the renderer knows is wild, and ends the list.
 #[test]
 fn unknown_opcode_is_wild(rt: HostRuntime) -> Result<(), NoMemory> {
-    let mut memory = PhysMem::new(rt.alloc(), 4096)?;
-    memory.write_bytes(0, &[0x07]);
+    let memory = memory_with(rt.alloc(), 4096, &[0x07])?;
     let mut machine = Machine::new(rt.alloc(), memory, &[start(0, 1)])?;
     let want = [access(Way::Read, 0, 1), access(Way::Wild, 0, 0)];
     assert!(rt; lists(&mut machine, &[], &want));
@@ -89,7 +86,7 @@ fn unknown_opcode_is_wild(rt: HostRuntime) -> Result<(), NoMemory> {
 // aren't enabled.
 #[test]
 fn jobs_step_in_order(rt: HostRuntime) -> Result<(), NoMemory> {
-    let memory = frame_memory(rt.alloc())?;
+    let memory = memory_with(rt.alloc(), 532_480, &FRAME)?;
     let mut machine = Machine::new(rt.alloc(), memory, &[start(11, 3), start(0, 11)])?;
     let mut second = access(Way::Read, 0, 11);
     second.job = 1;

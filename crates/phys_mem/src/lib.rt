@@ -34,8 +34,7 @@ impl PhysMem {
     /// A memory of `size` zero bytes. It may run out of memory.
     #[tactic(auto, unfolding(field_words::specs::Writes::zeros))]
     pub fn new(alloc: Global, size: u32) -> Result<PhysMem, NoMemory>
-        ensures value { IfOk result (λ m. m ≡ zeros size) }
-        ensures len { IfOk result (λ m. length m ≡ size) }
+        ensures { IfOk result (λ m. m ≡ zeros size) }
     {
         let bytes = vec![in alloc; 0u8; size as usize]?;
         Ok(PhysMem { bytes })
