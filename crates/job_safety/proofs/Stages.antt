@@ -55,7 +55,7 @@ write_safe t p n lies = record {
 }
 
 -- no byte of the list is in the slot or in the buffer
-list_outside : (t : Thin) → KeepsRules t → (i : ℕ) → i < 15 → IsOutside (thin_rights t) (t.regions.lists_place + i)
+pub list_outside : (t : Thin) → KeepsRules t → (i : ℕ) → i < 15 → IsOutside (thin_rights t) (t.regions.lists_place + i)
 list_outside t rules i below zero (inl lies) = absurd (omega (arith, lies.from, lies.upto, rules.apart.lists_tiles, rules.items.lists.some, rules.items.lists.pages, rules.items.tiles.some))
 list_outside t rules i below zero (inr (inl lies)) = absurd (omega (arith, lies.from, lies.upto, rules.apart.lists_buffer, rules.items.lists.some, rules.items.lists.pages, rules.items.buffer.some))
 list_outside t rules i below zero (inr (inr none)) = absurd none
@@ -65,7 +65,7 @@ list_outside t rules i below (suc j) none = absurd none
 abbrev pub StepKeeps : Thin → Renderer → List ℕ → List ℕ → Type 0
 StepKeeps t r words m = Keeps (renderer_of 0) (λ p n. Unit {0}) (IsSafeAccess (thin_rights t)) (λ k next. Stage t next) (renderer_plan r words) m
 
-begun_keeps : (t : Thin) → KeepsRules t → (words m : List ℕ) → Stands t m → StepKeeps t (begun t) words m
+pub begun_keeps : (t : Thin) → KeepsRules t → (words m : List ℕ) → Stands t m → StepKeeps t (begun t) words m
 begun_keeps t rules words m stands =
     let L = λ (p n : ℕ). Unit {0} in
     let G = IsSafeAccess (thin_rights t) in
@@ -77,7 +77,7 @@ begun_keeps t rules words m stands =
       (read_safe t t.regions.lists_place 11 (record { from = omega arith; upto = omega arith }))
       (frame_keeps (renderer_of 0) L G P past words m packet (first_opcode t) (Framed sets))
 
-framed_keeps : (t : Thin) → KeepsRules t → (words m : List ℕ) → Stands t m → StepKeeps t (framed t) words m
+pub framed_keeps : (t : Thin) → KeepsRules t → (words m : List ℕ) → Stands t m → StepKeeps t (framed t) words m
 framed_keeps t rules words m stands =
     let L = λ (p n : ℕ). Unit {0} in
     let G = IsSafeAccess (thin_rights t) in
@@ -102,7 +102,7 @@ row_lies t rules rows are k below =
       upto = omega (arith, ends, rules.frame.inside)
     }
 
-tiled_keeps : (t : Thin) → KeepsRules t → (words m : List ℕ) → Stands t m → StepKeeps t (tiled t) words m
+pub tiled_keeps : (t : Thin) → KeepsRules t → (words m : List ℕ) → Stands t m → StepKeeps t (tiled t) words m
 unfolding store_plan
 tiled_keeps t rules words m stands =
     let L = λ (p n : ℕ). Unit {0} in
