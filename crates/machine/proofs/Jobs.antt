@@ -30,5 +30,5 @@ pub jobs_set : (jobs : List JobState) (j : ℕ) (new : JobState) → AreJobs job
 jobs_set jobs j new are inside fine = record {
   some = omega (arith, are.some, length-set jobs j new);
   few = omega (arith, are.few, length-set jobs j new);
-  bounded = λ k below. job_set_bounded jobs j new k are fine (omega (arith, length-set jobs j new)) (eqb_tells j k)
+  bounded = λ k below. job_set_bounded jobs j new k are fine (omega (arith, length-set jobs j new)) (eqb_tells j k);
 }

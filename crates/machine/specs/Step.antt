@@ -48,7 +48,7 @@ abbrev pub with_renderer : State → ℕ → Outcome Renderer → Moved State
 with_renderer s j o =
     record {
       accesses = o.accesses;
-      state = record { memory = o.memory; jobs = slice_set s.jobs j (record { renderer = goes_on (job_at s.jobs j).renderer o.result }) }
+      state = record { memory = o.memory; jobs = slice_set s.jobs j (record { renderer = goes_on (job_at s.jobs j).renderer o.result }) };
     }
 
 -- the renderer steps for job j

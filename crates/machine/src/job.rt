@@ -2,10 +2,9 @@
 ghost use Rattle.std.specs.Prelude.{◌≡◌, ◌≤◌, ◌<◌, length, map, IfOk};
 ghost use Rattle.machine.specs.State.{job_start, IsBounded, AreJobs};
 
-use std::alloc::Global;
-
 use field_words::NoMemory;
 use list_machine::Renderer;
+use std::alloc::Global;
 
 /// Where a job's binner list and renderer list stand in memory, and their lengths.
 #[derive(Clone, Copy, Debug, PartialEq, Eq)]

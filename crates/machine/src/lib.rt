@@ -4,6 +4,8 @@
 
 mod job;
 mod machine;
+#[cfg(test)]
+mod tests;
 
 pub use job::{JobState, Start};
 pub use machine::{Machine, Stepped};

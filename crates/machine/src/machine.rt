@@ -5,15 +5,13 @@ ghost use Rattle.machine.specs.State.{start_of, renderer_job, IsBounded};
 ghost use Rattle.machine.specs.Step.{enabled, finished, goes_on, renderer_moved, renderer_step, step, Moves};
 ghost use Rattle.field_words.specs.declared.access.Actor.TheVariants.{Renderer as TheRenderer};
 
-use std::alloc::Global;
-use std::marker::Model;
-
+use crate::job::{JobState, Start, all_started};
 use arrayvec::ArrayVec;
 use field_words::{Access, Actor, NoMemory};
 use list_machine::{Renderer, step_renderer};
 use phys_mem::PhysMem;
-
-use crate::job::{JobState, Start, all_started};
+use std::alloc::Global;
+use std::marker::Model;
 
 /// Whether a unit has stepped.
 #[derive(Clone, Copy, Debug, PartialEq, Eq)]
@@ -65,7 +63,9 @@ impl Machine {
     fn renderer_job(&self) -> Option<usize>
         ensures { result ≡ renderer_job self.now.jobs }
     {
-        self.jobs.iter().position(|job| job.renderer.place < job.renderer.end)
+        self.jobs
+            .iter()
+            .position(|job| job.renderer.place < job.renderer.end)
     }
 
     /// Whether the unit may step.
@@ -91,7 +91,12 @@ impl Machine {
     /// `NotEnabled` comes exactly where the unit is not enabled, and then nothing else has changed.
     /// A step takes no memory.
     #[tactic(auto, unfolding(crate::specs::Step::step))]
-    pub fn step(&mut self, unit: Actor, words: &[u32], accesses: &mut ArrayVec<Access, 272>) -> Stepped
+    pub fn step(
+        &mut self,
+        unit: Actor,
+        words: &[u32],
+        accesses: &mut ArrayVec<Access, 272>,
+    ) -> Stepped
         ensures done { IsTrue (enabled self.old unit) → result ≡ Stepped.Done }
         ensures refused { enabled self.old unit ≡ false → result ≡ Stepped.NotEnabled }
         ensures same { result ≡ Stepped.NotEnabled → self.new ≡ self.old }

@@ -1,3 +1,4 @@
 pub mod Memory
 pub mod Plans
 pub mod Runs
+pub mod Safe

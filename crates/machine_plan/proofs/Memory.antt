@@ -76,3 +76,15 @@ pub set_outside : (m : List ℕ) (p b : ℕ) → length m ≤ p → slice_set m 
 set_outside [] p b outside = refl
 set_outside (x ∷ m) zero b outside = absurd (omega arith)
 set_outside (x ∷ m) (suc p) b outside = ap (λ rest. x ∷ rest) (set_outside m p b (omega arith))
+
+suc_moves : (p i : ℕ) → suc p + i ≡ p + suc i
+suc_moves p i = omega arith
+
+-- bytes that are the same one by one
+pub bytes_same : (m k : List ℕ) (p q n : ℕ) → ((i : ℕ) → i < n → slice_index m (p + i) ≡ slice_index k (q + i)) → bytes_at m p n ≡ bytes_at k q n
+unfolding bytes_at
+bytes_same m k p q zero same = refl
+bytes_same m k p q (suc n) same =
+    let here : slice_index m p ≡ slice_index k q = ap (λ a. slice_index m a) (sym (add-zero p)) ∙ (same 0 (omega arith) ∙ ap (λ a. slice_index k a) (add-zero q)) in
+    let rest : bytes_at m (suc p) n ≡ bytes_at k (suc q) n = bytes_same m k (suc p) (suc q) n (λ i below. ap (λ a. slice_index m a) (suc_moves p i) ∙ (same (suc i) (omega arith) ∙ ap (λ a. slice_index k a) (sym (suc_moves q i)))) in
+    cc
