@@ -1,2 +1,4 @@
+pub mod Fields
 pub mod Listed
+pub mod Passing
 pub mod Standing
