@@ -1,4 +1,6 @@
+pub mod Entries
 pub mod Fields
+pub mod Frames
 pub mod Listed
 pub mod Passing
 pub mod Standing
