@@ -1,7 +1,9 @@
 pub mod Entries
 pub mod Fields
+pub mod Found
 pub mod Frames
 pub mod Heads
 pub mod Listed
 pub mod Passing
 pub mod Standing
+pub mod Tails
