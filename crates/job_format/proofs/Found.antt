@@ -145,7 +145,7 @@ header_reads bytes p =
       jobs = p.header.jobs
     }
 
-handles_in : (bytes : List ℕ) → Passes bytes → content_place bytes (u32_at bytes 28) ≤ length bytes
+pub handles_in : (bytes : List ℕ) → Passes bytes → content_place bytes (u32_at bytes 28) ≤ length bytes
 unfolding end_place uniforms_place records_place bin_place handles_place
 handles_in bytes p = let end = p.end in omega arith
 

@@ -1,9 +1,11 @@
 pub mod Entries
 pub mod Fields
+pub mod Fitting
 pub mod Found
 pub mod Frames
 pub mod Heads
 pub mod Listed
+pub mod Only
 pub mod Passing
 pub mod Standing
 pub mod Tails

@@ -169,7 +169,7 @@ fn job(alloc: Global, bytes: &[u8], at: usize, handles: usize) -> Result<Job, Al
 }
 
 /// The file that the bytes are.
-#[tactic(auto, unfolding(crate::specs::Reading::file_at, crate::specs::Places::handles_place), using(crate::proofs::Standing::handles_inside, crate::proofs::Passing::has_parts, crate::proofs::Entries::buffer_piece, crate::proofs::Found::length_cut))]
+#[tactic(auto, unfolding(crate::specs::Reading::file_at, crate::specs::Places::handles_place), using(crate::proofs::Standing::handles_inside, crate::proofs::Passing::has_parts, crate::proofs::Entries::buffer_piece, crate::proofs::Fitting::is_file, crate::proofs::Only::only_file))]
 pub(crate) fn file_of(alloc: Global, bytes: &[u8]) -> Result<JobFile, AllocError>
     requires whole { HasParts bytes.now }
     ensures { IfOk result (λ f. file_view f ≡ file_at bytes.now) }
