@@ -109,6 +109,13 @@ two : (xs : List ℕ) → length xs ≡ 2 → (c1 c2 : ℕ) × (xs ≡ c1 ∷ (c
 two (a ∷ (b ∷ [])) long = (a, b, refl)
 two _ long = absurd (omega (arith, long))
 
+pub frame_long : (f : Frame) → FrameFits f → length (frame_text f) ≡ 96
+unfolding surface_text
+frame_long f fits =
+    let x = six f.surfaces fits.six in
+    let c = two f.clear_color fits.two in
+    ap length (frame_text_is f x.s1 x.s2 x.s3 x.s4 x.s5 x.s6 c.0 c.1 x.are c.2)
+
 -- What the frame's text says of the entry's bytes.
 pub record FrameReads (bytes : List ℕ) (at : ℕ) (f : Frame) : Type 0 where
   pub value : frame_at bytes at ≡ f
