@@ -35,7 +35,7 @@ unfolding entry_at
 buffer_piece bytes at fits inside kind =
     let first : u32_at bytes (at + 0) ≡ u32_at bytes at = ap (u32_at bytes) (add-zero at) in
     let piece : IsPiece bytes (at + 0) 20 (text_of_all (buffer_fields (entry_at bytes at))) =
-        piece_of bytes at 0 (buffer_fields (entry_at bytes at)) fits (omega arith) (first, (refl, (refl, (number_of_kind (u32_at bytes (at + 12)) kind, (refl, tt))))) in
+    piece_of bytes at 0 (buffer_fields (entry_at bytes at)) fits (omega arith) (first, (refl, (refl, (number_of_kind (u32_at bytes (at + 12)) kind, (refl, tt))))) in
     subst (λ text. IsPiece bytes at 20 text) (sym (buffer_text_is (entry_at bytes at))) (subst (λ p. IsPiece bytes p 20 (text_of_all (buffer_fields (entry_at bytes at)))) (add-zero at) piece)
 
 pub buffer_back : (bytes : List ℕ) (at : ℕ) (b : Buffer) → BufferFits b → IsPiece bytes at 20 (buffer_text b)
@@ -44,7 +44,7 @@ unfolding entry_at
 buffer_back bytes at b fits piece =
     let fields_fit : AllFit (buffer_fields b) = (fits.place, (fits.size, (fits.client, (kind_fits b.kind, (fits.content, tt))))) in
     let moved : IsPiece bytes (at + 0) 20 (text_of_all (buffer_fields b)) =
-        subst (λ p. IsPiece bytes p 20 (text_of_all (buffer_fields b))) (sym (add-zero at)) (subst (λ text. IsPiece bytes at 20 text) (buffer_text_is b) piece) in
+    subst (λ p. IsPiece bytes p 20 (text_of_all (buffer_fields b))) (sym (add-zero at)) (subst (λ text. IsPiece bytes at 20 text) (buffer_text_is b) piece) in
     let r = read_back bytes at 0 (buffer_fields b) fields_fit moved in
     let first : u32_at bytes at ≡ b.place = ap (u32_at bytes) (sym (add-zero at)) ∙ r.0 in
     let kind : kind_of (u32_at bytes (at + 12)) ≡ b.kind = ap kind_of r.1.1.1.0 ∙ kind_of_number b.kind in

@@ -61,7 +61,7 @@ byte_piece : (bytes : List ℕ) (at : ℕ) → at + 1 ≤ length bytes → IsPie
 byte_piece bytes at inside = record {
   size = refl;
   inside = inside;
-  same = one_of (drop at bytes) (rw length-drop (omega arith)) ∙ ap (λ v. v ∷ []) (first_after bytes at)
+  same = one_of (drop at bytes) (rw length-drop (omega arith)) ∙ ap (λ v. v ∷ []) (first_after bytes at);
 }
 
 field_piece : (bytes : List ℕ) (at : ℕ) (f : Field) → IsBytes bytes → at + width f ≤ length bytes → IsRead bytes at f → IsPiece bytes at (width f) (text_of f)
@@ -77,7 +77,7 @@ piece_of bytes at k (f ∷ fs) fits inside read =
     let rest = piece_of bytes at (k + width f) fs fits (omega arith) read.1 in
     let here : IsPiece bytes (at + k) (width f) (text_of f) = field_piece bytes (at + k) f fits (omega arith) read.0 in
     join_two bytes (at + k) (width f) (widths fs) (text_of f) (text_of_all fs) here
-      (subst (λ p. IsPiece bytes p (widths fs) (text_of_all fs)) (sym (add_assoc at k (width f))) rest)
+    (subst (λ p. IsPiece bytes p (widths fs) (text_of_all fs)) (sym (add_assoc at k (width f))) rest)
 
 width_is : (f : Field) → length (text_of f) ≡ width f
 width_is (Word v) = refl
@@ -96,8 +96,9 @@ read_of bytes at (Byte v) fits piece =
 -- The text is what is read.
 pub read_back : (bytes : List ℕ) (at k : ℕ) (fs : List Field) → AllFit fs → IsPiece bytes (at + k) (widths fs) (text_of_all fs) → AreRead bytes at k fs
 read_back bytes at k [] fits piece = tt
-read_back bytes at k (f ∷ fs) fits piece =
-    (read_of bytes (at + k) f fits.0 (front_piece bytes (at + k) (width f) (widths fs) (text_of f) (text_of_all fs) (width_is f) piece),
-     read_back bytes at (k + width f) fs fits.1
-       (subst (λ p. IsPiece bytes p (widths fs) (text_of_all fs)) (add_assoc at k (width f))
-         (rest_piece bytes (at + k) (width f) (widths fs) (text_of f) (text_of_all fs) (width_is f) piece)))
+read_back bytes at k (f ∷ fs) fits piece = (
+  read_of bytes (at + k) f fits.0 (front_piece bytes (at + k) (width f) (widths fs) (text_of f) (text_of_all fs) (width_is f) piece),
+  read_back bytes at (k + width f) fs fits.1
+      (subst (λ p. IsPiece bytes p (widths fs) (text_of_all fs)) (add_assoc at k (width f))
+      (rest_piece bytes (at + k) (width f) (widths fs) (text_of f) (text_of_all fs) (width_is f) piece)),
+)

@@ -34,7 +34,7 @@ entry_fits bytes at fits = record {
   place = u32_fits bytes at fits;
   size = u32_fits bytes (at + 4) fits;
   client = u32_fits bytes (at + 8) fits;
-  content = u32_fits bytes (at + 16) fits
+  content = u32_fits bytes (at + 16) fits;
 }
 
 surface_fits : (bytes : List ℕ) (at : ℕ) → IsBytes bytes → SurfaceFits (surface_at bytes at)
@@ -43,7 +43,7 @@ surface_fits bytes at fits = record {
   hindex = u32_fits bytes at fits;
   offset = u32_fits bytes (at + 4) fits;
   bits = u16_fits bytes (at + 8) fits;
-  flags = u16_fits bytes (at + 10) fits
+  flags = u16_fits bytes (at + 10) fits;
 }
 
 frame_fits : (bytes : List ℕ) (at : ℕ) → IsBytes bytes → FrameFits (frame_at bytes at)
@@ -60,7 +60,7 @@ frame_fits bytes at fits = record {
   two = refl;
   clear_color = (u32_fits bytes (at + 108) fits, (u32_fits bytes (at + 112) fits, tt));
   clear_z = u32_fits bytes (at + 116) fits;
-  clear_s = fits (at + 120)
+  clear_s = fits (at + 120);
 }
 
 job_fits : (bytes : List ℕ) → IsBytes bytes → JobFits (job_at bytes)
@@ -72,7 +72,7 @@ job_fits bytes fits = record {
   records = cut_bytes bytes (records_place bytes) (u32_at bytes (job_place bytes + 16)) fits;
   declared = u32_fits bytes (job_place bytes + 20) fits;
   uniforms = cut_bytes bytes (uniforms_place bytes) (u32_at bytes (job_place bytes + 24)) fits;
-  frame = frame_fits bytes (job_place bytes) fits
+  frame = frame_fits bytes (job_place bytes) fits;
 }
 
 file_fits : (bytes : List ℕ) → IsBytes bytes → Fits (file_at bytes)
@@ -83,7 +83,7 @@ file_fits bytes fits = record {
   regions = record { lists_place = u32_fits bytes 12 fits; lists_size = u32_fits bytes 16 fits; tile_place = u32_fits bytes 20 fits; tile_slots = u32_fits bytes 24 fits };
   buffers = all_in BufferFits (λ b. entry_at bytes (36 + 20 * b)) 0 (u32_at bytes 28) (λ k from to. entry_fits bytes (36 + 20 * k) fits);
   contents = all_in IsBytes (λ b. cut bytes (content_place bytes b) (content_size bytes b)) 0 (u32_at bytes 28) (λ k from to. cut_bytes bytes (content_place bytes k) (content_size bytes k) fits);
-  jobs = (job_fits bytes fits, tt)
+  jobs = (job_fits bytes fits, tt);
 }
 
 fits_shader : (kind size : ℕ) → kind ≤ 1 → (kind ≡ 1 → size ≤ 65536) → FitsShader (kind_of kind) size
@@ -106,7 +106,7 @@ job_well_formed bytes p =
       records = subst (λ n. n ≤ 1048576) (sym records) p.job.records;
       declared = p.job.declared;
       uniforms = subst (λ n. n ≤ 1048576) (sym uniforms) p.job.uniforms;
-      whole_words = subst (λ n. n % 4 ≡ 0) (sym uniforms) p.job.whole_words
+      whole_words = subst (λ n. n % 4 ≡ 0) (sym uniforms) p.job.whole_words;
     }
 
 file_well_formed : (bytes : List ℕ) → Passes bytes → IsWellFormed (file_at bytes)
@@ -118,11 +118,11 @@ file_well_formed bytes p =
       version = p.header.version;
       buffers = subst (λ k. k ≤ 64) (sym (length_buffers bytes n)) p.header.buffers;
       code = all_in (λ b. FitsShader b.kind b.content) (λ b. entry_at bytes (36 + 20 * b)) 0 n
-        (λ k from to. let e = p.entry k (omega arith) in fits_shader (u32_at bytes (36 + 20 * k + 12)) (u32_at bytes (36 + 20 * k + 16)) e.kind e.code);
+          (λ k from to. let e = p.entry k (omega arith) in fits_shader (u32_at bytes (36 + 20 * k + 12)) (u32_at bytes (36 + 20 * k + 16)) e.kind e.code);
       contents = same_in length (λ b. b.content) (λ b. cut bytes (content_place bytes b) (content_size bytes b)) (λ b. entry_at bytes (36 + 20 * b)) 0 n
-        (λ k from to. let ends = content_ends bytes k n (omega arith) in length_cut bytes (content_place bytes k) (content_size bytes k) (omega arith));
+          (λ k from to. let ends = content_ends bytes k n (omega arith) in length_cut bytes (content_place bytes k) (content_size bytes k) (omega arith));
       one_job = refl;
-      jobs = (job_well_formed bytes p, tt)
+      jobs = (job_well_formed bytes p, tt);
     }
 
 -- The bytes are the file that they hold.

@@ -58,7 +58,7 @@ buffers_piece bytes (suc m) fits p small =
     let last : IsPiece bytes (36 + 20 * m) 20 (buffer_text (entry_at bytes (36 + 20 * m))) = buffer_piece bytes (36 + 20 * m) fits e.size e.kind in
     let both = join_two bytes 36 (20 * m) 20 _ _ (buffers_piece bytes m fits p (omega arith)) last in
     let text : flat_map buffer_text (buffers_at bytes m) ++ buffer_text (entry_at bytes (36 + 20 * m)) ≡ flat_map buffer_text (buffers_at bytes (suc m)) =
-        sym (flat_map_last buffer_text (buffers_at bytes m) (entry_at bytes (36 + 20 * m))) ∙ ap (flat_map buffer_text) (sym (buffers_more bytes m) ∙ ap (buffers_at bytes) (add-one m)) in
+    sym (flat_map_last buffer_text (buffers_at bytes m) (entry_at bytes (36 + 20 * m))) ∙ ap (flat_map buffer_text) (sym (buffers_more bytes m) ∙ ap (buffers_at bytes) (add-one m)) in
     same_piece bytes 36 (20 * m + 20) (20 * suc m) (flat_map buffer_text (buffers_at bytes m) ++ buffer_text (entry_at bytes (36 + 20 * m))) (flat_map buffer_text (buffers_at bytes (suc m))) (omega arith) text both
 
 -- The first m of the job's handles.
@@ -69,7 +69,7 @@ words_piece bytes at (suc m) fits inside =
     let last : IsPiece bytes (at + 4 * m) 4 (word (u32_at bytes (at + 4 * m))) = u32_piece bytes (at + 4 * m) fits (omega arith) in
     let both = join_two bytes at (4 * m) 4 _ _ (words_piece bytes at m fits (omega arith)) last in
     let text : flat_map word (words_at bytes at m) ++ word (u32_at bytes (at + 4 * m)) ≡ flat_map word (words_at bytes at (suc m)) =
-        sym (flat_map_last word (words_at bytes at m) (u32_at bytes (at + 4 * m))) ∙ ap (flat_map word) (sym (words_more bytes at m) ∙ ap (words_at bytes at) (add-one m)) in
+    sym (flat_map_last word (words_at bytes at m) (u32_at bytes (at + 4 * m))) ∙ ap (flat_map word) (sym (words_more bytes at m) ∙ ap (words_at bytes at) (add-one m)) in
     same_piece bytes at (4 * m + 4) (4 * suc m) (flat_map word (words_at bytes at m) ++ word (u32_at bytes (at + 4 * m))) (flat_map word (words_at bytes at (suc m))) (omega arith) text both
 
 -- The contents from buffer b on, where what follows those of the last is a tail: read backwards.
@@ -77,17 +77,17 @@ contents_tail : (bytes : List ℕ) (m : ℕ) (rest : List ℕ) → content_place
     → IsTail bytes (job_place bytes + 124) (joined (contents_at bytes m) ++ rest)
 contents_tail bytes zero rest inside tail =
     subst (λ cs. IsTail bytes (job_place bytes + 124) (joined cs ++ rest)) (sym (contents_none bytes))
-      (subst (λ p. IsTail bytes p rest) (content_place_first bytes) tail)
+    (subst (λ p. IsTail bytes p rest) (content_place_first bytes) tail)
 contents_tail bytes (suc m) rest inside tail =
     let step : content_place bytes (suc m) ≡ content_place bytes m + content_size bytes m = ap (content_place bytes) (sym (add-one m)) ∙ content_place_step bytes m in
     let here : IsPiece bytes (content_place bytes m) (content_size bytes m) (cut bytes (content_place bytes m) (content_size bytes m)) =
-        cut_piece bytes (content_place bytes m) (content_size bytes m) (omega arith) in
+    cut_piece bytes (content_place bytes m) (content_size bytes m) (omega arith) in
     let one : List ℕ = cut bytes (content_place bytes m) (content_size bytes m) in
     let joined_tail = tail_join bytes (content_place bytes m) (content_size bytes m) (content_place bytes (suc m)) one rest step here tail in
     let before = contents_tail bytes m (one ++ rest) (omega arith) joined_tail in
     let text : joined (contents_at bytes m) ++ (one ++ rest) ≡ joined (contents_at bytes (suc m)) ++ rest =
-        sym (append_assoc (joined (contents_at bytes m)) one rest)
-        ∙ ap (λ t. t ++ rest) (sym (joined_last (contents_at bytes m) one) ∙ ap joined (sym (contents_more bytes m) ∙ ap (contents_at bytes) (add-one m))) in
+    sym (append_assoc (joined (contents_at bytes m)) one rest)
+    ∙ ap (λ t. t ++ rest) (sym (joined_last (contents_at bytes m) one) ∙ ap joined (sym (contents_more bytes m) ∙ ap (contents_at bytes) (add-one m))) in
     subst (λ t. IsTail bytes (job_place bytes + 124) t) text before
 
 -- The job's parts, up to the file's end.
@@ -102,12 +102,12 @@ parts_tail bytes fits p =
     let records : List ℕ = cut bytes (records_place bytes) (u32_at bytes (at + 16)) in
     let uniforms : List ℕ = cut bytes (uniforms_place bytes) (u32_at bytes (at + 24)) in
     let t4 : IsTail bytes (uniforms_place bytes) (uniforms ++ []) =
-        tail_join bytes (uniforms_place bytes) (u32_at bytes (at + 24)) (end_place bytes) uniforms [] refl (cut_piece bytes (uniforms_place bytes) (u32_at bytes (at + 24)) (omega arith)) (tail_end bytes (end_place bytes) end) in
+    tail_join bytes (uniforms_place bytes) (u32_at bytes (at + 24)) (end_place bytes) uniforms [] refl (cut_piece bytes (uniforms_place bytes) (u32_at bytes (at + 24)) (omega arith)) (tail_end bytes (end_place bytes) end) in
     let t3 = tail_join bytes (records_place bytes) (u32_at bytes (at + 16)) (uniforms_place bytes) records (uniforms ++ []) refl (cut_piece bytes (records_place bytes) (u32_at bytes (at + 16)) (omega arith)) t4 in
     let t2 = tail_join bytes (bin_place bytes) (u32_at bytes (at + 12)) (records_place bytes) bin (records ++ (uniforms ++ [])) refl (cut_piece bytes (bin_place bytes) (u32_at bytes (at + 12)) (omega arith)) t3 in
     let t1 = tail_join bytes (handles_place bytes) (4 * count) (bin_place bytes) handles (bin ++ (records ++ (uniforms ++ []))) refl (words_piece bytes (handles_place bytes) count fits (omega arith)) t2 in
     subst (λ t. IsTail bytes (handles_place bytes) t)
-      (ap (λ t. handles ++ (bin ++ (records ++ t))) (append-nil uniforms) ∙ sym (append-nil (handles ++ (bin ++ (records ++ uniforms))))) t1
+    (ap (λ t. handles ++ (bin ++ (records ++ t))) (append-nil uniforms) ∙ sym (append-nil (handles ++ (bin ++ (records ++ uniforms))))) t1
 
 number_of_flag : (n : ℕ) → n ≤ 1 → n ≡ flag (n == 1)
 number_of_flag zero small = refl
@@ -127,7 +127,7 @@ job_reads bytes p =
       records = sym (length_cut bytes (records_place bytes) (u32_at bytes (at + 16)) (omega arith));
       declared = refl;
       uniforms = sym (length_cut bytes (uniforms_place bytes) (u32_at bytes (at + 24)) (omega arith));
-      frame = record { value = refl; first = p.job.first; second = p.job.second; third = p.job.third }
+      frame = record { value = refl; first = p.job.first; second = p.job.second; third = p.job.third };
     }
 
 header_reads : (bytes : List ℕ) → Passes bytes → HeaderReads bytes (file_at bytes)
@@ -142,7 +142,7 @@ header_reads bytes p =
       tile_place = refl;
       tile_slots = refl;
       buffers = sym (length_buffers bytes (u32_at bytes 28));
-      jobs = p.header.jobs
+      jobs = p.header.jobs;
     }
 
 pub handles_in : (bytes : List ℕ) → Passes bytes → content_place bytes (u32_at bytes 28) ≤ length bytes

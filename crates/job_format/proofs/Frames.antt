@@ -35,7 +35,7 @@ unfolding surface_at
 surface_piece bytes at fits inside =
     let first : u32_at bytes (at + 0) ≡ u32_at bytes at = ap (u32_at bytes) (add-zero at) in
     let piece : IsPiece bytes (at + 0) 12 (text_of_all (surface_fields (surface_at bytes at))) =
-        piece_of bytes at 0 (surface_fields (surface_at bytes at)) fits (omega arith) (first, (refl, (refl, (refl, tt)))) in
+    piece_of bytes at 0 (surface_fields (surface_at bytes at)) fits (omega arith) (first, (refl, (refl, (refl, tt)))) in
     subst (λ text. IsPiece bytes at 12 text) (sym (surface_text_is (surface_at bytes at))) (subst (λ p. IsPiece bytes p 12 (text_of_all (surface_fields (surface_at bytes at)))) (add-zero at) piece)
 
 surface_back : (bytes : List ℕ) (at : ℕ) (s : Surface) → SurfaceFits s → IsPiece bytes at 12 (surface_text s) → surface_at bytes at ≡ s
@@ -43,7 +43,7 @@ unfolding surface_at
 surface_back bytes at s fits piece =
     let fields_fit : AllFit (surface_fields s) = (fits.hindex, (fits.offset, (fits.bits, (fits.flags, tt)))) in
     let moved : IsPiece bytes (at + 0) 12 (text_of_all (surface_fields s)) =
-        subst (λ p. IsPiece bytes p 12 (text_of_all (surface_fields s))) (sym (add-zero at)) (subst (λ text. IsPiece bytes at 12 text) (surface_text_is s) piece) in
+    subst (λ p. IsPiece bytes p 12 (text_of_all (surface_fields s))) (sym (add-zero at)) (subst (λ text. IsPiece bytes at 12 text) (surface_text_is s) piece) in
     let r = read_back bytes at 0 (surface_fields s) fields_fit moved in
     let first : u32_at bytes at ≡ s.hindex = ap (u32_at bytes) (sym (add-zero at)) ∙ r.0 in
     rw (first, r.1.0, r.1.1.0, r.1.1.1.0) refl
@@ -74,22 +74,22 @@ unfolding frame_at
 frame_piece bytes at fits inside zero1 zero2 zero3 =
     let f : Frame = frame_at bytes at in
     let surface : (k : ℕ) → k + 12 ≤ 124 → IsPiece bytes (at + k) 12 (surface_text (surface_at bytes (at + k))) =
-        λ k small. surface_piece bytes (at + k) fits (omega arith) in
+    λ k small. surface_piece bytes (at + k) fits (omega arith) in
     let size : IsPiece bytes (at + 28) 8 (text_of_all (size_fields f)) =
-        piece_of bytes at 28 (size_fields f) fits (omega arith) (refl, (refl, (refl, (refl, (refl, (refl, tt)))))) in
+    piece_of bytes at 28 (size_fields f) fits (omega arith) (refl, (refl, (refl, (refl, (refl, (refl, tt)))))) in
     let c1 : ℕ = u32_at bytes (at + 108) in
     let c2 : ℕ = u32_at bytes (at + 112) in
     let clear : IsPiece bytes (at + 108) 16 (text_of_all (clear_fields f c1 c2)) =
-        piece_of bytes at 108 (clear_fields f c1 c2) fits (omega arith) (refl, (refl, (refl, (refl, (zero1, (zero2, (zero3, tt))))))) in
+    piece_of bytes at 108 (clear_fields f c1 c2) fits (omega arith) (refl, (refl, (refl, (refl, (zero1, (zero2, (zero3, tt))))))) in
     subst (λ text. IsPiece bytes (at + 28) 96 text)
-      (sym (frame_text_is f (surface_at bytes (at + 36)) (surface_at bytes (at + 48)) (surface_at bytes (at + 60)) (surface_at bytes (at + 72)) (surface_at bytes (at + 84)) (surface_at bytes (at + 96)) c1 c2 refl refl))
-      (seam bytes at 28 8 88 _ _ size
-        (seam bytes at 36 12 76 _ _ (surface 36 (omega arith))
-          (seam bytes at 48 12 64 _ _ (surface 48 (omega arith))
-            (seam bytes at 60 12 52 _ _ (surface 60 (omega arith))
-              (seam bytes at 72 12 40 _ _ (surface 72 (omega arith))
-                (seam bytes at 84 12 28 _ _ (surface 84 (omega arith))
-                  (seam bytes at 96 12 16 _ _ (surface 96 (omega arith)) clear)))))))
+    (sym (frame_text_is f (surface_at bytes (at + 36)) (surface_at bytes (at + 48)) (surface_at bytes (at + 60)) (surface_at bytes (at + 72)) (surface_at bytes (at + 84)) (surface_at bytes (at + 96)) c1 c2 refl refl))
+    (seam bytes at 28 8 88 _ _ size
+    (seam bytes at 36 12 76 _ _ (surface 36 (omega arith))
+    (seam bytes at 48 12 64 _ _ (surface 48 (omega arith))
+    (seam bytes at 60 12 52 _ _ (surface 60 (omega arith))
+    (seam bytes at 72 12 40 _ _ (surface 72 (omega arith))
+    (seam bytes at 84 12 28 _ _ (surface 84 (omega arith))
+    (seam bytes at 96 12 16 _ _ (surface 96 (omega arith)) clear)))))))
 
 -- six surfaces and two colours, one by one
 record Six (xs : List Surface) : Type 0 where
@@ -135,7 +135,7 @@ frame_back bytes at f fits is_clear piece =
     let all_fit : AllByRecursion SurfaceFits (x.s1 ∷ (x.s2 ∷ (x.s3 ∷ (x.s4 ∷ (x.s5 ∷ (x.s6 ∷ [])))))) = subst (AllByRecursion SurfaceFits) x.are fits.surfaces in
     let colors_fit : AllByRecursion (λ n. n < 2 ^ 32) (c.0 ∷ (c.1 ∷ [])) = subst (AllByRecursion (λ n. n < 2 ^ 32)) c.2 fits.clear_color in
     let p28 : IsPiece bytes (at + 28) 96 (grouped f x.s1 x.s2 x.s3 x.s4 x.s5 x.s6 c.0 c.1) =
-        subst (λ text. IsPiece bytes (at + 28) 96 text) (frame_text_is f x.s1 x.s2 x.s3 x.s4 x.s5 x.s6 c.0 c.1 x.are c.2) piece in
+    subst (λ text. IsPiece bytes (at + 28) 96 text) (frame_text_is f x.s1 x.s2 x.s3 x.s4 x.s5 x.s6 c.0 c.1 x.are c.2) piece in
     let size = seam_front bytes at 28 8 88 (text_of_all (size_fields f)) _ refl p28 in
     let p36 = seam_rest bytes at 28 8 88 (text_of_all (size_fields f)) _ refl p28 in
     let p48 = seam_rest bytes at 36 12 76 (surface_text x.s1) _ (surface_long x.s1) p36 in
@@ -154,11 +154,11 @@ frame_back bytes at f fits is_clear piece =
     let k = read_back bytes at 108 (clear_fields f c.0 c.1) (colors_fit.0, (colors_fit.1.0, (fits.clear_z, (fits.clear_s, (lit< tt, (lit< tt, (lit< tt, tt))))))) p108 in
     let clear : (u32_at bytes (at + 4) == 1) ≡ f.clear = ap (λ n. n == 1) is_clear ∙ flag_back f.clear in
     let surfaces : surface_at bytes (at + 36) ∷ (surface_at bytes (at + 48) ∷ (surface_at bytes (at + 60) ∷ (surface_at bytes (at + 72) ∷ (surface_at bytes (at + 84) ∷ (surface_at bytes (at + 96) ∷ []))))) ≡ f.surfaces =
-        rw (e1, e2, e3, e4, e5, e6) (sym x.are) in
+    rw (e1, e2, e3, e4, e5, e6) (sym x.are) in
     let colors : u32_at bytes (at + 108) ∷ (u32_at bytes (at + 112) ∷ []) ≡ f.clear_color = rw (k.0, k.1.0) (sym c.2) in
     record {
       value = rw (z.0, z.1.0, z.1.1.0, z.1.1.1.0, z.1.1.1.1.0, z.1.1.1.1.1.0, surfaces, clear, colors, k.1.1.0, k.1.1.1.0) refl;
       first = k.1.1.1.1.0;
       second = k.1.1.1.1.1.0;
-      third = k.1.1.1.1.1.1.0
+      third = k.1.1.1.1.1.1.0;
     }

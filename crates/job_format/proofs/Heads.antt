@@ -34,14 +34,14 @@ pub record HeaderReads (bytes : List ℕ) (f : FileModel) : Type 0 where
 pub header_piece : (bytes : List ℕ) (f : FileModel) → IsBytes bytes → 36 ≤ length bytes → HeaderReads bytes f → IsPiece bytes 0 36 (header_text f)
 header_piece bytes f fits inside r =
     subst (λ text. IsPiece bytes 0 36 text) (sym (header_text_is f))
-      (piece_of bytes 0 0 (header_fields f) fits inside
-        (r.letters, (r.version, (r.mem_size, (r.lists_place, (r.lists_size, (r.tile_place, (r.tile_slots, (r.buffers, (r.jobs, tt))))))))))
+    (piece_of bytes 0 0 (header_fields f) fits inside
+    (r.letters, (r.version, (r.mem_size, (r.lists_place, (r.lists_size, (r.tile_place, (r.tile_slots, (r.buffers, (r.jobs, tt))))))))))
 
 pub header_back : (bytes : List ℕ) (f : FileModel) → Fits f → length f.buffers < 2 ^ 32 → length f.jobs < 2 ^ 32 → IsPiece bytes 0 36 (header_text f) → HeaderReads bytes f
 header_back bytes f fits few_buffers few_jobs piece =
     let g = fits.regions in
     let all_fit : AllFit (header_fields f) =
-        (lit< tt, (fits.version, (fits.mem_size, (g.lists_place, (g.lists_size, (g.tile_place, (g.tile_slots, (few_buffers, (few_jobs, tt))))))))) in
+    (lit< tt, (fits.version, (fits.mem_size, (g.lists_place, (g.lists_size, (g.tile_place, (g.tile_slots, (few_buffers, (few_jobs, tt))))))))) in
     let r = read_back bytes 0 0 (header_fields f) all_fit (subst (λ text. IsPiece bytes 0 36 text) (header_text_is f) piece) in
     record {
       letters = r.0;
@@ -52,7 +52,7 @@ header_back bytes f fits few_buffers few_jobs piece =
       tile_place = r.1.1.1.1.1.0;
       tile_slots = r.1.1.1.1.1.1.0;
       buffers = r.1.1.1.1.1.1.1.0;
-      jobs = r.1.1.1.1.1.1.1.1.0
+      jobs = r.1.1.1.1.1.1.1.1.0;
     }
 
 abbrev head_fields : JobModel → List Field
@@ -78,11 +78,11 @@ pub job_piece : (bytes : List ℕ) (at : ℕ) (j : JobModel) → IsBytes bytes �
 job_piece bytes at j fits inside r =
     let first : u32_at bytes (at + 0) ≡ j.client = ap (u32_at bytes) (add-zero at) ∙ r.client in
     let head : IsPiece bytes (at + 0) 28 (text_of_all (head_fields j)) =
-        piece_of bytes at 0 (head_fields j) fits (omega arith) (first, (r.flags, (r.handles, (r.bin, (r.records, (r.declared, (r.uniforms, tt))))))) in
+    piece_of bytes at 0 (head_fields j) fits (omega arith) (first, (r.flags, (r.handles, (r.bin, (r.records, (r.declared, (r.uniforms, tt))))))) in
     let frame : IsPiece bytes (at + 28) 96 (frame_text j.frame) =
-        subst (λ f. IsPiece bytes (at + 28) 96 (frame_text f)) r.frame.value (frame_piece bytes at fits inside r.frame.first r.frame.second r.frame.third) in
+    subst (λ f. IsPiece bytes (at + 28) 96 (frame_text f)) r.frame.value (frame_piece bytes at fits inside r.frame.first r.frame.second r.frame.third) in
     subst (λ text. IsPiece bytes at 124 text) (sym (job_text_is j))
-      (subst (λ p. IsPiece bytes p 124 (text_of_all (head_fields j) ++ frame_text j.frame)) (add-zero at) (seam bytes at 0 28 96 _ _ head frame))
+    (subst (λ p. IsPiece bytes p 124 (text_of_all (head_fields j) ++ frame_text j.frame)) (add-zero at) (seam bytes at 0 28 96 _ _ head frame))
 
 -- the sizes of a job's parts fit their fields
 pub record SizesFit (j : JobModel) : Type 0 where
@@ -98,9 +98,9 @@ flag_fits false = lit< tt
 pub job_back : (bytes : List ℕ) (at : ℕ) (j : JobModel) → JobFits j → SizesFit j → IsPiece bytes at 124 (job_text j) → JobReads bytes at j
 job_back bytes at j fits sizes piece =
     let moved : IsPiece bytes (at + 0) 124 (text_of_all (head_fields j) ++ frame_text j.frame) =
-        subst (λ p. IsPiece bytes p 124 (text_of_all (head_fields j) ++ frame_text j.frame)) (sym (add-zero at)) (subst (λ text. IsPiece bytes at 124 text) (job_text_is j) piece) in
+    subst (λ p. IsPiece bytes p 124 (text_of_all (head_fields j) ++ frame_text j.frame)) (sym (add-zero at)) (subst (λ text. IsPiece bytes at 124 text) (job_text_is j) piece) in
     let all_fit : AllFit (head_fields j) =
-        (fits.client, (flag_fits j.frame.clear, (sizes.handles, (sizes.bin, (sizes.records, (fits.declared, (sizes.uniforms, tt))))))) in
+    (fits.client, (flag_fits j.frame.clear, (sizes.handles, (sizes.bin, (sizes.records, (fits.declared, (sizes.uniforms, tt))))))) in
     let r = read_back bytes at 0 (head_fields j) all_fit (seam_front bytes at 0 28 96 (text_of_all (head_fields j)) (frame_text j.frame) refl moved) in
     record {
       client = ap (u32_at bytes) (sym (add-zero at)) ∙ r.0;
@@ -110,5 +110,5 @@ job_back bytes at j fits sizes piece =
       records = r.1.1.1.1.0;
       declared = r.1.1.1.1.1.0;
       uniforms = r.1.1.1.1.1.1.0;
-      frame = frame_back bytes at j.frame fits.frame r.1.0 (seam_rest bytes at 0 28 96 (text_of_all (head_fields j)) (frame_text j.frame) refl moved)
+      frame = frame_back bytes at j.frame fits.frame r.1.0 (seam_rest bytes at 0 28 96 (text_of_all (head_fields j)) (frame_text j.frame) refl moved);
     }

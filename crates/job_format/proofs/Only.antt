@@ -42,13 +42,14 @@ entries_back : (bytes : List ℕ) (k : ℕ) (bs : List Buffer) (rest : List ℕ)
 entries_back bytes k [] rest fit tail = (tt, subst (λ p. IsTail bytes p rest) (omega arith) tail)
 entries_back bytes k (b ∷ bs) rest fit tail =
     let regrouped : IsTail bytes (36 + 20 * k) (buffer_text b ++ (flat_map buffer_text bs ++ rest)) =
-        subst (λ t. IsTail bytes (36 + 20 * k) t) (append_assoc (buffer_text b) (flat_map buffer_text bs) rest) tail in
+    subst (λ t. IsTail bytes (36 + 20 * k) t) (append_assoc (buffer_text b) (flat_map buffer_text bs) rest) tail in
     let piece = tail_front bytes (36 + 20 * k) 20 (buffer_text b) (flat_map buffer_text bs ++ rest) (buffer_long b) regrouped in
     let after = tail_rest bytes (36 + 20 * k) 20 (36 + 20 * (k + 1)) (buffer_text b) (flat_map buffer_text bs ++ rest) (buffer_long b) (omega arith) regrouped in
     let others = entries_back bytes (k + 1) bs rest fit.1 after in
-    let r = buffer_back bytes (36 + 20 * k) b fit.0 piece in
-    ((record { size = piece.inside; value = r.0; kind = r.1.0; content = r.1.1 }, others.0),
-     subst (λ p. IsTail bytes p rest) (omega arith) others.1)
+    let r = buffer_back bytes (36 + 20 * k) b fit.0 piece in (
+      (record { size = piece.inside; value = r.0; kind = r.1.0; content = r.1.1 }, others.0),
+      subst (λ p. IsTail bytes p rest) (omega arith) others.1,
+    )
 
 -- the entries are the list
 entries_are : (bytes : List ℕ) (k : ℕ) (bs : List Buffer) → EntriesRead bytes k bs → map (λ b. entry_at bytes (36 + 20 * b)) (range_with_len k (length bs)) ≡ bs
@@ -73,7 +74,7 @@ entries_pass bytes k (b ∷ bs) read code zero below =
     let passes : EntryPasses bytes (36 + 20 * k) = record {
       size = r.size;
       kind = subst (λ n. n ≤ 1) (sym r.kind) small;
-      code = λ is_code. subst (λ n. n ≤ 65536) (sym r.content) (code_size b.kind b.content code.0 (sym r.kind ∙ is_code))
+      code = λ is_code. subst (λ n. n ≤ 65536) (sym r.content) (code_size b.kind b.content code.0 (sym r.kind ∙ is_code));
     } in
     subst (λ m. EntryPasses bytes (36 + 20 * m)) (omega arith) passes
 entries_pass bytes k (b ∷ bs) read code (suc i) below =
@@ -91,12 +92,13 @@ contents_back bytes k (b ∷ bs) (c ∷ cs) rest read same tail =
     let others : map length cs ≡ map (λ b. b.content) bs = ap (drop 1) same in
     let size : content_size bytes k ≡ length c = read.0.content ∙ sym head in
     let regrouped : IsTail bytes (content_place bytes k) (c ++ (joined cs ++ rest)) =
-        subst (λ t. IsTail bytes (content_place bytes k) t) (append_assoc c (joined cs) rest) tail in
+    subst (λ t. IsTail bytes (content_place bytes k) t) (append_assoc c (joined cs) rest) tail in
     let piece : IsPiece bytes (content_place bytes k) (content_size bytes k) c = tail_front bytes (content_place bytes k) (content_size bytes k) c (joined cs ++ rest) (sym size) regrouped in
     let after = tail_rest bytes (content_place bytes k) (content_size bytes k) (content_place bytes (k + 1)) c (joined cs ++ rest) (sym size) (content_place_step bytes k) regrouped in
-    let more = contents_back bytes (k + 1) bs cs rest read.1 others after in
-    (ap (λ x. x ∷ map (λ i. cut bytes (content_place bytes i) (content_size bytes i)) (range_with_len (k + 1) (length bs))) piece.same ∙ ap (λ xs. c ∷ xs) more.0,
-     subst (λ p. IsTail bytes (content_place bytes p) rest) (omega arith) more.1)
+    let more = contents_back bytes (k + 1) bs cs rest read.1 others after in (
+      ap (λ x. x ∷ map (λ i. cut bytes (content_place bytes i) (content_size bytes i)) (range_with_len (k + 1) (length bs))) piece.same ∙ ap (λ xs. c ∷ xs) more.0,
+      subst (λ p. IsTail bytes (content_place bytes p) rest) (omega arith) more.1,
+    )
 
 -- The words from word k on are the list.
 words_back : (bytes : List ℕ) (at k : ℕ) (ws rest : List ℕ) → AllByRecursion (λ w. w < 2 ^ 32) ws → IsTail bytes (at + 4 * k) (flat_map word ws ++ rest)
@@ -105,9 +107,10 @@ words_back bytes at k [] rest fit tail = (refl, subst (λ p. IsTail bytes p rest
 words_back bytes at k (w ∷ ws) rest fit tail =
     let piece = tail_front bytes (at + 4 * k) 4 (word w) (flat_map word ws ++ rest) refl tail in
     let after = tail_rest bytes (at + 4 * k) 4 (at + 4 * (k + 1)) (word w) (flat_map word ws ++ rest) refl (omega arith) tail in
-    let more = words_back bytes at (k + 1) ws rest fit.1 after in
-    (ap (λ x. x ∷ map (λ i. u32_at bytes (at + 4 * i)) (range_with_len (k + 1) (length ws))) (u32_of_piece bytes (at + 4 * k) w fit.0 piece) ∙ ap (λ xs. w ∷ xs) more.0,
-     subst (λ p. IsTail bytes p rest) (omega arith) more.1)
+    let more = words_back bytes at (k + 1) ws rest fit.1 after in (
+      ap (λ x. x ∷ map (λ i. u32_at bytes (at + 4 * i)) (range_with_len (k + 1) (length ws))) (u32_of_piece bytes (at + 4 * k) w fit.0 piece) ∙ ap (λ xs. w ∷ xs) more.0,
+      subst (λ p. IsTail bytes p rest) (omega arith) more.1,
+    )
 
 header_long : (f : FileModel) → length (header_text f) ≡ 36
 unfolding header_text
@@ -146,7 +149,7 @@ parts_back bytes j fits r tail =
       bin = bin.same;
       records = records.same;
       uniforms = uniforms.same;
-      end = end_of_tail bytes (end_place bytes) t4
+      end = end_of_tail bytes (end_place bytes) t4;
     }
 
 job_is : (bytes : List ℕ) (j : JobModel) → JobReads bytes (job_place bytes) j → PartsRead bytes j → job_at bytes ≡ j
@@ -192,9 +195,9 @@ file_reads bytes f j is one fits well =
     let parts : List ℕ = parts_text j in
     let contents : List ℕ = joined f.contents in
     let text : bytes ≡ header_text f ++ (flat_map buffer_text f.buffers ++ (job_text j ++ (contents ++ parts))) =
-        is.text ∙ text_is f ∙ ap (text_with f) one
-        ∙ ap (λ t. header_text f ++ (flat_map buffer_text f.buffers ++ (t ++ (contents ++ (parts ++ []))))) (append-nil (job_text j))
-        ∙ ap (λ t. header_text f ++ (flat_map buffer_text f.buffers ++ (job_text j ++ (contents ++ t)))) (append-nil parts) in
+    is.text ∙ text_is f ∙ ap (text_with f) one
+    ∙ ap (λ t. header_text f ++ (flat_map buffer_text f.buffers ++ (t ++ (contents ++ (parts ++ []))))) (append-nil (job_text j))
+    ∙ ap (λ t. header_text f ++ (flat_map buffer_text f.buffers ++ (job_text j ++ (contents ++ t)))) (append-nil parts) in
     let t0 : IsTail bytes 0 (header_text f ++ (flat_map buffer_text f.buffers ++ (job_text j ++ (contents ++ parts)))) = whole_tail bytes _ text in
     let header_piece = tail_front bytes 0 36 (header_text f) (flat_map buffer_text f.buffers ++ (job_text j ++ (contents ++ parts))) (header_long f) t0 in
     let header = header_back bytes f is.fits (omega arith) (let n = w.one_job in omega arith) header_piece in
@@ -205,10 +208,10 @@ file_reads bytes f j is one fits well =
     let job_piece = tail_front bytes (job_place bytes) 124 (job_text j) (contents ++ parts) (job_long j fits) t_job in
     let job = job_back bytes (job_place bytes) j fits (sizes_fit j well) job_piece in
     let t_contents : IsTail bytes (content_place bytes 0) (contents ++ parts) =
-        tail_rest bytes (job_place bytes) 124 (content_place bytes 0) (job_text j) (contents ++ parts) (job_long j fits) (content_place_first bytes) t_job in
+    tail_rest bytes (job_place bytes) 124 (content_place bytes 0) (job_text j) (contents ++ parts) (job_long j fits) (content_place_first bytes) t_job in
     let c = contents_back bytes 0 f.buffers f.contents parts e.0 w.contents t_contents in
     let t_parts : IsTail bytes (handles_place bytes) parts =
-        subst (λ n. IsTail bytes (content_place bytes n) parts) (omega arith) c.1 in
+    subst (λ n. IsTail bytes (content_place bytes n) parts) (omega arith) c.1 in
     record {
       header = header;
       entries = e.0;
@@ -216,7 +219,7 @@ file_reads bytes f j is one fits well =
       job_inside = job_piece.inside;
       contents = ap (λ n. map (λ b. cut bytes (content_place bytes b) (content_size bytes b)) (range_with_len 0 n)) count ∙ c.0;
       parts = parts_back bytes j fits job t_parts;
-      header_inside = header_piece.inside
+      header_inside = header_piece.inside;
     }
 
 reads_pass : (bytes : List ℕ) (f : FileModel) (j : JobModel) → IsFileOf bytes f → IsJobWellFormed j → FileReads bytes f j → Passes bytes
@@ -231,7 +234,7 @@ reads_pass bytes f j is well r =
         letters = h.letters;
         version = h.version ∙ w.version;
         buffers = subst (λ n. n ≤ 64) (sym h.buffers) w.buffers;
-        jobs = h.jobs ∙ w.one_job
+        jobs = h.jobs ∙ w.one_job;
       };
       entry = λ b below. subst (λ m. EntryPasses bytes (36 + 20 * m)) (omega arith) (entries_pass bytes 0 f.buffers r.entries w.code b (let n = h.buffers in omega arith));
       job = record {
@@ -245,9 +248,9 @@ reads_pass bytes f j is well r =
         whole_words = subst (λ n. n % 4 ≡ 0) (sym g.uniforms) well.whole_words;
         first = g.frame.first;
         second = g.frame.second;
-        third = g.frame.third
+        third = g.frame.third;
       };
-      end = r.parts.end
+      end = r.parts.end;
     }
 
 file_is : (bytes : List ℕ) (f : FileModel) (j : JobModel) → f.jobs ≡ j ∷ [] → FileReads bytes f j → file_at bytes ≡ f
@@ -255,7 +258,7 @@ unfolding file_at regions_at buffers_at
 file_is bytes f j one r =
     let h = r.header in
     let buffers : map (λ b. entry_at bytes (36 + 20 * b)) (range_with_len 0 (u32_at bytes 28)) ≡ f.buffers =
-        ap (λ n. map (λ b. entry_at bytes (36 + 20 * b)) (range_with_len 0 n)) h.buffers ∙ entries_are bytes 0 f.buffers r.entries in
+    ap (λ n. map (λ b. entry_at bytes (36 + 20 * b)) (range_with_len 0 n)) h.buffers ∙ entries_are bytes 0 f.buffers r.entries in
     let jobs : job_at bytes ∷ [] ≡ f.jobs = ap (λ x. x ∷ []) (job_is bytes j r.job r.parts) ∙ sym one in
     rw (h.version, h.mem_size, h.lists_place, h.lists_size, h.tile_place, h.tile_slots, buffers, r.contents, jobs) refl
 

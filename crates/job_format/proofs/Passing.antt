@@ -46,7 +46,7 @@ header_passes bytes none =
       letters = grind (arith, n.1.0);
       version = grind (arith, n.1.1.0);
       buffers = grind (arith, n.1.1.1.0);
-      jobs = grind (arith, n.1.1.1.1.0)
+      jobs = grind (arith, n.1.1.1.1.0);
     }
 
 entry_passes : (bytes : List ℕ) (at : ℕ) → first_of (entry_questions bytes at) ≡ None → EntryPasses bytes at
@@ -56,7 +56,7 @@ entry_passes bytes at none =
     record {
       size = grind (arith, n.0);
       kind = grind (arith, n.1.0);
-      code = λ is_code. grind (arith, n.1.1.0, is_code)
+      code = λ is_code. grind (arith, n.1.1.0, is_code);
     }
 
 job_passes : (bytes : List ℕ) (at : ℕ) → first_of (job_questions bytes at) ≡ None → JobPasses bytes at
@@ -75,7 +75,7 @@ job_passes bytes at none =
       whole_words = grind (arith, rest.1.1.0);
       first = grind (arith, rest.1.1.1.0);
       second = grind (arith, rest.1.1.1.1.0);
-      third = grind (arith, rest.1.1.1.1.1.0)
+      third = grind (arith, rest.1.1.1.1.1.0);
     }
 
 -- all of them together
@@ -111,11 +111,11 @@ passes_all bytes none =
     record {
       header = header_passes bytes (front_none (header_questions bytes) (body_questions bytes) none);
       entry = λ b below.
-        entry_passes bytes (36 + 20 * b)
+          entry_passes bytes (36 + 20 * b)
           (subst (λ k. first_of (buffer_questions bytes k) ≡ None) (zero-add b)
-            (each_none (buffer_questions bytes) 0 count b (front_none entries (after_entries bytes) body) below));
+          (each_none (buffer_questions bytes) 0 count b (front_none entries (after_entries bytes) body) below));
       job = job_passes bytes (job_place bytes) (front_none (job_questions bytes (job_place bytes)) (contents_and_parts bytes) after);
-      end = end_passes bytes parts
+      end = end_passes bytes parts;
     }
 
 pub has_parts : (bytes : List ℕ) → first_of (format_questions bytes) ≡ None → HasParts bytes

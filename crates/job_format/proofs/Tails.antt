@@ -16,9 +16,9 @@ tail_join bytes at n next one two follows piece tail =
     record {
       inside = omega arith;
       same =
-        sym (take-append-drop n (drop at bytes))
-        ∙ ap (λ front. front ++ drop n (drop at bytes)) piece.same
-        ∙ ap (λ rest. one ++ rest) (drop_drop at n bytes ∙ ap (λ p. drop p bytes) (sym follows) ∙ tail.same)
+          sym (take-append-drop n (drop at bytes))
+          ∙ ap (λ front. front ++ drop n (drop at bytes)) piece.same
+          ∙ ap (λ rest. one ++ rest) (drop_drop at n bytes ∙ ap (λ p. drop p bytes) (sym follows) ∙ tail.same);
     }
 
 long_enough : (bytes : List ℕ) (at : ℕ) (text : List ℕ) → IsTail bytes at text → length bytes ≡ at + length text
@@ -39,7 +39,7 @@ tail_rest bytes at n next one two long follows tail =
     let sum = length-append one two in
     record {
       inside = omega arith;
-      same = ap (λ p. drop p bytes) follows ∙ sym (drop_drop at n bytes) ∙ ap (drop n) tail.same ∙ rest_of n one two long
+      same = ap (λ p. drop p bytes) follows ∙ sym (drop_drop at n bytes) ∙ ap (drop n) tail.same ∙ rest_of n one two long;
     }
 
 -- Nothing follows the file's end, and only it.

@@ -9,4 +9,5 @@ mod unbuilt;
 mod words;
 
 pub use file::{Frame, Job, JobFile, Surface};
+pub use reading::read_job;
 pub use rule::{FormatFault, Refusal, Rule, Stage};
