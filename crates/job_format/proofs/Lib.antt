@@ -1,2 +1,13 @@
+pub mod Entries
+pub mod Fields
+pub mod Fitting
+pub mod Found
+pub mod Frames
+pub mod Heads
+pub mod Laws
 pub mod Listed
+pub mod Nones
+pub mod Only
+pub mod Passing
 pub mod Standing
+pub mod Tails

@@ -101,6 +101,10 @@ list_questions bytes at =
 unfoldable pub unbuilt_questions : List ℕ → List (Question FormatFault)
 unbuilt_questions bytes = each (code_questions bytes) 0 (u32_at bytes 28) ++ list_questions bytes (job_place bytes)
 
+-- All rules of the format, and after them those on parts that are not built yet.
+unfoldable pub file_questions : List ℕ → List (Question FormatFault)
+file_questions bytes = format_questions bytes ++ unbuilt_questions bytes
+
 -- Ok comes only where no rule stands, with P of what it holds; Err is the first that stands.
 abbrev pub Tells : {X F : Type 0} → List (Question F) → (X → Type 0) → Result X F → Type 0
 Tells questions P (Ok made) = (first_of questions ≡ None) × P made

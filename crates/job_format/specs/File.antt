@@ -1,15 +1,19 @@
 -- When bytes are a job file of version 1: they are its text, its numbers fit their fields, and it
 -- is well formed.
-use Rattle.std.specs.Prelude.{◌≡◌, ℕ, ◌+◌, ◌*◌, ◌%◌, ◌≤◌, ◌<◌, ◌^◌, List, length, map}
+use Rattle.std.specs.Prelude.{◌≡◌, ℕ, ◌+◌, ◌*◌, ◌%◌, ◌≤◌, ◌<◌, ◌^◌, List, length, map, Result, Ok, Err}
 use Rattle.std.specs.List.{AllByRecursion}
 use Rattle.field_words.specs.Words.{IsBytes}
 use Rattle.buffer_table.specs.declared.buffer.Kind.{Kind}
 use Rattle.buffer_table.specs.declared.buffer.Kind.TheVariants.{Plain, Code}
 use Rattle.buffer_table.specs.declared.buffer.Buffer.{Buffer}
 use Rattle.buffer_table.specs.declared.buffer.Regions.{Regions}
+use Rattle.field_words.specs.declared.stop.Stop.{Stop}
+use Rattle.field_words.specs.declared.stop.Stop.TheVariants.{Fault, NoMemory}
+use Rattle.job_format.specs.declared.rule.FormatFault.{FormatFault}
+use Rattle.job_format.specs.declared.file.JobFile.{JobFile}
 use Rattle.job_format.specs.declared.file.Surface.{Surface}
 use Rattle.job_format.specs.declared.file.Frame.{Frame}
-use Rattle.job_format.specs.Model.{JobModel, FileModel}
+use Rattle.job_format.specs.Model.{JobModel, FileModel, file_view}
 use Rattle.job_format.specs.Text.{file_text}
 
 -- Each number fits the bytes that hold it.
@@ -90,3 +94,21 @@ pub record IsFileOf (bytes : List ℕ) (f : FileModel) : Type 0 where
   pub fits : Fits f
   pub well_formed : IsWellFormed f
   pub text : bytes ≡ file_text f
+
+-- A job that uses only what is built: no binner list, no records, no declared states, no uniforms.
+pub record IsJobBuilt (j : JobModel) : Type 0 where
+  pub bin : length j.bin ≡ 0
+  pub records : length j.records ≡ 0
+  pub declared : j.declared ≡ 0
+  pub uniforms : length j.uniforms ≡ 0
+
+-- A file that uses only what is built: no Code buffer, and such jobs.
+pub record IsBuilt (f : FileModel) : Type 0 where
+  pub plain : AllByRecursion (λ b. b.kind ≡ Plain) f.buffers
+  pub jobs : AllByRecursion IsJobBuilt f.jobs
+
+-- What was answered is this file, unless memory ran out.
+abbrev pub Reads : FileModel → Result JobFile (Stop FormatFault) → Type 0
+Reads f (Ok file) = file_view file ≡ f
+Reads f (Err (Fault fault)) = ⊥
+Reads f (Err NoMemory) = Unit {0}

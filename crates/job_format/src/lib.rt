@@ -7,6 +7,8 @@ mod reading;
 mod rule;
 mod unbuilt;
 mod words;
+mod writing;
 
 pub use file::{Frame, Job, JobFile, Surface};
+pub use reading::read_job;
 pub use rule::{FormatFault, Refusal, Rule, Stage};

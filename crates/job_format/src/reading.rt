@@ -1,14 +1,21 @@
 //! The values of a job file of which no format rule fails.
 ghost use Rattle.std.specs.Prelude.{◌≡◌, ◌+◌, ◌*◌, ◌<◌, ◌≤◌, length, map, IfOk};
 ghost use Rattle.field_words.specs.Words.{u32_at};
-ghost use Rattle.job_format.specs.Model.{job_view, file_view};
+ghost use Rattle.field_words.specs.Questions.{Answers};
+ghost use Rattle.job_format.specs.Faults.{unbuilt_questions, file_questions};
+ghost use Rattle.job_format.specs.File.{IsFileOf, IsBuilt, Reads};
+ghost use Rattle.job_format.specs.Model.{FileModel, job_view, file_view};
 ghost use Rattle.job_format.specs.Places.{job_place, content_place, handles_place, bin_place, records_place, uniforms_place, end_place};
 ghost use Rattle.job_format.specs.Whole.{HasParts};
 ghost use Rattle.job_format.specs.Reading.{cut, regions_at, entry_at, surface_at, frame_at, kind_of, words_at, buffers_at, contents_at, job_at, file_at};
 
+use crate::faults::format_fault;
 use crate::file::{Frame, Job, JobFile, Surface};
+use crate::rule::FormatFault;
+use crate::unbuilt::unbuilt_fault;
 use crate::words::{half, word};
 use buffer_table::{Buffer, Kind, Regions};
+use field_words::Stop;
 use std::alloc::{AllocError, Global};
 
 #[tactic(auto, unfolding(crate::specs::Reading::regions_at))]
@@ -169,7 +176,7 @@ fn job(alloc: Global, bytes: &[u8], at: usize, handles: usize) -> Result<Job, Al
 }
 
 /// The file that the bytes are.
-#[tactic(auto, unfolding(crate::specs::Reading::file_at, crate::specs::Places::handles_place), using(crate::proofs::Standing::handles_inside))]
+#[tactic(auto, unfolding(crate::specs::Reading::file_at, crate::specs::Places::handles_place), using(crate::proofs::Standing::handles_inside, crate::proofs::Passing::has_parts, crate::proofs::Entries::buffer_piece, crate::proofs::Fitting::is_file, crate::proofs::Only::only_file, crate::proofs::Nones::format_none))]
 pub(crate) fn file_of(alloc: Global, bytes: &[u8]) -> Result<JobFile, AllocError>
     requires whole { HasParts bytes.now }
     ensures { IfOk result (λ f. file_view f ≡ file_at bytes.now) }
@@ -187,4 +194,39 @@ pub(crate) fn file_of(alloc: Global, bytes: &[u8]) -> Result<JobFile, AllocError
         contents,
         jobs,
     })
+}
+
+/// The file, or F6.
+fn built_file(alloc: Global, bytes: &[u8]) -> Result<JobFile, Stop<FormatFault>>
+    requires whole { HasParts bytes.now }
+    ensures { Answers (unbuilt_questions bytes.now) (λ f. file_view f ≡ file_at bytes.now) result }
+{
+    if let Some(fault) = unbuilt_fault(bytes) {
+        return Err(Stop::Fault(fault));
+    }
+    Ok(file_of(alloc, bytes)?)
+}
+
+/// The file, or its first fault.
+#[tactic(auto, unfolding(crate::specs::Faults::file_questions), using(field_words::proofs::Questions::passes, field_words::proofs::Questions::stops))]
+fn file(alloc: Global, bytes: &[u8]) -> Result<JobFile, Stop<FormatFault>>
+    ensures { Answers (file_questions bytes.now) (λ f. file_view f ≡ file_at bytes.now) result }
+{
+    match format_fault(bytes) {
+        Some(fault) => Err(Stop::Fault(fault)),
+        None => built_file(alloc, bytes),
+    }
+}
+
+/// Reads a job file. The fault is the first of F1 to F5, part by part and in a part by field, and
+/// after them F6, a part of the format that is not built yet.
+pub fn read_job(alloc: Global, bytes: &[u8]) -> Result<JobFile, Stop<FormatFault>>
+    // Which fault it is, and the fields of the file.
+    ensures read { Answers (file_questions bytes.now) (λ f. file_view f ≡ file_at bytes.now) result }
+    // The file that is read is the one that the bytes spell.
+    ensures found { IfOk result (λ f. IsFileOf bytes.now (file_view f)) }
+    // Bytes that spell a file are read, unless memory runs out.
+    ensures only { (f : FileModel) → IsFileOf bytes.now f → IsBuilt f → Reads f result }
+{
+    file(alloc, bytes)
 }

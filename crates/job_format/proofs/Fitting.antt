@@ -1,0 +1,130 @@
+-- A file that is read from bytes has numbers that fit, and is well formed where no rule stands.
+use Rattle.std.proofs.Common.{◌≡◌, ℕ, zero, suc, ◌+◌, ◌*◌, ◌%◌, ◌<◌, ◌≤◌, ◌^◌, Bool, true, false, ◌==◌, List, [], ◌∷◌, length, map, take, drop, get_or, lit<, refl, sym, ap, subst, arith, ◌∙◌}
+use Rattle.std.specs.List.{AllByRecursion, range_with_len}
+use Rattle.field_words.specs.Words.{IsBytes, u16_at, u32_at}
+use Rattle.field_words.proofs.Numbers.{u16_fits, u32_fits, front_bytes, rest_bytes}
+use Rattle.buffer_table.specs.declared.buffer.Kind.{Kind}
+use Rattle.buffer_table.specs.declared.buffer.Kind.TheVariants.{Plain, Code}
+use Rattle.job_format.specs.Places.{job_place, content_size, content_place, handles_place, bin_place, records_place, uniforms_place, end_place}
+use Rattle.job_format.specs.Reading.{cut, kind_of, regions_at, surface_at, entry_at, frame_at, words_at, buffers_at, contents_at, job_at, file_at}
+use Rattle.job_format.specs.File.{RegionsFit, BufferFits, SurfaceFits, FrameFits, JobFits, Fits, FitsShader, IsJobWellFormed, IsWellFormed, IsFileOf}
+use Rattle.job_format.proofs.Passing.{Passes}
+use Rattle.job_format.proofs.Standing.{content_place_step, content_ends}
+use Rattle.job_format.proofs.Found.{length_buffers, length_words, length_cut, handles_in, file_text_found}
+
+-- a fact of each item of a range
+all_in : {A : Type 0} (P : A → Type 0) (f : ℕ → A) (a n : ℕ) → ((k : ℕ) → a ≤ k → k < a + n → P (f k)) → AllByRecursion P (map f (range_with_len a n))
+all_in P f a zero each = tt
+all_in P f a (suc n) each = (each a (omega arith) (omega arith), all_in P f (a + 1) n (λ k from to. each k (omega arith) (omega arith)))
+
+-- two functions of the items of two ranges agree
+same_in : {A B : Type 0} (g : A → ℕ) (h : B → ℕ) (f : ℕ → A) (e : ℕ → B) (a n : ℕ) → ((k : ℕ) → a ≤ k → k < a + n → g (f k) ≡ h (e k))
+    → map g (map f (range_with_len a n)) ≡ map h (map e (range_with_len a n))
+same_in g h f e a zero each = refl
+same_in g h f e a (suc n) each =
+    ap (λ x. x ∷ map g (map f (range_with_len (a + 1) n))) (each a (omega arith) (omega arith))
+    ∙ ap (λ xs. h (e a) ∷ xs) (same_in g h f e (a + 1) n (λ k from to. each k (omega arith) (omega arith)))
+
+cut_bytes : (bytes : List ℕ) (at n : ℕ) → IsBytes bytes → IsBytes (cut bytes at n)
+cut_bytes bytes at n fits = front_bytes n (drop at bytes) (rest_bytes at bytes fits)
+
+entry_fits : (bytes : List ℕ) (at : ℕ) → IsBytes bytes → BufferFits (entry_at bytes at)
+unfolding entry_at
+entry_fits bytes at fits = record {
+  place = u32_fits bytes at fits;
+  size = u32_fits bytes (at + 4) fits;
+  client = u32_fits bytes (at + 8) fits;
+  content = u32_fits bytes (at + 16) fits;
+}
+
+surface_fits : (bytes : List ℕ) (at : ℕ) → IsBytes bytes → SurfaceFits (surface_at bytes at)
+unfolding surface_at
+surface_fits bytes at fits = record {
+  hindex = u32_fits bytes at fits;
+  offset = u32_fits bytes (at + 4) fits;
+  bits = u16_fits bytes (at + 8) fits;
+  flags = u16_fits bytes (at + 10) fits;
+}
+
+frame_fits : (bytes : List ℕ) (at : ℕ) → IsBytes bytes → FrameFits (frame_at bytes at)
+unfolding frame_at
+frame_fits bytes at fits = record {
+  width = u16_fits bytes (at + 28) fits;
+  height = u16_fits bytes (at + 30) fits;
+  min_x = fits (at + 32);
+  min_y = fits (at + 33);
+  max_x = fits (at + 34);
+  max_y = fits (at + 35);
+  six = refl;
+  surfaces = (surface_fits bytes (at + 36) fits, (surface_fits bytes (at + 48) fits, (surface_fits bytes (at + 60) fits, (surface_fits bytes (at + 72) fits, (surface_fits bytes (at + 84) fits, (surface_fits bytes (at + 96) fits, tt))))));
+  two = refl;
+  clear_color = (u32_fits bytes (at + 108) fits, (u32_fits bytes (at + 112) fits, tt));
+  clear_z = u32_fits bytes (at + 116) fits;
+  clear_s = fits (at + 120);
+}
+
+job_fits : (bytes : List ℕ) → IsBytes bytes → JobFits (job_at bytes)
+unfolding job_at words_at
+job_fits bytes fits = record {
+  client = u32_fits bytes (job_place bytes) fits;
+  handles = all_in (λ h. h < 2 ^ 32) (λ i. u32_at bytes (handles_place bytes + 4 * i)) 0 (u32_at bytes (job_place bytes + 8)) (λ k from to. u32_fits bytes (handles_place bytes + 4 * k) fits);
+  bin = cut_bytes bytes (bin_place bytes) (u32_at bytes (job_place bytes + 12)) fits;
+  records = cut_bytes bytes (records_place bytes) (u32_at bytes (job_place bytes + 16)) fits;
+  declared = u32_fits bytes (job_place bytes + 20) fits;
+  uniforms = cut_bytes bytes (uniforms_place bytes) (u32_at bytes (job_place bytes + 24)) fits;
+  frame = frame_fits bytes (job_place bytes) fits;
+}
+
+file_fits : (bytes : List ℕ) → IsBytes bytes → Fits (file_at bytes)
+unfolding file_at regions_at buffers_at contents_at
+file_fits bytes fits = record {
+  version = u32_fits bytes 4 fits;
+  mem_size = u32_fits bytes 8 fits;
+  regions = record { lists_place = u32_fits bytes 12 fits; lists_size = u32_fits bytes 16 fits; tile_place = u32_fits bytes 20 fits; tile_slots = u32_fits bytes 24 fits };
+  buffers = all_in BufferFits (λ b. entry_at bytes (36 + 20 * b)) 0 (u32_at bytes 28) (λ k from to. entry_fits bytes (36 + 20 * k) fits);
+  contents = all_in IsBytes (λ b. cut bytes (content_place bytes b) (content_size bytes b)) 0 (u32_at bytes 28) (λ k from to. cut_bytes bytes (content_place bytes k) (content_size bytes k) fits);
+  jobs = (job_fits bytes fits, tt);
+}
+
+fits_shader : (kind size : ℕ) → kind ≤ 1 → (kind ≡ 1 → size ≤ 65536) → FitsShader (kind_of kind) size
+fits_shader zero size small limit = tt
+fits_shader (suc zero) size small limit = limit refl
+fits_shader (suc (suc n)) size small limit = absurd (omega (arith, small))
+
+job_well_formed : (bytes : List ℕ) → Passes bytes → IsJobWellFormed (job_at bytes)
+unfolding job_at end_place uniforms_place records_place bin_place
+job_well_formed bytes p =
+    let at : ℕ = job_place bytes in
+    let end = p.end in
+    let handles : length (words_at bytes (handles_place bytes) (u32_at bytes (at + 8))) ≡ u32_at bytes (at + 8) = length_words bytes (handles_place bytes) (u32_at bytes (at + 8)) in
+    let bin : length (cut bytes (bin_place bytes) (u32_at bytes (at + 12))) ≡ u32_at bytes (at + 12) = length_cut bytes (bin_place bytes) (u32_at bytes (at + 12)) (omega arith) in
+    let records : length (cut bytes (records_place bytes) (u32_at bytes (at + 16))) ≡ u32_at bytes (at + 16) = length_cut bytes (records_place bytes) (u32_at bytes (at + 16)) (omega arith) in
+    let uniforms : length (cut bytes (uniforms_place bytes) (u32_at bytes (at + 24))) ≡ u32_at bytes (at + 24) = length_cut bytes (uniforms_place bytes) (u32_at bytes (at + 24)) (omega arith) in
+    record {
+      handles = subst (λ n. n ≤ 64) (sym handles) p.job.handles;
+      bin = subst (λ n. n ≤ 1048576) (sym bin) p.job.bin;
+      records = subst (λ n. n ≤ 1048576) (sym records) p.job.records;
+      declared = p.job.declared;
+      uniforms = subst (λ n. n ≤ 1048576) (sym uniforms) p.job.uniforms;
+      whole_words = subst (λ n. n % 4 ≡ 0) (sym uniforms) p.job.whole_words;
+    }
+
+file_well_formed : (bytes : List ℕ) → Passes bytes → IsWellFormed (file_at bytes)
+unfolding file_at buffers_at contents_at entry_at
+file_well_formed bytes p =
+    let n : ℕ = u32_at bytes 28 in
+    let inside = handles_in bytes p in
+    record {
+      version = p.header.version;
+      buffers = subst (λ k. k ≤ 64) (sym (length_buffers bytes n)) p.header.buffers;
+      code = all_in (λ b. FitsShader b.kind b.content) (λ b. entry_at bytes (36 + 20 * b)) 0 n
+          (λ k from to. let e = p.entry k (omega arith) in fits_shader (u32_at bytes (36 + 20 * k + 12)) (u32_at bytes (36 + 20 * k + 16)) e.kind e.code);
+      contents = same_in length (λ b. b.content) (λ b. cut bytes (content_place bytes b) (content_size bytes b)) (λ b. entry_at bytes (36 + 20 * b)) 0 n
+          (λ k from to. let ends = content_ends bytes k n (omega arith) in length_cut bytes (content_place bytes k) (content_size bytes k) (omega arith));
+      one_job = refl;
+      jobs = (job_well_formed bytes p, tt);
+    }
+
+-- The bytes are the file that they hold.
+pub is_file : (bytes : List ℕ) → IsBytes bytes → Passes bytes → IsFileOf bytes (file_at bytes)
+is_file bytes fits p = record { fits = file_fits bytes fits; well_formed = file_well_formed bytes p; text = file_text_found bytes fits p }

@@ -1,0 +1,114 @@
+-- Where the bytes are a file, no rule of the format stands.
+use Rattle.std.proofs.Common.{◌≡◌, ℕ, zero, suc, ◌+◌, ◌*◌, ◌%◌, ◌<◌, ◌≤◌, Bool, true, false, not, nat_lt, ◌==◌, ◌&&◌, List, [], ◌∷◌, ◌++◌, length, map, get_or, Option, None, refl, sym, ap, subst, arith, ◌∙◌, ◌⊎◌, inl, inr}
+use Rattle.std.specs.List.{AllByRecursion, range_with_len}
+use Rattle.std.proofs.lemmas.Bool.{le-ltb}
+use Rattle.std.proofs.Math.Nat.{eq-or-lt_of_le}
+use Rattle.field_words.specs.Words.{u32_at}
+use Rattle.field_words.specs.Questions.{Question, first_of, NoneStands, each}
+use Rattle.field_words.proofs.Questions.{passes, stands_none, each_step}
+use Rattle.buffer_table.specs.declared.buffer.Kind.{Kind}
+use Rattle.buffer_table.specs.declared.buffer.Kind.TheVariants.{Plain, Code}
+use Rattle.job_format.specs.declared.rule.FormatFault.{FormatFault}
+use Rattle.job_format.specs.Model.{JobModel, FileModel}
+use Rattle.job_format.specs.Faults.{magic, header_questions, entry_questions, buffer_questions, job_questions, content_questions, parts_questions, body_questions, format_questions, code_questions, list_questions, unbuilt_questions}
+use Rattle.job_format.specs.Places.{job_place, content_size, content_place, handles_place, bin_place, records_place, uniforms_place, end_place}
+use Rattle.job_format.specs.Reading.{cut, kind_of, entry_at, buffers_at, job_at, file_at}
+use Rattle.job_format.specs.File.{IsFileOf, IsBuilt, IsJobBuilt}
+use Rattle.job_format.proofs.Found.{length_cut, handles_in}
+use Rattle.job_format.proofs.Passing.{HeaderPasses, EntryPasses, JobPasses, Passes}
+use Rattle.job_format.proofs.Standing.{content_ends}
+
+-- Items of which none has a fault.
+each_passes : {F : Type 0} (questions : ℕ → List (Question F)) (i n : ℕ) → ((k : ℕ) → i ≤ k → k < i + n → first_of (questions k) ≡ None) → first_of (each questions i n) ≡ None
+unfolding each
+each_passes questions i zero none = refl
+each_passes questions i (suc n) none =
+    passes (questions i) (each questions (i + 1) n) (none i (omega arith) (omega arith))
+    ∙ each_passes questions (i + 1) n (λ k from to. none k (omega arith) (omega arith))
+
+-- none of a front and none of a rest
+both_pass : {F : Type 0} (front rest : List (Question F)) → first_of front ≡ None → first_of rest ≡ None → first_of (front ++ rest) ≡ None
+both_pass front rest none_front none_rest = passes front rest none_front ∙ none_rest
+
+header_none : (bytes : List ℕ) → HeaderPasses bytes → first_of (header_questions bytes) ≡ None
+unfolding header_questions
+header_none bytes p =
+    let size = p.size in
+    let letters = p.letters in
+    let version = p.version in
+    let buffers = p.buffers in
+    let jobs = p.jobs in
+    stands_none (header_questions bytes)
+    (grind (arith, size), (grind (arith, letters), (grind (arith, version), (grind (arith, buffers), (grind (arith, jobs), tt)))))
+
+entry_none : (bytes : List ℕ) (at : ℕ) → EntryPasses bytes at → first_of (entry_questions bytes at) ≡ None
+unfolding entry_questions
+entry_none bytes at p =
+    let size = p.size in
+    let kind = p.kind in
+    stands_none (entry_questions bytes at) (grind (arith, size), (grind (arith, kind), (grind (arith, p.code), tt)))
+
+job_none : (bytes : List ℕ) (at : ℕ) → JobPasses bytes at → first_of (job_questions bytes at) ≡ None
+unfolding job_questions
+job_none bytes at p =
+    let size = p.size in
+    let flags = p.flags in
+    let handles = p.handles in
+    let bin = p.bin in
+    let records = p.records in
+    let declared = p.declared in
+    let uniforms = p.uniforms in
+    let words = p.whole_words in
+    let first = p.first in
+    let second = p.second in
+    let third = p.third in
+    stands_none (job_questions bytes at)
+    (grind (arith, size), (grind (arith, flags), (grind (arith, handles), (grind (arith, bin), (grind (arith, records), (grind (arith, declared), (grind (arith, uniforms), (grind (arith, words), (grind (arith, first), (grind (arith, second), (grind (arith, third), tt)))))))))))
+
+parts_none : (bytes : List ℕ) → end_place bytes ≡ length bytes → first_of (parts_questions bytes) ≡ None
+unfolding parts_questions end_place uniforms_place records_place bin_place
+parts_none bytes end =
+    stands_none (parts_questions bytes) (le-ltb _ _ (omega arith), (le-ltb _ _ (omega arith), (le-ltb _ _ (omega arith), (le-ltb _ _ (omega arith), (le-ltb _ _ (omega arith), tt)))))
+
+pub format_none : (bytes : List ℕ) → Passes bytes → first_of (format_questions bytes) ≡ None
+unfolding format_questions buffer_questions content_questions
+format_none bytes p =
+    let n : ℕ = u32_at bytes 28 in
+    let inside = handles_in bytes p in
+    let entries : first_of (each (buffer_questions bytes) 0 n) ≡ None =
+    each_passes (buffer_questions bytes) 0 n (λ k from to. entry_none bytes (36 + 20 * k) (p.entry k (omega arith))) in
+    let contents : first_of (each (content_questions bytes) 0 n) ≡ None =
+    each_passes (content_questions bytes) 0 n
+    (λ k from to. let ends = content_ends bytes k n (omega arith) in stands_none (content_questions bytes k) (le-ltb _ _ (omega arith), tt)) in
+    both_pass (header_questions bytes) (body_questions bytes) (header_none bytes p.header)
+    (both_pass (each (buffer_questions bytes) 0 n) _ entries
+    (both_pass (job_questions bytes (job_place bytes)) _ (job_none bytes (job_place bytes) p.job)
+    (both_pass (each (content_questions bytes) 0 n) (parts_questions bytes) contents (parts_none bytes p.end))))
+
+-- an item's fact, of all items of a range
+in_all : {A : Type 0} (P : A → Type 0) (f : ℕ → A) (a n : ℕ) → AllByRecursion P (map f (range_with_len a n)) → (k : ℕ) → a ≤ k → k < a + n → P (f k)
+in_all P f a zero all k from to = absurd (omega (arith, from, to))
+in_all P f a (suc n) all k from to =
+    elim (eq-or-lt_of_le from) [ inl same ↦ subst (λ i. P (f i)) same all.0 | inr above ↦ in_all P f (a + 1) n all.1 k (omega arith) (omega arith) ]
+
+plain_number : (n : ℕ) → kind_of n ≡ Plain → (n == 1) ≡ false
+plain_number zero plain = refl
+plain_number (suc zero) plain = cc
+plain_number (suc (suc n)) plain = grind arith
+
+pub unbuilt_none : (bytes : List ℕ) → Passes bytes → IsBuilt (file_at bytes) → first_of (unbuilt_questions bytes) ≡ None
+unfolding unbuilt_questions code_questions list_questions file_at buffers_at entry_at job_at end_place uniforms_place records_place bin_place
+unbuilt_none bytes p built =
+    let n : ℕ = u32_at bytes 28 in
+    let at : ℕ = job_place bytes in
+    let end = p.end in
+    let job = built.jobs.0 in
+    let bin : u32_at bytes (at + 12) ≡ 0 = sym (length_cut bytes (bin_place bytes) (u32_at bytes (at + 12)) (omega arith)) ∙ job.bin in
+    let records : u32_at bytes (at + 16) ≡ 0 = sym (length_cut bytes (records_place bytes) (u32_at bytes (at + 16)) (omega arith)) ∙ job.records in
+    let uniforms : u32_at bytes (at + 24) ≡ 0 = sym (length_cut bytes (uniforms_place bytes) (u32_at bytes (at + 24)) (omega arith)) ∙ job.uniforms in
+    let declared : u32_at bytes (at + 20) ≡ 0 = job.declared in
+    both_pass (each (code_questions bytes) 0 n) (list_questions bytes at)
+    (each_passes (code_questions bytes) 0 n
+    (λ k from to. stands_none (code_questions bytes k)
+    (plain_number (u32_at bytes (36 + 20 * k + 12)) (in_all (λ b. b.kind ≡ Plain) (λ b. entry_at bytes (36 + 20 * b)) 0 n built.plain k from to), tt)))
+    (stands_none (list_questions bytes at) (grind (arith, bin), (grind (arith, records), (grind (arith, declared), (grind (arith, uniforms), tt)))))

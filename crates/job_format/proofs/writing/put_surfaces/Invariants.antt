@@ -1,0 +1,8 @@
+-- The surfaces so far.
+use Rattle.std.proofs.Common.{◌≡◌, ◌++◌, take}
+use Rattle.std.specs.List.{flat_map}
+use Rattle.job_format.specs.Text.{surface_text}
+use Rattle.job_format.proofs.writing.put_surfaces.Given as goal
+
+abbrev pub invariant-loop-surface : goal.invariant-loop-surface
+invariant-loop-surface l = l.out.items ≡ l.fn.out.items ++ flat_map surface_text (take l.surface-index l.surfaces)

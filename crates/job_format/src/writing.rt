@@ -1,0 +1,141 @@
+//! The text of a job file.
+ghost use Rattle.std.specs.Prelude.{◌≡◌, ◌≤◌, ◌<◌, ◌^◌, ◌++◌, length, map, OnOk, IfOk};
+ghost use Rattle.std.specs.List.{flat_map, AllByRecursion};
+ghost use Rattle.field_words.specs.Pieces.{joined};
+ghost use Rattle.job_format.specs.Model.{job_view, file_view};
+ghost use Rattle.job_format.specs.Text.{word, half, kind_number, header_text, buffer_text, surface_text, frame_text, job_text, parts_text, file_text};
+ghost use Rattle.job_format.specs.File.{IsJobWellFormed, IsWellFormed};
+
+use crate::file::{Frame, Job, JobFile, Surface};
+use buffer_table::{Buffer, Kind};
+use field_words::NoMemory;
+use std::alloc::{AllocError, Global};
+
+/// The letters "VC4J" as a number.
+const MAGIC: u32 = 0x4a34_4356;
+
+fn put_words(out: &mut Vec<u8>, words: &[u32]) -> Result<(), AllocError>
+    ensures { OnOk result (out.new.items ≡ out.old.items ++ flat_map word words.now) }
+{
+    for n in words {
+        out.extend_from_slice(&n.to_le_bytes())?;
+    }
+    Ok(())
+}
+
+fn put_half(out: &mut Vec<u8>, n: u16) -> Result<(), AllocError>
+    ensures { OnOk result (out.new.items ≡ out.old.items ++ half n) }
+{
+    out.extend_from_slice(&n.to_le_bytes())?;
+    Ok(())
+}
+
+#[tactic(auto, unfolding(crate::specs::Text::header_text))]
+fn put_header(out: &mut Vec<u8>, file: &JobFile) -> Result<(), AllocError>
+    requires buffers { length file.now.buffers.items ≤ 64 }
+    requires jobs { length file.now.jobs.items ≤ 64 }
+    ensures { OnOk result (out.new.items ≡ out.old.items ++ header_text (file_view file.now)) }
+{
+    put_words(
+        out,
+        &[
+            MAGIC,
+            file.version,
+            file.mem_size,
+            file.regions.lists_place,
+            file.regions.lists_size,
+            file.regions.tile_place,
+            file.regions.tile_slots,
+            file.buffers.len() as u32,
+            file.jobs.len() as u32,
+        ],
+    )
+}
+
+fn number_of(kind: Kind) -> u32
+    ensures { result ≡ kind_number kind }
+{
+    match kind {
+        Kind::Plain => 0,
+        Kind::Code => 1,
+    }
+}
+
+#[tactic(auto, unfolding(crate::specs::Text::buffer_text))]
+fn put_buffer(out: &mut Vec<u8>, buffer: &Buffer) -> Result<(), AllocError>
+    ensures { OnOk result (out.new.items ≡ out.old.items ++ buffer_text buffer.now) }
+{
+    put_words(
+        out,
+        &[
+            buffer.place,
+            buffer.size,
+            buffer.client,
+            number_of(buffer.kind),
+            buffer.content,
+        ],
+    )
+}
+
+#[tactic(auto, unfolding(crate::specs::Text::surface_text))]
+fn put_surface(out: &mut Vec<u8>, surface: &Surface) -> Result<(), AllocError>
+    ensures { OnOk result (out.new.items ≡ out.old.items ++ surface_text surface.now) }
+{
+    put_words(out, &[surface.hindex, surface.offset])?;
+    put_half(out, surface.bits)?;
+    put_half(out, surface.flags)
+}
+
+fn put_surfaces(out: &mut Vec<u8>, surfaces: &[Surface]) -> Result<(), AllocError>
+    ensures { OnOk result (out.new.items ≡ out.old.items ++ flat_map surface_text surfaces.now) }
+{
+    for surface in surfaces {
+        put_surface(out, surface)?;
+    }
+    Ok(())
+}
+
+#[tactic(auto, unfolding(crate::specs::Text::frame_text))]
+fn put_frame(out: &mut Vec<u8>, frame: &Frame) -> Result<(), AllocError>
+    ensures { OnOk result (out.new.items ≡ out.old.items ++ frame_text frame.now) }
+{
+    put_half(out, frame.width)?;
+    put_half(out, frame.height)?;
+    out.extend_from_slice(&[frame.min_x, frame.min_y, frame.max_x, frame.max_y])?;
+    put_surfaces(out, &frame.surfaces)?;
+    put_words(out, &frame.clear_color)?;
+    put_words(out, &[frame.clear_z])?;
+    out.extend_from_slice(&[frame.clear_s, 0, 0, 0])?;
+    Ok(())
+}
+
+#[tactic(auto, unfolding(crate::specs::Text::job_text))]
+fn put_job(out: &mut Vec<u8>, job: &Job) -> Result<(), AllocError>
+    requires { IsJobWellFormed (job_view job.now) }
+    ensures { OnOk result (out.new.items ≡ out.old.items ++ job_text (job_view job.now)) }
+{
+    put_words(
+        out,
+        &[
+            job.client,
+            u32::from(job.frame.clear),
+            job.handles.len() as u32,
+            job.bin.len() as u32,
+            job.records.len() as u32,
+            job.declared,
+            job.uniforms.len() as u32,
+        ],
+    )?;
+    put_frame(out, &job.frame)
+}
+
+#[tactic(auto, unfolding(crate::specs::Text::parts_text))]
+fn put_parts(out: &mut Vec<u8>, job: &Job) -> Result<(), AllocError>
+    ensures { OnOk result (out.new.items ≡ out.old.items ++ parts_text (job_view job.now)) }
+{
+    put_words(out, &job.handles)?;
+    out.extend_from_slice(&job.bin)?;
+    out.extend_from_slice(&job.records)?;
+    out.extend_from_slice(&job.uniforms)?;
+    Ok(())
+}
