@@ -11,7 +11,7 @@ mod state;
 mod walk;
 pub mod word;
 
-pub use position::known;
+pub use position::{is_marked, known};
 pub use rules::{stream_fault, takes_at};
 pub use state::Stream;
 pub use walk::{is_open, stream};

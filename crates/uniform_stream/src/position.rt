@@ -30,8 +30,8 @@ fn is_restart(code: &[u64], end: u32, at: usize) -> bool
     at == 0 || (1 <= at && writes_address(code, end, at - 1))
 }
 
-// A branch leads to `at`, or its slots end there.
-fn is_marked(code: &[u64], flow: &Flow, at: usize) -> bool
+/// Whether a branch leads to `at`, or its slots end there.
+pub fn is_marked(code: &[u64], flow: &Flow, at: usize) -> bool
     requires inside { at < length code.now }
     requires made { IsFlow code.now flow.now.end flow.now.targets.items flow.now.threaded }
     ensures { result ≡ is_target code.now at }
