@@ -1,3 +1,4 @@
 pub mod Frame
+pub mod Surfaces
 pub mod Text
 pub mod Writing

@@ -1,9 +1,13 @@
 //! The renderer list of a frame.
 #![tactic(auto)]
 
+mod fault;
 mod frame;
 mod setup;
+mod surfaces;
 mod text;
 
+pub use fault::RenderFault;
 pub use setup::Setup;
+pub use surfaces::check_surfaces;
 pub use text::build;

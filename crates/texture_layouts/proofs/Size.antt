@@ -1,4 +1,4 @@
--- A surface's bytes fit 64 bits.
+-- A surface's bytes are below 2^36.
 use Rattle.std.proofs.Common.{ℕ, ◌*◌, ◌≤◌, ◌^◌, ◌<◌, arith}
 use Rattle.texture_layouts.specs.Surface.{IsPixelSize}
 
@@ -8,5 +8,5 @@ product_limit a b cpp h k l = grind arith
 pixel_limit : (cpp : ℕ) → IsPixelSize cpp → cpp ≤ 8
 pixel_limit cpp h = grind (arith, h)
 
-pub product_fits : (a b cpp : ℕ) → a ≤ 65599 → b ≤ 65599 → IsPixelSize cpp → a * b * cpp < 2 ^ 64
+pub product_fits : (a b cpp : ℕ) → a ≤ 65599 → b ≤ 65599 → IsPixelSize cpp → a * b * cpp < 2 ^ 36
 product_fits a b cpp h k l = omega (arith, product_limit a b cpp h k (pixel_limit cpp l))

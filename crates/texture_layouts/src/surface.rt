@@ -1,5 +1,5 @@
 // The tilings, and the sizes that surfaces take in memory.
-ghost use Rattle.std.specs.Prelude.{◌≡◌, ◌≤◌};
+ghost use Rattle.std.specs.Prelude.{◌≡◌, ◌<◌, ◌≤◌, ◌^◌};
 ghost use Rattle.texture_layouts.specs.Surface.{IsPixelSize, microtile_width_of, microtile_height_of, tiling_for, unit_across, unit_down, size_for};
 
 use field_words::round_up;
@@ -42,7 +42,8 @@ pub fn surface_size(tiling: Tiling, width: u32, height: u32, cpp: u32) -> u64
     requires width_limit { width ≤ 65535 }
     requires height_limit { height ≤ 65535 }
     requires pixel { IsPixelSize cpp }
-    ensures { result ≡ size_for tiling width height cpp }
+    ensures value { result ≡ size_for tiling width height cpp }
+    ensures limit { result < 2 ^ 36 }
 {
     let across = round_up(width as u64, alignment_across(tiling, cpp));
     let down = round_up(height as u64, alignment_down(tiling, cpp));

@@ -1,0 +1,424 @@
+//! The rules of a frame and its surfaces.
+ghost use Rattle.std.specs.Prelude.{◌≡◌, ◌<◌, ◌≤◌, ◌⊎◌, ◌+◌, ◌++◌, false, length, ℕ, None, Some, IfNone, IfOk, MatchResult};
+ghost use Rattle.field_words.specs.Questions.{first_of, each};
+ghost use Rattle.buffer_table.specs.Handles.{AreNumbersOf};
+ghost use Rattle.texture_layouts.specs.Surface.{IsPixelSize};
+ghost use Rattle.render_list.specs.Frame.{surface_at, is_full, FitsAt, IsTileSet, IsSetupFor};
+ghost use Rattle.render_list.specs.Surfaces.{fault, is_reversed, is_outside_grid, is_outside_frame, frame_questions, has_unknown_flag, has_unknown_bit, is_unnamed, tiling_number, has_unlisted_tiling, tiling_named, pixel_size_of, has_unlisted_format, write_pixel, general_pixel, is_unaligned, buffer_size, plain_end, is_too_large, is_full_with_bits, full_end, is_too_large_full, shape_questions, size_questions, surface_questions, is_written, whole_questions, surface_faults, place_in, places_of};
+
+use crate::fault::RenderFault;
+use crate::setup::Setup;
+use crate::frame::{COLOR_READ, COLOR_WRITE, MULTISAMPLE_COLOR, MULTISAMPLE_ZS, ZS_READ, ZS_WRITE, full_tile, is_full, is_present, surface, tile_side};
+use buffer_table::{Handles, Table, use_data};
+use field_words::field;
+use job_format::{Frame, Surface};
+use texture_layouts::{Tiling, surface_size};
+
+/// The most pixels that a frame may have across or down where a surface isn't in full resolution.
+const SIDE_LIMIT: u16 = 4096;
+
+/// Whether a smallest tile number is over its largest.
+#[tactic(auto, unfolding(crate::specs::Surfaces::is_reversed))]
+fn is_reversed(frame: &Frame) -> bool
+    ensures { result ≡ is_reversed frame.now }
+{
+    frame.min_x > frame.max_x || frame.min_y > frame.max_y
+}
+
+/// Whether the largest tile isn't in the binner's grid.
+#[tactic(auto, unfolding(crate::specs::Surfaces::is_outside_grid))]
+fn is_outside_grid(frame: &Frame, tiles: Option<(u8, u8)>) -> bool
+    ensures { result ≡ is_outside_grid frame.now tiles }
+{
+    match tiles {
+        None => false,
+        Some((across, down)) => frame.max_x >= across || frame.max_y >= down,
+    }
+}
+
+/// Whether the largest tile has no pixel of the frame.
+#[tactic(auto, unfolding(crate::specs::Surfaces::is_outside_frame))]
+fn is_outside_frame(frame: &Frame) -> bool
+    ensures { result ≡ is_outside_frame frame.now }
+{
+    let side = tile_side(frame);
+    u32::from(frame.max_x) * side >= u32::from(frame.width)
+        || u32::from(frame.max_y) * side >= u32::from(frame.height)
+}
+
+/// G1 to G3.
+#[tactic(auto, unfolding(crate::specs::Surfaces::frame_questions))]
+fn frame_fault(frame: &Frame, tiles: Option<(u8, u8)>) -> Option<RenderFault>
+    ensures { result ≡ first_of (frame_questions frame.now tiles) }
+{
+    if is_reversed(frame) {
+        return Some(RenderFault { number: 1, item: 0 });
+    }
+    if is_outside_grid(frame, tiles) {
+        return Some(RenderFault { number: 2, item: 0 });
+    }
+    if is_outside_frame(frame) {
+        return Some(RenderFault { number: 3, item: 0 });
+    }
+    None
+}
+
+/// Whether a flag is set that the surface doesn't have.
+#[tactic(auto, unfolding(crate::specs::Surfaces::has_unknown_flag))]
+fn has_unknown_flag(k: usize, surface: &Surface) -> bool
+    ensures { result ≡ has_unknown_flag k surface.now }
+{
+    match k {
+        COLOR_READ | ZS_READ | ZS_WRITE => surface.flags > 1,
+        _ => surface.flags > 0,
+    }
+}
+
+/// Whether a bit is set outside the fields of this surface's bits.
+#[tactic(auto, unfolding(crate::specs::Surfaces::has_unknown_bit))]
+fn has_unknown_bit(k: usize, surface: &Surface) -> bool
+    ensures { result ≡ has_unknown_bit k surface.now }
+{
+    let unnamed = if k == COLOR_WRITE { 0xff02 } else { 0xfcc8 };
+    !is_full(k, surface) && surface.bits & unnamed != 0
+}
+
+/// Whether the handle names no Plain buffer.
+#[tactic(auto, unfolding(crate::specs::Surfaces::is_unnamed))]
+fn is_unnamed(table: &Table, handles: &Handles, surface: &Surface) -> bool
+    requires { AreNumbersOf table.now handles.now }
+    ensures { result ≡ is_unnamed table.now handles.now surface.now }
+{
+    use_data(table, handles, surface.hindex).is_none()
+}
+
+#[tactic(auto, unfolding(crate::specs::Surfaces::tiling_number))]
+fn tiling_number(k: usize, surface: &Surface) -> u64
+    ensures { result ≡ tiling_number k surface.now }
+{
+    let bits = u64::from(surface.bits);
+    if k == COLOR_WRITE { field(bits, 7, 6) } else { field(bits, 5, 4) }
+}
+
+/// Whether the tiling isn't one of the three.
+#[tactic(auto, unfolding(crate::specs::Surfaces::has_unlisted_tiling))]
+fn has_unlisted_tiling(k: usize, surface: &Surface) -> bool
+    ensures { result ≡ has_unlisted_tiling k surface.now }
+{
+    !is_full(k, surface) && tiling_number(k, surface) == 3
+}
+
+fn tiling_named(number: u64) -> Tiling
+    ensures { result ≡ tiling_named number }
+{
+    match number {
+        0 => Tiling::Raster,
+        1 => Tiling::T,
+        _ => Tiling::Lt,
+    }
+}
+
+/// The bytes of a pixel of colour write by its format, and 0 where there is no such format.
+fn write_pixel(format: u64) -> u32
+    ensures { result ≡ write_pixel format }
+{
+    match format {
+        1 => 4,
+        0 | 2 => 2,
+        _ => 0,
+    }
+}
+
+/// The bytes of a pixel of a general surface by its buffer and format, and 0 where there are no such.
+fn general_pixel(buffer: u64, format: u64) -> u32
+    ensures { result ≡ general_pixel buffer format }
+{
+    match (buffer, format) {
+        (1, 0) | (2, 0) => 4,
+        (1, 1) | (1, 2) => 2,
+        _ => 0,
+    }
+}
+
+/// The bytes of a pixel, and 0 where the surface's buffer or format isn't listed.
+#[tactic(auto, unfolding(crate::specs::Surfaces::pixel_size_of))]
+fn pixel_size(k: usize, surface: &Surface) -> u32
+    ensures value { result ≡ pixel_size_of k surface.now }
+    ensures listed { (result ≡ 0) ⊎ IsPixelSize result }
+{
+    let bits = u64::from(surface.bits);
+    if k == COLOR_WRITE {
+        write_pixel(field(bits, 3, 2))
+    } else {
+        general_pixel(field(bits, 2, 0), field(bits, 9, 8))
+    }
+}
+
+/// Whether the buffer and format aren't listed.
+#[tactic(auto, unfolding(crate::specs::Surfaces::has_unlisted_format))]
+fn has_unlisted_format(k: usize, surface: &Surface) -> bool
+    ensures { result ≡ has_unlisted_format k surface.now }
+{
+    !is_full(k, surface) && pixel_size(k, surface) == 0
+}
+
+#[tactic(auto, unfolding(crate::specs::Surfaces::is_unaligned))]
+fn is_unaligned(surface: &Surface) -> bool
+    ensures { result ≡ is_unaligned surface.now }
+{
+    surface.offset % 16 != 0
+}
+
+/// The bytes of the buffer that the surface lies in, and 0 where it names none.
+#[tactic(auto, unfolding(crate::specs::Surfaces::buffer_size))]
+fn buffer_size(table: &Table, handles: &Handles, surface: &Surface) -> u32
+    requires { AreNumbersOf table.now handles.now }
+    ensures { result ≡ buffer_size table.now handles.now surface.now }
+{
+    match use_data(table, handles, surface.hindex) {
+        None => 0,
+        Some(number) => table.buffer(number).size,
+    }
+}
+
+/// Where a surface that isn't in full resolution ends in its buffer.
+#[tactic(auto, unfolding(crate::specs::Surfaces::plain_end), using(crate::proofs::Sizes::pixel_listed))]
+fn plain_end(frame: &Frame, k: usize, surface: &Surface) -> u64
+    requires listed { has_unlisted_format k surface.now ≡ false }
+    requires plain { is_full k surface.now ≡ false }
+    ensures { result ≡ plain_end frame.now k surface.now }
+{
+    let tiling = tiling_named(tiling_number(k, surface));
+    let cpp = pixel_size(k, surface);
+    let size = surface_size(tiling, u32::from(frame.width), u32::from(frame.height), cpp);
+    u64::from(surface.offset) + size
+}
+
+/// Whether a surface that isn't in full resolution has a side over the limit or goes past its buffer.
+#[tactic(auto, unfolding(crate::specs::Surfaces::is_too_large))]
+fn is_too_large(frame: &Frame, k: usize, surface: &Surface, size: u32) -> bool
+    requires { has_unlisted_format k surface.now ≡ false }
+    ensures { result ≡ is_too_large frame.now k surface.now size }
+{
+    if is_full(k, surface) {
+        return false;
+    }
+    frame.width > SIDE_LIMIT
+        || frame.height > SIDE_LIMIT
+        || plain_end(frame, k, surface) > u64::from(size)
+}
+
+/// Whether ZS write is in full resolution, or a surface in full resolution has bits.
+#[tactic(auto, unfolding(crate::specs::Surfaces::is_full_with_bits))]
+fn is_full_with_bits(k: usize, surface: &Surface) -> bool
+    ensures { result ≡ is_full_with_bits k surface.now }
+{
+    is_full(k, surface) && (k == ZS_WRITE || surface.bits != 0)
+}
+
+/// Where the largest tile of a surface in full resolution ends in its buffer.
+#[tactic(auto, unfolding(crate::specs::Surfaces::full_end))]
+fn full_end(frame: &Frame, surface: &Surface) -> u64
+    ensures { result ≡ full_end frame.now surface.now }
+{
+    let offset = surface.offset;
+    let tiles = full_tile(frame, frame.max_x, frame.max_y) + 1;
+    u64::from(offset) + 16384 * u64::from(tiles)
+}
+
+/// Whether a surface in full resolution goes past its buffer.
+#[tactic(auto, unfolding(crate::specs::Surfaces::is_too_large_full))]
+fn is_too_large_full(frame: &Frame, k: usize, surface: &Surface, size: u32) -> bool
+    ensures { result ≡ is_too_large_full frame.now k surface.now size }
+{
+    is_full(k, surface) && full_end(frame, surface) > u64::from(size)
+}
+
+/// Rule G`number` at surface `k`.
+fn at_surface(number: u8, k: usize) -> Option<RenderFault>
+    requires { k < 6 }
+    ensures { result ≡ Some (fault number (k + 1)) }
+{
+    Some(RenderFault {
+        number,
+        item: k as u8 + 1,
+    })
+}
+
+/// G4 to G9.
+#[tactic(auto, unfolding(crate::specs::Surfaces::shape_questions))]
+fn shape_fault(k: usize, surface: &Surface, table: &Table, handles: &Handles) -> Option<RenderFault>
+    requires surface { k < 6 }
+    requires made { AreNumbersOf table.now handles.now }
+    ensures first { result ≡ first_of (shape_questions k surface.now table.now handles.now) }
+    ensures listed { IfNone result (has_unlisted_format k surface.now ≡ false) }
+{
+    if has_unknown_flag(k, surface) {
+        return at_surface(4, k);
+    }
+    if has_unknown_bit(k, surface) {
+        return at_surface(5, k);
+    }
+    if is_unnamed(table, handles, surface) {
+        return at_surface(6, k);
+    }
+    if has_unlisted_tiling(k, surface) {
+        return at_surface(7, k);
+    }
+    if has_unlisted_format(k, surface) {
+        return at_surface(8, k);
+    }
+    if is_unaligned(surface) {
+        return at_surface(9, k);
+    }
+    None
+}
+
+/// G10 to G12.
+#[tactic(auto, unfolding(crate::specs::Surfaces::size_questions))]
+fn size_fault(frame: &Frame, k: usize, surface: &Surface, size: u32) -> Option<RenderFault>
+    requires surface { k < 6 }
+    requires listed { has_unlisted_format k surface.now ≡ false }
+    ensures { result ≡ first_of (size_questions frame.now k surface.now size) }
+{
+    if is_too_large(frame, k, surface, size) {
+        return at_surface(10, k);
+    }
+    if is_full_with_bits(k, surface) {
+        return at_surface(11, k);
+    }
+    if is_too_large_full(frame, k, surface, size) {
+        return at_surface(12, k);
+    }
+    None
+}
+
+/// G4 to G12 of surface `k`, where it is present.
+#[tactic(auto, unfolding(crate::specs::Surfaces::surface_questions), using(field_words::proofs::Questions::passes, field_words::proofs::Questions::stops))]
+fn surface_fault(frame: &Frame, table: &Table, handles: &Handles, k: usize) -> Option<RenderFault>
+    requires surface { k < 6 }
+    requires made { AreNumbersOf table.now handles.now }
+    ensures { result ≡ first_of (surface_questions frame.now table.now handles.now k) }
+{
+    let surface = surface(frame, k);
+    if !is_present(&surface) {
+        return None;
+    }
+    match shape_fault(k, &surface, table, handles) {
+        Some(fault) => Some(fault),
+        None => size_fault(frame, k, &surface, buffer_size(table, handles, &surface)),
+    }
+}
+
+/// G4 to G12, surface by surface.
+fn surfaces_fault(frame: &Frame, table: &Table, handles: &Handles) -> Option<RenderFault>
+    requires { AreNumbersOf table.now handles.now }
+    ensures { result ≡ first_of (each (surface_questions frame.now table.now handles.now) 0 6) }
+{
+    for k in 0..6 {
+        if let Some(fault) = surface_fault(frame, table, handles, k) {
+            return Some(fault);
+        }
+    }
+    None
+}
+
+/// Whether something is written.
+#[tactic(auto, unfolding(crate::specs::Surfaces::is_written))]
+fn is_written(frame: &Frame) -> bool
+    ensures { result ≡ is_written frame.now }
+{
+    is_present(&surface(frame, COLOR_WRITE))
+        || is_present(&surface(frame, ZS_WRITE))
+        || is_present(&surface(frame, MULTISAMPLE_COLOR))
+        || is_present(&surface(frame, MULTISAMPLE_ZS))
+}
+
+/// G13.
+#[tactic(auto, unfolding(crate::specs::Surfaces::whole_questions))]
+fn whole_fault(frame: &Frame) -> Option<RenderFault>
+    ensures { result ≡ first_of (whole_questions frame.now) }
+{
+    if is_written(frame) {
+        return None;
+    }
+    Some(RenderFault { number: 13, item: 7 })
+}
+
+/// G4 to G13.
+#[tactic(auto, using(field_words::proofs::Questions::passes, field_words::proofs::Questions::stops))]
+fn later_fault(frame: &Frame, table: &Table, handles: &Handles) -> Option<RenderFault>
+    requires { AreNumbersOf table.now handles.now }
+    ensures { result ≡ first_of (each (surface_questions frame.now table.now handles.now) 0 6 ++ whole_questions frame.now) }
+{
+    match surfaces_fault(frame, table, handles) {
+        Some(fault) => Some(fault),
+        None => whole_fault(frame),
+    }
+}
+
+/// The first of G1 to G13.
+#[tactic(auto, unfolding(crate::specs::Surfaces::surface_faults), using(field_words::proofs::Questions::passes, field_words::proofs::Questions::stops))]
+fn first_fault(frame: &Frame, tiles: Option<(u8, u8)>, table: &Table, handles: &Handles) -> Option<RenderFault>
+    requires { AreNumbersOf table.now handles.now }
+    ensures { result ≡ first_of (surface_faults frame.now tiles table.now handles.now) }
+{
+    match frame_fault(frame, tiles) {
+        Some(fault) => Some(fault),
+        None => later_fault(frame, table, handles),
+    }
+}
+
+/// The absolute place of surface `k`, where it is present.
+#[tactic(auto, unfolding(crate::specs::Surfaces::place_in), using(crate::proofs::Checked::offset_inside, crate::proofs::Checked::tiles_inside))]
+fn place(frame: &Frame, table: &Table, handles: &Handles, k: usize) -> Option<u32>
+    requires surface { k < 6 }
+    requires made { AreNumbersOf table.now handles.now }
+    requires sound { first_of (surface_questions frame.now table.now handles.now k) ≡ None }
+    ensures value { result ≡ place_in table.now handles.now (surface_at frame.now k) }
+    ensures fits { FitsAt frame.now k result frame.now.max_x frame.now.max_y }
+{
+    let surface = surface(frame, k);
+    if !is_present(&surface) {
+        return None;
+    }
+    let number = use_data(table, handles, surface.hindex)?;
+    Some(table.buffer(number).place + surface.offset)
+}
+
+/// The places of the surfaces of a frame without faults.
+fn places(frame: &Frame, table: &Table, handles: &Handles) -> Setup
+    requires made { AreNumbersOf table.now handles.now }
+    requires tiles { IsTileSet frame.now }
+    requires sound { (k : ℕ) → k < 6 → first_of (surface_questions frame.now table.now handles.now k) ≡ None }
+    ensures places { result.places ≡ places_of frame.now table.now handles.now }
+    ensures setup { IsSetupFor frame.now result.places }
+{
+    let color_read = place(frame, table, handles, COLOR_READ);
+    let color_write = place(frame, table, handles, COLOR_WRITE);
+    let zs_read = place(frame, table, handles, ZS_READ);
+    let zs_write = place(frame, table, handles, ZS_WRITE);
+    let multisample_color = place(frame, table, handles, MULTISAMPLE_COLOR);
+    let multisample_zs = place(frame, table, handles, MULTISAMPLE_ZS);
+    Setup {
+        places: [color_read, color_write, zs_read, zs_write, multisample_color, multisample_zs],
+    }
+}
+
+/// The places of the frame's surfaces, or the first rule of G1 to G13 that fails, by item and number.
+/// `tiles` is the binner's grid, across and down, where there is a binner list.
+pub fn check_surfaces(frame: &Frame, tiles: Option<(u8, u8)>, table: &Table, handles: &Handles) -> Result<Setup, RenderFault>
+    requires { AreNumbersOf table.now handles.now }
+    ensures exact {
+        MatchResult result
+            (λ setup. (first_of (surface_faults frame.now tiles table.now handles.now) ≡ None)
+                × (setup.places ≡ places_of frame.now table.now handles.now))
+            (λ fault. first_of (surface_faults frame.now tiles table.now handles.now) ≡ Some fault)
+    }
+    ensures setup { IfOk result (λ setup. IsSetupFor frame.now setup.places) }
+{
+    match first_fault(frame, tiles, table, handles) {
+        Some(fault) => Err(fault),
+        None => Ok(places(frame, table, handles)),
+    }
+}
