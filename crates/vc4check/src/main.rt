@@ -8,6 +8,8 @@ mod check;
 mod command;
 mod layout;
 mod run;
+#[cfg(test)]
+mod tests;
 mod text;
 
 use job_io::{ReaderSource, WriterSink};
