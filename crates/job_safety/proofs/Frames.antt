@@ -36,7 +36,7 @@ thin_rows place width height =
       begin = omega arith;
       pitch = omega (arith, e);
       size = omega arith;
-      count = grind arith
+      count = grind arith;
     }
 
 -- so each row ends inside the surface

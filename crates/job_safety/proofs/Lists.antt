@@ -30,8 +30,8 @@ length-zeros n = length-replicate n 0
 pub stands_first : (t : Thin) → KeepsRules t → Stands t (thin_memory t)
 stands_first t rules = record {
   bytes = λ i below. with_bytes-inside (zeros t.mem_size) t.regions.lists_place (thin_list t) i
-    (omega (arith, length-thin_list t, length-zeros t.mem_size, rules.items.lists.inside, rules.items.lists.some, rules.items.lists.pages))
-    (omega (arith, length-thin_list t))
+      (omega (arith, length-thin_list t, length-zeros t.mem_size, rules.items.lists.inside, rules.items.lists.some, rules.items.lists.pages))
+      (omega (arith, length-thin_list t));
 }
 
 -- the packets in it
@@ -55,7 +55,7 @@ unfolding packet_length thin_list
 lengths_are t m stands = record {
   first = ap packet_length (ap (λ a. slice_index m a) (sym (add-zero t.regions.lists_place)) ∙ stands.bytes 0 (omega arith));
   second = ap packet_length (stands.bytes 11 (omega arith));
-  third = ap packet_length (stands.bytes 14 (omega arith))
+  third = ap packet_length (stands.bytes 14 (omega arith));
 }
 
 pub first_opcode : (t : Thin) → slice_index (bytes_at (thin_list t) 0 11) 0 ≡ 113

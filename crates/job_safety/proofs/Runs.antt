@@ -59,9 +59,9 @@ moved_holds t rules m r words stands keeps =
         stands = record { bytes = λ i below. kept who plan m (t.regions.lists_place + i) (all_safe_miss (thin_rights t) (t.regions.lists_place + i) (list_outside t rules i below) o.accesses safe) ∙ stands.bytes i below };
         renderer = goes_on r o.result;
         one = refl;
-        stage = goes_stage t o.memory r o.result ends
+        stage = goes_stage t o.memory r o.result ends;
       };
-      safe = safe
+      safe = safe;
     }
 
 -- the renderer's job, where one job is all
@@ -120,8 +120,8 @@ thin_run t rules events found u run =
       kept = record {
         long = ap (λ s. length s.memory) run.last ∙ run_fixed step (λ s. length s.memory) step_length events first;
         same = λ p out. ap (λ s. slice_index s.memory p) run.last
-          ∙ run_misses step (λ s. s.memory) p (λ s e misses. step_kept s e p misses) events first (all_safe_miss jobs p out (found_by step first events) all.1)
-      }
+            ∙ run_misses step (λ s. s.memory) p (λ s e misses. step_kept s e p misses) events first (all_safe_miss jobs p out (found_by step first events) all.1);
+      };
     }
 
 pub thin_is_safe : (t : Thin) → KeepsRules t → AreSafe (thin_rights t) (thin_memory t) (thin_start t ∷ [])

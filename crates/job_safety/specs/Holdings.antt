@@ -18,5 +18,5 @@ slot_at place = record { place = place; size = 524288 }
 abbrev pub rights : Holdings → Rights
 rights h = record {
   region = h.slot ∷ (h.plain ++ (h.lists ++ h.code));
-  writable = h.slot ∷ h.plain
+  writable = h.slot ∷ h.plain;
 }

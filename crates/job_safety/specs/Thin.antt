@@ -17,7 +17,7 @@ thin_holdings t =
       plain = interval t.place t.size ∷ [];
       code = [];
       lists = empty ∷ empty ∷ empty ∷ interval t.regions.lists_place 15 ∷ [];
-      slot = slot_at t.regions.tile_place
+      slot = slot_at t.regions.tile_place;
     }
 
 abbrev pub thin_rights : Thin → List Rights
