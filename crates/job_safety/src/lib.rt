@@ -3,5 +3,7 @@
 #![tactic(auto)]
 
 mod thin;
+mod wild;
 
 pub use thin::{start_thin, thin_jobs_are_safe};
+pub use wild::stray_packets_are_unsafe;
