@@ -1,13 +1,12 @@
 -- The renderer list of a thin job in its memory, byte by byte, and how its packets are read.
-use Rattle.std.proofs.Common.{◌≡◌, ◌≤◌, ◌<◌, ℕ, zero, suc, ◌+◌, ◌^◌, List, [], ◌∷◌, length, slice_index, refl, sym, ◌∙◌, ap, arith, zero-add, add-zero, add_assoc}
+use Rattle.std.proofs.Common.{◌≡◌, ◌<◌, ℕ, ◌+◌, ◌^◌, List, length, slice_index, refl, sym, ◌∙◌, ap, arith, zero-add, add-zero, add_assoc}
 use Rattle.std.proofs.lemmas.List.{length-replicate}
 use Rattle.std.proofs.lemmas.Nat.{from_le_bytes-to_le_bytes_2, from_le_bytes-to_le_bytes_4}
 use Rattle.field_words.specs.Words.{u16_at, u32_at}
-use Rattle.field_words.specs.Writes.{with_bytes, zeros}
+use Rattle.field_words.specs.Writes.{zeros}
 use Rattle.field_words.proofs.Writes.{with_bytes-inside}
 use Rattle.machine_plan.specs.Memory.{bytes_at}
 use Rattle.machine_plan.proofs.Memory.{bytes_same}
-use Rattle.list_machine.specs.declared.state.Frame.{Frame}
 use Rattle.list_machine.specs.Packet.{packet_length, frame_of}
 use Rattle.thin_job.specs.declared.thin.Thin.{Thin}
 use Rattle.thin_job.specs.Thin.{color_place, KeepsRules}

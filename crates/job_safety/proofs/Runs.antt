@@ -1,19 +1,19 @@
 -- Every run over a thin job's memory is safe.
-use Rattle.std.proofs.Common.{◌≡◌, ◌≤◌, ◌<◌, ℕ, zero, suc, ◌+◌, Bool, IsTrue, true, false, nat_lt, List, [], ◌∷◌, length, slice_index, Option, Some, None, is_some, refl, sym, ◌∙◌, ap, subst, arith}
+use Rattle.std.proofs.Common.{◌≡◌, ◌≤◌, ◌<◌, ℕ, ◌+◌, IsTrue, List, [], ◌∷◌, length, slice_index, Option, Some, None, is_some, refl, sym, ◌∙◌, ap, subst, arith}
 use Rattle.std.proofs.lemmas.Grind.{common_steps}
 use Rattle.field_words.specs.declared.access.Access.{Access}
 use Rattle.field_words.specs.declared.access.Actor.{Actor}
 use Rattle.field_words.specs.declared.access.Actor.TheVariants.{Binner, Renderer as TheRenderer, Qpu, Tmu}
-use Rattle.machine_plan.specs.Regions.{Every, Rights, IsSafeAccess, IsOutside, IsKept}
+use Rattle.machine_plan.specs.Regions.{Every, IsSafeAccess}
 use Rattle.machine_plan.specs.Plan.{Ends, Outcome, carried}
-use Rattle.machine_plan.specs.Runs.{Moved, Run, reached, found_by}
+use Rattle.machine_plan.specs.Runs.{Moved, found_by}
 use Rattle.machine_plan.proofs.Plans.{kept, keeps_accesses, keeps_ends}
 use Rattle.machine_plan.proofs.Safe.{all_safe_miss}
 use Rattle.machine_plan.proofs.Runs.{run_keeps, run_misses, run_fixed}
 use Rattle.list_machine.specs.declared.state.Renderer.{Renderer}
 use Rattle.list_machine.specs.Renderer.{renderer_of, renderer_plan}
 use Rattle.machine.specs.declared.job.JobState.{JobState}
-use Rattle.machine.specs.State.{State, start_of, renders, renderer_job}
+use Rattle.machine.specs.State.{State, start_of, renderer_job}
 use Rattle.machine.specs.Step.{Event, enabled, goes_on, renderer_moved, renderer_step, unit_step, may, step, IsRun}
 use Rattle.machine.proofs.Steps.{step_kept, step_length}
 use Rattle.thin_job.specs.declared.thin.Thin.{Thin}

@@ -1,25 +1,22 @@
 -- Where the renderer of a thin job can stand, and what its next step is.
-use Rattle.std.proofs.Common.{◌≡◌, ◌≤◌, ◌<◌, ℕ, zero, suc, ◌+◌, ◌*◌, ◌⊎◌, inl, inr, List, [], ◌∷◌, slice_index, Option, Some, None, true, refl, sym, ◌∙◌, ap, arith}
-use Rattle.field_words.specs.declared.access.Access.{Access}
-use Rattle.field_words.specs.declared.access.Way.TheVariants.{Read, Write, Wild}
-use Rattle.machine_plan.specs.Regions.{LiesIn, Inside, Rights, rights_of, IsSafeAccess, IsOutside}
-use Rattle.machine_plan.specs.Plan.{Keeps, Ends, access}
+use Rattle.std.proofs.Common.{◌≡◌, ◌≤◌, ◌<◌, ℕ, zero, suc, ◌+◌, ◌*◌, inl, inr, List, slice_index, Some, ◌∙◌, ap, arith}
+use Rattle.field_words.specs.declared.access.Way.TheVariants.{Read, Write}
+use Rattle.machine_plan.specs.Regions.{LiesIn, IsSafeAccess, IsOutside}
+use Rattle.machine_plan.specs.Plan.{Keeps, access}
 use Rattle.list_machine.specs.declared.state.Renderer.{Renderer}
 use Rattle.list_machine.specs.declared.state.Rows.{Rows}
-use Rattle.list_machine.specs.Packet.{with_frame, with_tile, frame_of}
+use Rattle.list_machine.specs.Packet.{with_frame, with_tile}
 use Rattle.list_machine.specs.Store.{rows_of}
 use Rattle.list_machine.specs.Renderer.{renderer_of, store_plan, renderer_plan}
 use Rattle.list_machine.proofs.Keeping.{packet_keeps, frame_keeps, tile_keeps, store_keeps, raster_keeps}
 use Rattle.machine.specs.State.{renderer_start}
-use Rattle.machine.specs.Step.{goes_on}
 use Rattle.thin_job.specs.declared.thin.Thin.{Thin}
 use Rattle.thin_job.specs.Thin.{color_place, raster_size, KeepsRules}
 use Rattle.thin_job.specs.Memory.{thin_list}
 use Rattle.machine_plan.specs.Memory.{bytes_at}
-use Rattle.job_safety.specs.Holdings.{slot_at}
 use Rattle.job_safety.specs.Thin.{interval, thin_rights}
 use Rattle.job_safety.proofs.Frames.{thin_frame, thin_is_raster, RowsAre, thin_rows, row_inside}
-use Rattle.job_safety.proofs.Lists.{Stands, LengthsAre, lengths_are, first_packet, second_packet, third_packet, first_opcode, second_opcode, second_x, second_y, third_opcode, frame_is}
+use Rattle.job_safety.proofs.Lists.{Stands, lengths_are, first_packet, second_packet, third_packet, first_opcode, second_opcode, second_x, second_y, third_opcode, frame_is}
 
 -- the renderer at the beginning, past the first packet, and past the second
 abbrev pub begun : Thin → Renderer

@@ -1,5 +1,5 @@
 -- A list with a byte that is no packet is not safe, whatever its rights.
-use Rattle.std.proofs.Common.{◌≡◌, ℕ, List, [], ◌∷◌, true, refl}
+use Rattle.std.proofs.Common.{List, [], ◌∷◌, refl}
 use Rattle.field_words.specs.declared.access.Access.{Access}
 use Rattle.field_words.specs.declared.access.Actor.TheVariants.{Renderer as TheRenderer}
 use Rattle.field_words.specs.declared.access.Way.TheVariants.{Read, Wild}

@@ -1,5 +1,5 @@
 -- What a job holds, and so what it may reach.
-use Rattle.std.specs.Prelude.{ℕ, List, [], ◌∷◌, ◌++◌}
+use Rattle.std.specs.Prelude.{ℕ, List, ◌∷◌, ◌++◌}
 use Rattle.machine_plan.specs.Regions.{Interval, Rights}
 
 -- The buffers that a job's handles name, by kind; its four emitted lists, with their emitted

@@ -1,5 +1,5 @@
 -- A thin job in the machine.
-use Rattle.std.specs.Prelude.{ℕ, ◌+◌, List, [], ◌∷◌}
+use Rattle.std.specs.Prelude.{ℕ, List, [], ◌∷◌}
 use Rattle.machine_plan.specs.Regions.{Interval, Rights}
 use Rattle.machine.specs.declared.job.Start.{Start}
 use Rattle.thin_job.specs.declared.thin.Thin.{Thin}

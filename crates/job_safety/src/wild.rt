@@ -8,5 +8,4 @@ ghost use Rattle.job_safety.specs.Stray.{stray_memory, stray_start};
 /// job isn't safe, whatever it may reach.
 pub fn stray_packets_are_unsafe()
     ensures { (jobs : List Rights) → AreSafe jobs stray_memory (stray_start ∷ []) → ⊥ }
-{
-}
+{}
