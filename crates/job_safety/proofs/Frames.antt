@@ -1,7 +1,6 @@
 -- The rows that a thin job stores lie in its buffer.
-use Rattle.std.proofs.Common.{◌≡◌, ◌≤◌, ◌<◌, ℕ, suc, ◌+◌, ◌-◌, ◌*◌, ◌/◌, ◌%◌, min, true, refl, sym, ◌∙◌, ap, subst, arith}
-use Rattle.std.proofs.lemmas.Grind.{common_steps}
-use Rattle.std.proofs.Math.Nat.{mul-le-mul, mul-le-mul_right}
+use Rattle.std.proofs.Common.{◌≡◌, ◌≤◌, ◌<◌, ℕ, suc, ◌+◌, ◌*◌, ◌/◌, true, refl, ap, arith}
+use Rattle.std.proofs.Math.Nat.{mul-le-mul_right}
 use Rattle.field_words.specs.Words.{rounded_up}
 use Rattle.texture_layouts.specs.Surface.{microtile_width_of}
 use Rattle.list_machine.specs.declared.state.Frame.{Frame}
@@ -36,7 +35,7 @@ thin_rows place width height =
       begin = omega arith;
       pitch = omega (arith, e);
       size = omega arith;
-      count = grind arith
+      count = grind arith;
     }
 
 -- so each row ends inside the surface

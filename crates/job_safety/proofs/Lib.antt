@@ -2,3 +2,4 @@ pub mod Frames
 pub mod Lists
 pub mod Stages
 pub mod Runs
+pub mod Stray

@@ -1,13 +1,12 @@
 -- The renderer list of a thin job in its memory, byte by byte, and how its packets are read.
-use Rattle.std.proofs.Common.{◌≡◌, ◌≤◌, ◌<◌, ℕ, zero, suc, ◌+◌, ◌^◌, List, [], ◌∷◌, length, slice_index, refl, sym, ◌∙◌, ap, arith, zero-add, add-zero, add_assoc}
+use Rattle.std.proofs.Common.{◌≡◌, ◌<◌, ℕ, ◌+◌, ◌^◌, List, length, slice_index, refl, sym, ◌∙◌, ap, arith, zero-add, add-zero, add_assoc}
 use Rattle.std.proofs.lemmas.List.{length-replicate}
 use Rattle.std.proofs.lemmas.Nat.{from_le_bytes-to_le_bytes_2, from_le_bytes-to_le_bytes_4}
 use Rattle.field_words.specs.Words.{u16_at, u32_at}
-use Rattle.field_words.specs.Writes.{with_bytes, zeros}
+use Rattle.field_words.specs.Writes.{zeros}
 use Rattle.field_words.proofs.Writes.{with_bytes-inside}
 use Rattle.machine_plan.specs.Memory.{bytes_at}
 use Rattle.machine_plan.proofs.Memory.{bytes_same}
-use Rattle.list_machine.specs.declared.state.Frame.{Frame}
 use Rattle.list_machine.specs.Packet.{packet_length, frame_of}
 use Rattle.thin_job.specs.declared.thin.Thin.{Thin}
 use Rattle.thin_job.specs.Thin.{color_place, KeepsRules}
@@ -30,8 +29,8 @@ length-zeros n = length-replicate n 0
 pub stands_first : (t : Thin) → KeepsRules t → Stands t (thin_memory t)
 stands_first t rules = record {
   bytes = λ i below. with_bytes-inside (zeros t.mem_size) t.regions.lists_place (thin_list t) i
-    (omega (arith, length-thin_list t, length-zeros t.mem_size, rules.items.lists.inside, rules.items.lists.some, rules.items.lists.pages))
-    (omega (arith, length-thin_list t))
+      (omega (arith, length-thin_list t, length-zeros t.mem_size, rules.items.lists.inside, rules.items.lists.some, rules.items.lists.pages))
+      (omega (arith, length-thin_list t));
 }
 
 -- the packets in it
@@ -55,7 +54,7 @@ unfolding packet_length thin_list
 lengths_are t m stands = record {
   first = ap packet_length (ap (λ a. slice_index m a) (sym (add-zero t.regions.lists_place)) ∙ stands.bytes 0 (omega arith));
   second = ap packet_length (stands.bytes 11 (omega arith));
-  third = ap packet_length (stands.bytes 14 (omega arith))
+  third = ap packet_length (stands.bytes 14 (omega arith));
 }
 
 pub first_opcode : (t : Thin) → slice_index (bytes_at (thin_list t) 0 11) 0 ≡ 113

@@ -1,19 +1,19 @@
 -- Every run over a thin job's memory is safe.
-use Rattle.std.proofs.Common.{◌≡◌, ◌≤◌, ◌<◌, ℕ, zero, suc, ◌+◌, Bool, IsTrue, true, false, nat_lt, List, [], ◌∷◌, length, slice_index, Option, Some, None, is_some, refl, sym, ◌∙◌, ap, subst, arith}
+use Rattle.std.proofs.Common.{◌≡◌, ◌≤◌, ◌<◌, ℕ, ◌+◌, IsTrue, List, [], ◌∷◌, length, slice_index, Option, Some, None, is_some, refl, sym, ◌∙◌, ap, subst, arith}
 use Rattle.std.proofs.lemmas.Grind.{common_steps}
 use Rattle.field_words.specs.declared.access.Access.{Access}
 use Rattle.field_words.specs.declared.access.Actor.{Actor}
 use Rattle.field_words.specs.declared.access.Actor.TheVariants.{Binner, Renderer as TheRenderer, Qpu, Tmu}
-use Rattle.machine_plan.specs.Regions.{Every, Rights, IsSafeAccess, IsOutside, IsKept}
+use Rattle.machine_plan.specs.Regions.{Every, IsSafeAccess}
 use Rattle.machine_plan.specs.Plan.{Ends, Outcome, carried}
-use Rattle.machine_plan.specs.Runs.{Moved, Run, reached, found_by}
+use Rattle.machine_plan.specs.Runs.{Moved, found_by}
 use Rattle.machine_plan.proofs.Plans.{kept, keeps_accesses, keeps_ends}
 use Rattle.machine_plan.proofs.Safe.{all_safe_miss}
 use Rattle.machine_plan.proofs.Runs.{run_keeps, run_misses, run_fixed}
 use Rattle.list_machine.specs.declared.state.Renderer.{Renderer}
 use Rattle.list_machine.specs.Renderer.{renderer_of, renderer_plan}
 use Rattle.machine.specs.declared.job.JobState.{JobState}
-use Rattle.machine.specs.State.{State, start_of, renders, renderer_job}
+use Rattle.machine.specs.State.{State, start_of, renderer_job}
 use Rattle.machine.specs.Step.{Event, enabled, goes_on, renderer_moved, renderer_step, unit_step, may, step, IsRun}
 use Rattle.machine.proofs.Steps.{step_kept, step_length}
 use Rattle.thin_job.specs.declared.thin.Thin.{Thin}
@@ -59,9 +59,9 @@ moved_holds t rules m r words stands keeps =
         stands = record { bytes = λ i below. kept who plan m (t.regions.lists_place + i) (all_safe_miss (thin_rights t) (t.regions.lists_place + i) (list_outside t rules i below) o.accesses safe) ∙ stands.bytes i below };
         renderer = goes_on r o.result;
         one = refl;
-        stage = goes_stage t o.memory r o.result ends
+        stage = goes_stage t o.memory r o.result ends;
       };
-      safe = safe
+      safe = safe;
     }
 
 -- the renderer's job, where one job is all
@@ -120,8 +120,8 @@ thin_run t rules events found u run =
       kept = record {
         long = ap (λ s. length s.memory) run.last ∙ run_fixed step (λ s. length s.memory) step_length events first;
         same = λ p out. ap (λ s. slice_index s.memory p) run.last
-          ∙ run_misses step (λ s. s.memory) p (λ s e misses. step_kept s e p misses) events first (all_safe_miss jobs p out (found_by step first events) all.1)
-      }
+            ∙ run_misses step (λ s. s.memory) p (λ s e misses. step_kept s e p misses) events first (all_safe_miss jobs p out (found_by step first events) all.1);
+      };
     }
 
 pub thin_is_safe : (t : Thin) → KeepsRules t → AreSafe (thin_rights t) (thin_memory t) (thin_start t ∷ [])

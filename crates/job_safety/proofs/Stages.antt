@@ -1,25 +1,22 @@
 -- Where the renderer of a thin job can stand, and what its next step is.
-use Rattle.std.proofs.Common.{◌≡◌, ◌≤◌, ◌<◌, ℕ, zero, suc, ◌+◌, ◌*◌, ◌⊎◌, inl, inr, List, [], ◌∷◌, slice_index, Option, Some, None, true, refl, sym, ◌∙◌, ap, arith}
-use Rattle.field_words.specs.declared.access.Access.{Access}
-use Rattle.field_words.specs.declared.access.Way.TheVariants.{Read, Write, Wild}
-use Rattle.machine_plan.specs.Regions.{LiesIn, Inside, Rights, rights_of, IsSafeAccess, IsOutside}
-use Rattle.machine_plan.specs.Plan.{Keeps, Ends, access}
+use Rattle.std.proofs.Common.{◌≡◌, ◌≤◌, ◌<◌, ℕ, zero, suc, ◌+◌, ◌*◌, inl, inr, List, slice_index, Some, ◌∙◌, ap, arith}
+use Rattle.field_words.specs.declared.access.Way.TheVariants.{Read, Write}
+use Rattle.machine_plan.specs.Regions.{LiesIn, IsSafeAccess, IsOutside}
+use Rattle.machine_plan.specs.Plan.{Keeps, access}
 use Rattle.list_machine.specs.declared.state.Renderer.{Renderer}
 use Rattle.list_machine.specs.declared.state.Rows.{Rows}
-use Rattle.list_machine.specs.Packet.{with_frame, with_tile, frame_of}
+use Rattle.list_machine.specs.Packet.{with_frame, with_tile}
 use Rattle.list_machine.specs.Store.{rows_of}
 use Rattle.list_machine.specs.Renderer.{renderer_of, store_plan, renderer_plan}
 use Rattle.list_machine.proofs.Keeping.{packet_keeps, frame_keeps, tile_keeps, store_keeps, raster_keeps}
 use Rattle.machine.specs.State.{renderer_start}
-use Rattle.machine.specs.Step.{goes_on}
 use Rattle.thin_job.specs.declared.thin.Thin.{Thin}
 use Rattle.thin_job.specs.Thin.{color_place, raster_size, KeepsRules}
 use Rattle.thin_job.specs.Memory.{thin_list}
 use Rattle.machine_plan.specs.Memory.{bytes_at}
-use Rattle.job_safety.specs.Holdings.{slot_at}
 use Rattle.job_safety.specs.Thin.{interval, thin_rights}
 use Rattle.job_safety.proofs.Frames.{thin_frame, thin_is_raster, RowsAre, thin_rows, row_inside}
-use Rattle.job_safety.proofs.Lists.{Stands, LengthsAre, lengths_are, first_packet, second_packet, third_packet, first_opcode, second_opcode, second_x, second_y, third_opcode, frame_is}
+use Rattle.job_safety.proofs.Lists.{Stands, lengths_are, first_packet, second_packet, third_packet, first_opcode, second_opcode, second_x, second_y, third_opcode, frame_is}
 
 -- the renderer at the beginning, past the first packet, and past the second
 abbrev pub begun : Thin → Renderer
@@ -43,7 +40,7 @@ read_safe : (t : Thin) (p n : ℕ) → LiesIn p n (interval t.regions.lists_plac
 read_safe t p n lies = record {
   tame = λ e. cc;
   inside = inr (inr (inr (inr (inr (inl lies)))));
-  writes = λ e. absurd cc
+  writes = λ e. absurd cc;
 }
 
 -- a write to the buffer is safe
@@ -51,7 +48,7 @@ write_safe : (t : Thin) (p n : ℕ) → LiesIn p n (interval t.place t.size) →
 write_safe t p n lies = record {
   tame = λ e. cc;
   inside = inr (inl lies);
-  writes = λ e. inr (inl lies)
+  writes = λ e. inr (inl lies);
 }
 
 -- no byte of the list is in the slot or in the buffer
@@ -74,8 +71,8 @@ begun_keeps t rules words m stands =
     let past : Renderer = record (begun t) { place = t.regions.lists_place + 11 } in
     let sets : with_frame past packet ≡ framed t = ap (λ f. record past { frame = Some f }) (frame_is t rules) in
     packet_keeps (renderer_of 0) L G P (begun t) words m 11 packet (lengths_are t m stands).first (first_packet t m stands) tt
-      (read_safe t t.regions.lists_place 11 (record { from = omega arith; upto = omega arith }))
-      (frame_keeps (renderer_of 0) L G P past words m packet (first_opcode t) (Framed sets))
+    (read_safe t t.regions.lists_place 11 (record { from = omega arith; upto = omega arith }))
+    (frame_keeps (renderer_of 0) L G P past words m packet (first_opcode t) (Framed sets))
 
 pub framed_keeps : (t : Thin) → KeepsRules t → (words m : List ℕ) → Stands t m → StepKeeps t (framed t) words m
 framed_keeps t rules words m stands =
@@ -88,10 +85,10 @@ framed_keeps t rules words m stands =
     let y : slice_index packet 2 ≡ 0 = second_y t in
     let at : t.regions.lists_place + 11 + 3 ≡ t.regions.lists_place + 14 = omega arith in
     let sets : with_tile past packet ≡ tiled t =
-        ap (λ n. record past { tile_x = n; tile_y = slice_index packet 2 }) x ∙ (ap (λ n. record past { tile_x = 0; tile_y = n }) y ∙ ap (λ n. record (framed t) { place = n }) at) in
+    ap (λ n. record past { tile_x = n; tile_y = slice_index packet 2 }) x ∙ (ap (λ n. record past { tile_x = 0; tile_y = n }) y ∙ ap (λ n. record (framed t) { place = n }) at) in
     packet_keeps (renderer_of 0) L G P (framed t) words m 3 packet (lengths_are t m stands).second (second_packet t m stands) tt
-      (read_safe t (t.regions.lists_place + 11) 3 (record { from = omega arith; upto = omega arith }))
-      (tile_keeps (renderer_of 0) L G P past words m packet (second_opcode t) (Tiled sets))
+    (read_safe t (t.regions.lists_place + 11) 3 (record { from = omega arith; upto = omega arith }))
+    (tile_keeps (renderer_of 0) L G P past words m packet (second_opcode t) (Tiled sets))
 
 -- each row that is stored lies in the buffer
 row_lies : (t : Thin) → KeepsRules t → (rows : Rows) → RowsAre (color_place t) t.width t.height rows → (k : ℕ) → k < rows.count → LiesIn (rows.place + k * rows.pitch) rows.size (interval t.place t.size)
@@ -99,7 +96,7 @@ row_lies t rules rows are k below =
     let ends : rows.place + k * rows.pitch + rows.size ≤ color_place t + raster_size t.width t.height = row_inside (color_place t) t.width t.height rows are k below in
     record {
       from = omega (arith, are.begin);
-      upto = omega (arith, ends, rules.frame.inside)
+      upto = omega (arith, ends, rules.frame.inside);
     }
 
 pub tiled_keeps : (t : Thin) → KeepsRules t → (words m : List ℕ) → Stands t m → StepKeeps t (tiled t) words m
@@ -114,8 +111,8 @@ tiled_keeps t rules words m stands =
     let rows = rows_of frame 0 0 in
     let are : RowsAre (color_place t) t.width t.height rows = thin_rows (color_place t) t.width t.height in
     packet_keeps (renderer_of 0) L G P (tiled t) words m 1 packet (lengths_are t m stands).third (third_packet t m stands) tt
-      (read_safe t (t.regions.lists_place + 14) 1 (record { from = omega arith; upto = omega arith }))
-      (store_keeps (renderer_of 0) L G P past words m packet (third_opcode t)
-        (raster_keeps (renderer_of 0) L G P frame past words m thin_is_raster
-          (λ k below. write_safe t (rows.place + k * rows.pitch) rows.size (row_lies t rules rows are k below))
-          (λ k. Over (omega arith))))
+    (read_safe t (t.regions.lists_place + 14) 1 (record { from = omega arith; upto = omega arith }))
+    (store_keeps (renderer_of 0) L G P past words m packet (third_opcode t)
+    (raster_keeps (renderer_of 0) L G P frame past words m thin_is_raster
+    (λ k below. write_safe t (rows.place + k * rows.pitch) rows.size (row_lies t rules rows are k below))
+    (λ k. Over (omega arith))))

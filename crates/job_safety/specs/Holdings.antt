@@ -1,5 +1,5 @@
 -- What a job holds, and so what it may reach.
-use Rattle.std.specs.Prelude.{ℕ, List, [], ◌∷◌, ◌++◌}
+use Rattle.std.specs.Prelude.{ℕ, List, ◌∷◌, ◌++◌}
 use Rattle.machine_plan.specs.Regions.{Interval, Rights}
 
 -- The buffers that a job's handles name, by kind; its four emitted lists, with their emitted
@@ -18,5 +18,5 @@ slot_at place = record { place = place; size = 524288 }
 abbrev pub rights : Holdings → Rights
 rights h = record {
   region = h.slot ∷ (h.plain ++ (h.lists ++ h.code));
-  writable = h.slot ∷ h.plain
+  writable = h.slot ∷ h.plain;
 }

@@ -1,3 +1,4 @@
 pub mod Safe
 pub mod Holdings
 pub mod Thin
+pub mod Stray

@@ -1,5 +1,5 @@
 -- A thin job in the machine.
-use Rattle.std.specs.Prelude.{ℕ, ◌+◌, List, [], ◌∷◌}
+use Rattle.std.specs.Prelude.{ℕ, List, [], ◌∷◌}
 use Rattle.machine_plan.specs.Regions.{Interval, Rights}
 use Rattle.machine.specs.declared.job.Start.{Start}
 use Rattle.thin_job.specs.declared.thin.Thin.{Thin}
@@ -17,7 +17,7 @@ thin_holdings t =
       plain = interval t.place t.size ∷ [];
       code = [];
       lists = empty ∷ empty ∷ empty ∷ interval t.regions.lists_place 15 ∷ [];
-      slot = slot_at t.regions.tile_place
+      slot = slot_at t.regions.tile_place;
     }
 
 abbrev pub thin_rights : Thin → List Rights

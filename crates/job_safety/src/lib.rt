@@ -1,6 +1,9 @@
-//! Why accepted jobs are safe in the machine.
+//! Why accepted jobs are safe in the machine. So far it speaks of thin jobs, which store one empty
+//! tile.
 #![tactic(auto)]
 
 mod thin;
+mod wild;
 
-pub use thin::thin_jobs_are_safe;
+pub use thin::{start_thin, thin_jobs_are_safe};
+pub use wild::stray_packets_are_unsafe;

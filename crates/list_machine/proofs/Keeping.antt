@@ -1,10 +1,10 @@
 -- What is kept along a step of the renderer, packet by packet.
-use Rattle.std.proofs.Common.{◌≡◌, ◌≤◌, ◌<◌, ℕ, zero, suc, ◌+◌, ◌*◌, List, length, slice_index, true, false, if◌then◌else◌, refl, sym, ap, subst, arith}
+use Rattle.std.proofs.Common.{◌≡◌, ◌≤◌, ◌<◌, ℕ, zero, suc, ◌+◌, ◌*◌, List, slice_index, true, sym, subst, arith}
 use Rattle.field_words.specs.declared.access.Access.{Access}
-use Rattle.field_words.specs.declared.access.Way.TheVariants.{Read, Write, Wild}
+use Rattle.field_words.specs.declared.access.Way.TheVariants.{Read, Write}
 use Rattle.machine_plan.specs.declared.who.Who.{Who}
 use Rattle.machine_plan.specs.Memory.{bytes_at, stored}
-use Rattle.machine_plan.specs.Plan.{Plan, Done, Keeps, access}
+use Rattle.machine_plan.specs.Plan.{Done, Keeps, access}
 use Rattle.list_machine.specs.declared.state.Frame.{Frame}
 use Rattle.list_machine.specs.declared.state.Renderer.{Renderer}
 use Rattle.list_machine.specs.declared.state.Rows.{Rows}
@@ -51,9 +51,10 @@ unfolding row_writes
 rows_keep who L G P rows words r i zero m good ends = ends m
 rows_keep who L G P rows words r i (suc n) m good ends =
     let at = rows.place + i * rows.pitch in
-    let Q : ℕ → Type 0 = λ size. G (access who Write at size) in
-    (subst Q (sym (length-chosen words (i * rows.size) rows.size)) (good i (omega arith) (omega arith)),
-      rows_keep who L G P rows words r (suc i) n (stored m at (chosen words (i * rows.size) rows.size)) (λ k low high. good k (omega arith) (omega arith)) ends)
+    let Q : ℕ → Type 0 = λ size. G (access who Write at size) in (
+      subst Q (sym (length-chosen words (i * rows.size) rows.size)) (good i (omega arith) (omega arith)),
+      rows_keep who L G P rows words r (suc i) n (stored m at (chosen words (i * rows.size) rows.size)) (λ k low high. good k (omega arith) (omega arith)) ends,
+    )
 
 -- a store of a raster frame
 pub raster_keeps : (who : Who) (L : ℕ → ℕ → Type 0) (G : Access → Type 0) (P : List ℕ → Renderer → Type 0) (frame : Frame) (r : Renderer) (words m : List ℕ) →

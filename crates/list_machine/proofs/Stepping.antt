@@ -1,5 +1,5 @@
 -- Laws on the renderer's step as the code carries it out.
-use Rattle.std.proofs.Common.{◌≡◌, ◌≤◌, ℕ, zero, suc, ◌+◌, ◌++◌, ◌∷◌, [], List, length, slice_index, Option, refl, sym, ◌∙◌, ap, append_assoc, subst, arith}
+use Rattle.std.proofs.Common.{◌≡◌, ◌≤◌, ℕ, zero, suc, ◌+◌, ◌++◌, ◌∷◌, [], List, slice_index, Option, refl, ◌∙◌, ap, append_assoc, subst, arith}
 use Rattle.field_words.specs.declared.access.Access.{Access}
 use Rattle.field_words.specs.declared.access.Way.TheVariants.{Read}
 use Rattle.machine_plan.specs.Memory.{bytes_at}

@@ -5,7 +5,7 @@ use Rattle.machine_plan.specs.Memory.{stored}
 use Rattle.field_words.specs.declared.access.Access.{Access}
 use Rattle.field_words.specs.declared.access.Way.TheVariants.{Write}
 use Rattle.machine_plan.specs.declared.who.Who.{Who}
-use Rattle.machine_plan.specs.Plan.{Plan, Done, Outcome, Shows, access, after_access, carried}
+use Rattle.machine_plan.specs.Plan.{Plan, Done, Shows, access, after_access, carried}
 use Rattle.list_machine.specs.declared.state.Renderer.{Renderer}
 use Rattle.list_machine.specs.declared.state.Rows.{Rows}
 use Rattle.list_machine.specs.Store.{chosen, chosen_byte, row_writes}
@@ -37,8 +37,8 @@ chosen_step m words p f s i below =
     let b : suc (p + i) ≡ p + (i + 1) = omega arith in
     let c : suc (f + i) ≡ f + (i + 1) = omega arith in
     ap (λ n. stored m (p + i) (chosen words (f + i) n)) a
-      ∙ (ap (λ q. stored (slice_set m (p + i) (chosen_byte words (f + i))) q (chosen words (suc (f + i)) (s - (i + 1)))) b
-      ∙ ap (λ g. stored (slice_set m (p + i) (chosen_byte words (f + i))) (p + (i + 1)) (chosen words g (s - (i + 1)))) c)
+    ∙ (ap (λ q. stored (slice_set m (p + i) (chosen_byte words (f + i))) q (chosen words (suc (f + i)) (s - (i + 1)))) b
+    ∙ ap (λ g. stored (slice_set m (p + i) (chosen_byte words (f + i))) (p + (i + 1)) (chosen words g (s - (i + 1)))) c)
 
 pub length-chosen : (words : List ℕ) (k n : ℕ) → length (chosen words k n) ≡ n
 unfolding chosen
@@ -54,8 +54,8 @@ row_step who rows words c i next m below =
     let at = rows.place + i * rows.pitch in
     let k = stored m at (chosen words (i * rows.size) rows.size) in
     ap (λ n. carried who (row_writes rows words i n next) m) a
-      ∙ (ap (λ size. after_access (access who Write at size) (carried who (row_writes rows words (suc i) (c - (i + 1)) next) k)) (length-chosen words (i * rows.size) rows.size)
-      ∙ ap (λ j. after_access (access who Write at rows.size) (carried who (row_writes rows words j (c - (i + 1)) next) k)) b)
+    ∙ (ap (λ size. after_access (access who Write at size) (carried who (row_writes rows words (suc i) (c - (i + 1)) next) k)) (length-chosen words (i * rows.size) rows.size)
+    ∙ ap (λ j. after_access (access who Write at rows.size) (carried who (row_writes rows words j (c - (i + 1)) next) k)) b)
 
 -- The rows below i are written: with those that remain, all is as if none had been.
 pub record RowsRemain (who : Who) (rows : Rows) (words : List ℕ) (r : Renderer) (before now : List Access) (first m : List ℕ) (i : ℕ) : Type 0 where
@@ -69,7 +69,7 @@ rows_begin who rows words r before m =
     record {
       accesses = ap (λ n. before ++ (carried who (row_writes rows words 0 n (Done r)) m).accesses) all;
       memory = ap (λ n. (carried who (row_writes rows words 0 n (Done r)) m).memory) all;
-      result = ap (λ n. (carried who (row_writes rows words 0 n (Done r)) m).result) all
+      result = ap (λ n. (carried who (row_writes rows words 0 n (Done r)) m).result) all;
     }
 
 pub rows_go : (who : Who) (rows : Rows) (words : List ℕ) (r : Renderer) (before now : List Access) (first m : List ℕ) (i : ℕ) → i < rows.count → RowsRemain who rows words r before now first m i → RowsRemain who rows words r before (now ++ access who Write (rows.place + i * rows.pitch) rows.size ∷ []) first (stored m (rows.place + i * rows.pitch) (chosen words (i * rows.size) rows.size)) (i + 1)
@@ -80,7 +80,7 @@ rows_go who rows words r before now first m i below h =
     record {
       accesses = append_assoc now (a ∷ []) rest.accesses ∙ (sym (ap (λ o. now ++ o.accesses) e) ∙ h.accesses);
       memory = sym (ap (λ o. o.memory) e) ∙ h.memory;
-      result = sym (ap (λ o. o.result) e) ∙ h.result
+      result = sym (ap (λ o. o.result) e) ∙ h.result;
     }
 
 pub rows_end : (who : Who) (rows : Rows) (words : List ℕ) (r : Renderer) (before now : List Access) (first m : List ℕ) (i : ℕ) → rows.count ≤ i → RowsRemain who rows words r before now first m i → Shows (carried who (row_writes rows words 0 rows.count (Done r)) first) before now m (Some r)
@@ -90,5 +90,5 @@ rows_end who rows words r before now first m i over h =
     record {
       accesses = sym (append-nil now) ∙ (sym (ap (λ n. now ++ (carried who (row_writes rows words i n (Done r)) m).accesses) none) ∙ h.accesses);
       memory_is = sym (ap (λ n. (carried who (row_writes rows words i n (Done r)) m).memory) none) ∙ h.memory;
-      result_is = sym (ap (λ n. (carried who (row_writes rows words i n (Done r)) m).result) none) ∙ h.result
+      result_is = sym (ap (λ n. (carried who (row_writes rows words i n (Done r)) m).result) none) ∙ h.result;
     }

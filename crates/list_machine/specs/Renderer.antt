@@ -1,5 +1,5 @@
 -- One step of the renderer.
-use Rattle.std.specs.Prelude.{ℕ, ◌+◌, Bool, ◌==◌, ◌||◌, if◌then◌else◌, List, Option, Some, None, slice_index}
+use Rattle.std.specs.Prelude.{ℕ, ◌+◌, ◌==◌, ◌||◌, if◌then◌else◌, List, Option, Some, None, slice_index}
 use Rattle.field_words.specs.declared.access.Actor.TheVariants.{Renderer as TheRenderer}
 use Rattle.machine_plan.specs.declared.who.Who.{Who}
 use Rattle.machine_plan.specs.Plan.{Plan, Done, Wilds, Reads, Looks}
@@ -37,8 +37,8 @@ packet_plan r words packet =
 unfoldable pub renderer_plan : Renderer → List ℕ → Plan Renderer
 renderer_plan r words =
     Looks r.place 1 (λ head.
-      let len = packet_length (slice_index head 0) in
-      Reads r.place len (λ packet. packet_plan (record r { place = r.place + len }) words packet))
+    let len = packet_length (slice_index head 0) in
+    Reads r.place len (λ packet. packet_plan (record r { place = r.place + len }) words packet))
 
 -- a wild step ends the renderer's work: it goes to its list's end
 abbrev pub ended : Renderer → Renderer

@@ -35,7 +35,7 @@ rows_of frame x y =
       place = frame.address + cpp * (y * side * aligned + x * side);
       pitch = cpp * aligned;
       size = cpp * across;
-      count = if across == 0 then 0 else covered (y * side) side frame.height
+      count = if across == 0 then 0 else covered (y * side) side frame.height;
     }
 
 -- choice word k, which is 0 where it is missing

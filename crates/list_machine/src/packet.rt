@@ -2,9 +2,8 @@
 ghost use Rattle.std.specs.Prelude.{◌≡◌, ◌≤◌, ◌<◌, length};
 ghost use Rattle.list_machine.specs.Packet.{packet_length, frame_of, with_tile};
 
-use byteorder::{ByteOrder, LittleEndian};
-
 use crate::state::Frame;
+use byteorder::{ByteOrder, LittleEndian};
 
 /// The bytes of a packet by its opcode.
 #[tactic(auto, unfolding(crate::specs::Packet::packet_length))]

@@ -5,20 +5,25 @@ ghost use Rattle.machine_plan.specs.Plan.{Shows, carried, Wilds};
 ghost use Rattle.list_machine.specs.Packet.{packet_length, with_frame, with_tile};
 ghost use Rattle.list_machine.specs.Renderer.{renderer_of, frame_plan, store_plan, packet_plan, renderer_plan};
 
+use crate::packet::{length_of, read_frame};
+use crate::state::{Frame, Renderer};
+use crate::store::{rows, store_rows, stores_raster};
 use arrayvec::ArrayVec;
 use field_words::{Access, Actor, Way};
 use machine_plan::{Who, byte_at, list_access, read_bytes};
 use phys_mem::PhysMem;
 
-use crate::packet::{length_of, read_frame};
-use crate::state::{Frame, Renderer};
-use crate::store::{rows, store_rows, stores_raster};
-
 /// One step of a renderer that stands below its list's end, for the job of this number. It reads
 /// the packet at its place, goes past it and does what it says, and lists its accesses behind
 /// those already listed. `None` comes exactly where the step is wild.
 #[tactic(auto, using(crate::proofs::Stepping::first_byte))]
-pub fn step_renderer(renderer: Renderer, words: &[u32], job: u8, memory: &mut PhysMem, accesses: &mut ArrayVec<Access, 272>) -> Option<Renderer>
+pub fn step_renderer(
+    renderer: Renderer,
+    words: &[u32],
+    job: u8,
+    memory: &mut PhysMem,
+    accesses: &mut ArrayVec<Access, 272>,
+) -> Option<Renderer>
     requires place { renderer.place < 2 ^ 63 }
     requires room { array_vec_len accesses.old ≤ 150 }
     ensures shows { Shows (carried (renderer_of job) (renderer_plan renderer words.now) memory.old) accesses.old.items accesses.new.items memory.new result }
@@ -43,7 +48,14 @@ pub fn step_renderer(renderer: Renderer, words: &[u32], job: u8, memory: &mut Ph
 
 /// Does what a packet says; the renderer stands past it.
 #[tactic(auto, unfolding(crate::specs::Renderer::packet_plan, crate::specs::Packet::packet_length))]
-fn obey(renderer: Renderer, words: &[u32], packet: &[u8], job: u8, memory: &mut PhysMem, accesses: &mut ArrayVec<Access, 272>) -> Option<Renderer>
+fn obey(
+    renderer: Renderer,
+    words: &[u32],
+    packet: &[u8],
+    job: u8,
+    memory: &mut PhysMem,
+    accesses: &mut ArrayVec<Access, 272>,
+) -> Option<Renderer>
     requires length { length packet.now ≡ packet_length (slice_index packet.now 0) }
     requires room { array_vec_len accesses.old ≤ 160 }
     ensures shows { Shows (carried (renderer_of job) (packet_plan renderer words.now packet.now) memory.old) accesses.old.items accesses.new.items memory.new result }
@@ -91,7 +103,13 @@ fn set_tile(renderer: Renderer, packet: &[u8]) -> Renderer
 
 /// Opcodes 24 and 25 store the tile of the frame that is set.
 #[tactic(auto, unfolding(crate::specs::Renderer::store_plan))]
-fn store(renderer: Renderer, words: &[u32], job: u8, memory: &mut PhysMem, accesses: &mut ArrayVec<Access, 272>) -> Option<Renderer>
+fn store(
+    renderer: Renderer,
+    words: &[u32],
+    job: u8,
+    memory: &mut PhysMem,
+    accesses: &mut ArrayVec<Access, 272>,
+) -> Option<Renderer>
     requires { array_vec_len accesses.old ≤ 160 }
     ensures shows { Shows (carried (renderer_of job) (store_plan renderer.frame renderer words.now) memory.old) accesses.old.items accesses.new.items memory.new result }
     ensures stays { IfSome result (λ next. (next.end ≡ renderer.end) × (next.place ≡ renderer.place)) }
@@ -104,7 +122,14 @@ fn store(renderer: Renderer, words: &[u32], job: u8, memory: &mut PhysMem, acces
 
 /// Stores the tile of this frame; what isn't raster is wild so far.
 #[tactic(auto, unfolding(crate::specs::Renderer::frame_plan))]
-fn store_frame(frame: &Frame, renderer: Renderer, words: &[u32], job: u8, memory: &mut PhysMem, accesses: &mut ArrayVec<Access, 272>) -> Option<Renderer>
+fn store_frame(
+    frame: &Frame,
+    renderer: Renderer,
+    words: &[u32],
+    job: u8,
+    memory: &mut PhysMem,
+    accesses: &mut ArrayVec<Access, 272>,
+) -> Option<Renderer>
     requires { array_vec_len accesses.old ≤ 160 }
     ensures shows { Shows (carried (renderer_of job) (frame_plan frame.now renderer words.now) memory.old) accesses.old.items accesses.new.items memory.new result }
     ensures stays { IfSome result (λ next. (next.end ≡ renderer.end) × (next.place ≡ renderer.place)) }

@@ -9,12 +9,11 @@ ghost use Rattle.list_machine.specs.declared.state.Renderer.{Renderer};
 ghost use Rattle.list_machine.specs.Store.{tile_side, pixel_size, is_raster, covered, rows_of, word_at, chosen_byte, chosen, row_writes};
 ghost use Rattle.list_machine.specs.Renderer.{renderer_of};
 
+use crate::state::{Frame, Rows};
 use arrayvec::ArrayVec;
 use field_words::{Access, Actor, Way, field, round_up};
 use machine_plan::{Who, list_access, put_byte};
 use phys_mem::PhysMem;
-
-use crate::state::{Frame, Rows};
 
 /// The tile's side in pixels.
 #[tactic(auto, unfolding(crate::specs::Store::tile_side))]
@@ -22,7 +21,11 @@ fn side(bits: u16) -> u64
     ensures value { result ≡ tile_side bits }
     ensures limit { result ≤ 64 }
 {
-    if field(bits as u64, 0, 0) == 1 { 32 } else { 64 }
+    if field(bits as u64, 0, 0) == 1 {
+        32
+    } else {
+        64
+    }
 }
 
 /// The bytes of a pixel.
@@ -113,7 +116,11 @@ fn byte_of_words(words: &[u32], k: u64) -> u8
 fn word_of(words: &[u32], k: u64) -> u32
     ensures { result ≡ word_at words.now k }
 {
-    if k < words.len() as u64 { words[k as usize] } else { 0 }
+    if k < words.len() as u64 {
+        words[k as usize]
+    } else {
+        0
+    }
 }
 
 /// Writes `size` chosen bytes at `place`, from byte `from` of the choice words on.
@@ -125,7 +132,11 @@ fn store_chosen(memory: &mut PhysMem, place: u64, words: &[u32], from: u64, size
     ensures { memory.new ≡ stored memory.old place (chosen words.now from size) }
 {
     for i in 0..size {
-        put_byte(memory, place + i as u64, byte_of_words(words, from + i as u64));
+        put_byte(
+            memory,
+            place + i as u64,
+            byte_of_words(words, from + i as u64),
+        );
     }
 }
 
@@ -154,7 +165,13 @@ fn bytes_before(rows: &Rows, i: u32) -> u64
 
 /// Writes the rows with the bytes of the choice words, and lists a write of each.
 #[tactic(auto, using(crate::proofs::Storing::rows_begin, crate::proofs::Storing::rows_go, crate::proofs::Storing::rows_end))]
-pub(crate) fn store_rows(rows: &Rows, words: &[u32], job: u8, memory: &mut PhysMem, accesses: &mut ArrayVec<Access, 272>)
+pub(crate) fn store_rows(
+    rows: &Rows,
+    words: &[u32],
+    job: u8,
+    memory: &mut PhysMem,
+    accesses: &mut ArrayVec<Access, 272>,
+)
     requires place { rows.now.place ≤ 2 ^ 35 }
     requires pitch { rows.now.pitch ≤ 2 ^ 20 }
     requires size { rows.now.size ≤ 256 }

@@ -3,7 +3,6 @@ use Rattle.std.proofs.Common.{◌≡◌, ℕ, List, length, slice_index, Option,
 use Rattle.field_words.specs.declared.access.Actor.{Actor}
 use Rattle.field_words.specs.declared.access.Actor.TheVariants.{Binner, Renderer as TheRenderer, Qpu, Tmu}
 use Rattle.machine_plan.specs.Regions.{Every, Misses}
-use Rattle.machine_plan.specs.Runs.{Moved}
 use Rattle.machine_plan.proofs.Plans.{kept, length-carried}
 use Rattle.list_machine.specs.Renderer.{renderer_of, renderer_plan}
 use Rattle.machine.specs.State.{State, job_at, renderer_job}

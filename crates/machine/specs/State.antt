@@ -1,5 +1,5 @@
 -- The machine's state: memory, and a record for each job. So far a job's record holds its renderer.
-use Rattle.std.specs.Prelude.{◌≡◌, ◌≤◌, ◌<◌, ℕ, ◌+◌, ◌^◌, Bool, nat_lt, List, length, map, position, slice_index_or, Option, None}
+use Rattle.std.specs.Prelude.{◌≤◌, ◌<◌, ℕ, ◌+◌, ◌^◌, Bool, nat_lt, List, length, map, position, slice_index_or, Option, None}
 use Rattle.list_machine.specs.declared.state.Renderer.{Renderer}
 use Rattle.machine.specs.declared.job.JobState.{JobState}
 use Rattle.machine.specs.declared.job.Start.{Start}

@@ -1,5 +1,5 @@
 -- Which unit may step, for which job, and what a step does.
-use Rattle.std.specs.Prelude.{◌≡◌, ℕ, Bool, true, false, not, is_some, IsTrue, List, [], Option, Some, None, slice_set}
+use Rattle.std.specs.Prelude.{◌≡◌, ℕ, Bool, false, not, is_some, List, [], Option, Some, None, slice_set}
 use Rattle.field_words.specs.declared.access.Access.{Access}
 use Rattle.field_words.specs.declared.access.Actor.{Actor}
 use Rattle.field_words.specs.declared.access.Actor.TheVariants.{Binner, Renderer as TheRenderer, Qpu, Tmu}
@@ -7,7 +7,6 @@ use Rattle.machine_plan.specs.Plan.{Outcome, carried}
 use Rattle.machine_plan.specs.Runs.{Moved, Run}
 use Rattle.list_machine.specs.declared.state.Renderer.{Renderer}
 use Rattle.list_machine.specs.Renderer.{renderer_of, renderer_plan, ended}
-use Rattle.machine.specs.declared.job.JobState.{JobState}
 use Rattle.machine.specs.State.{State, job_at, renderer_job}
 
 -- a unit steps, and these words answer what the hardware leaves open

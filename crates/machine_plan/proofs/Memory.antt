@@ -1,11 +1,11 @@
 -- Laws on intervals, and on bytes that are read and written.
-use Rattle.std.proofs.Common.{◌≡◌, ◌≢◌, ◌≤◌, ◌<◌, ℕ, zero, suc, ◌+◌, ◌⊎◌, inl, inr, List, [], ◌∷◌, length, slice_index, slice_set, refl, sym, ◌∙◌, ap, arith, take, drop, ◌++◌, add-one, add-zero, append_assoc}
+use Rattle.std.proofs.Common.{◌≡◌, ◌≢◌, ◌≤◌, ◌<◌, ℕ, zero, suc, ◌+◌, inl, inr, List, [], ◌∷◌, length, slice_index, slice_set, refl, sym, ◌∙◌, ap, arith, take, drop, ◌++◌, add-one, add-zero, append_assoc}
 use Rattle.std.proofs.lemmas.Grind.{common_steps}
 use Rattle.std.proofs.lemmas.List.{get_or-set_same, get_or-set_other, length-set}
-use Rattle.std.proofs.lemmas.List.Edits.{sets, sets-eq}
+use Rattle.std.proofs.lemmas.List.Edits.{sets-eq}
 use Rattle.field_words.specs.Writes.{with_bytes}
 use Rattle.machine_plan.specs.Memory.{bytes_at, stored}
-use Rattle.machine_plan.specs.Regions.{Interval, LiesIn, Inside, Agree}
+use Rattle.machine_plan.specs.Regions.{Interval, Inside, Agree}
 
 -- a part of what lies inside lies inside
 pub inside_part : (rs : List Interval) (p n q k : ℕ) → Inside rs p n → p ≤ q → q + k ≤ p + n → Inside rs q k
@@ -43,7 +43,7 @@ stored_agree rs [] m k p agree = agree
 stored_agree rs (b ∷ bs) m k p agree =
     stored_agree rs bs (slice_set m p b) (slice_set k p b) (suc p) (record {
       long = length-set m p b ∙ (agree.long ∙ sym (length-set k p b));
-      same = λ q h. same-set m k p b q agree.long (agree.same q h)
+      same = λ q h. same-set m k p b q agree.long (agree.same q h);
     })
 
 -- a write keeps each byte outside it

@@ -1,5 +1,5 @@
 -- Laws over plans, proved once for all units.
-use Rattle.std.proofs.Common.{◌≡◌, ◌≤◌, ◌<◌, ℕ, ◌+◌, List, [], ◌∷◌, length, slice_index, Option, Some, None, refl, sym, ◌∙◌, ap, subst, arith}
+use Rattle.std.proofs.Common.{◌≡◌, ℕ, List, ◌∷◌, length, slice_index, refl, ◌∙◌, ap, subst}
 use Rattle.field_words.specs.declared.access.Access.{Access}
 use Rattle.field_words.specs.declared.access.Way.TheVariants.{Read, Write, Wild}
 use Rattle.machine_plan.specs.declared.who.Who.{Who}

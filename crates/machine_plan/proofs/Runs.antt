@@ -33,7 +33,7 @@ pub run_misses : {S E : Type 0} (step : S → E → Moved S) (memory : S → Lis
 run_misses step memory q one [] s all = refl
 run_misses step memory q one (e ∷ es) s all =
     run_misses step memory q one es (step s e).state (every-back (Misses q) (step s e).accesses (found_by step (step s e).state es) all)
-      ∙ one s e (every-front (Misses q) (step s e).accesses (found_by step (step s e).state es) all)
+    ∙ one s e (every-front (Misses q) (step s e).accesses (found_by step (step s e).state es) all)
 
 -- what each step leaves alike, each run leaves alike
 pub run_fixed : {S E A : Type 0} (step : S → E → Moved S) (f : S → A) → ((s : S) (e : E) → f (step s e).state ≡ f s) → (events : List E) (s : S) → f (reached step s events) ≡ f s

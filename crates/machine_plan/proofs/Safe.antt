@@ -1,5 +1,5 @@
 -- What safe accesses leave alone.
-use Rattle.std.proofs.Common.{◌≡◌, ◌≤◌, ◌<◌, ℕ, List, arith}
+use Rattle.std.proofs.Common.{ℕ, List, arith}
 use Rattle.field_words.specs.declared.access.Access.{Access}
 use Rattle.machine_plan.specs.Regions.{Every, Rights, rights_of, IsSafeAccess, IsOutside, Misses}
 use Rattle.machine_plan.proofs.Memory.{inside_part}

@@ -4,17 +4,20 @@ ghost use Rattle.arrayvec.specs.ArrayVec.{array_vec_len};
 ghost use Rattle.machine_plan.specs.Memory.{bytes_at};
 ghost use Rattle.machine_plan.specs.Plan.{access};
 
+use crate::who::Who;
 use arrayvec::ArrayVec;
 use field_words::{Access, Way};
 use phys_mem::PhysMem;
-
-use crate::who::Who;
 
 /// The byte at `place`, which is zero outside the memory.
 pub fn byte_at(memory: &PhysMem, place: u64) -> u8
     ensures { result ≡ slice_index memory.now place }
 {
-    if place < memory.len() as u64 { memory.read_byte(place as u32) } else { 0 }
+    if place < memory.len() as u64 {
+        memory.read_byte(place as u32)
+    } else {
+        0
+    }
 }
 
 /// The `len` bytes from `place` on; those outside the memory are zero.

@@ -8,5 +8,5 @@ use Rattle.list_machine.proofs.store.store_rows.Given as goal
 abbrev pub invariant-loop-i : goal.invariant-loop-i
 invariant-loop-i l = record {
   remain : (r : Renderer) → RowsRemain (renderer_of l.job) l.rows l.words r l.initial.accesses.items l.accesses.items l.initial.memory l.memory l.i;
-  long : array_vec_len l.accesses ≡ array_vec_len l.initial.accesses + l.i
+  long : array_vec_len l.accesses ≡ array_vec_len l.initial.accesses + l.i;
 }

@@ -6,5 +6,5 @@ use Rattle.machine_plan.proofs.bytes.read_bytes.Given as goal
 abbrev pub invariant-loop-i : goal.invariant-loop-i
 invariant-loop-i l = record {
   value : l.bytes.items ≡ bytes_at l.memory l.place l.i;
-  long : array_vec_len l.bytes ≡ l.i
+  long : array_vec_len l.bytes ≡ l.i;
 }

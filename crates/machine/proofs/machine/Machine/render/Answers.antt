@@ -1,7 +1,7 @@
 -- The job's new state is bounded.
-use Rattle.std.proofs.Common.{◌≡◌, Some, sym, ◌∙◌, ap, arith}
+use Rattle.std.proofs.Common.{◌≡◌, Some, ◌∙◌, ap, arith}
 use Rattle.std.proofs.lemmas.Grind.{common_steps}
-use Rattle.machine.specs.State.{renderer_job, no_job, job_at}
+use Rattle.machine.specs.State.{renderer_job, job_at}
 use Rattle.machine.proofs.Jobs.{Renders, chosen_renders, jobs_set}
 use Rattle.machine.proofs.machine.Machine.render.Goals as goal
 
