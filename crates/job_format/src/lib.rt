@@ -12,3 +12,4 @@ mod writing;
 pub use file::{Frame, Job, JobFile, Surface};
 pub use reading::read_job;
 pub use rule::{FormatFault, Refusal, Rule, Stage};
+pub use writing::write_job;

@@ -4,7 +4,7 @@ ghost use Rattle.std.specs.List.{flat_map, AllByRecursion};
 ghost use Rattle.field_words.specs.Pieces.{joined};
 ghost use Rattle.job_format.specs.Model.{job_view, file_view};
 ghost use Rattle.job_format.specs.Text.{word, half, kind_number, header_text, buffer_text, surface_text, frame_text, job_text, parts_text, file_text};
-ghost use Rattle.job_format.specs.File.{IsJobWellFormed, IsWellFormed};
+ghost use Rattle.job_format.specs.File.{IsJobWellFormed, IsWellFormed, IsFileOf};
 
 use crate::file::{Frame, Job, JobFile, Surface};
 use buffer_table::{Buffer, Kind};
@@ -138,4 +138,65 @@ fn put_parts(out: &mut Vec<u8>, job: &Job) -> Result<(), AllocError>
     out.extend_from_slice(&job.records)?;
     out.extend_from_slice(&job.uniforms)?;
     Ok(())
+}
+
+fn put_buffers(out: &mut Vec<u8>, buffers: &[Buffer]) -> Result<(), AllocError>
+    ensures { OnOk result (out.new.items ≡ out.old.items ++ flat_map buffer_text buffers.now) }
+{
+    for buffer in buffers {
+        put_buffer(out, buffer)?;
+    }
+    Ok(())
+}
+
+fn put_jobs(out: &mut Vec<u8>, jobs: &[Job]) -> Result<(), AllocError>
+    requires { AllByRecursion IsJobWellFormed (map job_view jobs.now) }
+    ensures { OnOk result (out.new.items ≡ out.old.items ++ flat_map job_text (map job_view jobs.now)) }
+{
+    for job in jobs {
+        put_job(out, job)?;
+    }
+    Ok(())
+}
+
+fn put_contents(out: &mut Vec<u8>, contents: &[Vec<u8>]) -> Result<(), AllocError>
+    ensures { OnOk result (out.new.items ≡ out.old.items ++ joined (map (λ c. c.items) contents.now)) }
+{
+    for content in contents {
+        out.extend_from_slice(content)?;
+    }
+    Ok(())
+}
+
+fn put_all_parts(out: &mut Vec<u8>, jobs: &[Job]) -> Result<(), AllocError>
+    ensures { OnOk result (out.new.items ≡ out.old.items ++ flat_map parts_text (map job_view jobs.now)) }
+{
+    for job in jobs {
+        put_parts(out, job)?;
+    }
+    Ok(())
+}
+
+#[tactic(auto, unfolding(crate::specs::Text::file_text))]
+fn text(alloc: Global, file: &JobFile) -> Result<Vec<u8>, AllocError>
+    requires { IsWellFormed (file_view file.now) }
+    ensures { IfOk result (λ v. v.items ≡ file_text (file_view file.now)) }
+{
+    let mut out = Vec::new(alloc);
+    put_header(&mut out, file)?;
+    put_buffers(&mut out, &file.buffers)?;
+    put_jobs(&mut out, &file.jobs)?;
+    put_contents(&mut out, &file.contents)?;
+    put_all_parts(&mut out, &file.jobs)?;
+    Ok(out)
+}
+
+/// The text of a job file. Reading it gives the file again, wherever the file uses no part that is
+/// not built yet.
+pub fn write_job(alloc: Global, file: &JobFile) -> Result<Vec<u8>, NoMemory>
+    requires { IsWellFormed (file_view file.now) }
+    ensures text { IfOk result (λ v. v.items ≡ file_text (file_view file.now)) }
+    ensures again { IfOk result (λ v. IsFileOf v.items (file_view file.now)) }
+{
+    Ok(text(alloc, file)?)
 }
