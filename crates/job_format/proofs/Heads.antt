@@ -1,13 +1,12 @@
 -- The header and the job's entry, and their texts, in both directions.
-use Rattle.std.proofs.Common.{◌≡◌, ℕ, ◌+◌, ◌<◌, ◌≤◌, ◌^◌, Bool, true, false, List, [], ◌∷◌, ◌++◌, length, get_or, lit<, refl, sym, ap, subst, arith, ◌∙◌, add-zero}
+use Rattle.std.proofs.Common.{◌≡◌, ℕ, ◌+◌, ◌<◌, ◌≤◌, ◌^◌, Bool, true, false, List, [], ◌∷◌, ◌++◌, length, lit<, refl, sym, ap, subst, arith, ◌∙◌, add-zero}
 use Rattle.field_words.specs.Words.{IsBytes, u32_at}
 use Rattle.field_words.specs.Pieces.{IsPiece}
 use Rattle.job_format.specs.Model.{JobModel, FileModel}
 use Rattle.job_format.specs.Text.{flag, header_text, job_text, frame_text}
 use Rattle.job_format.specs.File.{JobFits, Fits}
 use Rattle.job_format.specs.Faults.{magic}
-use Rattle.job_format.specs.Reading.{frame_at}
-use Rattle.job_format.proofs.Fields.{Field, Word, Half, Byte, widths, text_of_all, AreRead, AllFit, piece_of, read_back}
+use Rattle.job_format.proofs.Fields.{Field, Word, text_of_all, AllFit, piece_of, read_back}
 use Rattle.job_format.proofs.Frames.{seam, seam_front, seam_rest, FrameReads, frame_piece, frame_back}
 
 abbrev header_fields : FileModel → List Field
@@ -39,9 +38,9 @@ header_piece bytes f fits inside r =
 
 pub header_back : (bytes : List ℕ) (f : FileModel) → Fits f → length f.buffers < 2 ^ 32 → length f.jobs < 2 ^ 32 → IsPiece bytes 0 36 (header_text f) → HeaderReads bytes f
 header_back bytes f fits few_buffers few_jobs piece =
-    let g = fits.regions in
+    let g = fits.header.regions in
     let all_fit : AllFit (header_fields f) =
-    (lit< tt, (fits.version, (fits.mem_size, (g.lists_place, (g.lists_size, (g.tile_place, (g.tile_slots, (few_buffers, (few_jobs, tt))))))))) in
+    (lit< tt, (fits.header.version, (fits.header.mem_size, (g.lists_place, (g.lists_size, (g.tile_place, (g.tile_slots, (few_buffers, (few_jobs, tt))))))))) in
     let r = read_back bytes 0 0 (header_fields f) all_fit (subst (λ text. IsPiece bytes 0 36 text) (header_text_is f) piece) in
     record {
       letters = r.0;
@@ -100,7 +99,7 @@ job_back bytes at j fits sizes piece =
     let moved : IsPiece bytes (at + 0) 124 (text_of_all (head_fields j) ++ frame_text j.frame) =
     subst (λ p. IsPiece bytes p 124 (text_of_all (head_fields j) ++ frame_text j.frame)) (sym (add-zero at)) (subst (λ text. IsPiece bytes at 124 text) (job_text_is j) piece) in
     let all_fit : AllFit (head_fields j) =
-    (fits.client, (flag_fits j.frame.clear, (sizes.handles, (sizes.bin, (sizes.records, (fits.declared, (sizes.uniforms, tt))))))) in
+    (fits.entry.client, (flag_fits j.frame.clear, (sizes.handles, (sizes.bin, (sizes.records, (fits.entry.declared, (sizes.uniforms, tt))))))) in
     let r = read_back bytes at 0 (head_fields j) all_fit (seam_front bytes at 0 28 96 (text_of_all (head_fields j)) (frame_text j.frame) refl moved) in
     record {
       client = ap (u32_at bytes) (sym (add-zero at)) ∙ r.0;
@@ -110,5 +109,5 @@ job_back bytes at j fits sizes piece =
       records = r.1.1.1.1.0;
       declared = r.1.1.1.1.1.0;
       uniforms = r.1.1.1.1.1.1.0;
-      frame = frame_back bytes at j.frame fits.frame r.1.0 (seam_rest bytes at 0 28 96 (text_of_all (head_fields j)) (frame_text j.frame) refl moved);
+      frame = frame_back bytes at j.frame fits.entry.frame r.1.0 (seam_rest bytes at 0 28 96 (text_of_all (head_fields j)) (frame_text j.frame) refl moved);
     }

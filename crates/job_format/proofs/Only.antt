@@ -1,8 +1,8 @@
 -- The text of a file that fits and is well formed: no rule of the format stands, and it holds that file.
-use Rattle.std.proofs.Common.{◌≡◌, ℕ, zero, suc, ◌+◌, ◌-◌, ◌*◌, ◌%◌, ◌<◌, ◌≤◌, ◌^◌, Bool, true, false, ◌==◌, List, [], ◌∷◌, ◌++◌, length, map, take, drop, get_or, lit<, refl, sym, ap, subst, arith, ◌∙◌, add-one, append_assoc}
+use Rattle.std.proofs.Common.{◌≡◌, ℕ, zero, suc, ◌+◌, ◌*◌, ◌%◌, ◌<◌, ◌≤◌, ◌^◌, Bool, true, false, List, [], ◌∷◌, ◌++◌, length, map, drop, get_or, refl, sym, ap, subst, arith, ◌∙◌, append_assoc}
 use Rattle.std.specs.List.{flat_map, AllByRecursion, range_with_len}
 use Rattle.std.proofs.lemmas.List.{append-nil}
-use Rattle.field_words.specs.Words.{u16_at, u32_at}
+use Rattle.field_words.specs.Words.{u32_at}
 use Rattle.field_words.specs.Pieces.{IsPiece, joined}
 use Rattle.field_words.proofs.Numbers.{u32_of_piece}
 use Rattle.buffer_table.specs.declared.buffer.Kind.{Kind}
@@ -10,12 +10,11 @@ use Rattle.buffer_table.specs.declared.buffer.Kind.TheVariants.{Plain, Code}
 use Rattle.buffer_table.specs.declared.buffer.Buffer.{Buffer}
 use Rattle.job_format.specs.Model.{JobModel, FileModel}
 use Rattle.job_format.specs.Text.{flag, word, kind_number, header_text, buffer_text, job_text, parts_text, file_text}
-use Rattle.job_format.specs.Faults.{magic}
 use Rattle.job_format.specs.Places.{job_place, content_size, content_place, handles_place, bin_place, records_place, uniforms_place, end_place}
-use Rattle.job_format.specs.Reading.{cut, kind_of, regions_at, entry_at, frame_at, words_at, buffers_at, contents_at, job_at, file_at}
-use Rattle.job_format.specs.File.{BufferFits, JobFits, Fits, FitsShader, IsJobWellFormed, IsWellFormed, IsFileOf}
+use Rattle.job_format.specs.Reading.{cut, regions_at, entry_at, words_at, buffers_at, contents_at, job_at, file_at}
+use Rattle.job_format.specs.File.{BufferFits, JobFits, FitsShader, IsJobWellFormed, IsFileOf}
 use Rattle.job_format.proofs.Entries.{buffer_back}
-use Rattle.job_format.proofs.Frames.{FrameReads, frame_long}
+use Rattle.job_format.proofs.Frames.{frame_long}
 use Rattle.job_format.proofs.Heads.{HeaderReads, JobReads, SizesFit, header_back, job_back}
 use Rattle.job_format.proofs.Passing.{Passes, EntryPasses}
 use Rattle.job_format.proofs.Standing.{content_place_first, content_place_step}
@@ -118,7 +117,7 @@ header_long f = refl
 
 job_long : (j : JobModel) → JobFits j → length (job_text j) ≡ 124
 unfolding job_text
-job_long j fits = let long = frame_long j.frame fits.frame in omega arith
+job_long j fits = let long = frame_long j.frame fits.entry.frame in omega arith
 
 -- What the bytes after the contents say.
 record PartsRead (bytes : List ℕ) (j : JobModel) : Type 0 where
@@ -134,7 +133,7 @@ parts_back bytes j fits r tail =
     let at : ℕ = job_place bytes in
     let rest : List ℕ = j.bin ++ (j.records ++ j.uniforms) in
     let first : IsTail bytes (handles_place bytes + 4 * 0) (flat_map word j.handles ++ rest) = subst (λ p. IsTail bytes p (flat_map word j.handles ++ rest)) (omega arith) tail in
-    let w = words_back bytes (handles_place bytes) 0 j.handles rest fits.handles first in
+    let w = words_back bytes (handles_place bytes) 0 j.handles rest fits.parts.handles first in
     let count = r.handles in
     let t1 : IsTail bytes (bin_place bytes) rest = subst (λ p. IsTail bytes p rest) (omega arith) w.1 in
     let bin = tail_front bytes (bin_place bytes) (u32_at bytes (at + 12)) j.bin (j.records ++ j.uniforms) (sym r.bin) t1 in
