@@ -64,27 +64,21 @@ frame_fits bytes at fits = record {
 job_fits : (bytes : List ℕ) → IsBytes bytes → JobFits (job_at bytes)
 unfolding job_at words_at
 job_fits bytes fits = record {
-  entry = record {
-    client = u32_fits bytes (job_place bytes) fits;
-    declared = u32_fits bytes (job_place bytes + 20) fits;
-    frame = frame_fits bytes (job_place bytes) fits;
-  };
-  parts = record {
-    handles = all_in (λ h. h < 2 ^ 32) (λ i. u32_at bytes (handles_place bytes + 4 * i)) 0 (u32_at bytes (job_place bytes + 8)) (λ k from to. u32_fits bytes (handles_place bytes + 4 * k) fits);
-    bin = cut_bytes bytes (bin_place bytes) (u32_at bytes (job_place bytes + 12)) fits;
-    records = cut_bytes bytes (records_place bytes) (u32_at bytes (job_place bytes + 16)) fits;
-    uniforms = cut_bytes bytes (uniforms_place bytes) (u32_at bytes (job_place bytes + 24)) fits;
-  };
+  client = u32_fits bytes (job_place bytes) fits;
+  handles = all_in (λ h. h < 2 ^ 32) (λ i. u32_at bytes (handles_place bytes + 4 * i)) 0 (u32_at bytes (job_place bytes + 8)) (λ k from to. u32_fits bytes (handles_place bytes + 4 * k) fits);
+  bin = cut_bytes bytes (bin_place bytes) (u32_at bytes (job_place bytes + 12)) fits;
+  records = cut_bytes bytes (records_place bytes) (u32_at bytes (job_place bytes + 16)) fits;
+  declared = u32_fits bytes (job_place bytes + 20) fits;
+  uniforms = cut_bytes bytes (uniforms_place bytes) (u32_at bytes (job_place bytes + 24)) fits;
+  frame = frame_fits bytes (job_place bytes) fits;
 }
 
 file_fits : (bytes : List ℕ) → IsBytes bytes → Fits (file_at bytes)
 unfolding file_at regions_at buffers_at contents_at
 file_fits bytes fits = record {
-  header = record {
-    version = u32_fits bytes 4 fits;
-    mem_size = u32_fits bytes 8 fits;
-    regions = record { lists_place = u32_fits bytes 12 fits; lists_size = u32_fits bytes 16 fits; tile_place = u32_fits bytes 20 fits; tile_slots = u32_fits bytes 24 fits };
-  };
+  version = u32_fits bytes 4 fits;
+  mem_size = u32_fits bytes 8 fits;
+  regions = record { lists_place = u32_fits bytes 12 fits; lists_size = u32_fits bytes 16 fits; tile_place = u32_fits bytes 20 fits; tile_slots = u32_fits bytes 24 fits };
   buffers = all_in BufferFits (λ b. entry_at bytes (36 + 20 * b)) 0 (u32_at bytes 28) (λ k from to. entry_fits bytes (36 + 20 * k) fits);
   contents = all_in IsBytes (λ b. cut bytes (content_place bytes b) (content_size bytes b)) 0 (u32_at bytes 28) (λ k from to. cut_bytes bytes (content_place bytes k) (content_size bytes k) fits);
   jobs = (job_fits bytes fits, tt);

@@ -38,9 +38,9 @@ header_piece bytes f fits inside r =
 
 pub header_back : (bytes : List ℕ) (f : FileModel) → Fits f → length f.buffers < 2 ^ 32 → length f.jobs < 2 ^ 32 → IsPiece bytes 0 36 (header_text f) → HeaderReads bytes f
 header_back bytes f fits few_buffers few_jobs piece =
-    let g = fits.header.regions in
+    let g = fits.regions in
     let all_fit : AllFit (header_fields f) =
-    (lit< tt, (fits.header.version, (fits.header.mem_size, (g.lists_place, (g.lists_size, (g.tile_place, (g.tile_slots, (few_buffers, (few_jobs, tt))))))))) in
+    (lit< tt, (fits.version, (fits.mem_size, (g.lists_place, (g.lists_size, (g.tile_place, (g.tile_slots, (few_buffers, (few_jobs, tt))))))))) in
     let r = read_back bytes 0 0 (header_fields f) all_fit (subst (λ text. IsPiece bytes 0 36 text) (header_text_is f) piece) in
     record {
       letters = r.0;
@@ -99,7 +99,7 @@ job_back bytes at j fits sizes piece =
     let moved : IsPiece bytes (at + 0) 124 (text_of_all (head_fields j) ++ frame_text j.frame) =
     subst (λ p. IsPiece bytes p 124 (text_of_all (head_fields j) ++ frame_text j.frame)) (sym (add-zero at)) (subst (λ text. IsPiece bytes at 124 text) (job_text_is j) piece) in
     let all_fit : AllFit (head_fields j) =
-    (fits.entry.client, (flag_fits j.frame.clear, (sizes.handles, (sizes.bin, (sizes.records, (fits.entry.declared, (sizes.uniforms, tt))))))) in
+    (fits.client, (flag_fits j.frame.clear, (sizes.handles, (sizes.bin, (sizes.records, (fits.declared, (sizes.uniforms, tt))))))) in
     let r = read_back bytes at 0 (head_fields j) all_fit (seam_front bytes at 0 28 96 (text_of_all (head_fields j)) (frame_text j.frame) refl moved) in
     record {
       client = ap (u32_at bytes) (sym (add-zero at)) ∙ r.0;
@@ -109,5 +109,5 @@ job_back bytes at j fits sizes piece =
       records = r.1.1.1.1.0;
       declared = r.1.1.1.1.1.0;
       uniforms = r.1.1.1.1.1.1.0;
-      frame = frame_back bytes at j.frame fits.entry.frame r.1.0 (seam_rest bytes at 0 28 96 (text_of_all (head_fields j)) (frame_text j.frame) refl moved);
+      frame = frame_back bytes at j.frame fits.frame r.1.0 (seam_rest bytes at 0 28 96 (text_of_all (head_fields j)) (frame_text j.frame) refl moved);
     }

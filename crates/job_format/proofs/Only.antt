@@ -117,7 +117,7 @@ header_long f = refl
 
 job_long : (j : JobModel) → JobFits j → length (job_text j) ≡ 124
 unfolding job_text
-job_long j fits = let long = frame_long j.frame fits.entry.frame in omega arith
+job_long j fits = let long = frame_long j.frame fits.frame in omega arith
 
 -- What the bytes after the contents say.
 record PartsRead (bytes : List ℕ) (j : JobModel) : Type 0 where
@@ -133,7 +133,7 @@ parts_back bytes j fits r tail =
     let at : ℕ = job_place bytes in
     let rest : List ℕ = j.bin ++ (j.records ++ j.uniforms) in
     let first : IsTail bytes (handles_place bytes + 4 * 0) (flat_map word j.handles ++ rest) = subst (λ p. IsTail bytes p (flat_map word j.handles ++ rest)) (omega arith) tail in
-    let w = words_back bytes (handles_place bytes) 0 j.handles rest fits.parts.handles first in
+    let w = words_back bytes (handles_place bytes) 0 j.handles rest fits.handles first in
     let count = r.handles in
     let t1 : IsTail bytes (bin_place bytes) rest = subst (λ p. IsTail bytes p rest) (omega arith) w.1 in
     let bin = tail_front bytes (bin_place bytes) (u32_at bytes (at + 12)) j.bin (j.records ++ j.uniforms) (sym r.bin) t1 in

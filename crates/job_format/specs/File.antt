@@ -49,6 +49,12 @@ pub record FrameFits (f : Frame) : Type 0 where
   pub clear_z : f.clear_z < 2 ^ 32
   pub clear_s : f.clear_s < 256
 
+-- What the header, a job's entry and its parts hold.
+pub record HeaderFits (f : FileModel) : Type 0 where
+  pub version : f.version < 2 ^ 32
+  pub mem_size : f.mem_size < 2 ^ 32
+  pub regions : RegionsFit f.regions
+
 pub record JobEntryFits (j : JobModel) : Type 0 where
   pub client : j.client < 2 ^ 32
   pub declared : j.declared < 2 ^ 32
@@ -60,17 +66,20 @@ pub record JobPartsFit (j : JobModel) : Type 0 where
   pub records : IsBytes j.records
   pub uniforms : IsBytes j.uniforms
 
+-- All numbers of a job, and of a file.
 pub record JobFits (j : JobModel) : Type 0 where
-  pub entry : JobEntryFits j
-  pub parts : JobPartsFit j
+  pub client : j.client < 2 ^ 32
+  pub handles : AllByRecursion (λ h. h < 2 ^ 32) j.handles
+  pub bin : IsBytes j.bin
+  pub records : IsBytes j.records
+  pub declared : j.declared < 2 ^ 32
+  pub uniforms : IsBytes j.uniforms
+  pub frame : FrameFits j.frame
 
-pub record HeaderFits (f : FileModel) : Type 0 where
+pub record Fits (f : FileModel) : Type 0 where
   pub version : f.version < 2 ^ 32
   pub mem_size : f.mem_size < 2 ^ 32
   pub regions : RegionsFit f.regions
-
-pub record Fits (f : FileModel) : Type 0 where
-  pub header : HeaderFits f
   pub buffers : AllByRecursion BufferFits f.buffers
   pub contents : AllByRecursion IsBytes f.contents
   pub jobs : AllByRecursion JobFits f.jobs

@@ -6,4 +6,4 @@ use Rattle.job_format.proofs.writing.write_job.Goals as goal
 pub returns-clause-again : goal.returns-clause-again
 returns-clause-again c =
     read_again c.in_ok-text.field-0.items (file_view c.args.file.now)
-      (record { fits = c.in_ok-text.ensures.fits; well_formed = c.requires; text = c.in_ok-text.ensures.text })
+    (record { fits = c.in_ok-text.ensures.fits; well_formed = c.requires; text = c.in_ok-text.ensures.text })
