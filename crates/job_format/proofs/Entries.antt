@@ -1,6 +1,6 @@
 -- A buffer's entry and its text, in both directions.
-use Rattle.std.proofs.Common.{◌≡◌, ℕ, zero, suc, ◌+◌, ◌*◌, ◌<◌, ◌≤◌, ◌^◌, Bool, true, false, ◌==◌, List, [], ◌∷◌, ◌++◌, length, lit<, refl, sym, ap, subst, arith, ◌∙◌, add-zero}
-use Rattle.field_words.specs.Words.{IsBytes, u16_at, u32_at}
+use Rattle.std.proofs.Common.{◌≡◌, ℕ, zero, suc, ◌+◌, ◌<◌, ◌≤◌, ◌^◌, List, [], ◌∷◌, length, lit<, refl, sym, ap, subst, arith, ◌∙◌, add-zero}
+use Rattle.field_words.specs.Words.{IsBytes, u32_at}
 use Rattle.field_words.specs.Pieces.{IsPiece}
 use Rattle.buffer_table.specs.declared.buffer.Kind.{Kind}
 use Rattle.buffer_table.specs.declared.buffer.Kind.TheVariants.{Plain, Code}
@@ -8,7 +8,7 @@ use Rattle.buffer_table.specs.declared.buffer.Buffer.{Buffer}
 use Rattle.job_format.specs.Text.{kind_number, buffer_text}
 use Rattle.job_format.specs.File.{BufferFits}
 use Rattle.job_format.specs.Reading.{kind_of, entry_at}
-use Rattle.job_format.proofs.Fields.{Field, Word, Half, Byte, widths, text_of_all, AreRead, AllFit, piece_of, read_back}
+use Rattle.job_format.proofs.Fields.{Field, Word, text_of_all, AllFit, piece_of, read_back}
 
 abbrev buffer_fields : Buffer → List Field
 buffer_fields b = Word b.place ∷ (Word b.size ∷ (Word b.client ∷ (Word (kind_number b.kind) ∷ (Word b.content ∷ []))))

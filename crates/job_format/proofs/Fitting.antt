@@ -1,15 +1,13 @@
 -- A file that is read from bytes has numbers that fit, and is well formed where no rule stands.
-use Rattle.std.proofs.Common.{◌≡◌, ℕ, zero, suc, ◌+◌, ◌*◌, ◌%◌, ◌<◌, ◌≤◌, ◌^◌, Bool, true, false, ◌==◌, List, [], ◌∷◌, length, map, take, drop, get_or, lit<, refl, sym, ap, subst, arith, ◌∙◌}
+use Rattle.std.proofs.Common.{◌≡◌, ℕ, zero, suc, ◌+◌, ◌*◌, ◌%◌, ◌<◌, ◌≤◌, ◌^◌, List, ◌∷◌, length, map, drop, refl, sym, ap, subst, arith, ◌∙◌}
 use Rattle.std.specs.List.{AllByRecursion, range_with_len}
-use Rattle.field_words.specs.Words.{IsBytes, u16_at, u32_at}
+use Rattle.field_words.specs.Words.{IsBytes, u32_at}
 use Rattle.field_words.proofs.Numbers.{u16_fits, u32_fits, front_bytes, rest_bytes}
-use Rattle.buffer_table.specs.declared.buffer.Kind.{Kind}
-use Rattle.buffer_table.specs.declared.buffer.Kind.TheVariants.{Plain, Code}
 use Rattle.job_format.specs.Places.{job_place, content_size, content_place, handles_place, bin_place, records_place, uniforms_place, end_place}
 use Rattle.job_format.specs.Reading.{cut, kind_of, regions_at, surface_at, entry_at, frame_at, words_at, buffers_at, contents_at, job_at, file_at}
-use Rattle.job_format.specs.File.{RegionsFit, BufferFits, SurfaceFits, FrameFits, JobFits, Fits, FitsShader, IsJobWellFormed, IsWellFormed, IsFileOf}
+use Rattle.job_format.specs.File.{BufferFits, SurfaceFits, FrameFits, JobFits, Fits, FitsShader, IsJobWellFormed, IsWellFormed, IsFileOf}
 use Rattle.job_format.proofs.Passing.{Passes}
-use Rattle.job_format.proofs.Standing.{content_place_step, content_ends}
+use Rattle.job_format.proofs.Standing.{content_ends}
 use Rattle.job_format.proofs.Found.{length_buffers, length_words, length_cut, handles_in, file_text_found}
 
 -- a fact of each item of a range

@@ -1,12 +1,11 @@
 -- Where no rule of the format stands, the bytes are the text of the file that they hold.
-use Rattle.std.proofs.Common.{◌≡◌, ℕ, zero, suc, ◌+◌, ◌-◌, ◌*◌, ◌%◌, ◌<◌, ◌≤◌, ◌^◌, Bool, true, false, ◌==◌, List, [], ◌∷◌, ◌++◌, length, map, take, drop, get_or, Option, None, refl, sym, ap, subst, arith, ◌∙◌, add-one, append_assoc, length-drop}
-use Rattle.std.specs.List.{flat_map, AllByRecursion, range_with_len}
-use Rattle.std.proofs.lemmas.List.{append-nil, length-map, length-take-le}
+use Rattle.std.proofs.Common.{◌≡◌, ℕ, zero, suc, ◌+◌, ◌*◌, ◌≤◌, ◌==◌, List, [], ◌∷◌, ◌++◌, length, drop, refl, sym, ap, subst, arith, ◌∙◌, add-one, append_assoc, length-drop}
+use Rattle.std.specs.List.{flat_map}
+use Rattle.std.proofs.lemmas.List.{append-nil, length-take-le}
 use Rattle.std.proofs.lemmas.List.FromFn.{length-map-range_with_len}
 use Rattle.std.proofs.lemmas.Grind.{flat_map-append}
-use Rattle.field_words.specs.Words.{IsBytes, u16_at, u32_at}
+use Rattle.field_words.specs.Words.{IsBytes, u32_at}
 use Rattle.field_words.specs.Pieces.{IsPiece, joined}
-use Rattle.field_words.specs.Questions.{first_of}
 use Rattle.field_words.proofs.Pieces.{join_two}
 use Rattle.field_words.proofs.Numbers.{u32_piece}
 use Rattle.job_format.specs.Model.{JobModel, FileModel}
@@ -14,11 +13,10 @@ use Rattle.job_format.specs.Text.{flag, word, header_text, buffer_text, job_text
 use Rattle.job_format.specs.Places.{job_place, content_size, content_place, handles_place, bin_place, records_place, uniforms_place, end_place}
 use Rattle.job_format.specs.Reading.{cut, regions_at, entry_at, frame_at, words_at, buffers_at, contents_at, job_at, file_at}
 use Rattle.job_format.proofs.Entries.{buffer_piece}
-use Rattle.job_format.proofs.Frames.{FrameReads}
 use Rattle.job_format.proofs.Heads.{HeaderReads, JobReads, header_piece, job_piece}
 use Rattle.job_format.proofs.Listed.{words_none, words_more, buffers_none, buffers_more, contents_none, contents_more}
 use Rattle.job_format.proofs.Passing.{Passes}
-use Rattle.job_format.proofs.Standing.{content_place_first, content_place_step, content_ends}
+use Rattle.job_format.proofs.Standing.{content_place_first, content_place_step}
 use Rattle.job_format.proofs.Tails.{IsTail, tail_join, tail_end, tail_whole}
 
 pub length_buffers : (bytes : List ℕ) (n : ℕ) → length (buffers_at bytes n) ≡ n

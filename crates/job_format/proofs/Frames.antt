@@ -1,15 +1,15 @@
 -- A frame in the job's entry and its text, in both directions.
-use Rattle.std.proofs.Common.{◌≡◌, ℕ, zero, suc, ◌+◌, ◌*◌, ◌<◌, ◌≤◌, ◌^◌, Bool, true, false, ◌==◌, List, [], ◌∷◌, ◌++◌, length, get_or, lit<, refl, sym, ap, subst, arith, ◌∙◌, add-zero, add_assoc}
-use Rattle.std.specs.List.{flat_map, AllByRecursion}
-use Rattle.field_words.specs.Words.{IsBytes, u16_at, u32_at}
+use Rattle.std.proofs.Common.{◌≡◌, ℕ, ◌+◌, ◌<◌, ◌≤◌, ◌^◌, Bool, true, false, ◌==◌, List, [], ◌∷◌, ◌++◌, length, get_or, lit<, refl, sym, ap, subst, arith, ◌∙◌, add-zero, add_assoc}
+use Rattle.std.specs.List.{AllByRecursion}
+use Rattle.field_words.specs.Words.{IsBytes, u32_at}
 use Rattle.field_words.specs.Pieces.{IsPiece}
 use Rattle.field_words.proofs.Pieces.{join_two, front_piece, rest_piece}
 use Rattle.job_format.specs.declared.file.Surface.{Surface}
 use Rattle.job_format.specs.declared.file.Frame.{Frame}
-use Rattle.job_format.specs.Text.{flag, word, surface_text, frame_text}
+use Rattle.job_format.specs.Text.{flag, surface_text, frame_text}
 use Rattle.job_format.specs.File.{SurfaceFits, FrameFits}
 use Rattle.job_format.specs.Reading.{surface_at, frame_at}
-use Rattle.job_format.proofs.Fields.{Field, Word, Half, Byte, widths, text_of_all, AreRead, AllFit, piece_of, read_back}
+use Rattle.job_format.proofs.Fields.{Field, Word, Half, Byte, text_of_all, AllFit, piece_of, read_back}
 
 -- Two pieces of an entry that stand one after the other, at offsets from the entry's start.
 pub seam : (bytes : List ℕ) (at k m n : ℕ) (one two : List ℕ) → IsPiece bytes (at + k) m one → IsPiece bytes (at + (k + m)) n two → IsPiece bytes (at + k) (m + n) (one ++ two)

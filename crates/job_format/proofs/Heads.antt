@@ -1,13 +1,12 @@
 -- The header and the job's entry, and their texts, in both directions.
-use Rattle.std.proofs.Common.{◌≡◌, ℕ, ◌+◌, ◌<◌, ◌≤◌, ◌^◌, Bool, true, false, List, [], ◌∷◌, ◌++◌, length, get_or, lit<, refl, sym, ap, subst, arith, ◌∙◌, add-zero}
+use Rattle.std.proofs.Common.{◌≡◌, ℕ, ◌+◌, ◌<◌, ◌≤◌, ◌^◌, Bool, true, false, List, [], ◌∷◌, ◌++◌, length, lit<, refl, sym, ap, subst, arith, ◌∙◌, add-zero}
 use Rattle.field_words.specs.Words.{IsBytes, u32_at}
 use Rattle.field_words.specs.Pieces.{IsPiece}
 use Rattle.job_format.specs.Model.{JobModel, FileModel}
 use Rattle.job_format.specs.Text.{flag, header_text, job_text, frame_text}
 use Rattle.job_format.specs.File.{JobFits, Fits}
 use Rattle.job_format.specs.Faults.{magic}
-use Rattle.job_format.specs.Reading.{frame_at}
-use Rattle.job_format.proofs.Fields.{Field, Word, Half, Byte, widths, text_of_all, AreRead, AllFit, piece_of, read_back}
+use Rattle.job_format.proofs.Fields.{Field, Word, text_of_all, AllFit, piece_of, read_back}
 use Rattle.job_format.proofs.Frames.{seam, seam_front, seam_rest, FrameReads, frame_piece, frame_back}
 
 abbrev header_fields : FileModel → List Field

@@ -1,5 +1,5 @@
 -- What the answer of the reader says of the bytes.
-use Rattle.std.proofs.Common.{◌≡◌, ℕ, List, Result, Ok, Err, Option, Some, None, IfOk, sym, ◌∙◌, subst}
+use Rattle.std.proofs.Common.{◌≡◌, ℕ, List, Result, Ok, Err, Some, None, IfOk, sym, ◌∙◌, subst}
 use Rattle.field_words.specs.declared.stop.Stop.{Stop}
 use Rattle.field_words.specs.declared.stop.Stop.TheVariants.{Fault, NoMemory}
 use Rattle.field_words.specs.Words.{IsBytes}
@@ -12,7 +12,7 @@ use Rattle.job_format.specs.Model.{FileModel, file_view}
 use Rattle.job_format.specs.Faults.{format_questions, unbuilt_questions, file_questions}
 use Rattle.job_format.specs.File.{IsFileOf, IsBuilt, Reads}
 use Rattle.job_format.specs.Reading.{file_at}
-use Rattle.job_format.proofs.Passing.{Passes, passes_all}
+use Rattle.job_format.proofs.Passing.{passes_all}
 use Rattle.job_format.proofs.Fitting.{is_file}
 use Rattle.job_format.proofs.Nones.{format_none, unbuilt_none}
 use Rattle.job_format.proofs.Only.{only_file}
@@ -39,3 +39,10 @@ pub only_by : (bytes : List ℕ) (result : Result JobFile (Stop FormatFault)) �
 only_by bytes (Ok file) answers f is built = answers.1 ∙ (file_none bytes f is built).1
 only_by bytes (Err (Fault fault)) answers f is built = let none = (file_none bytes f is built).0 in let wrong : Some fault ≡ None = sym answers ∙ none in cc
 only_by bytes (Err NoMemory) answers f is built = tt
+
+-- A file's text holds the file, and has no fault of the format.
+pub read_again : (bytes : List ℕ) (f : FileModel) → IsFileOf bytes f → (first_of (format_questions bytes) ≡ None) × (file_at bytes ≡ f)
+read_again bytes f is = let only = only_file bytes f is in (format_none bytes only.0, only.1)
+
+pub one_file : (bytes : List ℕ) (f g : FileModel) → IsFileOf bytes f → IsFileOf bytes g → f ≡ g
+one_file bytes f g is_f is_g = sym (only_file bytes f is_f).1 ∙ (only_file bytes g is_g).1

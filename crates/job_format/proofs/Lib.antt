@@ -4,6 +4,7 @@ pub mod Fitting
 pub mod Found
 pub mod Frames
 pub mod Heads
+pub mod Items
 pub mod Laws
 pub mod Listed
 pub mod Nones

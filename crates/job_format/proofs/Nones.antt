@@ -1,19 +1,16 @@
 -- Where the bytes are a file, no rule of the format stands.
-use Rattle.std.proofs.Common.{◌≡◌, ℕ, zero, suc, ◌+◌, ◌*◌, ◌%◌, ◌<◌, ◌≤◌, Bool, true, false, not, nat_lt, ◌==◌, ◌&&◌, List, [], ◌∷◌, ◌++◌, length, map, get_or, Option, None, refl, sym, ap, subst, arith, ◌∙◌, ◌⊎◌, inl, inr}
+use Rattle.std.proofs.Common.{◌≡◌, ℕ, zero, suc, ◌+◌, ◌*◌, ◌<◌, ◌≤◌, false, ◌==◌, List, ◌++◌, length, map, None, refl, sym, subst, arith, ◌∙◌, inl, inr}
 use Rattle.std.specs.List.{AllByRecursion, range_with_len}
 use Rattle.std.proofs.lemmas.Bool.{le-ltb}
 use Rattle.std.proofs.Math.Nat.{eq-or-lt_of_le}
 use Rattle.field_words.specs.Words.{u32_at}
-use Rattle.field_words.specs.Questions.{Question, first_of, NoneStands, each}
-use Rattle.field_words.proofs.Questions.{passes, stands_none, each_step}
-use Rattle.buffer_table.specs.declared.buffer.Kind.{Kind}
-use Rattle.buffer_table.specs.declared.buffer.Kind.TheVariants.{Plain, Code}
-use Rattle.job_format.specs.declared.rule.FormatFault.{FormatFault}
-use Rattle.job_format.specs.Model.{JobModel, FileModel}
-use Rattle.job_format.specs.Faults.{magic, header_questions, entry_questions, buffer_questions, job_questions, content_questions, parts_questions, body_questions, format_questions, code_questions, list_questions, unbuilt_questions}
-use Rattle.job_format.specs.Places.{job_place, content_size, content_place, handles_place, bin_place, records_place, uniforms_place, end_place}
-use Rattle.job_format.specs.Reading.{cut, kind_of, entry_at, buffers_at, job_at, file_at}
-use Rattle.job_format.specs.File.{IsFileOf, IsBuilt, IsJobBuilt}
+use Rattle.field_words.specs.Questions.{Question, first_of, each}
+use Rattle.field_words.proofs.Questions.{passes, stands_none}
+use Rattle.buffer_table.specs.declared.buffer.Kind.TheVariants.{Plain}
+use Rattle.job_format.specs.Faults.{header_questions, entry_questions, buffer_questions, job_questions, content_questions, parts_questions, body_questions, format_questions, code_questions, list_questions, unbuilt_questions}
+use Rattle.job_format.specs.Places.{job_place, bin_place, records_place, uniforms_place, end_place}
+use Rattle.job_format.specs.Reading.{kind_of, entry_at, buffers_at, job_at, file_at}
+use Rattle.job_format.specs.File.{IsBuilt}
 use Rattle.job_format.proofs.Found.{length_cut, handles_in}
 use Rattle.job_format.proofs.Passing.{HeaderPasses, EntryPasses, JobPasses, Passes}
 use Rattle.job_format.proofs.Standing.{content_ends}

@@ -1,8 +1,8 @@
 -- The text of a file that fits and is well formed: no rule of the format stands, and it holds that file.
-use Rattle.std.proofs.Common.{◌≡◌, ℕ, zero, suc, ◌+◌, ◌-◌, ◌*◌, ◌%◌, ◌<◌, ◌≤◌, ◌^◌, Bool, true, false, ◌==◌, List, [], ◌∷◌, ◌++◌, length, map, take, drop, get_or, lit<, refl, sym, ap, subst, arith, ◌∙◌, add-one, append_assoc}
+use Rattle.std.proofs.Common.{◌≡◌, ℕ, zero, suc, ◌+◌, ◌*◌, ◌%◌, ◌<◌, ◌≤◌, ◌^◌, Bool, true, false, List, [], ◌∷◌, ◌++◌, length, map, drop, get_or, refl, sym, ap, subst, arith, ◌∙◌, append_assoc}
 use Rattle.std.specs.List.{flat_map, AllByRecursion, range_with_len}
 use Rattle.std.proofs.lemmas.List.{append-nil}
-use Rattle.field_words.specs.Words.{u16_at, u32_at}
+use Rattle.field_words.specs.Words.{u32_at}
 use Rattle.field_words.specs.Pieces.{IsPiece, joined}
 use Rattle.field_words.proofs.Numbers.{u32_of_piece}
 use Rattle.buffer_table.specs.declared.buffer.Kind.{Kind}
@@ -10,12 +10,11 @@ use Rattle.buffer_table.specs.declared.buffer.Kind.TheVariants.{Plain, Code}
 use Rattle.buffer_table.specs.declared.buffer.Buffer.{Buffer}
 use Rattle.job_format.specs.Model.{JobModel, FileModel}
 use Rattle.job_format.specs.Text.{flag, word, kind_number, header_text, buffer_text, job_text, parts_text, file_text}
-use Rattle.job_format.specs.Faults.{magic}
 use Rattle.job_format.specs.Places.{job_place, content_size, content_place, handles_place, bin_place, records_place, uniforms_place, end_place}
-use Rattle.job_format.specs.Reading.{cut, kind_of, regions_at, entry_at, frame_at, words_at, buffers_at, contents_at, job_at, file_at}
-use Rattle.job_format.specs.File.{BufferFits, JobFits, Fits, FitsShader, IsJobWellFormed, IsWellFormed, IsFileOf}
+use Rattle.job_format.specs.Reading.{cut, regions_at, entry_at, words_at, buffers_at, contents_at, job_at, file_at}
+use Rattle.job_format.specs.File.{BufferFits, JobFits, FitsShader, IsJobWellFormed, IsFileOf}
 use Rattle.job_format.proofs.Entries.{buffer_back}
-use Rattle.job_format.proofs.Frames.{FrameReads, frame_long}
+use Rattle.job_format.proofs.Frames.{frame_long}
 use Rattle.job_format.proofs.Heads.{HeaderReads, JobReads, SizesFit, header_back, job_back}
 use Rattle.job_format.proofs.Passing.{Passes, EntryPasses}
 use Rattle.job_format.proofs.Standing.{content_place_first, content_place_step}

@@ -1,12 +1,12 @@
 -- What each part of a file has where no rule of the format stands.
-use Rattle.std.proofs.Common.{◌≡◌, ℕ, ◌+◌, ◌*◌, ◌%◌, ◌<◌, ◌≤◌, Bool, true, false, not, nat_lt, ◌==◌, List, [], ◌∷◌, ◌++◌, length, Option, None, get_or, subst, arith, zero-add}
+use Rattle.std.proofs.Common.{◌≡◌, ℕ, ◌+◌, ◌*◌, ◌%◌, ◌<◌, ◌≤◌, List, ◌++◌, length, None, get_or, subst, arith, zero-add}
 use Rattle.field_words.specs.Words.{u32_at}
-use Rattle.field_words.specs.Questions.{Question, first_of, NoneStands, each}
+use Rattle.field_words.specs.Questions.{Question, first_of, each}
 use Rattle.field_words.proofs.Questions.{none_stands}
 use Rattle.buffer_table.proofs.Asked.{front_none, rest_none, each_none}
 use Rattle.job_format.specs.Faults.{magic, header_questions, entry_questions, buffer_questions, job_questions, content_questions, parts_questions, body_questions, format_questions}
 use Rattle.job_format.specs.declared.rule.FormatFault.{FormatFault}
-use Rattle.job_format.specs.Places.{job_place, content_size, content_place, handles_place, bin_place, records_place, uniforms_place, end_place}
+use Rattle.job_format.specs.Places.{job_place, end_place}
 use Rattle.job_format.specs.Whole.{HasParts}
 
 -- the header's facts

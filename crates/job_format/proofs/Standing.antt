@@ -1,5 +1,5 @@
 -- Where the parts stand.
-use Rattle.std.proofs.Common.{◌≡◌, ◌<◌, ◌≤◌, ℕ, zero, suc, ◌+◌, ◌-◌, ◌*◌, List, length, refl, ap, subst, sym, ◌∙◌, add-one, add-zero, arith}
+use Rattle.std.proofs.Common.{◌≡◌, ◌<◌, ◌≤◌, ℕ, zero, suc, ◌+◌, ◌-◌, List, length, refl, ap, subst, ◌∙◌, add-one, add-zero, arith}
 use Rattle.field_words.specs.Words.{u32_at}
 use Rattle.job_format.specs.Places.{job_place, content_size, content_place, handles_place, bin_place, records_place, uniforms_place, end_place}
 use Rattle.job_format.specs.Whole.{HasParts}

@@ -1,6 +1,6 @@
 -- When bytes are a job file of version 1: they are its text, its numbers fit their fields, and it
 -- is well formed.
-use Rattle.std.specs.Prelude.{◌≡◌, ℕ, ◌+◌, ◌*◌, ◌%◌, ◌≤◌, ◌<◌, ◌^◌, List, length, map, Result, Ok, Err}
+use Rattle.std.specs.Prelude.{◌≡◌, ℕ, ◌%◌, ◌≤◌, ◌<◌, ◌^◌, List, length, map, Result, Ok, Err}
 use Rattle.std.specs.List.{AllByRecursion}
 use Rattle.field_words.specs.Words.{IsBytes}
 use Rattle.buffer_table.specs.declared.buffer.Kind.{Kind}
@@ -49,6 +49,24 @@ pub record FrameFits (f : Frame) : Type 0 where
   pub clear_z : f.clear_z < 2 ^ 32
   pub clear_s : f.clear_s < 256
 
+-- What the header, a job's entry and its parts hold.
+pub record HeaderFits (f : FileModel) : Type 0 where
+  pub version : f.version < 2 ^ 32
+  pub mem_size : f.mem_size < 2 ^ 32
+  pub regions : RegionsFit f.regions
+
+pub record JobEntryFits (j : JobModel) : Type 0 where
+  pub client : j.client < 2 ^ 32
+  pub declared : j.declared < 2 ^ 32
+  pub frame : FrameFits j.frame
+
+pub record JobPartsFit (j : JobModel) : Type 0 where
+  pub handles : AllByRecursion (λ h. h < 2 ^ 32) j.handles
+  pub bin : IsBytes j.bin
+  pub records : IsBytes j.records
+  pub uniforms : IsBytes j.uniforms
+
+-- All numbers of a job, and of a file.
 pub record JobFits (j : JobModel) : Type 0 where
   pub client : j.client < 2 ^ 32
   pub handles : AllByRecursion (λ h. h < 2 ^ 32) j.handles

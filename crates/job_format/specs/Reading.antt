@@ -1,6 +1,6 @@
 -- The file that bytes hold, field by field, each at its place. Where no rule of the format stands
 -- this is the one file whose text the bytes are.
-use Rattle.std.specs.Prelude.{◌≡◌, ℕ, ◌+◌, ◌*◌, Bool, true, false, ◌==◌, List, [], ◌∷◌, map, take, drop, slice_index, if◌then◌else◌}
+use Rattle.std.specs.Prelude.{ℕ, ◌+◌, ◌*◌, ◌==◌, List, [], ◌∷◌, map, take, drop, slice_index, if◌then◌else◌}
 use Rattle.std.specs.List.{range_with_len}
 use Rattle.field_words.specs.Words.{u16_at, u32_at}
 use Rattle.buffer_table.specs.declared.buffer.Kind.{Kind}

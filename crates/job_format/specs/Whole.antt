@@ -1,7 +1,7 @@
 -- The parts of a file that the first format rules leave inside it.
-use Rattle.std.specs.Prelude.{◌≡◌, ℕ, ◌+◌, ◌*◌, ◌≤◌, List, length}
+use Rattle.std.specs.Prelude.{◌≡◌, ℕ, ◌+◌, ◌≤◌, List, length}
 use Rattle.field_words.specs.Words.{u32_at}
-use Rattle.job_format.specs.Places.{job_place, content_place, handles_place, bin_place, records_place, uniforms_place, end_place}
+use Rattle.job_format.specs.Places.{job_place, end_place}
 
 pub record HasParts (bytes : List ℕ) : Type 0 where
   pub buffers : u32_at bytes 28 ≤ 64

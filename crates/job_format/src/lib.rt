@@ -12,3 +12,7 @@ mod writing;
 pub use file::{Frame, Job, JobFile, Surface};
 pub use reading::read_job;
 pub use rule::{FormatFault, Refusal, Rule, Stage};
+pub use writing::{one_file_a_text, write_job};
+
+#[cfg(test)]
+mod tests;

@@ -1,10 +1,14 @@
 //! The text of a job file.
-ghost use Rattle.std.specs.Prelude.{◌≡◌, ◌≤◌, ◌<◌, ◌^◌, ◌++◌, length, map, OnOk, IfOk};
+ghost use Rattle.std.specs.Prelude.{◌≡◌, ◌≤◌, ◌<◌, ◌^◌, ◌++◌, ℕ, List, None, length, map, OnOk, IfOk};
 ghost use Rattle.std.specs.List.{flat_map, AllByRecursion};
+ghost use Rattle.field_words.specs.Words.{IsBytes};
 ghost use Rattle.field_words.specs.Pieces.{joined};
-ghost use Rattle.job_format.specs.Model.{job_view, file_view};
+ghost use Rattle.job_format.specs.Model.{FileModel, job_view, file_view};
 ghost use Rattle.job_format.specs.Text.{word, half, kind_number, header_text, buffer_text, surface_text, frame_text, job_text, parts_text, file_text};
-ghost use Rattle.job_format.specs.File.{IsJobWellFormed, IsWellFormed};
+ghost use Rattle.field_words.specs.Questions.{first_of};
+ghost use Rattle.job_format.specs.Faults.{format_questions};
+ghost use Rattle.job_format.specs.Reading.{file_at};
+ghost use Rattle.job_format.specs.File.{HeaderFits, BufferFits, SurfaceFits, FrameFits, JobEntryFits, JobPartsFit, Fits, IsJobWellFormed, IsWellFormed, IsFileOf};
 
 use crate::file::{Frame, Job, JobFile, Surface};
 use buffer_table::{Buffer, Kind};
@@ -15,7 +19,8 @@ use std::alloc::{AllocError, Global};
 const MAGIC: u32 = 0x4a34_4356;
 
 fn put_words(out: &mut Vec<u8>, words: &[u32]) -> Result<(), AllocError>
-    ensures { OnOk result (out.new.items ≡ out.old.items ++ flat_map word words.now) }
+    ensures text { OnOk result (out.new.items ≡ out.old.items ++ flat_map word words.now) }
+    ensures fits { AllByRecursion (λ w. w < 2 ^ 32) words.now }
 {
     for n in words {
         out.extend_from_slice(&n.to_le_bytes())?;
@@ -24,9 +29,18 @@ fn put_words(out: &mut Vec<u8>, words: &[u32]) -> Result<(), AllocError>
 }
 
 fn put_half(out: &mut Vec<u8>, n: u16) -> Result<(), AllocError>
-    ensures { OnOk result (out.new.items ≡ out.old.items ++ half n) }
+    ensures text { OnOk result (out.new.items ≡ out.old.items ++ half n) }
+    ensures fits { n < 2 ^ 16 }
 {
     out.extend_from_slice(&n.to_le_bytes())?;
+    Ok(())
+}
+
+fn put_bytes(out: &mut Vec<u8>, bytes: &[u8]) -> Result<(), AllocError>
+    ensures text { OnOk result (out.new.items ≡ out.old.items ++ bytes.now) }
+    ensures fits { IsBytes bytes.now }
+{
+    out.extend_from_slice(bytes)?;
     Ok(())
 }
 
@@ -34,7 +48,8 @@ fn put_half(out: &mut Vec<u8>, n: u16) -> Result<(), AllocError>
 fn put_header(out: &mut Vec<u8>, file: &JobFile) -> Result<(), AllocError>
     requires buffers { length file.now.buffers.items ≤ 64 }
     requires jobs { length file.now.jobs.items ≤ 64 }
-    ensures { OnOk result (out.new.items ≡ out.old.items ++ header_text (file_view file.now)) }
+    ensures text { OnOk result (out.new.items ≡ out.old.items ++ header_text (file_view file.now)) }
+    ensures fits { HeaderFits (file_view file.now) }
 {
     put_words(
         out,
@@ -63,7 +78,8 @@ fn number_of(kind: Kind) -> u32
 
 #[tactic(auto, unfolding(crate::specs::Text::buffer_text))]
 fn put_buffer(out: &mut Vec<u8>, buffer: &Buffer) -> Result<(), AllocError>
-    ensures { OnOk result (out.new.items ≡ out.old.items ++ buffer_text buffer.now) }
+    ensures text { OnOk result (out.new.items ≡ out.old.items ++ buffer_text buffer.now) }
+    ensures fits { BufferFits buffer.now }
 {
     put_words(
         out,
@@ -79,7 +95,8 @@ fn put_buffer(out: &mut Vec<u8>, buffer: &Buffer) -> Result<(), AllocError>
 
 #[tactic(auto, unfolding(crate::specs::Text::surface_text))]
 fn put_surface(out: &mut Vec<u8>, surface: &Surface) -> Result<(), AllocError>
-    ensures { OnOk result (out.new.items ≡ out.old.items ++ surface_text surface.now) }
+    ensures text { OnOk result (out.new.items ≡ out.old.items ++ surface_text surface.now) }
+    ensures fits { OnOk result (SurfaceFits surface.now) }
 {
     put_words(out, &[surface.hindex, surface.offset])?;
     put_half(out, surface.bits)?;
@@ -87,7 +104,8 @@ fn put_surface(out: &mut Vec<u8>, surface: &Surface) -> Result<(), AllocError>
 }
 
 fn put_surfaces(out: &mut Vec<u8>, surfaces: &[Surface]) -> Result<(), AllocError>
-    ensures { OnOk result (out.new.items ≡ out.old.items ++ flat_map surface_text surfaces.now) }
+    ensures text { OnOk result (out.new.items ≡ out.old.items ++ flat_map surface_text surfaces.now) }
+    ensures fits { OnOk result (AllByRecursion SurfaceFits surfaces.now) }
 {
     for surface in surfaces {
         put_surface(out, surface)?;
@@ -95,24 +113,42 @@ fn put_surfaces(out: &mut Vec<u8>, surfaces: &[Surface]) -> Result<(), AllocErro
     Ok(())
 }
 
+fn put_six(out: &mut Vec<u8>, surfaces: &[Surface; 6]) -> Result<(), AllocError>
+    ensures text { OnOk result (out.new.items ≡ out.old.items ++ flat_map surface_text surfaces.now) }
+    ensures fits { OnOk result (AllByRecursion SurfaceFits surfaces.now) }
+    ensures six { length surfaces.now ≡ 6 }
+{
+    put_surfaces(out, surfaces)
+}
+
+fn put_colors(out: &mut Vec<u8>, colors: &[u32; 2]) -> Result<(), AllocError>
+    ensures text { OnOk result (out.new.items ≡ out.old.items ++ flat_map word colors.now) }
+    ensures fits { AllByRecursion (λ w. w < 2 ^ 32) colors.now }
+    ensures two { length colors.now ≡ 2 }
+{
+    put_words(out, colors)
+}
+
 #[tactic(auto, unfolding(crate::specs::Text::frame_text))]
 fn put_frame(out: &mut Vec<u8>, frame: &Frame) -> Result<(), AllocError>
-    ensures { OnOk result (out.new.items ≡ out.old.items ++ frame_text frame.now) }
+    ensures text { OnOk result (out.new.items ≡ out.old.items ++ frame_text frame.now) }
+    ensures fits { OnOk result (FrameFits frame.now) }
 {
     put_half(out, frame.width)?;
     put_half(out, frame.height)?;
-    out.extend_from_slice(&[frame.min_x, frame.min_y, frame.max_x, frame.max_y])?;
-    put_surfaces(out, &frame.surfaces)?;
-    put_words(out, &frame.clear_color)?;
+    put_bytes(out, &[frame.min_x, frame.min_y, frame.max_x, frame.max_y])?;
+    put_six(out, &frame.surfaces)?;
+    put_colors(out, &frame.clear_color)?;
     put_words(out, &[frame.clear_z])?;
-    out.extend_from_slice(&[frame.clear_s, 0, 0, 0])?;
+    put_bytes(out, &[frame.clear_s, 0, 0, 0])?;
     Ok(())
 }
 
 #[tactic(auto, unfolding(crate::specs::Text::job_text))]
 fn put_job(out: &mut Vec<u8>, job: &Job) -> Result<(), AllocError>
     requires { IsJobWellFormed (job_view job.now) }
-    ensures { OnOk result (out.new.items ≡ out.old.items ++ job_text (job_view job.now)) }
+    ensures text { OnOk result (out.new.items ≡ out.old.items ++ job_text (job_view job.now)) }
+    ensures fits { OnOk result (JobEntryFits (job_view job.now)) }
 {
     put_words(
         out,
@@ -131,11 +167,85 @@ fn put_job(out: &mut Vec<u8>, job: &Job) -> Result<(), AllocError>
 
 #[tactic(auto, unfolding(crate::specs::Text::parts_text))]
 fn put_parts(out: &mut Vec<u8>, job: &Job) -> Result<(), AllocError>
-    ensures { OnOk result (out.new.items ≡ out.old.items ++ parts_text (job_view job.now)) }
+    ensures text { OnOk result (out.new.items ≡ out.old.items ++ parts_text (job_view job.now)) }
+    ensures fits { OnOk result (JobPartsFit (job_view job.now)) }
 {
     put_words(out, &job.handles)?;
-    out.extend_from_slice(&job.bin)?;
-    out.extend_from_slice(&job.records)?;
-    out.extend_from_slice(&job.uniforms)?;
+    put_bytes(out, &job.bin)?;
+    put_bytes(out, &job.records)?;
+    put_bytes(out, &job.uniforms)
+}
+
+fn put_buffers(out: &mut Vec<u8>, buffers: &[Buffer]) -> Result<(), AllocError>
+    ensures text { OnOk result (out.new.items ≡ out.old.items ++ flat_map buffer_text buffers.now) }
+    ensures fits { OnOk result (AllByRecursion BufferFits buffers.now) }
+{
+    for buffer in buffers {
+        put_buffer(out, buffer)?;
+    }
     Ok(())
 }
+
+fn put_jobs(out: &mut Vec<u8>, jobs: &[Job]) -> Result<(), AllocError>
+    requires { AllByRecursion IsJobWellFormed (map job_view jobs.now) }
+    ensures text { OnOk result (out.new.items ≡ out.old.items ++ flat_map job_text (map job_view jobs.now)) }
+    ensures fits { OnOk result (AllByRecursion JobEntryFits (map job_view jobs.now)) }
+{
+    for job in jobs {
+        put_job(out, job)?;
+    }
+    Ok(())
+}
+
+fn put_contents(out: &mut Vec<u8>, contents: &[Vec<u8>]) -> Result<(), AllocError>
+    ensures text { OnOk result (out.new.items ≡ out.old.items ++ joined (map (λ c. c.items) contents.now)) }
+    ensures fits { OnOk result (AllByRecursion IsBytes (map (λ c. c.items) contents.now)) }
+{
+    for content in contents {
+        put_bytes(out, content)?;
+    }
+    Ok(())
+}
+
+fn put_all_parts(out: &mut Vec<u8>, jobs: &[Job]) -> Result<(), AllocError>
+    ensures text { OnOk result (out.new.items ≡ out.old.items ++ flat_map parts_text (map job_view jobs.now)) }
+    ensures fits { OnOk result (AllByRecursion JobPartsFit (map job_view jobs.now)) }
+{
+    for job in jobs {
+        put_parts(out, job)?;
+    }
+    Ok(())
+}
+
+#[tactic(auto, unfolding(crate::specs::Text::file_text))]
+fn text(alloc: Global, file: &JobFile) -> Result<Vec<u8>, AllocError>
+    requires { IsWellFormed (file_view file.now) }
+    ensures text { IfOk result (λ v. v.items ≡ file_text (file_view file.now)) }
+    ensures fits { IfOk result (λ _. Fits (file_view file.now)) }
+{
+    let mut out = Vec::new(alloc);
+    put_header(&mut out, file)?;
+    put_buffers(&mut out, &file.buffers)?;
+    put_jobs(&mut out, &file.jobs)?;
+    put_contents(&mut out, &file.contents)?;
+    put_all_parts(&mut out, &file.jobs)?;
+    Ok(out)
+}
+
+/// The text of a job file.
+pub fn write_job(alloc: Global, file: &JobFile) -> Result<Vec<u8>, NoMemory>
+    requires { IsWellFormed (file_view file.now) }
+    ensures text { IfOk result (λ v. v.items ≡ file_text (file_view file.now)) }
+    // The bytes spell the file,
+    ensures spells { IfOk result (λ v. IsFileOf v.items (file_view file.now)) }
+    // so reading them gives the file again, wherever it uses no part that is not built yet.
+    ensures again { IfOk result (λ v. (first_of (format_questions v.items) ≡ None) × (file_at v.items ≡ file_view file.now)) }
+{
+    Ok(text(alloc, file)?)
+}
+
+/// At most one file belongs to a text.
+#[tactic(auto, using(crate::proofs::Laws::one_file))]
+pub fn one_file_a_text()
+    ensures { (bytes : List ℕ) (f g : FileModel) → IsFileOf bytes f → IsFileOf bytes g → f ≡ g }
+{}

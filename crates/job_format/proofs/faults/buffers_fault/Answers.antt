@@ -1,5 +1,5 @@
 -- An entry without a fault leaves the decision to those after it; the first fault ends it.
-use Rattle.std.proofs.Common.{◌≡◌, sym, ◌∙◌, arith}
+use Rattle.std.proofs.Common.{sym, ◌∙◌, arith}
 use Rattle.field_words.proofs.Questions.{each_on, each_stop, each_end}
 use Rattle.job_format.specs.Faults.{buffer_questions}
 use Rattle.job_format.proofs.faults.buffers_fault.Goals as goal

@@ -1,8 +1,7 @@
 -- The contents of a buffer end before those of the last do, and so inside the file.
-use Rattle.std.proofs.Common.{◌≡◌, ◌+◌, ◌≤◌, ◌++◌, [], ◌∷◌, List, ℕ, length, map, ap, sym, ◌∙◌, arith}
-use Rattle.std.proofs.lemmas.Grind.{common_steps}
+use Rattle.std.proofs.Common.{◌≡◌, ◌+◌, ap, sym, ◌∙◌, arith}
 use Rattle.job_format.specs.Places.{content_place, content_size}
-use Rattle.job_format.specs.Reading.{cut, contents_at}
+use Rattle.job_format.specs.Reading.{cut}
 use Rattle.job_format.proofs.Standing.{content_ends, content_place_step}
 use Rattle.job_format.proofs.Listed.{contents_next}
 use Rattle.job_format.proofs.reading.contents.Goals as goal

@@ -1,5 +1,5 @@
 -- A Plain buffer leaves the decision to those after it; the first Code buffer ends it.
-use Rattle.std.proofs.Common.{◌≡◌, sym, ◌∙◌}
+use Rattle.std.proofs.Common.{sym, ◌∙◌}
 use Rattle.field_words.proofs.Questions.{each_on, each_stop, each_end}
 use Rattle.job_format.specs.Faults.{code_questions}
 use Rattle.job_format.proofs.unbuilt.codes_fault.Goals as goal
