@@ -13,3 +13,6 @@ mod whole;
 
 pub use check::check_shader;
 pub use fault::ShaderFault;
+
+#[cfg(test)]
+mod tests;
