@@ -1,13 +1,18 @@
-// A library with one function.
+//! The shader checker: which shaders may run, and what an accepted one takes and reads.
+//!
+//! A shader from a stranger may branch, switch threads, set its uniforms' address and read memory. The rules S1 to S27 refuse
+//! whatever the checker can't follow: `Rules` in `specs/` has those on facts and on the whole shader, and all of them in the
+//! order of refusal; the crates below have the others. `Info` says what is told of an accepted shader.
 #![tactic(auto)]
 
-ghost use Rattle.std.specs.Prelude.{◌≡◌};
-ghost use Rattle.shader_check.specs.Echo.{echo_of};
+mod check;
+mod facts;
+mod fault;
+mod samples;
+mod whole;
 
-// The `ensures` clause is the contract: what `echo` returns is `echo_of` of its argument, a definition
-// in `specs/Echo.antt`, which a caller's clause can cite too.
-pub fn echo(x: usize) -> usize
-    ensures { result ≡ echo_of x }
-{
-    x
-}
+pub use check::check_shader;
+pub use fault::ShaderFault;
+
+#[cfg(test)]
+mod tests;

@@ -5,7 +5,7 @@ use Rattle.qpu_isa.specs.Word.{sig_of, mode_of, imm_of, relative_of, register_of
 use Rattle.qpu_isa.specs.Terms.{is_branch, is_switch, is_load_imm}
 use Rattle.shader_flow.specs.Flow.{word, end_of, in_slots, after_switch, leads_outside}
 
--- a breakpoint, the last thread's end, a coverage load, or a colour load and end: signals that no shader needs
+-- a breakpoint, a coverage load, a colour load and end, or an alpha mask load: signals that no shader needs
 unfoldable pub s3 : List ℕ → ℕ → Bool
 s3 code i =
     (sig_of (word code i) == 0 || sig_of (word code i) == 7) || (sig_of (word code i) == 9 || sig_of (word code i) == 12)

@@ -1,5 +1,5 @@
 -- One more instruction: setup words and uniforms after it.
-use Rattle.std.proofs.Common.{◌≡◌, ◌≤◌, ◌<◌, ◌+◌, ℕ, suc, true, false, List, if◌then◌else◌, refl, ap, arith, ◌∙◌, nat_lt}
+use Rattle.std.proofs.Common.{◌≡◌, ◌≤◌, ◌<◌, ◌+◌, ℕ, zero, suc, true, false, List, if◌then◌else◌, refl, ap, arith, ◌∙◌, nat_lt}
 use Rattle.std.proofs.lemmas.Bool.{lt-ltb, le-ltb}
 use Rattle.qpu_isa.specs.Terms.{writes_s, tmu_writes}
 use Rattle.shader_flow.specs.Flow.{word, checked_of}
@@ -52,3 +52,9 @@ count_taken code i taken = count_next code i ∙ ap (λ b. count_of code i + (if
 
 pub count_same : (code : List ℕ) (i : ℕ) → takes code i ≡ false → count_of code (i + 1) ≡ count_of code i
 count_same code i none = let e = count_next code i ∙ ap (λ b. count_of code i + (if b then 1 else 0)) none in omega (arith, e)
+
+-- at most one uniform is taken by each instruction
+pub count_le : (code : List ℕ) (i : ℕ) → count_of code i ≤ i
+unfolding count_of
+count_le code zero = omega arith
+count_le code (suc i) = grind (arith, count_le code i)

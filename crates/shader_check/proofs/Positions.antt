@@ -1,0 +1,136 @@
+-- What a TMU keeps after one more instruction, and the clamp of a direct sample.
+use Rattle.std.proofs.Common.{◌≡◌, ◌<◌, ◌+◌, ℕ, suc, Bool, true, false, List, [], ◌∷◌, ◌++◌, map, Option, Some, None, slice_get, if◌then◌else◌, refl, sym, ap, subst, arith, ◌∙◌, nat_lt}
+use Rattle.std.proofs.lemmas.Bool.{and_from, and_right, lt-ltb}
+use Rattle.std.proofs.lemmas.List.{map-append}
+use Rattle.qpu_isa.specs.declared.inst.Reg.{Reg}
+use Rattle.qpu_isa.specs.Word.{add_a_of}
+use Rattle.qpu_isa.specs.Terms.{writes_s, writes_tmu, is_register_operand, operand_register}
+use Rattle.shader_flow.specs.Flow.{word, checked_of}
+use Rattle.clamp_facts.specs.Facts.{clamps, is_clamped, clamp_index}
+use Rattle.clamp_facts.proofs.Carriers.{clamped_is, clamped_not, clamp_index_is}
+use Rattle.shader_check.specs.Info.{kept, held, clamp_parts, padded, sample_tmu, sample_parts, sample_of, is_direct_sample, asks, is_sample}
+use Rattle.shader_flow.specs.Bounded.{indexes}
+use Rattle.shader_flow.proofs.Bounded.{indexes_here, indexes_not}
+use Rattle.uniform_stream.specs.Pending.{count_of}
+use Rattle.qpu_isa.specs.declared.inst.Sample.{Sample}
+use Rattle.std.specs.Option.{option_to_list}
+
+pub held_next : (code : List ℕ) (tmu i : ℕ) → i < checked_of code → held code tmu (i + 1) ≡ kept (word code i) tmu i (held code tmu i)
+unfolding held
+held_next code tmu i inside =
+    let e : i + 1 ≡ suc i = omega arith in
+    ap (held code tmu) e ∙ ap (λ b. if b then kept (word code i) tmu i (held code tmu i) else held code tmu i) (lt-ltb i (checked_of code) inside)
+
+pub held_sent : (code : List ℕ) (f : ℕ → ℕ) (tmu i : ℕ) → i < checked_of code → writes_s (word code i) tmu ≡ true → map f (held code tmu (i + 1)) ≡ []
+unfolding kept
+held_sent code f tmu i inside sent =
+    ap (map f) (held_next code tmu i inside)
+    ∙ ap (λ b. map f (if b then [] else (if writes_tmu (word code i) tmu then held code tmu i ++ (i ∷ []) else held code tmu i))) sent
+
+pub held_more : (code : List ℕ) (f : ℕ → ℕ) (tmu i : ℕ) → i < checked_of code → writes_s (word code i) tmu ≡ false → writes_tmu (word code i) tmu ≡ true
+    → map f (held code tmu (i + 1)) ≡ map f (held code tmu i) ++ (f i ∷ [])
+unfolding kept
+held_more code f tmu i inside kept-on written =
+    ap (map f) (held_next code tmu i inside)
+    ∙ ap (λ b. map f (if b then [] else (if writes_tmu (word code i) tmu then held code tmu i ++ (i ∷ []) else held code tmu i))) kept-on
+    ∙ ap (λ b. map f (if b then held code tmu i ++ (i ∷ []) else held code tmu i)) written
+    ∙ map-append f (held code tmu i) (i ∷ [])
+
+pub held_same : (code : List ℕ) (f : ℕ → ℕ) (tmu i : ℕ) → i < checked_of code → writes_s (word code i) tmu ≡ false → writes_tmu (word code i) tmu ≡ false
+    → map f (held code tmu (i + 1)) ≡ map f (held code tmu i)
+unfolding kept
+held_same code f tmu i inside kept-on untouched =
+    ap (map f) (held_next code tmu i inside)
+    ∙ ap (λ b. map f (if b then [] else (if writes_tmu (word code i) tmu then held code tmu i ++ (i ∷ []) else held code tmu i))) kept-on
+    ∙ ap (λ b. map f (if b then held code tmu i ++ (i ∷ []) else held code tmu i)) untouched
+
+-- the clamp of the first operand
+abbrev pub first_register : List ℕ → ℕ → Reg
+first_register code i = operand_register (word code i) (add_a_of (word code i))
+
+pub clamp_parts_one : (code : List ℕ) (i j : ℕ) → is_register_operand (word code i) (add_a_of (word code i)) ≡ true
+    → clamps code j i (first_register code i) ≡ true → clamp_parts code i ≡ j ∷ []
+unfolding clamp_parts
+clamp_parts_one code i j register clamp =
+    ap (λ b. if b then clamp_index code i (first_register code i) ∷ [] else [])
+    (and_from (is_register_operand (word code i) (add_a_of (word code i))) (is_clamped code i (first_register code i)) register
+    (clamped_is code j i (first_register code i) clamp))
+    ∙ ap (λ k. k ∷ []) (clamp_index_is code j i (first_register code i) clamp)
+
+pub clamp_parts_none : (code : List ℕ) (i : ℕ) → ((j : ℕ) → clamps code j i (first_register code i) ≡ false) → clamp_parts code i ≡ []
+unfolding clamp_parts
+clamp_parts_none code i none =
+    ap (λ b. if b then clamp_index code i (first_register code i) ∷ [] else [])
+    (and_right (is_register_operand (word code i) (add_a_of (word code i))) (is_clamped code i (first_register code i))
+    (clamped_not code i (first_register code i) none))
+
+-- the same, where the register was asked for by its selector
+pub bound_one : (code : List ℕ) (i j : ℕ) (reg : Reg) (first second : ℕ) → is_register_operand (word code i) first ≡ true → first ≡ add_a_of (word code i)
+    → reg ≡ operand_register (word code i) second → second ≡ add_a_of (word code i) → clamps code j i reg ≡ true → clamp_parts code i ≡ j ∷ []
+bound_one code i j reg first second register first-is reg-is second-is clamp =
+    let same = reg-is ∙ ap (operand_register (word code i)) second-is in
+    clamp_parts_one code i j (subst (λ s. is_register_operand (word code i) s ≡ true) first-is register) (subst (λ r. clamps code j i r ≡ true) same clamp)
+
+pub bound_none : (code : List ℕ) (i : ℕ) (reg : Reg) (second : ℕ) → reg ≡ operand_register (word code i) second → second ≡ add_a_of (word code i)
+    → ((j : ℕ) → clamps code j i reg ≡ false) → clamp_parts code i ≡ []
+bound_none code i reg second reg-is second-is none =
+    let same = reg-is ∙ ap (operand_register (word code i)) second-is in
+    clamp_parts_none code i (subst (λ r. (j : ℕ) → clamps code j i r ≡ false) same none)
+
+-- a sample with these positions
+abbrev pub sample_with : List ℕ → Bool → Sample
+sample_with numbers direct = record { p = padded numbers; direct = direct }
+
+pub sample_direct : (code : List ℕ) (i : ℕ) → is_direct_sample code i ≡ true → sample_of code i ≡ sample_with (count_of code i ∷ map (count_of code) (clamp_parts code i)) true
+unfolding sample_of sample_parts
+sample_direct code i direct =
+    ap (λ b. sample_with (map (count_of code) (if b then i ∷ clamp_parts code i else held code (sample_tmu (word code i)) i ++ (i ∷ []))) b) direct
+
+pub sample_setup : (code : List ℕ) (i : ℕ) → is_direct_sample code i ≡ false
+    → sample_of code i ≡ sample_with (map (count_of code) (held code (sample_tmu (word code i)) i) ++ (count_of code i ∷ [])) false
+unfolding sample_of sample_parts
+sample_setup code i setup =
+    ap (λ b. sample_with (map (count_of code) (if b then i ∷ clamp_parts code i else held code (sample_tmu (word code i)) i ++ (i ∷ []))) b) setup
+    ∙ ap (λ ns. sample_with ns false) (map-append (count_of code) (held code (sample_tmu (word code i)) i) (i ∷ []))
+
+-- what the code makes is that
+pub two_positions : (n : ℕ) (second : Option ℕ) → ◌≡◌ {A = Sample} (record { p = Some n ∷ second ∷ None ∷ None ∷ []; direct = true }) (sample_with (n ∷ option_to_list second) true)
+two_positions n None = refl
+two_positions n (Some k) = refl
+
+pub direct_is : (code : List ℕ) (i n : ℕ) (second : Option ℕ) → is_direct_sample code i ≡ true → n ≡ count_of code i
+    → option_to_list second ≡ map (count_of code) (clamp_parts code i)
+    → ◌≡◌ {A = Sample} (record { p = Some n ∷ second ∷ None ∷ None ∷ []; direct = true }) (sample_of code i)
+direct_is code i n second direct count-is second-is =
+    two_positions n second
+    ∙ ap (λ ns. sample_with (n ∷ ns) true) second-is
+    ∙ ap (λ m. sample_with (m ∷ map (count_of code) (clamp_parts code i)) true) count-is
+    ∙ sym (sample_direct code i direct)
+
+pub setup_is : (code : List ℕ) (i n : ℕ) (kept-now : List ℕ) (a b c d : Option ℕ) → is_direct_sample code i ≡ false → n ≡ count_of code i
+    → kept-now ≡ map (count_of code) (held code (sample_tmu (word code i)) i)
+    → a ≡ slice_get (kept-now ++ (n ∷ [])) 0 → b ≡ slice_get (kept-now ++ (n ∷ [])) 1 → c ≡ slice_get (kept-now ++ (n ∷ [])) 2 → d ≡ slice_get (kept-now ++ (n ∷ [])) 3
+    → ◌≡◌ {A = Sample} (record { p = a ∷ b ∷ c ∷ d ∷ []; direct = false }) (sample_of code i)
+setup_is code i n kept-now a b c d setup count-is kept-is e0 e1 e2 e3 =
+    let four : List (Option ℕ) → Sample = λ ps. record { p = ps; direct = false } in
+    ap (λ x. four (x ∷ b ∷ c ∷ d ∷ [])) e0
+    ∙ ap (λ x. four (slice_get (kept-now ++ (n ∷ [])) 0 ∷ x ∷ c ∷ d ∷ [])) e1
+    ∙ ap (λ x. four (slice_get (kept-now ++ (n ∷ [])) 0 ∷ slice_get (kept-now ++ (n ∷ [])) 1 ∷ x ∷ d ∷ [])) e2
+    ∙ ap (λ x. four (slice_get (kept-now ++ (n ∷ [])) 0 ∷ slice_get (kept-now ++ (n ∷ [])) 1 ∷ slice_get (kept-now ++ (n ∷ [])) 2 ∷ x ∷ [])) e3
+    ∙ ap (λ ns. sample_with (ns ++ (n ∷ [])) false) kept-is
+    ∙ ap (λ m. sample_with (map (count_of code) (held code (sample_tmu (word code i)) i) ++ (m ∷ [])) false) count-is
+    ∙ sym (sample_setup code i setup)
+
+-- the samples with one more instruction
+pub samples_more : (code : List ℕ) (i : ℕ) → i < checked_of code → asks (word code i) ≡ true
+    → map (sample_of code) (indexes (i + 1) (is_sample code)) ≡ map (sample_of code) (indexes i (is_sample code)) ++ (sample_of code i ∷ [])
+unfolding is_sample
+samples_more code i inside asked =
+    ap (map (sample_of code)) (indexes_here i (is_sample code) (and_from (nat_lt i (checked_of code)) (asks (word code i)) (lt-ltb i (checked_of code) inside) asked))
+    ∙ map-append (sample_of code) (indexes i (is_sample code)) (i ∷ [])
+
+pub samples_same : (code : List ℕ) (i : ℕ) → asks (word code i) ≡ false
+    → map (sample_of code) (indexes (i + 1) (is_sample code)) ≡ map (sample_of code) (indexes i (is_sample code))
+unfolding is_sample
+samples_same code i none =
+    ap (map (sample_of code)) (indexes_not i (is_sample code) (and_right (nat_lt i (checked_of code)) (asks (word code i)) none))

@@ -1,0 +1,33 @@
+use Rattle.std.proofs.Common.{length, sym, ◌∙◌}
+use Rattle.field_words.specs.Questions.{each, answered}
+use Rattle.field_words.proofs.Questions.{passes, stops, answered_none, answered_some}
+use Rattle.shader_flow.specs.Flow.{checked_of}
+use Rattle.shader_check.specs.Rules.{questions_at, fault_at, whole_questions, shader_questions}
+use Rattle.shader_check.proofs.check.check_shader.Goals as goal
+
+pub returns-in-Some : goal.returns-in-Some
+unfolding shader_questions
+returns-in-Some c =
+    stops (each (questions_at c.args.code.now) 0 (checked_of c.args.code.now)) (answered (fault_at (length c.args.code.now)) (whole_questions c.args.code.now))
+    c.in-Some.fault (sym c.in-Some.ensures)
+
+pub returns-in-Some-whole_fault : goal.returns-in-Some-whole_fault
+unfolding shader_questions fault_at
+returns-in-Some-whole_fault c =
+    passes (each (questions_at c.args.code.now) 0 (checked_of c.args.code.now)) (answered (fault_at (length c.args.code.now)) (whole_questions c.args.code.now))
+    (sym c.in_default.ensures)
+    ∙ answered_some (fault_at (length c.args.code.now)) (whole_questions c.args.code.now) c.in-Some-whole_fault.number (sym c.in-Some-whole_fault.ensures)
+
+pub returns : goal.returns
+unfolding shader_questions
+returns c = (
+  passes (each (questions_at c.args.code.now) 0 (checked_of c.args.code.now)) (answered (fault_at (length c.args.code.now)) (whole_questions c.args.code.now))
+      (sym c.in_default.ensures)
+      ∙ answered_none (fault_at (length c.args.code.now)) (whole_questions c.args.code.now) (sym c.in_default-whole_fault.ensures),
+  record {
+    uniforms_are = c.uniforms-uniforms.ensures;
+    samples_are = c.in_ok-samples.ensures;
+    address_words_are = c.in_ok-stream.ensures.address_words_are;
+    threaded_is = c.in_ok-flow.ensures.threaded_is;
+  },
+)

@@ -1,0 +1,22 @@
+use Rattle.std.proofs.Common.{◌++◌, [], ◌∷◌, map, sym, ap, ◌∙◌}
+use Rattle.uniform_stream.specs.Pending.{count_of}
+use Rattle.shader_check.specs.Info.{held}
+use Rattle.shader_check.proofs.Positions.{held_sent, held_more, held_same}
+use Rattle.shader_check.proofs.samples.keep.Goals as goal
+
+pub returns-then-writes_s : goal.returns-then-writes_s
+returns-then-writes_s c =
+    c.clear.ensures.items
+    ∙ sym (held_sent c.args.code.now (count_of c.args.code.now) c.args.tmu c.args.at c.requires.inside (sym c.writes_s.ensures ∙ c.if-writes_s.true))
+
+pub returns-in_ok-push : goal.returns-in_ok-push
+returns-in_ok-push c =
+    c.in_ok-push.ensures.items
+    ∙ ap (λ xs. xs ++ (c.args.count ∷ [])) c.requires.before
+    ∙ ap (λ n. map (count_of c.args.code.now) (held c.args.code.now c.args.tmu c.args.at) ++ (n ∷ [])) c.requires.taken
+    ∙ sym (held_more c.args.code.now (count_of c.args.code.now) c.args.tmu c.args.at c.requires.inside (sym c.writes_s.ensures ∙ c.if-writes_s.false) (sym c.writes_tmu.ensures ∙ c.if-writes_tmu.true))
+
+pub returns-else-writes_tmu : goal.returns-else-writes_tmu
+returns-else-writes_tmu c =
+    c.requires.before
+    ∙ sym (held_same c.args.code.now (count_of c.args.code.now) c.args.tmu c.args.at c.requires.inside (sym c.writes_s.ensures ∙ c.if-writes_s.false) (sym c.writes_tmu.ensures ∙ c.if-writes_tmu.false))

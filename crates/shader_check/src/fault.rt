@@ -1,0 +1,7 @@
+/// A rule that a shader breaks: its number, 1 to 27, and the index of the instruction where it stands. Rules on the whole
+/// shader stand at the number of words.
+#[derive(Clone, Copy, Debug, PartialEq, Eq)]
+pub struct ShaderFault {
+    pub number: u8,
+    pub index: u32,
+}
