@@ -1,14 +1,13 @@
 -- What holds of a surface and a frame without faults.
-use Rattle.std.proofs.Common.{◌≡◌, ℕ, zero, suc, ◌+◌, ◌*◌, ◌<◌, ◌≤◌, ◌^◌, Bool, true, false, not, ◌&&◌, ◌||◌, nat_lt, nat_le, List, [], ◌∷◌, ◌++◌, Option, Some, None, is_some, if◌then◌else◌, refl, sym, ap, subst, arith, ◌∙◌, IsTrue, lit<}
-use Rattle.field_words.specs.Questions.{Question, Ask, first_of, NoneStands, each}
+use Rattle.std.proofs.Common.{◌≡◌, ℕ, zero, suc, ◌+◌, ◌*◌, ◌<◌, ◌≤◌, Bool, true, false, ◌||◌, nat_lt, List, [], ◌∷◌, ◌++◌, Option, Some, None, is_some, if◌then◌else◌, refl, sym, ap, arith, ◌∙◌, lit<}
+use Rattle.field_words.specs.Questions.{Question, Ask, first_of, each}
 use Rattle.field_words.proofs.Questions.{passes, none_stands}
 use Rattle.buffer_table.specs.Table.{TableModel, buffer_at}
 use Rattle.buffer_table.specs.Handles.{data_of}
 use Rattle.job_format.specs.declared.file.Frame.{Frame}
 use Rattle.job_format.specs.declared.file.Surface.{Surface}
-use Rattle.render_list.specs.declared.fault.RenderFault.{RenderFault}
 use Rattle.render_list.specs.Frame.{place_at, surface_at, is_present, is_full, full_tile, full_place, FitsAt, FitsFull, IsTileSet, IsSetupFor}
-use Rattle.render_list.specs.Surfaces.{shape_questions, size_questions, surface_questions, buffer_size, size_in, is_too_large, is_too_large_full, plain_end, full_end, is_unnamed, is_reversed, frame_questions, whole_questions, surface_faults, place_in, place_behind, places_of}
+use Rattle.render_list.specs.Surfaces.{shape_questions, size_questions, surface_questions, buffer_size, size_in, is_too_large, is_too_large_full, plain_end, full_end, is_unnamed, is_reversed, frame_questions, whole_questions, surface_faults, place_in, place_behind}
 
 if_true : {F : Type 0} → (b : Bool) (questions : List (Question F)) → b ≡ true → first_of (if b then questions else []) ≡ None → first_of questions ≡ None
 if_true true questions stands none = none

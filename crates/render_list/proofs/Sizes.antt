@@ -1,5 +1,5 @@
 -- A surface that isn't in full resolution, and whose format is listed, has pixels of 1 to 8 bytes.
-use Rattle.std.proofs.Common.{◌*◌, ◌≤◌, ◌≡◌, ◌≢◌, ℕ, ◌⊎◌, Bool, true, false, not, ◌&&◌, ◌==◌, inl, inr, arith, refl, ◌∙◌, ap, sym}
+use Rattle.std.proofs.Common.{◌*◌, ◌≤◌, ◌≡◌, ℕ, ◌⊎◌, false, arith}
 use Rattle.job_format.specs.declared.file.Surface.{Surface}
 use Rattle.texture_layouts.specs.Surface.{IsPixelSize}
 use Rattle.render_list.specs.Frame.{is_full}

@@ -1,5 +1,5 @@
 -- A loop that writes texts in a row.
-use Rattle.std.proofs.Common.{◌≡◌, ℕ, zero, suc, ◌+◌, ◌-◌, ◌<◌, ◌≤◌, List, [], ◌∷◌, ◌++◌, length, refl, sym, ap, subst, arith, ◌∙◌, length-append}
+use Rattle.std.proofs.Common.{◌≡◌, ℕ, zero, suc, ◌+◌, ◌-◌, ◌<◌, ◌≤◌, List, [], ◌++◌, length, refl, sym, ap, subst, arith, ◌∙◌, length-append}
 use Rattle.std.specs.List.{flat_map, range_with_len}
 use Rattle.render_list.specs.Text.{span_text}
 use Rattle.render_list.specs.Writing.{written}
@@ -62,8 +62,7 @@ pub ends : (text : ℕ → List ℕ) (window : List ℕ) (at : ℕ) (all out : L
     → (out ≡ written window at all) × (here ≡ at + length all)
 ends text window at all out here x end state past =
     let none : span_text text x (end - x) ≡ [] = span_end text x end past in
-    let short : length (span_text text x (end - x)) ≡ 0 = ap length none in
-    (
+    let short : length (span_text text x (end - x)) ≡ 0 = ap length none in (
       sym (written_nothing out here (omega (arith, short, state.room))) ∙ ap (λ t. written out here t) (sym none) ∙ state.bytes,
       omega (arith, short, state.place),
     )

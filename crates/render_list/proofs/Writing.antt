@@ -1,8 +1,7 @@
 -- Texts written one after the other.
-use Rattle.std.proofs.Common.{◌≡◌, ℕ, ◌+◌, ◌≤◌, List, [], ◌∷◌, ◌++◌, length, take, drop, refl, sym, ap, subst, arith, ◌∙◌, length-append, append_assoc}
+use Rattle.std.proofs.Common.{◌≡◌, ℕ, ◌+◌, ◌≤◌, List, [], ◌++◌, length, take, drop, sym, ap, subst, arith, ◌∙◌, length-append, append_assoc}
 use Rattle.std.proofs.lemmas.List.{places, length-take-le}
 use Rattle.std.proofs.Math.Seq.{drop-append-add, take-append-add, take-append_seam}
-use Rattle.field_words.specs.Writes.{with_bytes}
 use Rattle.field_words.proofs.Writes.{length-with_bytes}
 use Rattle.field_words.proofs.Pieces.{drop_drop}
 use Rattle.render_list.specs.Writing.{written}

@@ -1,6 +1,6 @@
 -- What the surfaces of a frame are: which are present, which are in full resolution, and where a
 -- tile of a full-resolution surface lies.
-use Rattle.std.specs.Prelude.{◌≡◌, ◌≤◌, ◌<◌, ◌^◌, ℕ, is_some, IsTrue, ◌+◌, ◌*◌, ◌-◌, ◌%◌, ◌==◌, ◌||◌, ◌&&◌, not, Bool, true, false, List, [], ◌∷◌, Option, Some, None, if◌then◌else◌, slice_index_or}
+use Rattle.std.specs.Prelude.{◌≡◌, ◌≤◌, ◌<◌, ◌^◌, ℕ, is_some, IsTrue, ◌+◌, ◌*◌, ◌-◌, ◌%◌, ◌==◌, ◌||◌, ◌&&◌, not, Bool, true, false, List, Option, Some, None, if◌then◌else◌, slice_index_or}
 use Rattle.std.specs.Int.{div_ceil}
 use Rattle.job_format.specs.declared.file.Frame.{Frame}
 use Rattle.job_format.specs.declared.file.Surface.{Surface}

@@ -1,6 +1,6 @@
 -- How long a renderer list is: each packet has its length, and each tile has the same packets, but for
 -- the byte before the first tile that waits for the binner.
-use Rattle.std.specs.Prelude.{◌≡◌, ℕ, ◌+◌, ◌*◌, ◌||◌, ◌&&◌, Bool, true, false, if◌then◌else◌}
+use Rattle.std.specs.Prelude.{ℕ, ◌+◌, ◌*◌, ◌||◌, Bool, false, if◌then◌else◌}
 use Rattle.job_format.specs.declared.file.Frame.{Frame}
 use Rattle.render_list.specs.Frame.{surface_at, is_present, is_full, tiles_across, tiles_down}
 use Rattle.render_list.specs.Text.{number_where}

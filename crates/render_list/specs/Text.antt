@@ -1,10 +1,9 @@
 -- The text of a renderer list: its packets, one after the other. Numbers are little endian. The
 -- surfaces' places are absolute, and None where a surface is absent.
-use Rattle.std.specs.Prelude.{◌≡◌, ℕ, ◌+◌, ◌*◌, ◌%◌, ◌||◌, ◌&&◌, not, Bool, true, false, List, [], ◌∷◌, ◌++◌, Option, Some, None, is_some, if◌then◌else◌, slice_index_or, bit_or}
+use Rattle.std.specs.Prelude.{ℕ, ◌+◌, ◌*◌, ◌%◌, ◌||◌, ◌&&◌, not, Bool, true, false, List, [], ◌∷◌, ◌++◌, Option, Some, None, is_some, if◌then◌else◌, slice_index_or, bit_or}
 use Rattle.std.specs.List.{flat_map, range_with_len}
 use Rattle.field_words.specs.Words.{rounded_up}
 use Rattle.job_format.specs.declared.file.Frame.{Frame}
-use Rattle.job_format.specs.declared.file.Surface.{Surface}
 use Rattle.job_format.specs.Text.{half, word}
 use Rattle.render_list.specs.Frame.{color_read, color_write, zs_read, zs_write, multisample_color, multisample_zs, place_at, surface_at, is_full, full_place, is_first_tile, is_last_tile, tiles_across, tiles_down}
 
@@ -165,4 +164,3 @@ clear_part frame false = []
 -- the place of the tile slot
 unfoldable pub render_text : Frame → List (Option ℕ) → Option (ℕ × ℕ) → ℕ → List ℕ
 render_text frame places grid slot = head_text frame places ++ (clear_part frame frame.clear ++ tiles_text frame places grid slot)
-

@@ -6,10 +6,15 @@ use job_format::{Frame, Surface};
 
 /// The surfaces' numbers, which are their places in the frame.
 pub const COLOR_READ: usize = 0;
+
 pub const COLOR_WRITE: usize = 1;
+
 pub const ZS_READ: usize = 2;
+
 pub const ZS_WRITE: usize = 3;
+
 pub const MULTISAMPLE_COLOR: usize = 4;
+
 pub const MULTISAMPLE_ZS: usize = 5;
 
 pub fn surface(frame: &Frame, k: usize) -> Surface

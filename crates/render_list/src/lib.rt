@@ -13,3 +13,6 @@ pub use setup::Setup;
 pub use size::render_size;
 pub use surfaces::check_surfaces;
 pub use text::build;
+
+#[cfg(test)]
+mod tests;

@@ -4,7 +4,10 @@ ghost use Rattle.render_list.specs.Frame.{surface_at, is_present, tiles_across, 
 ghost use Rattle.render_list.specs.Length.{load_size, loads_size, write_size, writes_size, tile_size, render_length};
 ghost use Rattle.render_list.specs.Text.{number_where, render_text};
 
-use crate::frame::{COLOR_READ, COLOR_WRITE, MULTISAMPLE_COLOR, MULTISAMPLE_ZS, ZS_READ, ZS_WRITE, is_full, is_present, surface};
+use crate::frame::{
+    COLOR_READ, COLOR_WRITE, MULTISAMPLE_COLOR, MULTISAMPLE_ZS, ZS_READ, ZS_WRITE, is_full,
+    is_present, surface,
+};
 use job_format::Frame;
 
 /// The bytes where the test is true, else none.
@@ -39,7 +42,10 @@ fn loads_size(frame: &Frame) -> u64
 {
     let color = has_surface(frame, COLOR_READ);
     let between = size_where(color, 10);
-    let zs = size_where(has_surface(frame, ZS_READ), between + load_size(frame, ZS_READ));
+    let zs = size_where(
+        has_surface(frame, ZS_READ),
+        between + load_size(frame, ZS_READ),
+    );
     size_where(color, load_size(frame, COLOR_READ)) + zs
 }
 
@@ -96,10 +102,8 @@ fn tiles_size(frame: &Frame, has_bin: bool) -> u64
 pub fn render_size(frame: &Frame, has_bin: bool) -> u64
     requires { IsTileSet frame.now }
     ensures value { result ≡ render_length frame.now has_bin }
-    ensures text {
-        (places : List (Option ℕ)) (grid : Option (ℕ × ℕ)) (slot : ℕ) → ArePlacesOf frame.now places → is_some grid ≡ has_bin
-            → length (render_text frame.now places grid slot) ≡ result
-    }
+    ensures text { (places : List (Option ℕ)) (grid : Option (ℕ × ℕ)) (slot : ℕ) → ArePlacesOf frame.now places → is_some grid ≡ has_bin
+        → length (render_text frame.now places grid slot) ≡ result }
     ensures limit { result ≤ 8388608 }
 {
     let clear = size_where(frame.clear, 24);

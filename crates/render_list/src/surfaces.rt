@@ -7,8 +7,11 @@ ghost use Rattle.render_list.specs.Frame.{surface_at, is_full, FitsAt, IsTileSet
 ghost use Rattle.render_list.specs.Surfaces.{fault, is_reversed, is_outside_grid, is_outside_frame, frame_questions, has_unknown_flag, has_unknown_bit, is_unnamed, tiling_number, has_unlisted_tiling, tiling_named, pixel_size_of, has_unlisted_format, write_pixel, general_pixel, is_unaligned, buffer_size, plain_end, is_too_large, is_full_with_bits, full_end, is_too_large_full, shape_questions, size_questions, surface_questions, is_written, whole_questions, surface_faults, place_in, places_of};
 
 use crate::fault::RenderFault;
+use crate::frame::{
+    COLOR_READ, COLOR_WRITE, MULTISAMPLE_COLOR, MULTISAMPLE_ZS, ZS_READ, ZS_WRITE, full_tile,
+    is_full, is_present, surface, tile_side,
+};
 use crate::setup::Setup;
-use crate::frame::{COLOR_READ, COLOR_WRITE, MULTISAMPLE_COLOR, MULTISAMPLE_ZS, ZS_READ, ZS_WRITE, full_tile, is_full, is_present, surface, tile_side};
 use buffer_table::{Handles, Table, use_data};
 use field_words::field;
 use job_format::{Frame, Surface};
@@ -97,7 +100,11 @@ fn tiling_number(k: usize, surface: &Surface) -> u64
     ensures { result ≡ tiling_number k surface.now }
 {
     let bits = u64::from(surface.bits);
-    if k == COLOR_WRITE { field(bits, 7, 6) } else { field(bits, 5, 4) }
+    if k == COLOR_WRITE {
+        field(bits, 7, 6)
+    } else {
+        field(bits, 5, 4)
+    }
 }
 
 /// Whether the tiling isn't one of the three.
@@ -342,7 +349,10 @@ fn whole_fault(frame: &Frame) -> Option<RenderFault>
     if is_written(frame) {
         return None;
     }
-    Some(RenderFault { number: 13, item: 7 })
+    Some(RenderFault {
+        number: 13,
+        item: 7,
+    })
 }
 
 /// G4 to G13.
@@ -359,7 +369,12 @@ fn later_fault(frame: &Frame, table: &Table, handles: &Handles) -> Option<Render
 
 /// The first of G1 to G13.
 #[tactic(auto, unfolding(crate::specs::Surfaces::surface_faults), using(field_words::proofs::Questions::passes, field_words::proofs::Questions::stops))]
-fn first_fault(frame: &Frame, tiles: Option<(u8, u8)>, table: &Table, handles: &Handles) -> Option<RenderFault>
+fn first_fault(
+    frame: &Frame,
+    tiles: Option<(u8, u8)>,
+    table: &Table,
+    handles: &Handles,
+) -> Option<RenderFault>
     requires { AreNumbersOf table.now handles.now }
     ensures { result ≡ first_of (surface_faults frame.now tiles table.now handles.now) }
 {
@@ -401,20 +416,30 @@ fn places(frame: &Frame, table: &Table, handles: &Handles) -> Setup
     let multisample_color = place(frame, table, handles, MULTISAMPLE_COLOR);
     let multisample_zs = place(frame, table, handles, MULTISAMPLE_ZS);
     Setup {
-        places: [color_read, color_write, zs_read, zs_write, multisample_color, multisample_zs],
+        places: [
+            color_read,
+            color_write,
+            zs_read,
+            zs_write,
+            multisample_color,
+            multisample_zs,
+        ],
     }
 }
 
 /// The places of the frame's surfaces, or the first rule of G1 to G13 that fails, by item and number.
 /// `tiles` is the binner's grid, across and down, where there is a binner list.
-pub fn check_surfaces(frame: &Frame, tiles: Option<(u8, u8)>, table: &Table, handles: &Handles) -> Result<Setup, RenderFault>
+pub fn check_surfaces(
+    frame: &Frame,
+    tiles: Option<(u8, u8)>,
+    table: &Table,
+    handles: &Handles,
+) -> Result<Setup, RenderFault>
     requires { AreNumbersOf table.now handles.now }
-    ensures exact {
-        MatchResult result
-            (λ setup. (first_of (surface_faults frame.now tiles table.now handles.now) ≡ None)
-                × (setup.places ≡ places_of frame.now table.now handles.now))
-            (λ fault. first_of (surface_faults frame.now tiles table.now handles.now) ≡ Some fault)
-    }
+    ensures exact { MatchResult result
+        (λ setup. (first_of (surface_faults frame.now tiles table.now handles.now) ≡ None)
+        × (setup.places ≡ places_of frame.now table.now handles.now))
+        (λ fault. first_of (surface_faults frame.now tiles table.now handles.now) ≡ Some fault) }
     ensures setup { IfOk result (λ setup. IsSetupFor frame.now setup.places) }
 {
     match first_fault(frame, tiles, table, handles) {

@@ -7,10 +7,13 @@ ghost use Rattle.render_list.specs.Length.{render_length};
 ghost use Rattle.render_list.specs.Writing.{written};
 ghost use Rattle.render_list.specs.Text.{head_text, clear_text, clear_part, coordinates, idle_store, full_load, general_load, load_text, between_loads, color_load, zs_load, loads_text, coordinates_after, number_where, is_written, more_after_multisample_zs, more_after_multisample_color, some_before_zs, some_before_color, multisample_text, full_store, zs_store, color_store, multisample_color_text, multisample_zs_text, zs_text, color_text, writes_text, tile_text, row_text, tiles_text, render_text};
 
-use crate::frame::{COLOR_READ, COLOR_WRITE, MULTISAMPLE_COLOR, MULTISAMPLE_ZS, ZS_READ, ZS_WRITE, full_place, is_full, is_last_tile, surface};
+use crate::frame::{
+    COLOR_READ, COLOR_WRITE, MULTISAMPLE_COLOR, MULTISAMPLE_ZS, ZS_READ, ZS_WRITE, full_place,
+    is_full, is_last_tile, surface,
+};
 use crate::setup::Setup;
-use relocation::Layout;
 use job_format::Frame;
+use relocation::Layout;
 
 /// A tile by its coordinates.
 #[derive(Clone, Copy)]
@@ -61,9 +64,14 @@ fn put_clear(out: &mut [u8], at: usize, frame: &Frame) -> usize
     let [b0, b1, b2, b3] = frame.clear_color[1].to_le_bytes();
     let [z0, z1, z2, z3] = frame.clear_z.to_le_bytes();
     let stencil = frame.clear_s;
-    put(out, at, &[
-        114, a0, a1, a2, a3, b0, b1, b2, b3, z0, z1, z2, z3, stencil, 115, 0, 0, 28, 0, 0, 0, 0, 0, 0,
-    ])
+    put(
+        out,
+        at,
+        &[
+            114, a0, a1, a2, a3, b0, b1, b2, b3, z0, z1, z2, z3, stencil, 115, 0, 0, 28, 0, 0, 0,
+            0, 0, 0,
+        ],
+    )
 }
 
 #[tactic(auto, using(crate::proofs::Writing::written_nothing))]
@@ -72,7 +80,11 @@ fn put_clear_part(out: &mut [u8], at: usize, frame: &Frame) -> usize
     ensures text { out.new ≡ written out.old at (clear_part frame.now frame.now.clear) }
     ensures end { result ≡ at + length (clear_part frame.now frame.now.clear) }
 {
-    if frame.clear { put_clear(out, at, frame) } else { at }
+    if frame.clear {
+        put_clear(out, at, frame)
+    } else {
+        at
+    }
 }
 
 #[tactic(auto, unfolding(crate::specs::Text::coordinates))]
@@ -117,7 +129,15 @@ fn put_general_load(out: &mut [u8], at: usize, bits: u16, place: u32) -> usize
 /// The load of a tile of surface `k`. The bits `skipped` say what isn't loaded where the surface is in
 /// full resolution.
 #[tactic(auto, unfolding(crate::specs::Text::load_text))]
-fn put_load(out: &mut [u8], at: usize, frame: &Frame, k: usize, skipped: u32, place: u32, tile: Tile) -> usize
+fn put_load(
+    out: &mut [u8],
+    at: usize,
+    frame: &Frame,
+    k: usize,
+    skipped: u32,
+    place: u32,
+    tile: Tile,
+) -> usize
     requires surface { k < 6 }
     requires fits { FitsAt frame.now k (Some place) tile.x tile.y }
     requires room { at + length (load_text frame.now k skipped place tile.x tile.y) ≤ length out.old }
@@ -162,7 +182,14 @@ fn put_between_loads(out: &mut [u8], at: usize, color: Option<u32>, tile: Tile) 
 }
 
 #[tactic(auto, using(crate::proofs::Writing::written_append, crate::proofs::Writing::written_nothing))]
-fn put_zs_load(out: &mut [u8], at: usize, frame: &Frame, color: Option<u32>, place: Option<u32>, tile: Tile) -> usize
+fn put_zs_load(
+    out: &mut [u8],
+    at: usize,
+    frame: &Frame,
+    color: Option<u32>,
+    place: Option<u32>,
+    tile: Tile,
+) -> usize
     requires fits { FitsAt frame.now 2 place tile.x tile.y }
     requires room { at + length (zs_load frame.now color place tile.x tile.y) ≤ length out.old }
     ensures text { out.new ≡ written out.old at (zs_load frame.now color place tile.x tile.y) }
@@ -243,12 +270,24 @@ fn put_coordinates_after(out: &mut [u8], at: usize, some_before: bool, tile: Til
     ensures text { out.new ≡ written out.old at (coordinates_after some_before tile.x tile.y) }
     ensures end { result ≡ at + length (coordinates_after some_before tile.x tile.y) }
 {
-    if some_before { put_coordinates(out, at, tile) } else { at }
+    if some_before {
+        put_coordinates(out, at, tile)
+    } else {
+        at
+    }
 }
 
 /// The store of a tile in full resolution. The bits `skipped` say what isn't stored.
 #[tactic(auto, unfolding(crate::specs::Text::full_store))]
-fn put_full_store(out: &mut [u8], at: usize, frame: &Frame, place: u32, skipped: u32, more: bool, tile: Tile) -> usize
+fn put_full_store(
+    out: &mut [u8],
+    at: usize,
+    frame: &Frame,
+    place: u32,
+    skipped: u32,
+    more: bool,
+    tile: Tile,
+) -> usize
     requires bits { skipped < 4 }
     requires fits { full_place frame.now place tile.x tile.y < 2 ^ 32 }
     requires room { at + length (full_store frame.now place skipped more tile.x tile.y) ≤ length out.old }
@@ -262,7 +301,14 @@ fn put_full_store(out: &mut [u8], at: usize, frame: &Frame, place: u32, skipped:
 }
 
 #[tactic(auto, unfolding(crate::specs::Text::zs_store))]
-fn put_zs_store(out: &mut [u8], at: usize, frame: &Frame, place: u32, more: bool, tile: Tile) -> usize
+fn put_zs_store(
+    out: &mut [u8],
+    at: usize,
+    frame: &Frame,
+    place: u32,
+    more: bool,
+    tile: Tile,
+) -> usize
     requires room { at + length (zs_store frame.now place more tile.x tile.y) ≤ length out.old }
     ensures text { out.new ≡ written out.old at (zs_store frame.now place more tile.x tile.y) }
     ensures end { result ≡ at + length (zs_store frame.now place more tile.x tile.y) }
@@ -280,12 +326,23 @@ fn put_color_store(out: &mut [u8], at: usize, frame: &Frame, tile: Tile) -> usiz
     ensures text { out.new ≡ written out.old at (color_store frame.now tile.x tile.y) }
     ensures end { result ≡ at + length (color_store frame.now tile.x tile.y) }
 {
-    let opcode = if is_last_tile(frame, tile.x, tile.y) { 25 } else { 24 };
+    let opcode = if is_last_tile(frame, tile.x, tile.y) {
+        25
+    } else {
+        24
+    };
     put(out, at, &[opcode])
 }
 
 #[tactic(auto, using(crate::proofs::Writing::written_append, crate::proofs::Writing::written_nothing))]
-fn put_multisample_color(out: &mut [u8], at: usize, frame: &Frame, setup: &Setup, place: Option<u32>, tile: Tile) -> usize
+fn put_multisample_color(
+    out: &mut [u8],
+    at: usize,
+    frame: &Frame,
+    setup: &Setup,
+    place: Option<u32>,
+    tile: Tile,
+) -> usize
     requires fits { FitsFull frame.now place tile.x tile.y }
     requires room { at + length (multisample_color_text frame.now setup.now.places place tile.x tile.y) ≤ length out.old }
     ensures text { out.new ≡ written out.old at (multisample_color_text frame.now setup.now.places place tile.x tile.y) }
@@ -293,12 +350,27 @@ fn put_multisample_color(out: &mut [u8], at: usize, frame: &Frame, setup: &Setup
 {
     match place {
         None => at,
-        Some(place) => put_full_store(out, at, frame, place, 2, more_after_multisample_color(setup), tile),
+        Some(place) => put_full_store(
+            out,
+            at,
+            frame,
+            place,
+            2,
+            more_after_multisample_color(setup),
+            tile,
+        ),
     }
 }
 
 #[tactic(auto, using(crate::proofs::Writing::written_append, crate::proofs::Writing::written_nothing))]
-fn put_multisample_zs(out: &mut [u8], at: usize, frame: &Frame, setup: &Setup, place: Option<u32>, tile: Tile) -> usize
+fn put_multisample_zs(
+    out: &mut [u8],
+    at: usize,
+    frame: &Frame,
+    setup: &Setup,
+    place: Option<u32>,
+    tile: Tile,
+) -> usize
     requires fits { FitsFull frame.now place tile.x tile.y }
     requires room { at + length (multisample_zs_text frame.now setup.now.places place tile.x tile.y) ≤ length out.old }
     ensures text { out.new ≡ written out.old at (multisample_zs_text frame.now setup.now.places place tile.x tile.y) }
@@ -308,13 +380,28 @@ fn put_multisample_zs(out: &mut [u8], at: usize, frame: &Frame, setup: &Setup, p
         None => at,
         Some(place) => {
             let at = put_coordinates_after(out, at, is_written(setup, MULTISAMPLE_COLOR), tile);
-            put_full_store(out, at, frame, place, 1, more_after_multisample_zs(setup), tile)
+            put_full_store(
+                out,
+                at,
+                frame,
+                place,
+                1,
+                more_after_multisample_zs(setup),
+                tile,
+            )
         }
     }
 }
 
 #[tactic(auto, using(crate::proofs::Writing::written_append, crate::proofs::Writing::written_nothing))]
-fn put_zs(out: &mut [u8], at: usize, frame: &Frame, setup: &Setup, place: Option<u32>, tile: Tile) -> usize
+fn put_zs(
+    out: &mut [u8],
+    at: usize,
+    frame: &Frame,
+    setup: &Setup,
+    place: Option<u32>,
+    tile: Tile,
+) -> usize
     requires room { at + length (zs_text frame.now setup.now.places place tile.x tile.y) ≤ length out.old }
     ensures text { out.new ≡ written out.old at (zs_text frame.now setup.now.places place tile.x tile.y) }
     ensures end { result ≡ at + length (zs_text frame.now setup.now.places place tile.x tile.y) }
@@ -329,7 +416,14 @@ fn put_zs(out: &mut [u8], at: usize, frame: &Frame, setup: &Setup, place: Option
 }
 
 #[tactic(auto, using(crate::proofs::Writing::written_append, crate::proofs::Writing::written_nothing))]
-fn put_color(out: &mut [u8], at: usize, frame: &Frame, setup: &Setup, place: Option<u32>, tile: Tile) -> usize
+fn put_color(
+    out: &mut [u8],
+    at: usize,
+    frame: &Frame,
+    setup: &Setup,
+    place: Option<u32>,
+    tile: Tile,
+) -> usize
     requires room { at + length (color_text frame.now setup.now.places place tile.x tile.y) ≤ length out.old }
     ensures text { out.new ≡ written out.old at (color_text frame.now setup.now.places place tile.x tile.y) }
     ensures end { result ≡ at + length (color_text frame.now setup.now.places place tile.x tile.y) }
@@ -351,7 +445,14 @@ fn put_multisample(out: &mut [u8], at: usize, frame: &Frame, setup: &Setup, tile
     ensures text { out.new ≡ written out.old at (multisample_text frame.now setup.now.places tile.x tile.y) }
     ensures end { result ≡ at + length (multisample_text frame.now setup.now.places tile.x tile.y) }
 {
-    let at = put_multisample_color(out, at, frame, setup, setup.place_of(MULTISAMPLE_COLOR), tile);
+    let at = put_multisample_color(
+        out,
+        at,
+        frame,
+        setup,
+        setup.place_of(MULTISAMPLE_COLOR),
+        tile,
+    );
     put_multisample_zs(out, at, frame, setup, setup.place_of(MULTISAMPLE_ZS), tile)
 }
 

@@ -1,4 +1,4 @@
-use Rattle.std.proofs.Common.{◌≡◌, ℕ, ◌+◌, None, List, length, arith}
+use Rattle.std.proofs.Common.{◌+◌, None, arith}
 use Rattle.render_list.specs.Text.{tile_text, row_text}
 use Rattle.render_list.proofs.Places.{tile_fits}
 use Rattle.render_list.proofs.Span.{begins, next_room, goes_on, ends}

@@ -1,4 +1,4 @@
-use Rattle.std.proofs.Common.{◌≡◌, ℕ, ◌+◌, None, List, length, arith}
+use Rattle.std.proofs.Common.{◌+◌, None, arith}
 use Rattle.render_list.specs.Text.{row_text, tiles_text}
 use Rattle.render_list.proofs.Span.{begins, next_room, goes_on, ends}
 use Rattle.render_list.proofs.text.put_tiles.Goals as goal

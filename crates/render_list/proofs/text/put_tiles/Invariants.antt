@@ -1,4 +1,4 @@
-use Rattle.std.proofs.Common.{ℕ, None, ◌+◌}
+use Rattle.std.proofs.Common.{None, ◌+◌}
 use Rattle.render_list.specs.Text.{row_text, tiles_text}
 use Rattle.render_list.proofs.Span.{IsUnderway}
 use Rattle.render_list.proofs.text.put_tiles.Given as goal
