@@ -1,0 +1,12 @@
+//! The check of a job file that was read: the first rule that fails, or the memory that the job is to run in.
+//!
+//! `specs/Faults.antt` lists the stages in the order of refusal. A further stage is a line there and a function in
+//! `stages.rt`.
+#![tactic(auto)]
+
+mod emit;
+mod refusals;
+mod stages;
+
+pub use stages::{table_stage, handles_stage};
+pub use emit::put_contents;
