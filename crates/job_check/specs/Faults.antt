@@ -38,9 +38,13 @@ job_of f j = slice_index_or f.jobs j no_job
 unfoldable pub slot_of : FileModel → ℕ → ℕ
 slot_of f j = f.regions.tile_place + 524288 * j
 
+-- the absolute places of the surfaces of job j
+unfoldable pub places_in : FileModel → ℕ → List (Option ℕ)
+places_in f j = places_of (job_of f j).frame (table_of f) (job_of f j).handles
+
 -- the renderer list of job j
 unfoldable pub render_list_of : FileModel → ℕ → List ℕ
-render_list_of f j = render_text (job_of f j).frame (places_of (job_of f j).frame (table_of f) (job_of f j).handles) None (slot_of f j)
+render_list_of f j = render_text (job_of f j).frame (places_in f j) None (slot_of f j)
 
 -- M: the memory table
 abbrev pub table_refused : TableFault → Refusal

@@ -8,5 +8,5 @@ mod emit;
 mod refusals;
 mod stages;
 
-pub use stages::{table_stage, handles_stage};
+pub use stages::{table_stage, handles_stage, surfaces_stage};
 pub use emit::put_contents;

@@ -1,15 +1,17 @@
 //! The stages of the check, one function each.
-ghost use Rattle.std.specs.Prelude.{◌≡◌, ◌<◌, ◌≤◌};
+ghost use Rattle.std.specs.Prelude.{◌≡◌, ◌<◌, ◌≤◌, IfOk};
 ghost use Rattle.field_words.specs.Questions.{Answers};
 ghost use Rattle.job_format.specs.File.{IsWellFormed, IsJobWellFormed};
 ghost use Rattle.job_format.specs.Model.{file_view, job_view};
 ghost use Rattle.buffer_table.specs.Handles.{AreNumbersOf};
-ghost use Rattle.job_check.specs.Faults.{table_of, job_of, table_stage, handles_stage};
+ghost use Rattle.render_list.specs.Frame.{IsSetupFor};
+ghost use Rattle.job_check.specs.Faults.{table_of, job_of, places_in, table_stage, handles_stage, surfaces_stage};
 
-use super::refusals::{handle_refusal, table_refusal};
+use super::refusals::{handle_refusal, surface_refusal, table_refusal};
 use buffer_table::{Handles, Table};
 use field_words::Stop;
 use job_format::{Job, JobFile, Refusal};
+use render_list::{Setup, check_surfaces};
 use std::alloc::Global;
 
 /// M: the memory table.
@@ -43,5 +45,27 @@ pub fn handles_stage(
         Ok(handles) => Ok(handles),
         Err(Stop::Fault(index)) => Err(Stop::Fault(handle_refusal(file, index))),
         Err(Stop::NoMemory) => Err(Stop::NoMemory),
+    }
+}
+
+/// G: the frame and its surfaces.
+#[tactic(auto, unfolding(crate::specs::Faults::surfaces_stage, crate::specs::Faults::places_in), using(field_words::proofs::Questions::answered_none, field_words::proofs::Questions::answered_some))]
+pub fn surfaces_stage(
+    file: &JobFile,
+    job: &Job,
+    table: &Table,
+    handles: &Handles,
+) -> Result<Setup, Stop<Refusal>>
+    requires well_formed { IsWellFormed (file_view file.now) }
+    requires job_is { job_view job.now ≡ job_of (file_view file.now) 0 }
+    requires table_is { table.now ≡ table_of (file_view file.now) }
+    requires handles_are { handles.now ≡ (job_of (file_view file.now) 0).handles }
+    requires numbers { AreNumbersOf table.now handles.now }
+    ensures answers { Answers (surfaces_stage (file_view file.now) 0) (λ setup. setup.places ≡ places_in (file_view file.now) 0) result }
+    ensures setup { IfOk result (λ setup. IsSetupFor job.now.frame setup.places) }
+{
+    match check_surfaces(&job.frame, None, table, handles) {
+        Ok(setup) => Ok(setup),
+        Err(fault) => Err(Stop::Fault(surface_refusal(file, &fault))),
     }
 }
