@@ -1,4 +1,5 @@
 pub mod Checked
+pub mod Length
 pub mod Places
 pub mod Sizes
 pub mod Span

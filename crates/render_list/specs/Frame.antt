@@ -96,9 +96,13 @@ pub record TileFits (frame : Frame) (places : List (Option ℕ)) (x y : ℕ) : T
   pub multisample_color : FitsFull frame (place_at places 4) x y
   pub multisample_zs : FitsFull frame (place_at places 5) x y
 
+-- There is a place exactly for each surface that is present.
+abbrev pub ArePlacesOf : Frame → List (Option ℕ) → Type 0
+ArePlacesOf frame places = (k : ℕ) → k < 6 → is_some (place_at places k) ≡ is_present (surface_at frame k)
+
 -- What a checked frame's places are: there is one exactly for each surface that is present, and each
 -- tile of the set lies below 2^32.
 pub record IsSetupFor (frame : Frame) (places : List (Option ℕ)) : Type 0 where
   pub tiles : IsTileSet frame
-  pub present : (k : ℕ) → k < 6 → is_some (place_at places k) ≡ is_present (surface_at frame k)
+  pub present : ArePlacesOf frame places
   pub largest : TileFits frame places frame.max_x frame.max_y

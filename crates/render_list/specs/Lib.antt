@@ -1,4 +1,5 @@
 pub mod Frame
+pub mod Length
 pub mod Surfaces
 pub mod Text
 pub mod Writing

@@ -79,19 +79,19 @@ abbrev pub coordinates_after : Bool → ℕ → ℕ → List ℕ
 coordinates_after true x y = coordinates x y
 coordinates_after false x y = []
 
--- a bit that is set where the test is true
-abbrev pub bit_where : Bool → ℕ → ℕ
-bit_where true bit = bit
-bit_where false bit = 0
+-- the number where the test is true, else 0
+abbrev pub number_where : Bool → ℕ → ℕ
+number_where true number = number
+number_where false number = 0
 
 -- A full-resolution store of one of the two multisample surfaces: the bits say what is not stored,
 -- whether further writes of the tile follow (4), and whether it ends the frame (8).
 unfoldable pub full_store : Frame → ℕ → ℕ → Bool → ℕ → ℕ → List ℕ
-full_store frame place skipped more x y = (26 ∷ []) ++ word (bit_or (full_place frame place x y) (skipped + bit_where more 4 + bit_where (not more && is_last_tile frame x y) 8))
+full_store frame place skipped more x y = (26 ∷ []) ++ word (bit_or (full_place frame place x y) (skipped + number_where more 4 + number_where (not more && is_last_tile frame x y) 8))
 
 -- A general store: bit 13 where further writes follow, and 8 beside the place where it ends the frame.
 unfoldable pub zs_store : Frame → ℕ → Bool → ℕ → ℕ → List ℕ
-zs_store frame place more x y = (28 ∷ []) ++ (half (bit_or (surface_at frame zs_write).bits (bit_where more 8192)) ++ word (bit_or place (bit_where (not more && is_last_tile frame x y) 8)))
+zs_store frame place more x y = (28 ∷ []) ++ (half (bit_or (surface_at frame zs_write).bits (number_where more 8192)) ++ word (bit_or place (number_where (not more && is_last_tile frame x y) 8)))
 
 -- Colour is the last of a tile's writes: 25 ends the frame, 24 doesn't.
 unfoldable pub color_store : Frame → ℕ → ℕ → List ℕ

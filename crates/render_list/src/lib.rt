@@ -4,10 +4,12 @@
 mod fault;
 mod frame;
 mod setup;
+mod size;
 mod surfaces;
 mod text;
 
 pub use fault::RenderFault;
 pub use setup::Setup;
+pub use size::render_size;
 pub use surfaces::check_surfaces;
 pub use text::build;

@@ -1,12 +1,15 @@
 //! Writing the renderer list.
-ghost use Rattle.std.specs.Prelude.{◌≡◌, ◌≤◌, ◌<◌, ◌^◌, ◌+◌, ◌||◌, length};
+ghost use Rattle.std.specs.Prelude.{◌≡◌, ◌≤◌, ◌<◌, ◌^◌, ◌+◌, ◌||◌, length, false, None};
 ghost use Rattle.std.specs.Int.{to_le_bytes, w16, w32};
 ghost use Rattle.render_list.specs.Frame.{FitsAt, FitsFull, TileFits, IsSetupFor, place_at, full_place};
+ghost use Rattle.field_words.specs.Writes.{with_bytes};
+ghost use Rattle.render_list.specs.Length.{render_length};
 ghost use Rattle.render_list.specs.Writing.{written};
-ghost use Rattle.render_list.specs.Text.{head_text, clear_text, clear_part, coordinates, idle_store, full_load, general_load, load_text, between_loads, color_load, zs_load, loads_text, coordinates_after, bit_where, is_written, more_after_multisample_zs, more_after_multisample_color, some_before_zs, some_before_color, multisample_text, full_store, zs_store, color_store, multisample_color_text, multisample_zs_text, zs_text, color_text, writes_text, tile_text, row_text, tiles_text, render_text};
+ghost use Rattle.render_list.specs.Text.{head_text, clear_text, clear_part, coordinates, idle_store, full_load, general_load, load_text, between_loads, color_load, zs_load, loads_text, coordinates_after, number_where, is_written, more_after_multisample_zs, more_after_multisample_color, some_before_zs, some_before_color, multisample_text, full_store, zs_store, color_store, multisample_color_text, multisample_zs_text, zs_text, color_text, writes_text, tile_text, row_text, tiles_text, render_text};
 
 use crate::frame::{COLOR_READ, COLOR_WRITE, MULTISAMPLE_COLOR, MULTISAMPLE_ZS, ZS_READ, ZS_WRITE, full_place, is_full, is_last_tile, surface};
 use crate::setup::Setup;
+use relocation::Layout;
 use job_format::Frame;
 
 /// A tile by its coordinates.
@@ -186,11 +189,11 @@ fn put_loads(out: &mut [u8], at: usize, frame: &Frame, setup: &Setup, tile: Tile
     put_zs_load(out, at, frame, color, setup.place_of(ZS_READ), tile)
 }
 
-/// The bit where the test is true, else no bit.
-fn bit_where(test: bool, bit: u32) -> u32
-    ensures { result ≡ bit_where test bit }
+/// The number where the test is true, else 0.
+fn number_where(test: bool, number: u32) -> u32
+    ensures { result ≡ number_where test number }
 {
-    if test { bit } else { 0 }
+    if test { number } else { 0 }
 }
 
 /// Whether the surface is there to be written.
@@ -253,7 +256,7 @@ fn put_full_store(out: &mut [u8], at: usize, frame: &Frame, place: u32, skipped:
     ensures end { result ≡ at + length (full_store frame.now place skipped more tile.x tile.y) }
 {
     let is_final = !more && is_last_tile(frame, tile.x, tile.y);
-    let bits = skipped + bit_where(more, 4) + bit_where(is_final, 8);
+    let bits = skipped + number_where(more, 4) + number_where(is_final, 8);
     let [p0, p1, p2, p3] = (full_place(frame, place, tile.x, tile.y) | bits).to_le_bytes();
     put(out, at, &[26, p0, p1, p2, p3])
 }
@@ -265,9 +268,9 @@ fn put_zs_store(out: &mut [u8], at: usize, frame: &Frame, place: u32, more: bool
     ensures end { result ≡ at + length (zs_store frame.now place more tile.x tile.y) }
 {
     let is_final = !more && is_last_tile(frame, tile.x, tile.y);
-    let bits = surface(frame, ZS_WRITE).bits | bit_where(more, 0x2000) as u16;
+    let bits = surface(frame, ZS_WRITE).bits | number_where(more, 0x2000) as u16;
     let [b0, b1] = bits.to_le_bytes();
-    let [p0, p1, p2, p3] = (place | bit_where(is_final, 8)).to_le_bytes();
+    let [p0, p1, p2, p3] = (place | number_where(is_final, 8)).to_le_bytes();
     put(out, at, &[28, b0, b1, p0, p1, p2, p3])
 }
 
@@ -420,4 +423,14 @@ fn put_list(out: &mut [u8], at: usize, frame: &Frame, setup: &Setup, slot: u32) 
     put_tiles(out, at, frame, setup, slot)
 }
 
-pub fn build() {}
+/// Writes the renderer list of the frame at its place in `out`, the window of the lists' region, and
+/// changes no other byte. `tiles` is the binner's grid where there is a binner list.
+#[tactic(auto, unfolding(crate::specs::Writing::written), using(crate::proofs::Length::render_fits))]
+pub fn build(frame: &Frame, setup: &Setup, tiles: Option<(u8, u8)>, layout: &Layout, out: &mut [u8])
+    requires no_grid { tiles ≡ None }
+    requires setup { IsSetupFor frame.now setup.now.places }
+    requires room { layout.now.render + render_length frame.now false ≤ length out.old }
+    ensures { out.new ≡ with_bytes out.old layout.now.render (render_text frame.now setup.now.places tiles layout.now.slot) }
+{
+    let _end = put_list(out, layout.render as usize, frame, setup, layout.slot);
+}
