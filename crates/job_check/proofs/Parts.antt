@@ -11,7 +11,7 @@ use Rattle.job_check.specs.Emit.{content_parts, ContentsFit}
 pub parts_step : {X : Type 0} (f : X → List ℕ) (buffers : List Buffer) (xs : List X) (k : ℕ) (d : Buffer) (x : X)
     → k < length buffers → k < length xs → x ≡ get_or xs k x
     → content_parts (drop k buffers) (map f (drop k xs))
-        ≡ record { place = (get_or buffers k d).place; bytes = f x } ∷ content_parts (drop (k + 1) buffers) (map f (drop (k + 1) xs))
+    ≡ record { place = (get_or buffers k d).place; bytes = f x } ∷ content_parts (drop (k + 1) buffers) (map f (drop (k + 1) xs))
 unfolding content_parts
 parts_step f buffers xs k d x hb hx e =
     ap (λ bs. content_parts bs (map f (drop k xs))) (drop_more buffers k d hb)
@@ -25,9 +25,9 @@ pub fit_step : {X : Type 0} (size : ℕ) (f : X → List ℕ) (buffers : List Bu
 unfolding ContentsFit
 fit_step size f buffers xs k d x hb hx e fit =
     let one : ContentsFit size (get_or buffers k d ∷ drop (k + 1) buffers) (map f (drop k xs)) =
-        subst (λ bs. ContentsFit size bs (map f (drop k xs))) (drop_more buffers k d hb) fit in
+    subst (λ bs. ContentsFit size bs (map f (drop k xs))) (drop_more buffers k d hb) fit in
     let two : ContentsFit size (get_or buffers k d ∷ drop (k + 1) buffers) (f (get_or xs k x) ∷ map f (drop (k + 1) xs)) =
-        subst (λ ys. ContentsFit size (get_or buffers k d ∷ drop (k + 1) buffers) (map f ys)) (drop_more xs k x hx) one in
+    subst (λ ys. ContentsFit size (get_or buffers k d ∷ drop (k + 1) buffers) (map f ys)) (drop_more xs k x hx) one in
     subst (λ y. ContentsFit size (get_or buffers k d ∷ drop (k + 1) buffers) (f y ∷ map f (drop (k + 1) xs))) (sym e) two
 
 pub parts_end : {X : Type 0} (f : X → List ℕ) (buffers : List Buffer) (xs : List X)

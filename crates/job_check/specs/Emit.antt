@@ -1,6 +1,6 @@
 -- The memory of an accepted file: zeros, but for the contents of each buffer at its place and the
 -- renderer list in the lists' region.
-use Rattle.std.specs.Prelude.{ℕ, ◌+◌, ◌≤◌, List, [], ◌∷◌, ◌++◌, length}
+use Rattle.std.specs.Prelude.{◌≡◌, ℕ, ◌+◌, ◌≤◌, List, [], ◌∷◌, ◌++◌, length}
 use Rattle.field_words.specs.Writes.{Part, emitted}
 use Rattle.buffer_table.specs.declared.buffer.Buffer.{Buffer}
 use Rattle.job_format.specs.Model.{FileModel}
@@ -35,3 +35,9 @@ unfoldable pub ContentsFit : ℕ → List Buffer → List (List ℕ) → Type 0
 ContentsFit size [] contents = Unit {0}
 ContentsFit size (buffer ∷ buffers) [] = Unit {0}
 ContentsFit size (buffer ∷ buffers) (content ∷ contents) = (buffer.place + length content ≤ size) × ContentsFit size buffers contents
+
+-- What an accepted file comes to.
+pub record IsEmitted (f : FileModel) (memory : List ℕ) (layout : Layout) (lengths : Lengths) : Type 0 where
+  pub memory_is : memory ≡ memory_of f
+  pub layout_is : layout ≡ layout_of f 0
+  pub lengths_are : lengths ≡ lengths_of f 0

@@ -71,7 +71,7 @@ surfaces_stage f j = answered (surface_refused f j) (surface_faults (job_of f j)
 unfoldable pub layout_stage : FileModel → ℕ → List (Question Refusal)
 layout_stage f j =
     Ask (nat_lt f.regions.lists_size (lists_end (length (job_of f j).bin) (length (job_of f j).records) (length (job_of f j).uniforms) (length (render_list_of f j))))
-        (refused X 1 (layout_offset (job_offset f j))) ∷ []
+    (refused X 1 (layout_offset (job_offset f j))) ∷ []
 
 -- all of a job, and all of a file that was read
 unfoldable pub job_stages : FileModel → ℕ → List (Question Refusal)

@@ -11,7 +11,8 @@ use phys_mem::PhysMem;
 pub fn put_contents(memory: &mut PhysMem, buffers: &[Buffer], contents: &[Vec<u8>])
     requires each { length contents.now ≡ length buffers.now }
     requires fit { ContentsFit (length memory.old) buffers.now (map (λ c. c.items) contents.now) }
-    ensures { memory.new ≡ placed memory.old (content_parts buffers.now (map (λ c. c.items) contents.now)) }
+    ensures long { length memory.new ≡ length memory.old }
+    ensures put { memory.new ≡ placed memory.old (content_parts buffers.now (map (λ c. c.items) contents.now)) }
 {
     for k in 0..buffers.len() {
         put_content(memory, &buffers[k], &contents[k]);

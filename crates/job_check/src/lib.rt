@@ -4,9 +4,10 @@
 //! `stages.rt`.
 #![tactic(auto)]
 
+mod check;
 mod emit;
+mod layout;
 mod refusals;
 mod stages;
 
-pub use stages::{table_stage, handles_stage, surfaces_stage};
-pub use emit::put_contents;
+pub use check::{Checked, check_job};

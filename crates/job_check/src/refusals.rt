@@ -12,7 +12,9 @@ use render_list::RenderFault;
 
 /// The bytes of the header, of a buffer's entry and of a job's entry.
 const HEADER: u64 = 36;
+
 const BUFFER_ENTRY: u64 = 20;
+
 const JOB_ENTRY: u64 = 124;
 
 fn refusal(stage: Stage, number: u8, offset: u64) -> Refusal
@@ -94,7 +96,11 @@ pub fn surface_refusal(file: &JobFile, fault: &RenderFault) -> Refusal
     requires { IsWellFormed (file_view file.now) }
     ensures { result ≡ surface_refused (file_view file.now) 0 fault.now }
 {
-    refusal(Stage::G, fault.number, surface_offset(entry_offset(file), fault.item))
+    refusal(
+        Stage::G,
+        fault.number,
+        surface_offset(entry_offset(file), fault.item),
+    )
 }
 
 /// The lists don't fit their region.

@@ -1,9 +1,10 @@
 //! The stages of the check, one function each.
-ghost use Rattle.std.specs.Prelude.{◌≡◌, ◌<◌, ◌≤◌, IfOk};
+ghost use Rattle.std.specs.Prelude.{◌≡◌, ◌<◌, ◌≤◌, IfOk, IsOk};
 ghost use Rattle.field_words.specs.Questions.{Answers};
 ghost use Rattle.job_format.specs.File.{IsWellFormed, IsJobWellFormed};
 ghost use Rattle.job_format.specs.Model.{file_view, job_view};
 ghost use Rattle.buffer_table.specs.Handles.{AreNumbersOf};
+ghost use Rattle.buffer_table.specs.Sound.{IsSound};
 ghost use Rattle.render_list.specs.Frame.{IsSetupFor};
 ghost use Rattle.job_check.specs.Faults.{table_of, job_of, places_in, table_stage, handles_stage, surfaces_stage};
 
@@ -18,7 +19,8 @@ use std::alloc::Global;
 #[tactic(auto, unfolding(crate::specs::Faults::table_stage), using(field_words::proofs::Questions::answered_none, field_words::proofs::Questions::answered_some))]
 pub fn table_stage(alloc: Global, file: &JobFile) -> Result<Table, Stop<Refusal>>
     requires { IsWellFormed (file_view file.now) }
-    ensures { Answers (table_stage (file_view file.now)) (λ table. table ≡ table_of (file_view file.now)) result }
+    ensures answers { Answers (table_stage (file_view file.now)) (λ table. table ≡ table_of (file_view file.now)) result }
+    ensures sound { IsOk result → IsSound file.now.mem_size file.now.regions file.now.buffers.items }
 {
     match Table::make(alloc, file.mem_size, file.regions, &file.buffers) {
         Ok(table) => Ok(table),
