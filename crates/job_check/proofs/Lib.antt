@@ -1,0 +1,4 @@
+pub mod Emission
+pub mod Jobs
+pub mod Parts
+pub mod Windows

@@ -1,0 +1,29 @@
+-- Where the things that rules speak of stand in the file: header, buffer entries, job entries,
+-- contents, and then each job's parts, its handles first.
+use Rattle.std.specs.Prelude.{ℕ, ◌+◌, ◌-◌, ◌*◌, ◌==◌, List, length, map, sum, take, if◌then◌else◌}
+use Rattle.job_format.specs.Model.{FileModel, JobModel}
+
+-- item 0 is the memory, 1 the lists' region, 2 the tile region, 3 + b buffer b
+unfoldable pub item_offset : ℕ → ℕ
+item_offset item =
+    if item == 0 then 8 else (if item == 1 then 12 else (if item == 2 then 20 else 36 + 20 * (item - 3)))
+
+-- the entry of job j
+unfoldable pub job_offset : FileModel → ℕ → ℕ
+job_offset f j = 36 + 20 * length f.buffers + 124 * j
+
+-- the bytes of a job's parts: handles, binner list, records, uniforms
+abbrev pub parts_size : JobModel → ℕ
+parts_size job = 4 * length job.handles + length job.bin + length job.records + length job.uniforms
+
+-- the handles of job j, after the contents of all buffers, which are as long as the entries say
+unfoldable pub handles_offset : FileModel → ℕ → ℕ
+handles_offset f j = job_offset f (length f.jobs) + sum (map (λ b. b.content) f.buffers) + sum (map parts_size (take j f.jobs))
+
+-- item 0 of a frame is the frame itself, 1 to 6 its surfaces, 7 the whole
+unfoldable pub surface_offset : ℕ → ℕ → ℕ
+surface_offset entry item = if item == 0 then entry + 32 else (if item == 7 then entry + 36 else entry + 36 + 12 * (item - 1))
+
+-- the layout is answered at the size of the binner list
+unfoldable pub layout_offset : ℕ → ℕ
+layout_offset entry = entry + 12

@@ -1,0 +1,13 @@
+//! The check of a job file that was read: the first rule that fails, or the memory that the job is to run in.
+//!
+//! `specs/Faults.antt` lists the stages in the order of refusal. A further stage is a line there and a function in
+//! `stages.rt`.
+#![tactic(auto)]
+
+mod check;
+mod emit;
+mod layout;
+mod refusals;
+mod stages;
+
+pub use check::{Checked, check_job};
