@@ -9,7 +9,7 @@ use Rattle.field_words.proofs.Pieces.{drop_drop}
 use Rattle.std.proofs.Math.Nat.{suc-add}
 use Rattle.std.proofs.Math.Dec.{eqb-suc-zero}
 use Rattle.field_words.specs.Words.{u32_at}
-use Rattle.vc4check.specs.Text.{place_text, row_at, is_blank, row_text, rows_text}
+use Rattle.dumper.specs.Text.{place_text, row_at, is_blank, row_text, rows_text}
 
 -- what `{:08x}` writes
 pub place_shown : (place : ℕ) → padded_integral (format_spec 32 0 4 8 (2 ^ 64 - 1)) false [] (digits 16 false place) ≡ place_text place

@@ -1,7 +1,7 @@
 use Rattle.std.proofs.Common.{◌≡◌, ◌+◌, ◌*◌, ◌-◌, ◌/◌, ◌++◌, sym, ap, ◌∙◌, arith, append_assoc, append-nil}
-use Rattle.vc4check.specs.Text.{row_text, rows_text}
-use Rattle.vc4check.proofs.Rows.{rows_step, no_rows}
-use Rattle.vc4check.proofs.text.push_rows.Goals as goal
+use Rattle.dumper.specs.Text.{row_text, rows_text}
+use Rattle.dumper.proofs.Rows.{rows_step, no_rows}
+use Rattle.dumper.proofs.text.push_rows.Goals as goal
 
 pub loop-row-preserved : goal.loop-row-preserved
 loop-row-preserved c =

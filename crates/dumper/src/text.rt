@@ -1,10 +1,11 @@
-//! The text that `check` prints of an accepted job.
-ghost use Rattle.std.specs.Prelude.{◌≡◌, ◌≤◌, ◌<◌, ◌^◌, ◌+◌, ◌++◌, ◌/◌, length, IfOk, OnOk, string_bytes};
-ghost use Rattle.vc4check.specs.Text.{place_text, span_line, memory_line, slot_line, row_line, row_at, is_blank, row_text, rows_text, layout_text, accepted_text};
+//! The texts of an accepted job and of a refusal.
+ghost use Rattle.std.specs.Prelude.{◌≡◌, ◌≤◌, ◌<◌, ◌^◌, ◌+◌, ◌++◌, ◌/◌, ◌%◌, length, IfOk, OnOk, string_bytes};
+ghost use Rattle.dumper.specs.Text.{place_text, list_line, memory_line, slot_line, row_line, row_at, is_blank, row_text, rows_text, layout_text, accepted_text, refused_text, PlacesFit};
 
-use super::layout::{Layout, Span};
 use field_words::NoMemory;
+use job_format::Refusal;
 use phys_mem::PhysMem;
+use relocation::{Layout, Lengths};
 use std::alloc::{AllocError, Global};
 
 #[tactic(auto, using(crate::proofs::Rows::place_shown))]
@@ -14,12 +15,11 @@ fn place_text(alloc: Global, place: u32) -> Result<String, AllocError>
     format!(in alloc; "{place:08x}")
 }
 
-#[tactic(auto, unfolding(crate::specs::Text::span_line))]
-fn span_line(alloc: Global, name: &str, span: &Span) -> Result<String, AllocError>
-    ensures { IfOk result (λ line. string_bytes line ≡ span_line name.now span.now) }
+#[tactic(auto, unfolding(crate::specs::Text::list_line))]
+fn list_line(alloc: Global, name: &str, place: u32, length: u32) -> Result<String, AllocError>
+    ensures { IfOk result (λ line. string_bytes line ≡ list_line name.now place length) }
 {
-    let place = place_text(alloc, span.place)?;
-    let length = span.length;
+    let place = place_text(alloc, place)?;
     format!(in alloc; "{name} {place} {length}\n")
 }
 
@@ -121,30 +121,66 @@ fn push_rows(alloc: Global, out: &mut Vec<u8>, memory: &PhysMem) -> Result<(), A
 }
 
 #[tactic(auto, unfolding(crate::specs::Text::layout_text))]
-fn push_layout(alloc: Global, out: &mut Vec<u8>, layout: &Layout) -> Result<(), AllocError>
-    ensures { OnOk result (out.new.items ≡ out.old.items ++ layout_text layout.now) }
+fn push_layout(
+    alloc: Global,
+    out: &mut Vec<u8>,
+    layout: &Layout,
+    lengths: &Lengths,
+) -> Result<(), AllocError>
+    requires { PlacesFit layout.now }
+    ensures { OnOk result (out.new.items ≡ out.old.items ++ layout_text layout.now lengths.now) }
 {
-    out.extend_from_slice(span_line(alloc, "bin", &layout.bin)?.as_bytes())?;
-    out.extend_from_slice(span_line(alloc, "records", &layout.records)?.as_bytes())?;
-    out.extend_from_slice(span_line(alloc, "uniforms", &layout.uniforms)?.as_bytes())?;
-    out.extend_from_slice(span_line(alloc, "render", &layout.render)?.as_bytes())?;
+    let place = layout.place;
+    out.extend_from_slice(list_line(alloc, "bin", place + layout.bin, lengths.bin)?.as_bytes())?;
+    out.extend_from_slice(list_line(
+        alloc,
+        "records",
+        place + layout.records,
+        lengths.records,
+    )?.as_bytes())?;
+    out.extend_from_slice(list_line(
+        alloc,
+        "uniforms",
+        place + layout.uniforms,
+        lengths.uniforms,
+    )?.as_bytes())?;
+    out.extend_from_slice(list_line(
+        alloc,
+        "render",
+        place + layout.render,
+        lengths.render,
+    )?.as_bytes())?;
     out.extend_from_slice(slot_line(alloc, layout.slot)?.as_bytes())
 }
 
-/// The text of an accepted job, from the memory that it runs in and where its parts lie there. A
-/// row whose bytes are all zero is left out.
+/// The text of an accepted job, from the memory that it runs in and where its parts lie there. Places have eight hexadecimal
+/// digits, lengths and the memory's size in bytes are decimal. A row of 16 bytes that are all zero is left out.
 #[tactic(auto, unfolding(crate::specs::Text::accepted_text))]
-pub fn accepted_text(
+pub fn image_text(
     alloc: Global,
     memory: &PhysMem,
     layout: &Layout,
-) -> Result<Vec<u8>, AllocError>
-    ensures { IfOk result (λ text. text.items ≡ accepted_text memory.now layout.now) }
+    lengths: &Lengths,
+) -> Result<Vec<u8>, NoMemory>
+    requires rows { length memory.now % 16 ≡ 0 }
+    requires places { PlacesFit layout.now }
+    ensures { IfOk result (λ text. text.items ≡ accepted_text memory.now layout.now lengths.now) }
 {
     let mut out = b"accepted\n".to_vec(alloc)?;
     out.extend_from_slice(memory_line(alloc, memory.len())?.as_bytes())?;
-    push_layout(alloc, &mut out, layout)?;
+    push_layout(alloc, &mut out, layout, lengths)?;
     push_rows(alloc, &mut out, memory)?;
     out.extend_from_slice(b"end\n")?;
     Ok(out)
+}
+
+/// The text of a refusal: the rule's letter and number, and the place in the file that it is about.
+#[tactic(auto, unfolding(crate::specs::Text::refused_text))]
+pub fn refusal_text(alloc: Global, refusal: &Refusal) -> Result<Vec<u8>, NoMemory>
+    ensures { IfOk result (λ text. text.items ≡ refused_text refusal.now) }
+{
+    let rule = refusal.rule;
+    let offset = refusal.offset;
+    let line = format!(in alloc; "refused {rule} at {offset}\n")?;
+    Ok(line.into_bytes())
 }
