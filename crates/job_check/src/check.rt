@@ -8,7 +8,7 @@ ghost use Rattle.buffer_table.specs.Handles.{AreNumbersOf};
 ghost use Rattle.buffer_table.specs.Sound.{IsSound};
 ghost use Rattle.render_list.specs.Frame.{IsSetupFor};
 ghost use Rattle.job_check.specs.Faults.{table_of, job_of, places_in, surfaces_stage, layout_stage, job_stages, file_stages};
-ghost use Rattle.job_check.specs.Emit.{layout_of, lengths_of, memory_of, IsEmitted};
+ghost use Rattle.job_check.specs.Emit.{layout_of, lengths_of, memory_of, IsEmitted, IsPlaced, InOrder};
 
 use super::emit::put_contents;
 use super::layout::{layout_stage, put_list};
@@ -44,7 +44,9 @@ fn emit(
     requires setup { IsSetupFor job.now.frame setup.now.places }
     requires fits { layout.end ≤ file.now.regions.lists_size }
     requires layout_is { layout ≡ layout_of (file_view file.now) 0 }
-    ensures { IfOk result (λ checked. IsEmitted (file_view file.now) checked.memory checked.layout checked.lengths) }
+    requires order { InOrder layout }
+    ensures emitted { IfOk result (λ checked. IsEmitted (file_view file.now) checked.memory checked.layout checked.lengths) }
+    ensures placed { IfOk result (λ checked. IsPlaced checked.memory checked.layout) }
 {
     let mut memory = PhysMem::new(alloc, file.mem_size)?;
     put_contents(&mut memory, &file.buffers, &file.contents);
@@ -75,7 +77,8 @@ fn place_lists(
     requires table { IsSound file.now.mem_size file.now.regions file.now.buffers.items }
     requires places { setup.now.places ≡ places_in (file_view file.now) 0 }
     requires setup { IsSetupFor job.now.frame setup.now.places }
-    ensures { Answers (layout_stage (file_view file.now) 0) (λ checked. IsEmitted (file_view file.now) checked.memory checked.layout checked.lengths) result }
+    ensures answers { Answers (layout_stage (file_view file.now) 0) (λ checked. IsEmitted (file_view file.now) checked.memory checked.layout checked.lengths) result }
+    ensures placed { IfOk result (λ checked. IsPlaced checked.memory checked.layout) }
 {
     let layout = layout_stage(file, job, setup)?;
     match emit(alloc, file, job, setup, layout) {
@@ -99,7 +102,8 @@ fn check_frame(
     requires table_is { table.now ≡ table_of (file_view file.now) }
     requires handles_are { handles.now ≡ (job_of (file_view file.now) 0).handles }
     requires numbers { AreNumbersOf table.now handles.now }
-    ensures { Answers (surfaces_stage (file_view file.now) 0 ++ layout_stage (file_view file.now) 0) (λ checked. IsEmitted (file_view file.now) checked.memory checked.layout checked.lengths) result }
+    ensures answers { Answers (surfaces_stage (file_view file.now) 0 ++ layout_stage (file_view file.now) 0) (λ checked. IsEmitted (file_view file.now) checked.memory checked.layout checked.lengths) result }
+    ensures placed { IfOk result (λ checked. IsPlaced checked.memory checked.layout) }
 {
     match surfaces_stage(file, job, table, handles) {
         Ok(setup) => place_lists(alloc, file, job, &setup),
@@ -120,7 +124,8 @@ fn check_one(
     requires limits { IsJobWellFormed (job_view job.now) }
     requires table { IsSound file.now.mem_size file.now.regions file.now.buffers.items }
     requires table_is { table.now ≡ table_of (file_view file.now) }
-    ensures { Answers (job_stages (file_view file.now) 0) (λ checked. IsEmitted (file_view file.now) checked.memory checked.layout checked.lengths) result }
+    ensures answers { Answers (job_stages (file_view file.now) 0) (λ checked. IsEmitted (file_view file.now) checked.memory checked.layout checked.lengths) result }
+    ensures placed { IfOk result (λ checked. IsPlaced checked.memory checked.layout) }
 {
     match handles_stage(alloc, file, job, table) {
         Ok(handles) => check_frame(alloc, file, job, table, &handles),
@@ -133,7 +138,8 @@ fn check_one(
 #[tactic(auto, unfolding(crate::specs::Faults::file_stages))]
 pub fn check_job(alloc: Global, file: &JobFile) -> Result<Checked, Stop<Refusal>>
     requires { IsWellFormed (file_view file.now) }
-    ensures { Answers (file_stages (file_view file.now)) (λ checked. IsEmitted (file_view file.now) checked.memory checked.layout checked.lengths) result }
+    ensures answers { Answers (file_stages (file_view file.now)) (λ checked. IsEmitted (file_view file.now) checked.memory checked.layout checked.lengths) result }
+    ensures placed { IfOk result (λ checked. IsPlaced checked.memory checked.layout) }
 {
     match table_stage(alloc, file) {
         Ok(table) => check_one(alloc, file, &file.jobs[0], &table),

@@ -8,7 +8,7 @@ ghost use Rattle.render_list.specs.Frame.{IsSetupFor};
 ghost use Rattle.render_list.specs.Length.{render_length};
 ghost use Rattle.render_list.specs.Text.{render_text};
 ghost use Rattle.job_check.specs.Faults.{job_of, places_in, slot_of, render_list_of, layout_stage};
-ghost use Rattle.job_check.specs.Emit.{layout_of};
+ghost use Rattle.job_check.specs.Emit.{layout_of, InOrder};
 
 use super::refusals::layout_refusal;
 use field_words::Stop;
@@ -30,6 +30,7 @@ pub fn layout_stage(file: &JobFile, job: &Job, setup: &Setup) -> Result<Layout, 
     requires setup { IsSetupFor job.now.frame setup.now.places }
     ensures answers { Answers (layout_stage (file_view file.now) 0) (λ layout. layout ≡ layout_of (file_view file.now) 0) result }
     ensures fits { IfOk result (λ layout. layout.end ≤ file.now.regions.lists_size) }
+    ensures order { IfOk result (λ layout. InOrder layout) }
 {
     let regions = &file.regions;
     let bin = job.bin.len() as u32;
@@ -48,7 +49,8 @@ pub fn put_list(memory: &mut PhysMem, frame: &Frame, setup: &Setup, layout: &Lay
     requires setup { IsSetupFor frame.now setup.now.places }
     requires room { layout.now.render + render_length frame.now false ≤ layout.now.end }
     requires fits { layout.now.place + layout.now.end ≤ length memory.old }
-    ensures { memory.new ≡ with_bytes memory.old (layout.now.place + layout.now.render) (render_text frame.now setup.now.places None layout.now.slot) }
+    ensures long { length memory.new ≡ length memory.old }
+    ensures put { memory.new ≡ with_bytes memory.old (layout.now.place + layout.now.render) (render_text frame.now setup.now.places None layout.now.slot) }
 {
     let window = memory.window(layout.place, layout.end);
     build(frame, setup, None, layout, window);

@@ -1,31 +1,37 @@
--- What the program answers to all of its input: a status and a text.
-use Rattle.std.specs.Prelude.{◌≡◌, ◌⊎◌, ℕ, List}
+-- What `check` answers to all of its input: a status and a text.
+use Rattle.std.specs.Prelude.{◌≡◌, ℕ, ◌++◌, List, Option, Some, None}
+use Rattle.field_words.specs.Questions.{Question, first_of, answered}
+use Rattle.job_format.specs.declared.rule.FormatFault.{FormatFault}
+use Rattle.job_format.specs.declared.rule.Refusal.{Refusal}
+use Rattle.job_format.specs.declared.rule.Stage.TheVariants.{F}
+use Rattle.job_format.specs.Faults.{file_questions}
 use Rattle.job_format.specs.Model.{FileModel}
-use Rattle.thin_job.specs.Shape.{IsThinFile, thin_of}
-use Rattle.thin_job.specs.Memory.{thin_memory}
-use Rattle.thin_job.specs.declared.thin.Thin.{Thin}
-use Rattle.vc4check.specs.declared.layout.Layout.{Layout}
-use Rattle.vc4check.specs.Text.{accepted_text, refused_text}
+use Rattle.job_format.specs.Reading.{file_at}
+use Rattle.job_check.specs.Faults.{refused, file_stages}
+use Rattle.job_check.specs.Emit.{memory_of, layout_of, lengths_of}
+use Rattle.dumper.specs.Text.{accepted_text, refused_text}
 
--- A thin job's only list is the renderer's, at the start of the lists' region.
-abbrev pub thin_layout : Thin → Layout
-thin_layout t = record {
-  bin = record { place = t.regions.lists_place; length = 0 };
-  records = record { place = t.regions.lists_place; length = 0 };
-  uniforms = record { place = t.regions.lists_place; length = 0 };
-  render = record { place = t.regions.lists_place; length = 15 };
-  slot = t.regions.tile_place;
-}
+-- F: the format of the file
+abbrev pub format_refused : FormatFault → Refusal
+format_refused fault = refused F fault.number fault.offset
 
--- what is printed of a thin file
-unfoldable pub thin_text : Thin → List ℕ
-thin_text t = accepted_text (thin_memory t) (thin_layout t)
+-- All rules by which these bytes can be refused, in the order of refusal. The stages after the format are asked of the file
+-- that the bytes hold.
+unfoldable pub all_questions : List ℕ → List (Question Refusal)
+all_questions bytes = answered format_refused (file_questions bytes) ++ file_stages (file_at bytes)
 
-abbrev pub NotThin : List ℕ → Type 0
-NotThin bytes = (f : FileModel) → IsThinFile bytes f → ⊥
+-- the first rule that stands, if any
+unfoldable pub refusal_of : List ℕ → Option Refusal
+refusal_of bytes = first_of (all_questions bytes)
 
--- A thin file is accepted, and any other is refused.
+-- what is printed of an accepted file: its emitted memory, and where its lists lie there
+unfoldable pub image_of : FileModel → List ℕ
+image_of f = accepted_text (memory_of f) (layout_of f 0) (lengths_of f 0)
+
+-- Where no rule stands the file is accepted with its memory; else it is refused by the first that does.
+abbrev pub IsVerdict : Option Refusal → FileModel → ℕ → List ℕ → Type 0
+IsVerdict None f status text = (status ≡ 0) × (text ≡ image_of f)
+IsVerdict (Some refusal) f status text = (status ≡ 1) × (text ≡ refused_text refusal)
+
 abbrev pub IsCheckAnswer : List ℕ → ℕ → List ℕ → Type 0
-IsCheckAnswer bytes status text =
-    ((f : FileModel) × IsThinFile bytes f × (status ≡ 0) × (text ≡ thin_text (thin_of f)))
-    ⊎ (NotThin bytes × (status ≡ 1) × (text ≡ refused_text))
+IsCheckAnswer bytes status text = IsVerdict (refusal_of bytes) (file_at bytes) status text

@@ -1,75 +1,76 @@
 //! The command `check`.
-ghost use Rattle.std.specs.Prelude.{◌≡◌, ◌≢◌, ◌≤◌, ◌<◌, ◌⊎◌, ◌↔◌, ◌+◌, length, IfOk, IfSome};
+ghost use Rattle.std.specs.Prelude.{◌≡◌, ◌≢◌, ◌≤◌, ◌<◌, ◌⊎◌, ◌↔◌, ◌+◌, length, IfOk, IfSome, Some, None};
 ghost use Rattle.std.specs.Io.KnownBytes.{Appends};
+ghost use Rattle.field_words.specs.Questions.{Answers};
 ghost use Rattle.job_io.specs.Faults.{Rose};
 ghost use Rattle.job_io.specs.Traffic.{count_taken};
-ghost use Rattle.job_format.specs.Model.{FileModel};
-ghost use Rattle.thin_job.specs.Shape.{IsThinFile, thin_of};
-ghost use Rattle.thin_job.specs.Thin.{KeepsRules};
-ghost use Rattle.vc4check.specs.Answer.{thin_layout, thin_text, NotThin, IsCheckAnswer};
+ghost use Rattle.job_format.specs.Reading.{file_at};
+ghost use Rattle.job_format.specs.File.{IsFileOf};
+ghost use Rattle.vc4check.specs.Answer.{all_questions, format_refused, refusal_of, IsCheckAnswer, IsVerdict};
 ghost use Rattle.vc4check.specs.Run.{IsAnswered, IsCut};
-ghost use Rattle.vc4check.specs.Text.{refused_text};
+ghost use Rattle.job_check.specs.Emit.{IsEmitted};
 
 use super::answer::{Answer, reply};
-use super::layout::{Layout, Span};
-use super::text::accepted_text;
-use field_words::NoMemory;
+use dumper::{image_text, refusal_text};
+use field_words::{NoMemory, Stop};
+use job_check::{Checked, check_job};
+use job_format::{FormatFault, Refusal, Rule, Stage, read_job};
 use job_io::{ReadEnd, Sink, Source, read_all};
 use std::alloc::Global;
-use thin_job::{Thin, build_memory, read_thin};
 
 /// The most bytes of input that `check` takes.
 pub const LIMIT: usize = 25_165_824;
 
-fn thin_layout(thin: &Thin) -> Layout
-    ensures { result ≡ thin_layout thin.now }
+fn format_refusal(fault: &FormatFault) -> Refusal
+    ensures { result ≡ format_refused fault.now }
 {
-    let place = thin.regions.lists_place;
-    let empty = Span { place, length: 0 };
-    Layout {
-        bin: empty,
-        records: empty,
-        uniforms: empty,
-        render: Span { place, length: 15 },
-        slot: thin.regions.tile_place,
+    Refusal {
+        rule: Rule {
+            stage: Stage::F,
+            number: fault.number,
+        },
+        offset: fault.offset,
     }
 }
 
-#[tactic(auto, unfolding(crate::specs::Answer::thin_text))]
-fn thin_text(alloc: Global, thin: &Thin) -> Result<Vec<u8>, NoMemory>
-    requires { KeepsRules thin.now }
-    ensures { IfOk result (λ text. text.items ≡ thin_text thin.now) }
+/// The first rule that fails, or the job's memory.
+#[tactic(auto, unfolding(crate::specs::Answer::all_questions))]
+fn judged(alloc: Global, bytes: &[u8]) -> Result<Checked, Stop<Refusal>>
+    ensures { Answers (all_questions bytes.now) (λ checked. IsEmitted (file_at bytes.now) checked.memory checked.layout checked.lengths) result }
 {
-    let memory = build_memory(alloc, thin)?;
-    let text = accepted_text(alloc, &memory, &thin_layout(thin))?;
-    Ok(text)
+    match read_job(alloc, bytes) {
+        Ok(file) => check_job(alloc, &file),
+        Err(Stop::Fault(fault)) => Err(Stop::Fault(format_refusal(&fault))),
+        Err(Stop::NoMemory) => Err(Stop::NoMemory),
+    }
 }
 
-/// What `check` answers to these bytes: an accepted thin file, or a refusal.
+/// What `check` answers to these bytes: the memory of an accepted job, or a refusal.
+#[tactic(auto, unfolding(crate::specs::Answer::refusal_of, crate::specs::Answer::image_of))]
 fn answer(alloc: Global, bytes: &[u8]) -> Result<Answer, NoMemory>
-    ensures answers { IfOk result (λ a. IsCheckAnswer bytes.now a.status a.text.items) }
-    ensures thin { (f : FileModel) → IsThinFile bytes.now f → IfOk result (λ a. (a.status ≡ 0) × (a.text.items ≡ thin_text (thin_of f))) }
-    ensures other { NotThin bytes.now → IfOk result (λ a. (a.status ≡ 1) × (a.text.items ≡ refused_text)) }
+    ensures { IfOk result (λ a. IsCheckAnswer bytes.now a.status a.text.items) }
+    ensures status { IfOk result (λ a. a.status < 2) }
 {
-    let Some(thin) = read_thin(bytes) else {
-        let text = b"refused F6 at 0\n".to_vec(alloc)?;
-        return Ok(Answer { status: 1, text });
-    };
-    let text = thin_text(alloc, &thin)?;
-    Ok(Answer { status: 0, text })
+    match judged(alloc, bytes) {
+        Ok(checked) => {
+            let text = image_text(alloc, &checked.memory, &checked.layout, &checked.lengths)?;
+            Ok(Answer { status: 0, text })
+        }
+        Err(Stop::Fault(refusal)) => {
+            let text = refusal_text(alloc, &refusal)?;
+            Ok(Answer { status: 1, text })
+        }
+        Err(Stop::NoMemory) => Err(NoMemory),
+    }
 }
 
 /// Appends the answer to these bytes to the sink. All memory is taken before the first byte is
 /// written.
 fn respond<K: Sink>(alloc: Global, bytes: &[u8], sink: &mut K) -> u8
-    ensures statuses { result ≢ 4 → result ≢ 5 → result < 2 }
+    ensures statuses { (result < 2) ⊎ ((result ≡ 4) ⊎ (result ≡ 5)) }
     ensures write { result ≡ 4 → Rose (K.faults sink.old) (K.faults sink.new) }
     ensures answered { result < 2 → IsAnswered IsCheckAnswer bytes.now result (K.held sink.old) (K.held sink.new) }
     ensures cut { result ≡ 4 → IsCut IsCheckAnswer bytes.now (K.held sink.old) (K.held sink.new) }
-    ensures accepted { (f : FileModel) → IsThinFile bytes.now f → result < 2 →
-        (result ≡ 0) × Appends (K.held sink.old) (K.held sink.new) (thin_text (thin_of f)) }
-    ensures refused { NotThin bytes.now → result < 2 →
-        (result ≡ 1) × Appends (K.held sink.old) (K.held sink.new) refused_text }
     ensures nothing { 1 < result → result ≢ 4 → sink.new ≡ sink.old }
 {
     let Ok(answer) = answer(alloc, bytes) else {
@@ -93,12 +94,8 @@ pub fn check<S: Source, K: Sink>(alloc: Global, source: &mut S, sink: &mut K) ->
     ensures within { IfSome (S.left source.old) (λ bytes. length bytes ≤ LIMIT → result ≢ 6) }
     ensures answered { result < 2 → IfSome (S.left source.old) (λ bytes. IsAnswered IsCheckAnswer bytes result (K.held sink.old) (K.held sink.new)) }
     ensures cut { result ≡ 4 → IfSome (S.left source.old) (λ bytes. IsCut IsCheckAnswer bytes (K.held sink.old) (K.held sink.new)) }
-    ensures accepted { IfSome (S.left source.old) (λ bytes. (f : FileModel) → IsThinFile bytes f → result < 2 →
-        (result ≡ 0) × Appends (K.held sink.old) (K.held sink.new) (thin_text (thin_of f))) }
-    ensures refused { IfSome (S.left source.old) (λ bytes. NotThin bytes → result < 2 →
-        (result ≡ 1) × Appends (K.held sink.old) (K.held sink.new) refused_text) }
     ensures complete { (Rose (S.faults source.old) (S.faults source.new) → ⊥) → (Rose (K.faults sink.old) (K.faults sink.new) → ⊥)
-        → result ≢ 5 → result ≢ 6 → result < 2 }
+        → result ≢ 6 → ((result < 2) ⊎ (result ≡ 5)) }
     ensures nothing { 1 < result → result ≢ 4 → sink.new ≡ sink.old }
 {
     match read_all(alloc, source, LIMIT) {

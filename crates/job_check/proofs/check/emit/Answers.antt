@@ -1,4 +1,4 @@
-use Rattle.std.proofs.Common.{◌≡◌, ℕ, ◌+◌, ◌-◌, ◌≤◌, List, length, map, None, false, refl, sym, ap, subst, arith, ◌∙◌}
+use Rattle.std.proofs.Common.{◌≡◌, ℕ, ◌+◌, ◌-◌, ◌%◌, ◌≤◌, List, length, map, None, false, refl, sym, ap, subst, arith, ◌∙◌}
 use Rattle.field_words.specs.Writes.{placed, zeros, with_bytes}
 use Rattle.job_format.specs.Model.{file_view}
 use Rattle.render_list.specs.Text.{render_text}
@@ -31,8 +31,8 @@ overflow_sub-lengths c =
     let numbers = layout_numbers (file_view c.args.file.now) c.args.layout c.requires.layout_is in
     omega (arith, numbers.2)
 
-pub returns : goal.returns
-returns c =
+pub returns-clause-emitted : goal.returns-clause-emitted
+returns-clause-emitted c =
     let f = file_view c.args.file.now in
     let numbers = layout_numbers f c.args.layout c.requires.layout_is in
     let put : c.put_contents.new.memory ≡ placed (zeros f.mem_size) (content_parts f.buffers f.contents) =
@@ -43,7 +43,20 @@ returns c =
     let size : c.args.layout.end - c.args.layout.render ≡ length (render_list_of f 0) = omega (arith, numbers.2) in
     let lengths : ℕ → Lengths = λ n. record { bin = 0; records = 0; uniforms = 0; render = n } in
     is_emitted f c.put_list.new.memory c.args.layout (lengths (c.args.layout.end - c.args.layout.render)) c.requires.layout_is
-    (c.put_list.ensures
+    (c.put_list.ensures.put
     ∙ ap (λ m. with_bytes m (c.args.layout.place + c.args.layout.render) (render_text c.args.job.now.frame c.args.setup.now.places None c.args.layout.slot)) put
     ∙ ap (with_bytes (placed (zeros f.mem_size) (content_parts f.buffers f.contents)) (c.args.layout.place + c.args.layout.render)) (list_is f c.args.layout c.args.job.now.frame c.args.setup.now.places c.requires.layout_is (ap (λ j. j.frame) c.requires.job_is) c.requires.places))
     (ap lengths size)
+
+pub returns-clause-placed : goal.returns-clause-placed
+returns-clause-placed c =
+    let f = file_view c.args.file.now in
+    let numbers = layout_numbers f c.args.layout c.requires.layout_is in
+    let size : length c.put_list.new.memory ≡ f.mem_size =
+    c.put_list.ensures.long ∙ c.put_contents.ensures.long ∙ ap length c.in_ok-memory.ensures ∙ length_zeros f.mem_size in
+    record {
+      pages = ap (λ n. n % 4096) size ∙ c.requires.table.pages;
+      limit = omega (arith, size, c.requires.table.limit);
+      inside = omega (arith, size, numbers.0, c.requires.fits, lists_inside f c.requires.table);
+      order = c.requires.order;
+    }

@@ -7,8 +7,8 @@ use Rattle.render_list.proofs.Length.{length_render}
 use Rattle.job_check.proofs.Windows.{window_written}
 use Rattle.job_check.proofs.layout.put_list.Goals as goal
 
-pub returns : goal.returns
-returns c =
+pub returns-clause-put : goal.returns-clause-put
+returns-clause-put c =
     let memory = c.args.memory.now in
     let layout = c.args.layout.now in
     let text = render_text c.args.frame.now c.args.setup.now.places None layout.slot in
