@@ -1,5 +1,7 @@
 -- What `check` answers to all of its input: a status and a text.
 use Rattle.std.specs.Prelude.{◌≡◌, ℕ, ◌++◌, List, Option, Some, None}
+use Rattle.field_words.specs.declared.stop.Stop.{Stop}
+use Rattle.field_words.specs.declared.stop.Stop.TheVariants.{Fault, NoMemory}
 use Rattle.field_words.specs.Questions.{Question, first_of, answered}
 use Rattle.job_format.specs.declared.rule.FormatFault.{FormatFault}
 use Rattle.job_format.specs.declared.rule.Refusal.{Refusal}
@@ -14,6 +16,10 @@ use Rattle.dumper.specs.Text.{accepted_text, refused_text}
 -- F: the format of the file
 abbrev pub format_refused : FormatFault → Refusal
 format_refused fault = refused F fault.number fault.offset
+
+abbrev pub format_stopped : Stop FormatFault → Stop Refusal
+format_stopped (Fault fault) = Fault (format_refused fault)
+format_stopped NoMemory = NoMemory
 
 -- All rules by which these bytes can be refused, in the order of refusal. The stages after the format are asked of the file
 -- that the bytes hold.

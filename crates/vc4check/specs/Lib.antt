@@ -1,4 +1,3 @@
 pub mod Answer
 pub mod Run
-pub mod Text
 pub mod Words

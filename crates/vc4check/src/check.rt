@@ -1,14 +1,14 @@
 //! The command `check`.
-ghost use Rattle.std.specs.Prelude.{◌≡◌, ◌≢◌, ◌≤◌, ◌<◌, ◌⊎◌, ◌↔◌, ◌+◌, length, IfOk, IfSome, Some, None};
+ghost use Rattle.std.specs.Prelude.{◌≡◌, ◌≢◌, ◌≤◌, ◌<◌, ◌⊎◌, ◌↔◌, ◌+◌, length, IfOk, IsOk, IfSome, Some, None};
 ghost use Rattle.std.specs.Io.KnownBytes.{Appends};
 ghost use Rattle.field_words.specs.Questions.{Answers};
 ghost use Rattle.job_io.specs.Faults.{Rose};
 ghost use Rattle.job_io.specs.Traffic.{count_taken};
 ghost use Rattle.job_format.specs.Reading.{file_at};
 ghost use Rattle.job_format.specs.File.{IsFileOf};
-ghost use Rattle.vc4check.specs.Answer.{all_questions, format_refused, refusal_of, IsCheckAnswer, IsVerdict};
+ghost use Rattle.vc4check.specs.Answer.{all_questions, format_stopped, refusal_of, IsCheckAnswer, IsVerdict};
 ghost use Rattle.vc4check.specs.Run.{IsAnswered, IsCut};
-ghost use Rattle.job_check.specs.Emit.{IsEmitted};
+ghost use Rattle.job_check.specs.Emit.{IsEmitted, IsPlaced};
 
 use super::answer::{Answer, reply};
 use dumper::{image_text, refusal_text};
@@ -21,35 +21,41 @@ use std::alloc::Global;
 /// The most bytes of input that `check` takes.
 pub const LIMIT: usize = 25_165_824;
 
-fn format_refusal(fault: &FormatFault) -> Refusal
-    ensures { result ≡ format_refused fault.now }
+/// A fault of the format is a refusal by a rule F.
+fn format_refusal(stop: Stop<FormatFault>) -> Stop<Refusal>
+    ensures { result ≡ format_stopped stop }
 {
-    Refusal {
-        rule: Rule {
-            stage: Stage::F,
-            number: fault.number,
-        },
-        offset: fault.offset,
+    match stop {
+        Stop::Fault(fault) => Stop::Fault(Refusal {
+            rule: Rule {
+                stage: Stage::F,
+                number: fault.number,
+            },
+            offset: fault.offset,
+        }),
+        Stop::NoMemory => Stop::NoMemory,
     }
 }
 
 /// The first rule that fails, or the job's memory.
 #[tactic(auto, unfolding(crate::specs::Answer::all_questions))]
 fn judged(alloc: Global, bytes: &[u8]) -> Result<Checked, Stop<Refusal>>
-    ensures { Answers (all_questions bytes.now) (λ checked. IsEmitted (file_at bytes.now) checked.memory checked.layout checked.lengths) result }
+    ensures answers { Answers (all_questions bytes.now) (λ checked. IsEmitted (file_at bytes.now) checked.memory checked.layout checked.lengths) result }
+    ensures placed { IfOk result (λ checked. IsPlaced checked.memory checked.layout) }
+    ensures spelled { IsOk result → IsFileOf bytes.now (file_at bytes.now) }
 {
     match read_job(alloc, bytes) {
         Ok(file) => check_job(alloc, &file),
-        Err(Stop::Fault(fault)) => Err(Stop::Fault(format_refusal(&fault))),
-        Err(Stop::NoMemory) => Err(Stop::NoMemory),
+        Err(stop) => Err(format_refusal(stop)),
     }
 }
 
 /// What `check` answers to these bytes: the memory of an accepted job, or a refusal.
 #[tactic(auto, unfolding(crate::specs::Answer::refusal_of, crate::specs::Answer::image_of))]
 fn answer(alloc: Global, bytes: &[u8]) -> Result<Answer, NoMemory>
-    ensures { IfOk result (λ a. IsCheckAnswer bytes.now a.status a.text.items) }
+    ensures answers { IfOk result (λ a. IsCheckAnswer bytes.now a.status a.text.items) }
     ensures status { IfOk result (λ a. a.status < 2) }
+    ensures spelled { IfOk result (λ a. a.status ≡ 0 → IsFileOf bytes.now (file_at bytes.now)) }
 {
     match judged(alloc, bytes) {
         Ok(checked) => {
@@ -71,6 +77,7 @@ fn respond<K: Sink>(alloc: Global, bytes: &[u8], sink: &mut K) -> u8
     ensures write { result ≡ 4 → Rose (K.faults sink.old) (K.faults sink.new) }
     ensures answered { result < 2 → IsAnswered IsCheckAnswer bytes.now result (K.held sink.old) (K.held sink.new) }
     ensures cut { result ≡ 4 → IsCut IsCheckAnswer bytes.now (K.held sink.old) (K.held sink.new) }
+    ensures spelled { result ≡ 0 → IsFileOf bytes.now (file_at bytes.now) }
     ensures nothing { 1 < result → result ≢ 4 → sink.new ≡ sink.old }
 {
     let Ok(answer) = answer(alloc, bytes) else {
@@ -94,6 +101,7 @@ pub fn check<S: Source, K: Sink>(alloc: Global, source: &mut S, sink: &mut K) ->
     ensures within { IfSome (S.left source.old) (λ bytes. length bytes ≤ LIMIT → result ≢ 6) }
     ensures answered { result < 2 → IfSome (S.left source.old) (λ bytes. IsAnswered IsCheckAnswer bytes result (K.held sink.old) (K.held sink.new)) }
     ensures cut { result ≡ 4 → IfSome (S.left source.old) (λ bytes. IsCut IsCheckAnswer bytes (K.held sink.old) (K.held sink.new)) }
+    ensures spelled { result ≡ 0 → IfSome (S.left source.old) (λ bytes. IsFileOf bytes (file_at bytes)) }
     ensures complete { (Rose (S.faults source.old) (S.faults source.new) → ⊥) → (Rose (K.faults sink.old) (K.faults sink.new) → ⊥)
         → result ≢ 6 → ((result < 2) ⊎ (result ≡ 5)) }
     ensures nothing { 1 < result → result ≢ 4 → sink.new ≡ sink.old }

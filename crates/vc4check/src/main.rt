@@ -6,11 +6,9 @@
 mod answer;
 mod check;
 mod command;
-mod layout;
 mod run;
 #[cfg(test)]
 mod tests;
-mod text;
 
 use job_io::{ReaderSource, WriterSink};
 use std::process::ExitCode;

@@ -3,11 +3,12 @@ ghost use Rattle.std.specs.Prelude.{◌≡◌, ◌≢◌, ◌≤◌, ◌<◌, �
 ghost use Rattle.std.specs.Io.KnownBytes.{Appends};
 ghost use Rattle.job_io.specs.Faults.{Rose};
 ghost use Rattle.job_io.specs.Traffic.{count_taken};
-ghost use Rattle.job_format.specs.Model.{FileModel};
-ghost use Rattle.thin_job.specs.Shape.{IsThinFile, thin_of};
-ghost use Rattle.vc4check.specs.Answer.{thin_text, NotThin, IsCheckAnswer};
+ghost use Rattle.job_format.specs.declared.rule.Refusal.{Refusal};
+ghost use Rattle.job_format.specs.File.{IsFileOf};
+ghost use Rattle.job_format.specs.Reading.{file_at};
+ghost use Rattle.dumper.specs.Text.{refused_text};
+ghost use Rattle.vc4check.specs.Answer.{refusal_of, image_of, IsCheckAnswer};
 ghost use Rattle.vc4check.specs.Run.{IsAnswered, IsCut};
-ghost use Rattle.vc4check.specs.Text.{refused_text};
 ghost use Rattle.vc4check.specs.Words.{texts, command_of};
 ghost use Rattle.vc4check.specs.declared.command.Command.TheVariants.{Check};
 
@@ -55,11 +56,14 @@ pub fn run<S: Source, K: Sink>(
         IfSome (S.left source.old) (λ bytes. IsAnswered IsCheckAnswer bytes result (K.held sink.old) (K.held sink.new)) }
     ensures cut { command_of (texts words.now.items) ≡ Some Check → result ≡ 4 →
         IfSome (S.left source.old) (λ bytes. IsCut IsCheckAnswer bytes (K.held sink.old) (K.held sink.new)) }
-    ensures accepted { command_of (texts words.now.items) ≡ Some Check → IfSome (S.left source.old) (λ bytes.
-        (f : FileModel) → IsThinFile bytes f → result < 2 →
-        (result ≡ 0) × Appends (K.held sink.old) (K.held sink.new) (thin_text (thin_of f))) }
-    ensures refused { command_of (texts words.now.items) ≡ Some Check → IfSome (S.left source.old) (λ bytes.
-        NotThin bytes → result < 2 → (result ≡ 1) × Appends (K.held sink.old) (K.held sink.new) refused_text) }
+    // The same by the first rule that fails: none, and the file's memory is printed; or that rule with its offset.
+    ensures accepted { command_of (texts words.now.items) ≡ Some Check → result < 2 → IfSome (S.left source.old) (λ bytes.
+        refusal_of bytes ≡ None → (result ≡ 0) × Appends (K.held sink.old) (K.held sink.new) (image_of (file_at bytes))) }
+    ensures refused { command_of (texts words.now.items) ≡ Some Check → result < 2 → IfSome (S.left source.old) (λ bytes. (refusal : Refusal) →
+        refusal_of bytes ≡ Some refusal → (result ≡ 1) × Appends (K.held sink.old) (K.held sink.new) (refused_text refusal)) }
+    // An accepted file is what its bytes spell.
+    ensures spelled { command_of (texts words.now.items) ≡ Some Check → result ≡ 0 → IfSome (S.left source.old) (λ bytes.
+        IsFileOf bytes (file_at bytes)) }
 {
     match command_of(words) {
         None => 2,

@@ -1,5 +1,4 @@
-use Rattle.std.proofs.Common.{◌≢◌, arith, sym, subst, ◌∙◌}
-use Rattle.std.specs.Io.KnownBytes.{Appends}
+use Rattle.std.proofs.Common.{◌≢◌, arith, sym, subst}
 use Rattle.vc4check.specs.Answer.{IsCheckAnswer}
 use Rattle.vc4check.proofs.check.respond.Goals as goal
 
@@ -13,9 +12,3 @@ returns-clause-answered g c = λ low.
 
 pub returns-clause-cut : goal.returns-clause-cut
 returns-clause-cut g c = λ cut. (c.in-Ok.answer.status, c.in-Ok.answer.text.items, c.in-Ok.ensures.answers, c.reply.ensures.cut cut)
-
-pub returns-clause-accepted : goal.returns-clause-accepted
-returns-clause-accepted g c = λ f h low.
-    let wrote : c.reply.result ≢ 4 = λ e. omega (arith, e, low) in
-    let accepted = c.in-Ok.ensures.thin f h in
-    (c.reply.ensures.status wrote ∙ accepted.0, subst (Appends _ _) accepted.1 (c.reply.ensures.written wrote))
