@@ -1,4 +1,5 @@
 use super::run::run;
+use field_words::put_u32;
 use job_io::{MemSink, MemSource, NullSink, SteadySource};
 use std::alloc::{AllocError, Global};
 use std::test::Fail;
@@ -47,8 +48,8 @@ fn answers_files(rt: HostRuntime) -> Result<(), Fail> {
     for (bytes, status, text) in [
         (file(alloc, SMALLEST)?, 0, SMALLEST_TEXT),
         (file(alloc, MOVED)?, 0, MOVED_TEXT),
-        (longer, 1, "refused F6 at 0\n"),
-        (Vec::new(alloc), 1, "refused F6 at 0\n"),
+        (longer, 1, "refused F3 at 184\n"),
+        (Vec::new(alloc), 1, "refused F2 at 0\n"),
     ] {
         let mut source = MemSource::new(bytes, 100, Vec::new(alloc));
         let mut sink = MemSink::new(alloc, 1000, 1000, Vec::new(alloc))?;
@@ -109,5 +110,104 @@ fn asks_for_words_and_keeps_the_limit(rt: HostRuntime) -> Result<(), Fail> {
         ),
         6
     );
+    Ok(())
+}
+
+/// The smallest job with other words at some places.
+fn changed(alloc: Global, changes: &[(usize, u32)]) -> Result<Vec<u8>, Fail> {
+    let mut bytes = file(alloc, SMALLEST)?;
+    for (at, word) in changes {
+        if *at < 181 && bytes.len() == 184 {
+            put_u32(&mut bytes, *at, *word);
+        }
+    }
+    Ok(bytes)
+}
+
+/// The front of what `check` prints of these bytes.
+fn printed(alloc: Global, bytes: Vec<u8>) -> Result<MemSink, Fail> {
+    let mut source = SteadySource::new(bytes);
+    let mut sink = MemSink::new(alloc, 100_000, 100_000, Vec::new(alloc))?;
+    run(alloc, &words(alloc, &["check"])?, &mut source, &mut sink);
+    Ok(sink)
+}
+
+// One change of the smallest job, or a few, and the line that tells of it. Words stand at 8 the memory's size, 12 the lists'
+// place, 28 the buffers, 36 the buffer's place, 40 its size, 48 its kind, 56 the job's client, 60 its flags, 80 its uniforms,
+// 84 width and height, 88 the tiles, 104 colour write, 128 ZS write, 176 the stencil and three zeros, 180 the handle.
+#[test]
+fn names_the_first_rule(rt: HostRuntime) -> Result<(), Fail> {
+    let alloc = rt.alloc();
+    let large = [(8, 0x108_1000), (40, 0x100_0000), (84, 0x0800_0800)];
+    let [size, room, pixels] = large;
+    for (changes, line) in [
+        ([(8, 0)].as_slice(), "refused M1 at 8\n"),
+        (&[(28, 65)], "refused F4 at 28\n"),
+        (&[(48, 2)], "refused F5 at 48\n"),
+        (&[(48, 1)], "refused F6 at 48\n"),
+        (&[(60, 2)], "refused F5 at 60\n"),
+        (&[(80, 2)], "refused F5 at 80\n"),
+        (&[(176, 0x0001_0000)], "refused F5 at 178\n"),
+        (&[(12, 1)], "refused M2 at 12\n"),
+        (&[(36, 0x8_0000)], "refused M4 at 36\n"),
+        (&[(88, 1)], "refused G1 at 88\n"),
+        (&[(84, 0x0010_1001)], "refused G10 at 104\n"),
+        (&[(112, 6)], "refused G5 at 104\n"),
+        (&[(108, 8)], "refused G9 at 104\n"),
+        (&[(104, 1)], "refused G6 at 104\n"),
+        (&[(104, 0xffff_ffff)], "refused G13 at 92\n"),
+        (&[(128, 0), (136, 0x0102)], "refused G8 at 128\n"),
+        (&[(180, 1)], "refused H1 at 180\n"),
+        (&[(56, 2)], "refused H1 at 180\n"),
+        (
+            &[size, room, pixels, (88, 0x1f1f_0000)],
+            "refused X1 at 68\n",
+        ),
+    ] {
+        let sink = printed(alloc, changed(alloc, changes)?)?;
+        assert_eq!(rt; sink.bytes(), line.as_bytes(), "{line}");
+    }
+    Ok(())
+}
+
+// A frame of 31 by 32 tiles, whose list has 3,979 bytes; and a ZS write to a buffer of the colour kind.
+#[test]
+fn accepts_further_frames(rt: HostRuntime) -> Result<(), Fail> {
+    let alloc = rt.alloc();
+    let wide = [
+        (8, 0x108_1000),
+        (40, 0x100_0000),
+        (84, 0x0800_0800),
+        (88, 0x1f1e_0000),
+    ];
+    let sink = printed(alloc, changed(alloc, &wide)?)?;
+    assert!(rt; sink.bytes().starts_with(b"accepted\nmemory 17305600\n"));
+    let length = b"render 00000000 3979\n";
+    assert!(rt;
+        sink.bytes()
+            .windows(length.len())
+            .any(|part| part == length.as_slice())
+    );
+    let zs = [(104, 0xffff_ffff), (128, 0), (132, 0), (136, 1)];
+    let sink = printed(alloc, changed(alloc, &zs)?)?;
+    assert!(rt; sink.bytes().starts_with(b"accepted\n"));
+    Ok(())
+}
+
+// The first n bytes of the smallest job.
+#[test]
+fn refuses_what_is_cut_off(rt: HostRuntime) -> Result<(), Fail> {
+    let alloc = rt.alloc();
+    let whole = file(alloc, SMALLEST)?;
+    for n in 0..whole.len() {
+        let line = match n {
+            0..=35 => "refused F2 at 0\n",
+            36..=55 => "refused F2 at 36\n",
+            56..=179 => "refused F2 at 56\n",
+            _ => "refused F2 at 180\n",
+        };
+        let sink = printed(alloc, whole[..n].to_vec(alloc)?)?;
+        assert_eq!(rt; sink.bytes(), line.as_bytes(), "at {n}");
+    }
     Ok(())
 }

@@ -19,8 +19,8 @@ returns-in-Ok-clause-answers c =
     let bytes = c.args.bytes.now in
     let P : FileModel → Checked → Type 0 = λ f checked. IsEmitted f checked.memory checked.layout checked.lengths in
     answers_later (answered format_refused (file_questions bytes)) (file_stages (file_at bytes)) (P (file_at bytes)) c.check_job.result
-        (answered_none format_refused (file_questions bytes) c.in-Ok.ensures.read.0)
-        (subst (λ f. Answers (file_stages f) (P f) c.check_job.result) c.in-Ok.ensures.read.1 c.check_job.ensures.answers)
+    (answered_none format_refused (file_questions bytes) c.in-Ok.ensures.read.0)
+    (subst (λ f. Answers (file_stages f) (P f) c.check_job.result) c.in-Ok.ensures.read.1 c.check_job.ensures.answers)
 
 -- A fault of the format is the first rule of all that stands.
 stopped : (bytes : List ℕ) (stop : Stop FormatFault) → Refuses (file_questions bytes) stop → Refuses (all_questions bytes) (format_stopped stop)
