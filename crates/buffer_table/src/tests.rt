@@ -25,17 +25,17 @@ fn at(place: u32) -> Buffer {
     Buffer { place, ..BUFFER }
 }
 
-/// The first fault of a memory with one to three buffers.
+/// The first fault of a memory with three buffers.
 fn fault_of(
     alloc: Global,
     memory: u32,
     regions: Regions,
-    buffers: &[Buffer],
+    three: [Buffer; 3],
 ) -> Result<Option<(u8, u32)>, AllocError> {
-    let buffers = buffers.to_vec(alloc)?;
-    if buffers.len() > 3 {
-        return Ok(None);
-    }
+    let mut buffers = Vec::new(alloc);
+    buffers.push(three[0])?;
+    buffers.push(three[1])?;
+    buffers.push(three[2])?;
     Ok(match Table::make(alloc, memory, regions, &buffers) {
         Err(Stop::Fault(fault)) => Some((fault.number, fault.item)),
         _ => None,
@@ -135,7 +135,7 @@ fn the_first_memory_rule_that_fails(rt: HostRuntime) -> Result<(), Fail> {
             Some((4, 2)),
         ),
     ] {
-        assert_eq!(rt; fault_of(alloc, memory, regions, &buffers)?, want);
+        assert_eq!(rt; fault_of(alloc, memory, regions, buffers)?, want);
     }
     Ok(())
 }
