@@ -10,6 +10,6 @@ pub are_numbers : (t : TableModel) (client : ℕ) (numbers : List ℕ) → first
 unfolding handles_questions handle_questions
 are_numbers t client numbers none i inside =
     let here : first_of (handle_questions t client numbers i) ≡ None =
-        subst (λ k. first_of (handle_questions t client numbers k) ≡ None) (zero-add i) (each_none (handle_questions t client numbers) 0 (length numbers) i none inside) in
+    subst (λ k. first_of (handle_questions t client numbers k) ≡ None) (zero-add i) (each_none (handle_questions t client numbers) 0 (length numbers) i none inside) in
     let asked = none_stands (handle_questions t client numbers i) here in
     grind (arith, asked.0)

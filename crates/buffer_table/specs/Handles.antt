@@ -1,5 +1,5 @@
 -- What a job's handles name.
-use Rattle.std.specs.Prelude.{ℕ, ◌<◌, Bool, true, false, not, ◌||◌, ◌&&◌, nat_lt, nat_le, ◌==◌, List, [], ◌∷◌, length, slice_index, Option, Some, None, if◌then◌else◌}
+use Rattle.std.specs.Prelude.{◌≡◌, ℕ, ◌<◌, Bool, true, false, not, ◌||◌, ◌&&◌, nat_lt, nat_le, ◌==◌, List, [], ◌∷◌, length, slice_index, Option, Some, None, if◌then◌else◌}
 use Rattle.field_words.specs.Questions.{Question, Ask, each}
 use Rattle.buffer_table.specs.declared.buffer.Kind.{Kind}
 use Rattle.buffer_table.specs.declared.buffer.Kind.TheVariants.{Plain, Code}
@@ -17,6 +17,13 @@ handles_questions t client numbers = each (handle_questions t client numbers) 0 
 -- each handle is the number of a buffer of the table
 abbrev pub AreNumbersOf : TableModel → List ℕ → Type 0
 AreNumbersOf t handles = (i : ℕ) → i < length handles → slice_index handles i < length t.buffers
+
+-- a handle names a Plain buffer, or a Code buffer
+abbrev pub IsData : TableModel → List ℕ → ℕ → Type 0
+IsData t handles i = (i < length handles) × ((buffer_at t.buffers (slice_index handles i)).kind ≡ Plain)
+
+abbrev pub IsCode : TableModel → List ℕ → ℕ → Type 0
+IsCode t handles i = (i < length handles) × ((buffer_at t.buffers (slice_index handles i)).kind ≡ Code)
 
 abbrev pub is_plain : Kind → Bool
 is_plain Plain = true

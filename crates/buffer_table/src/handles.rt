@@ -2,9 +2,8 @@
 ghost use Rattle.std.specs.Prelude.{◌≡◌, ◌<◌, ◌≤◌, length, slice_index, IfOk, IfSome};
 ghost use Rattle.std.specs.Option.{SomeIff};
 ghost use Rattle.field_words.specs.Questions.{Answers, first_of, each};
-ghost use Rattle.buffer_table.specs.declared.buffer.Kind.TheVariants.{Plain, Code as CodeKind};
 ghost use Rattle.buffer_table.specs.Table.{TableModel, buffer_at};
-ghost use Rattle.buffer_table.specs.Handles.{handle_questions, handles_questions, AreNumbersOf, data_of, code_of};
+ghost use Rattle.buffer_table.specs.Handles.{handle_questions, handles_questions, AreNumbersOf, IsData, IsCode, data_of, code_of};
 
 use crate::buffer::Kind;
 use crate::table::Table;
@@ -81,6 +80,7 @@ impl Handles {
 pub fn use_data(table: &Table, handles: &Handles, index: u32) -> Option<usize>
     requires made { AreNumbersOf table.now handles.now }
     ensures value { result ≡ data_of table.now handles.now index }
+    ensures exact { SomeIff result (IsData table.now handles.now index) (slice_index handles.now index) }
     ensures below { IfSome result (λ number. number < length table.now.buffers) }
 {
     let number = *handles.numbers.get(index as usize)? as usize;
@@ -96,6 +96,7 @@ pub fn use_data(table: &Table, handles: &Handles, index: u32) -> Option<usize>
 pub fn use_code(table: &Table, handles: &Handles, index: u32) -> Option<usize>
     requires made { AreNumbersOf table.now handles.now }
     ensures value { result ≡ code_of table.now handles.now index }
+    ensures exact { SomeIff result (IsCode table.now handles.now index) (slice_index handles.now index) }
     ensures below { IfSome result (λ number. number < length table.now.buffers) }
 {
     let number = *handles.numbers.get(index as usize)? as usize;

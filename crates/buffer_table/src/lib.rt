@@ -10,3 +10,6 @@ pub use buffer::{Buffer, Kind, Regions, TableFault};
 pub use handles::{Handles, use_code, use_data};
 pub use item::Item;
 pub use table::Table;
+
+#[cfg(test)]
+mod tests;

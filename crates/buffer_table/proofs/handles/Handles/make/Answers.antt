@@ -7,4 +7,4 @@ use Rattle.buffer_table.proofs.handles.Handles.make.Goals as goal
 pub returns-clause-numbers : goal.returns-clause-numbers
 returns-clause-numbers c =
     subst (AreNumbersOf c.args.table.now) (sym c.in_ok-from_slice.ensures.items)
-      (are_numbers c.args.table.now c.args.client c.args.numbers.now (sym c.in_default.ensures))
+    (are_numbers c.args.table.now c.args.client c.args.numbers.now (sym c.in_default.ensures))

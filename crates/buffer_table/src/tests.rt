@@ -1,0 +1,184 @@
+use super::*;
+use field_words::Stop;
+use std::alloc::{AllocError, Global};
+use std::test::*;
+
+/// The memory of the smallest job: a page for lists, one tile slot, one page of a buffer.
+const MEMORY: u32 = 0x82000;
+
+const REGIONS: Regions = Regions {
+    lists_place: 0,
+    lists_size: 0x1000,
+    tile_place: 0x1000,
+    tile_slots: 1,
+};
+
+const BUFFER: Buffer = Buffer {
+    place: 0x81000,
+    size: 0x1000,
+    client: 1,
+    kind: Kind::Plain,
+    content: 0,
+};
+
+fn at(place: u32) -> Buffer {
+    Buffer { place, ..BUFFER }
+}
+
+/// The first fault of a memory with three buffers.
+fn fault_of(
+    alloc: Global,
+    memory: u32,
+    regions: Regions,
+    three: [Buffer; 3],
+) -> Result<Option<(u8, u32)>, AllocError> {
+    let mut buffers = Vec::new(alloc);
+    buffers.push(three[0])?;
+    buffers.push(three[1])?;
+    buffers.push(three[2])?;
+    Ok(match Table::make(alloc, memory, regions, &buffers) {
+        Err(Stop::Fault(fault)) => Some((fault.number, fault.item)),
+        _ => None,
+    })
+}
+
+#[test]
+fn the_first_memory_rule_that_fails(rt: HostRuntime) -> Result<(), Fail> {
+    let alloc = rt.alloc();
+    for (memory, regions, buffers, want) in [
+        (
+            MEMORY,
+            REGIONS,
+            [BUFFER, at(0x82000), at(0x83000)],
+            Some((3, 4)),
+        ),
+        (0x84000, REGIONS, [BUFFER, at(0x82000), at(0x83000)], None),
+        (
+            0x84000,
+            REGIONS,
+            [BUFFER, at(0x82000), BUFFER],
+            Some((4, 5)),
+        ),
+        (
+            0x84000,
+            REGIONS,
+            [BUFFER, BUFFER, at(0x82000)],
+            Some((4, 4)),
+        ),
+        (
+            0x84000,
+            REGIONS,
+            [at(0x80000), BUFFER, at(0x82000)],
+            Some((4, 3)),
+        ),
+        (
+            0x84000,
+            REGIONS,
+            [BUFFER, at(0x82800), at(0x83000)],
+            Some((2, 4)),
+        ),
+        (
+            0x84000,
+            REGIONS,
+            [
+                BUFFER,
+                at(0x82000),
+                Buffer {
+                    content: 0x1001,
+                    ..at(0x83000)
+                },
+            ],
+            Some((5, 5)),
+        ),
+        (
+            0x84000,
+            REGIONS,
+            [Buffer { size: 0, ..BUFFER }, at(0x82000), at(0x83000)],
+            Some((2, 3)),
+        ),
+        (0, REGIONS, [BUFFER, BUFFER, BUFFER], Some((1, 0))),
+        (0x4001000, REGIONS, [BUFFER, BUFFER, BUFFER], Some((1, 0))),
+        (
+            0x84000,
+            Regions {
+                lists_place: 1,
+                ..REGIONS
+            },
+            [BUFFER, BUFFER, BUFFER],
+            Some((2, 1)),
+        ),
+        (
+            0x84000,
+            Regions {
+                tile_slots: 0,
+                ..REGIONS
+            },
+            [BUFFER, BUFFER, BUFFER],
+            Some((2, 2)),
+        ),
+        (
+            0x84000,
+            Regions {
+                tile_slots: 8192,
+                ..REGIONS
+            },
+            [BUFFER, BUFFER, BUFFER],
+            Some((3, 2)),
+        ),
+        (
+            0x84000,
+            Regions {
+                tile_place: 0,
+                ..REGIONS
+            },
+            [BUFFER, BUFFER, BUFFER],
+            Some((4, 2)),
+        ),
+    ] {
+        assert_eq!(rt; fault_of(alloc, memory, regions, buffers)?, want);
+    }
+    Ok(())
+}
+
+#[test]
+fn handles_name_buffers_of_their_client(rt: HostRuntime) -> Result<(), Fail> {
+    let alloc = rt.alloc();
+    let mut buffers = Vec::new(alloc);
+    buffers.push(BUFFER)?;
+    buffers.push(Buffer {
+        kind: Kind::Code,
+        ..at(0x82000)
+    })?;
+    buffers.push(Buffer {
+        client: 2,
+        ..at(0x83000)
+    })?;
+    let table = match Table::make(alloc, 0x84000, REGIONS, &buffers) {
+        Ok(table) => table,
+        Err(_) => return Err("no rule fails".into()),
+    };
+    for (client, numbers, want) in [
+        (1, [0, 1], None),
+        (1, [0, 2], Some(1)),
+        (1, [3, 0], Some(0)),
+        (2, [2, 0], Some(1)),
+    ] {
+        let fault = match Handles::make(alloc, &table, client, &numbers) {
+            Err(Stop::Fault(index)) => Some(index),
+            _ => None,
+        };
+        assert_eq!(rt; fault, want);
+    }
+    match Handles::make(alloc, &table, 1, &[1, 0]) {
+        Ok(handles) => {
+            assert_eq!(rt; use_data(&table, &handles, 0), None);
+            assert_eq!(rt; use_data(&table, &handles, 1), Some(0));
+            assert_eq!(rt; use_data(&table, &handles, 2), None);
+            assert_eq!(rt; use_code(&table, &handles, 0), Some(1));
+            assert_eq!(rt; use_code(&table, &handles, 1), None);
+            assert_eq!(rt; use_code(&table, &handles, 2), None);
+        }
+        Err(_) => return Err("both are buffers of client 1".into()),
+    }
+    Ok(())
+}
