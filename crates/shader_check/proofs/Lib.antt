@@ -1,2 +1,9 @@
+pub mod Clean
+pub mod Held
+pub mod Members
+pub mod Parts
 pub mod Positions
+pub mod Roles
+pub mod Setups
+pub mod SoundInfo
 pub mod Tables

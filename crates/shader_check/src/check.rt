@@ -1,11 +1,12 @@
 //! The checker.
-ghost use Rattle.std.specs.Prelude.{◌≡◌, ◌<◌, ◌≤◌, length};
+ghost use Rattle.std.specs.Prelude.{◌≡◌, ◌<◌, ◌≤◌, length, IfOk};
 ghost use Rattle.field_words.specs.Questions.{first_of, each, Answers};
 ghost use Rattle.shader_flow.specs.Flow.{checked_of, IsFlow};
 ghost use Rattle.uniform_stream.specs.Pending.{count_of};
 ghost use Rattle.uniform_stream.specs.Stream.{uniforms_of, IsStream};
 ghost use Rattle.shader_check.specs.Rules.{questions_at, shader_questions};
 ghost use Rattle.shader_check.specs.Info.{IsInfo};
+ghost use Rattle.shader_check.specs.Sound.{IsSound};
 
 use crate::facts::index_fault;
 use crate::fault::ShaderFault;
@@ -50,9 +51,14 @@ fn uniforms(code: &[u64], flow: &Flow, count: u32) -> u32
 /// Checks a shader of at most 8,192 words. A fault is the first rule that stands, by index and then by number, of all rules at
 /// all checked instructions and on the whole shader; else it is told what the shader takes and reads. `NoMemory` may come at
 /// any time and says nothing of the shader.
+///
+/// What is told is sound, which the emission of uniforms rests on: all positions lie in the stream, and the words that the
+/// validator writes there (address words, and the first of each sample) are apart from each other and from all others that
+/// it tests.
 pub fn check_shader(alloc: Global, code: &[u64]) -> Result<ShaderInfo, Stop<ShaderFault>>
     requires { length code.now ≤ 8192 }
-    ensures { Answers (shader_questions code.now) (λ info. IsInfo code.now info.uniforms info.samples.items info.address_words.items info.threaded) result }
+    ensures answers { Answers (shader_questions code.now) (λ info. IsInfo code.now info.uniforms info.samples.items info.address_words.items info.threaded) result }
+    ensures sound { IfOk result (λ info. IsSound info.uniforms info.samples.items info.address_words.items) }
 {
     let flow = flow(alloc, code)?;
     let stream = stream(alloc, code, &flow)?;

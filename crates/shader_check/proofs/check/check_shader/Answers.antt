@@ -3,24 +3,25 @@ use Rattle.field_words.specs.Questions.{each, answered}
 use Rattle.field_words.proofs.Questions.{passes, stops, answered_none, answered_some}
 use Rattle.shader_flow.specs.Flow.{checked_of}
 use Rattle.shader_check.specs.Rules.{questions_at, fault_at, whole_questions, shader_questions}
+use Rattle.shader_check.proofs.SoundInfo.{info_sound}
 use Rattle.shader_check.proofs.check.check_shader.Goals as goal
 
-pub returns-in-Some : goal.returns-in-Some
+pub returns-in-Some-clause-answers : goal.returns-in-Some-clause-answers
 unfolding shader_questions
-returns-in-Some c =
+returns-in-Some-clause-answers c =
     stops (each (questions_at c.args.code.now) 0 (checked_of c.args.code.now)) (answered (fault_at (length c.args.code.now)) (whole_questions c.args.code.now))
     c.in-Some.fault (sym c.in-Some.ensures)
 
-pub returns-in-Some-whole_fault : goal.returns-in-Some-whole_fault
+pub returns-in-Some-whole_fault-clause-answers : goal.returns-in-Some-whole_fault-clause-answers
 unfolding shader_questions fault_at
-returns-in-Some-whole_fault c =
+returns-in-Some-whole_fault-clause-answers c =
     passes (each (questions_at c.args.code.now) 0 (checked_of c.args.code.now)) (answered (fault_at (length c.args.code.now)) (whole_questions c.args.code.now))
     (sym c.in_default.ensures)
     ∙ answered_some (fault_at (length c.args.code.now)) (whole_questions c.args.code.now) c.in-Some-whole_fault.number (sym c.in-Some-whole_fault.ensures)
 
-pub returns : goal.returns
+pub returns-clause-answers : goal.returns-clause-answers
 unfolding shader_questions
-returns c = (
+returns-clause-answers c = (
   passes (each (questions_at c.args.code.now) 0 (checked_of c.args.code.now)) (answered (fault_at (length c.args.code.now)) (whole_questions c.args.code.now))
       (sym c.in_default.ensures)
       ∙ answered_none (fault_at (length c.args.code.now)) (whole_questions c.args.code.now) (sym c.in_default-whole_fault.ensures),
@@ -31,3 +32,11 @@ returns c = (
     threaded_is = c.in_ok-flow.ensures.threaded_is;
   },
 )
+
+pub returns-clause-sound : goal.returns-clause-sound
+unfolding shader_questions
+returns-clause-sound c =
+    let none = passes (each (questions_at c.args.code.now) 0 (checked_of c.args.code.now)) (answered (fault_at (length c.args.code.now)) (whole_questions c.args.code.now))
+    (sym c.in_default.ensures)
+    ∙ answered_none (fault_at (length c.args.code.now)) (whole_questions c.args.code.now) (sym c.in_default-whole_fault.ensures) in
+    info_sound c.args.code.now _ _ _ none c.uniforms-uniforms.ensures c.in_ok-samples.ensures c.in_ok-stream.ensures.address_words_are
