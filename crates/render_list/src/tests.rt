@@ -82,11 +82,43 @@ fn table(alloc: Global) -> Result<Table, Stop<TableFault>> {
     Table::make(alloc, 0x92000, regions, &vec![in alloc; data, code]?)
 }
 
-#[test]
-fn first_faults(rt: HostRuntime) -> Result<(), Fail> {
-    let alloc = rt.alloc();
+/// A frame, the binner's grid, and the rule and item of its first fault.
+type Case = (Frame, Option<(u8, u8)>, Option<(u8, u8)>);
+
+fn expect_faults(rt: &impl Abort, alloc: Global, cases: &[Case]) -> Result<(), Fail> {
     let table = table(alloc)?;
     let handles = Handles::make(alloc, &table, 1, &[0, 1])?;
+    for (frame, tiles, fault) in cases {
+        let found = check_surfaces(frame, *tiles, &table, &handles).err();
+        assert_eq!(rt;
+            found.map(|fault| (fault.number, fault.item)),
+            *fault,
+            "{frame:?}"
+        );
+    }
+    Ok(())
+}
+
+/// 64x64 pixels with colour write absent, whose bits say multisample all the same, so that a tile
+/// has 32x32 pixels; and of those four tiles.
+const SAMPLES: Frame = Frame {
+    width: 64,
+    height: 64,
+    max_x: 1,
+    max_y: 1,
+    surfaces: [
+        ABSENT,
+        Surface { bits: 1, ..ABSENT },
+        ABSENT,
+        ABSENT,
+        ABSENT,
+        ABSENT,
+    ],
+    ..SMALL
+};
+
+#[test]
+fn faults_of_frames(rt: HostRuntime) -> Result<(), Fail> {
     let larger = Frame {
         width: 64,
         height: 64,
@@ -94,67 +126,63 @@ fn first_faults(rt: HostRuntime) -> Result<(), Fail> {
         max_y: 1,
         ..SMALL
     };
-    // Colour write is absent, but its bits say multisample, so that a tile has 32x32 pixels.
-    let samples = with(larger, 1, Surface { bits: 1, ..ABSENT });
-    let cases = [
-        (SMALL, None, None),
-        (Frame { min_y: 1, ..SMALL }, None, Some((1, 0))),
-        (Frame { max_x: 1, ..SMALL }, Some((1, 1)), Some((2, 0))),
-        (Frame { width: 0, ..SMALL }, None, Some((3, 0))),
-        (larger, None, Some((3, 0))),
-        (
-            with(SMALL, 1, Surface { flags: 1, ..COLOR }),
-            None,
-            Some((4, 2)),
-        ),
-        (with(SMALL, 0, plain(0, 0x8011)), None, Some((5, 1))),
-        (
-            with(SMALL, 1, Surface { hindex: 1, ..COLOR }),
-            None,
-            Some((6, 2)),
-        ),
-        (
-            with(SMALL, 1, Surface { hindex: 2, ..COLOR }),
-            None,
-            Some((6, 2)),
-        ),
-        (with(SMALL, 3, plain(0, 0x32)), None, Some((7, 4))),
-        // Depth and stencil have one format, whichever surface they are in.
-        (with(SMALL, 3, plain(0, 0x102)), None, Some((8, 4))),
-        (with(SMALL, 3, plain(0, 0x101)), None, None),
-        (with(SMALL, 1, plain(8, 4)), None, Some((9, 2))),
-        (with(SMALL, 1, plain(64512, 4)), None, None),
-        (with(SMALL, 1, plain(64528, 4)), None, Some((10, 2))),
-        (
-            with(
-                SMALL,
-                3,
-                Surface {
-                    flags: 1,
-                    ..plain(0, 0)
-                },
+    expect_faults(
+        &rt,
+        rt.alloc(),
+        &[
+            (SMALL, None, None),
+            (Frame { min_y: 1, ..SMALL }, None, Some((1, 0))),
+            (Frame { max_x: 1, ..SMALL }, Some((1, 1)), Some((2, 0))),
+            (Frame { width: 0, ..SMALL }, None, Some((3, 0))),
+            (larger, None, Some((3, 0))),
+            (with(SAMPLES, 4, plain(0, 0)), None, None),
+            (with(SAMPLES, 4, plain(16, 0)), None, Some((12, 5))),
+            (
+                with(with(SAMPLES, 4, plain(16, 0)), 0, plain(8, 0x11)),
+                None,
+                Some((9, 1)),
             ),
-            None,
-            Some((11, 4)),
-        ),
-        (with(samples, 4, plain(0, 0)), None, None),
-        (with(samples, 4, plain(16, 0)), None, Some((12, 5))),
-        (
-            with(with(samples, 4, plain(16, 0)), 0, plain(8, 0x11)),
-            None,
-            Some((9, 1)),
-        ),
-        (samples, None, Some((13, 7))),
-    ];
-    for (frame, tiles, fault) in cases {
-        let found = check_surfaces(&frame, tiles, &table, &handles).err();
-        assert_eq!(rt;
-            found.map(|fault| (fault.number, fault.item)),
-            fault,
-            "{frame:?}"
-        );
-    }
-    Ok(())
+            (SAMPLES, None, Some((13, 7))),
+        ],
+    )
+}
+
+#[test]
+fn faults_of_surfaces(rt: HostRuntime) -> Result<(), Fail> {
+    let full = Surface {
+        flags: 1,
+        ..plain(0, 0)
+    };
+    expect_faults(
+        &rt,
+        rt.alloc(),
+        &[
+            (
+                with(SMALL, 1, Surface { flags: 1, ..COLOR }),
+                None,
+                Some((4, 2)),
+            ),
+            (with(SMALL, 0, plain(0, 0x8011)), None, Some((5, 1))),
+            (
+                with(SMALL, 1, Surface { hindex: 1, ..COLOR }),
+                None,
+                Some((6, 2)),
+            ),
+            (
+                with(SMALL, 1, Surface { hindex: 2, ..COLOR }),
+                None,
+                Some((6, 2)),
+            ),
+            (with(SMALL, 3, plain(0, 0x32)), None, Some((7, 4))),
+            // Depth and stencil have one format; that the buffer is colour's is no fault.
+            (with(SMALL, 3, plain(0, 0x112)), None, Some((8, 4))),
+            (with(SMALL, 3, plain(0, 0x101)), None, None),
+            (with(SMALL, 1, plain(8, 4)), None, Some((9, 2))),
+            (with(SMALL, 1, plain(64512, 4)), None, None),
+            (with(SMALL, 1, plain(64528, 4)), None, Some((10, 2))),
+            (with(SMALL, 3, full), None, Some((11, 4))),
+        ],
+    )
 }
 
 /// The window of 128 bytes after the list of the frame is built at 16, behind its length.
@@ -188,62 +216,56 @@ fn expect_list(rt: &impl Abort, alloc: Global, frame: &Frame, list: &[u8]) -> Re
     Ok(())
 }
 
+/// Colour write at 0x81000, the size, the bits, the coordinates, and the last store.
+const SMALL_LIST: [u8; 15] = [
+    0x71, 0x00, 0x10, 0x08, 0x00, 0x10, 0x00, 0x10, 0x00, 0x04, 0x00, 0x73, 0x00, 0x00, 0x19,
+];
+
+/// The head, the clear part, and two tiles of 38 bytes: two loads, two stores.
+const CLEARED_LIST: [u8; 111] = [
+    0x71, 0x00, 0x10, 0x08, 0x00, 0x80, 0x00, 0x40, 0x00, 0x04, 0x00, 0x72, 0x44, 0x33, 0x22, 0x11,
+    0x88, 0x77, 0x66, 0x55, 0xef, 0xcd, 0xab, 0x00, 0x5a, 0x73, 0x00, 0x00, 0x1c, 0x00, 0x00, 0x00,
+    0x00, 0x00, 0x00, 0x1d, 0x11, 0x00, 0x00, 0x10, 0x08, 0x00, 0x73, 0x00, 0x00, 0x1c, 0x00, 0xe0,
+    0x00, 0x00, 0x00, 0x00, 0x1d, 0x12, 0x00, 0x00, 0x90, 0x08, 0x00, 0x73, 0x00, 0x00, 0x1c, 0x12,
+    0x20, 0x00, 0x90, 0x08, 0x00, 0x73, 0x00, 0x00, 0x18, 0x1d, 0x11, 0x00, 0x00, 0x10, 0x08, 0x00,
+    0x73, 0x01, 0x00, 0x1c, 0x00, 0xe0, 0x00, 0x00, 0x00, 0x00, 0x1d, 0x12, 0x00, 0x00, 0x90, 0x08,
+    0x00, 0x73, 0x01, 0x00, 0x1c, 0x12, 0x20, 0x00, 0x90, 0x08, 0x00, 0x73, 0x01, 0x00, 0x19,
+];
+
+/// One tile in full resolution: a load and two stores. Of colour write's bits only the multisample
+/// bit stays.
+const SAMPLES_LIST: [u8; 32] = [
+    0x71, 0x00, 0x00, 0x00, 0x00, 0x20, 0x00, 0x20, 0x00, 0x01, 0x00, 0x1b, 0x02, 0x10, 0x08, 0x00,
+    0x73, 0x00, 0x00, 0x1a, 0x06, 0x10, 0x08, 0x00, 0x73, 0x00, 0x00, 0x1a, 0x09, 0x50, 0x08, 0x00,
+];
+
 #[test]
 fn lists(rt: HostRuntime) -> Result<(), Fail> {
-    expect_list(
-        &rt,
-        rt.alloc(),
-        &SMALL,
-        &[
-            0x71, 0x00, 0x10, 0x08, 0x00, 0x10, 0x00, 0x10, 0x00, 0x04, 0x00, 0x73, 0x00, 0x00,
-            0x19,
-        ],
-    )?;
-    // Two tiles that are loaded, cleared and stored, in T.
-    let whole = Frame {
+    expect_list(&rt, rt.alloc(), &SMALL, &SMALL_LIST)?;
+    let zs = plain(0x8000, 0x12);
+    let cleared = Frame {
         width: 128,
         height: 64,
         max_x: 1,
-        surfaces: [
-            plain(0, 0x11),
-            plain(0, 4),
-            plain(0x8000, 0x12),
-            plain(0x8000, 0x12),
-            ABSENT,
-            ABSENT,
-        ],
+        surfaces: [plain(0, 0x11), COLOR, zs, zs, ABSENT, ABSENT],
         clear: true,
         clear_color: [0x1122_3344, 0x5566_7788],
         clear_z: 0x00ab_cdef,
         clear_s: 0x5a,
         ..SMALL
     };
-    expect_list(
-        &rt,
-        rt.alloc(),
-        &whole,
-        &[
-            0x71, 0x00, 0x10, 0x08, 0x00, 0x80, 0x00, 0x40, 0x00, 0x04, 0x00, 0x72, 0x44, 0x33,
-            0x22, 0x11, 0x88, 0x77, 0x66, 0x55, 0xef, 0xcd, 0xab, 0x00, 0x5a, 0x73, 0x00, 0x00,
-            0x1c, 0x00, 0x00, 0x00, 0x00, 0x00, 0x00, 0x1d, 0x11, 0x00, 0x00, 0x10, 0x08, 0x00,
-            0x73, 0x00, 0x00, 0x1c, 0x00, 0xe0, 0x00, 0x00, 0x00, 0x00, 0x1d, 0x12, 0x00, 0x00,
-            0x90, 0x08, 0x00, 0x73, 0x00, 0x00, 0x1c, 0x12, 0x20, 0x00, 0x90, 0x08, 0x00, 0x73,
-            0x00, 0x00, 0x18, 0x1d, 0x11, 0x00, 0x00, 0x10, 0x08, 0x00, 0x73, 0x01, 0x00, 0x1c,
-            0x00, 0xe0, 0x00, 0x00, 0x00, 0x00, 0x1d, 0x12, 0x00, 0x00, 0x90, 0x08, 0x00, 0x73,
-            0x01, 0x00, 0x1c, 0x12, 0x20, 0x00, 0x90, 0x08, 0x00, 0x73, 0x01, 0x00, 0x19,
-        ],
-    )?;
-    // One tile in full resolution; of colour write's bits only the multisample bit stays.
+    expect_list(&rt, rt.alloc(), &cleared, &CLEARED_LIST)?;
     let full = Surface {
         flags: 1,
         ..plain(0, 0)
     };
+    let multisample = Surface { bits: 5, ..ABSENT };
     let samples = Frame {
         width: 32,
         height: 32,
         surfaces: [
             full,
-            Surface { bits: 5, ..ABSENT },
+            multisample,
             ABSENT,
             ABSENT,
             plain(0, 0),
@@ -251,16 +273,7 @@ fn lists(rt: HostRuntime) -> Result<(), Fail> {
         ],
         ..SMALL
     };
-    expect_list(
-        &rt,
-        rt.alloc(),
-        &samples,
-        &[
-            0x71, 0x00, 0x00, 0x00, 0x00, 0x20, 0x00, 0x20, 0x00, 0x01, 0x00, 0x1b, 0x02, 0x10,
-            0x08, 0x00, 0x73, 0x00, 0x00, 0x1a, 0x06, 0x10, 0x08, 0x00, 0x73, 0x00, 0x00, 0x1a,
-            0x09, 0x50, 0x08, 0x00,
-        ],
-    )
+    expect_list(&rt, rt.alloc(), &samples, &SAMPLES_LIST)
 }
 
 #[test]
