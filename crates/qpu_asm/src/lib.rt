@@ -13,3 +13,6 @@ mod table;
 pub use assembler::assemble;
 pub use disassembler::{disassemble, printed_returns};
 pub use fault::AsmFault;
+
+#[cfg(test)]
+mod tests;
