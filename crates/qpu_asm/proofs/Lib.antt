@@ -1,0 +1,10 @@
+pub mod Cuts
+pub mod Bytes
+pub mod Numbers
+pub mod Words
+pub mod Rows
+pub mod Printing
+pub mod Reading
+pub mod Assembling
+pub mod Decimals
+pub mod Law

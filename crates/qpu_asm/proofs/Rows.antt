@@ -1,0 +1,111 @@
+-- Rows one after another.
+use Rattle.std.proofs.Common.{◌≡◌, ◌≢◌, ℕ, ◌+◌, ◌/◌, ◌%◌, ◌^◌, ◌≤◌, ◌<◌, Bool, true, false, ◌==◌, ◌&&◌, ◌||◌, not, nat_lt, nat_le, List, [], ◌∷◌, ◌++◌, length, refl, sym, ◌∙◌, ap, arith, ne_eqb, eq-eqb, ltb-true, leb-true, if◌then◌else◌, lit≤, le_trans, pow_mono}
+use Rattle.std.specs.List.{list_all}
+use Rattle.std.proofs.lemmas.Bool.{and_parts}
+use Rattle.qpu_isa.specs.Fields.{width_of, values_of}
+use Rattle.qpu_asm.specs.declared.table.Row.{Row}
+use Rattle.qpu_asm.specs.Table as table
+use Rattle.qpu_asm.specs.Table.{widths_of, alu_kind, load_imm_kind, branch_kind, nop_kind}
+use Rattle.qpu_asm.specs.Partial.{is_ready, are_ready}
+use Rattle.qpu_asm.specs.Printed.{item_texts, item_text, spaced, kind_of}
+use Rattle.qpu_asm.specs.Seen.{row_seen, rows_seen}
+
+pub none_left : {A : Type 0} (xs : List A) → length xs ≡ 0 → xs ≡ []
+none_left [] is = refl
+none_left (x ∷ xs) is = absurd (omega arith)
+
+pub ready_parts : (row : table.Row) (rows : List table.Row) → are_ready (row ∷ rows) ≡ true → (is_ready row ≡ true) × (are_ready rows ≡ true)
+unfolding are_ready
+ready_parts row rows ready = and_parts (is_ready row) (list_all is_ready rows) ready
+
+pub record RowFacts (row : table.Row) : Type 0 where
+  pub low : 1 ≤ row.width
+  pub high : row.width ≤ 32
+  pub fallback : row.fallback < 2 ^ row.width
+  pub below : row.below ≤ 2 ^ row.width
+  pub named : list_all (λ named. nat_lt named.value (2 ^ row.width)) row.named ≡ true
+  pub label : (not row.takes_label || row.width == 32) ≡ true
+
+pub row_facts : (row : table.Row) → is_ready row ≡ true → RowFacts row
+unfolding is_ready
+row_facts row ready =
+    let parts = and_parts (nat_le 1 row.width && nat_le row.width 32)
+    ((nat_lt row.fallback (2 ^ row.width) && nat_le row.below (2 ^ row.width))
+    && (list_all (λ named. nat_lt named.value (2 ^ row.width)) row.named && (not row.takes_label || row.width == 32))) ready in
+    let widths = and_parts (nat_le 1 row.width) (nat_le row.width 32) parts.0 in
+    let values = and_parts (nat_lt row.fallback (2 ^ row.width) && nat_le row.below (2 ^ row.width))
+    (list_all (λ named. nat_lt named.value (2 ^ row.width)) row.named && (not row.takes_label || row.width == 32)) parts.1 in
+    let bounds = and_parts (nat_lt row.fallback (2 ^ row.width)) (nat_le row.below (2 ^ row.width)) values.0 in
+    let others = and_parts (list_all (λ named. nat_lt named.value (2 ^ row.width)) row.named) (not row.takes_label || row.width == 32) values.1 in
+    record {
+      low = leb-true 1 row.width widths.0;
+      high = leb-true row.width 32 widths.1;
+      fallback = ltb-true row.fallback (2 ^ row.width) bounds.0;
+      below = leb-true row.below (2 ^ row.width) bounds.1;
+      named = others.0;
+      label = others.1;
+    }
+
+-- the first row of the code's
+pub width_first : (rest later : List Row) (row : Row) → rest ≡ row ∷ later
+    → width_of (widths_of (rows_seen rest)) ≡ row.width + width_of (widths_of (rows_seen later))
+unfolding width_of
+width_first rest later row is = ap (λ rows. width_of (widths_of (rows_seen rows))) is
+
+pub width_none : (rest : List Row) → length rest ≡ 0 → width_of (widths_of (rows_seen rest)) ≡ 0
+unfolding width_of
+width_none rest is = ap (λ rows. width_of (widths_of (rows_seen rows))) (none_left rest is)
+
+pub ready_first : (rest later : List Row) (row : Row) → rest ≡ row ∷ later → are_ready (rows_seen rest) ≡ true
+    → RowFacts (row_seen row) × (are_ready (rows_seen later) ≡ true)
+ready_first rest later row is ready =
+    let parts = ready_parts (row_seen row) (rows_seen later) (sym (ap (λ rows. are_ready (rows_seen rows)) is) ∙ ready) in
+    (row_facts (row_seen row) parts.0, parts.1)
+
+-- the text of the rows that are left
+abbrev pub text_left : List Row → ℕ → List ℕ
+text_left rows word = spaced (item_texts (rows_seen rows) (values_of (widths_of (rows_seen rows)) word))
+
+text_first : (row : Row) (later : List Row) (word value : ℕ) (same : Bool)
+    → (word / 2 ^ width_of (widths_of (rows_seen later)) % 2 ^ row.width ≡ value) → (value == row.fallback) ≡ same
+    → text_left (row ∷ later) word ≡ (if same then text_left later word else 32 ∷ (item_text (row_seen row) value ++ text_left later word))
+unfolding item_texts values_of spaced
+text_first row later word value true field is = rw (field, is) refl
+text_first row later word value false field is = rw (field, is) refl
+
+pub text_kept : (rest later : List Row) (row : Row) (word low : ℕ) → rest ≡ row ∷ later
+    → low ≡ width_of (widths_of (rows_seen later)) → word / 2 ^ low % 2 ^ row.width ≡ row.fallback
+    → text_left rest word ≡ text_left later word
+text_kept rest later row word low is at same =
+    ap (λ rows. text_left rows word) is
+    ∙ text_first row later word row.fallback true (rw (sym at) same) (eq-eqb row.fallback row.fallback refl)
+
+pub text_put : (rest later : List Row) (row : Row) (word low value : ℕ) → rest ≡ row ∷ later
+    → low ≡ width_of (widths_of (rows_seen later)) → value ≡ word / 2 ^ low % 2 ^ row.width → value ≢ row.fallback
+    → text_left rest word ≡ 32 ∷ (item_text (row_seen row) value ++ text_left later word)
+text_put rest later row word low value is at field other =
+    ap (λ rows. text_left rows word) is
+    ∙ text_first row later word value false (rw (sym at) (sym field)) (ne_eqb value row.fallback other)
+
+pub text_none : (rest : List Row) (word : ℕ) → length rest ≡ 0 → text_left rest word ≡ []
+unfolding item_texts spaced
+text_none rest word is = ap (λ rows. text_left rows word) (none_left rest is)
+
+-- the tables' rows are ready, and fill a word
+pub kind_cases : (P : table.Kind → Type 0) (nop load branch : Bool) → P nop_kind → P load_imm_kind → P branch_kind → P alu_kind
+    → P (if nop then nop_kind else (if load then load_imm_kind else (if branch then branch_kind else alu_kind)))
+kind_cases P true load branch a b c d = a
+kind_cases P false true branch a b c d = b
+kind_cases P false false true a b c d = c
+kind_cases P false false false a b c d = d
+
+pub kind_ready : (word : ℕ) → are_ready (kind_of word).rows ≡ true
+unfolding kind_of are_ready is_ready
+kind_ready word = kind_cases (λ kind. are_ready kind.rows ≡ true) _ _ _ refl refl refl refl
+
+pub kind_wide : (word : ℕ) → width_of (widths_of (kind_of word).rows) ≤ 64
+unfolding kind_of width_of
+kind_wide word = kind_cases (λ kind. width_of (widths_of kind.rows) ≤ 64) _ _ _ (lit≤ tt) (lit≤ tt) (lit≤ tt) (lit≤ tt)
+
+pub row_below : (row : table.Row) → RowFacts row → row.below ≤ 2 ^ 32
+row_below row facts = le_trans facts.below (pow_mono facts.high)

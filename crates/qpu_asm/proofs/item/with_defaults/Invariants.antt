@@ -1,0 +1,16 @@
+use Rattle.std.proofs.Common.{◌≡◌, length}
+use Rattle.qpu_isa.specs.Fields.{joined}
+use Rattle.qpu_asm.specs.Table.{widths_of, fallbacks_of}
+use Rattle.qpu_asm.specs.Partial.{IsOpen}
+use Rattle.qpu_asm.specs.Seen.{rows_seen}
+use Rattle.qpu_asm.proofs.item.with_defaults.Given as goal
+
+abbrev pub invariant-loop-row : goal.invariant-loop-row
+invariant-loop-row l = record {
+  still : IsOpen l.word (rows_seen l.rest);
+  same : joined l.word (widths_of (rows_seen l.rest)) (fallbacks_of (rows_seen l.rest))
+      ≡ joined l.fn.word (widths_of (rows_seen l.fn.rows)) (fallbacks_of (rows_seen l.fn.rows));
+}
+
+abbrev pub decreases-loop-row : goal.decreases-loop-row
+decreases-loop-row l = length l.rest

@@ -1,0 +1,55 @@
+-- The disassembler's text: one line a word.
+use Rattle.std.specs.Prelude.{ℕ, ◌≡◌, ◌<◌, ◌^◌, ◌==◌, List, [], ◌∷◌, ◌++◌, decimal, All, if◌then◌else◌}
+use Rattle.std.specs.declared.option.Option.{Option}
+use Rattle.std.specs.declared.option.Option.TheVariants.{None, Some}
+use Rattle.qpu_isa.specs.Word.{sig_of}
+use Rattle.qpu_isa.specs.Fields.{values_of}
+use Rattle.qpu_asm.specs.Table.{Named, Row, Kind, widths_of, nop_kind, alu_kind, load_imm_kind, branch_kind}
+use Rattle.qpu_asm.specs.Assembly.{AsmFaults, AsmWords}
+
+unfoldable pub name_of : List Named → ℕ → Option (List ℕ)
+name_of [] value = None
+name_of (named ∷ others) value = if named.value == value then Some named.name else name_of others value
+
+abbrev pub or_decimal : ℕ → Option (List ℕ) → List ℕ
+or_decimal value None = decimal value
+or_decimal value (Some name) = name
+
+-- a value that has a name is written by it, else as a number
+unfoldable pub value_text : Row → ℕ → List ℕ
+value_text row value = or_decimal value (name_of row.named value)
+
+unfoldable pub item_text : Row → ℕ → List ℕ
+item_text row value = row.name ++ 61 ∷ value_text row value
+
+-- the items that differ from their defaults
+unfoldable pub item_texts : List Row → List ℕ → List (List ℕ)
+item_texts [] values = []
+item_texts (row ∷ rows) [] = []
+item_texts (row ∷ rows) (value ∷ values) =
+    if value == row.fallback then item_texts rows values else item_text row value ∷ item_texts rows values
+
+unfoldable pub kind_of : ℕ → Kind
+kind_of word =
+    if word == nop_kind.above then nop_kind
+    else (if sig_of word == 14 then load_imm_kind else (if sig_of word == 15 then branch_kind else alu_kind))
+
+unfoldable pub spaced : List (List ℕ) → List ℕ
+spaced [] = []
+spaced (item ∷ items) = 32 ∷ (item ++ spaced items)
+
+-- the opcode, and each item after a space
+unfoldable pub kind_text : ℕ → Kind → List ℕ
+kind_text word kind = kind.opcode ++ spaced (item_texts kind.rows (values_of (widths_of kind.rows) word))
+
+unfoldable pub line_text : ℕ → List ℕ
+line_text word = kind_text word (kind_of word) ++ 10 ∷ []
+
+unfoldable pub AsmText : List ℕ → List ℕ
+AsmText [] = []
+AsmText (word ∷ words) = line_text word ++ AsmText words
+
+-- Assembling what was printed gives the same words.
+abbrev pub PrintedReturns : Type 0
+PrintedReturns =
+    (words : List ℕ) → All (λ word. word < 2 ^ 64) words → (AsmFaults (AsmText words) ≡ []) × (AsmWords (AsmText words) ≡ words)

@@ -1,0 +1,147 @@
+-- The kinds of instructions and their items. The items stand for the fields of a word from the highest bit down, without
+-- gaps, so that a row's width is all that tells its place.
+use Rattle.std.specs.Prelude.{ℕ, ◌^◌, Bool, true, false, List, [], ◌∷◌, map, codes}
+use Rattle.qpu_isa.specs.Fields.{joined}
+
+-- a value's name
+pub record Named : Type 0 where
+  pub name : List ℕ
+  pub value : ℕ
+
+-- an item: its name, the width of its field, below what its value lies, the value where it is missing, the values that have
+-- names, and whether a label can stand for the value
+pub record Row : Type 0 where
+  pub name : List ℕ
+  pub width : ℕ
+  pub below : ℕ
+  pub fallback : ℕ
+  pub named : List Named
+  pub takes_label : Bool
+
+-- a kind of instruction: its first word, what stands above its items' fields, and the items in order
+pub record Kind : Type 0 where
+  pub opcode : List ℕ
+  pub above : ℕ
+  pub rows : List Row
+
+abbrev pub calls : List ℕ → ℕ → Named
+calls name value = record { name = name; value = value }
+
+abbrev pub item : List ℕ → ℕ → ℕ → Row
+item name width fallback = record { name = name; width = width; below = 2 ^ width; fallback = fallback; named = []; takes_label = false }
+
+abbrev pub operation : List ℕ → ℕ → List Named → Row
+operation name width named = record { name = name; width = width; below = 2 ^ width; fallback = 0; named = named; takes_label = false }
+
+abbrev pub widths_of : List Row → List ℕ
+widths_of rows = map (λ row. row.width) rows
+
+abbrev pub fallbacks_of : List Row → List ℕ
+fallbacks_of rows = map (λ row. row.fallback) rows
+
+abbrev pub add_operations : List Named
+add_operations =
+    calls (codes "nop") 0
+    ∷ calls (codes "fadd") 1
+    ∷ calls (codes "fsub") 2
+    ∷ calls (codes "fmin") 3
+    ∷ calls (codes "fmax") 4
+    ∷ calls (codes "fminabs") 5
+    ∷ calls (codes "fmaxabs") 6
+    ∷ calls (codes "ftoi") 7
+    ∷ calls (codes "itof") 8
+    ∷ calls (codes "add") 12
+    ∷ calls (codes "sub") 13
+    ∷ calls (codes "shr") 14
+    ∷ calls (codes "asr") 15
+    ∷ calls (codes "ror") 16
+    ∷ calls (codes "shl") 17
+    ∷ calls (codes "min") 18
+    ∷ calls (codes "max") 19
+    ∷ calls (codes "and") 20
+    ∷ calls (codes "or") 21
+    ∷ calls (codes "xor") 22
+    ∷ calls (codes "not") 23
+    ∷ calls (codes "clz") 24
+    ∷ calls (codes "v8adds") 30
+    ∷ calls (codes "v8subs") 31
+    ∷ []
+
+abbrev pub multiply_operations : List Named
+multiply_operations =
+    calls (codes "nop") 0
+    ∷ calls (codes "fmul") 1
+    ∷ calls (codes "mul24") 2
+    ∷ calls (codes "v8muld") 3
+    ∷ calls (codes "v8min") 4
+    ∷ calls (codes "v8max") 5
+    ∷ calls (codes "v8adds") 6
+    ∷ calls (codes "v8subs") 7
+    ∷ []
+
+-- signals 14 and 15 are the other kinds'
+abbrev pub alu_rows : List Row
+alu_rows =
+    record { name = codes "sig"; width = 4; below = 14; fallback = 1; named = []; takes_label = false }
+    ∷ item (codes "unpack") 3 0
+    ∷ item (codes "pm") 1 0
+    ∷ item (codes "pack") 4 0
+    ∷ item (codes "ca") 3 0
+    ∷ item (codes "cm") 3 0
+    ∷ item (codes "sf") 1 0
+    ∷ item (codes "ws") 1 0
+    ∷ item (codes "wa") 6 39
+    ∷ item (codes "wm") 6 39
+    ∷ operation (codes "om") 3 multiply_operations
+    ∷ operation (codes "oa") 5 add_operations
+    ∷ item (codes "ra") 6 39
+    ∷ item (codes "rb") 6 39
+    ∷ item (codes "aa") 3 0
+    ∷ item (codes "ab") 3 0
+    ∷ item (codes "ma") 3 0
+    ∷ item (codes "mb") 3 0
+    ∷ []
+
+abbrev pub load_imm_rows : List Row
+load_imm_rows =
+    item (codes "mode") 3 0
+    ∷ item (codes "pm") 1 0
+    ∷ item (codes "pack") 4 0
+    ∷ item (codes "ca") 3 0
+    ∷ item (codes "cm") 3 0
+    ∷ item (codes "sf") 1 0
+    ∷ item (codes "ws") 1 0
+    ∷ item (codes "wa") 6 39
+    ∷ item (codes "wm") 6 39
+    ∷ item (codes "imm") 32 0
+    ∷ []
+
+-- `to` with a label can stand in place of `imm`
+abbrev pub branch_rows : List Row
+branch_rows =
+    item (codes "sp") 4 0
+    ∷ item (codes "cond") 4 15
+    ∷ item (codes "rel") 1 1
+    ∷ item (codes "reg") 1 0
+    ∷ item (codes "ra") 5 0
+    ∷ item (codes "ws") 1 0
+    ∷ item (codes "wa") 6 39
+    ∷ item (codes "wm") 6 39
+    ∷ record { name = codes "imm"; width = 32; below = 2 ^ 32; fallback = 0; named = []; takes_label = true }
+    ∷ []
+
+abbrev pub alu_kind : Kind
+alu_kind = record { opcode = codes "alu"; above = 0; rows = alu_rows }
+
+abbrev pub load_imm_kind : Kind
+load_imm_kind = record { opcode = codes "li"; above = 14; rows = load_imm_rows }
+
+abbrev pub branch_kind : Kind
+branch_kind = record { opcode = codes "br"; above = 15; rows = branch_rows }
+
+-- `nop` is `alu` without items, and takes none
+unfoldable pub nop_word : ℕ
+nop_word = joined 0 (widths_of alu_rows) (fallbacks_of alu_rows)
+
+abbrev pub nop_kind : Kind
+nop_kind = record { opcode = codes "nop"; above = 0x100009e7009e7000; rows = [] }

@@ -1,0 +1,81 @@
+ghost use Rattle.std.specs.Prelude.{◌≡◌, ◌<◌, ◌+◌, ◌^◌, List, ℕ, length, IfOk, OnOk, Some, None, bytes_eq, if◌then◌else◌};
+ghost use Rattle.qpu_asm.specs.Assembly.{spots_of, size_of, is_label, either_spot};
+ghost use Rattle.qpu_asm.specs.Seen.{line_seen, spots_in};
+
+use crate::lines::{Line, next_line, read_line};
+use std::alloc::{AllocError, Global};
+use std::collections::BTreeMap;
+
+/// Where a label stands: its line, and the index of the next instruction.
+#[derive(Clone, Copy, Debug, PartialEq, Eq)]
+pub struct Spot {
+    pub line: u32,
+    pub index: u32,
+}
+
+/// The labels of a text, each at the first line that defines it.
+pub fn find_labels(alloc: Global, text: &[u8]) -> Result<BTreeMap<&[u8], Spot>, AllocError>
+    requires { length text.now < 2 ^ 32 }
+    ensures { IfOk result (λ labels. spots_in labels ≡ spots_of text.now) }
+{
+    let mut labels = BTreeMap::new(alloc);
+    let mut rest = text;
+    let mut line: u64 = 1;
+    let mut index: u64 = 0;
+    while !rest.is_empty() {
+        let cut = next_line(rest);
+        let read = read_line(cut.first);
+        add_line(
+            &mut labels,
+            read,
+            Spot {
+                line: line as u32,
+                index: index as u32,
+            },
+        )?;
+        index += size(read);
+        line += 1;
+        rest = cut.rest;
+    }
+    Ok(labels)
+}
+
+// An instruction's line takes an index.
+fn size(line: Line<'_>) -> u64
+    ensures { result ≡ size_of (line_seen line.entry) }
+{
+    match line {
+        Line::Coded(_) => 1,
+        _ => 0,
+    }
+}
+
+fn add_line<'a>(
+    labels: &mut BTreeMap<&'a [u8], Spot>,
+    line: Line<'a>,
+    spot: Spot,
+) -> Result<(), AllocError>
+    ensures { OnOk result ((name : List ℕ) → spots_in labels.new name ≡ either_spot (spots_in labels.old name) (if is_label name (line_seen line.entry) then Some spot else None)) }
+{
+    match line {
+        Line::Label(name) => add_label(labels, name, spot),
+        _ => Ok(()),
+    }
+}
+
+// A label that is known keeps its place.
+fn add_label<'a>(
+    labels: &mut BTreeMap<&'a [u8], Spot>,
+    label: &'a [u8],
+    spot: Spot,
+) -> Result<(), AllocError>
+    ensures { OnOk result ((name : List ℕ) → spots_in labels.new name ≡ either_spot (spots_in labels.old name) (if bytes_eq label.now name then Some spot else None)) }
+{
+    if labels.contains_key(label) {
+        return Ok(());
+    }
+    match labels.insert(label, spot) {
+        Ok(_) => Ok(()),
+        Err(_) => Err(AllocError),
+    }
+}

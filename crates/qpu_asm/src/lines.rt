@@ -1,0 +1,153 @@
+ghost use Rattle.std.specs.Prelude.{◌≡◌, ◌<◌, ◌≤◌, ◌+◌, ◌∷◌, [], length, MatchOption, IfSome, IsTrue, slice_index, ◌≢◌};
+ghost use Rattle.qpu_asm.specs.Lines.{lines_of, words_of, label_line, line_of, is_alone, part_by, is_comment as comment_test, ends_label as label_test, read_line as line_read};
+ghost use Rattle.qpu_asm.specs.Items.{cut_at as cut};
+ghost use Rattle.qpu_asm.specs.Seen.{cut_of, cut_seen, line_seen};
+
+use crate::names::is_name;
+
+/// A list in two parts.
+#[derive(Clone, Copy)]
+pub struct Cut<'a> {
+    pub first: &'a [u8],
+    pub rest: &'a [u8],
+}
+
+/// What a line is. An instruction's items are still in one piece.
+#[derive(Clone, Copy)]
+pub enum Line<'a> {
+    Blank,
+    Label(&'a [u8]),
+    BadLabel,
+    Coded(Cut<'a>),
+}
+
+/// The parts before and after the first such byte, where there is one.
+pub fn cut_at(bytes: &[u8], byte: u8) -> Option<Cut<'_>>
+    ensures cut { cut_seen result ≡ cut byte bytes.now }
+    ensures shorter { IfSome result (λ parts. length parts.rest.now < length bytes.now) }
+{
+    for (at, other) in bytes.iter().enumerate() {
+        if *other == byte {
+            return Some(Cut {
+                first: &bytes[..at],
+                rest: &bytes[at + 1..],
+            });
+        }
+    }
+    None
+}
+
+// The parts before and after the first such byte, or all and nothing.
+fn first_part(bytes: &[u8], byte: u8) -> Cut<'_>
+    requires { 0 < length bytes.now }
+    ensures part { cut_of result ≡ part_by (cut byte bytes.now) bytes.now }
+    ensures shorter { length result.rest.now < length bytes.now }
+{
+    match cut_at(bytes, byte) {
+        Some(cut) => cut,
+        None => Cut {
+            first: bytes,
+            rest: &[],
+        },
+    }
+}
+
+/// The first line of a text that isn't empty, and the lines after it.
+pub fn next_line(text: &[u8]) -> Cut<'_>
+    requires { 0 < length text.now }
+    ensures lines { lines_of text.now ≡ result.first.now ∷ lines_of result.rest.now }
+    ensures shorter { length result.rest.now < length text.now }
+{
+    first_part(text, b'\n')
+}
+
+/// The first word of a line, and what comes after it, where there is a word.
+pub fn next_word(line: &[u8]) -> Option<Cut<'_>>
+    ensures words { MatchOption result (words_of line.now ≡ []) (λ cut. words_of line.now ≡ cut.first.now ∷ words_of cut.rest.now) }
+    ensures shorter { IfSome result (λ cut. length cut.rest.now < length line.now) }
+{
+    let line = without_spaces(line);
+    if line.is_empty() {
+        None
+    } else {
+        Some(first_part(line, b' '))
+    }
+}
+
+fn without_spaces(line: &[u8]) -> &[u8]
+    ensures words { words_of result.now ≡ words_of line.now }
+    ensures shorter { length result.now ≤ length line.now }
+    ensures first { slice_index result.now 0 ≢ 32 }
+{
+    for (at, byte) in line.iter().enumerate() {
+        if *byte != b' ' {
+            return &line[at..];
+        }
+    }
+    &[]
+}
+
+/// Reads a line as far as its first word tells what it is.
+#[tactic(auto, unfolding(crate::specs::Lines::read_line, crate::specs::Lines::line_of))]
+pub fn read_line(line: &[u8]) -> Line<'_>
+    ensures { line_seen result ≡ line_read line.now }
+{
+    match next_word(line) {
+        Some(cut) => read_words(cut),
+        None => Line::Blank,
+    }
+}
+
+#[tactic(auto, unfolding(crate::specs::Lines::line_of))]
+fn read_words(words: Cut<'_>) -> Line<'_>
+    ensures { line_seen result ≡ line_of (words.entry.first.now ∷ words_of words.entry.rest.now) }
+{
+    if is_comment(words.first) {
+        Line::Blank
+    } else if ends_label(words.first) {
+        read_label(&words.first[..words.first.len() - 1], words.rest)
+    } else {
+        Line::Coded(words)
+    }
+}
+
+#[tactic(auto, unfolding(crate::specs::Lines::is_comment))]
+fn is_comment(word: &[u8]) -> bool
+    ensures { result ≡ comment_test word.now }
+{
+    match word.first() {
+        Some(first) => *first == b'#',
+        None => false,
+    }
+}
+
+#[tactic(auto, unfolding(crate::specs::Lines::ends_label))]
+fn ends_label(word: &[u8]) -> bool
+    ensures test { result ≡ label_test word.now }
+    ensures full { IsTrue result → 0 < length word.now }
+{
+    match word.last() {
+        Some(last) => *last == b':',
+        None => false,
+    }
+}
+
+#[tactic(auto, unfolding(crate::specs::Lines::label_line))]
+fn read_label<'a>(name: &'a [u8], others: &[u8]) -> Line<'a>
+    ensures { line_seen result ≡ label_line name.now (words_of others.now) }
+{
+    if is_name(name) && has_no_word(others) {
+        Line::Label(name)
+    } else {
+        Line::BadLabel
+    }
+}
+
+fn has_no_word(line: &[u8]) -> bool
+    ensures { result ≡ is_alone (words_of line.now) }
+{
+    match next_word(line) {
+        Some(_) => false,
+        None => true,
+    }
+}
