@@ -1,15 +1,19 @@
 -- Rows of a memory and their texts.
 use Rattle.std.proofs.Common.{◌≡◌, ℕ, zero, suc, ◌+◌, ◌-◌, ◌^◌, ◌<◌, ◌≤◌, ◌&&◌, List, [], ◌∷◌, ◌++◌, length, take, drop, get_or, replicate, false, length-drop, refl, sym, ap, ◌∙◌, arith, append-nil, zero-add, add-zero}
-use Rattle.std.specs.Prelude.{◌==◌}
+use Rattle.std.specs.Prelude.{◌==◌, codes, if◌then◌else◌}
 use Rattle.std.specs.List.{list_all}
 use Rattle.std.specs.Fmt.{digits, padded_integral, format_spec, char_count}
-use Rattle.std.specs.Int.{from_le_bytes, w32}
+use Rattle.std.specs.Int.{from_le_bytes, to_be_bytes, w32}
 use Rattle.std.proofs.lemmas.List.{get_or-drop}
 use Rattle.field_words.proofs.Pieces.{drop_drop}
 use Rattle.std.proofs.Math.Nat.{suc-add}
 use Rattle.std.proofs.Math.Dec.{eqb-suc-zero}
 use Rattle.field_words.specs.Words.{u32_at}
-use Rattle.dumper.specs.Text.{place_text, row_at, is_blank, row_text, rows_text}
+use Rattle.field_words.specs.Writes.{with_bytes}
+use Rattle.hex.specs.Hex.{encode_lower, encode_with, lower_digits}
+use Rattle.hex.proofs.HexLemmas.{length-encode_with}
+use Rattle.dumper.proofs.Digits.{place_is}
+use Rattle.dumper.specs.Text.{place_text, row_at, is_blank, filled_rows, row_line, row_text, rows_text}
 
 -- what `{:08x}` writes
 pub place_shown : (place : ℕ) → padded_integral (format_spec 32 0 4 8 (2 ^ 64 - 1)) false [] (digits 16 false place) ≡ place_text place
@@ -106,6 +110,41 @@ unfolding rows_text
 no_rows memory place k rows none =
     let zero_left : rows - k ≡ 0 = omega arith in
     ap (rows_text memory place) zero_left
+
+-- the rows from one on that aren't all zero are that row, unless it is, and those after it
+pub filled_step : (memory : List ℕ) (place k rows : ℕ) → k < rows
+    → filled_rows memory place (rows - k) ≡ (if is_blank (row_at memory place) then 0 else 1) + filled_rows memory (place + 16) (rows - (k + 1))
+unfolding filled_rows
+filled_step memory place k rows inside =
+    let more : rows - k ≡ suc (rows - (k + 1)) = omega arith in
+    ap (filled_rows memory place) more
+
+pub none_filled : (memory : List ℕ) (place k rows : ℕ) → rows ≤ k → filled_rows memory place (rows - k) ≡ 0
+unfolding filled_rows
+none_filled memory place k rows none =
+    let zero_left : rows - k ≡ 0 = omega arith in
+    ap (filled_rows memory place) zero_left
+
+pub filled_one : (memory : List ℕ) (place k rows before now : ℕ) → k < rows → now ≡ before + (if is_blank (row_at memory place) then 0 else 1)
+    → now + filled_rows memory (place + 16) (rows - (k + 1)) ≡ before + filled_rows memory place (rows - k)
+filled_one memory place k rows before now inside counted =
+    let step = filled_step memory place k rows inside in
+    omega (arith, step, counted)
+
+-- a line in which the digits are still to be written
+abbrev pub empty_line : List ℕ
+empty_line = codes "........ ................................\n"
+
+-- The place's digits and the row's make it the row's line.
+pub line_is : (place : ℕ) (row : List ℕ) → place < 2 ^ 32 → length row ≡ 16
+    → with_bytes (with_bytes empty_line 0 (encode_lower (to_be_bytes w32 place))) 9 (encode_lower row) ≡ row_line place row
+unfolding row_line encode_with
+line_is place row small sixteen =
+    let line = with_bytes empty_line 0 (encode_lower (to_be_bytes w32 place)) in
+    let shown = encode_lower row in
+    let twice : length shown ≡ 32 = omega (arith, length-encode_with lower_digits row, sixteen) in
+    ap (λ n. take 9 line ++ (shown ++ drop (9 + n) line)) twice
+    ∙ ap (λ text. text ++ (codes " " ++ (shown ++ codes "\n"))) (place_is place small)
 
 -- the row at a place, byte by byte
 pub row_cells : (memory : List ℕ) (place : ℕ) → place + 16 ≤ length memory

@@ -1,12 +1,20 @@
 //! The texts of an accepted job and of a refusal.
-ghost use Rattle.std.specs.Prelude.{◌≡◌, ◌≤◌, ◌<◌, ◌^◌, ◌+◌, ◌++◌, ◌/◌, ◌%◌, length, IfOk, OnOk, string_bytes};
-ghost use Rattle.dumper.specs.Text.{place_text, list_line, memory_line, slot_line, row_line, row_at, is_blank, row_text, rows_text, layout_text, accepted_text, refused_text, PlacesFit};
+ghost use Rattle.std.specs.Prelude.{◌≡◌, ◌≤◌, ◌<◌, ◌^◌, ◌+◌, ◌*◌, ◌++◌, ◌/◌, ◌%◌, length, IfOk, OnOk, string_bytes};
+ghost use Rattle.field_words.specs.Writes.{with_bytes};
+ghost use Rattle.hex.specs.Hex.{encode_lower};
+ghost use Rattle.dumper.specs.Text.{place_text, list_line, memory_line, slot_line, row_line, row_at, is_blank, filled_rows, row_text, rows_text, layout_text, accepted_text, refused_text, PlacesFit};
 
 use field_words::NoMemory;
 use job_format::Refusal;
 use phys_mem::PhysMem;
 use relocation::{Layout, Lengths};
 use std::alloc::{AllocError, Global};
+
+/// The length of a row's line: eight digits of its place, a blank, two for each byte and a line feed.
+const ROW_LINE: usize = 42;
+
+/// Room for the lines before and after the rows, which are shorter than that together.
+const OTHER_LINES: usize = 192;
 
 #[tactic(auto, using(crate::proofs::Rows::place_shown))]
 fn place_text(alloc: Global, place: u32) -> Result<String, AllocError>
@@ -80,24 +88,45 @@ fn is_blank(memory: &PhysMem, place: u32) -> bool
     first + second + third + fourth == 0
 }
 
-#[tactic(auto, unfolding(crate::specs::Text::row_line))]
-fn row_line(alloc: Global, place: u32, row: &[u8]) -> Result<String, AllocError>
-    ensures { IfOk result (λ line. string_bytes line ≡ row_line place row.now) }
+/// Writes two digits for each of these bytes from `at` on.
+#[inline]
+fn put_digits(line: &mut [u8], at: usize, bytes: &[u8])
+    requires { at + 2 * length bytes.now ≤ length line.old }
+    ensures { line.new ≡ with_bytes line.old at (encode_lower bytes.now) }
 {
-    let place = place_text(alloc, place)?;
-    let digits = hex::encode(alloc, row)?;
-    format!(in alloc; "{place} {digits}\n")
+    let _ = hex::encode_to_slice(bytes, &mut line[at..at + 2 * bytes.len()]);
+}
+
+/// The line of a row: its place, a blank, its bytes and a line feed.
+#[inline]
+fn row_line(place: u32, row: &[u8; 16]) -> [u8; ROW_LINE]
+    ensures { result ≡ row_line place row.now }
+{
+    let mut line = *b"........ ................................\n";
+    put_digits(&mut line, 0, &place.to_be_bytes());
+    put_digits(&mut line, 9, row);
+    line
+}
+
+/// How many rows of the memory aren't all zero.
+fn filled_rows(memory: &PhysMem) -> usize
+    ensures value { result ≡ filled_rows memory.now 0 (length memory.now / 16) }
+    ensures fits { result < 2 ^ 28 }
+{
+    let rows = memory.len() / 16;
+    let mut filled = 0;
+    for row in 0..rows {
+        if !is_blank(memory, 16 * row) {
+            filled += 1;
+        }
+    }
+    filled
 }
 
 /// Appends the line of the sixteen bytes at a place, or nothing where they are all zero.
 #[inline]
 #[tactic(auto, unfolding(crate::specs::Text::row_text))]
-fn push_row(
-    alloc: Global,
-    out: &mut Vec<u8>,
-    memory: &PhysMem,
-    place: u32,
-) -> Result<(), AllocError>
+fn push_row(out: &mut Vec<u8>, memory: &PhysMem, place: u32) -> Result<(), AllocError>
     requires inside { place + 16 ≤ length memory.now }
     requires fits { length memory.now < 2 ^ 32 }
     ensures { OnOk result (out.new.items ≡ out.old.items ++ row_text memory.now place) }
@@ -105,17 +134,16 @@ fn push_row(
     if is_blank(memory, place) {
         return Ok(());
     }
-    let line = row_line(alloc, place, &row_at(memory, place))?;
-    out.extend_from_slice(line.as_bytes())
+    out.extend_from_slice(&row_line(place, &row_at(memory, place)))
 }
 
 /// Appends the lines of all rows of the memory that aren't all zero.
-fn push_rows(alloc: Global, out: &mut Vec<u8>, memory: &PhysMem) -> Result<(), AllocError>
+fn push_rows(out: &mut Vec<u8>, memory: &PhysMem) -> Result<(), AllocError>
     ensures { OnOk result (out.new.items ≡ out.old.items ++ rows_text memory.now 0 (length memory.now / 16)) }
 {
     let rows = memory.len() / 16;
     for row in 0..rows {
-        push_row(alloc, out, memory, 16 * row)?;
+        push_row(out, memory, 16 * row)?;
     }
     Ok(())
 }
@@ -166,10 +194,11 @@ pub fn image_text(
     requires places { PlacesFit layout.now }
     ensures { IfOk result (λ text. text.items ≡ accepted_text memory.now layout.now lengths.now) }
 {
-    let mut out = b"accepted\n".to_vec(alloc)?;
+    let mut out = Vec::with_capacity(alloc, OTHER_LINES + ROW_LINE * filled_rows(memory))?;
+    out.extend_from_slice(b"accepted\n")?;
     out.extend_from_slice(memory_line(alloc, memory.len())?.as_bytes())?;
     push_layout(alloc, &mut out, layout, lengths)?;
-    push_rows(alloc, &mut out, memory)?;
+    push_rows(&mut out, memory)?;
     out.extend_from_slice(b"end\n")?;
     Ok(out)
 }
