@@ -3,3 +3,4 @@ pub mod Lists
 pub mod Stages
 pub mod Runs
 pub mod Stray
+pub mod Bridge

@@ -1,0 +1,15 @@
+//! Thin files are safe as they are emitted.
+ghost use Rattle.std.specs.Prelude.{ℕ, List, ◌∷◌, []};
+ghost use Rattle.job_format.specs.Model.{FileModel};
+ghost use Rattle.thin_job.specs.Shape.{IsThinFile, thin_of};
+ghost use Rattle.job_check.specs.Emit.{memory_of};
+ghost use Rattle.job_safety.specs.Safe.{AreSafe};
+ghost use Rattle.job_safety.specs.Thin.{thin_rights, thin_start};
+
+/// The law that the memory which an accepted thin file is emitted as is safe: in every run of the
+/// machine over it, whatever the events and the choice words, no access is wild, each lies in the
+/// job's own buffer, list or tile slot, each write in the buffer or the slot, and no other byte
+/// changes.
+pub fn accepted_thin_files_are_safe()
+    ensures { (bytes : List ℕ) (f : FileModel) → IsThinFile bytes f → AreSafe (thin_rights (thin_of f)) (memory_of f) (thin_start (thin_of f) ∷ []) }
+{}
