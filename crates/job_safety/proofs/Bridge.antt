@@ -31,6 +31,11 @@ list_of : (n : Numbers) → render_list_of (thin_file n) 0 ≡ thin_list (thin_o
 unfolding render_list_of job_of slot_of places_in data_of buffer_at place_in is_present render_text head_text span_text tile_text coordinates loads_text writes_text multisample_text color_store some_before_color some_before_zs is_last_tile thin_list
 list_of n = refl
 
+-- 15 bytes
+pub list_length : (n : Numbers) → length (render_list_of (thin_file n) 0) ≡ 15
+unfolding thin_list
+list_length n = ap length (list_of n)
+
 place_of : (n : Numbers) → (layout_of (thin_file n) 0).place + (layout_of (thin_file n) 0).render ≡ n.regions.lists_place
 unfolding layout_of job_of records_start uniforms_start render_start rounded_up
 place_of n = add-zero n.regions.lists_place

@@ -1,7 +1,9 @@
-//! Thin files are safe as they are emitted.
-ghost use Rattle.std.specs.Prelude.{ℕ, List, ◌∷◌, []};
+//! Thin files: they are accepted, and they are safe as they are emitted.
+ghost use Rattle.std.specs.Prelude.{◌≡◌, ℕ, List, ◌∷◌, [], None};
+ghost use Rattle.field_words.specs.Questions.{first_of};
 ghost use Rattle.job_format.specs.Model.{FileModel};
 ghost use Rattle.thin_job.specs.Shape.{IsThinFile, thin_of};
+ghost use Rattle.job_check.specs.Faults.{file_stages};
 ghost use Rattle.job_check.specs.Emit.{memory_of};
 ghost use Rattle.job_safety.specs.Safe.{AreSafe};
 ghost use Rattle.job_safety.specs.Thin.{thin_rights, thin_start};
@@ -12,4 +14,10 @@ ghost use Rattle.job_safety.specs.Thin.{thin_rights, thin_start};
 /// changes.
 pub fn accepted_thin_files_are_safe()
     ensures { (bytes : List ℕ) (f : FileModel) → IsThinFile bytes f → AreSafe (thin_rights (thin_of f)) (memory_of f) (thin_start (thin_of f) ∷ []) }
+{}
+
+/// The law that no rule refuses a thin file, so that the law above speaks of files that are
+/// accepted.
+pub fn thin_files_have_no_fault()
+    ensures { (bytes : List ℕ) (f : FileModel) → IsThinFile bytes f → first_of (file_stages f) ≡ None }
 {}
