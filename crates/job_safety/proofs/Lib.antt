@@ -3,3 +3,5 @@ pub mod Lists
 pub mod Stages
 pub mod Runs
 pub mod Stray
+pub mod Bridge
+pub mod Accepted

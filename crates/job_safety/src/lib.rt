@@ -2,8 +2,10 @@
 //! tile.
 #![tactic(auto)]
 
+mod files;
 mod thin;
 mod wild;
 
+pub use files::{accepted_thin_files_are_safe, thin_files_have_no_fault};
 pub use thin::{start_thin, thin_jobs_are_safe};
 pub use wild::stray_packets_are_unsafe;

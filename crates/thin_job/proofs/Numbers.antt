@@ -1,6 +1,5 @@
 -- A thin file made of its numbers.
 use Rattle.std.specs.Prelude.{ℕ, List, [], ◌∷◌, false}
-use Rattle.field_words.specs.Words.{u16_at, u32_at}
 use Rattle.buffer_table.specs.declared.buffer.Kind.TheVariants.{Plain}
 use Rattle.buffer_table.specs.declared.buffer.Regions.{Regions}
 use Rattle.job_format.specs.declared.file.Surface.{Surface}
@@ -59,29 +58,4 @@ thin_file n = record {
   buffers = (record { place = n.place; size = n.size; client = n.client; kind = Plain; content = 0 }) ∷ [];
   contents = [] ∷ [];
   jobs = (record { client = n.client; handles = 0 ∷ []; bin = []; records = []; declared = 0; uniforms = []; frame = thin_frame n }) ∷ [];
-}
-
--- the numbers by their places in the file
-abbrev pub spare_at : List ℕ → ℕ → ℕ → ℕ → Spare
-spare_at bytes offset bits flags = record { offset = u32_at bytes offset; bits = u16_at bytes bits; flags = u16_at bytes flags }
-
-abbrev pub numbers_at : List ℕ → Numbers
-numbers_at bytes = record {
-  mem_size = u32_at bytes 8;
-  regions = record { lists_place = u32_at bytes 12; lists_size = u32_at bytes 16; tile_place = u32_at bytes 20; tile_slots = u32_at bytes 24 };
-  place = u32_at bytes 36;
-  size = u32_at bytes 40;
-  client = u32_at bytes 44;
-  width = u16_at bytes 84;
-  height = u16_at bytes 86;
-  offset = u32_at bytes 108;
-  color_read = spare_at bytes 96 100 102;
-  zs_read = spare_at bytes 120 124 126;
-  zs_write = spare_at bytes 132 136 138;
-  color_samples = spare_at bytes 144 148 150;
-  zs_samples = spare_at bytes 156 160 162;
-  first_color = u32_at bytes 164;
-  second_color = u32_at bytes 168;
-  clear_z = u32_at bytes 172;
-  clear_s = u32_at bytes 176;
 }

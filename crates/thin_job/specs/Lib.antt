@@ -1,4 +1,3 @@
 pub mod Memory
-pub mod Places
 pub mod Shape
 pub mod Thin

@@ -1,16 +1,15 @@
 //! Thin job files: one job with one handle to one buffer, which stores a single empty tile there.
 //!
-//! `read_thin` finds whether bytes are a thin file, exactly, and `build_memory` makes the memory
-//! that such a job runs in.
+//! The definitions say when a file is thin and in which memory its job runs. `keeps_rules` finds
+//! whether a thin job's numbers keep the rules, and `build_memory` makes the memory.
 #![tactic(auto)]
 
 mod memory;
-mod reader;
 mod rules;
 #[cfg(test)]
 mod tests;
 mod thin;
 
 pub use memory::build_memory;
-pub use reader::read_thin;
+pub use rules::keeps_rules;
 pub use thin::Thin;

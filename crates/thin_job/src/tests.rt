@@ -1,45 +1,32 @@
 use super::*;
-use field_words::put_u32;
+use buffer_table::Regions;
 use std::test::Fail;
 
-/// The words of a thin file that are not zero: a memory of 0x83000 bytes with the lists at 0x1000,
-/// one tile slot at 0x2000, and a buffer of a page at 0x82000, of which the surface leaves out 16.
-const WORDS: [(usize, u32); 19] = [
-    (0, 0x4a34_4356),
-    (4, 1),
-    (8, 0x8_3000),
-    (12, 0x1000),
-    (16, 0x1000),
-    (20, 0x2000),
-    (24, 1),
-    (28, 1),
-    (32, 1),
-    (36, 0x8_2000),
-    (40, 0x1000),
-    (64, 1),
-    (84, 0x0010_0010),
-    (92, u32::MAX),
-    (108, 16),
-    (112, 4),
-    (116, u32::MAX),
-    (128, u32::MAX),
-    (140, u32::MAX),
-];
-
-fn file() -> [u8; 184] {
-    let mut bytes = [0u8; 184];
-    for (at, word) in WORDS {
-        if at < 180 {
-            put_u32(&mut bytes, at, word);
-        }
+/// A memory of 0x83000 bytes with the lists at 0x1000, one tile slot at 0x2000, and a buffer of a
+/// page at 0x82000, of which the surface leaves out 16.
+fn thin() -> Thin {
+    Thin {
+        mem_size: 0x8_3000,
+        regions: Regions {
+            lists_place: 0x1000,
+            lists_size: 0x1000,
+            tile_place: 0x2000,
+            tile_slots: 1,
+        },
+        place: 0x8_2000,
+        size: 0x1000,
+        offset: 16,
+        width: 16,
+        height: 16,
     }
-    put_u32(&mut bytes, 152, u32::MAX);
-    bytes
 }
 
 #[test]
-fn builds_the_memory_of_a_thin_file(rt: HostRuntime) -> Result<(), Fail> {
-    let thin = read_thin(&file()).ok_or("not thin")?;
+fn builds_the_memory_of_a_thin_job(rt: HostRuntime) -> Result<(), Fail> {
+    let thin = thin();
+    if !keeps_rules(&thin) {
+        return Err("breaks a rule".into());
+    }
     let memory = build_memory(rt.alloc(), &thin)?;
     assert_eq!(rt; memory.len(), 0x8_3000);
     let list = [
@@ -53,17 +40,9 @@ fn builds_the_memory_of_a_thin_file(rt: HostRuntime) -> Result<(), Fail> {
     Ok(())
 }
 
-// Each of these words is asked for, so none may be another.
+// A surface that goes past its buffer, and a buffer that shares the tile slot's last page.
 #[test]
-fn refuses_other_words(rt: HostRuntime) {
-    for at in [
-        0, 4, 28, 32, 44, 48, 52, 56, 60, 64, 68, 72, 76, 80, 88, 92, 104, 112, 116, 128, 140, 152,
-        176, 180,
-    ] {
-        let mut bytes = file();
-        if at < 181 {
-            put_u32(&mut bytes, at, 0x0101_0101);
-        }
-        assert!(rt; read_thin(&bytes).is_none(), "at {at}");
-    }
+fn refuses_what_breaks_a_rule(rt: HostRuntime) {
+    assert!(rt; !keeps_rules(&Thin { offset: 3088, ..thin() }));
+    assert!(rt; !keeps_rules(&Thin { place: 0x8_1000, ..thin() }));
 }
