@@ -1,1 +1,3 @@
+pub mod Octets
+pub mod Safe
 pub mod Told

@@ -1,4 +1,4 @@
--- What `check` answers to all of its input: a status and a text.
+-- What a command answers to all of its input: a status and a text.
 use Rattle.std.specs.Prelude.{◌≡◌, ℕ, ◌++◌, List, Option, Some, None}
 use Rattle.field_words.specs.declared.stop.Stop.{Stop}
 use Rattle.field_words.specs.declared.stop.Stop.TheVariants.{Fault, NoMemory}
@@ -7,11 +7,15 @@ use Rattle.job_format.specs.declared.rule.FormatFault.{FormatFault}
 use Rattle.job_format.specs.declared.rule.Refusal.{Refusal}
 use Rattle.job_format.specs.declared.rule.Stage.TheVariants.{F}
 use Rattle.job_format.specs.Faults.{file_questions}
+use Rattle.job_format.specs.File.{IsFileOf}
 use Rattle.job_format.specs.Model.{FileModel}
 use Rattle.job_format.specs.Reading.{file_at}
 use Rattle.job_check.specs.Faults.{refused, file_stages}
 use Rattle.job_check.specs.Emit.{memory_of, layout_of, lengths_of}
 use Rattle.dumper.specs.Text.{accepted_text, refused_text}
+use Rattle.vc4check.specs.declared.command.Command.{Command}
+use Rattle.vc4check.specs.declared.command.Command.TheVariants.{Check, Asm, Disasm}
+use Rattle.vc4check.specs.Shader.{IsAsmAnswer, IsDisasmAnswer}
 
 -- F: the format of the file
 abbrev pub format_refused : FormatFault → Refusal
@@ -34,10 +38,17 @@ refusal_of bytes = first_of (all_questions bytes)
 unfoldable pub image_of : FileModel → List ℕ
 image_of f = accepted_text (memory_of f) (layout_of f 0) (lengths_of f 0)
 
--- Where no rule stands the file is accepted with its memory; else it is refused by the first that does.
-abbrev pub IsVerdict : Option Refusal → FileModel → ℕ → List ℕ → Type 0
-IsVerdict None f status text = (status ≡ 0) × (text ≡ image_of f)
-IsVerdict (Some refusal) f status text = (status ≡ 1) × (text ≡ refused_text refusal)
+-- Where no rule stands the file is what its bytes spell, and is accepted with its memory; else it is refused by the first rule
+-- that does.
+abbrev pub IsVerdict : List ℕ → Option Refusal → FileModel → ℕ → List ℕ → Type 0
+IsVerdict bytes None f status text = (status ≡ 0) × (text ≡ image_of f) × IsFileOf bytes f
+IsVerdict bytes (Some refusal) f status text = (status ≡ 1) × (text ≡ refused_text refusal)
 
 abbrev pub IsCheckAnswer : List ℕ → ℕ → List ℕ → Type 0
-IsCheckAnswer bytes status text = IsVerdict (refusal_of bytes) (file_at bytes) status text
+IsCheckAnswer bytes status text = IsVerdict bytes (refusal_of bytes) (file_at bytes) status text
+
+-- what each command answers
+abbrev pub IsAnswer : Command → List ℕ → ℕ → List ℕ → Type 0
+IsAnswer Check bytes status text = IsCheckAnswer bytes status text
+IsAnswer Asm bytes status text = IsAsmAnswer bytes status text
+IsAnswer Disasm bytes status text = IsDisasmAnswer bytes status text

@@ -1,3 +1,4 @@
 pub mod Answer
 pub mod Run
+pub mod Shader
 pub mod Words

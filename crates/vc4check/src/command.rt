@@ -1,12 +1,29 @@
 //! The program's commands, and the words that ask for them.
-ghost use Rattle.std.specs.Prelude.{◌≡◌, Some, None};
-ghost use Rattle.vc4check.specs.Words.{texts, command_named, command_of};
+ghost use Rattle.std.specs.Prelude.{◌≡◌, ◌≤◌, Some, None};
+ghost use Rattle.vc4check.specs.Words.{texts, command_named, command_of, limit_of};
 
 /// What the program can do.
 #[derive(Clone, Copy, Debug, PartialEq, Eq)]
 pub enum Command {
     /// `check`: reads a job file and prints the memory that it runs in, or why it is refused.
     Check,
+    /// `asm`: reads shader text and writes the instruction words, 8 bytes each, little endian.
+    Asm,
+    /// `disasm`: reads such words and writes shader text that assembles to them.
+    Disasm,
+}
+
+impl Command {
+    /// The most bytes of input that the command takes.
+    pub fn limit(self) -> usize
+        ensures value { result ≡ limit_of self }
+        ensures most { result ≤ 25165824 }
+    {
+        match self {
+            Command::Check => 25_165_824,
+            Command::Asm | Command::Disasm => 1_048_576,
+        }
+    }
 }
 
 fn command_named(word: &str) -> Option<Command>
@@ -14,6 +31,12 @@ fn command_named(word: &str) -> Option<Command>
 {
     if word == "check" {
         return Some(Command::Check);
+    }
+    if word == "asm" {
+        return Some(Command::Asm);
+    }
+    if word == "disasm" {
+        return Some(Command::Disasm);
     }
     None
 }

@@ -7,6 +7,8 @@ mod answer;
 mod check;
 mod command;
 mod run;
+mod serve;
+mod shader_text;
 #[cfg(test)]
 mod tests;
 

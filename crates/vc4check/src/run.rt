@@ -1,19 +1,20 @@
 //! The top call: from words and input to a status and a text.
-ghost use Rattle.std.specs.Prelude.{◌≡◌, ◌≢◌, ◌≤◌, ◌<◌, ◌⊎◌, ◌↔◌, length, IfSome, Some, None};
-ghost use Rattle.std.specs.Io.KnownBytes.{Appends};
+ghost use Rattle.std.specs.Prelude.{◌≡◌, ◌≢◌, ◌≤◌, ◌<◌, ◌⊎◌, ◌↔◌, ◌∷◌, [], length, IfSome, Some, None};
 ghost use Rattle.job_io.specs.Faults.{Rose};
 ghost use Rattle.job_io.specs.Traffic.{count_taken};
-ghost use Rattle.job_format.specs.declared.rule.Refusal.{Refusal};
-ghost use Rattle.job_format.specs.File.{IsFileOf};
+ghost use Rattle.job_format.specs.Model.{FileModel};
 ghost use Rattle.job_format.specs.Reading.{file_at};
-ghost use Rattle.dumper.specs.Text.{refused_text};
-ghost use Rattle.vc4check.specs.Answer.{refusal_of, image_of, IsCheckAnswer};
+ghost use Rattle.job_check.specs.Emit.{memory_of};
+ghost use Rattle.thin_job.specs.Shape.{IsThinFile, thin_of};
+ghost use Rattle.job_safety.specs.Safe.{AreSafe};
+ghost use Rattle.job_safety.specs.Thin.{thin_rights, thin_start};
+ghost use Rattle.vc4check.specs.declared.command.Command.{Command};
+ghost use Rattle.vc4check.specs.Answer.{IsAnswer};
 ghost use Rattle.vc4check.specs.Run.{IsAnswered, IsCut};
-ghost use Rattle.vc4check.specs.Words.{texts, command_of};
-ghost use Rattle.vc4check.specs.declared.command.Command.TheVariants.{Check};
+ghost use Rattle.vc4check.specs.Words.{texts, command_of, limit_of};
 
-use super::check::{LIMIT, check};
-use super::command::{Command, command_of};
+use super::command::command_of;
+use super::serve::serve;
 use job_io::{Sink, Source};
 use std::alloc::Global;
 
@@ -47,26 +48,22 @@ pub fn run<S: Source, K: Sink>(
     ensures untouched { result ≡ 2 → source.new ≡ source.old }
     ensures nothing { 1 < result → result ≢ 4 → sink.new ≡ sink.old }
 
-    // What `check` takes and answers, where the source tells its input.
-    ensures long { command_of (texts words.now.items) ≡ Some Check → IfSome (S.left source.old) (λ _.
-        (result ≡ 6) ↔ (LIMIT < count_taken (S.left source.old) (S.left source.new))) }
-    ensures within { command_of (texts words.now.items) ≡ Some Check → IfSome (S.left source.old) (λ bytes.
-        length bytes ≤ LIMIT → result ≢ 6) }
-    ensures answered { command_of (texts words.now.items) ≡ Some Check → result < 2 →
-        IfSome (S.left source.old) (λ bytes. IsAnswered IsCheckAnswer bytes result (K.held sink.old) (K.held sink.new)) }
-    ensures cut { command_of (texts words.now.items) ≡ Some Check → result ≡ 4 →
-        IfSome (S.left source.old) (λ bytes. IsCut IsCheckAnswer bytes (K.held sink.old) (K.held sink.new)) }
-    // The same by the first rule that fails: none, and the file's memory is printed; or that rule with its offset.
-    ensures accepted { command_of (texts words.now.items) ≡ Some Check → result < 2 → IfSome (S.left source.old) (λ bytes.
-        refusal_of bytes ≡ None → (result ≡ 0) × Appends (K.held sink.old) (K.held sink.new) (image_of (file_at bytes))) }
-    ensures refused { command_of (texts words.now.items) ≡ Some Check → result < 2 → IfSome (S.left source.old) (λ bytes. (refusal : Refusal) →
-        refusal_of bytes ≡ Some refusal → (result ≡ 1) × Appends (K.held sink.old) (K.held sink.new) (refused_text refusal)) }
-    // An accepted file is what its bytes spell.
-    ensures spelled { command_of (texts words.now.items) ≡ Some Check → result ≡ 0 → IfSome (S.left source.old) (λ bytes.
-        IsFileOf bytes (file_at bytes)) }
+    // What each command takes and answers, where the source tells its input.
+    ensures long { (command : Command) → command_of (texts words.now.items) ≡ Some command → IfSome (S.left source.old) (λ _.
+        (result ≡ 6) ↔ (limit_of command < count_taken (S.left source.old) (S.left source.new))) }
+    ensures within { (command : Command) → command_of (texts words.now.items) ≡ Some command → IfSome (S.left source.old) (λ bytes.
+        length bytes ≤ limit_of command → result ≢ 6) }
+    ensures answered { (command : Command) → command_of (texts words.now.items) ≡ Some command → result < 2 →
+        IfSome (S.left source.old) (λ bytes. IsAnswered (IsAnswer command) bytes result (K.held sink.old) (K.held sink.new)) }
+    ensures cut { (command : Command) → command_of (texts words.now.items) ≡ Some command → result ≡ 4 →
+        IfSome (S.left source.old) (λ bytes. IsCut (IsAnswer command) bytes (K.held sink.old) (K.held sink.new)) }
+
+    // The memory that `check` prints of a thin job is safe in every run of the machine.
+    ensures safe { IfSome (S.left source.old) (λ bytes. (f : FileModel) → IsThinFile bytes f →
+        AreSafe (thin_rights (thin_of f)) (memory_of (file_at bytes)) (thin_start (thin_of f) ∷ [])) }
 {
     match command_of(words) {
         None => 2,
-        Some(Command::Check) => check(alloc, source, sink),
+        Some(command) => serve(alloc, command, source, sink),
     }
 }

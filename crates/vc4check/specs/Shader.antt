@@ -1,0 +1,40 @@
+-- What `asm` and `disasm` answer to all of their input.
+use Rattle.std.specs.Prelude.{◌≡◌, ◌≢◌, ◌⊎◌, ℕ, ◌*◌, ◌/◌, ◌%◌, List, [], ◌++◌, codes, length, map}
+use Rattle.std.specs.List.{flat_map, range_with_len}
+use Rattle.std.specs.Fmt.{decimal}
+use Rattle.std.specs.Int.{to_le_bytes, w64}
+use Rattle.field_words.specs.Words.{u64_at}
+use Rattle.qpu_asm.specs.declared.fault.AsmFault.{AsmFault}
+use Rattle.qpu_asm.specs.Assembly.{AsmFaults, AsmWords, IsLeastFault}
+use Rattle.qpu_asm.specs.Printed.{AsmText}
+
+-- words as bytes, 8 each, the lowest first
+unfoldable pub bytes_of : List ℕ → List ℕ
+bytes_of words = flat_map (to_le_bytes w64) words
+
+-- the first n words that stand in such bytes, and all
+unfoldable pub words_in : List ℕ → ℕ → List ℕ
+words_in bytes n = map (λ i. u64_at bytes (8 * i)) (range_with_len 0 n)
+
+abbrev pub words_of : List ℕ → List ℕ
+words_of bytes = words_in bytes (length bytes / 8)
+
+-- a line for the first fault of a text
+unfoldable pub fault_text : AsmFault → List ℕ
+fault_text fault = codes "line " ++ (decimal fault.line ++ (codes " fault " ++ (decimal fault.kind ++ codes "\n")))
+
+-- a line for a length that is no multiple of 8
+unfoldable pub length_text : ℕ → List ℕ
+length_text n = codes "length " ++ (decimal n ++ codes "\n")
+
+-- A text without faults is answered with its words, any other with its first fault.
+abbrev pub IsAsmAnswer : List ℕ → ℕ → List ℕ → Type 0
+IsAsmAnswer text status out =
+    ((AsmFaults text ≡ []) × (status ≡ 0) × (out ≡ bytes_of (AsmWords text)))
+    ⊎ ((fault : AsmFault) × IsLeastFault (AsmFaults text) fault × (status ≡ 1) × (out ≡ fault_text fault))
+
+-- Whole words are answered with their text, any other length by naming it.
+abbrev pub IsDisasmAnswer : List ℕ → ℕ → List ℕ → Type 0
+IsDisasmAnswer bytes status out =
+    ((length bytes % 8 ≡ 0) × (status ≡ 0) × (out ≡ AsmText (words_of bytes)))
+    ⊎ ((length bytes % 8 ≢ 0) × (status ≡ 1) × (out ≡ length_text (length bytes)))

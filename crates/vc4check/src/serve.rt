@@ -1,0 +1,76 @@
+//! A command from its input to its text in the sink.
+ghost use Rattle.std.specs.Prelude.{◌≡◌, ◌≢◌, ◌≤◌, ◌<◌, ◌⊎◌, ◌↔◌, length, IfOk, IfSome};
+ghost use Rattle.job_io.specs.Faults.{Rose};
+ghost use Rattle.job_io.specs.Traffic.{count_taken};
+ghost use Rattle.vc4check.specs.Answer.{IsAnswer};
+ghost use Rattle.vc4check.specs.Run.{IsAnswered, IsCut};
+ghost use Rattle.vc4check.specs.Words.{limit_of};
+
+use super::answer::{Answer, reply};
+use super::check::check_answer;
+use super::command::Command;
+use super::shader_text::{asm_answer, disasm_answer};
+use field_words::NoMemory;
+use job_io::{ReadEnd, Sink, Source, read_all};
+use std::alloc::Global;
+
+/// What the command answers to these bytes.
+fn answer_to(alloc: Global, command: Command, bytes: &[u8]) -> Result<Answer, NoMemory>
+    requires { length bytes.now ≤ limit_of command }
+    ensures answers { IfOk result (λ a. IsAnswer command bytes.now a.status a.text.items) }
+    ensures status { IfOk result (λ a. a.status < 2) }
+{
+    match command {
+        Command::Check => check_answer(alloc, bytes),
+        Command::Asm => asm_answer(alloc, bytes),
+        Command::Disasm => disasm_answer(alloc, bytes),
+    }
+}
+
+/// Appends the answer to these bytes to the sink. All memory is taken before the first byte is
+/// written.
+fn respond<K: Sink>(alloc: Global, command: Command, bytes: &[u8], sink: &mut K) -> u8
+    requires { length bytes.now ≤ limit_of command }
+    ensures statuses { (result < 2) ⊎ ((result ≡ 4) ⊎ (result ≡ 5)) }
+    ensures write { result ≡ 4 → Rose (K.faults sink.old) (K.faults sink.new) }
+    ensures answered { result < 2 → IsAnswered (IsAnswer command) bytes.now result (K.held sink.old) (K.held sink.new) }
+    ensures cut { result ≡ 4 → IsCut (IsAnswer command) bytes.now (K.held sink.old) (K.held sink.new) }
+    ensures nothing { 1 < result → result ≢ 4 → sink.new ≡ sink.old }
+{
+    let Ok(answer) = answer_to(alloc, command, bytes) else {
+        return 5;
+    };
+    reply(sink, &answer)
+}
+
+/// Reads all of the command's input, and appends its answer to the sink. All memory is taken before
+/// the first byte is written.
+///
+/// Status 0 is done and 1 refused; 3 and 4 are faults of the source and of the sink, 5 is want of
+/// memory, and 6 is more input than the command's limit.
+pub fn serve<S: Source, K: Sink>(
+    alloc: Global,
+    command: Command,
+    source: &mut S,
+    sink: &mut K,
+) -> u8
+    ensures statuses { result ≤ 6 }
+    ensures asked { result ≢ 2 }
+    ensures read { result ≡ 3 → Rose (S.faults source.old) (S.faults source.new) }
+    ensures write { result ≡ 4 → Rose (K.faults sink.old) (K.faults sink.new) }
+    ensures long { IfSome (S.left source.old) (λ _. (result ≡ 6) ↔
+        (limit_of command < count_taken (S.left source.old) (S.left source.new))) }
+    ensures within { IfSome (S.left source.old) (λ bytes. length bytes ≤ limit_of command → result ≢ 6) }
+    ensures answered { result < 2 → IfSome (S.left source.old) (λ bytes. IsAnswered (IsAnswer command) bytes result (K.held sink.old) (K.held sink.new)) }
+    ensures cut { result ≡ 4 → IfSome (S.left source.old) (λ bytes. IsCut (IsAnswer command) bytes (K.held sink.old) (K.held sink.new)) }
+    ensures complete { (Rose (S.faults source.old) (S.faults source.new) → ⊥) → (Rose (K.faults sink.old) (K.faults sink.new) → ⊥)
+        → result ≢ 6 → ((result < 2) ⊎ (result ≡ 5)) }
+    ensures nothing { 1 < result → result ≢ 4 → sink.new ≡ sink.old }
+{
+    match read_all(alloc, source, command.limit()) {
+        Err(ReadEnd::ReadFault) => 3,
+        Err(ReadEnd::TooLong) => 6,
+        Err(ReadEnd::NoMemory) => 5,
+        Ok(bytes) => respond(alloc, command, &bytes, sink),
+    }
+}

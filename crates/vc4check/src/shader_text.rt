@@ -1,0 +1,95 @@
+//! The commands `asm` and `disasm`.
+ghost use Rattle.std.specs.Prelude.{◌≡◌, ◌≢◌, ◌⊎◌, ◌≤◌, ◌<◌, ◌+◌, ◌*◌, ◌/◌, ◌++◌, length, IfOk, string_bytes};
+ghost use Rattle.field_words.specs.Words.{u64_at};
+ghost use Rattle.vc4check.specs.Shader.{bytes_of, words_of, fault_text, length_text, IsAsmAnswer, IsDisasmAnswer};
+
+use super::answer::Answer;
+use byteorder::{ByteOrder, LittleEndian};
+use field_words::{NoMemory, Stop};
+use qpu_asm::{AsmFault, assemble, disassemble};
+use std::alloc::{AllocError, Global};
+
+/// Words as bytes, 8 each, the lowest first.
+#[tactic(auto, unfolding(crate::specs::Shader::bytes_of))]
+fn bytes_of(alloc: Global, words: &[u64]) -> Result<Vec<u8>, AllocError>
+    ensures { IfOk result (λ bytes. bytes.items ≡ bytes_of words.now) }
+{
+    let mut bytes = Vec::new(alloc);
+    for word in words {
+        bytes.extend_from_slice(&word.to_le_bytes())?;
+    }
+    Ok(bytes)
+}
+
+/// The words that stand in the bytes, which are whole words.
+#[tactic(auto, using(crate::proofs::Octets::words_none, crate::proofs::Octets::words_more))]
+fn words_of(alloc: Global, bytes: &[u8]) -> Result<Vec<u64>, AllocError>
+    requires { length bytes.now ≤ 1048576 }
+    ensures { IfOk result (λ words. words.items ≡ words_of bytes.now) }
+{
+    let mut words = Vec::new(alloc);
+    for k in 0..bytes.len() / 8 {
+        words.push(word_at(bytes, k))?;
+    }
+    Ok(words)
+}
+
+/// Word k of the bytes.
+#[tactic(auto, unfolding(field_words::specs::Words::u64_at))]
+fn word_at(bytes: &[u8], k: usize) -> u64
+    requires few { length bytes.now ≤ 1048576 }
+    requires inside { k < length bytes.now / 8 }
+    ensures { result ≡ u64_at bytes.now (8 * k) }
+{
+    LittleEndian::read_u64(&bytes[8 * k..])
+}
+
+#[tactic(auto, unfolding(crate::specs::Shader::fault_text))]
+fn fault_text(alloc: Global, fault: &AsmFault) -> Result<Vec<u8>, AllocError>
+    ensures { IfOk result (λ text. text.items ≡ fault_text fault.now) }
+{
+    let line = fault.line;
+    let kind = fault.kind;
+    Ok(format!(in alloc; "line {line} fault {kind}\n")?.into_bytes())
+}
+
+#[tactic(auto, unfolding(crate::specs::Shader::length_text))]
+fn length_text(alloc: Global, length: usize) -> Result<Vec<u8>, AllocError>
+    ensures { IfOk result (λ text. text.items ≡ length_text length) }
+{
+    Ok(format!(in alloc; "length {length}\n")?.into_bytes())
+}
+
+/// What `asm` answers to a text: the words of its instructions, or its first fault.
+pub fn asm_answer(alloc: Global, text: &[u8]) -> Result<Answer, NoMemory>
+    requires { length text.now ≤ 1048576 }
+    ensures answers { IfOk result (λ a. IsAsmAnswer text.now a.status a.text.items) }
+    ensures status { IfOk result (λ a. a.status < 2) }
+{
+    match assemble(alloc, text) {
+        Ok(words) => {
+            let text = bytes_of(alloc, &words)?;
+            Ok(Answer { status: 0, text })
+        }
+        Err(Stop::Fault(fault)) => {
+            let text = fault_text(alloc, &fault)?;
+            Ok(Answer { status: 1, text })
+        }
+        Err(Stop::NoMemory) => Err(NoMemory),
+    }
+}
+
+/// What `disasm` answers to bytes: the text of their words, or their length where it is no multiple of 8.
+pub fn disasm_answer(alloc: Global, bytes: &[u8]) -> Result<Answer, NoMemory>
+    requires { length bytes.now ≤ 1048576 }
+    ensures answers { IfOk result (λ a. IsDisasmAnswer bytes.now a.status a.text.items) }
+    ensures status { IfOk result (λ a. a.status < 2) }
+{
+    if bytes.len() % 8 != 0 {
+        let text = length_text(alloc, bytes.len())?;
+        return Ok(Answer { status: 1, text });
+    }
+    let words = words_of(alloc, bytes)?;
+    let text = disassemble(alloc, &words)?;
+    Ok(Answer { status: 0, text })
+}
