@@ -211,3 +211,25 @@ fn refuses_what_is_cut_off(rt: HostRuntime) -> Result<(), Fail> {
     }
     Ok(())
 }
+
+// Shader text and words: a text, its word, the word's text, a fault, a length that is no multiple of 8, and no bytes.
+#[test]
+fn turns_text_into_words_and_back(rt: HostRuntime) -> Result<(), Fail> {
+    let alloc = rt.alloc();
+    let nop = [0x00, 0x70, 0x9e, 0x00, 0xe7, 0x09, 0x00, 0x10];
+    for (command, input, status, output) in [
+        ("asm", b"# none\n nop \n".as_slice(), 0, nop.as_slice()),
+        ("disasm", &nop, 0, b"nop\n"),
+        ("asm", b"nop\nfoo", 1, b"line 2 fault 1\n"),
+        ("asm", b"br to=x", 1, b"line 1 fault 4\n"),
+        ("disasm", &nop[..7], 1, b"length 7\n"),
+        ("disasm", b"", 0, b""),
+    ] {
+        let mut source = MemSource::new(input.to_vec(alloc)?, 5, Vec::new(alloc));
+        let mut sink = MemSink::new(alloc, 3, 100, Vec::new(alloc))?;
+        let answer = run(alloc, &words(alloc, &[command])?, &mut source, &mut sink);
+        assert_eq!(rt; answer, status, "{command}");
+        assert_eq!(rt; sink.bytes(), output, "{command}");
+    }
+    Ok(())
+}
