@@ -1,12 +1,10 @@
 -- An accepted shader breaks no rule at any checked instruction.
-use Rattle.std.proofs.Common.{◌≡◌, ◌<◌, ◌+◌, ℕ, zero, suc, Bool, true, false, not, ◌&&◌, ◌||◌, ◌==◌, List, [], ◌∷◌, ◌++◌, length, Option, Some, None, refl, sym, ap, subst, inl, inr, arith, ◌∙◌}
-use Rattle.std.proofs.lemmas.Bool.{and_parts, and_from, or_cases, or_parts, or_left, or_right, cases_Bool, true≢false, not-true, not-false}
-use Rattle.field_words.specs.Questions.{Question, Ask, first_of, each, answered, NoneStands}
+use Rattle.std.proofs.Common.{◌≡◌, ◌<◌, ◌+◌, ℕ, zero, suc, true, false, List, [], ◌∷◌, ◌++◌, length, None, refl, sym, ap, arith, ◌∙◌}
+use Rattle.field_words.specs.Questions.{Question, Ask, first_of, each, answered}
 use Rattle.field_words.proofs.Questions.{none_stands, each_step}
 use Rattle.shader_flow.specs.Flow.{checked_of}
 use Rattle.uniform_stream.specs.Rules.{s20, s22, s23}
 use Rattle.shader_check.specs.Rules.{s16, s24, index_questions, questions_at, fault_at, whole_questions, shader_questions}
-use Rattle.shader_check.specs.declared.fault.ShaderFault.{ShaderFault}
 
 -- none of these rules stands at the instruction
 pub record IsCleanAt (code : List ℕ) (i : ℕ) : Type 0 where

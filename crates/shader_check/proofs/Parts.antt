@@ -1,22 +1,22 @@
 -- The instructions that take a sample's uniforms: the first, and one to three more.
-use Rattle.std.proofs.Common.{◌≡◌, ◌≤◌, ◌<◌, ◌+◌, ◌-◌, ◌==◌, ◌⊎◌, ℕ, zero, suc, Bool, true, false, ◌&&◌, ◌||◌, List, [], ◌∷◌, ◌++◌, length, if◌then◌else◌, refl, sym, ap, subst, inl, inr, arith, ◌∙◌, nat_lt, nat_le, length-append}
-use Rattle.std.proofs.lemmas.Bool.{and_parts, and_from, and_cases, or_cases, or_parts, or_left, or_right, cases_Bool, true≢false, leb-false, eqb-true, eqb-false, eq-eqb, and_right, false_from_ne_true}
+use Rattle.std.proofs.Common.{◌≡◌, ◌≤◌, ◌<◌, ◌+◌, ◌-◌, ◌==◌, ℕ, zero, suc, true, false, ◌&&◌, ◌||◌, List, [], ◌∷◌, ◌++◌, length, if◌then◌else◌, refl, sym, ap, subst, inl, inr, arith, ◌∙◌, nat_le, length-append}
+use Rattle.std.proofs.lemmas.Bool.{and_parts, and_cases, or_cases, or_parts, cases_Bool, true≢false, leb-false, eqb-false, and_right}
 use Rattle.qpu_isa.specs.Word.{add_a_of}
-use Rattle.qpu_isa.specs.Terms.{writes_s, s_address, names_address, writes_tmu, is_address_write, is_min_with_uniform, is_add_with_uniform, add_names, mul_names, operand_register}
+use Rattle.qpu_isa.specs.Terms.{writes_s, s_address, names_address, writes_tmu, is_address_write, is_min_with_uniform, is_add_with_uniform, operand_register}
 use Rattle.shader_flow.specs.Flow.{word, checked_of}
 use Rattle.uniform_stream.specs.Pending.{pending_of, takes}
 use Rattle.uniform_stream.specs.Rules.{s22, is_full}
-use Rattle.clamp_facts.specs.Facts.{makes_clamp, clamps, is_not_negative}
+use Rattle.clamp_facts.specs.Facts.{makes_clamp, is_not_negative}
 use Rattle.clamp_facts.proofs.Carriers.{clamped_found, clamps_parts, carried_parts}
-use Rattle.shader_check.specs.Rules.{adds_direct, muls_direct, is_clamped_write}
+use Rattle.shader_check.specs.Rules.{adds_direct, muls_direct}
 use Rattle.shader_check.specs.Info.{held, asks, sample_tmu, is_direct_sample, clamp_parts, sample_parts}
 use Rattle.shader_check.specs.Sound.{Member}
 use Rattle.shader_check.proofs.Clean.{IsCleanAt, IsClean}
 use Rattle.shader_check.proofs.Members.{member_append}
 use Rattle.shader_check.proofs.Positions.{clamp_parts_one, first_register}
-use Rattle.shader_check.proofs.Roles.{sets, sum_parts, min_parts, sum_or_min, reads_takes, sets_takes, sets_or_reads, address_parts, direct_parts, clamped_parts, address_or_direct}
+use Rattle.shader_check.proofs.Roles.{sum_parts, min_parts, sum_or_min, reads_takes, sets_takes, sets_or_reads, address_parts, direct_parts, clamped_parts, address_or_direct}
 use Rattle.shader_check.proofs.Setups.{SetsUp, Numbered, numbered_member, sets_one, s_writes, one_tmu}
-use Rattle.shader_check.proofs.Held.{KeptIs, held_is, held_after}
+use Rattle.shader_check.proofs.Held.{held_is, held_after}
 use Rattle.shader_check.proofs.Tables.{add_operand}
 
 -- the first of the instruction at i's sample: itself, where it is direct, or a setup write of number 0

@@ -1,16 +1,16 @@
 -- A checked instruction of an accepted shader takes its uniform for one thing alone: an address write, a direct read, a clamp
 -- or a setup word.
-use Rattle.std.proofs.Common.{◌≡◌, ◌≤◌, ◌<◌, ◌+◌, ◌*◌, ◌-◌, ◌==◌, ◌⊎◌, ℕ, zero, suc, Bool, true, false, not, ◌&&◌, ◌||◌, List, [], ◌∷◌, ◌++◌, length, if◌then◌else◌, refl, sym, ap, subst, inl, inr, arith, ◌∙◌, nat_lt, nat_le}
-use Rattle.std.proofs.lemmas.Bool.{and_parts, and_from, and_cases, or_cases, or_parts, or_left, or_right, cases_Bool, cases_order, true≢false, not-true, not-false, lt-ltb, ltb-true, leb-true, le-leb, eqb-true}
-use Rattle.qpu_isa.specs.Word.{add_a_of, add_b_of, op_add_of, waddr_add_of, waddr_mul_of, raddr_a_of, raddr_b_of, ws_of, cond_add_of}
-use Rattle.qpu_isa.specs.Terms.{is_alu, is_branch, has_small, is_plain, is_uniform_operand, is_register_operand, reads_uniform_of, is_add_with_uniform, is_min_with_uniform, is_address_write, is_add_packed, add_names, mul_names, names_address, writes_s, s_address, writes_tmu, add_writes_tmu, mul_writes_tmu, is_tmu_address, tmu_writes, add_is_tmu, mul_is_tmu, has_two_tmu_writes, operand_register}
+use Rattle.std.proofs.Common.{◌≡◌, ◌≤◌, ◌<◌, ◌+◌, ◌*◌, ◌-◌, ◌==◌, ℕ, zero, suc, Bool, true, not, ◌&&◌, ◌||◌, List, sym, ap, inl, inr, arith, ◌∙◌, nat_lt}
+use Rattle.std.proofs.lemmas.Bool.{and_parts, and_from, and_cases, or_cases, or_parts, or_left, or_right, cases_order, true≢false, not-false, lt-ltb, eqb-true}
+use Rattle.qpu_isa.specs.Word.{add_a_of, add_b_of, op_add_of, waddr_add_of, raddr_a_of, raddr_b_of, ws_of, cond_add_of}
+use Rattle.qpu_isa.specs.Terms.{is_alu, is_branch, has_small, is_plain, is_uniform_operand, is_register_operand, reads_uniform_of, is_add_with_uniform, is_min_with_uniform, is_address_write, is_add_packed, add_names, operand_register}
 use Rattle.shader_flow.specs.Flow.{word, checked_of}
-use Rattle.uniform_stream.specs.Pending.{pending_of, count_of, takes, takes_with, has_setup, adds_setup, muls_setup}
-use Rattle.uniform_stream.specs.Rules.{s20, s22, s23, is_full}
+use Rattle.uniform_stream.specs.Pending.{pending_of, count_of, takes, takes_with, has_setup}
+use Rattle.uniform_stream.specs.Rules.{s23}
 use Rattle.uniform_stream.proofs.Counts.{count_next, count_taken}
 use Rattle.clamp_facts.specs.Facts.{is_immediate, is_clamped}
 use Rattle.shader_check.specs.Rules.{s16, s24, is_exact_address_write, has_quiet_signal, adds_address, adds_direct, muls_direct, is_clamped_write}
-use Rattle.shader_check.proofs.Clean.{IsCleanAt, IsClean}
+use Rattle.shader_check.proofs.Clean.{IsCleanAt}
 
 -- counts rise, and strictly after an instruction that takes one
 pub count_rises : (code : List ℕ) (i d : ℕ) → count_of code i ≤ count_of code (i + d)

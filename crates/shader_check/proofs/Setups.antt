@@ -1,17 +1,13 @@
 -- The setup words that a TMU keeps: one instruction each, numbered from 0.
-use Rattle.std.proofs.Common.{◌≡◌, ◌≤◌, ◌<◌, ◌+◌, ◌*◌, ◌==◌, ◌⊎◌, ℕ, zero, suc, Bool, true, false, not, ◌&&◌, ◌||◌, List, [], ◌∷◌, ◌++◌, length, if◌then◌else◌, refl, sym, ap, subst, inl, inr, arith, ◌∙◌, nat_lt, nat_le, length-append}
-use Rattle.std.proofs.lemmas.Bool.{and_parts, and_from, and_cases, or_cases, or_parts, or_left, or_right, or_from, cases_Bool, true≢false, not_from_false, not-true, not-false, lt-ltb, ltb-true, leb-true, le-leb, eqb-true, and_left, and_right}
+use Rattle.std.proofs.Common.{◌≡◌, ◌≤◌, ◌<◌, ◌+◌, ◌*◌, ◌==◌, ℕ, zero, suc, true, false, not, ◌&&◌, ◌||◌, List, [], ◌∷◌, ◌++◌, length, if◌then◌else◌, sym, ap, subst, inl, inr, arith, ◌∙◌, nat_lt, nat_le}
+use Rattle.std.proofs.lemmas.Bool.{and_parts, and_from, or_cases, or_parts, or_left, or_right, cases_Bool, true≢false, lt-ltb, ltb-true, leb-true, le-leb, eqb-true}
 use Rattle.qpu_isa.specs.Word.{waddr_add_of, waddr_mul_of}
 use Rattle.qpu_isa.specs.Terms.{is_branch, add_names, mul_names, names_address, writes_s, s_address, writes_tmu, add_writes_tmu, mul_writes_tmu, is_tmu_address, tmu_writes, add_is_tmu, mul_is_tmu, has_two_tmu_writes}
 use Rattle.shader_flow.specs.Flow.{word, checked_of}
 use Rattle.uniform_stream.specs.Pending.{pending_of, has_setup, adds_setup, muls_setup}
 use Rattle.uniform_stream.specs.Rules.{s20}
-use Rattle.uniform_stream.proofs.Counts.{pending_zero, pending_sent, pending_kept}
-use Rattle.shader_check.specs.Info.{held, kept}
 use Rattle.shader_check.specs.Sound.{Member}
-use Rattle.shader_check.proofs.Clean.{IsCleanAt, IsClean}
-use Rattle.shader_check.proofs.Members.{member_append}
-use Rattle.shader_check.proofs.Positions.{held_next}
+use Rattle.shader_check.proofs.Clean.{IsCleanAt}
 use Rattle.shader_check.proofs.Roles.{sets}
 
 -- the instruction at k has the setup write number m of a request to this TMU
