@@ -71,10 +71,24 @@ fn add_label<'a>(
 ) -> Result<(), AllocError>
     ensures { OnOk result ((name : List ℕ) → spots_in labels.new name ≡ either_spot (spots_in labels.old name) (if bytes_eq label.now name then Some spot else None)) }
 {
-    if labels.contains_key(label) {
-        return Ok(());
-    }
     match labels.insert(label, spot) {
+        Ok(None) => Ok(()),
+        Ok(Some(known)) => {
+            put_back(labels, label, known)?;
+            Ok(())
+        }
+        Err(_) => Err(AllocError),
+    }
+}
+
+fn put_back<'a>(
+    labels: &mut BTreeMap<&'a [u8], Spot>,
+    label: &'a [u8],
+    known: Spot,
+) -> Result<(), AllocError>
+    ensures { OnOk result ((name : List ℕ) → spots_in labels.new name ≡ (if bytes_eq label.now name then Some known else spots_in labels.old name)) }
+{
+    match labels.insert(label, known) {
         Ok(_) => Ok(()),
         Err(_) => Err(AllocError),
     }
