@@ -213,3 +213,51 @@ pub fn refusal_text(alloc: Global, refusal: &Refusal) -> Result<Vec<u8>, NoMemor
     let line = format!(in alloc; "refused {rule} at {offset}\n")?;
     Ok(line.into_bytes())
 }
+
+#[cfg(test)]
+mod tests {
+    use super::*;
+    use job_format::{Rule, Stage};
+
+    const IMAGE: &str =
+        "accepted\nmemory 48\nbin 01000abc 7\nrecords 01000ac0 16\nuniforms 01000ad0 0\n\
+        render 01000ae0 254\nslot 00020000\n00000010 000000000000000000000000000001a5\nend\n";
+
+    // Three rows, of which the first and the last are all zero.
+    #[test]
+    fn prints_filled_rows(rt: HostRuntime) -> Result<(), NoMemory> {
+        let mut memory = PhysMem::new(rt.alloc(), 48)?;
+        assert_eq!(rt; memory.len(), 48);
+        memory.write_bytes(30, &[0x01, 0xa5]);
+        assert_eq!(rt; memory.len() % 16, 0);
+        let layout = Layout {
+            place: 0x0100_0000,
+            bin: 0xabc,
+            records: 0xac0,
+            uniforms: 0xad0,
+            render: 0xae0,
+            end: 0xbde,
+            slot: 0x2_0000,
+        };
+        let lengths = Lengths {
+            bin: 7,
+            records: 16,
+            uniforms: 0,
+            render: 254,
+        };
+        let text = image_text(rt.alloc(), &memory, &layout, &lengths)?;
+        assert_eq!(rt; text.as_slice(), IMAGE.as_bytes());
+        Ok(())
+    }
+
+    #[test]
+    fn prints_a_refusal(rt: HostRuntime) -> Result<(), NoMemory> {
+        let rule = Rule {
+            stage: Stage::M,
+            number: 4,
+        };
+        let text = refusal_text(rt.alloc(), &Refusal { rule, offset: 132 })?;
+        assert_eq!(rt; text.as_slice(), b"refused M4 at 132\n".as_slice());
+        Ok(())
+    }
+}
