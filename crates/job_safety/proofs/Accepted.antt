@@ -1,23 +1,20 @@
 -- No rule refuses a thin file.
-use Rattle.std.proofs.Common.{◌≡◌, ◌≤◌, ◌<◌, ℕ, ◌+◌, ◌*◌, ◌/◌, ◌%◌, ◌==◌, Bool, true, false, not, nat_lt, nat_le, ◌||◌, List, [], ◌∷◌, ◌++◌, length, None, refl, sym, subst, arith, ◌∙◌}
+use Rattle.std.proofs.Common.{◌≡◌, ℕ, ◌+◌, ◌*◌, ◌/◌, ◌%◌, ◌==◌, false, not, nat_lt, nat_le, ◌||◌, List, [], ◌∷◌, ◌++◌, length, None, refl, sym, subst, arith, ◌∙◌}
 use Rattle.std.proofs.lemmas.Bool.{le-ltb}
 use Rattle.field_words.specs.Words.{rounded_up}
-use Rattle.field_words.specs.Questions.{Question, Ask, first_of, NoneStands, each, answered}
+use Rattle.field_words.specs.Questions.{Question, first_of, each}
 use Rattle.field_words.proofs.Questions.{passes, stands_none, answered_none}
 use Rattle.buffer_table.specs.declared.item.Item.{Item}
-use Rattle.buffer_table.specs.declared.buffer.TableFault.{TableFault}
-use Rattle.buffer_table.specs.Table.{buffer_at, shares, is_unaligned, items_of, memory_questions, item_questions, all_questions, table_questions, lists_item, tile_item, buffer_item}
+use Rattle.buffer_table.specs.Table.{buffer_at, shares, is_unaligned, memory_questions, item_questions, all_questions, table_questions, lists_item, tile_item}
 use Rattle.buffer_table.specs.Handles.{data_of, handle_questions, handles_questions}
-use Rattle.job_format.specs.declared.rule.Refusal.{Refusal}
 use Rattle.job_format.specs.Model.{FileModel}
 use Rattle.texture_layouts.specs.Surface.{microtile_width_of}
-use Rattle.render_list.specs.declared.fault.RenderFault.{RenderFault}
 use Rattle.render_list.specs.Frame.{is_present, is_full, is_multisample, tile_side}
 use Rattle.render_list.specs.Surfaces.{surface_faults, frame_questions, surface_questions, shape_questions, size_questions, whole_questions, is_written, is_reversed, is_outside_grid, is_outside_frame, has_unknown_flag, has_unknown_bit, is_unnamed, has_unlisted_tiling, tiling_number, has_unlisted_format, pixel_size_of, is_too_large, plain_end, is_full_with_bits, is_too_large_full, buffer_size}
 use Rattle.render_list.specs.Surfaces.{is_unaligned as is_surface_unaligned}
 use Rattle.job_check.specs.Faults.{job_of, table_of, render_list_of, table_refused, handle_refused, surface_refused, table_stage, handles_stage, surfaces_stage, layout_stage, job_stages, file_stages}
 use Rattle.relocation.specs.Layout.{records_start, uniforms_start, render_start}
-use Rattle.thin_job.specs.Thin.{raster_size, IsItem, AreApart, KeepsRules, KeepsFrame}
+use Rattle.thin_job.specs.Thin.{raster_size, IsItem, AreApart, KeepsRules}
 use Rattle.thin_job.specs.Shape.{thin_of, IsThinFile}
 use Rattle.thin_job.proofs.Numbers.{Numbers, thin_file, thin_frame}
 use Rattle.thin_job.proofs.Shapes.{file_is, numbers_of}
@@ -53,10 +50,36 @@ items_none n keeps =
     let tile_shares : (shares tiles lists || false) ≡ false = grind (arith, first) in
     let buffer_shares : (shares buffer lists || (shares buffer tiles || false)) ≡ false = grind (arith, second, third) in
     stands_none (table_questions n.mem_size n.regions (thin_file n).buffers) (
-      memory, (
-      aligned n.mem_size lists items.lists, (inside n.mem_size lists.place lists.size items.lists, (refl, (le-ltb lists.size 0 (omega arith), (
-      aligned n.mem_size tiles items.tiles, (inside n.mem_size tiles.place tiles.size items.tiles, (tile_shares, (le-ltb tiles.size 0 (omega arith), (
-      aligned n.mem_size buffer items.buffer, (inside n.mem_size buffer.place buffer.size items.buffer, (buffer_shares, (le-ltb buffer.size 0 (omega arith), tt)))))))))))))
+      memory,
+      (
+        aligned n.mem_size lists items.lists,
+        (
+          inside n.mem_size lists.place lists.size items.lists,
+          (
+            refl,
+            (
+              le-ltb lists.size 0 (omega arith),
+              (
+                aligned n.mem_size tiles items.tiles,
+                (
+                  inside n.mem_size tiles.place tiles.size items.tiles,
+                  (
+                    tile_shares,
+                    (
+                      le-ltb tiles.size 0 (omega arith),
+                      (
+                        aligned n.mem_size buffer items.buffer,
+                        (inside n.mem_size buffer.place buffer.size items.buffer, (buffer_shares, (le-ltb buffer.size 0 (omega arith), tt))),
+                      ),
+                    ),
+                  ),
+                ),
+              ),
+            ),
+          ),
+        ),
+      ),
+    )
 
 -- the handle
 same_client : (client : ℕ) → not (client == client) ≡ false
@@ -84,8 +107,18 @@ surfaces_none n keeps =
     let size = raster n.width n.height in
     let large : (nat_lt 4096 n.width || (nat_lt 4096 n.height || nat_lt n.size (n.offset + rounded_up n.width 4 * rounded_up n.height 1 * 4))) ≡ false = grind (arith, size, frame.most_wide, frame.most_high, frame.inside) in
     stands_none (surface_faults (thin_frame n) None (table_of (thin_file n)) (0 ∷ [])) (
-      refl, (refl, (outside, (
-      refl, (refl, (refl, (refl, (refl, (unaligned, (large, (refl, (refl, (refl, tt)))))))))))))
+      refl,
+      (
+        refl,
+        (
+          outside,
+          (
+            refl,
+            (refl, (refl, (refl, (refl, (unaligned, (large, (refl, (refl, (refl, tt))))))))),
+          ),
+        ),
+      ),
+    )
 
 -- the layout
 layout_none : (n : Numbers) → numbers_keep n → first_of (layout_stage (thin_file n) 0) ≡ None

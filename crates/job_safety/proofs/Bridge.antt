@@ -1,7 +1,6 @@
 -- The memory that a thin file is emitted as is the thin job's.
-use Rattle.std.proofs.Common.{◌≡◌, ℕ, ◌+◌, List, [], ◌∷◌, ◌++◌, take, drop, length, refl, sym, ap, subst, ◌∙◌, arith, add-zero}
+use Rattle.std.proofs.Common.{◌≡◌, ℕ, ◌+◌, List, [], ◌∷◌, ◌++◌, take, drop, length, refl, sym, ap, subst, ◌∙◌, add-zero}
 use Rattle.std.proofs.lemmas.List.{take-append-drop}
-use Rattle.std.specs.Prelude.{slice_index_or}
 use Rattle.field_words.specs.Words.{rounded_up}
 use Rattle.field_words.specs.Writes.{with_bytes, zeros}
 use Rattle.buffer_table.specs.Table.{buffer_at}
@@ -17,7 +16,6 @@ use Rattle.thin_job.specs.Shape.{thin_of, IsThinFile}
 use Rattle.thin_job.specs.Memory.{thin_list, thin_memory}
 use Rattle.thin_job.proofs.Numbers.{Numbers, thin_file}
 use Rattle.thin_job.proofs.Shapes.{file_is, numbers_of}
-use Rattle.machine_plan.specs.Regions.{Rights}
 use Rattle.job_safety.specs.Safe.{AreSafe}
 use Rattle.job_safety.specs.Thin.{thin_rights, thin_start}
 use Rattle.job_safety.proofs.Runs.{thin_is_safe}

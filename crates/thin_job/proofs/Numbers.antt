@@ -1,5 +1,5 @@
 -- A thin file made of its numbers.
-use Rattle.std.specs.Prelude.{ℕ, List, [], ◌∷◌, false}
+use Rattle.std.specs.Prelude.{ℕ, [], ◌∷◌, false}
 use Rattle.buffer_table.specs.declared.buffer.Kind.TheVariants.{Plain}
 use Rattle.buffer_table.specs.declared.buffer.Regions.{Regions}
 use Rattle.job_format.specs.declared.file.Surface.{Surface}

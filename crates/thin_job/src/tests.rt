@@ -43,6 +43,16 @@ fn builds_the_memory_of_a_thin_job(rt: HostRuntime) -> Result<(), Fail> {
 // A surface that goes past its buffer, and a buffer that shares the tile slot's last page.
 #[test]
 fn refuses_what_breaks_a_rule(rt: HostRuntime) {
-    assert!(rt; !keeps_rules(&Thin { offset: 3088, ..thin() }));
-    assert!(rt; !keeps_rules(&Thin { place: 0x8_1000, ..thin() }));
+    assert!(rt;
+        !keeps_rules(&Thin {
+            offset: 3088,
+            ..thin()
+        })
+    );
+    assert!(rt;
+        !keeps_rules(&Thin {
+            place: 0x8_1000,
+            ..thin()
+        })
+    );
 }
