@@ -1,5 +1,6 @@
 //! Where the lists go, and the memory with them.
-ghost use Rattle.std.specs.Prelude.{◌≡◌, ◌<◌, ◌≤◌, ◌+◌, ◌^◌, ◌*◌, length, map, IfOk, false, None};
+ghost use Rattle.field_words.specs.declared.stop.Stop.TheVariants.{NoMemory as OutOfMemory};
+ghost use Rattle.std.specs.Prelude.{◌≡◌, ◌≢◌, Err, ◌<◌, ◌≤◌, ◌+◌, ◌^◌, ◌*◌, length, map, IfOk, false, None};
 ghost use Rattle.field_words.specs.Questions.{Answers, first_of};
 ghost use Rattle.field_words.specs.Writes.{with_bytes};
 ghost use Rattle.job_format.specs.File.{IsWellFormed, IsJobWellFormed};
@@ -31,6 +32,7 @@ pub fn layout_stage(file: &JobFile, job: &Job, setup: &Setup) -> Result<Layout, 
     ensures answers { Answers (layout_stage (file_view file.now) 0) (λ layout. layout ≡ layout_of (file_view file.now) 0) result }
     ensures fits { IfOk result (λ layout. layout.end ≤ file.now.regions.lists_size) }
     ensures order { IfOk result (λ layout. InOrder layout) }
+    ensures takes_no_memory { result ≢ Err OutOfMemory }
 {
     let regions = &file.regions;
     let bin = job.bin.len() as u32;

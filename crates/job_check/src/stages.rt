@@ -1,5 +1,6 @@
 //! The stages of the check, one function each.
-ghost use Rattle.std.specs.Prelude.{◌≡◌, ◌<◌, ◌≤◌, IfOk, IsOk};
+ghost use Rattle.std.specs.Prelude.{◌≡◌, ◌≢◌, ◌<◌, ◌≤◌, IfOk, IsOk, Err};
+ghost use Rattle.field_words.specs.declared.stop.Stop.TheVariants.{NoMemory as OutOfMemory};
 ghost use Rattle.field_words.specs.Questions.{Answers};
 ghost use Rattle.job_format.specs.File.{IsWellFormed, IsJobWellFormed};
 ghost use Rattle.job_format.specs.Model.{file_view, job_view};
@@ -65,6 +66,7 @@ pub fn surfaces_stage(
     requires numbers { AreNumbersOf table.now handles.now }
     ensures answers { Answers (surfaces_stage (file_view file.now) 0) (λ setup. setup.places ≡ places_in (file_view file.now) 0) result }
     ensures setup { IfOk result (λ setup. IsSetupFor job.now.frame setup.places) }
+    ensures takes_no_memory { result ≢ Err OutOfMemory }
 {
     match check_surfaces(&job.frame, None, table, handles) {
         Ok(setup) => Ok(setup),
