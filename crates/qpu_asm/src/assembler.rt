@@ -4,11 +4,10 @@ ghost use Rattle.qpu_asm.specs.Seen.{line_seen, spots_in};
 
 use crate::fault::AsmFault;
 use crate::item::read_code;
-use crate::label::{Spot, find_labels};
+use crate::label::{Labels, find_labels, find_spot};
 use crate::lines::{Line, next_line, read_line};
 use field_words::Stop;
 use std::alloc::Global;
-use std::collections::BTreeMap;
 
 /// Assembles a text of lines into the words of its instructions. The fault is the first one: the least line that has one, and
 /// the least kind there. A label may stand before or after its use, so all labels are found first.
@@ -30,10 +29,10 @@ pub fn assemble(alloc: Global, text: &[u8]) -> Result<Vec<u64>, Stop<AsmFault>>
     Ok(words)
 }
 
-fn put_line(
+fn put_line<'a>(
     words: &mut Vec<u64>,
-    labels: &BTreeMap<&[u8], Spot>,
-    line: Line<'_>,
+    labels: &Labels<'a>,
+    line: Line<'a>,
     number: u32,
 ) -> Result<(), Stop<AsmFault>>
     requires { vec_len words.old < 2 ^ 32 }
@@ -51,9 +50,9 @@ fn put_line(
 
 // The word of a line, if it is an instruction's, or the least kind of its faults.
 #[tactic(auto, unfolding(crate::specs::Assembly::line_kinds, crate::specs::Assembly::line_words))]
-fn line_code(
-    labels: &BTreeMap<&[u8], Spot>,
-    line: Line<'_>,
+fn line_code<'a>(
+    labels: &Labels<'a>,
+    line: Line<'a>,
     number: u32,
     index: u32,
 ) -> Result<Option<u64>, u8>
@@ -74,10 +73,10 @@ fn line_code(
     }
 }
 
-fn stands_before(labels: &BTreeMap<&[u8], Spot>, name: &[u8], line: u32) -> bool
+fn stands_before<'a>(labels: &Labels<'a>, name: &'a [u8], line: u32) -> bool
     ensures { result ≡ is_before line (spots_in labels.now name.now) }
 {
-    match labels.get(name) {
+    match find_spot(labels, name) {
         Some(spot) => spot.line < line,
         None => false,
     }

@@ -1,6 +1,6 @@
 ghost use Rattle.std.specs.Prelude.{◌≡◌, ◌<◌, ◌+◌, ◌^◌, List, ℕ, length, IfOk, OnOk, Some, None, bytes_eq, if◌then◌else◌};
 ghost use Rattle.qpu_asm.specs.Assembly.{spots_of, size_of, is_label, either_spot};
-ghost use Rattle.qpu_asm.specs.Seen.{line_seen, spots_in};
+ghost use Rattle.qpu_asm.specs.Seen.{line_seen, spots_in, hash_by};
 
 use crate::lines::{Line, next_line, read_line};
 use std::alloc::{AllocError, Global};
@@ -13,8 +13,11 @@ pub struct Spot {
     pub index: u32,
 }
 
+/// Labels by hash and name: two keys' names are compared only where the hashes are equal.
+pub type Labels<'a> = BTreeMap<(u64, &'a [u8]), Spot>;
+
 /// The labels of a text, each at the first line that defines it.
-pub fn find_labels(alloc: Global, text: &[u8]) -> Result<BTreeMap<&[u8], Spot>, AllocError>
+pub fn find_labels(alloc: Global, text: &[u8]) -> Result<Labels<'_>, AllocError>
     requires { length text.now < 2 ^ 32 }
     ensures { IfOk result (λ labels. spots_in labels ≡ spots_of text.now) }
 {
@@ -51,7 +54,7 @@ fn size(line: Line<'_>) -> u64
 }
 
 fn add_line<'a>(
-    labels: &mut BTreeMap<&'a [u8], Spot>,
+    labels: &mut Labels<'a>,
     line: Line<'a>,
     spot: Spot,
 ) -> Result<(), AllocError>
@@ -65,13 +68,13 @@ fn add_line<'a>(
 
 // A label that is known keeps its place.
 fn add_label<'a>(
-    labels: &mut BTreeMap<&'a [u8], Spot>,
+    labels: &mut Labels<'a>,
     label: &'a [u8],
     spot: Spot,
 ) -> Result<(), AllocError>
     ensures { OnOk result ((name : List ℕ) → spots_in labels.new name ≡ either_spot (spots_in labels.old name) (if bytes_eq label.now name then Some spot else None)) }
 {
-    match labels.insert(label, spot) {
+    match labels.insert((hash_of(label), label), spot) {
         Ok(None) => Ok(()),
         Ok(Some(known)) => {
             put_back(labels, label, known)?;
@@ -82,14 +85,33 @@ fn add_label<'a>(
 }
 
 fn put_back<'a>(
-    labels: &mut BTreeMap<&'a [u8], Spot>,
+    labels: &mut Labels<'a>,
     label: &'a [u8],
     known: Spot,
 ) -> Result<(), AllocError>
     ensures { OnOk result ((name : List ℕ) → spots_in labels.new name ≡ (if bytes_eq label.now name then Some known else spots_in labels.old name)) }
 {
-    match labels.insert(label, known) {
+    match labels.insert((hash_of(label), label), known) {
         Ok(_) => Ok(()),
         Err(_) => Err(AllocError),
     }
+}
+
+/// Where the label of a name stands.
+pub fn find_spot<'a>(labels: &Labels<'a>, name: &'a [u8]) -> Option<Spot>
+    ensures { result ≡ spots_in labels.now name.now }
+{
+    labels.get(&(hash_of(name), name)).copied()
+}
+
+// The name's bytes as digits to the base 257, modulo 2^64.
+#[tactic(auto, unfolding(crate::specs::Seen::hash_after))]
+fn hash_of(name: &[u8]) -> u64
+    ensures { result ≡ hash_by name.now }
+{
+    let mut hash: u64 = 0;
+    for byte in name {
+        hash = hash.wrapping_mul(257).wrapping_add(*byte as u64);
+    }
+    hash
 }
