@@ -7,5 +7,6 @@ pub mod Printing
 pub mod Reading
 pub mod Assembling
 pub mod Keys
+pub mod Firsts
 pub mod Decimals
 pub mod Law
