@@ -1,8 +1,7 @@
 -- Labels that no earlier line has.
-use Rattle.std.proofs.Common.{◌≡◌, ℕ, ◌+◌, ◌≤◌, ◌<◌, min, Bool, true, false, nat_lt, List, [], ◌∷◌, refl, sym, ◌∙◌, ap, subst, arith, Option, None, Some, bytes_eq, if◌then◌else◌}
+use Rattle.std.proofs.Common.{◌≡◌, ℕ, ◌+◌, ◌≤◌, min, Bool, true, false, nat_lt, List, [], ◌∷◌, refl, sym, ◌∙◌, ap, subst, arith, Some, if◌then◌else◌}
 use Rattle.std.proofs.lemmas.Bool.Decides.{nat_tests}
 use Rattle.qpu_asm.proofs.Bytes.{bytes_itself}
-use Rattle.qpu_asm.specs.declared.label.Spot.{Spot}
 use Rattle.qpu_asm.specs.Lines.{Line, Blank, Label, BadLabel, Coded}
 use Rattle.qpu_asm.specs.Items.{Spots}
 use Rattle.qpu_asm.specs.Assembly.{size_of, either_spot, spot_from, is_before, IsFirstBelow, AreFirstBelow, IsNewLabel}
@@ -59,5 +58,5 @@ pub first_step : (whole : ℕ → Type 0) (old final : Spots) (below next line i
     → (bound : ℕ) → bound ≤ next → AreFirstBelow bound final (line + 1) later → whole bound
 first_step whole old final below next line index repeated lines later first is bounded new spots tells bound low more =
     let here = first_here old final below bound line index later first repeated new
-        (λ name. ap (λ ls. either_spot (old name) (spot_from ls line index name)) (sym is) ∙ spots name) (subst (λ n. bound ≤ n) bounded low) in
+    (λ name. ap (λ ls. either_spot (old name) (spot_from ls line index name)) (sym is) ∙ spots name) (subst (λ n. bound ≤ n) bounded low) in
     tells bound here.0 (subst (AreFirstBelow bound final line) (sym is) (first_more bound final line first later here.1 more))

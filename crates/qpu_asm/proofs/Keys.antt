@@ -1,12 +1,12 @@
 -- A map's keys: a hash and the name that it is of.
-use Rattle.std.proofs.Common.{◌≡◌, ℕ, Bool, true, false, List, refl, sym, ◌∙◌, ap, subst, Option, Some, cond, bytes_eq, ◌⊎◌, inl, inr}
-use Rattle.std.proofs.lemmas.Bool.{cases_Bool, false≢true}
+use Rattle.std.proofs.Common.{◌≡◌, ℕ, Bool, true, false, List, refl, sym, ◌∙◌, ap, subst, Option, cond, bytes_eq}
+use Rattle.std.proofs.lemmas.Bool.{false≢true}
 use Rattle.std.proofs.lemmas.Map.Text.{is_eq-slice_cmp}
 use Rattle.std.proofs.lemmas.Cmp.{then_total, on_total, nat_cmp_total, nat_list_cmp_total, eq_by_cmp_equiv}
 use Rattle.std.specs.BTreeMap as tree
 use Rattle.std.specs.BTreeMap.{BTreeMap}
 use Rattle.std.specs.Cmp.{IsTotalOrder}
-use Rattle.std.specs.Map.{KeepsOthers, IsKeyTest, AreApart, lookup}
+use Rattle.std.specs.Map.{KeepsOthers, IsKeyTest, AreApart}
 use Rattle.std.specs.Cmp.Lexicographic.{slice_cmp}
 use Rattle.std.specs.Ordering.{nat_cmp, ordering_then, is_eq}
 use Rattle.std.specs.declared.cmp.Ordering.{Ordering}
@@ -74,6 +74,6 @@ pub spots_updated : (hash : ℕ) (label : List ℕ) (old new : BTreeMap (ℕ × 
     → (name : List ℕ) → spots_in new name ≡ cond (bytes_eq label name) spot (spots_in old name)
 spots_updated hash label old new spot is updates name =
     let by : tree.UpdatesBy map_cmp (key_cmp label) old new spot =
-        subst (λ h. tree.UpdatesBy map_cmp (λ key. ordering_then (nat_cmp h key.0) (slice_cmp nat_cmp label key.1.now)) old new spot) is updates in
+    subst (λ h. tree.UpdatesBy map_cmp (λ key. ordering_then (nat_cmp h key.0) (slice_cmp nat_cmp label key.1.now)) old new spot) is updates in
     changed_by spot label name (spots_in old) (spots_in new) (bytes_eq label name) refl by.1
     (λ other. others (key_cmp label) (key_cmp name) old new by.3 (is_test name) (λ key. apart label name key other))

@@ -48,12 +48,7 @@ fn kind_named(word: &[u8]) -> Option<Kind>
     }
 }
 
-fn read_items<'a>(
-    labels: &Labels<'a>,
-    index: u32,
-    kind: Kind,
-    items: &'a [u8],
-) -> Result<u64, u8>
+fn read_items<'a>(labels: &Labels<'a>, index: u32, kind: Kind, items: &'a [u8]) -> Result<u64, u8>
     requires { IsOpen kind.above (rows_seen kind.rows.now) }
     ensures { IsCodeOf (kind_code (spots_in labels.now) index (words_of items.now) (kind_seen kind)) result }
 {
@@ -243,12 +238,7 @@ fn is_row(name: &[u8], row: &Row) -> bool
 }
 
 #[tactic(auto, unfolding(crate::specs::Items::read_value))]
-fn read_value<'a>(
-    labels: &Labels<'a>,
-    index: u32,
-    cut: Cut<'a>,
-    row: &Row,
-) -> Result<u64, u8>
+fn read_value<'a>(labels: &Labels<'a>, index: u32, cut: Cut<'a>, row: &Row) -> Result<u64, u8>
     requires { row.now.below ≤ 2 ^ 32 }
     ensures { read_seen result ≡ value_read (spots_in labels.now) index (cut_of cut.entry) (row_seen row.now) }
 {

@@ -73,11 +73,7 @@ fn size(line: Line<'_>) -> u64
     }
 }
 
-fn add_line<'a>(
-    labels: &mut Labels<'a>,
-    line: Line<'a>,
-    spot: Spot,
-) -> Result<bool, AllocError>
+fn add_line<'a>(labels: &mut Labels<'a>, line: Line<'a>, spot: Spot) -> Result<bool, AllocError>
     ensures first { IfOk result (λ repeated. repeated ≡ false → IsNewLabel (spots_in labels.old) (line_seen line.entry)) }
     ensures spots { OnOk result ((name : List ℕ) → spots_in labels.new name ≡ either_spot (spots_in labels.old name) (if is_label name (line_seen line.entry) then Some spot else None)) }
 {
@@ -88,11 +84,7 @@ fn add_line<'a>(
 }
 
 // A label that is known keeps its place. Whether it is known.
-fn add_label<'a>(
-    labels: &mut Labels<'a>,
-    label: &'a [u8],
-    spot: Spot,
-) -> Result<bool, AllocError>
+fn add_label<'a>(labels: &mut Labels<'a>, label: &'a [u8], spot: Spot) -> Result<bool, AllocError>
     ensures first { IfOk result (λ repeated. repeated ≡ false → spots_in labels.old label.now ≡ None) }
     ensures spots { OnOk result ((name : List ℕ) → spots_in labels.new name ≡ either_spot (spots_in labels.old name) (if bytes_eq label.now name then Some spot else None)) }
 {
@@ -106,11 +98,7 @@ fn add_label<'a>(
     }
 }
 
-fn put_back<'a>(
-    labels: &mut Labels<'a>,
-    label: &'a [u8],
-    known: Spot,
-) -> Result<(), AllocError>
+fn put_back<'a>(labels: &mut Labels<'a>, label: &'a [u8], known: Spot) -> Result<(), AllocError>
     ensures { OnOk result ((name : List ℕ) → spots_in labels.new name ≡ (if bytes_eq label.now name then Some known else spots_in labels.old name)) }
 {
     match labels.insert((hash_of(label), label), known) {
