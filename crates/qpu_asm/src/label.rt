@@ -83,7 +83,7 @@ fn add_line<'a>(labels: &mut Labels<'a>, line: Line<'a>, spot: Spot) -> Result<b
     }
 }
 
-// A label that is known keeps its place. Whether it is known.
+// A label that is known keeps its place, and the result is true.
 fn add_label<'a>(labels: &mut Labels<'a>, label: &'a [u8], spot: Spot) -> Result<bool, AllocError>
     ensures first { IfOk result (λ repeated. repeated ≡ false → spots_in labels.old label.now ≡ None) }
     ensures spots { OnOk result ((name : List ℕ) → spots_in labels.new name ≡ either_spot (spots_in labels.old name) (if bytes_eq label.now name then Some spot else None)) }
