@@ -1,7 +1,6 @@
 -- A text line by line: its labels, faults and words.
-use Rattle.std.proofs.Common.{◌≡◌, ℕ, zero, suc, ◌+◌, ◌≤◌, inl, inr, Bool, true, false, List, [], ◌∷◌, ◌++◌, length, map, refl, sym, ◌∙◌, ap, subst, arith, Option, None, Some, is_some, cond, if◌then◌else◌, All, Contains, append_assoc, append-nil, bytes_eq, length-append}
+use Rattle.std.proofs.Common.{◌≡◌, ℕ, zero, suc, ◌+◌, ◌≤◌, inl, inr, Bool, true, false, List, [], ◌∷◌, ◌++◌, length, map, refl, sym, ◌∙◌, ap, subst, arith, Option, None, Some, cond, if◌then◌else◌, All, Contains, append_assoc, append-nil, bytes_eq, length-append}
 use Rattle.std.proofs.lemmas.List.Elements.{All-append, All-map, Contains-append_left}
-use Rattle.std.proofs.lemmas.Bool.{false≢true}
 use Rattle.qpu_asm.proofs.Bytes.{bytes_same}
 use Rattle.field_words.specs.declared.stop.Stop.{Stop}
 use Rattle.field_words.specs.declared.stop.Stop.TheVariants as stop

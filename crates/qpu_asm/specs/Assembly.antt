@@ -42,6 +42,23 @@ abbrev pub is_before : ℕ → Option Spot → Bool
 is_before line None = false
 is_before line (Some spot) = nat_lt spot.line line
 
+-- a line below the bound does not repeat a label
+abbrev pub IsFirstBelow : ℕ → Spots → ℕ → Line → Type 0
+IsFirstBelow bound spots line Blank = Unit {0}
+IsFirstBelow bound spots line (Label name) = line < bound → is_before line (spots name) ≡ false
+IsFirstBelow bound spots line BadLabel = Unit {0}
+IsFirstBelow bound spots line (Coded opcode items) = Unit {0}
+
+unfoldable pub AreFirstBelow : ℕ → Spots → ℕ → List Line → Type 0
+AreFirstBelow bound spots line [] = Unit {0}
+AreFirstBelow bound spots line (first ∷ lines) = IsFirstBelow bound spots line first × AreFirstBelow bound spots (line + 1) lines
+
+abbrev pub IsNewLabel : Spots → Line → Type 0
+IsNewLabel spots Blank = Unit {0}
+IsNewLabel spots (Label name) = spots name ≡ None
+IsNewLabel spots BadLabel = Unit {0}
+IsNewLabel spots (Coded opcode items) = Unit {0}
+
 -- the kinds of the faults of one line
 unfoldable pub line_kinds : Spots → ℕ → ℕ → Line → List ℕ
 line_kinds spots line index Blank = []

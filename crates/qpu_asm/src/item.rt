@@ -6,11 +6,10 @@ ghost use Rattle.qpu_asm.specs.Lines.{words_of};
 ghost use Rattle.qpu_asm.specs.Partial.{GoesOn, IsOpen, IsCodeOf, least_in};
 ghost use Rattle.qpu_asm.specs.Seen.{named_seen, row_seen, rows_seen, kind_seen, cut_of, read_seen, spots_in};
 
-use crate::label::Spot;
+use crate::label::{Labels, find_spot};
 use crate::lines::{Cut, cut_at, next_word};
 use crate::names::{is_name, is_number, number};
 use crate::table::{Kind, Named, Row, alu, branch, load_imm, nop};
-use std::collections::BTreeMap;
 
 /// An instruction whose items have been read in part: the word's fields so far, the rows that may still come, and the
 /// least kind of a fault so far.
@@ -23,7 +22,7 @@ pub struct Partial {
 
 /// The word of an instruction, or the least kind of its faults.
 #[tactic(auto, unfolding(crate::specs::Items::code_of))]
-pub fn read_code(labels: &BTreeMap<&[u8], Spot>, index: u32, code: Cut<'_>) -> Result<u64, u8>
+pub fn read_code<'a>(labels: &Labels<'a>, index: u32, code: Cut<'a>) -> Result<u64, u8>
     ensures { IsCodeOf (code_of (spots_in labels.now) index code.entry.first.now (words_of code.entry.rest.now)) result }
 {
     match kind_named(code.first) {
@@ -49,12 +48,7 @@ fn kind_named(word: &[u8]) -> Option<Kind>
     }
 }
 
-fn read_items(
-    labels: &BTreeMap<&[u8], Spot>,
-    index: u32,
-    kind: Kind,
-    items: &[u8],
-) -> Result<u64, u8>
+fn read_items<'a>(labels: &Labels<'a>, index: u32, kind: Kind, items: &'a [u8]) -> Result<u64, u8>
     requires { IsOpen kind.above (rows_seen kind.rows.now) }
     ensures { IsCodeOf (kind_code (spots_in labels.now) index (words_of items.now) (kind_seen kind)) result }
 {
@@ -105,12 +99,12 @@ fn append(word: u64, width: u32, value: u64) -> u64
     word * (1 << width) + value
 }
 
-fn put_item(
-    labels: &BTreeMap<&[u8], Spot>,
+fn put_item<'a>(
+    labels: &Labels<'a>,
     index: u32,
     all: &[Row],
     partial: Partial,
-    item: &[u8],
+    item: &'a [u8],
 ) -> Partial
     requires { IsOpen partial.word (rows_seen partial.rows.now) }
     ensures still { IsOpen result.word (rows_seen result.rows.now) }
@@ -139,12 +133,12 @@ fn with_fault(partial: Partial, kind: u8) -> Partial
     }
 }
 
-fn put_named(
-    labels: &BTreeMap<&[u8], Spot>,
+fn put_named<'a>(
+    labels: &Labels<'a>,
     index: u32,
     all: &[Row],
     partial: Partial,
-    cut: Cut<'_>,
+    cut: Cut<'a>,
 ) -> Partial
     requires { IsOpen partial.word (rows_seen partial.rows.now) }
     ensures still { IsOpen result.word (rows_seen result.rows.now) }
@@ -163,7 +157,7 @@ fn kind_of_name(name: &[u8], all: &[Row]) -> u8
     if has_row(name, all) { 2 } else { 1 }
 }
 
-fn skip_to(labels: &BTreeMap<&[u8], Spot>, index: u32, partial: Partial, cut: Cut<'_>) -> Partial
+fn skip_to<'a>(labels: &Labels<'a>, index: u32, partial: Partial, cut: Cut<'a>) -> Partial
     requires still { IsOpen partial.word (rows_seen partial.rows.now) }
     requires has { row_among cut.first.now (rows_seen partial.rows.now) ≡ true }
     ensures still { IsOpen result.word (rows_seen result.rows.now) }
@@ -244,12 +238,7 @@ fn is_row(name: &[u8], row: &Row) -> bool
 }
 
 #[tactic(auto, unfolding(crate::specs::Items::read_value))]
-fn read_value(
-    labels: &BTreeMap<&[u8], Spot>,
-    index: u32,
-    cut: Cut<'_>,
-    row: &Row,
-) -> Result<u64, u8>
+fn read_value<'a>(labels: &Labels<'a>, index: u32, cut: Cut<'a>, row: &Row) -> Result<u64, u8>
     requires { row.now.below ≤ 2 ^ 32 }
     ensures { read_seen result ≡ value_read (spots_in labels.now) index (cut_of cut.entry) (row_seen row.now) }
 {
@@ -261,13 +250,13 @@ fn read_value(
 }
 
 #[tactic(auto, unfolding(crate::specs::Items::read_target))]
-fn read_target(labels: &BTreeMap<&[u8], Spot>, index: u32, text: &[u8]) -> Result<u64, u8>
+fn read_target<'a>(labels: &Labels<'a>, index: u32, text: &'a [u8]) -> Result<u64, u8>
     ensures { read_seen result ≡ target_read (spots_in labels.now) index text.now }
 {
     if !is_name(text) {
         return Err(2);
     }
-    match labels.get(text) {
+    match find_spot(labels, text) {
         Some(spot) => Ok(distance(index, spot.index)),
         None => Err(4),
     }
