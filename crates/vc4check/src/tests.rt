@@ -124,6 +124,15 @@ fn changed(alloc: Global, changes: &[(usize, u32)]) -> Result<Vec<u8>, Fail> {
     Ok(bytes)
 }
 
+/// The smallest job with its buffer's entry twice.
+fn with_two_buffers(alloc: Global) -> Result<Vec<u8>, Fail> {
+    let bytes = changed(alloc, &[(28, 2)])?;
+    if bytes.len() < 56 {
+        return Ok(bytes);
+    }
+    Ok([&bytes[..56], &bytes[36..]].concat(alloc)?)
+}
+
 /// The front of what `check` prints of these bytes.
 fn printed(alloc: Global, bytes: Vec<u8>) -> Result<MemSink, Fail> {
     let mut source = SteadySource::new(bytes);
@@ -167,6 +176,8 @@ fn names_the_first_rule(rt: HostRuntime) -> Result<(), Fail> {
         let sink = printed(alloc, changed(alloc, changes)?)?;
         assert_eq!(rt; sink.bytes(), line.as_bytes(), "{line}");
     }
+    let twice = printed(alloc, with_two_buffers(alloc)?)?;
+    assert_eq!(rt; twice.bytes(), b"refused M4 at 56\n".as_slice());
     Ok(())
 }
 
