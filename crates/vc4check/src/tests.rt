@@ -1,3 +1,5 @@
+ghost use Rattle.std.specs.Prelude.{◌≤◌, length};
+
 use super::run::run;
 use field_words::put_u32;
 use job_io::{MemSink, MemSource, NullSink, SteadySource};
@@ -124,13 +126,23 @@ fn changed(alloc: Global, changes: &[(usize, u32)]) -> Result<Vec<u8>, Fail> {
     Ok(bytes)
 }
 
-/// The smallest job with its buffer's entry twice.
+/// A job file of one buffer with that buffer's entry twice.
+fn doubled(alloc: Global, bytes: &[u8]) -> Result<Vec<u8>, AllocError>
+    requires { 56 ≤ length bytes.now }
+{
+    let mut twice = bytes[..56].to_vec(alloc)?;
+    twice.extend_from_slice(&bytes[36..])?;
+    Ok(twice)
+}
+
+/// The smallest job with two buffers in one place.
 fn with_two_buffers(alloc: Global) -> Result<Vec<u8>, Fail> {
     let bytes = changed(alloc, &[(28, 2)])?;
-    if bytes.len() < 56 {
-        return Ok(bytes);
+    if bytes.len() >= 56 {
+        Ok(doubled(alloc, &bytes)?)
+    } else {
+        Ok(bytes)
     }
-    Ok([&bytes[..56], &bytes[36..]].concat(alloc)?)
 }
 
 /// The front of what `check` prints of these bytes.
