@@ -1,3 +1,4 @@
+//! Each memory rule, the handles' rule, and what handles name.
 use super::*;
 use field_words::Stop;
 use std::alloc::{AllocError, Global};
@@ -161,7 +162,7 @@ fn handles_name_buffers_of_their_client(rt: HostRuntime) -> Result<(), Fail> {
     })?;
     let table = match Table::make(alloc, 0x84000, REGIONS, &buffers) {
         Ok(table) => table,
-        Err(_) => return Err("no rule fails".into()),
+        Err(_) => return Err("no rule stands".into()),
     };
     for (client, numbers, want) in [
         (1, [0, 1], None),

@@ -1,4 +1,4 @@
-//! The values of a job file of which no format rule fails.
+//! The values of a job file of which no format rule stands.
 ghost use Rattle.std.specs.Prelude.{◌≡◌, ◌+◌, ◌*◌, ◌<◌, ◌≤◌, length, map, IfOk};
 ghost use Rattle.field_words.specs.Words.{u32_at};
 ghost use Rattle.field_words.specs.Questions.{Answers, NamesFirst, NeverHidesFault};

@@ -1,3 +1,4 @@
+//! The smallest job, cut off, lengthened, and changed in one byte.
 use super::*;
 use field_words::Stop;
 use std::alloc::{AllocError, Global};

@@ -29,7 +29,7 @@ fn format_refusal(stop: Stop<FormatFault>) -> Stop<Refusal>
     }
 }
 
-/// The first rule that fails, or the job's memory.
+/// The first rule that stands, or the job's memory.
 #[tactic(auto, unfolding(crate::specs::Answer::all_questions))]
 fn judged(alloc: Global, bytes: &[u8]) -> Result<Checked, Stop<Refusal>>
     ensures answers { Answers (all_questions bytes.now) (λ checked. IsEmitted (file_at bytes.now) checked.memory checked.layout checked.lengths) result }

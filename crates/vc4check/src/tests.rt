@@ -1,3 +1,4 @@
+//! Whole runs: words, files, faults of source and sink, and the first rule that stands.
 ghost use Rattle.std.specs.Prelude.{◌≤◌, length};
 
 use super::run::run;
