@@ -1,1 +1,4 @@
+pub mod Fits
+pub mod Level
+pub mod Setup
 pub mod Surface
