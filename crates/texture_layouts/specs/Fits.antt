@@ -1,7 +1,8 @@
 -- The rules of textures, U2 to U9, over four set-up words and the bytes of the buffer.
-use Rattle.std.specs.Prelude.{◌≡◌, ◌≤◌, ℕ, ◌+◌, ◌==◌, ◌&&◌, ◌||◌, nat_lt, nat_le, Bool, true, List, [], ◌∷◌, Contains, Some, None, Result, Ok, Err}
+use Rattle.std.specs.Prelude.{◌≡◌, ◌≤◌, ◌<◌, ℕ, ◌+◌, ◌==◌, ◌&&◌, ◌||◌, nat_lt, nat_le, Bool, true, List, [], ◌∷◌, Contains, Some, None, Result, Ok, Err}
 use Rattle.std.specs.List.{list_any, range_with_len}
 use Rattle.field_words.specs.Questions.{Question, Ask, first_of}
+use Rattle.texture_layouts.specs.Surface.{IsPixelSize}
 use Rattle.texture_layouts.specs.Setup.{TextureModel, is_cube_word, kind_of, cube_stride_of, texture_of, faces_of, face_place, size_at, size_below}
 
 -- U4: cube mode, and both words have a cube stride
@@ -64,3 +65,10 @@ pub record IsLeastRule (questions : List (Question ℕ)) (number : ℕ) : Type 0
 abbrev pub AnswersLeast : {T : Type 0} → List (Question ℕ) → Result T ℕ → Type 0
 AnswersLeast questions (Ok _) = (number : ℕ) → ¬ Stands questions number
 AnswersLeast questions (Err number) = IsLeastRule questions number
+
+-- A texture that breaks none of U4 to U9 lies in its buffer: the pixels of each face end there, and
+-- no level begins below the buffer, since a face's levels take no more than is below the first face.
+pub record LiesIn (t : TextureModel) (size : ℕ) : Type 0 where
+  pub pixel : IsPixelSize t.cpp
+  pub faces : (face : ℕ) → face < faces_of t → face_place t face + size_at t 0 ≤ size
+  pub levels : (level : ℕ) → level ≤ t.levels → size_below t level ≤ t.base

@@ -56,7 +56,12 @@ pub fn microtile_place(tiling: Tiling, width: u32, cpp: u32, mx: u32, my: u32) -
     ensures inside { IsMicrotileInside tiling width cpp mx my result }
     ensures apart { IsMicrotileApart tiling width cpp mx my result }
 {
-    64 * microtile_number(tiling, microtiles_across(tiling, width, cpp), u64::from(mx), u64::from(my))
+    64 * microtile_number(
+        tiling,
+        microtiles_across(tiling, width, cpp),
+        u64::from(mx),
+        u64::from(my),
+    )
 }
 
 /// Where a pixel lies inside its microtile.

@@ -142,3 +142,22 @@ fn sizes_of_levels(rt: HostRuntime) {
     assert_eq!(rt; level_side(2048, 15), 1);
     assert_eq!(rt; level_tiling(true, 1, 1, 4), Tiling::Raster);
 }
+
+// Level 2 of the 33x33 texture above has 16x16 pixels in Lt, four of them in a row of a microtile;
+// a tile of T is 32 pixels wide at 4 bytes, and raster rows are aligned to a microtile's width.
+#[test]
+fn places_of_pixels(rt: HostRuntime) {
+    assert_eq!(rt; pixel_place(Tiling::Lt, 16, 4, 3, 0), 12);
+    assert_eq!(rt; pixel_place(Tiling::Lt, 16, 4, 4, 0), 64);
+    assert_eq!(rt; pixel_place(Tiling::Lt, 16, 4, 0, 4), 256);
+    assert_eq!(rt;
+        pixel_place(Tiling::T, 33, 4, 33, 34),
+        3 * 4096 + 2 * 16 + 4
+    );
+    assert_eq!(rt; pixel_place(Tiling::T, 33, 1, 8, 0), 64);
+    assert_eq!(rt; pixel_place(Tiling::Raster, 33, 4, 1, 2), 4 * (2 * 36 + 1));
+    assert_eq!(rt; microtile_place(Tiling::T, 33, 4, 8, 1), 4096 + 64 * 8);
+    assert_eq!(rt; microtile_place(Tiling::Lt, 10, 8, 4, 1), 64 * 9);
+    assert_eq!(rt; microtile_width(8), 2);
+    assert_eq!(rt; microtile_height(8), 4);
+}
