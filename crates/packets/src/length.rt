@@ -1,12 +1,14 @@
-//! How long a binner's packet is.
+//! How long a packet is, in a binner list and in a renderer list.
 ghost use Rattle.std.specs.Prelude.{◌≡◌, ◌≤◌};
-ghost use Rattle.packets.specs.Length.{bin_length, bin_taken};
+ghost use Rattle.packets.specs.Length.{bin_length, bin_taken, render_taken};
 
 use crate::opcode::{
-    ARRAY_PRIMITIVE_LIST, BUFFER_HANDLES, CLIP_WINDOW, CLIPPER_XY_SCALING, CLIPPER_Z_SCALING,
-    CONFIGURATION_BITS, DEPTH_OFFSET, FLAT_SHADE_FLAGS, FLUSH, GL_SHADER_STATE, HALT,
-    INCREMENT_SEMAPHORE, INDEXED_PRIMITIVE_LIST, LINE_WIDTH, NOP, POINT_SIZE,
-    PRIMITIVE_LIST_FORMAT, RHT_X_BOUNDARY, START_TILE_BINNING, TILE_BINNING_MODE, VIEWPORT_OFFSET,
+    ARRAY_PRIMITIVE_LIST, BRANCH_TO_SUB_LIST, BUFFER_HANDLES, CLEAR_COLORS, CLIP_WINDOW,
+    CLIPPER_XY_SCALING, CLIPPER_Z_SCALING, CONFIGURATION_BITS, DEPTH_OFFSET, FLAT_SHADE_FLAGS,
+    FLUSH, GL_SHADER_STATE, HALT, INCREMENT_SEMAPHORE, INDEXED_PRIMITIVE_LIST, LINE_WIDTH,
+    LOAD_FULL_RESOLUTION, LOAD_TILE_BUFFER, NOP, POINT_SIZE, PRIMITIVE_LIST_FORMAT, RHT_X_BOUNDARY,
+    START_TILE_BINNING, STORE_FULL_RESOLUTION, STORE_TILE_BUFFER, TILE_BINNING_MODE,
+    TILE_COORDINATES, TILE_RENDERING_MODE, VIEWPORT_OFFSET,
 };
 
 /// The bytes of a binner's packet by its opcode, the opcode among them; 0 where no packet of a binner
@@ -42,5 +44,23 @@ pub fn bin_taken(opcode: u8) -> u32
     match bin_length(opcode) {
         0 => 1,
         length => length,
+    }
+}
+
+/// The bytes by which a reader of a renderer list goes on by a packet's opcode: those of the packet, and
+/// one where no packet of a renderer list has this opcode.
+#[tactic(auto, unfolding(crate::specs::Length::render_taken))]
+pub fn render_taken(opcode: u8) -> u32
+    ensures value { result ≡ render_taken opcode }
+    ensures some { 1 ≤ result }
+    ensures limit { result ≤ 14 }
+{
+    match opcode {
+        CLEAR_COLORS => 14,
+        TILE_RENDERING_MODE => 11,
+        STORE_TILE_BUFFER | LOAD_TILE_BUFFER => 7,
+        BRANCH_TO_SUB_LIST | STORE_FULL_RESOLUTION | LOAD_FULL_RESOLUTION => 5,
+        TILE_COORDINATES => 3,
+        _ => 1,
     }
 }

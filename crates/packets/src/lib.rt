@@ -7,6 +7,10 @@
 #![tactic(auto)]
 
 mod length;
+mod list;
 pub mod opcode;
+mod packet;
 
-pub use length::{bin_length, bin_taken};
+pub use length::{bin_length, bin_taken, render_taken};
+pub use list::{put_packet, put_present};
+pub use packet::{Packet, decode};
