@@ -9,13 +9,13 @@ use Rattle.field_words.proofs.Questions.{none_stands}
 use Rattle.buffer_table.specs.declared.buffer.Buffer.{Buffer}
 use Rattle.buffer_table.specs.declared.buffer.Regions.{Regions}
 use Rattle.buffer_table.specs.declared.item.Item.{Item}
-use Rattle.buffer_table.specs.Table.{TableModel, items_of, item_at, no_item, buffer_at, no_buffer, buffer_item, shares, is_unaligned, memory_questions, item_questions, all_questions, table_questions}
+use Rattle.buffer_table.specs.Table.{TableModel, items_of, item_at, no_item, buffer_at, past_end, buffer_item, shares, is_off_page, memory_questions, item_questions, all_questions, table_questions}
 use Rattle.buffer_table.specs.Sound.{IsSoundItem, IsSound, IsSoundBuffer, AreApart}
 use Rattle.buffer_table.proofs.Asked.{front_none, rest_none, each_none}
 
 -- An item that passes M2 to M5.
 sound_item : (memory : ℕ) (items : List Item) (k : ℕ) → first_of (item_questions memory items k) ≡ None → IsSoundItem memory (item_at items k)
-unfolding item_questions is_unaligned
+unfolding item_questions is_off_page
 sound_item memory items k none =
     let asked = none_stands (item_questions memory items k) none in
     record { place = grind (arith, asked.0); size = grind (arith, asked.0); not_empty = grind (arith, asked.0); inside = grind (arith, asked.1.0); content = grind (arith, asked.1.1.1.0) }
@@ -66,13 +66,13 @@ item_of_buffer : (r : Regions) (buffers : List Buffer) (number : ℕ) → number
 unfolding buffer_at
 item_of_buffer r buffers number inside =
     ap (λ k. item_at (items_of r buffers) k) (let e : number + 2 ≡ suc (suc number) = omega arith in e)
-    ∙ get_or-map buffer_item buffers number no_buffer no_item inside
+    ∙ get_or-map buffer_item buffers number past_end no_item inside
 
 -- The entry of a buffer in a sound table, as it was read.
 pub sound_buffer : (t : TableModel) (number : ℕ) (b : Buffer) → IsSound t.memory t.regions t.buffers → number < length t.buffers
     → b ≡ get_or t.buffers number b → (b ≡ buffer_at t.buffers number) × IsSoundBuffer t.memory b
 unfolding buffer_at
 sound_buffer t number b is_sound inside read =
-    let entry : b ≡ buffer_at t.buffers number = get_or_read t.buffers number b inside read no_buffer in
+    let entry : b ≡ buffer_at t.buffers number = get_or_read t.buffers number b inside read past_end in
     let good : IsSoundItem t.memory (item_at (items_of t.regions t.buffers) (number + 2)) = is_sound.each_item (number + 2) (rw length-map (omega arith)) in
     (entry, (is_sound.limit, subst (IsSoundItem t.memory) (item_of_buffer t.regions t.buffers number inside ∙ ap buffer_item (sym entry)) good))

@@ -2,9 +2,10 @@
 ghost use Rattle.std.specs.Prelude.{◌≡◌, ◌<◌, ◌≤◌, ◌↔◌, IsTrue, IfOk, length, take};
 ghost use Rattle.std.specs.List.{list_any};
 ghost use Rattle.field_words.specs.Questions.{first_of, each};
-ghost use Rattle.buffer_table.specs.Table.{lists_item, tile_item, buffer_item, shares, ShareByte, is_unaligned, item_questions, memory_questions, all_questions, items_of, item_at};
+ghost use Rattle.buffer_table.specs.Table.{lists_item, tile_item, buffer_item, shares, ShareByte, is_off_page, item_questions, memory_questions, all_questions, items_of, item_at};
 
 use crate::buffer::{Buffer, Regions, TableFault};
+use field_words::{MOST_MEMORY, PAGE_SIZE, SLOT_SIZE};
 use std::alloc::{AllocError, Global};
 
 /// `size` bytes of the memory from `place` on, of which the file gives the first `content`.
@@ -16,13 +17,7 @@ pub struct Item {
 }
 
 /// The size of a page, of which each place and size is a multiple.
-const PAGE: u64 = 4096;
-
-/// The size of a tile slot.
-const SLOT: u64 = 524_288;
-
-/// The most bytes of memory that a job may have.
-const MOST_MEMORY: u32 = 67_108_864;
+const PAGE: u64 = PAGE_SIZE as u64;
 
 pub(crate) fn lists_of(regions: &Regions) -> Item
     ensures { result ≡ lists_item regions.now }
@@ -39,7 +34,7 @@ pub(crate) fn tiles_of(regions: &Regions) -> Item
 {
     Item {
         place: u64::from(regions.tile_place),
-        size: SLOT * u64::from(regions.tile_slots),
+        size: u64::from(SLOT_SIZE) * u64::from(regions.tile_slots),
         content: 0,
     }
 }
@@ -66,9 +61,9 @@ fn shares_byte(x: &Item, y: &Item) -> bool
 }
 
 /// Whether a place or size is no multiple of a page, or there is no byte.
-#[tactic(auto, unfolding(crate::specs::Table::is_unaligned))]
+#[tactic(auto, unfolding(crate::specs::Table::is_off_page))]
 fn is_off_page(x: &Item) -> bool
-    ensures { result ≡ is_unaligned x.now }
+    ensures { result ≡ is_off_page x.now }
 {
     x.place % PAGE != 0 || x.size % PAGE != 0 || x.size == 0
 }

@@ -5,6 +5,7 @@ mod faults;
 mod file;
 mod reading;
 mod rule;
+mod sizes;
 mod unbuilt;
 mod words;
 mod writing;
@@ -12,6 +13,7 @@ mod writing;
 pub use file::{Frame, Job, JobFile, Surface};
 pub use reading::read_job;
 pub use rule::{FormatFault, Refusal, Rule, Stage};
+pub use sizes::{ENTRY_SIZE, HEADER_SIZE, JOB_SIZE, MOST_BUFFERS, MOST_HANDLES, MOST_STATES};
 pub use writing::{one_file_a_text, write_job};
 
 #[cfg(test)]

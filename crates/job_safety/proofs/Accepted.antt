@@ -5,7 +5,7 @@ use Rattle.field_words.specs.Words.{rounded_up}
 use Rattle.field_words.specs.Questions.{Question, first_of, each}
 use Rattle.field_words.proofs.Questions.{passes, stands_none, answered_none}
 use Rattle.buffer_table.specs.declared.item.Item.{Item}
-use Rattle.buffer_table.specs.Table.{buffer_at, shares, is_unaligned, memory_questions, item_questions, all_questions, table_questions, lists_item, tile_item}
+use Rattle.buffer_table.specs.Table.{buffer_at, shares, is_off_page, memory_questions, item_questions, all_questions, table_questions, lists_item, tile_item}
 use Rattle.buffer_table.specs.Handles.{data_of, handle_questions, handles_questions}
 use Rattle.job_format.specs.Model.{FileModel}
 use Rattle.texture_layouts.specs.Surface.{microtile_width_of}
@@ -25,8 +25,8 @@ abbrev numbers_keep : Numbers → Type 0
 numbers_keep n = KeepsRules (thin_of (thin_file n))
 
 -- the memory table
-aligned : (memory : ℕ) (x : Item) → IsItem memory x.place x.size → is_unaligned x ≡ false
-unfolding is_unaligned
+aligned : (memory : ℕ) (x : Item) → IsItem memory x.place x.size → is_off_page x ≡ false
+unfolding is_off_page
 aligned memory x item = grind (arith, item.from_page, item.pages, item.some)
 
 apart : (x y : Item) → AreApart y.place y.size x.place x.size → shares x y ≡ false
