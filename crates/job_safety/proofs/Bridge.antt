@@ -10,8 +10,8 @@ use Rattle.relocation.specs.Layout.{records_start, uniforms_start, render_start}
 use Rattle.render_list.specs.Frame.{is_present, is_last_tile}
 use Rattle.render_list.specs.Surfaces.{place_in}
 use Rattle.render_list.specs.Text.{render_text, head_text, span_text, tile_text, coordinates, loads_text, writes_text, multisample_text, color_store, some_before_color, some_before_zs}
-use Rattle.job_check.specs.Faults.{job_of, slot_of, places_in, render_list_of}
-use Rattle.job_check.specs.Emit.{content_parts, list_parts, layout_of, memory_of}
+use Rattle.job_check.specs.Jobs.{job_of, slot_of, places_in, render_list_of, layout_of}
+use Rattle.job_check.specs.Emit.{content_parts, list_parts, memory_parts, memory_of}
 use Rattle.thin_job.specs.Shape.{thin_of, IsThinFile}
 use Rattle.thin_job.specs.Memory.{thin_list, thin_memory}
 use Rattle.thin_job.proofs.Numbers.{Numbers, thin_file}
@@ -39,7 +39,7 @@ unfolding layout_of job_of records_start uniforms_start render_start rounded_up
 place_of n = add-zero n.regions.lists_place
 
 memory_is : (n : Numbers) → memory_of (thin_file n) ≡ thin_memory (thin_of (thin_file n))
-unfolding memory_of content_parts list_parts
+unfolding memory_of content_parts memory_parts list_parts
 memory_is n =
     ap (λ m. with_bytes m ((layout_of (thin_file n) 0).place + (layout_of (thin_file n) 0).render) (render_list_of (thin_file n) 0)) (put_nothing (zeros n.mem_size) n.place)
     ∙ ap (λ at. with_bytes (zeros n.mem_size) at (render_list_of (thin_file n) 0)) (place_of n)

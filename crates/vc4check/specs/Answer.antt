@@ -11,7 +11,8 @@ use Rattle.job_format.specs.File.{IsFileOf}
 use Rattle.job_format.specs.Model.{FileModel}
 use Rattle.job_format.specs.Reading.{file_at}
 use Rattle.job_check.specs.Faults.{refused, file_stages}
-use Rattle.job_check.specs.Emit.{memory_of, layout_of, lengths_of}
+use Rattle.job_check.specs.Emit.{memory_of, lengths_of}
+use Rattle.job_check.specs.Jobs.{layout_of}
 use Rattle.dumper.specs.Text.{accepted_text, refused_text}
 use Rattle.vc4check.specs.declared.command.Command.{Command}
 use Rattle.vc4check.specs.declared.command.Command.TheVariants.{Check, Asm, Disasm}
