@@ -79,6 +79,13 @@ pub fn full_place(frame: &Frame, place: u32, x: u8, y: u8) -> u32
     place + 16384 * full_tile(frame, x, y)
 }
 
+#[tactic(auto, unfolding(crate::specs::Frame::is_first_tile))]
+pub fn is_first_tile(frame: &Frame, x: u8, y: u8) -> bool
+    ensures { result ≡ is_first_tile frame.now x y }
+{
+    x == frame.min_x && y == frame.min_y
+}
+
 #[tactic(auto, unfolding(crate::specs::Frame::is_last_tile))]
 pub fn is_last_tile(frame: &Frame, x: u8, y: u8) -> bool
     ensures { result ≡ is_last_tile frame.now x y }
