@@ -1,3 +1,5 @@
+pub mod Context
 pub mod Emit
 pub mod Faults
+pub mod Jobs
 pub mod Offsets

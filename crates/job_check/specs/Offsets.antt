@@ -1,6 +1,6 @@
 -- Where the things that rules speak of stand in the file: header, buffer entries, job entries,
 -- contents, and then each job's parts, its handles first.
-use Rattle.std.specs.Prelude.{ℕ, ◌+◌, ◌-◌, ◌*◌, ◌==◌, List, length, map, sum, take, if◌then◌else◌}
+use Rattle.std.specs.Prelude.{ℕ, ◌+◌, ◌-◌, ◌*◌, ◌==◌, length, map, sum, sum_by, take, if◌then◌else◌}
 use Rattle.job_format.specs.Model.{FileModel, JobModel}
 
 -- item 0 is the memory, 1 the lists' region, 2 the tile region, 3 + b buffer b
@@ -18,7 +18,7 @@ parts_size job = 4 * length job.handles + length job.bin + length job.records + 
 
 -- the handles of job j, after the contents of all buffers, which are as long as the entries say
 unfoldable pub handles_offset : FileModel → ℕ → ℕ
-handles_offset f j = job_offset f (length f.jobs) + sum (map (λ b. b.content) f.buffers) + sum (map parts_size (take j f.jobs))
+handles_offset f j = job_offset f (length f.jobs) + sum (map (λ b. b.content) f.buffers) + sum_by parts_size (take j f.jobs)
 
 -- item 0 of a frame is the frame itself, 1 to 6 its surfaces, 7 the whole
 unfoldable pub surface_offset : ℕ → ℕ → ℕ

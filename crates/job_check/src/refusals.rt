@@ -1,13 +1,14 @@
 //! Refusals: a rule, and the place in the file that it is about.
-ghost use Rattle.std.specs.Prelude.{◌≡◌, ◌≤◌, ◌<◌, ◌+◌, ◌*◌, ◌^◌, length, map, sum};
+ghost use Rattle.std.specs.Prelude.{◌≡◌, ◌≤◌, ◌<◌, ◌+◌, ◌*◌, ◌^◌, length, map, sum, sum_by, take};
 ghost use Rattle.job_format.specs.declared.rule.Stage.TheVariants.{M as StageM, H as StageH, G as StageG, X as StageX};
-ghost use Rattle.job_format.specs.File.{IsWellFormed};
-ghost use Rattle.job_format.specs.Model.{file_view};
+ghost use Rattle.std.specs.List.{AllByRecursion};
+ghost use Rattle.job_format.specs.File.{IsWellFormed, IsJobWellFormed};
+ghost use Rattle.job_format.specs.Model.{file_view, job_view};
 ghost use Rattle.job_check.specs.Faults.{refused, table_refused, handle_refused, surface_refused};
-ghost use Rattle.job_check.specs.Offsets.{item_offset, job_offset, handles_offset, surface_offset, layout_offset};
+ghost use Rattle.job_check.specs.Offsets.{item_offset, job_offset, handles_offset, surface_offset, layout_offset, parts_size};
 
 use buffer_table::{Buffer, TableFault};
-use job_format::{JobFile, Refusal, Rule, Stage};
+use job_format::{Job, JobFile, Refusal, Rule, Stage};
 use render_list::RenderFault;
 
 /// The bytes of the header, of a buffer's entry and of a job's entry.
@@ -46,17 +47,18 @@ pub fn table_refusal(fault: &TableFault) -> Refusal
     refusal(Stage::M, fault.number, item_offset(fault.item))
 }
 
-/// Where the first job's entry stands.
+/// Where the entry of the job of this number stands, or where the entries end.
 #[tactic(auto, unfolding(crate::specs::Offsets::job_offset))]
-fn entry_offset(file: &JobFile) -> u64
-    requires { IsWellFormed (file_view file.now) }
-    ensures value { result ≡ job_offset (file_view file.now) 0 }
+fn entry_offset(file: &JobFile, number: usize) -> u64
+    requires well_formed { IsWellFormed (file_view file.now) }
+    requires inside { number ≤ length file.now.jobs.items }
+    ensures value { result ≡ job_offset (file_view file.now) number }
     ensures fits { result < 2 ^ 32 }
 {
-    HEADER + BUFFER_ENTRY * file.buffers.len() as u64
+    HEADER + BUFFER_ENTRY * file.buffers.len() as u64 + JOB_ENTRY * number as u64
 }
 
-/// How many bytes of contents the file has.
+/// How many bytes of contents these buffers have.
 fn content_size(buffers: &[Buffer]) -> u64
     requires { length buffers.now ≤ 64 }
     ensures value { result ≡ sum (map (λ b. b.content) buffers.now) }
@@ -69,14 +71,55 @@ fn content_size(buffers: &[Buffer]) -> u64
     size
 }
 
-/// The handle at which H1 stands.
-#[tactic(auto, unfolding(crate::specs::Offsets::handles_offset, crate::specs::Offsets::job_offset))]
-pub fn handle_refusal(file: &JobFile, index: u32) -> Refusal
-    requires { IsWellFormed (file_view file.now) }
-    ensures { result ≡ handle_refused (file_view file.now) 0 index }
+/// How many bytes of parts a job has.
+fn parts_size(job: &Job) -> u64
+    requires { IsJobWellFormed (job_view job.now) }
+    ensures value { result ≡ parts_size (job_view job.now) }
+    ensures fits { result ≤ 4194304 }
 {
-    let handles = entry_offset(file) + JOB_ENTRY + content_size(&file.buffers);
-    refusal(Stage::H, 1, handles + 4 * u64::from(index))
+    let handles = 4 * job.handles.len() as u64;
+    handles + job.bin.len() as u64 + job.records.len() as u64 + job.uniforms.len() as u64
+}
+
+/// How many bytes of parts the jobs before the one of this number have.
+fn parts_before(jobs: &[Job], number: usize) -> u64
+    requires inside { number ≤ length jobs.now }
+    requires few { length jobs.now ≤ 8 }
+    requires limits { AllByRecursion IsJobWellFormed (map job_view jobs.now) }
+    ensures value { result ≡ sum_by parts_size (take number (map job_view jobs.now)) }
+    ensures fits { result ≤ 33554432 }
+{
+    let mut size = 0;
+    for k in 0..number {
+        size += parts_size(&jobs[k]);
+    }
+    size
+}
+
+/// Where the handles of the job of this number stand.
+#[tactic(auto, unfolding(crate::specs::Offsets::handles_offset))]
+fn handles_offset(file: &JobFile, number: usize) -> u64
+    requires well_formed { IsWellFormed (file_view file.now) }
+    requires inside { number < length file.now.jobs.items }
+    ensures value { result ≡ handles_offset (file_view file.now) number }
+    ensures fits { result < 2 ^ 41 }
+{
+    entry_offset(file, file.jobs.len())
+        + content_size(&file.buffers)
+        + parts_before(&file.jobs, number)
+}
+
+/// The handle at which H1 stands.
+pub fn handle_refusal(file: &JobFile, number: usize, index: u32) -> Refusal
+    requires well_formed { IsWellFormed (file_view file.now) }
+    requires inside { number < length file.now.jobs.items }
+    ensures { result ≡ handle_refused (file_view file.now) number index }
+{
+    refusal(
+        Stage::H,
+        1,
+        handles_offset(file, number) + 4 * u64::from(index),
+    )
 }
 
 #[tactic(auto, unfolding(crate::specs::Offsets::surface_offset))]
@@ -92,22 +135,21 @@ fn surface_offset(entry: u64, item: u8) -> u64
 }
 
 /// A rule on the frame and its surfaces that fails.
-pub fn surface_refusal(file: &JobFile, fault: &RenderFault) -> Refusal
-    requires { IsWellFormed (file_view file.now) }
-    ensures { result ≡ surface_refused (file_view file.now) 0 fault.now }
+pub fn surface_refusal(file: &JobFile, number: usize, fault: &RenderFault) -> Refusal
+    requires well_formed { IsWellFormed (file_view file.now) }
+    requires inside { number < length file.now.jobs.items }
+    ensures { result ≡ surface_refused (file_view file.now) number fault.now }
 {
-    refusal(
-        Stage::G,
-        fault.number,
-        surface_offset(entry_offset(file), fault.item),
-    )
+    let entry = entry_offset(file, number);
+    refusal(Stage::G, fault.number, surface_offset(entry, fault.item))
 }
 
 /// The lists don't fit their region.
 #[tactic(auto, unfolding(crate::specs::Offsets::layout_offset))]
-pub fn layout_refusal(file: &JobFile) -> Refusal
-    requires { IsWellFormed (file_view file.now) }
-    ensures { result ≡ refused StageX 1 (layout_offset (job_offset (file_view file.now) 0)) }
+pub fn layout_refusal(file: &JobFile, number: usize) -> Refusal
+    requires well_formed { IsWellFormed (file_view file.now) }
+    requires inside { number < length file.now.jobs.items }
+    ensures { result ≡ refused StageX 1 (layout_offset (job_offset (file_view file.now) number)) }
 {
-    refusal(Stage::X, 1, entry_offset(file) + 12)
+    refusal(Stage::X, 1, entry_offset(file, number) + 12)
 }
