@@ -5,7 +5,9 @@ ghost use Rattle.field_words.specs.Questions.{first_of, each};
 ghost use Rattle.job_format.specs.Faults.{header_questions, entry_questions, buffer_questions, job_questions, content_questions, parts_questions, body_questions, format_questions, code_questions, list_questions, Tells};
 ghost use Rattle.job_format.specs.Offsets.{header_size, entry_size, job_size, most_buffers, buffer_count, entry_offset, job_offset, content_size, content_offset, handles_offset};
 
-use crate::rule::FormatFault;
+use crate::rule::{
+    BYTES_FOLLOW, ENDS_EARLY, FormatFault, NOT_A_JOB_FILE, OVER_LIMIT, WITHOUT_MEANING,
+};
 use crate::sizes::{
     ENTRY_SIZE, HEADER_SIZE, JOB_SIZE, MAGIC, MOST_BUFFERS, MOST_HANDLES, MOST_STATES, entry_offset,
 };
@@ -29,19 +31,19 @@ fn header_fault(bytes: &[u8]) -> Option<FormatFault>
     ensures few { IfNone result (buffer_count bytes.now ≤ most_buffers) }
 {
     if bytes.len() < HEADER_SIZE {
-        return fault(2, 0);
+        return fault(ENDS_EARLY, 0);
     }
     if word(bytes, 0) != MAGIC {
-        return fault(1, 0);
+        return fault(NOT_A_JOB_FILE, 0);
     }
     if word(bytes, 4) != 1 {
-        return fault(1, 4);
+        return fault(NOT_A_JOB_FILE, 4);
     }
     if word(bytes, 28) > MOST_BUFFERS {
-        return fault(4, 28);
+        return fault(OVER_LIMIT, 28);
     }
     if word(bytes, 32) != 1 {
-        return fault(4, 32);
+        return fault(OVER_LIMIT, 32);
     }
     None
 }
@@ -54,14 +56,14 @@ fn entry_fault(bytes: &[u8], at: usize) -> Option<FormatFault>
     ensures inside { IfNone result (at + entry_size ≤ length bytes.now) }
 {
     if bytes.len() - at < ENTRY_SIZE {
-        return fault(2, at);
+        return fault(ENDS_EARLY, at);
     }
     let kind = word(bytes, at + 12);
     if kind > 1 {
-        return fault(5, at + 12);
+        return fault(WITHOUT_MEANING, at + 12);
     }
     if kind == 1 && word(bytes, at + 16) > MOST_CODE {
-        return fault(4, at + 16);
+        return fault(OVER_LIMIT, at + 16);
     }
     None
 }
@@ -74,37 +76,37 @@ fn job_fault(bytes: &[u8], at: usize) -> Option<FormatFault>
     ensures inside { IfNone result (at + job_size ≤ length bytes.now) }
 {
     if bytes.len() - at < JOB_SIZE {
-        return fault(2, at);
+        return fault(ENDS_EARLY, at);
     }
     if word(bytes, at + 4) > 1 {
-        return fault(5, at + 4);
+        return fault(WITHOUT_MEANING, at + 4);
     }
     if word(bytes, at + 8) > MOST_HANDLES {
-        return fault(4, at + 8);
+        return fault(OVER_LIMIT, at + 8);
     }
     if word(bytes, at + 12) > MOST_LIST {
-        return fault(4, at + 12);
+        return fault(OVER_LIMIT, at + 12);
     }
     if word(bytes, at + 16) > MOST_LIST {
-        return fault(4, at + 16);
+        return fault(OVER_LIMIT, at + 16);
     }
     if word(bytes, at + 20) > MOST_STATES {
-        return fault(4, at + 20);
+        return fault(OVER_LIMIT, at + 20);
     }
     if word(bytes, at + 24) > MOST_LIST {
-        return fault(4, at + 24);
+        return fault(OVER_LIMIT, at + 24);
     }
     if word(bytes, at + 24) % 4 != 0 {
-        return fault(5, at + 24);
+        return fault(WITHOUT_MEANING, at + 24);
     }
     if bytes[at + 121] != 0 {
-        return fault(5, at + 121);
+        return fault(WITHOUT_MEANING, at + 121);
     }
     if bytes[at + 122] != 0 {
-        return fault(5, at + 122);
+        return fault(WITHOUT_MEANING, at + 122);
     }
     if bytes[at + 123] != 0 {
-        return fault(5, at + 123);
+        return fault(WITHOUT_MEANING, at + 123);
     }
     None
 }
@@ -156,7 +158,7 @@ fn content_fault(bytes: &[u8], b: usize, at: usize) -> Result<usize, FormatFault
     let size = content_size(bytes, b);
     if bytes.len() - at < size {
         return Err(FormatFault {
-            number: 2,
+            number: ENDS_EARLY,
             offset: at as u64,
         });
     }
@@ -192,26 +194,26 @@ fn parts_fault(bytes: &[u8], job: usize, at: usize) -> Option<FormatFault>
 {
     let handles = 4 * word(bytes, job + 8) as usize;
     if bytes.len() - at < handles {
-        return fault(2, at);
+        return fault(ENDS_EARLY, at);
     }
     let at = at + handles;
     let bin = word(bytes, job + 12) as usize;
     if bytes.len() - at < bin {
-        return fault(2, at);
+        return fault(ENDS_EARLY, at);
     }
     let at = at + bin;
     let records = word(bytes, job + 16) as usize;
     if bytes.len() - at < records {
-        return fault(2, at);
+        return fault(ENDS_EARLY, at);
     }
     let at = at + records;
     let uniforms = word(bytes, job + 24) as usize;
     if bytes.len() - at < uniforms {
-        return fault(2, at);
+        return fault(ENDS_EARLY, at);
     }
     let end = at + uniforms;
     if end < bytes.len() {
-        return fault(3, end);
+        return fault(BYTES_FOLLOW, end);
     }
     None
 }

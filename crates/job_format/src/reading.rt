@@ -1,7 +1,7 @@
-//! The values of a job file of which no format rule fails.
+//! The values of a job file of which no format rule stands.
 ghost use Rattle.std.specs.Prelude.{◌≡◌, ◌+◌, ◌*◌, ◌<◌, ◌≤◌, length, map, IfOk};
 ghost use Rattle.field_words.specs.Words.{u32_at};
-ghost use Rattle.field_words.specs.Questions.{Answers};
+ghost use Rattle.field_words.specs.Questions.{Answers, NamesFirst, NeverHidesFault};
 ghost use Rattle.job_format.specs.Faults.{unbuilt_questions, file_questions};
 ghost use Rattle.job_format.specs.File.{IsFileOf, IsBuilt, Reads};
 ghost use Rattle.job_format.specs.Model.{FileModel, job_view, file_view};
@@ -200,7 +200,8 @@ pub(crate) fn file_of(alloc: Global, bytes: &[u8]) -> Result<JobFile, AllocError
 /// The file, or F6.
 fn built_file(alloc: Global, bytes: &[u8]) -> Result<JobFile, Stop<FormatFault>>
     requires whole { HasParts bytes.now }
-    ensures { Answers (unbuilt_questions bytes.now) (λ f. file_view f ≡ file_at bytes.now) result }
+    ensures answers { Answers (unbuilt_questions bytes.now) (λ f. file_view f ≡ file_at bytes.now) result }
+    ensures memory { NeverHidesFault (unbuilt_questions bytes.now) result }
 {
     if let Some(fault) = unbuilt_fault(bytes) {
         return Err(Stop::Fault(fault));
@@ -209,9 +210,10 @@ fn built_file(alloc: Global, bytes: &[u8]) -> Result<JobFile, Stop<FormatFault>>
 }
 
 /// The file, or its first fault.
-#[tactic(auto, unfolding(crate::specs::Faults::file_questions), using(field_words::proofs::Questions::passes, field_words::proofs::Questions::stops))]
+#[tactic(auto, unfolding(crate::specs::Faults::file_questions), using(field_words::proofs::Questions::passes, field_words::proofs::Questions::stops, field_words::proofs::Questions::hides_later))]
 fn file(alloc: Global, bytes: &[u8]) -> Result<JobFile, Stop<FormatFault>>
-    ensures { Answers (file_questions bytes.now) (λ f. file_view f ≡ file_at bytes.now) result }
+    ensures answers { Answers (file_questions bytes.now) (λ f. file_view f ≡ file_at bytes.now) result }
+    ensures memory { NeverHidesFault (file_questions bytes.now) result }
 {
     match format_fault(bytes) {
         Some(fault) => Err(Stop::Fault(fault)),
@@ -220,10 +222,12 @@ fn file(alloc: Global, bytes: &[u8]) -> Result<JobFile, Stop<FormatFault>>
 }
 
 /// Reads a job file. The fault is the first of F1 to F5, part by part and in a part by field, and
-/// after them F6, a part of the format that is not built yet.
+/// after them F6, a part of the format that is not built yet. Finding it takes no memory.
 pub fn read_job(alloc: Global, bytes: &[u8]) -> Result<JobFile, Stop<FormatFault>>
     // Which fault it is, and the fields of the file.
     ensures read { Answers (file_questions bytes.now) (λ f. file_view f ≡ file_at bytes.now) result }
+    ensures first { NamesFirst (file_questions bytes.now) result }
+    ensures memory { NeverHidesFault (file_questions bytes.now) result }
     // The file that is read is the one that the bytes spell.
     ensures found { IfOk result (λ f. IsFileOf bytes.now (file_view f)) }
     // Bytes that spell a file are read, unless memory runs out.

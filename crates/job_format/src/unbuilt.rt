@@ -5,7 +5,7 @@ ghost use Rattle.field_words.specs.Questions.{first_of, each};
 ghost use Rattle.job_format.specs.Faults.{code_questions, list_questions, unbuilt_questions};
 ghost use Rattle.job_format.specs.Offsets.{entry_size, job_size, most_buffers, buffer_count, entry_offset, job_offset};
 
-use crate::rule::FormatFault;
+use crate::rule::{FormatFault, NOT_BUILT};
 use crate::sizes::entry_offset;
 use crate::words::word;
 
@@ -13,7 +13,7 @@ fn unbuilt_at(offset: usize) -> Option<FormatFault>
     ensures { result ≡ Some (record { number = 6; offset = offset }) }
 {
     Some(FormatFault {
-        number: 6,
+        number: NOT_BUILT,
         offset: offset as u64,
     })
 }

@@ -1,3 +1,4 @@
+//! Reading and writing in pieces, with faults, and over std's readers and writers.
 use super::*;
 use std::alloc::{AllocError, Global};
 use std::io;

@@ -1,1 +1,5 @@
+pub mod Fits
+pub mod Level
+pub mod Place
+pub mod Setup
 pub mod Surface
