@@ -9,7 +9,8 @@ use Rattle.job_format.specs.Model.{FileModel}
 use Rattle.relocation.specs.Layout.{records_start, uniforms_start, render_start}
 use Rattle.render_list.specs.Frame.{is_present, is_last_tile}
 use Rattle.render_list.specs.Surfaces.{place_in}
-use Rattle.render_list.specs.Text.{render_text, head_text, span_text, tile_text, coordinates, loads_text, writes_text, multisample_text, color_store, some_before_color, some_before_zs}
+use Rattle.packets.specs.Packet.{packet_text}
+use Rattle.render_list.specs.Text.{render_text, render_slots, front_slots, head_packet, clear_slots, span_slots, tile_slots, load_slots, list_slots, write_slots, color_store, some_before_color, some_before_zs}
 use Rattle.job_check.specs.Jobs.{job_of, slot_of, places_in, render_list_of, layout_of}
 use Rattle.job_check.specs.Emit.{content_parts, list_parts, memory_parts, memory_of}
 use Rattle.thin_job.specs.Shape.{thin_of, IsThinFile}
@@ -26,7 +27,7 @@ put_nothing old at = ap (λ k. take at old ++ drop k old) (add-zero at) ∙ take
 
 -- the renderer list of a thin file, its place, and its memory
 list_of : (n : Numbers) → render_list_of (thin_file n) 0 ≡ thin_list (thin_of (thin_file n))
-unfolding render_list_of job_of slot_of places_in data_of buffer_at place_in is_present render_text head_text span_text tile_text coordinates loads_text writes_text multisample_text color_store some_before_color some_before_zs is_last_tile thin_list
+unfolding render_list_of job_of slot_of places_in data_of buffer_at place_in is_present render_text render_slots front_slots head_packet clear_slots span_slots tile_slots load_slots list_slots write_slots color_store some_before_color some_before_zs is_last_tile packet_text thin_list
 list_of n = refl
 
 -- 15 bytes
