@@ -8,9 +8,11 @@
 #![tactic(auto)]
 
 mod access;
+mod steps;
 mod stop;
 mod words;
 
 pub use access::{Access, Actor, Way};
+pub use steps::Steps;
 pub use stop::{NoMemory, Stop};
 pub use words::{field, get_u16, get_u32, put_u32, round_up};
