@@ -1,3 +1,2 @@
-pub mod Asked
 pub mod Named
 pub mod Sounds
