@@ -2,6 +2,7 @@
 //! texture lies in its buffer.
 #![tactic(auto)]
 
+mod fetch;
 mod fits;
 mod level;
 mod place;

@@ -77,10 +77,11 @@ fn place_in_microtile(cpp: u32, x: u32, y: u32) -> u64
 
 /// Where a pixel of a raster surface lies: by rows of the aligned width.
 #[tactic(auto, unfolding(crate::specs::Place::raster_place), using(crate::proofs::Numbers::row_limit))]
-fn raster_place(width: u32, cpp: u32, x: u32, y: u32) -> u64
+pub(crate) fn raster_place(width: u32, cpp: u32, x: u32, y: u32) -> u64
     requires width_limit { width ≤ 65535 }
     requires pixel { IsPixelSize cpp }
-    ensures { result ≡ raster_place width cpp x y }
+    ensures value { result ≡ raster_place width cpp x y }
+    ensures limit { result < 2 ^ 56 }
 {
     u64::from(cpp) * (u64::from(y) * aligned_across(Tiling::Raster, width, cpp) + u64::from(x))
 }
