@@ -41,7 +41,8 @@ fn microtile_number(tiling: Tiling, across: u64, mx: u64, my: u64) -> u64
 }
 
 /// Where the 64 bytes of the microtile `mx` across and `my` down begin in a surface of this width,
-/// counted from the surface's first byte. The tiling isn't raster.
+/// counted from the surface's first byte. Raster has no microtiles: for it this is where they would
+/// lie in Lt.
 ///
 /// In T the microtiles of a tile of 4,096 bytes stand together, 8 rows of 8, and the tiles by rows;
 /// in Lt all stand by rows. The order is this project's own, and says nothing of the hardware's.
