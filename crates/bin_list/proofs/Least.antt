@@ -49,8 +49,8 @@ first_least [] f other sorted some stands = absurd stands
 first_least (Ask true answer ∷ later) f other sorted some stands =
     let e : answer ≡ f = cc in
     subst (λ a. IsUpTo a other) e (elim stands [
-      inl here ↦ inr (ap (λ a. a.at) here.1, (let n : answer.number ≡ other.number = ap (λ a. a.number) here.1 in omega arith))
-    | inr there ↦ of_all (IsUpTo answer) later other sorted.0 there
+      | inl here ↦ inr (ap (λ a. a.at) here.1, (let n : answer.number ≡ other.number = ap (λ a. a.number) here.1 in omega arith))
+      | inr there ↦ of_all (IsUpTo answer) later other sorted.0 there
     ])
 first_least (Ask false answer ∷ later) f other sorted some stands =
     elim stands [ inl here ↦ absurd (cc) | inr there ↦ first_least later f other sorted.1 some there ]
@@ -72,9 +72,10 @@ all_above at n (Ask b m ∷ later) up = ((refl, up.0), all_above at n later (wea
 sorted_at : (at n : ℕ) (questions : List (Question ℕ)) → Ascending n questions → Sorted (answered (fault at) questions)
 unfolding answered
 sorted_at at n [] up = tt
-sorted_at at n (Ask b m ∷ later) up =
-    (all_map (λ f. (f.at ≡ at) × (m ≤ f.number)) (IsUpTo (fault at m)) (answered (fault at) later) (λ f is. inr (sym is.0, is.1)) (all_above at m later up.1),
-    sorted_at at m later up.1)
+sorted_at at n (Ask b m ∷ later) up = (
+  all_map (λ f. (f.at ≡ at) × (m ≤ f.number)) (IsUpTo (fault at m)) (answered (fault at) later) (λ f is. inr (sym is.0, is.1)) (all_above at m later up.1),
+  sorted_at at m later up.1,
+)
 
 up_if : (n : ℕ) (b : Bool) (one two : List (Question ℕ)) → Ascending n one → Ascending n two → Ascending n (if b then one else two)
 up_if n true one two first second = first
