@@ -3,3 +3,5 @@ pub mod Inst
 pub mod Fields
 pub mod Terms
 pub mod Told
+pub mod Setups
+pub mod Shader

@@ -2,7 +2,7 @@
 use Rattle.std.proofs.Common.{◌∙◌, ap, sym}
 use Rattle.qpu_isa.specs.Inst.{word_of}
 use Rattle.qpu_isa.proofs.Words.{each_returns}
-use Rattle.qpu_isa.proofs.word.encode.Goals as goal
+use Rattle.qpu_isa.proofs.coding.encode.Goals as goal
 
 pub returns-in-Alu-clause-back : goal.returns-in-Alu-clause-back
 returns-in-Alu-clause-back c word small is = c.put_alu.ensures ∙ (ap word_of (sym c.in-Alu.is ∙ is) ∙ each_returns word small)
