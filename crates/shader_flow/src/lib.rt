@@ -8,7 +8,6 @@
 mod marks;
 mod rules;
 mod state;
-pub mod word;
 
 pub use marks::{checked, flow};
 pub use rules::{flow_fault, is_in_slots};

@@ -7,9 +7,9 @@ ghost use Rattle.shader_flow.specs.Flow.{word, end_of, in_slots, after_switch, l
 ghost use Rattle.shader_flow.specs.Rules.{s3, s4, s5, s6, s7, s8, s9, s10, s11, s12, s13, s27, flow_questions};
 
 use crate::state::Flow;
-use crate::word::{
-    add_address, immediate, is_branch, is_by_register, is_load_immediate, is_relative, is_switch,
-    mode, multiply_address, signal,
+use qpu_isa::word::{
+    imm, is_branch, is_load_imm, is_switch, mode, register, relative, sig, target, waddr_add,
+    waddr_mul,
 };
 
 // A branch stands `distance` before.
@@ -49,17 +49,14 @@ fn is_after_switch(code: &[u64], at: usize) -> bool
 }
 
 // A branch leads to before the first instruction, or past the program end.
-#[tactic(auto, unfolding(crate::specs::Flow::leads_outside, qpu_isa::specs::Terms::back_by))]
+#[tactic(auto, unfolding(crate::specs::Flow::leads_outside))]
 fn is_outside(code: &[u64], end: u32, at: usize) -> bool
     requires inside { at < length code.now }
     requires few { length code.now ≤ 8192 }
     requires last { end ≡ end_of code.now }
     ensures { result ≡ leads_outside code.now at }
 {
-    let number = immediate(code[at]);
-    let sum = at as u64 + 4 + number as u64 / 8;
-    let back = if number >= 1 << 31 { 1 << 29 } else { 0 };
-    sum < back || end as u64 + back < sum
+    end < target(code[at], at as u32)
 }
 
 /// Whether the instruction at `at` is a branch whose target is known and lies in the program.
@@ -72,9 +69,9 @@ pub(crate) fn is_sound(code: &[u64], end: u32, at: usize) -> bool
 {
     let word = code[at];
     is_branch(word)
-        && is_relative(word)
-        && !is_by_register(word)
-        && immediate(word).is_multiple_of(8)
+        && relative(word)
+        && !register(word)
+        && imm(word).is_multiple_of(8)
         && !is_outside(code, end, at)
 }
 
@@ -84,8 +81,8 @@ fn breaks_s3(code: &[u64], at: usize) -> bool
     requires { at < length code.now }
     ensures { result ≡ s3 code.now at }
 {
-    let sig = signal(code[at]);
-    sig == 0 || sig == 7 || sig == 9 || sig == 12
+    let signal = sig(code[at]);
+    signal == 0 || signal == 7 || signal == 9 || signal == 12
 }
 
 // A branch in the slots of a branch.
@@ -103,7 +100,7 @@ fn breaks_s5(code: &[u64], at: usize) -> bool
     requires { at < length code.now }
     ensures { result ≡ s5 code.now at }
 {
-    is_branch(code[at]) && is_by_register(code[at])
+    is_branch(code[at]) && register(code[at])
 }
 
 // A branch to an absolute place.
@@ -112,7 +109,7 @@ fn breaks_s6(code: &[u64], at: usize) -> bool
     requires { at < length code.now }
     ensures { result ≡ s6 code.now at }
 {
-    is_branch(code[at]) && !is_relative(code[at])
+    is_branch(code[at]) && !relative(code[at])
 }
 
 // A branch into the middle of an instruction.
@@ -121,7 +118,7 @@ fn breaks_s7(code: &[u64], at: usize) -> bool
     requires { at < length code.now }
     ensures { result ≡ s7 code.now at }
 {
-    is_branch(code[at]) && immediate(code[at]) % 8 != 0
+    is_branch(code[at]) && imm(code[at]) % 8 != 0
 }
 
 // A branch out of the program.
@@ -132,7 +129,7 @@ fn breaks_s8(code: &[u64], end: u32, at: usize) -> bool
     requires last { end ≡ end_of code.now }
     ensures { result ≡ s8 code.now at }
 {
-    is_branch(code[at]) && immediate(code[at]) % 8 == 0 && is_outside(code, end, at)
+    is_branch(code[at]) && imm(code[at]) % 8 == 0 && is_outside(code, end, at)
 }
 
 // A branch whose slots go past the program end.
@@ -152,7 +149,7 @@ fn breaks_s10(code: &[u64], at: usize) -> bool
     requires { at < length code.now }
     ensures { result ≡ s10 code.now at }
 {
-    is_branch(code[at]) && !(add_address(code[at]) == 39 && multiply_address(code[at]) == 39)
+    is_branch(code[at]) && !(waddr_add(code[at]) == 39 && waddr_mul(code[at]) == 39)
 }
 
 // A switch while a switch is on its way.
@@ -191,7 +188,7 @@ fn breaks_s27(code: &[u64], at: usize) -> bool
     ensures { result ≡ s27 code.now at }
 {
     let mode = mode(code[at]);
-    is_load_immediate(code[at]) && !(mode == 0 || mode == 1 || mode == 3)
+    is_load_imm(code[at]) && !(mode == 0 || mode == 1 || mode == 3)
 }
 
 /// The number of the first of the rules S3 to S13 and S27 that stands at the instruction `at`; `None` where none of them
@@ -200,8 +197,7 @@ fn breaks_s27(code: &[u64], at: usize) -> bool
 #[tactic(auto, unfolding(crate::specs::Rules::flow_questions))]
 pub fn flow_fault(code: &[u64], flow: &Flow, at: u32) -> Option<u8>
     requires inside { at < length code.now }
-    requires few { length code.now ≤ 8192 }
-    requires made { IsFlow code.now flow.now.end flow.now.targets.items flow.now.threaded }
+    requires made { IsFlow code.now flow.now }
     ensures { result ≡ first_of (flow_questions code.now at) }
 {
     let at = at as usize;

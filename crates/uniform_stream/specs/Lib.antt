@@ -1,3 +1,4 @@
 pub mod Pending
 pub mod Rules
 pub mod Stream
+pub mod Walk

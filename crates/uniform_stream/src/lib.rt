@@ -9,7 +9,6 @@ mod position;
 mod rules;
 mod state;
 mod walk;
-pub mod word;
 
 pub use position::{is_marked, known};
 pub use rules::{stream_fault, takes_at};

@@ -5,14 +5,13 @@ ghost use Rattle.qpu_isa.specs.Terms.{is_address_write};
 ghost use Rattle.shader_flow.specs.Bounded.{is_back};
 ghost use Rattle.shader_flow.specs.Flow.{word, end_of, checked_of, is_target, IsFlow};
 ghost use Rattle.uniform_stream.specs.Pending.{pending_of, takes};
-ghost use Rattle.uniform_stream.specs.Stream.{IsStream};
+ghost use Rattle.uniform_stream.specs.Stream.{is_known, IsStream};
 ghost use Rattle.uniform_stream.specs.Rules.{s14, s15, s17, after_address_write, s18, s19, s20, s21, is_full, s22, s23, s25, stream_questions};
 
-use crate::position::known;
 use crate::state::Stream;
-use crate::word::{
+use qpu_isa::writes::{
     has_conditional_tmu_write, has_setup, has_two_tmu_writes, is_address_write,
-    is_relative_address_write, reads_uniform, takes, writes_forbidden, writes_tmu,
+    is_relative_address_write, names_forbidden, reads_uniform, takes, writes_tmu,
 };
 use shader_flow::{Flow, checked, is_in_slots};
 
@@ -53,7 +52,7 @@ fn breaks_s14(code: &[u64], at: usize) -> bool
     requires { at < length code.now }
     ensures { result ≡ s14 code.now at }
 {
-    writes_forbidden(code[at])
+    names_forbidden(code[at])
 }
 
 // A relative address of the uniforms.
@@ -86,14 +85,13 @@ fn breaks_s18(code: &[u64], at: usize, takes: bool) -> bool
 
 // A uniform taken, by no address write, where the position isn't known.
 #[tactic(auto, unfolding(crate::specs::Rules::s19))]
-fn breaks_s19(code: &[u64], flow: &Flow, at: u32, takes: bool) -> bool
+fn breaks_s19(code: &[u64], at: usize, takes: bool, known: bool) -> bool
     requires inside { at < length code.now }
-    requires few { length code.now ≤ 8192 }
-    requires made { IsFlow code.now flow.now.end flow.now.targets.items flow.now.threaded }
+    requires position { known ≡ is_known code.now at }
     requires taken { takes ≡ Rattle.uniform_stream.specs.Pending.takes code.now at }
     ensures { result ≡ s19 code.now at }
 {
-    takes && !is_address_write(code[at as usize]) && !known(code, flow, at)
+    takes && !is_address_write(code[at]) && !known
 }
 
 // Both units write a TMU.
@@ -166,9 +164,8 @@ fn breaks_s25(code: &[u64], at: usize, target: bool, pending0: u16, pending1: u1
 #[tactic(auto, unfolding(crate::specs::Rules::stream_questions))]
 pub fn stream_fault(code: &[u64], flow: &Flow, stream: &Stream, at: u32) -> Option<u8>
     requires inside { at < length code.now }
-    requires few { length code.now ≤ 8192 }
-    requires made { IsFlow code.now flow.now.end flow.now.targets.items flow.now.threaded }
-    requires counted { IsStream code.now stream.now.counts.items stream.now.pending0.items stream.now.pending1.items stream.now.address_words.items }
+    requires made { IsFlow code.now flow.now }
+    requires counted { IsStream code.now stream.now }
     ensures { result ≡ first_of (stream_questions code.now at) }
 {
     let i = at as usize;
@@ -188,7 +185,7 @@ pub fn stream_fault(code: &[u64], flow: &Flow, stream: &Stream, at: u32) -> Opti
     if breaks_s18(code, i, takes) {
         return Some(18);
     }
-    if breaks_s19(code, flow, at, takes) {
+    if breaks_s19(code, i, takes, stream.known[i]) {
         return Some(19);
     }
     if breaks_s20(code, i) {
