@@ -1,1 +1,3 @@
 pub mod Facts
+pub mod Table
+pub mod Upkeep

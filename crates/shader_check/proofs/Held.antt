@@ -3,8 +3,8 @@ use Rattle.std.proofs.Common.{◌≡◌, ◌≤◌, ◌<◌, ◌+◌, ◌==◌, 
 use Rattle.std.proofs.lemmas.Bool.{cases_Bool, and_left}
 use Rattle.qpu_isa.specs.Terms.{writes_s, writes_tmu}
 use Rattle.shader_flow.specs.Flow.{word, checked_of}
-use Rattle.uniform_stream.specs.Pending.{pending_of}
-use Rattle.uniform_stream.proofs.Counts.{pending_zero, pending_sent, pending_kept}
+use Rattle.shader_flow.specs.Pending.{pending_of}
+use Rattle.shader_flow.proofs.Counts.{pending_zero, pending_sent, pending_kept}
 use Rattle.shader_check.specs.Info.{held, kept}
 use Rattle.shader_check.specs.Sound.{Member}
 use Rattle.shader_check.proofs.Clean.{IsCleanAt, IsClean}

@@ -4,7 +4,7 @@ use Rattle.std.proofs.lemmas.Bool.{and_parts, and_cases, or_cases, or_parts, cas
 use Rattle.qpu_isa.specs.Word.{add_a_of}
 use Rattle.qpu_isa.specs.Terms.{writes_s, s_address, names_address, writes_tmu, is_address_write, is_min_with_uniform, is_add_with_uniform, operand_register}
 use Rattle.shader_flow.specs.Flow.{word, checked_of}
-use Rattle.uniform_stream.specs.Pending.{pending_of, takes}
+use Rattle.shader_flow.specs.Pending.{pending_of, takes}
 use Rattle.uniform_stream.specs.Rules.{s22, is_full}
 use Rattle.clamp_facts.specs.Facts.{makes_clamp, is_not_negative}
 use Rattle.clamp_facts.proofs.Carriers.{clamped_found, clamps_parts, carried_parts}

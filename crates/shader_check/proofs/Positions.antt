@@ -11,7 +11,7 @@ use Rattle.clamp_facts.proofs.Carriers.{clamped_is, clamped_not, clamp_index_is}
 use Rattle.shader_check.specs.Info.{kept, held, clamp_parts, padded, sample_tmu, sample_parts, sample_of, is_direct_sample, asks, is_sample}
 use Rattle.shader_flow.specs.Bounded.{indexes}
 use Rattle.shader_flow.proofs.Bounded.{indexes_here, indexes_not}
-use Rattle.uniform_stream.specs.Pending.{count_of}
+use Rattle.shader_flow.specs.Pending.{count_of}
 use Rattle.qpu_isa.specs.declared.inst.Sample.{Sample}
 use Rattle.std.specs.Option.{option_to_list}
 

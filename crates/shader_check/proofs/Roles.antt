@@ -5,9 +5,9 @@ use Rattle.std.proofs.lemmas.Bool.{and_parts, and_from, and_cases, or_cases, or_
 use Rattle.qpu_isa.specs.Word.{add_a_of, add_b_of, op_add_of, waddr_add_of, raddr_a_of, raddr_b_of, ws_of, cond_add_of}
 use Rattle.qpu_isa.specs.Terms.{is_alu, is_branch, has_small, is_plain, is_uniform_operand, is_register_operand, reads_uniform_of, is_add_with_uniform, is_min_with_uniform, is_address_write, is_add_packed, add_names, operand_register}
 use Rattle.shader_flow.specs.Flow.{word, checked_of}
-use Rattle.uniform_stream.specs.Pending.{pending_of, count_of, takes, takes_with, has_setup}
+use Rattle.shader_flow.specs.Pending.{pending_of, count_of, takes, takes_with, has_setup}
 use Rattle.uniform_stream.specs.Rules.{s23}
-use Rattle.uniform_stream.proofs.Counts.{count_next, count_taken}
+use Rattle.shader_flow.proofs.Counts.{count_next, count_taken}
 use Rattle.clamp_facts.specs.Facts.{is_immediate, is_clamped}
 use Rattle.shader_check.specs.Rules.{s16, s24, is_exact_address_write, has_quiet_signal, adds_address, adds_direct, muls_direct, is_clamped_write}
 use Rattle.shader_check.proofs.Clean.{IsCleanAt}

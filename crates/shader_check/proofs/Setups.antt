@@ -4,7 +4,7 @@ use Rattle.std.proofs.lemmas.Bool.{and_parts, and_from, or_cases, or_parts, or_l
 use Rattle.qpu_isa.specs.Word.{waddr_add_of, waddr_mul_of}
 use Rattle.qpu_isa.specs.Terms.{is_branch, add_names, mul_names, names_address, writes_s, s_address, writes_tmu, add_writes_tmu, mul_writes_tmu, is_tmu_address, tmu_writes, add_is_tmu, mul_is_tmu, has_two_tmu_writes}
 use Rattle.shader_flow.specs.Flow.{word, checked_of}
-use Rattle.uniform_stream.specs.Pending.{pending_of, has_setup, adds_setup, muls_setup}
+use Rattle.shader_flow.specs.Pending.{pending_of, has_setup, adds_setup, muls_setup}
 use Rattle.uniform_stream.specs.Rules.{s20}
 use Rattle.shader_check.specs.Sound.{Member}
 use Rattle.shader_check.proofs.Clean.{IsCleanAt}

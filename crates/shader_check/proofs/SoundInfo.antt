@@ -7,7 +7,7 @@ use Rattle.qpu_isa.specs.Terms.{is_address_write}
 use Rattle.shader_flow.specs.Bounded.{indexes}
 use Rattle.shader_flow.specs.Flow.{word, checked_of}
 use Rattle.shader_flow.proofs.Ends.{checked_of-le}
-use Rattle.uniform_stream.specs.Pending.{count_of, takes}
+use Rattle.shader_flow.specs.Pending.{count_of, takes}
 use Rattle.uniform_stream.specs.Stream.{writes_address, is_open, address_words_of, uniforms_of}
 use Rattle.shader_check.specs.Info.{padded, asks, is_sample, sample_parts, sample_of, samples_of}
 use Rattle.field_words.specs.Questions.{first_of}

@@ -5,7 +5,7 @@ use Rattle.qpu_isa.specs.Word.{add_a_of}
 use Rattle.qpu_isa.specs.Terms.{writes_s, writes_tmu, is_register_operand, operand_register}
 use Rattle.shader_flow.specs.Bounded.{indexes}
 use Rattle.shader_flow.specs.Flow.{word, checked_of, is_threaded}
-use Rattle.uniform_stream.specs.Pending.{count_of, pending_of}
+use Rattle.shader_flow.specs.Pending.{count_of, pending_of}
 use Rattle.uniform_stream.specs.Stream.{uniforms_of, address_words_of}
 use Rattle.clamp_facts.specs.Facts.{is_clamped, clamp_index}
 

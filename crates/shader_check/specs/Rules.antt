@@ -6,7 +6,7 @@ use Rattle.qpu_isa.specs.Terms.{add_names, mul_names, has_small, is_address_writ
 use Rattle.shader_flow.specs.Bounded.{some_below}
 use Rattle.shader_flow.specs.Flow.{word, end_of, checked_of, is_threaded}
 use Rattle.shader_flow.specs.Rules.{s3, s4, s5, s6, s7, s8, s9, s10, s11, s12, s13, s27}
-use Rattle.uniform_stream.specs.Pending.{pending_of, count_of}
+use Rattle.shader_flow.specs.Pending.{pending_of, count_of}
 use Rattle.uniform_stream.specs.Rules.{s14, s15, s17, s18, s19, s20, s21, s22, s23, s25}
 use Rattle.clamp_facts.specs.Facts.{is_immediate, is_clamped}
 use Rattle.shader_check.specs.declared.fault.ShaderFault.{ShaderFault}

@@ -2,7 +2,7 @@
 ghost use Rattle.std.specs.Prelude.{◌≡◌, ◌<◌, ◌≤◌, length, IfOk};
 ghost use Rattle.field_words.specs.Questions.{first_of, each, Answers};
 ghost use Rattle.shader_flow.specs.Flow.{checked_of, IsFlow};
-ghost use Rattle.uniform_stream.specs.Pending.{count_of};
+ghost use Rattle.shader_flow.specs.Pending.{count_of};
 ghost use Rattle.uniform_stream.specs.Stream.{uniforms_of, IsStream};
 ghost use Rattle.shader_check.specs.Rules.{questions_at, shader_questions};
 ghost use Rattle.shader_check.specs.Info.{IsInfo};
@@ -35,7 +35,7 @@ fn first_fault(code: &[u64], flow: &Flow, stream: &Stream) -> Option<ShaderFault
 }
 
 // How many uniforms the shader's stream has, where its instructions take `count`.
-#[tactic(auto, using(uniform_stream::proofs::Counts::count_le), unfolding(uniform_stream::specs::Stream::uniforms_of))]
+#[tactic(auto, using(shader_flow::proofs::Counts::count_le), unfolding(uniform_stream::specs::Stream::uniforms_of))]
 fn uniforms(code: &[u64], flow: &Flow, count: u32) -> u32
     requires few { length code.now ≤ 8192 }
     requires made { IsFlow code.now flow.now.end flow.now.targets.items flow.now.threaded }

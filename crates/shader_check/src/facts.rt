@@ -5,7 +5,7 @@ ghost use Rattle.qpu_isa.specs.Word.{add_a_of};
 ghost use Rattle.qpu_isa.specs.Terms.{is_add_with_uniform, operand_register, is_register_operand, is_address_write};
 ghost use Rattle.qpu_isa.specs.Told.{IsRegister};
 ghost use Rattle.shader_flow.specs.Flow.{word, IsFlow};
-ghost use Rattle.uniform_stream.specs.Pending.{pending_of, count_of};
+ghost use Rattle.shader_flow.specs.Pending.{pending_of, count_of};
 ghost use Rattle.uniform_stream.specs.Stream.{IsStream};
 ghost use Rattle.clamp_facts.specs.Facts.{is_immediate, is_clamped};
 ghost use Rattle.shader_check.specs.Merge.{lesser};
@@ -70,7 +70,7 @@ fn has_clamp(code: &[u64], flow: &Flow, at: u32, reg: Reg) -> bool
 }
 
 // The address write at `at` leads to a word of the stream.
-#[tactic(auto, using(uniform_stream::proofs::Counts::count_le), unfolding(crate::specs::Rules::is_exact_address_write))]
+#[tactic(auto, using(shader_flow::proofs::Counts::count_le), unfolding(crate::specs::Rules::is_exact_address_write))]
 fn is_exact_address_write(code: &[u64], flow: &Flow, at: u32, count: u32) -> bool
     requires inside { at < length code.now }
     requires few { length code.now ≤ 8192 }

@@ -4,7 +4,7 @@ ghost use Rattle.std.specs.Option.{option_to_list};
 ghost use Rattle.qpu_isa.specs.Terms.{writes_s};
 ghost use Rattle.shader_flow.specs.Bounded.{indexes};
 ghost use Rattle.shader_flow.specs.Flow.{word, checked_of, IsFlow};
-ghost use Rattle.uniform_stream.specs.Pending.{count_of, pending_of};
+ghost use Rattle.shader_flow.specs.Pending.{count_of, pending_of};
 ghost use Rattle.uniform_stream.specs.Stream.{IsStream};
 ghost use Rattle.shader_check.specs.Info.{held, asks, is_sample, sample_tmu, is_direct_sample, clamp_parts, padded, sample_of, samples_of};
 

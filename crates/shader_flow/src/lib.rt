@@ -9,6 +9,6 @@ mod marks;
 mod rules;
 mod state;
 
-pub use marks::{checked, flow};
+pub use marks::{checked, flow, is_marked};
 pub use rules::{flow_fault, is_in_slots};
 pub use state::Flow;

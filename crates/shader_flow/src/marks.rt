@@ -115,3 +115,12 @@ pub fn flow(alloc: Global, code: &[u64]) -> Result<Flow, NoMemory>
         threaded,
     })
 }
+
+/// Whether a branch leads to `at`, or its slots end there.
+pub fn is_marked(code: &[u64], flow: &Flow, at: usize) -> bool
+    requires inside { at ≤ length code.now }
+    requires made { IsFlow code.now flow.now }
+    ensures { result ≡ is_target code.now at }
+{
+    flow.targets[at]
+}

@@ -5,7 +5,7 @@ use Rattle.qpu_isa.specs.Terms.{names_forbidden, is_relative_address_write, is_a
 use Rattle.shader_flow.specs.Bounded.{is_back}
 use Rattle.shader_flow.specs.Flow.{word, in_slots, is_target}
 use Rattle.qpu_isa.specs.Setups.{has_setup}
-use Rattle.uniform_stream.specs.Pending.{pending_of, takes}
+use Rattle.shader_flow.specs.Pending.{pending_of, takes}
 use Rattle.uniform_stream.specs.Stream.{is_known}
 
 -- a register that reaches other units: TMU no-swap, host interrupt, alpha mask, VPM DMA address, mutex

@@ -4,7 +4,7 @@ use Rattle.qpu_isa.specs.Terms.{is_address_write, is_backward}
 use Rattle.shader_flow.specs.Bounded.{some_below, some_in, is_back, indexes}
 use Rattle.shader_flow.specs.Flow.{word, checked_of, is_target}
 use Rattle.uniform_stream.specs.declared.state.Stream.{Stream}
-use Rattle.uniform_stream.specs.Pending.{count_of, pending_of}
+use Rattle.shader_flow.specs.Pending.{count_of, pending_of}
 
 -- a checked instruction writes the address of the uniforms
 unfoldable pub writes_address : List ℕ → ℕ → Bool

@@ -3,7 +3,7 @@ use Rattle.std.specs.Prelude.{◌≡◌, ◌≤◌, ◌<◌, ℕ, ◌+◌, ◌*�
 use Rattle.shader_flow.specs.Bounded.{indexes}
 use Rattle.uniform_stream.specs.declared.state.Stream.{Stream}
 use Rattle.uniform_stream.specs.declared.walk.Running.{Running}
-use Rattle.uniform_stream.specs.Pending.{count_of, pending_of}
+use Rattle.shader_flow.specs.Pending.{count_of, pending_of}
 use Rattle.uniform_stream.specs.Stream.{writes_address, is_known}
 
 -- what the walk carries before the instruction at an index

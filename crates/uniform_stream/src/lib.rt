@@ -10,7 +10,7 @@ mod rules;
 mod state;
 mod walk;
 
-pub use position::{is_marked, known};
+pub use position::known;
 pub use rules::{stream_fault, takes_at};
 pub use state::Stream;
 pub use walk::{is_open, stream};

@@ -5,7 +5,7 @@ ghost use Rattle.shader_flow.specs.Flow.{end_of, is_target, IsFlow};
 ghost use Rattle.uniform_stream.specs.Stream.{writes_address, is_restart, is_known};
 
 use qpu_isa::writes::is_address_write;
-use shader_flow::{Flow, checked};
+use shader_flow::{Flow, checked, is_marked};
 
 /// Whether a checked instruction at `at` sets the address of the uniforms.
 #[tactic(auto, unfolding(crate::specs::Stream::writes_address))]
@@ -27,15 +27,6 @@ fn is_restart(code: &[u64], end: u32, at: usize) -> bool
     ensures { result ≡ is_restart code.now at }
 {
     at == 0 || (1 <= at && writes_address(code, end, at - 1))
-}
-
-/// Whether a branch leads to `at`, or its slots end there.
-pub fn is_marked(code: &[u64], flow: &Flow, at: usize) -> bool
-    requires inside { at ≤ length code.now }
-    requires made { IsFlow code.now flow.now }
-    ensures { result ≡ is_target code.now at }
-{
-    flow.targets[at]
 }
 
 // It stays known, or begins to be, where no branch leads to.

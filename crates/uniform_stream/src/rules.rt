@@ -4,7 +4,7 @@ ghost use Rattle.field_words.specs.Questions.{first_of};
 ghost use Rattle.qpu_isa.specs.Terms.{is_address_write};
 ghost use Rattle.shader_flow.specs.Bounded.{is_back};
 ghost use Rattle.shader_flow.specs.Flow.{word, end_of, checked_of, is_target, IsFlow};
-ghost use Rattle.uniform_stream.specs.Pending.{pending_of, takes};
+ghost use Rattle.shader_flow.specs.Pending.{pending_of, takes};
 ghost use Rattle.uniform_stream.specs.Stream.{is_known, IsStream};
 ghost use Rattle.uniform_stream.specs.Rules.{s14, s15, s17, after_address_write, s18, s19, s20, s21, is_full, s22, s23, s25, stream_questions};
 
@@ -34,7 +34,7 @@ fn is_after_address_write(code: &[u64], at: usize) -> bool
 }
 
 /// Whether the checked instruction at `at` takes a uniform, where the TMUs keep `pending0` and `pending1` setup words.
-#[tactic(auto, unfolding(crate::specs::Pending::takes))]
+#[tactic(auto, unfolding(shader_flow::specs::Pending::takes))]
 pub fn takes_at(code: &[u64], end: u32, at: usize, pending0: u16, pending1: u16) -> bool
     requires inside { at < length code.now }
     requires few { length code.now ≤ 8192 }
@@ -77,7 +77,7 @@ fn breaks_s17(code: &[u64], at: usize) -> bool
 #[tactic(auto, unfolding(crate::specs::Rules::s18))]
 fn breaks_s18(code: &[u64], at: usize, takes: bool) -> bool
     requires inside { at < length code.now }
-    requires taken { takes ≡ Rattle.uniform_stream.specs.Pending.takes code.now at }
+    requires taken { takes ≡ Rattle.shader_flow.specs.Pending.takes code.now at }
     ensures { result ≡ s18 code.now at }
 {
     takes && is_after_address_write(code, at)
@@ -88,7 +88,7 @@ fn breaks_s18(code: &[u64], at: usize, takes: bool) -> bool
 fn breaks_s19(code: &[u64], at: usize, takes: bool, known: bool) -> bool
     requires inside { at < length code.now }
     requires position { known ≡ is_known code.now at }
-    requires taken { takes ≡ Rattle.uniform_stream.specs.Pending.takes code.now at }
+    requires taken { takes ≡ Rattle.shader_flow.specs.Pending.takes code.now at }
     ensures { result ≡ s19 code.now at }
 {
     takes && !is_address_write(code[at]) && !known

@@ -2,7 +2,7 @@
 ghost use Rattle.std.specs.Prelude.{◌≡◌, ◌<◌, ◌≤◌, ◌+◌, ◌*◌, ◌++◌, ◌∷◌, [], ℕ, List, length, map, if◌then◌else◌, IfOk, OnOk};
 ghost use Rattle.shader_flow.specs.Bounded.{indexes};
 ghost use Rattle.shader_flow.specs.Flow.{end_of, checked_of, IsFlow};
-ghost use Rattle.uniform_stream.specs.Pending.{pending_of, count_of};
+ghost use Rattle.shader_flow.specs.Pending.{pending_of, count_of};
 ghost use Rattle.uniform_stream.specs.Stream.{writes_address, leaves_open, is_open, IsStream};
 ghost use Rattle.uniform_stream.specs.Walk.{IsRunning, IsFilled, IsAddressEnd};
 

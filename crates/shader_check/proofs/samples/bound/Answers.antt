@@ -1,5 +1,5 @@
 use Rattle.std.proofs.Common.{[], ◌∷◌, map, sym, ap, arith, ◌∙◌}
-use Rattle.uniform_stream.specs.Pending.{count_of}
+use Rattle.shader_flow.specs.Pending.{count_of}
 use Rattle.clamp_facts.proofs.Carriers.{clamps_parts}
 use Rattle.shader_check.proofs.Positions.{bound_one, bound_none}
 use Rattle.shader_check.proofs.samples.bound.Goals as goal

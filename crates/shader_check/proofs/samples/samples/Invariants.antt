@@ -1,6 +1,6 @@
 use Rattle.std.proofs.Common.{◌≡◌, map}
 use Rattle.shader_flow.specs.Bounded.{indexes}
-use Rattle.uniform_stream.specs.Pending.{count_of}
+use Rattle.shader_flow.specs.Pending.{count_of}
 use Rattle.shader_check.specs.Info.{held, is_sample, sample_of}
 use Rattle.shader_check.proofs.samples.samples.Given as goal
 

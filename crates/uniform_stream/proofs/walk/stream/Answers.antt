@@ -1,5 +1,5 @@
 use Rattle.std.proofs.Common.{sym, arith}
-use Rattle.uniform_stream.proofs.Counts.{count_zero, pending_zero}
+use Rattle.shader_flow.proofs.Counts.{count_zero, pending_zero}
 use Rattle.uniform_stream.proofs.walk.stream.Goals as goal
 
 pub loop-at-init : goal.loop-at-init
