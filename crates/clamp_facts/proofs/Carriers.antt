@@ -10,7 +10,8 @@ use Rattle.shader_flow.specs.Pending.{count_of}
 use Rattle.shader_flow.proofs.Bounded.{some_in_none, some_in_not, last_below_none, last_below_one, last_below_found}
 use Rattle.clamp_facts.specs.declared.fact.Fact.{Fact}
 use Rattle.clamp_facts.specs.declared.fact.Fact.TheVariants.{Nothing, Immediate, NotNegative, Clamped}
-use Rattle.clamp_facts.specs.Facts.{sets, stays, switches_between, maker_of, is_delayed, carries, if_readable, carrier_of, clamps, makes_clamp, made, fact_made, fact_by, fact_at, is_max_at, is_not_negative, is_from_zero, clamp_in, bound_in, value_in, is_clamped, has_bound}
+use Rattle.clamp_facts.specs.Facts.{sets, stays, switches_between, maker_of, is_delayed, carries, if_readable, carrier_of, clamps, makes_clamp, made, fact_made, fact_by, fact_at, is_max_at, is_not_negative, is_clamped}
+use Rattle.clamp_facts.specs.Readings.{is_from_zero, clamp_in, bound_in, value_in, has_bound}
 use Rattle.clamp_facts.specs.Upkeep.{IsLastNaming, IsCarrier}
 
 -- what sets a register alone names it

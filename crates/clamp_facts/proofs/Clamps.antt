@@ -8,7 +8,8 @@ use Rattle.qpu_isa.specs.declared.inst.Reg.{Reg}
 use Rattle.qpu_isa.specs.Terms.{first_register, passes, is_alu, is_load_imm, has_small, is_uniform_operand, loaded_value, is_max_with_zero, is_min_with_uniform}
 use Rattle.shader_flow.specs.Flow.{word}
 use Rattle.shader_flow.specs.Pending.{count_of}
-use Rattle.clamp_facts.specs.Facts.{carries, carrier_of, clamps, makes_clamp, is_not_negative, made, fact_made, fact_by, fact_at, clamp_in, bound_in, is_clamped, has_bound}
+use Rattle.clamp_facts.specs.Facts.{carries, carrier_of, clamps, makes_clamp, is_not_negative, made, fact_made, fact_by, fact_at, is_clamped}
+use Rattle.clamp_facts.specs.Readings.{clamp_in, bound_in, has_bound}
 use Rattle.clamp_facts.specs.Upkeep.{IsCarrier}
 use Rattle.clamp_facts.proofs.Carriers.{carrier_one, carrier_is, carrier_found, fact_none, fact_some}
 

@@ -6,7 +6,7 @@ ghost use Rattle.clamp_facts.specs.declared.fact.Fact.TheVariants.{Nothing};
 ghost use Rattle.shader_flow.specs.Bounded.{is_back};
 ghost use Rattle.shader_flow.specs.Flow.{word, checked_of, IsFlow};
 ghost use Rattle.shader_flow.specs.Pending.{count_of};
-ghost use Rattle.clamp_facts.specs.Facts.{maker_of, fact_at, makes_clamp, made, is_from_zero};
+ghost use Rattle.clamp_facts.specs.Facts.{maker_of, fact_at, makes_clamp, made};
 ghost use Rattle.clamp_facts.specs.Upkeep.{IsTableOf, register_at, add_register, mul_register, maker_added, maker_written};
 
 use crate::fact::Fact;
@@ -37,16 +37,6 @@ pub fn look<L: Ledger>(
     table.get(reg, at, steps)
 }
 
-// The fact says that the register isn't negative.
-fn is_from_zero(fact: Fact) -> bool
-    ensures { result ≡ is_from_zero fact }
-{
-    match fact {
-        Fact::NotNegative => true,
-        _ => false,
-    }
-}
-
 // The instruction at `at` is the minimum of a register that isn't negative and a uniform.
 #[tactic(auto, unfolding(crate::specs::Facts::makes_clamp))]
 fn is_clamp<L: Ledger>(
@@ -66,7 +56,7 @@ fn is_clamp<L: Ledger>(
         return false;
     }
     match first_register(word) {
-        Some(reg) => is_from_zero(look(code, at, reg, table, steps)),
+        Some(reg) => look(code, at, reg, table, steps).is_from_zero(),
         None => false,
     }
 }

@@ -1,5 +1,7 @@
 pub mod Clean
 pub mod Held
+pub mod Indexed
+pub mod Listed
 pub mod Members
 pub mod Parts
 pub mod Positions

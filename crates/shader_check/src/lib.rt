@@ -9,6 +9,7 @@ mod check;
 mod facts;
 mod fault;
 mod samples;
+mod walk;
 mod whole;
 
 pub use check::check_shader;

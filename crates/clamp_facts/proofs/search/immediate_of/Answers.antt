@@ -1,5 +1,5 @@
 use Rattle.std.proofs.Common.{sym, ap, ◌∙◌}
-use Rattle.clamp_facts.specs.Facts.{value_in}
+use Rattle.clamp_facts.specs.Readings.{value_in}
 use Rattle.clamp_facts.proofs.Carriers.{fact_none, fact_some, value_of_made}
 use Rattle.clamp_facts.proofs.search.immediate_of.Goals as goal
 

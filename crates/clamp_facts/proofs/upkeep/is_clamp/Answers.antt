@@ -1,7 +1,8 @@
 use Rattle.std.proofs.Common.{◌&&◌, sym, ap, ◌∙◌}
 use Rattle.qpu_isa.specs.Terms.{passes, first_register}
 use Rattle.shader_flow.specs.Flow.{word}
-use Rattle.clamp_facts.specs.Facts.{is_from_zero, is_not_negative, makes_clamp}
+use Rattle.clamp_facts.specs.Facts.{is_not_negative, makes_clamp}
+use Rattle.clamp_facts.specs.Readings.{is_from_zero}
 use Rattle.clamp_facts.proofs.Carriers.{not_negative_is}
 use Rattle.clamp_facts.proofs.upkeep.is_clamp.Goals as goal
 

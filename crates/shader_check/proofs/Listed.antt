@@ -1,6 +1,5 @@
--- What the layers above rest on: the positions that an accepted shader's info names are apart, so that the words which the
--- validator writes into a uniform stream are the words that it tested.
-use Rattle.std.specs.Prelude.{◌≡◌, ◌≤◌, ◌<◌, ◌⊎◌, ℕ, List, [], ◌∷◌, ◌++◌, map, drop, length, Option, Some, None, slice_index}
+-- That a shader's info is sound, by members of lists: the way to the same by index.
+use Rattle.std.proofs.Common.{◌≡◌, ◌≤◌, ◌<◌, ◌⊎◌, ℕ, List, [], ◌∷◌, ◌++◌, map, drop, length, Option, Some, None, slice_index}
 use Rattle.qpu_isa.specs.declared.inst.Sample.{Sample}
 use Rattle.shader_check.specs.Info.{padded}
 
