@@ -1,6 +1,7 @@
 pub mod Clean
 pub mod Held
 pub mod Indexed
+pub mod Leasts
 pub mod Listed
 pub mod Members
 pub mod Parts

@@ -1,11 +1,12 @@
 //! The checker.
-ghost use Rattle.std.specs.Prelude.{◌≡◌, ◌≤◌, ◌+◌, ◌*◌, length, IfOk};
+ghost use Rattle.std.specs.Prelude.{◌≡◌, ◌≤◌, ◌+◌, ◌*◌, length, IfOk, IfErr};
 ghost use Rattle.field_words.specs.Questions.{Answers};
 ghost use Rattle.qpu_isa.specs.Shader.{IsSoundShader, shader_view};
 ghost use Rattle.shader_flow.specs.Flow.{IsFlow};
 ghost use Rattle.shader_flow.specs.Pending.{count_of};
 ghost use Rattle.uniform_stream.specs.Stream.{uniforms_of};
 ghost use Rattle.shader_check.specs.Info.{IsInfo};
+ghost use Rattle.shader_check.specs.Least.{IsLeastStop};
 ghost use Rattle.shader_check.specs.Rules.{shader_questions};
 
 use crate::fault::ShaderFault;
@@ -63,6 +64,7 @@ pub fn check_shader<L: Ledger>(
 ) -> Result<ShaderInfo, Stop<ShaderFault>>
     requires { length code.now ≤ 8192 }
     ensures answers { Answers (shader_questions code.now) (IsInfo code.now) result }
+    ensures least { IfErr result (IsLeastStop code.now) }
     ensures sound { IfOk result (λ info. IsSoundShader (shader_view info)) }
     ensures bound { steps.new ≤ steps.old + (8 * length code.now + 8) }
 {

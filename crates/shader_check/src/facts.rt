@@ -21,6 +21,11 @@ use shader_flow::{Flow, flow_fault};
 use std::sync::ledger::Ledger;
 use uniform_stream::{Stream, stream_fault};
 
+/// S16: the uniforms' address is set to what is no known word of the stream.
+pub const S16_INEXACT_ADDRESS: u8 = 16;
+/// S24: a direct read's address isn't clamped.
+pub const S24_UNCLAMPED_READ: u8 = 24;
+
 // A signal under which the sum is what the add unit writes.
 #[tactic(auto, unfolding(crate::specs::Rules::has_quiet_signal))]
 fn has_quiet_signal(word: u64) -> bool
@@ -239,10 +244,10 @@ fn fact_fault<L: Ledger>(
 {
     let i = at as usize;
     if breaks_s16(code, at, stream.counts[i], table, steps) {
-        return Some(16);
+        return Some(S16_INEXACT_ADDRESS);
     }
     if breaks_s24(code, at, stream.pending0[i], stream.pending1[i], table, steps) {
-        return Some(24);
+        return Some(S24_UNCLAMPED_READ);
     }
     None
 }

@@ -12,6 +12,31 @@ use qpu_isa::word::{
     waddr_mul,
 };
 
+/// S3: a signal that no shader may use.
+pub const S3_SIGNAL: u8 = 3;
+/// S4: a branch stands in the slots of a branch.
+pub const S4_BRANCH_IN_SLOTS: u8 = 4;
+/// S5: a branch takes its target from a register.
+pub const S5_BRANCH_BY_REGISTER: u8 = 5;
+/// S6: a branch leads to an absolute place.
+pub const S6_BRANCH_ABSOLUTE: u8 = 6;
+/// S7: a branch leads into the middle of an instruction.
+pub const S7_BRANCH_UNALIGNED: u8 = 7;
+/// S8: a branch leads to before the first instruction or past the program end.
+pub const S8_BRANCH_OUTSIDE: u8 = 8;
+/// S9: a branch's slots go past the program end.
+pub const S9_SLOTS_PAST_END: u8 = 9;
+/// S10: a branch also writes.
+pub const S10_BRANCH_WRITES: u8 = 10;
+/// S11: a switch stands one or two after a switch.
+pub const S11_SWITCH_AFTER_SWITCH: u8 = 11;
+/// S12: a branch stands one or two after a switch.
+pub const S12_BRANCH_AFTER_SWITCH: u8 = 12;
+/// S13: a switch stands in a branch's slots or acts after the program end.
+pub const S13_SWITCH_MISPLACED: u8 = 13;
+/// S27: a load immediate has a mode that does not exist.
+pub const S27_LOAD_MODE: u8 = 27;
+
 // A branch stands `distance` before.
 #[tactic(auto, unfolding(crate::specs::Bounded::is_back))]
 fn is_branch_back(code: &[u64], at: usize, distance: usize) -> bool
@@ -203,40 +228,40 @@ pub fn flow_fault(code: &[u64], flow: &Flow, at: u32) -> Option<u8>
     let at = at as usize;
     let end = flow.end;
     if breaks_s3(code, at) {
-        return Some(3);
+        return Some(S3_SIGNAL);
     }
     if breaks_s4(code, at) {
-        return Some(4);
+        return Some(S4_BRANCH_IN_SLOTS);
     }
     if breaks_s5(code, at) {
-        return Some(5);
+        return Some(S5_BRANCH_BY_REGISTER);
     }
     if breaks_s6(code, at) {
-        return Some(6);
+        return Some(S6_BRANCH_ABSOLUTE);
     }
     if breaks_s7(code, at) {
-        return Some(7);
+        return Some(S7_BRANCH_UNALIGNED);
     }
     if breaks_s8(code, end, at) {
-        return Some(8);
+        return Some(S8_BRANCH_OUTSIDE);
     }
     if breaks_s9(code, end, at) {
-        return Some(9);
+        return Some(S9_SLOTS_PAST_END);
     }
     if breaks_s10(code, at) {
-        return Some(10);
+        return Some(S10_BRANCH_WRITES);
     }
     if breaks_s11(code, at) {
-        return Some(11);
+        return Some(S11_SWITCH_AFTER_SWITCH);
     }
     if breaks_s12(code, at) {
-        return Some(12);
+        return Some(S12_BRANCH_AFTER_SWITCH);
     }
     if breaks_s13(code, end, at) {
-        return Some(13);
+        return Some(S13_SWITCH_MISPLACED);
     }
     if breaks_s27(code, at) {
-        return Some(27);
+        return Some(S27_LOAD_MODE);
     }
     None
 }

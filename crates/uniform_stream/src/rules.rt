@@ -15,6 +15,27 @@ use qpu_isa::writes::{
 };
 use shader_flow::{Flow, checked, is_in_slots};
 
+/// S14: a register is written that reaches other units.
+pub const S14_FORBIDDEN_REGISTER: u8 = 14;
+/// S15: the uniforms' address is set relative to another element.
+pub const S15_RELATIVE_ADDRESS: u8 = 15;
+/// S17: the uniforms' address is set in a branch's slots.
+pub const S17_ADDRESS_IN_SLOTS: u8 = 17;
+/// S18: a uniform is taken before a new address is in force.
+pub const S18_UNIFORM_TOO_EARLY: u8 = 18;
+/// S19: a uniform is taken where the position in the stream isn't known.
+pub const S19_POSITION_UNKNOWN: u8 = 19;
+/// S20: both units write a TMU.
+pub const S20_TWO_TMU_WRITES: u8 = 20;
+/// S21: a TMU is written under a condition.
+pub const S21_CONDITIONAL_TMU_WRITE: u8 = 21;
+/// S22: a TMU write finds four set-up words.
+pub const S22_TMU_FULL: u8 = 22;
+/// S23: a set-up write stands in an instruction that reads a uniform.
+pub const S23_UNIFORM_TAKEN_TWICE: u8 = 23;
+/// S25: a branch leads to where a TMU keeps set-up words.
+pub const S25_TARGET_AMID_SETUP: u8 = 25;
+
 // An address write stands `distance` before.
 #[tactic(auto, unfolding(shader_flow::specs::Bounded::is_back))]
 fn is_address_write_back(code: &[u64], at: usize, distance: usize) -> bool
@@ -174,34 +195,34 @@ pub fn stream_fault(code: &[u64], flow: &Flow, stream: &Stream, at: u32) -> Opti
     let target = flow.targets[i];
     let takes = takes_at(code, flow.end, i, pending0, pending1);
     if breaks_s14(code, i) {
-        return Some(14);
+        return Some(S14_FORBIDDEN_REGISTER);
     }
     if breaks_s15(code, i) {
-        return Some(15);
+        return Some(S15_RELATIVE_ADDRESS);
     }
     if breaks_s17(code, i) {
-        return Some(17);
+        return Some(S17_ADDRESS_IN_SLOTS);
     }
     if breaks_s18(code, i, takes) {
-        return Some(18);
+        return Some(S18_UNIFORM_TOO_EARLY);
     }
     if breaks_s19(code, i, takes, stream.known[i]) {
-        return Some(19);
+        return Some(S19_POSITION_UNKNOWN);
     }
     if breaks_s20(code, i) {
-        return Some(20);
+        return Some(S20_TWO_TMU_WRITES);
     }
     if breaks_s21(code, i) {
-        return Some(21);
+        return Some(S21_CONDITIONAL_TMU_WRITE);
     }
     if breaks_s22(code, i, pending0, pending1) {
-        return Some(22);
+        return Some(S22_TMU_FULL);
     }
     if breaks_s23(code, i, pending0, pending1) {
-        return Some(23);
+        return Some(S23_UNIFORM_TAKEN_TWICE);
     }
     if breaks_s25(code, i, target, pending0, pending1) {
-        return Some(25);
+        return Some(S25_TARGET_AMID_SETUP);
     }
     None
 }
