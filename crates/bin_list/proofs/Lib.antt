@@ -1,0 +1,4 @@
+pub mod Writing
+pub mod Cutting
+pub mod Inside
+pub mod Walk
