@@ -1,4 +1,5 @@
 pub mod Pieces
 pub mod Questions
+pub mod WordBytes
 pub mod Words
 pub mod Writes
