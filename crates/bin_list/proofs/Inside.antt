@@ -1,10 +1,10 @@
 -- A text that is changed after it was written.
-use Rattle.std.proofs.Common.{◌≡◌, ℕ, ◌+◌, ◌<◌, ◌≤◌, List, ◌++◌, length, take, drop, get_or, arith, ap, subst, sym, ◌∙◌}
+use Rattle.std.proofs.Common.{◌≡◌, ℕ, ◌+◌, ◌≤◌, List, ◌++◌, length, take, drop, arith, ap, subst, sym, ◌∙◌}
 use Rattle.std.proofs.lemmas.List.{places, length-take-le}
 use Rattle.std.proofs.lemmas.Grind.{same_number_lists}
 use Rattle.field_words.specs.Writes.{with_bytes}
 use Rattle.field_words.proofs.Writes.{length-with_bytes}
-use Rattle.bin_list.specs.Writing.{written}
+use Rattle.packets.specs.Writing.{written}
 
 inner : (p t d part : List ℕ) (i : ℕ) → i + length part ≤ length t
     → with_bytes (p ++ (t ++ d)) (length p + i) part ≡ p ++ (with_bytes t i part ++ d)

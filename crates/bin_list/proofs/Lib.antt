@@ -1,4 +1,3 @@
-pub mod Writing
 pub mod Cutting
 pub mod Inside
 pub mod Walk

@@ -1,9 +1,9 @@
 -- The walk over a list, packet by packet.
-use Rattle.std.proofs.Common.{◌≡◌, ◌≢◌, ◌⊎◌, inl, inr, ℕ, zero, suc, ◌+◌, ◌-◌, ◌*◌, ◌<◌, ◌≤◌, Bool, true, false, List, [], ◌∷◌, ◌++◌, Option, Some, None, IsSome, length, take, drop, get_or, refl, sym, ap, subst, arith, ◌∙◌, length-append, nat_eq}
+use Rattle.std.proofs.Common.{◌≡◌, ◌≢◌, ◌⊎◌, inl, inr, ℕ, zero, suc, ◌+◌, ◌≤◌, Bool, true, false, List, [], ◌∷◌, ◌++◌, Option, Some, None, IsSome, length, take, drop, refl, sym, ap, subst, arith, ◌∙◌, length-append}
 use Rattle.std.specs.Prelude.{if◌then◌else◌, ◌==◌}
 use Rattle.std.proofs.lemmas.List.{places}
 use Rattle.std.proofs.lemmas.Bool.{eqb-false, eqb-true}
-use Rattle.field_words.specs.Questions.{Question, first_of, answered}
+use Rattle.field_words.specs.Questions.{first_of, answered}
 use Rattle.field_words.proofs.Questions.{passes, stops, answered_none, answered_some}
 use Rattle.relocation.specs.declared.layout.Layout.{Layout}
 use Rattle.packets.specs.Opcode.{halt, gl_shader_state}
@@ -12,15 +12,15 @@ use Rattle.bin_list.specs.declared.fault.ListFault.{ListFault}
 use Rattle.bin_list.specs.declared.seen.Seen.{Seen}
 use Rattle.bin_list.specs.declared.state.State.{State}
 use Rattle.bin_list.specs.Packets.{opcode, front_packet, behind, cut, packets, onto, passed}
-use Rattle.bin_list.specs.Seen.{latest, is_there, byte_of, word_of, last_opcode, before_last, place, states_in, records_in, seen_before, seen_after}
+use Rattle.bin_list.specs.Seen.{is_there, byte_of, word_of, place, states_in, seen_before, seen_after}
 use Rattle.bin_list.specs.Rules.{GivenModel, packet_questions, fault, asked}
 use Rattle.bin_list.specs.Fine.{IsBounded}
 use Rattle.bin_list.specs.States.{states_of}
 use Rattle.bin_list.specs.Collected.{all_states}
 use Rattle.bin_list.specs.Emitted.{packet_text, texts}
 use Rattle.bin_list.specs.Info.{MeetsState}
-use Rattle.bin_list.specs.Writing.{written}
-use Rattle.bin_list.proofs.Writing.{written_append, written_nothing, length_written}
+use Rattle.packets.specs.Writing.{written}
+use Rattle.packets.proofs.Writing.{written_append, written_nothing, length_written}
 
 -- A packet takes a byte at least.
 one_or : (b : Bool) (n : ℕ) → (n == 0) ≡ b → 1 ≤ (if b then 1 else n)
@@ -237,8 +237,8 @@ goes_on given layout list window rest seen end out done current under some room 
       begun = λ now.
           let grown : seen2.states ≡ (seen_after seen packet).states = ap (λ s. s.states) seen2_is in
           elim (begun now) [
-            inl before ↦ let kept = keeps_states seen packet in let one = under.begun before in omega (arith, grown, kept, one)
-          | inr here ↦ let one = adds_state seen packet here in omega (arith, grown, one)
+            | inl before ↦ let kept = keeps_states seen packet in let one = under.begun before in omega (arith, grown, kept, one)
+            | inr here ↦ let one = adds_state seen packet here in omega (arith, grown, one)
           ];
     }
 

@@ -1,5 +1,5 @@
 -- The states of a list while it is read: those that are done, the one in view, and those of the packets to come.
-use Rattle.std.specs.Prelude.{ℕ, max, List, [], ◌∷◌, ◌++◌, Option, Some, None}
+use Rattle.std.specs.Prelude.{ℕ, max, List, ◌∷◌, ◌++◌, Option, Some, None}
 use Rattle.bin_list.specs.declared.state.State.{State}
 use Rattle.bin_list.specs.States.{state, greatest, states_of}
 

@@ -6,4 +6,3 @@ pub mod Packets
 pub mod Rules
 pub mod Seen
 pub mod States
-pub mod Writing

@@ -1,6 +1,6 @@
 -- The rules of a binner list. Each is a question at a packet, or at the list's end; the order of the questions is that
 -- of refusal, by place and then by number.
-use Rattle.std.specs.Prelude.{ℕ, ◌+◌, ◌*◌, ◌/◌, ◌%◌, ◌^◌, Bool, not, ◌||◌, ◌&&◌, nat_lt, nat_le, ◌==◌, List, [], ◌∷◌, ◌++◌, length, slice_index, is_some, bit_and, if◌then◌else◌}
+use Rattle.std.specs.Prelude.{ℕ, ◌+◌, ◌*◌, ◌/◌, ◌^◌, not, ◌||◌, ◌&&◌, nat_lt, nat_le, ◌==◌, List, [], ◌∷◌, ◌++◌, length, slice_index, is_some, bit_and, if◌then◌else◌}
 use Rattle.field_words.specs.Words.{u32_at}
 use Rattle.field_words.specs.Questions.{Question, Ask, answered}
 use Rattle.buffer_table.specs.declared.buffer.Buffer.{Buffer}

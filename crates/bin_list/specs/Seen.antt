@@ -1,6 +1,6 @@
 -- What stands before a packet. The packets before it come as a list, the nearest first, so that "the last packet of a
 -- kind before this one" is the first of that list.
-use Rattle.std.specs.Prelude.{◌≡◌, ℕ, ◌+◌, ◌*◌, ◌/◌, ◌%◌, Bool, true, false, ◌==◌, List, [], ◌∷◌, length, slice_index, Option, Some, None, if◌then◌else◌}
+use Rattle.std.specs.Prelude.{ℕ, ◌+◌, ◌*◌, ◌/◌, ◌%◌, Bool, true, false, ◌==◌, List, [], ◌∷◌, length, slice_index, Option, Some, None, if◌then◌else◌}
 use Rattle.field_words.specs.Words.{u32_at, rounded_up}
 use Rattle.packets.specs.Opcode.{start_tile_binning, gl_shader_state, tile_binning_mode, buffer_handles}
 use Rattle.bin_list.specs.declared.seen.Seen.{Seen}

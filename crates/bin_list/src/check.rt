@@ -10,7 +10,7 @@ ghost use Rattle.bin_list.specs.Rules.{asked, fault, end_questions, given_of, bi
 ghost use Rattle.bin_list.specs.Fine.{IsLow};
 ghost use Rattle.bin_list.specs.Emitted.{texts, bin_text};
 ghost use Rattle.bin_list.specs.Info.{IsInfo, IsInfoOf, IsRead, MeetsState};
-ghost use Rattle.bin_list.specs.Writing.{written};
+ghost use Rattle.packets.specs.Writing.{written};
 
 use crate::cut::split_front;
 use crate::emit::put_packet;
@@ -56,7 +56,10 @@ fn read_packets(
     while !rest.is_empty() {
         let (packet, behind) = split_front(rest);
         if let Some(number) = packet_fault(given, &seen, packet) {
-            return Err(Stop::Fault(ListFault { number, at: seen.at }));
+            return Err(Stop::Fault(ListFault {
+                number,
+                at: seen.at,
+            }));
         }
         end = put_packet(given, layout, &seen, packet, out, end);
         states.pass(packet)?;

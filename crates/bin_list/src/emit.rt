@@ -6,21 +6,19 @@ ghost use Rattle.tile_memory.specs.Slots.{alloc_offset};
 ghost use Rattle.bin_list.specs.Rules.{index_buffer};
 ghost use Rattle.bin_list.specs.Fine.{IsFine, IsLow};
 ghost use Rattle.bin_list.specs.Emitted.{index_text, state_text, config_text, packet_text};
-ghost use Rattle.bin_list.specs.Writing.{written};
+ghost use Rattle.packets.specs.Writing.{written};
 
 use crate::cut::{byte_at, opcode, word_at};
 use crate::given::Given;
 use crate::rules::index_buffer;
 use crate::seen::Seen;
 use field_words::put_u32;
-use packets::opcode::{
-    BUFFER_HANDLES, GL_SHADER_STATE, INDEXED_PRIMITIVE_LIST, TILE_BINNING_MODE,
-};
+use packets::opcode::{BUFFER_HANDLES, GL_SHADER_STATE, INDEXED_PRIMITIVE_LIST, TILE_BINNING_MODE};
 use relocation::Layout;
 use tile_memory::{SLOT_SIZE, alloc_offset};
 
 /// Puts bytes at a place of the window, and gives the place behind them.
-#[tactic(auto, unfolding(crate::specs::Writing::written))]
+#[tactic(auto, unfolding(packets::specs::Writing::written))]
 fn put(out: &mut [u8], at: usize, bytes: &[u8]) -> usize
     requires room { at + length bytes.now ≤ length out.old }
     ensures text { out.new ≡ written out.old at bytes.now }
@@ -33,13 +31,7 @@ fn put(out: &mut [u8], at: usize, bytes: &[u8]) -> usize
 
 /// An indexed primitive, with the address of its indexes in memory.
 #[tactic(auto, unfolding(crate::specs::Emitted::index_text), using(crate::proofs::Inside::written_inside))]
-fn put_indexed(
-    given: &Given,
-    seen: &Seen,
-    packet: &[u8],
-    out: &mut [u8],
-    at: usize,
-) -> usize
+fn put_indexed(given: &Given, seen: &Seen, packet: &[u8], out: &mut [u8], at: usize) -> usize
     requires whole { 14 ≤ length packet.now }
     requires buffer { IsData given.now.table given.now.handles seen.now.index_handle }
     requires indexes { u32_at packet.now 6 ≤ (index_buffer given.now seen.now).size }
@@ -94,13 +86,28 @@ fn put_config(layout: &Layout, packet: &[u8], out: &mut [u8], at: usize) -> usiz
         out,
         at,
         &[
-            TILE_BINNING_MODE, a0, a1, a2, a3, n0, n1, n2, n3, s0, s1, s2, s3, across, down, flags,
+            TILE_BINNING_MODE,
+            a0,
+            a1,
+            a2,
+            a3,
+            n0,
+            n1,
+            n2,
+            n3,
+            s0,
+            s1,
+            s2,
+            s3,
+            across,
+            down,
+            flags,
         ],
     )
 }
 
 /// Writes what a packet is emitted as, and gives the place behind it.
-#[tactic(auto, unfolding(crate::specs::Emitted::packet_text, packets::specs::Length::bin_length), using(crate::proofs::Writing::written_nothing))]
+#[tactic(auto, unfolding(crate::specs::Emitted::packet_text, packets::specs::Length::bin_length), using(packets::proofs::Writing::written_nothing))]
 pub(crate) fn put_packet(
     given: &Given,
     layout: &Layout,

@@ -1,5 +1,6 @@
 pub mod Word
 pub mod Inst
 pub mod Fields
+pub mod Shader
 pub mod Terms
 pub mod Told

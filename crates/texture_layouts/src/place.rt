@@ -44,7 +44,7 @@ fn microtile_number(tiling: Tiling, across: u64, mx: u64, my: u64) -> u64
 /// counted from the surface's first byte. The tiling isn't raster.
 ///
 /// In T the microtiles of a tile of 4,096 bytes stand together, 8 rows of 8, and the tiles by rows;
-/// in Lt all stand by rows. (T's tiles don't go back and forth here as the hardware's do.)
+/// in Lt all stand by rows. The order is this project's own, and says nothing of the hardware's.
 #[tactic(auto, unfolding(crate::specs::Place::microtile_place_of))]
 pub fn microtile_place(tiling: Tiling, width: u32, cpp: u32, mx: u32, my: u32) -> u64
     requires width_limit { width ≤ 65535 }

@@ -4,6 +4,7 @@
 //! the next multiple of 4,096 on: first a block of 32 bytes for each tile, and then the blocks that the binner takes
 //! as its lists grow.
 #![tactic(auto)]
+
 ghost use Rattle.std.specs.Prelude.{◌≡◌, ◌≤◌, ◌<◌, ◌+◌, ◌*◌, ◌^◌, ◌↔◌, IsTrue};
 ghost use Rattle.field_words.specs.Words.{IsRoundedUp};
 ghost use Rattle.tile_memory.specs.Slots.{slot_place, alloc_offset, slot_fits};

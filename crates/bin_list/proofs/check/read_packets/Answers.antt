@@ -1,7 +1,6 @@
-use Rattle.std.proofs.Common.{◌≡◌, ◌≤◌, ◌+◌, ◌<◌, ℕ, List, length, Err, true, arith, ap, sym, ◌∙◌, refl, subst, None}
+use Rattle.std.proofs.Common.{◌<◌, length, arith, ap, sym, ◌∙◌, refl}
 use Rattle.field_words.specs.Questions.{first_of}
 use Rattle.bin_list.specs.Rules.{packet_questions}
-use Rattle.bin_list.specs.Packets.{front_packet, behind}
 use Rattle.bin_list.proofs.Walk.{begins, stops_at, goes_on, meets, through, front_some, front_behind, some_left, none_left}
 use Rattle.bin_list.proofs.check.read_packets.Goals as goal
 

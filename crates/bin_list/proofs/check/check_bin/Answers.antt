@@ -1,0 +1,41 @@
+use Rattle.std.proofs.Common.{[], Ok, Err, Result, OnOk, refl}
+use Rattle.field_words.specs.Questions.{answered}
+use Rattle.field_words.specs.declared.stop.Stop.{Stop}
+use Rattle.field_words.proofs.Questions.{answers_later, refuses_front}
+use Rattle.packets.specs.Writing.{written}
+use Rattle.bin_list.specs.declared.fault.ListFault.{ListFault}
+use Rattle.bin_list.specs.declared.info.BinInfo.{BinInfo}
+use Rattle.bin_list.specs.Packets.{passed}
+use Rattle.bin_list.specs.Seen.{seen_before}
+use Rattle.bin_list.specs.Rules.{fault, asked, end_questions, questions_of, given_of}
+use Rattle.bin_list.specs.Info.{IsInfo}
+use Rattle.bin_list.proofs.check.check_bin.Goals as goal
+
+on_ok : (P : Type 0) (result : Result BinInfo (Stop ListFault)) → P → OnOk result P
+on_ok P (Ok info) holds = holds
+on_ok P (Err stop) holds = tt
+
+pub returns-in-Ok-clause-answers : goal.returns-in-Ok-clause-answers
+unfolding questions_of
+returns-in-Ok-clause-answers c =
+    let list = c.args.list.now in
+    let given = given_of list c.args.declared c.args.table.now c.args.handles.now in
+    let P : BinInfo → Type 0 = λ info. IsInfo list c.args.declared c.args.table.now c.args.handles.now c.args.layout.now info in
+    answers_later (asked given (passed list)) (answered (fault given.size) (end_questions (seen_before (passed list)))) P c.finish.result
+    c.in-Ok.ensures.answers.0 c.finish.ensures.answers
+
+pub returns-in-Ok-clause-put : goal.returns-in-Ok-clause-put
+unfolding written
+returns-in-Ok-clause-put c = on_ok _ c.finish.result c.in-Ok.ensures.put
+
+pub returns-in-Ok-clause-memory : goal.returns-in-Ok-clause-memory
+unfolding seen_before
+returns-in-Ok-clause-memory c = λ error.
+    record { earlier = passed c.args.list.now; later = []; whole = refl; fine = c.in-Ok.ensures.answers.0; some = c.finish.ensures.memory error }
+
+pub returns-in-Err-clause-answers : goal.returns-in-Err-clause-answers
+unfolding questions_of
+returns-in-Err-clause-answers c =
+    let list = c.args.list.now in
+    let given = given_of list c.args.declared c.args.table.now c.args.handles.now in
+    refuses_front (asked given (passed list)) (answered (fault given.size) (end_questions (seen_before (passed list)))) c.in-Err.stop c.in-Err.ensures.answers
