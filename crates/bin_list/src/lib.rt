@@ -17,6 +17,8 @@ mod rules;
 mod seen;
 mod state;
 mod states;
+#[cfg(test)]
+mod tests;
 
 pub use check::check_bin;
 pub use fault::ListFault;

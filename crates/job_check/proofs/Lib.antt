@@ -1,3 +1,4 @@
+pub mod Codes
 pub mod Emission
 pub mod Jobs
 pub mod Layouts

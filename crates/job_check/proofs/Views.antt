@@ -11,6 +11,7 @@ use Rattle.render_list.specs.Length.{render_length}
 use Rattle.render_list.specs.Text.{render_text}
 use Rattle.render_list.proofs.Length.{length_render}
 use Rattle.job_check.specs.Jobs.{job_of, slot_of, places_in, render_list_of, layout_of}
+use Rattle.qpu_isa.specs.Shader.{ShaderModel}
 use Rattle.job_check.specs.Context.{InView, IsContext}
 use Rattle.job_check.specs.Emit.{PartsFit, list_parts, moved, memory_parts, lengths_of}
 use Rattle.phys_mem.specs.Window.{window_of, with_window}
@@ -18,9 +19,9 @@ use Rattle.job_check.proofs.Layouts.{room_is, layout_numbers, lists_inside}
 use Rattle.job_check.proofs.Windows.{window_placed}
 
 -- the renderer list's room in the layout
-pub render_ends : (v : InView) (job : JobModel) (table : TableModel) (handles : List ℕ) (layout : Layout) → IsContext v job table handles layout → IsTileSet (job_of v.file v.number).frame
+pub render_ends : (v : InView) (job : JobModel) (table : TableModel) (shaders : List (Option ShaderModel)) (handles : List ℕ) (layout : Layout) → IsContext v job table shaders handles layout → IsTileSet (job_of v.file v.number).frame
     → (layout.render + render_length job.frame false ≡ layout.end) × (layout.end ≡ (layout_of v.file v.number).end)
-render_ends v job table handles layout h tiles =
+render_ends v job table shaders handles layout h tiles =
     let numbers = layout_numbers v.file v.number layout h.layout_is in
     let frame = ap (λ x. render_length x.frame false) h.job_is in
     (ap (λ n. layout.render + n) (frame ∙ sym (room_is (job_of v.file v.number).frame false tiles)) ∙ numbers.2, ap (λ l. l.end) h.layout_is)
@@ -34,9 +35,9 @@ text_is f j frame places slot a b c =
     ∙ ap (λ x. render_text (job_of f j).frame x None slot) b
     ∙ ap (λ x. render_text (job_of f j).frame (places_in f j) None x) c
 
-pub list_is : (v : InView) (job : JobModel) (table : TableModel) (handles : List ℕ) (layout : Layout) (places : List (Option ℕ)) → IsContext v job table handles layout
+pub list_is : (v : InView) (job : JobModel) (table : TableModel) (shaders : List (Option ShaderModel)) (handles : List ℕ) (layout : Layout) (places : List (Option ℕ)) → IsContext v job table shaders handles layout
     → places ≡ places_in v.file v.number → render_text job.frame places None layout.slot ≡ render_list_of v.file v.number
-list_is v job table handles layout places h same =
+list_is v job table shaders handles layout places h same =
     let numbers = layout_numbers v.file v.number layout h.layout_is in
     text_is v.file v.number job.frame places layout.slot (ap (λ x. x.frame) h.job_is) same numbers.1
 
@@ -68,9 +69,9 @@ unfolding lengths_of
 lengths_are f j n same = ap only_render same
 
 -- a window of the lists' region lies inside the memory
-pub window_fits : (v : InView) (job : JobModel) (table : TableModel) (handles : List ℕ) (layout : Layout) → IsContext v job table handles layout
+pub window_fits : (v : InView) (job : JobModel) (table : TableModel) (shaders : List (Option ShaderModel)) (handles : List ℕ) (layout : Layout) → IsContext v job table shaders handles layout
     → (layout_of v.file v.number).end ≤ v.file.regions.lists_size → layout.place + layout.end ≤ v.file.mem_size
-window_fits v job table handles layout h fits =
+window_fits v job table shaders handles layout h fits =
     let numbers = layout_numbers v.file v.number layout h.layout_is in
     omega (arith, numbers.0, ap (λ l. l.end) h.layout_is, fits, lists_inside v.file h.sound)
 

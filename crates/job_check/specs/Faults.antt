@@ -1,18 +1,22 @@
--- All rules that can refuse a file that was read, in the order of refusal: the memory table, and
--- then job by job its handles, its frame and surfaces, and its layout.
+-- All rules that can refuse a file that was read, in the order of refusal: the memory table, the shaders by buffer,
+-- and then job by job its handles, its frame and surfaces, and its layout.
 use Rattle.std.specs.Prelude.{ℕ, ◌+◌, ◌*◌, nat_lt, List, [], ◌∷◌, ◌++◌, length, None}
 use Rattle.field_words.specs.Questions.{Question, Ask, each, answered}
 use Rattle.buffer_table.specs.declared.buffer.TableFault.{TableFault}
-use Rattle.buffer_table.specs.Table.{table_questions}
+use Rattle.buffer_table.specs.declared.buffer.Kind.{Kind}
+use Rattle.buffer_table.specs.declared.buffer.Kind.TheVariants.{Plain, Code}
+use Rattle.buffer_table.specs.Table.{table_questions, buffer_at}
 use Rattle.buffer_table.specs.Handles.{handles_questions}
 use Rattle.job_format.specs.declared.rule.Stage.{Stage}
-use Rattle.job_format.specs.declared.rule.Stage.TheVariants.{M, H, G, X}
+use Rattle.job_format.specs.declared.rule.Stage.TheVariants.{M, S, H, G, X}
 use Rattle.job_format.specs.declared.rule.Refusal.{Refusal}
 use Rattle.job_format.specs.Model.{FileModel}
 use Rattle.render_list.specs.declared.fault.RenderFault.{RenderFault}
 use Rattle.render_list.specs.Surfaces.{surface_faults}
 use Rattle.job_check.specs.Jobs.{table_of, job_of, layout_of}
-use Rattle.job_check.specs.Offsets.{item_offset, job_offset, handles_offset, surface_offset, layout_offset}
+use Rattle.shader_check.specs.declared.fault.ShaderFault.{ShaderFault}
+use Rattle.job_check.specs.Shaders.{content_of, code_questions}
+use Rattle.job_check.specs.Offsets.{item_offset, shader_offset, job_offset, handles_offset, surface_offset, layout_offset}
 
 -- a refusal by a rule, at a place in the file
 abbrev pub refused : Stage → ℕ → ℕ → Refusal
@@ -24,6 +28,20 @@ table_refused fault = refused M fault.number (item_offset fault.item)
 
 unfoldable pub table_stage : FileModel → List (Question Refusal)
 table_stage f = answered table_refused (table_questions f.mem_size f.regions f.buffers)
+
+-- S: the shader in buffer b, and all shaders by buffer
+abbrev pub shader_refused : FileModel → ℕ → ShaderFault → Refusal
+shader_refused f b fault = refused S fault.number (shader_offset f b fault)
+
+abbrev pub shader_questions_in : Kind → List ℕ → List (Question ShaderFault)
+shader_questions_in Plain content = []
+shader_questions_in Code content = code_questions content
+
+unfoldable pub shader_stage : FileModel → ℕ → List (Question Refusal)
+shader_stage f b = answered (shader_refused f b) (shader_questions_in (buffer_at f.buffers b).kind (content_of f b))
+
+unfoldable pub shaders_stage : FileModel → List (Question Refusal)
+shaders_stage f = each (shader_stage f) 0 (length f.buffers)
 
 -- H: the handles of job j
 abbrev pub handle_refused : FileModel → ℕ → ℕ → Refusal
@@ -48,4 +66,4 @@ unfoldable pub job_stages : FileModel → ℕ → List (Question Refusal)
 job_stages f j = handles_stage f j ++ (surfaces_stage f j ++ layout_stage f j)
 
 unfoldable pub file_stages : FileModel → List (Question Refusal)
-file_stages f = table_stage f ++ each (job_stages f) 0 (length f.jobs)
+file_stages f = table_stage f ++ (shaders_stage f ++ each (job_stages f) 0 (length f.jobs))

@@ -3,3 +3,4 @@ pub mod Emit
 pub mod Faults
 pub mod Jobs
 pub mod Offsets
+pub mod Shaders

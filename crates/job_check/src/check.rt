@@ -1,21 +1,24 @@
 //! The whole check of a job file.
 ghost use Rattle.std.specs.Prelude.{◌≡◌, ◌<◌, ◌≤◌, ◌+◌, ◌++◌, length, IfOk};
-ghost use Rattle.field_words.specs.Questions.{Answers};
+ghost use Rattle.field_words.specs.Questions.{Answers, each};
 ghost use Rattle.field_words.specs.Writes.{placed, zeros};
 ghost use Rattle.job_format.specs.File.{IsWellFormed};
 ghost use Rattle.job_format.specs.Model.{file_view};
 ghost use Rattle.buffer_table.specs.Sound.{IsSound};
+ghost use Rattle.job_check.specs.Shaders.{shaders_of, shaders_view};
 ghost use Rattle.job_check.specs.Jobs.{table_of, layout_of};
-ghost use Rattle.job_check.specs.Faults.{surfaces_stage, layout_stage, job_stages, file_stages};
+ghost use Rattle.job_check.specs.Faults.{shaders_stage, surfaces_stage, layout_stage, job_stages, file_stages};
 ghost use Rattle.job_check.specs.Emit.{content_parts, memory_parts, IsPlacedFor, IsEmitted, IsPlaced};
 
 use super::context::Context;
 use super::emit::put_contents;
+use super::shaders::shaders_stage;
 use super::stages::table_stage;
 use buffer_table::Table;
 use field_words::{NoMemory, Stop};
 use job_format::{JobFile, Refusal};
 use phys_mem::PhysMem;
+use qpu_isa::ShaderInfo;
 use relocation::{Layout, Lengths};
 use std::alloc::Global;
 
@@ -83,11 +86,13 @@ fn check_one(
     file: &JobFile,
     number: usize,
     table: &Table,
+    shaders: &Vec<Option<ShaderInfo>>,
     memory: &mut PhysMem,
 ) -> Result<Lists, Stop<Refusal>>
     requires well_formed { IsWellFormed (file_view file.now) }
     requires inside { number < length file.now.jobs.items }
     requires table_is { table.now ≡ table_of (file_view file.now) }
+    requires shaders_are { shaders_view shaders.now.items ≡ shaders_of (file_view file.now) }
     requires sound { IsSound file.now.mem_size file.now.regions file.now.buffers.items }
     requires size { length memory.old ≡ file.now.mem_size }
     ensures answers { Answers (job_stages (file_view file.now) number) (λ lists. IsPlacedFor (file_view file.now) number lists.layout lists.lengths) result }
@@ -95,22 +100,28 @@ fn check_one(
     ensures fits { IfOk result (λ lists. lists.layout.end ≤ file.now.regions.lists_size) }
     ensures long { IfOk result (λ _. length memory.new ≡ length memory.old) }
 {
-    match Context::open(alloc, file, number, table) {
+    match Context::open(alloc, file, number, table, shaders) {
         Ok(job) => place_lists(alloc, &job, memory),
         Err(stop) => Err(stop),
     }
 }
 
 /// The rules of the jobs, and the memory with their lists.
-fn check_jobs(alloc: Global, file: &JobFile, table: &Table) -> Result<Checked, Stop<Refusal>>
+fn check_jobs(
+    alloc: Global,
+    file: &JobFile,
+    table: &Table,
+    shaders: &Vec<Option<ShaderInfo>>,
+) -> Result<Checked, Stop<Refusal>>
     requires well_formed { IsWellFormed (file_view file.now) }
     requires table_is { table.now ≡ table_of (file_view file.now) }
+    requires shaders_are { shaders_view shaders.now.items ≡ shaders_of (file_view file.now) }
     requires sound { IsSound file.now.mem_size file.now.regions file.now.buffers.items }
-    ensures answers { Answers (job_stages (file_view file.now) 0) (λ checked. IsEmitted (file_view file.now) checked.memory checked.layout checked.lengths) result }
+    ensures answers { Answers (each (job_stages (file_view file.now)) 0 (length file.now.jobs.items)) (λ checked. IsEmitted (file_view file.now) checked.memory checked.layout checked.lengths) result }
     ensures placed { IfOk result (λ checked. IsPlaced checked.memory checked.layout) }
 {
     let mut memory = fresh_memory(alloc, file)?;
-    match check_one(alloc, file, 0, table, &mut memory) {
+    match check_one(alloc, file, 0, table, shaders, &mut memory) {
         Ok(Lists { layout, lengths }) => Ok(Checked {
             memory,
             layout,
@@ -120,8 +131,22 @@ fn check_jobs(alloc: Global, file: &JobFile, table: &Table) -> Result<Checked, S
     }
 }
 
-/// Checks a file that was read. `Ok` comes exactly where no rule of the memory table, of the job's handles, of its frame and
-/// surfaces and of its layout stands; else the refusal is the first that does, with its place in the file.
+/// S, and then the jobs.
+fn check_shaders(alloc: Global, file: &JobFile, table: &Table) -> Result<Checked, Stop<Refusal>>
+    requires well_formed { IsWellFormed (file_view file.now) }
+    requires table_is { table.now ≡ table_of (file_view file.now) }
+    requires sound { IsSound file.now.mem_size file.now.regions file.now.buffers.items }
+    ensures answers { Answers (shaders_stage (file_view file.now) ++ each (job_stages (file_view file.now)) 0 (length file.now.jobs.items)) (λ checked. IsEmitted (file_view file.now) checked.memory checked.layout checked.lengths) result }
+    ensures placed { IfOk result (λ checked. IsPlaced checked.memory checked.layout) }
+{
+    match shaders_stage(alloc, file) {
+        Ok(shaders) => check_jobs(alloc, file, table, &shaders),
+        Err(stop) => Err(stop),
+    }
+}
+
+/// Checks a file that was read. `Ok` comes exactly where no rule stands of the memory table, of the shaders, of the job's
+/// handles, of its frame and surfaces and of its layout; else the refusal is the first that does, with its place in the file.
 #[tactic(auto, unfolding(crate::specs::Faults::file_stages))]
 pub fn check_job(alloc: Global, file: &JobFile) -> Result<Checked, Stop<Refusal>>
     requires { IsWellFormed (file_view file.now) }
@@ -129,7 +154,7 @@ pub fn check_job(alloc: Global, file: &JobFile) -> Result<Checked, Stop<Refusal>
     ensures placed { IfOk result (λ checked. IsPlaced checked.memory checked.layout) }
 {
     match table_stage(alloc, file) {
-        Ok(table) => check_jobs(alloc, file, &table),
+        Ok(table) => check_shaders(alloc, file, &table),
         Err(stop) => Err(stop),
     }
 }

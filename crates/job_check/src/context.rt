@@ -8,6 +8,7 @@ ghost use Rattle.buffer_table.specs.Sound.{IsSound};
 ghost use Rattle.render_list.specs.Frame.{IsSetupFor};
 ghost use Rattle.job_format.specs.declared.rule.Stage.TheVariants.{X as StageX};
 ghost use Rattle.field_words.specs.Writes.{placed};
+ghost use Rattle.job_check.specs.Shaders.{shaders_of, shaders_view};
 ghost use Rattle.job_check.specs.Jobs.{table_of, job_of, places_in, layout_of};
 ghost use Rattle.job_check.specs.Faults.{refused, handles_stage, surfaces_stage};
 ghost use Rattle.job_check.specs.Offsets.{job_offset, layout_offset};
@@ -18,19 +19,21 @@ use super::refusals::{handle_refusal, layout_refusal, surface_refusal};
 use buffer_table::{Handles, Table};
 use field_words::Stop;
 use job_format::{Job, JobFile, Refusal};
+use qpu_isa::ShaderInfo;
 use relocation::{Layout, Lengths};
 use render_list::{Setup, build, check_surfaces};
 use std::alloc::Global;
 use std::marker::Model;
 
-/// A job in view, with what all its stages ask: the file and its memory table, of which no rule stands, the job's
-/// number, its handles, of which none is refused, and where its lists go. A further stage is a further method.
+/// A job in view, with what all its stages ask: the file with its memory table and its shaders, of which no rule stands,
+/// the job's number, its handles, of which none is refused, and where its lists go. A further stage is a further method.
 #[derive(Drop)]
 pub struct Context<'a> {
     pub file: &'a JobFile,
     pub number: usize,
     pub job: &'a Job,
     pub table: &'a Table,
+    pub shaders: &'a Vec<Option<ShaderInfo>>,
     pub handles: Handles,
     pub layout: Layout,
 }
@@ -41,10 +44,11 @@ impl<'a> Model for Context<'a> {
     ghost Value = { InView };
 
     ghost use Rattle.job_format.specs.Model.{file_view, job_view};
+    ghost use Rattle.job_check.specs.Shaders.{shaders_view};
 
     ghost view = { λ c. record { file = file_view c.file.now; number = c.number } };
 
-    ghost invariant = { λ c. IsContext (record { file = file_view c.file.now; number = c.number }) (job_view c.job.now) c.table.now c.handles c.layout };
+    ghost invariant = { λ c. IsContext (record { file = file_view c.file.now; number = c.number }) (job_view c.job.now) c.table.now (shaders_view c.shaders.now.items) c.handles c.layout };
 }
 
 /// The job of this number.
@@ -65,10 +69,12 @@ impl<'a> Context<'a> {
         file: &'a JobFile,
         number: usize,
         table: &'a Table,
+        shaders: &'a Vec<Option<ShaderInfo>>,
     ) -> Result<Context<'a>, Stop<Refusal>>
         requires well_formed { IsWellFormed (file_view file.now) }
         requires inside { number < length file.now.jobs.items }
         requires table_is { table.now ≡ table_of (file_view file.now) }
+        requires shaders_are { shaders_view shaders.now.items ≡ shaders_of (file_view file.now) }
         requires sound { IsSound file.now.mem_size file.now.regions file.now.buffers.items }
         ensures { Answers (handles_stage (file_view file.now) number) (λ c. c ≡ record { file = file_view file.now; number = number }) result }
     {
@@ -79,6 +85,7 @@ impl<'a> Context<'a> {
                 number,
                 job,
                 table,
+                shaders,
                 handles,
                 layout: job_layout(file, number, job),
             }),

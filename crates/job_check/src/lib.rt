@@ -9,6 +9,7 @@ mod context;
 mod emit;
 mod layout;
 mod refusals;
+mod shaders;
 mod stages;
 
 pub use check::{Checked, check_job};

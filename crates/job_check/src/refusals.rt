@@ -1,22 +1,17 @@
 //! Refusals: a rule, and the place in the file that it is about.
 ghost use Rattle.std.specs.Prelude.{◌≡◌, ◌≤◌, ◌<◌, ◌+◌, ◌*◌, ◌^◌, length, map, sum, sum_by, take};
-ghost use Rattle.job_format.specs.declared.rule.Stage.TheVariants.{M as StageM, H as StageH, G as StageG, X as StageX};
+ghost use Rattle.job_format.specs.declared.rule.Stage.TheVariants.{M as StageM, S as StageS, H as StageH, G as StageG, X as StageX};
 ghost use Rattle.std.specs.List.{AllByRecursion};
 ghost use Rattle.job_format.specs.File.{IsWellFormed, IsJobWellFormed};
 ghost use Rattle.job_format.specs.Model.{file_view, job_view};
-ghost use Rattle.job_check.specs.Faults.{refused, table_refused, handle_refused, surface_refused};
-ghost use Rattle.job_check.specs.Offsets.{item_offset, job_offset, handles_offset, surface_offset, layout_offset, parts_size};
+ghost use Rattle.job_format.specs.Offsets.{entry_offset};
+ghost use Rattle.job_check.specs.Faults.{refused, table_refused, shader_refused, handle_refused, surface_refused};
+ghost use Rattle.job_check.specs.Offsets.{item_offset, job_offset, content_offset, shader_offset, handles_offset, surface_offset, layout_offset, parts_size};
 
 use buffer_table::{Buffer, TableFault};
-use job_format::{Job, JobFile, Refusal, Rule, Stage};
+use job_format::{ENTRY_SIZE, HEADER_SIZE, JOB_SIZE, Job, JobFile, Refusal, Rule, Stage};
 use render_list::RenderFault;
-
-/// The bytes of the header, of a buffer's entry and of a job's entry.
-const HEADER: u64 = 36;
-
-const BUFFER_ENTRY: u64 = 20;
-
-const JOB_ENTRY: u64 = 124;
+use shader_check::ShaderFault;
 
 fn refusal(stage: Stage, number: u8, offset: u64) -> Refusal
     ensures { result ≡ refused stage number offset }
@@ -25,6 +20,15 @@ fn refusal(stage: Stage, number: u8, offset: u64) -> Refusal
         rule: Rule { stage, number },
         offset,
     }
+}
+
+/// Where the entry of buffer `b` stands, or where the entries end.
+fn buffer_offset(b: usize) -> u64
+    requires { b < 2 ^ 32 }
+    ensures value { result ≡ entry_offset b }
+    ensures fits { result < 2 ^ 37 }
+{
+    HEADER_SIZE as u64 + ENTRY_SIZE as u64 * b as u64
 }
 
 /// Where an item of the memory table stands in the file.
@@ -36,7 +40,7 @@ fn item_offset(item: u32) -> u64
         0 => 8,
         1 => 12,
         2 => 20,
-        _ => HEADER + BUFFER_ENTRY * (u64::from(item) - 3),
+        _ => buffer_offset(item as usize - 3),
     }
 }
 
@@ -49,26 +53,55 @@ pub fn table_refusal(fault: &TableFault) -> Refusal
 
 /// Where the entry of the job of this number stands, or where the entries end.
 #[tactic(auto, unfolding(crate::specs::Offsets::job_offset))]
-fn entry_offset(file: &JobFile, number: usize) -> u64
+fn job_offset(file: &JobFile, number: usize) -> u64
     requires well_formed { IsWellFormed (file_view file.now) }
     requires inside { number ≤ length file.now.jobs.items }
     ensures value { result ≡ job_offset (file_view file.now) number }
     ensures fits { result < 2 ^ 32 }
 {
-    HEADER + BUFFER_ENTRY * file.buffers.len() as u64 + JOB_ENTRY * number as u64
+    buffer_offset(file.buffers.len()) + JOB_SIZE as u64 * number as u64
 }
 
-/// How many bytes of contents these buffers have.
-fn content_size(buffers: &[Buffer]) -> u64
-    requires { length buffers.now ≤ 64 }
-    ensures value { result ≡ sum (map (λ b. b.content) buffers.now) }
+/// How many bytes of contents the buffers before this one have.
+fn content_before(buffers: &[Buffer], b: usize) -> u64
+    requires inside { b ≤ length buffers.now }
+    requires few { length buffers.now ≤ 64 }
+    ensures value { result ≡ sum (map (λ x. x.content) (take b buffers.now)) }
     ensures fits { result < 2 ^ 40 }
 {
     let mut size = 0;
-    for buffer in buffers {
+    for buffer in &buffers[..b] {
         size += u64::from(buffer.content);
     }
     size
+}
+
+/// Where the contents of buffer `b` stand, or where the contents end.
+#[tactic(auto, unfolding(crate::specs::Offsets::content_offset))]
+fn content_offset(file: &JobFile, b: usize) -> u64
+    requires well_formed { IsWellFormed (file_view file.now) }
+    requires inside { b ≤ length file.now.buffers.items }
+    ensures value { result ≡ content_offset (file_view file.now) b }
+    ensures fits { result < 2 ^ 41 }
+{
+    job_offset(file, file.jobs.len()) + content_before(&file.buffers, b)
+}
+
+/// A rule on the shader in buffer `b` that fails.
+#[tactic(auto, unfolding(crate::specs::Offsets::shader_offset))]
+pub fn shader_refusal(file: &JobFile, b: usize, fault: &ShaderFault) -> Refusal
+    requires well_formed { IsWellFormed (file_view file.now) }
+    requires inside { b < length file.now.buffers.items }
+    ensures { result ≡ shader_refused (file_view file.now) b fault.now }
+{
+    if fault.number == 1 {
+        return refusal(Stage::S, fault.number, buffer_offset(b) + 16);
+    }
+    refusal(
+        Stage::S,
+        fault.number,
+        content_offset(file, b) + 8 * u64::from(fault.index),
+    )
 }
 
 /// How many bytes of parts a job has.
@@ -102,11 +135,9 @@ fn handles_offset(file: &JobFile, number: usize) -> u64
     requires well_formed { IsWellFormed (file_view file.now) }
     requires inside { number < length file.now.jobs.items }
     ensures value { result ≡ handles_offset (file_view file.now) number }
-    ensures fits { result < 2 ^ 41 }
+    ensures fits { result < 2 ^ 42 }
 {
-    entry_offset(file, file.jobs.len())
-        + content_size(&file.buffers)
-        + parts_before(&file.jobs, number)
+    content_offset(file, file.buffers.len()) + parts_before(&file.jobs, number)
 }
 
 /// The handle at which H1 stands.
@@ -140,7 +171,7 @@ pub fn surface_refusal(file: &JobFile, number: usize, fault: &RenderFault) -> Re
     requires inside { number < length file.now.jobs.items }
     ensures { result ≡ surface_refused (file_view file.now) number fault.now }
 {
-    let entry = entry_offset(file, number);
+    let entry = job_offset(file, number);
     refusal(Stage::G, fault.number, surface_offset(entry, fault.item))
 }
 
@@ -151,5 +182,5 @@ pub fn layout_refusal(file: &JobFile, number: usize) -> Refusal
     requires inside { number < length file.now.jobs.items }
     ensures { result ≡ refused StageX 1 (layout_offset (job_offset (file_view file.now) number)) }
 {
-    refusal(Stage::X, 1, entry_offset(file, number) + 12)
+    refusal(Stage::X, 1, job_offset(file, number) + 12)
 }

@@ -3,6 +3,7 @@ use Rattle.field_words.specs.Writes.{placed}
 use Rattle.field_words.proofs.Questions.{refuses_front, passes}
 use Rattle.phys_mem.specs.Window.{with_window}
 use Rattle.job_format.specs.Model.{job_view}
+use Rattle.job_check.specs.Shaders.{shaders_view}
 use Rattle.job_check.specs.Context.{InView, IsContext}
 use Rattle.job_check.specs.Faults.{surfaces_stage, layout_stage}
 use Rattle.job_check.specs.Emit.{list_parts}
@@ -14,14 +15,14 @@ use Rattle.job_check.proofs.check.place_lists.Goals as goal
 pub window-requires : goal.window-requires
 window-requires c =
     let x = c.job.inside in
-    let h = subst (λ (w : InView). IsContext w (job_view x.job.now) x.table.now x.handles x.layout) c.job.view_is c.job.invariant in
-    omega (arith, window_fits c.args.job.now (job_view x.job.now) x.table.now x.handles x.layout h (c.if-not-fits.ensures.0 refl), c.requires)
+    let h = subst (λ (w : InView). IsContext w (job_view x.job.now) x.table.now (shaders_view x.shaders.now.items) x.handles x.layout) c.job.view_is c.job.invariant in
+    omega (arith, window_fits c.args.job.now (job_view x.job.now) x.table.now (shaders_view x.shaders.now.items) x.handles x.layout h (c.if-not-fits.ensures.0 refl), c.requires)
 
 pub write_lists-requires : goal.write_lists-requires
 write_lists-requires c =
     let x = c.job.inside in
-    let h = subst (λ (w : InView). IsContext w (job_view x.job.now) x.table.now x.handles x.layout) c.job.view_is c.job.invariant in
-    let fits = window_fits c.args.job.now (job_view x.job.now) x.table.now x.handles x.layout h (c.if-not-fits.ensures.0 refl) in
+    let h = subst (λ (w : InView). IsContext w (job_view x.job.now) x.table.now (shaders_view x.shaders.now.items) x.handles x.layout) c.job.view_is c.job.invariant in
+    let fits = window_fits c.args.job.now (job_view x.job.now) x.table.now (shaders_view x.shaders.now.items) x.handles x.layout h (c.if-not-fits.ensures.0 refl) in
     let room : x.layout.place + x.layout.end ≤ length c.args.memory.now = omega (arith, fits, c.requires) in
     omega (arith, ap (λ l. l.end) h.layout_is, ap length c.window.ensures.value, length_window c.args.memory.now x.layout.place x.layout.end room)
 
@@ -29,8 +30,8 @@ pub returns-in-Ok : goal.returns-in-Ok
 returns-in-Ok c =
     let v = c.args.job.now in
     let x = c.job.inside in
-    let h = subst (λ (w : InView). IsContext w (job_view x.job.now) x.table.now x.handles x.layout) c.job.view_is c.job.invariant in
-    let fits = window_fits v (job_view x.job.now) x.table.now x.handles x.layout h (c.if-not-fits.ensures.0 refl) in
+    let h = subst (λ (w : InView). IsContext w (job_view x.job.now) x.table.now (shaders_view x.shaders.now.items) x.handles x.layout) c.job.view_is c.job.invariant in
+    let fits = window_fits v (job_view x.job.now) x.table.now (shaders_view x.shaders.now.items) x.handles x.layout h (c.if-not-fits.ensures.0 refl) in
     let room : x.layout.place + x.layout.end ≤ length c.args.memory.now = omega (arith, fits, c.requires) in
     record {
       answers = (

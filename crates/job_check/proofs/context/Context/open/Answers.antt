@@ -19,6 +19,7 @@ invariant_of-result c = record {
   job_is = c.job_at-job.ensures.value;
   limits = c.job_at-job.ensures.limits;
   table_is = c.requires.table_is;
+  shaders_are = c.requires.shaders_are;
   sound = c.requires.sound;
   handles_are = c.in-Ok.ensures.made.1 ∙ c.deref.ensures.value;
   numbers = c.in-Ok.ensures.numbers;
