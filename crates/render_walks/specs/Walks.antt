@@ -1,8 +1,10 @@
 -- How a renderer goes through the slots of a list, packet by packet.
-use Rattle.std.specs.Prelude.{◌≡◌, ◌≤◌, ℕ, Bool, true, false, List, [], ◌∷◌, Option, Some, None}
+use Rattle.std.specs.Prelude.{◌≡◌, ◌≤◌, ◌<◌, ◌^◌, ℕ, Bool, true, false, List, [], ◌∷◌, Option, Some, None}
 use Rattle.job_format.specs.declared.file.Frame.{Frame}
 use Rattle.packets.specs.declared.packet.Packet.{Packet}
 use Rattle.packets.specs.declared.packet.Packet.TheVariants.{WaitOnSemaphore, BranchToSubList, StoreTileColor, StoreTileColorAndEnd, StoreFullResolution, LoadFullResolution, StoreTileBuffer, LoadTileBuffer, TileRenderingMode, ClearColors, TileCoordinates}
+use Rattle.packets.specs.Packet.{Fits}
+use Rattle.render_list.specs.Frame.{place_at}
 use Rattle.render_list.specs.Text.{tile_slots}
 
 -- What a renderer keeps from packet to packet, as far as a later packet needs it: whether a frame is
@@ -77,3 +79,20 @@ pub record IsBetween (must : Bool) (k : View) : Type 0 where
   pub framed : k.framed ≡ true
   pub idle : k.waiting ≡ None
   pub waited : must ≡ true → k.waited ≡ true
+
+-- Each field of each packet is within its width, so the packet's bytes are read as this packet again.
+abbrev pub SlotFits : Option Packet → Type 0
+SlotFits None = Unit {0}
+SlotFits (Some packet) = Fits packet
+
+abbrev pub AllFit : List (Option Packet) → Type 0
+AllFit [] = Unit {0}
+AllFit (slot ∷ slots) = SlotFits slot × AllFit slots
+
+-- each place of a surface is a number of four bytes, and so many tiles a binner's grid may have
+abbrev pub PlacesFit : List (Option ℕ) → Type 0
+PlacesFit places = (k place : ℕ) → place_at places k ≡ Some place → place < 2 ^ 32
+
+abbrev pub GridFits : Option (ℕ × ℕ) → Type 0
+GridFits None = Unit {0}
+GridFits (Some grid) = (grid.0 < 256) × (grid.1 < 256)
