@@ -4,3 +4,4 @@ pub mod Fields
 pub mod Shader
 pub mod Terms
 pub mod Told
+pub mod Setups
