@@ -17,7 +17,7 @@ use Rattle.bin_list.specs.Rules.{GivenModel, cut_questions, kind_questions, star
 use Rattle.bin_list.specs.States.{greatest, state, states_of}
 
 -- the same rules under other answers
-none_answered : {F G : Type 0} (change : F → G) → (questions : List (Question F)) → first_of (answered change questions) ≡ None → first_of questions ≡ None
+pub none_answered : {F G : Type 0} (change : F → G) → (questions : List (Question F)) → first_of (answered change questions) ≡ None → first_of questions ≡ None
 unfolding answered
 none_answered change [] none = refl
 none_answered change (Ask true answer ∷ later) none = cc

@@ -1,3 +1,4 @@
 pub mod Fine
+pub mod Law
 pub mod Texts
 pub mod Walking

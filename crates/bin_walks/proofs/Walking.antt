@@ -1,5 +1,5 @@
 -- The walk over the emitted list.
-use Rattle.std.proofs.Common.{◌≡◌, ◌≢◌, ◌⊎◌, inl, inr, ℕ, zero, suc, ◌+◌, ◌-◌, ◌*◌, ◌%◌, ◌<◌, ◌≤◌, ◌^◌, max, Bool, true, false, List, [], ◌∷◌, ◌++◌, Option, Some, None, length, refl, sym, ap, subst, arith, ◌∙◌, append_assoc, append-nil, length-append}
+use Rattle.std.proofs.Common.{◌≡◌, ◌≢◌, ◌⊎◌, inl, inr, ℕ, zero, suc, ◌+◌, ◌-◌, ◌*◌, ◌%◌, ◌<◌, ◌≤◌, ◌^◌, max, Bool, true, false, List, [], ◌∷◌, ◌++◌, Option, Some, None, length, refl, sym, ap, subst, arith, ◌∙◌, append_assoc, append-nil, length-append, take, drop, get_or, eq-eqb}
 use Rattle.std.specs.Prelude.{if◌then◌else◌, ◌==◌, slice_index}
 use Rattle.std.specs.Int.{to_le_bytes, w32}
 use Rattle.std.proofs.lemmas.Bool.{eqb-true, ne_eqb, false≢true}
@@ -23,6 +23,8 @@ use Rattle.bin_list.specs.Fine.{IsLow}
 use Rattle.bin_list.specs.States.{draws_to, greatest, state, states_of, last_index}
 use Rattle.bin_list.specs.Emitted.{index_text, state_text, config_text, packet_text, texts}
 use Rattle.bin_list.proofs.Facts.{onto_none, packet_none, start_fine, state_fine, config_fine, IsGrid}
+use Rattle.std.proofs.lemmas.List.{places}
+use Rattle.bin_list.proofs.Walk.{front_some, front_behind, taken_some}
 use Rattle.bin_walks.specs.Walks.{Config, config_in, Kept, nothing_kept, kept_after, Drawing, Tame, Walks}
 use Rattle.bin_walks.specs.Emission.{emission, config_of}
 use Rattle.bin_walks.specs.Draws.{IsStateAt, AreIndexesInside, IsDrawn}
@@ -54,7 +56,7 @@ texts_joined given layout earlier (p ∷ later) =
     ∙ ap (λ t. texts given layout earlier ++ t) (sym (joined_if (opcode p == buffer_handles) text rest))
 
 -- How the packets of a list are cut: each has a byte, no more than its opcode says, and nothing is read behind a halt.
-abbrev AreCut : List (List ℕ) → Type 0
+abbrev pub AreCut : List (List ℕ) → Type 0
 AreCut [] = Unit {0}
 AreCut (p ∷ later) = (1 ≤ length p) × (length p ≤ bin_taken (opcode p)) × (opcode p ≡ halt → later ≡ []) × AreCut later
 
@@ -87,7 +89,7 @@ records_if : (b : Bool) (records room n m : ℕ) → records ≤ 147 * n → roo
 records_if true records room n m before most some = omega arith
 records_if false records room n m before most some = omega arith
 
-abbrev AreSome : List (List ℕ) → Type 0
+abbrev pub AreSome : List (List ℕ) → Type 0
 AreSome [] = Unit {0}
 AreSome (p ∷ earlier) = (1 ≤ length p) × AreSome earlier
 
@@ -126,19 +128,19 @@ kept_config given earlier (p ∷ later) none there =
     kept_config given (p ∷ earlier) later none (ap is_there same ∙ there) ∙ same
 
 -- The state in view: its word is kept, its record stands there, and what comes up to the next state draws no further.
-record InView (layout : Layout) (all : List State) (later : List (List ℕ)) (kept : Kept) : Type 0 where
-  word : ℕ
-  most : State
-  kept_word : kept.word ≡ Some word
-  is_state : IsStateAt layout 0 all word most
-  upto : greatest later ≤ most.max_index
+pub record InView (layout : Layout) (all : List State) (later : List (List ℕ)) (kept : Kept) : Type 0 where
+  pub word : ℕ
+  pub most : State
+  pub kept_word : kept.word ≡ Some word
+  pub is_state : IsStateAt layout 0 all word most
+  pub upto : greatest later ≤ most.max_index
 
 -- What the binner has kept of the packets before these.
-record Goes (layout : Layout) (config : Config) (all : List State) (earlier later : List (List ℕ)) (kept : Kept) : Type 0 where
-  view : 1 ≤ states_in earlier → InView layout all later kept
-  config_is : is_there (latest tile_binning_mode earlier) ≡ true → kept.config ≡ Some config
-  started_is : is_there (latest start_tile_binning earlier) ≡ true → kept.started ≡ true
-  states : (word : ℕ) (s : State) → IsStateAt layout (records_in earlier) (states_of later) word s → IsStateAt layout 0 all word s
+pub record Goes (layout : Layout) (config : Config) (all : List State) (earlier later : List (List ℕ)) (kept : Kept) : Type 0 where
+  pub view : 1 ≤ states_in earlier → InView layout all later kept
+  pub config_is : is_there (latest tile_binning_mode earlier) ≡ true → kept.config ≡ Some config
+  pub started_is : is_there (latest start_tile_binning earlier) ≡ true → kept.started ≡ true
+  pub states : (word : ℕ) (s : State) → IsStateAt layout (records_in earlier) (states_of later) word s → IsStateAt layout 0 all word s
 
 -- one packet on, by what its opcode is
 config_if : (b : Bool) (p : List ℕ) (o : Option (List ℕ)) (told config : Config) (before : Option Config)
@@ -269,10 +271,10 @@ unfolding bin_length
 long_flush = refl
 
 -- what the layout and the tables promise
-record Premises (given : GivenModel) (layout : Layout) : Type 0 where
-  low : IsLow layout
-  numbers : AreNumbersOf given.table given.handles
-  buffers : (number : ℕ) → number < length given.table.buffers → (buffer_at given.table.buffers number).place + (buffer_at given.table.buffers number).size ≤ 67108864
+pub record Premises (given : GivenModel) (layout : Layout) : Type 0 where
+  pub low : IsLow layout
+  pub numbers : AreNumbersOf given.table given.handles
+  pub buffers : (number : ℕ) → number < length given.table.buffers → (buffer_at given.table.buffers number).place + (buffer_at given.table.buffers number).size ≤ 67108864
 
 record IsText (p text : List ℕ) : Type 0 where
   same : opcode text ≡ opcode p
@@ -373,3 +375,183 @@ draw_array given layout config all earlier later p kept none goes is =
         array = λ yes. fine.fits;
       };
     }
+
+-- What is known of the whole list, while the packets before these have been read.
+pub record Known (given : GivenModel) (layout : Layout) (config : Config) (earlier later : List (List ℕ)) : Type 0 where
+  pub premises : Premises given layout
+  pub fine : first_of (asked given (onto earlier later)) ≡ None
+  pub cuts : AreCut later
+  pub some : AreSome earlier
+  pub inside : place (onto earlier later) ≤ given.size
+  pub short : given.size ≤ 1048576
+  pub ends : last_opcode (onto earlier later) ≡ flush
+  pub there : is_there (latest tile_binning_mode (onto earlier later)) ≡ true
+  pub grid : config ≡ config_of layout (byte_of 13 (latest tile_binning_mode (onto earlier later))) (byte_of 14 (latest tile_binning_mode (onto earlier later)))
+
+known_next : (given : GivenModel) (layout : Layout) (config : Config) (earlier later : List (List ℕ)) (p : List ℕ) → Known given layout config earlier (p ∷ later)
+    → Known given layout config (p ∷ earlier) later
+known_next given layout config earlier later p known =
+    record {
+      premises = known.premises;
+      fine = known.fine;
+      cuts = known.cuts.3;
+      some = (known.cuts.0, known.some);
+      inside = known.inside;
+      short = known.short;
+      ends = known.ends;
+      there = known.there;
+      grid = known.grid;
+    }
+
+-- no halt stands in the list: it would be its last packet
+no_halt : (given : GivenModel) (layout : Layout) (config : Config) (earlier later : List (List ℕ)) (p : List ℕ) → Known given layout config earlier (p ∷ later) → opcode p ≢ halt
+no_halt given layout config earlier later p known is =
+    let none : later ≡ [] = known.cuts.2 is in
+    let last : opcode p ≡ flush = sym (ap (λ l. last_opcode (onto (p ∷ earlier) l)) none) ∙ known.ends in
+    let e : halt ≡ flush = sym is ∙ last in
+    absurd (omega (arith, e))
+
+-- a configuration is the list's one
+one_config : (given : GivenModel) (layout : Layout) (config : Config) (earlier later : List (List ℕ)) (p : List ℕ) → Known given layout config earlier (p ∷ later)
+    → opcode p ≡ tile_binning_mode → config_of layout (slice_index p 13) (slice_index p 14) ≡ config
+one_config given layout config earlier later p known is =
+    let here : latest tile_binning_mode (p ∷ earlier) ≡ Some p = ap (λ o. if o == tile_binning_mode then Some p else latest tile_binning_mode earlier) is in
+    let last : latest tile_binning_mode (onto (p ∷ earlier) later) ≡ Some p = kept_config given (p ∷ earlier) later known.fine (ap is_there here) ∙ here in
+    sym (ap (λ o. config_of layout (byte_of 13 o) (byte_of 14 o)) last) ∙ sym known.grid
+
+room_of : (n : ℕ) → slot_fits n ≡ true → alloc_offset n ≤ 524288
+unfolding slot_fits
+room_of n fits = grind (arith, fits)
+
+-- a flush is the list's last packet, so the configuration came before it
+before_flush : (given : GivenModel) (layout : Layout) (config : Config) (earlier later : List (List ℕ)) (p : List ℕ) → Known given layout config earlier (p ∷ later)
+    → first_of (packet_questions given (seen_before earlier) p) ≡ None → length p ≡ bin_length (opcode p) → opcode p ≡ flush → is_there (latest tile_binning_mode earlier) ≡ true
+unfolding seen_before
+before_flush given layout config earlier later p known none whole is =
+    let at : place earlier + 1 ≡ given.size = flush_fine given (seen_before earlier) p none is in
+    let one : length p ≡ 1 = whole ∙ ap bin_length is ∙ long_flush in
+    let nothing : later ≡ [] = nothing_left (p ∷ earlier) later known.cuts.3 (let i = known.inside in omega arith) in
+    let last : is_there (latest tile_binning_mode (p ∷ earlier)) ≡ true = sym (ap (λ l. is_there (latest tile_binning_mode (onto (p ∷ earlier) l))) nothing) ∙ known.there in
+    sym (ap (λ o. is_there (if o == tile_binning_mode then Some p else latest tile_binning_mode earlier)) is) ∙ last
+
+state_fits : (given : GivenModel) (layout : Layout) (config : Config) (earlier later : List (List ℕ)) (p : List ℕ) → Known given layout config earlier (p ∷ later)
+    → layout.place + layout.records + records_in earlier + u32_at p 1 % 16 < 2 ^ 32
+state_fits given layout config earlier later p known =
+    let bound = records_bounded earlier known.some in
+    let grows = place_grows earlier (p ∷ later) known.cuts in
+    let i = known.inside in
+    let s = known.short in
+    let a = known.premises.low.place in
+    let b = known.premises.low.records in
+    let m : u32_at p 1 % 16 < 16 = omega arith in
+    omega arith
+
+tame : (given : GivenModel) (layout : Layout) (config : Config) (all : List State) (earlier later : List (List ℕ)) (p : List ℕ) (kept : Kept)
+    → Known given layout config earlier (p ∷ later) → Goes layout config all earlier (p ∷ later) kept → (opcode p == buffer_handles) ≡ false
+    → Tame config (IsDrawn given.table given.handles layout all) kept (packet_text given layout (seen_before earlier) p)
+unfolding seen_before
+tame given layout config all earlier later p kept known goes other =
+    let seen = seen_before earlier in
+    let text = packet_text given layout seen p in
+    let R : ℕ → List ℕ → Type 0 = IsDrawn given.table given.handles layout all in
+    let none : first_of (packet_questions given seen p) ≡ None = packet_none given earlier p (onto_none given (p ∷ earlier) later known.fine) in
+    let whole = whole_packet given seen p known.cuts.1 none in
+    let told = is_text given layout seen p known.premises none whole other in
+    let cut = cut_fine given seen p none in
+    record {
+      whole = told.long ∙ sym (ap bin_length told.same);
+      known = λ zero_long. cut.0 (sym (ap bin_length told.same) ∙ zero_long);
+      no_halt = λ is. no_halt given layout config earlier later p known (sym told.same ∙ is);
+      no_handles = λ is. let e : (opcode p == buffer_handles) ≡ true = ap (λ o. o == buffer_handles) (sym told.same ∙ is) in false≢true (sym other ∙ e);
+      configures = λ is.
+          let here = sym told.same ∙ is in
+          let grid = config_fine given seen p none here in
+          ap config_in (config_is given layout seen p here)
+          ∙ config_read layout p known.premises.low.slot (room_of (slice_index p 13 * slice_index p 14) grid.room)
+          ∙ one_config given layout config earlier later p known here;
+      starts = λ is. goes.config_is (start_fine given seen p none (sym told.same ∙ is));
+      indexed = λ is.
+          let here = sym told.same ∙ is in
+          subst (Drawing R kept) (sym (index_is given layout seen p here)) (draw_indexed given layout config all earlier later p kept known.premises none whole goes here);
+      array = λ is.
+          let here = sym told.same ∙ is in
+          subst (Drawing R kept) (sym (array_is given layout seen p here)) (draw_array given layout config all earlier later p kept none goes here);
+      closes = λ is. goes.config_is (before_flush given layout config earlier later p known none whole (sym told.same ∙ is));
+    }
+
+next_kept : (given : GivenModel) (layout : Layout) (config : Config) (all : List State) (earlier later : List (List ℕ)) (p : List ℕ) (kept : Kept)
+    → Known given layout config earlier (p ∷ later) → Goes layout config all earlier (p ∷ later) kept → (opcode p == buffer_handles) ≡ false
+    → Goes layout config all (p ∷ earlier) later (kept_after kept (packet_text given layout (seen_before earlier) p))
+unfolding seen_before
+next_kept given layout config all earlier later p kept known goes other =
+    let seen = seen_before earlier in
+    let none : first_of (packet_questions given seen p) ≡ None = packet_none given earlier p (onto_none given (p ∷ earlier) later known.fine) in
+    let whole = whole_packet given seen p known.cuts.1 none in
+    let told = is_text given layout seen p known.premises none whole other in
+    let it = tame given layout config all earlier later p kept known goes other in
+    step given layout config all earlier later p (packet_text given layout seen p) kept goes told.same
+    (λ is. it.configures (told.same ∙ is))
+    (λ is. ap (λ t. u32_at t 1) (state_is given layout seen p is) ∙ state_word layout seen p (state_fits given layout config earlier later p known))
+
+walks_if : (config : Config) (R : ℕ → List ℕ → Type 0) (kept : Kept) (b : Bool) (x : List ℕ) (xs : List (List ℕ))
+    → (b ≡ true → Walks config R kept xs) → (b ≡ false → Tame config R kept x × Walks config R (kept_after kept x) xs)
+    → Walks config R kept (if b then xs else x ∷ xs)
+walks_if config R kept true x xs one two = one refl
+walks_if config R kept false x xs one two = two refl
+
+pub walk_on : (given : GivenModel) (layout : Layout) (config : Config) (all : List State) (earlier later : List (List ℕ)) (kept : Kept)
+    → Known given layout config earlier later → Goes layout config all earlier later kept
+    → Walks config (IsDrawn given.table given.handles layout all) kept (emission given layout earlier later)
+walk_on given layout config all earlier [] kept known goes = tt
+walk_on given layout config all earlier (p ∷ later) kept known goes =
+    let next = known_next given layout config earlier later p known in
+    walks_if config (IsDrawn given.table given.handles layout all) kept (opcode p == buffer_handles)
+    (packet_text given layout (seen_before earlier) p) (emission given layout (p ∷ earlier) later)
+    (λ is. walk_on given layout config all (p ∷ earlier) later kept next (skip layout config all earlier later p kept goes (eqb-true (opcode p) buffer_handles is)))
+    (λ other. (
+      tame given layout config all earlier later p kept known goes other,
+      walk_on given layout config all (p ∷ earlier) later (kept_after kept (packet_text given layout (seen_before earlier) p)) next
+      (next_kept given layout config all earlier later p kept known goes other),
+    ))
+
+-- The packets of a list are cut so.
+taken_one : (o : ℕ) → 1 ≤ bin_taken o
+taken_one o = taken_some o
+
+head_take : (n o : ℕ) (body : List ℕ) → 1 ≤ n → get_or (take n (o ∷ body)) 0 0 ≡ o
+head_take zero o body some = absurd (omega arith)
+head_take (suc n) o body some = refl
+
+take_short : (n : ℕ) (xs : List ℕ) → length (take n xs) ≤ n
+take_short n xs = grind (arith, places)
+
+front_short : (o : ℕ) (body : List ℕ) → length (front_packet (o ∷ body)) ≤ bin_taken (opcode (front_packet (o ∷ body)))
+unfolding front_packet
+front_short o body =
+    let short = take_short (bin_taken o) (o ∷ body) in
+    let e : bin_taken (opcode (take (bin_taken o) (o ∷ body))) ≡ bin_taken o = ap bin_taken (head_take (bin_taken o) o body (taken_one o)) in
+    omega arith
+
+halt_if : (b : Bool) (n : ℕ) (rest : List ℕ) → b ≡ true → cut n (if b then [] else rest) ≡ []
+halt_if true zero rest is = refl
+halt_if true (suc n) rest is = refl
+halt_if false n rest is = absurd (false≢true is)
+
+cut_behind : (n : ℕ) (o : ℕ) (body : List ℕ) → opcode (front_packet (o ∷ body)) ≡ halt → cut n (behind (o ∷ body)) ≡ []
+unfolding front_packet behind
+cut_behind n o body is =
+    let some = taken_one o in
+    halt_if (o == halt) n (drop (bin_taken o) (o ∷ body)) (eq-eqb o halt (sym (head_take (bin_taken o) o body some) ∙ is))
+
+pub are_cut : (n : ℕ) (bytes : List ℕ) → AreCut (cut n bytes)
+are_cut zero bytes = tt
+are_cut (suc n) [] = tt
+are_cut (suc n) (o ∷ body) = (front_some (o ∷ body) (omega arith), front_short o body, cut_behind n o body, are_cut n (behind (o ∷ body)))
+
+pub cut_place : (n : ℕ) (bytes : List ℕ) (earlier : List (List ℕ)) → place (onto earlier (cut n bytes)) ≤ place earlier + length bytes
+cut_place zero bytes earlier = omega arith
+cut_place (suc n) [] earlier = omega arith
+cut_place (suc n) (o ∷ body) earlier =
+    let whole = front_behind (o ∷ body) in
+    let rest = cut_place n (behind (o ∷ body)) (front_packet (o ∷ body) ∷ earlier) in
+    omega arith
