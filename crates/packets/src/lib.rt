@@ -14,3 +14,6 @@ mod packet;
 pub use length::{bin_length, bin_taken, render_taken};
 pub use list::{put_packet, put_present};
 pub use packet::{Packet, decode};
+
+#[cfg(test)]
+mod tests;
