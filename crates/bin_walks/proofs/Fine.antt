@@ -1,15 +1,15 @@
 -- What a packet promises of which no rule stands.
-use Rattle.std.proofs.Common.{◌≡◌, ◌≢◌, ℕ, ◌+◌, ◌*◌, ◌<◌, ◌≤◌, ◌^◌, Bool, true, false, not, ◌&&◌, List, [], ◌∷◌, ◌++◌, Option, Some, None, length, is_some, refl, sym, ap, subst, arith, ◌∙◌, nat_lt, nat_le}
+use Rattle.std.proofs.Common.{◌≡◌, ◌≢◌, ℕ, ◌+◌, ◌*◌, ◌<◌, ◌≤◌, ◌^◌, Bool, true, false, ◌&&◌, List, ◌++◌, Some, None, length, is_some, refl, sym, ap, arith, ◌∙◌, nat_lt}
 use Rattle.std.specs.Prelude.{if◌then◌else◌, ◌==◌, slice_index}
-use Rattle.std.proofs.lemmas.Bool.{eqb-false, eqb-true, ne_eqb}
+use Rattle.std.proofs.lemmas.Bool.{eqb-false, eqb-true}
 use Rattle.field_words.specs.Words.{u32_at}
-use Rattle.field_words.specs.Questions.{Question, Ask, first_of}
-use Rattle.field_words.proofs.Questions.{passes, none_stands}
+use Rattle.field_words.specs.Questions.{first_of}
+use Rattle.field_words.proofs.Questions.{none_stands}
 use Rattle.buffer_table.specs.declared.buffer.Kind.{Kind}
 use Rattle.buffer_table.specs.declared.buffer.Kind.TheVariants.{Plain, Code}
 use Rattle.buffer_table.specs.Table.{TableModel, buffer_at}
-use Rattle.buffer_table.specs.Handles.{IsData, is_plain, data_of}
-use Rattle.buffer_table.proofs.Asked.{front_none}
+use Rattle.buffer_table.specs.Handles.{IsData, is_named, is_plain, data_of}
+use Rattle.field_words.proofs.Nones.{front_none, rest_none}
 use Rattle.packets.specs.Opcode.{flush, indexed_primitive_list, array_primitive_list, tile_binning_mode}
 use Rattle.packets.specs.Length.{bin_length, bin_taken}
 use Rattle.bin_list.specs.declared.seen.Seen.{Seen}
@@ -68,9 +68,6 @@ primitive_fine seen none =
     let some : seen.states ≢ 0 = eqb-false seen.states 0 asked.0 in
     record { states = omega arith; started = grind (arith, asked.1.0) }
 
-rest_none : {F : Type 0} → (front rest : List (Question F)) → first_of (front ++ rest) ≡ None → first_of rest ≡ None
-rest_none front rest none = sym (passes front rest (front_none front rest none)) ∙ none
-
 plain_kind : (k : Kind) → is_plain k ≡ true → k ≡ Plain
 plain_kind Plain is = refl
 plain_kind Code is = absurd (cc)
@@ -87,9 +84,11 @@ both false b is = absurd (cc)
 is_data : (t : TableModel) (handles : List ℕ) (i : ℕ) → is_some (data_of t handles i) ≡ true → IsData t handles i
 unfolding data_of
 is_data t handles i is =
-    let two = both (nat_lt i (length handles)) (is_plain (buffer_at t.buffers (slice_index handles i)).kind) (data_if _ (slice_index handles i) is) in
-    let below = two.0 in
-    ((let l : i < length handles = grind (arith, below) in l), plain_kind _ two.1)
+    let two = both (is_named t handles i) (is_plain (buffer_at t.buffers (slice_index handles i)).kind) (data_if _ (slice_index handles i) is) in
+    let named = both (nat_lt i (length handles)) (nat_lt (slice_index handles i) (length t.buffers)) two.0 in
+    let one = named.0 in
+    let other = named.1 in
+    (((let l : i < length handles = grind (arith, one) in l), (let l : slice_index handles i < length t.buffers = grind (arith, other) in l)), plain_kind _ two.1)
 
 leb_of : (m n : ℕ) → nat_lt m n ≡ false → n ≤ m
 leb_of m n is = grind (arith, is)

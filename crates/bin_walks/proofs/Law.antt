@@ -1,26 +1,21 @@
 -- The law.
-use Rattle.std.proofs.Common.{◌≡◌, ℕ, ◌+◌, ◌<◌, ◌≤◌, Bool, true, false, ◌&&◌, List, [], ◌++◌, None, length, refl, sym, ap, subst, arith, ◌∙◌}
-use Rattle.std.specs.Prelude.{◌==◌, slice_index}
+use Rattle.std.proofs.Common.{◌≡◌, Bool, true, false, ◌&&◌, [], None, length, refl, arith}
+use Rattle.std.specs.Prelude.{◌==◌}
 use Rattle.std.proofs.lemmas.Bool.{eqb-true, false≢true}
 use Rattle.field_words.specs.Questions.{first_of, answered}
-use Rattle.field_words.specs.Pieces.{joined}
 use Rattle.field_words.proofs.Questions.{none_stands}
-use Rattle.buffer_table.specs.Table.{TableModel, buffer_at}
-use Rattle.buffer_table.specs.Handles.{AreNumbersOf}
-use Rattle.buffer_table.proofs.Asked.{front_none, rest_none}
-use Rattle.relocation.specs.declared.layout.Layout.{Layout}
-use Rattle.packets.specs.Opcode.{flush, increment_semaphore, start_tile_binning, tile_binning_mode}
+use Rattle.field_words.proofs.Nones.{front_none, rest_none, none_answered}
+use Rattle.packets.specs.Opcode.{flush, increment_semaphore}
 use Rattle.bin_list.specs.declared.seen.Seen.{Seen}
 use Rattle.bin_list.specs.Packets.{packets, passed, onto, cut}
-use Rattle.bin_list.specs.Seen.{latest, is_there, last_opcode, seen_before}
-use Rattle.bin_list.specs.Rules.{GivenModel, given_of, asked, fault, end_questions, questions_of, bin_questions}
-use Rattle.bin_list.specs.Fine.{IsLow}
+use Rattle.bin_list.specs.Seen.{seen_before}
+use Rattle.bin_list.specs.Rules.{given_of, asked, fault, end_questions, questions_of}
 use Rattle.bin_list.specs.States.{states_of}
-use Rattle.bin_list.proofs.Facts.{configured, none_answered}
-use Rattle.bin_walks.specs.Walks.{Config, nothing_kept}
-use Rattle.bin_walks.specs.Emission.{config_of, emission}
-use Rattle.bin_walks.specs.Law.{IsWalked, EmittedListsWalk}
-use Rattle.bin_walks.proofs.Walking.{texts_joined, walk_on, are_cut, cut_place, Known, Goes, Premises}
+use Rattle.bin_list.proofs.Facts.{configured}
+use Rattle.bin_walks.specs.Walks.{nothing_kept}
+use Rattle.bin_walks.specs.Emission.{config_of}
+use Rattle.bin_walks.specs.Law.{EmittedListsWalk}
+use Rattle.bin_walks.proofs.Walking.{texts_joined, walk_on, are_cut, cut_place, Known, Goes}
 
 both : (a b : Bool) → (a && b) ≡ true → b ≡ true
 both true b is = is
@@ -35,7 +30,7 @@ ends_with seen none =
 
 pub emitted_lists_walk_law : EmittedListsWalk
 unfolding passed packets questions_of seen_before
-emitted_lists_walk_law list declared table handles layout short low numbers buffers none =
+emitted_lists_walk_law list declared table handles layout short low buffers none =
     let given = given_of list declared table handles in
     let ps = cut (length list) list in
     let all = onto [] ps in
@@ -45,7 +40,7 @@ emitted_lists_walk_law list declared table handles layout short low numbers buff
     let told = ends_with (seen_before all) end in
     let config = config_of layout (seen_before all).tiles_x (seen_before all).tiles_y in
     let known : Known given layout config [] ps = record {
-      premises = record { low = low; numbers = numbers; buffers = buffers };
+      premises = record { low = low; buffers = buffers };
       fine = fine;
       cuts = are_cut (length list) list;
       some = tt;

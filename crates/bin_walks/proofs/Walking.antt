@@ -1,33 +1,32 @@
 -- The walk over the emitted list.
-use Rattle.std.proofs.Common.{◌≡◌, ◌≢◌, ◌⊎◌, inl, inr, ℕ, zero, suc, ◌+◌, ◌-◌, ◌*◌, ◌%◌, ◌<◌, ◌≤◌, ◌^◌, max, Bool, true, false, List, [], ◌∷◌, ◌++◌, Option, Some, None, length, refl, sym, ap, subst, arith, ◌∙◌, append_assoc, append-nil, length-append, take, drop, get_or, eq-eqb}
+use Rattle.std.proofs.Common.{◌≡◌, ◌≢◌, inl, inr, ℕ, zero, suc, ◌+◌, ◌*◌, ◌%◌, ◌<◌, ◌≤◌, ◌^◌, max, Bool, true, false, List, [], ◌∷◌, ◌++◌, Option, Some, None, length, refl, sym, ap, subst, arith, ◌∙◌, append_assoc, append-nil, take, drop, get_or, eq-eqb}
 use Rattle.std.specs.Prelude.{if◌then◌else◌, ◌==◌, slice_index}
 use Rattle.std.specs.Int.{to_le_bytes, w32}
-use Rattle.std.proofs.lemmas.Bool.{eqb-true, ne_eqb, false≢true}
-use Rattle.field_words.specs.Words.{u32_at, rounded_up}
+use Rattle.std.proofs.lemmas.Bool.{eqb-true, false≢true}
+use Rattle.field_words.specs.Words.{u32_at}
 use Rattle.field_words.specs.Questions.{first_of}
 use Rattle.field_words.specs.Pieces.{joined}
 use Rattle.field_words.specs.Writes.{with_bytes}
 use Rattle.field_words.proofs.Numbers.{rounded}
-use Rattle.buffer_table.specs.Table.{TableModel, buffer_at}
-use Rattle.buffer_table.specs.Handles.{AreNumbersOf, IsData}
+use Rattle.buffer_table.specs.Table.{buffer_at}
 use Rattle.relocation.specs.declared.layout.Layout.{Layout}
 use Rattle.packets.specs.Opcode.{halt, flush, start_tile_binning, indexed_primitive_list, array_primitive_list, gl_shader_state, tile_binning_mode, buffer_handles}
 use Rattle.packets.specs.Length.{bin_length, bin_taken}
 use Rattle.tile_memory.specs.Slots.{alloc_offset, slot_fits}
 use Rattle.bin_list.specs.declared.seen.Seen.{Seen}
 use Rattle.bin_list.specs.declared.state.State.{State}
-use Rattle.bin_list.specs.Packets.{opcode, front_packet, behind, cut, packets, onto, passed}
+use Rattle.bin_list.specs.Packets.{opcode, front_packet, behind, cut, onto}
 use Rattle.bin_list.specs.Seen.{latest, is_there, byte_of, last_opcode, place, states_in, records_in, attributes, is_extended, record_size, record_room, seen_before}
 use Rattle.bin_list.specs.Rules.{GivenModel, index_buffer, index_size, packet_questions, asked}
 use Rattle.bin_list.specs.Fine.{IsLow}
-use Rattle.bin_list.specs.States.{draws_to, greatest, state, states_of, last_index}
+use Rattle.bin_list.specs.States.{draws_to, greatest, state, states_of}
 use Rattle.bin_list.specs.Emitted.{index_text, state_text, config_text, packet_text, texts}
-use Rattle.bin_list.proofs.Facts.{onto_none, packet_none, start_fine, state_fine, config_fine, IsGrid}
+use Rattle.bin_list.proofs.Facts.{onto_none, packet_none, start_fine, config_fine}
 use Rattle.std.proofs.lemmas.List.{places}
 use Rattle.bin_list.proofs.Walk.{front_some, front_behind, taken_some}
-use Rattle.bin_walks.specs.Walks.{Config, config_in, Kept, nothing_kept, kept_after, Drawing, Tame, Walks}
+use Rattle.bin_walks.specs.Walks.{Config, config_in, Kept, kept_after, Drawing, Tame, Walks}
 use Rattle.bin_walks.specs.Emission.{emission, config_of}
-use Rattle.bin_walks.specs.Draws.{IsStateAt, AreIndexesInside, IsDrawn}
+use Rattle.bin_walks.specs.Draws.{IsStateAt, IsDrawn}
 use Rattle.bin_walks.proofs.Fine.{cut_fine, taken_is, flush_fine, indexed_fine, array_fine, config_first}
 use Rattle.bin_walks.proofs.Texts.{addressed, state_opcode, state_long, state_word, config_opcode, config_long, config_read}
 
@@ -273,7 +272,6 @@ long_flush = refl
 -- what the layout and the tables promise
 pub record Premises (given : GivenModel) (layout : Layout) : Type 0 where
   pub low : IsLow layout
-  pub numbers : AreNumbersOf given.table given.handles
   pub buffers : (number : ℕ) → number < length given.table.buffers → (buffer_at given.table.buffers number).place + (buffer_at given.table.buffers number).size ≤ 67108864
 
 record IsText (p text : List ℕ) : Type 0 where
@@ -286,7 +284,7 @@ low_indexes : (given : GivenModel) (layout : Layout) (seen : Seen) (p : List ℕ
 unfolding index_buffer
 low_indexes given layout seen p premises none is =
     let fine = indexed_fine given seen p none is in
-    let ends = premises.buffers (slice_index given.handles seen.index_handle) (premises.numbers seen.index_handle fine.buffer.0) in
+    let ends = premises.buffers (slice_index given.handles seen.index_handle) fine.buffer.0.1 in
     let inside : u32_at p 6 + u32_at p 2 * index_size p ≤ (buffer_at given.table.buffers (slice_index given.handles seen.index_handle)).size = fine.inside in
     omega arith
 
@@ -296,16 +294,16 @@ unfolding packet_text index_text
 is_text given layout seen p premises none whole kept =
     text_choice (IsText p) (opcode p == buffer_handles) (opcode p == indexed_primitive_list) (opcode p == gl_shader_state) (opcode p == tile_binning_mode) _ _ _ p kept
     (λ yes.
-      let is = eqb-true (opcode p) indexed_primitive_list yes in
-      let long : bin_length (opcode p) ≡ 14 = ap bin_length is ∙ long_indexed in
-      let told = addressed p ((index_buffer given seen).place + u32_at p 6) (whole ∙ long) (low_indexes given layout seen p premises none is) in
-      record { same = told.same_opcode; long = told.long ∙ sym long })
+    let is = eqb-true (opcode p) indexed_primitive_list yes in
+    let long : bin_length (opcode p) ≡ 14 = ap bin_length is ∙ long_indexed in
+    let told = addressed p ((index_buffer given seen).place + u32_at p 6) (whole ∙ long) (low_indexes given layout seen p premises none is) in
+    record { same = told.same_opcode; long = told.long ∙ sym long })
     (λ yes.
-      let is = eqb-true (opcode p) gl_shader_state yes in
-      record { same = state_opcode layout seen p ∙ sym is; long = state_long layout seen p ∙ sym (ap bin_length is ∙ long_state) })
+    let is = eqb-true (opcode p) gl_shader_state yes in
+    record { same = state_opcode layout seen p ∙ sym is; long = state_long layout seen p ∙ sym (ap bin_length is ∙ long_state) })
     (λ yes.
-      let is = eqb-true (opcode p) tile_binning_mode yes in
-      record { same = config_opcode layout p ∙ sym is; long = config_long layout p ∙ sym (ap bin_length is ∙ long_config) })
+    let is = eqb-true (opcode p) tile_binning_mode yes in
+    record { same = config_opcode layout p ∙ sym is; long = config_long layout p ∙ sym (ap bin_length is ∙ long_config) })
     (record { same = refl; long = whole })
 
 -- Primitives.
@@ -511,7 +509,7 @@ walk_on given layout config all earlier (p ∷ later) kept known goes =
     (λ other. (
       tame given layout config all earlier later p kept known goes other,
       walk_on given layout config all (p ∷ earlier) later (kept_after kept (packet_text given layout (seen_before earlier) p)) next
-      (next_kept given layout config all earlier later p kept known goes other),
+          (next_kept given layout config all earlier later p kept known goes other),
     ))
 
 -- The packets of a list are cut so.

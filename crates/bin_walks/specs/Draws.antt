@@ -1,7 +1,6 @@
 -- Which primitives an emitted list may draw.
 use Rattle.std.specs.Prelude.{◌≡◌, ◌⊎◌, ◌≤◌, ◌<◌, ℕ, ◌+◌, ◌*◌, ◌%◌, ◌^◌, List, [], ◌∷◌, slice_index}
 use Rattle.field_words.specs.Words.{u32_at}
-use Rattle.buffer_table.specs.declared.buffer.Buffer.{Buffer}
 use Rattle.buffer_table.specs.Table.{TableModel, buffer_at}
 use Rattle.buffer_table.specs.Handles.{IsData}
 use Rattle.relocation.specs.declared.layout.Layout.{Layout}

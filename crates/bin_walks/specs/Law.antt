@@ -1,9 +1,8 @@
 -- The law: an emitted list walks.
-use Rattle.std.specs.Prelude.{◌≡◌, ◌≤◌, ◌<◌, ℕ, ◌+◌, List, [], length, None, slice_index}
+use Rattle.std.specs.Prelude.{◌≡◌, ◌≤◌, ◌<◌, ℕ, ◌+◌, List, [], length, None}
 use Rattle.field_words.specs.Questions.{first_of}
 use Rattle.field_words.specs.Pieces.{joined}
 use Rattle.buffer_table.specs.Table.{TableModel, buffer_at}
-use Rattle.buffer_table.specs.Handles.{AreNumbersOf}
 use Rattle.relocation.specs.declared.layout.Layout.{Layout}
 use Rattle.bin_list.specs.Packets.{packets, passed}
 use Rattle.bin_list.specs.Seen.{seen_before}
@@ -25,7 +24,6 @@ abbrev pub EmittedListsWalk : Type 0
 EmittedListsWalk =
     (list : List ℕ) (declared : ℕ) (table : TableModel) (handles : List ℕ) (layout : Layout)
     → length list ≤ 1048576 → IsLow layout
-    → AreNumbersOf table handles
     → ((number : ℕ) → number < length table.buffers → (buffer_at table.buffers number).place + (buffer_at table.buffers number).size ≤ 67108864)
     → first_of (bin_questions list declared table handles) ≡ None
     → IsWalked list declared table handles layout

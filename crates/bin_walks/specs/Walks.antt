@@ -1,5 +1,5 @@
 -- A list of packets that the binner may read, one after the other.
-use Rattle.std.specs.Prelude.{◌≡◌, ◌≢◌, ◌⊎◌, ℕ, Bool, true, false, ◌==◌, List, [], ◌∷◌, length, slice_index, Option, Some, None, if◌then◌else◌}
+use Rattle.std.specs.Prelude.{◌≡◌, ◌≢◌, ℕ, Bool, true, false, ◌==◌, List, [], ◌∷◌, length, slice_index, Option, Some, None, if◌then◌else◌}
 use Rattle.field_words.specs.Words.{u32_at}
 use Rattle.packets.specs.Opcode.{halt, flush, start_tile_binning, indexed_primitive_list, array_primitive_list, gl_shader_state, tile_binning_mode, buffer_handles}
 use Rattle.packets.specs.Length.{bin_length}

@@ -1,5 +1,6 @@
 //! What an emitted binner list promises to the binner that reads it.
 #![tactic(auto)]
+
 ghost use Rattle.bin_walks.specs.Law.{EmittedListsWalk};
 
 /// A binner list in which no rule stands is emitted packet by packet, and the binner may read each of these packets: it is
@@ -8,5 +9,4 @@ ghost use Rattle.bin_walks.specs.Law.{EmittedListsWalk};
 /// that state's greatest index.
 pub fn emitted_lists_walk()
     ensures { EmittedListsWalk }
-{
-}
+{}
