@@ -1,21 +1,21 @@
 -- A memory table without faults is sound.
-use Rattle.std.proofs.Common.{◌≡◌, ℕ, suc, ◌+◌, ◌<◌, min, max, false, List, length, take, get_or, None, sym, ap, subst, arith, ◌∙◌, zero-add}
-use Rattle.std.proofs.lemmas.List.{get_or-take, get_or-map, get_or_read, length-map}
+use Rattle.std.proofs.Common.{◌≡◌, ℕ, suc, ◌+◌, ◌-◌, ◌<◌, ◌≤◌, map, min, max, false, List, length, take, get_or, None, sym, ap, subst, arith, ◌∙◌}
+use Rattle.std.proofs.lemmas.List.{get_or-take, get_or-map, get_or_read, get_or_default, length-map}
 use Rattle.std.proofs.lemmas.Bool.{ltb-false}
 use Rattle.std.proofs.lemmas.List.Folds.{list_any_at}
 use Rattle.std.proofs.lemmas.Grind.{common_steps}
 use Rattle.field_words.specs.Questions.{first_of, each}
 use Rattle.field_words.proofs.Questions.{none_stands}
+use Rattle.field_words.proofs.Nones.{front_none, rest_none, each_none}
 use Rattle.buffer_table.specs.declared.buffer.Buffer.{Buffer}
 use Rattle.buffer_table.specs.declared.buffer.Regions.{Regions}
 use Rattle.buffer_table.specs.declared.item.Item.{Item}
-use Rattle.buffer_table.specs.Table.{TableModel, items_of, item_at, no_item, buffer_at, no_buffer, buffer_item, shares, is_unaligned, memory_questions, item_questions, all_questions, table_questions}
+use Rattle.buffer_table.specs.Table.{TableModel, items_of, item_at, no_item, buffer_at, past_end, buffer_item, shares, is_off_page, memory_questions, item_questions, all_questions, table_questions}
 use Rattle.buffer_table.specs.Sound.{IsSoundItem, IsSound, IsSoundBuffer, AreApart}
-use Rattle.buffer_table.proofs.Asked.{front_none, rest_none, each_none}
 
 -- An item that passes M2 to M5.
 sound_item : (memory : ℕ) (items : List Item) (k : ℕ) → first_of (item_questions memory items k) ≡ None → IsSoundItem memory (item_at items k)
-unfolding item_questions is_unaligned
+unfolding item_questions is_off_page
 sound_item memory items k none =
     let asked = none_stands (item_questions memory items k) none in
     record { place = grind (arith, asked.0); size = grind (arith, asked.0); not_empty = grind (arith, asked.0); inside = grind (arith, asked.1.0); content = grind (arith, asked.1.1.1.0) }
@@ -43,7 +43,7 @@ sound memory r buffers none =
     let items : List Item = items_of r buffers in
     let first = none_stands (memory_questions memory) (front_none (memory_questions memory) (each (item_questions memory items) 0 (length items)) none) in
     let rest = rest_none (memory_questions memory) (each (item_questions memory items) 0 (length items)) none in
-    let at : (k : ℕ) → k < length items → first_of (item_questions memory items k) ≡ None = λ k below. subst (λ m. first_of (item_questions memory items m) ≡ None) (zero-add k) (each_none (item_questions memory items) 0 (length items) k rest below) in
+    let at : (k : ℕ) → k < length items → first_of (item_questions memory items k) ≡ None = λ k below. each_none (item_questions memory items) 0 (length items) k rest (omega arith) (omega (arith, below)) in
     let good : (k : ℕ) → k < length items → IsSoundItem memory (item_at items k) = λ k below. sound_item memory items k (at k below) in
     record {
       pages = grind (arith, first.0);
@@ -54,25 +54,35 @@ sound memory r buffers none =
           apart_of memory (item_at items j) (item_at items k) (apart_items memory items j k (at k below) before below) (good j (omega arith)) (good k below);
     }
 
--- The same of a list that was built from the buffers, and of a copy of these.
-pub sound_copy : (memory : ℕ) (r : Regions) (buffers copy : List Buffer) (items : List Item) → first_of (all_questions memory items) ≡ None
-    → items ≡ items_of r buffers → copy ≡ buffers → IsSound memory r copy
-sound_copy memory r buffers copy items none same_items same =
-    let asked : first_of (table_questions memory r buffers) ≡ None = ap (λ i. first_of (all_questions memory i)) (sym same_items) ∙ none in
-    subst (IsSound memory r) (sym same) (sound memory r buffers asked)
+-- The same of a copy of the buffers.
+pub sound_copy : (memory : ℕ) (r : Regions) (buffers copy : List Buffer) → first_of (table_questions memory r buffers) ≡ None → copy ≡ buffers → IsSound memory r copy
+sound_copy memory r buffers copy none same = subst (IsSound memory r) (sym same) (sound memory r buffers none)
 
 -- The item of buffer number is two after the regions.
 item_of_buffer : (r : Regions) (buffers : List Buffer) (number : ℕ) → number < length buffers → item_at (items_of r buffers) (number + 2) ≡ buffer_item (buffer_at buffers number)
 unfolding buffer_at
 item_of_buffer r buffers number inside =
     ap (λ k. item_at (items_of r buffers) k) (let e : number + 2 ≡ suc (suc number) = omega arith in e)
-    ∙ get_or-map buffer_item buffers number no_buffer no_item inside
+    ∙ get_or-map buffer_item buffers number past_end no_item inside
 
 -- The entry of a buffer in a sound table, as it was read.
 pub sound_buffer : (t : TableModel) (number : ℕ) (b : Buffer) → IsSound t.memory t.regions t.buffers → number < length t.buffers
     → b ≡ get_or t.buffers number b → (b ≡ buffer_at t.buffers number) × IsSoundBuffer t.memory b
 unfolding buffer_at
 sound_buffer t number b is_sound inside read =
-    let entry : b ≡ buffer_at t.buffers number = get_or_read t.buffers number b inside read no_buffer in
+    let entry : b ≡ buffer_at t.buffers number = get_or_read t.buffers number b inside read past_end in
     let good : IsSoundItem t.memory (item_at (items_of t.regions t.buffers) (number + 2)) = is_sound.each_item (number + 2) (rw length-map (omega arith)) in
     (entry, (is_sound.limit, subst (IsSoundItem t.memory) (item_of_buffer t.regions t.buffers number inside ∙ ap buffer_item (sym entry)) good))
+
+-- The item of a buffer, as its entry is read two before it.
+pub item_of_entry : (r : Regions) (buffers : List Buffer) (k : ℕ) (d : Buffer) → 2 ≤ k → k < length buffers + 2
+    → item_at (items_of r buffers) k ≡ buffer_item (get_or buffers (k - 2) d)
+unfolding buffer_at
+item_of_entry r buffers k d behind inside =
+    let below : k - 2 < length buffers = omega arith in
+    let same : k ≡ (k - 2) + 2 = omega arith in
+    ap (item_at (items_of r buffers)) same ∙ item_of_buffer r buffers (k - 2) below ∙ ap buffer_item (get_or_default buffers (k - 2) past_end d below)
+
+-- how many items there are
+pub length_items : (r : Regions) (buffers : List Buffer) → length (items_of r buffers) ≡ length buffers + 2
+length_items r buffers = let long : length (map buffer_item buffers) ≡ length buffers = length-map buffers buffer_item in omega arith

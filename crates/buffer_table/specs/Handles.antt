@@ -18,22 +18,30 @@ handles_questions t client numbers = each (handle_questions t client numbers) 0 
 abbrev pub AreNumbersOf : TableModel → List ℕ → Type 0
 AreNumbersOf t handles = (i : ℕ) → i < length handles → slice_index handles i < length t.buffers
 
--- a handle names a Plain buffer, or a Code buffer
+-- handle i names a buffer of the table
+abbrev pub IsNamed : TableModel → List ℕ → ℕ → Type 0
+IsNamed t handles i = (i < length handles) × (slice_index handles i < length t.buffers)
+
+-- it names a Plain buffer, or a Code buffer
 abbrev pub IsData : TableModel → List ℕ → ℕ → Type 0
-IsData t handles i = (i < length handles) × ((buffer_at t.buffers (slice_index handles i)).kind ≡ Plain)
+IsData t handles i = IsNamed t handles i × ((buffer_at t.buffers (slice_index handles i)).kind ≡ Plain)
 
 abbrev pub IsCode : TableModel → List ℕ → ℕ → Type 0
-IsCode t handles i = (i < length handles) × ((buffer_at t.buffers (slice_index handles i)).kind ≡ Code)
+IsCode t handles i = IsNamed t handles i × ((buffer_at t.buffers (slice_index handles i)).kind ≡ Code)
 
 abbrev pub is_plain : Kind → Bool
 is_plain Plain = true
 is_plain Code = false
 
--- the number of the buffer that a handle names, where that buffer has the kind
+abbrev pub is_named : TableModel → List ℕ → ℕ → Bool
+is_named t handles i = nat_lt i (length handles) && nat_lt (slice_index handles i) (length t.buffers)
+
+-- The number of the buffer that a handle names, where that buffer has the kind. A number past the
+-- last buffer names none.
 unfoldable pub data_of : TableModel → List ℕ → ℕ → Option ℕ
 data_of t handles i =
-    if nat_lt i (length handles) && is_plain (buffer_at t.buffers (slice_index handles i)).kind then Some (slice_index handles i) else None
+    if is_named t handles i && is_plain (buffer_at t.buffers (slice_index handles i)).kind then Some (slice_index handles i) else None
 
 unfoldable pub code_of : TableModel → List ℕ → ℕ → Option ℕ
 code_of t handles i =
-    if nat_lt i (length handles) && not (is_plain (buffer_at t.buffers (slice_index handles i)).kind) then Some (slice_index handles i) else None
+    if is_named t handles i && not (is_plain (buffer_at t.buffers (slice_index handles i)).kind) then Some (slice_index handles i) else None

@@ -1,8 +1,10 @@
 -- The rules of a memory table, and what they promise.
-use Rattle.std.specs.Prelude.{ℕ, ◌+◌, ◌*◌, ◌%◌, ◌≤◌, ◌<◌, min, max, Bool, not, ◌||◌, nat_lt, ◌==◌, List, [], ◌∷◌, ◌++◌, length, map, take, slice_index_or}
+use Rattle.std.specs.Prelude.{◌≡◌, ℕ, ◌+◌, ◌*◌, ◌%◌, ◌≤◌, ◌<◌, min, max, Bool, not, ◌||◌, nat_lt, ◌==◌, List, [], ◌∷◌, ◌++◌, length, map, take, slice_index_or, Some}
 use Rattle.std.specs.List.{list_any}
-use Rattle.field_words.specs.Questions.{Question, Ask, each}
-use Rattle.buffer_table.specs.declared.buffer.Kind.TheVariants.{Plain}
+use Rattle.field_words.specs.Questions.{Question, Ask, first_of, each}
+use Rattle.field_words.specs.Least.{IsLeast}
+use Rattle.field_words.specs.Sizes.{page_size, slot_size, most_memory}
+use Rattle.buffer_table.specs.declared.buffer.Kind.TheVariants.{Plain, Code}
 use Rattle.buffer_table.specs.declared.buffer.Buffer.{Buffer}
 use Rattle.buffer_table.specs.declared.buffer.Regions.{Regions}
 use Rattle.buffer_table.specs.declared.buffer.TableFault.{TableFault}
@@ -23,7 +25,7 @@ abbrev pub lists_item : Regions → Item
 lists_item r = record { place = r.lists_place; size = r.lists_size; content = 0 }
 
 abbrev pub tile_item : Regions → Item
-tile_item r = record { place = r.tile_place; size = 524288 * r.tile_slots; content = 0 }
+tile_item r = record { place = r.tile_place; size = slot_size * r.tile_slots; content = 0 }
 
 abbrev pub buffer_item : Buffer → Item
 buffer_item b = record { place = b.place; size = b.size; content = b.content }
@@ -48,21 +50,21 @@ ShareByte x y = (byte : ℕ) × IsIn byte x × IsIn byte y
 unfoldable pub shares : Item → Item → Bool
 shares x y = nat_lt (max x.place y.place) (min (x.place + x.size) (y.place + y.size))
 
-unfoldable pub is_unaligned : Item → Bool
-is_unaligned x = not (x.place % 4096 == 0) || (not (x.size % 4096 == 0) || x.size == 0)
+unfoldable pub is_off_page : Item → Bool
+is_off_page x = not (x.place % page_size == 0) || (not (x.size % page_size == 0) || x.size == 0)
 
--- M1: the memory's size is 0, no multiple of 4,096 or over 64 MiB
+-- M1: the memory's size is 0, no multiple of a page or over 64 MiB
 unfoldable pub memory_questions : ℕ → List (Question TableFault)
-memory_questions memory = Ask (memory == 0 || (not (memory % 4096 == 0) || nat_lt 67108864 memory)) (fault 1 0) ∷ []
+memory_questions memory = Ask (memory == 0 || (not (memory % page_size == 0) || nat_lt most_memory memory)) (fault 1 0) ∷ []
 
--- M2: a place or size is no multiple of 4,096, or the size is 0
+-- M2: a place or size is no multiple of a page, or the size is 0
 -- M3: the end is past the memory
 -- M4: an earlier item other than the memory has a byte of it
 -- M5: more content than bytes
 -- Item k of the list is item k + 1 of a fault, since the memory is item 0.
 unfoldable pub item_questions : ℕ → List Item → ℕ → List (Question TableFault)
 item_questions memory items k =
-    Ask (is_unaligned (item_at items k)) (fault 2 (k + 1))
+    Ask (is_off_page (item_at items k)) (fault 2 (k + 1))
     ∷ (Ask (nat_lt memory ((item_at items k).place + (item_at items k).size)) (fault 3 (k + 1))
     ∷ (Ask (list_any (shares (item_at items k)) (take k items)) (fault 4 (k + 1))
     ∷ (Ask (nat_lt (item_at items k).size (item_at items k).content) (fault 5 (k + 1)) ∷ [])))
@@ -75,9 +77,22 @@ all_questions memory items = memory_questions memory ++ each (item_questions mem
 abbrev pub table_questions : ℕ → Regions → List Buffer → List (Question TableFault)
 table_questions memory r buffers = all_questions memory (items_of r buffers)
 
--- the entry of a buffer; past the end an entry of zeros
-abbrev pub no_buffer : Buffer
-no_buffer = record { place = 0; size = 0; client = 0; kind = Plain; content = 0 }
+-- faults in the order of refusal: by item, and at an item by number
+abbrev pub fault_rank : TableFault → ℕ
+fault_rank fault = 8 * fault.item + fault.number
+
+-- The first rule of a table that stands is the least of all that do.
+abbrev pub FirstIsLeast : Type 0
+FirstIsLeast = (memory : ℕ) (r : Regions) (buffers : List Buffer) (fault : TableFault) → first_of (table_questions memory r buffers) ≡ Some fault
+    → IsLeast fault_rank (table_questions memory r buffers) fault
+
+-- the entry of a buffer; past the end an entry of no bytes that is no Plain buffer
+abbrev pub past_end : Buffer
+past_end = record { place = 0; size = 0; client = 0; kind = Code; content = 0 }
 
 unfoldable pub buffer_at : List Buffer → ℕ → Buffer
-buffer_at buffers number = slice_index_or buffers number no_buffer
+buffer_at buffers number = slice_index_or buffers number past_end
+
+-- An entry of zeros, with which proofs read a list at an index inside it. No rule speaks of it.
+abbrev pub no_buffer : Buffer
+no_buffer = record { place = 0; size = 0; client = 0; kind = Plain; content = 0 }

@@ -1,7 +1,7 @@
 //! The handles of a job: which buffers it may name.
 ghost use Rattle.std.specs.Prelude.{◌≡◌, ◌<◌, ◌≤◌, length, slice_index, IfOk, IfSome};
 ghost use Rattle.std.specs.Option.{SomeIff};
-ghost use Rattle.field_words.specs.Questions.{Answers, first_of, each};
+ghost use Rattle.field_words.specs.Questions.{Answers, NamesFirst, NeverHidesFault, first_of, each};
 ghost use Rattle.buffer_table.specs.Table.{TableModel, buffer_at};
 ghost use Rattle.buffer_table.specs.Handles.{handle_questions, handles_questions, AreNumbersOf, IsData, IsCode, data_of, code_of};
 
@@ -54,7 +54,7 @@ fn handles_fault(table: &Table, client: u32, numbers: &[u32]) -> Option<u32>
 
 impl Handles {
     /// The handles of a job of `client`. The fault is the least index at which H1 stands: the
-    /// number is no buffer's, or the buffer belongs to another client.
+    /// number is no buffer's, or the buffer belongs to another client. Finding it takes no memory.
     pub fn make(
         alloc: Global,
         table: &Table,
@@ -63,6 +63,8 @@ impl Handles {
     ) -> Result<Handles, Stop<u32>>
         requires few { length numbers.now ≤ 1024 }
         ensures made { Answers (handles_questions table.now client numbers.now) (λ h. h ≡ numbers.now) result }
+        ensures first { NamesFirst (handles_questions table.now client numbers.now) result }
+        ensures memory { NeverHidesFault (handles_questions table.now client numbers.now) result }
         ensures numbers { IfOk result (λ h. AreNumbersOf table.now h) }
     {
         if let Some(fault) = handles_fault(table, client, numbers) {

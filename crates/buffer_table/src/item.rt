@@ -1,11 +1,14 @@
 //! The items of a memory table as intervals, and the rules that each of them keeps.
-ghost use Rattle.std.specs.Prelude.{◌≡◌, ◌<◌, ◌≤◌, ◌↔◌, IsTrue, IfOk, length, take};
+ghost use Rattle.std.specs.Prelude.{◌≡◌, ◌+◌, ◌<◌, ◌≤◌, ◌↔◌, IsTrue, Some, length, take};
 ghost use Rattle.std.specs.List.{list_any};
 ghost use Rattle.field_words.specs.Questions.{first_of, each};
-ghost use Rattle.buffer_table.specs.Table.{lists_item, tile_item, buffer_item, shares, ShareByte, is_unaligned, item_questions, memory_questions, all_questions, items_of, item_at};
+ghost use Rattle.buffer_table.specs.Table.{lists_item, tile_item, buffer_item, shares, ShareByte, is_off_page, item_questions, memory_questions, table_questions, items_of, item_at};
 
-use crate::buffer::{Buffer, Regions, TableFault};
-use std::alloc::{AllocError, Global};
+use crate::buffer::{
+    BAD_MEMORY, Buffer, OFF_PAGE, OUTSIDE_MEMORY, Regions, SHARED_BYTE, TOO_MUCH_CONTENT,
+    TableFault,
+};
+use field_words::{MOST_MEMORY, PAGE_SIZE, SLOT_SIZE};
 
 /// `size` bytes of the memory from `place` on, of which the file gives the first `content`.
 #[derive(Clone, Copy, Debug, PartialEq, Eq)]
@@ -16,15 +19,9 @@ pub struct Item {
 }
 
 /// The size of a page, of which each place and size is a multiple.
-const PAGE: u64 = 4096;
+const PAGE: u64 = PAGE_SIZE as u64;
 
-/// The size of a tile slot.
-const SLOT: u64 = 524_288;
-
-/// The most bytes of memory that a job may have.
-const MOST_MEMORY: u32 = 67_108_864;
-
-pub(crate) fn lists_of(regions: &Regions) -> Item
+fn lists_of(regions: &Regions) -> Item
     ensures { result ≡ lists_item regions.now }
 {
     Item {
@@ -34,17 +31,17 @@ pub(crate) fn lists_of(regions: &Regions) -> Item
     }
 }
 
-pub(crate) fn tiles_of(regions: &Regions) -> Item
+fn tiles_of(regions: &Regions) -> Item
     ensures { result ≡ tile_item regions.now }
 {
     Item {
         place: u64::from(regions.tile_place),
-        size: SLOT * u64::from(regions.tile_slots),
+        size: u64::from(SLOT_SIZE) * u64::from(regions.tile_slots),
         content: 0,
     }
 }
 
-pub(crate) fn item_of(buffer: &Buffer) -> Item
+fn item_of(buffer: &Buffer) -> Item
     ensures { result ≡ buffer_item buffer.now }
 {
     Item {
@@ -66,62 +63,88 @@ fn shares_byte(x: &Item, y: &Item) -> bool
 }
 
 /// Whether a place or size is no multiple of a page, or there is no byte.
-#[tactic(auto, unfolding(crate::specs::Table::is_unaligned))]
+#[tactic(auto, unfolding(crate::specs::Table::is_off_page))]
 fn is_off_page(x: &Item) -> bool
-    ensures { result ≡ is_unaligned x.now }
+    ensures { result ≡ is_off_page x.now }
 {
     x.place % PAGE != 0 || x.size % PAGE != 0 || x.size == 0
 }
 
+/// Item `k` of a table: the lists' region, the tile region, and then the buffers.
+fn item_at(regions: &Regions, buffers: &[Buffer], k: usize) -> Item
+    requires inside { k < length buffers.now + 2 }
+    ensures { result ≡ item_at (items_of regions.now buffers.now) k }
+{
+    if k == 0 {
+        return lists_of(regions);
+    }
+    if k == 1 {
+        return tiles_of(regions);
+    }
+    item_of(&buffers[k - 2])
+}
+
 /// M1: the memory's size.
 #[tactic(auto, unfolding(crate::specs::Table::memory_questions))]
-pub(crate) fn memory_fault(mem_size: u32) -> Option<TableFault>
+fn memory_fault(mem_size: u32) -> Option<TableFault>
     ensures { result ≡ first_of (memory_questions mem_size) }
 {
     if mem_size == 0 || u64::from(mem_size) % PAGE != 0 || mem_size > MOST_MEMORY {
-        return Some(TableFault { number: 1, item: 0 });
+        return fault(BAD_MEMORY, 0);
     }
     None
 }
 
-/// Whether one of the earlier items has a byte of this one.
-fn is_shared(earlier: &[Item], x: &Item) -> bool
-    ensures { result ≡ list_any (shares x.now) earlier.now }
+/// Whether one of the items before item `k` has a byte of `x`.
+fn is_shared(regions: &Regions, buffers: &[Buffer], k: usize, x: &Item) -> bool
+    requires inside { k < length buffers.now + 2 }
+    ensures { result ≡ list_any (shares x.now) (take k (items_of regions.now buffers.now)) }
 {
-    earlier.iter().any(|y| shares_byte(x, y))
+    for j in 0..k {
+        if shares_byte(x, &item_at(regions, buffers, j)) {
+            return true;
+        }
+    }
+    false
+}
+
+fn fault(number: u8, item: u32) -> Option<TableFault>
+    ensures { result ≡ Some (record { number = number; item = item }) }
+{
+    Some(TableFault { number, item })
 }
 
 /// M2 to M5 of item `k` of the list, which is item `k + 1` of a fault.
 #[tactic(auto, unfolding(crate::specs::Table::item_questions))]
-fn item_fault(mem_size: u32, items: &[Item], k: usize) -> Option<TableFault>
-    requires inside { k < length items.now }
-    requires few { length items.now ≤ 1026 }
-    ensures { result ≡ first_of (item_questions mem_size items.now k) }
+fn item_fault(mem_size: u32, regions: &Regions, buffers: &[Buffer], k: usize) -> Option<TableFault>
+    requires inside { k < length buffers.now + 2 }
+    requires few { length buffers.now ≤ 1024 }
+    ensures { result ≡ first_of (item_questions mem_size (items_of regions.now buffers.now) k) }
 {
-    let x = &items[k];
+    let x = item_at(regions, buffers, k);
     let item = k as u32 + 1;
-    if is_off_page(x) {
-        return Some(TableFault { number: 2, item });
+    if is_off_page(&x) {
+        return fault(OFF_PAGE, item);
     }
     if u128::from(x.place) + u128::from(x.size) > u128::from(mem_size) {
-        return Some(TableFault { number: 3, item });
+        return fault(OUTSIDE_MEMORY, item);
     }
-    if is_shared(&items[..k], x) {
-        return Some(TableFault { number: 4, item });
+    if is_shared(regions, buffers, k, &x) {
+        return fault(SHARED_BYTE, item);
     }
     if x.content > x.size {
-        return Some(TableFault { number: 5, item });
+        return fault(TOO_MUCH_CONTENT, item);
     }
     None
 }
 
 /// The first of M2 to M5, item by item.
-fn items_fault(mem_size: u32, items: &[Item]) -> Option<TableFault>
-    requires few { length items.now ≤ 1026 }
-    ensures { result ≡ first_of (each (item_questions mem_size items.now) 0 (length items.now)) }
+fn items_fault(mem_size: u32, regions: &Regions, buffers: &[Buffer]) -> Option<TableFault>
+    requires few { length buffers.now ≤ 1024 }
+    ensures { result ≡ first_of (each (item_questions mem_size (items_of regions.now buffers.now)) 0 (length (items_of regions.now buffers.now))) }
 {
-    for k in 0..items.len() {
-        if let Some(fault) = item_fault(mem_size, items, k) {
+    for k in 0..buffers.len() + 2 {
+        if let Some(fault) = item_fault(mem_size, regions, buffers, k) {
             return Some(fault);
         }
     }
@@ -130,29 +153,16 @@ fn items_fault(mem_size: u32, items: &[Item]) -> Option<TableFault>
 
 /// The first of M1 to M5.
 #[tactic(auto, unfolding(crate::specs::Table::all_questions), using(field_words::proofs::Questions::passes, field_words::proofs::Questions::stops))]
-pub(crate) fn table_fault(mem_size: u32, items: &[Item]) -> Option<TableFault>
-    requires few { length items.now ≤ 1026 }
-    ensures { result ≡ first_of (all_questions mem_size items.now) }
+pub(crate) fn table_fault(
+    mem_size: u32,
+    regions: &Regions,
+    buffers: &[Buffer],
+) -> Option<TableFault>
+    requires few { length buffers.now ≤ 1024 }
+    ensures { result ≡ first_of (table_questions mem_size regions.now buffers.now) }
 {
     match memory_fault(mem_size) {
         Some(fault) => Some(fault),
-        None => items_fault(mem_size, items),
+        None => items_fault(mem_size, regions, buffers),
     }
-}
-
-/// The items after the memory: the lists' region, the tile region and the buffers.
-pub(crate) fn items(
-    alloc: Global,
-    regions: &Regions,
-    buffers: &[Buffer],
-) -> Result<Vec<Item>, AllocError>
-    ensures { IfOk result (λ items. items.items ≡ items_of regions.now buffers.now) }
-{
-    let mut items = Vec::new(alloc);
-    items.push(lists_of(regions))?;
-    items.push(tiles_of(regions))?;
-    for buffer in buffers {
-        items.push(item_of(buffer))?;
-    }
-    Ok(items)
 }

@@ -1,16 +1,16 @@
 //! The memory table.
 ghost use Rattle.std.specs.Prelude.{◌≡◌, ◌<◌, ◌≤◌, length, IfOk};
-ghost use Rattle.field_words.specs.Questions.{Answers};
-ghost use Rattle.buffer_table.specs.Table.{TableModel, table_questions, buffer_at};
+ghost use Rattle.field_words.specs.Questions.{Answers, NamesFirst, NeverHidesFault};
+ghost use Rattle.buffer_table.specs.Table.{TableModel, FirstIsLeast, table_questions, buffer_at};
 ghost use Rattle.buffer_table.specs.Sound.{IsSound, IsSoundBuffer};
 
 use crate::buffer::{Buffer, Regions, TableFault};
-use crate::item::{items, table_fault};
+use crate::item::table_fault;
 use field_words::Stop;
 use std::alloc::Global;
 use std::marker::Model;
 
-/// The memory of a job file, with its regions and buffers, of which no memory rule fails: all of
+/// The memory of a job file, with its regions and buffers, of which no memory rule stands: all of
 /// them are made of whole pages inside the memory, and no two have a byte in common.
 #[derive(Drop)]
 pub struct Table {
@@ -32,7 +32,7 @@ impl Model for Table {
 
 impl Table {
     /// The table of a memory of `mem_size` bytes. The fault is the first of M1 to M5, by item and
-    /// number.
+    /// number. Finding it takes no memory.
     pub fn make(
         alloc: Global,
         mem_size: u32,
@@ -41,10 +41,11 @@ impl Table {
     ) -> Result<Table, Stop<TableFault>>
         requires few { length buffers.now.items ≤ 1024 }
         ensures made { Answers (table_questions mem_size regions buffers.now.items) (λ t. t ≡ record { memory = mem_size; regions = regions; buffers = buffers.now.items }) result }
+        ensures first { NamesFirst (table_questions mem_size regions buffers.now.items) result }
+        ensures memory { NeverHidesFault (table_questions mem_size regions buffers.now.items) result }
         ensures sound { IfOk result (λ t. IsSound t.memory t.regions t.buffers) }
     {
-        let items = items(alloc, &regions, buffers)?;
-        if let Some(fault) = table_fault(mem_size, &items) {
+        if let Some(fault) = table_fault(mem_size, &regions, buffers) {
             return Err(Stop::Fault(fault));
         }
         Ok(Table {
@@ -70,3 +71,8 @@ impl Table {
         self.buffers[number]
     }
 }
+
+/// The first memory rule that stands is the least of all that stand, by item and then by number.
+pub fn first_fault_is_least()
+    ensures { FirstIsLeast }
+{}

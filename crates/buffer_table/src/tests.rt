@@ -1,3 +1,4 @@
+//! Each memory rule, the handles' rule, and what handles name.
 use super::*;
 use field_words::Stop;
 use std::alloc::{AllocError, Global};
@@ -25,7 +26,8 @@ fn at(place: u32) -> Buffer {
     Buffer { place, ..BUFFER }
 }
 
-/// The first fault of a memory with three buffers.
+/// The first rule that stands of a memory with three buffers, and its item: 1 and 2 are the regions,
+/// 3 to 5 the buffers.
 fn fault_of(
     alloc: Global,
     memory: u32,
@@ -43,39 +45,39 @@ fn fault_of(
 }
 
 #[test]
-fn the_first_memory_rule_that_fails(rt: HostRuntime) -> Result<(), Fail> {
+fn the_first_memory_rule_that_stands(rt: HostRuntime) -> Result<(), Fail> {
     let alloc = rt.alloc();
     for (memory, regions, buffers, want) in [
         (
             MEMORY,
             REGIONS,
             [BUFFER, at(0x82000), at(0x83000)],
-            Some((3, 4)),
+            Some((OUTSIDE_MEMORY, 4)),
         ),
         (0x84000, REGIONS, [BUFFER, at(0x82000), at(0x83000)], None),
         (
             0x84000,
             REGIONS,
             [BUFFER, at(0x82000), BUFFER],
-            Some((4, 5)),
+            Some((SHARED_BYTE, 5)),
         ),
         (
             0x84000,
             REGIONS,
             [BUFFER, BUFFER, at(0x82000)],
-            Some((4, 4)),
+            Some((SHARED_BYTE, 4)),
         ),
         (
             0x84000,
             REGIONS,
             [at(0x80000), BUFFER, at(0x82000)],
-            Some((4, 3)),
+            Some((SHARED_BYTE, 3)),
         ),
         (
             0x84000,
             REGIONS,
             [BUFFER, at(0x82800), at(0x83000)],
-            Some((2, 4)),
+            Some((OFF_PAGE, 4)),
         ),
         (
             0x84000,
@@ -88,16 +90,21 @@ fn the_first_memory_rule_that_fails(rt: HostRuntime) -> Result<(), Fail> {
                     ..at(0x83000)
                 },
             ],
-            Some((5, 5)),
+            Some((TOO_MUCH_CONTENT, 5)),
         ),
         (
             0x84000,
             REGIONS,
             [Buffer { size: 0, ..BUFFER }, at(0x82000), at(0x83000)],
-            Some((2, 3)),
+            Some((OFF_PAGE, 3)),
         ),
-        (0, REGIONS, [BUFFER, BUFFER, BUFFER], Some((1, 0))),
-        (0x4001000, REGIONS, [BUFFER, BUFFER, BUFFER], Some((1, 0))),
+        (0, REGIONS, [BUFFER, BUFFER, BUFFER], Some((BAD_MEMORY, 0))),
+        (
+            0x4001000,
+            REGIONS,
+            [BUFFER, BUFFER, BUFFER],
+            Some((BAD_MEMORY, 0)),
+        ),
         (
             0x84000,
             Regions {
@@ -105,7 +112,7 @@ fn the_first_memory_rule_that_fails(rt: HostRuntime) -> Result<(), Fail> {
                 ..REGIONS
             },
             [BUFFER, BUFFER, BUFFER],
-            Some((2, 1)),
+            Some((OFF_PAGE, 1)),
         ),
         (
             0x84000,
@@ -114,7 +121,7 @@ fn the_first_memory_rule_that_fails(rt: HostRuntime) -> Result<(), Fail> {
                 ..REGIONS
             },
             [BUFFER, BUFFER, BUFFER],
-            Some((2, 2)),
+            Some((OFF_PAGE, 2)),
         ),
         (
             0x84000,
@@ -123,7 +130,7 @@ fn the_first_memory_rule_that_fails(rt: HostRuntime) -> Result<(), Fail> {
                 ..REGIONS
             },
             [BUFFER, BUFFER, BUFFER],
-            Some((3, 2)),
+            Some((OUTSIDE_MEMORY, 2)),
         ),
         (
             0x84000,
@@ -132,7 +139,7 @@ fn the_first_memory_rule_that_fails(rt: HostRuntime) -> Result<(), Fail> {
                 ..REGIONS
             },
             [BUFFER, BUFFER, BUFFER],
-            Some((4, 2)),
+            Some((SHARED_BYTE, 2)),
         ),
     ] {
         assert_eq!(rt; fault_of(alloc, memory, regions, buffers)?, want);
@@ -155,7 +162,7 @@ fn handles_name_buffers_of_their_client(rt: HostRuntime) -> Result<(), Fail> {
     })?;
     let table = match Table::make(alloc, 0x84000, REGIONS, &buffers) {
         Ok(table) => table,
-        Err(_) => return Err("no rule fails".into()),
+        Err(_) => return Err("no rule stands".into()),
     };
     for (client, numbers, want) in [
         (1, [0, 1], None),

@@ -1,6 +1,6 @@
 -- Laws on rules that are asked in an order.
 use Rattle.std.proofs.Common.{◌≡◌, ℕ, zero, suc, ◌+◌, ◌-◌, ◌<◌, ◌≤◌, true, false, List, [], ◌∷◌, ◌++◌, Some, None, Result, Ok, Err, refl, sym, ap, arith, ◌∙◌}
-use Rattle.field_words.specs.Questions.{Question, Ask, first_of, NoneStands, IsFirst, each, answered, Refuses, Answers}
+use Rattle.field_words.specs.Questions.{Question, Ask, first_of, NoneStands, IsFirst, each, answered, Refuses, Answers, NamesFirst, NeverHidesFault}
 use Rattle.field_words.specs.declared.stop.Stop.{Stop}
 use Rattle.field_words.specs.declared.stop.Stop.TheVariants.{Fault, NoMemory}
 
@@ -106,3 +106,15 @@ refuses_front front rest NoMemory refuses = tt
 pub refuses_answered : {F G : Type 0} (change : F → G) (questions : List (Question F)) (f : F) → first_of questions ≡ Some f
     → Refuses (answered change questions) (Fault (change f))
 refuses_answered change questions f some = answered_some change questions f some
+
+-- What answers the first that stands names it, as a sentence about the whole list.
+pub names_first : {X F : Type 0} (questions : List (Question F)) (P : X → Type 0) → (result : Result X (Stop F)) → Answers questions P result → NamesFirst questions result
+names_first questions P (Ok made) answers = tt
+names_first questions P (Err (Fault f)) answers = first_is questions f answers
+names_first questions P (Err NoMemory) answers = tt
+
+-- A front without faults, and a rest of which none is hidden.
+pub hides_later : {X F : Type 0} (front rest : List (Question F)) → (result : Result X (Stop F)) → first_of front ≡ None → NeverHidesFault rest result → NeverHidesFault (front ++ rest) result
+hides_later front rest (Ok made) none later = tt
+hides_later front rest (Err (Fault f)) none later = tt
+hides_later front rest (Err NoMemory) none later = passes front rest none ∙ later

@@ -44,3 +44,15 @@ Refuses questions NoMemory = Unit {0}
 abbrev pub Answers : {X F : Type 0} → List (Question F) → (X → Type 0) → Result X (Stop F) → Type 0
 Answers questions P (Ok made) = (first_of questions ≡ None) × P made
 Answers questions P (Err stop) = Refuses questions stop
+
+-- A fault that is answered is the first that stands, as a sentence about the whole list.
+abbrev pub NamesFirst : {X F : Type 0} → List (Question F) → Result X (Stop F) → Type 0
+NamesFirst questions (Ok made) = Unit {0}
+NamesFirst questions (Err (Fault answer)) = IsFirst questions answer
+NamesFirst questions (Err NoMemory) = Unit {0}
+
+-- A fault is never answered as want of memory: that comes only where no rule stands.
+abbrev pub NeverHidesFault : {X F : Type 0} → List (Question F) → Result X (Stop F) → Type 0
+NeverHidesFault questions (Ok made) = Unit {0}
+NeverHidesFault questions (Err (Fault answer)) = Unit {0}
+NeverHidesFault questions (Err NoMemory) = first_of questions ≡ None

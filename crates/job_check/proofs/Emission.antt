@@ -1,22 +1,18 @@
 -- What is emitted is the memory of the file.
-use Rattle.std.proofs.Common.{◌≡◌, ℕ, zero, suc, ◌+◌, ◌-◌, ◌<◌, ◌≤◌, List, [], ◌∷◌, ◌++◌, length, get_or, map, false, None, Option, refl, sym, ap, subst, arith, ◌∙◌}
-use Rattle.std.proofs.lemmas.List.{get_or_default}
-use Rattle.std.proofs.lemmas.List.{length-replicate}
-use Rattle.field_words.specs.Writes.{Part, placed, emitted, with_bytes, zeros}
+use Rattle.std.proofs.Common.{◌≡◌, ℕ, suc, ◌+◌, ◌%◌, ◌<◌, ◌≤◌, List, [], ◌∷◌, ◌++◌, length, get_or, map, refl, sym, ap, subst, arith, ◌∙◌}
+use Rattle.std.proofs.lemmas.List.{get_or_default, length-replicate}
+use Rattle.field_words.specs.Writes.{Part, placed, with_bytes, zeros}
 use Rattle.buffer_table.specs.declared.buffer.Buffer.{Buffer}
-use Rattle.buffer_table.specs.Table.{TableModel, no_buffer, buffer_at, items_of, item_at}
-use Rattle.buffer_table.specs.Sound.{IsSound, IsSoundBuffer}
+use Rattle.buffer_table.specs.Table.{no_buffer, buffer_at}
+use Rattle.buffer_table.specs.Sound.{IsSound}
 use Rattle.buffer_table.proofs.Sounds.{sound_buffer}
-use Rattle.job_format.specs.declared.file.Frame.{Frame}
 use Rattle.job_format.specs.Model.{FileModel}
+use Rattle.job_check.specs.Jobs.{table_of}
 use Rattle.relocation.specs.declared.layout.Layout.{Layout}
 use Rattle.relocation.specs.declared.layout.Lengths.{Lengths}
-use Rattle.render_list.specs.Frame.{IsSetupFor}
-use Rattle.render_list.specs.Length.{render_length}
-use Rattle.render_list.specs.Text.{render_text}
-use Rattle.render_list.proofs.Length.{length_render}
-use Rattle.job_check.specs.Faults.{job_of, places_in, slot_of, render_list_of, table_of}
-use Rattle.job_check.specs.Emit.{content_parts, ContentsFit, layout_of, lengths_of, list_parts, memory_of, IsEmitted}
+use Rattle.job_check.specs.Jobs.{layout_of}
+use Rattle.job_check.specs.Emit.{content_parts, memory_parts, memory_of, ContentsFit, InOrder, IsPlacedFor, IsEmitted, IsPlaced}
+use Rattle.job_check.proofs.Layouts.{layout_numbers, layout_order, lists_inside}
 
 -- Parts put one after the other: first those in front, then the rest.
 pub placed-append : (memory : List ℕ) (front rest : List Part) → placed memory (front ++ rest) ≡ placed (placed memory front) rest
@@ -56,55 +52,26 @@ fit_at f m buffers contents a b c sound same =
     subst (λ n. ContentsFit n buffers contents) (sym (ap length a ∙ length_zeros f.mem_size))
     (subst (λ x. ContentsFit f.mem_size x contents) (sym b) (subst (ContentsFit f.mem_size f.buffers) (sym c) (contents_fit f sound same)))
 
--- the lists' region lies inside the memory
-pub lists_inside : (f : FileModel) → IsSound f.mem_size f.regions f.buffers → f.regions.lists_place + f.regions.lists_size ≤ f.mem_size
-lists_inside f sound = let s = sound.each_item 0 (omega arith) in s.inside
-
--- the layout's numbers
-pub layout_numbers : (f : FileModel) (layout : Layout) → layout ≡ layout_of f 0
-    → (layout.place ≡ f.regions.lists_place) × (layout.slot ≡ slot_of f 0) × (layout.render + length (render_list_of f 0) ≡ layout.end)
-unfolding layout_of
-layout_numbers f layout e =
-    let P : Layout → Type 0 = λ l. (l.place ≡ f.regions.lists_place) × (l.slot ≡ slot_of f 0) × (l.render + length (render_list_of f 0) ≡ l.end) in
-    subst P (sym e) (refl, refl, refl)
-
--- the list that is written is the file's
-pub text_is : (f : FileModel) (frame : Frame) (places : List (Option ℕ)) (slot : ℕ) → frame ≡ (job_of f 0).frame → places ≡ places_in f 0 → slot ≡ slot_of f 0
-    → render_text frame places None slot ≡ render_list_of f 0
-unfolding render_list_of
-text_is f frame places slot a b c =
-    ap (λ x. render_text x places None slot) a
-    ∙ ap (λ x. render_text (job_of f 0).frame x None slot) b
-    ∙ ap (λ x. render_text (job_of f 0).frame (places_in f 0) None x) c
-
-pub list_is : (f : FileModel) (layout : Layout) (frame : Frame) (places : List (Option ℕ)) → layout ≡ layout_of f 0 → frame ≡ (job_of f 0).frame → places ≡ places_in f 0
-    → render_text frame places None layout.slot ≡ render_list_of f 0
-list_is f layout frame places e a b = let numbers = layout_numbers f layout e in text_is f frame places layout.slot a b numbers.1
-
-pub list_length : (f : FileModel) (layout : Layout) (frame : Frame) (places : List (Option ℕ)) → layout ≡ layout_of f 0 → frame ≡ (job_of f 0).frame → places ≡ places_in f 0
-    → IsSetupFor frame places → length (render_list_of f 0) ≡ render_length frame false
-list_length f layout frame places e a b setup = ap length (sym (list_is f layout frame places e a b)) ∙ length_render frame places None layout.slot setup.present setup.tiles
-
--- Contents first, then the list: that is the file's memory.
-pub is_emitted : (f : FileModel) (memory : List ℕ) (layout : Layout) (lengths : Lengths) → layout ≡ layout_of f 0
-    → memory ≡ with_bytes (placed (zeros f.mem_size) (content_parts f.buffers f.contents)) (layout.place + layout.render) (render_list_of f 0)
-    → lengths ≡ record { bin = 0; records = 0; uniforms = 0; render = length (render_list_of f 0) }
-    → IsEmitted f memory layout lengths
-unfolding memory_of list_parts lengths_of
-is_emitted f memory layout lengths e put sizes =
+-- Contents first, then the lists: that is the file's memory.
+pub is_emitted : (f : FileModel) (memory : List ℕ) (layout : Layout) (lengths : Lengths)
+    → memory ≡ placed (placed (zeros f.mem_size) (content_parts f.buffers f.contents)) (memory_parts f 0)
+    → IsPlacedFor f 0 layout lengths → IsEmitted f memory layout lengths
+unfolding memory_of
+is_emitted f memory layout lengths put is =
     record {
-      memory_is =
-          put
-          ∙ ap (λ l. with_bytes (placed (zeros f.mem_size) (content_parts f.buffers f.contents)) (l.place + l.render) (render_list_of f 0)) e
-          ∙ sym (placed-append (zeros f.mem_size) (content_parts f.buffers f.contents) (list_parts f 0));
-      layout_is = e;
-      lengths_are = sizes;
+      memory_is = put ∙ sym (placed-append (zeros f.mem_size) (content_parts f.buffers f.contents) (memory_parts f 0));
+      layout_is = is.layout_is;
+      lengths_are = is.lengths_are;
     }
 
--- regions inside a memory of at most 64 MiB
-pub region_limits : (f : FileModel) → IsSound f.mem_size f.regions f.buffers
-    → (f.regions.lists_place ≤ 67108864) × (f.regions.lists_size ≤ 67108864) × (f.regions.tile_place ≤ 67108864)
-region_limits f sound =
-    let lists = sound.each_item 0 (omega arith) in
-    let tiles = sound.each_item 1 (omega arith) in
-    (omega (arith, lists.inside, sound.limit), omega (arith, lists.inside, sound.limit), omega (arith, tiles.inside, sound.limit))
+-- The lists lie inside a memory of the file's size.
+pub is_placed : (f : FileModel) (memory : List ℕ) (layout : Layout) → IsSound f.mem_size f.regions f.buffers → length memory ≡ f.mem_size
+    → layout ≡ layout_of f 0 → layout.end ≤ f.regions.lists_size → IsPlaced memory layout
+is_placed f memory layout sound size is fits =
+    let numbers = layout_numbers f 0 layout is in
+    record {
+      pages = ap (λ n. n % 4096) size ∙ sound.pages;
+      limit = omega (arith, size, sound.limit);
+      inside = omega (arith, size, numbers.0, fits, lists_inside f sound);
+      order = subst InOrder (sym is) (layout_order f 0);
+    }

@@ -1,22 +1,52 @@
--- A file of one job.
-use Rattle.std.proofs.Common.{◌≡◌, ℕ, ◌+◌, ◌<◌, List, [], ◌∷◌, ◌++◌, length, get_or, map, Result, refl, sym, ap, subst, arith, ◌∙◌}
-use Rattle.std.proofs.lemmas.List.{append-nil, get_or-map, get_or_read}
+-- The jobs of a file.
+use Rattle.std.proofs.Common.{◌≡◌, None, ℕ, zero, suc, ◌+◌, ◌<◌, List, [], ◌∷◌, length, get_or, map, sym, ap, subst, arith, ◌∙◌, sum_by, take}
+use Rattle.std.proofs.lemmas.List.Sums.{sum_by_more}
+use Rattle.std.specs.List.{AllByRecursion}
+use Rattle.std.proofs.lemmas.List.{append-nil, get_or-map, length-map}
 use Rattle.field_words.specs.declared.stop.Stop.{Stop}
-use Rattle.field_words.specs.Questions.{Question, each, Answers}
+use Rattle.field_words.specs.Questions.{Question, first_of, each, Refuses}
 use Rattle.job_format.specs.declared.file.Job.{Job}
+use Rattle.job_format.specs.File.{IsJobWellFormed}
 use Rattle.job_format.specs.Model.{FileModel, JobModel, job_view}
-use Rattle.job_check.specs.Faults.{job_of, no_job}
+use Rattle.job_check.specs.Jobs.{job_of, no_job}
+use Rattle.job_check.specs.Offsets.{parts_size}
 
--- What answers the one job answers all jobs.
-pub answers_one : {X F : Type 0} (questions : ℕ → List (Question F)) (n : ℕ) (P : X → Type 0) (result : Result X (Stop F)) → n ≡ 1
-    → Answers (questions 0) P result → Answers (each questions 0 n) P result
+-- What is said of the one job's rules is said of all jobs'.
+one_is_all : {F : Type 0} (questions : ℕ → List (Question F)) (n : ℕ) → n ≡ 1 → each questions 0 n ≡ questions 0
 unfolding each
-answers_one questions n P result one answers =
-    subst (λ k. Answers (each questions 0 k) P result) (sym one)
-    (subst (λ q. Answers q P result) (sym (append-nil (questions 0))) answers)
+one_is_all questions n one = ap (each questions 0) one ∙ append-nil (questions 0)
+
+pub none_in_one : {F : Type 0} (questions : ℕ → List (Question F)) (n : ℕ) → n ≡ 1 → first_of (questions 0) ≡ None → first_of (each questions 0 n) ≡ None
+none_in_one questions n one none = ap first_of (one_is_all questions n one) ∙ none
+
+pub refuses_one : {F : Type 0} (questions : ℕ → List (Question F)) (n : ℕ) (stop : Stop F) → n ≡ 1 → Refuses (questions 0) stop → Refuses (each questions 0 n) stop
+refuses_one questions n stop one refuses = subst (λ q. Refuses q stop) (sym (one_is_all questions n one)) refuses
 
 -- the job that is read is the file's
-pub job_is : (jobs : List Job) (f : FileModel) (job : Job) → f.jobs ≡ map job_view jobs → 0 < length jobs → job ≡ get_or jobs 0 job → job_view job ≡ job_of f 0
+pub job_is : (jobs : List Job) (f : FileModel) (j : ℕ) (job : Job) → f.jobs ≡ map job_view jobs → j < length jobs → job ≡ get_or jobs j job → job_view job ≡ job_of f j
 unfolding job_of
-job_is jobs f job same some read =
-    ap job_view read ∙ sym (get_or-map job_view jobs 0 job no_job some) ∙ sym (ap (λ js. get_or js 0 no_job) same)
+job_is jobs f j job same some read =
+    ap job_view read ∙ sym (get_or-map job_view jobs j job no_job some) ∙ sym (ap (λ js. get_or js j no_job) same)
+
+-- what holds of each job holds of job j
+all_at : (jobs : List JobModel) (j : ℕ) → AllByRecursion IsJobWellFormed jobs → j < length jobs → IsJobWellFormed (get_or jobs j no_job)
+all_at [] j all below = absurd (omega arith)
+all_at (job ∷ jobs) zero all below = all.0
+all_at (job ∷ jobs) (suc j) all below = all_at jobs j all.1 (omega (arith, below))
+
+pub job_limits : (f : FileModel) (j : ℕ) → AllByRecursion IsJobWellFormed f.jobs → j < length f.jobs → IsJobWellFormed (job_of f j)
+unfolding job_of
+job_limits f j all below = all_at f.jobs j all below
+
+-- the same of the jobs that the code holds
+pub limits_at : (jobs : List Job) (k : ℕ) (job : Job) → AllByRecursion IsJobWellFormed (map job_view jobs) → k < length jobs → job ≡ get_or jobs k job → IsJobWellFormed (job_view job)
+limits_at [] k job all below read = absurd (omega arith)
+limits_at (first ∷ jobs) zero job all below read = subst (λ x. IsJobWellFormed (job_view x)) (sym read) all.0
+limits_at (first ∷ jobs) (suc k) job all below read = limits_at jobs k job all.1 (omega (arith, below)) read
+
+-- the parts of one more job
+pub parts_more : (jobs : List Job) (k : ℕ) (job : Job) → k < length jobs → job ≡ get_or jobs k job
+    → sum_by parts_size (take (k + 1) (map job_view jobs)) ≡ sum_by parts_size (take k (map job_view jobs)) + parts_size (job_view job)
+parts_more jobs k job below read =
+    sum_by_more parts_size (map job_view jobs) k no_job (omega (arith, below, length-map jobs job_view))
+    ∙ ap (λ x. sum_by parts_size (take k (map job_view jobs)) + parts_size x) (get_or-map job_view jobs k job no_job below ∙ sym (ap job_view read))

@@ -6,8 +6,7 @@ use Rattle.buffer_table.specs.declared.buffer.Buffer.{Buffer}
 use Rattle.job_format.specs.Model.{FileModel}
 use Rattle.relocation.specs.declared.layout.Layout.{Layout}
 use Rattle.relocation.specs.declared.layout.Lengths.{Lengths}
-use Rattle.relocation.specs.Layout.{layout_for}
-use Rattle.job_check.specs.Faults.{job_of, slot_of, render_list_of}
+use Rattle.job_check.specs.Jobs.{layout_of, render_list_of}
 
 -- contents at the places of their buffers
 unfoldable pub content_parts : List Buffer → List (List ℕ) → List Part
@@ -15,20 +14,31 @@ content_parts [] contents = []
 content_parts (buffer ∷ buffers) [] = []
 content_parts (buffer ∷ buffers) (content ∷ contents) = record { place = buffer.place; bytes = content } ∷ content_parts buffers contents
 
--- where the lists of job j lie
-unfoldable pub layout_of : FileModel → ℕ → Layout
-layout_of f j = layout_for f.regions (length (job_of f j).bin) (length (job_of f j).records) (length (job_of f j).uniforms) (length (render_list_of f j)) (slot_of f j)
-
 -- how many bytes of each list are emitted: so far the renderer list alone
 unfoldable pub lengths_of : FileModel → ℕ → Lengths
 lengths_of f j = record { bin = 0; records = 0; uniforms = 0; render = length (render_list_of f j) }
 
+-- the lists of job j, each at its offset in the lists' region
 unfoldable pub list_parts : FileModel → ℕ → List Part
-list_parts f j = record { place = (layout_of f j).place + (layout_of f j).render; bytes = render_list_of f j } ∷ []
+list_parts f j = record { place = (layout_of f j).render; bytes = render_list_of f j } ∷ []
+
+-- the same parts, each so many bytes further on
+abbrev pub moved : ℕ → List Part → List Part
+moved by [] = []
+moved by (part ∷ parts) = record { place = by + part.place; bytes = part.bytes } ∷ moved by parts
+
+-- each part lies inside so many bytes
+abbrev pub PartsFit : ℕ → List Part → Type 0
+PartsFit size [] = Unit {0}
+PartsFit size (part ∷ parts) = (part.place + length part.bytes ≤ size) × PartsFit size parts
+
+-- the same parts in the memory
+unfoldable pub memory_parts : FileModel → ℕ → List Part
+memory_parts f j = moved (layout_of f j).place (list_parts f j)
 
 -- version 1 has one job, number 0
 unfoldable pub memory_of : FileModel → List ℕ
-memory_of f = emitted f.mem_size (content_parts f.buffers f.contents ++ list_parts f 0)
+memory_of f = emitted f.mem_size (content_parts f.buffers f.contents ++ memory_parts f 0)
 
 -- each buffer's contents lie inside a memory of this size
 unfoldable pub ContentsFit : ℕ → List Buffer → List (List ℕ) → Type 0
@@ -55,3 +65,8 @@ pub record IsPlaced (memory : List ℕ) (layout : Layout) : Type 0 where
   pub limit : length memory ≤ 67108864
   pub inside : layout.place + layout.end ≤ length memory
   pub order : InOrder layout
+
+-- Where the lists of a job went, and how many bytes of each were emitted.
+pub record IsPlacedFor (f : FileModel) (j : ℕ) (layout : Layout) (lengths : Lengths) : Type 0 where
+  pub layout_is : layout ≡ layout_of f j
+  pub lengths_are : lengths ≡ lengths_of f j

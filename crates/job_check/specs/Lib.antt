@@ -1,3 +1,6 @@
+pub mod Context
 pub mod Emit
 pub mod Faults
+pub mod Jobs
 pub mod Offsets
+pub mod Shaders

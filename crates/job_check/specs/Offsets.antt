@@ -1,24 +1,34 @@
 -- Where the things that rules speak of stand in the file: header, buffer entries, job entries,
 -- contents, and then each job's parts, its handles first.
-use Rattle.std.specs.Prelude.{ℕ, ◌+◌, ◌-◌, ◌*◌, ◌==◌, List, length, map, sum, take, if◌then◌else◌}
+use Rattle.std.specs.Prelude.{ℕ, ◌+◌, ◌-◌, ◌*◌, ◌==◌, length, map, sum, sum_by, take, if◌then◌else◌}
+use Rattle.job_format.specs.Offsets.{entry_offset, job_size}
 use Rattle.job_format.specs.Model.{FileModel, JobModel}
+use Rattle.shader_check.specs.declared.fault.ShaderFault.{ShaderFault}
 
 -- item 0 is the memory, 1 the lists' region, 2 the tile region, 3 + b buffer b
 unfoldable pub item_offset : ℕ → ℕ
 item_offset item =
-    if item == 0 then 8 else (if item == 1 then 12 else (if item == 2 then 20 else 36 + 20 * (item - 3)))
+    if item == 0 then 8 else (if item == 1 then 12 else (if item == 2 then 20 else entry_offset (item - 3)))
 
 -- the entry of job j
 unfoldable pub job_offset : FileModel → ℕ → ℕ
-job_offset f j = 36 + 20 * length f.buffers + 124 * j
+job_offset f j = entry_offset (length f.buffers) + job_size * j
+
+-- the contents of buffer b, after those of the buffers before it; all are as long as the entries say
+unfoldable pub content_offset : FileModel → ℕ → ℕ
+content_offset f b = job_offset f (length f.jobs) + sum (map (λ x. x.content) (take b f.buffers))
+
+-- A rule on a shader stands at an instruction; the rule on its length stands at the buffer's length field.
+unfoldable pub shader_offset : FileModel → ℕ → ShaderFault → ℕ
+shader_offset f b fault = if fault.number == 1 then entry_offset b + 16 else content_offset f b + 8 * fault.index
 
 -- the bytes of a job's parts: handles, binner list, records, uniforms
 abbrev pub parts_size : JobModel → ℕ
 parts_size job = 4 * length job.handles + length job.bin + length job.records + length job.uniforms
 
--- the handles of job j, after the contents of all buffers, which are as long as the entries say
+-- the handles of job j, after the contents of all buffers
 unfoldable pub handles_offset : FileModel → ℕ → ℕ
-handles_offset f j = job_offset f (length f.jobs) + sum (map (λ b. b.content) f.buffers) + sum (map parts_size (take j f.jobs))
+handles_offset f j = content_offset f (length f.buffers) + sum_by parts_size (take j f.jobs)
 
 -- item 0 of a frame is the frame itself, 1 to 6 its surfaces, 7 the whole
 unfoldable pub surface_offset : ℕ → ℕ → ℕ

@@ -1,24 +1,25 @@
 //! The whole check of a job file.
-ghost use Rattle.std.specs.Prelude.{◌≡◌, ◌<◌, ◌≤◌, ◌+◌, ◌++◌, IfOk};
-ghost use Rattle.field_words.specs.Questions.{Answers};
-ghost use Rattle.field_words.specs.Writes.{emitted};
-ghost use Rattle.job_format.specs.File.{IsWellFormed, IsJobWellFormed};
-ghost use Rattle.job_format.specs.Model.{file_view, job_view};
-ghost use Rattle.buffer_table.specs.Handles.{AreNumbersOf};
+ghost use Rattle.std.specs.Prelude.{◌≡◌, ◌<◌, ◌≤◌, ◌+◌, ◌++◌, length, IfOk};
+ghost use Rattle.field_words.specs.Questions.{Answers, each};
+ghost use Rattle.field_words.specs.Writes.{placed, zeros};
+ghost use Rattle.job_format.specs.File.{IsWellFormed};
+ghost use Rattle.job_format.specs.Model.{file_view};
 ghost use Rattle.buffer_table.specs.Sound.{IsSound};
-ghost use Rattle.render_list.specs.Frame.{IsSetupFor};
-ghost use Rattle.job_check.specs.Faults.{table_of, job_of, places_in, surfaces_stage, layout_stage, job_stages, file_stages};
-ghost use Rattle.job_check.specs.Emit.{layout_of, lengths_of, memory_of, IsEmitted, IsPlaced, InOrder};
+ghost use Rattle.job_check.specs.Shaders.{shaders_of, shaders_view};
+ghost use Rattle.job_check.specs.Jobs.{table_of, layout_of};
+ghost use Rattle.job_check.specs.Faults.{shaders_stage, surfaces_stage, layout_stage, job_stages, file_stages};
+ghost use Rattle.job_check.specs.Emit.{content_parts, memory_parts, IsPlacedFor, IsEmitted, IsPlaced};
 
+use super::context::Context;
 use super::emit::put_contents;
-use super::layout::{layout_stage, put_list};
-use super::stages::{handles_stage, surfaces_stage, table_stage};
-use buffer_table::{Handles, Table};
+use super::shaders::shaders_stage;
+use super::stages::table_stage;
+use buffer_table::Table;
 use field_words::{NoMemory, Stop};
-use job_format::{Job, JobFile, Refusal};
+use job_format::{JobFile, Refusal};
 use phys_mem::PhysMem;
+use qpu_isa::ShaderInfo;
 use relocation::{Layout, Lengths};
-use render_list::Setup;
 use std::alloc::Global;
 
 /// An accepted job: the memory that it is to run in, where its lists lie, and how many bytes of each were emitted.
@@ -29,112 +30,123 @@ pub struct Checked {
     pub lengths: Lengths,
 }
 
-/// The memory of an accepted job: the contents of the buffers, and the lists.
-fn emit(
-    alloc: Global,
-    file: &JobFile,
-    job: &Job,
-    setup: &Setup,
+/// Where the lists of a job lie, and how many bytes of each were emitted.
+#[derive(Clone, Copy)]
+struct Lists {
     layout: Layout,
-) -> Result<Checked, NoMemory>
+    lengths: Lengths,
+}
+
+/// The memory of the file before any list: the contents of its buffers.
+fn fresh_memory(alloc: Global, file: &JobFile) -> Result<PhysMem, NoMemory>
     requires well_formed { IsWellFormed (file_view file.now) }
-    requires job_is { job_view job.now ≡ job_of (file_view file.now) 0 }
-    requires table { IsSound file.now.mem_size file.now.regions file.now.buffers.items }
-    requires places { setup.now.places ≡ places_in (file_view file.now) 0 }
-    requires setup { IsSetupFor job.now.frame setup.now.places }
-    requires fits { layout.end ≤ file.now.regions.lists_size }
-    requires layout_is { layout ≡ layout_of (file_view file.now) 0 }
-    requires order { InOrder layout }
-    ensures emitted { IfOk result (λ checked. IsEmitted (file_view file.now) checked.memory checked.layout checked.lengths) }
-    ensures placed { IfOk result (λ checked. IsPlaced checked.memory checked.layout) }
+    requires sound { IsSound file.now.mem_size file.now.regions file.now.buffers.items }
+    ensures size { IfOk result (λ memory. length memory ≡ file.now.mem_size) }
+    ensures contents { IfOk result (λ memory. memory ≡ placed (zeros file.now.mem_size) (content_parts file.now.buffers.items (file_view file.now).contents)) }
 {
     let mut memory = PhysMem::new(alloc, file.mem_size)?;
     put_contents(&mut memory, &file.buffers, &file.contents);
-    put_list(&mut memory, &job.frame, setup, &layout);
-    let lengths = Lengths {
-        bin: 0,
-        records: 0,
-        uniforms: 0,
-        render: layout.end - layout.render,
-    };
-    Ok(Checked {
-        memory,
-        layout,
-        lengths,
-    })
+    Ok(memory)
 }
 
-/// X, and then the memory.
-fn place_lists(
-    alloc: Global,
-    file: &JobFile,
-    job: &Job,
-    setup: &Setup,
-) -> Result<Checked, Stop<Refusal>>
-    requires well_formed { IsWellFormed (file_view file.now) }
-    requires job_is { job_view job.now ≡ job_of (file_view file.now) 0 }
-    requires limits { IsJobWellFormed (job_view job.now) }
-    requires table { IsSound file.now.mem_size file.now.regions file.now.buffers.items }
-    requires places { setup.now.places ≡ places_in (file_view file.now) 0 }
-    requires setup { IsSetupFor job.now.frame setup.now.places }
-    ensures answers { Answers (layout_stage (file_view file.now) 0) (λ checked. IsEmitted (file_view file.now) checked.memory checked.layout checked.lengths) result }
-    ensures placed { IfOk result (λ checked. IsPlaced checked.memory checked.layout) }
+/// The rules of a job whose lists don't fit their region: those before X1 are asked over a region of the check's own.
+fn without_room(alloc: Global, job: &Context) -> Result<Lists, Stop<Refusal>>
+    requires { job.now.file.regions.lists_size < (layout_of job.now.file job.now.number).end }
+    ensures { Answers (surfaces_stage job.now.file job.now.number ++ layout_stage job.now.file job.now.number) (λ _. ⊥) result }
 {
-    let layout = layout_stage(file, job, setup)?;
-    match emit(alloc, file, job, setup, layout) {
-        Ok(checked) => Ok(checked),
-        Err(NoMemory) => Err(Stop::NoMemory),
-    }
-}
-
-/// G, and then the rest.
-fn check_frame(
-    alloc: Global,
-    file: &JobFile,
-    job: &Job,
-    table: &Table,
-    handles: &Handles,
-) -> Result<Checked, Stop<Refusal>>
-    requires well_formed { IsWellFormed (file_view file.now) }
-    requires job_is { job_view job.now ≡ job_of (file_view file.now) 0 }
-    requires limits { IsJobWellFormed (job_view job.now) }
-    requires table { IsSound file.now.mem_size file.now.regions file.now.buffers.items }
-    requires table_is { table.now ≡ table_of (file_view file.now) }
-    requires handles_are { handles.now ≡ (job_of (file_view file.now) 0).handles }
-    requires numbers { AreNumbersOf table.now handles.now }
-    ensures answers { Answers (surfaces_stage (file_view file.now) 0 ++ layout_stage (file_view file.now) 0) (λ checked. IsEmitted (file_view file.now) checked.memory checked.layout checked.lengths) result }
-    ensures placed { IfOk result (λ checked. IsPlaced checked.memory checked.layout) }
-{
-    match surfaces_stage(file, job, table, handles) {
-        Ok(setup) => place_lists(alloc, file, job, &setup),
+    let mut region = vec![in alloc; 0u8; job.layout.end as usize]?;
+    match job.write_lists(&mut region) {
+        Ok(_) => Err(Stop::Fault(job.layout_refusal())),
         Err(stop) => Err(stop),
     }
 }
 
-/// H, and then the rest.
+/// The rules of a job in view, and its lists in the memory.
+fn place_lists(alloc: Global, job: &Context, memory: &mut PhysMem) -> Result<Lists, Stop<Refusal>>
+    requires size { length memory.old ≡ job.now.file.mem_size }
+    ensures answers { Answers (surfaces_stage job.now.file job.now.number ++ layout_stage job.now.file job.now.number) (λ lists. IsPlacedFor job.now.file job.now.number lists.layout lists.lengths) result }
+    ensures put { IfOk result (λ _. memory.new ≡ placed memory.old (memory_parts job.now.file job.now.number)) }
+    ensures fits { IfOk result (λ lists. lists.layout.end ≤ job.now.file.regions.lists_size) }
+    ensures long { IfOk result (λ _. length memory.new ≡ length memory.old) }
+{
+    if !job.fits() {
+        return without_room(alloc, job);
+    }
+    let layout = job.layout;
+    match job.write_lists(memory.window(layout.place, layout.end)) {
+        Ok(lengths) => Ok(Lists { layout, lengths }),
+        Err(stop) => Err(stop),
+    }
+}
+
+/// All rules of the job of this number, and its lists in the memory.
 #[tactic(auto, unfolding(crate::specs::Faults::job_stages))]
 fn check_one(
     alloc: Global,
     file: &JobFile,
-    job: &Job,
+    number: usize,
     table: &Table,
-) -> Result<Checked, Stop<Refusal>>
+    shaders: &Vec<Option<ShaderInfo>>,
+    memory: &mut PhysMem,
+) -> Result<Lists, Stop<Refusal>>
     requires well_formed { IsWellFormed (file_view file.now) }
-    requires job_is { job_view job.now ≡ job_of (file_view file.now) 0 }
-    requires limits { IsJobWellFormed (job_view job.now) }
-    requires table { IsSound file.now.mem_size file.now.regions file.now.buffers.items }
+    requires inside { number < length file.now.jobs.items }
     requires table_is { table.now ≡ table_of (file_view file.now) }
-    ensures answers { Answers (job_stages (file_view file.now) 0) (λ checked. IsEmitted (file_view file.now) checked.memory checked.layout checked.lengths) result }
-    ensures placed { IfOk result (λ checked. IsPlaced checked.memory checked.layout) }
+    requires shaders_are { shaders_view shaders.now.items ≡ shaders_of (file_view file.now) }
+    requires sound { IsSound file.now.mem_size file.now.regions file.now.buffers.items }
+    requires size { length memory.old ≡ file.now.mem_size }
+    ensures answers { Answers (job_stages (file_view file.now) number) (λ lists. IsPlacedFor (file_view file.now) number lists.layout lists.lengths) result }
+    ensures put { IfOk result (λ _. memory.new ≡ placed memory.old (memory_parts (file_view file.now) number)) }
+    ensures fits { IfOk result (λ lists. lists.layout.end ≤ file.now.regions.lists_size) }
+    ensures long { IfOk result (λ _. length memory.new ≡ length memory.old) }
 {
-    match handles_stage(alloc, file, job, table) {
-        Ok(handles) => check_frame(alloc, file, job, table, &handles),
+    match Context::open(alloc, file, number, table, shaders) {
+        Ok(job) => place_lists(alloc, &job, memory),
         Err(stop) => Err(stop),
     }
 }
 
-/// Checks a file that was read. `Ok` comes exactly where no rule of the memory table, of the job's handles, of its frame and
-/// surfaces and of its layout stands; else the refusal is the first that does, with its place in the file.
+/// The rules of the jobs, and the memory with their lists.
+fn check_jobs(
+    alloc: Global,
+    file: &JobFile,
+    table: &Table,
+    shaders: &Vec<Option<ShaderInfo>>,
+) -> Result<Checked, Stop<Refusal>>
+    requires well_formed { IsWellFormed (file_view file.now) }
+    requires table_is { table.now ≡ table_of (file_view file.now) }
+    requires shaders_are { shaders_view shaders.now.items ≡ shaders_of (file_view file.now) }
+    requires sound { IsSound file.now.mem_size file.now.regions file.now.buffers.items }
+    ensures answers { Answers (each (job_stages (file_view file.now)) 0 (length file.now.jobs.items)) (λ checked. IsEmitted (file_view file.now) checked.memory checked.layout checked.lengths) result }
+    ensures placed { IfOk result (λ checked. IsPlaced checked.memory checked.layout) }
+{
+    let mut memory = fresh_memory(alloc, file)?;
+    match check_one(alloc, file, 0, table, shaders, &mut memory) {
+        Ok(Lists { layout, lengths }) => Ok(Checked {
+            memory,
+            layout,
+            lengths,
+        }),
+        Err(stop) => Err(stop),
+    }
+}
+
+/// S, and then the jobs.
+fn check_shaders(alloc: Global, file: &JobFile, table: &Table) -> Result<Checked, Stop<Refusal>>
+    requires well_formed { IsWellFormed (file_view file.now) }
+    requires table_is { table.now ≡ table_of (file_view file.now) }
+    requires sound { IsSound file.now.mem_size file.now.regions file.now.buffers.items }
+    ensures answers { Answers (shaders_stage (file_view file.now) ++ each (job_stages (file_view file.now)) 0 (length file.now.jobs.items)) (λ checked. IsEmitted (file_view file.now) checked.memory checked.layout checked.lengths) result }
+    ensures placed { IfOk result (λ checked. IsPlaced checked.memory checked.layout) }
+{
+    match shaders_stage(alloc, file) {
+        Ok(shaders) => check_jobs(alloc, file, table, &shaders),
+        Err(stop) => Err(stop),
+    }
+}
+
+/// Checks a file that was read. `Ok` comes exactly where no rule stands of the memory table, of the shaders, of the job's
+/// handles, of its frame and surfaces and of its layout; else the refusal is the first that does, with its place in the file.
 #[tactic(auto, unfolding(crate::specs::Faults::file_stages))]
 pub fn check_job(alloc: Global, file: &JobFile) -> Result<Checked, Stop<Refusal>>
     requires { IsWellFormed (file_view file.now) }
@@ -142,7 +154,7 @@ pub fn check_job(alloc: Global, file: &JobFile) -> Result<Checked, Stop<Refusal>
     ensures placed { IfOk result (λ checked. IsPlaced checked.memory checked.layout) }
 {
     match table_stage(alloc, file) {
-        Ok(table) => check_one(alloc, file, &file.jobs[0], &table),
+        Ok(table) => check_shaders(alloc, file, &table),
         Err(stop) => Err(stop),
     }
 }

@@ -1,21 +1,17 @@
 //! Refusals: a rule, and the place in the file that it is about.
-ghost use Rattle.std.specs.Prelude.{◌≡◌, ◌≤◌, ◌<◌, ◌+◌, ◌*◌, ◌^◌, length, map, sum};
-ghost use Rattle.job_format.specs.declared.rule.Stage.TheVariants.{M as StageM, H as StageH, G as StageG, X as StageX};
-ghost use Rattle.job_format.specs.File.{IsWellFormed};
-ghost use Rattle.job_format.specs.Model.{file_view};
-ghost use Rattle.job_check.specs.Faults.{refused, table_refused, handle_refused, surface_refused};
-ghost use Rattle.job_check.specs.Offsets.{item_offset, job_offset, handles_offset, surface_offset, layout_offset};
+ghost use Rattle.std.specs.Prelude.{◌≡◌, ◌≤◌, ◌<◌, ◌+◌, ◌*◌, ◌^◌, length, map, sum, sum_by, take};
+ghost use Rattle.job_format.specs.declared.rule.Stage.TheVariants.{M as StageM, S as StageS, H as StageH, G as StageG, X as StageX};
+ghost use Rattle.std.specs.List.{AllByRecursion};
+ghost use Rattle.job_format.specs.File.{IsWellFormed, IsJobWellFormed};
+ghost use Rattle.job_format.specs.Model.{file_view, job_view};
+ghost use Rattle.job_format.specs.Offsets.{entry_offset};
+ghost use Rattle.job_check.specs.Faults.{refused, table_refused, shader_refused, handle_refused, surface_refused};
+ghost use Rattle.job_check.specs.Offsets.{item_offset, job_offset, content_offset, shader_offset, handles_offset, surface_offset, layout_offset, parts_size};
 
 use buffer_table::{Buffer, TableFault};
-use job_format::{JobFile, Refusal, Rule, Stage};
+use job_format::{ENTRY_SIZE, HEADER_SIZE, JOB_SIZE, Job, JobFile, Refusal, Rule, Stage};
 use render_list::RenderFault;
-
-/// The bytes of the header, of a buffer's entry and of a job's entry.
-const HEADER: u64 = 36;
-
-const BUFFER_ENTRY: u64 = 20;
-
-const JOB_ENTRY: u64 = 124;
+use shader_check::ShaderFault;
 
 fn refusal(stage: Stage, number: u8, offset: u64) -> Refusal
     ensures { result ≡ refused stage number offset }
@@ -24,6 +20,15 @@ fn refusal(stage: Stage, number: u8, offset: u64) -> Refusal
         rule: Rule { stage, number },
         offset,
     }
+}
+
+/// Where the entry of buffer `b` stands, or where the entries end.
+fn buffer_offset(b: usize) -> u64
+    requires { b < 2 ^ 32 }
+    ensures value { result ≡ entry_offset b }
+    ensures fits { result < 2 ^ 37 }
+{
+    HEADER_SIZE as u64 + ENTRY_SIZE as u64 * b as u64
 }
 
 /// Where an item of the memory table stands in the file.
@@ -35,7 +40,7 @@ fn item_offset(item: u32) -> u64
         0 => 8,
         1 => 12,
         2 => 20,
-        _ => HEADER + BUFFER_ENTRY * (u64::from(item) - 3),
+        _ => buffer_offset(item as usize - 3),
     }
 }
 
@@ -46,37 +51,106 @@ pub fn table_refusal(fault: &TableFault) -> Refusal
     refusal(Stage::M, fault.number, item_offset(fault.item))
 }
 
-/// Where the first job's entry stands.
+/// Where the entry of the job of this number stands, or where the entries end.
 #[tactic(auto, unfolding(crate::specs::Offsets::job_offset))]
-fn entry_offset(file: &JobFile) -> u64
-    requires { IsWellFormed (file_view file.now) }
-    ensures value { result ≡ job_offset (file_view file.now) 0 }
+fn job_offset(file: &JobFile, number: usize) -> u64
+    requires well_formed { IsWellFormed (file_view file.now) }
+    requires inside { number ≤ length file.now.jobs.items }
+    ensures value { result ≡ job_offset (file_view file.now) number }
     ensures fits { result < 2 ^ 32 }
 {
-    HEADER + BUFFER_ENTRY * file.buffers.len() as u64
+    buffer_offset(file.buffers.len()) + JOB_SIZE as u64 * number as u64
 }
 
-/// How many bytes of contents the file has.
-fn content_size(buffers: &[Buffer]) -> u64
-    requires { length buffers.now ≤ 64 }
-    ensures value { result ≡ sum (map (λ b. b.content) buffers.now) }
+/// How many bytes of contents the buffers before this one have.
+fn content_before(buffers: &[Buffer], b: usize) -> u64
+    requires inside { b ≤ length buffers.now }
+    requires few { length buffers.now ≤ 64 }
+    ensures value { result ≡ sum (map (λ x. x.content) (take b buffers.now)) }
     ensures fits { result < 2 ^ 40 }
 {
     let mut size = 0;
-    for buffer in buffers {
+    for buffer in &buffers[..b] {
         size += u64::from(buffer.content);
     }
     size
 }
 
-/// The handle at which H1 stands.
-#[tactic(auto, unfolding(crate::specs::Offsets::handles_offset, crate::specs::Offsets::job_offset))]
-pub fn handle_refusal(file: &JobFile, index: u32) -> Refusal
-    requires { IsWellFormed (file_view file.now) }
-    ensures { result ≡ handle_refused (file_view file.now) 0 index }
+/// Where the contents of buffer `b` stand, or where the contents end.
+#[tactic(auto, unfolding(crate::specs::Offsets::content_offset))]
+fn content_offset(file: &JobFile, b: usize) -> u64
+    requires well_formed { IsWellFormed (file_view file.now) }
+    requires inside { b ≤ length file.now.buffers.items }
+    ensures value { result ≡ content_offset (file_view file.now) b }
+    ensures fits { result < 2 ^ 41 }
 {
-    let handles = entry_offset(file) + JOB_ENTRY + content_size(&file.buffers);
-    refusal(Stage::H, 1, handles + 4 * u64::from(index))
+    job_offset(file, file.jobs.len()) + content_before(&file.buffers, b)
+}
+
+/// A rule on the shader in buffer `b` that fails.
+#[tactic(auto, unfolding(crate::specs::Offsets::shader_offset))]
+pub fn shader_refusal(file: &JobFile, b: usize, fault: &ShaderFault) -> Refusal
+    requires well_formed { IsWellFormed (file_view file.now) }
+    requires inside { b < length file.now.buffers.items }
+    ensures { result ≡ shader_refused (file_view file.now) b fault.now }
+{
+    if fault.number == 1 {
+        return refusal(Stage::S, fault.number, buffer_offset(b) + 16);
+    }
+    refusal(
+        Stage::S,
+        fault.number,
+        content_offset(file, b) + 8 * u64::from(fault.index),
+    )
+}
+
+/// How many bytes of parts a job has.
+fn parts_size(job: &Job) -> u64
+    requires { IsJobWellFormed (job_view job.now) }
+    ensures value { result ≡ parts_size (job_view job.now) }
+    ensures fits { result ≤ 4194304 }
+{
+    let handles = 4 * job.handles.len() as u64;
+    handles + job.bin.len() as u64 + job.records.len() as u64 + job.uniforms.len() as u64
+}
+
+/// How many bytes of parts the jobs before the one of this number have.
+fn parts_before(jobs: &[Job], number: usize) -> u64
+    requires inside { number ≤ length jobs.now }
+    requires few { length jobs.now ≤ 8 }
+    requires limits { AllByRecursion IsJobWellFormed (map job_view jobs.now) }
+    ensures value { result ≡ sum_by parts_size (take number (map job_view jobs.now)) }
+    ensures fits { result ≤ 33554432 }
+{
+    let mut size = 0;
+    for k in 0..number {
+        size += parts_size(&jobs[k]);
+    }
+    size
+}
+
+/// Where the handles of the job of this number stand.
+#[tactic(auto, unfolding(crate::specs::Offsets::handles_offset))]
+fn handles_offset(file: &JobFile, number: usize) -> u64
+    requires well_formed { IsWellFormed (file_view file.now) }
+    requires inside { number < length file.now.jobs.items }
+    ensures value { result ≡ handles_offset (file_view file.now) number }
+    ensures fits { result < 2 ^ 42 }
+{
+    content_offset(file, file.buffers.len()) + parts_before(&file.jobs, number)
+}
+
+/// The handle at which H1 stands.
+pub fn handle_refusal(file: &JobFile, number: usize, index: u32) -> Refusal
+    requires well_formed { IsWellFormed (file_view file.now) }
+    requires inside { number < length file.now.jobs.items }
+    ensures { result ≡ handle_refused (file_view file.now) number index }
+{
+    refusal(
+        Stage::H,
+        1,
+        handles_offset(file, number) + 4 * u64::from(index),
+    )
 }
 
 #[tactic(auto, unfolding(crate::specs::Offsets::surface_offset))]
@@ -92,22 +166,21 @@ fn surface_offset(entry: u64, item: u8) -> u64
 }
 
 /// A rule on the frame and its surfaces that fails.
-pub fn surface_refusal(file: &JobFile, fault: &RenderFault) -> Refusal
-    requires { IsWellFormed (file_view file.now) }
-    ensures { result ≡ surface_refused (file_view file.now) 0 fault.now }
+pub fn surface_refusal(file: &JobFile, number: usize, fault: &RenderFault) -> Refusal
+    requires well_formed { IsWellFormed (file_view file.now) }
+    requires inside { number < length file.now.jobs.items }
+    ensures { result ≡ surface_refused (file_view file.now) number fault.now }
 {
-    refusal(
-        Stage::G,
-        fault.number,
-        surface_offset(entry_offset(file), fault.item),
-    )
+    let entry = job_offset(file, number);
+    refusal(Stage::G, fault.number, surface_offset(entry, fault.item))
 }
 
 /// The lists don't fit their region.
 #[tactic(auto, unfolding(crate::specs::Offsets::layout_offset))]
-pub fn layout_refusal(file: &JobFile) -> Refusal
-    requires { IsWellFormed (file_view file.now) }
-    ensures { result ≡ refused StageX 1 (layout_offset (job_offset (file_view file.now) 0)) }
+pub fn layout_refusal(file: &JobFile, number: usize) -> Refusal
+    requires well_formed { IsWellFormed (file_view file.now) }
+    requires inside { number < length file.now.jobs.items }
+    ensures { result ≡ refused StageX 1 (layout_offset (job_offset (file_view file.now) number)) }
 {
-    refusal(Stage::X, 1, entry_offset(file) + 12)
+    refusal(Stage::X, 1, job_offset(file, number) + 12)
 }

@@ -3,7 +3,7 @@ use Rattle.std.proofs.Common.{◌≡◌, ℕ, zero, suc, ◌+◌, ◌*◌, ◌%�
 use Rattle.std.specs.List.{AllByRecursion, range_with_len}
 use Rattle.field_words.specs.Words.{IsBytes, u32_at}
 use Rattle.field_words.proofs.Numbers.{u16_fits, u32_fits, front_bytes, rest_bytes}
-use Rattle.job_format.specs.Places.{job_place, content_size, content_place, handles_place, bin_place, records_place, uniforms_place, end_place}
+use Rattle.job_format.specs.Offsets.{entry_offset, job_offset, content_size, content_offset, handles_offset, bin_offset, records_offset, uniforms_offset, end_offset}
 use Rattle.job_format.specs.Reading.{cut, kind_of, regions_at, surface_at, entry_at, frame_at, words_at, buffers_at, contents_at, job_at, file_at}
 use Rattle.job_format.specs.File.{BufferFits, SurfaceFits, FrameFits, JobFits, Fits, FitsShader, IsJobWellFormed, IsWellFormed, IsFileOf}
 use Rattle.job_format.proofs.Passing.{Passes}
@@ -64,13 +64,13 @@ frame_fits bytes at fits = record {
 job_fits : (bytes : List ℕ) → IsBytes bytes → JobFits (job_at bytes)
 unfolding job_at words_at
 job_fits bytes fits = record {
-  client = u32_fits bytes (job_place bytes) fits;
-  handles = all_in (λ h. h < 2 ^ 32) (λ i. u32_at bytes (handles_place bytes + 4 * i)) 0 (u32_at bytes (job_place bytes + 8)) (λ k from to. u32_fits bytes (handles_place bytes + 4 * k) fits);
-  bin = cut_bytes bytes (bin_place bytes) (u32_at bytes (job_place bytes + 12)) fits;
-  records = cut_bytes bytes (records_place bytes) (u32_at bytes (job_place bytes + 16)) fits;
-  declared = u32_fits bytes (job_place bytes + 20) fits;
-  uniforms = cut_bytes bytes (uniforms_place bytes) (u32_at bytes (job_place bytes + 24)) fits;
-  frame = frame_fits bytes (job_place bytes) fits;
+  client = u32_fits bytes (job_offset bytes) fits;
+  handles = all_in (λ h. h < 2 ^ 32) (λ i. u32_at bytes (handles_offset bytes + 4 * i)) 0 (u32_at bytes (job_offset bytes + 8)) (λ k from to. u32_fits bytes (handles_offset bytes + 4 * k) fits);
+  bin = cut_bytes bytes (bin_offset bytes) (u32_at bytes (job_offset bytes + 12)) fits;
+  records = cut_bytes bytes (records_offset bytes) (u32_at bytes (job_offset bytes + 16)) fits;
+  declared = u32_fits bytes (job_offset bytes + 20) fits;
+  uniforms = cut_bytes bytes (uniforms_offset bytes) (u32_at bytes (job_offset bytes + 24)) fits;
+  frame = frame_fits bytes (job_offset bytes) fits;
 }
 
 file_fits : (bytes : List ℕ) → IsBytes bytes → Fits (file_at bytes)
@@ -79,8 +79,8 @@ file_fits bytes fits = record {
   version = u32_fits bytes 4 fits;
   mem_size = u32_fits bytes 8 fits;
   regions = record { lists_place = u32_fits bytes 12 fits; lists_size = u32_fits bytes 16 fits; tile_place = u32_fits bytes 20 fits; tile_slots = u32_fits bytes 24 fits };
-  buffers = all_in BufferFits (λ b. entry_at bytes (36 + 20 * b)) 0 (u32_at bytes 28) (λ k from to. entry_fits bytes (36 + 20 * k) fits);
-  contents = all_in IsBytes (λ b. cut bytes (content_place bytes b) (content_size bytes b)) 0 (u32_at bytes 28) (λ k from to. cut_bytes bytes (content_place bytes k) (content_size bytes k) fits);
+  buffers = all_in BufferFits (λ b. entry_at bytes (entry_offset b)) 0 (u32_at bytes 28) (λ k from to. entry_fits bytes (entry_offset k) fits);
+  contents = all_in IsBytes (λ b. cut bytes (content_offset bytes b) (content_size bytes b)) 0 (u32_at bytes 28) (λ k from to. cut_bytes bytes (content_offset bytes k) (content_size bytes k) fits);
   jobs = (job_fits bytes fits, tt);
 }
 
@@ -90,14 +90,14 @@ fits_shader (suc zero) size small limit = limit refl
 fits_shader (suc (suc n)) size small limit = absurd (omega (arith, small))
 
 job_well_formed : (bytes : List ℕ) → Passes bytes → IsJobWellFormed (job_at bytes)
-unfolding job_at end_place uniforms_place records_place bin_place
+unfolding job_at end_offset uniforms_offset records_offset bin_offset
 job_well_formed bytes p =
-    let at : ℕ = job_place bytes in
+    let at : ℕ = job_offset bytes in
     let end = p.end in
-    let handles : length (words_at bytes (handles_place bytes) (u32_at bytes (at + 8))) ≡ u32_at bytes (at + 8) = length_words bytes (handles_place bytes) (u32_at bytes (at + 8)) in
-    let bin : length (cut bytes (bin_place bytes) (u32_at bytes (at + 12))) ≡ u32_at bytes (at + 12) = length_cut bytes (bin_place bytes) (u32_at bytes (at + 12)) (omega arith) in
-    let records : length (cut bytes (records_place bytes) (u32_at bytes (at + 16))) ≡ u32_at bytes (at + 16) = length_cut bytes (records_place bytes) (u32_at bytes (at + 16)) (omega arith) in
-    let uniforms : length (cut bytes (uniforms_place bytes) (u32_at bytes (at + 24))) ≡ u32_at bytes (at + 24) = length_cut bytes (uniforms_place bytes) (u32_at bytes (at + 24)) (omega arith) in
+    let handles : length (words_at bytes (handles_offset bytes) (u32_at bytes (at + 8))) ≡ u32_at bytes (at + 8) = length_words bytes (handles_offset bytes) (u32_at bytes (at + 8)) in
+    let bin : length (cut bytes (bin_offset bytes) (u32_at bytes (at + 12))) ≡ u32_at bytes (at + 12) = length_cut bytes (bin_offset bytes) (u32_at bytes (at + 12)) (omega arith) in
+    let records : length (cut bytes (records_offset bytes) (u32_at bytes (at + 16))) ≡ u32_at bytes (at + 16) = length_cut bytes (records_offset bytes) (u32_at bytes (at + 16)) (omega arith) in
+    let uniforms : length (cut bytes (uniforms_offset bytes) (u32_at bytes (at + 24))) ≡ u32_at bytes (at + 24) = length_cut bytes (uniforms_offset bytes) (u32_at bytes (at + 24)) (omega arith) in
     record {
       handles = subst (λ n. n ≤ 64) (sym handles) p.job.handles;
       bin = subst (λ n. n ≤ 1048576) (sym bin) p.job.bin;
@@ -115,10 +115,10 @@ file_well_formed bytes p =
     record {
       version = p.header.version;
       buffers = subst (λ k. k ≤ 64) (sym (length_buffers bytes n)) p.header.buffers;
-      code = all_in (λ b. FitsShader b.kind b.content) (λ b. entry_at bytes (36 + 20 * b)) 0 n
-          (λ k from to. let e = p.entry k (omega arith) in fits_shader (u32_at bytes (36 + 20 * k + 12)) (u32_at bytes (36 + 20 * k + 16)) e.kind e.code);
-      contents = same_in length (λ b. b.content) (λ b. cut bytes (content_place bytes b) (content_size bytes b)) (λ b. entry_at bytes (36 + 20 * b)) 0 n
-          (λ k from to. let ends = content_ends bytes k n (omega arith) in length_cut bytes (content_place bytes k) (content_size bytes k) (omega arith));
+      code = all_in (λ b. FitsShader b.kind b.content) (λ b. entry_at bytes (entry_offset b)) 0 n
+          (λ k from to. let e = p.entry k (omega arith) in fits_shader (u32_at bytes (entry_offset k + 12)) (u32_at bytes (entry_offset k + 16)) e.kind e.code);
+      contents = same_in length (λ b. b.content) (λ b. cut bytes (content_offset bytes b) (content_size bytes b)) (λ b. entry_at bytes (entry_offset b)) 0 n
+          (λ k from to. let ends = content_ends bytes k n (omega arith) in length_cut bytes (content_offset bytes k) (content_size bytes k) (omega arith));
       one_job = refl;
       jobs = (job_well_formed bytes p, tt);
     }

@@ -10,18 +10,18 @@ use Rattle.field_words.proofs.Pieces.{join_two}
 use Rattle.field_words.proofs.Numbers.{u32_piece}
 use Rattle.job_format.specs.Model.{JobModel, FileModel}
 use Rattle.job_format.specs.Text.{flag, word, header_text, buffer_text, job_text, parts_text, file_text}
-use Rattle.job_format.specs.Places.{job_place, content_size, content_place, handles_place, bin_place, records_place, uniforms_place, end_place}
+use Rattle.job_format.specs.Offsets.{entry_offset, job_offset, content_size, content_offset, handles_offset, bin_offset, records_offset, uniforms_offset, end_offset}
 use Rattle.job_format.specs.Reading.{cut, regions_at, entry_at, frame_at, words_at, buffers_at, contents_at, job_at, file_at}
 use Rattle.job_format.proofs.Entries.{buffer_piece}
 use Rattle.job_format.proofs.Heads.{HeaderReads, JobReads, header_piece, job_piece}
 use Rattle.job_format.proofs.Listed.{words_none, words_more, buffers_none, buffers_more, contents_none, contents_more}
 use Rattle.job_format.proofs.Passing.{Passes}
-use Rattle.job_format.proofs.Standing.{content_place_first, content_place_step}
+use Rattle.job_format.proofs.Standing.{content_offset_first, content_offset_step}
 use Rattle.job_format.proofs.Tails.{IsTail, tail_join, tail_end, tail_whole}
 
 pub length_buffers : (bytes : List ℕ) (n : ℕ) → length (buffers_at bytes n) ≡ n
 unfolding buffers_at
-length_buffers bytes n = length-map-range_with_len (λ b. entry_at bytes (36 + 20 * b)) 0 n
+length_buffers bytes n = length-map-range_with_len (λ b. entry_at bytes (entry_offset b)) 0 n
 
 pub length_words : (bytes : List ℕ) (at n : ℕ) → length (words_at bytes at n) ≡ n
 unfolding words_at
@@ -53,11 +53,11 @@ buffers_piece bytes zero fits p small =
     subst (λ bs. IsPiece bytes 36 0 (flat_map buffer_text bs)) (sym (buffers_none bytes)) (empty_piece bytes 36 p.header.size)
 buffers_piece bytes (suc m) fits p small =
     let e = p.entry m (omega arith) in
-    let last : IsPiece bytes (36 + 20 * m) 20 (buffer_text (entry_at bytes (36 + 20 * m))) = buffer_piece bytes (36 + 20 * m) fits e.size e.kind in
+    let last : IsPiece bytes (entry_offset m) 20 (buffer_text (entry_at bytes (entry_offset m))) = buffer_piece bytes (entry_offset m) fits e.size e.kind in
     let both = join_two bytes 36 (20 * m) 20 _ _ (buffers_piece bytes m fits p (omega arith)) last in
-    let text : flat_map buffer_text (buffers_at bytes m) ++ buffer_text (entry_at bytes (36 + 20 * m)) ≡ flat_map buffer_text (buffers_at bytes (suc m)) =
-    sym (flat_map_last buffer_text (buffers_at bytes m) (entry_at bytes (36 + 20 * m))) ∙ ap (flat_map buffer_text) (sym (buffers_more bytes m) ∙ ap (buffers_at bytes) (add-one m)) in
-    same_piece bytes 36 (20 * m + 20) (20 * suc m) (flat_map buffer_text (buffers_at bytes m) ++ buffer_text (entry_at bytes (36 + 20 * m))) (flat_map buffer_text (buffers_at bytes (suc m))) (omega arith) text both
+    let text : flat_map buffer_text (buffers_at bytes m) ++ buffer_text (entry_at bytes (entry_offset m)) ≡ flat_map buffer_text (buffers_at bytes (suc m)) =
+    sym (flat_map_last buffer_text (buffers_at bytes m) (entry_at bytes (entry_offset m))) ∙ ap (flat_map buffer_text) (sym (buffers_more bytes m) ∙ ap (buffers_at bytes) (add-one m)) in
+    same_piece bytes 36 (20 * m + 20) (20 * suc m) (flat_map buffer_text (buffers_at bytes m) ++ buffer_text (entry_at bytes (entry_offset m))) (flat_map buffer_text (buffers_at bytes (suc m))) (omega arith) text both
 
 -- The first m of the job's handles.
 words_piece : (bytes : List ℕ) (at m : ℕ) → IsBytes bytes → at + 4 * m ≤ length bytes → IsPiece bytes at (4 * m) (flat_map word (words_at bytes at m))
@@ -71,40 +71,40 @@ words_piece bytes at (suc m) fits inside =
     same_piece bytes at (4 * m + 4) (4 * suc m) (flat_map word (words_at bytes at m) ++ word (u32_at bytes (at + 4 * m))) (flat_map word (words_at bytes at (suc m))) (omega arith) text both
 
 -- The contents from buffer b on, where what follows those of the last is a tail: read backwards.
-contents_tail : (bytes : List ℕ) (m : ℕ) (rest : List ℕ) → content_place bytes m ≤ length bytes → IsTail bytes (content_place bytes m) rest
-    → IsTail bytes (job_place bytes + 124) (joined (contents_at bytes m) ++ rest)
+contents_tail : (bytes : List ℕ) (m : ℕ) (rest : List ℕ) → content_offset bytes m ≤ length bytes → IsTail bytes (content_offset bytes m) rest
+    → IsTail bytes (job_offset bytes + 124) (joined (contents_at bytes m) ++ rest)
 contents_tail bytes zero rest inside tail =
-    subst (λ cs. IsTail bytes (job_place bytes + 124) (joined cs ++ rest)) (sym (contents_none bytes))
-    (subst (λ p. IsTail bytes p rest) (content_place_first bytes) tail)
+    subst (λ cs. IsTail bytes (job_offset bytes + 124) (joined cs ++ rest)) (sym (contents_none bytes))
+    (subst (λ p. IsTail bytes p rest) (content_offset_first bytes) tail)
 contents_tail bytes (suc m) rest inside tail =
-    let step : content_place bytes (suc m) ≡ content_place bytes m + content_size bytes m = ap (content_place bytes) (sym (add-one m)) ∙ content_place_step bytes m in
-    let here : IsPiece bytes (content_place bytes m) (content_size bytes m) (cut bytes (content_place bytes m) (content_size bytes m)) =
-    cut_piece bytes (content_place bytes m) (content_size bytes m) (omega arith) in
-    let one : List ℕ = cut bytes (content_place bytes m) (content_size bytes m) in
-    let joined_tail = tail_join bytes (content_place bytes m) (content_size bytes m) (content_place bytes (suc m)) one rest step here tail in
+    let step : content_offset bytes (suc m) ≡ content_offset bytes m + content_size bytes m = ap (content_offset bytes) (sym (add-one m)) ∙ content_offset_step bytes m in
+    let here : IsPiece bytes (content_offset bytes m) (content_size bytes m) (cut bytes (content_offset bytes m) (content_size bytes m)) =
+    cut_piece bytes (content_offset bytes m) (content_size bytes m) (omega arith) in
+    let one : List ℕ = cut bytes (content_offset bytes m) (content_size bytes m) in
+    let joined_tail = tail_join bytes (content_offset bytes m) (content_size bytes m) (content_offset bytes (suc m)) one rest step here tail in
     let before = contents_tail bytes m (one ++ rest) (omega arith) joined_tail in
     let text : joined (contents_at bytes m) ++ (one ++ rest) ≡ joined (contents_at bytes (suc m)) ++ rest =
     sym (append_assoc (joined (contents_at bytes m)) one rest)
     ∙ ap (λ t. t ++ rest) (sym (joined_last (contents_at bytes m) one) ∙ ap joined (sym (contents_more bytes m) ∙ ap (contents_at bytes) (add-one m))) in
-    subst (λ t. IsTail bytes (job_place bytes + 124) t) text before
+    subst (λ t. IsTail bytes (job_offset bytes + 124) t) text before
 
 -- The job's parts, up to the file's end.
-parts_tail : (bytes : List ℕ) → IsBytes bytes → Passes bytes → IsTail bytes (handles_place bytes) (parts_text (job_at bytes) ++ [])
-unfolding parts_text job_at bin_place records_place uniforms_place end_place
+parts_tail : (bytes : List ℕ) → IsBytes bytes → Passes bytes → IsTail bytes (handles_offset bytes) (parts_text (job_at bytes) ++ [])
+unfolding parts_text job_at bin_offset records_offset uniforms_offset end_offset
 parts_tail bytes fits p =
-    let at : ℕ = job_place bytes in
+    let at : ℕ = job_offset bytes in
     let count : ℕ = u32_at bytes (at + 8) in
     let end = p.end in
-    let handles : List ℕ = flat_map word (words_at bytes (handles_place bytes) count) in
-    let bin : List ℕ = cut bytes (bin_place bytes) (u32_at bytes (at + 12)) in
-    let records : List ℕ = cut bytes (records_place bytes) (u32_at bytes (at + 16)) in
-    let uniforms : List ℕ = cut bytes (uniforms_place bytes) (u32_at bytes (at + 24)) in
-    let t4 : IsTail bytes (uniforms_place bytes) (uniforms ++ []) =
-    tail_join bytes (uniforms_place bytes) (u32_at bytes (at + 24)) (end_place bytes) uniforms [] refl (cut_piece bytes (uniforms_place bytes) (u32_at bytes (at + 24)) (omega arith)) (tail_end bytes (end_place bytes) end) in
-    let t3 = tail_join bytes (records_place bytes) (u32_at bytes (at + 16)) (uniforms_place bytes) records (uniforms ++ []) refl (cut_piece bytes (records_place bytes) (u32_at bytes (at + 16)) (omega arith)) t4 in
-    let t2 = tail_join bytes (bin_place bytes) (u32_at bytes (at + 12)) (records_place bytes) bin (records ++ (uniforms ++ [])) refl (cut_piece bytes (bin_place bytes) (u32_at bytes (at + 12)) (omega arith)) t3 in
-    let t1 = tail_join bytes (handles_place bytes) (4 * count) (bin_place bytes) handles (bin ++ (records ++ (uniforms ++ []))) refl (words_piece bytes (handles_place bytes) count fits (omega arith)) t2 in
-    subst (λ t. IsTail bytes (handles_place bytes) t)
+    let handles : List ℕ = flat_map word (words_at bytes (handles_offset bytes) count) in
+    let bin : List ℕ = cut bytes (bin_offset bytes) (u32_at bytes (at + 12)) in
+    let records : List ℕ = cut bytes (records_offset bytes) (u32_at bytes (at + 16)) in
+    let uniforms : List ℕ = cut bytes (uniforms_offset bytes) (u32_at bytes (at + 24)) in
+    let t4 : IsTail bytes (uniforms_offset bytes) (uniforms ++ []) =
+    tail_join bytes (uniforms_offset bytes) (u32_at bytes (at + 24)) (end_offset bytes) uniforms [] refl (cut_piece bytes (uniforms_offset bytes) (u32_at bytes (at + 24)) (omega arith)) (tail_end bytes (end_offset bytes) end) in
+    let t3 = tail_join bytes (records_offset bytes) (u32_at bytes (at + 16)) (uniforms_offset bytes) records (uniforms ++ []) refl (cut_piece bytes (records_offset bytes) (u32_at bytes (at + 16)) (omega arith)) t4 in
+    let t2 = tail_join bytes (bin_offset bytes) (u32_at bytes (at + 12)) (records_offset bytes) bin (records ++ (uniforms ++ [])) refl (cut_piece bytes (bin_offset bytes) (u32_at bytes (at + 12)) (omega arith)) t3 in
+    let t1 = tail_join bytes (handles_offset bytes) (4 * count) (bin_offset bytes) handles (bin ++ (records ++ (uniforms ++ []))) refl (words_piece bytes (handles_offset bytes) count fits (omega arith)) t2 in
+    subst (λ t. IsTail bytes (handles_offset bytes) t)
     (ap (λ t. handles ++ (bin ++ (records ++ t))) (append-nil uniforms) ∙ sym (append-nil (handles ++ (bin ++ (records ++ uniforms))))) t1
 
 number_of_flag : (n : ℕ) → n ≤ 1 → n ≡ flag (n == 1)
@@ -112,19 +112,19 @@ number_of_flag zero small = refl
 number_of_flag (suc zero) small = refl
 number_of_flag (suc (suc n)) small = absurd (omega (arith, small))
 
-job_reads : (bytes : List ℕ) → Passes bytes → JobReads bytes (job_place bytes) (job_at bytes)
-unfolding job_at frame_at bin_place records_place uniforms_place end_place
+job_reads : (bytes : List ℕ) → Passes bytes → JobReads bytes (job_offset bytes) (job_at bytes)
+unfolding job_at frame_at bin_offset records_offset uniforms_offset end_offset
 job_reads bytes p =
-    let at : ℕ = job_place bytes in
+    let at : ℕ = job_offset bytes in
     let end = p.end in
     record {
       client = refl;
       flags = number_of_flag (u32_at bytes (at + 4)) p.job.flags;
-      handles = sym (length_words bytes (handles_place bytes) (u32_at bytes (at + 8)));
-      bin = sym (length_cut bytes (bin_place bytes) (u32_at bytes (at + 12)) (omega arith));
-      records = sym (length_cut bytes (records_place bytes) (u32_at bytes (at + 16)) (omega arith));
+      handles = sym (length_words bytes (handles_offset bytes) (u32_at bytes (at + 8)));
+      bin = sym (length_cut bytes (bin_offset bytes) (u32_at bytes (at + 12)) (omega arith));
+      records = sym (length_cut bytes (records_offset bytes) (u32_at bytes (at + 16)) (omega arith));
       declared = refl;
-      uniforms = sym (length_cut bytes (uniforms_place bytes) (u32_at bytes (at + 24)) (omega arith));
+      uniforms = sym (length_cut bytes (uniforms_offset bytes) (u32_at bytes (at + 24)) (omega arith));
       frame = record { value = refl; first = p.job.first; second = p.job.second; third = p.job.third };
     }
 
@@ -143,12 +143,12 @@ header_reads bytes p =
       jobs = p.header.jobs;
     }
 
-pub handles_in : (bytes : List ℕ) → Passes bytes → content_place bytes (u32_at bytes 28) ≤ length bytes
-unfolding end_place uniforms_place records_place bin_place handles_place
+pub handles_in : (bytes : List ℕ) → Passes bytes → content_offset bytes (u32_at bytes 28) ≤ length bytes
+unfolding end_offset uniforms_offset records_offset bin_offset handles_offset
 handles_in bytes p = let end = p.end in omega arith
 
-handles_tail : (bytes rest : List ℕ) → IsTail bytes (handles_place bytes) rest → IsTail bytes (content_place bytes (u32_at bytes 28)) rest
-unfolding handles_place
+handles_tail : (bytes rest : List ℕ) → IsTail bytes (handles_offset bytes) rest → IsTail bytes (content_offset bytes (u32_at bytes 28)) rest
+unfolding handles_offset
 handles_tail bytes rest tail = tail
 
 file_tail : (bytes : List ℕ) → IsBytes bytes → Passes bytes → IsTail bytes 0 (file_text (file_at bytes))
@@ -161,12 +161,12 @@ file_tail bytes fits p =
     let contents : List ℕ = joined (contents_at bytes n) in
     let entries : List ℕ = flat_map buffer_text (buffers_at bytes n) in
     let header : IsPiece bytes 0 36 (header_text f) = header_piece bytes f fits p.header.size (header_reads bytes p) in
-    let job : IsPiece bytes (job_place bytes) 124 (job_text j) = job_piece bytes (job_place bytes) j fits p.job.size (job_reads bytes p) in
-    let job_too : IsPiece bytes (job_place bytes) 124 (job_text j ++ []) = subst (λ t. IsPiece bytes (job_place bytes) 124 t) (sym (append-nil (job_text j))) job in
-    let t5 : IsTail bytes (handles_place bytes) parts = parts_tail bytes fits p in
-    let t4 : IsTail bytes (job_place bytes + 124) (contents ++ parts) = contents_tail bytes n parts (handles_in bytes p) (handles_tail bytes parts t5) in
-    let t3 = tail_join bytes (job_place bytes) 124 (job_place bytes + 124) (job_text j ++ []) (contents ++ parts) refl job_too t4 in
-    let t2 = tail_join bytes 36 (20 * n) (job_place bytes) entries ((job_text j ++ []) ++ (contents ++ parts)) refl (buffers_piece bytes n fits p (omega arith)) t3 in
+    let job : IsPiece bytes (job_offset bytes) 124 (job_text j) = job_piece bytes (job_offset bytes) j fits p.job.size (job_reads bytes p) in
+    let job_too : IsPiece bytes (job_offset bytes) 124 (job_text j ++ []) = subst (λ t. IsPiece bytes (job_offset bytes) 124 t) (sym (append-nil (job_text j))) job in
+    let t5 : IsTail bytes (handles_offset bytes) parts = parts_tail bytes fits p in
+    let t4 : IsTail bytes (job_offset bytes + 124) (contents ++ parts) = contents_tail bytes n parts (handles_in bytes p) (handles_tail bytes parts t5) in
+    let t3 = tail_join bytes (job_offset bytes) 124 (job_offset bytes + 124) (job_text j ++ []) (contents ++ parts) refl job_too t4 in
+    let t2 = tail_join bytes 36 (20 * n) (job_offset bytes) entries ((job_text j ++ []) ++ (contents ++ parts)) refl (buffers_piece bytes n fits p (omega arith)) t3 in
     tail_join bytes 0 36 36 (header_text f) (entries ++ ((job_text j ++ []) ++ (contents ++ parts))) refl header t2
 
 pub file_text_found : (bytes : List ℕ) → IsBytes bytes → Passes bytes → bytes ≡ file_text (file_at bytes)

@@ -5,7 +5,7 @@ use Rattle.field_words.specs.declared.stop.Stop.TheVariants.{Fault, NoMemory}
 use Rattle.field_words.specs.Words.{IsBytes}
 use Rattle.field_words.specs.Questions.{first_of, Answers}
 use Rattle.field_words.proofs.Questions.{passes}
-use Rattle.buffer_table.proofs.Asked.{front_none}
+use Rattle.field_words.proofs.Nones.{front_none}
 use Rattle.job_format.specs.declared.file.JobFile.{JobFile}
 use Rattle.job_format.specs.declared.rule.FormatFault.{FormatFault}
 use Rattle.job_format.specs.Model.{FileModel, file_view}

@@ -1,5 +1,5 @@
 -- Where the bytes are a file, no rule of the format stands.
-use Rattle.std.proofs.Common.{◌≡◌, ℕ, zero, suc, ◌+◌, ◌*◌, ◌<◌, ◌≤◌, false, ◌==◌, List, ◌++◌, length, map, None, refl, sym, subst, arith, ◌∙◌, inl, inr}
+use Rattle.std.proofs.Common.{◌≡◌, ℕ, zero, suc, ◌+◌, ◌<◌, ◌≤◌, false, ◌==◌, List, ◌++◌, length, map, None, refl, sym, subst, arith, ◌∙◌, inl, inr}
 use Rattle.std.specs.List.{AllByRecursion, range_with_len}
 use Rattle.std.proofs.lemmas.Bool.{le-ltb}
 use Rattle.std.proofs.Math.Nat.{eq-or-lt_of_le}
@@ -8,7 +8,7 @@ use Rattle.field_words.specs.Questions.{Question, first_of, each}
 use Rattle.field_words.proofs.Questions.{passes, stands_none}
 use Rattle.buffer_table.specs.declared.buffer.Kind.TheVariants.{Plain}
 use Rattle.job_format.specs.Faults.{header_questions, entry_questions, buffer_questions, job_questions, content_questions, parts_questions, body_questions, format_questions, code_questions, list_questions, unbuilt_questions}
-use Rattle.job_format.specs.Places.{job_place, bin_place, records_place, uniforms_place, end_place}
+use Rattle.job_format.specs.Offsets.{entry_offset, job_offset, bin_offset, records_offset, uniforms_offset, end_offset}
 use Rattle.job_format.specs.Reading.{kind_of, entry_at, buffers_at, job_at, file_at}
 use Rattle.job_format.specs.File.{IsBuilt}
 use Rattle.job_format.proofs.Found.{length_cut, handles_in}
@@ -62,8 +62,8 @@ job_none bytes at p =
     stands_none (job_questions bytes at)
     (grind (arith, size), (grind (arith, flags), (grind (arith, handles), (grind (arith, bin), (grind (arith, records), (grind (arith, declared), (grind (arith, uniforms), (grind (arith, words), (grind (arith, first), (grind (arith, second), (grind (arith, third), tt)))))))))))
 
-parts_none : (bytes : List ℕ) → end_place bytes ≡ length bytes → first_of (parts_questions bytes) ≡ None
-unfolding parts_questions end_place uniforms_place records_place bin_place
+parts_none : (bytes : List ℕ) → end_offset bytes ≡ length bytes → first_of (parts_questions bytes) ≡ None
+unfolding parts_questions end_offset uniforms_offset records_offset bin_offset
 parts_none bytes end =
     stands_none (parts_questions bytes) (le-ltb _ _ (omega arith), (le-ltb _ _ (omega arith), (le-ltb _ _ (omega arith), (le-ltb _ _ (omega arith), (le-ltb _ _ (omega arith), tt)))))
 
@@ -73,13 +73,13 @@ format_none bytes p =
     let n : ℕ = u32_at bytes 28 in
     let inside = handles_in bytes p in
     let entries : first_of (each (buffer_questions bytes) 0 n) ≡ None =
-    each_passes (buffer_questions bytes) 0 n (λ k from to. entry_none bytes (36 + 20 * k) (p.entry k (omega arith))) in
+    each_passes (buffer_questions bytes) 0 n (λ k from to. entry_none bytes (entry_offset k) (p.entry k (omega arith))) in
     let contents : first_of (each (content_questions bytes) 0 n) ≡ None =
     each_passes (content_questions bytes) 0 n
     (λ k from to. let ends = content_ends bytes k n (omega arith) in stands_none (content_questions bytes k) (le-ltb _ _ (omega arith), tt)) in
     both_pass (header_questions bytes) (body_questions bytes) (header_none bytes p.header)
     (both_pass (each (buffer_questions bytes) 0 n) _ entries
-    (both_pass (job_questions bytes (job_place bytes)) _ (job_none bytes (job_place bytes) p.job)
+    (both_pass (job_questions bytes (job_offset bytes)) _ (job_none bytes (job_offset bytes) p.job)
     (both_pass (each (content_questions bytes) 0 n) (parts_questions bytes) contents (parts_none bytes p.end))))
 
 -- an item's fact, of all items of a range
@@ -94,18 +94,18 @@ plain_number (suc zero) plain = cc
 plain_number (suc (suc n)) plain = grind arith
 
 pub unbuilt_none : (bytes : List ℕ) → Passes bytes → IsBuilt (file_at bytes) → first_of (unbuilt_questions bytes) ≡ None
-unfolding unbuilt_questions code_questions list_questions file_at buffers_at entry_at job_at end_place uniforms_place records_place bin_place
+unfolding unbuilt_questions code_questions list_questions file_at buffers_at entry_at job_at end_offset uniforms_offset records_offset bin_offset
 unbuilt_none bytes p built =
     let n : ℕ = u32_at bytes 28 in
-    let at : ℕ = job_place bytes in
+    let at : ℕ = job_offset bytes in
     let end = p.end in
     let job = built.jobs.0 in
-    let bin : u32_at bytes (at + 12) ≡ 0 = sym (length_cut bytes (bin_place bytes) (u32_at bytes (at + 12)) (omega arith)) ∙ job.bin in
-    let records : u32_at bytes (at + 16) ≡ 0 = sym (length_cut bytes (records_place bytes) (u32_at bytes (at + 16)) (omega arith)) ∙ job.records in
-    let uniforms : u32_at bytes (at + 24) ≡ 0 = sym (length_cut bytes (uniforms_place bytes) (u32_at bytes (at + 24)) (omega arith)) ∙ job.uniforms in
+    let bin : u32_at bytes (at + 12) ≡ 0 = sym (length_cut bytes (bin_offset bytes) (u32_at bytes (at + 12)) (omega arith)) ∙ job.bin in
+    let records : u32_at bytes (at + 16) ≡ 0 = sym (length_cut bytes (records_offset bytes) (u32_at bytes (at + 16)) (omega arith)) ∙ job.records in
+    let uniforms : u32_at bytes (at + 24) ≡ 0 = sym (length_cut bytes (uniforms_offset bytes) (u32_at bytes (at + 24)) (omega arith)) ∙ job.uniforms in
     let declared : u32_at bytes (at + 20) ≡ 0 = job.declared in
     both_pass (each (code_questions bytes) 0 n) (list_questions bytes at)
     (each_passes (code_questions bytes) 0 n
     (λ k from to. stands_none (code_questions bytes k)
-    (plain_number (u32_at bytes (36 + 20 * k + 12)) (in_all (λ b. b.kind ≡ Plain) (λ b. entry_at bytes (36 + 20 * b)) 0 n built.plain k from to), tt)))
+    (plain_number (u32_at bytes (entry_offset k + 12)) (in_all (λ b. b.kind ≡ Plain) (λ b. entry_at bytes (entry_offset b)) 0 n built.plain k from to), tt)))
     (stands_none (list_questions bytes at) (grind (arith, bin), (grind (arith, records), (grind (arith, declared), (grind (arith, uniforms), tt)))))

@@ -10,14 +10,14 @@ use Rattle.buffer_table.specs.declared.buffer.Kind.TheVariants.{Plain, Code}
 use Rattle.buffer_table.specs.declared.buffer.Buffer.{Buffer}
 use Rattle.job_format.specs.Model.{JobModel, FileModel}
 use Rattle.job_format.specs.Text.{flag, word, kind_number, header_text, buffer_text, job_text, parts_text, file_text}
-use Rattle.job_format.specs.Places.{job_place, content_size, content_place, handles_place, bin_place, records_place, uniforms_place, end_place}
+use Rattle.job_format.specs.Offsets.{entry_offset, job_offset, content_size, content_offset, handles_offset, bin_offset, records_offset, uniforms_offset, end_offset}
 use Rattle.job_format.specs.Reading.{cut, regions_at, entry_at, words_at, buffers_at, contents_at, job_at, file_at}
 use Rattle.job_format.specs.File.{BufferFits, JobFits, FitsShader, IsJobWellFormed, IsFileOf}
 use Rattle.job_format.proofs.Entries.{buffer_back}
 use Rattle.job_format.proofs.Frames.{frame_long}
 use Rattle.job_format.proofs.Heads.{HeaderReads, JobReads, SizesFit, header_back, job_back}
 use Rattle.job_format.proofs.Passing.{Passes, EntryPasses}
-use Rattle.job_format.proofs.Standing.{content_place_first, content_place_step}
+use Rattle.job_format.proofs.Standing.{content_offset_first, content_offset_step}
 use Rattle.job_format.proofs.Tails.{IsTail, tail_front, tail_rest, end_of_tail, whole_tail}
 
 buffer_long : (b : Buffer) → length (buffer_text b) ≡ 20
@@ -34,27 +34,27 @@ record EntryReads (bytes : List ℕ) (at : ℕ) (b : Buffer) : Type 0 where
 -- the entries from buffer k on
 abbrev EntriesRead : List ℕ → ℕ → List Buffer → Type 0
 EntriesRead bytes k [] = Unit {0}
-EntriesRead bytes k (b ∷ bs) = EntryReads bytes (36 + 20 * k) b × EntriesRead bytes (k + 1) bs
+EntriesRead bytes k (b ∷ bs) = EntryReads bytes (entry_offset k) b × EntriesRead bytes (k + 1) bs
 
-entries_back : (bytes : List ℕ) (k : ℕ) (bs : List Buffer) (rest : List ℕ) → AllByRecursion BufferFits bs → IsTail bytes (36 + 20 * k) (flat_map buffer_text bs ++ rest)
-    → EntriesRead bytes k bs × IsTail bytes (36 + 20 * (k + length bs)) rest
+entries_back : (bytes : List ℕ) (k : ℕ) (bs : List Buffer) (rest : List ℕ) → AllByRecursion BufferFits bs → IsTail bytes (entry_offset k) (flat_map buffer_text bs ++ rest)
+    → EntriesRead bytes k bs × IsTail bytes (entry_offset (k + length bs)) rest
 entries_back bytes k [] rest fit tail = (tt, subst (λ p. IsTail bytes p rest) (omega arith) tail)
 entries_back bytes k (b ∷ bs) rest fit tail =
-    let regrouped : IsTail bytes (36 + 20 * k) (buffer_text b ++ (flat_map buffer_text bs ++ rest)) =
-    subst (λ t. IsTail bytes (36 + 20 * k) t) (append_assoc (buffer_text b) (flat_map buffer_text bs) rest) tail in
-    let piece = tail_front bytes (36 + 20 * k) 20 (buffer_text b) (flat_map buffer_text bs ++ rest) (buffer_long b) regrouped in
-    let after = tail_rest bytes (36 + 20 * k) 20 (36 + 20 * (k + 1)) (buffer_text b) (flat_map buffer_text bs ++ rest) (buffer_long b) (omega arith) regrouped in
+    let regrouped : IsTail bytes (entry_offset k) (buffer_text b ++ (flat_map buffer_text bs ++ rest)) =
+    subst (λ t. IsTail bytes (entry_offset k) t) (append_assoc (buffer_text b) (flat_map buffer_text bs) rest) tail in
+    let piece = tail_front bytes (entry_offset k) 20 (buffer_text b) (flat_map buffer_text bs ++ rest) (buffer_long b) regrouped in
+    let after = tail_rest bytes (entry_offset k) 20 (entry_offset (k + 1)) (buffer_text b) (flat_map buffer_text bs ++ rest) (buffer_long b) (omega arith) regrouped in
     let others = entries_back bytes (k + 1) bs rest fit.1 after in
-    let r = buffer_back bytes (36 + 20 * k) b fit.0 piece in (
+    let r = buffer_back bytes (entry_offset k) b fit.0 piece in (
       (record { size = piece.inside; value = r.0; kind = r.1.0; content = r.1.1 }, others.0),
       subst (λ p. IsTail bytes p rest) (omega arith) others.1,
     )
 
 -- the entries are the list
-entries_are : (bytes : List ℕ) (k : ℕ) (bs : List Buffer) → EntriesRead bytes k bs → map (λ b. entry_at bytes (36 + 20 * b)) (range_with_len k (length bs)) ≡ bs
+entries_are : (bytes : List ℕ) (k : ℕ) (bs : List Buffer) → EntriesRead bytes k bs → map (λ b. entry_at bytes (entry_offset b)) (range_with_len k (length bs)) ≡ bs
 entries_are bytes k [] read = refl
 entries_are bytes k (b ∷ bs) read =
-    ap (λ x. x ∷ map (λ i. entry_at bytes (36 + 20 * i)) (range_with_len (k + 1) (length bs))) read.0.value ∙ ap (λ xs. b ∷ xs) (entries_are bytes (k + 1) bs read.1)
+    ap (λ x. x ∷ map (λ i. entry_at bytes (entry_offset i)) (range_with_len (k + 1) (length bs))) read.0.value ∙ ap (λ xs. b ∷ xs) (entries_are bytes (k + 1) bs read.1)
 
 kind_small : (k : Kind) → kind_number k ≤ 1
 kind_small Plain = omega arith
@@ -65,38 +65,38 @@ code_size Plain size fits is_code = absurd (omega (arith, is_code))
 code_size Code size fits is_code = fits
 
 -- each entry passes
-entries_pass : (bytes : List ℕ) (k : ℕ) (bs : List Buffer) → EntriesRead bytes k bs → AllByRecursion (λ b. FitsShader b.kind b.content) bs → (i : ℕ) → i < length bs → EntryPasses bytes (36 + 20 * (k + i))
+entries_pass : (bytes : List ℕ) (k : ℕ) (bs : List Buffer) → EntriesRead bytes k bs → AllByRecursion (λ b. FitsShader b.kind b.content) bs → (i : ℕ) → i < length bs → EntryPasses bytes (entry_offset (k + i))
 entries_pass bytes k [] read code i below = absurd (omega (arith, below))
 entries_pass bytes k (b ∷ bs) read code zero below =
     let r = read.0 in
     let small = kind_small b.kind in
-    let passes : EntryPasses bytes (36 + 20 * k) = record {
+    let passes : EntryPasses bytes (entry_offset k) = record {
       size = r.size;
       kind = subst (λ n. n ≤ 1) (sym r.kind) small;
       code = λ is_code. subst (λ n. n ≤ 65536) (sym r.content) (code_size b.kind b.content code.0 (sym r.kind ∙ is_code));
     } in
-    subst (λ m. EntryPasses bytes (36 + 20 * m)) (omega arith) passes
+    subst (λ m. EntryPasses bytes (entry_offset m)) (omega arith) passes
 entries_pass bytes k (b ∷ bs) read code (suc i) below =
-    subst (λ m. EntryPasses bytes (36 + 20 * m)) (omega arith) (entries_pass bytes (k + 1) bs read.1 code.1 i (omega arith))
+    subst (λ m. EntryPasses bytes (entry_offset m)) (omega arith) (entries_pass bytes (k + 1) bs read.1 code.1 i (omega arith))
 
 -- The contents from buffer k on are the texts.
 contents_back : (bytes : List ℕ) (k : ℕ) (bs : List Buffer) (cs : List (List ℕ)) (rest : List ℕ) → EntriesRead bytes k bs → map length cs ≡ map (λ b. b.content) bs
-    → IsTail bytes (content_place bytes k) (joined cs ++ rest)
-    → (map (λ b. cut bytes (content_place bytes b) (content_size bytes b)) (range_with_len k (length bs)) ≡ cs) × IsTail bytes (content_place bytes (k + length bs)) rest
-contents_back bytes k [] [] rest read same tail = (refl, subst (λ p. IsTail bytes (content_place bytes p) rest) (omega arith) tail)
+    → IsTail bytes (content_offset bytes k) (joined cs ++ rest)
+    → (map (λ b. cut bytes (content_offset bytes b) (content_size bytes b)) (range_with_len k (length bs)) ≡ cs) × IsTail bytes (content_offset bytes (k + length bs)) rest
+contents_back bytes k [] [] rest read same tail = (refl, subst (λ p. IsTail bytes (content_offset bytes p) rest) (omega arith) tail)
 contents_back bytes k [] (c ∷ cs) rest read same tail = absurd (omega (arith, ap length same))
 contents_back bytes k (b ∷ bs) [] rest read same tail = absurd (omega (arith, ap length same))
 contents_back bytes k (b ∷ bs) (c ∷ cs) rest read same tail =
     let head : length c ≡ b.content = ap (λ xs. get_or xs 0 0) same in
     let others : map length cs ≡ map (λ b. b.content) bs = ap (drop 1) same in
     let size : content_size bytes k ≡ length c = read.0.content ∙ sym head in
-    let regrouped : IsTail bytes (content_place bytes k) (c ++ (joined cs ++ rest)) =
-    subst (λ t. IsTail bytes (content_place bytes k) t) (append_assoc c (joined cs) rest) tail in
-    let piece : IsPiece bytes (content_place bytes k) (content_size bytes k) c = tail_front bytes (content_place bytes k) (content_size bytes k) c (joined cs ++ rest) (sym size) regrouped in
-    let after = tail_rest bytes (content_place bytes k) (content_size bytes k) (content_place bytes (k + 1)) c (joined cs ++ rest) (sym size) (content_place_step bytes k) regrouped in
+    let regrouped : IsTail bytes (content_offset bytes k) (c ++ (joined cs ++ rest)) =
+    subst (λ t. IsTail bytes (content_offset bytes k) t) (append_assoc c (joined cs) rest) tail in
+    let piece : IsPiece bytes (content_offset bytes k) (content_size bytes k) c = tail_front bytes (content_offset bytes k) (content_size bytes k) c (joined cs ++ rest) (sym size) regrouped in
+    let after = tail_rest bytes (content_offset bytes k) (content_size bytes k) (content_offset bytes (k + 1)) c (joined cs ++ rest) (sym size) (content_offset_step bytes k) regrouped in
     let more = contents_back bytes (k + 1) bs cs rest read.1 others after in (
-      ap (λ x. x ∷ map (λ i. cut bytes (content_place bytes i) (content_size bytes i)) (range_with_len (k + 1) (length bs))) piece.same ∙ ap (λ xs. c ∷ xs) more.0,
-      subst (λ p. IsTail bytes (content_place bytes p) rest) (omega arith) more.1,
+      ap (λ x. x ∷ map (λ i. cut bytes (content_offset bytes i) (content_size bytes i)) (range_with_len (k + 1) (length bs))) piece.same ∙ ap (λ xs. c ∷ xs) more.0,
+      subst (λ p. IsTail bytes (content_offset bytes p) rest) (omega arith) more.1,
     )
 
 -- The words from word k on are the list.
@@ -121,37 +121,37 @@ job_long j fits = let long = frame_long j.frame fits.frame in omega arith
 
 -- What the bytes after the contents say.
 record PartsRead (bytes : List ℕ) (j : JobModel) : Type 0 where
-  handles : words_at bytes (handles_place bytes) (u32_at bytes (job_place bytes + 8)) ≡ j.handles
-  bin : cut bytes (bin_place bytes) (u32_at bytes (job_place bytes + 12)) ≡ j.bin
-  records : cut bytes (records_place bytes) (u32_at bytes (job_place bytes + 16)) ≡ j.records
-  uniforms : cut bytes (uniforms_place bytes) (u32_at bytes (job_place bytes + 24)) ≡ j.uniforms
-  end : end_place bytes ≡ length bytes
+  handles : words_at bytes (handles_offset bytes) (u32_at bytes (job_offset bytes + 8)) ≡ j.handles
+  bin : cut bytes (bin_offset bytes) (u32_at bytes (job_offset bytes + 12)) ≡ j.bin
+  records : cut bytes (records_offset bytes) (u32_at bytes (job_offset bytes + 16)) ≡ j.records
+  uniforms : cut bytes (uniforms_offset bytes) (u32_at bytes (job_offset bytes + 24)) ≡ j.uniforms
+  end : end_offset bytes ≡ length bytes
 
-parts_back : (bytes : List ℕ) (j : JobModel) → JobFits j → JobReads bytes (job_place bytes) j → IsTail bytes (handles_place bytes) (parts_text j) → PartsRead bytes j
-unfolding parts_text words_at bin_place records_place uniforms_place end_place
+parts_back : (bytes : List ℕ) (j : JobModel) → JobFits j → JobReads bytes (job_offset bytes) j → IsTail bytes (handles_offset bytes) (parts_text j) → PartsRead bytes j
+unfolding parts_text words_at bin_offset records_offset uniforms_offset end_offset
 parts_back bytes j fits r tail =
-    let at : ℕ = job_place bytes in
+    let at : ℕ = job_offset bytes in
     let rest : List ℕ = j.bin ++ (j.records ++ j.uniforms) in
-    let first : IsTail bytes (handles_place bytes + 4 * 0) (flat_map word j.handles ++ rest) = subst (λ p. IsTail bytes p (flat_map word j.handles ++ rest)) (omega arith) tail in
-    let w = words_back bytes (handles_place bytes) 0 j.handles rest fits.handles first in
+    let first : IsTail bytes (handles_offset bytes + 4 * 0) (flat_map word j.handles ++ rest) = subst (λ p. IsTail bytes p (flat_map word j.handles ++ rest)) (omega arith) tail in
+    let w = words_back bytes (handles_offset bytes) 0 j.handles rest fits.handles first in
     let count = r.handles in
-    let t1 : IsTail bytes (bin_place bytes) rest = subst (λ p. IsTail bytes p rest) (omega arith) w.1 in
-    let bin = tail_front bytes (bin_place bytes) (u32_at bytes (at + 12)) j.bin (j.records ++ j.uniforms) (sym r.bin) t1 in
-    let t2 = tail_rest bytes (bin_place bytes) (u32_at bytes (at + 12)) (records_place bytes) j.bin (j.records ++ j.uniforms) (sym r.bin) refl t1 in
-    let records = tail_front bytes (records_place bytes) (u32_at bytes (at + 16)) j.records j.uniforms (sym r.records) t2 in
-    let t3 = tail_rest bytes (records_place bytes) (u32_at bytes (at + 16)) (uniforms_place bytes) j.records j.uniforms (sym r.records) refl t2 in
-    let t3_nil : IsTail bytes (uniforms_place bytes) (j.uniforms ++ []) = subst (λ t. IsTail bytes (uniforms_place bytes) t) (sym (append-nil j.uniforms)) t3 in
-    let uniforms = tail_front bytes (uniforms_place bytes) (u32_at bytes (at + 24)) j.uniforms [] (sym r.uniforms) t3_nil in
-    let t4 = tail_rest bytes (uniforms_place bytes) (u32_at bytes (at + 24)) (end_place bytes) j.uniforms [] (sym r.uniforms) refl t3_nil in
+    let t1 : IsTail bytes (bin_offset bytes) rest = subst (λ p. IsTail bytes p rest) (omega arith) w.1 in
+    let bin = tail_front bytes (bin_offset bytes) (u32_at bytes (at + 12)) j.bin (j.records ++ j.uniforms) (sym r.bin) t1 in
+    let t2 = tail_rest bytes (bin_offset bytes) (u32_at bytes (at + 12)) (records_offset bytes) j.bin (j.records ++ j.uniforms) (sym r.bin) refl t1 in
+    let records = tail_front bytes (records_offset bytes) (u32_at bytes (at + 16)) j.records j.uniforms (sym r.records) t2 in
+    let t3 = tail_rest bytes (records_offset bytes) (u32_at bytes (at + 16)) (uniforms_offset bytes) j.records j.uniforms (sym r.records) refl t2 in
+    let t3_nil : IsTail bytes (uniforms_offset bytes) (j.uniforms ++ []) = subst (λ t. IsTail bytes (uniforms_offset bytes) t) (sym (append-nil j.uniforms)) t3 in
+    let uniforms = tail_front bytes (uniforms_offset bytes) (u32_at bytes (at + 24)) j.uniforms [] (sym r.uniforms) t3_nil in
+    let t4 = tail_rest bytes (uniforms_offset bytes) (u32_at bytes (at + 24)) (end_offset bytes) j.uniforms [] (sym r.uniforms) refl t3_nil in
     record {
-      handles = ap (λ n. map (λ i. u32_at bytes (handles_place bytes + 4 * i)) (range_with_len 0 n)) r.handles ∙ w.0;
+      handles = ap (λ n. map (λ i. u32_at bytes (handles_offset bytes + 4 * i)) (range_with_len 0 n)) r.handles ∙ w.0;
       bin = bin.same;
       records = records.same;
       uniforms = uniforms.same;
-      end = end_of_tail bytes (end_place bytes) t4;
+      end = end_of_tail bytes (end_offset bytes) t4;
     }
 
-job_is : (bytes : List ℕ) (j : JobModel) → JobReads bytes (job_place bytes) j → PartsRead bytes j → job_at bytes ≡ j
+job_is : (bytes : List ℕ) (j : JobModel) → JobReads bytes (job_offset bytes) j → PartsRead bytes j → job_at bytes ≡ j
 unfolding job_at
 job_is bytes j r p = rw (r.client, p.handles, p.bin, p.records, r.declared, p.uniforms, r.frame.value) refl
 
@@ -180,14 +180,14 @@ sizes_fit j w =
 record FileReads (bytes : List ℕ) (f : FileModel) (j : JobModel) : Type 0 where
   header : HeaderReads bytes f
   entries : EntriesRead bytes 0 f.buffers
-  job : JobReads bytes (job_place bytes) j
-  job_inside : job_place bytes + 124 ≤ length bytes
+  job : JobReads bytes (job_offset bytes) j
+  job_inside : job_offset bytes + 124 ≤ length bytes
   contents : contents_at bytes (u32_at bytes 28) ≡ f.contents
   parts : PartsRead bytes j
   header_inside : 36 ≤ length bytes
 
 file_reads : (bytes : List ℕ) (f : FileModel) (j : JobModel) → IsFileOf bytes f → f.jobs ≡ j ∷ [] → JobFits j → IsJobWellFormed j → FileReads bytes f j
-unfolding contents_at handles_place
+unfolding contents_at handles_offset
 file_reads bytes f j is one fits well =
     let w = is.well_formed in
     let few_buffers = w.buffers in
@@ -203,20 +203,20 @@ file_reads bytes f j is one fits well =
     let count = header.buffers in
     let t36 = tail_rest bytes 0 36 36 (header_text f) (flat_map buffer_text f.buffers ++ (job_text j ++ (contents ++ parts))) (header_long f) refl t0 in
     let e = entries_back bytes 0 f.buffers (job_text j ++ (contents ++ parts)) is.fits.buffers t36 in
-    let t_job : IsTail bytes (job_place bytes) (job_text j ++ (contents ++ parts)) = subst (λ p. IsTail bytes p (job_text j ++ (contents ++ parts))) (omega arith) e.1 in
-    let job_piece = tail_front bytes (job_place bytes) 124 (job_text j) (contents ++ parts) (job_long j fits) t_job in
-    let job = job_back bytes (job_place bytes) j fits (sizes_fit j well) job_piece in
-    let t_contents : IsTail bytes (content_place bytes 0) (contents ++ parts) =
-    tail_rest bytes (job_place bytes) 124 (content_place bytes 0) (job_text j) (contents ++ parts) (job_long j fits) (content_place_first bytes) t_job in
+    let t_job : IsTail bytes (job_offset bytes) (job_text j ++ (contents ++ parts)) = subst (λ p. IsTail bytes p (job_text j ++ (contents ++ parts))) (omega arith) e.1 in
+    let job_piece = tail_front bytes (job_offset bytes) 124 (job_text j) (contents ++ parts) (job_long j fits) t_job in
+    let job = job_back bytes (job_offset bytes) j fits (sizes_fit j well) job_piece in
+    let t_contents : IsTail bytes (content_offset bytes 0) (contents ++ parts) =
+    tail_rest bytes (job_offset bytes) 124 (content_offset bytes 0) (job_text j) (contents ++ parts) (job_long j fits) (content_offset_first bytes) t_job in
     let c = contents_back bytes 0 f.buffers f.contents parts e.0 w.contents t_contents in
-    let t_parts : IsTail bytes (handles_place bytes) parts =
-    subst (λ n. IsTail bytes (content_place bytes n) parts) (omega arith) c.1 in
+    let t_parts : IsTail bytes (handles_offset bytes) parts =
+    subst (λ n. IsTail bytes (content_offset bytes n) parts) (omega arith) c.1 in
     record {
       header = header;
       entries = e.0;
       job = job;
       job_inside = job_piece.inside;
-      contents = ap (λ n. map (λ b. cut bytes (content_place bytes b) (content_size bytes b)) (range_with_len 0 n)) count ∙ c.0;
+      contents = ap (λ n. map (λ b. cut bytes (content_offset bytes b) (content_size bytes b)) (range_with_len 0 n)) count ∙ c.0;
       parts = parts_back bytes j fits job t_parts;
       header_inside = header_piece.inside;
     }
@@ -235,7 +235,7 @@ reads_pass bytes f j is well r =
         buffers = subst (λ n. n ≤ 64) (sym h.buffers) w.buffers;
         jobs = h.jobs ∙ w.one_job;
       };
-      entry = λ b below. subst (λ m. EntryPasses bytes (36 + 20 * m)) (omega arith) (entries_pass bytes 0 f.buffers r.entries w.code b (let n = h.buffers in omega arith));
+      entry = λ b below. subst (λ m. EntryPasses bytes (entry_offset m)) (omega arith) (entries_pass bytes 0 f.buffers r.entries w.code b (let n = h.buffers in omega arith));
       job = record {
         size = r.job_inside;
         flags = subst (λ n. n ≤ 1) (sym g.flags) (flag_small j.frame.clear);
@@ -256,8 +256,8 @@ file_is : (bytes : List ℕ) (f : FileModel) (j : JobModel) → f.jobs ≡ j ∷
 unfolding file_at regions_at buffers_at
 file_is bytes f j one r =
     let h = r.header in
-    let buffers : map (λ b. entry_at bytes (36 + 20 * b)) (range_with_len 0 (u32_at bytes 28)) ≡ f.buffers =
-    ap (λ n. map (λ b. entry_at bytes (36 + 20 * b)) (range_with_len 0 n)) h.buffers ∙ entries_are bytes 0 f.buffers r.entries in
+    let buffers : map (λ b. entry_at bytes (entry_offset b)) (range_with_len 0 (u32_at bytes 28)) ≡ f.buffers =
+    ap (λ n. map (λ b. entry_at bytes (entry_offset b)) (range_with_len 0 n)) h.buffers ∙ entries_are bytes 0 f.buffers r.entries in
     let jobs : job_at bytes ∷ [] ≡ f.jobs = ap (λ x. x ∷ []) (job_is bytes j r.job r.parts) ∙ sym one in
     rw (h.version, h.mem_size, h.lists_place, h.lists_size, h.tile_place, h.tile_slots, buffers, r.contents, jobs) refl
 

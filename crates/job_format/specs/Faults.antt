@@ -1,11 +1,12 @@
 -- The rules of the format, in the order in which they are asked: part by part, and in a part
 -- first whether the file ends before it does, then its fields by offset.
-use Rattle.std.specs.Prelude.{◌≡◌, ℕ, ◌+◌, ◌*◌, ◌%◌, not, ◌&&◌, nat_lt, ◌==◌, List, [], ◌∷◌, ◌++◌, length, slice_index, codes, Some, None, Result, Ok, Err}
+use Rattle.std.specs.Prelude.{◌≡◌, ℕ, ◌+◌, ◌%◌, not, ◌&&◌, nat_lt, ◌==◌, List, [], ◌∷◌, ◌++◌, length, slice_index, codes, Some, None, Result, Ok, Err}
 use Rattle.std.specs.Int.{from_le_bytes, w32}
 use Rattle.field_words.specs.Words.{u32_at}
+use Rattle.field_words.specs.Sizes.{most_list, most_code}
 use Rattle.field_words.specs.Questions.{Question, Ask, first_of, each}
 use Rattle.job_format.specs.declared.rule.FormatFault.{FormatFault}
-use Rattle.job_format.specs.Places.{job_place, content_size, content_place, handles_place, bin_place, records_place, uniforms_place, end_place}
+use Rattle.job_format.specs.Offsets.{header_size, entry_size, job_size, most_buffers, most_handles, most_states, buffer_count, entry_offset, job_offset, content_size, content_offset, handles_offset, bin_offset, records_offset, uniforms_offset, end_offset}
 
 -- rule F number at an offset in the file
 abbrev pub fault : ℕ → ℕ → FormatFault
@@ -26,18 +27,18 @@ magic = from_le_bytes w32 (codes "VC4J")
 -- The header's 36 bytes: F1 the magic and the version, F4 the counts of buffers and jobs.
 unfoldable pub header_questions : List ℕ → List (Question FormatFault)
 header_questions bytes =
-    ends_before bytes 0 36
+    ends_before bytes 0 header_size
     ∷ (Ask (not (u32_at bytes 0 == magic)) (fault 1 0)
     ∷ (Ask (not (u32_at bytes 4 == 1)) (fault 1 4)
-    ∷ (is_over bytes 28 64
+    ∷ (is_over bytes 28 most_buffers
     ∷ (Ask (not (u32_at bytes 32 == 1)) (fault 4 32) ∷ []))))
 
 -- A buffer entry's 20 bytes: F5 a kind that is neither Plain nor Code, F4 a shader that is too long.
 unfoldable pub entry_questions : List ℕ → ℕ → List (Question FormatFault)
 entry_questions bytes at =
-    ends_before bytes at 20
+    ends_before bytes at entry_size
     ∷ (Ask (nat_lt 1 (u32_at bytes (at + 12))) (fault 5 (at + 12))
-    ∷ (Ask (u32_at bytes (at + 12) == 1 && nat_lt 65536 (u32_at bytes (at + 16))) (fault 4 (at + 16)) ∷ []))
+    ∷ (Ask (u32_at bytes (at + 12) == 1 && nat_lt most_code (u32_at bytes (at + 16))) (fault 4 (at + 16)) ∷ []))
 
 -- a byte that has to be zero
 abbrev pub is_nonzero : List ℕ → ℕ → Question FormatFault
@@ -47,13 +48,13 @@ is_nonzero bytes at = Ask (not (slice_index bytes at == 0)) (fault 5 at)
 -- whole words, and the three reserved bytes.
 unfoldable pub job_questions : List ℕ → ℕ → List (Question FormatFault)
 job_questions bytes at =
-    ends_before bytes at 124
+    ends_before bytes at job_size
     ∷ (Ask (nat_lt 1 (u32_at bytes (at + 4))) (fault 5 (at + 4))
-    ∷ (is_over bytes (at + 8) 64
-    ∷ (is_over bytes (at + 12) 1048576
-    ∷ (is_over bytes (at + 16) 1048576
-    ∷ (is_over bytes (at + 20) 65536
-    ∷ (is_over bytes (at + 24) 1048576
+    ∷ (is_over bytes (at + 8) most_handles
+    ∷ (is_over bytes (at + 12) most_list
+    ∷ (is_over bytes (at + 16) most_list
+    ∷ (is_over bytes (at + 20) most_states
+    ∷ (is_over bytes (at + 24) most_list
     ∷ (Ask (not (u32_at bytes (at + 24) % 4 == 0)) (fault 5 (at + 24))
     ∷ (is_nonzero bytes (at + 121)
     ∷ (is_nonzero bytes (at + 122)
@@ -61,26 +62,26 @@ job_questions bytes at =
 
 -- the entry and the contents of buffer b
 unfoldable pub buffer_questions : List ℕ → ℕ → List (Question FormatFault)
-buffer_questions bytes b = entry_questions bytes (36 + 20 * b)
+buffer_questions bytes b = entry_questions bytes (entry_offset b)
 
 unfoldable pub content_questions : List ℕ → ℕ → List (Question FormatFault)
-content_questions bytes b = ends_before bytes (content_place bytes b) (content_size bytes b) ∷ []
+content_questions bytes b = ends_before bytes (content_offset bytes b) (content_size bytes b) ∷ []
 
 -- the job's parts, and F3: bytes follow the last of them
 unfoldable pub parts_questions : List ℕ → List (Question FormatFault)
 parts_questions bytes =
-    Ask (nat_lt (length bytes) (bin_place bytes)) (fault 2 (handles_place bytes))
-    ∷ (Ask (nat_lt (length bytes) (records_place bytes)) (fault 2 (bin_place bytes))
-    ∷ (Ask (nat_lt (length bytes) (uniforms_place bytes)) (fault 2 (records_place bytes))
-    ∷ (Ask (nat_lt (length bytes) (end_place bytes)) (fault 2 (uniforms_place bytes))
-    ∷ (Ask (nat_lt (end_place bytes) (length bytes)) (fault 3 (end_place bytes)) ∷ []))))
+    Ask (nat_lt (length bytes) (bin_offset bytes)) (fault 2 (handles_offset bytes))
+    ∷ (Ask (nat_lt (length bytes) (records_offset bytes)) (fault 2 (bin_offset bytes))
+    ∷ (Ask (nat_lt (length bytes) (uniforms_offset bytes)) (fault 2 (records_offset bytes))
+    ∷ (Ask (nat_lt (length bytes) (end_offset bytes)) (fault 2 (uniforms_offset bytes))
+    ∷ (Ask (nat_lt (end_offset bytes) (length bytes)) (fault 3 (end_offset bytes)) ∷ []))))
 
 -- all rules of the format: those after the header, and the whole
 abbrev pub body_questions : List ℕ → List (Question FormatFault)
 body_questions bytes =
-    each (buffer_questions bytes) 0 (u32_at bytes 28)
-    ++ (job_questions bytes (job_place bytes)
-    ++ (each (content_questions bytes) 0 (u32_at bytes 28)
+    each (buffer_questions bytes) 0 (buffer_count bytes)
+    ++ (job_questions bytes (job_offset bytes)
+    ++ (each (content_questions bytes) 0 (buffer_count bytes)
     ++ parts_questions bytes))
 
 unfoldable pub format_questions : List ℕ → List (Question FormatFault)
@@ -89,7 +90,7 @@ format_questions bytes = header_questions bytes ++ body_questions bytes
 -- F6: a part that is not built yet: a Code buffer, or a binner list, records, declared states or
 -- uniforms.
 unfoldable pub code_questions : List ℕ → ℕ → List (Question FormatFault)
-code_questions bytes b = Ask (u32_at bytes (36 + 20 * b + 12) == 1) (fault 6 (36 + 20 * b + 12)) ∷ []
+code_questions bytes b = Ask (u32_at bytes (entry_offset b + 12) == 1) (fault 6 (entry_offset b + 12)) ∷ []
 
 unfoldable pub list_questions : List ℕ → ℕ → List (Question FormatFault)
 list_questions bytes at =
@@ -99,7 +100,7 @@ list_questions bytes at =
     ∷ (Ask (not (u32_at bytes (at + 24) == 0)) (fault 6 (at + 24)) ∷ [])))
 
 unfoldable pub unbuilt_questions : List ℕ → List (Question FormatFault)
-unbuilt_questions bytes = each (code_questions bytes) 0 (u32_at bytes 28) ++ list_questions bytes (job_place bytes)
+unbuilt_questions bytes = each (code_questions bytes) 0 (buffer_count bytes) ++ list_questions bytes (job_offset bytes)
 
 -- All rules of the format, and after them those on parts that are not built yet.
 unfoldable pub file_questions : List ℕ → List (Question FormatFault)

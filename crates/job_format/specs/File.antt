@@ -3,6 +3,7 @@
 use Rattle.std.specs.Prelude.{◌≡◌, ℕ, ◌%◌, ◌≤◌, ◌<◌, ◌^◌, List, length, map, Result, Ok, Err}
 use Rattle.std.specs.List.{AllByRecursion}
 use Rattle.field_words.specs.Words.{IsBytes}
+use Rattle.field_words.specs.Sizes.{most_list, most_code}
 use Rattle.buffer_table.specs.declared.buffer.Kind.{Kind}
 use Rattle.buffer_table.specs.declared.buffer.Kind.TheVariants.{Plain, Code}
 use Rattle.buffer_table.specs.declared.buffer.Buffer.{Buffer}
@@ -14,6 +15,7 @@ use Rattle.job_format.specs.declared.file.JobFile.{JobFile}
 use Rattle.job_format.specs.declared.file.Surface.{Surface}
 use Rattle.job_format.specs.declared.file.Frame.{Frame}
 use Rattle.job_format.specs.Model.{JobModel, FileModel, file_view}
+use Rattle.job_format.specs.Offsets.{most_buffers, most_handles, most_states}
 use Rattle.job_format.specs.Text.{file_text}
 
 -- Each number fits the bytes that hold it.
@@ -87,21 +89,21 @@ pub record Fits (f : FileModel) : Type 0 where
 -- a shader has at most 65,536 bytes
 abbrev pub FitsShader : Kind → ℕ → Type 0
 FitsShader Plain content = Unit {0}
-FitsShader Code content = content ≤ 65536
+FitsShader Code content = content ≤ most_code
 
 pub record IsJobWellFormed (j : JobModel) : Type 0 where
-  pub handles : length j.handles ≤ 64
-  pub bin : length j.bin ≤ 1048576
-  pub records : length j.records ≤ 1048576
-  pub declared : j.declared ≤ 65536
-  pub uniforms : length j.uniforms ≤ 1048576
+  pub handles : length j.handles ≤ most_handles
+  pub bin : length j.bin ≤ most_list
+  pub records : length j.records ≤ most_list
+  pub declared : j.declared ≤ most_states
+  pub uniforms : length j.uniforms ≤ most_list
   pub whole_words : length j.uniforms % 4 ≡ 0
 
 -- What a file that was read is, and what a file needs to be written: the limits hold, and there
 -- is one list of contents per buffer, as long as its entry says.
 pub record IsWellFormed (f : FileModel) : Type 0 where
   pub version : f.version ≡ 1
-  pub buffers : length f.buffers ≤ 64
+  pub buffers : length f.buffers ≤ most_buffers
   pub code : AllByRecursion (λ b. FitsShader b.kind b.content) f.buffers
   pub contents : map length f.contents ≡ map (λ b. b.content) f.buffers
   pub one_job : length f.jobs ≡ 1

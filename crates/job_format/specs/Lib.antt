@@ -1,7 +1,7 @@
 pub mod Faults
 pub mod File
 pub mod Model
-pub mod Places
+pub mod Offsets
 pub mod Reading
 pub mod Rules
 pub mod Text

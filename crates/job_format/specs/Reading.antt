@@ -10,7 +10,7 @@ use Rattle.buffer_table.specs.declared.buffer.Regions.{Regions}
 use Rattle.job_format.specs.declared.file.Surface.{Surface}
 use Rattle.job_format.specs.declared.file.Frame.{Frame}
 use Rattle.job_format.specs.Model.{JobModel, FileModel}
-use Rattle.job_format.specs.Places.{job_place, content_size, content_place, handles_place, bin_place, records_place, uniforms_place}
+use Rattle.job_format.specs.Offsets.{buffer_count, entry_offset, job_offset, content_size, content_offset, handles_offset, bin_offset, records_offset, uniforms_offset}
 
 -- n bytes from a place on
 abbrev pub cut : List ℕ → ℕ → ℕ → List ℕ
@@ -48,20 +48,20 @@ unfoldable pub words_at : List ℕ → ℕ → ℕ → List ℕ
 words_at bytes at n = map (λ i. u32_at bytes (at + 4 * i)) (range_with_len 0 n)
 
 unfoldable pub buffers_at : List ℕ → ℕ → List Buffer
-buffers_at bytes n = map (λ b. entry_at bytes (36 + 20 * b)) (range_with_len 0 n)
+buffers_at bytes n = map (λ b. entry_at bytes (entry_offset b)) (range_with_len 0 n)
 
 unfoldable pub contents_at : List ℕ → ℕ → List (List ℕ)
-contents_at bytes n = map (λ b. cut bytes (content_place bytes b) (content_size bytes b)) (range_with_len 0 n)
+contents_at bytes n = map (λ b. cut bytes (content_offset bytes b) (content_size bytes b)) (range_with_len 0 n)
 
 unfoldable pub job_at : List ℕ → JobModel
 job_at bytes = record {
-  client = u32_at bytes (job_place bytes);
-  handles = words_at bytes (handles_place bytes) (u32_at bytes (job_place bytes + 8));
-  bin = cut bytes (bin_place bytes) (u32_at bytes (job_place bytes + 12));
-  records = cut bytes (records_place bytes) (u32_at bytes (job_place bytes + 16));
-  declared = u32_at bytes (job_place bytes + 20);
-  uniforms = cut bytes (uniforms_place bytes) (u32_at bytes (job_place bytes + 24));
-  frame = frame_at bytes (job_place bytes);
+  client = u32_at bytes (job_offset bytes);
+  handles = words_at bytes (handles_offset bytes) (u32_at bytes (job_offset bytes + 8));
+  bin = cut bytes (bin_offset bytes) (u32_at bytes (job_offset bytes + 12));
+  records = cut bytes (records_offset bytes) (u32_at bytes (job_offset bytes + 16));
+  declared = u32_at bytes (job_offset bytes + 20);
+  uniforms = cut bytes (uniforms_offset bytes) (u32_at bytes (job_offset bytes + 24));
+  frame = frame_at bytes (job_offset bytes);
 }
 
 unfoldable pub file_at : List ℕ → FileModel
@@ -69,7 +69,7 @@ file_at bytes = record {
   version = u32_at bytes 4;
   mem_size = u32_at bytes 8;
   regions = regions_at bytes;
-  buffers = buffers_at bytes (u32_at bytes 28);
-  contents = contents_at bytes (u32_at bytes 28);
+  buffers = buffers_at bytes (buffer_count bytes);
+  contents = contents_at bytes (buffer_count bytes);
   jobs = job_at bytes ∷ [];
 }

@@ -1,10 +1,10 @@
 -- The parts of a file that the first format rules leave inside it.
 use Rattle.std.specs.Prelude.{◌≡◌, ℕ, ◌+◌, ◌≤◌, List, length}
 use Rattle.field_words.specs.Words.{u32_at}
-use Rattle.job_format.specs.Places.{job_place, end_place}
+use Rattle.job_format.specs.Offsets.{job_size, most_buffers, most_handles, buffer_count, job_offset, end_offset}
 
 pub record HasParts (bytes : List ℕ) : Type 0 where
-  pub buffers : u32_at bytes 28 ≤ 64
-  pub entry : job_place bytes + 124 ≤ length bytes
-  pub handles : u32_at bytes (job_place bytes + 8) ≤ 64
-  pub end : end_place bytes ≡ length bytes
+  pub buffers : buffer_count bytes ≤ most_buffers
+  pub entry : job_offset bytes + job_size ≤ length bytes
+  pub handles : u32_at bytes (job_offset bytes + 8) ≤ most_handles
+  pub end : end_offset bytes ≡ length bytes

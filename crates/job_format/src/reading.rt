@@ -1,17 +1,18 @@
-//! The values of a job file of which no format rule fails.
+//! The values of a job file of which no format rule stands.
 ghost use Rattle.std.specs.Prelude.{◌≡◌, ◌+◌, ◌*◌, ◌<◌, ◌≤◌, length, map, IfOk};
 ghost use Rattle.field_words.specs.Words.{u32_at};
-ghost use Rattle.field_words.specs.Questions.{Answers};
+ghost use Rattle.field_words.specs.Questions.{Answers, NamesFirst, NeverHidesFault};
 ghost use Rattle.job_format.specs.Faults.{unbuilt_questions, file_questions};
 ghost use Rattle.job_format.specs.File.{IsFileOf, IsBuilt, Reads};
 ghost use Rattle.job_format.specs.Model.{FileModel, job_view, file_view};
-ghost use Rattle.job_format.specs.Places.{job_place, content_place, handles_place, bin_place, records_place, uniforms_place, end_place};
+ghost use Rattle.job_format.specs.Offsets.{header_size, entry_size, job_size, most_buffers, buffer_count, entry_offset, job_offset, content_offset, handles_offset, bin_offset, records_offset, uniforms_offset, end_offset};
 ghost use Rattle.job_format.specs.Whole.{HasParts};
 ghost use Rattle.job_format.specs.Reading.{cut, regions_at, entry_at, surface_at, frame_at, kind_of, words_at, buffers_at, contents_at, job_at, file_at};
 
-use crate::faults::format_fault;
+use crate::faults::{content_size, format_fault};
 use crate::file::{Frame, Job, JobFile, Surface};
 use crate::rule::FormatFault;
+use crate::sizes::{JOB_SIZE, entry_offset};
 use crate::unbuilt::unbuilt_fault;
 use crate::words::{half, word};
 use buffer_table::{Buffer, Kind, Regions};
@@ -20,7 +21,7 @@ use std::alloc::{AllocError, Global};
 
 #[tactic(auto, unfolding(crate::specs::Reading::regions_at))]
 fn regions(bytes: &[u8]) -> Regions
-    requires inside { 36 ≤ length bytes.now }
+    requires inside { header_size ≤ length bytes.now }
     ensures { result ≡ regions_at bytes.now }
 {
     Regions {
@@ -40,7 +41,7 @@ fn kind(number: u32) -> Kind
 /// A buffer's entry.
 #[tactic(auto, unfolding(crate::specs::Reading::entry_at))]
 fn entry(bytes: &[u8], at: usize) -> Buffer
-    requires inside { at + 20 ≤ length bytes.now }
+    requires inside { at + entry_size ≤ length bytes.now }
     ensures { result ≡ entry_at bytes.now at }
 {
     Buffer {
@@ -68,7 +69,7 @@ fn surface(bytes: &[u8], at: usize) -> Surface
 /// The frame in the job's entry, which begins at `at`.
 #[tactic(auto, unfolding(crate::specs::Reading::frame_at))]
 fn frame(bytes: &[u8], at: usize) -> Frame
-    requires inside { at + 124 ≤ length bytes.now }
+    requires inside { at + job_size ≤ length bytes.now }
     ensures { result ≡ frame_at bytes.now at }
 {
     Frame {
@@ -111,12 +112,12 @@ fn words(alloc: Global, bytes: &[u8], at: usize, count: usize) -> Result<Vec<u32
 #[tactic(auto, using(crate::proofs::Listed::buffers_none, crate::proofs::Listed::buffers_more))]
 fn buffers(alloc: Global, bytes: &[u8], count: usize) -> Result<Vec<Buffer>, AllocError>
     requires few { count ≤ 64 }
-    requires inside { 36 + 20 * count ≤ length bytes.now }
+    requires inside { entry_offset count ≤ length bytes.now }
     ensures { IfOk result (λ v. v.items ≡ buffers_at bytes.now count) }
 {
     let mut buffers = Vec::new(alloc);
     for b in 0..count {
-        buffers.push(entry(bytes, 36 + 20 * b))?;
+        buffers.push(entry(bytes, entry_offset(b)))?;
     }
     Ok(buffers)
 }
@@ -129,20 +130,20 @@ fn bytes_at(alloc: Global, bytes: &[u8], at: usize, size: usize) -> Result<Vec<u
     Ok(Vec::from_slice(alloc, &bytes[at..at + size])?)
 }
 
-/// The contents of `count` buffers, one after the other, and the place where they end.
-#[tactic(auto, using(crate::proofs::Listed::contents_none, crate::proofs::Listed::contents_more, crate::proofs::Standing::content_place_step, crate::proofs::Standing::content_place_first, crate::proofs::Standing::content_ends))]
+/// The contents of `count` buffers, one after the other, and the offset where they end.
+#[tactic(auto, using(crate::proofs::Listed::contents_none, crate::proofs::Listed::contents_more, crate::proofs::Standing::content_offset_step, crate::proofs::Standing::content_offset_first, crate::proofs::Standing::content_ends))]
 fn contents(alloc: Global, bytes: &[u8], count: usize) -> Result<(Vec<Vec<u8>>, usize), AllocError>
     requires few { count ≤ 64 }
-    requires count { count ≡ u32_at bytes.now 28 }
-    requires entries { 36 + 20 * count + 124 ≤ length bytes.now }
-    requires inside { content_place bytes.now count ≤ length bytes.now }
+    requires count { count ≡ buffer_count bytes.now }
+    requires entries { entry_offset count + job_size ≤ length bytes.now }
+    requires inside { content_offset bytes.now count ≤ length bytes.now }
     ensures values { IfOk result (λ v. map (λ c. c.items) v.0.items ≡ contents_at bytes.now count) }
-    ensures place { IfOk result (λ v. v.1 ≡ content_place bytes.now count) }
+    ensures end { IfOk result (λ v. v.1 ≡ content_offset bytes.now count) }
 {
     let mut contents = Vec::new(alloc);
-    let mut at = 36 + 20 * count + 124;
+    let mut at = entry_offset(count) + JOB_SIZE;
     for b in 0..count {
-        let size = word(bytes, 36 + 20 * b + 16) as usize;
+        let size = content_size(bytes, b);
         contents.push(bytes_at(alloc, bytes, at, size)?)?;
         at += size;
     }
@@ -150,11 +151,11 @@ fn contents(alloc: Global, bytes: &[u8], count: usize) -> Result<(Vec<Vec<u8>>, 
 }
 
 /// The job, whose entry begins at `at` and whose parts begin at `handles`.
-#[tactic(auto, unfolding(crate::specs::Reading::job_at, crate::specs::Places::bin_place, crate::specs::Places::records_place, crate::specs::Places::uniforms_place, crate::specs::Places::end_place))]
+#[tactic(auto, unfolding(crate::specs::Reading::job_at, crate::specs::Offsets::bin_offset, crate::specs::Offsets::records_offset, crate::specs::Offsets::uniforms_offset, crate::specs::Offsets::end_offset))]
 fn job(alloc: Global, bytes: &[u8], at: usize, handles: usize) -> Result<Job, AllocError>
     requires whole { HasParts bytes.now }
-    requires entry { at ≡ job_place bytes.now }
-    requires parts { handles ≡ handles_place bytes.now }
+    requires entry { at ≡ job_offset bytes.now }
+    requires parts { handles ≡ handles_offset bytes.now }
     ensures { IfOk result (λ j. job_view j ≡ job_at bytes.now) }
 {
     let count = word(bytes, at + 8) as usize;
@@ -176,13 +177,13 @@ fn job(alloc: Global, bytes: &[u8], at: usize, handles: usize) -> Result<Job, Al
 }
 
 /// The file that the bytes are.
-#[tactic(auto, unfolding(crate::specs::Reading::file_at, crate::specs::Places::handles_place), using(crate::proofs::Standing::handles_inside, crate::proofs::Passing::has_parts, crate::proofs::Entries::buffer_piece, crate::proofs::Fitting::is_file, crate::proofs::Only::only_file, crate::proofs::Nones::format_none))]
+#[tactic(auto, unfolding(crate::specs::Reading::file_at, crate::specs::Offsets::handles_offset), using(crate::proofs::Standing::handles_inside, crate::proofs::Passing::has_parts, crate::proofs::Entries::buffer_piece, crate::proofs::Fitting::is_file, crate::proofs::Only::only_file, crate::proofs::Nones::format_none))]
 pub(crate) fn file_of(alloc: Global, bytes: &[u8]) -> Result<JobFile, AllocError>
     requires whole { HasParts bytes.now }
     ensures { IfOk result (λ f. file_view f ≡ file_at bytes.now) }
 {
     let count = word(bytes, 28) as usize;
-    let at = 36 + 20 * count;
+    let at = entry_offset(count);
     let (contents, handles) = contents(alloc, bytes, count)?;
     let mut jobs = Vec::new(alloc);
     jobs.push(job(alloc, bytes, at, handles)?)?;
@@ -199,7 +200,8 @@ pub(crate) fn file_of(alloc: Global, bytes: &[u8]) -> Result<JobFile, AllocError
 /// The file, or F6.
 fn built_file(alloc: Global, bytes: &[u8]) -> Result<JobFile, Stop<FormatFault>>
     requires whole { HasParts bytes.now }
-    ensures { Answers (unbuilt_questions bytes.now) (λ f. file_view f ≡ file_at bytes.now) result }
+    ensures answers { Answers (unbuilt_questions bytes.now) (λ f. file_view f ≡ file_at bytes.now) result }
+    ensures memory { NeverHidesFault (unbuilt_questions bytes.now) result }
 {
     if let Some(fault) = unbuilt_fault(bytes) {
         return Err(Stop::Fault(fault));
@@ -208,9 +210,10 @@ fn built_file(alloc: Global, bytes: &[u8]) -> Result<JobFile, Stop<FormatFault>>
 }
 
 /// The file, or its first fault.
-#[tactic(auto, unfolding(crate::specs::Faults::file_questions), using(field_words::proofs::Questions::passes, field_words::proofs::Questions::stops))]
+#[tactic(auto, unfolding(crate::specs::Faults::file_questions), using(field_words::proofs::Questions::passes, field_words::proofs::Questions::stops, field_words::proofs::Questions::hides_later))]
 fn file(alloc: Global, bytes: &[u8]) -> Result<JobFile, Stop<FormatFault>>
-    ensures { Answers (file_questions bytes.now) (λ f. file_view f ≡ file_at bytes.now) result }
+    ensures answers { Answers (file_questions bytes.now) (λ f. file_view f ≡ file_at bytes.now) result }
+    ensures memory { NeverHidesFault (file_questions bytes.now) result }
 {
     match format_fault(bytes) {
         Some(fault) => Err(Stop::Fault(fault)),
@@ -219,10 +222,12 @@ fn file(alloc: Global, bytes: &[u8]) -> Result<JobFile, Stop<FormatFault>>
 }
 
 /// Reads a job file. The fault is the first of F1 to F5, part by part and in a part by field, and
-/// after them F6, a part of the format that is not built yet.
+/// after them F6, a part of the format that is not built yet. Finding it takes no memory.
 pub fn read_job(alloc: Global, bytes: &[u8]) -> Result<JobFile, Stop<FormatFault>>
     // Which fault it is, and the fields of the file.
     ensures read { Answers (file_questions bytes.now) (λ f. file_view f ≡ file_at bytes.now) result }
+    ensures first { NamesFirst (file_questions bytes.now) result }
+    ensures memory { NeverHidesFault (file_questions bytes.now) result }
     // The file that is read is the one that the bytes spell.
     ensures found { IfOk result (λ f. IsFileOf bytes.now (file_view f)) }
     // Bytes that spell a file are read, unless memory runs out.

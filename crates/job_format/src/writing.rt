@@ -11,12 +11,10 @@ ghost use Rattle.job_format.specs.Reading.{file_at};
 ghost use Rattle.job_format.specs.File.{HeaderFits, BufferFits, SurfaceFits, FrameFits, JobEntryFits, JobPartsFit, Fits, IsJobWellFormed, IsWellFormed, IsFileOf};
 
 use crate::file::{Frame, Job, JobFile, Surface};
+use crate::sizes::MAGIC;
 use buffer_table::{Buffer, Kind};
 use field_words::NoMemory;
 use std::alloc::{AllocError, Global};
-
-/// The letters "VC4J" as a number.
-const MAGIC: u32 = 0x4a34_4356;
 
 fn put_words(out: &mut Vec<u8>, words: &[u32]) -> Result<(), AllocError>
     ensures text { OnOk result (out.new.items ≡ out.old.items ++ flat_map word words.now) }

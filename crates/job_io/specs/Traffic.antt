@@ -1,5 +1,5 @@
 -- What passes through a source and a sink.
-use Rattle.std.specs.Prelude.{◌≤◌, ℕ, ◌-◌, List, [], length, take, Option, Some, None}
+use Rattle.std.specs.Prelude.{◌≡◌, ◌≤◌, ℕ, ◌-◌, List, [], length, take, Option, Some, None, Result, Ok, Err, ⊤}
 use Rattle.std.specs.Io.KnownBytes.{Appends}
 
 -- the bytes that a source in memory still has, how many one call gives, the number of its next
@@ -21,6 +21,15 @@ pub record Tray : Type 0 where
   pub failing : List ℕ
   pub faults : ℕ
 
+-- a reader or a writer, and how often it failed
+pub record Adapted (T : Type 0) : Type 0 where
+  pub inner : T
+  pub faults : ℕ
+
+-- how many bytes one call of `read_all` asks for
+abbrev pub piece_size : ℕ
+piece_size = 16384
+
 -- the bytes, or none where they are not told
 abbrev pub told : Option (List ℕ) → List ℕ
 told None = []
@@ -30,6 +39,18 @@ told (Some bytes) = bytes
 abbrev pub count_taken : Option (List ℕ) → Option (List ℕ) → ℕ
 count_taken before now = length (told before) - length (told now)
 
--- a sink grew by some bytes of the front of a text
+-- After a failure a sink holds what it held, or tells it no more.
+abbrev pub KeepsOrHides : Option (List ℕ) → Option (List ℕ) → Type 0
+KeepsOrHides None now = ⊤
+KeepsOrHides (Some bytes) None = ⊤
+KeepsOrHides (Some bytes) (Some more) = more ≡ bytes
+
+-- One write appended the first n bytes of the part at Ok n, and nothing at Err.
+abbrev pub Writes : {E : Type 0} → Option (List ℕ) → Option (List ℕ) → Result ℕ E → List ℕ → Type 0
+Writes before now (Ok n) part = Appends before now (take n part)
+Writes before now (Err error) part = KeepsOrHides before now
+
+-- A sink grew by some bytes of the front of a text, or tells its bytes no more.
 abbrev pub AppendsFront : Option (List ℕ) → Option (List ℕ) → List ℕ → Type 0
-AppendsFront before now text = (n : ℕ) × (n ≤ length text) × Appends before now (take n text)
+AppendsFront before None text = ⊤
+AppendsFront before (Some bytes) text = (n : ℕ) × (n ≤ length text) × Appends before (Some bytes) (take n text)

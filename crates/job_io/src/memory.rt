@@ -1,7 +1,8 @@
 //! A source and a sink in memory, which fail at chosen calls.
 ghost use Rattle.std.specs.Prelude.{◌≡◌, ◌-◌, ◌≤◌, ◌<◌, ◌↔◌, ◌⊎◌, [], ◌++◌, length, take, drop, min, Contains, IfOk, OnOk, IsOk, IsErr, IfErr, OnErr, Some};
-ghost use Rattle.std.specs.Io.KnownBytes.{ReadConsumes, WriteAppends};
+ghost use Rattle.std.specs.Io.KnownBytes.{ReadConsumes};
 ghost use Rattle.job_io.specs.Faults.{Rose, counted};
+ghost use Rattle.job_io.specs.Traffic.{Writes};
 
 use super::give::give;
 use super::traffic::{Failed, Sink, Source};
@@ -65,6 +66,7 @@ impl Source for MemSource {
         ensures within { IfOk result (λ n. n ≤ length buf.new) }
         ensures bytes { ReadConsumes (Some self.old.left) (Some self.new.left) result buf.new }
         ensures failed { OnErr result (Rose self.old.faults self.new.faults) }
+        ensures steady { OnOk result (self.new.faults ≡ self.old.faults) }
         ensures counted { self.old.faults ≤ self.new.faults }
 
         ensures fails { IsErr result ↔ Contains self.old.failing self.old.call }
@@ -154,8 +156,9 @@ impl Sink for MemSink {
     fn write(&mut self, part: &[u8]) -> Result<usize, Failed>
         ensures within { IfOk result (λ n. n ≤ length part.now) }
         ensures some { IfOk result (λ n. 0 < length part.now → 0 < n) }
-        ensures bytes { WriteAppends (Some self.old.held) (Some self.new.held) result part.now }
+        ensures bytes { Writes (Some self.old.held) (Some self.new.held) result part.now }
         ensures failed { OnErr result (Rose self.old.faults self.new.faults) }
+        ensures steady { OnOk result (self.new.faults ≡ self.old.faults) }
         ensures counted { self.old.faults ≤ self.new.faults }
 
         ensures fails { IsErr result ↔ (Contains self.old.failing self.old.call ⊎ (self.old.room < min self.old.piece (length part.now))) }

@@ -5,27 +5,28 @@ use Rattle.field_words.specs.Words.{rounded_up}
 use Rattle.field_words.specs.Questions.{Question, first_of, each}
 use Rattle.field_words.proofs.Questions.{passes, stands_none, answered_none}
 use Rattle.buffer_table.specs.declared.item.Item.{Item}
-use Rattle.buffer_table.specs.Table.{buffer_at, shares, is_unaligned, memory_questions, item_questions, all_questions, table_questions, lists_item, tile_item}
+use Rattle.buffer_table.specs.Table.{buffer_at, shares, is_off_page, memory_questions, item_questions, all_questions, table_questions, lists_item, tile_item}
 use Rattle.buffer_table.specs.Handles.{data_of, handle_questions, handles_questions}
 use Rattle.job_format.specs.Model.{FileModel}
 use Rattle.texture_layouts.specs.Surface.{microtile_width_of}
 use Rattle.render_list.specs.Frame.{is_present, is_full, is_multisample, tile_side}
+use Rattle.render_list.specs.Length.{load_size, loads_size, writes_size, tile_size, render_length}
 use Rattle.render_list.specs.Surfaces.{surface_faults, frame_questions, surface_questions, shape_questions, size_questions, whole_questions, is_written, is_reversed, is_outside_grid, is_outside_frame, has_unknown_flag, has_unknown_bit, is_unnamed, has_unlisted_tiling, tiling_number, has_unlisted_format, pixel_size_of, is_too_large, plain_end, is_full_with_bits, is_too_large_full, buffer_size}
 use Rattle.render_list.specs.Surfaces.{is_unaligned as is_surface_unaligned}
-use Rattle.job_check.specs.Faults.{job_of, table_of, render_list_of, table_refused, handle_refused, surface_refused, table_stage, handles_stage, surfaces_stage, layout_stage, job_stages, file_stages}
+use Rattle.job_check.specs.Jobs.{job_of, table_of, has_tiles, render_room, layout_of}
+use Rattle.job_check.specs.Faults.{table_refused, handle_refused, surface_refused, table_stage, handles_stage, surfaces_stage, layout_stage, job_stages, file_stages}
 use Rattle.relocation.specs.Layout.{records_start, uniforms_start, render_start}
 use Rattle.thin_job.specs.Thin.{raster_size, IsItem, AreApart, KeepsRules}
 use Rattle.thin_job.specs.Shape.{thin_of, IsThinFile}
 use Rattle.thin_job.proofs.Numbers.{Numbers, thin_file, thin_frame}
 use Rattle.thin_job.proofs.Shapes.{file_is, numbers_of}
-use Rattle.job_safety.proofs.Bridge.{list_length}
 
 abbrev numbers_keep : Numbers → Type 0
 numbers_keep n = KeepsRules (thin_of (thin_file n))
 
 -- the memory table
-aligned : (memory : ℕ) (x : Item) → IsItem memory x.place x.size → is_unaligned x ≡ false
-unfolding is_unaligned
+aligned : (memory : ℕ) (x : Item) → IsItem memory x.place x.size → is_off_page x ≡ false
+unfolding is_off_page
 aligned memory x item = grind (arith, item.from_page, item.pages, item.some)
 
 apart : (x y : Item) → AreApart y.place y.size x.place x.size → shares x y ≡ false
@@ -121,12 +122,15 @@ surfaces_none n keeps =
     )
 
 -- the layout
+room_of : (n : Numbers) → render_room (thin_frame n) false ≡ 15
+unfolding render_room has_tiles render_length tile_size loads_size load_size writes_size is_present is_full
+room_of n = refl
+
 layout_none : (n : Numbers) → numbers_keep n → first_of (layout_stage (thin_file n) 0) ≡ None
-unfolding layout_stage job_of records_start uniforms_start render_start rounded_up
+unfolding layout_stage layout_of job_of records_start uniforms_start render_start rounded_up
 layout_none n keeps =
-    let long = list_length n in
     let lists = keeps.items.lists in
-    stands_none (layout_stage (thin_file n) 0) (le-ltb n.regions.lists_size (0 + length (render_list_of (thin_file n) 0)) (omega (arith, long, lists.some, lists.pages)), tt)
+    stands_none (layout_stage (thin_file n) 0) (le-ltb n.regions.lists_size (0 + render_room (thin_frame n) false) (omega (arith, room_of n, lists.some, lists.pages)), tt)
 
 -- the stages
 table_none : (n : Numbers) → numbers_keep n → first_of (table_stage (thin_file n)) ≡ None

@@ -9,16 +9,17 @@ use Rattle.job_format.specs.Model.{FileModel}
 use Rattle.relocation.specs.Layout.{records_start, uniforms_start, render_start}
 use Rattle.render_list.specs.Frame.{is_present, is_last_tile}
 use Rattle.render_list.specs.Surfaces.{place_in}
-use Rattle.render_list.specs.Text.{render_text, head_text, span_text, tile_text, coordinates, loads_text, writes_text, multisample_text, color_store, some_before_color, some_before_zs}
-use Rattle.job_check.specs.Faults.{job_of, slot_of, places_in, render_list_of}
-use Rattle.job_check.specs.Emit.{content_parts, list_parts, layout_of, memory_of}
+use Rattle.packets.specs.Packet.{packet_text}
+use Rattle.render_list.specs.Text.{render_text, render_slots, front_slots, head_packet, clear_slots, span_slots, tile_slots, load_slots, list_slots, write_slots, color_store, some_before_color, some_before_zs}
+use Rattle.job_check.specs.Jobs.{job_of, slot_of, places_in, render_list_of, layout_of}
+use Rattle.job_check.specs.Emit.{content_parts, list_parts, memory_parts, memory_of}
 use Rattle.thin_job.specs.Shape.{thin_of, IsThinFile}
 use Rattle.thin_job.specs.Memory.{thin_list, thin_memory}
 use Rattle.thin_job.proofs.Numbers.{Numbers, thin_file}
 use Rattle.thin_job.proofs.Shapes.{file_is, numbers_of}
-use Rattle.job_safety.specs.Safe.{AreSafe}
+use Rattle.job_safety.specs.Safe.{AreSafe, AreSame}
 use Rattle.job_safety.specs.Thin.{thin_rights, thin_start}
-use Rattle.job_safety.proofs.Runs.{thin_is_safe}
+use Rattle.job_safety.proofs.Runs.{thin_is_safe, thin_is_same}
 
 -- putting nothing changes nothing
 put_nothing : (old : List ℕ) (at : ℕ) → with_bytes old at [] ≡ old
@@ -26,7 +27,7 @@ put_nothing old at = ap (λ k. take at old ++ drop k old) (add-zero at) ∙ take
 
 -- the renderer list of a thin file, its place, and its memory
 list_of : (n : Numbers) → render_list_of (thin_file n) 0 ≡ thin_list (thin_of (thin_file n))
-unfolding render_list_of job_of slot_of places_in data_of buffer_at place_in is_present render_text head_text span_text tile_text coordinates loads_text writes_text multisample_text color_store some_before_color some_before_zs is_last_tile thin_list
+unfolding render_list_of job_of slot_of places_in data_of buffer_at place_in is_present render_text render_slots front_slots head_packet clear_slots span_slots tile_slots load_slots list_slots write_slots color_store some_before_color some_before_zs is_last_tile packet_text thin_list
 list_of n = refl
 
 -- 15 bytes
@@ -39,7 +40,7 @@ unfolding layout_of job_of records_start uniforms_start render_start rounded_up
 place_of n = add-zero n.regions.lists_place
 
 memory_is : (n : Numbers) → memory_of (thin_file n) ≡ thin_memory (thin_of (thin_file n))
-unfolding memory_of content_parts list_parts
+unfolding memory_of content_parts memory_parts list_parts
 memory_is n =
     ap (λ m. with_bytes m ((layout_of (thin_file n) 0).place + (layout_of (thin_file n) 0).render) (render_list_of (thin_file n) 0)) (put_nothing (zeros n.mem_size) n.place)
     ∙ ap (λ at. with_bytes (zeros n.mem_size) at (render_list_of (thin_file n) 0)) (place_of n)
@@ -53,3 +54,8 @@ thin_memory_is bytes f h = subst (λ g. memory_of g ≡ thin_memory (thin_of g))
 pub thin_file_is_safe : (bytes : List ℕ) (f : FileModel) → IsThinFile bytes f → AreSafe (thin_rights (thin_of f)) (memory_of f) (thin_start (thin_of f) ∷ [])
 thin_file_is_safe bytes f h =
     subst (λ m. AreSafe (thin_rights (thin_of f)) m (thin_start (thin_of f) ∷ [])) (sym (thin_memory_is bytes f h)) (thin_is_safe (thin_of f) h.thin.rules)
+
+-- And it does the same over other memories.
+pub thin_file_is_same : (bytes : List ℕ) (f : FileModel) → IsThinFile bytes f → AreSame (thin_rights (thin_of f)) (memory_of f) (thin_start (thin_of f) ∷ [])
+thin_file_is_same bytes f h =
+    subst (λ m. AreSame (thin_rights (thin_of f)) m (thin_start (thin_of f) ∷ [])) (sym (thin_memory_is bytes f h)) (thin_is_same (thin_of f) h.thin.rules)

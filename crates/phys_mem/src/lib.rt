@@ -103,4 +103,17 @@ mod tests {
         assert_eq!(rt; memory.read_byte(8), 0);
         Ok(())
     }
+
+    // A memory without bytes; a window over all bytes, a write of the last, and a window of none.
+    #[test]
+    fn reaches_both_ends(rt: HostRuntime) -> Result<(), NoMemory> {
+        assert!(rt; PhysMem::new(rt.alloc(), 0)?.len() == 0);
+        let mut memory = PhysMem::new(rt.alloc(), 4)?;
+        memory.window(0, 4).fill(0xa5);
+        memory.write_bytes(3, &[0x5a]);
+        memory.write_bytes(4, &[]);
+        assert!(rt; memory.window(4, 0).is_empty());
+        assert_eq!(rt; memory.read_word(0), 0x5aa5_a5a5);
+        Ok(())
+    }
 }

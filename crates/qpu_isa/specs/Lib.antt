@@ -1,7 +1,7 @@
 pub mod Word
 pub mod Inst
 pub mod Fields
+pub mod Shader
 pub mod Terms
 pub mod Told
 pub mod Setups
-pub mod Shader

@@ -30,6 +30,7 @@ pub struct Lengths {
 }
 
 impl Layout {
+    ghost use Rattle.field_words.specs.Sizes.{most_memory, most_list};
     ghost use Rattle.relocation.specs.Layout.{layout_for, lists_end, StandApart};
 
     /// The layout for parts of these sizes in bytes, in this order, or `None` exactly where their
@@ -46,12 +47,12 @@ impl Layout {
         render: u64,
         slot: u32,
     ) -> Option<Layout>
-        requires place_limit { regions.now.lists_place ≤ 67108864 }
-        requires size_limit { regions.now.lists_size ≤ 67108864 }
-        requires slot_limit { slot ≤ 67108864 }
-        requires bin_limit { bin ≤ 1048576 }
-        requires records_limit { records ≤ 1048576 }
-        requires uniforms_limit { uniforms ≤ 1048576 }
+        requires place_limit { regions.now.lists_place ≤ most_memory }
+        requires size_limit { regions.now.lists_size ≤ most_memory }
+        requires slot_limit { slot ≤ most_memory }
+        requires bin_limit { bin ≤ most_list }
+        requires records_limit { records ≤ most_list }
+        requires uniforms_limit { uniforms ≤ most_list }
         requires render_limit { render ≤ 8388608 }
         ensures exact { SomeIff result
             (lists_end bin records uniforms render ≤ regions.now.lists_size)
@@ -82,9 +83,9 @@ mod tests {
     use super::*;
 
     const REGIONS: Regions = Regions {
-        lists_place: 4096,
-        lists_size: 4096,
-        tile_place: 8192,
+        lists_place: 0x1000,
+        lists_size: 0x1000,
+        tile_place: 0x2000,
         tile_slots: 1,
     };
 
@@ -92,13 +93,13 @@ mod tests {
     #[test]
     fn layouts(rt: HostRuntime) {
         let parts = Layout {
-            place: 4096,
+            place: 0x1000,
             bin: 0,
             records: 48,
             uniforms: 96,
             render: 112,
             end: 127,
-            slot: 8192,
+            slot: 0x2000,
         };
         assert_eq!(rt; Layout::of(&REGIONS, 34, 45, 4, 15, 8192), Some(parts));
         assert!(rt; Layout::of(&REGIONS, 0, 0, 0, 4096, 8192).is_some());

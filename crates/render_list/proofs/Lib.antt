@@ -1,6 +1,5 @@
 pub mod Checked
 pub mod Length
 pub mod Places
+pub mod Rows
 pub mod Sizes
-pub mod Span
-pub mod Writing

@@ -2,4 +2,3 @@ pub mod Frame
 pub mod Length
 pub mod Surfaces
 pub mod Text
-pub mod Writing

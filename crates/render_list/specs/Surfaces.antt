@@ -1,6 +1,6 @@
 -- The rules of a frame and its surfaces, in the order of refusal: first the frame, which is item 0,
 -- then the surfaces, which are items 1 to 6, then the whole, which is item 7; at an item by number.
-use Rattle.std.specs.Prelude.{ℕ, ◌+◌, ◌*◌, ◌%◌, Bool, false, not, ◌&&◌, ◌||◌, nat_lt, nat_le, ◌==◌, bit_and, List, [], ◌∷◌, ◌++◌, map, Option, Some, None, is_some, if◌then◌else◌}
+use Rattle.std.specs.Prelude.{ℕ, ◌+◌, ◌-◌, ◌*◌, ◌%◌, Bool, false, not, ◌&&◌, ◌||◌, nat_lt, nat_le, ◌==◌, bit_and, List, [], ◌∷◌, ◌++◌, map, Option, Some, None, is_some, if◌then◌else◌}
 use Rattle.std.specs.List.{range_with_len}
 use Rattle.field_words.specs.Words.{bits_of}
 use Rattle.field_words.specs.Questions.{Question, Ask, each}
@@ -46,9 +46,13 @@ unfoldable pub has_unknown_flag : ℕ → Surface → Bool
 has_unknown_flag k surface = nat_lt (if may_be_full k then 1 else 0) surface.flags
 
 -- The fields of a surface's bits. Colour write: multisample 0, format 3:2, decimate 5:4, tiling 7:6.
--- The others: buffer 2:0, tiling 5:4, format 9:8. These are the bits outside them.
+-- The others: buffer 2:0, tiling 5:4, format 9:8.
+abbrev pub fields_of_bits : ℕ → ℕ
+fields_of_bits k = if k == 1 then 1 + 12 + 48 + 192 else 7 + 48 + 768
+
+-- the bits of sixteen outside them
 abbrev pub unnamed_bits : ℕ → ℕ
-unnamed_bits k = if k == 1 then 65282 else 64712
+unnamed_bits k = 65535 - fields_of_bits k
 
 -- G5: a bit outside them
 unfoldable pub has_unknown_bit : ℕ → Surface → Bool

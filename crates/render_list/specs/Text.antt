@@ -1,13 +1,48 @@
--- The text of a renderer list: its packets, one after the other. Numbers are little endian. The
--- surfaces' places are absolute, and None where a surface is absent.
+-- A renderer list: its packets, and their text, one after the other. The surfaces' places are absolute,
+-- and None where a surface is absent. A packet that stands only sometimes has a slot, which is None
+-- where it doesn't stand, so that each tile has the same fourteen slots.
 use Rattle.std.specs.Prelude.{ℕ, ◌+◌, ◌*◌, ◌%◌, ◌||◌, ◌&&◌, not, Bool, true, false, List, [], ◌∷◌, ◌++◌, Option, Some, None, is_some, if◌then◌else◌, slice_index_or, bit_or}
 use Rattle.std.specs.List.{flat_map, range_with_len}
-use Rattle.field_words.specs.Words.{rounded_up}
 use Rattle.job_format.specs.declared.file.Frame.{Frame}
-use Rattle.job_format.specs.Text.{half, word}
+use Rattle.packets.specs.declared.packet.Packet.{Packet}
+use Rattle.packets.specs.declared.packet.Packet.TheVariants.{WaitOnSemaphore, BranchToSubList, StoreTileColor, StoreTileColorAndEnd, StoreFullResolution, LoadFullResolution, StoreTileBuffer, LoadTileBuffer, TileRenderingMode, ClearColors, TileCoordinates}
+use Rattle.packets.specs.Packet.{slots_text}
+use Rattle.tile_memory.specs.Slots.{alloc_offset}
 use Rattle.render_list.specs.Frame.{color_read, color_write, zs_read, zs_write, multisample_color, multisample_zs, place_at, surface_at, is_full, full_place, is_first_tile, is_last_tile, tiles_across, tiles_down}
 
--- 113: where colour is written, the frame's size, and colour write's bits. Where it is absent, the
+-- The low bits of a full-resolution load's or store's address: colour is left out (1), depth and stencil
+-- are left out (2); and of a store's: the tile buffer isn't cleared behind it (4), it ends the frame (8).
+abbrev pub without_color : ℕ
+without_color = 1
+
+abbrev pub without_zs : ℕ
+without_zs = 2
+
+abbrev pub without_clearing : ℕ
+without_clearing = 4
+
+-- a general store's address has this bit too
+abbrev pub ends_frame : ℕ
+ends_frame = 8
+
+-- Bits 13 to 15 of a general store's bits: colour (13) and all else (14, 15) isn't cleared behind it.
+abbrev pub keeps_color : ℕ
+keeps_color = 8192
+
+abbrev pub keeps_all : ℕ
+keeps_all = 57344
+
+-- the number where the test is true, else 0
+abbrev pub number_where : Bool → ℕ → ℕ
+number_where true number = number
+number_where false number = 0
+
+-- the packet where the test is true
+abbrev pub packet_where : Bool → Packet → Option Packet
+packet_where true packet = Some packet
+packet_where false packet = None
+
+-- The head: where colour is written, the frame's size, and colour write's bits. Where it is absent, the
 -- place is 0 and of the bits only the multisample bit stays.
 abbrev pub color_place : Option ℕ → ℕ
 color_place None = 0
@@ -17,150 +52,150 @@ abbrev pub color_bits : Frame → Option ℕ → ℕ
 color_bits frame None = (surface_at frame color_write).bits % 2
 color_bits frame (Some place) = (surface_at frame color_write).bits
 
-unfoldable pub head_text : Frame → List (Option ℕ) → List ℕ
-head_text frame places = (113 ∷ []) ++ (word (color_place (place_at places color_write)) ++ (half frame.width ++ (half frame.height ++ half (color_bits frame (place_at places color_write)))))
+unfoldable pub head_packet : Frame → List (Option ℕ) → Packet
+head_packet frame places = TileRenderingMode (color_place (place_at places color_write)) frame.width frame.height (color_bits frame (place_at places color_write))
 
--- the values to clear with, and a tile (0, 0) that stores nothing, by which the hardware takes them
-unfoldable pub clear_text : Frame → List ℕ
-clear_text frame = (114 ∷ []) ++ (word (slice_index_or frame.clear_color 0 0) ++ (word (slice_index_or frame.clear_color 1 0) ++ (word frame.clear_z ++ ((frame.clear_s ∷ 115 ∷ 0 ∷ 0 ∷ 28 ∷ []) ++ (half 0 ++ word 0)))))
+-- Where the frame is cleared: the values to clear with, and a tile (0, 0) that stores nothing, by which
+-- the hardware takes them.
+unfoldable pub clear_packet : Frame → Packet
+clear_packet frame = ClearColors (slice_index_or frame.clear_color 0 0) (slice_index_or frame.clear_color 1 0) frame.clear_z frame.clear_s
 
--- the coordinates of a tile
-unfoldable pub coordinates : ℕ → ℕ → List ℕ
-coordinates x y = 115 ∷ x ∷ y ∷ []
+unfoldable pub clear_slots : Frame → List (Option Packet)
+clear_slots frame =
+    packet_where frame.clear (clear_packet frame)
+    ∷ packet_where frame.clear (TileCoordinates 0 0)
+    ∷ packet_where frame.clear (StoreTileBuffer 0 0)
+    ∷ []
 
--- a general store that stores nothing, between two loads
-unfoldable pub idle_store : List ℕ
-idle_store = (28 ∷ []) ++ (half 57344 ++ word 0)
+-- the head, and what clears
+unfoldable pub front_slots : Frame → List (Option ℕ) → List (Option Packet)
+front_slots frame places = Some (head_packet frame places) ∷ clear_slots frame
 
--- A load of a surface's tile: one in full resolution by its place, with the bits that say what is
--- not loaded; another by its bits and place.
-unfoldable pub full_load : ℕ → List ℕ
-full_load place = (27 ∷ []) ++ word place
+-- The load of a tile of surface k, where it is present: in full resolution by its place, with the bit of
+-- what is left out; else by its bits and place.
+unfoldable pub load_packet : Frame → ℕ → ℕ → ℕ → ℕ → ℕ → Packet
+load_packet frame k left_out place x y =
+    if is_full k (surface_at frame k) then LoadFullResolution (bit_or (full_place frame place x y) left_out) else LoadTileBuffer (surface_at frame k).bits place
 
-unfoldable pub general_load : ℕ → ℕ → List ℕ
-general_load bits place = (29 ∷ []) ++ (half bits ++ word place)
+abbrev pub load_slot : Frame → ℕ → ℕ → Option ℕ → ℕ → ℕ → Option Packet
+load_slot frame k left_out None x y = None
+load_slot frame k left_out (Some place) x y = Some (load_packet frame k left_out place x y)
 
-unfoldable pub load_text : Frame → ℕ → ℕ → ℕ → ℕ → ℕ → List ℕ
-load_text frame k skipped place x y = if is_full k (surface_at frame k) then full_load (bit_or (full_place frame place x y) skipped) else general_load (surface_at frame k).bits place
+-- a general store that stores nothing and clears nothing, between two loads
+abbrev pub idle_store : Packet
+idle_store = StoreTileBuffer keeps_all 0
 
-abbrev pub color_load : Frame → Option ℕ → ℕ → ℕ → List ℕ
-color_load frame None x y = []
-color_load frame (Some place) x y = load_text frame color_read 2 place x y
+-- With a binner list the first tile waits for the binner,
+abbrev pub wait_slot : Frame → Option (ℕ × ℕ) → ℕ → ℕ → Option Packet
+wait_slot frame None x y = None
+wait_slot frame (Some grid) x y = packet_where (is_first_tile frame x y) WaitOnSemaphore
 
--- Two loads stand apart by coordinates and a store, since a load is done at the next coordinates.
-abbrev pub between_loads : Option ℕ → ℕ → ℕ → List ℕ
-between_loads None x y = []
-between_loads (Some place) x y = coordinates x y ++ idle_store
+-- and each tile runs its own list, which begins in its block of 32 bytes in the tile slot. The blocks lie
+-- behind the tiles' states, row by row of the grid.
+unfoldable pub list_place : ℕ × ℕ → ℕ → ℕ → ℕ → ℕ
+list_place grid slot x y = slot + alloc_offset (grid.0 * grid.1) + 32 * (y * grid.0 + x)
 
-abbrev pub zs_load : Frame → Option ℕ → Option ℕ → ℕ → ℕ → List ℕ
-zs_load frame color None x y = []
-zs_load frame color (Some place) x y = between_loads color x y ++ load_text frame zs_read 1 place x y
+abbrev pub list_slot : Option (ℕ × ℕ) → ℕ → ℕ → ℕ → Option Packet
+list_slot None slot x y = None
+list_slot (Some grid) slot x y = Some (BranchToSubList (list_place grid slot x y))
 
-unfoldable pub loads_text : Frame → List (Option ℕ) → ℕ → ℕ → List ℕ
-loads_text frame places x y = color_load frame (place_at places color_read) x y ++ zs_load frame (place_at places color_read) (place_at places zs_read) x y
+-- A full-resolution store of one of the two multisample surfaces, where it is present: what is left out,
+-- whether further writes of the tile follow, and whether it ends the frame.
+unfoldable pub full_store : Frame → ℕ → ℕ → Bool → ℕ → ℕ → Packet
+full_store frame place left_out more x y =
+    StoreFullResolution (bit_or (full_place frame place x y) (left_out + number_where more without_clearing + number_where (not more && is_last_tile frame x y) ends_frame))
 
--- With a binner list: the first tile waits for the binner, and each tile runs its list, which begins
--- in its block of 32 bytes, behind the tile states of 48 bytes, in the tile slot.
-unfoldable pub tile_blocks : ℕ → ℕ
-tile_blocks tiles = rounded_up (48 * tiles) 4096
+abbrev pub full_store_slot : Frame → Option ℕ → ℕ → Bool → ℕ → ℕ → Option Packet
+full_store_slot frame None left_out more x y = None
+full_store_slot frame (Some place) left_out more x y = Some (full_store frame place left_out more x y)
 
-abbrev pub wait_text : Bool → List ℕ
-wait_text true = 8 ∷ []
-wait_text false = []
+-- the general store of depth and stencil, where it is present
+unfoldable pub zs_store : Frame → ℕ → Bool → ℕ → ℕ → Packet
+zs_store frame place more x y =
+    StoreTileBuffer (bit_or (surface_at frame zs_write).bits (number_where more keeps_color)) (bit_or place (number_where (not more && is_last_tile frame x y) ends_frame))
 
-abbrev pub binned_text : Frame → Option (ℕ × ℕ) → ℕ → ℕ → ℕ → List ℕ
-binned_text frame None slot x y = []
-binned_text frame (Some grid) slot x y = wait_text (is_first_tile frame x y) ++ ((17 ∷ []) ++ word (slot + tile_blocks (grid.0 * grid.1) + 32 * (y * grid.0 + x)))
+abbrev pub zs_store_slot : Frame → Option ℕ → Bool → ℕ → ℕ → Option Packet
+zs_store_slot frame None more x y = None
+zs_store_slot frame (Some place) more x y = Some (zs_store frame place more x y)
 
--- The writes of a tile that are present, in the order multisample colour, multisample ZS, ZS, colour.
--- All but the first have the coordinates before them.
-abbrev pub coordinates_after : Bool → ℕ → ℕ → List ℕ
-coordinates_after true x y = coordinates x y
-coordinates_after false x y = []
+-- Colour is the last of a tile's writes, so it ends the frame on the last tile.
+unfoldable pub color_store : Frame → ℕ → ℕ → Packet
+color_store frame x y = if is_last_tile frame x y then StoreTileColorAndEnd else StoreTileColor
 
--- the number where the test is true, else 0
-abbrev pub number_where : Bool → ℕ → ℕ
-number_where true number = number
-number_where false number = 0
+abbrev pub color_store_slot : Frame → Option ℕ → ℕ → ℕ → Option Packet
+color_store_slot frame None x y = None
+color_store_slot frame (Some place) x y = Some (color_store frame x y)
 
--- A full-resolution store of one of the two multisample surfaces: the bits say what is not stored,
--- whether further writes of the tile follow (4), and whether it ends the frame (8).
-unfoldable pub full_store : Frame → ℕ → ℕ → Bool → ℕ → ℕ → List ℕ
-full_store frame place skipped more x y = (26 ∷ []) ++ word (bit_or (full_place frame place x y) (skipped + number_where more 4 + number_where (not more && is_last_tile frame x y) 8))
-
--- A general store: bit 13 where further writes follow, and 8 beside the place where it ends the frame.
-unfoldable pub zs_store : Frame → ℕ → Bool → ℕ → ℕ → List ℕ
-zs_store frame place more x y = (28 ∷ []) ++ (half (bit_or (surface_at frame zs_write).bits (number_where more 8192)) ++ word (bit_or place (number_where (not more && is_last_tile frame x y) 8)))
-
--- Colour is the last of a tile's writes: 25 ends the frame, 24 doesn't.
-unfoldable pub color_store : Frame → ℕ → ℕ → List ℕ
-color_store frame x y = (if is_last_tile frame x y then 25 else 24) ∷ []
-
--- whether a write is present, whether a further one of the tile follows it, and whether one came before
-abbrev pub is_written : List (Option ℕ) → ℕ → Bool
-is_written places k = is_some (place_at places k)
+-- whether a surface is there, whether a further write of the tile follows one, and whether one came before
+abbrev pub is_there : List (Option ℕ) → ℕ → Bool
+is_there places k = is_some (place_at places k)
 
 unfoldable pub more_after_multisample_zs : List (Option ℕ) → Bool
-more_after_multisample_zs places = is_written places zs_write || is_written places color_write
+more_after_multisample_zs places = is_there places zs_write || is_there places color_write
 
 unfoldable pub more_after_multisample_color : List (Option ℕ) → Bool
-more_after_multisample_color places = is_written places multisample_zs || more_after_multisample_zs places
+more_after_multisample_color places = is_there places multisample_zs || more_after_multisample_zs places
 
 unfoldable pub some_before_zs : List (Option ℕ) → Bool
-some_before_zs places = is_written places multisample_color || is_written places multisample_zs
+some_before_zs places = is_there places multisample_color || is_there places multisample_zs
 
 unfoldable pub some_before_color : List (Option ℕ) → Bool
-some_before_color places = some_before_zs places || is_written places zs_write
+some_before_color places = some_before_zs places || is_there places zs_write
 
-abbrev pub multisample_color_text : Frame → List (Option ℕ) → Option ℕ → ℕ → ℕ → List ℕ
-multisample_color_text frame places None x y = []
-multisample_color_text frame places (Some place) x y = full_store frame place 2 (more_after_multisample_color places) x y
+-- the coordinates of a tile, where a write is there and another came before it
+abbrev pub coordinates_slot : List (Option ℕ) → ℕ → Bool → ℕ → ℕ → Option Packet
+coordinates_slot places k some_before x y = packet_where (is_there places k && some_before) (TileCoordinates x y)
 
-abbrev pub multisample_zs_text : Frame → List (Option ℕ) → Option ℕ → ℕ → ℕ → List ℕ
-multisample_zs_text frame places None x y = []
-multisample_zs_text frame places (Some place) x y = coordinates_after (is_written places multisample_color) x y ++ full_store frame place 1 (more_after_multisample_zs places) x y
+-- The loads of the tile at (x, y). Two loads stand apart by coordinates and a store, since a load is done
+-- at the next coordinates.
+unfoldable pub load_slots : Frame → List (Option ℕ) → ℕ → ℕ → List (Option Packet)
+load_slots frame places x y =
+    load_slot frame color_read without_zs (place_at places color_read) x y
+    ∷ packet_where (is_there places color_read && is_there places zs_read) (TileCoordinates x y)
+    ∷ packet_where (is_there places color_read && is_there places zs_read) idle_store
+    ∷ load_slot frame zs_read without_color (place_at places zs_read) x y
+    ∷ []
 
-abbrev pub zs_text : Frame → List (Option ℕ) → Option ℕ → ℕ → ℕ → List ℕ
-zs_text frame places None x y = []
-zs_text frame places (Some place) x y = coordinates_after (some_before_zs places) x y ++ zs_store frame place (is_written places color_write) x y
+-- its coordinates, and its list
+unfoldable pub list_slots : Frame → Option (ℕ × ℕ) → ℕ → ℕ → ℕ → List (Option Packet)
+list_slots frame grid slot x y =
+    Some (TileCoordinates x y)
+    ∷ wait_slot frame grid x y
+    ∷ list_slot grid slot x y
+    ∷ []
 
-abbrev pub color_text : Frame → List (Option ℕ) → Option ℕ → ℕ → ℕ → List ℕ
-color_text frame places None x y = []
-color_text frame places (Some place) x y = coordinates_after (some_before_color places) x y ++ color_store frame x y
+-- Its writes that are present, in the order multisample colour, multisample ZS, ZS, colour. All but the
+-- first have the coordinates before them.
+unfoldable pub write_slots : Frame → List (Option ℕ) → ℕ → ℕ → List (Option Packet)
+write_slots frame places x y =
+    full_store_slot frame (place_at places multisample_color) without_zs (more_after_multisample_color places) x y
+    ∷ coordinates_slot places multisample_zs (is_there places multisample_color) x y
+    ∷ full_store_slot frame (place_at places multisample_zs) without_color (more_after_multisample_zs places) x y
+    ∷ coordinates_slot places zs_write (some_before_zs places) x y
+    ∷ zs_store_slot frame (place_at places zs_write) (is_there places color_write) x y
+    ∷ coordinates_slot places color_write (some_before_color places) x y
+    ∷ color_store_slot frame (place_at places color_write) x y
+    ∷ []
 
-unfoldable pub multisample_text : Frame → List (Option ℕ) → ℕ → ℕ → List ℕ
-multisample_text frame places x y = multisample_color_text frame places (place_at places multisample_color) x y ++ multisample_zs_text frame places (place_at places multisample_zs) x y
+-- the tile in row y at x
+unfoldable pub tile_slots : Frame → List (Option ℕ) → Option (ℕ × ℕ) → ℕ → ℕ → ℕ → List (Option Packet)
+tile_slots frame places grid slot y x = load_slots frame places x y ++ (list_slots frame grid slot x y ++ write_slots frame places x y)
 
-unfoldable pub writes_text : Frame → List (Option ℕ) → ℕ → ℕ → List ℕ
-writes_text frame places x y =
-    multisample_text frame places x y
-    ++ (zs_text frame places (place_at places zs_write) x y
-    ++ color_text frame places (place_at places color_write) x y)
-
--- The tile in row y at x: its loads, its coordinates, its list, its writes.
-unfoldable pub tile_text : Frame → List (Option ℕ) → Option (ℕ × ℕ) → ℕ → ℕ → ℕ → List ℕ
-tile_text frame places grid slot y x =
-    loads_text frame places x y
-    ++ (coordinates x y
-    ++ (binned_text frame grid slot x y
-    ++ writes_text frame places x y))
-
--- the texts of n numbers in a row, from a first one on
-unfoldable pub span_text : (ℕ → List ℕ) → ℕ → ℕ → List ℕ
-span_text text first n = flat_map text (range_with_len first n)
+-- the slots of n numbers in a row, from a first one on
+unfoldable pub span_slots : (ℕ → List (Option Packet)) → ℕ → ℕ → List (Option Packet)
+span_slots slots first n = flat_map slots (range_with_len first n)
 
 -- the tiles of a row from left to right, and the rows from the smallest to the largest
-abbrev pub row_text : Frame → List (Option ℕ) → Option (ℕ × ℕ) → ℕ → ℕ → List ℕ
-row_text frame places grid slot y = span_text (tile_text frame places grid slot y) frame.min_x (tiles_across frame)
+abbrev pub row_slots : Frame → List (Option ℕ) → Option (ℕ × ℕ) → ℕ → ℕ → List (Option Packet)
+row_slots frame places grid slot y = span_slots (tile_slots frame places grid slot y) frame.min_x (tiles_across frame)
 
-abbrev pub tiles_text : Frame → List (Option ℕ) → Option (ℕ × ℕ) → ℕ → List ℕ
-tiles_text frame places grid slot = span_text (row_text frame places grid slot) frame.min_y (tiles_down frame)
-
-abbrev pub clear_part : Frame → Bool → List ℕ
-clear_part frame true = clear_text frame
-clear_part frame false = []
+abbrev pub all_tile_slots : Frame → List (Option ℕ) → Option (ℕ × ℕ) → ℕ → List (Option Packet)
+all_tile_slots frame places grid slot = span_slots (row_slots frame places grid slot) frame.min_y (tiles_down frame)
 
 -- the whole list, with the binner's grid of tiles across and down where there is a binner list, and
 -- the place of the tile slot
+unfoldable pub render_slots : Frame → List (Option ℕ) → Option (ℕ × ℕ) → ℕ → List (Option Packet)
+render_slots frame places grid slot = front_slots frame places ++ all_tile_slots frame places grid slot
+
 unfoldable pub render_text : Frame → List (Option ℕ) → Option (ℕ × ℕ) → ℕ → List ℕ
-render_text frame places grid slot = head_text frame places ++ (clear_part frame frame.clear ++ tiles_text frame places grid slot)
+render_text frame places grid slot = slots_text (render_slots frame places grid slot)

@@ -17,6 +17,9 @@ pub const MULTISAMPLE_COLOR: usize = 4;
 
 pub const MULTISAMPLE_ZS: usize = 5;
 
+/// The bytes of a tile in full resolution.
+pub const FULL_TILE: u32 = 16384;
+
 pub fn surface(frame: &Frame, k: usize) -> Surface
     requires { k < 6 }
     ensures { result ≡ surface_at frame.now k }
@@ -76,7 +79,14 @@ pub fn full_place(frame: &Frame, place: u32, x: u8, y: u8) -> u32
     requires { full_place frame.now place x y < 2 ^ 32 }
     ensures { result ≡ full_place frame.now place x y }
 {
-    place + 16384 * full_tile(frame, x, y)
+    place + FULL_TILE * full_tile(frame, x, y)
+}
+
+#[tactic(auto, unfolding(crate::specs::Frame::is_first_tile))]
+pub fn is_first_tile(frame: &Frame, x: u8, y: u8) -> bool
+    ensures { result ≡ is_first_tile frame.now x y }
+{
+    x == frame.min_x && y == frame.min_y
 }
 
 #[tactic(auto, unfolding(crate::specs::Frame::is_last_tile))]

@@ -5,6 +5,7 @@ mod fault;
 mod frame;
 mod setup;
 mod size;
+mod slots;
 mod surfaces;
 mod text;
 

@@ -1,15 +1,19 @@
 //! The rules of a frame and its surfaces.
-ghost use Rattle.std.specs.Prelude.{◌≡◌, ◌<◌, ◌≤◌, ◌⊎◌, ◌+◌, ◌++◌, false, length, ℕ, None, Some, IfNone, IfOk, MatchResult};
-ghost use Rattle.field_words.specs.Questions.{first_of, each};
+ghost use Rattle.std.specs.Prelude.{◌≡◌, ◌<◌, ◌≤◌, ◌⊎◌, ◌+◌, ◌++◌, false, length, ℕ, None, Some, IfNone, IfOk, IfErr, MatchResult};
+ghost use Rattle.field_words.specs.Questions.{first_of, each, IsFirst};
 ghost use Rattle.buffer_table.specs.Handles.{AreNumbersOf};
 ghost use Rattle.texture_layouts.specs.Surface.{IsPixelSize};
 ghost use Rattle.render_list.specs.Frame.{surface_at, is_full, FitsAt, IsTileSet, IsSetupFor};
 ghost use Rattle.render_list.specs.Surfaces.{fault, is_reversed, is_outside_grid, is_outside_frame, frame_questions, has_unknown_flag, has_unknown_bit, is_unnamed, tiling_number, has_unlisted_tiling, tiling_named, pixel_size_of, has_unlisted_format, write_pixel, general_pixel, is_unaligned, buffer_size, plain_end, is_too_large, is_full_with_bits, full_end, is_too_large_full, shape_questions, size_questions, surface_questions, is_written, whole_questions, surface_faults, place_in, places_of};
 
-use crate::fault::RenderFault;
+use crate::fault::{
+    FRAME, FULL_WITH_BITS, NOTHING_WRITTEN, OUTSIDE_FRAME, OUTSIDE_GRID, REVERSED, RenderFault,
+    TOO_LARGE, TOO_LARGE_FULL, UNALIGNED, UNKNOWN_BIT, UNKNOWN_FLAG, UNLISTED_FORMAT,
+    UNLISTED_TILING, UNNAMED, WHOLE,
+};
 use crate::frame::{
-    COLOR_READ, COLOR_WRITE, MULTISAMPLE_COLOR, MULTISAMPLE_ZS, ZS_READ, ZS_WRITE, full_tile,
-    is_full, is_present, surface, tile_side,
+    COLOR_READ, COLOR_WRITE, FULL_TILE, MULTISAMPLE_COLOR, MULTISAMPLE_ZS, ZS_READ, ZS_WRITE,
+    full_tile, is_full, is_present, surface, tile_side,
 };
 use crate::setup::Setup;
 use buffer_table::{Handles, Table, use_data};
@@ -19,6 +23,12 @@ use texture_layouts::{Tiling, surface_size};
 
 /// The most pixels that a frame may have across or down where a surface isn't in full resolution.
 const SIDE_LIMIT: u16 = 4096;
+
+/// The fields of colour write's bits: multisample 0, format 3:2, decimate 5:4, tiling 7:6.
+const WRITE_FIELDS: u16 = 0x0001 | 0x000c | 0x0030 | 0x00c0;
+
+/// The fields of the other surfaces' bits: buffer 2:0, tiling 5:4, format 9:8.
+const GENERAL_FIELDS: u16 = 0x0007 | 0x0030 | 0x0300;
 
 /// Whether a smallest tile number is over its largest.
 #[tactic(auto, unfolding(crate::specs::Surfaces::is_reversed))]
@@ -55,13 +65,22 @@ fn frame_fault(frame: &Frame, tiles: Option<(u8, u8)>) -> Option<RenderFault>
     ensures { result ≡ first_of (frame_questions frame.now tiles) }
 {
     if is_reversed(frame) {
-        return Some(RenderFault { number: 1, item: 0 });
+        return Some(RenderFault {
+            number: REVERSED,
+            item: FRAME,
+        });
     }
     if is_outside_grid(frame, tiles) {
-        return Some(RenderFault { number: 2, item: 0 });
+        return Some(RenderFault {
+            number: OUTSIDE_GRID,
+            item: FRAME,
+        });
     }
     if is_outside_frame(frame) {
-        return Some(RenderFault { number: 3, item: 0 });
+        return Some(RenderFault {
+            number: OUTSIDE_FRAME,
+            item: FRAME,
+        });
     }
     None
 }
@@ -82,7 +101,11 @@ fn has_unknown_flag(k: usize, surface: &Surface) -> bool
 fn has_unknown_bit(k: usize, surface: &Surface) -> bool
     ensures { result ≡ has_unknown_bit k surface.now }
 {
-    let unnamed = if k == COLOR_WRITE { 0xff02 } else { 0xfcc8 };
+    let unnamed = if k == COLOR_WRITE {
+        !WRITE_FIELDS
+    } else {
+        !GENERAL_FIELDS
+    };
     !is_full(k, surface) && surface.bits & unnamed != 0
 }
 
@@ -230,7 +253,7 @@ fn full_end(frame: &Frame, surface: &Surface) -> u64
 {
     let offset = surface.offset;
     let tiles = full_tile(frame, frame.max_x, frame.max_y) + 1;
-    u64::from(offset) + 16384 * u64::from(tiles)
+    u64::from(offset) + u64::from(FULL_TILE) * u64::from(tiles)
 }
 
 /// Whether a surface in full resolution goes past its buffer.
@@ -261,22 +284,22 @@ fn shape_fault(k: usize, surface: &Surface, table: &Table, handles: &Handles) ->
     ensures listed { IfNone result (has_unlisted_format k surface.now ≡ false) }
 {
     if has_unknown_flag(k, surface) {
-        return at_surface(4, k);
+        return at_surface(UNKNOWN_FLAG, k);
     }
     if has_unknown_bit(k, surface) {
-        return at_surface(5, k);
+        return at_surface(UNKNOWN_BIT, k);
     }
     if is_unnamed(table, handles, surface) {
-        return at_surface(6, k);
+        return at_surface(UNNAMED, k);
     }
     if has_unlisted_tiling(k, surface) {
-        return at_surface(7, k);
+        return at_surface(UNLISTED_TILING, k);
     }
     if has_unlisted_format(k, surface) {
-        return at_surface(8, k);
+        return at_surface(UNLISTED_FORMAT, k);
     }
     if is_unaligned(surface) {
-        return at_surface(9, k);
+        return at_surface(UNALIGNED, k);
     }
     None
 }
@@ -289,13 +312,13 @@ fn size_fault(frame: &Frame, k: usize, surface: &Surface, size: u32) -> Option<R
     ensures { result ≡ first_of (size_questions frame.now k surface.now size) }
 {
     if is_too_large(frame, k, surface, size) {
-        return at_surface(10, k);
+        return at_surface(TOO_LARGE, k);
     }
     if is_full_with_bits(k, surface) {
-        return at_surface(11, k);
+        return at_surface(FULL_WITH_BITS, k);
     }
     if is_too_large_full(frame, k, surface, size) {
-        return at_surface(12, k);
+        return at_surface(TOO_LARGE_FULL, k);
     }
     None
 }
@@ -350,8 +373,8 @@ fn whole_fault(frame: &Frame) -> Option<RenderFault>
         return None;
     }
     Some(RenderFault {
-        number: 13,
-        item: 7,
+        number: NOTHING_WRITTEN,
+        item: WHOLE,
     })
 }
 
@@ -440,6 +463,7 @@ pub fn check_surfaces(
         (λ setup. (first_of (surface_faults frame.now tiles table.now handles.now) ≡ None)
         × (setup.places ≡ places_of frame.now table.now handles.now))
         (λ fault. first_of (surface_faults frame.now tiles table.now handles.now) ≡ Some fault) }
+    ensures first { IfErr result (λ fault. IsFirst (surface_faults frame.now tiles table.now handles.now) fault) }
     ensures setup { IfOk result (λ setup. IsSetupFor frame.now setup.places) }
 {
     match first_fault(frame, tiles, table, handles) {

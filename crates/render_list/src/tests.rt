@@ -132,7 +132,9 @@ fn faults_of_frames(rt: HostRuntime) -> Result<(), Fail> {
         &[
             (SMALL, None, None),
             (Frame { min_y: 1, ..SMALL }, None, Some((1, 0))),
+            (SMALL, Some((1, 1)), None),
             (Frame { max_x: 1, ..SMALL }, Some((1, 1)), Some((2, 0))),
+            (Frame { max_y: 1, ..SMALL }, Some((2, 1)), Some((2, 0))),
             (Frame { width: 0, ..SMALL }, None, Some((3, 0))),
             (larger, None, Some((3, 0))),
             (with(SAMPLES, 4, plain(0, 0)), None, None),
@@ -186,11 +188,16 @@ fn faults_of_surfaces(rt: HostRuntime) -> Result<(), Fail> {
 }
 
 /// The window of 128 bytes after the list of the frame is built at 16, behind its length.
-fn built(rt: &impl Abort, alloc: Global, frame: &Frame) -> Result<(usize, [u8; 128]), Fail> {
+fn built(
+    rt: &impl Abort,
+    alloc: Global,
+    frame: &Frame,
+    tiles: Option<(u8, u8)>,
+) -> Result<(usize, [u8; 128]), Fail> {
     let table = table(alloc)?;
     let handles = Handles::make(alloc, &table, 1, &[0])?;
-    let setup = check_surfaces(frame, None, &table, &handles)?;
-    let size = render_size(frame, false);
+    let setup = check_surfaces(frame, tiles, &table, &handles)?;
+    let size = render_size(frame, tiles.is_some());
     let layout = Layout {
         place: 0,
         bin: 0,
@@ -202,12 +209,18 @@ fn built(rt: &impl Abort, alloc: Global, frame: &Frame) -> Result<(usize, [u8; 1
     };
     let mut out = [0xaa; 128];
     assert!(rt; size <= 112);
-    build(frame, &setup, None, &layout, &mut out);
+    build(frame, &setup, tiles, &layout, &mut out);
     Ok((size as usize, out))
 }
 
-fn expect_list(rt: &impl Abort, alloc: Global, frame: &Frame, list: &[u8]) -> Result<(), Fail> {
-    let (size, out) = built(rt, alloc, frame)?;
+fn expect_list(
+    rt: &impl Abort,
+    alloc: Global,
+    frame: &Frame,
+    tiles: Option<(u8, u8)>,
+    list: &[u8],
+) -> Result<(), Fail> {
+    let (size, out) = built(rt, alloc, frame, tiles)?;
     assert_eq!(rt; size, list.len());
     assert!(rt; size <= 112);
     assert_eq!(rt; &out[16..16 + size], list);
@@ -239,9 +252,31 @@ const SAMPLES_LIST: [u8; 32] = [
     0x73, 0x00, 0x00, 0x1a, 0x06, 0x10, 0x08, 0x00, 0x73, 0x00, 0x00, 0x1a, 0x09, 0x50, 0x08, 0x00,
 ];
 
+/// Four tiles that store colour in T tiling, behind a binner list with a grid of 2x2 and the tile slot at
+/// 0x1000: the first waits for the binner, and each branches to its own list. The lists begin at 0x2000,
+/// behind 4 times 48 bytes and at the next page.
+const BINNED_LIST: [u8; 48] = [
+    0x71, 0x00, 0x10, 0x08, 0x00, 0x80, 0x00, 0x80, 0x00, 0x44, 0x00, 0x73, 0x00, 0x00, 0x08, 0x11,
+    0x00, 0x20, 0x00, 0x00, 0x18, 0x73, 0x01, 0x00, 0x11, 0x20, 0x20, 0x00, 0x00, 0x18, 0x73, 0x00,
+    0x01, 0x11, 0x40, 0x20, 0x00, 0x00, 0x18, 0x73, 0x01, 0x01, 0x11, 0x60, 0x20, 0x00, 0x00, 0x19,
+];
+
+#[test]
+fn binned_list(rt: HostRuntime) -> Result<(), Fail> {
+    let frame = Frame {
+        width: 128,
+        height: 128,
+        max_x: 1,
+        max_y: 1,
+        surfaces: [ABSENT, plain(0, 0x44), ABSENT, ABSENT, ABSENT, ABSENT],
+        ..SMALL
+    };
+    expect_list(&rt, rt.alloc(), &frame, Some((2, 2)), &BINNED_LIST)
+}
+
 #[test]
 fn lists(rt: HostRuntime) -> Result<(), Fail> {
-    expect_list(&rt, rt.alloc(), &SMALL, &SMALL_LIST)?;
+    expect_list(&rt, rt.alloc(), &SMALL, None, &SMALL_LIST)?;
     let zs = plain(0x8000, 0x12);
     let cleared = Frame {
         width: 128,
@@ -254,7 +289,7 @@ fn lists(rt: HostRuntime) -> Result<(), Fail> {
         clear_s: 0x5a,
         ..SMALL
     };
-    expect_list(&rt, rt.alloc(), &cleared, &CLEARED_LIST)?;
+    expect_list(&rt, rt.alloc(), &cleared, None, &CLEARED_LIST)?;
     let full = Surface {
         flags: 1,
         ..plain(0, 0)
@@ -273,7 +308,7 @@ fn lists(rt: HostRuntime) -> Result<(), Fail> {
         ],
         ..SMALL
     };
-    expect_list(&rt, rt.alloc(), &samples, &SAMPLES_LIST)
+    expect_list(&rt, rt.alloc(), &samples, None, &SAMPLES_LIST)
 }
 
 #[test]

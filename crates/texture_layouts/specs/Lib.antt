@@ -1,1 +1,6 @@
+pub mod Fetch
+pub mod Fits
+pub mod Level
+pub mod Place
+pub mod Setup
 pub mod Surface

@@ -52,7 +52,7 @@ pub fn surface_size(tiling: Tiling, width: u32, height: u32, cpp: u32) -> u64
 
 /// A microtile's width in pixels of `cpp` bytes.
 #[tactic(auto, unfolding(crate::specs::Surface::microtile_width_of))]
-fn microtile_width(cpp: u32) -> u32
+pub fn microtile_width(cpp: u32) -> u32
     ensures value { result ≡ microtile_width_of cpp }
     ensures positive { 1 ≤ result }
     ensures limit { result ≤ 8 }
@@ -66,7 +66,7 @@ fn microtile_width(cpp: u32) -> u32
 
 /// A microtile's height in pixels of `cpp` bytes.
 #[tactic(auto, unfolding(crate::specs::Surface::microtile_height_of))]
-fn microtile_height(cpp: u32) -> u32
+pub fn microtile_height(cpp: u32) -> u32
     ensures value { result ≡ microtile_height_of cpp }
     ensures positive { 1 ≤ result }
     ensures limit { result ≤ 8 }
@@ -78,7 +78,7 @@ fn microtile_height(cpp: u32) -> u32
 }
 
 /// The number of pixels that a surface's width is aligned to.
-fn alignment_across(tiling: Tiling, cpp: u32) -> u64
+pub(crate) fn alignment_across(tiling: Tiling, cpp: u32) -> u64
     ensures value { result ≡ unit_across tiling cpp }
     ensures positive { 1 ≤ result }
     ensures limit { result ≤ 64 }

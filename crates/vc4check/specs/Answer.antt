@@ -2,7 +2,7 @@
 use Rattle.std.specs.Prelude.{◌≡◌, ℕ, ◌++◌, List, Option, Some, None}
 use Rattle.field_words.specs.declared.stop.Stop.{Stop}
 use Rattle.field_words.specs.declared.stop.Stop.TheVariants.{Fault, NoMemory}
-use Rattle.field_words.specs.Questions.{Question, first_of, answered}
+use Rattle.field_words.specs.Questions.{Question, first_of, answered, IsFirst}
 use Rattle.job_format.specs.declared.rule.FormatFault.{FormatFault}
 use Rattle.job_format.specs.declared.rule.Refusal.{Refusal}
 use Rattle.job_format.specs.declared.rule.Stage.TheVariants.{F}
@@ -11,7 +11,8 @@ use Rattle.job_format.specs.File.{IsFileOf}
 use Rattle.job_format.specs.Model.{FileModel}
 use Rattle.job_format.specs.Reading.{file_at}
 use Rattle.job_check.specs.Faults.{refused, file_stages}
-use Rattle.job_check.specs.Emit.{memory_of, layout_of, lengths_of}
+use Rattle.job_check.specs.Emit.{memory_of, lengths_of}
+use Rattle.job_check.specs.Jobs.{layout_of}
 use Rattle.dumper.specs.Text.{accepted_text, refused_text}
 use Rattle.vc4check.specs.declared.command.Command.{Command}
 use Rattle.vc4check.specs.declared.command.Command.TheVariants.{Check, Asm, Disasm}
@@ -39,10 +40,10 @@ unfoldable pub image_of : FileModel → List ℕ
 image_of f = accepted_text (memory_of f) (layout_of f 0) (lengths_of f 0)
 
 -- Where no rule stands the file is what its bytes spell, and is accepted with its memory; else it is refused by the first rule
--- that does.
+-- that does: it stands, and none before it in the list does.
 abbrev pub IsVerdict : List ℕ → Option Refusal → FileModel → ℕ → List ℕ → Type 0
 IsVerdict bytes None f status text = (status ≡ 0) × (text ≡ image_of f) × IsFileOf bytes f
-IsVerdict bytes (Some refusal) f status text = (status ≡ 1) × (text ≡ refused_text refusal)
+IsVerdict bytes (Some refusal) f status text = (status ≡ 1) × (text ≡ refused_text refusal) × IsFirst (all_questions bytes) refusal
 
 abbrev pub IsCheckAnswer : List ℕ → ℕ → List ℕ → Type 0
 IsCheckAnswer bytes status text = IsVerdict bytes (refusal_of bytes) (file_at bytes) status text

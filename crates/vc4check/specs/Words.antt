@@ -2,6 +2,7 @@
 use Rattle.std.specs.Prelude.{ℕ, List, [], ◌∷◌, codes, map, String, string_bytes, Option, Some, None, if◌then◌else◌}
 use Rattle.std.specs.Prelude.{bytes_eq}
 use Rattle.std.specs.declared.alloc.Global.{Global}
+use Rattle.field_words.specs.Sizes.{most_list}
 use Rattle.vc4check.specs.declared.command.Command.{Command}
 use Rattle.vc4check.specs.declared.command.Command.TheVariants.{Check, Asm, Disasm}
 
@@ -20,8 +21,12 @@ command_of [] = None
 command_of (word ∷ []) = command_named word
 command_of (word ∷ another ∷ more) = None
 
+-- the most bytes of a job file that `check` takes: 24 MiB
+abbrev pub most_file : ℕ
+most_file = 25165824
+
 -- the most bytes of input that a command takes
 abbrev pub limit_of : Command → ℕ
-limit_of Check = 25165824
-limit_of Asm = 1048576
-limit_of Disasm = 1048576
+limit_of Check = most_file
+limit_of Asm = most_list
+limit_of Disasm = most_list

@@ -14,7 +14,7 @@ pub struct Answer {
 }
 
 /// Writes the answer's text, and says its status; or 4 where the sink failed, which then has a front
-/// of the text. It takes no memory.
+/// of the text, where it still tells. It takes no memory.
 pub fn reply<K: Sink>(sink: &mut K, answer: &Answer) -> u8
     requires { answer.now.status < 2 }
     ensures status { result ≢ 4 → result ≡ answer.now.status }
@@ -22,6 +22,7 @@ pub fn reply<K: Sink>(sink: &mut K, answer: &Answer) -> u8
     ensures written { result ≢ 4 → Appends (K.held sink.old) (K.held sink.new) answer.now.text.items }
     ensures cut { result ≡ 4 → AppendsFront (K.held sink.old) (K.held sink.new) answer.now.text.items }
     ensures failed { result ≡ 4 → Rose (K.faults sink.old) (K.faults sink.new) }
+    ensures steady { result ≢ 4 → K.faults sink.new ≡ K.faults sink.old }
 {
     match write_all(sink, &answer.text) {
         Ok(()) => answer.status,

@@ -29,7 +29,7 @@ fn format_refusal(stop: Stop<FormatFault>) -> Stop<Refusal>
     }
 }
 
-/// The first rule that fails, or the job's memory.
+/// The first rule that stands, or the job's memory.
 #[tactic(auto, unfolding(crate::specs::Answer::all_questions))]
 fn judged(alloc: Global, bytes: &[u8]) -> Result<Checked, Stop<Refusal>>
     ensures answers { Answers (all_questions bytes.now) (λ checked. IsEmitted (file_at bytes.now) checked.memory checked.layout checked.lengths) result }
@@ -43,7 +43,7 @@ fn judged(alloc: Global, bytes: &[u8]) -> Result<Checked, Stop<Refusal>>
 }
 
 /// What `check` answers to these bytes: the memory of an accepted job, or a refusal.
-#[tactic(auto, unfolding(crate::specs::Answer::refusal_of, crate::specs::Answer::image_of))]
+#[tactic(auto, unfolding(crate::specs::Answer::refusal_of, crate::specs::Answer::image_of), using(field_words::proofs::Questions::first_is))]
 pub fn check_answer(alloc: Global, bytes: &[u8]) -> Result<Answer, NoMemory>
     ensures answers { IfOk result (λ a. IsCheckAnswer bytes.now a.status a.text.items) }
     ensures status { IfOk result (λ a. a.status < 2) }

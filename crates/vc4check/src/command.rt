@@ -1,6 +1,11 @@
 //! The program's commands, and the words that ask for them.
 ghost use Rattle.std.specs.Prelude.{◌≡◌, ◌≤◌, Some, None};
-ghost use Rattle.vc4check.specs.Words.{texts, command_named, command_of, limit_of};
+ghost use Rattle.vc4check.specs.Words.{texts, command_named, command_of, limit_of, most_file};
+
+use field_words::MOST_LIST;
+
+/// The most bytes of a job file that `check` takes: 24 MiB.
+const MOST_FILE: usize = 25_165_824;
 
 /// What the program can do.
 #[derive(Clone, Copy, Debug, PartialEq, Eq)]
@@ -17,11 +22,11 @@ impl Command {
     /// The most bytes of input that the command takes.
     pub fn limit(self) -> usize
         ensures value { result ≡ limit_of self }
-        ensures most { result ≤ 25165824 }
+        ensures most { result ≤ most_file }
     {
         match self {
-            Command::Check => 25_165_824,
-            Command::Asm | Command::Disasm => 1_048_576,
+            Command::Check => MOST_FILE,
+            Command::Asm | Command::Disasm => MOST_LIST as usize,
         }
     }
 }

@@ -1,5 +1,6 @@
 //! The top call: from words and input to a status and a text.
 ghost use Rattle.std.specs.Prelude.{◌≡◌, ◌≢◌, ◌≤◌, ◌<◌, ◌⊎◌, ◌↔◌, ◌∷◌, [], length, IfSome, Some, None};
+ghost use Rattle.std.specs.Io.KnownBytes.{IsAtEnd};
 ghost use Rattle.job_io.specs.Faults.{Rose};
 ghost use Rattle.job_io.specs.Traffic.{count_taken};
 ghost use Rattle.job_format.specs.Model.{FileModel};
@@ -41,12 +42,17 @@ pub fn run<S: Source, K: Sink>(
     ensures words { (result ≡ 2) ↔ (command_of (texts words.now.items) ≡ None) }
     ensures read { result ≡ 3 → Rose (S.faults source.old) (S.faults source.new) }
     ensures write { result ≡ 4 → Rose (K.faults sink.old) (K.faults sink.new) }
+    ensures source_steady { result ≢ 3 → S.faults source.new ≡ S.faults source.old }
+    ensures sink_steady { result ≢ 4 → K.faults sink.new ≡ K.faults sink.old }
     ensures complete { (Rose (S.faults source.old) (S.faults source.new) → ⊥) → (Rose (K.faults sink.old) (K.faults sink.new) → ⊥)
         → result ≢ 2 → result ≢ 5 → result ≢ 6 → result < 2 }
 
     // What stays as it was.
     ensures untouched { result ≡ 2 → source.new ≡ source.old }
     ensures nothing { 1 < result → result ≢ 4 → sink.new ≡ sink.old }
+
+    // All of the input was read.
+    ensures all { ((result < 2) ⊎ (result ≡ 4)) → IsAtEnd (S.left source.new) }
 
     // What each command takes and answers, where the source tells its input.
     ensures long { (command : Command) → command_of (texts words.now.items) ≡ Some command → IfSome (S.left source.old) (λ _.

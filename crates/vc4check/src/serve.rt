@@ -1,5 +1,6 @@
 //! A command from its input to its text in the sink.
 ghost use Rattle.std.specs.Prelude.{◌≡◌, ◌≢◌, ◌≤◌, ◌<◌, ◌⊎◌, ◌↔◌, length, IfOk, IfSome};
+ghost use Rattle.std.specs.Io.KnownBytes.{IsAtEnd};
 ghost use Rattle.job_io.specs.Faults.{Rose};
 ghost use Rattle.job_io.specs.Traffic.{count_taken};
 ghost use Rattle.vc4check.specs.Answer.{IsAnswer};
@@ -33,6 +34,7 @@ fn respond<K: Sink>(alloc: Global, command: Command, bytes: &[u8], sink: &mut K)
     requires { length bytes.now ≤ limit_of command }
     ensures statuses { (result < 2) ⊎ ((result ≡ 4) ⊎ (result ≡ 5)) }
     ensures write { result ≡ 4 → Rose (K.faults sink.old) (K.faults sink.new) }
+    ensures steady { result ≢ 4 → K.faults sink.new ≡ K.faults sink.old }
     ensures answered { result < 2 → IsAnswered (IsAnswer command) bytes.now result (K.held sink.old) (K.held sink.new) }
     ensures cut { result ≡ 4 → IsCut (IsAnswer command) bytes.now (K.held sink.old) (K.held sink.new) }
     ensures nothing { 1 < result → result ≢ 4 → sink.new ≡ sink.old }
@@ -46,7 +48,7 @@ fn respond<K: Sink>(alloc: Global, command: Command, bytes: &[u8], sink: &mut K)
 /// Reads all of the command's input, and appends its answer to the sink. All memory is taken before
 /// the first byte is written.
 ///
-/// Status 0 is done and 1 refused; 3 and 4 are faults of the source and of the sink, 5 is want of
+/// Status 0 is done and 1 refused, of which, and of 4, all input was read; 3 and 4 are faults of the source and of the sink, 5 is want of
 /// memory, and 6 is more input than the command's limit.
 pub fn serve<S: Source, K: Sink>(
     alloc: Global,
@@ -58,6 +60,9 @@ pub fn serve<S: Source, K: Sink>(
     ensures asked { result ≢ 2 }
     ensures read { result ≡ 3 → Rose (S.faults source.old) (S.faults source.new) }
     ensures write { result ≡ 4 → Rose (K.faults sink.old) (K.faults sink.new) }
+    ensures source_steady { result ≢ 3 → S.faults source.new ≡ S.faults source.old }
+    ensures sink_steady { result ≢ 4 → K.faults sink.new ≡ K.faults sink.old }
+    ensures all { ((result < 2) ⊎ (result ≡ 4)) → IsAtEnd (S.left source.new) }
     ensures long { IfSome (S.left source.old) (λ _. (result ≡ 6) ↔
         (limit_of command < count_taken (S.left source.old) (S.left source.new))) }
     ensures within { IfSome (S.left source.old) (λ bytes. length bytes ≤ limit_of command → result ≢ 6) }

@@ -1,5 +1,6 @@
 //! The commands `asm` and `disasm`.
 ghost use Rattle.std.specs.Prelude.{◌≡◌, ◌≢◌, ◌⊎◌, ◌≤◌, ◌<◌, ◌+◌, ◌*◌, ◌/◌, ◌++◌, length, IfOk, string_bytes};
+ghost use Rattle.field_words.specs.Sizes.{most_list};
 ghost use Rattle.field_words.specs.Words.{u64_at};
 ghost use Rattle.vc4check.specs.Shader.{bytes_of, words_of, fault_text, length_text, IsAsmAnswer, IsDisasmAnswer};
 
@@ -24,7 +25,7 @@ fn bytes_of(alloc: Global, words: &[u64]) -> Result<Vec<u8>, AllocError>
 /// The words that stand in the bytes, which are whole words.
 #[tactic(auto, using(crate::proofs::Octets::words_none, crate::proofs::Octets::words_more))]
 fn words_of(alloc: Global, bytes: &[u8]) -> Result<Vec<u64>, AllocError>
-    requires { length bytes.now ≤ 1048576 }
+    requires { length bytes.now ≤ most_list }
     ensures { IfOk result (λ words. words.items ≡ words_of bytes.now) }
 {
     let mut words = Vec::new(alloc);
@@ -37,7 +38,7 @@ fn words_of(alloc: Global, bytes: &[u8]) -> Result<Vec<u64>, AllocError>
 /// Word k of the bytes.
 #[tactic(auto, unfolding(field_words::specs::Words::u64_at))]
 fn word_at(bytes: &[u8], k: usize) -> u64
-    requires few { length bytes.now ≤ 1048576 }
+    requires few { length bytes.now ≤ most_list }
     requires inside { k < length bytes.now / 8 }
     ensures { result ≡ u64_at bytes.now (8 * k) }
 {
@@ -62,7 +63,7 @@ fn length_text(alloc: Global, length: usize) -> Result<Vec<u8>, AllocError>
 
 /// What `asm` answers to a text: the words of its instructions, or its first fault.
 pub fn asm_answer(alloc: Global, text: &[u8]) -> Result<Answer, NoMemory>
-    requires { length text.now ≤ 1048576 }
+    requires { length text.now ≤ most_list }
     ensures answers { IfOk result (λ a. IsAsmAnswer text.now a.status a.text.items) }
     ensures status { IfOk result (λ a. a.status < 2) }
 {
@@ -81,7 +82,7 @@ pub fn asm_answer(alloc: Global, text: &[u8]) -> Result<Answer, NoMemory>
 
 /// What `disasm` answers to bytes: the text of their words, or their length where it is no multiple of 8.
 pub fn disasm_answer(alloc: Global, bytes: &[u8]) -> Result<Answer, NoMemory>
-    requires { length bytes.now ≤ 1048576 }
+    requires { length bytes.now ≤ most_list }
     ensures answers { IfOk result (λ a. IsDisasmAnswer bytes.now a.status a.text.items) }
     ensures status { IfOk result (λ a. a.status < 2) }
 {

@@ -1,3 +1,4 @@
+//! Whole runs: words, files, faults of source and sink, and the first rule that stands.
 ghost use Rattle.std.specs.Prelude.{◌≤◌, length};
 
 use super::run::run;
@@ -21,6 +22,13 @@ const MOVED: &str = "5643344a010000000030080000100000001000000020000001000000010
     00000000000000001000100000000000ffffffff000000000000000000000000100000000400\
     0000ffffffff0000000000000000ffffffff0000000000000000ffffffff0000000000000000\
     ffffffff00000000000000000000000000000000000000000000000000000000";
+
+/// A frame of 1920 by 1080 pixels of 4 bytes, cleared to one colour and stored in T tiling.
+const FRAME: &str = "5643344a01000000009087000000000000100000001000000100000001000000010000000010\
+    080000807f000100000000000000000000000100000001000000010000000000000000000000\
+    00000000000000008007380400001d10ffffffff000000000000000000000000000000004400\
+    0000ffffffff0000000000000000ffffffff0000000000000000ffffffff0000000000000000\
+    ffffffff0000000000000000ff8040ffff8040ffffffff000000000000000000";
 
 const SMALLEST_TEXT: &str = "accepted\nmemory 532480\nbin 00000000 0\nrecords 00000000 0\n\
     uniforms 00000000 0\nrender 00000000 15\nslot 00001000\n\
@@ -170,6 +178,7 @@ fn names_the_first_rule(rt: HostRuntime) -> Result<(), Fail> {
         (&[(80, 2)], "refused F5 at 80\n"),
         (&[(176, 0x0001_0000)], "refused F5 at 178\n"),
         (&[(12, 1)], "refused M2 at 12\n"),
+        (&[(36, 0x8_2000)], "refused M3 at 36\n"),
         (&[(36, 0x8_0000)], "refused M4 at 36\n"),
         (&[(88, 1)], "refused G1 at 88\n"),
         (&[(84, 0x0010_1001)], "refused G10 at 104\n"),
@@ -188,6 +197,10 @@ fn names_the_first_rule(rt: HostRuntime) -> Result<(), Fail> {
         let sink = printed(alloc, changed(alloc, changes)?)?;
         assert_eq!(rt; sink.bytes(), line.as_bytes(), "{line}");
     }
+    let mut full = changed(alloc, &[(52, 0x1001)])?;
+    full.extend_from_slice(&[0; 0x1001])?;
+    let sink = printed(alloc, full)?;
+    assert_eq!(rt; sink.bytes(), b"refused M5 at 36\n".as_slice());
     let twice = printed(alloc, with_two_buffers(alloc)?)?;
     assert_eq!(rt; twice.bytes(), b"refused M4 at 56\n".as_slice());
     Ok(())
@@ -214,6 +227,23 @@ fn accepts_further_frames(rt: HostRuntime) -> Result<(), Fail> {
     let zs = [(104, 0xffff_ffff), (128, 0), (132, 0), (136, 1)];
     let sink = printed(alloc, changed(alloc, &zs)?)?;
     assert!(rt; sink.bytes().starts_with(b"accepted\n"));
+    Ok(())
+}
+
+// The lists of 30 by 17 tiles: 11 bytes, 24 of the clear values, and 4 for each tile. The last row has the end of the
+// tile (27, 16), and the tiles (28, 16) and (29, 16).
+#[test]
+fn accepts_a_frame_of_real_size(rt: HostRuntime) -> Result<(), Fail> {
+    let alloc = rt.alloc();
+    let sink = printed(alloc, file(alloc, FRAME)?)?;
+    let front = b"accepted\nmemory 8884224\nbin 00000000 0\nrecords 00000000 0\n\
+        uniforms 00000000 0\nrender 00000000 2075\nslot 00001000\n\
+        00000000 710010080080073804440072ff8040ff\n";
+    assert!(rt; sink.bytes().starts_with(front));
+    assert!(rt;
+        sink.bytes()
+            .ends_with(b"\n00000810 1b1018731c1018731d10190000000000\nend\n")
+    );
     Ok(())
 }
 

@@ -1,18 +1,25 @@
 -- An item without a fault leaves the decision to those after it; the first fault ends it.
-use Rattle.std.proofs.Common.{sym, ◌∙◌, length}
+use Rattle.std.proofs.Common.{List, ◌<◌, ◌≤◌, sym, ◌∙◌, length, arith}
 use Rattle.field_words.proofs.Questions.{each_on, each_stop, each_end}
-use Rattle.buffer_table.specs.Table.{item_questions}
+use Rattle.buffer_table.specs.declared.item.Item.{Item}
+use Rattle.buffer_table.specs.Table.{item_questions, items_of}
+use Rattle.buffer_table.proofs.Sounds.{length_items}
 use Rattle.buffer_table.proofs.item.items_fault.Goals as goal
 
 pub returns-in-Some : goal.returns-in-Some
 returns-in-Some c =
-    sym (each_stop (item_questions c.args.mem_size c.args.items.now) c.loop-k.k (length c.args.items.now) c.in-Some.fault c.loop-k-test.true (sym c.in-Some.ensures))
-    ∙ c.loop-k.invariant
+    let items : List Item = items_of c.args.regions.now c.args.buffers.now in
+    let inside : c.loop-k.k < length items = omega (arith, length_items c.args.regions.now c.args.buffers.now, c.loop-k-test.true) in
+    sym (each_stop (item_questions c.args.mem_size items) c.loop-k.k (length items) c.in-Some.fault inside (sym c.in-Some.ensures)) ∙ c.loop-k.invariant
 
 pub loop-k-preserved : goal.loop-k-preserved
 loop-k-preserved c =
-    each_on (item_questions c.args.mem_size c.args.items.now) c.loop-k.k (length c.args.items.now) c.loop-k-test.true (sym c.in_default.ensures)
-    ∙ c.loop-k.invariant
+    let items : List Item = items_of c.args.regions.now c.args.buffers.now in
+    let inside : c.loop-k.k < length items = omega (arith, length_items c.args.regions.now c.args.buffers.now, c.loop-k-test.true) in
+    each_on (item_questions c.args.mem_size items) c.loop-k.k (length items) inside (sym c.in_default.ensures) ∙ c.loop-k.invariant
 
 pub returns : goal.returns
-returns c = sym (each_end (item_questions c.args.mem_size c.args.items.now) c.loop-k.k (length c.args.items.now) c.loop-k-test.false) ∙ c.loop-k.invariant
+returns c =
+    let items : List Item = items_of c.args.regions.now c.args.buffers.now in
+    let past : length items ≤ c.loop-k.k = omega (arith, length_items c.args.regions.now c.args.buffers.now, c.loop-k-test.false) in
+    sym (each_end (item_questions c.args.mem_size items) c.loop-k.k (length items) past) ∙ c.loop-k.invariant

@@ -1,20 +1,25 @@
-use Rattle.std.proofs.Common.{◌++◌}
+use Rattle.std.proofs.Common.{◌≡◌, ◌++◌, subst}
+use Rattle.field_words.specs.Questions.{Answers}
 use Rattle.field_words.proofs.Questions.{answers_later, refuses_front}
 use Rattle.job_format.specs.Model.{file_view}
-use Rattle.job_check.specs.declared.check.Checked.{Checked}
+use Rattle.job_check.specs.declared.check.Lists.{Lists}
+use Rattle.job_check.specs.Context.{InView}
 use Rattle.job_check.specs.Faults.{handles_stage, surfaces_stage, layout_stage, job_stages}
-use Rattle.job_check.specs.Emit.{IsEmitted}
+use Rattle.job_check.specs.Emit.{IsPlacedFor}
 use Rattle.job_check.proofs.check.check_one.Goals as goal
 
 pub returns-in-Ok-clause-answers : goal.returns-in-Ok-clause-answers
 unfolding job_stages
 returns-in-Ok-clause-answers c =
     let f = file_view c.args.file.now in
-    let P : Checked → Type 0 = λ checked. IsEmitted f checked.memory checked.layout checked.lengths in
-    answers_later (handles_stage f 0) (surfaces_stage f 0 ++ layout_stage f 0) P c.check_frame.result c.in-Ok.ensures.0 c.check_frame.ensures.answers
+    let j = c.args.number in
+    let same : c.in-Ok.job ≡ record { file = f; number = j } = c.in-Ok.ensures.1 in
+    answers_later (handles_stage f j) (surfaces_stage f j ++ layout_stage f j) (λ (lists : Lists). IsPlacedFor f j lists.layout lists.lengths) c.place_lists.result c.in-Ok.ensures.0
+    (subst (λ (v : InView). Answers (surfaces_stage v.file v.number ++ layout_stage v.file v.number) (λ (lists : Lists). IsPlacedFor v.file v.number lists.layout lists.lengths) c.place_lists.result) same c.place_lists.ensures.answers)
 
-pub returns-in-Err : goal.returns-in-Err
+pub returns-in-Err-clause-answers : goal.returns-in-Err-clause-answers
 unfolding job_stages
-returns-in-Err c =
+returns-in-Err-clause-answers c =
     let f = file_view c.args.file.now in
-    record { answers = refuses_front (handles_stage f 0) (surfaces_stage f 0 ++ layout_stage f 0) c.in-Err.stop c.in-Err.ensures; placed = tt }
+    let j = c.args.number in
+    refuses_front (handles_stage f j) (surfaces_stage f j ++ layout_stage f j) c.in-Err.stop c.in-Err.ensures

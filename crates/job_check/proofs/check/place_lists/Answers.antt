@@ -1,12 +1,49 @@
-use Rattle.job_format.specs.Model.{file_view}
-use Rattle.job_check.proofs.Emission.{region_limits}
+use Rattle.std.proofs.Common.{◌+◌, ◌≤◌, length, refl, subst, ap, arith, ◌∙◌}
+use Rattle.field_words.specs.Writes.{placed}
+use Rattle.field_words.proofs.Questions.{refuses_front, passes}
+use Rattle.phys_mem.specs.Window.{with_window}
+use Rattle.job_format.specs.Model.{job_view}
+use Rattle.job_check.specs.Shaders.{shaders_view}
+use Rattle.job_check.specs.Context.{InView, IsContext}
+use Rattle.job_check.specs.Faults.{surfaces_stage, layout_stage}
+use Rattle.job_check.specs.Emit.{list_parts}
+use Rattle.job_check.proofs.Order.{layout_fits}
+use Rattle.job_check.proofs.Views.{placed_lists, window_fits}
+use Rattle.job_check.proofs.Windows.{length_window, length_with_window}
 use Rattle.job_check.proofs.check.place_lists.Goals as goal
 
-pub layout_stage-requires-clause-lists_place : goal.layout_stage-requires-clause-lists_place
-layout_stage-requires-clause-lists_place c = let limits = region_limits (file_view c.args.file.now) c.requires.table in limits.0
+pub window-requires : goal.window-requires
+window-requires c =
+    let x = c.job.inside in
+    let h = subst (λ (w : InView). IsContext w (job_view x.job.now) x.table.now (shaders_view x.shaders.now.items) x.handles x.layout) c.job.view_is c.job.invariant in
+    omega (arith, window_fits c.args.job.now (job_view x.job.now) x.table.now (shaders_view x.shaders.now.items) x.handles x.layout h (c.if-not-fits.ensures.0 refl), c.requires)
 
-pub layout_stage-requires-clause-lists_size : goal.layout_stage-requires-clause-lists_size
-layout_stage-requires-clause-lists_size c = let limits = region_limits (file_view c.args.file.now) c.requires.table in limits.1
+pub write_lists-requires : goal.write_lists-requires
+write_lists-requires c =
+    let x = c.job.inside in
+    let h = subst (λ (w : InView). IsContext w (job_view x.job.now) x.table.now (shaders_view x.shaders.now.items) x.handles x.layout) c.job.view_is c.job.invariant in
+    let fits = window_fits c.args.job.now (job_view x.job.now) x.table.now (shaders_view x.shaders.now.items) x.handles x.layout h (c.if-not-fits.ensures.0 refl) in
+    let room : x.layout.place + x.layout.end ≤ length c.args.memory.now = omega (arith, fits, c.requires) in
+    omega (arith, ap (λ l. l.end) h.layout_is, ap length c.window.ensures.value, length_window c.args.memory.now x.layout.place x.layout.end room)
 
-pub layout_stage-requires-clause-slot : goal.layout_stage-requires-clause-slot
-layout_stage-requires-clause-slot c = let limits = region_limits (file_view c.args.file.now) c.requires.table in limits.2
+pub returns-in-Ok : goal.returns-in-Ok
+returns-in-Ok c =
+    let v = c.args.job.now in
+    let x = c.job.inside in
+    let h = subst (λ (w : InView). IsContext w (job_view x.job.now) x.table.now (shaders_view x.shaders.now.items) x.handles x.layout) c.job.view_is c.job.invariant in
+    let fits = window_fits v (job_view x.job.now) x.table.now (shaders_view x.shaders.now.items) x.handles x.layout h (c.if-not-fits.ensures.0 refl) in
+    let room : x.layout.place + x.layout.end ≤ length c.args.memory.now = omega (arith, fits, c.requires) in
+    record {
+      answers = (
+        passes (surfaces_stage v.file v.number) (layout_stage v.file v.number) c.in-Ok.ensures.answers.0 ∙ layout_fits v.file v.number (c.if-not-fits.ensures.0 refl),
+        record { layout_is = h.layout_is; lengths_are = c.in-Ok.ensures.answers.1 },
+      );
+      put =
+          ap (with_window c.args.memory.now x.layout.place) (c.in-Ok.ensures.written ∙ ap (λ w. placed w (list_parts v.file v.number)) c.window.ensures.value)
+          ∙ placed_lists v x.layout h.layout_is c.args.memory.now room c.in-Ok.ensures.fit;
+      long = length_with_window c.args.memory.now x.layout.place c.write_lists.new.out (omega (arith, room, c.write_lists.auto.out, ap length c.window.ensures.value, length_window c.args.memory.now x.layout.place x.layout.end room));
+      fits = omega (arith, ap (λ l. l.end) h.layout_is, (c.if-not-fits.ensures.0 refl));
+    }
+
+pub returns-in-Err-clause-answers : goal.returns-in-Err-clause-answers
+returns-in-Err-clause-answers c = let v = c.args.job.now in refuses_front (surfaces_stage v.file v.number) (layout_stage v.file v.number) c.in-Err.stop c.in-Err.ensures.answers

@@ -1,6 +1,6 @@
-use Rattle.std.proofs.Common.{◌≡◌, ℕ, ◌+◌, ◌<◌, ◌≤◌, List, ◌∷◌, length, get_or, map, drop, sym, ap, arith, ◌∙◌}
+use Rattle.std.proofs.Common.{◌≡◌, ℕ, ◌+◌, ◌<◌, ◌≤◌, length, get_or, map, drop, sym, ap, arith, ◌∙◌}
 use Rattle.buffer_table.specs.Table.{no_buffer}
-use Rattle.field_words.specs.Writes.{Part, placed, with_bytes}
+use Rattle.field_words.specs.Writes.{placed, with_bytes}
 use Rattle.job_check.specs.Emit.{content_parts}
 use Rattle.job_check.proofs.Parts.{parts_step, fit_step, same_size}
 use Rattle.job_check.proofs.emit.put_contents.Goals as goal

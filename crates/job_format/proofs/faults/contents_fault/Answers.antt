@@ -1,16 +1,16 @@
 -- Contents without a fault leave the decision to those after them; the first fault ends it.
-use Rattle.std.proofs.Common.{◌≡◌, ◌+◌, ◌*◌, sym, ◌∙◌, ap, arith}
+use Rattle.std.proofs.Common.{◌≡◌, ◌+◌, sym, ◌∙◌, ap, arith}
 use Rattle.field_words.proofs.Questions.{each_on, each_stop, each_end}
 use Rattle.field_words.specs.Questions.{each, first_of}
 use Rattle.job_format.specs.Faults.{content_questions}
-use Rattle.job_format.specs.Places.{content_place, handles_place}
-use Rattle.job_format.proofs.Standing.{content_place_first}
+use Rattle.job_format.specs.Offsets.{entry_offset, content_offset, handles_offset}
+use Rattle.job_format.proofs.Standing.{content_offset_first}
 use Rattle.job_format.proofs.faults.contents_fault.Goals as goal
 
 pub loop-b-init : goal.loop-b-init
 loop-b-init c = (
   ap (λ n. first_of (each (content_questions c.args.bytes.now) 0 n)) (omega arith),
-  (ap (λ n. 36 + 20 * n + 124) c.requires.count ∙ sym (content_place_first c.args.bytes.now), c.requires.before),
+  (ap (λ n. n + 124) (c.entry_offset-at.ensures ∙ ap entry_offset c.requires.count) ∙ sym (content_offset_first c.args.bytes.now), omega (arith, c.entry_offset-at.ensures, c.requires.before)),
 )
 
 pub loop-b-preserved : goal.loop-b-preserved
@@ -22,8 +22,8 @@ returns-in-Err c =
     sym c.loop-b.invariant.0 ∙ each_stop (content_questions c.args.bytes.now) c.loop-b.b c.args.count c.in-Err.fault c.loop-b-test.true c.in-Err.ensures
 
 pub returns : goal.returns
-unfolding handles_place
+unfolding handles_offset
 returns c = (
   sym c.loop-b.invariant.0 ∙ each_end (content_questions c.args.bytes.now) c.loop-b.b c.args.count c.loop-b-test.false,
-  (c.loop-b.invariant.1.0 ∙ ap (content_place c.args.bytes.now) (let e : c.loop-b.b ≡ c.args.count = omega (arith, c.loop-b-test.false, c.loop-b.auto.b-end) in e ∙ c.requires.count), c.loop-b.invariant.1.1),
+  (c.loop-b.invariant.1.0 ∙ ap (content_offset c.args.bytes.now) (let e : c.loop-b.b ≡ c.args.count = omega (arith, c.loop-b-test.false, c.loop-b.auto.b-end) in e ∙ c.requires.count), c.loop-b.invariant.1.1),
 )

@@ -2,10 +2,10 @@
 use Rattle.std.proofs.Common.{◌≡◌, ◌-◌, ◌≤◌, length}
 use Rattle.field_words.specs.Questions.{first_of, each}
 use Rattle.job_format.specs.Faults.{content_questions}
-use Rattle.job_format.specs.Places.{content_place}
+use Rattle.job_format.specs.Offsets.{content_offset}
 use Rattle.job_format.proofs.faults.contents_fault.Given as goal
 
 abbrev pub invariant-loop-b : goal.invariant-loop-b
 invariant-loop-b l =
     (first_of (each (content_questions l.bytes) l.b (l.count - l.b)) ≡ first_of (each (content_questions l.bytes) 0 l.count))
-    × ((l.at ≡ content_place l.bytes l.b) × (l.at ≤ length l.bytes))
+    × ((l.at ≡ content_offset l.bytes l.b) × (l.at ≤ length l.bytes))

@@ -1,13 +1,13 @@
-use Rattle.std.proofs.Common.{◌+◌, None, arith}
-use Rattle.render_list.specs.Text.{tile_text, row_text}
+use Rattle.std.proofs.Common.{◌+◌, ◌-◌, arith}
+use Rattle.packets.specs.Packet.{slots_text}
+use Rattle.packets.proofs.Underway.{begins, next_room, goes_on, ends}
+use Rattle.render_list.specs.Text.{tile_slots, row_slots, span_slots}
 use Rattle.render_list.proofs.Places.{tile_fits}
-use Rattle.render_list.proofs.Span.{begins, next_room, goes_on, ends}
+use Rattle.render_list.proofs.Rows.{span_step, span_end}
 use Rattle.render_list.proofs.text.put_row.Goals as goal
 
 pub loop-x-init : goal.loop-x-init
-loop-x-init c =
-    let frame = c.args.frame.now in
-    begins (tile_text frame c.args.setup.now.places None c.args.slot c.args.y) c.args.out.now c.args.at frame.min_x (frame.max_x + 1) c.requires.room
+loop-x-init c = begins c.args.out.now c.args.at (slots_text (row_slots c.args.frame.now c.args.setup.now.places c.args.tiles c.args.slot c.args.y)) c.requires.room
 
 pub put_tile-here-requires-clause-fits : goal.put_tile-here-requires-clause-fits
 put_tile-here-requires-clause-fits c =
@@ -16,24 +16,33 @@ put_tile-here-requires-clause-fits c =
 pub put_tile-here-requires-clause-room : goal.put_tile-here-requires-clause-room
 put_tile-here-requires-clause-room c =
     let frame = c.args.frame.now in
-    next_room (tile_text frame c.args.setup.now.places None c.args.slot c.args.y) c.args.out.now c.args.at
-    (row_text frame c.args.setup.now.places None c.args.slot c.args.y) c.loop-x.out c.loop-x.here c.loop-x.x (frame.max_x + 1) c.loop-x.invariant (omega arith)
+    let tiles = tile_slots frame c.args.setup.now.places c.args.tiles c.args.slot c.args.y in
+    let x = c.loop-x.x in
+    next_room c.args.out.now c.args.at (slots_text (row_slots frame c.args.setup.now.places c.args.tiles c.args.slot c.args.y)) c.loop-x.out c.loop-x.here
+    (slots_text (span_slots tiles x (frame.max_x + 1 - x))) (slots_text (tiles x)) (slots_text (span_slots tiles (x + 1) (frame.max_x + 1 - (x + 1))))
+    c.loop-x.invariant (span_step tiles x (frame.max_x + 1) (omega arith))
 
 pub loop-x-preserved : goal.loop-x-preserved
 loop-x-preserved c =
     let frame = c.args.frame.now in
-    goes_on (tile_text frame c.args.setup.now.places None c.args.slot c.args.y) c.args.out.now c.args.at
-    (row_text frame c.args.setup.now.places None c.args.slot c.args.y) c.loop-x.out c.loop-x.here c.loop-x.x (frame.max_x + 1)
-    c.put_tile-here.new.out c.put_tile-here.result c.loop-x.invariant (omega arith) c.put_tile-here.ensures.text c.put_tile-here.ensures.end
+    let tiles = tile_slots frame c.args.setup.now.places c.args.tiles c.args.slot c.args.y in
+    let x = c.loop-x.x in
+    goes_on c.args.out.now c.args.at (slots_text (row_slots frame c.args.setup.now.places c.args.tiles c.args.slot c.args.y)) c.loop-x.out c.loop-x.here
+    (slots_text (span_slots tiles x (frame.max_x + 1 - x))) (slots_text (tiles x)) (slots_text (span_slots tiles (x + 1) (frame.max_x + 1 - (x + 1))))
+    c.put_tile-here.new.out c.put_tile-here.result c.loop-x.invariant (span_step tiles x (frame.max_x + 1) (omega arith))
+    c.put_tile-here.ensures.text c.put_tile-here.ensures.end
 
 -- after the last tile
 pub returns-2 : goal.returns-2
 returns-2 c =
     let frame = c.args.frame.now in
-    let texts = tile_text frame c.args.setup.now.places None c.args.slot c.args.y in
-    let all = row_text frame c.args.setup.now.places None c.args.slot c.args.y in
+    let tiles = tile_slots frame c.args.setup.now.places c.args.tiles c.args.slot c.args.y in
+    let row = slots_text (row_slots frame c.args.setup.now.places c.args.tiles c.args.slot c.args.y) in
+    let x = c.loop-x.x in
+    let later = slots_text (span_slots tiles (x + 1) (frame.max_x + 1 - (x + 1))) in
     let state =
-    goes_on texts c.args.out.now c.args.at all c.loop-x.out c.loop-x.here c.loop-x.x (frame.max_x + 1)
-    c.put_tile-here.new.out c.put_tile-here.result c.loop-x.invariant (omega arith) c.put_tile-here.ensures.text c.put_tile-here.ensures.end in
-    let done = ends texts c.args.out.now c.args.at all c.put_tile-here.new.out c.put_tile-here.result (c.loop-x.x + 1) (frame.max_x + 1) state (omega arith) in
+    goes_on c.args.out.now c.args.at row c.loop-x.out c.loop-x.here (slots_text (span_slots tiles x (frame.max_x + 1 - x))) (slots_text (tiles x)) later
+    c.put_tile-here.new.out c.put_tile-here.result c.loop-x.invariant (span_step tiles x (frame.max_x + 1) (omega arith))
+    c.put_tile-here.ensures.text c.put_tile-here.ensures.end in
+    let done = ends c.args.out.now c.args.at row c.put_tile-here.new.out c.put_tile-here.result later state (span_end tiles (x + 1) (frame.max_x + 1) (omega arith)) in
     record { text = done.0; end = done.1 }

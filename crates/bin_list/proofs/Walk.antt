@@ -1,0 +1,300 @@
+-- The walk over a list, packet by packet.
+use Rattle.std.proofs.Common.{◌≡◌, ◌≢◌, ◌⊎◌, inl, inr, ℕ, zero, suc, ◌+◌, ◌≤◌, ◌<◌, Bool, true, false, List, [], ◌∷◌, ◌++◌, Option, Some, None, IsSome, length, take, drop, refl, sym, ap, subst, arith, ◌∙◌, length-append}
+use Rattle.std.specs.Prelude.{if◌then◌else◌, ◌==◌}
+use Rattle.std.proofs.lemmas.List.{places}
+use Rattle.std.proofs.lemmas.Bool.{eqb-false, eqb-true}
+use Rattle.field_words.specs.Questions.{first_of, answered}
+use Rattle.field_words.proofs.Questions.{passes, stops, answered_none, answered_some}
+use Rattle.relocation.specs.declared.layout.Layout.{Layout}
+use Rattle.packets.specs.Opcode.{halt, gl_shader_state}
+use Rattle.packets.specs.Length.{bin_length, bin_taken}
+use Rattle.bin_list.specs.declared.fault.ListFault.{ListFault}
+use Rattle.bin_list.specs.declared.seen.Seen.{Seen}
+use Rattle.bin_list.specs.declared.state.State.{State}
+use Rattle.bin_list.specs.Packets.{opcode, front_packet, behind, cut, packets, onto, passed}
+use Rattle.bin_list.specs.Seen.{is_there, byte_of, word_of, place, states_in, seen_before, seen_after}
+use Rattle.bin_list.specs.Rules.{GivenModel, packet_questions, fault, asked}
+use Rattle.bin_list.specs.Fine.{IsBounded}
+use Rattle.bin_list.specs.States.{states_of}
+use Rattle.bin_list.specs.Collected.{all_states}
+use Rattle.bin_list.specs.Emitted.{packet_text, texts}
+use Rattle.bin_list.specs.Info.{MeetsState}
+use Rattle.packets.specs.Writing.{written}
+use Rattle.packets.proofs.Writing.{written_append, written_nothing, length_written}
+
+-- A packet takes a byte at least.
+one_or : (b : Bool) (n : ℕ) → (n == 0) ≡ b → 1 ≤ (if b then 1 else n)
+one_or true n is = omega arith
+one_or false n is = let some : n ≢ 0 = eqb-false n 0 is in omega arith
+
+pub taken_some : (o : ℕ) → 1 ≤ bin_taken o
+unfolding bin_taken
+taken_some o = one_or (bin_length o == 0) (bin_length o) refl
+
+-- Bytes that are left, by the loop's test.
+pub some_left : (bytes : List ℕ) → (length bytes == 0) ≡ false → 1 ≤ length bytes
+some_left bytes test = let some : length bytes ≢ 0 = eqb-false (length bytes) 0 test in omega arith
+
+pub none_left : (bytes : List ℕ) → (length bytes == 0) ≡ true → length bytes ≡ 0
+none_left bytes test = eqb-true (length bytes) 0 test
+
+-- The packet at the front and what is still read behind it have no more bytes than the whole, and the rest has fewer.
+split_length : (halts : Bool) (n : ℕ) (bytes : List ℕ) → length (take n bytes) + length (if halts then [] else drop n bytes) ≤ length bytes
+split_length true n bytes = let e : length (take n bytes) ≤ length bytes = grind (arith, places) in omega arith
+split_length false n bytes = grind (arith, places)
+
+pub front_behind : (bytes : List ℕ) → length (front_packet bytes) + length (behind bytes) ≤ length bytes
+unfolding front_packet behind
+front_behind bytes = split_length (opcode bytes == halt) (bin_taken (opcode bytes)) bytes
+
+take_some : (n : ℕ) (bytes : List ℕ) → 1 ≤ n → 1 ≤ length bytes → 1 ≤ length (take n bytes)
+take_some n bytes some long = grind (arith, places)
+
+pub front_some : (bytes : List ℕ) → 1 ≤ length bytes → 1 ≤ length (front_packet bytes)
+unfolding front_packet
+front_some bytes some = take_some (bin_taken (opcode bytes)) bytes (taken_some (opcode bytes)) some
+
+-- the packet that the loop takes from the bytes that are left
+pub packet_some : (rest packet : List ℕ) → (length rest == 0) ≡ false → packet ≡ front_packet rest → 1 ≤ length packet
+packet_some rest packet test is = let some = front_some rest (some_left rest test) in omega (arith, some, ap length is)
+
+pub less_left : (rest packet later : List ℕ) → (length rest == 0) ≡ false → packet ≡ front_packet rest → later ≡ behind rest → length later < length rest
+less_left rest packet later test is behind_is =
+    let some = front_some rest (some_left rest test) in omega (arith, some, front_behind rest, ap length behind_is)
+
+-- One packet is cut.
+pub record IsCut (n : ℕ) (fuel : ℕ) (rest : List ℕ) : Type 0 where
+  pub is : cut fuel rest ≡ front_packet rest ∷ cut n (behind rest)
+  pub enough : length (behind rest) ≤ n
+
+pub cut_step : (fuel : ℕ) (rest : List ℕ) → 1 ≤ length rest → length rest ≤ fuel → (n : ℕ) × IsCut n fuel rest
+cut_step zero rest some enough = absurd (omega arith)
+cut_step (suc n) [] some enough = absurd (omega arith)
+cut_step (suc n) (o ∷ body) some enough =
+    let whole = front_behind (o ∷ body) in
+    let one = front_some (o ∷ body) some in (n, record { is = refl; enough = omega arith })
+
+pub cut_nothing : (fuel : ℕ) (rest : List ℕ) → length rest ≡ 0 → cut fuel rest ≡ []
+cut_nothing zero rest none = refl
+cut_nothing (suc n) [] none = refl
+cut_nothing (suc n) (o ∷ body) none = absurd (omega arith)
+
+-- What is seen goes on by one packet.
+there_if : (b : Bool) (p : List ℕ) (o : Option (List ℕ)) → is_there (if b then Some p else o) ≡ (if b then true else is_there o)
+there_if true p o = refl
+there_if false p o = refl
+
+byte_if : (b : Bool) (at : ℕ) (p : List ℕ) (o : Option (List ℕ)) → byte_of at (if b then Some p else o) ≡ (if b then byte_of at (Some p) else byte_of at o)
+byte_if true at p o = refl
+byte_if false at p o = refl
+
+word_if : (b : Bool) (at : ℕ) (p : List ℕ) (o : Option (List ℕ)) → word_of at (if b then Some p else o) ≡ (if b then word_of at (Some p) else word_of at o)
+word_if true at p o = refl
+word_if false at p o = refl
+
+pub seen_step : (p : List ℕ) (earlier : List (List ℕ)) → seen_before (p ∷ earlier) ≡ seen_after (seen_before earlier) p
+unfolding seen_before seen_after
+seen_step p earlier = simp (there_if, byte_if, word_if)
+
+-- What stands at a packet stands in the whole list: what is asked before comes first.
+asked_onto : (given : GivenModel) (earlier later : List (List ℕ)) (f : ListFault) → first_of (asked given earlier) ≡ Some f
+    → first_of (asked given (onto earlier later)) ≡ Some f
+asked_onto given earlier [] f some = some
+asked_onto given earlier (p ∷ later) f some =
+    asked_onto given (p ∷ earlier) later f (stops (asked given earlier) (answered (fault (place earlier)) (packet_questions given (seen_before earlier) p)) f some)
+
+-- How far the walk has come: which packets were read, and which the bytes that are left are cut into.
+pub record IsUnderway (given : GivenModel) (layout : Layout) (list window rest : List ℕ) (seen : Seen) (end : ℕ) (out : List ℕ) (done : List State) (current : Option State) : Type 0 where
+  pub earlier : List (List ℕ)
+  pub fuel : ℕ
+  pub enough : length rest ≤ fuel
+  pub whole : onto earlier (cut fuel rest) ≡ passed list
+  pub seen_is : seen ≡ seen_before earlier
+  pub fine : first_of (asked given earlier) ≡ None
+  pub bounded : IsBounded seen
+  pub inside : seen.at + length rest ≤ length list
+  pub bytes : out ≡ written window layout.bin (texts given layout earlier)
+  pub end_is : end ≡ layout.bin + length (texts given layout earlier)
+  pub near : length (texts given layout earlier) ≤ seen.at
+  pub room : length out ≡ length window
+  pub states : all_states done current (cut fuel rest) ≡ states_of (packets list)
+  pub begun : IsSome current → 1 ≤ seen.states
+
+none_some : IsSome {T = State} None → ⊥
+none_some some = cc
+
+pub begins : (given : GivenModel) (layout : Layout) (list window : List ℕ) (seen : Seen) (end : ℕ) (done : List State) (current : Option State)
+    → layout.bin + length list ≤ length window → seen ≡ seen_before [] → end ≡ layout.bin → done ≡ [] → current ≡ None
+    → IsUnderway given layout list window list seen end window done current
+unfolding packets passed seen_before
+begins given layout list window seen end done current room nothing first none_done none =
+    record {
+      earlier = [];
+      fuel = length list;
+      enough = omega arith;
+      whole = refl;
+      seen_is = nothing;
+      fine = refl;
+      bounded = subst IsBounded (sym nothing) (record { states = omega arith; records = omega arith });
+      inside = omega (arith, ap (λ s. s.at) nothing);
+      bytes = sym (written_nothing window layout.bin (omega arith));
+      end_is = omega arith;
+      near = omega arith;
+      room = refl;
+      states = ap (λ d. all_states d current (cut (length list) list)) none_done ∙ ap (λ o. all_states [] o (cut (length list) list)) none;
+      begun = λ some. absurd (none_some (subst IsSome none some));
+    }
+
+-- the rules of the packet at the front, by what was seen
+here_asked : (given : GivenModel) (earlier : List (List ℕ)) (seen : Seen) (p : List ℕ) (number : ℕ) → seen ≡ seen_before earlier
+    → first_of (packet_questions given seen p) ≡ Some number → first_of (asked given earlier) ≡ None → first_of (asked given (p ∷ earlier)) ≡ Some (fault seen.at number)
+unfolding seen_before
+here_asked given earlier seen p number is some fine =
+    let at : seen.at ≡ place earlier = ap (λ s. s.at) is in
+    passes (asked given earlier) (answered (fault (place earlier)) (packet_questions given (seen_before earlier) p)) fine
+    ∙ answered_some (fault (place earlier)) (packet_questions given (seen_before earlier) p) number (subst (λ s. first_of (packet_questions given s p) ≡ Some number) is some)
+    ∙ ap (λ n. Some (fault n number)) (sym at)
+
+here_fine : (given : GivenModel) (earlier : List (List ℕ)) (seen : Seen) (p : List ℕ) → seen ≡ seen_before earlier
+    → first_of (packet_questions given seen p) ≡ None → first_of (asked given earlier) ≡ None → first_of (asked given (p ∷ earlier)) ≡ None
+here_fine given earlier seen p is none fine =
+    passes (asked given earlier) (answered (fault (place earlier)) (packet_questions given (seen_before earlier) p)) fine
+    ∙ answered_none (fault (place earlier)) (packet_questions given (seen_before earlier) p) (subst (λ s. first_of (packet_questions given s p) ≡ None) is none)
+
+-- the packet at the front fits the list, and the window
+pub place_fits : (given : GivenModel) (layout : Layout) (list window rest : List ℕ) (seen : Seen) (end : ℕ) (out : List ℕ) (done : List State) (current : Option State)
+    → IsUnderway given layout list window rest seen end out done current → (packet : List ℕ) → packet ≡ front_packet rest
+    → seen.at + length packet ≤ length list
+place_fits given layout list window rest seen end out done current under packet is =
+    omega (arith, under.inside, front_behind rest, ap length is)
+
+pub room_fits : (given : GivenModel) (layout : Layout) (list window rest : List ℕ) (seen : Seen) (end : ℕ) (out : List ℕ) (done : List State) (current : Option State)
+    → IsUnderway given layout list window rest seen end out done current → layout.bin + length list ≤ length window
+    → (packet : List ℕ) → packet ≡ front_packet rest → end + length packet ≤ length out
+room_fits given layout list window rest seen end out done current under room packet is =
+    omega (arith, under.end_is, under.near, under.inside, under.room, front_behind rest, ap length is, room)
+
+-- A rule that stands at the packet at the front is the first of all.
+pub stops_at : (given : GivenModel) (layout : Layout) (list window rest : List ℕ) (seen : Seen) (end : ℕ) (out : List ℕ) (done : List State) (current : Option State)
+    → IsUnderway given layout list window rest seen end out done current → 1 ≤ length rest
+    → (number : ℕ) → first_of (packet_questions given seen (front_packet rest)) ≡ Some number
+    → first_of (asked given (passed list)) ≡ Some (fault seen.at number)
+stops_at given layout list window rest seen end out done current under some number stands =
+    let step = cut_step under.fuel rest some under.enough in
+    let here = here_asked given under.earlier seen (front_packet rest) number under.seen_is stands under.fine in
+    ap (λ l. first_of (asked given l)) (sym under.whole ∙ ap (onto under.earlier) step.1.is)
+    ∙ asked_onto given (front_packet rest ∷ under.earlier) (cut step.0 (behind rest)) (fault seen.at number) here
+
+-- A state packet adds one to the states, and no packet takes one away.
+states_grow : (b : Bool) (n : ℕ) → n ≤ (if b then n + 1 else n)
+states_grow true n = omega arith
+states_grow false n = omega arith
+
+keeps_states : (seen : Seen) (p : List ℕ) → seen.states ≤ (seen_after seen p).states
+unfolding seen_after
+keeps_states seen p = states_grow (opcode p == gl_shader_state) seen.states
+
+adds_state : (seen : Seen) (p : List ℕ) → opcode p ≡ gl_shader_state → 1 ≤ (seen_after seen p).states
+unfolding seen_after
+adds_state seen p is = let e : (seen_after seen p).states ≡ seen.states + 1 = rw is refl in omega arith
+
+place_after : (seen : Seen) (p : List ℕ) → (seen_after seen p).at ≡ seen.at + length p
+unfolding seen_after
+place_after seen p = refl
+
+-- The packet at the front is written.
+pub goes_on : (given : GivenModel) (layout : Layout) (list window rest : List ℕ) (seen : Seen) (end : ℕ) (out : List ℕ) (done : List State) (current : Option State)
+    → IsUnderway given layout list window rest seen end out done current → 1 ≤ length rest
+    → layout.bin + length list ≤ length window
+    → (packet : List ℕ) → packet ≡ front_packet rest
+    → first_of (packet_questions given seen packet) ≡ None
+    → (seen2 : Seen) → seen2 ≡ seen_after seen packet → IsBounded seen2
+    → (end2 : ℕ) (out2 : List ℕ) → out2 ≡ written out end (packet_text given layout seen packet) → end2 ≡ end + length (packet_text given layout seen packet)
+    → length (packet_text given layout seen packet) ≤ length packet
+    → (done2 : List State) (current2 : Option State) → ((later : List (List ℕ)) → all_states done2 current2 later ≡ all_states done current (packet ∷ later))
+    → (IsSome current2 → IsSome current ⊎ (opcode packet ≡ gl_shader_state))
+    → (rest2 : List ℕ) → rest2 ≡ behind rest
+    → IsUnderway given layout list window rest2 seen2 end2 out2 done2 current2
+goes_on given layout list window rest seen end out done current under some room packet packet_is none seen2 seen2_is bounded end2 out2 puts moves short done2 current2 states begun rest2 rest2_is =
+    let earlier = under.earlier in
+    let step = cut_step under.fuel rest some under.enough in
+    let n = step.0 in
+    let split = front_behind rest in
+    let long : length packet ≡ length (front_packet rest) = ap length packet_is in
+    let left : length rest2 ≡ length (behind rest) = ap length rest2_is in
+    let at2 : seen2.at ≡ seen.at + length packet = ap (λ s. s.at) seen2_is ∙ place_after seen packet in
+    let front = texts given layout earlier in
+    let text = packet_text given layout (seen_before earlier) packet in
+    let text_is : packet_text given layout seen packet ≡ text = ap (λ s. packet_text given layout s packet) under.seen_is in
+    let same : length (packet_text given layout seen packet) ≡ length text = ap length text_is in
+    let total : length (front ++ text) ≡ length front + length text = length-append front text in
+    let fits : layout.bin + length (front ++ text) ≤ length window = omega (arith, total, same, short, long, split, under.near, under.inside, room) in
+    record {
+      earlier = packet ∷ earlier;
+      fuel = n;
+      enough = omega (arith, left, step.1.enough);
+      whole =
+          ap (λ p. onto (p ∷ earlier) (cut n rest2)) packet_is
+          ∙ ap (λ r. onto (front_packet rest ∷ earlier) (cut n r)) rest2_is
+          ∙ sym (ap (onto earlier) step.1.is) ∙ under.whole;
+      seen_is = seen2_is ∙ ap (λ s. seen_after s packet) under.seen_is ∙ sym (seen_step packet earlier);
+      fine = here_fine given earlier seen packet under.seen_is none under.fine;
+      bounded = bounded;
+      inside = omega (arith, at2, long, left, split, under.inside);
+      bytes =
+          puts
+          ∙ ap (λ o. written o end (packet_text given layout seen packet)) under.bytes
+          ∙ ap (λ e. written (written window layout.bin front) e (packet_text given layout seen packet)) under.end_is
+          ∙ ap (written (written window layout.bin front) (layout.bin + length front)) text_is
+          ∙ sym (written_append window layout.bin front text fits);
+      end_is = omega (arith, moves, same, total, under.end_is);
+      near = omega (arith, at2, same, short, total, under.near);
+      room = ap length puts ∙ length_written out end (packet_text given layout seen packet) (omega (arith, same, total, fits, under.end_is, under.room)) ∙ under.room;
+      states =
+          ap (λ r. all_states done2 current2 (cut n r)) rest2_is
+          ∙ states (cut n (behind rest))
+          ∙ ap (λ p. all_states done current (p ∷ cut n (behind rest))) packet_is
+          ∙ sym (ap (all_states done current) step.1.is) ∙ under.states;
+      begun = λ now.
+          let grown : seen2.states ≡ (seen_after seen packet).states = ap (λ s. s.states) seen2_is in
+          elim (begun now) [
+            | inl before ↦ let kept = keeps_states seen packet in let one = under.begun before in omega (arith, grown, kept, one)
+            | inr here ↦ let one = adds_state seen packet here in omega (arith, grown, one)
+          ];
+    }
+
+-- Where a state is in view, one was passed, and no rule stands up to it.
+pub meets : (given : GivenModel) (layout : Layout) (list window rest : List ℕ) (seen : Seen) (end : ℕ) (out : List ℕ) (done : List State) (current : Option State)
+    → IsUnderway given layout list window rest seen end out done current → IsSome current → MeetsState given list
+unfolding seen_before
+meets given layout list window rest seen end out done current under some =
+    let one : 1 ≤ seen.states = under.begun some in
+    let is : seen.states ≡ states_in under.earlier = ap (λ s. s.states) under.seen_is in
+    record { earlier = under.earlier; later = cut under.fuel rest; whole = under.whole; fine = under.fine; some = omega (arith, one, is) }
+
+-- Nothing is left.
+pub record IsThrough (given : GivenModel) (layout : Layout) (list window : List ℕ) (seen : Seen) (end : ℕ) (out : List ℕ) (done : List State) (current : Option State) : Type 0 where
+  pub seen_is : seen ≡ seen_before (passed list)
+  pub fine : first_of (asked given (passed list)) ≡ None
+  pub bytes : out ≡ written window layout.bin (texts given layout (passed list))
+  pub end_is : end ≡ layout.bin + length (texts given layout (passed list))
+  pub near : length (texts given layout (passed list)) ≤ length list
+  pub states : all_states done current [] ≡ states_of (packets list)
+  pub begun : IsSome current → 1 ≤ seen.states
+
+pub through : (given : GivenModel) (layout : Layout) (list window rest : List ℕ) (seen : Seen) (end : ℕ) (out : List ℕ) (done : List State) (current : Option State)
+    → IsUnderway given layout list window rest seen end out done current → length rest ≡ 0
+    → IsThrough given layout list window seen end out done current
+through given layout list window rest seen end out done current under none =
+    let empty : cut under.fuel rest ≡ [] = cut_nothing under.fuel rest none in
+    let all : under.earlier ≡ passed list = sym (ap (onto under.earlier) empty) ∙ under.whole in
+    let near : length (texts given layout under.earlier) ≤ length list = omega (arith, under.near, under.inside) in
+    record {
+      seen_is = under.seen_is ∙ ap seen_before all;
+      fine = ap (λ e. first_of (asked given e)) (sym all) ∙ under.fine;
+      bytes = under.bytes ∙ ap (λ e. written window layout.bin (texts given layout e)) all;
+      end_is = under.end_is ∙ ap (λ e. layout.bin + length (texts given layout e)) all;
+      near = subst (λ e. length (texts given layout e) ≤ length list) all near;
+      states = sym (ap (all_states done current) empty) ∙ under.states;
+      begun = under.begun;
+    }

@@ -1,0 +1,58 @@
+-- Words out of bytes, and shaders by buffer, one more at a time.
+use Rattle.std.proofs.Common.{◌≡◌, ℕ, zero, suc, ◌+◌, ◌*◌, ◌<◌, ◌≤◌, List, [], ◌∷◌, ◌++◌, length, get_or, map, refl, sym, ap, subst, arith, zero-add, ◌∙◌}
+use Rattle.std.specs.List.{AllByRecursion}
+use Rattle.std.proofs.lemmas.List.{length-map, get_or-map}
+use Rattle.std.proofs.lemmas.List.FromFn.{map-range_with_len_more, length-map-range_with_len}
+use Rattle.field_words.specs.Words.{u64_at}
+use Rattle.field_words.specs.Sizes.{most_code}
+use Rattle.buffer_table.specs.declared.buffer.Kind.TheVariants.{Code}
+use Rattle.buffer_table.specs.declared.buffer.Buffer.{Buffer}
+use Rattle.buffer_table.specs.Table.{past_end, buffer_at}
+use Rattle.job_format.specs.File.{IsWellFormed, FitsShader}
+use Rattle.job_format.specs.Model.{FileModel}
+use Rattle.job_check.specs.Shaders.{words_in, content_of, shader_of, shaders_up_to}
+
+pub words_none : (bytes : List ℕ) → words_in bytes 0 ≡ []
+unfolding words_in
+words_none bytes = refl
+
+pub words_more : (bytes : List ℕ) (n : ℕ) → words_in bytes (n + 1) ≡ words_in bytes n ++ (u64_at bytes (8 * n) ∷ [])
+unfolding words_in
+words_more bytes n = map-range_with_len_more (λ i. u64_at bytes (8 * i)) 0 n n (zero-add n)
+
+pub shaders_none : (f : FileModel) → shaders_up_to f 0 ≡ []
+unfolding shaders_up_to
+shaders_none f = refl
+
+pub shaders_more : (f : FileModel) (n : ℕ) → shaders_up_to f (n + 1) ≡ shaders_up_to f n ++ (shader_of f n ∷ [])
+unfolding shaders_up_to
+shaders_more f n = map-range_with_len_more (shader_of f) 0 n n (zero-add n)
+
+pub length_words : (bytes : List ℕ) (n : ℕ) → length (words_in bytes n) ≡ n
+unfolding words_in
+length_words bytes n = length-map-range_with_len (λ i. u64_at bytes (8 * i)) 0 n
+
+-- the contents that the code holds are the file's, as many as its buffers and as long as their entries say
+pub content_is : {X : Type 0} (items : X → List ℕ) (contents : List X) (f : FileModel) (b : ℕ) (x : X) → f.contents ≡ map items contents → b < length contents → x ≡ get_or contents b x
+    → items x ≡ content_of f b
+unfolding content_of
+content_is items contents f b x same below read =
+    ap items read ∙ sym (get_or-map items contents b x [] below) ∙ sym (ap (λ cs. get_or cs b []) same)
+
+pub as_many : (f : FileModel) → IsWellFormed f → length f.contents ≡ length f.buffers
+as_many f h = sym (length-map f.contents length) ∙ ap length h.contents ∙ length-map f.buffers (λ b. b.content)
+
+content_long : (f : FileModel) (b : ℕ) → IsWellFormed f → b < length f.buffers → length (get_or f.contents b []) ≡ (get_or f.buffers b past_end).content
+content_long f b h below =
+    let inside : b < length f.contents = omega (arith, as_many f h, below) in
+    sym (get_or-map length f.contents b [] 0 inside) ∙ ap (λ l. get_or l b 0) h.contents ∙ get_or-map (λ x. x.content) f.buffers b past_end 0 below
+
+code_fits : (buffers : List Buffer) (b : ℕ) → AllByRecursion (λ x. FitsShader x.kind x.content) buffers → b < length buffers → (get_or buffers b past_end).kind ≡ Code
+    → (get_or buffers b past_end).content ≤ most_code
+code_fits [] b all below code = absurd (omega arith)
+code_fits (x ∷ buffers) zero all below code = subst (λ k. FitsShader k x.content) code all.0
+code_fits (x ∷ buffers) (suc b) all below code = code_fits buffers b all.1 (omega (arith, below)) code
+
+pub shader_short : (f : FileModel) (b : ℕ) → IsWellFormed f → b < length f.buffers → (buffer_at f.buffers b).kind ≡ Code → length (content_of f b) ≤ most_code
+unfolding content_of buffer_at
+shader_short f b h below code = omega (arith, content_long f b h below, code_fits f.buffers b h.code below code)

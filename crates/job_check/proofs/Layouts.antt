@@ -1,0 +1,69 @@
+-- The layout of a job: its numbers, and what fits where.
+use Rattle.std.proofs.Common.{◌≡◌, ℕ, ◌+◌, ◌<◌, ◌≤◌, false, Bool, length, refl, sym, subst, arith, lit≤}
+use Rattle.field_words.specs.Words.{rounded_up}
+use Rattle.field_words.proofs.Numbers.{rounded}
+use Rattle.buffer_table.specs.Sound.{IsSound}
+use Rattle.job_format.specs.declared.file.Frame.{Frame}
+use Rattle.job_format.specs.Model.{FileModel}
+use Rattle.relocation.specs.declared.layout.Layout.{Layout}
+use Rattle.relocation.specs.Layout.{records_start, uniforms_start, render_start, lists_end}
+use Rattle.render_list.specs.Frame.{IsTileSet}
+use Rattle.render_list.specs.Length.{render_length}
+use Rattle.job_check.specs.Jobs.{job_of, slot_of, has_tiles, render_room, layout_of}
+use Rattle.job_check.specs.Emit.{InOrder}
+
+-- a set of tiles has its length as room
+pub room_is : (frame : Frame) (has_bin : Bool) → IsTileSet frame → render_room frame has_bin ≡ render_length frame has_bin
+unfolding render_room has_tiles
+room_is frame has_bin tiles = grind (arith, tiles.across, tiles.down)
+
+pub layout_numbers : (f : FileModel) (j : ℕ) (layout : Layout) → layout ≡ layout_of f j
+    → (layout.place ≡ f.regions.lists_place) × (layout.slot ≡ slot_of f j) × (layout.render + render_room (job_of f j).frame false ≡ layout.end)
+unfolding layout_of
+layout_numbers f j layout e =
+    let P : Layout → Type 0 = λ l. (l.place ≡ f.regions.lists_place) × (l.slot ≡ slot_of f j) × (l.render + render_room (job_of f j).frame false ≡ l.end) in
+    subst P (sym e) (refl, refl, refl)
+
+-- the lists' region lies inside the memory
+pub lists_inside : (f : FileModel) → IsSound f.mem_size f.regions f.buffers → f.regions.lists_place + f.regions.lists_size ≤ f.mem_size
+lists_inside f sound = let s = sound.each_item 0 (omega arith) in s.inside
+
+-- regions inside a memory of at most 64 MiB
+pub region_limits : (f : FileModel) → IsSound f.mem_size f.regions f.buffers
+    → (f.regions.lists_place ≤ 67108864) × (f.regions.lists_size ≤ 67108864) × (f.regions.tile_place ≤ 67108864)
+region_limits f sound =
+    let lists = sound.each_item 0 (omega arith) in
+    let tiles = sound.each_item 1 (omega arith) in
+    (omega (arith, lists.inside, sound.limit), omega (arith, lists.inside, sound.limit), omega (arith, tiles.inside, sound.limit))
+
+-- the parts of a layout stand in order
+rounds_up : (n : ℕ) → n ≤ rounded_up n 16
+rounds_up n = let r = rounded n 16 (lit≤ tt) in r.least
+
+pub layout_order : (f : FileModel) (j : ℕ) → InOrder (layout_of f j)
+unfolding layout_of records_start uniforms_start render_start
+layout_order f j =
+    let bin = length (job_of f j).bin in
+    let records = length (job_of f j).records in
+    let uniforms = length (job_of f j).uniforms in
+    let a = rounds_up bin in
+    let b = rounds_up (rounded_up bin 16 + records) in
+    let c = rounds_up (rounded_up (rounded_up bin 16 + records) 16 + uniforms) in
+    record {
+      bin = omega arith;
+      records = omega (arith, b);
+      uniforms = omega (arith, c);
+      render = omega arith;
+    }
+
+-- all lists together have some 11 MiB at most
+rounds_near : (n : ℕ) → rounded_up n 16 < n + 16
+rounds_near n = let r = rounded n 16 (lit≤ tt) in r.near
+
+pub lists_small : (bin records uniforms render : ℕ) → bin ≤ 1048576 → records ≤ 1048576 → uniforms ≤ 1048576 → render ≤ 8388608 → lists_end bin records uniforms render ≤ 67108864
+unfolding records_start uniforms_start render_start
+lists_small bin records uniforms render b r u e =
+    let a = rounds_near bin in
+    let c = rounds_near (rounded_up bin 16 + records) in
+    let d = rounds_near (rounded_up (rounded_up bin 16 + records) 16 + uniforms) in
+    omega (arith, a, c, d)

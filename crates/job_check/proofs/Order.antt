@@ -1,0 +1,27 @@
+-- Stages one after the other.
+use Rattle.std.proofs.Common.{◌≡◌, ℕ, ◌<◌, ◌≤◌, List, ◌++◌, Some, None, Result, Ok, Err, refl, ◌∙◌}
+use Rattle.std.proofs.lemmas.Bool.{le-ltb, lt-ltb}
+use Rattle.field_words.specs.declared.stop.Stop.{Stop}
+use Rattle.field_words.specs.declared.stop.Stop.TheVariants.{Fault, NoMemory}
+use Rattle.field_words.specs.Questions.{Question, first_of, Answers}
+use Rattle.field_words.proofs.Questions.{passes, stops, stands_none}
+use Rattle.job_format.specs.Model.{FileModel}
+use Rattle.job_format.specs.declared.rule.Stage.TheVariants.{X}
+use Rattle.job_check.specs.Jobs.{layout_of}
+use Rattle.job_check.specs.Faults.{refused, layout_stage}
+use Rattle.job_check.specs.Offsets.{job_offset, layout_offset}
+
+-- Rules after the front of which none stands change no answer.
+pub answers_front : {X F : Type 0} (front rest : List (Question F)) (P : X → Type 0) (result : Result X (Stop F)) → first_of rest ≡ None → Answers front P result → Answers (front ++ rest) P result
+answers_front front rest P (Ok made) none answers = (passes front rest answers.0 ∙ none, answers.1)
+answers_front front rest P (Err (Fault f)) none answers = stops front rest f answers
+answers_front front rest P (Err NoMemory) none answers = tt
+
+-- the lists fit, or they don't
+pub layout_fits : (f : FileModel) (j : ℕ) → (layout_of f j).end ≤ f.regions.lists_size → first_of (layout_stage f j) ≡ None
+unfolding layout_stage
+layout_fits f j fits = stands_none (layout_stage f j) (le-ltb f.regions.lists_size (layout_of f j).end fits, tt)
+
+pub layout_stands : (f : FileModel) (j : ℕ) → f.regions.lists_size < (layout_of f j).end → first_of (layout_stage f j) ≡ Some (refused X 1 (layout_offset (job_offset f j)))
+unfolding layout_stage
+layout_stands f j past = rw (lt-ltb f.regions.lists_size (layout_of f j).end past) refl

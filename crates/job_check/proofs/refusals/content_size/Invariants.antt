@@ -1,7 +1,0 @@
-use Rattle.std.proofs.Common.{◌≡◌, ◌≤◌, ◌*◌, map, sum, take}
-use Rattle.job_check.proofs.refusals.content_size.Given as goal
-
--- the sum of the contents so far, each of them below 2^32
-abbrev pub invariant-loop-buffer : goal.invariant-loop-buffer
-invariant-loop-buffer l =
-    (l.size ≡ sum (map (λ b. b.content) (take l.buffer-index l.buffers))) × (l.size ≤ 4294967295 * l.buffer-index)

@@ -1,0 +1,30 @@
+-- A job in view: a file in whose memory table and shaders no rule stands, and one of its jobs, each of whose handles names a buffer
+-- of the job's client.
+use Rattle.std.specs.Prelude.{◌≡◌, ℕ, ◌<◌, List, length, Option}
+use Rattle.buffer_table.specs.Table.{TableModel}
+use Rattle.buffer_table.specs.Handles.{AreNumbersOf}
+use Rattle.buffer_table.specs.Sound.{IsSound}
+use Rattle.job_format.specs.File.{IsWellFormed, IsJobWellFormed}
+use Rattle.job_format.specs.Model.{FileModel, JobModel}
+use Rattle.relocation.specs.declared.layout.Layout.{Layout}
+use Rattle.qpu_isa.specs.Shader.{ShaderModel}
+use Rattle.job_check.specs.Shaders.{shaders_of}
+use Rattle.job_check.specs.Jobs.{table_of, job_of, layout_of}
+
+-- what contracts see: the file, and the job's number
+pub record InView : Type 0 where
+  pub file : FileModel
+  pub number : ℕ
+
+-- What the check keeps of a job in view is what the file says.
+pub record IsContext (v : InView) (job : JobModel) (table : TableModel) (shaders : List (Option ShaderModel)) (handles : List ℕ) (layout : Layout) : Type 0 where
+  pub well_formed : IsWellFormed v.file
+  pub inside : v.number < length v.file.jobs
+  pub job_is : job ≡ job_of v.file v.number
+  pub limits : IsJobWellFormed job
+  pub table_is : table ≡ table_of v.file
+  pub shaders_are : shaders ≡ shaders_of v.file
+  pub sound : IsSound v.file.mem_size v.file.regions v.file.buffers
+  pub handles_are : handles ≡ job.handles
+  pub numbers : AreNumbersOf table handles
+  pub layout_is : layout ≡ layout_of v.file v.number

@@ -1,0 +1,115 @@
+//! S: the shaders of a file, by buffer.
+ghost use Rattle.std.specs.Prelude.{◌≡◌, ◌<◌, ◌≤◌, ◌*◌, ◌/◌, ◌^◌, length, IfOk};
+ghost use Rattle.field_words.specs.Words.{u64_at};
+ghost use Rattle.field_words.specs.Sizes.{most_code};
+ghost use Rattle.field_words.specs.Questions.{Answers};
+ghost use Rattle.buffer_table.specs.declared.buffer.Kind.TheVariants.{Code as CodeKind};
+ghost use Rattle.buffer_table.specs.Table.{buffer_at};
+ghost use Rattle.job_format.specs.File.{IsWellFormed};
+ghost use Rattle.job_format.specs.Model.{file_view};
+ghost use Rattle.qpu_isa.specs.Shader.{shader_view};
+ghost use Rattle.job_check.specs.Shaders.{words_in, words_of, code_questions, told_of, content_of, shader_of, shaders_of, shader_option, shaders_view};
+ghost use Rattle.job_check.specs.Faults.{shader_stage, shaders_stage};
+
+use super::refusals::shader_refusal;
+use buffer_table::Kind;
+use byteorder::{ByteOrder, LittleEndian};
+use field_words::Stop;
+use job_format::{JobFile, Refusal};
+use qpu_isa::ShaderInfo;
+use shader_check::{ShaderFault, check_shader};
+use std::alloc::{AllocError, Global};
+
+/// Word k of the bytes.
+#[tactic(auto, unfolding(field_words::specs::Words::u64_at))]
+fn word_at(bytes: &[u8], k: usize) -> u64
+    requires few { length bytes.now ≤ most_code }
+    requires inside { k < length bytes.now / 8 }
+    ensures { result ≡ u64_at bytes.now (8 * k) }
+{
+    LittleEndian::read_u64(&bytes[8 * k..])
+}
+
+/// The words that the bytes spell.
+#[tactic(auto, using(crate::proofs::Codes::words_none, crate::proofs::Codes::words_more))]
+fn words_of(alloc: Global, bytes: &[u8]) -> Result<Vec<u64>, AllocError>
+    requires { length bytes.now ≤ most_code }
+    ensures { IfOk result (λ words. words.items ≡ words_of bytes.now) }
+{
+    let mut words = Vec::with_capacity(alloc, bytes.len() / 8)?;
+    for k in 0..bytes.len() / 8 {
+        words.push(word_at(bytes, k))?;
+    }
+    Ok(words)
+}
+
+/// The shader that these bytes hold.
+#[tactic(auto, unfolding(crate::specs::Shaders::code_questions, crate::specs::Shaders::told_of))]
+fn shader_in(alloc: Global, bytes: &[u8]) -> Result<ShaderInfo, Stop<ShaderFault>>
+    requires { length bytes.now ≤ most_code }
+    ensures { Answers (code_questions bytes.now) (λ info. shader_view info ≡ told_of (words_of bytes.now)) result }
+{
+    if bytes.len() % 8 != 0 {
+        return Err(Stop::Fault(ShaderFault {
+            number: 1,
+            index: 0,
+        }));
+    }
+    let code = words_of(alloc, bytes)?;
+    check_shader(alloc, &code)
+}
+
+/// The kind of buffer `b`.
+#[tactic(auto, unfolding(buffer_table::specs::Table::buffer_at))]
+fn kind_at(file: &JobFile, b: usize) -> Kind
+    requires { b < length file.now.buffers.items }
+    ensures { result ≡ (buffer_at file.now.buffers.items b).kind }
+{
+    file.buffers[b].kind
+}
+
+/// The contents of buffer `b`.
+fn content_at(file: &JobFile, b: usize) -> &[u8]
+    requires well_formed { IsWellFormed (file_view file.now) }
+    requires inside { b < length file.now.buffers.items }
+    ensures value { result.now ≡ content_of (file_view file.now) b }
+    ensures few { (buffer_at file.now.buffers.items b).kind ≡ CodeKind → length result.now ≤ most_code }
+{
+    &file.contents[b]
+}
+
+/// S of buffer `b`: what its shader takes and reads, or `None` where it is a Plain one.
+#[tactic(auto, unfolding(crate::specs::Faults::shader_stage, crate::specs::Shaders::shader_of), using(field_words::proofs::Questions::answered_none, field_words::proofs::Questions::answered_some))]
+fn shader_at(alloc: Global, file: &JobFile, b: usize) -> Result<Option<ShaderInfo>, Stop<Refusal>>
+    requires well_formed { IsWellFormed (file_view file.now) }
+    requires inside { b < length file.now.buffers.items }
+    ensures { Answers (shader_stage (file_view file.now) b) (λ shader. shader_option shader ≡ shader_of (file_view file.now) b) result }
+{
+    match kind_at(file, b) {
+        Kind::Plain => Ok(None),
+        Kind::Code => match shader_in(alloc, content_at(file, b)) {
+            Ok(info) => Ok(Some(info)),
+            Err(Stop::Fault(fault)) => Err(Stop::Fault(shader_refusal(file, b, &fault))),
+            Err(Stop::NoMemory) => Err(Stop::NoMemory),
+        },
+    }
+}
+
+/// S: the shaders in all Code buffers, whether or not a job names them. There is one entry for each buffer.
+#[tactic(auto, unfolding(crate::specs::Faults::shaders_stage), using(field_words::proofs::Questions::each_on, field_words::proofs::Questions::each_stop, field_words::proofs::Questions::each_end, crate::proofs::Codes::shaders_none, crate::proofs::Codes::shaders_more))]
+pub fn shaders_stage(
+    alloc: Global,
+    file: &JobFile,
+) -> Result<Vec<Option<ShaderInfo>>, Stop<Refusal>>
+    requires { IsWellFormed (file_view file.now) }
+    ensures { Answers (shaders_stage (file_view file.now)) (λ shaders. shaders_view shaders.items ≡ shaders_of (file_view file.now)) result }
+{
+    let mut shaders = Vec::new(alloc);
+    for b in 0..file.buffers.len() {
+        match shader_at(alloc, file, b) {
+            Ok(shader) => shaders.push(shader)?,
+            Err(stop) => return Err(stop),
+        }
+    }
+    Ok(shaders)
+}

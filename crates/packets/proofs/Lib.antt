@@ -1,0 +1,4 @@
+pub mod Writing
+pub mod Underway
+pub mod Slots
+pub mod Laws

@@ -1,0 +1,4 @@
+pub mod Length
+pub mod Opcode
+pub mod Packet
+pub mod Writing

@@ -1,0 +1,19 @@
+//! The packets of control lists, named once.
+//!
+//! A control list is a row of packets: an opcode byte, and the packet's fields behind it. `opcode`
+//! names the opcodes that the two list units know, as the hardware guide names their packets, and
+//! `bin_length` tells how long a binner's packet is. What cuts a binner list, what writes a renderer
+//! list and what reads either one go by this table.
+#![tactic(auto)]
+
+mod length;
+mod list;
+pub mod opcode;
+mod packet;
+
+pub use length::{bin_length, bin_taken, render_taken};
+pub use list::{put_packet, put_present};
+pub use packet::{Packet, decode};
+
+#[cfg(test)]
+mod tests;

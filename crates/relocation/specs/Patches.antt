@@ -1,0 +1,15 @@
+-- Words put into a window, one after the other.
+use Rattle.std.specs.Prelude.{ℕ, ◌+◌, ◌≤◌, List, [], ◌∷◌}
+use Rattle.std.specs.Int.{to_le_bytes, w32}
+use Rattle.field_words.specs.Writes.{with_bytes}
+use Rattle.relocation.specs.declared.patch.Patch.{Patch}
+
+-- each patch lies inside a window of this length
+abbrev pub AllInside : ℕ → List Patch → Type 0
+AllInside size [] = Unit {0}
+AllInside size (patch ∷ patches) = (patch.at + 4 ≤ size) × AllInside size patches
+
+-- the window after each word has been put at its place, in order, and no other byte was changed
+abbrev pub patched : List ℕ → List Patch → List ℕ
+patched window [] = window
+patched window (patch ∷ patches) = patched (with_bytes window patch.at (to_le_bytes w32 patch.word)) patches

@@ -1,0 +1,353 @@
+//! The packets of a renderer list. One that stands only sometimes has a slot, which is `None` where it
+//! doesn't stand.
+ghost use Rattle.std.specs.Prelude.{◌≡◌, ◌≤◌, ◌<◌, ◌^◌, ◌+◌, ◌*◌, ◌∷◌, [], IsSome};
+ghost use Rattle.tile_memory.specs.Slots.{alloc_offset};
+ghost use Rattle.render_list.specs.Frame.{FitsAt, FitsFull, TileFits, full_place};
+ghost use Rattle.render_list.specs.Text.{number_where, packet_where, head_packet, clear_packet, clear_slots, load_packet, load_slot, wait_slot, list_place, list_slot, full_store, full_store_slot, zs_store, zs_store_slot, color_store, color_store_slot, is_there, more_after_multisample_zs, more_after_multisample_color, some_before_zs, some_before_color, coordinates_slot, load_slots, list_slots, write_slots, tile_slots};
+
+use crate::frame::{
+    COLOR_READ, COLOR_WRITE, MULTISAMPLE_COLOR, MULTISAMPLE_ZS, ZS_READ, ZS_WRITE, full_place,
+    is_first_tile, is_full, is_last_tile, surface,
+};
+use crate::setup::Setup;
+use job_format::Frame;
+use packets::Packet;
+use tile_memory::alloc_offset;
+
+/// The low bits of a full-resolution load's or store's address: colour is left out, depth and stencil
+/// are left out; and of a store's: the tile buffer isn't cleared behind it, it ends the frame. A general
+/// store's address has the last one too.
+const WITHOUT_COLOR: u32 = 1;
+
+const WITHOUT_ZS: u32 = 2;
+
+const WITHOUT_CLEARING: u32 = 4;
+
+const ENDS_FRAME: u32 = 8;
+
+/// Bits of a general store: colour isn't cleared behind it; nothing is.
+const KEEPS_COLOR: u32 = 0x2000;
+
+const KEEPS_ALL: u16 = 0xe000;
+
+/// A tile by its coordinates.
+#[derive(Clone, Copy)]
+pub struct Tile {
+    pub x: u8,
+    pub y: u8,
+}
+
+/// The number where the test is true, else 0.
+fn number_where(test: bool, number: u32) -> u32
+    ensures { result ≡ number_where test number }
+{
+    if test { number } else { 0 }
+}
+
+/// The packet where the test is true.
+fn packet_where(test: bool, packet: Packet) -> Option<Packet>
+    ensures { result ≡ packet_where test packet }
+{
+    if test { Some(packet) } else { None }
+}
+
+/// The head: where colour is written, and how large the frame is. Where colour write is absent, only
+/// the multisample bit of its bits stays.
+#[tactic(auto, unfolding(crate::specs::Text::head_packet))]
+pub fn head_packet(frame: &Frame, setup: &Setup) -> Packet
+    ensures { result ≡ head_packet frame.now setup.now.places }
+{
+    let bits = surface(frame, COLOR_WRITE).bits;
+    let (address, bits) = match setup.place_of(COLOR_WRITE) {
+        None => (0, bits % 2),
+        Some(place) => (place, bits),
+    };
+    Packet::TileRenderingMode {
+        address,
+        width: frame.width,
+        height: frame.height,
+        bits,
+    }
+}
+
+/// The values to clear with, and a tile that stores nothing, where the frame is cleared.
+#[tactic(auto, unfolding(crate::specs::Text::clear_slots, crate::specs::Text::clear_packet))]
+pub fn clear_slots(frame: &Frame) -> [Option<Packet>; 3]
+    ensures { result ≡ clear_slots frame.now }
+{
+    let values = Packet::ClearColors {
+        first: frame.clear_color[0],
+        second: frame.clear_color[1],
+        z: frame.clear_z,
+        stencil: frame.clear_s,
+    };
+    let nothing = Packet::StoreTileBuffer {
+        bits: 0,
+        address: 0,
+    };
+    [
+        packet_where(frame.clear, values),
+        packet_where(frame.clear, Packet::TileCoordinates { x: 0, y: 0 }),
+        packet_where(frame.clear, nothing),
+    ]
+}
+
+/// The load of a tile of surface `k`, where it is present.
+#[tactic(auto, unfolding(crate::specs::Text::load_packet))]
+fn load_slot(
+    frame: &Frame,
+    k: usize,
+    left_out: u32,
+    place: Option<u32>,
+    tile: Tile,
+) -> Option<Packet>
+    requires surface { k < 6 }
+    requires fits { FitsAt frame.now k place tile.x tile.y }
+    ensures { result ≡ load_slot frame.now k left_out place tile.x tile.y }
+{
+    let place = place?;
+    let surface = surface(frame, k);
+    if is_full(k, &surface) {
+        return Some(Packet::LoadFullResolution {
+            address: full_place(frame, place, tile.x, tile.y) | left_out,
+        });
+    }
+    Some(Packet::LoadTileBuffer {
+        bits: surface.bits,
+        address: place,
+    })
+}
+
+/// The wait for the binner, on the first tile where there is a binner list.
+fn wait_slot(frame: &Frame, tiles: Option<(u8, u8)>, tile: Tile) -> Option<Packet>
+    ensures { result ≡ wait_slot frame.now tiles tile.x tile.y }
+{
+    let _grid = tiles?;
+    packet_where(
+        is_first_tile(frame, tile.x, tile.y),
+        Packet::WaitOnSemaphore,
+    )
+}
+
+/// Which tile of a grid with so many tiles across this is, row by row.
+fn tile_number(across: u8, tile: Tile) -> u32
+    ensures value { result ≡ tile.y * across + tile.x }
+    ensures limit { result < 65536 }
+{
+    u32::from(tile.y) * u32::from(across) + u32::from(tile.x)
+}
+
+/// How many tiles a grid has.
+fn tile_count(grid: (u8, u8)) -> u32
+    ensures value { result ≡ grid.0 * grid.1 }
+    ensures limit { result ≤ 65025 }
+{
+    u32::from(grid.0) * u32::from(grid.1)
+}
+
+/// Where the tile's list begins in the tile slot.
+#[tactic(auto, unfolding(crate::specs::Text::list_place))]
+fn list_place(grid: (u8, u8), slot: u32, tile: Tile) -> u32
+    requires { slot ≤ 67108864 }
+    ensures { result ≡ list_place grid slot tile.x tile.y }
+{
+    slot + alloc_offset(tile_count(grid)) + 32 * tile_number(grid.0, tile)
+}
+
+/// The branch to the tile's own list, where there is a binner list.
+fn list_slot(tiles: Option<(u8, u8)>, slot: u32, tile: Tile) -> Option<Packet>
+    requires { IsSome tiles → slot ≤ 67108864 }
+    ensures { result ≡ list_slot tiles slot tile.x tile.y }
+{
+    let grid = tiles?;
+    Some(Packet::BranchToSubList {
+        address: list_place(grid, slot, tile),
+    })
+}
+
+/// Whether the surface is there.
+fn is_there(setup: &Setup, k: usize) -> bool
+    requires { k < 6 }
+    ensures { result ≡ is_there setup.now.places k }
+{
+    setup.place_of(k).is_some()
+}
+
+/// Whether a write follows the one of multisample ZS.
+#[tactic(auto, unfolding(crate::specs::Text::more_after_multisample_zs))]
+fn more_after_multisample_zs(setup: &Setup) -> bool
+    ensures { result ≡ more_after_multisample_zs setup.now.places }
+{
+    is_there(setup, ZS_WRITE) || is_there(setup, COLOR_WRITE)
+}
+
+/// Whether a write follows the one of multisample colour.
+#[tactic(auto, unfolding(crate::specs::Text::more_after_multisample_color))]
+fn more_after_multisample_color(setup: &Setup) -> bool
+    ensures { result ≡ more_after_multisample_color setup.now.places }
+{
+    is_there(setup, MULTISAMPLE_ZS) || more_after_multisample_zs(setup)
+}
+
+/// Whether a write comes before the one of ZS.
+#[tactic(auto, unfolding(crate::specs::Text::some_before_zs))]
+fn some_before_zs(setup: &Setup) -> bool
+    ensures { result ≡ some_before_zs setup.now.places }
+{
+    is_there(setup, MULTISAMPLE_COLOR) || is_there(setup, MULTISAMPLE_ZS)
+}
+
+/// Whether a write comes before the one of colour.
+#[tactic(auto, unfolding(crate::specs::Text::some_before_color))]
+fn some_before_color(setup: &Setup) -> bool
+    ensures { result ≡ some_before_color setup.now.places }
+{
+    some_before_zs(setup) || is_there(setup, ZS_WRITE)
+}
+
+/// The coordinates, where write `k` is there and another came before it.
+fn coordinates_slot(setup: &Setup, k: usize, some_before: bool, tile: Tile) -> Option<Packet>
+    requires { k < 6 }
+    ensures { result ≡ coordinates_slot setup.now.places k some_before tile.x tile.y }
+{
+    packet_where(
+        is_there(setup, k) && some_before,
+        Packet::TileCoordinates {
+            x: tile.x,
+            y: tile.y,
+        },
+    )
+}
+
+/// The store of a tile in full resolution, where the surface is present.
+#[tactic(auto, unfolding(crate::specs::Text::full_store))]
+fn full_store_slot(
+    frame: &Frame,
+    place: Option<u32>,
+    left_out: u32,
+    more: bool,
+    tile: Tile,
+) -> Option<Packet>
+    requires bits { left_out < 4 }
+    requires fits { FitsFull frame.now place tile.x tile.y }
+    ensures { result ≡ full_store_slot frame.now place left_out more tile.x tile.y }
+{
+    let place = place?;
+    let is_final = !more && is_last_tile(frame, tile.x, tile.y);
+    let bits = left_out + number_where(more, WITHOUT_CLEARING) + number_where(is_final, ENDS_FRAME);
+    Some(Packet::StoreFullResolution {
+        address: full_place(frame, place, tile.x, tile.y) | bits,
+    })
+}
+
+/// The store of depth and stencil, where they are present.
+#[tactic(auto, unfolding(crate::specs::Text::zs_store))]
+fn zs_store_slot(frame: &Frame, place: Option<u32>, more: bool, tile: Tile) -> Option<Packet>
+    ensures { result ≡ zs_store_slot frame.now place more tile.x tile.y }
+{
+    let place = place?;
+    let is_final = !more && is_last_tile(frame, tile.x, tile.y);
+    Some(Packet::StoreTileBuffer {
+        bits: surface(frame, ZS_WRITE).bits | number_where(more, KEEPS_COLOR) as u16,
+        address: place | number_where(is_final, ENDS_FRAME),
+    })
+}
+
+/// The store of colour, where it is present.
+#[tactic(auto, unfolding(crate::specs::Text::color_store))]
+fn color_store_slot(frame: &Frame, place: Option<u32>, tile: Tile) -> Option<Packet>
+    ensures { result ≡ color_store_slot frame.now place tile.x tile.y }
+{
+    let _place = place?;
+    if is_last_tile(frame, tile.x, tile.y) {
+        Some(Packet::StoreTileColorAndEnd)
+    } else {
+        Some(Packet::StoreTileColor)
+    }
+}
+
+/// The loads of a tile.
+#[tactic(auto, unfolding(crate::specs::Text::load_slots))]
+fn load_slots(frame: &Frame, setup: &Setup, tile: Tile) -> [Option<Packet>; 4]
+    requires { TileFits frame.now setup.now.places tile.x tile.y }
+    ensures { result ≡ load_slots frame.now setup.now.places tile.x tile.y }
+{
+    let color = setup.place_of(COLOR_READ);
+    let zs = setup.place_of(ZS_READ);
+    let both = color.is_some() && zs.is_some();
+    let coordinates = Packet::TileCoordinates {
+        x: tile.x,
+        y: tile.y,
+    };
+    let idle_store = Packet::StoreTileBuffer {
+        bits: KEEPS_ALL,
+        address: 0,
+    };
+    [
+        load_slot(frame, COLOR_READ, WITHOUT_ZS, color, tile),
+        packet_where(both, coordinates),
+        packet_where(both, idle_store),
+        load_slot(frame, ZS_READ, WITHOUT_COLOR, zs, tile),
+    ]
+}
+
+/// The coordinates of a tile, and its list.
+#[tactic(auto, unfolding(crate::specs::Text::list_slots))]
+fn list_slots(frame: &Frame, tiles: Option<(u8, u8)>, slot: u32, tile: Tile) -> [Option<Packet>; 3]
+    requires { IsSome tiles → slot ≤ 67108864 }
+    ensures { result ≡ list_slots frame.now tiles slot tile.x tile.y }
+{
+    let coordinates = Packet::TileCoordinates {
+        x: tile.x,
+        y: tile.y,
+    };
+    [
+        Some(coordinates),
+        wait_slot(frame, tiles, tile),
+        list_slot(tiles, slot, tile),
+    ]
+}
+
+/// The writes of a tile.
+#[tactic(auto, unfolding(crate::specs::Text::write_slots))]
+fn write_slots(frame: &Frame, setup: &Setup, tile: Tile) -> [Option<Packet>; 7]
+    requires { TileFits frame.now setup.now.places tile.x tile.y }
+    ensures { result ≡ write_slots frame.now setup.now.places tile.x tile.y }
+{
+    let color = setup.place_of(MULTISAMPLE_COLOR);
+    let more = more_after_multisample_color(setup);
+    let first = full_store_slot(frame, color, WITHOUT_ZS, more, tile);
+    let zs = setup.place_of(MULTISAMPLE_ZS);
+    let more = more_after_multisample_zs(setup);
+    let second = full_store_slot(frame, zs, WITHOUT_COLOR, more, tile);
+    let more = is_there(setup, COLOR_WRITE);
+    let third = zs_store_slot(frame, setup.place_of(ZS_WRITE), more, tile);
+    [
+        first,
+        coordinates_slot(setup, MULTISAMPLE_ZS, color.is_some(), tile),
+        second,
+        coordinates_slot(setup, ZS_WRITE, some_before_zs(setup), tile),
+        third,
+        coordinates_slot(setup, COLOR_WRITE, some_before_color(setup), tile),
+        color_store_slot(frame, setup.place_of(COLOR_WRITE), tile),
+    ]
+}
+
+/// The fourteen slots of a tile.
+#[tactic(auto, unfolding(crate::specs::Text::tile_slots))]
+pub fn tile_slots(
+    frame: &Frame,
+    setup: &Setup,
+    tiles: Option<(u8, u8)>,
+    slot: u32,
+    tile: Tile,
+) -> [Option<Packet>; 14]
+    requires fits { TileFits frame.now setup.now.places tile.x tile.y }
+    requires slot { IsSome tiles → slot ≤ 67108864 }
+    ensures { result ≡ tile_slots frame.now setup.now.places tiles slot tile.y tile.x }
+{
+    let [l0, l1, l2, l3] = load_slots(frame, setup, tile);
+    let [c0, c1, c2] = list_slots(frame, tiles, slot, tile);
+    let [w0, w1, w2, w3, w4, w5, w6] = write_slots(frame, setup, tile);
+    [l0, l1, l2, l3, c0, c1, c2, w0, w1, w2, w3, w4, w5, w6]
+}
