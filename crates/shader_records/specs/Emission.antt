@@ -1,7 +1,7 @@
 -- What is emitted of records and uniforms.
 use Rattle.std.specs.Prelude.{◌≡◌, ◌<◌, slice_index, ℕ, zero, suc, ◌+◌, ◌*◌, ◌/◌, ◌-◌, ◌%◌, ◌==◌, Bool, false, ◌&&◌, ◌||◌, nat_lt, nat_le, List, [], ◌++◌, length, Option, Some, None, if◌then◌else◌}
 use Rattle.field_words.specs.WordBytes.{word_bytes}
-use Rattle.emitted_facts.specs.Shader.{ShaderModel, sample_at, first_position, address_at}
+use Rattle.qpu_isa.specs.Shader.{ShaderModel, sample_at, first_position, address_at}
 use Rattle.emitted_facts.specs.Records.{attribute_count, record_size}
 use Rattle.shader_records.specs.Inputs.{InputModel}
 use Rattle.shader_records.specs.Sources.{state_at, emitted_size, record_source, uniform_source, stream_offset, code_number, attribute_number, shader_used, taken_before, given_before, record_word, sample_number, source_word, place_in}
@@ -93,3 +93,8 @@ emitted_records input first = records_text input first (length input.states)
 
 abbrev pub emitted_uniforms : InputModel → ℕ → List ℕ
 emitted_uniforms input first = uniforms_text input first (length input.states)
+
+-- Memory has the streams of a record's shaders, made of the uniforms from a place on.
+pub record HasStreams (input : InputModel) (at from first : ℕ) (memory : ℕ → ℕ) : Type 0 where
+  pub word : (s : ℕ) (shader : ShaderModel) (k : ℕ) → s < 3 → shader_used input at s ≡ Some shader → k < shader.uniforms
+      → memory (stream_place input at first s + 4 * k) ≡ stream_word_of input (from + taken_before input at s) shader (stream_place input at first s) k

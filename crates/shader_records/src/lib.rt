@@ -12,14 +12,17 @@ mod fault;
 mod faults;
 mod info;
 mod inputs;
+mod laws;
 mod record_rules;
 mod record_text;
 mod sizes;
-mod state;
 mod stream_text;
 mod uniform_rules;
 
 pub use check::check_records;
 pub use fault::RecordFault;
 pub use info::RecordInfo;
-pub use state::State;
+pub use laws::{records_are_facts, streams_are_facts};
+
+#[cfg(test)]
+mod tests;

@@ -2,12 +2,12 @@
 ghost use Rattle.std.specs.Prelude.{◌≡◌, ℕ, Some, None, ◌+◌, ◌*◌, ◌<◌, ◌≤◌, ◌^◌, length};
 ghost use Rattle.field_words.specs.Questions.{first_of};
 ghost use Rattle.field_words.specs.WordBytes.{word_bytes, laid};
-ghost use Rattle.emitted_facts.specs.Shader.{shader_view, sample_at, first_position, address_at, IsSoundShader};
+ghost use Rattle.qpu_isa.specs.Shader.{shader_view, sample_at, first_position, address_at, IsSoundShader};
 ghost use Rattle.shader_records.specs.Sources.{sample_number, source_word, place_in, shader_used, taken_by, given_by, taken_before, given_before};
 ghost use Rattle.shader_records.specs.Rules.{use_questions};
 ghost use Rattle.shader_records.specs.Emission.{stream_word_of, stream_text, streams_text};
 
-use crate::inputs::Inputs;
+use crate::inputs::{Inputs, relocated};
 use crate::record_text::given_by;
 use crate::uniform_rules::first_position;
 use field_words::put_u32;
@@ -35,7 +35,7 @@ fn moved_word(inputs: &Inputs, from: usize, info: &ShaderInfo, i: usize) -> u32
     ensures { result ≡ source_word inputs.now from (shader_view info.now) (first_position (sample_at (shader_view info.now) i)) + place_in inputs.now.table (sample_number inputs.now from i) }
 {
     let word = source_word(inputs, from, info, first_position(info, i));
-    word + inputs.place_of(inputs.sample_number(from, i))
+    relocated(word, inputs.place_of(inputs.sample_number(from, i)))
 }
 
 /// Address word `j` of a shader.
