@@ -6,7 +6,7 @@ use Rattle.buffer_table.specs.declared.buffer.Buffer.{Buffer}
 use Rattle.job_format.specs.Model.{FileModel}
 use Rattle.relocation.specs.declared.layout.Layout.{Layout}
 use Rattle.relocation.specs.declared.layout.Lengths.{Lengths}
-use Rattle.job_check.specs.Jobs.{layout_of, render_list_of}
+use Rattle.job_check.specs.Jobs.{layout_of, bin_list_of, render_list_of}
 
 -- contents at the places of their buffers
 unfoldable pub content_parts : List Buffer → List (List ℕ) → List Part
@@ -14,13 +14,16 @@ content_parts [] contents = []
 content_parts (buffer ∷ buffers) [] = []
 content_parts (buffer ∷ buffers) (content ∷ contents) = record { place = buffer.place; bytes = content } ∷ content_parts buffers contents
 
--- how many bytes of each list are emitted: so far the renderer list alone
+-- how many bytes of each list are emitted
 unfoldable pub lengths_of : FileModel → ℕ → Lengths
-lengths_of f j = record { bin = 0; records = 0; uniforms = 0; render = length (render_list_of f j) }
+lengths_of f j = record { bin = length (bin_list_of f j); records = 0; uniforms = 0; render = length (render_list_of f j) }
 
 -- the lists of job j, each at its offset in the lists' region
+abbrev pub part : ℕ → List ℕ → Part
+part place bytes = record { place = place; bytes = bytes }
+
 unfoldable pub list_parts : FileModel → ℕ → List Part
-list_parts f j = record { place = (layout_of f j).render; bytes = render_list_of f j } ∷ []
+list_parts f j = part (layout_of f j).bin (bin_list_of f j) ∷ (part (layout_of f j).render (render_list_of f j) ∷ [])
 
 -- the same parts, each so many bytes further on
 abbrev pub moved : ℕ → List Part → List Part

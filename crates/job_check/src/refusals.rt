@@ -1,13 +1,16 @@
 //! Refusals: a rule, and the place in the file that it is about.
 ghost use Rattle.std.specs.Prelude.{◌≡◌, ◌≤◌, ◌<◌, ◌+◌, ◌*◌, ◌^◌, length, map, sum, sum_by, take};
-ghost use Rattle.job_format.specs.declared.rule.Stage.TheVariants.{M as StageM, S as StageS, H as StageH, G as StageG, X as StageX};
+ghost use Rattle.job_format.specs.declared.rule.Stage.TheVariants.{M as StageM, S as StageS, H as StageH, B as StageB, G as StageG, X as StageX};
 ghost use Rattle.std.specs.List.{AllByRecursion};
 ghost use Rattle.job_format.specs.File.{IsWellFormed, IsJobWellFormed};
 ghost use Rattle.job_format.specs.Model.{file_view, job_view};
 ghost use Rattle.job_format.specs.Offsets.{entry_offset};
-ghost use Rattle.job_check.specs.Faults.{refused, table_refused, shader_refused, handle_refused, surface_refused};
-ghost use Rattle.job_check.specs.Offsets.{item_offset, job_offset, content_offset, shader_offset, handles_offset, surface_offset, layout_offset, parts_size};
+ghost use Rattle.job_check.specs.Jobs.{job_of};
+ghost use Rattle.job_check.specs.Faults.{refused, table_refused, shader_refused, handle_refused, bin_refused, surface_refused};
+ghost use Rattle.job_check.specs.Offsets.{item_offset, job_offset, content_offset, shader_offset, handles_offset, bin_offset, surface_offset, layout_offset, parts_size};
 
+use super::context::job_at;
+use bin_list::ListFault;
 use buffer_table::{Buffer, TableFault};
 use job_format::{ENTRY_SIZE, HEADER_SIZE, JOB_SIZE, Job, JobFile, Refusal, Rule, Stage};
 use render_list::RenderFault;
@@ -151,6 +154,27 @@ pub fn handle_refusal(file: &JobFile, number: usize, index: u32) -> Refusal
         1,
         handles_offset(file, number) + 4 * u64::from(index),
     )
+}
+
+/// A rule on the binner list that stands, at a packet of it.
+#[tactic(auto, unfolding(crate::specs::Offsets::bin_offset))]
+pub fn bin_refusal(file: &JobFile, number: usize, fault: &ListFault) -> Refusal
+    requires well_formed { IsWellFormed (file_view file.now) }
+    requires inside { number < length file.now.jobs.items }
+    ensures { result ≡ bin_refused (file_view file.now) number fault.now }
+{
+    let bin = handles_offset(file, number) + 4 * handle_count(file, number);
+    refusal(Stage::B, fault.number, bin + u64::from(fault.at))
+}
+
+/// How many handles the job of this number has.
+fn handle_count(file: &JobFile, number: usize) -> u64
+    requires well_formed { IsWellFormed (file_view file.now) }
+    requires inside { number < length file.now.jobs.items }
+    ensures value { result ≡ length (job_of (file_view file.now) number).handles }
+    ensures few { result ≤ 64 }
+{
+    job_at(file, number).handles.len() as u64
 }
 
 #[tactic(auto, unfolding(crate::specs::Offsets::surface_offset))]
