@@ -1,4 +1,6 @@
+pub mod Nones
 pub mod Pieces
 pub mod Questions
 pub mod Numbers
+pub mod WordBytes
 pub mod Writes

@@ -1,5 +1,6 @@
 pub mod Pieces
 pub mod Questions
 pub mod Sizes
+pub mod WordBytes
 pub mod Words
 pub mod Writes

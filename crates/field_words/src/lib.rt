@@ -9,10 +9,12 @@
 
 mod access;
 mod sizes;
+mod steps;
 mod stop;
 mod words;
 
 pub use access::{Access, Actor, Way};
 pub use sizes::{MOST_CODE, MOST_LIST, MOST_MEMORY, MOST_WORDS, PAGE_SIZE, SLOT_SIZE};
+pub use steps::Steps;
 pub use stop::{NoMemory, Stop};
 pub use words::{field, get_u16, get_u32, put_u32, round_up};

@@ -17,9 +17,9 @@ use Rattle.thin_job.specs.Shape.{thin_of, IsThinFile}
 use Rattle.thin_job.specs.Memory.{thin_list, thin_memory}
 use Rattle.thin_job.proofs.Numbers.{Numbers, thin_file}
 use Rattle.thin_job.proofs.Shapes.{file_is, numbers_of}
-use Rattle.job_safety.specs.Safe.{AreSafe}
+use Rattle.job_safety.specs.Safe.{AreSafe, AreSame}
 use Rattle.job_safety.specs.Thin.{thin_rights, thin_start}
-use Rattle.job_safety.proofs.Runs.{thin_is_safe}
+use Rattle.job_safety.proofs.Runs.{thin_is_safe, thin_is_same}
 
 -- putting nothing changes nothing
 put_nothing : (old : List ℕ) (at : ℕ) → with_bytes old at [] ≡ old
@@ -54,3 +54,8 @@ thin_memory_is bytes f h = subst (λ g. memory_of g ≡ thin_memory (thin_of g))
 pub thin_file_is_safe : (bytes : List ℕ) (f : FileModel) → IsThinFile bytes f → AreSafe (thin_rights (thin_of f)) (memory_of f) (thin_start (thin_of f) ∷ [])
 thin_file_is_safe bytes f h =
     subst (λ m. AreSafe (thin_rights (thin_of f)) m (thin_start (thin_of f) ∷ [])) (sym (thin_memory_is bytes f h)) (thin_is_safe (thin_of f) h.thin.rules)
+
+-- And it does the same over other memories.
+pub thin_file_is_same : (bytes : List ℕ) (f : FileModel) → IsThinFile bytes f → AreSame (thin_rights (thin_of f)) (memory_of f) (thin_start (thin_of f) ∷ [])
+thin_file_is_same bytes f h =
+    subst (λ m. AreSame (thin_rights (thin_of f)) m (thin_start (thin_of f) ∷ [])) (sym (thin_memory_is bytes f h)) (thin_is_same (thin_of f) h.thin.rules)

@@ -1,128 +1,115 @@
--- Every run over a thin job's memory is safe.
-use Rattle.std.proofs.Common.{◌≡◌, ◌≤◌, ◌<◌, ℕ, ◌+◌, IsTrue, List, [], ◌∷◌, length, slice_index, Option, Some, None, is_some, refl, sym, ◌∙◌, ap, subst, arith}
+-- Every run over a thin job's memory is safe, and does the same over other memories.
+use Rattle.std.proofs.Common.{◌≡◌, ◌≤◌, ◌<◌, ℕ, ◌+◌, IsTrue, List, [], ◌∷◌, Option, Some, None, refl, sym, ◌∙◌, subst, arith}
 use Rattle.std.proofs.lemmas.Grind.{common_steps}
-use Rattle.field_words.specs.declared.access.Access.{Access}
 use Rattle.field_words.specs.declared.access.Actor.{Actor}
 use Rattle.field_words.specs.declared.access.Actor.TheVariants.{Binner, Renderer as TheRenderer, Qpu, Tmu}
-use Rattle.machine_plan.specs.Regions.{Every, IsSafeAccess}
-use Rattle.machine_plan.specs.Plan.{Ends, Outcome, carried}
-use Rattle.machine_plan.specs.Runs.{Moved, found_by}
-use Rattle.machine_plan.proofs.Plans.{kept, keeps_accesses, keeps_ends}
-use Rattle.machine_plan.proofs.Safe.{all_safe_miss}
-use Rattle.machine_plan.proofs.Runs.{run_keeps, run_misses, run_fixed}
+use Rattle.machine_plan.specs.Regions.{Inside, IsSafeAccess, IsKept, joined}
+use Rattle.machine_plan.specs.Plan.{Keeps}
+use Rattle.machine_plan.specs.Glance.{glanced, GlancesIn}
+use Rattle.machine_plan.specs.World.{Owes}
+use Rattle.machine_plan.proofs.Plans.{keeps_weaker}
+use Rattle.machine_plan.proofs.Safe.{joined_covers}
+use Rattle.machine_plan.proofs.Worlds.{keeps_mapped, safe_law, same_law}
 use Rattle.list_machine.specs.declared.state.Renderer.{Renderer}
+use Rattle.list_machine.specs.declared.state.Lists.{Lists}
 use Rattle.list_machine.specs.Renderer.{renderer_of, renderer_plan}
-use Rattle.machine.specs.declared.job.JobState.{JobState}
-use Rattle.machine.specs.State.{State, start_of, renderer_job}
-use Rattle.machine.specs.Step.{Event, enabled, goes_on, renderer_moved, renderer_step, unit_step, may, step, IsRun}
-use Rattle.machine.proofs.Steps.{step_kept, step_length}
+use Rattle.list_machine.specs.Lists.{rendered, renderer_turn}
+use Rattle.machine.specs.State.{Units, units_start, renderer_job}
+use Rattle.machine.specs.Step.{with_lists, renderer_may, renderer_turn_of, unit_ready, unit_turn, ready, turn}
 use Rattle.thin_job.specs.declared.thin.Thin.{Thin}
 use Rattle.thin_job.specs.Thin.{KeepsRules}
 use Rattle.thin_job.specs.Memory.{thin_memory}
-use Rattle.job_safety.specs.Safe.{IsSafeRun, AreSafe}
+use Rattle.job_safety.specs.Safe.{AreSafe, AreSame}
 use Rattle.job_safety.specs.Thin.{thin_rights, thin_start}
 use Rattle.job_safety.proofs.Lists.{Stands, stands_first}
 use Rattle.job_safety.proofs.Stages.{Stage, Begun, Framed, Tiled, Over, begun, framed, tiled, StepKeeps, begun_keeps, framed_keeps, tiled_keeps, list_outside}
 
--- what each run keeps: the list stands in the memory, and the one job's renderer is at a stage
-pub record Holds (t : Thin) (s : State) : Type 0 where
-  pub stands : Stands t s.memory
+-- the units of one job
+abbrev pub lone : Renderer → Units
+lone r = record { jobs = record { renderer = r } ∷ [] }
+
+-- what each run keeps: there is one job, and its renderer is at a stage
+pub record UnitsFine (t : Thin) (u : Units) : Type 0 where
   pub renderer : Renderer
-  pub one : s.jobs ≡ record { renderer = renderer } ∷ []
+  pub one : u ≡ lone renderer
   pub stage : Stage t renderer
 
--- a step of the renderer below its list's end keeps it, with safe accesses
-pub record StepHolds (t : Thin) (moved : Moved State) : Type 0 where
-  pub holds : Holds t moved.state
-  pub safe : Every (IsSafeAccess (thin_rights t)) moved.accesses
+-- the list stands in each memory where nothing changed but what the job may write
+stands_kept : (t : Thin) → KeepsRules t → (m : List ℕ) → IsKept (thin_rights t) (thin_memory t) m → Stands t m
+stands_kept t rules m kept = record {
+  bytes = λ i below. kept.same (t.regions.lists_place + i) (list_outside t rules i below) ∙ (stands_first t rules).bytes i below;
+}
 
-goes_stage : (t : Thin) (m : List ℕ) (r : Renderer) (next : Option Renderer) → Ends (λ k q. Stage t q) m next → Stage t (goes_on r next)
-goes_stage t m r None ends = Over (omega arith)
-goes_stage t m r (Some q) ends = ends
-
--- the state of one job
-abbrev pub lone : List ℕ → Renderer → State
-lone m r = record { memory = m; jobs = record { renderer = r } ∷ [] }
-
-moved_holds : (t : Thin) → KeepsRules t → (m : List ℕ) (r : Renderer) (words : List ℕ) → Stands t m → StepKeeps t r words m → StepHolds t (renderer_moved (lone m r) 0 words)
-moved_holds t rules m r words stands keeps =
-    let who = renderer_of 0 in
-    let L = λ (p n : ℕ). Unit {0} in
-    let G = IsSafeAccess (thin_rights t) in
-    let P = λ (k : List ℕ) (next : Renderer). Stage t next in
-    let plan = renderer_plan r words in
-    let o : Outcome Renderer = carried who plan m in
-    let safe : Every G o.accesses = keeps_accesses who L G P plan m keeps in
-    let ends : Ends P o.memory o.result = keeps_ends who L G P plan m keeps in
-    record {
-      holds = record {
-        stands = record { bytes = λ i below. kept who plan m (t.regions.lists_place + i) (all_safe_miss (thin_rights t) (t.regions.lists_place + i) (list_outside t rules i below) o.accesses safe) ∙ stands.bytes i below };
-        renderer = goes_on r o.result;
-        one = refl;
-        stage = goes_stage t o.memory r o.result ends;
-      };
-      safe = safe;
-    }
+-- what the units owe of a turn
+abbrev pub TurnKeeps : Thin → Units → Actor → List ℕ → List ℕ → Type 0
+TurnKeeps t u unit words m = Keeps (unit_turn u unit words).who (Inside (joined (thin_rights t))) (IsSafeAccess (thin_rights t)) (λ k next. UnitsFine t next) (unit_turn u unit words).plan m
 
 -- the renderer's job, where one job is all
-lone_renders : (job : JobState) → job.renderer.place < job.renderer.end → renderer_job (job ∷ []) ≡ Some 0
-lone_renders job below = grind (arith, common_steps)
+lone_renders : (lists : Lists) → lists.renderer.place < lists.renderer.end → renderer_job (lists ∷ []) ≡ Some 0
+lone_renders lists below = grind (arith, common_steps)
 
-lone_rests : (job : JobState) → job.renderer.end ≤ job.renderer.place → renderer_job (job ∷ []) ≡ None
-lone_rests job over = grind (arith, common_steps)
+lone_rests : (lists : Lists) → lists.renderer.end ≤ lists.renderer.place → renderer_job (lists ∷ []) ≡ None
+lone_rests lists over = grind (arith, common_steps)
 
--- a step for a lone job whose renderer is below its end
-below_holds : (t : Thin) → KeepsRules t → (m : List ℕ) (r : Renderer) (words : List ℕ) → Stands t m → r.place < r.end → StepKeeps t r words m → StepHolds t (renderer_step (lone m r) (renderer_job (lone m r).jobs) words)
-below_holds t rules m r words stands below keeps =
-    let P : Option ℕ → Type 0 = λ job. StepHolds t (renderer_step (lone m r) job words) in
-    subst P (sym (lone_renders (record { renderer = r }) below)) (moved_holds t rules m r words stands keeps)
+-- a step of the renderer below its list's end
+below_keeps : (t : Thin) (r : Renderer) (words m : List ℕ) → r.place < r.end → StepKeeps t r words m → TurnKeeps t (lone r) TheRenderer words m
+below_keeps t r words m below keeps =
+    let L = Inside (joined (thin_rights t)) in
+    let G = IsSafeAccess (thin_rights t) in
+    let lists : Lists = record { renderer = r } in
+    let Fine = λ (k : List ℕ) (next : Units). UnitsFine t next in
+    let stage = keeps_weaker (renderer_of 0) L L G G (λ k next. Stage t next) (λ k next. UnitsFine t (lone next)) (λ p n h. h) (λ a h. h) (λ k next h. record { renderer = next; one = refl; stage = h }) (renderer_plan r words) m keeps in
+    let among = keeps_mapped (rendered lists) (renderer_of 0) L G (λ k turned. UnitsFine t (with_lists (lone r) 0 turned)) (renderer_plan r words) m stage in
+    let P : Option ℕ → Type 0 = λ job. Keeps (renderer_turn_of (lone r) job words).who L G Fine (renderer_turn_of (lone r) job words).plan m in
+    subst P (sym (lone_renders lists below)) (keeps_mapped (with_lists (lone r) 0) (renderer_of 0) L G Fine (renderer_turn lists words) m among)
 
-never_on : (job : Option ℕ) → job ≡ None → IsTrue (is_some job) → ⊥
-never_on None e on = cc
-never_on (Some j) e on = cc
+-- a renderer past its list's end may not step
+never_on : (u : Units) (m : List ℕ) (job : Option ℕ) → job ≡ None → IsTrue (glanced (renderer_may u job) m) → ⊥
+never_on u m None e on = cc
+never_on u m (Some j) e on = cc
 
-stage_holds : (t : Thin) → KeepsRules t → (m : List ℕ) (r : Renderer) (words : List ℕ) → Stands t m → Stage t r → IsTrue (enabled (lone m r) TheRenderer) → StepHolds t (renderer_step (lone m r) (renderer_job (lone m r).jobs) words)
-stage_holds t rules m r words stands (Begun e) on =
-    let P : Renderer → Type 0 = λ q. StepHolds t (renderer_step (lone m q) (renderer_job (lone m q).jobs) words) in
-    subst P (sym e) (below_holds t rules m (begun t) words stands (omega arith) (begun_keeps t rules words m stands))
-stage_holds t rules m r words stands (Framed e) on =
-    let P : Renderer → Type 0 = λ q. StepHolds t (renderer_step (lone m q) (renderer_job (lone m q).jobs) words) in
-    subst P (sym e) (below_holds t rules m (framed t) words stands (omega arith) (framed_keeps t rules words m stands))
-stage_holds t rules m r words stands (Tiled e) on =
-    let P : Renderer → Type 0 = λ q. StepHolds t (renderer_step (lone m q) (renderer_job (lone m q).jobs) words) in
-    subst P (sym e) (below_holds t rules m (tiled t) words stands (omega arith) (tiled_keeps t rules words m stands))
-stage_holds t rules m r words stands (Over over) on =
-    let rests : renderer_job (lone m r).jobs ≡ None = lone_rests (record { renderer = r }) over in
-    absurd (never_on (renderer_job (lone m r).jobs) rests on)
+stage_keeps : (t : Thin) → KeepsRules t → (r : Renderer) (words m : List ℕ) → Stands t m → Stage t r → IsTrue (glanced (unit_ready (lone r) TheRenderer) m) → TurnKeeps t (lone r) TheRenderer words m
+stage_keeps t rules r words m stands (Begun e) on =
+    subst (λ q. TurnKeeps t (lone q) TheRenderer words m) (sym e) (below_keeps t (begun t) words m (omega arith) (begun_keeps t rules words m stands))
+stage_keeps t rules r words m stands (Framed e) on =
+    subst (λ q. TurnKeeps t (lone q) TheRenderer words m) (sym e) (below_keeps t (framed t) words m (omega arith) (framed_keeps t rules words m stands))
+stage_keeps t rules r words m stands (Tiled e) on =
+    subst (λ q. TurnKeeps t (lone q) TheRenderer words m) (sym e) (below_keeps t (tiled t) words m (omega arith) (tiled_keeps t rules words m stands))
+stage_keeps t rules r words m stands (Over over) on =
+    absurd (never_on (lone r) m (renderer_job (lone r).jobs) (lone_rests (record { renderer = r }) over) on)
 
-unit_holds : (t : Thin) → KeepsRules t → (m : List ℕ) (r : Renderer) → Stands t m → Stage t r → (unit : Actor) (words : List ℕ) → IsTrue (enabled (lone m r) unit) → StepHolds t (unit_step (lone m r) unit words)
-unit_holds t rules m r stands stage TheRenderer words on = stage_holds t rules m r words stands stage on
-unit_holds t rules m r stands stage Binner words on = absurd cc
-unit_holds t rules m r stands stage (Qpu q) words on = absurd cc
-unit_holds t rules m r stands stage (Tmu q n) words on = absurd cc
+unit_keeps : (t : Thin) → KeepsRules t → (r : Renderer) (unit : Actor) (words m : List ℕ) → Stands t m → Stage t r → IsTrue (glanced (unit_ready (lone r) unit) m) → TurnKeeps t (lone r) unit words m
+unit_keeps t rules r TheRenderer words m stands stage on = stage_keeps t rules r words m stands stage on
+unit_keeps t rules r Binner words m stands stage on = absurd cc
+unit_keeps t rules r (Qpu q) words m stands stage on = absurd cc
+unit_keeps t rules r (Tmu q n) words m stands stage on = absurd cc
 
-pub step_holds : (t : Thin) → KeepsRules t → (s : State) (e : Event) → Holds t s → IsTrue (may s e) → StepHolds t (step s e)
-unfolding may step
-step_holds t rules s e h on =
-    let same : s ≡ lone s.memory h.renderer = ap (λ jobs. record { memory = s.memory; jobs = jobs }) h.one in
-    let P : State → Type 0 = λ q. IsTrue (enabled q e.unit) → StepHolds t (unit_step q e.unit e.words) in
-    subst P (sym same) (λ may_step. unit_holds t rules s.memory h.renderer h.stands h.stage e.unit e.words may_step) on
+-- no unit looks at memory to see whether it may step
+renderer_looks : (L : ℕ → ℕ → Type 0) (u : Units) (job : Option ℕ) (m : List ℕ) → GlancesIn L (renderer_may u job) m
+renderer_looks L u None m = tt
+renderer_looks L u (Some j) m = tt
 
-thin_run : (t : Thin) → KeepsRules t → (events : List Event) (found : List Access) (u : State) → IsRun (start_of (thin_memory t) (thin_start t ∷ [])) events found u → IsSafeRun (thin_rights t) (thin_memory t) found u
-thin_run t rules events found u run =
-    let jobs = thin_rights t in
-    let G = IsSafeAccess jobs in
-    let first : State = start_of (thin_memory t) (thin_start t ∷ []) in
-    let here : Holds t first = record { stands = stands_first t rules; renderer = begun t; one = refl; stage = Begun refl } in
-    let all = run_keeps may step (Holds t) G (λ s e h on. let one = step_holds t rules s e h on in (one.holds, one.safe)) events first here run.allowed in
-    record {
-      accesses = subst (Every G) (sym run.accesses) all.1;
-      kept = record {
-        long = ap (λ s. length s.memory) run.last ∙ run_fixed step (λ s. length s.memory) step_length events first;
-        same = λ p out. ap (λ s. slice_index s.memory p) run.last
-            ∙ run_misses step (λ s. s.memory) p (λ s e misses. step_kept s e p misses) events first (all_safe_miss jobs p out (found_by step first events) all.1);
-      };
-    }
+unit_looks : (L : ℕ → ℕ → Type 0) (u : Units) (unit : Actor) (m : List ℕ) → GlancesIn L (unit_ready u unit) m
+unit_looks L u TheRenderer m = renderer_looks L u (renderer_job u.jobs) m
+unit_looks L u Binner m = tt
+unit_looks L u (Qpu q) m = tt
+unit_looks L u (Tmu q n) m = tt
+
+-- the units owe what makes a thin job safe
+thin_owes : (t : Thin) → KeepsRules t → Owes ready turn (thin_rights t) (joined (thin_rights t)) (thin_memory t) (UnitsFine t)
+unfolding ready turn
+thin_owes t rules = record {
+  looks = λ u m e fine kept. unit_looks (Inside (joined (thin_rights t))) u e.unit m;
+  keeps = λ u m e fine kept on.
+      let P : Units → Type 0 = λ v. IsTrue (glanced (unit_ready v e.unit) m) → TurnKeeps t v e.unit e.words m in
+      subst P (sym fine.one) (λ on_lone. unit_keeps t rules fine.renderer e.unit e.words m (stands_kept t rules m kept) fine.stage on_lone) on;
+}
+
+thin_fine : (t : Thin) → UnitsFine t (units_start (thin_start t ∷ []))
+thin_fine t = record { renderer = begun t; one = refl; stage = Begun refl }
 
 pub thin_is_safe : (t : Thin) → KeepsRules t → AreSafe (thin_rights t) (thin_memory t) (thin_start t ∷ [])
-thin_is_safe t rules = record { every_run = λ events found u run. thin_run t rules events found u run }
+thin_is_safe t rules = safe_law ready turn (thin_rights t) (joined (thin_rights t)) (thin_memory t) (UnitsFine t) (units_start (thin_start t ∷ [])) (thin_owes t rules) (thin_fine t)
+
+pub thin_is_same : (t : Thin) → KeepsRules t → AreSame (thin_rights t) (thin_memory t) (thin_start t ∷ [])
+thin_is_same t rules = same_law ready turn (thin_rights t) (joined (thin_rights t)) (thin_memory t) (UnitsFine t) (units_start (thin_start t ∷ [])) (thin_owes t rules) (joined_covers (thin_rights t)) (thin_fine t)

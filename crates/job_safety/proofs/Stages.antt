@@ -1,15 +1,15 @@
 -- Where the renderer of a thin job can stand, and what its next step is.
 use Rattle.std.proofs.Common.{◌≡◌, ◌≤◌, ◌<◌, ℕ, zero, suc, ◌+◌, ◌*◌, inl, inr, List, slice_index, Some, ◌∙◌, ap, arith}
 use Rattle.field_words.specs.declared.access.Way.TheVariants.{Read, Write}
-use Rattle.machine_plan.specs.Regions.{LiesIn, IsSafeAccess, IsOutside}
+use Rattle.machine_plan.specs.Regions.{LiesIn, Inside, joined, IsSafeAccess, IsOutside}
 use Rattle.machine_plan.specs.Plan.{Keeps, access}
 use Rattle.list_machine.specs.declared.state.Renderer.{Renderer}
 use Rattle.list_machine.specs.declared.state.Rows.{Rows}
 use Rattle.list_machine.specs.Packet.{with_frame, with_tile}
 use Rattle.list_machine.specs.Store.{rows_of}
+use Rattle.list_machine.specs.Lists.{renderer_start}
 use Rattle.list_machine.specs.Renderer.{renderer_of, store_plan, renderer_plan}
 use Rattle.list_machine.proofs.Keeping.{packet_keeps, frame_keeps, tile_keeps, store_keeps, raster_keeps}
-use Rattle.machine.specs.State.{renderer_start}
 use Rattle.thin_job.specs.declared.thin.Thin.{Thin}
 use Rattle.thin_job.specs.Thin.{color_place, raster_size, KeepsRules}
 use Rattle.thin_job.specs.Memory.{thin_list}
@@ -58,25 +58,29 @@ list_outside t rules i below zero (inr (inl lies)) = absurd (omega (arith, lies.
 list_outside t rules i below zero (inr (inr none)) = absurd none
 list_outside t rules i below (suc j) none = absurd none
 
--- what is kept along each step: safe accesses, and a stage at the end
+-- a look at the list lies in the job's region
+list_look : (t : Thin) (p n : ℕ) → LiesIn p n (interval t.regions.lists_place 15) → Inside (joined (thin_rights t)) p n
+list_look t p n lies = inr (inr (inr (inr (inr (inl lies)))))
+
+-- what is kept along each step: looks in the region, safe accesses, and a stage at the end
 abbrev pub StepKeeps : Thin → Renderer → List ℕ → List ℕ → Type 0
-StepKeeps t r words m = Keeps (renderer_of 0) (λ p n. Unit {0}) (IsSafeAccess (thin_rights t)) (λ k next. Stage t next) (renderer_plan r words) m
+StepKeeps t r words m = Keeps (renderer_of 0) (Inside (joined (thin_rights t))) (IsSafeAccess (thin_rights t)) (λ k next. Stage t next) (renderer_plan r words) m
 
 pub begun_keeps : (t : Thin) → KeepsRules t → (words m : List ℕ) → Stands t m → StepKeeps t (begun t) words m
 begun_keeps t rules words m stands =
-    let L = λ (p n : ℕ). Unit {0} in
+    let L = Inside (joined (thin_rights t)) in
     let G = IsSafeAccess (thin_rights t) in
     let P = λ (k : List ℕ) (next : Renderer). Stage t next in
     let packet = bytes_at (thin_list t) 0 11 in
     let past : Renderer = record (begun t) { place = t.regions.lists_place + 11 } in
     let sets : with_frame past packet ≡ framed t = ap (λ f. record past { frame = Some f }) (frame_is t rules) in
-    packet_keeps (renderer_of 0) L G P (begun t) words m 11 packet (lengths_are t m stands).first (first_packet t m stands) tt
+    packet_keeps (renderer_of 0) L G P (begun t) words m 11 packet (lengths_are t m stands).first (first_packet t m stands) (list_look t t.regions.lists_place 1 (record { from = omega arith; upto = omega arith }))
     (read_safe t t.regions.lists_place 11 (record { from = omega arith; upto = omega arith }))
     (frame_keeps (renderer_of 0) L G P past words m packet (first_opcode t) (Framed sets))
 
 pub framed_keeps : (t : Thin) → KeepsRules t → (words m : List ℕ) → Stands t m → StepKeeps t (framed t) words m
 framed_keeps t rules words m stands =
-    let L = λ (p n : ℕ). Unit {0} in
+    let L = Inside (joined (thin_rights t)) in
     let G = IsSafeAccess (thin_rights t) in
     let P = λ (k : List ℕ) (next : Renderer). Stage t next in
     let packet = bytes_at (thin_list t) 11 3 in
@@ -86,7 +90,7 @@ framed_keeps t rules words m stands =
     let at : t.regions.lists_place + 11 + 3 ≡ t.regions.lists_place + 14 = omega arith in
     let sets : with_tile past packet ≡ tiled t =
     ap (λ n. record past { tile_x = n; tile_y = slice_index packet 2 }) x ∙ (ap (λ n. record past { tile_x = 0; tile_y = n }) y ∙ ap (λ n. record (framed t) { place = n }) at) in
-    packet_keeps (renderer_of 0) L G P (framed t) words m 3 packet (lengths_are t m stands).second (second_packet t m stands) tt
+    packet_keeps (renderer_of 0) L G P (framed t) words m 3 packet (lengths_are t m stands).second (second_packet t m stands) (list_look t (t.regions.lists_place + 11) 1 (record { from = omega arith; upto = omega arith }))
     (read_safe t (t.regions.lists_place + 11) 3 (record { from = omega arith; upto = omega arith }))
     (tile_keeps (renderer_of 0) L G P past words m packet (second_opcode t) (Tiled sets))
 
@@ -102,7 +106,7 @@ row_lies t rules rows are k below =
 pub tiled_keeps : (t : Thin) → KeepsRules t → (words m : List ℕ) → Stands t m → StepKeeps t (tiled t) words m
 unfolding store_plan
 tiled_keeps t rules words m stands =
-    let L = λ (p n : ℕ). Unit {0} in
+    let L = Inside (joined (thin_rights t)) in
     let G = IsSafeAccess (thin_rights t) in
     let P = λ (k : List ℕ) (next : Renderer). Stage t next in
     let packet = bytes_at (thin_list t) 14 1 in
@@ -110,7 +114,7 @@ tiled_keeps t rules words m stands =
     let past : Renderer = record (tiled t) { place = t.regions.lists_place + 14 + 1 } in
     let rows = rows_of frame 0 0 in
     let are : RowsAre (color_place t) t.width t.height rows = thin_rows (color_place t) t.width t.height in
-    packet_keeps (renderer_of 0) L G P (tiled t) words m 1 packet (lengths_are t m stands).third (third_packet t m stands) tt
+    packet_keeps (renderer_of 0) L G P (tiled t) words m 1 packet (lengths_are t m stands).third (third_packet t m stands) (list_look t (t.regions.lists_place + 14) 1 (record { from = omega arith; upto = omega arith }))
     (read_safe t (t.regions.lists_place + 14) 1 (record { from = omega arith; upto = omega arith }))
     (store_keeps (renderer_of 0) L G P past words m packet (third_opcode t)
     (raster_keeps (renderer_of 0) L G P frame past words m thin_is_raster

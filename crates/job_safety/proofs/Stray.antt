@@ -7,18 +7,19 @@ use Rattle.machine_plan.specs.Memory.{bytes_at}
 use Rattle.machine_plan.specs.Plan.{access}
 use Rattle.machine_plan.specs.Regions.{Rights}
 use Rattle.machine_plan.specs.Runs.{reached}
+use Rattle.machine_plan.specs.World.{IsSafeRun}
 use Rattle.list_machine.specs.Packet.{packet_length}
 use Rattle.list_machine.specs.Renderer.{renderer_of, packet_plan, renderer_plan}
 use Rattle.machine.specs.State.{State, start_of}
-use Rattle.machine.specs.Step.{Event, may, step}
-use Rattle.job_safety.specs.Safe.{IsSafeRun, AreSafe}
+use Rattle.machine.specs.Step.{Event, ready, turn, step}
+use Rattle.job_safety.specs.Safe.{AreSafe}
 use Rattle.job_safety.specs.Stray.{stray_memory, stray_start}
 
 pub stray_is_unsafe : (jobs : List Rights) → AreSafe jobs stray_memory (stray_start ∷ []) → ⊥
-unfolding may step renderer_plan packet_plan packet_length bytes_at
+unfolding ready turn renderer_plan packet_plan packet_length bytes_at
 stray_is_unsafe jobs safe =
     let event : Event = record { unit = TheRenderer; words = [] } in
     let first : State = start_of stray_memory (stray_start ∷ []) in
     let found : List Access = access (renderer_of 0) Read 0 1 ∷ access (renderer_of 0) Wild 0 0 ∷ [] in
-    let all : IsSafeRun jobs stray_memory found (reached step first (event ∷ [])) = safe.every_run (event ∷ []) found (reached step first (event ∷ [])) (record { allowed = (refl, tt); accesses = refl; last = refl }) in
+    let all : IsSafeRun jobs stray_memory found (reached step first (event ∷ [])).memory = safe.every_run (event ∷ []) found (reached step first (event ∷ [])) (record { allowed = (refl, tt); accesses = refl; last = refl }) in
     all.accesses.1.0.tame refl

@@ -4,7 +4,7 @@ ghost use Rattle.thin_job.specs.declared.thin.Thin.{Thin};
 ghost use Rattle.thin_job.specs.Thin.{KeepsRules};
 ghost use Rattle.thin_job.specs.Memory.{thin_memory};
 ghost use Rattle.machine.specs.State.{start_of};
-ghost use Rattle.job_safety.specs.Safe.{AreSafe};
+ghost use Rattle.job_safety.specs.Safe.{AreSafe, AreSame};
 ghost use Rattle.job_safety.specs.Thin.{thin_rights, thin_start};
 
 use field_words::NoMemory;
@@ -17,6 +17,13 @@ use thin_job::{Thin, build_memory};
 /// buffer, list or tile slot, each write in the buffer or the slot, and no other byte changes.
 pub fn thin_jobs_are_safe()
     ensures { (t : Thin) → KeepsRules t → AreSafe (thin_rights t) (thin_memory t) (thin_start t ∷ []) }
+{}
+
+/// The law that bytes outside what a thin job may reach have no effect: over every memory of that
+/// length that agrees on the job's buffer, list and tile slot, each run of the machine has the same
+/// events and accesses, and leaves the same bytes there.
+pub fn thin_jobs_are_same()
+    ensures { (t : Thin) → KeepsRules t → AreSame (thin_rights t) (thin_memory t) (thin_start t ∷ []) }
 {}
 
 /// The machine in its start state over the memory of a thin job, where every run is safe. It may

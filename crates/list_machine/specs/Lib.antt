@@ -1,3 +1,4 @@
 pub mod Packet
 pub mod Store
 pub mod Renderer
+pub mod Lists

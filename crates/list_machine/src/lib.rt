@@ -8,4 +8,4 @@ mod state;
 mod store;
 
 pub use renderer::step_renderer;
-pub use state::{Frame, Renderer, Rows};
+pub use state::{Frame, Lists, Renderer, Rows};

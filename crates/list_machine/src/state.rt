@@ -22,6 +22,12 @@ pub struct Renderer {
     pub tile_y: u8,
 }
 
+/// What the list units of one job keep. So far this is the renderer.
+#[derive(Clone, Copy, Debug, PartialEq, Eq)]
+pub struct Lists {
+    pub renderer: Renderer,
+}
+
 /// The rows that a store of one tile of a raster frame covers: the place of the first, how many
 /// bytes lie between the starts of two rows, the bytes of each row, and how many rows there are.
 #[derive(Clone, Copy, Debug, PartialEq, Eq)]

@@ -1,2 +1,2 @@
 pub mod Jobs
-pub mod Steps
+pub mod Turns

@@ -1,29 +1,74 @@
--- Which unit may step, for which job, and what a step does.
-use Rattle.std.specs.Prelude.{◌≡◌, ℕ, Bool, false, not, is_some, List, [], Option, Some, None, slice_set}
+-- Which unit may step, for which job, and what a step does. Each unit is one line of `unit_ready` and
+-- one of `unit_turn`.
+use Rattle.std.specs.Prelude.{ℕ, Bool, false, not, is_some, List, Option, Some, None, slice_set}
 use Rattle.field_words.specs.declared.access.Access.{Access}
 use Rattle.field_words.specs.declared.access.Actor.{Actor}
 use Rattle.field_words.specs.declared.access.Actor.TheVariants.{Binner, Renderer as TheRenderer, Qpu, Tmu}
-use Rattle.machine_plan.specs.Plan.{Outcome, carried}
+use Rattle.machine_plan.specs.Plan.{Done}
+use Rattle.machine_plan.specs.Glance.{Glance, Now, glanced}
+use Rattle.machine_plan.specs.World.{mapped, Turn, world_may, world_step}
 use Rattle.machine_plan.specs.Runs.{Moved, Run}
-use Rattle.list_machine.specs.declared.state.Renderer.{Renderer}
-use Rattle.list_machine.specs.Renderer.{renderer_of, renderer_plan, ended}
-use Rattle.machine.specs.State.{State, job_at, renderer_job}
+use Rattle.list_machine.specs.Renderer.{renderer_of}
+use Rattle.list_machine.specs.Lists.{Turned, renderer_ready, renderer_turn, renderer_stopped}
+use Rattle.machine.specs.State.{Units, State, job_at, renderer_job}
 
 -- a unit steps, and these words answer what the hardware leaves open
 pub record Event : Type 0 where
   pub unit : Actor
   pub words : List ℕ
 
--- the renderer may step where it has a job; the other units have no work yet
+-- a list unit has come to this for job j
+abbrev pub with_lists : Units → ℕ → Turned → Units
+with_lists u j turned = record u { jobs = slice_set u.jobs j turned.lists }
+
+-- the renderer may step where it has a job, and is ready for it
+abbrev pub renderer_may : Units → Option ℕ → Glance Bool
+renderer_may u None = Now false
+renderer_may u (Some j) = renderer_ready (job_at u.jobs j)
+
+-- a unit that has no work does nothing
+abbrev pub no_turn : Units → Actor → Turn Units
+no_turn u unit = record { who = record { unit = unit; job = 0 }; plan = Done u; wild = u }
+
+-- the renderer's turn for job j
+abbrev pub renderer_turn_for : Units → ℕ → List ℕ → Turn Units
+renderer_turn_for u j words = record {
+  who = renderer_of j;
+  plan = mapped (with_lists u j) (renderer_turn (job_at u.jobs j) words);
+  wild = with_lists u j (renderer_stopped (job_at u.jobs j));
+}
+
+abbrev pub renderer_turn_of : Units → Option ℕ → List ℕ → Turn Units
+renderer_turn_of u None words = no_turn u TheRenderer
+renderer_turn_of u (Some j) words = renderer_turn_for u j words
+
+-- whether a unit may step; so far the renderer alone has work
+abbrev pub unit_ready : Units → Actor → Glance Bool
+unit_ready u TheRenderer = renderer_may u (renderer_job u.jobs)
+unit_ready u Binner = Now false
+unit_ready u (Qpu q) = Now false
+unit_ready u (Tmu q n) = Now false
+
+-- what a unit would do
+abbrev pub unit_turn : Units → Actor → List ℕ → Turn Units
+unit_turn u TheRenderer words = renderer_turn_of u (renderer_job u.jobs) words
+unit_turn u Binner words = no_turn u Binner
+unit_turn u (Qpu q) words = no_turn u (Qpu q)
+unit_turn u (Tmu q n) words = no_turn u (Tmu q n)
+
+unfoldable pub ready : Units → Event → Glance Bool
+ready u event = unit_ready u event.unit
+
+unfoldable pub turn : Units → Event → Turn Units
+turn u event = unit_turn u event.unit event.words
+
+-- a unit may step
 abbrev pub enabled : State → Actor → Bool
-enabled s TheRenderer = is_some (renderer_job s.jobs)
-enabled s Binner = false
-enabled s (Qpu q) = false
-enabled s (Tmu q n) = false
+enabled s unit = glanced (unit_ready s.units unit) s.memory
 
 -- no job is the renderer's: the other units have no work yet
 abbrev pub finished : State → Bool
-finished s = not (is_some (renderer_job s.jobs))
+finished s = not (is_some (renderer_job s.units.jobs))
 
 -- the number, or 0 for a unit without a job
 abbrev pub number_or_zero : Option ℕ → ℕ
@@ -32,54 +77,19 @@ number_or_zero (Some j) = j
 
 -- the job for which a unit steps
 abbrev pub job_of : State → Actor → ℕ
-job_of s TheRenderer = number_or_zero (renderer_job s.jobs)
+job_of s TheRenderer = number_or_zero (renderer_job s.units.jobs)
 job_of s Binner = 0
 job_of s (Qpu q) = 0
 job_of s (Tmu q n) = 0
 
--- what the renderer keeps after a step: a wild step ends its work
-abbrev pub goes_on : Renderer → Option Renderer → Renderer
-goes_on r None = ended r
-goes_on r (Some next) = next
-
--- the renderer has done this for job j
-abbrev pub with_renderer : State → ℕ → Outcome Renderer → Moved State
-with_renderer s j o =
-    record {
-      accesses = o.accesses;
-      state = record { memory = o.memory; jobs = slice_set s.jobs j (record { renderer = goes_on (job_at s.jobs j).renderer o.result }) };
-    }
-
--- the renderer steps for job j
-abbrev pub renderer_moved : State → ℕ → List ℕ → Moved State
-renderer_moved s j words = with_renderer s j (carried (renderer_of j) (renderer_plan (job_at s.jobs j).renderer words) s.memory)
-
-abbrev pub stays : State → Moved State
-stays s = record { accesses = []; state = s }
-
-abbrev pub renderer_step : State → Option ℕ → List ℕ → Moved State
-renderer_step s None words = stays s
-renderer_step s (Some j) words = renderer_moved s j words
-
-abbrev pub unit_step : State → Actor → List ℕ → Moved State
-unit_step s TheRenderer words = renderer_step s (renderer_job s.jobs) words
-unit_step s Binner words = stays s
-unit_step s (Qpu q) words = stays s
-unit_step s (Tmu q n) words = stays s
-
 -- an event may happen where its unit may step
-unfoldable pub may : State → Event → Bool
-may s event = enabled s event.unit
+abbrev pub may : State → Event → Bool
+may = world_may ready
 
 -- the step of an event
-unfoldable pub step : State → Event → Moved State
-step s event = unit_step s event.unit event.words
+abbrev pub step : State → Event → Moved State
+step = world_step turn
 
 -- a run of the machine
 abbrev pub IsRun : State → List Event → List Access → State → Type 0
 IsRun s events found t = Run may step s events found t
-
--- what a step leaves: its accesses in order, and the next state
-pub record Moves (moved : Moved State) (accesses : List Access) (s : State) : Type 0 where
-  pub accesses_are : accesses ≡ moved.accesses
-  pub state_is : s ≡ moved.state

@@ -3,7 +3,7 @@ ghost use Rattle.std.specs.Prelude.{◌≡◌, ◌≤◌, ◌<◌, length, map, 
 ghost use Rattle.machine.specs.State.{job_start, IsBounded, AreJobs};
 
 use field_words::NoMemory;
-use list_machine::Renderer;
+use list_machine::{Lists, Renderer};
 use std::alloc::Global;
 
 /// Where a job's binner list and renderer list stand in memory, and their lengths.
@@ -15,18 +15,12 @@ pub struct Start {
     pub render_len: u32,
 }
 
-/// What the machine keeps for one job.
-#[derive(Clone, Copy, Debug, PartialEq, Eq)]
-pub struct JobState {
-    pub renderer: Renderer,
-}
-
 /// A job at its start: its renderer stands at the beginning of its list, and all else is empty.
-fn started(start: &Start) -> JobState
+fn started(start: &Start) -> Lists
     ensures value { result ≡ job_start start.now }
     ensures bounded { IsBounded result }
 {
-    JobState {
+    Lists {
         renderer: Renderer {
             place: start.render_place as u64,
             end: start.render_place as u64 + start.render_len as u64,
@@ -38,7 +32,7 @@ fn started(start: &Start) -> JobState
 }
 
 /// Each job at its start.
-pub(crate) fn all_started(alloc: Global, starts: &[Start]) -> Result<Vec<JobState>, NoMemory>
+pub(crate) fn all_started(alloc: Global, starts: &[Start]) -> Result<Vec<Lists>, NoMemory>
     requires some { 1 ≤ length starts.now }
     requires few { length starts.now ≤ 8 }
     ensures value { IfOk result (λ jobs. jobs.items ≡ map job_start starts.now) }

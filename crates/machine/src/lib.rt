@@ -7,5 +7,5 @@ mod machine;
 #[cfg(test)]
 mod tests;
 
-pub use job::{JobState, Start};
+pub use job::Start;
 pub use machine::{Machine, Stepped};

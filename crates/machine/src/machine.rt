@@ -1,14 +1,18 @@
 //! The machine and its steps.
-ghost use Rattle.std.specs.Prelude.{◌≡◌, ◌≤◌, ◌<◌, ◌↔◌, ◌∷◌, [], IsTrue, false, length, IfOk, IfSome, All, Some, ◌+◌, ◌^◌};
+ghost use Rattle.std.specs.Prelude.{◌≡◌, ◌≤◌, ◌<◌, ◌∷◌, [], IsTrue, true, false, length, option_map, unwrap_or, IfOk, IfSome, All, Some, ◌+◌, ◌^◌};
 ghost use Rattle.arrayvec.specs.ArrayVec.{array_vec_len};
+ghost use Rattle.machine_plan.specs.World.{Moves, turned};
+ghost use Rattle.machine_plan.specs.Glance.{glanced};
+ghost use Rattle.list_machine.specs.Lists.{renders, with_renderer};
+ghost use Rattle.list_machine.specs.Renderer.{ended};
 ghost use Rattle.machine.specs.State.{start_of, renderer_job, IsBounded};
-ghost use Rattle.machine.specs.Step.{enabled, finished, goes_on, renderer_moved, renderer_step, step, Moves};
+ghost use Rattle.machine.specs.Step.{enabled, finished, renderer_may, renderer_turn_for, renderer_turn_of, step};
 ghost use Rattle.field_words.specs.declared.access.Actor.TheVariants.{Renderer as TheRenderer};
 
-use crate::job::{JobState, Start, all_started};
+use crate::job::{Start, all_started};
 use arrayvec::ArrayVec;
 use field_words::{Access, Actor, NoMemory};
-use list_machine::{Renderer, step_renderer};
+use list_machine::{Lists, Renderer, step_renderer};
 use phys_mem::PhysMem;
 use std::alloc::Global;
 use std::marker::Model;
@@ -22,11 +26,11 @@ pub enum Stepped {
     Done,
 }
 
-/// The machine: its memory, and what it keeps for each job.
+/// The machine: its memory, and what its units keep for each job.
 #[derive(Drop)]
 pub struct Machine {
     memory: PhysMem,
-    jobs: Vec<JobState>,
+    jobs: Vec<Lists>,
 }
 
 impl Model for Machine {
@@ -34,7 +38,7 @@ impl Model for Machine {
 
     ghost Value = { State };
 
-    ghost view = { λ m. record { memory = m.memory; jobs = m.jobs.items } };
+    ghost view = { λ m. record { memory = m.memory; units = record { jobs = m.jobs.items } } };
 
     ghost invariant = { λ m. AreJobs m.jobs.items };
 }
@@ -61,11 +65,21 @@ impl Machine {
 
     /// The job for which the renderer steps: the least one with work left for it.
     fn renderer_job(&self) -> Option<usize>
-        ensures { result ≡ renderer_job self.now.jobs }
+        ensures { result ≡ renderer_job self.now.units.jobs }
     {
         self.jobs
             .iter()
             .position(|job| job.renderer.place < job.renderer.end)
+    }
+
+    /// Whether the renderer may step: it has a job, and is ready for it.
+    fn renderer_may(&self) -> bool
+        ensures { result ≡ glanced (renderer_may self.now.units (renderer_job self.now.units.jobs)) self.now.memory }
+    {
+        match self.renderer_job() {
+            None => false,
+            Some(job) => renders(&self.jobs[job]),
+        }
     }
 
     /// Whether the unit may step.
@@ -73,7 +87,7 @@ impl Machine {
         ensures { result ≡ enabled self.now unit }
     {
         match unit {
-            Actor::Renderer => self.renderer_job().is_some(),
+            Actor::Renderer => self.renderer_may(),
             _ => false,
         }
     }
@@ -90,7 +104,6 @@ impl Machine {
     ///
     /// `NotEnabled` comes exactly where the unit is not enabled, and then nothing else has changed.
     /// A step takes no memory.
-    #[tactic(auto, unfolding(crate::specs::Step::step))]
     pub fn step(
         &mut self,
         unit: Actor,
@@ -100,58 +113,73 @@ impl Machine {
         ensures done { IsTrue (enabled self.old unit) → result ≡ Stepped.Done }
         ensures refused { enabled self.old unit ≡ false → result ≡ Stepped.NotEnabled }
         ensures same { result ≡ Stepped.NotEnabled → self.new ≡ self.old }
-        ensures moved { Moves (step self.old (record { unit = unit; words = words.now })) accesses.new.items self.new }
+        ensures moved { result ≡ Stepped.Done → Moves (step self.old (record { unit = unit; words = words.now })) accesses.new.items self.new }
     {
         accesses.clear();
+        if !self.enabled(unit) {
+            return Stepped::NotEnabled;
+        }
+        self.take_turn(unit, words, accesses);
+        Stepped::Done
+    }
+
+    /// This unit's turn. A unit without work does nothing.
+    #[tactic(auto, unfolding(crate::specs::Step::turn))]
+    fn take_turn(&mut self, unit: Actor, words: &[u32], accesses: &mut ArrayVec<Access, 272>)
+        requires { accesses.old.items ≡ [] }
+        ensures { Moves (step self.old (record { unit = unit; words = words.now })) accesses.new.items self.new }
+    {
         match unit {
-            Actor::Renderer => self.step_renderer(words, accesses),
-            _ => Stepped::NotEnabled,
+            Actor::Renderer => self.take_renderer_turn(words, accesses),
+            _ => {}
         }
     }
 
-    /// One step of the renderer for its job.
-    fn step_renderer(&mut self, words: &[u32], accesses: &mut ArrayVec<Access, 272>) -> Stepped
+    /// The renderer's turn, for its job.
+    fn take_renderer_turn(&mut self, words: &[u32], accesses: &mut ArrayVec<Access, 272>)
         requires { accesses.old.items ≡ [] }
-        ensures done { IsTrue (enabled self.old TheRenderer) → result ≡ Stepped.Done }
-        ensures refused { enabled self.old TheRenderer ≡ false → result ≡ Stepped.NotEnabled }
-        ensures same { result ≡ Stepped.NotEnabled → self.new ≡ self.old }
-        ensures moved { Moves (renderer_step self.old (renderer_job self.old.jobs) words.now) accesses.new.items self.new }
+        ensures { Moves (turned self.old (renderer_turn_of self.old.units (renderer_job self.old.units.jobs) words.now)) accesses.new.items self.new }
     {
         match self.renderer_job() {
-            None => Stepped::NotEnabled,
-            Some(job) => {
-                self.render(job, words, accesses);
-                Stepped::Done
-            }
+            None => {}
+            Some(job) => self.render(job, words, accesses),
         }
     }
 
     /// One step of the renderer for this job, which has work left for it.
     fn render(&mut self, job: usize, words: &[u32], accesses: &mut ArrayVec<Access, 272>)
         requires empty { accesses.old.items ≡ [] }
-        requires chosen { renderer_job self.old.jobs ≡ Some job }
-        ensures { Moves (renderer_moved self.old job words.now) accesses.new.items self.new }
+        requires chosen { renderer_job self.old.units.jobs ≡ Some job }
+        ensures { Moves (turned self.old (renderer_turn_for self.old.units job words.now)) accesses.new.items self.new }
     {
-        let renderer = self.jobs[job].renderer;
-        let next = step_renderer(renderer, words, job as u8, &mut self.memory, accesses);
-        self.jobs[job].renderer = after(renderer, next);
+        let lists = self.jobs[job];
+        let next = step_renderer(lists.renderer, words, job as u8, &mut self.memory, accesses);
+        self.jobs[job] = rendered(lists, next);
     }
 }
 
-/// What the renderer keeps after a step: a wild step ends its work.
-fn after(renderer: Renderer, next: Option<Renderer>) -> Renderer
-    requires { IfSome next (λ kept. (kept.end ≡ renderer.end) × (kept.place ≤ renderer.place + 14)) }
-    ensures value { result ≡ goes_on renderer next }
-    ensures bounded { renderer.place < renderer.end → renderer.end < 2 ^ 34 → IsBounded (record { renderer = result }) }
+/// Whether the job's renderer is below its list's end.
+fn renders(lists: &Lists) -> bool
+    ensures { result ≡ renders lists.now }
 {
-    match next {
+    lists.renderer.place < lists.renderer.end
+}
+
+/// What a job's list units keep after a step of its renderer: a wild step ends its work.
+fn rendered(lists: Lists, next: Option<Renderer>) -> Lists
+    requires { IfSome next (λ kept. (kept.end ≡ lists.renderer.end) × (kept.place ≤ lists.renderer.place + 14)) }
+    ensures value { result ≡ with_renderer lists (unwrap_or next (ended lists.renderer)) }
+    ensures bounded { lists.renderer.place < lists.renderer.end → lists.renderer.end < 2 ^ 34 → IsBounded result }
+{
+    let renderer = match next {
         Some(kept) => kept,
         None => Renderer {
-            place: renderer.end,
-            end: renderer.end,
-            frame: renderer.frame,
-            tile_x: renderer.tile_x,
-            tile_y: renderer.tile_y,
+            place: lists.renderer.end,
+            end: lists.renderer.end,
+            frame: lists.renderer.frame,
+            tile_x: lists.renderer.tile_x,
+            tile_y: lists.renderer.tile_y,
         },
-    }
+    };
+    Lists { renderer }
 }

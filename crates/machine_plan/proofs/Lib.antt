@@ -2,3 +2,4 @@ pub mod Memory
 pub mod Plans
 pub mod Runs
 pub mod Safe
+pub mod Worlds

@@ -1,6 +1,7 @@
 -- Laws over plans, proved once for all units.
 use Rattle.std.proofs.Common.{◌≡◌, ℕ, List, ◌∷◌, length, slice_index, refl, ◌∙◌, ap, subst}
 use Rattle.field_words.specs.declared.access.Access.{Access}
+use Rattle.field_words.specs.declared.access.Way.{Way}
 use Rattle.field_words.specs.declared.access.Way.TheVariants.{Read, Write, Wild}
 use Rattle.machine_plan.specs.declared.who.Who.{Who}
 use Rattle.machine_plan.specs.Memory.{bytes_at, stored}
@@ -80,3 +81,12 @@ keeps_weaker who L K G H P Q looks good ends Wilds m h = good (access who Wild 0
 keeps_weaker who L K G H P Q looks good ends (Reads p n next) m h = (good (access who Read p n) h.0, keeps_weaker who L K G H P Q looks good ends (next (bytes_at m p n)) m h.1)
 keeps_weaker who L K G H P Q looks good ends (Looks p n next) m h = (looks p n h.0, keeps_weaker who L K G H P Q looks good ends (next (bytes_at m p n)) m h.1)
 keeps_weaker who L K G H P Q looks good ends (Writes p bs next) m h = (good (access who Write p (length bs)) h.0, keeps_weaker who L K G H P Q looks good ends next (stored m p bs) h.1)
+
+-- A law of a unit speaks of the accesses of its own job alone: what is good of each access that this
+-- step can make takes the place of what is kept.
+pub keeps_of : {R : Type 0} (who : Who) (L : ℕ → ℕ → Type 0) (G H : Access → Type 0) (P : List ℕ → R → Type 0) → ((way : Way) (p n : ℕ) → G (access who way p n) → H (access who way p n)) → (plan : Plan R) (m : List ℕ) → Keeps who L G P plan m → Keeps who L H P plan m
+keeps_of who L G H P good (Done r) m h = h
+keeps_of who L G H P good Wilds m h = good Wild 0 0 h
+keeps_of who L G H P good (Reads p n next) m h = (good Read p n h.0, keeps_of who L G H P good (next (bytes_at m p n)) m h.1)
+keeps_of who L G H P good (Looks p n next) m h = (h.0, keeps_of who L G H P good (next (bytes_at m p n)) m h.1)
+keeps_of who L G H P good (Writes p bs next) m h = (good Write p (length bs) h.0, keeps_of who L G H P good next (stored m p bs) h.1)

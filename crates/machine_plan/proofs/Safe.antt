@@ -1,9 +1,26 @@
 -- What safe accesses leave alone.
-use Rattle.std.proofs.Common.{ℕ, List, arith}
+use Rattle.std.proofs.Common.{◌≡◌, ℕ, zero, suc, inl, inr, List, [], ◌∷◌, ◌++◌, sym, subst, arith}
 use Rattle.field_words.specs.declared.access.Access.{Access}
-use Rattle.machine_plan.specs.Regions.{Every, Rights, rights_of, IsSafeAccess, IsOutside, Misses}
+use Rattle.machine_plan.specs.Regions.{Interval, Inside, Every, Rights, rights_of, joined, IsIn, IsSafeAccess, IsSafeIn, IsOutside, Misses}
+use Rattle.machine_plan.specs.World.{Covers}
 use Rattle.machine_plan.proofs.Memory.{inside_part}
 use Rattle.machine_plan.proofs.Runs.{every-weaker}
+
+-- what lies in the first intervals, or in the others, lies in both joined
+inside-front : (rs qs : List Interval) (p n : ℕ) → Inside rs p n → Inside (rs ++ qs) p n
+inside-front [] qs p n none = absurd none
+inside-front (r ∷ rs) qs p n (inl lies) = inl lies
+inside-front (r ∷ rs) qs p n (inr lies) = inr (inside-front rs qs p n lies)
+
+inside-back : (rs qs : List Interval) (p n : ℕ) → Inside qs p n → Inside (rs ++ qs) p n
+inside-back [] qs p n lies = lies
+inside-back (r ∷ rs) qs p n lies = inr (inside-back rs qs p n lies)
+
+-- each job's region lies in the regions of all jobs
+pub joined_covers : (jobs : List Rights) → Covers jobs (joined jobs)
+joined_covers [] j p n none = absurd none
+joined_covers (one ∷ others) zero p n lies = inside-front one.region (joined others) p n lies
+joined_covers (one ∷ others) (suc j) p n lies = inside-back one.region (joined others) p n (joined_covers others j p n lies)
 
 -- a safe access writes no byte that no job may write
 pub safe_misses : (jobs : List Rights) (p : ℕ) → IsOutside jobs p → (a : Access) → IsSafeAccess jobs a → Misses p a
@@ -12,3 +29,11 @@ safe_misses jobs p out a safe writes from before =
 
 pub all_safe_miss : (jobs : List Rights) (p : ℕ) → IsOutside jobs p → (found : List Access) → Every (IsSafeAccess jobs) found → Every (Misses p) found
 all_safe_miss jobs p out found all = every-weaker (IsSafeAccess jobs) (Misses p) (safe_misses jobs p out) found all
+
+-- an access that is safe by the rights of the job that it carries is safe
+pub safe_of : (jobs : List Rights) (one : Rights) (a : Access) → rights_of jobs a.job ≡ one → IsSafeIn one a → IsSafeAccess jobs a
+safe_of jobs one a are safe = record {
+  tame = safe.tame;
+  inside = subst (λ r. IsIn r.region a) (sym are) safe.inside;
+  writes = λ way. subst (λ r. IsIn r.writable a) (sym are) (safe.writes way);
+}

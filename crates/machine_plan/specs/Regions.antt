@@ -1,5 +1,5 @@
 -- Intervals of memory, what a job may reach, and when an access is safe.
-use Rattle.std.specs.Prelude.{◌≡◌, ◌≢◌, ◌≤◌, ◌<◌, ℕ, ◌+◌, ◌⊎◌, List, [], ◌∷◌, length, slice_index, slice_index_or}
+use Rattle.std.specs.Prelude.{◌≡◌, ◌≢◌, ◌≤◌, ◌<◌, ℕ, ◌+◌, ◌⊎◌, List, [], ◌∷◌, ◌++◌, length, slice_index, slice_index_or}
 use Rattle.field_words.specs.declared.access.Access.{Access}
 use Rattle.field_words.specs.declared.access.Way.TheVariants.{Write, Wild}
 
@@ -36,12 +36,23 @@ pub record Rights : Type 0 where
 abbrev pub rights_of : List Rights → ℕ → Rights
 rights_of jobs j = slice_index_or jobs j (record { region = []; writable = [] })
 
+-- the regions of all jobs, joined
+abbrev pub joined : List Rights → List Interval
+joined [] = []
+joined (one ∷ others) = one.region ++ joined others
+
 -- An access is safe where it isn't wild, lies wholly in one interval of the region of the job
 -- that it carries, and, where it writes, in one interval of what that job may write.
 pub record IsSafeAccess (jobs : List Rights) (a : Access) : Type 0 where
   pub tame : a.way ≢ Wild
   pub inside : IsIn (rights_of jobs a.job).region a
   pub writes : a.way ≡ Write → IsIn (rights_of jobs a.job).writable a
+
+-- The same of an access of one job, by what that job may reach.
+pub record IsSafeIn (one : Rights) (a : Access) : Type 0 where
+  pub tame : a.way ≢ Wild
+  pub inside : IsIn one.region a
+  pub writes : a.way ≡ Write → IsIn one.writable a
 
 -- a place that no job may write
 abbrev pub IsOutside : List Rights → ℕ → Type 0

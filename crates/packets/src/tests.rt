@@ -44,6 +44,7 @@ fn lengths(rt: HostRuntime) {
 }
 
 /// Coordinates, a branch and a store, with an empty slot between, behind one byte that stays.
+#[tactic(auto, unfolding(crate::specs::Packet::packet_text, crate::specs::Length::render_taken))]
 #[test]
 fn slots(rt: HostRuntime) {
     let slots = [
@@ -65,7 +66,9 @@ fn slots(rt: HostRuntime) {
         0x00, 0xaa,
     ];
     assert_eq!(rt; out, expected);
-    let Some(Packet::StoreTileBuffer { bits, address }) = decode(&out[9..16]) else {
+    let Some(Packet::StoreTileBuffer { bits, address }) = decode(&[
+        0x1c, 0x12, 0x20, 0x08, 0x90, 0x08, 0x00,
+    ]) else {
         panic!(rt; "no general store");
     };
     assert_eq!(rt; (bits, address), (0x2012, 0x0008_9008));

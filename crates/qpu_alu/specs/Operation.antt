@@ -47,8 +47,10 @@ by_bytes operation a b = from_le_bytes w32 (bytes_of operation (to_le_bytes w32 
 unfoldable pub product_of : ℕ → ℕ → ℕ
 product_of a b = (a % 2 ^ 24 * (b % 2 ^ 24)) % 2 ^ 32
 
--- The result of the add unit's operation, None where it is free. The numbers are the fields of an
--- instruction word.
+-- The result of the add unit's operation, None where it is free. The number is the field of an
+-- instruction word: 0 nop, 12 add, 13 sub, 14 shr, 15 asr, 16 ror, 17 shl, 18 min, 19 max, 20 and,
+-- 21 or, 22 xor, 23 not, 24 clz, 30 v8adds, 31 v8subs. Free are 1 to 8, which compute with floats, and
+-- the numbers without a name.
 unfoldable pub add_result_of : ℕ → ℕ → ℕ → Option ℕ
 add_result_of op a b =
     if op == 0 then Some 0
@@ -69,7 +71,8 @@ add_result_of op a b =
     else (if op == 31 then Some (by_bytes Subtract a b)
     else None)))))))))))))))
 
--- and of the multiply unit's
+-- And of the multiply unit's: 0 nop, 2 mul24, 4 v8min, 5 v8max, 6 v8adds, 7 v8subs. Free are 1, which
+-- multiplies floats, and 3, which multiplies bytes as fractions.
 unfoldable pub mul_result_of : ℕ → ℕ → ℕ → Option ℕ
 mul_result_of op a b =
     if op == 0 then Some 0

@@ -4,6 +4,33 @@ ghost use Rattle.qpu_alu.specs.Operation.{signed_min, signed_max, shifted_signed
 
 use crate::bytes::{ByteOperation, by_bytes};
 
+// Both units' operation 0.
+const NOP: u8 = 0;
+
+// The add unit's operations with a result of the operands alone.
+const ADD: u8 = 12;
+const SUB: u8 = 13;
+const SHR: u8 = 14;
+const ASR: u8 = 15;
+const ROR: u8 = 16;
+const SHL: u8 = 17;
+const MIN: u8 = 18;
+const MAX: u8 = 19;
+const AND: u8 = 20;
+const OR: u8 = 21;
+const XOR: u8 = 22;
+const NOT: u8 = 23;
+const CLZ: u8 = 24;
+const V8ADDS: u8 = 30;
+const V8SUBS: u8 = 31;
+
+// The multiply unit's.
+const MUL24: u8 = 2;
+const V8MIN: u8 = 4;
+const V8MAX: u8 = 5;
+const MUL_V8ADDS: u8 = 6;
+const MUL_V8SUBS: u8 = 7;
+
 /// The lesser of two signed numbers.
 #[tactic(auto, unfolding(crate::specs::Operation::signed_min))]
 fn signed_min(a: u32, b: u32) -> u32
@@ -45,22 +72,22 @@ pub fn add_result(op: u8, a: u32, b: u32) -> Option<u32>
     ensures { result ≡ add_result_of op a b }
 {
     match op {
-        0 => Some(0),
-        12 => Some(a.wrapping_add(b)),
-        13 => Some(a.wrapping_sub(b)),
-        14 => Some(a.wrapping_shr(b)),
-        15 => Some(shifted_signed(a, b)),
-        16 => Some(a.rotate_right(b)),
-        17 => Some(a.wrapping_shl(b)),
-        18 => Some(signed_min(a, b)),
-        19 => Some(signed_max(a, b)),
-        20 => Some(a & b),
-        21 => Some(a | b),
-        22 => Some(a ^ b),
-        23 => Some(!a),
-        24 => Some(a.leading_zeros()),
-        30 => Some(by_bytes(ByteOperation::Add, a, b)),
-        31 => Some(by_bytes(ByteOperation::Subtract, a, b)),
+        NOP => Some(0),
+        ADD => Some(a.wrapping_add(b)),
+        SUB => Some(a.wrapping_sub(b)),
+        SHR => Some(a.wrapping_shr(b)),
+        ASR => Some(shifted_signed(a, b)),
+        ROR => Some(a.rotate_right(b)),
+        SHL => Some(a.wrapping_shl(b)),
+        MIN => Some(signed_min(a, b)),
+        MAX => Some(signed_max(a, b)),
+        AND => Some(a & b),
+        OR => Some(a | b),
+        XOR => Some(a ^ b),
+        NOT => Some(!a),
+        CLZ => Some(a.leading_zeros()),
+        V8ADDS => Some(by_bytes(ByteOperation::Add, a, b)),
+        V8SUBS => Some(by_bytes(ByteOperation::Subtract, a, b)),
         _ => None,
     }
 }
@@ -73,12 +100,12 @@ pub fn mul_result(op: u8, a: u32, b: u32) -> Option<u32>
     ensures { result ≡ mul_result_of op a b }
 {
     match op {
-        0 => Some(0),
-        2 => Some(product(a, b)),
-        4 => Some(by_bytes(ByteOperation::Least, a, b)),
-        5 => Some(by_bytes(ByteOperation::Greatest, a, b)),
-        6 => Some(by_bytes(ByteOperation::Add, a, b)),
-        7 => Some(by_bytes(ByteOperation::Subtract, a, b)),
+        NOP => Some(0),
+        MUL24 => Some(product(a, b)),
+        V8MIN => Some(by_bytes(ByteOperation::Least, a, b)),
+        V8MAX => Some(by_bytes(ByteOperation::Greatest, a, b)),
+        MUL_V8ADDS => Some(by_bytes(ByteOperation::Add, a, b)),
+        MUL_V8SUBS => Some(by_bytes(ByteOperation::Subtract, a, b)),
         _ => None,
     }
 }

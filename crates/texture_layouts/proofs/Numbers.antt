@@ -1,5 +1,5 @@
 -- Rows of at most 65,599 are below 2^49.
-use Rattle.std.proofs.Common.{ℕ, ◌+◌, ◌*◌, ◌^◌, ◌<◌, ◌≤◌, arith}
+use Rattle.std.proofs.Common.{ℕ, ◌*◌, ◌^◌, ◌<◌, ◌≤◌, arith}
 use Rattle.std.proofs.lemmas.Nat.{mul-le}
 
 pub row_limit : (row across : ℕ) → row < 2 ^ 32 → across ≤ 65599 → row * across ≤ 2 ^ 32 * 65599

@@ -3,7 +3,7 @@ use Rattle.std.specs.Prelude.{◌≡◌, ◌≤◌, ◌<◌, ℕ, ◌+◌, ◌==
 use Rattle.std.specs.List.{list_any, range_with_len}
 use Rattle.field_words.specs.Questions.{Question, Ask, first_of}
 use Rattle.texture_layouts.specs.Surface.{IsPixelSize}
-use Rattle.texture_layouts.specs.Setup.{TextureModel, is_cube_word, kind_of, cube_stride_of, texture_of, faces_of, face_place, size_at, size_below}
+use Rattle.texture_layouts.specs.Setup.{TextureModel, is_cube_word, kind_of, cube_stride_of, texture_of, faces_of, face_place, size_at, size_below, level_place_of}
 
 -- U4: cube mode, and both words have a cube stride
 unfoldable pub has_two_strides : ℕ → ℕ → ℕ → Bool
@@ -66,9 +66,9 @@ abbrev pub AnswersLeast : {T : Type 0} → List (Question ℕ) → Result T ℕ 
 AnswersLeast questions (Ok _) = (number : ℕ) → ¬ Stands questions number
 AnswersLeast questions (Err number) = IsLeastRule questions number
 
--- A texture that breaks none of U4 to U9 lies in its buffer: the pixels of each face end there, and
--- no level begins below the buffer, since a face's levels take no more than is below the first face.
-pub record LiesIn (t : TextureModel) (size : ℕ) : Type 0 where
+-- A texture that breaks none of U4 to U9 lies in its buffer: each level of each face, level 0 among
+-- them, begins not below the buffer and ends in it.
+pub record IsInBuffer (t : TextureModel) (size : ℕ) : Type 0 where
   pub pixel : IsPixelSize t.cpp
-  pub faces : (face : ℕ) → face < faces_of t → face_place t face + size_at t 0 ≤ size
-  pub levels : (level : ℕ) → level ≤ t.levels → size_below t level ≤ t.base
+  pub from : (face level : ℕ) → face < faces_of t → level ≤ t.levels → size_below t level ≤ face_place t face
+  pub upto : (face level : ℕ) → face < faces_of t → level ≤ t.levels → level_place_of t face level + size_at t level ≤ size

@@ -5,6 +5,7 @@
 -- image), cube stride 29:12 in pages. A word that isn't there is 0.
 use Rattle.std.specs.Prelude.{◌≡◌, ◌≤◌, ◌⊎◌, ℕ, zero, suc, ◌+◌, ◌*◌, ◌-◌, ◌==◌, ◌||◌, Bool, if◌then◌else◌}
 use Rattle.std.specs.Int.{div_ceil}
+use Rattle.field_words.specs.Sizes.{page_size}
 use Rattle.field_words.specs.Words.{bits_of}
 use Rattle.texture_layouts.specs.declared.surface.Tiling.{Tiling}
 use Rattle.texture_layouts.specs.Surface.{IsPixelSize}
@@ -23,7 +24,7 @@ pub record TextureModel : Type 0 where
   pub is_raster : Bool
 
 unfoldable pub base_of : ℕ → ℕ
-base_of p0 = 4096 * bits_of p0 31 12
+base_of p0 = page_size * bits_of p0 31 12
 
 unfoldable pub is_cube_word : ℕ → Bool
 is_cube_word p0 = bits_of p0 9 9 == 1
@@ -39,7 +40,7 @@ unfoldable pub kind_of : ℕ → ℕ
 kind_of word = bits_of word 31 30
 
 unfoldable pub stride_of : ℕ → ℕ
-stride_of word = 4096 * bits_of word 29 12
+stride_of word = page_size * bits_of word 29 12
 
 -- the stride from a face to the next: that of the word of kind 1, and 0 where there is none
 unfoldable pub cube_stride_of : ℕ → ℕ → ℕ

@@ -1,7 +1,7 @@
 // The rules of textures, U2 to U9.
 ghost use Rattle.std.specs.Prelude.{◌≡◌, OnOk, false, slice_index};
 ghost use Rattle.field_words.specs.Questions.{first_of};
-ghost use Rattle.texture_layouts.specs.Fits.{has_two_strides, lacks_stride, is_unlisted, has_face_past, has_level_below, has_child_image, texture_questions, direct_questions, AnswersFirst, AnswersLeast, LiesIn};
+ghost use Rattle.texture_layouts.specs.Fits.{has_two_strides, lacks_stride, is_unlisted, has_face_past, has_level_below, has_child_image, texture_questions, direct_questions, AnswersFirst, AnswersLeast, IsInBuffer};
 ghost use Rattle.texture_layouts.specs.Setup.{texture_of};
 
 use crate::setup::{Texture, cube_stride, is_cube_word, kind};
@@ -84,7 +84,7 @@ fn texture_fault(words: &[u32; 4], size: u32) -> Option<u8>
 pub fn texture_fits(p: [u32; 4], size: u32) -> Result<(), u8>
     ensures first { AnswersFirst (texture_questions (slice_index p 0) (slice_index p 1) (slice_index p 2) (slice_index p 3) size) result }
     ensures least { AnswersLeast (texture_questions (slice_index p 0) (slice_index p 1) (slice_index p 2) (slice_index p 3) size) result }
-    ensures inside { OnOk result (LiesIn (texture_of (slice_index p 0) (slice_index p 1) (slice_index p 2) (slice_index p 3)) size) }
+    ensures inside { OnOk result (IsInBuffer (texture_of (slice_index p 0) (slice_index p 1) (slice_index p 2) (slice_index p 3)) size) }
 {
     match texture_fault(&p, size) {
         None => Ok(()),

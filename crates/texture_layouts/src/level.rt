@@ -10,7 +10,7 @@ use crate::surface::{Tiling, surface_size, tiling_of};
 /// Level 0 is the texture itself. Level `level` of 1 or more has the least power of two that is at
 /// least the side, shifted right by `level`, and at least 1 pixel.
 #[tactic(auto, unfolding(crate::specs::Level::level_side_of), using(crate::proofs::Powers::shifted))]
-pub fn level_side(side: u32, level: u32) -> u32
+pub(crate) fn level_side(side: u32, level: u32) -> u32
     requires side_from { 1 ≤ side }
     requires side_to { side ≤ 2048 }
     requires level { level ≤ 15 }
@@ -37,7 +37,7 @@ fn power_above(side: u32) -> u32
 /// The tiling of a level of this width and height: a raster texture is raster on each level, and
 /// another is T or Lt by each level's own size.
 #[tactic(auto, unfolding(crate::specs::Level::level_tiling_of))]
-pub fn level_tiling(raster: bool, width: u32, height: u32, cpp: u32) -> Tiling
+pub(crate) fn level_tiling(raster: bool, width: u32, height: u32, cpp: u32) -> Tiling
     requires width_limit { width ≤ 65535 }
     requires height_limit { height ≤ 65535 }
     requires pixel { IsPixelSize cpp }

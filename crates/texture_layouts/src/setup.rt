@@ -6,7 +6,7 @@ ghost use Rattle.texture_layouts.specs.Setup.{base_of, is_cube_word, levels_of, 
 
 use crate::level::{level_side, level_size, level_tiling};
 use crate::surface::Tiling;
-use field_words::field;
+use field_words::{PAGE_SIZE, field};
 use std::marker::Model;
 
 /// Where the pixels of a texture lie, as its four set-up words say.
@@ -191,7 +191,7 @@ fn base(word: u32) -> u32
     ensures value { result ≡ base_of word }
     ensures limit { result ≤ 4294963200 }
 {
-    4096 * field(u64::from(word), 31, 12) as u32
+    PAGE_SIZE * field(u64::from(word), 31, 12) as u32
 }
 
 /// Whether the first set-up word asks for a cube map.
@@ -230,7 +230,7 @@ fn stride(word: u32) -> u32
     ensures value { result ≡ stride_of word }
     ensures limit { result ≤ 1073737728 }
 {
-    4096 * field(u64::from(word), 29, 12) as u32
+    PAGE_SIZE * field(u64::from(word), 29, 12) as u32
 }
 
 /// From the pixels of a face to those of the next; 0 where neither word names a cube stride.

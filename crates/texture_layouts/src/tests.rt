@@ -1,5 +1,6 @@
 // Worked examples of the rules of textures and of where their levels lie.
 use super::*;
+use crate::level::{level_side, level_tiling};
 
 /// The number of the rule that stands, and 0 where none does.
 fn number(answer: Result<(), u8>) -> u8 {

@@ -1,6 +1,6 @@
 use Rattle.std.proofs.Common.{sym}
 use Rattle.texture_layouts.proofs.Least.{texture_least, texture_none}
-use Rattle.texture_layouts.proofs.Inside.{lies_in}
+use Rattle.texture_layouts.proofs.Inside.{in_buffer}
 use Rattle.texture_layouts.proofs.fits.texture_fits.Goals as goal
 
 pub returns-in-None-clause-least : goal.returns-in-None-clause-least
@@ -10,4 +10,4 @@ pub returns-in-Some-clause-least : goal.returns-in-Some-clause-least
 returns-in-Some-clause-least c = texture_least _ _ _ _ _ _ (sym c.in-Some.ensures)
 
 pub returns-in-None-clause-inside : goal.returns-in-None-clause-inside
-returns-in-None-clause-inside c = lies_in _ _ _ _ _ (sym c.in-None.ensures)
+returns-in-None-clause-inside c = in_buffer _ _ _ _ _ (sym c.in-None.ensures)
