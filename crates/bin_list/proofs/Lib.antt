@@ -1,3 +1,5 @@
 pub mod Cutting
 pub mod Inside
 pub mod Walk
+pub mod Facts
+pub mod Plain

@@ -1,5 +1,5 @@
 -- The walk over a list, packet by packet.
-use Rattle.std.proofs.Common.{◌≡◌, ◌≢◌, ◌⊎◌, inl, inr, ℕ, zero, suc, ◌+◌, ◌≤◌, Bool, true, false, List, [], ◌∷◌, ◌++◌, Option, Some, None, IsSome, length, take, drop, refl, sym, ap, subst, arith, ◌∙◌, length-append}
+use Rattle.std.proofs.Common.{◌≡◌, ◌≢◌, ◌⊎◌, inl, inr, ℕ, zero, suc, ◌+◌, ◌≤◌, ◌<◌, Bool, true, false, List, [], ◌∷◌, ◌++◌, Option, Some, None, IsSome, length, take, drop, refl, sym, ap, subst, arith, ◌∙◌, length-append}
 use Rattle.std.specs.Prelude.{if◌then◌else◌, ◌==◌}
 use Rattle.std.proofs.lemmas.List.{places}
 use Rattle.std.proofs.lemmas.Bool.{eqb-false, eqb-true}
@@ -53,6 +53,14 @@ take_some n bytes some long = grind (arith, places)
 pub front_some : (bytes : List ℕ) → 1 ≤ length bytes → 1 ≤ length (front_packet bytes)
 unfolding front_packet
 front_some bytes some = take_some (bin_taken (opcode bytes)) bytes (taken_some (opcode bytes)) some
+
+-- the packet that the loop takes from the bytes that are left
+pub packet_some : (rest packet : List ℕ) → (length rest == 0) ≡ false → packet ≡ front_packet rest → 1 ≤ length packet
+packet_some rest packet test is = let some = front_some rest (some_left rest test) in omega (arith, some, ap length is)
+
+pub less_left : (rest packet later : List ℕ) → (length rest == 0) ≡ false → packet ≡ front_packet rest → later ≡ behind rest → length later < length rest
+less_left rest packet later test is behind_is =
+    let some = front_some rest (some_left rest test) in omega (arith, some, front_behind rest, ap length behind_is)
 
 -- One packet is cut.
 pub record IsCut (n : ℕ) (fuel : ℕ) (rest : List ℕ) : Type 0 where
@@ -152,6 +160,19 @@ here_fine : (given : GivenModel) (earlier : List (List ℕ)) (seen : Seen) (p : 
 here_fine given earlier seen p is none fine =
     passes (asked given earlier) (answered (fault (place earlier)) (packet_questions given (seen_before earlier) p)) fine
     ∙ answered_none (fault (place earlier)) (packet_questions given (seen_before earlier) p) (subst (λ s. first_of (packet_questions given s p) ≡ None) is none)
+
+-- the packet at the front fits the list, and the window
+pub place_fits : (given : GivenModel) (layout : Layout) (list window rest : List ℕ) (seen : Seen) (end : ℕ) (out : List ℕ) (done : List State) (current : Option State)
+    → IsUnderway given layout list window rest seen end out done current → (packet : List ℕ) → packet ≡ front_packet rest
+    → seen.at + length packet ≤ length list
+place_fits given layout list window rest seen end out done current under packet is =
+    omega (arith, under.inside, front_behind rest, ap length is)
+
+pub room_fits : (given : GivenModel) (layout : Layout) (list window rest : List ℕ) (seen : Seen) (end : ℕ) (out : List ℕ) (done : List State) (current : Option State)
+    → IsUnderway given layout list window rest seen end out done current → layout.bin + length list ≤ length window
+    → (packet : List ℕ) → packet ≡ front_packet rest → end + length packet ≤ length out
+room_fits given layout list window rest seen end out done current under room packet is =
+    omega (arith, under.end_is, under.near, under.inside, under.room, front_behind rest, ap length is, room)
 
 -- A rule that stands at the packet at the front is the first of all.
 pub stops_at : (given : GivenModel) (layout : Layout) (list window rest : List ℕ) (seen : Seen) (end : ℕ) (out : List ℕ) (done : List State) (current : Option State)

@@ -1,8 +1,8 @@
 -- What a packet without faults promises to its emission.
-use Rattle.std.specs.Prelude.{◌≡◌, ◌≤◌, ℕ, ◌+◌, ◌*◌, ◌<◌, ◌^◌, List, length, slice_index}
+use Rattle.std.specs.Prelude.{◌≡◌, ◌≢◌, ◌≤◌, ℕ, ◌+◌, ◌*◌, ◌<◌, ◌^◌, List, length, slice_index}
 use Rattle.field_words.specs.Words.{u32_at}
 use Rattle.buffer_table.specs.Handles.{IsData}
-use Rattle.packets.specs.Opcode.{indexed_primitive_list, array_primitive_list, tile_binning_mode}
+use Rattle.packets.specs.Opcode.{flush, start_tile_binning, increment_semaphore, indexed_primitive_list, array_primitive_list, gl_shader_state, tile_binning_mode, buffer_handles}
 use Rattle.packets.specs.Length.{bin_length}
 use Rattle.tile_memory.specs.Slots.{alloc_offset}
 use Rattle.relocation.specs.declared.layout.Layout.{Layout}
@@ -18,6 +18,19 @@ pub record IsFine (given : GivenModel) (seen : Seen) (packet : List ℕ) : Type 
   pub indexes : opcode packet ≡ indexed_primitive_list → u32_at packet 6 ≤ (index_buffer given seen).size
   pub array : opcode packet ≡ array_primitive_list → u32_at packet 6 + u32_at packet 2 < 2 ^ 32
   pub grid : opcode packet ≡ tile_binning_mode → alloc_offset (slice_index packet 13 * slice_index packet 14) ≤ 524288
+
+-- a whole packet of a kind that has no rules of its own, tells nothing to later packets, and is copied
+pub record IsPlain (packet : List ℕ) : Type 0 where
+  pub known : bin_length (opcode packet) ≢ 0
+  pub whole : bin_length (opcode packet) ≤ length packet
+  pub no_flush : opcode packet ≢ flush
+  pub no_start : opcode packet ≢ start_tile_binning
+  pub no_increment : opcode packet ≢ increment_semaphore
+  pub no_indexes : opcode packet ≢ indexed_primitive_list
+  pub no_array : opcode packet ≢ array_primitive_list
+  pub no_state : opcode packet ≢ gl_shader_state
+  pub no_config : opcode packet ≢ tile_binning_mode
+  pub no_handles : opcode packet ≢ buffer_handles
 
 -- there are no more states than bytes before, and their records take 144 bytes at most
 pub record IsBounded (seen : Seen) : Type 0 where

@@ -6,3 +6,4 @@ pub mod Packets
 pub mod Rules
 pub mod Seen
 pub mod States
+pub mod Told

@@ -91,3 +91,7 @@ seen_after seen packet = record {
   tiles_x = (if opcode packet == tile_binning_mode then slice_index packet 13 else seen.tiles_x);
   tiles_y = (if opcode packet == tile_binning_mode then slice_index packet 14 else seen.tiles_y);
 }
+
+-- the same where the packet tells nothing to later ones but its length and its opcode
+unfoldable pub seen_past : Seen → List ℕ → Seen
+seen_past seen packet = record seen { at = seen.at + length packet; last = opcode packet; before_last = seen.last }

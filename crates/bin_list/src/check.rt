@@ -13,11 +13,11 @@ ghost use Rattle.bin_list.specs.Info.{IsInfo, IsInfoOf, IsRead, MeetsState};
 ghost use Rattle.packets.specs.Writing.{written};
 
 use crate::cut::split_front;
-use crate::emit::put_packet;
+use crate::emit::{put, put_packet};
 use crate::fault::ListFault;
 use crate::given::Given;
 use crate::info::BinInfo;
-use crate::rules::{end_fault, packet_fault};
+use crate::rules::{end_fault, is_plain, packet_fault};
 use crate::seen::Seen;
 use crate::states::States;
 use buffer_table::{Handles, Table};
@@ -55,6 +55,12 @@ fn read_packets(
     let mut rest = list;
     while !rest.is_empty() {
         let (packet, behind) = split_front(rest);
+        if is_plain(packet) {
+            end = put(out, end, packet);
+            seen = seen.past(packet);
+            rest = behind;
+            continue;
+        }
         if let Some(number) = packet_fault(given, &seen, packet) {
             return Err(Stop::Fault(ListFault {
                 number,

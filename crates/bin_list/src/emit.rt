@@ -18,12 +18,17 @@ use relocation::Layout;
 use tile_memory::{SLOT_SIZE, alloc_offset};
 
 /// Puts bytes at a place of the window, and gives the place behind them.
-#[tactic(auto, unfolding(packets::specs::Writing::written))]
-fn put(out: &mut [u8], at: usize, bytes: &[u8]) -> usize
+#[inline]
+#[tactic(auto, unfolding(packets::specs::Writing::written), using(crate::proofs::Inside::one_byte))]
+pub(crate) fn put(out: &mut [u8], at: usize, bytes: &[u8]) -> usize
     requires room { at + length bytes.now ≤ length out.old }
     ensures text { out.new ≡ written out.old at bytes.now }
     ensures end { result ≡ at + length bytes.now }
 {
+    if bytes.len() == 1 {
+        out[at] = bytes[0];
+        return at + 1;
+    }
     let end = at + bytes.len();
     out[at..end].copy_from_slice(bytes);
     end

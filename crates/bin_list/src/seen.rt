@@ -3,7 +3,7 @@ ghost use Rattle.std.specs.Prelude.{◌≡◌, ◌≤◌, ◌+◌, [], length};
 ghost use Rattle.packets.specs.Length.{bin_length};
 ghost use Rattle.bin_list.specs.Packets.{opcode};
 ghost use Rattle.bin_list.specs.Fine.{IsBounded};
-ghost use Rattle.bin_list.specs.Seen.{seen_before, seen_after};
+ghost use Rattle.bin_list.specs.Seen.{seen_before, seen_after, seen_past};
 
 use crate::cut::{byte_at, opcode, word_at};
 use crate::record::record_room;
@@ -77,6 +77,23 @@ impl Seen {
             BUFFER_HANDLES => seen.index_handle = word_at(packet, 1),
             _ => {}
         }
+        seen
+    }
+
+    /// Behind this packet, which tells nothing to later ones.
+    #[inline]
+    #[tactic(auto, unfolding(crate::specs::Seen::seen_past))]
+    pub(crate) fn past(&self, packet: &[u8]) -> Seen
+        requires some { 1 ≤ length packet.now }
+        requires place { self.now.at + length packet.now ≤ 1048576 }
+        requires bounded { IsBounded self.now }
+        ensures value { result ≡ seen_past self.now packet.now }
+        ensures bounded { IsBounded result }
+    {
+        let mut seen = *self;
+        seen.at += packet.len() as u32;
+        seen.before_last = self.last;
+        seen.last = opcode(packet);
         seen
     }
 }

@@ -1,7 +1,9 @@
-use Rattle.std.proofs.Common.{◌<◌, length, arith, ap, sym, ◌∙◌, refl}
+use Rattle.std.proofs.Common.{◌≡◌, ◌≤◌, ◌+◌, ◌<◌, ℕ, List, length, arith, ap, sym, ◌∙◌, refl, inl}
 use Rattle.field_words.specs.Questions.{first_of}
+use Rattle.packets.specs.Writing.{written}
 use Rattle.bin_list.specs.Rules.{packet_questions}
-use Rattle.bin_list.proofs.Walk.{begins, stops_at, goes_on, meets, through, front_some, front_behind, some_left, none_left}
+use Rattle.bin_list.proofs.Plain.{plain_none, plain_text, plain_seen, plain_states}
+use Rattle.bin_list.proofs.Walk.{begins, stops_at, goes_on, meets, through, some_left, none_left, packet_some, less_left, place_fits, room_fits}
 use Rattle.bin_list.proofs.check.read_packets.Goals as goal
 
 pub loop-rest-init : goal.loop-rest-init
@@ -10,10 +12,56 @@ loop-rest-init c =
     c.new-states.result.done.items c.new-states.result.current
     c.requires.room c.nothing-seen.ensures refl c.new-states.ensures.done c.new-states.ensures.current
 
+pub is_plain-requires : goal.is_plain-requires
+is_plain-requires c = packet_some c.loop-rest.rest.now c.split_front.result.0.now (sym c.is_empty.ensures ∙ c.loop-rest-test.true) c.split_front.ensures.packet
+
+pub put-end-requires : goal.put-end-requires
+put-end-requires c =
+    record {
+      room =
+          room_fits c.args.given.now c.args.layout.now c.args.list.now c.args.out.now c.loop-rest.rest.now c.loop-rest.seen c.loop-rest.end c.loop-rest.out
+          c.loop-rest.states.done.items c.loop-rest.states.current c.loop-rest.invariant c.requires.room c.split_front.result.0.now c.split_front.ensures.packet;
+    }
+
+pub past-seen-requires-clause-some : goal.past-seen-requires-clause-some
+past-seen-requires-clause-some c =
+    packet_some c.loop-rest.rest.now c.split_front.result.0.now (sym c.is_empty.ensures ∙ c.loop-rest-test.true) c.split_front.ensures.packet
+
+pub past-seen-requires-clause-place : goal.past-seen-requires-clause-place
+past-seen-requires-clause-place c =
+    let fits =
+    place_fits c.args.given.now c.args.layout.now c.args.list.now c.args.out.now c.loop-rest.rest.now c.loop-rest.seen c.loop-rest.end c.loop-rest.out
+    c.loop-rest.states.done.items c.loop-rest.states.current c.loop-rest.invariant c.split_front.result.0.now c.split_front.ensures.packet in
+    omega (arith, fits, c.requires.short)
+
+pub loop-rest-smaller-then-is_plain : goal.loop-rest-smaller-then-is_plain
+loop-rest-smaller-then-is_plain c =
+    less_left c.loop-rest.rest.now c.split_front.result.0.now c.split_front.result.1.now (sym c.is_empty.ensures ∙ c.loop-rest-test.true)
+    c.split_front.ensures.packet c.split_front.ensures.rest
+
+-- A packet that is only copied: no rule of it stands, and it is its own text.
+pub loop-rest-preserved-then-is_plain : goal.loop-rest-preserved-then-is_plain
+loop-rest-preserved-then-is_plain c =
+    let given = c.args.given.now in
+    let seen = c.loop-rest.seen in
+    let packet = c.split_front.result.0.now in
+    let plain = c.if-is_plain.ensures refl in
+    let text = plain_text given c.args.layout.now seen packet plain in
+    let some = some_left c.loop-rest.rest.now (sym c.is_empty.ensures ∙ c.loop-rest-test.true) in
+    goes_on given c.args.layout.now c.args.list.now c.args.out.now c.loop-rest.rest.now seen c.loop-rest.end c.loop-rest.out
+    c.loop-rest.states.done.items c.loop-rest.states.current c.loop-rest.invariant some c.requires.room
+    packet c.split_front.ensures.packet (plain_none given seen packet plain)
+    c.past-seen.result (c.past-seen.ensures.value ∙ plain_seen seen packet plain) c.past-seen.ensures.bounded
+    c.put-end.result c.put-end.new.out
+    (c.put-end.ensures.text ∙ ap (written c.loop-rest.out c.loop-rest.end) (sym text))
+    (c.put-end.ensures.end ∙ ap (λ t. c.loop-rest.end + length t) (sym text))
+    (omega (arith, ap length text))
+    c.loop-rest.states.done.items c.loop-rest.states.current (plain_states c.loop-rest.states.done.items c.loop-rest.states.current packet plain) (λ is. inl is)
+    c.split_front.result.1.now c.split_front.ensures.rest
+
 pub packet_fault-requires : goal.packet_fault-requires
 packet_fault-requires c =
-    let some = front_some c.loop-rest.rest.now (some_left c.loop-rest.rest.now (sym c.is_empty.ensures ∙ c.loop-rest-test.true)) in
-    omega (arith, some, ap length c.split_front.ensures.packet)
+    packet_some c.loop-rest.rest.now c.split_front.result.0.now (sym c.is_empty.ensures ∙ c.loop-rest-test.true) c.split_front.ensures.packet
 
 pub returns-in-Some-clause-answers : goal.returns-in-Some-clause-answers
 returns-in-Some-clause-answers c =
@@ -24,18 +72,16 @@ returns-in-Some-clause-answers c =
 
 pub put_packet-end-requires-clause-some : goal.put_packet-end-requires-clause-some
 put_packet-end-requires-clause-some c =
-    let some = front_some c.loop-rest.rest.now (some_left c.loop-rest.rest.now (sym c.is_empty.ensures ∙ c.loop-rest-test.true)) in
-    omega (arith, some, ap length c.split_front.ensures.packet)
+    packet_some c.loop-rest.rest.now c.split_front.result.0.now (sym c.is_empty.ensures ∙ c.loop-rest-test.true) c.split_front.ensures.packet
 
 pub put_packet-end-requires-clause-room : goal.put_packet-end-requires-clause-room
 put_packet-end-requires-clause-room c =
-    let under = c.loop-rest.invariant in
-    omega (arith, under.end_is, under.near, under.inside, under.room, front_behind c.loop-rest.rest.now, ap length c.split_front.ensures.packet, c.requires.room)
+    room_fits c.args.given.now c.args.layout.now c.args.list.now c.args.out.now c.loop-rest.rest.now c.loop-rest.seen c.loop-rest.end c.loop-rest.out
+    c.loop-rest.states.done.items c.loop-rest.states.current c.loop-rest.invariant c.requires.room c.split_front.result.0.now c.split_front.ensures.packet
 
 pub pass-requires-clause-some : goal.pass-requires-clause-some
 pass-requires-clause-some c =
-    let some = front_some c.loop-rest.rest.now (some_left c.loop-rest.rest.now (sym c.is_empty.ensures ∙ c.loop-rest-test.true)) in
-    omega (arith, some, ap length c.split_front.ensures.packet)
+    packet_some c.loop-rest.rest.now c.split_front.result.0.now (sym c.is_empty.ensures ∙ c.loop-rest-test.true) c.split_front.ensures.packet
 
 pub returns-in_err-pass-clause-memory : goal.returns-in_err-pass-clause-memory
 returns-in_err-pass-clause-memory c = λ error.
@@ -44,18 +90,19 @@ returns-in_err-pass-clause-memory c = λ error.
 
 pub after-seen-requires-clause-some : goal.after-seen-requires-clause-some
 after-seen-requires-clause-some c =
-    let some = front_some c.loop-rest.rest.now (some_left c.loop-rest.rest.now (sym c.is_empty.ensures ∙ c.loop-rest-test.true)) in
-    omega (arith, some, ap length c.split_front.ensures.packet)
+    packet_some c.loop-rest.rest.now c.split_front.result.0.now (sym c.is_empty.ensures ∙ c.loop-rest-test.true) c.split_front.ensures.packet
 
 pub after-seen-requires-clause-place : goal.after-seen-requires-clause-place
 after-seen-requires-clause-place c =
-    omega (arith, c.loop-rest.invariant.inside, front_behind c.loop-rest.rest.now, ap length c.split_front.ensures.packet, c.requires.short)
+    let fits =
+    place_fits c.args.given.now c.args.layout.now c.args.list.now c.args.out.now c.loop-rest.rest.now c.loop-rest.seen c.loop-rest.end c.loop-rest.out
+    c.loop-rest.states.done.items c.loop-rest.states.current c.loop-rest.invariant c.split_front.result.0.now c.split_front.ensures.packet in
+    omega (arith, fits, c.requires.short)
 
 pub loop-rest-smaller : goal.loop-rest-smaller
 loop-rest-smaller c =
-    let some = front_some c.loop-rest.rest.now (some_left c.loop-rest.rest.now (sym c.is_empty.ensures ∙ c.loop-rest-test.true)) in
-    let less : length c.split_front.result.1.now < length c.loop-rest.rest.now = omega (arith, some, front_behind c.loop-rest.rest.now, ap length c.split_front.ensures.rest) in
-    less
+    less_left c.loop-rest.rest.now c.split_front.result.0.now c.split_front.result.1.now (sym c.is_empty.ensures ∙ c.loop-rest-test.true)
+    c.split_front.ensures.packet c.split_front.ensures.rest
 
 pub loop-rest-preserved : goal.loop-rest-preserved
 loop-rest-preserved c =

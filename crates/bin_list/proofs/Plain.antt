@@ -1,0 +1,84 @@
+-- Packets that are only copied.
+use Rattle.std.proofs.Common.{◌≡◌, ◌≢◌, ℕ, ◌+◌, ◌≤◌, ◌<◌, max, Bool, true, false, List, [], ◌∷◌, ◌++◌, Option, Some, None, length, refl, sym, ap, subst, arith, ◌∙◌}
+use Rattle.std.specs.Prelude.{if◌then◌else◌, ◌==◌, nat_lt}
+use Rattle.std.proofs.lemmas.Bool.{ne_eqb}
+use Rattle.std.proofs.Math.Nat.{zero-max}
+use Rattle.field_words.specs.Questions.{Question, Ask, first_of}
+use Rattle.field_words.proofs.Questions.{passes}
+use Rattle.relocation.specs.declared.layout.Layout.{Layout}
+use Rattle.packets.specs.Opcode.{flush, start_tile_binning, increment_semaphore, indexed_primitive_list, array_primitive_list, gl_shader_state, tile_binning_mode, buffer_handles}
+use Rattle.packets.specs.Length.{bin_length}
+use Rattle.bin_list.specs.declared.seen.Seen.{Seen}
+use Rattle.bin_list.specs.declared.state.State.{State}
+use Rattle.bin_list.specs.Packets.{opcode}
+use Rattle.bin_list.specs.Seen.{seen_after, seen_past}
+use Rattle.bin_list.specs.Rules.{GivenModel, cut_questions, kind_questions, packet_questions}
+use Rattle.bin_list.specs.Fine.{IsPlain}
+use Rattle.bin_list.specs.States.{draws_to, states_of}
+use Rattle.bin_list.specs.Collected.{states_to_come, all_states}
+use Rattle.bin_list.specs.Emitted.{packet_text}
+
+plain_kind : (given : GivenModel) (seen : Seen) (p : List ℕ) → IsPlain p → kind_questions given seen p ≡ []
+unfolding kind_questions
+plain_kind given seen p plain =
+    let a : (opcode p == flush) ≡ false = ne_eqb (opcode p) flush plain.no_flush in
+    let b : (opcode p == start_tile_binning) ≡ false = ne_eqb (opcode p) start_tile_binning plain.no_start in
+    let d : (opcode p == increment_semaphore) ≡ false = ne_eqb (opcode p) increment_semaphore plain.no_increment in
+    let e : (opcode p == indexed_primitive_list) ≡ false = ne_eqb (opcode p) indexed_primitive_list plain.no_indexes in
+    let f : (opcode p == array_primitive_list) ≡ false = ne_eqb (opcode p) array_primitive_list plain.no_array in
+    let g : (opcode p == gl_shader_state) ≡ false = ne_eqb (opcode p) gl_shader_state plain.no_state in
+    let h : (opcode p == tile_binning_mode) ≡ false = ne_eqb (opcode p) tile_binning_mode plain.no_config in
+    simp (a, b, d, e, f, g, h)
+
+plain_cut : (p : List ℕ) → IsPlain p → first_of (cut_questions p) ≡ None
+unfolding cut_questions
+plain_cut p plain =
+    let a : (bin_length (opcode p) == 0) ≡ false = ne_eqb (bin_length (opcode p)) 0 plain.known in
+    let whole = plain.whole in
+    let b : nat_lt (length p) (bin_length (opcode p)) ≡ false = grind arith in
+    simp (a, b)
+
+end_empty : (questions : List (Question ℕ)) → first_of questions ≡ None → first_of (questions ++ []) ≡ None
+end_empty questions none = passes questions [] none
+
+pub plain_none : (given : GivenModel) (seen : Seen) (p : List ℕ) → IsPlain p → first_of (packet_questions given seen p) ≡ None
+unfolding packet_questions
+plain_none given seen p plain =
+    ap (λ qs. first_of (cut_questions p ++ qs)) (plain_kind given seen p plain)
+    ∙ end_empty (cut_questions p) (plain_cut p plain)
+
+pub plain_text : (given : GivenModel) (layout : Layout) (seen : Seen) (p : List ℕ) → IsPlain p → packet_text given layout seen p ≡ p
+unfolding packet_text
+plain_text given layout seen p plain =
+    let a : (opcode p == buffer_handles) ≡ false = ne_eqb (opcode p) buffer_handles plain.no_handles in
+    let e : (opcode p == indexed_primitive_list) ≡ false = ne_eqb (opcode p) indexed_primitive_list plain.no_indexes in
+    let g : (opcode p == gl_shader_state) ≡ false = ne_eqb (opcode p) gl_shader_state plain.no_state in
+    let h : (opcode p == tile_binning_mode) ≡ false = ne_eqb (opcode p) tile_binning_mode plain.no_config in
+    simp (a, e, g, h)
+
+pub plain_seen : (seen : Seen) (p : List ℕ) → IsPlain p → seen_past seen p ≡ seen_after seen p
+unfolding seen_past seen_after
+plain_seen seen p plain =
+    let a : (opcode p == buffer_handles) ≡ false = ne_eqb (opcode p) buffer_handles plain.no_handles in
+    let b : (opcode p == start_tile_binning) ≡ false = ne_eqb (opcode p) start_tile_binning plain.no_start in
+    let g : (opcode p == gl_shader_state) ≡ false = ne_eqb (opcode p) gl_shader_state plain.no_state in
+    let h : (opcode p == tile_binning_mode) ≡ false = ne_eqb (opcode p) tile_binning_mode plain.no_config in
+    simp (a, b, g, h)
+
+draws_nothing : (p : List ℕ) → IsPlain p → draws_to p ≡ 0
+unfolding draws_to
+draws_nothing p plain =
+    let e : (opcode p == indexed_primitive_list) ≡ false = ne_eqb (opcode p) indexed_primitive_list plain.no_indexes in
+    let f : (opcode p == array_primitive_list) ≡ false = ne_eqb (opcode p) array_primitive_list plain.no_array in
+    simp (e, f)
+
+to_come : (current : Option State) (p : List ℕ) (later : List (List ℕ)) → IsPlain p → states_to_come current (p ∷ later) ≡ states_to_come current later
+to_come None p later plain =
+    let g : (opcode p == gl_shader_state) ≡ false = ne_eqb (opcode p) gl_shader_state plain.no_state in
+    simp g
+to_come (Some s) p later plain =
+    let g : (opcode p == gl_shader_state) ≡ false = ne_eqb (opcode p) gl_shader_state plain.no_state in
+    simp (g, draws_nothing p plain, zero-max)
+
+pub plain_states : (done : List State) (current : Option State) (p : List ℕ) → IsPlain p → (later : List (List ℕ)) → all_states done current later ≡ all_states done current (p ∷ later)
+plain_states done current p plain later = ap (λ ss. done ++ ss) (sym (to_come current p later plain))
