@@ -1,3 +1,4 @@
 pub mod Asked
 pub mod Named
+pub mod Order
 pub mod Sounds

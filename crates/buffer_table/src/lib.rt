@@ -12,7 +12,7 @@ pub use buffer::{
 };
 pub use handles::{Handles, use_code, use_data};
 pub use item::Item;
-pub use table::Table;
+pub use table::{Table, first_fault_is_least};
 
 #[cfg(test)]
 mod tests;

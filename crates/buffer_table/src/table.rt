@@ -1,7 +1,7 @@
 //! The memory table.
 ghost use Rattle.std.specs.Prelude.{◌≡◌, ◌<◌, ◌≤◌, length, IfOk};
 ghost use Rattle.field_words.specs.Questions.{Answers, NamesFirst, NeverHidesFault};
-ghost use Rattle.buffer_table.specs.Table.{TableModel, table_questions, buffer_at};
+ghost use Rattle.buffer_table.specs.Table.{TableModel, FirstIsLeast, table_questions, buffer_at};
 ghost use Rattle.buffer_table.specs.Sound.{IsSound, IsSoundBuffer};
 
 use crate::buffer::{Buffer, Regions, TableFault};
@@ -71,3 +71,8 @@ impl Table {
         self.buffers[number]
     }
 }
+
+/// The first memory rule that stands is the least of all that stand, by item and then by number.
+pub fn first_fault_is_least()
+    ensures { FirstIsLeast }
+{}

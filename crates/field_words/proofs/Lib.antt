@@ -4,3 +4,4 @@ pub mod Questions
 pub mod Numbers
 pub mod WordBytes
 pub mod Writes
+pub mod Least

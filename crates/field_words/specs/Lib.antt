@@ -1,3 +1,4 @@
+pub mod Least
 pub mod Pieces
 pub mod Questions
 pub mod Sizes

@@ -4,7 +4,7 @@
 //! field out of a word, rounding up, and the answers for want of memory. The definitions in
 //! `specs/` are what the contracts of the crates above cite: numbers in bytes (`Words`), writes
 //! and what they leave alone (`Writes`), texts made of pieces (`Pieces`), rules asked in an order
-//! (`Questions`), and sizes and limits (`Sizes`).
+//! (`Questions`, `Least`), and sizes and limits (`Sizes`).
 #![tactic(auto)]
 
 mod access;

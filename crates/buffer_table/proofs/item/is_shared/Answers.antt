@@ -1,6 +1,5 @@
 -- One item more, and the first that has a byte of it.
 use Rattle.std.proofs.Common.{List, ◌≡◌, ◌<◌, ◌≤◌, ◌||◌, false, true, length, take, get_or, ap, sym, ◌∙◌, arith}
-use Rattle.std.specs.List.{list_any}
 use Rattle.std.proofs.lemmas.List.{get_or-take, length-take-le}
 use Rattle.std.proofs.lemmas.List.Folds.{list_any_at, list_any_more}
 use Rattle.buffer_table.specs.declared.item.Item.{Item}

@@ -1,5 +1,5 @@
 -- The items after the two regions are those of the buffers.
-use Rattle.std.proofs.Common.{◌≡◌, sym, ◌∙◌, arith}
+use Rattle.std.proofs.Common.{sym, ◌∙◌, arith}
 use Rattle.buffer_table.specs.Table.{no_buffer}
 use Rattle.buffer_table.proofs.Sounds.{item_of_entry}
 use Rattle.buffer_table.proofs.item.item_at.Goals as goal

@@ -1,5 +1,5 @@
 -- What is left decides as the whole does.
-use Rattle.std.proofs.Common.{◌≡◌, ◌-◌, ◌+◌, length}
+use Rattle.std.proofs.Common.{◌≡◌, ◌-◌, length}
 use Rattle.field_words.specs.Questions.{first_of, each}
 use Rattle.buffer_table.specs.Table.{item_questions, items_of}
 use Rattle.buffer_table.proofs.item.items_fault.Given as goal

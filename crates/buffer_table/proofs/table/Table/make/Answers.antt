@@ -1,5 +1,5 @@
 -- No rule of the table stands, so it is sound.
-use Rattle.std.proofs.Common.{◌≡◌, sym, ◌∙◌, ap}
+use Rattle.std.proofs.Common.{sym, ◌∙◌, ap}
 use Rattle.field_words.specs.Questions.{first_of}
 use Rattle.field_words.proofs.Questions.{first_is}
 use Rattle.buffer_table.specs.Table.{table_questions}
