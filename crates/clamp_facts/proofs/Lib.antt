@@ -1,1 +1,4 @@
 pub mod Carriers
+pub mod Clamps
+pub mod Entries
+pub mod Keeping

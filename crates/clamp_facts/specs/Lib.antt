@@ -1,1 +1,4 @@
 pub mod Facts
+pub mod Readings
+pub mod Table
+pub mod Upkeep

@@ -10,3 +10,4 @@ pub mod Keys
 pub mod Firsts
 pub mod Decimals
 pub mod Law
+pub mod Order

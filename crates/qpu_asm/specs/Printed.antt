@@ -3,8 +3,9 @@ use Rattle.std.specs.Prelude.{ℕ, ◌≡◌, ◌<◌, ◌^◌, ◌==◌, List, 
 use Rattle.std.specs.declared.option.Option.{Option}
 use Rattle.std.specs.declared.option.Option.TheVariants.{None, Some}
 use Rattle.qpu_isa.specs.Word.{sig_of}
-use Rattle.qpu_isa.specs.Fields.{values_of}
-use Rattle.qpu_asm.specs.Table.{Named, Row, Kind, widths_of, nop_kind, alu_kind, load_imm_kind, branch_kind}
+use Rattle.qpu_isa.specs.Inst.{alu_of, load_imm_of, branch_of}
+use Rattle.qpu_isa.specs.Fields.{values_of, alu_values, load_imm_values, branch_values}
+use Rattle.qpu_asm.specs.Table.{Named, Row, Kind, widths_of, nop_word, nop_kind, alu_kind, load_imm_kind, branch_kind}
 use Rattle.qpu_asm.specs.Assembly.{AsmFaults, AsmWords}
 
 unfoldable pub name_of : List Named → ℕ → Option (List ℕ)
@@ -53,3 +54,14 @@ AsmText (word ∷ words) = line_text word ++ AsmText words
 abbrev pub PrintedReturns : Type 0
 PrintedReturns =
     (words : List ℕ) → All (λ word. word < 2 ^ 64) words → (AsmFaults (AsmText words) ≡ []) × (AsmWords (AsmText words) ≡ words)
+
+-- What a row prints is the instruction's field of its place: the rows of a kind stand for the fields of its struct, in order. And
+-- `nop` stands for the word of an ALU instruction without items.
+pub record IsInOrder (word : ℕ) : Type 0 where
+  pub alu : values_of (widths_of alu_kind.rows) word ≡ alu_values (alu_of word)
+  pub load_imm : values_of (widths_of load_imm_kind.rows) word ≡ load_imm_values (load_imm_of word)
+  pub branch : values_of (widths_of branch_kind.rows) word ≡ branch_values (branch_of word)
+  pub blank : nop_kind.above ≡ nop_word
+
+abbrev pub FieldsInOrder : Type 0
+FieldsInOrder = (word : ℕ) → IsInOrder word

@@ -1,9 +1,10 @@
+//! A text as words.
 ghost use Rattle.std.specs.Prelude.{◌≡◌, ◌<◌, ◌+◌, ◌^◌, ◌++◌, List, ℕ, [], length, IfOk, IfErr, MatchResult, vec_len};
 ghost use Rattle.qpu_asm.specs.Assembly.{AsmFaults, AsmWords, line_kinds, line_words, is_before, IsFaultOf, IsFaultOn, IsLineCode, IsFirstBelow};
 ghost use Rattle.qpu_asm.specs.Lines.{Label};
 ghost use Rattle.qpu_asm.specs.Seen.{line_seen, spots_in};
 
-use crate::fault::AsmFault;
+use crate::fault::{AsmFault, LABEL_TWICE, UNKNOWN_WORD};
 use crate::item::read_code;
 use crate::label::{Found, find_labels, find_spot};
 use crate::lines::{Line, next_line, read_line};
@@ -64,11 +65,11 @@ fn line_code<'a>(
     match line {
         Line::Blank => Ok(None),
         Line::Label(name) => if stands_before(found, name, number) {
-            Err(5)
+            Err(LABEL_TWICE)
         } else {
             Ok(None)
         },
-        Line::BadLabel => Err(1),
+        Line::BadLabel => Err(UNKNOWN_WORD),
         Line::Coded(code) => match read_code(&found.labels, index, code) {
             Ok(word) => Ok(Some(word)),
             Err(kind) => Err(kind),

@@ -1,8 +1,9 @@
+//! Words as text.
 ghost use Rattle.std.specs.Prelude.{◌≡◌, ◌≤◌, ◌<◌, ◌+◌, ◌/◌, ◌%◌, ◌^◌, ◌∷◌, ◌++◌, [], true, map, MatchOption, OnOk, IfOk};
 ghost use Rattle.qpu_isa.specs.Fields.{width_of, values_of};
 ghost use Rattle.qpu_asm.specs.Table.{widths_of};
 ghost use Rattle.qpu_asm.specs.Partial.{are_ready, is_ready};
-ghost use Rattle.qpu_asm.specs.Printed.{name_of as name_in, value_text, item_text, item_texts, spaced, kind_of as kind_by, kind_text, line_text, AsmText, PrintedReturns};
+ghost use Rattle.qpu_asm.specs.Printed.{name_of as name_in, value_text, item_text, item_texts, spaced, kind_of as kind_by, kind_text, line_text, AsmText, PrintedReturns, FieldsInOrder};
 ghost use Rattle.qpu_asm.specs.Seen.{named_seen, row_seen, rows_seen, kind_seen};
 
 use crate::table::{Kind, NOP, Named, Row, alu, branch, load_imm, nop};
@@ -134,4 +135,10 @@ fn name_of(named: &[Named], value: u64) -> Option<&'static [u8]>
 /// A law: the text of any words assembles without a fault, and to these words.
 pub fn printed_returns()
     ensures { PrintedReturns }
+{}
+
+/// A law: each row of a kind prints the field of its place, in the order of the instruction's struct, and `nop` is the ALU
+/// instruction without items.
+pub fn fields_in_order()
+    ensures { FieldsInOrder }
 {}

@@ -1,3 +1,4 @@
+//! The items of an instruction, and their values.
 ghost use Rattle.std.specs.Prelude.{◌≡◌, ◌≤◌, ◌<◌, ◌*◌, ◌+◌, ◌^◌, ◌∷◌, List, ℕ, true, map, MatchOption, MatchResult, IfOk, Some, None, if◌then◌else◌};
 ghost use Rattle.qpu_isa.specs.Fields.{joined};
 ghost use Rattle.qpu_asm.specs.Table.{widths_of, fallbacks_of, Row as RowSeen};
@@ -6,6 +7,7 @@ ghost use Rattle.qpu_asm.specs.Lines.{words_of};
 ghost use Rattle.qpu_asm.specs.Partial.{GoesOn, IsOpen, IsCodeOf, least_in};
 ghost use Rattle.qpu_asm.specs.Seen.{named_seen, row_seen, rows_seen, kind_seen, cut_of, read_seen, spots_in};
 
+use crate::fault::{BAD_OPERAND, OUT_OF_RANGE, UNKNOWN_LABEL, UNKNOWN_WORD};
 use crate::label::{Labels, find_spot};
 use crate::lines::{Cut, cut_at, next_word};
 use crate::names::{is_name, is_number, number};
@@ -27,7 +29,7 @@ pub fn read_code<'a>(labels: &Labels<'a>, index: u32, code: Cut<'a>) -> Result<u
 {
     match kind_named(code.first) {
         Some(kind) => read_items(labels, index, kind, code.rest),
-        None => Err(1),
+        None => Err(UNKNOWN_WORD),
     }
 }
 
@@ -254,11 +256,11 @@ fn read_target<'a>(labels: &Labels<'a>, index: u32, text: &'a [u8]) -> Result<u6
     ensures { read_seen result ≡ target_read (spots_in labels.now) index text.now }
 {
     if !is_name(text) {
-        return Err(2);
+        return Err(BAD_OPERAND);
     }
     match find_spot(labels, text) {
         Some(spot) => Ok(distance(index, spot.index)),
-        None => Err(4),
+        None => Err(UNKNOWN_LABEL),
     }
 }
 
@@ -302,8 +304,8 @@ fn read_number(text: &[u8], below: u64) -> Result<u64, u8>
     ensures { read_seen result ≡ number_read below text.now }
 {
     if !is_number(text) {
-        return Err(2);
+        return Err(BAD_OPERAND);
     }
     let value = number(text, below);
-    if value < below { Ok(value) } else { Err(3) }
+    if value < below { Ok(value) } else { Err(OUT_OF_RANGE) }
 }

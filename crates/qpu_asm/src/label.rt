@@ -1,3 +1,4 @@
+//! The labels of a text.
 ghost use Rattle.std.specs.Prelude.{◌≡◌, ◌<◌, ◌+◌, ◌^◌, List, ℕ, length, min, false, IfOk, OnOk, Some, None, bytes_eq, if◌then◌else◌};
 ghost use Rattle.qpu_asm.specs.Assembly.{spots_of, read_lines, size_of, is_label, either_spot, AreFirstBelow, IsNewLabel};
 ghost use Rattle.qpu_asm.specs.Seen.{line_seen, spots_in, hash_by};

@@ -1,4 +1,7 @@
-// The text of instruction words: an assembler and a disassembler.
+//! The text of instruction words: an assembler and a disassembler.
+//!
+//! The text's language is in `specs/`: `Table` (which items an instruction has, from the highest bit down, and their names),
+//! `Lines`, `Items`, `Assembly` (faults and words of a text) and `Printed` (the disassembler's text).
 #![tactic(auto)]
 
 mod assembler;
@@ -11,8 +14,8 @@ mod names;
 mod table;
 
 pub use assembler::assemble;
-pub use disassembler::{disassemble, printed_returns};
-pub use fault::AsmFault;
+pub use disassembler::{disassemble, fields_in_order, printed_returns};
+pub use fault::{AsmFault, BAD_OPERAND, LABEL_TWICE, OUT_OF_RANGE, UNKNOWN_LABEL, UNKNOWN_WORD};
 
 #[cfg(test)]
 mod tests;

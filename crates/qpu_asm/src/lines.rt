@@ -1,3 +1,4 @@
+//! Lines and words of a text.
 ghost use Rattle.std.specs.Prelude.{◌≡◌, ◌<◌, ◌≤◌, ◌+◌, ◌∷◌, [], length, MatchOption, IfSome, IsTrue, slice_index, ◌≢◌};
 ghost use Rattle.qpu_asm.specs.Lines.{lines_of, words_of, label_line, line_of, is_alone, part_by, is_comment as comment_test, ends_label as label_test, read_line as line_read};
 ghost use Rattle.qpu_asm.specs.Items.{cut_at as cut};

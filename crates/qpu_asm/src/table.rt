@@ -1,3 +1,4 @@
+//! The kinds of instructions, their items, and the names of values.
 ghost use Rattle.std.specs.Prelude.{◌≡◌};
 ghost use Rattle.qpu_asm.specs.Seen.{kind_seen};
 ghost use Rattle.qpu_asm.specs.Table.{nop_kind, alu_kind, load_imm_kind, branch_kind};
@@ -32,138 +33,66 @@ pub struct Kind {
 /// The word of an ALU instruction of all defaults.
 pub const NOP: u64 = 0x1000_09e7_009e_7000;
 
+// A value's name.
+macro_rules! named {
+    ($name:literal, $value:literal) => {
+        Named {
+            name: $name,
+            value: $value,
+        }
+    };
+}
+
+// A field whose values are all numbers of that many bits.
+macro_rules! bits {
+    ($name:literal, $width:literal, $fallback:literal) => {
+        Row {
+            name: $name,
+            width: $width,
+            below: 1 << $width,
+            fallback: $fallback,
+            named: &[],
+            takes_label: false,
+        }
+    };
+}
+
 const ADD_OPERATIONS: [Named; 24] = [
-    Named {
-        name: b"nop",
-        value: 0,
-    },
-    Named {
-        name: b"fadd",
-        value: 1,
-    },
-    Named {
-        name: b"fsub",
-        value: 2,
-    },
-    Named {
-        name: b"fmin",
-        value: 3,
-    },
-    Named {
-        name: b"fmax",
-        value: 4,
-    },
-    Named {
-        name: b"fminabs",
-        value: 5,
-    },
-    Named {
-        name: b"fmaxabs",
-        value: 6,
-    },
-    Named {
-        name: b"ftoi",
-        value: 7,
-    },
-    Named {
-        name: b"itof",
-        value: 8,
-    },
-    Named {
-        name: b"add",
-        value: 12,
-    },
-    Named {
-        name: b"sub",
-        value: 13,
-    },
-    Named {
-        name: b"shr",
-        value: 14,
-    },
-    Named {
-        name: b"asr",
-        value: 15,
-    },
-    Named {
-        name: b"ror",
-        value: 16,
-    },
-    Named {
-        name: b"shl",
-        value: 17,
-    },
-    Named {
-        name: b"min",
-        value: 18,
-    },
-    Named {
-        name: b"max",
-        value: 19,
-    },
-    Named {
-        name: b"and",
-        value: 20,
-    },
-    Named {
-        name: b"or",
-        value: 21,
-    },
-    Named {
-        name: b"xor",
-        value: 22,
-    },
-    Named {
-        name: b"not",
-        value: 23,
-    },
-    Named {
-        name: b"clz",
-        value: 24,
-    },
-    Named {
-        name: b"v8adds",
-        value: 30,
-    },
-    Named {
-        name: b"v8subs",
-        value: 31,
-    },
+    named!(b"nop", 0),
+    named!(b"fadd", 1),
+    named!(b"fsub", 2),
+    named!(b"fmin", 3),
+    named!(b"fmax", 4),
+    named!(b"fminabs", 5),
+    named!(b"fmaxabs", 6),
+    named!(b"ftoi", 7),
+    named!(b"itof", 8),
+    named!(b"add", 12),
+    named!(b"sub", 13),
+    named!(b"shr", 14),
+    named!(b"asr", 15),
+    named!(b"ror", 16),
+    named!(b"shl", 17),
+    named!(b"min", 18),
+    named!(b"max", 19),
+    named!(b"and", 20),
+    named!(b"or", 21),
+    named!(b"xor", 22),
+    named!(b"not", 23),
+    named!(b"clz", 24),
+    named!(b"v8adds", 30),
+    named!(b"v8subs", 31),
 ];
 
 const MULTIPLY_OPERATIONS: [Named; 8] = [
-    Named {
-        name: b"nop",
-        value: 0,
-    },
-    Named {
-        name: b"fmul",
-        value: 1,
-    },
-    Named {
-        name: b"mul24",
-        value: 2,
-    },
-    Named {
-        name: b"v8muld",
-        value: 3,
-    },
-    Named {
-        name: b"v8min",
-        value: 4,
-    },
-    Named {
-        name: b"v8max",
-        value: 5,
-    },
-    Named {
-        name: b"v8adds",
-        value: 6,
-    },
-    Named {
-        name: b"v8subs",
-        value: 7,
-    },
+    named!(b"nop", 0),
+    named!(b"fmul", 1),
+    named!(b"mul24", 2),
+    named!(b"v8muld", 3),
+    named!(b"v8min", 4),
+    named!(b"v8max", 5),
+    named!(b"v8adds", 6),
+    named!(b"v8subs", 7),
 ];
 
 const ALU: [Row; 18] = [
@@ -175,78 +104,15 @@ const ALU: [Row; 18] = [
         named: &[],
         takes_label: false,
     },
-    Row {
-        name: b"unpack",
-        width: 3,
-        below: 8,
-        fallback: 0,
-        named: &[],
-        takes_label: false,
-    },
-    Row {
-        name: b"pm",
-        width: 1,
-        below: 2,
-        fallback: 0,
-        named: &[],
-        takes_label: false,
-    },
-    Row {
-        name: b"pack",
-        width: 4,
-        below: 16,
-        fallback: 0,
-        named: &[],
-        takes_label: false,
-    },
-    Row {
-        name: b"ca",
-        width: 3,
-        below: 8,
-        fallback: 0,
-        named: &[],
-        takes_label: false,
-    },
-    Row {
-        name: b"cm",
-        width: 3,
-        below: 8,
-        fallback: 0,
-        named: &[],
-        takes_label: false,
-    },
-    Row {
-        name: b"sf",
-        width: 1,
-        below: 2,
-        fallback: 0,
-        named: &[],
-        takes_label: false,
-    },
-    Row {
-        name: b"ws",
-        width: 1,
-        below: 2,
-        fallback: 0,
-        named: &[],
-        takes_label: false,
-    },
-    Row {
-        name: b"wa",
-        width: 6,
-        below: 64,
-        fallback: 39,
-        named: &[],
-        takes_label: false,
-    },
-    Row {
-        name: b"wm",
-        width: 6,
-        below: 64,
-        fallback: 39,
-        named: &[],
-        takes_label: false,
-    },
+    bits!(b"unpack", 3, 0),
+    bits!(b"pm", 1, 0),
+    bits!(b"pack", 4, 0),
+    bits!(b"ca", 3, 0),
+    bits!(b"cm", 3, 0),
+    bits!(b"sf", 1, 0),
+    bits!(b"ws", 1, 0),
+    bits!(b"wa", 6, 39),
+    bits!(b"wm", 6, 39),
     Row {
         name: b"om",
         width: 3,
@@ -263,204 +129,36 @@ const ALU: [Row; 18] = [
         named: &ADD_OPERATIONS,
         takes_label: false,
     },
-    Row {
-        name: b"ra",
-        width: 6,
-        below: 64,
-        fallback: 39,
-        named: &[],
-        takes_label: false,
-    },
-    Row {
-        name: b"rb",
-        width: 6,
-        below: 64,
-        fallback: 39,
-        named: &[],
-        takes_label: false,
-    },
-    Row {
-        name: b"aa",
-        width: 3,
-        below: 8,
-        fallback: 0,
-        named: &[],
-        takes_label: false,
-    },
-    Row {
-        name: b"ab",
-        width: 3,
-        below: 8,
-        fallback: 0,
-        named: &[],
-        takes_label: false,
-    },
-    Row {
-        name: b"ma",
-        width: 3,
-        below: 8,
-        fallback: 0,
-        named: &[],
-        takes_label: false,
-    },
-    Row {
-        name: b"mb",
-        width: 3,
-        below: 8,
-        fallback: 0,
-        named: &[],
-        takes_label: false,
-    },
+    bits!(b"ra", 6, 39),
+    bits!(b"rb", 6, 39),
+    bits!(b"aa", 3, 0),
+    bits!(b"ab", 3, 0),
+    bits!(b"ma", 3, 0),
+    bits!(b"mb", 3, 0),
 ];
 
 const LOAD_IMM: [Row; 10] = [
-    Row {
-        name: b"mode",
-        width: 3,
-        below: 8,
-        fallback: 0,
-        named: &[],
-        takes_label: false,
-    },
-    Row {
-        name: b"pm",
-        width: 1,
-        below: 2,
-        fallback: 0,
-        named: &[],
-        takes_label: false,
-    },
-    Row {
-        name: b"pack",
-        width: 4,
-        below: 16,
-        fallback: 0,
-        named: &[],
-        takes_label: false,
-    },
-    Row {
-        name: b"ca",
-        width: 3,
-        below: 8,
-        fallback: 0,
-        named: &[],
-        takes_label: false,
-    },
-    Row {
-        name: b"cm",
-        width: 3,
-        below: 8,
-        fallback: 0,
-        named: &[],
-        takes_label: false,
-    },
-    Row {
-        name: b"sf",
-        width: 1,
-        below: 2,
-        fallback: 0,
-        named: &[],
-        takes_label: false,
-    },
-    Row {
-        name: b"ws",
-        width: 1,
-        below: 2,
-        fallback: 0,
-        named: &[],
-        takes_label: false,
-    },
-    Row {
-        name: b"wa",
-        width: 6,
-        below: 64,
-        fallback: 39,
-        named: &[],
-        takes_label: false,
-    },
-    Row {
-        name: b"wm",
-        width: 6,
-        below: 64,
-        fallback: 39,
-        named: &[],
-        takes_label: false,
-    },
-    Row {
-        name: b"imm",
-        width: 32,
-        below: 1 << 32,
-        fallback: 0,
-        named: &[],
-        takes_label: false,
-    },
+    bits!(b"mode", 3, 0),
+    bits!(b"pm", 1, 0),
+    bits!(b"pack", 4, 0),
+    bits!(b"ca", 3, 0),
+    bits!(b"cm", 3, 0),
+    bits!(b"sf", 1, 0),
+    bits!(b"ws", 1, 0),
+    bits!(b"wa", 6, 39),
+    bits!(b"wm", 6, 39),
+    bits!(b"imm", 32, 0),
 ];
 
 const BRANCH: [Row; 9] = [
-    Row {
-        name: b"sp",
-        width: 4,
-        below: 16,
-        fallback: 0,
-        named: &[],
-        takes_label: false,
-    },
-    Row {
-        name: b"cond",
-        width: 4,
-        below: 16,
-        fallback: 15,
-        named: &[],
-        takes_label: false,
-    },
-    Row {
-        name: b"rel",
-        width: 1,
-        below: 2,
-        fallback: 1,
-        named: &[],
-        takes_label: false,
-    },
-    Row {
-        name: b"reg",
-        width: 1,
-        below: 2,
-        fallback: 0,
-        named: &[],
-        takes_label: false,
-    },
-    Row {
-        name: b"ra",
-        width: 5,
-        below: 32,
-        fallback: 0,
-        named: &[],
-        takes_label: false,
-    },
-    Row {
-        name: b"ws",
-        width: 1,
-        below: 2,
-        fallback: 0,
-        named: &[],
-        takes_label: false,
-    },
-    Row {
-        name: b"wa",
-        width: 6,
-        below: 64,
-        fallback: 39,
-        named: &[],
-        takes_label: false,
-    },
-    Row {
-        name: b"wm",
-        width: 6,
-        below: 64,
-        fallback: 39,
-        named: &[],
-        takes_label: false,
-    },
+    bits!(b"sp", 4, 0),
+    bits!(b"cond", 4, 15),
+    bits!(b"rel", 1, 1),
+    bits!(b"reg", 1, 0),
+    bits!(b"ra", 5, 0),
+    bits!(b"ws", 1, 0),
+    bits!(b"wa", 6, 39),
+    bits!(b"wm", 6, 39),
     Row {
         name: b"imm",
         width: 32,

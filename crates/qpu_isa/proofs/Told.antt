@@ -1,18 +1,17 @@
 -- What the calls tell of a word's instruction is what the terms on words say.
-use Rattle.std.proofs.Common.{◌≡◌, ℕ, ◌<◌, refl, ◌∙◌, ap, arith, Bool, true, false, not, ◌==◌, ◌&&◌, ◌||◌, nat_lt, nat_le, if◌then◌else◌}
+use Rattle.std.proofs.Common.{◌≡◌, ℕ, ◌<◌, ◌^◌, inl, inr, refl, ◌∙◌, ap, arith, Bool, true, false, not, ◌==◌, ◌&&◌, ◌||◌, nat_lt, nat_le, if◌then◌else◌}
 use Rattle.std.proofs.lemmas.Bool.Decides.{nat_tests}
-use Rattle.std.proofs.lemmas.Bool.{eqb-true}
-use Rattle.std.specs.Prelude.{is_some}
+use Rattle.std.proofs.lemmas.Bool.{eqb-true, cases_Bool, leb-true, leb-false}
 use Rattle.std.specs.declared.option.Option.{Option}
 use Rattle.std.specs.declared.option.Option.TheVariants.{None, Some}
 use Rattle.qpu_isa.specs.declared.inst.Inst.{Inst}
 use Rattle.qpu_isa.specs.declared.inst.Inst.TheVariants as kind
 use Rattle.qpu_isa.specs.declared.inst.Reg.{Reg}
 use Rattle.qpu_isa.specs.declared.inst.Reg.TheVariants.{A, B, Acc}
-use Rattle.qpu_isa.specs.Word.{sig_of, ws_of, waddr_add_of, waddr_mul_of}
+use Rattle.qpu_isa.specs.Word.{imm_of, sig_of, ws_of, waddr_add_of, waddr_mul_of}
 use Rattle.qpu_isa.specs.Inst.{alu_of, load_imm_of, branch_of, inst_of}
-use Rattle.qpu_isa.specs.Terms.{reads_uniform_of, is_alu, is_branch, has_small, names, add_names_reg, mul_names_reg, add_names, mul_names, has_tmu_write, add_is_tmu, mul_is_tmu}
-use Rattle.qpu_isa.specs.Told.{takes_uniform, names_written, is_named, tmu_written, tmu_at, first_given, TermsAgree}
+use Rattle.qpu_isa.specs.Terms.{reads_uniform_of, is_alu, is_branch, has_small, names, add_names_reg, mul_names_reg, add_names, mul_names, is_tmu_address, add_writes_tmu, mul_writes_tmu, first_tmu, target_of}
+use Rattle.qpu_isa.specs.Told.{takes_uniform, names_written, is_named, tmu_written, tmu_at, first_given, TermsAgree, TargetsAreSums}
 
 -- the instruction that a word is, by the two tests of its signal
 chosen : ℕ → Bool → Bool → Inst
@@ -75,35 +74,35 @@ named_agrees word reg true branches is other =
 named_agrees word reg false true is other = branch_names word reg (is_a_branch word other)
 named_agrees word reg false false is other = units_agree word reg (no_branch word other)
 
-tmu_given : (address : ℕ) → address < 64 → is_some (tmu_at address) ≡ nat_le 56 address
-unfolding tmu_at
-tmu_given address small = grind (arith, nat_tests)
+-- the TMU of an address, by the two tests
+chosen_tmu : Bool → Bool → Option ℕ
+chosen_tmu first second = if first then Some 0 else (if second then Some 1 else None)
 
-first_is_given : (first second : Option ℕ) → is_some (first_given first second) ≡ (is_some first || is_some second)
-first_is_given None second = refl
-first_is_given (Some tmu) second = refl
+tmu_given : (address : ℕ) → tmu_at address ≡ chosen_tmu (is_tmu_address 0 address) (is_tmu_address 1 address)
+unfolding tmu_at is_tmu_address chosen_tmu
+tmu_given address = grind (arith, nat_tests)
 
-waddr_add-small : (word : ℕ) → waddr_add_of word < 64
-unfolding waddr_add_of
-waddr_add-small word = omega arith
+first_chosen : (a b c d : Bool) → first_given (chosen_tmu a b) (chosen_tmu c d)
+    ≡ (if a then Some 0 else (if b then Some 1 else (if c then Some 0 else (if d then Some 1 else None))))
+unfolding chosen_tmu
+first_chosen true b c d = refl
+first_chosen false true c d = refl
+first_chosen false false true d = refl
+first_chosen false false false true = refl
+first_chosen false false false false = refl
 
-waddr_mul-small : (word : ℕ) → waddr_mul_of word < 64
-unfolding waddr_mul_of
-waddr_mul-small word = omega arith
-
-units_write : (word : ℕ) → is_branch word ≡ false
-    → is_some (first_given (tmu_at (waddr_add_of word)) (tmu_at (waddr_mul_of word))) ≡ has_tmu_write word
-unfolding has_tmu_write add_is_tmu mul_is_tmu
+units_write : (word : ℕ) → is_branch word ≡ false → first_given (tmu_at (waddr_add_of word)) (tmu_at (waddr_mul_of word)) ≡ first_tmu word
+unfolding first_tmu add_writes_tmu mul_writes_tmu
 units_write word apart =
-    first_is_given (tmu_at (waddr_add_of word)) (tmu_at (waddr_mul_of word))
-    ∙ (rw (tmu_given (waddr_add_of word) (waddr_add-small word), tmu_given (waddr_mul_of word) (waddr_mul-small word), apart) refl)
+    rw (tmu_given (waddr_add_of word), tmu_given (waddr_mul_of word), apart)
+    (first_chosen (is_tmu_address 0 (waddr_add_of word)) (is_tmu_address 1 (waddr_add_of word)) (is_tmu_address 0 (waddr_mul_of word)) (is_tmu_address 1 (waddr_mul_of word)))
 
-branch_writes : (word : ℕ) → is_branch word ≡ true → false ≡ has_tmu_write word
-unfolding has_tmu_write add_is_tmu mul_is_tmu
+branch_writes : (word : ℕ) → is_branch word ≡ true → None ≡ first_tmu word
+unfolding first_tmu add_writes_tmu mul_writes_tmu
 branch_writes word is = rw is refl
 
 tmu_agrees : (word : ℕ) → (loads branches : Bool) → (sig_of word == 14) ≡ loads → (sig_of word == 15) ≡ branches
-    → is_some (tmu_written (chosen word loads branches)) ≡ has_tmu_write word
+    → tmu_written (chosen word loads branches) ≡ first_tmu word
 unfolding chosen tmu_written alu_of load_imm_of
 tmu_agrees word true branches is other =
     let e : sig_of word ≡ 14 = eqb-true _ _ is in
@@ -118,3 +117,17 @@ told_agrees word small = record {
   named = λ reg. named_agrees word reg (sig_of word == 14) (sig_of word == 15) refl refl;
   tmu = tmu_agrees word (sig_of word == 14) (sig_of word == 15) refl refl;
 }
+
+pub sums_agree : TargetsAreSums
+unfolding target_of imm_of
+sums_agree word index target small1 small2 =
+    elim (cases_Bool (nat_le (2 ^ 31) (imm_of word))) [
+      | inl back ↦
+          (let negative = leb-true (2 ^ 31) (imm_of word) back in
+          let e : ◌≡◌ {A = ℕ} (if nat_le (2 ^ 31) (imm_of word) then 2 ^ 29 else 0) (2 ^ 29) = ap (λ b. if b then 2 ^ 29 else 0) back in
+          ((λ same. omega (arith, e, negative, same)), (λ same. omega (arith, e, negative, same))))
+      | inr on ↦
+          (let positive = leb-false (2 ^ 31) (imm_of word) on in
+          let e : ◌≡◌ {A = ℕ} (if nat_le (2 ^ 31) (imm_of word) then 2 ^ 29 else 0) 0 = ap (λ b. if b then 2 ^ 29 else 0) on in
+          ((λ same. omega (arith, e, positive, same)), (λ same. omega (arith, e, positive, same))))
+    ]

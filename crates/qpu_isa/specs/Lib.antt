@@ -4,3 +4,5 @@ pub mod Fields
 pub mod Shader
 pub mod Terms
 pub mod Told
+pub mod Setups
+pub mod Shader

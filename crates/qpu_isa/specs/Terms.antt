@@ -1,5 +1,7 @@
 -- What the rules on shaders and the machine say of one instruction, each a test or a number of its word.
-use Rattle.std.specs.Prelude.{ℕ, ◌+◌, ◌*◌, ◌/◌, ◌^◌, ◌==◌, Bool, true, false, not, ◌&&◌, ◌||◌, nat_lt, nat_le, if◌then◌else◌}
+use Rattle.std.specs.Prelude.{ℕ, ◌+◌, ◌*◌, ◌/◌, ◌%◌, ◌^◌, ◌==◌, Bool, true, false, not, ◌&&◌, ◌||◌, nat_lt, nat_le, if◌then◌else◌}
+use Rattle.std.specs.declared.option.Option.{Option}
+use Rattle.std.specs.declared.option.Option.TheVariants.{None, Some}
 use Rattle.qpu_isa.specs.declared.inst.Reg.{Reg}
 use Rattle.qpu_isa.specs.declared.inst.Reg.TheVariants.{A, B, Acc}
 use Rattle.qpu_isa.specs.Word.{sig_of, unpack_of, pm_of, pack_of, cond_add_of, cond_mul_of, ws_of, waddr_add_of, waddr_mul_of, op_add_of, raddr_a_of, raddr_b_of, add_a_of, add_b_of, mode_of, imm_of}
@@ -93,6 +95,13 @@ mul_writes_tmu word tmu = not (is_branch word) && is_tmu_address tmu (waddr_mul_
 unfoldable pub writes_tmu : ℕ → ℕ → Bool
 writes_tmu word tmu = add_writes_tmu word tmu || mul_writes_tmu word tmu
 
+-- the TMU that the add unit writes, or else the one that the multiply unit writes
+unfoldable pub first_tmu : ℕ → Option ℕ
+first_tmu word =
+    if add_writes_tmu word 0 then Some 0
+    else (if add_writes_tmu word 1 then Some 1
+    else (if mul_writes_tmu word 0 then Some 0 else (if mul_writes_tmu word 1 then Some 1 else None)))
+
 -- how many of the two units write that TMU
 unfoldable pub tmu_writes : ℕ → ℕ → ℕ
 tmu_writes word tmu = (if add_writes_tmu word tmu then 1 else 0) + (if mul_writes_tmu word tmu then 1 else 0)
@@ -118,7 +127,7 @@ has_two_tmu_writes word = add_is_tmu word && mul_is_tmu word
 unfoldable pub has_conditional_tmu_write : ℕ → Bool
 has_conditional_tmu_write word = (add_is_tmu word && not (cond_add_of word == 1)) || (mul_is_tmu word && not (cond_mul_of word == 1))
 
--- Packing: the add unit's result where it goes to file A, else the multiply unit's.
+-- Packing, where pack isn't 0: with pm and ws clear the add unit's result is packed, with either set the multiply unit's.
 unfoldable pub is_add_packed : ℕ → Bool
 is_add_packed word = not (pack_of word == 0) && (not (pm_of word) && not (ws_of word))
 
@@ -134,23 +143,22 @@ unfoldable pub is_uniform_operand : ℕ → ℕ → Bool
 is_uniform_operand word selector =
     is_plain word selector && ((selector == 6 && raddr_a_of word == 32) || (selector == 7 && (raddr_b_of word == 32 && not (has_small word))))
 
--- the plain operand is that register
-unfoldable pub is_operand : ℕ → ℕ → Reg → Bool
-is_operand word selector (A number) = is_plain word selector && (selector == 6 && raddr_a_of word == number)
-is_operand word selector (B number) = is_plain word selector && (selector == 7 && (raddr_b_of word == number && not (has_small word)))
-is_operand word selector (Acc number) = is_plain word selector && selector == number
-
--- the plain operand is a register that a unit can write
-unfoldable pub is_register_operand : ℕ → ℕ → Bool
-is_register_operand word selector =
-    is_plain word selector
-    && (nat_lt selector 4
-    || ((selector == 6 && nat_lt (raddr_a_of word) 32) || (selector == 7 && (nat_lt (raddr_b_of word) 32 && not (has_small word)))))
-
--- the register that a register operand is
-unfoldable pub operand_register : ℕ → ℕ → Reg
+-- the register that the operand is, where it is plain and a register that a unit can write
+unfoldable pub operand_register : ℕ → ℕ → Option Reg
 operand_register word selector =
-    if nat_lt selector 4 then Acc selector else (if selector == 6 then A (raddr_a_of word) else B (raddr_b_of word))
+    if not (is_plain word selector) then None
+    else (if nat_lt selector 4 then Some (Acc selector)
+    else (if selector == 6 && nat_lt (raddr_a_of word) 32 then Some (A (raddr_a_of word))
+    else (if selector == 7 && (nat_lt (raddr_b_of word) 32 && not (has_small word)) then Some (B (raddr_b_of word)) else None)))
+
+-- the register that the add unit's first operand is
+unfoldable pub first_register : ℕ → Option Reg
+first_register word = operand_register word (add_a_of word)
+
+-- it is a register, and passes the test
+abbrev pub passes : Option Reg → (Reg → Bool) → Bool
+passes None test = false
+passes (Some reg) test = test reg
 
 -- The upper halves of the files, registers 16 to 31, which two threads can't share.
 unfoldable pub is_upper : ℕ → Bool
@@ -167,27 +175,28 @@ unfoldable pub sets_alone : ℕ → Reg → Bool
 sets_alone word reg =
     (add_names_reg word reg && not (mul_names_reg word reg)) && (cond_add_of word == 1 && not (is_add_packed word))
 
--- a load of that value into each element
-unfoldable pub loads_value : ℕ → ℕ → Bool
-loads_value word value = is_load_imm word && (mode_of word == 0 && imm_of word == value)
+-- the value that a load puts into each element
+unfoldable pub loaded_value : ℕ → Option ℕ
+loaded_value word = if is_load_imm word && mode_of word == 0 then Some (imm_of word) else None
 
 -- `max` with the small immediate 0
 unfoldable pub is_max_with_zero : ℕ → Bool
 is_max_with_zero word = (has_small word && op_add_of word == 19) && (raddr_b_of word == 0 && (add_a_of word == 7 || add_b_of word == 7))
 
--- `min` of a register operand and a uniform
+-- `min` of the first operand and a uniform
 unfoldable pub is_min_with_uniform : ℕ → Bool
-is_min_with_uniform word = (is_alu word && op_add_of word == 18) && (is_register_operand word (add_a_of word) && is_uniform_operand word (add_b_of word))
+is_min_with_uniform word = (is_alu word && op_add_of word == 18) && is_uniform_operand word (add_b_of word)
 
--- `add` of a register operand and a uniform
+-- `add` of the first operand and a uniform
 unfoldable pub is_add_with_uniform : ℕ → Bool
-is_add_with_uniform word = (is_alu word && op_add_of word == 12) && (is_register_operand word (add_a_of word) && is_uniform_operand word (add_b_of word))
+is_add_with_uniform word = (is_alu word && op_add_of word == 12) && is_uniform_operand word (add_b_of word)
 
--- Branches: the target is the branch's own index plus 4 plus the signed immediate's eighth. With a negative immediate
--- that is the immediate's eighth less 2 ^ 29.
-unfoldable pub back_by : ℕ → ℕ
-back_by word = if nat_le (2 ^ 31) (imm_of word) then 2 ^ 29 else 0
+-- Branches. The immediate counts bytes and is signed. A branch at an index leads to the fourth after it and the immediate's
+-- eighth further: the sum modulo 2 ^ 29, an eighth of 2 ^ 32. So a target before the first instruction is a number of
+-- 2 ^ 28 or more, where no shader reaches.
+unfoldable pub target_of : ℕ → ℕ → ℕ
+target_of word index = (index + 4 + imm_of word / 8) % 2 ^ 29
 
--- a branch at `index` with this word leads to `target`
-unfoldable pub leads_to : ℕ → ℕ → ℕ → Bool
-leads_to word index target = target + back_by word == index + 4 + imm_of word / 8
+-- the immediate is negative as a signed number
+unfoldable pub is_backward : ℕ → Bool
+is_backward word = is_branch word && nat_le (2 ^ 31) (imm_of word)

@@ -1,10 +1,11 @@
 -- What the calls tell of an instruction: whether it takes a uniform, which TMU it writes, which registers it names.
-use Rattle.std.specs.Prelude.{ℕ, ◌+◌, ◌^◌, ◌≡◌, ◌<◌, ◌==◌, Bool, false, not, ◌&&◌, ◌||◌, nat_lt, if◌then◌else◌, is_some}
+use Rattle.std.specs.Prelude.{ℕ, ◌+◌, ◌/◌, ◌^◌, ◌≡◌, ◌<◌, ◌==◌, ◌↔◌, Bool, false, not, ◌&&◌, ◌||◌, nat_lt, nat_le, if◌then◌else◌}
 use Rattle.std.specs.declared.option.Option.{Option}
 use Rattle.std.specs.declared.option.Option.TheVariants.{None, Some}
 use Rattle.qpu_isa.specs.declared.inst.Inst.{Inst}
 use Rattle.qpu_isa.specs.Inst.{inst_of}
-use Rattle.qpu_isa.specs.Terms.{reads_uniform_of, names, has_tmu_write}
+use Rattle.qpu_isa.specs.Word.{imm_of}
+use Rattle.qpu_isa.specs.Terms.{reads_uniform_of, names, first_tmu, target_of}
 use Rattle.qpu_isa.specs.declared.inst.Inst.TheVariants as kind
 use Rattle.qpu_isa.specs.declared.inst.Reg.{Reg}
 use Rattle.qpu_isa.specs.declared.inst.Reg.TheVariants.{A, B, Acc}
@@ -53,7 +54,12 @@ IsRegister (Acc number) = number < 4
 pub record TellsTerms (word : ℕ) : Type 0 where
   pub uniform : takes_uniform (inst_of word) ≡ reads_uniform_of word
   pub named : (reg : Reg) → names_written (inst_of word) reg ≡ names word reg
-  pub tmu : is_some (tmu_written (inst_of word)) ≡ has_tmu_write word
+  pub tmu : tmu_written (inst_of word) ≡ first_tmu word
 
 abbrev pub TermsAgree : Type 0
 TermsAgree = (word : ℕ) → word < 2 ^ 64 → TellsTerms word
+
+-- A branch's target is the signed sum: the index, four and the immediate's eighth, less 2 ^ 29 where the immediate is negative.
+abbrev pub TargetsAreSums : Type 0
+TargetsAreSums = (word index target : ℕ) → index < 2 ^ 27 → target < 2 ^ 27
+    → (target_of word index ≡ target) ↔ (target + (if nat_le (2 ^ 31) (imm_of word) then 2 ^ 29 else 0) ≡ index + 4 + imm_of word / 8)

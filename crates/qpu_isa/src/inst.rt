@@ -1,3 +1,5 @@
+//! Instructions, registers, and what is known of a shader.
+
 /// An ALU instruction by its fields, from the word's highest bits down: the two units' operations, conditions, write
 /// addresses and operands. `sig` is below 14 in what `decode` gives.
 #[derive(Clone, Copy, Debug, PartialEq, Eq)]

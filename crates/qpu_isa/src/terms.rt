@@ -1,6 +1,7 @@
+//! What the calls tell of an instruction.
 ghost use Rattle.std.specs.Prelude.{◌≡◌, ◌<◌, ◌^◌, ℕ, Bool, not};
 ghost use Rattle.qpu_isa.specs.Inst.{inst_of};
-ghost use Rattle.qpu_isa.specs.Told.{takes_uniform, tmu_at, tmu_written, first_given, is_named, names_written, IsRegister, TermsAgree};
+ghost use Rattle.qpu_isa.specs.Told.{takes_uniform, tmu_at, tmu_written, first_given, is_named, names_written, IsRegister, TermsAgree, TargetsAreSums};
 
 use crate::inst::{Inst, Reg};
 
@@ -80,4 +81,9 @@ pub fn writes_reg(inst: &Inst, reg: Reg) -> bool
 /// A law: of a word's instruction the calls here tell what the terms on words say.
 pub fn terms_agree()
     ensures { TermsAgree }
+{}
+
+/// A law: a branch's target, a sum modulo 2^29, is the sum with a signed immediate.
+pub fn targets_are_sums()
+    ensures { TargetsAreSums }
 {}

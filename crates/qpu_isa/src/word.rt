@@ -1,240 +1,323 @@
-ghost use Rattle.std.specs.Prelude.{◌≡◌, ◌<◌, ◌≤◌, ◌+◌, ◌^◌, ℕ, ◌==◌, ◌↔◌, IsTrue};
-ghost use Rattle.field_words.specs.Words.{bits_of};
-ghost use Rattle.qpu_isa.specs.Inst.{inst_of, alu_of, load_imm_of, branch_of, word_of, alu_word, load_imm_word, branch_word, IsWithin, IsAluWithin, IsLoadImmWithin, IsBranchWithin, WordsReturn};
+//! The fields of an instruction word, each by its one name, and the kinds of instructions.
+//!
+//! A word is any number of 64 bits. Which fields it has depends on its signal: those of a load immediate (signal 14) and of
+//! a branch (15) come last here.
+ghost use Rattle.std.specs.Prelude.{◌≡◌, ◌<◌};
+ghost use Rattle.qpu_isa.specs.Word.{sig_of, unpack_of, pm_of, pack_of, cond_add_of, cond_mul_of, sf_of, ws_of, waddr_add_of, waddr_mul_of, op_mul_of, op_add_of, raddr_a_of, raddr_b_of, add_a_of, add_b_of, mul_a_of, mul_b_of, mode_of, imm_of, spare_of, cond_of, relative_of, register_of, raddr_of};
+ghost use Rattle.qpu_isa.specs.Terms.{is_alu, is_load_imm, is_branch, is_switch, is_end, has_small, is_backward, target_of};
 
-use crate::inst::{Alu, Branch, Inst, LoadImm};
-
-// A field of at most eight bits.
-fn small_field(word: u64, high: u32, low: u32) -> u8
-    requires ordered { low ≤ high }
-    requires narrow { high < low + 8 }
-    requires inside { high < 64 }
-    ensures { result ≡ bits_of word high low }
+/// The signal, 0 to 15.
+#[inline]
+#[tactic(auto, unfolding(crate::specs::Word::sig_of))]
+pub fn sig(word: u64) -> u8
+    ensures value { result ≡ sig_of word }
+    ensures small { result < 16 }
 {
-    ((word >> low) % (1 << (high + 1 - low))) as u8
+    ((word >> 60) % 16) as u8
 }
 
-// A field of one bit.
-fn flag(word: u64, place: u32) -> bool
-    requires { place < 64 }
-    ensures { result ≡ (bits_of word place place == 1) }
+/// How the read of file A, or r4 where `pm` is set, is unpacked, 0 to 7; 0 is not at all.
+#[inline]
+#[tactic(auto, unfolding(crate::specs::Word::unpack_of))]
+pub fn unpack(word: u64) -> u8
+    ensures value { result ≡ unpack_of word }
+    ensures small { result < 8 }
 {
-    small_field(word, place, place) == 1
+    ((word >> 57) % 8) as u8
 }
 
-#[tactic(auto, unfolding(crate::specs::Inst::alu_of, crate::specs::Word::sig_of, crate::specs::Word::unpack_of, crate::specs::Word::pm_of, crate::specs::Word::pack_of, crate::specs::Word::cond_add_of, crate::specs::Word::cond_mul_of, crate::specs::Word::sf_of, crate::specs::Word::ws_of, crate::specs::Word::waddr_add_of, crate::specs::Word::waddr_mul_of, crate::specs::Word::op_mul_of, crate::specs::Word::op_add_of, crate::specs::Word::raddr_a_of, crate::specs::Word::raddr_b_of, crate::specs::Word::add_a_of, crate::specs::Word::add_b_of, crate::specs::Word::mul_a_of, crate::specs::Word::mul_b_of))]
-fn alu(word: u64) -> Alu
-    ensures fields { result ≡ alu_of word }
-    ensures within { IsAluWithin result }
+/// Whether packing is the multiply unit's, and unpacking that of r4.
+#[inline]
+#[tactic(auto, unfolding(crate::specs::Word::pm_of))]
+pub fn pm(word: u64) -> bool
+    ensures { result ≡ pm_of word }
 {
-    Alu {
-        sig: small_field(word, 63, 60),
-        unpack: small_field(word, 59, 57),
-        pm: flag(word, 56),
-        pack: small_field(word, 55, 52),
-        cond_add: small_field(word, 51, 49),
-        cond_mul: small_field(word, 48, 46),
-        sf: flag(word, 45),
-        ws: flag(word, 44),
-        waddr_add: small_field(word, 43, 38),
-        waddr_mul: small_field(word, 37, 32),
-        op_mul: small_field(word, 31, 29),
-        op_add: small_field(word, 28, 24),
-        raddr_a: small_field(word, 23, 18),
-        raddr_b: small_field(word, 17, 12),
-        add_a: small_field(word, 11, 9),
-        add_b: small_field(word, 8, 6),
-        mul_a: small_field(word, 5, 3),
-        mul_b: small_field(word, 2, 0),
-    }
+    (word >> 56) % 2 == 1
 }
 
-#[tactic(auto, unfolding(crate::specs::Inst::load_imm_of, crate::specs::Word::mode_of, crate::specs::Word::pm_of, crate::specs::Word::pack_of, crate::specs::Word::cond_add_of, crate::specs::Word::cond_mul_of, crate::specs::Word::sf_of, crate::specs::Word::ws_of, crate::specs::Word::waddr_add_of, crate::specs::Word::waddr_mul_of, crate::specs::Word::imm_of))]
-fn load_imm(word: u64) -> LoadImm
-    ensures fields { result ≡ load_imm_of word }
-    ensures within { IsLoadImmWithin result }
+/// How a result is packed, 0 to 15; 0 is not at all.
+#[inline]
+#[tactic(auto, unfolding(crate::specs::Word::pack_of))]
+pub fn pack(word: u64) -> u8
+    ensures value { result ≡ pack_of word }
+    ensures small { result < 16 }
 {
-    LoadImm {
-        mode: small_field(word, 59, 57),
-        pm: flag(word, 56),
-        pack: small_field(word, 55, 52),
-        cond_add: small_field(word, 51, 49),
-        cond_mul: small_field(word, 48, 46),
-        sf: flag(word, 45),
-        ws: flag(word, 44),
-        waddr_add: small_field(word, 43, 38),
-        waddr_mul: small_field(word, 37, 32),
-        imm: immediate(word),
-    }
+    ((word >> 52) % 16) as u8
 }
 
-#[tactic(auto, unfolding(crate::specs::Inst::branch_of, crate::specs::Word::spare_of, crate::specs::Word::cond_of, crate::specs::Word::relative_of, crate::specs::Word::register_of, crate::specs::Word::raddr_of, crate::specs::Word::ws_of, crate::specs::Word::waddr_add_of, crate::specs::Word::waddr_mul_of, crate::specs::Word::imm_of))]
-fn branch(word: u64) -> Branch
-    ensures fields { result ≡ branch_of word }
-    ensures within { IsBranchWithin result }
+/// The add unit's condition, 0 to 7; 1 is always.
+#[inline]
+#[tactic(auto, unfolding(crate::specs::Word::cond_add_of))]
+pub fn cond_add(word: u64) -> u8
+    ensures value { result ≡ cond_add_of word }
+    ensures small { result < 8 }
 {
-    Branch {
-        spare: small_field(word, 59, 56),
-        cond: small_field(word, 55, 52),
-        relative: flag(word, 51),
-        register: flag(word, 50),
-        raddr: small_field(word, 49, 45),
-        ws: flag(word, 44),
-        waddr_add: small_field(word, 43, 38),
-        waddr_mul: small_field(word, 37, 32),
-        imm: immediate(word),
-    }
+    ((word >> 49) % 8) as u8
 }
 
-fn immediate(word: u64) -> u32
-    ensures { result ≡ bits_of word 31 0 }
+/// The multiply unit's condition, 0 to 7; 1 is always.
+#[inline]
+#[tactic(auto, unfolding(crate::specs::Word::cond_mul_of))]
+pub fn cond_mul(word: u64) -> u8
+    ensures value { result ≡ cond_mul_of word }
+    ensures small { result < 8 }
+{
+    ((word >> 46) % 8) as u8
+}
+
+/// Whether the flags are set.
+#[inline]
+#[tactic(auto, unfolding(crate::specs::Word::sf_of))]
+pub fn sf(word: u64) -> bool
+    ensures { result ≡ sf_of word }
+{
+    (word >> 45) % 2 == 1
+}
+
+/// Whether the add unit writes the B side and the multiply unit the A side.
+#[inline]
+#[tactic(auto, unfolding(crate::specs::Word::ws_of))]
+pub fn ws(word: u64) -> bool
+    ensures { result ≡ ws_of word }
+{
+    (word >> 44) % 2 == 1
+}
+
+/// The add unit's write address, 0 to 63.
+#[inline]
+#[tactic(auto, unfolding(crate::specs::Word::waddr_add_of))]
+pub fn waddr_add(word: u64) -> u8
+    ensures value { result ≡ waddr_add_of word }
+    ensures small { result < 64 }
+{
+    ((word >> 38) % 64) as u8
+}
+
+/// The multiply unit's write address, 0 to 63.
+#[inline]
+#[tactic(auto, unfolding(crate::specs::Word::waddr_mul_of))]
+pub fn waddr_mul(word: u64) -> u8
+    ensures value { result ≡ waddr_mul_of word }
+    ensures small { result < 64 }
+{
+    ((word >> 32) % 64) as u8
+}
+
+/// The multiply unit's operation, 0 to 7.
+#[inline]
+#[tactic(auto, unfolding(crate::specs::Word::op_mul_of))]
+pub fn op_mul(word: u64) -> u8
+    ensures value { result ≡ op_mul_of word }
+    ensures small { result < 8 }
+{
+    ((word >> 29) % 8) as u8
+}
+
+/// The add unit's operation, 0 to 31.
+#[inline]
+#[tactic(auto, unfolding(crate::specs::Word::op_add_of))]
+pub fn op_add(word: u64) -> u8
+    ensures value { result ≡ op_add_of word }
+    ensures small { result < 32 }
+{
+    ((word >> 24) % 32) as u8
+}
+
+/// The read address of file A, 0 to 63; 32 is a uniform.
+#[inline]
+#[tactic(auto, unfolding(crate::specs::Word::raddr_a_of))]
+pub fn raddr_a(word: u64) -> u8
+    ensures value { result ≡ raddr_a_of word }
+    ensures small { result < 64 }
+{
+    ((word >> 18) % 64) as u8
+}
+
+/// The read address of file B, 0 to 63, or a small immediate where the signal is 13.
+#[inline]
+#[tactic(auto, unfolding(crate::specs::Word::raddr_b_of))]
+pub fn raddr_b(word: u64) -> u8
+    ensures value { result ≡ raddr_b_of word }
+    ensures small { result < 64 }
+{
+    ((word >> 12) % 64) as u8
+}
+
+/// The selector of the add unit's first operand, 0 to 7.
+#[inline]
+#[tactic(auto, unfolding(crate::specs::Word::add_a_of))]
+pub fn add_a(word: u64) -> u8
+    ensures value { result ≡ add_a_of word }
+    ensures small { result < 8 }
+{
+    ((word >> 9) % 8) as u8
+}
+
+/// The selector of the add unit's second operand, 0 to 7.
+#[inline]
+#[tactic(auto, unfolding(crate::specs::Word::add_b_of))]
+pub fn add_b(word: u64) -> u8
+    ensures value { result ≡ add_b_of word }
+    ensures small { result < 8 }
+{
+    ((word >> 6) % 8) as u8
+}
+
+/// The selector of the multiply unit's first operand, 0 to 7.
+#[inline]
+#[tactic(auto, unfolding(crate::specs::Word::mul_a_of))]
+pub fn mul_a(word: u64) -> u8
+    ensures value { result ≡ mul_a_of word }
+    ensures small { result < 8 }
+{
+    ((word >> 3) % 8) as u8
+}
+
+/// The selector of the multiply unit's second operand, 0 to 7.
+#[inline]
+#[tactic(auto, unfolding(crate::specs::Word::mul_b_of))]
+pub fn mul_b(word: u64) -> u8
+    ensures value { result ≡ mul_b_of word }
+    ensures small { result < 8 }
+{
+    (word % 8) as u8
+}
+
+/// The mode of a load immediate, 0 to 7.
+#[inline]
+#[tactic(auto, unfolding(crate::specs::Word::mode_of))]
+pub fn mode(word: u64) -> u8
+    ensures value { result ≡ mode_of word }
+    ensures small { result < 8 }
+{
+    ((word >> 57) % 8) as u8
+}
+
+/// The immediate of a load or a branch.
+#[inline]
+#[tactic(auto, unfolding(crate::specs::Word::imm_of))]
+pub fn imm(word: u64) -> u32
+    ensures { result ≡ imm_of word }
 {
     (word % (1 << 32)) as u32
 }
 
-/// Reads a word as an instruction: signal 14 is a load immediate, 15 a branch, any other an ALU instruction. Each word is
-/// one, and `encode` gives it again.
-#[tactic(auto, unfolding(crate::specs::Inst::inst_of, crate::specs::Word::sig_of))]
-pub fn decode(word: u64) -> Inst
-    ensures fields { result ≡ inst_of word }
-    ensures within { IsWithin result }
+/// The bits of a branch that mean nothing, 0 to 15.
+#[inline]
+#[tactic(auto, unfolding(crate::specs::Word::spare_of))]
+pub fn spare(word: u64) -> u8
+    ensures value { result ≡ spare_of word }
+    ensures small { result < 16 }
 {
-    match small_field(word, 63, 60) {
-        14 => Inst::LoadImm(load_imm(word)),
-        15 => Inst::Branch(branch(word)),
-        _ => Inst::Alu(alu(word)),
-    }
+    ((word >> 56) % 16) as u8
 }
 
-/// Whether each field is within its width, so that the instruction has a word.
-pub fn fits(inst: &Inst) -> bool
-    ensures { IsTrue result ↔ IsWithin inst.now }
+/// The condition of a branch, 0 to 15.
+#[inline]
+#[tactic(auto, unfolding(crate::specs::Word::cond_of))]
+pub fn cond(word: u64) -> u8
+    ensures value { result ≡ cond_of word }
+    ensures small { result < 16 }
 {
-    match inst {
-        Inst::Alu(alu) => fits_alu(alu),
-        Inst::LoadImm(load) => fits_load_imm(load),
-        Inst::Branch(branch) => fits_branch(branch),
-    }
+    ((word >> 52) % 16) as u8
 }
 
-fn fits_alu(alu: &Alu) -> bool
-    ensures { IsTrue result ↔ IsAluWithin alu.now }
+/// Whether a branch counts from its own place.
+#[inline]
+#[tactic(auto, unfolding(crate::specs::Word::relative_of))]
+pub fn relative(word: u64) -> bool
+    ensures { result ≡ relative_of word }
 {
-    if alu.sig >= 16
-        || alu.unpack >= 8
-        || alu.pack >= 16
-        || alu.cond_add >= 8
-        || alu.cond_mul >= 8
-    {
-        return false;
-    }
-    if alu.waddr_add >= 64 || alu.waddr_mul >= 64 || alu.op_mul >= 8 || alu.op_add >= 32 {
-        return false;
-    }
-    if alu.raddr_a >= 64 || alu.raddr_b >= 64 {
-        return false;
-    }
-    alu.add_a < 8 && alu.add_b < 8 && alu.mul_a < 8 && alu.mul_b < 8
+    (word >> 51) % 2 == 1
 }
 
-fn fits_load_imm(load: &LoadImm) -> bool
-    ensures { IsTrue result ↔ IsLoadImmWithin load.now }
+/// Whether a branch takes its target from a register.
+#[inline]
+#[tactic(auto, unfolding(crate::specs::Word::register_of))]
+pub fn register(word: u64) -> bool
+    ensures { result ≡ register_of word }
 {
-    let _imm = load.imm;
-    load.mode < 8
-        && load.pack < 16
-        && load.cond_add < 8
-        && load.cond_mul < 8
-        && load.waddr_add < 64
-        && load.waddr_mul < 64
+    (word >> 50) % 2 == 1
 }
 
-fn fits_branch(branch: &Branch) -> bool
-    ensures { IsTrue result ↔ IsBranchWithin branch.now }
+/// The register of file A of a branch by a register, 0 to 31.
+#[inline]
+#[tactic(auto, unfolding(crate::specs::Word::raddr_of))]
+pub fn raddr(word: u64) -> u8
+    ensures value { result ≡ raddr_of word }
+    ensures small { result < 32 }
 {
-    let _imm = branch.imm;
-    branch.spare < 16
-        && branch.cond < 16
-        && branch.raddr < 32
-        && branch.waddr_add < 64
-        && branch.waddr_mul < 64
+    ((word >> 45) % 32) as u8
 }
 
-/// The word with these fields.
-pub fn encode(inst: &Inst) -> u64
-    requires { IsWithin inst.now }
-    ensures word { result ≡ word_of inst.now }
-    ensures back { (word : ℕ) → word < 2 ^ 64 → inst.now ≡ inst_of word → result ≡ word }
+/// Whether it is an instruction of the two units.
+#[inline]
+#[tactic(auto, unfolding(crate::specs::Terms::is_alu))]
+pub fn is_alu(word: u64) -> bool
+    ensures { result ≡ is_alu word }
 {
-    match inst {
-        Inst::Alu(alu) => put_alu(alu),
-        Inst::LoadImm(load) => put_load_imm(load),
-        Inst::Branch(branch) => put_branch(branch),
-    }
+    sig(word) < 14
 }
 
-#[tactic(auto, unfolding(crate::specs::Inst::alu_word))]
-fn put_alu(alu: &Alu) -> u64
-    requires { IsAluWithin alu.now }
-    ensures { result ≡ alu_word alu.now }
+/// Whether it is a load immediate.
+#[inline]
+#[tactic(auto, unfolding(crate::specs::Terms::is_load_imm))]
+pub fn is_load_imm(word: u64) -> bool
+    ensures { result ≡ is_load_imm word }
 {
-    ((alu.sig as u64) << 60)
-        + ((alu.unpack as u64) << 57)
-        + ((alu.pm as u64) << 56)
-        + ((alu.pack as u64) << 52)
-        + ((alu.cond_add as u64) << 49)
-        + ((alu.cond_mul as u64) << 46)
-        + ((alu.sf as u64) << 45)
-        + ((alu.ws as u64) << 44)
-        + ((alu.waddr_add as u64) << 38)
-        + ((alu.waddr_mul as u64) << 32)
-        + ((alu.op_mul as u64) << 29)
-        + ((alu.op_add as u64) << 24)
-        + ((alu.raddr_a as u64) << 18)
-        + ((alu.raddr_b as u64) << 12)
-        + ((alu.add_a as u64) << 9)
-        + ((alu.add_b as u64) << 6)
-        + ((alu.mul_a as u64) << 3)
-        + alu.mul_b as u64
+    sig(word) == 14
 }
 
-#[tactic(auto, unfolding(crate::specs::Inst::load_imm_word))]
-fn put_load_imm(load: &LoadImm) -> u64
-    requires { IsLoadImmWithin load.now }
-    ensures { result ≡ load_imm_word load.now }
+/// Whether it is a branch.
+#[inline]
+#[tactic(auto, unfolding(crate::specs::Terms::is_branch))]
+pub fn is_branch(word: u64) -> bool
+    ensures { result ≡ is_branch word }
 {
-    (14 << 60)
-        + ((load.mode as u64) << 57)
-        + ((load.pm as u64) << 56)
-        + ((load.pack as u64) << 52)
-        + ((load.cond_add as u64) << 49)
-        + ((load.cond_mul as u64) << 46)
-        + ((load.sf as u64) << 45)
-        + ((load.ws as u64) << 44)
-        + ((load.waddr_add as u64) << 38)
-        + ((load.waddr_mul as u64) << 32)
-        + load.imm as u64
+    sig(word) == 15
 }
 
-#[tactic(auto, unfolding(crate::specs::Inst::branch_word))]
-fn put_branch(branch: &Branch) -> u64
-    requires { IsBranchWithin branch.now }
-    ensures { result ≡ branch_word branch.now }
+/// Whether it is a thread switch: 6 is a thread's last.
+#[inline]
+#[tactic(auto, unfolding(crate::specs::Terms::is_switch))]
+pub fn is_switch(word: u64) -> bool
+    ensures { result ≡ is_switch word }
 {
-    (15 << 60)
-        + ((branch.spare as u64) << 56)
-        + ((branch.cond as u64) << 52)
-        + ((branch.relative as u64) << 51)
-        + ((branch.register as u64) << 50)
-        + ((branch.raddr as u64) << 45)
-        + ((branch.ws as u64) << 44)
-        + ((branch.waddr_add as u64) << 38)
-        + ((branch.waddr_mul as u64) << 32)
-        + branch.imm as u64
+    sig(word) == 2 || sig(word) == 6
 }
 
-/// A law: each word is the word of its fields, so nothing is lost between `decode` and `encode`.
-#[tactic(auto, using(crate::proofs::Words::each_returns))]
-pub fn words_return()
-    ensures { WordsReturn }
-{}
+/// Whether it is a program end.
+#[inline]
+#[tactic(auto, unfolding(crate::specs::Terms::is_end))]
+pub fn is_end(word: u64) -> bool
+    ensures { result ≡ is_end word }
+{
+    sig(word) == 3
+}
+
+/// Whether the read of file B is a small immediate.
+#[inline]
+#[tactic(auto, unfolding(crate::specs::Terms::has_small))]
+pub fn has_small(word: u64) -> bool
+    ensures { result ≡ has_small word }
+{
+    sig(word) == 13
+}
+
+/// Whether it is a branch whose immediate is negative as a signed number.
+#[inline]
+#[tactic(auto, unfolding(crate::specs::Terms::is_backward))]
+pub fn is_backward(word: u64) -> bool
+    ensures { result ≡ is_backward word }
+{
+    is_branch(word) && 1 << 31 <= imm(word)
+}
+
+/// The index that a relative branch at index `at` leads to. A target before the first instruction is a number of 2^28 or more.
+#[inline]
+#[tactic(auto, unfolding(crate::specs::Terms::target_of))]
+pub fn target(word: u64, at: u32) -> u32
+    ensures { result ≡ target_of word at }
+{
+    ((at as u64 + 4 + imm(word) as u64 / 8) % (1 << 29)) as u32
+}

@@ -3,14 +3,15 @@ use Rattle.std.proofs.Common.{◌≡◌, ◌≤◌, ◌<◌, ◌+◌, ◌==◌, 
 use Rattle.std.proofs.lemmas.Bool.{cases_Bool, and_left}
 use Rattle.qpu_isa.specs.Terms.{writes_s, writes_tmu}
 use Rattle.shader_flow.specs.Flow.{word, checked_of}
-use Rattle.uniform_stream.specs.Pending.{pending_of}
-use Rattle.uniform_stream.proofs.Counts.{pending_zero, pending_sent, pending_kept}
-use Rattle.shader_check.specs.Info.{held, kept}
-use Rattle.shader_check.specs.Sound.{Member}
+use Rattle.shader_flow.specs.Pending.{pending_of}
+use Rattle.shader_flow.proofs.Counts.{pending_zero, pending_sent, pending_kept}
+use Rattle.qpu_isa.specs.Setups.{kept}
+use Rattle.shader_check.specs.Info.{held}
+use Rattle.shader_check.proofs.Listed.{Member}
 use Rattle.shader_check.proofs.Clean.{IsCleanAt, IsClean}
 use Rattle.shader_check.proofs.Members.{member_append}
 use Rattle.shader_check.proofs.Positions.{held_next}
-use Rattle.shader_check.proofs.Setups.{SetsUp, Numbered, numbered_push, sets_one, one_word, no_word}
+use Rattle.shader_check.proofs.Setups.{SetsUp, Numbered, numbered_push, sets_one, not_sent, one_word, no_word}
 
 pub record KeptIs (code : List ℕ) (t i : ℕ) (xs : List ℕ) (p : ℕ) : Type 0 where
   pub size : length xs ≡ p
@@ -45,7 +46,7 @@ kept_same code t i inside stays none =
 pub next_setup : (code : List ℕ) (t i m : ℕ) → t < 2 → i < checked_of code → writes_s (word code i) t ≡ false → writes_tmu (word code i) t ≡ true → pending_of code t i ≡ m → SetsUp code t i m
 next_setup code t i m small inside stays writes number = record {
   inside = inside;
-  sets_it = sets_one code t i small writes (and_left (writes_s (word code i) t) (pending_of code t i == 0) stays);
+  sets_it = sets_one code t i small writes (not_sent (word code i) t (pending_of code t i) stays);
   writes = writes;
   number = number;
 }

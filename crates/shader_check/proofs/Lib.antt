@@ -1,5 +1,8 @@
 pub mod Clean
 pub mod Held
+pub mod Indexed
+pub mod Leasts
+pub mod Listed
 pub mod Members
 pub mod Parts
 pub mod Positions

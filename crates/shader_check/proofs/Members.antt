@@ -3,7 +3,7 @@ use Rattle.std.proofs.Common.{◌≡◌, ◌<◌, ◌⊎◌, ℕ, zero, suc, Boo
 use Rattle.std.proofs.lemmas.Bool.{cases_Bool}
 use Rattle.std.proofs.lemmas.List.{map-append, append-nil}
 use Rattle.shader_flow.specs.Bounded.{indexes}
-use Rattle.shader_check.specs.Sound.{Member, AllDifferent}
+use Rattle.shader_check.proofs.Listed.{Member, AllDifferent}
 
 pub member_append : {X : Type 0} (xs ys : List X) (x : X) → Member x (xs ++ ys) → Member x xs ⊎ Member x ys
 member_append [] ys x member = inr member

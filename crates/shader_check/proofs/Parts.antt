@@ -1,27 +1,26 @@
 -- The instructions that take a sample's uniforms: the first, and one to three more.
 use Rattle.std.proofs.Common.{◌≡◌, ◌≤◌, ◌<◌, ◌+◌, ◌-◌, ◌==◌, ℕ, zero, suc, true, false, ◌&&◌, ◌||◌, List, [], ◌∷◌, ◌++◌, length, if◌then◌else◌, refl, sym, ap, subst, inl, inr, arith, ◌∙◌, nat_le, length-append}
 use Rattle.std.proofs.lemmas.Bool.{and_parts, and_cases, or_cases, or_parts, cases_Bool, true≢false, leb-false, eqb-false, and_right}
-use Rattle.qpu_isa.specs.Word.{add_a_of}
-use Rattle.qpu_isa.specs.Terms.{writes_s, s_address, names_address, writes_tmu, is_address_write, is_min_with_uniform, is_add_with_uniform, operand_register}
+use Rattle.qpu_isa.specs.Terms.{writes_s, s_address, names_address, writes_tmu, is_address_write, is_min_with_uniform, is_add_with_uniform}
 use Rattle.shader_flow.specs.Flow.{word, checked_of}
-use Rattle.uniform_stream.specs.Pending.{pending_of, takes}
+use Rattle.qpu_isa.specs.Setups.{is_direct}
+use Rattle.shader_flow.specs.Pending.{pending_of, takes}
 use Rattle.uniform_stream.specs.Rules.{s22, is_full}
-use Rattle.clamp_facts.specs.Facts.{makes_clamp, is_not_negative}
-use Rattle.clamp_facts.proofs.Carriers.{clamped_found, clamps_parts, carried_parts}
-use Rattle.shader_check.specs.Rules.{adds_direct, muls_direct}
+use Rattle.clamp_facts.proofs.Carriers.{sets_parts, carried_parts}
+use Rattle.clamp_facts.proofs.Clamps.{clamped_found, clamps_parts, clamp_min}
+use Rattle.shader_check.specs.Rules.{direct_by_add, direct_by_mul}
 use Rattle.shader_check.specs.Info.{held, asks, sample_tmu, is_direct_sample, clamp_parts, sample_parts}
-use Rattle.shader_check.specs.Sound.{Member}
+use Rattle.shader_check.proofs.Listed.{Member}
 use Rattle.shader_check.proofs.Clean.{IsCleanAt, IsClean}
 use Rattle.shader_check.proofs.Members.{member_append}
-use Rattle.shader_check.proofs.Positions.{clamp_parts_one, first_register}
+use Rattle.shader_check.proofs.Positions.{clamp_parts_one}
 use Rattle.shader_check.proofs.Roles.{sum_parts, min_parts, sum_or_min, reads_takes, sets_takes, sets_or_reads, address_parts, direct_parts, clamped_parts, address_or_direct}
-use Rattle.shader_check.proofs.Setups.{SetsUp, Numbered, numbered_member, sets_one, s_writes, one_tmu}
+use Rattle.shader_check.proofs.Setups.{SetsUp, Numbered, numbered_member, sets_one, not_kept, s_writes, one_tmu}
 use Rattle.shader_check.proofs.Held.{held_is, held_after}
-use Rattle.shader_check.proofs.Tables.{add_operand}
 
 -- the first of the instruction at i's sample: itself, where it is direct, or a setup write of number 0
 pub data HeadIs (code : List ℕ) (i h : ℕ) : Type 0 where
-  Direct : h ≡ i → adds_direct code i ≡ true → is_add_with_uniform (word code i) ≡ true → HeadIs code i h
+  Direct : h ≡ i → direct_by_add code i ≡ true → is_add_with_uniform (word code i) ≡ true → HeadIs code i h
   First : (t : ℕ) → writes_s (word code i) t ≡ true → SetsUp code t h 0 → Member h (held code t i) → h < i → t < 2 → HeadIs code i h
 
 -- another of a sample: a clamp, or a later setup write
@@ -55,12 +54,12 @@ asked_tmu w asked =
           (omega (arith, e), subst (λ t. writes_s w t ≡ true) (sym e) two))
     ]
 
--- a write of S with none pending is one unit's direct write
-pub directs : (code : List ℕ) (i t : ℕ) → t < 2 → writes_s (word code i) t ≡ true → (pending_of code t i == 0) ≡ true → (adds_direct code i || muls_direct code i) ≡ true
-unfolding writes_s names_address s_address adds_direct muls_direct
-directs code i zero small sent none = grind (arith, sent, none)
-directs code i (suc zero) small sent none = grind (arith, sent, none)
-directs code i (suc (suc t)) small sent none = let no : ⊥ = omega (arith, small) in absurd no
+-- a direct write is one unit's
+pub directs : (code : List ℕ) (i t : ℕ) → t < 2 → is_direct (word code i) t (pending_of code t i) ≡ true → (direct_by_add code i || direct_by_mul code i) ≡ true
+unfolding is_direct direct_by_add direct_by_mul
+directs code i zero small direct = grind (arith, direct)
+directs code i (suc zero) small direct = grind (arith, direct)
+directs code i (suc (suc t)) small direct = let no : ⊥ = omega (arith, small) in absurd no
 
 -- fewer than four are pending
 pub room : (code : List ℕ) (i t : ℕ) → t < 2 → IsCleanAt code i → writes_tmu (word code i) t ≡ true → pending_of code t i < 4
@@ -80,21 +79,22 @@ room code i (suc zero) small clean writes =
 room code i (suc (suc t)) small clean writes = let no : ⊥ = omega (arith, small) in absurd no
 
 pub parts_direct : (code : List ℕ) (i : ℕ) → i < checked_of code → IsCleanAt code i → asks (word code i) ≡ true → is_direct_sample code i ≡ true → PartsAre code i
-unfolding is_direct_sample sample_parts makes_clamp
+unfolding is_direct_sample sample_parts
 parts_direct code i inside clean asked direct =
     let tmu = asked_tmu (word code i) asked in
-    let both = direct_parts code i clean (directs code i (sample_tmu (word code i)) tmu.0 tmu.1 direct) in
+    let both = direct_parts code i clean (directs code i (sample_tmu (word code i)) tmu.0 direct) in
     let clamped = clamped_parts code i both.1 in
-    let found = clamped_found code i (first_register code i) clamped.1 in
-    let one = clamps_parts code found.0 i (first_register code i) found.1 in
-    let min = (and_parts (is_min_with_uniform (word code found.0)) (is_not_negative code found.0 (operand_register (word code found.0) (add_a_of (word code found.0)))) one.1).0 in
-    let below = (carried_parts code found.0 i (first_register code i) one.0.carried).0 in
+    let reg = clamped.1.0 in
+    let found = clamped_found code i reg clamped.1.2 in
+    let one = clamps_parts code found.0 i reg found.1 in
+    let min = clamp_min code found.0 one.1 in
+    let below = (sets_parts code found.0 reg (carried_parts code found.0 i reg one.0.carried).0).0 in
     record {
       head = i;
       rest = found.0 ∷ [];
       parts =
           ap (λ b. if b then i ∷ clamp_parts code i else held code (sample_tmu (word code i)) i ++ (i ∷ [])) direct
-          ∙ ap (λ ks. i ∷ ks) (clamp_parts_one code i found.0 (add_operand (word code i) clamped.0) found.1);
+          ∙ ap (λ ks. i ∷ ks) (clamp_parts_one code i found.0 reg clamped.1.1 found.2);
       some = omega arith;
       few = omega arith;
       head_is = Direct refl both.0 clamped.0;
@@ -117,7 +117,7 @@ parts_setup code i inside clean asked setup =
     let tmu = asked_tmu (word code i) asked in
     let writes = s_writes (word code i) t tmu.1 in
     let is = held_is code t tmu.0 clean i (omega (arith, inside)) in
-    let pending = eqb-false (pending_of code t i) 0 setup in
+    let pending = eqb-false (pending_of code t i) 0 (not_kept (word code i) t (pending_of code t i) tmu.1 setup) in
     let held-some = not_empty (held code t i) (λ none. pending (sym is.size ∙ none)) in
     let h = held-some.0 in
     let r = held-some.1 in
@@ -128,7 +128,7 @@ parts_setup code i inside clean asked setup =
     let long-rest = length-append r (i ∷ []) in
     let last : SetsUp code t i (pending_of code t i) = record {
       inside = inside;
-      sets_it = sets_one code t i tmu.0 writes (and_right (writes_s (word code i) t) (pending_of code t i == 0) setup);
+      sets_it = sets_one code t i tmu.0 writes setup;
       writes = writes;
       number = refl;
     } in
@@ -175,7 +175,7 @@ rest_or_address code k clean (Later t m setup) address =
 
 pub head_or_address : (code : List ℕ) (i h : ℕ) → IsCleanAt code h → HeadIs code i h → is_address_write (word code h) ≡ true → ⊥
 head_or_address code i h clean (Direct same adds sum) address =
-    address_or_direct code h (address_parts code h clean address).1 (subst (λ m. adds_direct code m ≡ true) (sym same) adds)
+    address_or_direct code h (address_parts code h clean address).1 (subst (λ m. direct_by_add code m ≡ true) (sym same) adds)
 head_or_address code i h clean (First t sent setup member below small) address =
     sets_or_reads code h clean setup.sets_it (sum_parts (word code h) (address_parts code h clean address).0).0
 

@@ -3,15 +3,16 @@ use Rattle.std.proofs.Common.{◌≡◌, ◌<◌, ◌+◌, ℕ, suc, Bool, true,
 use Rattle.std.proofs.lemmas.Bool.{and_from, and_right, lt-ltb}
 use Rattle.std.proofs.lemmas.List.{map-append}
 use Rattle.qpu_isa.specs.declared.inst.Reg.{Reg}
-use Rattle.qpu_isa.specs.Word.{add_a_of}
-use Rattle.qpu_isa.specs.Terms.{writes_s, writes_tmu, is_register_operand, operand_register}
+use Rattle.qpu_isa.specs.Terms.{writes_s, writes_tmu, first_register, loaded_value, is_max_with_zero}
 use Rattle.shader_flow.specs.Flow.{word, checked_of}
-use Rattle.clamp_facts.specs.Facts.{clamps, is_clamped, clamp_index}
-use Rattle.clamp_facts.proofs.Carriers.{clamped_is, clamped_not, clamp_index_is}
-use Rattle.shader_check.specs.Info.{kept, held, clamp_parts, padded, sample_tmu, sample_parts, sample_of, is_direct_sample, asks, is_sample}
+use Rattle.clamp_facts.specs.declared.fact.Fact.TheVariants.{Clamped}
+use Rattle.clamp_facts.specs.Facts.{makes_clamp, made, fact_made, fact_by, fact_at, carrier_of}
+use Rattle.clamp_facts.specs.Readings.{clamp_in, bound_in}
+use Rattle.qpu_isa.specs.Setups.{kept}
+use Rattle.shader_check.specs.Info.{held, clamp_list, clamp_parts, padded, sample_tmu, sample_parts, sample_of, is_direct_sample, asks, is_sample}
 use Rattle.shader_flow.specs.Bounded.{indexes}
 use Rattle.shader_flow.proofs.Bounded.{indexes_here, indexes_not}
-use Rattle.uniform_stream.specs.Pending.{count_of}
+use Rattle.shader_flow.specs.Pending.{count_of}
 use Rattle.qpu_isa.specs.declared.inst.Sample.{Sample}
 use Rattle.std.specs.Option.{option_to_list}
 
@@ -44,38 +45,39 @@ held_same code f tmu i inside kept-on untouched =
     ∙ ap (λ b. map f (if b then [] else (if writes_tmu (word code i) tmu then held code tmu i ++ (i ∷ []) else held code tmu i))) kept-on
     ∙ ap (λ b. map f (if b then held code tmu i ++ (i ∷ []) else held code tmu i)) untouched
 
--- the clamp of the first operand
-abbrev pub first_register : List ℕ → ℕ → Reg
-first_register code i = operand_register (word code i) (add_a_of (word code i))
-
-pub clamp_parts_one : (code : List ℕ) (i j : ℕ) → is_register_operand (word code i) (add_a_of (word code i)) ≡ true
-    → clamps code j i (first_register code i) ≡ true → clamp_parts code i ≡ j ∷ []
+-- the clamp of the first operand, where one holds
+pub clamp_parts_one : (code : List ℕ) (i j : ℕ) (reg : Reg) → first_register (word code i) ≡ Some reg
+    → fact_at code i reg ≡ Clamped (count_of code j) j → clamp_parts code i ≡ j ∷ []
 unfolding clamp_parts
-clamp_parts_one code i j register clamp =
-    ap (λ b. if b then clamp_index code i (first_register code i) ∷ [] else [])
-    (and_from (is_register_operand (word code i) (add_a_of (word code i))) (is_clamped code i (first_register code i)) register
-    (clamped_is code j i (first_register code i) clamp))
-    ∙ ap (λ k. k ∷ []) (clamp_index_is code j i (first_register code i) clamp)
+clamp_parts_one code i j reg register fact =
+    ap (clamp_list code i) register ∙ ap (λ f. option_to_list (clamp_in f)) fact
 
-pub clamp_parts_none : (code : List ℕ) (i : ℕ) → ((j : ℕ) → clamps code j i (first_register code i) ≡ false) → clamp_parts code i ≡ []
+-- the uniform of a clamp is the count at it
+pub counted_made : (f : ℕ → ℕ) (loaded : Option ℕ) (max clamp : Bool) (at : ℕ)
+    → option_to_list (bound_in (fact_made loaded max clamp (f at) at)) ≡ map f (option_to_list (clamp_in (fact_made loaded max clamp (f at) at)))
+counted_made f (Some value) max clamp at = refl
+counted_made f None true clamp at = refl
+counted_made f None false true at = refl
+counted_made f None false false at = refl
+
+pub counted_by : (code : List ℕ) (o : Option ℕ)
+    → option_to_list (bound_in (fact_by code o)) ≡ map (count_of code) (option_to_list (clamp_in (fact_by code o)))
+unfolding made
+counted_by code None = refl
+counted_by code (Some j) = counted_made (count_of code) (loaded_value (word code j)) (is_max_with_zero (word code j)) (makes_clamp code j) j
+
+pub counted_bound : (code : List ℕ) (i : ℕ) (reg : Reg) → option_to_list (bound_in (fact_at code i reg)) ≡ map (count_of code) (option_to_list (clamp_in (fact_at code i reg)))
+unfolding fact_at
+counted_bound code i reg = counted_by code (carrier_of code i reg)
+
+pub bound_some : (code : List ℕ) (i : ℕ) (reg : Reg) → Some reg ≡ first_register (word code i)
+    → option_to_list (bound_in (fact_at code i reg)) ≡ map (count_of code) (clamp_parts code i)
 unfolding clamp_parts
-clamp_parts_none code i none =
-    ap (λ b. if b then clamp_index code i (first_register code i) ∷ [] else [])
-    (and_right (is_register_operand (word code i) (add_a_of (word code i))) (is_clamped code i (first_register code i))
-    (clamped_not code i (first_register code i) none))
+bound_some code i reg register = counted_bound code i reg ∙ ap (λ o. map (count_of code) (clamp_list code i o)) register
 
--- the same, where the register was asked for by its selector
-pub bound_one : (code : List ℕ) (i j : ℕ) (reg : Reg) (first second : ℕ) → is_register_operand (word code i) first ≡ true → first ≡ add_a_of (word code i)
-    → reg ≡ operand_register (word code i) second → second ≡ add_a_of (word code i) → clamps code j i reg ≡ true → clamp_parts code i ≡ j ∷ []
-bound_one code i j reg first second register first-is reg-is second-is clamp =
-    let same = reg-is ∙ ap (operand_register (word code i)) second-is in
-    clamp_parts_one code i j (subst (λ s. is_register_operand (word code i) s ≡ true) first-is register) (subst (λ r. clamps code j i r ≡ true) same clamp)
-
-pub bound_none : (code : List ℕ) (i : ℕ) (reg : Reg) (second : ℕ) → reg ≡ operand_register (word code i) second → second ≡ add_a_of (word code i)
-    → ((j : ℕ) → clamps code j i reg ≡ false) → clamp_parts code i ≡ []
-bound_none code i reg second reg-is second-is none =
-    let same = reg-is ∙ ap (operand_register (word code i)) second-is in
-    clamp_parts_none code i (subst (λ r. (j : ℕ) → clamps code j i r ≡ false) same none)
+pub bound_none : (code : List ℕ) (i : ℕ) → None ≡ first_register (word code i) → [] ≡ map (count_of code) (clamp_parts code i)
+unfolding clamp_parts
+bound_none code i none = ap (λ o. map (count_of code) (clamp_list code i o)) none
 
 -- a sample with these positions
 abbrev pub sample_with : List ℕ → Bool → Sample

@@ -1,12 +1,13 @@
 -- The setup words that a TMU keeps: one instruction each, numbered from 0.
 use Rattle.std.proofs.Common.{◌≡◌, ◌≤◌, ◌<◌, ◌+◌, ◌*◌, ◌==◌, ℕ, zero, suc, true, false, not, ◌&&◌, ◌||◌, List, [], ◌∷◌, ◌++◌, length, if◌then◌else◌, sym, ap, subst, inl, inr, arith, ◌∙◌, nat_lt, nat_le}
-use Rattle.std.proofs.lemmas.Bool.{and_parts, and_from, or_cases, or_parts, or_left, or_right, cases_Bool, true≢false, lt-ltb, ltb-true, leb-true, le-leb, eqb-true}
+use Rattle.std.proofs.lemmas.Bool.{and_parts, and_from, or_cases, or_parts, or_left, or_right, or_from, and_left, and_cases, cases_Bool, true≢false, lt-ltb, ltb-true, leb-true, le-leb, eqb-true}
 use Rattle.qpu_isa.specs.Word.{waddr_add_of, waddr_mul_of}
 use Rattle.qpu_isa.specs.Terms.{is_branch, add_names, mul_names, names_address, writes_s, s_address, writes_tmu, add_writes_tmu, mul_writes_tmu, is_tmu_address, tmu_writes, add_is_tmu, mul_is_tmu, has_two_tmu_writes}
 use Rattle.shader_flow.specs.Flow.{word, checked_of}
-use Rattle.uniform_stream.specs.Pending.{pending_of, has_setup, adds_setup, muls_setup}
+use Rattle.qpu_isa.specs.Setups.{has_setup, adds_setup, muls_setup, adds_direct, muls_direct, is_direct}
+use Rattle.shader_flow.specs.Pending.{pending_of}
 use Rattle.uniform_stream.specs.Rules.{s20}
-use Rattle.shader_check.specs.Sound.{Member}
+use Rattle.shader_check.proofs.Listed.{Member}
 use Rattle.shader_check.proofs.Clean.{IsCleanAt}
 use Rattle.shader_check.proofs.Roles.{sets}
 
@@ -44,12 +45,29 @@ s_writes w tmu sent =
       | inr two ↦ or_right (add_writes_tmu w tmu) (mul_writes_tmu w tmu) (mul_s w tmu two)
     ]
 
+-- only a write of S is direct, and finds nothing kept
+pub not_sent : (w tmu p : ℕ) → writes_s w tmu ≡ false → is_direct w tmu p ≡ false
+unfolding writes_s names_address is_direct adds_direct muls_direct
+not_sent w tmu p none =
+    let parts = or_parts (add_names w (s_address tmu)) (mul_names w (s_address tmu)) none in
+    or_from (add_names w (s_address tmu) && p == 0) (mul_names w (s_address tmu) && p == 0)
+    (and_left (add_names w (s_address tmu)) (p == 0) parts.0) (and_left (mul_names w (s_address tmu)) (p == 0) parts.1)
+
+pub not_kept : (w tmu p : ℕ) → writes_s w tmu ≡ true → is_direct w tmu p ≡ false → (p == 0) ≡ false
+unfolding writes_s names_address is_direct adds_direct muls_direct
+not_kept w tmu p sent setup =
+    let parts = or_parts (add_names w (s_address tmu) && p == 0) (mul_names w (s_address tmu) && p == 0) setup in
+    elim (or_cases (add_names w (s_address tmu)) (mul_names w (s_address tmu)) sent) [
+      | inl one ↦ elim (and_cases (add_names w (s_address tmu)) (p == 0) parts.0) [ inl not ↦ absurd (true≢false (sym one ∙ not)) | inr some ↦ some ]
+      | inr two ↦ elim (and_cases (mul_names w (s_address tmu)) (p == 0) parts.1) [ inl not ↦ absurd (true≢false (sym two ∙ not)) | inr some ↦ some ]
+    ]
+
 -- a TMU write that isn't direct is a setup write
-pub sets_of : (w tmu p : ℕ) → writes_tmu w tmu ≡ true → (writes_s w tmu && p == 0) ≡ false → (adds_setup w tmu p || muls_setup w tmu p) ≡ true
-unfolding writes_s names_address writes_tmu adds_setup muls_setup
+pub sets_of : (w tmu p : ℕ) → writes_tmu w tmu ≡ true → is_direct w tmu p ≡ false → (adds_setup w tmu p || muls_setup w tmu p) ≡ true
+unfolding writes_tmu adds_setup muls_setup is_direct
 sets_of w tmu p writes not_direct = grind (arith, writes, not_direct)
 
-pub sets_one : (code : List ℕ) (tmu k : ℕ) → tmu < 2 → writes_tmu (word code k) tmu ≡ true → (writes_s (word code k) tmu && pending_of code tmu k == 0) ≡ false → sets code k ≡ true
+pub sets_one : (code : List ℕ) (tmu k : ℕ) → tmu < 2 → writes_tmu (word code k) tmu ≡ true → is_direct (word code k) tmu (pending_of code tmu k) ≡ false → sets code k ≡ true
 unfolding has_setup
 sets_one code zero k small writes not_direct =
     or_left (adds_setup (word code k) 0 (pending_of code 0 k) || muls_setup (word code k) 0 (pending_of code 0 k))

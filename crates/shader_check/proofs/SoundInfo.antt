@@ -7,12 +7,12 @@ use Rattle.qpu_isa.specs.Terms.{is_address_write}
 use Rattle.shader_flow.specs.Bounded.{indexes}
 use Rattle.shader_flow.specs.Flow.{word, checked_of}
 use Rattle.shader_flow.proofs.Ends.{checked_of-le}
-use Rattle.uniform_stream.specs.Pending.{count_of, takes}
+use Rattle.shader_flow.specs.Pending.{count_of, takes}
 use Rattle.uniform_stream.specs.Stream.{writes_address, is_open, address_words_of, uniforms_of}
 use Rattle.shader_check.specs.Info.{padded, asks, is_sample, sample_parts, sample_of, samples_of}
 use Rattle.field_words.specs.Questions.{first_of}
 use Rattle.shader_check.specs.Rules.{shader_questions}
-use Rattle.shader_check.specs.Sound.{Member, AllDifferent, numbers, first_number, written, IsSoundSample, IsSound}
+use Rattle.shader_check.proofs.Listed.{Member, AllDifferent, numbers, first_number, written, IsSoundSample, IsSound}
 use Rattle.shader_check.proofs.Clean.{IsCleanAt, IsClean, clean}
 use Rattle.shader_check.proofs.Members.{member_append, member_map, member_indexes, different_append, different_indexes}
 use Rattle.shader_check.proofs.Roles.{count_less, count_one, sum_parts, reads_takes, address_parts}

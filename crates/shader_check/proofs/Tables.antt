@@ -2,8 +2,6 @@
 use Rattle.std.proofs.Common.{◌≡◌, ◌≤◌, ◌==◌, ℕ, Bool, true, false, ◌&&◌, List, [], ◌∷◌, Option, Some, None, min, if◌then◌else◌, refl, sym, ap, inl, inr, arith, ◌∙◌, nat_lt, nat_le}
 use Rattle.std.proofs.lemmas.Bool.{and_parts, and_from, leb-true, le-leb, ltb-true, ltb-false, cases_Bool}
 use Rattle.field_words.specs.Questions.{Question, Ask, first_of}
-use Rattle.qpu_isa.specs.Word.{add_a_of, add_b_of, op_add_of}
-use Rattle.qpu_isa.specs.Terms.{is_alu, is_add_with_uniform, is_register_operand, is_uniform_operand}
 use Rattle.shader_check.specs.Merge.{lesser, rises, inserted, merged}
 use Rattle.shader_check.specs.Rules.{index_questions, fact_questions}
 use Rattle.shader_flow.specs.Rules.{flow_questions}
@@ -121,10 +119,3 @@ index_first code i =
     ap (lesser (first_of (fact_questions code i))) (sym (merged_first 0 (stream_questions code i) (flow_questions code i) refl refl))
     ∙ sym (merged_first 0 (fact_questions code i) (merged (stream_questions code i) (flow_questions code i)) refl
     (rises_merged 0 (stream_questions code i) (flow_questions code i) refl refl))
-
--- the first operand of such a sum is a register
-pub add_operand : (w : ℕ) → is_add_with_uniform w ≡ true → is_register_operand w (add_a_of w) ≡ true
-unfolding is_add_with_uniform
-add_operand w sum =
-    (and_parts (is_register_operand w (add_a_of w)) (is_uniform_operand w (add_b_of w))
-    (and_parts (is_alu w && op_add_of w == 12) (is_register_operand w (add_a_of w) && is_uniform_operand w (add_b_of w)) sum).1).0

@@ -1,17 +1,17 @@
 -- What an accepted shader takes and reads.
-use Rattle.std.specs.Prelude.{◌≡◌, ℕ, zero, suc, ◌==◌, Bool, ◌&&◌, ◌||◌, List, [], ◌∷◌, ◌++◌, map, Option, slice_get, nat_lt, if◌then◌else◌}
+use Rattle.std.specs.Prelude.{◌≡◌, ℕ, zero, suc, Bool, ◌&&◌, ◌||◌, List, [], ◌∷◌, ◌++◌, map, Option, Some, None, slice_get, nat_lt, if◌then◌else◌}
+use Rattle.std.specs.Option.{option_to_list}
+use Rattle.qpu_isa.specs.declared.inst.Reg.{Reg}
 use Rattle.qpu_isa.specs.declared.inst.Sample.{Sample}
-use Rattle.qpu_isa.specs.Word.{add_a_of}
-use Rattle.qpu_isa.specs.Terms.{writes_s, writes_tmu, is_register_operand, operand_register}
+use Rattle.qpu_isa.specs.declared.inst.ShaderInfo.{ShaderInfo}
+use Rattle.qpu_isa.specs.Terms.{writes_s, first_register}
+use Rattle.qpu_isa.specs.Setups.{is_direct, kept}
 use Rattle.shader_flow.specs.Bounded.{indexes}
 use Rattle.shader_flow.specs.Flow.{word, checked_of, is_threaded}
-use Rattle.uniform_stream.specs.Pending.{count_of, pending_of}
+use Rattle.shader_flow.specs.Pending.{count_of, pending_of}
 use Rattle.uniform_stream.specs.Stream.{uniforms_of, address_words_of}
-use Rattle.clamp_facts.specs.Facts.{is_clamped, clamp_index}
-
--- What a TMU keeps after an instruction, where an item stands for it: nothing where it sends, and one more where it is written.
-unfoldable pub kept : ℕ → ℕ → ℕ → List ℕ → List ℕ
-kept word tmu item items = if writes_s word tmu then [] else (if writes_tmu word tmu then items ++ (item ∷ []) else items)
+use Rattle.clamp_facts.specs.Facts.{fact_at}
+use Rattle.clamp_facts.specs.Readings.{clamp_in}
 
 -- the instructions whose setup words a TMU keeps before the instruction at i, upwards
 unfoldable pub held : List ℕ → ℕ → ℕ → List ℕ
@@ -30,15 +30,15 @@ sample_tmu word = if writes_s word 0 then 0 else 1
 
 -- it is direct where that TMU keeps no setup words
 unfoldable pub is_direct_sample : List ℕ → ℕ → Bool
-is_direct_sample code i = pending_of code (sample_tmu (word code i)) i == 0
+is_direct_sample code i = is_direct (word code i) (sample_tmu (word code i)) (pending_of code (sample_tmu (word code i)) i)
 
 -- the clamp of the register that a direct write adds to its uniform
+abbrev pub clamp_list : List ℕ → ℕ → Option Reg → List ℕ
+clamp_list code i None = []
+clamp_list code i (Some reg) = option_to_list (clamp_in (fact_at code i reg))
+
 unfoldable pub clamp_parts : List ℕ → ℕ → List ℕ
-clamp_parts code i =
-    if is_register_operand (word code i) (add_a_of (word code i))
-    && is_clamped code i (operand_register (word code i) (add_a_of (word code i)))
-    then clamp_index code i (operand_register (word code i) (add_a_of (word code i))) ∷ []
-    else []
+clamp_parts code i = clamp_list code i (first_register (word code i))
 
 -- The instructions that take a sample's uniforms. A direct sample takes one for its address, and its clamp one for its bound.
 -- Any other takes one at each setup write, of which the write of S is the last.
@@ -59,8 +59,8 @@ unfoldable pub samples_of : List ℕ → List Sample
 samples_of code = map (sample_of code) (indexes (checked_of code) (is_sample code))
 
 -- what the checker tells of an accepted shader
-pub record IsInfo (code : List ℕ) (uniforms : ℕ) (samples : List Sample) (address_words : List ℕ) (threaded : Bool) : Type 0 where
-  pub uniforms_are : uniforms ≡ uniforms_of code
-  pub samples_are : samples ≡ samples_of code
-  pub address_words_are : address_words ≡ address_words_of code
-  pub threaded_is : threaded ≡ is_threaded code
+pub record IsInfo (code : List ℕ) (info : ShaderInfo) : Type 0 where
+  pub uniforms_are : info.uniforms ≡ uniforms_of code
+  pub samples_are : info.samples.items ≡ samples_of code
+  pub address_words_are : info.address_words.items ≡ address_words_of code
+  pub threaded_is : info.threaded ≡ is_threaded code

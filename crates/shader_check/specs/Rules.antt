@@ -1,12 +1,13 @@
 -- The rules on facts and on the whole shader, and all rules in the order of refusal.
 use Rattle.std.specs.Prelude.{ℕ, ◌+◌, ◌*◌, ◌==◌, Bool, not, ◌&&◌, ◌||◌, List, [], ◌∷◌, ◌++◌, length, nat_le}
 use Rattle.field_words.specs.Questions.{Question, Ask, each, answered}
-use Rattle.qpu_isa.specs.Word.{sig_of, ws_of, cond_add_of, add_a_of}
-use Rattle.qpu_isa.specs.Terms.{add_names, mul_names, has_small, is_address_write, is_add_packed, is_add_with_uniform, operand_register, reads_upper, names_upper}
+use Rattle.qpu_isa.specs.Word.{sig_of, ws_of, cond_add_of}
+use Rattle.qpu_isa.specs.Terms.{add_names, has_small, is_address_write, is_add_packed, is_add_with_uniform, first_register, passes, reads_upper, names_upper}
+use Rattle.qpu_isa.specs.Setups.{adds_direct, muls_direct}
 use Rattle.shader_flow.specs.Bounded.{some_below}
 use Rattle.shader_flow.specs.Flow.{word, end_of, checked_of, is_threaded}
 use Rattle.shader_flow.specs.Rules.{s3, s4, s5, s6, s7, s8, s9, s10, s11, s12, s13, s27}
-use Rattle.uniform_stream.specs.Pending.{pending_of, count_of}
+use Rattle.shader_flow.specs.Pending.{pending_of, count_of}
 use Rattle.uniform_stream.specs.Rules.{s14, s15, s17, s18, s19, s20, s21, s22, s23, s25}
 use Rattle.clamp_facts.specs.Facts.{is_immediate, is_clamped}
 use Rattle.shader_check.specs.declared.fault.ShaderFault.{ShaderFault}
@@ -25,31 +26,28 @@ adds_address word = (not (ws_of word) && add_names word 40) && (cond_add_of word
 unfoldable pub is_exact_address_write : List ℕ → ℕ → Bool
 is_exact_address_write code i =
     (is_add_with_uniform (word code i) && has_quiet_signal (word code i))
-    && (adds_address (word code i)
-    && is_immediate code i (operand_register (word code i) (add_a_of (word code i))) (4 * (count_of code i + 1)))
+    && (adds_address (word code i) && passes (first_register (word code i)) (λ reg. is_immediate code i reg (4 * (count_of code i + 1))))
 
 -- an address write that isn't exact
 unfoldable pub s16 : List ℕ → ℕ → Bool
 s16 code i = is_address_write (word code i) && not (is_exact_address_write code i)
 
--- the add unit's, or the multiply unit's, write of S is direct
-unfoldable pub adds_direct : List ℕ → ℕ → Bool
-adds_direct code i =
-    (add_names (word code i) 56 && pending_of code 0 i == 0) || (add_names (word code i) 60 && pending_of code 1 i == 0)
+-- the add unit's, or the multiply unit's, write of either TMU's S is direct
+unfoldable pub direct_by_add : List ℕ → ℕ → Bool
+direct_by_add code i = adds_direct (word code i) 0 (pending_of code 0 i) || adds_direct (word code i) 1 (pending_of code 1 i)
 
-unfoldable pub muls_direct : List ℕ → ℕ → Bool
-muls_direct code i =
-    (mul_names (word code i) 56 && pending_of code 0 i == 0) || (mul_names (word code i) 60 && pending_of code 1 i == 0)
+unfoldable pub direct_by_mul : List ℕ → ℕ → Bool
+direct_by_mul code i = muls_direct (word code i) 0 (pending_of code 0 i) || muls_direct (word code i) 1 (pending_of code 1 i)
 
 -- the address is a uniform, a buffer's place, and a number clamped by another uniform
 unfoldable pub is_clamped_write : List ℕ → ℕ → Bool
 is_clamped_write code i =
     (is_add_with_uniform (word code i) && (not (has_small (word code i)) && not (is_add_packed (word code i))))
-    && is_clamped code i (operand_register (word code i) (add_a_of (word code i)))
+    && passes (first_register (word code i)) (is_clamped code i)
 
 -- a direct write that isn't clamped
 unfoldable pub s24 : List ℕ → ℕ → Bool
-s24 code i = (adds_direct code i && not (is_clamped_write code i)) || muls_direct code i
+s24 code i = (direct_by_add code i && not (is_clamped_write code i)) || direct_by_mul code i
 
 -- no words
 unfoldable pub s1 : List ℕ → Bool

@@ -1,44 +1,28 @@
 //! The checker.
-ghost use Rattle.std.specs.Prelude.{◌≡◌, ◌<◌, ◌≤◌, length, IfOk};
-ghost use Rattle.field_words.specs.Questions.{first_of, each, Answers};
-ghost use Rattle.shader_flow.specs.Flow.{checked_of, IsFlow};
-ghost use Rattle.uniform_stream.specs.Pending.{count_of};
-ghost use Rattle.uniform_stream.specs.Stream.{uniforms_of, IsStream};
-ghost use Rattle.shader_check.specs.Rules.{questions_at, shader_questions};
+ghost use Rattle.std.specs.Prelude.{◌≡◌, ◌≤◌, ◌+◌, ◌*◌, length, IfOk, IfErr};
+ghost use Rattle.field_words.specs.Questions.{Answers};
+ghost use Rattle.qpu_isa.specs.Shader.{IsSoundShader, shader_view};
+ghost use Rattle.shader_flow.specs.Flow.{IsFlow};
+ghost use Rattle.shader_flow.specs.Pending.{count_of};
+ghost use Rattle.uniform_stream.specs.Stream.{uniforms_of};
 ghost use Rattle.shader_check.specs.Info.{IsInfo};
-ghost use Rattle.shader_check.specs.Sound.{IsSound};
+ghost use Rattle.shader_check.specs.Least.{IsLeastStop};
+ghost use Rattle.shader_check.specs.Rules.{shader_questions};
 
-use crate::facts::index_fault;
 use crate::fault::ShaderFault;
-use crate::samples::samples;
+use crate::walk::walk;
 use crate::whole::whole_fault;
-use field_words::Stop;
+use field_words::{Steps, Stop};
 use qpu_isa::ShaderInfo;
-use shader_flow::{Flow, checked, flow};
+use shader_flow::{Flow, flow};
 use std::alloc::Global;
-use uniform_stream::{Stream, is_open, stream};
-
-// The first fault at a checked instruction.
-fn first_fault(code: &[u64], flow: &Flow, stream: &Stream) -> Option<ShaderFault>
-    requires few { length code.now ≤ 8192 }
-    requires made { IsFlow code.now flow.now.end flow.now.targets.items flow.now.threaded }
-    requires counted { IsStream code.now stream.now.counts.items stream.now.pending0.items stream.now.pending1.items stream.now.address_words.items }
-    ensures { result ≡ first_of (each (questions_at code.now) 0 (checked_of code.now)) }
-{
-    for at in 0..checked(code, flow.end) {
-        let index = at as u32;
-        if let Some(number) = index_fault(code, flow, stream, index) {
-            return Some(ShaderFault { number, index });
-        }
-    }
-    None
-}
+use std::sync::ledger::Ledger;
+use uniform_stream::{is_open, stream};
 
 // How many uniforms the shader's stream has, where its instructions take `count`.
-#[tactic(auto, using(uniform_stream::proofs::Counts::count_le), unfolding(uniform_stream::specs::Stream::uniforms_of))]
+#[tactic(auto, using(shader_flow::proofs::Counts::count_le), unfolding(uniform_stream::specs::Stream::uniforms_of))]
 fn uniforms(code: &[u64], flow: &Flow, count: u32) -> u32
-    requires few { length code.now ≤ 8192 }
-    requires made { IsFlow code.now flow.now.end flow.now.targets.items flow.now.threaded }
+    requires made { IsFlow code.now flow.now }
     requires taken { count ≡ count_of code.now (length code.now) }
     ensures { result ≡ uniforms_of code.now }
 {
@@ -55,21 +39,45 @@ fn uniforms(code: &[u64], flow: &Flow, count: u32) -> u32
 /// What is told is sound, which the emission of uniforms rests on: all positions lie in the stream, and the words that the
 /// validator writes there (address words, and the first of each sample) are apart from each other and from all others that
 /// it tests.
-pub fn check_shader(alloc: Global, code: &[u64]) -> Result<ShaderInfo, Stop<ShaderFault>>
+///
+/// `steps` counts the looks at the table of facts and its changes: at most eight a word and eight more, whatever is answered. A
+/// caller makes the counter in a function that is handed a `blank: Blank` for a ledger, one call for each counter:
+///
+/// ```text
+/// fn checked<L: Ledger>(alloc: Global, code: &[u64], blank: Blank) -> Result<ShaderInfo, Stop<ShaderFault>>
+///     requires few { length code.now ≤ 8192 }
+///     requires name { blank.name ≡ L.name }
+///     requires parts { blank.parts ≡ L.parts }
+///     requires some { 0 < blank.parts }
+/// {
+///     let mut steps = Steps::<L>::new(blank);
+///     check_shader(alloc, code, &mut steps)
+/// }
+/// ```
+///
+/// It is called as `checked::<Brand>(alloc, code, Blank::new(1))` (`Brand` of `std::marker`, `Blank` of `std::sync::ledger`), and the
+/// caller's Invariants.antt has `ghosts-checked a = record { name = a.blank.name; parts = a.blank.parts }`.
+pub fn check_shader<L: Ledger>(
+    alloc: Global,
+    code: &[u64],
+    steps: &mut Steps<L>,
+) -> Result<ShaderInfo, Stop<ShaderFault>>
     requires { length code.now ≤ 8192 }
-    ensures answers { Answers (shader_questions code.now) (λ info. IsInfo code.now info.uniforms info.samples.items info.address_words.items info.threaded) result }
-    ensures sound { IfOk result (λ info. IsSound info.uniforms info.samples.items info.address_words.items) }
+    ensures answers { Answers (shader_questions code.now) (IsInfo code.now) result }
+    ensures least { IfErr result (IsLeastStop code.now) }
+    ensures sound { IfOk result (λ info. IsSoundShader (shader_view info)) }
+    ensures bound { steps.new ≤ steps.old + (8 * length code.now + 8) }
 {
     let flow = flow(alloc, code)?;
     let stream = stream(alloc, code, &flow)?;
-    if let Some(fault) = first_fault(code, &flow, &stream) {
-        return Err(Stop::Fault(fault));
-    }
+    let samples = match walk(alloc, code, &flow, &stream, steps) {
+        Ok(samples) => samples,
+        Err(stop) => return Err(stop),
+    };
     if let Some(number) = whole_fault(code, &flow) {
         let index = code.len() as u32;
         return Err(Stop::Fault(ShaderFault { number, index }));
     }
-    let samples = samples(alloc, code, &flow, &stream)?;
     let uniforms = uniforms(code, &flow, stream.counts[code.len()]);
     Ok(ShaderInfo {
         uniforms,

@@ -1,24 +1,24 @@
 //! The samples of a shader: which uniforms each of its requests to a texture unit takes.
-ghost use Rattle.std.specs.Prelude.{◌≡◌, ◌<◌, ◌≤◌, ◌+◌, ◌==◌, ◌||◌, ◌++◌, ◌∷◌, [], ℕ, false, true, map, length, slice_get, slice_index, IfOk, OnOk};
+ghost use Rattle.std.specs.Prelude.{◌≡◌, ◌<◌, ◌≤◌, ◌+◌, ◌++◌, ◌∷◌, [], ℕ, false, true, map, length, slice_get, IfOk, OnOk};
 ghost use Rattle.std.specs.Option.{option_to_list};
-ghost use Rattle.qpu_isa.specs.Terms.{writes_s};
 ghost use Rattle.shader_flow.specs.Bounded.{indexes};
 ghost use Rattle.shader_flow.specs.Flow.{word, checked_of, IsFlow};
-ghost use Rattle.uniform_stream.specs.Pending.{count_of, pending_of};
+ghost use Rattle.shader_flow.specs.Pending.{count_of, pending_of};
 ghost use Rattle.uniform_stream.specs.Stream.{IsStream};
-ghost use Rattle.shader_check.specs.Info.{held, asks, is_sample, sample_tmu, is_direct_sample, clamp_parts, padded, sample_of, samples_of};
+ghost use Rattle.clamp_facts.specs.Facts.{maker_of};
+ghost use Rattle.clamp_facts.specs.Upkeep.{IsTableOf};
+ghost use Rattle.shader_check.specs.Info.{held, asks, is_sample, sample_tmu, is_direct_sample, clamp_parts, sample_of};
 
-use clamp_facts::clamp_of;
-use clamp_facts::word::{add_first, is_register_operand, operand_register};
-use field_words::NoMemory;
+use clamp_facts::{FactTable, look};
+use field_words::{NoMemory, Steps};
 use qpu_isa::Sample;
-use shader_flow::{Flow, checked};
-use std::alloc::Global;
+use qpu_isa::operands::first_register;
+use qpu_isa::writes::{is_direct, writes_s, writes_tmu};
+use std::sync::ledger::Ledger;
 use uniform_stream::Stream;
-use uniform_stream::word::{writes_s, writes_tmu};
 
-// What a TMU keeps after the instruction at `at`: nothing where it sends, and one uniform more where it is written.
-fn keep(code: &[u64], at: usize, tmu: u8, count: u32, kept: &mut Vec<u32>) -> Result<(), NoMemory>
+/// What a TMU keeps after the instruction at `at`: nothing where it sends, and one uniform more where it is written.
+pub(crate) fn keep(code: &[u64], at: usize, tmu: u8, count: u32, kept: &mut Vec<u32>) -> Result<(), NoMemory>
     requires inside { at < checked_of code.now }
     requires here { at < length code.now }
     requires number { tmu < 2 }
@@ -51,39 +51,43 @@ fn number(numbers: &[u32], last: u32, k: usize) -> Option<u32>
 }
 
 // The uniform that clamps a direct sample's address.
-#[tactic(auto, unfolding(crate::specs::Info::clamp_parts))]
-fn bound(code: &[u64], flow: &Flow, counts: &[u32], at: u32) -> Option<u32>
+fn bound<L: Ledger>(
+    code: &[u64],
+    at: u32,
+    table: &FactTable,
+    steps: &mut Steps<L>,
+) -> Option<u32>
     requires inside { at < length code.now }
     requires few { length code.now ≤ 8192 }
-    requires made { IsFlow code.now flow.now.end flow.now.targets.items flow.now.threaded }
-    requires size { length counts.now ≡ length code.now + 1 }
-    requires counted { (i : ℕ) → i ≤ length code.now → slice_index counts.now i ≡ count_of code.now i }
-    ensures { option_to_list result ≡ map (count_of code.now) (clamp_parts code.now at) }
+    requires kept { IsTableOf code.now (maker_of code.now at) table.now }
+    ensures value { option_to_list result ≡ map (count_of code.now) (clamp_parts code.now at) }
+    ensures steps { steps.new ≤ steps.old + 1 }
 {
-    let word = code[at as usize];
-    if !is_register_operand(word, add_first(word)) {
-        return None;
-    }
-    match clamp_of(code, flow, at, operand_register(word, add_first(word))) {
-        Some(j) => Some(counts[j as usize]),
+    match first_register(code[at as usize]) {
+        Some(reg) => look(code, at, reg, table, steps).bound(),
         None => None,
     }
 }
 
-// The direct sample that the instruction at `at` asks for.
-fn direct_sample(code: &[u64], flow: &Flow, counts: &[u32], at: u32) -> Sample
+// The direct sample that the instruction at `at` asks for, before which `count` uniforms are taken.
+fn direct_sample<L: Ledger>(
+    code: &[u64],
+    at: u32,
+    count: u32,
+    table: &FactTable,
+    steps: &mut Steps<L>,
+) -> Sample
     requires inside { at < length code.now }
     requires few { length code.now ≤ 8192 }
-    requires made { IsFlow code.now flow.now.end flow.now.targets.items flow.now.threaded }
-    requires size { length counts.now ≡ length code.now + 1 }
-    requires counted { (i : ℕ) → i ≤ length code.now → slice_index counts.now i ≡ count_of code.now i }
+    requires taken { count ≡ count_of code.now at }
     requires direct { is_direct_sample code.now at ≡ true }
-    ensures { result ≡ sample_of code.now at }
+    requires kept { IsTableOf code.now (maker_of code.now at) table.now }
+    ensures value { result ≡ sample_of code.now at }
+    ensures steps { steps.new ≤ steps.old + 1 }
 {
-    let first = Some(counts[at as usize]);
-    let second = bound(code, flow, counts, at);
+    let second = bound(code, at, table, steps);
     Sample {
-        p: [first, second, None, None],
+        p: [Some(count), second, None, None],
         direct: true,
     }
 }
@@ -115,104 +119,90 @@ fn asks(word: u64) -> bool
     writes_s(word, 0) || writes_s(word, 1)
 }
 
-// The sample that the instruction at `at` asks for, where its TMU keeps the setup words of the uniforms `kept`, `pending` of
-// them.
+// The sample that the instruction at `at` asks for of the TMU `tmu`, which keeps the setup words of the uniforms `kept`,
+// `pending` of them.
 #[tactic(auto, unfolding(crate::specs::Info::is_direct_sample))]
-fn sample_at(
+fn sample_at<L: Ledger>(
     code: &[u64],
-    flow: &Flow,
-    counts: &[u32],
-    at: usize,
+    stream: &Stream,
+    at: u32,
+    tmu: u8,
     pending: u16,
     kept: &[u32],
+    table: &FactTable,
+    steps: &mut Steps<L>,
 ) -> Sample
     requires inside { at < length code.now }
     requires few { length code.now ≤ 8192 }
-    requires made { IsFlow code.now flow.now.end flow.now.targets.items flow.now.threaded }
-    requires size { length counts.now ≡ length code.now + 1 }
-    requires counted { (i : ℕ) → i ≤ length code.now → slice_index counts.now i ≡ count_of code.now i }
+    requires counted { IsStream code.now stream.now }
+    requires number { tmu < 2 }
+    requires asked { tmu ≡ sample_tmu (word code.now at) }
     requires waiting { pending ≡ pending_of code.now (sample_tmu (word code.now at)) at }
     requires before { kept.now ≡ map (count_of code.now) (held code.now (sample_tmu (word code.now at)) at) }
-    ensures { result ≡ sample_of code.now at }
+    requires known { IsTableOf code.now (maker_of code.now at) table.now }
+    ensures value { result ≡ sample_of code.now at }
+    ensures steps { steps.new ≤ steps.old + 1 }
 {
-    if pending == 0 {
-        return direct_sample(code, flow, counts, at as u32);
+    let count = stream.counts[at as usize];
+    if is_direct(code[at as usize], tmu, pending) {
+        return direct_sample(code, at, count, table, steps);
     }
-    setup_sample(code, at, counts[at], kept)
+    setup_sample(code, at as usize, count, kept)
 }
 
 // The sample that the instruction at `at` asks for, of the TMU that it asks.
 #[tactic(auto, unfolding(crate::specs::Info::sample_tmu))]
-fn asked_sample(
+fn asked_sample<L: Ledger>(
     code: &[u64],
-    flow: &Flow,
     stream: &Stream,
-    at: usize,
+    at: u32,
     kept0: &[u32],
     kept1: &[u32],
+    table: &FactTable,
+    steps: &mut Steps<L>,
 ) -> Sample
     requires here { at < length code.now }
     requires few { length code.now ≤ 8192 }
-    requires made { IsFlow code.now flow.now.end flow.now.targets.items flow.now.threaded }
-    requires counted { IsStream code.now stream.now.counts.items stream.now.pending0.items stream.now.pending1.items stream.now.address_words.items }
+    requires counted { IsStream code.now stream.now }
     requires first { kept0.now ≡ map (count_of code.now) (held code.now 0 at) }
     requires second { kept1.now ≡ map (count_of code.now) (held code.now 1 at) }
-    ensures { result ≡ sample_of code.now at }
+    requires known { IsTableOf code.now (maker_of code.now at) table.now }
+    ensures value { result ≡ sample_of code.now at }
+    ensures steps { steps.new ≤ steps.old + 1 }
 {
-    if writes_s(code[at], 0) {
-        return sample_at(code, flow, &stream.counts, at, stream.pending0[at], kept0);
+    let i = at as usize;
+    if writes_s(code[i], 0) {
+        return sample_at(code, stream, at, 0, stream.pending0[i], kept0, table, steps);
     }
-    sample_at(code, flow, &stream.counts, at, stream.pending1[at], kept1)
+    sample_at(code, stream, at, 1, stream.pending1[i], kept1, table, steps)
 }
 
-// Puts the sample of the checked instruction at `at` to the others, where it asks for one.
-fn add_sample(
+/// Puts the sample of the checked instruction at `at` to the others, where it asks for one. At most one step.
+pub(crate) fn add_sample<L: Ledger>(
     code: &[u64],
-    flow: &Flow,
     stream: &Stream,
-    at: usize,
+    at: u32,
     kept0: &[u32],
     kept1: &[u32],
+    table: &FactTable,
     samples: &mut Vec<Sample>,
+    steps: &mut Steps<L>,
 ) -> Result<(), NoMemory>
     requires inside { at < checked_of code.now }
     requires here { at < length code.now }
     requires few { length code.now ≤ 8192 }
-    requires made { IsFlow code.now flow.now.end flow.now.targets.items flow.now.threaded }
-    requires counted { IsStream code.now stream.now.counts.items stream.now.pending0.items stream.now.pending1.items stream.now.address_words.items }
+    requires counted { IsStream code.now stream.now }
     requires first { kept0.now ≡ map (count_of code.now) (held code.now 0 at) }
     requires second { kept1.now ≡ map (count_of code.now) (held code.now 1 at) }
+    requires known { IsTableOf code.now (maker_of code.now at) table.now }
     requires before { samples.old.items ≡ map (sample_of code.now) (indexes at (is_sample code.now)) }
-    ensures { OnOk result (samples.new.items ≡ map (sample_of code.now) (indexes (at + 1) (is_sample code.now))) }
+    ensures samples { OnOk result (samples.new.items ≡ map (sample_of code.now) (indexes (at + 1) (is_sample code.now))) }
+    ensures steps { steps.new ≤ steps.old + 1 }
 {
-    if !asks(code[at]) {
+    if !asks(code[at as usize]) {
         return Ok(());
     }
-    let sample = asked_sample(code, flow, stream, at, kept0, kept1);
+    let sample = asked_sample(code, stream, at, kept0, kept1, table, steps);
     samples.push(sample)?;
     Ok(())
-}
-
-/// All samples in program order.
-#[tactic(auto, unfolding(crate::specs::Info::samples_of))]
-pub(crate) fn samples(
-    alloc: Global,
-    code: &[u64],
-    flow: &Flow,
-    stream: &Stream,
-) -> Result<Vec<Sample>, NoMemory>
-    requires few { length code.now ≤ 8192 }
-    requires made { IsFlow code.now flow.now.end flow.now.targets.items flow.now.threaded }
-    requires counted { IsStream code.now stream.now.counts.items stream.now.pending0.items stream.now.pending1.items stream.now.address_words.items }
-    ensures { IfOk result (λ v. v.items ≡ samples_of code.now) }
-{
-    let mut kept0 = Vec::new(alloc);
-    let mut kept1 = Vec::new(alloc);
-    let mut samples = Vec::new(alloc);
-    for at in 0..checked(code, flow.end) {
-        add_sample(code, flow, stream, at, &kept0, &kept1, &mut samples)?;
-        keep(code, at, 0, stream.counts[at], &mut kept0)?;
-        keep(code, at, 1, stream.counts[at], &mut kept1)?;
-    }
-    Ok(samples)
 }

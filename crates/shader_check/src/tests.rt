@@ -1,12 +1,14 @@
 //! Shaders with their answers, worked out by hand.
-ghost use Rattle.std.specs.Prelude.{◌≤◌, length};
+ghost use Rattle.std.specs.Prelude.{◌≡◌, ◌<◌, ◌≤◌, length};
 
 use super::*;
 use clamp_facts::clamp_of;
-use field_words::Stop;
+use field_words::{Steps, Stop};
 use qpu_isa::{Reg, ShaderInfo};
 use shader_flow::flow;
-use std::alloc::AllocError;
+use std::alloc::{AllocError, Global};
+use std::marker::Brand;
+use std::sync::ledger::{Blank, Ledger};
 use std::test::Fail;
 use uniform_stream::stream;
 
@@ -45,11 +47,39 @@ const SETUP_T: u64 = 0x10020e67009e7000;
 // `alu ca=1 wa=56`: S of TMU 0 = r0
 const SETUP_S: u64 = 0x10020e27009e7000;
 
+// The checker's answer, with a counter of its own.
+fn checked<L: Ledger>(
+    alloc: Global,
+    code: &[u64],
+    blank: Blank,
+) -> Result<ShaderInfo, Stop<ShaderFault>>
+    requires few { length code.now ≤ 8192 }
+    requires name { blank.name ≡ L.name }
+    requires parts { blank.parts ≡ L.parts }
+    requires some { 0 < blank.parts }
+{
+    let mut steps = Steps::<L>::new(blank);
+    check_shader(alloc, code, &mut steps)
+}
+
+// The clamp that a search finds, with a counter of its own.
+fn found<L: Ledger>(alloc: Global, code: &[u64], at: u32, blank: Blank) -> Result<Option<u32>, Fail>
+    requires few { length code.now ≤ 8192 }
+    requires inside { at < length code.now }
+    requires name { blank.name ≡ L.name }
+    requires parts { blank.parts ≡ L.parts }
+    requires some { 0 < blank.parts }
+{
+    let mut steps = Steps::<L>::new(blank);
+    let flow = flow(alloc, code)?;
+    Ok(clamp_of(code, &flow, at, Reg::Acc(0), &mut steps))
+}
+
 // What is told of an accepted shader.
 fn accepted(rt: &HostRuntime, code: &[u64]) -> Result<ShaderInfo, Fail>
     requires { length code.now ≤ 8192 }
 {
-    match check_shader(rt.alloc(), code) {
+    match checked::<Brand>(rt.alloc(), code, Blank::new(1)) {
         Ok(info) => Ok(info),
         Err(_) => Err(Fail::from(AllocError)),
     }
@@ -59,7 +89,7 @@ fn accepted(rt: &HostRuntime, code: &[u64]) -> Result<ShaderInfo, Fail>
 fn refused(rt: &HostRuntime, code: &[u64]) -> Result<(u8, u32), Fail>
     requires { length code.now ≤ 8192 }
 {
-    match check_shader(rt.alloc(), code) {
+    match checked::<Brand>(rt.alloc(), code, Blank::new(1)) {
         Err(Stop::Fault(fault)) => Ok((fault.number, fault.index)),
         _ => Err(Fail::from(AllocError)),
     }
@@ -84,7 +114,8 @@ fn clamped_read(rt: HostRuntime) -> Result<(), Fail> {
     assert_eq!(rt; flow.end, 6);
     let stream = stream(rt.alloc(), &code, &flow)?;
     assert_eq!(rt; stream.counts[8], 2);
-    assert_eq!(rt; clamp_of(&code, &flow, 4, Reg::Acc(0)), Some(2));
+    assert!(rt; stream.known[8]);
+    assert_eq!(rt; found::<Brand>(rt.alloc(), &code, 4, Blank::new(1))?, Some(2));
     let info = accepted(&rt, &code)?;
     assert_eq!(rt; info.uniforms, 2);
     assert_eq!(rt; info.address_words.len(), 0);

@@ -1,37 +1,18 @@
 //! The rules on the whole shader.
 ghost use Rattle.std.specs.Prelude.{◌≡◌, ◌<◌, ◌≤◌, ◌||◌, length};
 ghost use Rattle.field_words.specs.Questions.{first_of};
-ghost use Rattle.qpu_isa.specs.Terms.{is_upper, reads_upper, names_upper};
 ghost use Rattle.shader_flow.specs.Flow.{word, IsFlow};
 ghost use Rattle.shader_check.specs.Rules.{uses_upper, s2, s26, whole_questions};
 
-use shader_flow::word::{add_address, is_branch, multiply_address};
+use qpu_isa::writes::{names_upper, reads_upper};
 use shader_flow::{Flow, checked};
-use uniform_stream::word::{has_small, is_alu, read_a, read_b};
 
-// A file register 16 to 31.
-#[tactic(auto, unfolding(qpu_isa::specs::Terms::is_upper))]
-fn is_upper(address: u8) -> bool
-    ensures { result ≡ is_upper address }
-{
-    16 <= address && address < 32
-}
-
-// The instruction reads a file register 16 to 31, whether an operand uses it or not.
-#[tactic(auto, unfolding(qpu_isa::specs::Terms::reads_upper))]
-fn reads_upper(word: u64) -> bool
-    ensures { result ≡ reads_upper word }
-{
-    is_alu(word) && (is_upper(read_a(word)) || (is_upper(read_b(word)) && !has_small(word)))
-}
-
-// A unit writes a file register 16 to 31.
-#[tactic(auto, unfolding(qpu_isa::specs::Terms::names_upper))]
-fn names_upper(word: u64) -> bool
-    ensures { result ≡ names_upper word }
-{
-    !is_branch(word) && (is_upper(add_address(word)) || is_upper(multiply_address(word)))
-}
+/// S1: the shader has no whole words.
+pub const S1_NO_WORDS: u8 = 1;
+/// S2: the program end or one of the two instructions after it is missing.
+pub const S2_NO_END: u8 = 2;
+/// S26: a shader that switches threads uses a file register 16 to 31.
+pub const S26_UPPER_REGISTERS: u8 = 26;
 
 // The instruction uses a file register 16 to 31.
 #[tactic(auto, unfolding(crate::specs::Rules::uses_upper))]
@@ -44,8 +25,7 @@ fn uses_upper(word: u64) -> bool
 // A thread that shares its processor uses the other's registers.
 #[tactic(auto, unfolding(crate::specs::Rules::s26))]
 fn breaks_s26(code: &[u64], flow: &Flow) -> bool
-    requires few { length code.now ≤ 8192 }
-    requires made { IsFlow code.now flow.now.end flow.now.targets.items flow.now.threaded }
+    requires { IsFlow code.now flow.now }
     ensures { result ≡ s26 code.now }
 {
     if !flow.threaded {
@@ -62,8 +42,7 @@ fn breaks_s26(code: &[u64], flow: &Flow) -> bool
 // The program end, or one of its two further instructions, is missing.
 #[tactic(auto, unfolding(crate::specs::Rules::s2))]
 fn breaks_s2(code: &[u64], flow: &Flow) -> bool
-    requires few { length code.now ≤ 8192 }
-    requires made { IsFlow code.now flow.now.end flow.now.targets.items flow.now.threaded }
+    requires { IsFlow code.now flow.now }
     ensures { result ≡ s2 code.now }
 {
     code.len() <= flow.end as usize + 2
@@ -72,18 +51,17 @@ fn breaks_s2(code: &[u64], flow: &Flow) -> bool
 /// The number of the first of the rules on the whole shader that stands.
 #[tactic(auto, unfolding(crate::specs::Rules::whole_questions, crate::specs::Rules::s1))]
 pub(crate) fn whole_fault(code: &[u64], flow: &Flow) -> Option<u8>
-    requires few { length code.now ≤ 8192 }
-    requires made { IsFlow code.now flow.now.end flow.now.targets.items flow.now.threaded }
+    requires { IsFlow code.now flow.now }
     ensures { result ≡ first_of (whole_questions code.now) }
 {
     if code.is_empty() {
-        return Some(1);
+        return Some(S1_NO_WORDS);
     }
     if breaks_s2(code, flow) {
-        return Some(2);
+        return Some(S2_NO_END);
     }
     if breaks_s26(code, flow) {
-        return Some(26);
+        return Some(S26_UPPER_REGISTERS);
     }
     None
 }

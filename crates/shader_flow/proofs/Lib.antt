@@ -1,2 +1,3 @@
 pub mod Bounded
+pub mod Counts
 pub mod Ends

@@ -1,5 +1,5 @@
 -- Tests over ranges of indexes.
-use Rattle.std.specs.Prelude.{ℕ, zero, suc, ◌-◌, Bool, false, ◌&&◌, ◌||◌, List, [], ◌∷◌, ◌++◌, nat_le, if◌then◌else◌}
+use Rattle.std.specs.Prelude.{ℕ, zero, suc, ◌-◌, Bool, false, ◌&&◌, ◌||◌, List, [], ◌∷◌, ◌++◌, nat_le, Option, Some, None, if◌then◌else◌}
 
 -- the test is true of some number below n
 unfoldable pub some_below : ℕ → (ℕ → Bool) → Bool
@@ -18,3 +18,8 @@ is_back i distance test = nat_le distance i && test (i - distance)
 unfoldable pub indexes : ℕ → (ℕ → Bool) → List ℕ
 indexes zero test = []
 indexes (suc n) test = indexes n test ++ (if test n then n ∷ [] else [])
+
+-- the last number below n of which the test is true
+unfoldable pub last_below : ℕ → (ℕ → Bool) → Option ℕ
+last_below zero test = None
+last_below (suc n) test = if test n then Some n else last_below n test

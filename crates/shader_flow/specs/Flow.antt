@@ -1,7 +1,8 @@
 -- Where a shader may go: its end, its checked instructions, and the targets of its branches. A shader is its list of words.
-use Rattle.std.specs.Prelude.{◌≡◌, ◌≤◌, ℕ, suc, ◌+◌, ◌/◌, ◌%◌, ◌==◌, Bool, false, not, ◌&&◌, ◌||◌, List, [], ◌∷◌, length, min, nat_lt, slice_index, slice_index_or, if◌then◌else◌}
+use Rattle.std.specs.Prelude.{◌≡◌, ◌≤◌, ℕ, suc, ◌+◌, ◌%◌, ◌==◌, Bool, false, not, ◌&&◌, ◌||◌, List, [], ◌∷◌, length, min, nat_lt, slice_index, slice_index_or, if◌then◌else◌}
 use Rattle.qpu_isa.specs.Word.{imm_of, relative_of, register_of}
-use Rattle.qpu_isa.specs.Terms.{is_end, is_branch, is_switch, back_by, leads_to}
+use Rattle.qpu_isa.specs.Terms.{is_end, is_branch, is_switch, target_of}
+use Rattle.shader_flow.specs.declared.state.Flow.{Flow}
 use Rattle.shader_flow.specs.Bounded.{some_below, is_back}
 
 -- the instruction at an index
@@ -26,12 +27,9 @@ in_slots code i =
 unfoldable pub after_switch : List ℕ → ℕ → Bool
 after_switch code i = is_back i 1 (λ k. is_switch (word code k)) || is_back i 2 (λ k. is_switch (word code k))
 
--- A branch at i leads to a number below 0, or above the program end. Its target is i + 4 and the immediate's eighth, and
--- 2 ^ 29 less where the immediate is negative.
+-- a branch at i leads to past the program end; one that leads to before the first instruction has such a target too
 unfoldable pub leads_outside : List ℕ → ℕ → Bool
-leads_outside code i =
-    nat_lt (i + 4 + imm_of (word code i) / 8) (back_by (word code i))
-    || nat_lt (end_of code + back_by (word code i)) (i + 4 + imm_of (word code i) / 8)
+leads_outside code i = nat_lt (end_of code) (target_of (word code i) i)
 
 -- a branch whose target is known: relative, by no register, to a whole instruction inside the program
 unfoldable pub is_sound_branch : List ℕ → ℕ → Bool
@@ -41,7 +39,7 @@ is_sound_branch code i =
 
 -- a sound branch at b makes i a target: it leads there, or its slots end there
 unfoldable pub makes_target : List ℕ → ℕ → ℕ → Bool
-makes_target code b i = is_sound_branch code b && (i == b + 4 || leads_to (word code b) b i)
+makes_target code b i = is_sound_branch code b && (i == b + 4 || i == target_of (word code b) b)
 
 -- execution may come to i otherwise than from the instruction before it, by a branch before the program end
 unfoldable pub is_target : List ℕ → ℕ → Bool
@@ -51,10 +49,11 @@ is_target code i = some_below (end_of code) (λ b. makes_target code b i)
 unfoldable pub is_threaded : List ℕ → Bool
 is_threaded code = some_below (checked_of code) (λ k. is_switch (word code k))
 
--- What `flow` keeps of a shader: its program end, a mark for each target from 0 to the number of words, and whether it
--- switches threads.
-pub record IsFlow (code : List ℕ) (last : ℕ) (targets : List Bool) (threaded : Bool) : Type 0 where
-  pub last_is : last ≡ end_of code
-  pub size : length targets ≡ length code + 1
-  pub marks : (i : ℕ) → i ≤ length code → slice_index_or targets i false ≡ is_target code i
-  pub threaded_is : threaded ≡ is_threaded code
+-- What `flow` keeps of a shader of at most 8,192 words: its program end, a mark for each target from 0 to the number of words,
+-- and whether it switches threads.
+pub record IsFlow (code : List ℕ) (flow : Flow) : Type 0 where
+  pub few : length code ≤ 8192
+  pub last_is : flow.end ≡ end_of code
+  pub size : length flow.targets.items ≡ length code + 1
+  pub marks : (i : ℕ) → i ≤ length code → slice_index_or flow.targets.items i false ≡ is_target code i
+  pub threaded_is : flow.threaded ≡ is_threaded code

@@ -1,3 +1,4 @@
 pub mod Bounded
 pub mod Flow
+pub mod Pending
 pub mod Rules

@@ -1,13 +1,13 @@
 //! The program end and the targets.
 ghost use Rattle.std.specs.Prelude.{◌≡◌, ◌<◌, ◌≤◌, ◌+◌, ◌==◌, ◌||◌, ℕ, false, length, slice_index_or, IfOk};
-ghost use Rattle.qpu_isa.specs.Terms.{leads_to};
+ghost use Rattle.qpu_isa.specs.Terms.{target_of};
 ghost use Rattle.shader_flow.specs.Bounded.{some_below};
 ghost use Rattle.shader_flow.specs.Flow.{end_of, checked_of, is_threaded, is_target, makes_target, IsFlow};
 
 use crate::rules::is_sound;
 use crate::state::Flow;
-use crate::word::{immediate, is_end, is_switch};
 use field_words::NoMemory;
+use qpu_isa::word::{is_end, is_switch, target};
 use std::alloc::Global;
 
 // The index of the first program end, or the number of words where there is none.
@@ -62,19 +62,13 @@ fn mark(targets: &mut [bool], at: usize)
 }
 
 // Marks where the branch `word` at index `at` leads, and where its slots end.
-#[tactic(auto, unfolding(qpu_isa::specs::Terms::leads_to, qpu_isa::specs::Terms::back_by))]
-fn mark_branch(targets: &mut [bool], word: u64, at: usize)
+fn mark_branch(targets: &mut [bool], word: u64, at: u32)
     requires { at < 8192 }
     ensures size { length targets.new ≡ length targets.old }
-    ensures marks { (i : ℕ) → i < length targets.old → slice_index_or targets.new i false ≡ (slice_index_or targets.old i false || (i == at + 4 || leads_to word at i)) }
+    ensures marks { (i : ℕ) → i < length targets.old → slice_index_or targets.new i false ≡ (slice_index_or targets.old i false || (i == at + 4 || i == target_of word at)) }
 {
-    let number = immediate(word);
-    let sum = at + 4 + number as usize / 8;
-    let back = if number >= 1 << 31 { 1 << 29 } else { 0 };
-    mark(targets, at + 4);
-    if back <= sum {
-        mark(targets, sum - back);
-    }
+    mark(targets, at as usize + 4);
+    mark(targets, target(word, at) as usize);
 }
 
 // Marks what the instruction at `at` makes a target, where it is a branch that can be followed.
@@ -87,7 +81,7 @@ fn mark_from(targets: &mut [bool], code: &[u64], end: u32, at: usize)
     ensures marks { (i : ℕ) → i < length targets.old → slice_index_or targets.new i false ≡ (slice_index_or targets.old i false || makes_target code.now at i) }
 {
     if is_sound(code, end, at) {
-        mark_branch(targets, code[at], at);
+        mark_branch(targets, code[at], at as u32);
     }
 }
 
@@ -109,7 +103,7 @@ fn mark_all(targets: &mut [bool], code: &[u64], end: u32)
 /// memory fails.
 pub fn flow(alloc: Global, code: &[u64]) -> Result<Flow, NoMemory>
     requires { length code.now ≤ 8192 }
-    ensures { IfOk result (λ f. IsFlow code.now f.end f.targets.items f.threaded) }
+    ensures { IfOk result (IsFlow code.now) }
 {
     let end = program_end(code);
     let mut targets = vec![in alloc; false; code.len() + 1]?;
@@ -120,4 +114,13 @@ pub fn flow(alloc: Global, code: &[u64]) -> Result<Flow, NoMemory>
         targets,
         threaded,
     })
+}
+
+/// Whether a branch leads to `at`, or its slots end there.
+pub fn is_marked(code: &[u64], flow: &Flow, at: usize) -> bool
+    requires inside { at ≤ length code.now }
+    requires made { IsFlow code.now flow.now }
+    ensures { result ≡ is_target code.now at }
+{
+    flow.targets[at]
 }

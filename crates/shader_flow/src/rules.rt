@@ -7,10 +7,35 @@ ghost use Rattle.shader_flow.specs.Flow.{word, end_of, in_slots, after_switch, l
 ghost use Rattle.shader_flow.specs.Rules.{s3, s4, s5, s6, s7, s8, s9, s10, s11, s12, s13, s27, flow_questions};
 
 use crate::state::Flow;
-use crate::word::{
-    add_address, immediate, is_branch, is_by_register, is_load_immediate, is_relative, is_switch,
-    mode, multiply_address, signal,
+use qpu_isa::word::{
+    imm, is_branch, is_load_imm, is_switch, mode, register, relative, sig, target, waddr_add,
+    waddr_mul,
 };
+
+/// S3: a signal that no shader may use.
+pub const S3_SIGNAL: u8 = 3;
+/// S4: a branch stands in the slots of a branch.
+pub const S4_BRANCH_IN_SLOTS: u8 = 4;
+/// S5: a branch takes its target from a register.
+pub const S5_BRANCH_BY_REGISTER: u8 = 5;
+/// S6: a branch leads to an absolute place.
+pub const S6_BRANCH_ABSOLUTE: u8 = 6;
+/// S7: a branch leads into the middle of an instruction.
+pub const S7_BRANCH_UNALIGNED: u8 = 7;
+/// S8: a branch leads to before the first instruction or past the program end.
+pub const S8_BRANCH_OUTSIDE: u8 = 8;
+/// S9: a branch's slots go past the program end.
+pub const S9_SLOTS_PAST_END: u8 = 9;
+/// S10: a branch also writes.
+pub const S10_BRANCH_WRITES: u8 = 10;
+/// S11: a switch stands one or two after a switch.
+pub const S11_SWITCH_AFTER_SWITCH: u8 = 11;
+/// S12: a branch stands one or two after a switch.
+pub const S12_BRANCH_AFTER_SWITCH: u8 = 12;
+/// S13: a switch stands in a branch's slots or acts after the program end.
+pub const S13_SWITCH_MISPLACED: u8 = 13;
+/// S27: a load immediate has a mode that does not exist.
+pub const S27_LOAD_MODE: u8 = 27;
 
 // A branch stands `distance` before.
 #[tactic(auto, unfolding(crate::specs::Bounded::is_back))]
@@ -49,17 +74,14 @@ fn is_after_switch(code: &[u64], at: usize) -> bool
 }
 
 // A branch leads to before the first instruction, or past the program end.
-#[tactic(auto, unfolding(crate::specs::Flow::leads_outside, qpu_isa::specs::Terms::back_by))]
+#[tactic(auto, unfolding(crate::specs::Flow::leads_outside))]
 fn is_outside(code: &[u64], end: u32, at: usize) -> bool
     requires inside { at < length code.now }
     requires few { length code.now ≤ 8192 }
     requires last { end ≡ end_of code.now }
     ensures { result ≡ leads_outside code.now at }
 {
-    let number = immediate(code[at]);
-    let sum = at as u64 + 4 + number as u64 / 8;
-    let back = if number >= 1 << 31 { 1 << 29 } else { 0 };
-    sum < back || end as u64 + back < sum
+    end < target(code[at], at as u32)
 }
 
 /// Whether the instruction at `at` is a branch whose target is known and lies in the program.
@@ -72,9 +94,9 @@ pub(crate) fn is_sound(code: &[u64], end: u32, at: usize) -> bool
 {
     let word = code[at];
     is_branch(word)
-        && is_relative(word)
-        && !is_by_register(word)
-        && immediate(word).is_multiple_of(8)
+        && relative(word)
+        && !register(word)
+        && imm(word).is_multiple_of(8)
         && !is_outside(code, end, at)
 }
 
@@ -84,8 +106,8 @@ fn breaks_s3(code: &[u64], at: usize) -> bool
     requires { at < length code.now }
     ensures { result ≡ s3 code.now at }
 {
-    let sig = signal(code[at]);
-    sig == 0 || sig == 7 || sig == 9 || sig == 12
+    let signal = sig(code[at]);
+    signal == 0 || signal == 7 || signal == 9 || signal == 12
 }
 
 // A branch in the slots of a branch.
@@ -103,7 +125,7 @@ fn breaks_s5(code: &[u64], at: usize) -> bool
     requires { at < length code.now }
     ensures { result ≡ s5 code.now at }
 {
-    is_branch(code[at]) && is_by_register(code[at])
+    is_branch(code[at]) && register(code[at])
 }
 
 // A branch to an absolute place.
@@ -112,7 +134,7 @@ fn breaks_s6(code: &[u64], at: usize) -> bool
     requires { at < length code.now }
     ensures { result ≡ s6 code.now at }
 {
-    is_branch(code[at]) && !is_relative(code[at])
+    is_branch(code[at]) && !relative(code[at])
 }
 
 // A branch into the middle of an instruction.
@@ -121,7 +143,7 @@ fn breaks_s7(code: &[u64], at: usize) -> bool
     requires { at < length code.now }
     ensures { result ≡ s7 code.now at }
 {
-    is_branch(code[at]) && immediate(code[at]) % 8 != 0
+    is_branch(code[at]) && imm(code[at]) % 8 != 0
 }
 
 // A branch out of the program.
@@ -132,7 +154,7 @@ fn breaks_s8(code: &[u64], end: u32, at: usize) -> bool
     requires last { end ≡ end_of code.now }
     ensures { result ≡ s8 code.now at }
 {
-    is_branch(code[at]) && immediate(code[at]) % 8 == 0 && is_outside(code, end, at)
+    is_branch(code[at]) && imm(code[at]) % 8 == 0 && is_outside(code, end, at)
 }
 
 // A branch whose slots go past the program end.
@@ -152,7 +174,7 @@ fn breaks_s10(code: &[u64], at: usize) -> bool
     requires { at < length code.now }
     ensures { result ≡ s10 code.now at }
 {
-    is_branch(code[at]) && !(add_address(code[at]) == 39 && multiply_address(code[at]) == 39)
+    is_branch(code[at]) && !(waddr_add(code[at]) == 39 && waddr_mul(code[at]) == 39)
 }
 
 // A switch while a switch is on its way.
@@ -191,7 +213,7 @@ fn breaks_s27(code: &[u64], at: usize) -> bool
     ensures { result ≡ s27 code.now at }
 {
     let mode = mode(code[at]);
-    is_load_immediate(code[at]) && !(mode == 0 || mode == 1 || mode == 3)
+    is_load_imm(code[at]) && !(mode == 0 || mode == 1 || mode == 3)
 }
 
 /// The number of the first of the rules S3 to S13 and S27 that stands at the instruction `at`; `None` where none of them
@@ -200,47 +222,46 @@ fn breaks_s27(code: &[u64], at: usize) -> bool
 #[tactic(auto, unfolding(crate::specs::Rules::flow_questions))]
 pub fn flow_fault(code: &[u64], flow: &Flow, at: u32) -> Option<u8>
     requires inside { at < length code.now }
-    requires few { length code.now ≤ 8192 }
-    requires made { IsFlow code.now flow.now.end flow.now.targets.items flow.now.threaded }
+    requires made { IsFlow code.now flow.now }
     ensures { result ≡ first_of (flow_questions code.now at) }
 {
     let at = at as usize;
     let end = flow.end;
     if breaks_s3(code, at) {
-        return Some(3);
+        return Some(S3_SIGNAL);
     }
     if breaks_s4(code, at) {
-        return Some(4);
+        return Some(S4_BRANCH_IN_SLOTS);
     }
     if breaks_s5(code, at) {
-        return Some(5);
+        return Some(S5_BRANCH_BY_REGISTER);
     }
     if breaks_s6(code, at) {
-        return Some(6);
+        return Some(S6_BRANCH_ABSOLUTE);
     }
     if breaks_s7(code, at) {
-        return Some(7);
+        return Some(S7_BRANCH_UNALIGNED);
     }
     if breaks_s8(code, end, at) {
-        return Some(8);
+        return Some(S8_BRANCH_OUTSIDE);
     }
     if breaks_s9(code, end, at) {
-        return Some(9);
+        return Some(S9_SLOTS_PAST_END);
     }
     if breaks_s10(code, at) {
-        return Some(10);
+        return Some(S10_BRANCH_WRITES);
     }
     if breaks_s11(code, at) {
-        return Some(11);
+        return Some(S11_SWITCH_AFTER_SWITCH);
     }
     if breaks_s12(code, at) {
-        return Some(12);
+        return Some(S12_BRANCH_AFTER_SWITCH);
     }
     if breaks_s13(code, end, at) {
-        return Some(13);
+        return Some(S13_SWITCH_MISPLACED);
     }
     if breaks_s27(code, at) {
-        return Some(27);
+        return Some(S27_LOAD_MODE);
     }
     None
 }

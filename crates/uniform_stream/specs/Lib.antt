@@ -1,3 +1,3 @@
-pub mod Pending
 pub mod Rules
 pub mod Stream
+pub mod Walk

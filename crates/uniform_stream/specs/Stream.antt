@@ -1,10 +1,10 @@
 -- Where the uniform stream stands, and what is written to its address.
-use Rattle.std.specs.Prelude.{◌≡◌, ◌≤◌, ℕ, ◌+◌, ◌^◌, ◌==◌, Bool, not, ◌&&◌, ◌||◌, List, [], ◌∷◌, ◌++◌, map, length, slice_index, nat_lt, nat_le, if◌then◌else◌}
-use Rattle.qpu_isa.specs.Word.{imm_of}
-use Rattle.qpu_isa.specs.Terms.{is_address_write, is_branch}
+use Rattle.std.specs.Prelude.{◌≡◌, ◌≤◌, ◌<◌, ℕ, ◌+◌, ◌==◌, Bool, false, not, ◌&&◌, ◌||◌, List, [], ◌∷◌, ◌++◌, map, length, slice_index, slice_index_or, nat_lt, if◌then◌else◌}
+use Rattle.qpu_isa.specs.Terms.{is_address_write, is_backward}
 use Rattle.shader_flow.specs.Bounded.{some_below, some_in, is_back, indexes}
 use Rattle.shader_flow.specs.Flow.{word, checked_of, is_target}
-use Rattle.uniform_stream.specs.Pending.{count_of, pending_of}
+use Rattle.uniform_stream.specs.declared.state.Stream.{Stream}
+use Rattle.shader_flow.specs.Pending.{count_of, pending_of}
 
 -- a checked instruction writes the address of the uniforms
 unfoldable pub writes_address : List ℕ → ℕ → Bool
@@ -17,10 +17,6 @@ is_restart code i = i == 0 || is_back i 1 (writes_address code)
 -- The stream's position at i is known: from some restart on, up to i, execution comes from nowhere else.
 unfoldable pub is_known : List ℕ → ℕ → Bool
 is_known code i = some_below (i + 1) (λ r. is_restart code r && not (some_in r (i + 1) (is_target code)))
-
--- a branch whose immediate is negative as a signed number
-unfoldable pub is_backward : ℕ → Bool
-is_backward word = is_branch word && nat_le (2 ^ 31) (imm_of word)
 
 -- a backward branch, and no write of the address after its slots
 unfoldable pub leaves_open : List ℕ → ℕ → Bool
@@ -41,12 +37,14 @@ unfoldable pub uniforms_of : List ℕ → ℕ
 uniforms_of code = count_of code (length code) + (if is_open code then 1 else 0)
 
 -- What `stream` keeps: the uniforms taken and the setup words pending before each instruction, from 0 to the number of words,
--- and the address words.
-pub record IsStream (code counts pending0 pending1 address_words : List ℕ) : Type 0 where
-  pub counts_size : length counts ≡ length code + 1
-  pub counts_are : (i : ℕ) → i ≤ length code → slice_index counts i ≡ count_of code i
-  pub pending0_size : length pending0 ≡ length code + 1
-  pub pending0_are : (i : ℕ) → i ≤ length code → slice_index pending0 i ≡ pending_of code 0 i
-  pub pending1_size : length pending1 ≡ length code + 1
-  pub pending1_are : (i : ℕ) → i ≤ length code → slice_index pending1 i ≡ pending_of code 1 i
-  pub address_words_are : address_words ≡ address_words_of code
+-- the address words, and whether the position is known at each instruction.
+pub record IsStream (code : List ℕ) (stream : Stream) : Type 0 where
+  pub counts_size : length stream.counts.items ≡ length code + 1
+  pub counts_are : (i : ℕ) → i ≤ length code → slice_index stream.counts.items i ≡ count_of code i
+  pub pending0_size : length stream.pending0.items ≡ length code + 1
+  pub pending0_are : (i : ℕ) → i ≤ length code → slice_index stream.pending0.items i ≡ pending_of code 0 i
+  pub pending1_size : length stream.pending1.items ≡ length code + 1
+  pub pending1_are : (i : ℕ) → i ≤ length code → slice_index stream.pending1.items i ≡ pending_of code 1 i
+  pub address_words_are : stream.address_words.items ≡ address_words_of code
+  pub known_size : length stream.known.items ≡ length code
+  pub known_are : (i : ℕ) → i < length code → slice_index_or stream.known.items i false ≡ is_known code i

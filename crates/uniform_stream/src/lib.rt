@@ -9,9 +9,8 @@ mod position;
 mod rules;
 mod state;
 mod walk;
-pub mod word;
 
-pub use position::{is_marked, known};
-pub use rules::{stream_fault, takes_at};
+pub use position::known;
+pub use rules::{S14_FORBIDDEN_REGISTER, S15_RELATIVE_ADDRESS, S17_ADDRESS_IN_SLOTS, S18_UNIFORM_TOO_EARLY, S19_POSITION_UNKNOWN, S20_TWO_TMU_WRITES, S21_CONDITIONAL_TMU_WRITE, S22_TMU_FULL, S23_UNIFORM_TAKEN_TWICE, S25_TARGET_AMID_SETUP, stream_fault, takes_at};
 pub use state::Stream;
 pub use walk::{is_open, stream};

@@ -1,11 +1,11 @@
 //! Where the position in the uniform stream is known.
-ghost use Rattle.std.specs.Prelude.{◌≡◌, ◌<◌, ◌≤◌, ◌+◌, length};
-ghost use Rattle.shader_flow.specs.Flow.{end_of, is_target, IsFlow};
+ghost use Rattle.std.specs.Prelude.{◌≡◌, ◌<◌, ◌≤◌, ◌+◌, ◌-◌, ◌&&◌, ◌||◌, not, length};
 ghost use Rattle.shader_flow.specs.Bounded.{is_back};
+ghost use Rattle.shader_flow.specs.Flow.{end_of, is_target, IsFlow};
 ghost use Rattle.uniform_stream.specs.Stream.{writes_address, is_restart, is_known};
 
-use crate::word::is_address_write;
-use shader_flow::{Flow, checked};
+use qpu_isa::writes::is_address_write;
+use shader_flow::{Flow, checked, is_marked};
 
 /// Whether a checked instruction at `at` sets the address of the uniforms.
 #[tactic(auto, unfolding(crate::specs::Stream::writes_address))]
@@ -24,37 +24,42 @@ fn is_restart(code: &[u64], end: u32, at: usize) -> bool
     requires inside { at < length code.now }
     requires few { length code.now ≤ 8192 }
     requires last { end ≡ end_of code.now }
-    ensures value { result ≡ is_restart code.now at }
-    ensures first { result ≡ Rattle.std.specs.Prelude.false → 0 < at }
+    ensures { result ≡ is_restart code.now at }
 {
     at == 0 || (1 <= at && writes_address(code, end, at - 1))
 }
 
-/// Whether a branch leads to `at`, or its slots end there.
-pub fn is_marked(code: &[u64], flow: &Flow, at: usize) -> bool
-    requires inside { at < length code.now }
-    requires made { IsFlow code.now flow.now.end flow.now.targets.items flow.now.threaded }
-    ensures { result ≡ is_target code.now at }
+// It stays known, or begins to be, where no branch leads to.
+fn goes_on(target: bool, restart: bool, before: bool) -> bool
+    ensures { result ≡ (not target && (restart || before)) }
 {
-    flow.targets[at]
+    !target && (restart || before)
 }
 
-/// Whether the position in the uniform stream is known at the instruction `at`: going back from it, the start or a write of
-/// the stream's address comes before any target.
-pub fn known(code: &[u64], flow: &Flow, at: u32) -> bool
+/// Whether the position is known at `at`, where `before` tells it of the instruction before.
+pub(crate) fn known_after(code: &[u64], flow: &Flow, at: usize, before: bool) -> bool
     requires inside { at < length code.now }
-    requires few { length code.now ≤ 8192 }
-    requires made { IsFlow code.now flow.now.end flow.now.targets.items flow.now.threaded }
+    requires made { IsFlow code.now flow.now }
+    requires known { 0 < at → before ≡ is_known code.now (at - 1) }
     ensures { result ≡ is_known code.now at }
 {
-    let mut r = at as usize;
-    loop {
-        if is_marked(code, flow, r) {
-            return false;
-        }
-        if is_restart(code, flow.end, r) {
-            return true;
-        }
-        r -= 1;
+    goes_on(
+        is_marked(code, flow, at),
+        is_restart(code, flow.end, at),
+        before,
+    )
+}
+
+/// Whether the position in the uniform stream is known at the instruction `at`: from the start or a write of the stream's
+/// address on, up to `at`, there is no target.
+pub fn known(code: &[u64], flow: &Flow, at: u32) -> bool
+    requires inside { at < length code.now }
+    requires made { IsFlow code.now flow.now }
+    ensures { result ≡ is_known code.now at }
+{
+    let mut now = false;
+    for i in 0..at as usize + 1 {
+        now = known_after(code, flow, i, now);
     }
+    now
 }

@@ -4,17 +4,37 @@ ghost use Rattle.field_words.specs.Questions.{first_of};
 ghost use Rattle.qpu_isa.specs.Terms.{is_address_write};
 ghost use Rattle.shader_flow.specs.Bounded.{is_back};
 ghost use Rattle.shader_flow.specs.Flow.{word, end_of, checked_of, is_target, IsFlow};
-ghost use Rattle.uniform_stream.specs.Pending.{pending_of, takes};
-ghost use Rattle.uniform_stream.specs.Stream.{IsStream};
+ghost use Rattle.shader_flow.specs.Pending.{pending_of, takes};
+ghost use Rattle.uniform_stream.specs.Stream.{is_known, IsStream};
 ghost use Rattle.uniform_stream.specs.Rules.{s14, s15, s17, after_address_write, s18, s19, s20, s21, is_full, s22, s23, s25, stream_questions};
 
-use crate::position::known;
 use crate::state::Stream;
-use crate::word::{
+use qpu_isa::writes::{
     has_conditional_tmu_write, has_setup, has_two_tmu_writes, is_address_write,
-    is_relative_address_write, reads_uniform, takes, writes_forbidden, writes_tmu,
+    is_relative_address_write, names_forbidden, reads_uniform, takes, writes_tmu,
 };
 use shader_flow::{Flow, checked, is_in_slots};
+
+/// S14: a register is written that reaches other units.
+pub const S14_FORBIDDEN_REGISTER: u8 = 14;
+/// S15: the uniforms' address is set relative to another element.
+pub const S15_RELATIVE_ADDRESS: u8 = 15;
+/// S17: the uniforms' address is set in a branch's slots.
+pub const S17_ADDRESS_IN_SLOTS: u8 = 17;
+/// S18: a uniform is taken before a new address is in force.
+pub const S18_UNIFORM_TOO_EARLY: u8 = 18;
+/// S19: a uniform is taken where the position in the stream isn't known.
+pub const S19_POSITION_UNKNOWN: u8 = 19;
+/// S20: both units write a TMU.
+pub const S20_TWO_TMU_WRITES: u8 = 20;
+/// S21: a TMU is written under a condition.
+pub const S21_CONDITIONAL_TMU_WRITE: u8 = 21;
+/// S22: a TMU write finds four set-up words.
+pub const S22_TMU_FULL: u8 = 22;
+/// S23: a set-up write stands in an instruction that reads a uniform.
+pub const S23_UNIFORM_TAKEN_TWICE: u8 = 23;
+/// S25: a branch leads to where a TMU keeps set-up words.
+pub const S25_TARGET_AMID_SETUP: u8 = 25;
 
 // An address write stands `distance` before.
 #[tactic(auto, unfolding(shader_flow::specs::Bounded::is_back))]
@@ -35,7 +55,7 @@ fn is_after_address_write(code: &[u64], at: usize) -> bool
 }
 
 /// Whether the checked instruction at `at` takes a uniform, where the TMUs keep `pending0` and `pending1` setup words.
-#[tactic(auto, unfolding(crate::specs::Pending::takes))]
+#[tactic(auto, unfolding(shader_flow::specs::Pending::takes))]
 pub fn takes_at(code: &[u64], end: u32, at: usize, pending0: u16, pending1: u16) -> bool
     requires inside { at < length code.now }
     requires few { length code.now ≤ 8192 }
@@ -53,7 +73,7 @@ fn breaks_s14(code: &[u64], at: usize) -> bool
     requires { at < length code.now }
     ensures { result ≡ s14 code.now at }
 {
-    writes_forbidden(code[at])
+    names_forbidden(code[at])
 }
 
 // A relative address of the uniforms.
@@ -78,7 +98,7 @@ fn breaks_s17(code: &[u64], at: usize) -> bool
 #[tactic(auto, unfolding(crate::specs::Rules::s18))]
 fn breaks_s18(code: &[u64], at: usize, takes: bool) -> bool
     requires inside { at < length code.now }
-    requires taken { takes ≡ Rattle.uniform_stream.specs.Pending.takes code.now at }
+    requires taken { takes ≡ Rattle.shader_flow.specs.Pending.takes code.now at }
     ensures { result ≡ s18 code.now at }
 {
     takes && is_after_address_write(code, at)
@@ -86,14 +106,13 @@ fn breaks_s18(code: &[u64], at: usize, takes: bool) -> bool
 
 // A uniform taken, by no address write, where the position isn't known.
 #[tactic(auto, unfolding(crate::specs::Rules::s19))]
-fn breaks_s19(code: &[u64], flow: &Flow, at: u32, takes: bool) -> bool
+fn breaks_s19(code: &[u64], at: usize, takes: bool, known: bool) -> bool
     requires inside { at < length code.now }
-    requires few { length code.now ≤ 8192 }
-    requires made { IsFlow code.now flow.now.end flow.now.targets.items flow.now.threaded }
-    requires taken { takes ≡ Rattle.uniform_stream.specs.Pending.takes code.now at }
+    requires position { known ≡ is_known code.now at }
+    requires taken { takes ≡ Rattle.shader_flow.specs.Pending.takes code.now at }
     ensures { result ≡ s19 code.now at }
 {
-    takes && !is_address_write(code[at as usize]) && !known(code, flow, at)
+    takes && !is_address_write(code[at]) && !known
 }
 
 // Both units write a TMU.
@@ -166,9 +185,8 @@ fn breaks_s25(code: &[u64], at: usize, target: bool, pending0: u16, pending1: u1
 #[tactic(auto, unfolding(crate::specs::Rules::stream_questions))]
 pub fn stream_fault(code: &[u64], flow: &Flow, stream: &Stream, at: u32) -> Option<u8>
     requires inside { at < length code.now }
-    requires few { length code.now ≤ 8192 }
-    requires made { IsFlow code.now flow.now.end flow.now.targets.items flow.now.threaded }
-    requires counted { IsStream code.now stream.now.counts.items stream.now.pending0.items stream.now.pending1.items stream.now.address_words.items }
+    requires made { IsFlow code.now flow.now }
+    requires counted { IsStream code.now stream.now }
     ensures { result ≡ first_of (stream_questions code.now at) }
 {
     let i = at as usize;
@@ -177,34 +195,34 @@ pub fn stream_fault(code: &[u64], flow: &Flow, stream: &Stream, at: u32) -> Opti
     let target = flow.targets[i];
     let takes = takes_at(code, flow.end, i, pending0, pending1);
     if breaks_s14(code, i) {
-        return Some(14);
+        return Some(S14_FORBIDDEN_REGISTER);
     }
     if breaks_s15(code, i) {
-        return Some(15);
+        return Some(S15_RELATIVE_ADDRESS);
     }
     if breaks_s17(code, i) {
-        return Some(17);
+        return Some(S17_ADDRESS_IN_SLOTS);
     }
     if breaks_s18(code, i, takes) {
-        return Some(18);
+        return Some(S18_UNIFORM_TOO_EARLY);
     }
-    if breaks_s19(code, flow, at, takes) {
-        return Some(19);
+    if breaks_s19(code, i, takes, stream.known[i]) {
+        return Some(S19_POSITION_UNKNOWN);
     }
     if breaks_s20(code, i) {
-        return Some(20);
+        return Some(S20_TWO_TMU_WRITES);
     }
     if breaks_s21(code, i) {
-        return Some(21);
+        return Some(S21_CONDITIONAL_TMU_WRITE);
     }
     if breaks_s22(code, i, pending0, pending1) {
-        return Some(22);
+        return Some(S22_TMU_FULL);
     }
     if breaks_s23(code, i, pending0, pending1) {
-        return Some(23);
+        return Some(S23_UNIFORM_TAKEN_TWICE);
     }
     if breaks_s25(code, i, target, pending0, pending1) {
-        return Some(25);
+        return Some(S25_TARGET_AMID_SETUP);
     }
     None
 }

@@ -1,17 +1,29 @@
 //! The walk that counts uniforms and setup words.
-ghost use Rattle.std.specs.Prelude.{◌≡◌, ◌<◌, ◌≤◌, ◌+◌, ◌*◌, ◌&&◌, ◌++◌, ℕ, not, map, length, slice_index, IfOk};
-ghost use Rattle.shader_flow.specs.Flow.{word, end_of, checked_of, IsFlow};
-ghost use Rattle.shader_flow.specs.Bounded.{some_in, indexes};
-ghost use Rattle.uniform_stream.specs.Pending.{pending_of, count_of};
-ghost use Rattle.uniform_stream.specs.Stream.{writes_address, leaves_open, is_open, address_words_of, IsStream};
+ghost use Rattle.std.specs.Prelude.{◌≡◌, ◌<◌, ◌≤◌, ◌+◌, ◌*◌, ◌++◌, ◌∷◌, [], ℕ, List, length, map, if◌then◌else◌, IfOk, OnOk};
+ghost use Rattle.shader_flow.specs.Bounded.{indexes};
+ghost use Rattle.shader_flow.specs.Flow.{end_of, checked_of, IsFlow};
+ghost use Rattle.shader_flow.specs.Pending.{pending_of, count_of};
+ghost use Rattle.uniform_stream.specs.Stream.{writes_address, leaves_open, is_open, IsStream};
+ghost use Rattle.uniform_stream.specs.Walk.{IsRunning, IsFilled, IsAddressEnd};
 
-use crate::position::writes_address;
+use crate::position::{known_after, writes_address};
 use crate::rules::takes_at;
 use crate::state::Stream;
-use crate::word::{is_backward, tmu_writes, writes_s};
 use field_words::NoMemory;
+use qpu_isa::word::is_backward;
+use qpu_isa::writes::{tmu_writes, writes_s};
 use shader_flow::{Flow, checked};
 use std::alloc::Global;
+
+/// What the walk carries from one instruction to the next: uniforms taken, setup words kept, and whether the position was
+/// known at the instruction before.
+#[derive(Clone, Copy)]
+pub struct Running {
+    pub count: u32,
+    pub pending0: u16,
+    pub pending1: u16,
+    pub known: bool,
+}
 
 // How many setup words the TMU keeps after the instruction at `at`, where it keeps `pending` before.
 fn next_pending(code: &[u64], end: u32, tmu: u8, at: usize, pending: u16) -> u16
@@ -33,24 +45,6 @@ fn next_pending(code: &[u64], end: u32, tmu: u8, at: usize, pending: u16) -> u16
     pending + tmu_writes(code[at], tmu)
 }
 
-// How many setup words the TMU keeps before each instruction, and after the last.
-fn pendings(alloc: Global, code: &[u64], end: u32, tmu: u8) -> Result<Vec<u16>, NoMemory>
-    requires few { length code.now ≤ 8192 }
-    requires last { end ≡ end_of code.now }
-    requires number { tmu < 2 }
-    ensures size { IfOk result (λ v. length v.items ≡ length code.now + 1) }
-    ensures items { IfOk result (λ v. (i : ℕ) → i ≤ length code.now → slice_index v.items i ≡ pending_of code.now tmu i) }
-{
-    let mut all = Vec::with_capacity(alloc, code.len() + 1)?;
-    let mut pending = 0;
-    for at in 0..code.len() {
-        all.push(pending)?;
-        pending = next_pending(code, end, tmu, at, pending);
-    }
-    all.push(pending)?;
-    Ok(all)
-}
-
 // How many uniforms are taken up to the instruction at `at`, where `count` are taken before it.
 fn next_count(code: &[u64], end: u32, at: usize, pending0: u16, pending1: u16, count: u32) -> u32
     requires inside { at < length code.now }
@@ -69,133 +63,162 @@ fn next_count(code: &[u64], end: u32, at: usize, pending0: u16, pending1: u16, c
     count
 }
 
-// How many uniforms are taken before each instruction, and by all.
-fn counts(
-    alloc: Global,
+// What is carried past the instruction at `at`.
+fn after(code: &[u64], flow: &Flow, at: usize, now: &Running) -> Running
+    requires inside { at < length code.now }
+    requires made { IsFlow code.now flow.now }
+    requires before { IsRunning code.now at now.now }
+    ensures { IsRunning code.now (at + 1) result }
+{
+    let end = flow.end;
+    Running {
+        count: next_count(code, end, at, now.pending0, now.pending1, now.count),
+        pending0: next_pending(code, end, 0, at, now.pending0),
+        pending1: next_pending(code, end, 1, at, now.pending1),
+        known: known_after(code, flow, at, now.known),
+    }
+}
+
+// Puts the count to the address words, where the instruction at `at` sets the address.
+fn add_address(
     code: &[u64],
     end: u32,
-    pending0: &[u16],
-    pending1: &[u16],
-) -> Result<Vec<u32>, NoMemory>
-    requires few { length code.now ≤ 8192 }
-    requires last { end ≡ end_of code.now }
-    requires first_size { length pending0.now ≡ length code.now + 1 }
-    requires second_size { length pending1.now ≡ length code.now + 1 }
-    requires first { (i : ℕ) → i ≤ length code.now → slice_index pending0.now i ≡ pending_of code.now 0 i }
-    requires second { (i : ℕ) → i ≤ length code.now → slice_index pending1.now i ≡ pending_of code.now 1 i }
-    ensures size { IfOk result (λ v. length v.items ≡ length code.now + 1) }
-    ensures items { IfOk result (λ v. (i : ℕ) → i ≤ length code.now → slice_index v.items i ≡ count_of code.now i) }
-{
-    let mut all = Vec::with_capacity(alloc, code.len() + 1)?;
-    let mut count = 0;
-    for at in 0..code.len() {
-        all.push(count)?;
-        count = next_count(code, end, at, pending0[at], pending1[at], count);
-    }
-    all.push(count)?;
-    Ok(all)
-}
-
-// A checked instruction from `from` on sets the address of the uniforms.
-#[tactic(auto, unfolding(shader_flow::specs::Bounded::some_in))]
-fn is_address_written_from(code: &[u64], end: u32, from: usize) -> bool
-    requires few { length code.now ≤ 8192 }
-    requires last { end ≡ end_of code.now }
-    ensures { result ≡ some_in from (checked_of code.now) (writes_address code.now) }
-{
-    for at in from..checked(code, end) {
-        if writes_address(code, end, at) {
-            return true;
-        }
-    }
-    false
-}
-
-// The instruction at `at` is a backward branch, and no write of the address stands after its slots.
-#[tactic(auto, unfolding(crate::specs::Stream::leaves_open))]
-fn leaves_open(code: &[u64], end: u32, at: usize) -> bool
+    at: usize,
+    count: u32,
+    words: &mut Vec<u32>,
+) -> Result<(), NoMemory>
     requires inside { at < length code.now }
     requires few { length code.now ≤ 8192 }
     requires last { end ≡ end_of code.now }
+    requires taken { count ≡ count_of code.now at }
+    requires before { words.old.items ≡ map (count_of code.now) (indexes at (writes_address code.now)) }
+    ensures { OnOk result (words.new.items ≡ map (count_of code.now) (indexes (at + 1) (writes_address code.now))) }
+{
+    if writes_address(code, end, at) {
+        words.push(count)?;
+    }
+    Ok(())
+}
+
+// Fills in the instruction at `at`, and tells what is carried past it.
+fn fill(
+    code: &[u64],
+    flow: &Flow,
+    at: usize,
+    now: &Running,
+    made: &mut Stream,
+) -> Result<Running, NoMemory>
+    requires inside { at < length code.now }
+    requires made { IsFlow code.now flow.now }
+    requires before { IsRunning code.now at now.now }
+    requires filled { IsFilled code.now at made.old }
+    ensures next { IfOk result (IsRunning code.now (at + 1)) }
+    ensures filled { OnOk result (IsFilled code.now (at + 1) made.new) }
+{
+    let next = after(code, flow, at, now);
+    made.counts.push(now.count)?;
+    made.pending0.push(now.pending0)?;
+    made.pending1.push(now.pending1)?;
+    made.known.push(next.known)?;
+    add_address(code, flow.end, at, now.count, &mut made.address_words)?;
+    Ok(next)
+}
+
+// The index after the last checked instruction that sets the address, or 0.
+fn address_end(code: &[u64], end: u32) -> usize
+    requires few { length code.now ≤ 8192 }
+    requires last { end ≡ end_of code.now }
+    ensures { IsAddressEnd code.now (checked_of code.now) result }
+{
+    let mut last = 0;
+    for at in 0..checked(code, end) {
+        if writes_address(code, end, at) {
+            last = at + 1;
+        }
+    }
+    last
+}
+
+// The instruction at `at` is a backward branch, and no write of the address stands after its slots.
+fn leaves_open(code: &[u64], last: usize, at: usize) -> bool
+    requires inside { at < length code.now }
+    requires few { length code.now ≤ 8192 }
+    requires written { IsAddressEnd code.now (checked_of code.now) last }
     ensures { result ≡ leaves_open code.now at }
 {
-    is_backward(code[at]) && !is_address_written_from(code, end, at + 4)
+    is_backward(code[at]) && last <= at + 4
 }
 
 /// Whether some backward branch has no write of the stream's address after its slots, so that the stream needs one word
 /// more, which says where it begins.
 #[tactic(auto, unfolding(crate::specs::Stream::is_open))]
 pub fn is_open(code: &[u64], flow: &Flow) -> bool
-    requires few { length code.now ≤ 8192 }
-    requires made { IsFlow code.now flow.now.end flow.now.targets.items flow.now.threaded }
+    requires { IsFlow code.now flow.now }
     ensures { result ≡ is_open code.now }
 {
+    let last = address_end(code, flow.end);
     for at in 0..checked(code, flow.end) {
-        if leaves_open(code, flow.end, at) {
+        if leaves_open(code, last, at) {
             return true;
         }
     }
     false
 }
 
-// The counts at the address writes.
-fn address_writes(
-    alloc: Global,
-    code: &[u64],
-    end: u32,
-    counts: &[u32],
-) -> Result<Vec<u32>, NoMemory>
-    requires few { length code.now ≤ 8192 }
-    requires last { end ≡ end_of code.now }
-    requires size { length counts.now ≡ length code.now + 1 }
-    requires counted { (i : ℕ) → i ≤ length code.now → slice_index counts.now i ≡ count_of code.now i }
-    ensures { IfOk result (λ v. v.items ≡ map (count_of code.now) (indexes (checked_of code.now) (writes_address code.now))) }
+// A stream that nothing is filled in, with room for this many words.
+fn blank(alloc: Global, words: usize) -> Result<Stream, NoMemory>
+    requires { words ≤ 8192 }
+    ensures { IfOk result (λ made. (code : List ℕ) → IsFilled code 0 made) }
 {
-    let mut words = Vec::new(alloc);
-    for at in 0..checked(code, end) {
-        if writes_address(code, end, at) {
-            words.push(counts[at])?;
-        }
-    }
-    Ok(words)
-}
-
-// The numbers of the uniforms that hold the stream's own address.
-#[tactic(auto, unfolding(crate::specs::Stream::address_words_of))]
-fn address_words(
-    alloc: Global,
-    code: &[u64],
-    flow: &Flow,
-    counts: &[u32],
-) -> Result<Vec<u32>, NoMemory>
-    requires few { length code.now ≤ 8192 }
-    requires made { IsFlow code.now flow.now.end flow.now.targets.items flow.now.threaded }
-    requires size { length counts.now ≡ length code.now + 1 }
-    requires counted { (i : ℕ) → i ≤ length code.now → slice_index counts.now i ≡ count_of code.now i }
-    ensures { IfOk result (λ v. v.items ≡ address_words_of code.now) }
-{
-    let mut words = address_writes(alloc, code, flow.end, counts)?;
-    if is_open(code, flow) {
-        words.push(counts[code.len()])?;
-    }
-    Ok(words)
-}
-
-/// Walks a shader of at most 8,192 words for its counts of uniforms, its setup words and its address words. Only want of
-/// memory fails.
-pub fn stream(alloc: Global, code: &[u64], flow: &Flow) -> Result<Stream, NoMemory>
-    requires few { length code.now ≤ 8192 }
-    requires made { IsFlow code.now flow.now.end flow.now.targets.items flow.now.threaded }
-    ensures { IfOk result (λ s. IsStream code.now s.counts.items s.pending0.items s.pending1.items s.address_words.items) }
-{
-    let pending0 = pendings(alloc, code, flow.end, 0)?;
-    let pending1 = pendings(alloc, code, flow.end, 1)?;
-    let counts = counts(alloc, code, flow.end, &pending0, &pending1)?;
-    let address_words = address_words(alloc, code, flow, &counts)?;
     Ok(Stream {
-        counts,
-        pending0,
-        pending1,
-        address_words,
+        counts: Vec::with_capacity(alloc, words + 1)?,
+        pending0: Vec::with_capacity(alloc, words + 1)?,
+        pending1: Vec::with_capacity(alloc, words + 1)?,
+        address_words: Vec::new(alloc),
+        known: Vec::with_capacity(alloc, words)?,
     })
+}
+
+// Puts the count to the address words, where the stream is open.
+fn add_last(words: &mut Vec<u32>, opened: bool, count: u32) -> Result<(), NoMemory>
+    ensures { OnOk result (words.new.items ≡ words.old.items ++ (if opened then count ∷ [] else [])) }
+{
+    if opened {
+        words.push(count)?;
+    }
+    Ok(())
+}
+
+// Fills in what stands past the last instruction.
+fn close(code: &[u64], flow: &Flow, now: &Running, made: &mut Stream) -> Result<(), NoMemory>
+    requires made { IsFlow code.now flow.now }
+    requires before { IsRunning code.now (length code.now) now.now }
+    requires filled { IsFilled code.now (length code.now) made.old }
+    ensures { OnOk result (IsStream code.now made.new) }
+{
+    made.counts.push(now.count)?;
+    made.pending0.push(now.pending0)?;
+    made.pending1.push(now.pending1)?;
+    add_last(&mut made.address_words, is_open(code, flow), now.count)?;
+    Ok(())
+}
+
+/// Walks a shader of at most 8,192 words for its counts of uniforms, its setup words, its address words and where the position
+/// is known. Only want of memory fails.
+pub fn stream(alloc: Global, code: &[u64], flow: &Flow) -> Result<Stream, NoMemory>
+    requires { IsFlow code.now flow.now }
+    ensures { IfOk result (IsStream code.now) }
+{
+    let mut made = blank(alloc, code.len())?;
+    let mut now = Running {
+        count: 0,
+        pending0: 0,
+        pending1: 0,
+        known: false,
+    };
+    for at in 0..code.len() {
+        now = fill(code, flow, at, &now, &mut made)?;
+    }
+    close(code, flow, &now, &mut made)?;
+    Ok(made)
 }

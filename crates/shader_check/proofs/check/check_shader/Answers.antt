@@ -1,33 +1,50 @@
 use Rattle.std.proofs.Common.{length, sym, ◌∙◌}
 use Rattle.field_words.specs.Questions.{each, answered}
-use Rattle.field_words.proofs.Questions.{passes, stops, answered_none, answered_some}
+use Rattle.field_words.proofs.Questions.{passes, refuses_front, answered_none, answered_some}
 use Rattle.shader_flow.specs.Flow.{checked_of}
 use Rattle.shader_check.specs.Rules.{questions_at, fault_at, whole_questions, shader_questions}
 use Rattle.shader_check.proofs.SoundInfo.{info_sound}
+use Rattle.shader_check.proofs.Indexed.{sound_shader}
+use Rattle.shader_check.proofs.Leasts.{least_fault, least_stop}
 use Rattle.shader_check.proofs.check.check_shader.Goals as goal
 
-pub returns-in-Some-clause-answers : goal.returns-in-Some-clause-answers
+pub returns-in-Err-clause-answers : goal.returns-in-Err-clause-answers
 unfolding shader_questions
-returns-in-Some-clause-answers c =
-    stops (each (questions_at c.args.code.now) 0 (checked_of c.args.code.now)) (answered (fault_at (length c.args.code.now)) (whole_questions c.args.code.now))
-    c.in-Some.fault (sym c.in-Some.ensures)
+returns-in-Err-clause-answers g c =
+    refuses_front (each (questions_at c.args.code.now) 0 (checked_of c.args.code.now)) (answered (fault_at (length c.args.code.now)) (whole_questions c.args.code.now))
+    c.in-Err.stop c.in-Err.ensures.answers
 
-pub returns-in-Some-whole_fault-clause-answers : goal.returns-in-Some-whole_fault-clause-answers
+pub returns-in-Some-clause-answers : goal.returns-in-Some-clause-answers
 unfolding shader_questions fault_at
-returns-in-Some-whole_fault-clause-answers c =
+returns-in-Some-clause-answers g c =
     passes (each (questions_at c.args.code.now) 0 (checked_of c.args.code.now)) (answered (fault_at (length c.args.code.now)) (whole_questions c.args.code.now))
-    (sym c.in_default.ensures)
-    ∙ answered_some (fault_at (length c.args.code.now)) (whole_questions c.args.code.now) c.in-Some-whole_fault.number (sym c.in-Some-whole_fault.ensures)
+    c.in-Ok.ensures.answers.0
+    ∙ answered_some (fault_at (length c.args.code.now)) (whole_questions c.args.code.now) c.in-Some.number (sym c.in-Some.ensures)
+
+pub returns-in-Err-clause-least : goal.returns-in-Err-clause-least
+unfolding shader_questions
+returns-in-Err-clause-least g c =
+    least_stop c.args.code.now c.in-Err.stop
+    (refuses_front (each (questions_at c.args.code.now) 0 (checked_of c.args.code.now)) (answered (fault_at (length c.args.code.now)) (whole_questions c.args.code.now))
+    c.in-Err.stop c.in-Err.ensures.answers)
+
+pub returns-in-Some-clause-least : goal.returns-in-Some-clause-least
+unfolding shader_questions fault_at
+returns-in-Some-clause-least g c =
+    least_fault c.args.code.now _
+    (passes (each (questions_at c.args.code.now) 0 (checked_of c.args.code.now)) (answered (fault_at (length c.args.code.now)) (whole_questions c.args.code.now))
+    c.in-Ok.ensures.answers.0
+    ∙ answered_some (fault_at (length c.args.code.now)) (whole_questions c.args.code.now) c.in-Some.number (sym c.in-Some.ensures))
 
 pub returns-clause-answers : goal.returns-clause-answers
 unfolding shader_questions
-returns-clause-answers c = (
+returns-clause-answers g c = (
   passes (each (questions_at c.args.code.now) 0 (checked_of c.args.code.now)) (answered (fault_at (length c.args.code.now)) (whole_questions c.args.code.now))
-      (sym c.in_default.ensures)
-      ∙ answered_none (fault_at (length c.args.code.now)) (whole_questions c.args.code.now) (sym c.in_default-whole_fault.ensures),
+      c.in-Ok.ensures.answers.0
+      ∙ answered_none (fault_at (length c.args.code.now)) (whole_questions c.args.code.now) (sym c.in_default.ensures),
   record {
     uniforms_are = c.uniforms-uniforms.ensures;
-    samples_are = c.in_ok-samples.ensures;
+    samples_are = c.in-Ok.ensures.answers.1;
     address_words_are = c.in_ok-stream.ensures.address_words_are;
     threaded_is = c.in_ok-flow.ensures.threaded_is;
   },
@@ -35,8 +52,8 @@ returns-clause-answers c = (
 
 pub returns-clause-sound : goal.returns-clause-sound
 unfolding shader_questions
-returns-clause-sound c =
+returns-clause-sound g c =
     let none = passes (each (questions_at c.args.code.now) 0 (checked_of c.args.code.now)) (answered (fault_at (length c.args.code.now)) (whole_questions c.args.code.now))
-    (sym c.in_default.ensures)
-    ∙ answered_none (fault_at (length c.args.code.now)) (whole_questions c.args.code.now) (sym c.in_default-whole_fault.ensures) in
-    info_sound c.args.code.now _ _ _ none c.uniforms-uniforms.ensures c.in_ok-samples.ensures c.in_ok-stream.ensures.address_words_are
+    c.in-Ok.ensures.answers.0
+    ∙ answered_none (fault_at (length c.args.code.now)) (whole_questions c.args.code.now) (sym c.in_default.ensures) in
+    sound_shader _ _ _ _ (info_sound c.args.code.now _ _ _ none c.uniforms-uniforms.ensures c.in-Ok.ensures.answers.1 c.in_ok-stream.ensures.address_words_are)

@@ -1,5 +1,5 @@
 use Rattle.std.proofs.Common.{◌++◌, [], ◌∷◌, map, sym, ap, ◌∙◌}
-use Rattle.uniform_stream.specs.Pending.{count_of}
+use Rattle.shader_flow.specs.Pending.{count_of}
 use Rattle.shader_check.specs.Info.{held}
 use Rattle.shader_check.proofs.Positions.{held_sent, held_more, held_same}
 use Rattle.shader_check.proofs.samples.keep.Goals as goal

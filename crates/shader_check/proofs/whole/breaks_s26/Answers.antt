@@ -10,7 +10,7 @@ pub returns-then-uses_upper : goal.returns-then-uses_upper
 unfolding s26
 returns-then-uses_upper c =
     sym (and_from (is_threaded c.args.code.now) (some_below (checked_of c.args.code.now) (λ k. uses_upper (word c.args.code.now k)))
-    (sym c.requires.made.threaded_is ∙ c.if-not-flow.false)
+    (sym c.requires.threaded_is ∙ c.if-not-flow.false)
     (some_below_here (checked_of c.args.code.now) c.loop-at.at (λ k. uses_upper (word c.args.code.now k))
     (omega (arith, c.loop-at-test.true, c.checked-at-end.ensures.value)) (sym c.uses_upper.ensures ∙ c.if-uses_upper.true)))
 

@@ -1,5 +1,5 @@
 use Rattle.std.proofs.Common.{sym, arith, ◌∙◌}
-use Rattle.uniform_stream.proofs.Counts.{count_taken, count_same}
+use Rattle.shader_flow.proofs.Counts.{count_taken, count_same}
 use Rattle.uniform_stream.proofs.walk.next_count.Goals as goal
 
 pub returns-then-takes_at-clause-value : goal.returns-then-takes_at-clause-value

@@ -1,5 +1,5 @@
 use Rattle.std.proofs.Common.{sym, arith, ◌∙◌}
-use Rattle.uniform_stream.proofs.Counts.{pending_past, pending_sent, pending_kept}
+use Rattle.shader_flow.proofs.Counts.{pending_past, pending_sent, pending_kept}
 use Rattle.uniform_stream.proofs.walk.next_pending.Goals as goal
 
 pub returns-then-at-checked-clause-value : goal.returns-then-at-checked-clause-value

@@ -1,0 +1,229 @@
+//! Keeping the table on the way up a shader.
+ghost use Rattle.std.specs.Prelude.{◌≡◌, ◌<◌, ◌≤◌, ◌+◌, length, IfSome, if◌then◌else◌};
+ghost use Rattle.qpu_isa.specs.Terms.{is_switch, sets_alone};
+ghost use Rattle.qpu_isa.specs.Told.{IsRegister};
+ghost use Rattle.clamp_facts.specs.declared.fact.Fact.TheVariants.{Nothing};
+ghost use Rattle.shader_flow.specs.Bounded.{is_back};
+ghost use Rattle.shader_flow.specs.Flow.{word, checked_of, IsFlow};
+ghost use Rattle.shader_flow.specs.Pending.{count_of};
+ghost use Rattle.clamp_facts.specs.Facts.{maker_of, fact_at, makes_clamp, made};
+ghost use Rattle.clamp_facts.specs.Upkeep.{IsTableOf, register_at, add_register, mul_register, maker_added, maker_written};
+
+use crate::fact::Fact;
+use crate::table::FactTable;
+use field_words::Steps;
+use qpu_isa::Reg;
+use qpu_isa::operands::{first_register, is_max_with_zero, is_min_with_uniform, loaded_value};
+use qpu_isa::word::{is_branch, is_switch, waddr_add, waddr_mul, ws};
+use qpu_isa::writes::sets_alone;
+use shader_flow::{Flow, is_marked};
+use std::sync::ledger::Ledger;
+
+/// What is known of the register in the instruction at `at`, to which the table has been kept.
+pub fn look<L: Ledger>(
+    code: &[u64],
+    at: u32,
+    reg: Reg,
+    table: &FactTable,
+    steps: &mut Steps<L>,
+) -> Fact
+    requires inside { at < length code.now }
+    requires few { length code.now ≤ 8192 }
+    requires register { IsRegister reg }
+    requires kept { IsTableOf code.now (maker_of code.now at) table.now }
+    ensures value { result ≡ fact_at code.now at reg }
+    ensures steps { steps.new ≡ steps.old + 1 }
+{
+    table.get(reg, at, steps)
+}
+
+// The instruction at `at` is the minimum of a register that isn't negative and a uniform.
+#[tactic(auto, unfolding(crate::specs::Facts::makes_clamp))]
+fn is_clamp<L: Ledger>(
+    code: &[u64],
+    at: u32,
+    table: &FactTable,
+    steps: &mut Steps<L>,
+) -> bool
+    requires inside { at < length code.now }
+    requires few { length code.now ≤ 8192 }
+    requires kept { IsTableOf code.now (maker_of code.now at) table.now }
+    ensures value { result ≡ makes_clamp code.now at }
+    ensures steps { steps.new ≤ steps.old + 1 }
+{
+    let word = code[at as usize];
+    if !is_min_with_uniform(word) {
+        return false;
+    }
+    match first_register(word) {
+        Some(reg) => look(code, at, reg, table, steps).is_from_zero(),
+        None => false,
+    }
+}
+
+// The fact that the instruction at `at` makes of the register that it sets, where `count` uniforms are taken before it.
+#[tactic(auto, unfolding(crate::specs::Facts::made))]
+fn fact_made<L: Ledger>(
+    code: &[u64],
+    at: u32,
+    count: u32,
+    table: &FactTable,
+    steps: &mut Steps<L>,
+) -> Fact
+    requires inside { at < length code.now }
+    requires few { length code.now ≤ 8192 }
+    requires taken { count ≡ count_of code.now at }
+    requires kept { IsTableOf code.now (maker_of code.now at) table.now }
+    ensures value { result ≡ made code.now at }
+    ensures steps { steps.new ≤ steps.old + 1 }
+{
+    let word = code[at as usize];
+    if let Some(value) = loaded_value(word) {
+        return Fact::Immediate(value);
+    }
+    if is_max_with_zero(word) {
+        return Fact::NotNegative;
+    }
+    if is_clamp(code, at, table, steps) {
+        return Fact::Clamped { k: count, at };
+    }
+    Fact::Nothing
+}
+
+// The register that a write address names on this side.
+#[tactic(auto, unfolding(crate::specs::Upkeep::register_at))]
+fn register_at(on_a: bool, address: u8) -> Option<Reg>
+    ensures value { result ≡ register_at on_a address }
+    ensures register { IfSome result IsRegister }
+{
+    if address < 32 {
+        return Some(if on_a { Reg::A(address) } else { Reg::B(address) });
+    }
+    if address < 36 {
+        return Some(Reg::Acc(address - 32));
+    }
+    None
+}
+
+// The register that the add unit's write address names.
+#[tactic(auto, unfolding(crate::specs::Upkeep::add_register))]
+fn add_register(word: u64) -> Option<Reg>
+    ensures value { result ≡ add_register word }
+    ensures register { IfSome result IsRegister }
+{
+    if is_branch(word) {
+        return None;
+    }
+    register_at(!ws(word), waddr_add(word))
+}
+
+// The register that the multiply unit's write address names.
+#[tactic(auto, unfolding(crate::specs::Upkeep::mul_register))]
+fn mul_register(word: u64) -> Option<Reg>
+    ensures value { result ≡ mul_register word }
+    ensures register { IfSome result IsRegister }
+{
+    if is_branch(word) {
+        return None;
+    }
+    register_at(ws(word), waddr_mul(word))
+}
+
+// The fact, where the instruction sets the whole register.
+fn fact_set(word: u64, reg: Reg, fact: Fact) -> Fact
+    requires { IsRegister reg }
+    ensures { result ≡ (if sets_alone word reg then fact else Nothing) }
+{
+    if sets_alone(word, reg) {
+        return fact;
+    }
+    Fact::Nothing
+}
+
+// Puts the fact that the instruction at `at` makes to the register that its add unit writes.
+fn learn_add<L: Ledger>(
+    code: &[u64],
+    at: u32,
+    fact: Fact,
+    table: &mut FactTable,
+    steps: &mut Steps<L>,
+)
+    requires checked { at < checked_of code.now }
+    requires inside { at < length code.now }
+    requires few { length code.now ≤ 8192 }
+    requires fact { fact ≡ made code.now at }
+    requires before { IsTableOf code.now (maker_of code.now at) table.old }
+    ensures after { IsTableOf code.now (maker_added code.now at) table.new }
+    ensures steps { steps.new ≤ steps.old + 1 }
+{
+    let word = code[at as usize];
+    if let Some(reg) = add_register(word) {
+        table.put(reg, fact_set(word, reg, fact), at, steps);
+    }
+}
+
+// Nothing is known of the register that the multiply unit writes.
+fn learn_mul<L: Ledger>(code: &[u64], at: u32, table: &mut FactTable, steps: &mut Steps<L>)
+    requires inside { at < length code.now }
+    requires few { length code.now ≤ 8192 }
+    requires before { IsTableOf code.now (maker_added code.now at) table.old }
+    ensures after { IsTableOf code.now (maker_written code.now at) table.new }
+    ensures steps { steps.new ≤ steps.old + 1 }
+{
+    if let Some(reg) = mul_register(code[at as usize]) {
+        table.put(reg, Fact::Nothing, at, steps);
+    }
+}
+
+// A switch stands two before `at`, so it acts after the instruction at `at`.
+#[tactic(auto, unfolding(shader_flow::specs::Bounded::is_back))]
+fn switch_acts(code: &[u64], at: usize) -> bool
+    requires { at < length code.now }
+    ensures { result ≡ is_back at 2 (λ k. is_switch (word code.now k)) }
+{
+    2 <= at && is_switch(code[at - 2])
+}
+
+// Forgets what doesn't last past the instruction at `at`.
+fn forget<L: Ledger>(
+    code: &[u64],
+    flow: &Flow,
+    at: usize,
+    table: &mut FactTable,
+    steps: &mut Steps<L>,
+)
+    requires inside { at < length code.now }
+    requires made { IsFlow code.now flow.now }
+    requires before { IsTableOf code.now (maker_written code.now at) table.old }
+    ensures after { IsTableOf code.now (maker_of code.now (at + 1)) table.new }
+    ensures steps { steps.new ≤ steps.old + 1 }
+{
+    if is_marked(code, flow, at + 1) {
+        table.forget_all(steps);
+    } else if switch_acts(code, at) {
+        table.forget_accumulators(steps);
+    }
+}
+
+/// Keeps the table past the instruction at `at`, before which `count` uniforms are taken. At most four steps.
+pub fn learn<L: Ledger>(
+    code: &[u64],
+    flow: &Flow,
+    at: u32,
+    count: u32,
+    table: &mut FactTable,
+    steps: &mut Steps<L>,
+)
+    requires checked { at < checked_of code.now }
+    requires inside { at < length code.now }
+    requires made { IsFlow code.now flow.now }
+    requires taken { count ≡ count_of code.now at }
+    requires before { IsTableOf code.now (maker_of code.now at) table.old }
+    ensures after { IsTableOf code.now (maker_of code.now (at + 1)) table.new }
+    ensures steps { steps.new ≤ steps.old + 4 }
+{
+    let made = fact_made(code, at, count, table, steps);
+    learn_add(code, at, made, table, steps);
+    learn_mul(code, at, table, steps);
+    forget(code, flow, at as usize, table, steps);
+}

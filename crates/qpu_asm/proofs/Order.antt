@@ -1,0 +1,15 @@
+-- The rows of a kind stand for the fields of its struct.
+use Rattle.std.proofs.Common.{◌≡◌, ℕ, refl, sym}
+use Rattle.qpu_isa.specs.Fields.{joined}
+use Rattle.qpu_isa.proofs.Words.{alu_values-alu_of, load_imm_values-load_imm_of, branch_values-branch_of}
+use Rattle.qpu_asm.specs.Table.{nop_word}
+use Rattle.qpu_asm.specs.Printed.{FieldsInOrder}
+
+pub in_order : FieldsInOrder
+unfolding nop_word joined
+in_order word = record {
+  alu = sym (alu_values-alu_of word);
+  load_imm = sym (load_imm_values-load_imm_of word);
+  branch = sym (branch_values-branch_of word);
+  blank = refl;
+}

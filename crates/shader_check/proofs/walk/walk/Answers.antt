@@ -1,0 +1,54 @@
+use Rattle.std.proofs.Common.{◌≡◌, ◌≤◌, ◌-◌, map, sym, ap, subst, refl, arith, ◌∙◌}
+use Rattle.field_words.specs.Questions.{first_of, each}
+use Rattle.field_words.proofs.Questions.{each_on, each_stop, each_end, answered_none, answered_some}
+use Rattle.shader_flow.specs.Bounded.{indexes, last_below}
+use Rattle.shader_flow.specs.Flow.{checked_of}
+use Rattle.clamp_facts.specs.Facts.{maker_of}
+use Rattle.clamp_facts.specs.Upkeep.{IsTableOf}
+use Rattle.clamp_facts.proofs.Entries.{blank_keeps}
+use Rattle.shader_check.specs.Info.{held, samples_of, is_sample, sample_of}
+use Rattle.shader_check.specs.Rules.{questions_at, fault_at, index_questions}
+use Rattle.shader_check.proofs.walk.walk.Goals as goal
+
+pub loop-at-init : goal.loop-at-init
+unfolding held indexes maker_of last_below
+loop-at-init g c = record {
+  none = (let e : checked_of c.args.code.now - 0 ≡ checked_of c.args.code.now = omega arith in ap (λ n. first_of (each (questions_at c.args.code.now) 0 n)) e);
+  first = c.new-kept0.ensures.items;
+  second = c.new-kept1.ensures.items;
+  made = c.new-samples.ensures.items;
+  table = subst (IsTableOf c.args.code.now (maker_of c.args.code.now 0)) (sym c.new-table.ensures) (blank_keeps c.args.code.now (maker_of c.args.code.now 0) (λ reg. refl));
+  steps = omega arith;
+}
+
+pub returns-in-Some-clause-answers : goal.returns-in-Some-clause-answers
+unfolding questions_at fault_at
+returns-in-Some-clause-answers g c =
+    let here = answered_some (fault_at c.loop-at.at) (index_questions c.args.code.now c.loop-at.at) c.in-Some.number (sym c.in-Some.ensures.value) in
+    sym c.loop-at.invariant.none
+    ∙ each_stop (questions_at c.args.code.now) c.loop-at.at (checked_of c.args.code.now) (fault_at c.loop-at.at c.in-Some.number)
+    (omega (arith, c.loop-at-test.true, c.checked-at-end.ensures.value)) here
+
+pub loop-at-preserved : goal.loop-at-preserved
+unfolding questions_at
+loop-at-preserved g c =
+    let none = answered_none (fault_at c.loop-at.at) (index_questions c.args.code.now c.loop-at.at) (sym c.in_default.ensures.value) in
+    record {
+      none =
+          each_on (questions_at c.args.code.now) c.loop-at.at (checked_of c.args.code.now) (omega (arith, c.loop-at-test.true, c.checked-at-end.ensures.value)) none
+          ∙ c.loop-at.invariant.none;
+      first = c.in_ok-keep.ensures;
+      second = c.in_ok-keep-2.ensures;
+      made = c.in_ok-add_sample.ensures.samples;
+      table = c.learn.ensures.after;
+      steps = omega (arith, c.learn.ensures.steps, c.in_ok-add_sample.ensures.steps, c.in_default.ensures.steps, c.loop-at.invariant.steps);
+    }
+
+pub returns-clause-answers : goal.returns-clause-answers
+unfolding samples_of
+returns-clause-answers g c =
+    let past : checked_of c.args.code.now ≤ c.loop-at.at = omega (arith, c.loop-at-test.false, c.checked-at-end.ensures.value) in
+    let at-end : c.loop-at.at ≡ checked_of c.args.code.now = omega (arith, past, c.loop-at.auto.at-end, c.checked-at-end.ensures.value) in (
+      sym c.loop-at.invariant.none ∙ each_end (questions_at c.args.code.now) c.loop-at.at (checked_of c.args.code.now) past,
+      c.loop-at.invariant.made ∙ ap (λ n. map (sample_of c.args.code.now) (indexes n (is_sample c.args.code.now))) at-end,
+    )

@@ -1,0 +1,58 @@
+//! The walk over a shader: at each instruction all rules, its sample, and what is known past it.
+ghost use Rattle.std.specs.Prelude.{◌≡◌, ◌<◌, ◌≤◌, ◌+◌, ◌*◌, length};
+ghost use Rattle.field_words.specs.Questions.{each, Answers};
+ghost use Rattle.shader_flow.specs.Flow.{checked_of, IsFlow};
+ghost use Rattle.uniform_stream.specs.Stream.{IsStream};
+ghost use Rattle.shader_check.specs.Info.{samples_of};
+ghost use Rattle.shader_check.specs.Rules.{questions_at};
+
+use crate::facts::index_fault;
+use crate::fault::ShaderFault;
+use crate::samples::{add_sample, keep};
+use clamp_facts::{FactTable, learn};
+use field_words::{Steps, Stop};
+use qpu_isa::Sample;
+use shader_flow::{Flow, checked};
+use std::alloc::Global;
+use std::sync::ledger::Ledger;
+use uniform_stream::Stream;
+
+/// The first fault at a checked instruction; else all samples in program order. At most eight steps an instruction.
+#[tactic(auto, unfolding(crate::specs::Info::samples_of))]
+pub(crate) fn walk<L: Ledger>(
+    alloc: Global,
+    code: &[u64],
+    flow: &Flow,
+    stream: &Stream,
+    steps: &mut Steps<L>,
+) -> Result<Vec<Sample>, Stop<ShaderFault>>
+    requires made { IsFlow code.now flow.now }
+    requires counted { IsStream code.now stream.now }
+    ensures answers { Answers (each (questions_at code.now) 0 (checked_of code.now)) (λ v. v.items ≡ samples_of code.now) result }
+    ensures steps { steps.new ≤ steps.old + 8 * length code.now }
+{
+    let mut kept0 = Vec::new(alloc);
+    let mut kept1 = Vec::new(alloc);
+    let mut samples = Vec::new(alloc);
+    let mut table = FactTable::new();
+    for at in 0..checked(code, flow.end) {
+        let index = at as u32;
+        if let Some(number) = index_fault(code, flow, stream, index, &table, steps) {
+            return Err(Stop::Fault(ShaderFault { number, index }));
+        }
+        add_sample(
+            code,
+            stream,
+            index,
+            &kept0,
+            &kept1,
+            &table,
+            &mut samples,
+            steps,
+        )?;
+        keep(code, at, 0, stream.counts[at], &mut kept0)?;
+        keep(code, at, 1, stream.counts[at], &mut kept1)?;
+        learn(code, flow, index, stream.counts[at], &mut table, steps);
+    }
+    Ok(samples)
+}

@@ -1,0 +1,6 @@
+use Rattle.std.proofs.Common.{length}
+use Rattle.uniform_stream.specs.Walk.{IsRunning, IsFilled}
+use Rattle.uniform_stream.proofs.walk.stream.Given as goal
+
+abbrev pub invariant-loop-at : goal.invariant-loop-at
+invariant-loop-at l = record { running : IsRunning l.code l.at l.now; filled : IsFilled l.code l.at l.made }
