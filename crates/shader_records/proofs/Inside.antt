@@ -1,0 +1,56 @@
+-- What lies inside a record's source.
+use Rattle.std.proofs.Common.{◌≡◌, ℕ, ◌+◌, ◌*◌, ◌%◌, ◌<◌, ◌≤◌, Bool, true, false, if◌then◌else◌, refl, arith}
+use Rattle.field_words.specs.Words.{rounded_up}
+use Rattle.field_words.proofs.Numbers.{rounded}
+use Rattle.emitted_facts.specs.Records.{attribute_count, is_extended, record_size}
+use Rattle.shader_records.specs.Sources.{handles_size, source_size, emitted_size}
+
+count_limits : (state : ℕ) → (1 ≤ attribute_count state) × (attribute_count state ≤ 8)
+unfolding attribute_count
+count_limits state = (grind arith, grind arith)
+
+pub handles_are : (state : ℕ) → handles_size state ≡ 12 + 4 * attribute_count state
+unfolding handles_size
+handles_are state = omega arith
+
+pub source_is : (state : ℕ) → source_size state ≡ handles_size state + record_size state
+unfolding source_size
+source_is state = refl
+
+record_from : (b : Bool) (count : ℕ) → count ≤ 8 → 36 + 8 * count ≤ (if b then 100 + 4 * count else 36 + 8 * count)
+record_from true count few = omega arith
+record_from false count few = omega arith
+
+record_words : (b : Bool) (count : ℕ) → (if b then 100 + 4 * count else 36 + 8 * count) % 4 ≡ 0
+record_words true count = omega arith
+record_words false count = omega arith
+
+-- the handle of attribute t, and its two words
+pub handle_in : (state t : ℕ) → t < attribute_count state → 12 + 4 * t + 4 ≤ handles_size state
+handle_in state t below = let e = handles_are state in omega (arith, e)
+
+pub attributes_in : (state : ℕ) → 36 + 8 * attribute_count state ≤ record_size state
+unfolding record_size
+attributes_in state = record_from (is_extended state) (attribute_count state) (count_limits state).1
+
+pub attribute_in : (state t : ℕ) → t < attribute_count state → handles_size state + (36 + 8 * t) + 8 ≤ source_size state
+attribute_in state t below = let e = source_is state in let a = attributes_in state in omega (arith, e, a)
+
+-- the handles of code, and the fixed part
+pub fixed_in : (state : ℕ) → (16 ≤ handles_size state) × (handles_size state + 44 ≤ source_size state)
+fixed_in state =
+    let c = count_limits state in let h = handles_are state in let e = source_is state in let a = attributes_in state in
+    (omega (arith, c.0, h), omega (arith, c.0, e, a))
+
+-- word i, where the record goes on
+pub word_in : (state i : ℕ) → 4 * i < record_size state → handles_size state + 4 * i + 4 ≤ source_size state
+unfolding record_size
+word_in state i below = let e = source_is state in let w = record_words (is_extended state) (attribute_count state) in omega (arith, e, w)
+
+-- What is emitted of a record is a multiple of 16, holds the record, and takes no more bytes than its source.
+pub emitted_in : (state : ℕ) → (record_size state ≤ emitted_size state) × (emitted_size state ≤ source_size state) × (emitted_size state % 16 ≡ 0)
+unfolding emitted_size
+emitted_in state =
+    let r = rounded (record_size state) 16 (omega arith) in
+    let f = fixed_in state in let e = source_is state in
+    (r.least, (let near : rounded_up (record_size state) 16 < record_size state + 16 = r.near in omega (arith, near, f.0, e)), r.multiple)

@@ -1,0 +1,77 @@
+-- Places from one shader, or one state, to the next.
+use Rattle.std.proofs.Common.{◌≡◌, ℕ, zero, suc, ◌+◌, refl, ap, arith}
+use Rattle.std.proofs.Common.{◌≤◌, ◌<◌}
+use Rattle.shader_records.specs.Inputs.{InputModel}
+use Rattle.shader_records.specs.Sources.{state_at, source_size, emitted_size, record_source, record_offset, uniform_source, stream_offset, shader_used, taken_by, given_by, taken_before, given_before}
+
+next : (n : ℕ) → n + 1 ≡ suc n
+next n = omega arith
+
+pub taken_next : (input : InputModel) (at s : ℕ) → taken_before input at (s + 1) ≡ taken_before input at s + taken_by (shader_used input at s)
+unfolding taken_before
+taken_next input at s = ap (taken_before input at) (next s)
+
+pub given_next : (input : InputModel) (at s : ℕ) → given_before input at (s + 1) ≡ given_before input at s + given_by (shader_used input at s)
+unfolding given_before
+given_next input at s = ap (given_before input at) (next s)
+
+pub record_next : (input : InputModel) (k : ℕ) → record_source input (k + 1) ≡ record_source input k + source_size (state_at input k).word
+unfolding record_source
+record_next input k = ap (record_source input) (next k)
+
+pub offset_next : (input : InputModel) (k : ℕ) → record_offset input (k + 1) ≡ record_offset input k + emitted_size (state_at input k).word
+unfolding record_offset
+offset_next input k = ap (record_offset input) (next k)
+
+pub uniforms_next : (input : InputModel) (k : ℕ) → uniform_source input (k + 1) ≡ uniform_source input k + taken_before input (record_source input k) 3
+unfolding uniform_source
+uniforms_next input k = ap (uniform_source input) (next k)
+
+pub streams_next : (input : InputModel) (k : ℕ) → stream_offset input (k + 1) ≡ stream_offset input k + given_before input (record_source input k) 3
+unfolding stream_offset
+streams_next input k = ap (stream_offset input) (next k)
+
+-- the first ones
+pub taken_zero : (input : InputModel) (at : ℕ) → taken_before input at 0 ≡ 0
+unfolding taken_before
+taken_zero input at = refl
+
+pub given_zero : (input : InputModel) (at : ℕ) → given_before input at 0 ≡ 0
+unfolding given_before
+given_zero input at = refl
+
+pub record_zero : (input : InputModel) → record_source input 0 ≡ 0
+unfolding record_source
+record_zero input = refl
+
+pub offset_zero : (input : InputModel) → record_offset input 0 ≡ 0
+unfolding record_offset
+offset_zero input = refl
+
+pub uniforms_zero : (input : InputModel) → uniform_source input 0 ≡ 0
+unfolding uniform_source
+uniforms_zero input = refl
+
+pub streams_zero : (input : InputModel) → stream_offset input 0 ≡ 0
+unfolding stream_offset
+streams_zero input = refl
+
+-- the streams of fewer shaders have no more bytes
+pub given_rises : (input : InputModel) (at s : ℕ) → s < 3 → given_before input at s ≤ given_before input at 3
+given_rises input at zero below = let a = given_next input at 0 in let b = given_next input at 1 in let c = given_next input at 2 in omega (arith, a, b, c)
+given_rises input at (suc zero) below = let b = given_next input at 1 in let c = given_next input at 2 in omega (arith, b, c)
+given_rises input at (suc (suc zero)) below = let c = given_next input at 2 in omega (arith, c)
+given_rises input at (suc (suc (suc s))) below = absurd (omega arith)
+
+-- so those of one shader more have no more than those of all three; the same of what is taken
+pub given_upto : (input : InputModel) (at s : ℕ) → s < 3 → given_before input at s + given_by (shader_used input at s) ≤ given_before input at 3
+given_upto input at zero below = let a = given_next input at 0 in let b = given_next input at 1 in let c = given_next input at 2 in omega (arith, a, b, c)
+given_upto input at (suc zero) below = let b = given_next input at 1 in let c = given_next input at 2 in omega (arith, b, c)
+given_upto input at (suc (suc zero)) below = let c = given_next input at 2 in omega (arith, c)
+given_upto input at (suc (suc (suc s))) below = absurd (omega arith)
+
+pub taken_upto : (input : InputModel) (at s : ℕ) → s < 3 → taken_before input at s + taken_by (shader_used input at s) ≤ taken_before input at 3
+taken_upto input at zero below = let a = taken_next input at 0 in let b = taken_next input at 1 in let c = taken_next input at 2 in omega (arith, a, b, c)
+taken_upto input at (suc zero) below = let b = taken_next input at 1 in let c = taken_next input at 2 in omega (arith, b, c)
+taken_upto input at (suc (suc zero)) below = let c = taken_next input at 2 in omega (arith, c)
+taken_upto input at (suc (suc (suc s))) below = absurd (omega arith)

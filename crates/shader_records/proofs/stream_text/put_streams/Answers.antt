@@ -1,0 +1,63 @@
+-- One stream more stands.
+use Rattle.std.proofs.Common.{◌≡◌, ◌+◌, sym, ap, ◌∙◌, arith}
+use Rattle.field_words.specs.WordBytes.{laid}
+use Rattle.shader_records.specs.Sources.{shader_used, taken_before, given_before}
+use Rattle.shader_records.specs.Emission.{stream_text, streams_text}
+use Rattle.shader_records.proofs.Steps.{taken_zero, given_zero, taken_next, given_next, given_upto, taken_upto}
+use Rattle.shader_records.proofs.Lengths.{put_behind, length_stream, length_streams, streams_more, no_streams}
+use Rattle.shader_records.proofs.stream_text.put_streams.Goals as goal
+
+pub loop-s-init : goal.loop-s-init
+loop-s-init c =
+    record {
+      text = no_streams c.args.out.now c.args.base c.args.inputs.now c.args.at c.args.from c.args.first (omega (arith, c.requires.room));
+      taken = sym (taken_zero c.args.inputs.now c.args.at);
+      given = sym (given_zero c.args.inputs.now c.args.at);
+    }
+
+pub overflow_cast-given : goal.overflow_cast-given
+overflow_cast-given c = omega (arith, c.loop-s.invariant.given, given_upto c.args.inputs.now c.args.at c.loop-s.s c.loop-s-test.true, c.requires.places)
+
+pub overflow_add-first : goal.overflow_add-first
+overflow_add-first c = omega (arith, c.loop-s.invariant.given, given_upto c.args.inputs.now c.args.at c.loop-s.s c.loop-s-test.true, c.requires.places)
+
+pub overflow_add-base : goal.overflow_add-base
+overflow_add-base c = omega (arith, c.loop-s.invariant.given, given_upto c.args.inputs.now c.args.at c.loop-s.s c.loop-s-test.true, c.requires.places, c.requires.base)
+
+pub overflow_add-from : goal.overflow_add-from
+overflow_add-from c = omega (arith, c.loop-s.invariant.taken, taken_upto c.args.inputs.now c.args.at c.loop-s.s c.loop-s-test.true, c.requires.taken, c.requires.few)
+
+pub overflow_add-from-in-loop-s : goal.overflow_add-from-in-loop-s
+overflow_add-from-in-loop-s c = omega (arith, c.loop-s.invariant.taken, taken_upto c.args.inputs.now c.args.at c.loop-s.s c.loop-s-test.true, c.requires.taken, c.requires.few)
+
+pub put_stream-requires-clause-room : goal.put_stream-requires-clause-room
+put_stream-requires-clause-room c = omega (arith, c.loop-s.invariant.given, c.loop-s.auto.out, given_upto c.args.inputs.now c.args.at c.loop-s.s c.loop-s-test.true, c.requires.room)
+
+pub overflow_add-taken : goal.overflow_add-taken
+overflow_add-taken c = omega (arith, c.loop-s.invariant.taken, c.taken_by-taken.ensures, taken_upto c.args.inputs.now c.args.at c.loop-s.s c.loop-s-test.true, c.requires.taken, c.requires.few)
+
+pub overflow_add-given : goal.overflow_add-given
+overflow_add-given c = omega (arith, c.loop-s.invariant.given, c.given_by.ensures.value, given_upto c.args.inputs.now c.args.at c.loop-s.s c.loop-s-test.true, c.requires.places)
+
+pub loop-s-preserved : goal.loop-s-preserved
+loop-s-preserved c =
+    let input = c.args.inputs.now in
+    let at = c.args.at in
+    let s = c.loop-s.s in
+    let from = c.args.from in
+    let first = c.args.first in
+    let given = c.loop-s.invariant.given in
+    let rest = stream_text input (from + taken_before input at s) (first + given_before input at s) (shader_used input at s) in
+    let same : stream_text input (from + c.loop-s.taken) (first + c.loop-s.given) (shader_used input at s) ≡ rest =
+    ap (λ h. stream_text input (from + h) (first + c.loop-s.given) (shader_used input at s)) c.loop-s.invariant.taken
+    ∙ ap (λ d. stream_text input (from + taken_before input at s) (first + d) (shader_used input at s)) given in
+    let long = length_stream input (from + taken_before input at s) (first + given_before input at s) (shader_used input at s) in
+    record {
+      text =
+          put_behind c.args.out.now c.args.base c.loop-s.given (streams_text input at from first s) rest c.loop-s.out c.put_stream.new.out c.loop-s.invariant.text
+          (length_streams input at from first s ∙ sym given) (c.put_stream.ensures ∙ ap (λ t. laid c.loop-s.out (c.args.base + c.loop-s.given) t) same)
+          (omega (arith, given, long, given_upto input at s c.loop-s-test.true, c.requires.room))
+          ∙ ap (λ t. laid c.args.out.now c.args.base t) (sym (streams_more input at from first s));
+      taken = omega (arith, c.loop-s.invariant.taken, c.taken_by-taken.ensures, taken_next input at s);
+      given = omega (arith, given, c.given_by.ensures.value, given_next input at s);
+    }

@@ -1,0 +1,43 @@
+-- What the check of shader records is given: the states of the binner list, the parts of the job file,
+-- the memory table with the job's handles, and what is known of each buffer's shader.
+use Rattle.std.specs.Prelude.{◌≡◌, ℕ, ◌<◌, List, length, map, Option, Some, None, slice_index_or, is_some, not}
+use Rattle.buffer_table.specs.Table.{TableModel, buffer_at}
+use Rattle.buffer_table.specs.Handles.{AreNumbersOf, is_plain}
+use Rattle.qpu_isa.specs.declared.inst.ShaderInfo.{ShaderInfo}
+use Rattle.emitted_facts.specs.Shader.{ShaderModel, shader_view, IsSoundShader}
+use Rattle.shader_records.specs.declared.state.State.{State}
+
+pub record InputModel : Type 0 where
+  pub states : List State
+  pub records : List ℕ
+  pub uniforms : List ℕ
+  pub table : TableModel
+  pub handles : List ℕ
+  pub shaders : List (Option ShaderModel)
+
+abbrev pub shader_option : Option ShaderInfo → Option ShaderModel
+shader_option None = None
+shader_option (Some info) = Some (shader_view info)
+
+abbrev pub shaders_view : List (Option ShaderInfo) → List (Option ShaderModel)
+shaders_view shaders = map shader_option shaders
+
+-- what is known of the shader in a buffer
+abbrev pub shader_in : List (Option ShaderModel) → ℕ → Option ShaderModel
+shader_in shaders number = slice_index_or shaders number None
+
+-- There is one entry for each buffer, a shader exactly where its kind is Code, and each is sound.
+pub record AreShadersOf (table : TableModel) (shaders : List (Option ShaderModel)) : Type 0 where
+  pub count : length shaders ≡ length table.buffers
+  pub code : (number : ℕ) → number < length table.buffers → is_plain (buffer_at table.buffers number).kind ≡ not (is_some (shader_in shaders number))
+  pub sound : (number : ℕ) (shader : ShaderModel) → shader_in shaders number ≡ Some shader → IsSoundShader shader
+
+-- What is true of each input.
+pub record AreInputs (input : InputModel) : Type 0 where
+  pub handles : AreNumbersOf input.table input.handles
+  pub shaders : AreShadersOf input.table input.shaders
+
+-- the input of a job: what its binner list, its parts, its memory table and its shaders give
+abbrev pub input_of : List State → List ℕ → List ℕ → TableModel → List ℕ → List (Option ShaderInfo) → InputModel
+input_of states records uniforms table handles shaders =
+    record { states = states; records = records; uniforms = uniforms; table = table; handles = handles; shaders = shaders_view shaders }

@@ -1,0 +1,6 @@
+pub mod Emission
+pub mod Emitted
+pub mod Going
+pub mod Inputs
+pub mod Rules
+pub mod Sources

@@ -1,0 +1,186 @@
+//! What the check is given.
+ghost use Rattle.std.specs.Prelude.{◌≡◌, ◌+◌, ◌*◌, ◌<◌, ◌≤◌, length, slice_index_or, IfSome, MatchOption, Some, None};
+ghost use Rattle.field_words.specs.Words.{u32_at};
+ghost use Rattle.buffer_table.specs.Table.{buffer_at};
+ghost use Rattle.emitted_facts.specs.Shader.{shader_view, IsSoundShader};
+ghost use Rattle.shader_records.specs.Inputs.{shaders_view, shader_in};
+ghost use Rattle.shader_records.specs.Sources.{no_state, state_at, handles_size, code_number, attribute_number, sample_number, shader_used, is_threaded, record_word, place_in, size_in};
+
+use crate::sizes::handles_size;
+use crate::state::State;
+use buffer_table::{Handles, Table, use_code, use_data};
+use field_words::get_u32;
+use qpu_isa::ShaderInfo;
+use std::marker::Model;
+
+/// The states, the parts of the job file that hold their records and uniforms, and what these name: the
+/// buffers of the job's handles, and what is known of the shader in each Code buffer.
+#[derive(Drop)]
+pub(crate) struct Inputs<'a> {
+    pub(crate) states: &'a [State],
+    pub(crate) records: &'a [u8],
+    pub(crate) uniforms: &'a [u8],
+    pub(crate) table: &'a Table,
+    pub(crate) handles: &'a Handles,
+    pub(crate) shaders: &'a [Option<ShaderInfo>],
+}
+
+impl<'a> Model for Inputs<'a> {
+    ghost use Rattle.shader_records.specs.Inputs.{InputModel, AreInputs, shaders_view};
+
+    ghost Value = { InputModel };
+
+    ghost view = { λ g. record { states = g.states.now; records = g.records.now; uniforms = g.uniforms.now; table = g.table.now; handles = g.handles.now; shaders = shaders_view g.shaders.now } };
+
+    ghost invariant = { λ g. AreInputs (record { states = g.states.now; records = g.records.now; uniforms = g.uniforms.now; table = g.table.now; handles = g.handles.now; shaders = shaders_view g.shaders.now }) };
+}
+
+/// The number of four bytes at a place.
+fn word_at(bytes: &[u8], at: usize) -> u32
+    requires { at + 4 ≤ length bytes.now }
+    ensures { result ≡ u32_at bytes.now at }
+{
+    get_u32(bytes, at).unwrap_or(0)
+}
+
+/// The state of a number.
+fn state_of(states: &[State], k: usize) -> State
+    requires { k < length states.now }
+    ensures { result ≡ slice_index_or states.now k no_state }
+{
+    states[k]
+}
+
+/// What is known of the shader in a buffer.
+#[tactic(auto, using(crate::proofs::Shaders::known_none, crate::proofs::Shaders::known_some))]
+fn known(shaders: &[Option<ShaderInfo>], number: usize) -> Option<&ShaderInfo>
+    requires { number < length shaders.now }
+    ensures { MatchOption result (shader_in (shaders_view shaders.now) number ≡ None) (λ info. shader_in (shaders_view shaders.now) number ≡ Some (shader_view info.now)) }
+{
+    match &shaders[number] {
+        Some(info) => Some(info),
+        None => None,
+    }
+}
+
+impl<'a> Inputs<'a> {
+    /// The state of a number.
+    pub(crate) fn state(&self, k: usize) -> State
+        requires { k < length self.now.states }
+        ensures { result ≡ state_at self.now k }
+    {
+        state_of(self.states, k)
+    }
+
+    /// How many states there are.
+    pub(crate) fn count(&self) -> usize
+        ensures { result ≡ length self.now.states }
+    {
+        self.states.len()
+    }
+
+    pub(crate) fn record_at(&self, at: usize) -> u32
+        requires { at + 4 ≤ length self.now.records }
+        ensures { result ≡ u32_at self.now.records at }
+    {
+        word_at(self.records, at)
+    }
+
+    pub(crate) fn uniform_at(&self, at: usize) -> u32
+        requires { at + 4 ≤ length self.now.uniforms }
+        ensures { result ≡ u32_at self.now.uniforms at }
+    {
+        word_at(self.uniforms, at)
+    }
+
+    /// The buffer of shader `s`'s code, for the record whose source begins at `at`.
+    #[tactic(auto, unfolding(crate::specs::Sources::code_number))]
+    pub(crate) fn code_number(&self, at: usize, s: usize) -> Option<usize>
+        requires few { length self.now.records ≤ 1048576 }
+        requires inside { at + 4 * s + 4 ≤ length self.now.records }
+        ensures value { result ≡ code_number self.now at s }
+        ensures below { IfSome result (λ number. number < length self.now.table.buffers) }
+    {
+        use_code(self.table, self.handles, self.record_at(at + 4 * s))
+    }
+
+    /// The buffer of attribute `t`'s data.
+    #[tactic(auto, unfolding(crate::specs::Sources::attribute_number))]
+    pub(crate) fn attribute_number(&self, at: usize, t: usize) -> Option<usize>
+        requires few { length self.now.records ≤ 1048576 }
+        requires inside { at + (12 + 4 * t) + 4 ≤ length self.now.records }
+        ensures value { result ≡ attribute_number self.now at t }
+        ensures below { IfSome result (λ number. number < length self.now.table.buffers) }
+    {
+        use_data(self.table, self.handles, self.record_at(at + (12 + 4 * t)))
+    }
+
+    /// The buffer of sample `i`, for a shader whose uniforms begin at `from`.
+    #[tactic(auto, unfolding(crate::specs::Sources::sample_number))]
+    pub(crate) fn sample_number(&self, from: usize, i: usize) -> Option<usize>
+        requires few { length self.now.uniforms ≤ 1048576 }
+        requires inside { from + 4 * i + 4 ≤ length self.now.uniforms }
+        ensures value { result ≡ sample_number self.now from i }
+        ensures below { IfSome result (λ number. number < length self.now.table.buffers) }
+    {
+        use_data(self.table, self.handles, self.uniform_at(from + 4 * i))
+    }
+
+    /// Word `i` of the record whose source begins at `at`.
+    #[tactic(auto, unfolding(crate::specs::Sources::record_word))]
+    pub(crate) fn record_word(&self, at: usize, state: u32, i: usize) -> u32
+        requires few { length self.now.records ≤ 1048576 }
+        requires inside { at + handles_size state + 4 * i + 4 ≤ length self.now.records }
+        ensures { result ≡ record_word self.now at state i }
+    {
+        self.record_at(at + handles_size(state) + 4 * i)
+    }
+
+    /// What is known of the shader that a record starts, `None` where the handle names none.
+    #[tactic(auto, unfolding(crate::specs::Sources::shader_used))]
+    pub(crate) fn shader_used(&self, at: usize, s: usize) -> Option<&ShaderInfo>
+        requires few { length self.now.records ≤ 1048576 }
+        requires inside { at + 4 * s + 4 ≤ length self.now.records }
+        ensures value { MatchOption result (shader_used self.now at s ≡ None) (λ info. shader_used self.now at s ≡ Some (shader_view info.now)) }
+        ensures sound { IfSome result (λ info. IsSoundShader (shader_view info.now)) }
+    {
+        match self.code_number(at, s) {
+            Some(number) => known(self.shaders, number),
+            None => None,
+        }
+    }
+
+    /// Whether that shader switches threads.
+    pub(crate) fn is_threaded(&self, at: usize, s: usize) -> bool
+        requires few { length self.now.records ≤ 1048576 }
+        requires inside { at + 4 * s + 4 ≤ length self.now.records }
+        ensures { result ≡ is_threaded (shader_used self.now at s) }
+    {
+        match self.shader_used(at, s) {
+            Some(info) => info.threaded,
+            None => false,
+        }
+    }
+
+    /// The size of a buffer, and its place; 0 of none.
+    pub(crate) fn size_of(&self, number: Option<usize>) -> u32
+        requires { IfSome number (λ number. number < length self.now.table.buffers) }
+        ensures value { result ≡ size_in self.now.table number }
+    {
+        match number {
+            Some(number) => self.table.buffer(number).size,
+            None => 0,
+        }
+    }
+
+    pub(crate) fn place_of(&self, number: Option<usize>) -> u32
+        requires { IfSome number (λ number. number < length self.now.table.buffers) }
+        ensures value { result ≡ place_in self.now.table number }
+        ensures limit { result + size_in self.now.table number ≤ 67108864 }
+    {
+        match number {
+            Some(number) => self.table.buffer(number).place,
+            None => 0,
+        }
+    }
+}

@@ -1,0 +1,163 @@
+//! Emission of one uniform stream.
+ghost use Rattle.std.specs.Prelude.{◌≡◌, ℕ, Some, None, ◌+◌, ◌*◌, ◌<◌, ◌≤◌, ◌^◌, length};
+ghost use Rattle.field_words.specs.Questions.{first_of};
+ghost use Rattle.field_words.specs.WordBytes.{word_bytes, laid};
+ghost use Rattle.emitted_facts.specs.Shader.{shader_view, sample_at, first_position, address_at, IsSoundShader};
+ghost use Rattle.shader_records.specs.Sources.{sample_number, source_word, place_in, shader_used, taken_by, given_by, taken_before, given_before};
+ghost use Rattle.shader_records.specs.Rules.{use_questions};
+ghost use Rattle.shader_records.specs.Emission.{stream_word_of, stream_text, streams_text};
+
+use crate::inputs::Inputs;
+use crate::record_text::given_by;
+use crate::uniform_rules::first_position;
+use field_words::put_u32;
+use qpu_isa::ShaderInfo;
+
+/// Word `k` of a stream's source, for a shader whose uniforms begin at `from`.
+#[tactic(auto, unfolding(crate::specs::Sources::source_word))]
+fn source_word(inputs: &Inputs, from: usize, info: &ShaderInfo, k: usize) -> u32
+    requires few { length inputs.now.uniforms ≤ 1048576 }
+    requires room { from + 4 * (length info.now.samples.items + info.now.uniforms) ≤ length inputs.now.uniforms }
+    requires inside { k < info.now.uniforms }
+    ensures { result ≡ source_word inputs.now from (shader_view info.now) k }
+{
+    inputs.uniform_at(from + 4 * info.samples.len() + 4 * k)
+}
+
+/// The first word of sample `i`, moved by its buffer's place.
+#[tactic(auto, using(crate::proofs::Samples::base_fits))]
+fn moved_word(inputs: &Inputs, from: usize, info: &ShaderInfo, i: usize) -> u32
+    requires few { length inputs.now.uniforms ≤ 1048576 }
+    requires sound { IsSoundShader (shader_view info.now) }
+    requires room { from + 4 * (length info.now.samples.items + info.now.uniforms) ≤ length inputs.now.uniforms }
+    requires inside { i < length info.now.samples.items }
+    requires fine { first_of (use_questions inputs.now from (Some (shader_view info.now))) ≡ None }
+    ensures { result ≡ source_word inputs.now from (shader_view info.now) (first_position (sample_at (shader_view info.now) i)) + place_in inputs.now.table (sample_number inputs.now from i) }
+{
+    let word = source_word(inputs, from, info, first_position(info, i));
+    word + inputs.place_of(inputs.sample_number(from, i))
+}
+
+/// Address word `j` of a shader.
+fn address_word(info: &ShaderInfo, j: usize) -> usize
+    requires sound { IsSoundShader (shader_view info.now) }
+    requires inside { j < length info.now.address_words.items }
+    ensures value { result ≡ address_at (shader_view info.now) j }
+    ensures below { result < info.now.uniforms }
+{
+    info.address_words[j] as usize
+}
+
+/// Emits at `base` the stream of a shader whose uniforms begin at `from`: the words of its source, each
+/// sample's first moved by its buffer's place, and each address word the stream's own place.
+#[tactic(auto, using(crate::proofs::Fine::use_inside, field_words::proofs::WordBytes::laid_none))]
+fn put_words(
+    inputs: &Inputs,
+    from: usize,
+    info: &ShaderInfo,
+    stream: u32,
+    out: &mut [u8],
+    base: usize,
+)
+    requires few { length inputs.now.uniforms ≤ 1048576 }
+    requires sound { IsSoundShader (shader_view info.now) }
+    requires fine { first_of (use_questions inputs.now from (Some (shader_view info.now))) ≡ None }
+    requires room { base + 4 * info.now.uniforms ≤ length out.old }
+    ensures { out.new ≡ laid out.old base (word_bytes (stream_word_of inputs.now from (shader_view info.now) stream) info.now.uniforms) }
+{
+    for k in 0..info.uniforms as usize {
+        let word = source_word(inputs, from, info, k);
+        put_u32(out, base + 4 * k, word);
+    }
+    for i in 0..info.samples.len() {
+        let word = moved_word(inputs, from, info, i);
+        put_u32(out, base + 4 * first_position(info, i), word);
+    }
+    for j in 0..info.address_words.len() {
+        put_u32(out, base + 4 * address_word(info, j), stream);
+    }
+}
+
+/// The bytes of uniforms that shader `s` of a record takes.
+#[tactic(auto, using(crate::proofs::Fine::use_inside))]
+fn taken_by(inputs: &Inputs, at: usize, s: usize, from: usize) -> usize
+    requires few_records { length inputs.now.records ≤ 1048576 }
+    requires few { length inputs.now.uniforms ≤ 1048576 }
+    requires inside { at + 4 * s + 4 ≤ length inputs.now.records }
+    requires fine { first_of (use_questions inputs.now from (shader_used inputs.now at s)) ≡ None }
+    ensures { result ≡ taken_by (shader_used inputs.now at s) }
+{
+    match inputs.shader_used(at, s) {
+        Some(info) => 4 * (info.samples.len() + info.uniforms as usize),
+        None => 0,
+    }
+}
+
+/// Emits the stream of shader `s` of a record, of which there may be none.
+#[tactic(auto, unfolding(crate::specs::Emission::stream_text), using(field_words::proofs::WordBytes::laid_nothing))]
+fn put_stream(
+    inputs: &Inputs,
+    at: usize,
+    s: usize,
+    from: usize,
+    stream: u32,
+    out: &mut [u8],
+    base: usize,
+)
+    requires few_records { length inputs.now.records ≤ 1048576 }
+    requires few { length inputs.now.uniforms ≤ 1048576 }
+    requires inside { at + 4 * s + 4 ≤ length inputs.now.records }
+    requires fine { first_of (use_questions inputs.now from (shader_used inputs.now at s)) ≡ None }
+    requires room { base + given_by (shader_used inputs.now at s) ≤ length out.old }
+    ensures { out.new ≡ laid out.old base (stream_text inputs.now from stream (shader_used inputs.now at s)) }
+{
+    if let Some(info) = inputs.shader_used(at, s) {
+        put_words(inputs, from, info, stream, out, base);
+    }
+}
+
+/// The bytes of uniforms that a record's shaders take, and the bytes of their streams.
+#[derive(Clone, Copy)]
+pub(crate) struct Amounts {
+    pub(crate) taken: usize,
+    pub(crate) given: usize,
+}
+
+/// Emits the streams of a record's shaders, whose uniforms begin at `from`. The first stands at the place
+/// `first` in memory, and at `base` in `out`.
+pub(crate) fn put_streams(
+    inputs: &Inputs,
+    at: usize,
+    from: usize,
+    first: u32,
+    out: &mut [u8],
+    base: usize,
+) -> Amounts
+    requires few_records { length inputs.now.records ≤ 1048576 }
+    requires few { length inputs.now.uniforms ≤ 1048576 }
+    requires inside { at + 12 ≤ length inputs.now.records }
+    requires fine { (s : ℕ) → s < 3 → first_of (use_questions inputs.now (from + taken_before inputs.now at s) (shader_used inputs.now at s)) ≡ None }
+    requires taken { from + taken_before inputs.now at 3 ≤ length inputs.now.uniforms }
+    requires base { base < 2 ^ 32 }
+    requires places { first + given_before inputs.now at 3 < 2 ^ 32 }
+    requires room { base + given_before inputs.now at 3 ≤ length out.old }
+    ensures text { out.new ≡ laid out.old base (streams_text inputs.now at from first 3) }
+    ensures amounts { result ≡ record { taken = taken_before inputs.now at 3; given = given_before inputs.now at 3 } }
+{
+    let mut taken = 0;
+    let mut given = 0;
+    for s in 0..3usize {
+        put_stream(
+            inputs,
+            at,
+            s,
+            from + taken,
+            first + given as u32,
+            out,
+            base + given,
+        );
+        taken += taken_by(inputs, at, s, from + taken);
+        given += given_by(inputs, at, s) as usize;
+    }
+    Amounts { taken, given }
+}

@@ -1,0 +1,186 @@
+//! The rules of the uniforms that shaders take.
+ghost use Rattle.std.specs.Prelude.{◌≡◌, ℕ, ◌+◌, ◌*◌, ◌<◌, ◌≤◌, ◌^◌, length, Some, None, IfSome, MatchOption};
+ghost use Rattle.field_words.specs.Questions.{first_of, each};
+ghost use Rattle.emitted_facts.specs.Shader.{shader_view, sample_at, position, first_position, IsSoundShader, IsSoundSample};
+ghost use Rattle.emitted_facts.specs.Facts.{setup};
+ghost use Rattle.shader_records.specs.Sources.{shader_used, taken_by, sample_number, source_word, size_in};
+ghost use Rattle.shader_records.specs.Rules.{uniform_fault, sample_fault as sample_fault_of, setup_questions, first_word_at, sample_questions, use_questions};
+ghost use Rattle.shader_records.specs.Going.{GoesOn};
+
+use crate::fault::RecordFault;
+use crate::inputs::Inputs;
+use job_format::Stage;
+use qpu_isa::{Sample, ShaderInfo};
+use texture_layouts::{direct_fits, texture_fits};
+
+/// A fault of rule U`number` at a place in the uniforms.
+fn fault(at: usize, number: u8) -> RecordFault
+    requires { at < 2 ^ 32 }
+    ensures { result ≡ sample_fault_of at number }
+{
+    RecordFault {
+        stage: Stage::U,
+        number,
+        in_uniforms: true,
+        at: at as u32,
+    }
+}
+
+/// Sample `i` of a shader.
+pub(crate) fn sample(info: &ShaderInfo, i: usize) -> Sample
+    requires sound { IsSoundShader (shader_view info.now) }
+    requires inside { i < length info.now.samples.items }
+    ensures value { result ≡ sample_at (shader_view info.now) i }
+    ensures sound { IsSoundSample (shader_view info.now) result }
+{
+    info.samples[i]
+}
+
+/// Where its first set-up word stands in the shader's stream.
+pub(crate) fn first_position(info: &ShaderInfo, i: usize) -> usize
+    requires sound { IsSoundShader (shader_view info.now) }
+    requires inside { i < length info.now.samples.items }
+    ensures value { result ≡ first_position (sample_at (shader_view info.now) i) }
+    ensures below { result < info.now.uniforms }
+{
+    match sample(info, i).p[0] {
+        Some(k) => k as usize,
+        None => 0,
+    }
+}
+
+/// Set-up word `n` of a sample, of a shader whose uniforms begin at `from`; 0 where there is none.
+#[tactic(auto, unfolding(crate::specs::Sources::source_word))]
+fn setup_word(inputs: &Inputs, from: usize, info: &ShaderInfo, sample: &Sample, n: usize) -> u32
+    requires few { length inputs.now.uniforms ≤ 1048576 }
+    requires room { from + 4 * (length info.now.samples.items + info.now.uniforms) ≤ length inputs.now.uniforms }
+    requires count { n < 4 }
+    requires sound { IsSoundSample (shader_view info.now) sample.now }
+    ensures { result ≡ setup (source_word inputs.now from (shader_view info.now)) sample.now n }
+{
+    match sample.p[n] {
+        Some(k) => inputs.uniform_at(from + 4 * info.samples.len() + 4 * k as usize),
+        None => 0,
+    }
+}
+
+/// The number of the first rule that a sample breaks in a buffer of `size` bytes.
+#[tactic(auto, unfolding(crate::specs::Rules::setup_questions))]
+fn setup_fault(
+    inputs: &Inputs,
+    from: usize,
+    info: &ShaderInfo,
+    sample: &Sample,
+    size: u32,
+) -> Option<u8>
+    requires few { length inputs.now.uniforms ≤ 1048576 }
+    requires room { from + 4 * (length info.now.samples.items + info.now.uniforms) ≤ length inputs.now.uniforms }
+    requires sound { IsSoundSample (shader_view info.now) sample.now }
+    ensures { result ≡ first_of (setup_questions sample.now (source_word inputs.now from (shader_view info.now)) size) }
+{
+    let first = setup_word(inputs, from, info, sample, 0);
+    let second = setup_word(inputs, from, info, sample, 1);
+    if sample.direct {
+        return direct_fits(first, second, size).err();
+    }
+    let third = setup_word(inputs, from, info, sample, 2);
+    let fourth = setup_word(inputs, from, info, sample, 3);
+    texture_fits([first, second, third, fourth], size).err()
+}
+
+/// Where a sample's first word is in the uniforms.
+#[tactic(auto, unfolding(crate::specs::Rules::first_word_at))]
+fn first_word_place(info: &ShaderInfo, from: usize, i: usize) -> usize
+    requires sound { IsSoundShader (shader_view info.now) }
+    requires room { from + 4 * (length info.now.samples.items + info.now.uniforms) ≤ 1048576 }
+    requires inside { i < length info.now.samples.items }
+    ensures value { result ≡ first_word_at (shader_view info.now) from i }
+    ensures limit { result ≤ 1048576 }
+{
+    from + 4 * info.samples.len() + 4 * first_position(info, i)
+}
+
+/// The first rule that a sample breaks.
+#[tactic(auto, unfolding(crate::specs::Rules::sample_questions), using(field_words::proofs::Questions::answered_none, field_words::proofs::Questions::answered_some))]
+fn sample_fault(inputs: &Inputs, from: usize, info: &ShaderInfo, i: usize) -> Option<RecordFault>
+    requires few { length inputs.now.uniforms ≤ 1048576 }
+    requires sound { IsSoundShader (shader_view info.now) }
+    requires room { from + 4 * (length info.now.samples.items + info.now.uniforms) ≤ length inputs.now.uniforms }
+    requires inside { i < length info.now.samples.items }
+    ensures { result ≡ first_of (sample_questions inputs.now from (shader_view info.now) i) }
+{
+    let number = inputs.sample_number(from, i);
+    if number.is_none() {
+        return Some(fault(from + 4 * i, 1));
+    }
+    match setup_fault(inputs, from, info, &sample(info, i), inputs.size_of(number)) {
+        Some(rule) => Some(fault(first_word_place(info, from, i), rule)),
+        None => None,
+    }
+}
+
+#[tactic(auto, using(field_words::proofs::Questions::each_on, field_words::proofs::Questions::each_stop, field_words::proofs::Questions::each_end))]
+fn samples_fault(inputs: &Inputs, from: usize, info: &ShaderInfo) -> Option<RecordFault>
+    requires few { length inputs.now.uniforms ≤ 1048576 }
+    requires sound { IsSoundShader (shader_view info.now) }
+    requires room { from + 4 * (length info.now.samples.items + info.now.uniforms) ≤ length inputs.now.uniforms }
+    ensures { result ≡ first_of (each (sample_questions inputs.now from (shader_view info.now)) 0 (length info.now.samples.items)) }
+{
+    for i in 0..info.samples.len() {
+        if let Some(fault) = sample_fault(inputs, from, info, i) {
+            return Some(fault);
+        }
+    }
+    None
+}
+
+/// How many words of uniforms a shader takes, with a handle for each sample.
+fn words_taken(samples: usize, uniforms: u32) -> u128
+    ensures value { result ≡ samples + uniforms }
+    ensures limit { result < 2 ^ 65 }
+{
+    samples as u128 + u128::from(uniforms)
+}
+
+/// The first rule that the uniforms of a shader break, which begin at `from`, or else where they end.
+#[tactic(auto, unfolding(crate::specs::Rules::use_questions))]
+fn shader_fault(inputs: &Inputs, from: usize, info: &ShaderInfo) -> Result<usize, RecordFault>
+    requires few { length inputs.now.uniforms ≤ 1048576 }
+    requires sound { IsSoundShader (shader_view info.now) }
+    requires from { from ≤ length inputs.now.uniforms }
+    ensures { GoesOn (use_questions inputs.now from (Some (shader_view info.now))) (λ end. (end ≡ from + taken_by (Some (shader_view info.now))) × (end ≤ length inputs.now.uniforms)) result }
+{
+    let words = words_taken(info.samples.len(), info.uniforms);
+    if (inputs.uniforms.len() as u128) < from as u128 + 4 * words {
+        return Err(RecordFault {
+            stage: Stage::A,
+            number: 8,
+            in_uniforms: true,
+            at: from as u32,
+        });
+    }
+    match samples_fault(inputs, from, info) {
+        Some(fault) => Err(fault),
+        None => Ok(from + 4 * words as usize),
+    }
+}
+
+/// The same of shader `s` of a record, of which there may be none.
+#[tactic(auto, unfolding(crate::specs::Rules::use_questions))]
+pub(crate) fn use_fault(
+    inputs: &Inputs,
+    at: usize,
+    s: usize,
+    from: usize,
+) -> Result<usize, RecordFault>
+    requires few_records { length inputs.now.records ≤ 1048576 }
+    requires few { length inputs.now.uniforms ≤ 1048576 }
+    requires inside { at + 4 * s + 4 ≤ length inputs.now.records }
+    requires from { from ≤ length inputs.now.uniforms }
+    ensures { GoesOn (use_questions inputs.now from (shader_used inputs.now at s)) (λ end. (end ≡ from + taken_by (shader_used inputs.now at s)) × (end ≤ length inputs.now.uniforms)) result }
+{
+    match inputs.shader_used(at, s) {
+        Some(info) => shader_fault(inputs, from, info),
+        None => Ok(from),
+    }
+}
