@@ -14,7 +14,9 @@ pub struct Steps<L: Ledger> {
 
 impl<L: Ledger> Model for Steps<L> {
     ghost Value = { ℕ };
+
     ghost view = { λ s. s.book.total };
+
     ghost invariant = { λ s. 0 < s.share.parts };
 }
 

@@ -9,26 +9,44 @@ const NOP: u8 = 0;
 
 // The add unit's operations with a result of the operands alone.
 const ADD: u8 = 12;
+
 const SUB: u8 = 13;
+
 const SHR: u8 = 14;
+
 const ASR: u8 = 15;
+
 const ROR: u8 = 16;
+
 const SHL: u8 = 17;
+
 const MIN: u8 = 18;
+
 const MAX: u8 = 19;
+
 const AND: u8 = 20;
+
 const OR: u8 = 21;
+
 const XOR: u8 = 22;
+
 const NOT: u8 = 23;
+
 const CLZ: u8 = 24;
+
 const V8ADDS: u8 = 30;
+
 const V8SUBS: u8 = 31;
 
 // The multiply unit's.
 const MUL24: u8 = 2;
+
 const V8MIN: u8 = 4;
+
 const V8MAX: u8 = 5;
+
 const MUL_V8ADDS: u8 = 6;
+
 const MUL_V8SUBS: u8 = 7;
 
 /// The lesser of two signed numbers.

@@ -210,7 +210,7 @@ tiled_apart tiling width cpp x y u v i j pixel x_in u_in i_in j_in same =
     (same_number x u mw tiles.0 rest.0, same_number y v mh tiles.1 rest.1)
 
 -- The laws of the pixels of a raster surface.
-raster_inside : (width height cpp x y : ℕ) → x < aligned_across Raster width cpp → y < aligned_down Raster height cpp
+pub raster_inside : (width height cpp x y : ℕ) → x < aligned_across Raster width cpp → y < aligned_down Raster height cpp
     → raster_place width cpp x y + cpp ≤ size_for Raster width height cpp
 unfolding raster_place
 raster_inside width height cpp x y x_in y_in =

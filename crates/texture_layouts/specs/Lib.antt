@@ -1,3 +1,4 @@
+pub mod Fetch
 pub mod Fits
 pub mod Level
 pub mod Place

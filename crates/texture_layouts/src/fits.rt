@@ -2,9 +2,34 @@
 ghost use Rattle.std.specs.Prelude.{◌≡◌, OnOk, false, slice_index};
 ghost use Rattle.field_words.specs.Questions.{first_of};
 ghost use Rattle.texture_layouts.specs.Fits.{has_two_strides, lacks_stride, is_unlisted, has_face_past, has_level_below, has_child_image, texture_questions, direct_questions, AnswersFirst, AnswersLeast, IsInBuffer};
+ghost use Rattle.texture_layouts.specs.Fetch.{AreFetchesIn};
 ghost use Rattle.texture_layouts.specs.Setup.{texture_of};
 
 use crate::setup::{Texture, cube_stride, is_cube_word, kind};
+
+/// U2: a direct read's base plus 4 is past the buffer's end.
+pub const BASE_OUTSIDE: u8 = 2;
+
+/// U3: a direct read's base plus its bound plus 4 is past the buffer's end.
+pub const BOUND_OUTSIDE: u8 = 3;
+
+/// U4: cube mode, and both the third and the fourth set-up word have a cube stride.
+pub const TWO_STRIDES: u8 = 4;
+
+/// U5: cube mode, and neither word has a cube stride, or it is 0.
+pub const NO_STRIDE: u8 = 5;
+
+/// U6: the type isn't listed.
+pub const UNLISTED_TYPE: u8 = 6;
+
+/// U7: level 0 of some face ends past the buffer.
+pub const FACE_OUTSIDE: u8 = 7;
+
+/// U8: levels 1 and up take more bytes than there are below the base.
+pub const LEVEL_BELOW: u8 = 8;
+
+/// U9: a word has a child image.
+pub const CHILD_IMAGE: u8 = 9;
 
 /// U4: cube mode, and the third and the fourth word both have a cube stride.
 #[tactic(auto, unfolding(crate::specs::Fits::has_two_strides))]
@@ -55,23 +80,23 @@ fn texture_fault(words: &[u32; 4], size: u32) -> Option<u8>
     ensures { result ≡ first_of (texture_questions (slice_index words.now 0) (slice_index words.now 1) (slice_index words.now 2) (slice_index words.now 3) size) }
 {
     if has_two_strides(words) {
-        return Some(4);
+        return Some(TWO_STRIDES);
     }
     if lacks_stride(words) {
-        return Some(5);
+        return Some(NO_STRIDE);
     }
     let texture = Texture::of(words);
     if texture.is_unlisted() {
-        return Some(6);
+        return Some(UNLISTED_TYPE);
     }
     if has_face_past(&texture, size) {
-        return Some(7);
+        return Some(FACE_OUTSIDE);
     }
     if has_level_below(&texture) {
-        return Some(8);
+        return Some(LEVEL_BELOW);
     }
     if has_child_image(words) {
-        return Some(9);
+        return Some(CHILD_IMAGE);
     }
     None
 }
@@ -80,11 +105,12 @@ fn texture_fault(words: &[u32; 4], size: u32) -> Option<u8>
 /// checker knows. Its base counts from the buffer's start. The fault is the number of the first of
 /// U4 to U9 that stands, which is the least number of all that stand.
 ///
-/// After `Ok` the pixels of each face and all levels below them lie in the buffer.
+/// After `Ok` each level of each face lies in the buffer, and so does whatever is fetched for a pixel.
 pub fn texture_fits(p: [u32; 4], size: u32) -> Result<(), u8>
     ensures first { AnswersFirst (texture_questions (slice_index p 0) (slice_index p 1) (slice_index p 2) (slice_index p 3) size) result }
     ensures least { AnswersLeast (texture_questions (slice_index p 0) (slice_index p 1) (slice_index p 2) (slice_index p 3) size) result }
     ensures inside { OnOk result (IsInBuffer (texture_of (slice_index p 0) (slice_index p 1) (slice_index p 2) (slice_index p 3)) size) }
+    ensures fetches { OnOk result (AreFetchesIn (texture_of (slice_index p 0) (slice_index p 1) (slice_index p 2) (slice_index p 3)) size) }
 {
     match texture_fault(&p, size) {
         None => Ok(()),
@@ -98,10 +124,10 @@ fn direct_fault(base: u32, bound: u32, size: u32) -> Option<u8>
     ensures { result ≡ first_of (direct_questions base bound size) }
 {
     if u64::from(base) + 4 > u64::from(size) {
-        return Some(2);
+        return Some(BASE_OUTSIDE);
     }
     if u64::from(base) + u64::from(bound) + 4 > u64::from(size) {
-        return Some(3);
+        return Some(BOUND_OUTSIDE);
     }
     None
 }

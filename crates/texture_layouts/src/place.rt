@@ -41,7 +41,8 @@ fn microtile_number(tiling: Tiling, across: u64, mx: u64, my: u64) -> u64
 }
 
 /// Where the 64 bytes of the microtile `mx` across and `my` down begin in a surface of this width,
-/// counted from the surface's first byte. The tiling isn't raster.
+/// counted from the surface's first byte. Raster has no microtiles: for it this is where they would
+/// lie in Lt.
 ///
 /// In T the microtiles of a tile of 4,096 bytes stand together, 8 rows of 8, and the tiles by rows;
 /// in Lt all stand by rows. The order is this project's own, and says nothing of the hardware's.
@@ -77,10 +78,11 @@ fn place_in_microtile(cpp: u32, x: u32, y: u32) -> u64
 
 /// Where a pixel of a raster surface lies: by rows of the aligned width.
 #[tactic(auto, unfolding(crate::specs::Place::raster_place), using(crate::proofs::Numbers::row_limit))]
-fn raster_place(width: u32, cpp: u32, x: u32, y: u32) -> u64
+pub(crate) fn raster_place(width: u32, cpp: u32, x: u32, y: u32) -> u64
     requires width_limit { width ≤ 65535 }
     requires pixel { IsPixelSize cpp }
-    ensures { result ≡ raster_place width cpp x y }
+    ensures value { result ≡ raster_place width cpp x y }
+    ensures limit { result < 2 ^ 56 }
 {
     u64::from(cpp) * (u64::from(y) * aligned_across(Tiling::Raster, width, cpp) + u64::from(x))
 }

@@ -125,6 +125,9 @@ fn places_of_levels(rt: HostRuntime) {
     assert_eq!(rt; texture.level_place(0, 1), Some(0xc00));
     assert_eq!(rt; texture.level_place(1, 1), Some(0x1c00));
     assert_eq!(rt; texture.level_place(5, 0), Some(0x6000));
+    assert_eq!(rt; texture.fetch_reach(1, 1, 4, 5), 0x2000 + 64 * 5);
+    assert_eq!(rt; texture.fetch_size(1), 64);
+    assert_eq!(rt; texture.size_below(1), 1024);
     let low = Texture::of(&[0x1, 0x02002000, 0, 0]);
     assert_eq!(rt; low.is_unlisted(), false);
     assert_eq!(rt; low.levels(), 1);

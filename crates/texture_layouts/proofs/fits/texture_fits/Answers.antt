@@ -1,5 +1,6 @@
 use Rattle.std.proofs.Common.{sym}
 use Rattle.texture_layouts.proofs.Least.{texture_least, texture_none}
+use Rattle.texture_layouts.proofs.Fetches.{fetches_in}
 use Rattle.texture_layouts.proofs.Inside.{in_buffer}
 use Rattle.texture_layouts.proofs.fits.texture_fits.Goals as goal
 
@@ -11,3 +12,6 @@ returns-in-Some-clause-least c = texture_least _ _ _ _ _ _ (sym c.in-Some.ensure
 
 pub returns-in-None-clause-inside : goal.returns-in-None-clause-inside
 returns-in-None-clause-inside c = in_buffer _ _ _ _ _ (sym c.in-None.ensures)
+
+pub returns-in-None-clause-fetches : goal.returns-in-None-clause-fetches
+returns-in-None-clause-fetches c = fetches_in _ _ (in_buffer _ _ _ _ _ (sym c.in-None.ensures))

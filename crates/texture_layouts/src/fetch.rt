@@ -1,0 +1,66 @@
+// What is fetched of a texture for one pixel: its whole microtile, or in raster the pixel alone.
+ghost use Rattle.std.specs.Prelude.{◌≡◌, ◌<◌, ◌≤◌, ◌^◌, false};
+ghost use Rattle.texture_layouts.specs.Surface.{IsPixelSize};
+ghost use Rattle.texture_layouts.specs.Fetch.{fetch_offset_of, fetch_size_of};
+
+use crate::place::{microtile_place, raster_place};
+use crate::setup::Texture;
+use crate::surface::{Tiling, microtile_height, microtile_width};
+
+/// Where the fetch for a pixel begins in its image.
+#[tactic(auto, unfolding(crate::specs::Fetch::fetch_offset_of))]
+fn fetch_offset(tiling: Tiling, width: u32, cpp: u32, x: u32, y: u32) -> u64
+    requires width_limit { width ≤ 65535 }
+    requires pixel { IsPixelSize cpp }
+    ensures value { result ≡ fetch_offset_of tiling width cpp x y }
+    ensures limit { result < 2 ^ 56 }
+{
+    let mx = x / microtile_width(cpp);
+    let my = y / microtile_height(cpp);
+    match tiling {
+        Tiling::Raster => raster_place(width, cpp, x, y),
+        Tiling::T => microtile_place(Tiling::T, width, cpp, mx, my),
+        Tiling::Lt => microtile_place(Tiling::Lt, width, cpp, mx, my),
+    }
+}
+
+/// The bytes of a fetch.
+#[tactic(auto, unfolding(crate::specs::Fetch::fetch_size_of))]
+fn fetch_size(tiling: Tiling, cpp: u32) -> u32
+    ensures { result ≡ fetch_size_of tiling cpp }
+{
+    match tiling {
+        Tiling::Raster => cpp,
+        Tiling::T | Tiling::Lt => 64,
+    }
+}
+
+impl Texture {
+    ghost use Rattle.texture_layouts.specs.Setup.{tiling_at};
+    ghost use Rattle.texture_layouts.specs.Fits.{is_unlisted};
+    ghost use Rattle.texture_layouts.specs.Fetch.{fetch_reach};
+
+    /// Where the fetch for a pixel of a level would begin if the level stood where the face's level 0
+    /// does. Less [`size_below`](Texture::size_below) of the level it is the fetch's place.
+    #[tactic(auto, unfolding(crate::specs::Fetch::fetch_reach))]
+    pub fn fetch_reach(&self, face: u32, level: u32, x: u32, y: u32) -> u64
+        requires face { face < 6 }
+        requires level { level ≤ self.now.levels }
+        requires listed { is_unlisted self.now ≡ false }
+        ensures value { result ≡ fetch_reach self.now face level x y }
+        ensures limit { result < 2 ^ 57 }
+    {
+        let tiling = self.level_tiling(level);
+        let width = self.level_width(level);
+        self.face_place(face) + fetch_offset(tiling, width, self.pixel_bytes(), x, y)
+    }
+
+    /// The bytes of a fetch of a level: 64 of a microtile, or in raster those of a pixel.
+    pub fn fetch_size(&self, level: u32) -> u32
+        requires level { level ≤ self.now.levels }
+        requires listed { is_unlisted self.now ≡ false }
+        ensures { result ≡ fetch_size_of (tiling_at self.now level) self.now.cpp }
+    {
+        fetch_size(self.level_tiling(level), self.pixel_bytes())
+    }
+}
