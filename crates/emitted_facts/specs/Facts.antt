@@ -8,7 +8,7 @@ use Rattle.field_words.specs.Questions.{first_of}
 use Rattle.field_words.specs.Words.{u32_at}
 use Rattle.qpu_isa.specs.declared.inst.Sample.{Sample}
 use Rattle.texture_layouts.specs.Fits.{texture_questions}
-use Rattle.emitted_facts.specs.Shader.{ShaderModel, sample_at, position, address_at}
+use Rattle.qpu_isa.specs.Shader.{ShaderModel, sample_at, position, address_at}
 use Rattle.emitted_facts.specs.Records.{attribute_count, attribute_size, attribute_stride, is_single, address_word}
 
 -- the word at a position, 0 where there is none

@@ -4,6 +4,7 @@ use Rattle.field_words.specs.Words.{rounded_up}
 use Rattle.field_words.proofs.Numbers.{rounded}
 use Rattle.buffer_table.specs.Sound.{IsSound}
 use Rattle.job_format.specs.declared.file.Frame.{Frame}
+use Rattle.job_format.specs.File.{IsJobWellFormed}
 use Rattle.job_format.specs.Model.{FileModel}
 use Rattle.relocation.specs.declared.layout.Layout.{Layout}
 use Rattle.relocation.specs.Layout.{records_start, uniforms_start, render_start, lists_end, StandApart}
@@ -67,13 +68,14 @@ layout_order f j =
     }
 
 -- the lists begin in the first 64 MiB, and the slot too
-pub layout_low : (f : FileModel) (j : ℕ) → IsSound f.mem_size f.regions f.buffers → length f.jobs ≡ 1 → j < length f.jobs → length (job_of f j).bin ≤ 1048576
-    → ((layout_of f j).place ≤ 67108864) × ((layout_of f j).records ≤ 67108864) × ((layout_of f j).slot ≤ 67108864)
-unfolding layout_of records_start slot_of
-layout_low f j sound one inside short =
+pub layout_low : (f : FileModel) (j : ℕ) → IsSound f.mem_size f.regions f.buffers → length f.jobs ≡ 1 → j < length f.jobs → IsJobWellFormed (job_of f j)
+    → ((layout_of f j).place ≤ 67108864) × ((layout_of f j).records ≤ 67108864) × ((layout_of f j).uniforms ≤ 67108864) × ((layout_of f j).slot ≤ 67108864)
+unfolding layout_of records_start uniforms_start slot_of
+layout_low f j sound one inside small =
     let limits = region_limits f sound in
     let near = rounded (length (job_of f j).bin) 16 (lit≤ tt) in
-    (limits.0, omega (arith, near.near), omega (arith, limits.2, one, inside))
+    let next = rounded (rounded_up (length (job_of f j).bin) 16 + length (job_of f j).records) 16 (lit≤ tt) in
+    (limits.0, omega (arith, near.near, small.bin), omega (arith, near.near, next.near, small.bin, small.records), omega (arith, limits.2, one, inside))
 
 -- all lists together have some 11 MiB at most
 rounds_near : (n : ℕ) → rounded_up n 16 < n + 16

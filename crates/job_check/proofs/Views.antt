@@ -3,9 +3,13 @@ use Rattle.std.proofs.Common.{◌≡◌, ℕ, ◌+◌, ◌-◌, ◌≤◌, Bool,
 use Rattle.std.proofs.lemmas.List.{take-append-drop}
 use Rattle.std.specs.Prelude.{if◌then◌else◌}
 use Rattle.field_words.specs.Writes.{Part, placed, with_bytes}
+use Rattle.field_words.specs.declared.stop.Stop.{Stop}
+use Rattle.field_words.specs.Questions.{first_of, answered, Refuses}
+use Rattle.field_words.proofs.Questions.{answered_none, answered_some}
 use Rattle.phys_mem.specs.Window.{window_of, with_window}
 use Rattle.buffer_table.specs.Table.{TableModel}
 use Rattle.job_format.specs.declared.file.Frame.{Frame}
+use Rattle.job_format.specs.declared.rule.Refusal.{Refusal}
 use Rattle.job_format.specs.Model.{FileModel, JobModel}
 use Rattle.relocation.specs.declared.layout.Layout.{Layout}
 use Rattle.relocation.specs.declared.layout.Lengths.{Lengths}
@@ -14,14 +18,27 @@ use Rattle.render_list.specs.Length.{render_length}
 use Rattle.render_list.specs.Text.{render_text}
 use Rattle.render_list.proofs.Length.{length_render}
 use Rattle.bin_list.specs.declared.info.BinInfo.{BinInfo}
+use Rattle.bin_list.specs.declared.state.State.{State}
+use Rattle.bin_list.specs.declared.fault.ListFault.{ListFault}
+use Rattle.bin_list.specs.Packets.{packets, passed}
+use Rattle.bin_list.specs.Seen.{seen_before}
+use Rattle.bin_list.specs.States.{states_of}
 use Rattle.bin_list.specs.Emitted.{bin_text}
 use Rattle.bin_list.specs.Info.{IsInfo}
 use Rattle.bin_list.specs.Rules.{bin_questions}
 use Rattle.qpu_isa.specs.Shader.{ShaderModel}
-use Rattle.job_check.specs.Jobs.{table_of, job_of, has_bin, grid_of, slot_of, places_in, render_list_of, render_room, layout_of, bin_list_of}
+use Rattle.shader_records.specs.declared.fault.RecordFault.{RecordFault}
+use Rattle.shader_records.specs.Inputs.{InputModel}
+use Rattle.shader_records.specs.Rules.{all_questions}
+use Rattle.shader_records.specs.Emission.{emitted_records, emitted_uniforms}
+use Rattle.shader_records.specs.Emitted.{streams_place}
+use Rattle.shader_records.proofs.Lengths.{length_records, length_uniforms, offset_le, stream_le, record_end, uniform_end}
+use Rattle.job_check.specs.Shaders.{table_of}
+use Rattle.job_check.specs.Jobs.{job_of, has_bin, grid_from, grid_of, slot_of, places_in, render_list_of, render_room, layout_of, states_in, input_for, bin_list_of, records_of, streams_of}
+use Rattle.job_check.specs.Faults.{bin_refused, bin_stage, record_refused, records_stage, surfaces_stage, lists_stages}
 use Rattle.job_check.specs.Context.{InView, IsContext}
-use Rattle.job_check.specs.Emit.{PartsFit, list_parts, moved, memory_parts, lengths_of}
-use Rattle.job_check.specs.Told.{states_in, IsBinOf}
+use Rattle.job_check.specs.Emit.{PartsFit, list_parts, later_parts, moved, memory_parts, lengths_of}
+use Rattle.job_check.specs.Told.{IsBinOf}
 use Rattle.job_check.proofs.Layouts.{room_is, layout_numbers, layout_apart, lists_inside}
 use Rattle.job_check.proofs.Windows.{window_placed}
 
@@ -69,12 +86,31 @@ list_length f j places same setup =
     omega (arith, text, ap (render_length (job_of f j).frame) (grid_some f j), room, apart.last)
 
 -- what the check of a binner list tells is what is told of the job's
-pub bin_questions_are : (v : InView) (job : JobModel) (table : TableModel) (shaders : List (Option ShaderModel)) (handles : List ℕ) (layout : Layout) → IsContext v job table shaders handles layout
+bin_questions_are : (v : InView) (job : JobModel) (table : TableModel) (shaders : List (Option ShaderModel)) (handles : List ℕ) (layout : Layout) → IsContext v job table shaders handles layout
     → bin_questions job.bin job.declared table handles ≡ bin_questions (job_of v.file v.number).bin (job_of v.file v.number).declared (table_of v.file) (job_of v.file v.number).handles
 bin_questions_are v job table shaders handles layout h =
     ap (λ t. bin_questions job.bin job.declared t handles) h.table_is
     ∙ ap (bin_questions job.bin job.declared (table_of v.file)) h.handles_are
     ∙ ap (λ x. bin_questions x.bin x.declared (table_of v.file) x.handles) h.job_is
+
+bin_stage_is : (f : FileModel) (j : ℕ) → has_bin f j ≡ true
+    → bin_stage f j ≡ answered (bin_refused f j) (bin_questions (job_of f j).bin (job_of f j).declared (table_of f) (job_of f j).handles)
+unfolding bin_stage
+bin_stage_is f j some = ap (λ b. if b then answered (bin_refused f j) (bin_questions (job_of f j).bin (job_of f j).declared (table_of f) (job_of f j).handles) else []) some
+
+pub bin_none : (v : InView) (job : JobModel) (table : TableModel) (shaders : List (Option ShaderModel)) (handles : List ℕ) (layout : Layout) → IsContext v job table shaders handles layout
+    → has_bin v.file v.number ≡ true → first_of (bin_questions job.bin job.declared table handles) ≡ None → first_of (bin_stage v.file v.number) ≡ None
+bin_none v job table shaders handles layout h some none =
+    let same = bin_questions_are v job table shaders handles layout h in
+    ap first_of (bin_stage_is v.file v.number some)
+    ∙ answered_none (bin_refused v.file v.number) (bin_questions (job_of v.file v.number).bin (job_of v.file v.number).declared (table_of v.file) (job_of v.file v.number).handles) (sym (ap first_of same) ∙ none)
+
+pub bin_some : (v : InView) (job : JobModel) (table : TableModel) (shaders : List (Option ShaderModel)) (handles : List ℕ) (layout : Layout) (fault : ListFault) → IsContext v job table shaders handles layout
+    → has_bin v.file v.number ≡ true → first_of (bin_questions job.bin job.declared table handles) ≡ Some fault → first_of (bin_stage v.file v.number) ≡ Some (bin_refused v.file v.number fault)
+bin_some v job table shaders handles layout fault h some stands =
+    let same = bin_questions_are v job table shaders handles layout h in
+    ap first_of (bin_stage_is v.file v.number some)
+    ∙ answered_some (bin_refused v.file v.number) (bin_questions (job_of v.file v.number).bin (job_of v.file v.number).declared (table_of v.file) (job_of v.file v.number).handles) fault (sym (ap first_of same) ∙ stands)
 
 pub bin_text_is : (v : InView) (job : JobModel) (table : TableModel) (shaders : List (Option ShaderModel)) (handles : List ℕ) (layout : Layout) → IsContext v job table shaders handles layout
     → has_bin v.file v.number ≡ true → bin_text job.bin job.declared table handles layout ≡ bin_list_of v.file v.number
@@ -86,15 +122,72 @@ bin_text_is v job table shaders handles layout h some =
     ∙ ap (bin_text (job_of v.file v.number).bin (job_of v.file v.number).declared (table_of v.file) (job_of v.file v.number).handles) h.layout_is
     ∙ sym (ap (λ b. if b then bin_text (job_of v.file v.number).bin (job_of v.file v.number).declared (table_of v.file) (job_of v.file v.number).handles (layout_of v.file v.number) else []) some)
 
+grid_is : (f : FileModel) (j : ℕ) → has_bin f j ≡ true → Some (grid_from (seen_before (passed (job_of f j).bin))) ≡ grid_of f j
+unfolding grid_of
+grid_is f j some = sym (ap (λ b. if b then Some (grid_from (seen_before (passed (job_of f j).bin))) else None) some)
+
 pub bin_told : (v : InView) (job : JobModel) (table : TableModel) (shaders : List (Option ShaderModel)) (handles : List ℕ) (layout : Layout) (info : BinInfo) → IsContext v job table shaders handles layout
     → has_bin v.file v.number ≡ true → IsInfo job.bin job.declared table handles layout info → IsBinOf v.file v.number info
-unfolding grid_of states_in
+unfolding states_in
 bin_told v job table shaders handles layout info h some told =
+    let list = ap (λ x. x.bin) h.job_is in
+    let x_is = told.tiles_x ∙ ap (λ l. (seen_before (passed l)).tiles_x) list in
+    let y_is = told.tiles_y ∙ ap (λ l. (seen_before (passed l)).tiles_y) list in
     record {
-      grid = ?;
-      states = told.states ∙ ?;
+      grid = ap (λ n. Some (n, info.tiles_y)) x_is ∙ ap (λ n. Some ((seen_before (passed (job_of v.file v.number).bin)).tiles_x, n)) y_is ∙ grid_is v.file v.number some;
+      states = told.states ∙ ap (λ l. states_of (packets l)) list;
       length_is = told.length_is ∙ ap length (bin_text_is v job table shaders handles layout h some);
     }
+
+-- the same of records and uniforms
+abbrev input : List State → List ℕ → List ℕ → TableModel → List ℕ → List (Option ShaderModel) → InputModel
+input states records uniforms table handles shaders =
+    record { states = states; records = records; uniforms = uniforms; table = table; handles = handles; shaders = shaders }
+
+pub input_is : (v : InView) (states : List State) (job : JobModel) (table : TableModel) (shaders : List (Option ShaderModel)) (handles : List ℕ) (layout : Layout) → IsContext v job table shaders handles layout
+    → states ≡ states_in v.file v.number
+    → record { states = states; records = job.records; uniforms = job.uniforms; table = table; handles = handles; shaders = shaders } ≡ input_for v.file v.number
+unfolding input_for
+input_is v states job table shaders handles layout h same =
+    let at = job_of v.file v.number in
+    ap (λ s. input s job.records job.uniforms table handles shaders) same
+    ∙ ap (λ x. input (states_in v.file v.number) x.records x.uniforms table handles shaders) h.job_is
+    ∙ ap (λ t. input (states_in v.file v.number) at.records at.uniforms t handles shaders) h.table_is
+    ∙ ap (λ l. input (states_in v.file v.number) at.records at.uniforms (table_of v.file) l shaders) (h.handles_are ∙ ap (λ x. x.handles) h.job_is)
+    ∙ ap (input (states_in v.file v.number) at.records at.uniforms (table_of v.file) at.handles) h.shaders_are.told
+
+records_stage_is : (f : FileModel) (j : ℕ) → has_bin f j ≡ true → records_stage f j ≡ answered (record_refused f j) (all_questions (input_for f j))
+unfolding records_stage
+records_stage_is f j some = ap (λ b. if b then answered (record_refused f j) (all_questions (input_for f j)) else []) some
+
+pub records_none : (f : FileModel) (j : ℕ) → has_bin f j ≡ true → first_of (all_questions (input_for f j)) ≡ None → first_of (records_stage f j) ≡ None
+records_none f j some none = ap first_of (records_stage_is f j some) ∙ answered_none (record_refused f j) (all_questions (input_for f j)) none
+
+pub records_some : (f : FileModel) (j : ℕ) (fault : RecordFault) → has_bin f j ≡ true → first_of (all_questions (input_for f j)) ≡ Some fault → first_of (records_stage f j) ≡ Some (record_refused f j fault)
+records_some f j fault some stands = ap first_of (records_stage_is f j some) ∙ answered_some (record_refused f j) (all_questions (input_for f j)) fault stands
+
+pub records_are : (f : FileModel) (j : ℕ) → has_bin f j ≡ true → emitted_records (input_for f j) (streams_place (layout_of f j)) ≡ records_of f j
+unfolding records_of
+records_are f j some = sym (ap (λ b. if b then emitted_records (input_for f j) (streams_place (layout_of f j)) else []) some)
+
+pub streams_are : (f : FileModel) (j : ℕ) → has_bin f j ≡ true → emitted_uniforms (input_for f j) (streams_place (layout_of f j)) ≡ streams_of f j
+unfolding streams_of
+streams_are f j some = sym (ap (λ b. if b then emitted_uniforms (input_for f j) (streams_place (layout_of f j)) else []) some)
+
+-- what is emitted takes no more bytes than its source
+pub records_within : (f : FileModel) (j : ℕ) → has_bin f j ≡ true → first_of (all_questions (input_for f j)) ≡ None → length (records_of f j) ≤ length (job_of f j).records
+unfolding input_for
+records_within f j some none =
+    let input = input_for f j in
+    let n = length input.states in
+    omega (arith, ap length (records_are f j some), length_records input (streams_place (layout_of f j)) n, offset_le input n, record_end input n none (omega arith))
+
+pub streams_within : (f : FileModel) (j : ℕ) → has_bin f j ≡ true → first_of (all_questions (input_for f j)) ≡ None → length (streams_of f j) ≤ length (job_of f j).uniforms
+unfolding input_for
+streams_within f j some none =
+    let input = input_for f j in
+    let n = length input.states in
+    omega (arith, ap length (streams_are f j some), length_uniforms input (streams_place (layout_of f j)) n, stream_le input n, uniform_end input n none (omega arith))
 
 -- putting nothing changes nothing
 put_nothing : (old : List ℕ) (at : ℕ) → with_bytes old at [] ≡ old
@@ -109,20 +202,60 @@ pub no_grid : (f : FileModel) (j : ℕ) → has_bin f j ≡ false → None ≡ g
 unfolding grid_of
 no_grid f j none = rw none refl
 
+pub no_records : (f : FileModel) (j : ℕ) → has_bin f j ≡ false → records_of f j ≡ []
+unfolding records_of
+no_records f j none = rw none refl
+
+pub no_streams : (f : FileModel) (j : ℕ) → has_bin f j ≡ false → streams_of f j ≡ []
+unfolding streams_of
+no_streams f j none = rw none refl
+
+-- and nothing is asked of it, nor of records and uniforms
+pub unbinned_none : (f : FileModel) (j : ℕ) → has_bin f j ≡ false → first_of (surfaces_stage f j) ≡ None → first_of (lists_stages f j) ≡ None
+unfolding lists_stages bin_stage records_stage
+unbinned_none f j none surfaces = rw none surfaces
+
+pub unbinned_stops : (f : FileModel) (j : ℕ) (stop : Stop Refusal) → has_bin f j ≡ false → Refuses (surfaces_stage f j) stop → Refuses (lists_stages f j) stop
+unfolding lists_stages bin_stage records_stage
+unbinned_stops f j stop none surfaces = rw none surfaces
+
 pub render_alone : (f : FileModel) (j : ℕ) (out : List ℕ) → has_bin f j ≡ false
     → with_bytes out (layout_of f j).render (render_list_of f j) ≡ placed out (list_parts f j)
-unfolding list_parts
+unfolding list_parts later_parts
 render_alone f j out none =
-    sym (ap (λ text. with_bytes (with_bytes out (layout_of f j).bin text) (layout_of f j).render (render_list_of f j)) (no_bin_list f j none)
-    ∙ ap (λ o. with_bytes o (layout_of f j).render (render_list_of f j)) (put_nothing out (layout_of f j).bin))
+    let render : List ℕ → List ℕ = λ o. with_bytes o (layout_of f j).render (render_list_of f j) in
+    sym (ap (λ text. render (with_bytes (with_bytes (with_bytes out (layout_of f j).bin text) (layout_of f j).records (records_of f j)) (layout_of f j).uniforms (streams_of f j))) (no_bin_list f j none)
+    ∙ ap (λ text. render (with_bytes (with_bytes (with_bytes out (layout_of f j).bin []) (layout_of f j).records text) (layout_of f j).uniforms (streams_of f j))) (no_records f j none)
+    ∙ ap (λ text. render (with_bytes (with_bytes (with_bytes out (layout_of f j).bin []) (layout_of f j).records []) (layout_of f j).uniforms text)) (no_streams f j none)
+    ∙ ap (λ o. render (with_bytes (with_bytes o (layout_of f j).records []) (layout_of f j).uniforms [])) (put_nothing out (layout_of f j).bin)
+    ∙ ap (λ o. render (with_bytes o (layout_of f j).uniforms [])) (put_nothing out (layout_of f j).records)
+    ∙ ap render (put_nothing out (layout_of f j).uniforms))
+
+-- one after the other the lists are put
+pub later_placed : (f : FileModel) (j : ℕ) (out first second : List ℕ)
+    → first ≡ with_bytes (with_bytes out (layout_of f j).records (records_of f j)) (layout_of f j).uniforms (streams_of f j)
+    → second ≡ with_bytes first (layout_of f j).render (render_list_of f j) → second ≡ placed out (later_parts f j)
+unfolding later_parts
+later_placed f j out first second a b = b ∙ ap (λ o. with_bytes o (layout_of f j).render (render_list_of f j)) a
+
+pub all_placed : (f : FileModel) (j : ℕ) (out first second : List ℕ)
+    → first ≡ with_bytes out (layout_of f j).bin (bin_list_of f j) → second ≡ placed first (later_parts f j) → second ≡ placed out (list_parts f j)
+unfolding list_parts
+all_placed f j out first second a b = b ∙ ap (λ o. placed o (later_parts f j)) a
 
 -- the lists lie inside the layout
-pub parts_fit : (f : FileModel) (j : ℕ) → length (bin_list_of f j) ≤ length (job_of f j).bin → (layout_of f j).render + length (render_list_of f j) ≡ (layout_of f j).end
-    → PartsFit (layout_of f j).end (list_parts f j)
-unfolding list_parts
-parts_fit f j bin render =
+pub parts_fit : (f : FileModel) (j : ℕ) → length (bin_list_of f j) ≤ length (job_of f j).bin → length (records_of f j) ≤ length (job_of f j).records → length (streams_of f j) ≤ length (job_of f j).uniforms
+    → (layout_of f j).render + length (render_list_of f j) ≡ (layout_of f j).end → PartsFit (layout_of f j).end (list_parts f j)
+unfolding list_parts later_parts
+parts_fit f j bin records streams render =
     let apart = layout_apart f j in
-    (omega (arith, bin, apart.first, apart.second, apart.third, render), (omega (arith, render), tt))
+    (
+      omega (arith, bin, apart.first, apart.second, apart.third, render),
+      (
+        omega (arith, records, apart.second, apart.third, render),
+        (omega (arith, streams, apart.third, render), (omega (arith, render), tt)),
+      ),
+    )
 
 -- a window of the lists' region lies inside the memory
 pub window_fits : (v : InView) (job : JobModel) (table : TableModel) (shaders : List (Option ShaderModel)) (handles : List ℕ) (layout : Layout) → IsContext v job table shaders handles layout
@@ -140,9 +273,14 @@ placed_lists v layout same memory room fit =
     window_placed memory layout.place layout.end (list_parts v.file v.number) room (subst (λ (l : Layout). PartsFit l.end (list_parts v.file v.number)) (sym same) fit)
     ∙ ap (λ l. placed memory (moved l.place (list_parts v.file v.number))) same
 
-abbrev pub lengths : ℕ → ℕ → Lengths
-lengths bin render = record { bin = bin; records = 0; uniforms = 0; render = render }
+abbrev pub lengths : ℕ → ℕ → ℕ → ℕ → Lengths
+lengths bin records uniforms render = record { bin = bin; records = records; uniforms = uniforms; render = render }
 
-pub lengths_are : (f : FileModel) (j bin render : ℕ) → bin ≡ length (bin_list_of f j) → render ≡ length (render_list_of f j) → lengths bin render ≡ lengths_of f j
+pub lengths_are : (f : FileModel) (j bin records uniforms render : ℕ) → bin ≡ length (bin_list_of f j) → records ≡ length (records_of f j) → uniforms ≡ length (streams_of f j) → render ≡ length (render_list_of f j)
+    → lengths bin records uniforms render ≡ lengths_of f j
 unfolding lengths_of
-lengths_are f j bin render a b = ap (λ n. lengths n render) a ∙ ap (lengths (length (bin_list_of f j))) b
+lengths_are f j bin records uniforms render a b d e =
+    ap (λ n. lengths n records uniforms render) a
+    ∙ ap (λ n. lengths (length (bin_list_of f j)) n uniforms render) b
+    ∙ ap (λ n. lengths (length (bin_list_of f j)) (length (records_of f j)) n render) d
+    ∙ ap (lengths (length (bin_list_of f j)) (length (records_of f j)) (length (streams_of f j))) e

@@ -1,6 +1,6 @@
 -- All rules that can refuse a file that was read, in the order of refusal: the memory table, the shaders by buffer,
--- and then job by job its handles, its binner list, its frame and surfaces, and its layout.
-use Rattle.std.specs.Prelude.{ℕ, ◌+◌, ◌*◌, nat_lt, List, [], ◌∷◌, ◌++◌, length, if◌then◌else◌}
+-- and then job by job its handles, its binner list, its shader records with their uniforms, its frame and surfaces, and its layout.
+use Rattle.std.specs.Prelude.{ℕ, Bool, ◌+◌, ◌*◌, nat_lt, List, [], ◌∷◌, ◌++◌, length, if◌then◌else◌}
 use Rattle.field_words.specs.Questions.{Question, Ask, each, answered}
 use Rattle.buffer_table.specs.declared.buffer.TableFault.{TableFault}
 use Rattle.buffer_table.specs.declared.buffer.Kind.{Kind}
@@ -15,10 +15,12 @@ use Rattle.render_list.specs.declared.fault.RenderFault.{RenderFault}
 use Rattle.render_list.specs.Surfaces.{surface_faults}
 use Rattle.bin_list.specs.declared.fault.ListFault.{ListFault}
 use Rattle.bin_list.specs.Rules.{bin_questions}
-use Rattle.job_check.specs.Jobs.{table_of, job_of, has_bin, grid_of, layout_of}
+use Rattle.shader_records.specs.declared.fault.RecordFault.{RecordFault}
+use Rattle.shader_records.specs.Rules.{all_questions}
+use Rattle.job_check.specs.Jobs.{job_of, has_bin, grid_of, input_for, layout_of}
 use Rattle.shader_check.specs.declared.fault.ShaderFault.{ShaderFault}
-use Rattle.job_check.specs.Shaders.{content_of, code_questions}
-use Rattle.job_check.specs.Offsets.{item_offset, shader_offset, job_offset, handles_offset, bin_offset, surface_offset, layout_offset}
+use Rattle.job_check.specs.Shaders.{table_of, content_of, code_questions}
+use Rattle.job_check.specs.Offsets.{item_offset, shader_offset, job_offset, handles_offset, bin_offset, records_offset, uniforms_offset, surface_offset, layout_offset}
 
 -- a refusal by a rule, at a place in the file
 abbrev pub refused : Stage → ℕ → ℕ → Refusal
@@ -62,6 +64,16 @@ bin_stage f j =
     then answered (bin_refused f j) (bin_questions (job_of f j).bin (job_of f j).declared (table_of f) (job_of f j).handles)
     else []
 
+-- A and U: its shader records and uniforms, where it has a binner list
+unfoldable pub part_offset : FileModel → ℕ → Bool → ℕ
+part_offset f j in_uniforms = if in_uniforms then uniforms_offset f j else records_offset f j
+
+abbrev pub record_refused : FileModel → ℕ → RecordFault → Refusal
+record_refused f j fault = refused fault.stage fault.number (part_offset f j fault.in_uniforms + fault.at)
+
+unfoldable pub records_stage : FileModel → ℕ → List (Question Refusal)
+records_stage f j = if has_bin f j then answered (record_refused f j) (all_questions (input_for f j)) else []
+
 -- G: the frame and the surfaces of job j
 abbrev pub surface_refused : FileModel → ℕ → RenderFault → Refusal
 surface_refused f j fault = refused G fault.number (surface_offset (job_offset f j) fault.item)
@@ -75,7 +87,7 @@ layout_stage f j = Ask (nat_lt f.regions.lists_size (layout_of f j).end) (refuse
 
 -- the lists of a job
 unfoldable pub lists_stages : FileModel → ℕ → List (Question Refusal)
-lists_stages f j = bin_stage f j ++ surfaces_stage f j
+lists_stages f j = bin_stage f j ++ (records_stage f j ++ surfaces_stage f j)
 
 -- all of a job, and all of a file that was read
 unfoldable pub job_stages : FileModel → ℕ → List (Question Refusal)

@@ -1,12 +1,13 @@
 //! The whole check of a job file.
 ghost use Rattle.std.specs.Prelude.{◌≡◌, ◌<◌, ◌≤◌, ◌+◌, ◌++◌, length, IfOk};
-ghost use Rattle.field_words.specs.Questions.{Answers, each};
+ghost use Rattle.field_words.specs.Questions.{Answers, NamesFirst, each};
 ghost use Rattle.field_words.specs.Writes.{placed, zeros};
 ghost use Rattle.job_format.specs.File.{IsWellFormed};
 ghost use Rattle.job_format.specs.Model.{file_view};
 ghost use Rattle.buffer_table.specs.Sound.{IsSound};
-ghost use Rattle.job_check.specs.Shaders.{shaders_of, shaders_view};
-ghost use Rattle.job_check.specs.Jobs.{table_of, layout_of};
+ghost use Rattle.shader_records.specs.Inputs.{shaders_view};
+ghost use Rattle.job_check.specs.Shaders.{table_of, AreShadersIn};
+ghost use Rattle.job_check.specs.Jobs.{layout_of};
 ghost use Rattle.job_check.specs.Faults.{shaders_stage, lists_stages, layout_stage, job_stages, file_stages};
 ghost use Rattle.job_check.specs.Emit.{content_parts, memory_parts, IsPlacedFor, IsEmitted, IsPlaced};
 
@@ -92,7 +93,7 @@ fn check_one(
     requires well_formed { IsWellFormed (file_view file.now) }
     requires inside { number < length file.now.jobs.items }
     requires table_is { table.now ≡ table_of (file_view file.now) }
-    requires shaders_are { shaders_view shaders.now.items ≡ shaders_of (file_view file.now) }
+    requires shaders_are { AreShadersIn (file_view file.now) (shaders_view shaders.now.items) }
     requires sound { IsSound file.now.mem_size file.now.regions file.now.buffers.items }
     requires size { length memory.old ≡ file.now.mem_size }
     ensures answers { Answers (job_stages (file_view file.now) number) (λ lists. IsPlacedFor (file_view file.now) number lists.layout lists.lengths) result }
@@ -115,7 +116,7 @@ fn check_jobs(
 ) -> Result<Checked, Stop<Refusal>>
     requires well_formed { IsWellFormed (file_view file.now) }
     requires table_is { table.now ≡ table_of (file_view file.now) }
-    requires shaders_are { shaders_view shaders.now.items ≡ shaders_of (file_view file.now) }
+    requires shaders_are { AreShadersIn (file_view file.now) (shaders_view shaders.now.items) }
     requires sound { IsSound file.now.mem_size file.now.regions file.now.buffers.items }
     ensures answers { Answers (each (job_stages (file_view file.now)) 0 (length file.now.jobs.items)) (λ checked. IsEmitted (file_view file.now) checked.memory checked.layout checked.lengths) result }
     ensures placed { IfOk result (λ checked. IsPlaced checked.memory checked.layout) }
@@ -146,11 +147,12 @@ fn check_shaders(alloc: Global, file: &JobFile, table: &Table) -> Result<Checked
 }
 
 /// Checks a file that was read. `Ok` comes exactly where no rule stands of the memory table, of the shaders, of the job's
-/// handles, of its binner list, of its frame and surfaces and of its layout; else the refusal is the first that does, with its place in the file.
+/// handles, of its binner list, of its records and uniforms, of its frame and surfaces and of its layout; else the refusal is the first that does, with its place in the file.
 #[tactic(auto, unfolding(crate::specs::Faults::file_stages))]
 pub fn check_job(alloc: Global, file: &JobFile) -> Result<Checked, Stop<Refusal>>
     requires { IsWellFormed (file_view file.now) }
     ensures answers { Answers (file_stages (file_view file.now)) (λ checked. IsEmitted (file_view file.now) checked.memory checked.layout checked.lengths) result }
+    ensures first { NamesFirst (file_stages (file_view file.now)) result }
     ensures placed { IfOk result (λ checked. IsPlaced checked.memory checked.layout) }
 {
     match table_stage(alloc, file) {

@@ -5,8 +5,9 @@ ghost use Rattle.job_format.specs.File.{IsWellFormed, IsJobWellFormed};
 ghost use Rattle.job_format.specs.Model.{file_view, job_view};
 ghost use Rattle.buffer_table.specs.Sound.{IsSound};
 ghost use Rattle.job_format.specs.declared.rule.Stage.TheVariants.{X as StageX};
-ghost use Rattle.job_check.specs.Shaders.{shaders_of, shaders_view};
-ghost use Rattle.job_check.specs.Jobs.{table_of, job_of, layout_of};
+ghost use Rattle.shader_records.specs.Inputs.{shaders_view};
+ghost use Rattle.job_check.specs.Shaders.{table_of, AreShadersIn};
+ghost use Rattle.job_check.specs.Jobs.{job_of, layout_of};
 ghost use Rattle.job_check.specs.Faults.{refused, handles_stage};
 ghost use Rattle.job_check.specs.Offsets.{job_offset, layout_offset};
 
@@ -39,7 +40,7 @@ impl<'a> Model for Context<'a> {
     ghost Value = { InView };
 
     ghost use Rattle.job_format.specs.Model.{file_view, job_view};
-    ghost use Rattle.job_check.specs.Shaders.{shaders_view};
+    ghost use Rattle.shader_records.specs.Inputs.{shaders_view};
 
     ghost view = { λ c. record { file = file_view c.file.now; number = c.number } };
 
@@ -69,7 +70,7 @@ impl<'a> Context<'a> {
         requires well_formed { IsWellFormed (file_view file.now) }
         requires inside { number < length file.now.jobs.items }
         requires table_is { table.now ≡ table_of (file_view file.now) }
-        requires shaders_are { shaders_view shaders.now.items ≡ shaders_of (file_view file.now) }
+        requires shaders_are { AreShadersIn (file_view file.now) (shaders_view shaders.now.items) }
         requires sound { IsSound file.now.mem_size file.now.regions file.now.buffers.items }
         ensures { Answers (handles_stage (file_view file.now) number) (λ c. c ≡ record { file = file_view file.now; number = number }) result }
     {

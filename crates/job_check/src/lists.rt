@@ -1,21 +1,22 @@
 //! The stages of a job that write its lists.
-ghost use Rattle.std.specs.Prelude.{◌≡◌, ◌≢◌, ◌<◌, ◌≤◌, ◌+◌, true, false, length, IfOk, Err, Some};
+ghost use Rattle.std.specs.Prelude.{◌≡◌, ◌≢◌, ◌<◌, ◌≤◌, ◌+◌, ◌++◌, true, false, length, IfOk, Err, Some};
 ghost use Rattle.field_words.specs.declared.stop.Stop.TheVariants.{NoMemory as OutOfMemory};
 ghost use Rattle.field_words.specs.Questions.{Answers};
 ghost use Rattle.field_words.specs.Writes.{placed, with_bytes};
 ghost use Rattle.render_list.specs.Frame.{IsSetupFor};
-ghost use Rattle.job_check.specs.Jobs.{job_of, has_bin, grid_of, places_in, layout_of, bin_list_of, render_list_of};
-ghost use Rattle.job_check.specs.Faults.{bin_stage, surfaces_stage, lists_stages};
-ghost use Rattle.job_check.specs.Emit.{list_parts, PartsFit, lengths_of};
-ghost use Rattle.job_check.specs.Told.{IsBinOf};
+ghost use Rattle.job_check.specs.Jobs.{job_of, has_bin, grid_of, places_in, states_in, layout_of, bin_list_of, records_of, streams_of, render_list_of};
+ghost use Rattle.job_check.specs.Faults.{bin_stage, records_stage, surfaces_stage, lists_stages};
+ghost use Rattle.job_check.specs.Emit.{list_parts, later_parts, PartsFit, lengths_of};
+ghost use Rattle.job_check.specs.Told.{IsBinOf, AreRecordsOf};
 
 use super::context::Context;
-use super::refusals::{bin_refusal, surface_refusal};
-use bin_list::{BinInfo, check_bin};
+use super::refusals::{bin_refusal, record_refusal, surface_refusal};
+use bin_list::{BinInfo, State, check_bin};
 use field_words::Stop;
 use job_format::Refusal;
 use relocation::Lengths;
 use render_list::{Setup, build, check_surfaces};
+use shader_records::{RecordInfo, check_records};
 use std::alloc::Global;
 
 impl<'a> Context<'a> {
@@ -86,21 +87,72 @@ impl<'a> Context<'a> {
         }
     }
 
-    /// The stages after the binner list, with what was told of it.
-    fn after_bin(&self, info: &BinInfo, out: &mut [u8]) -> Result<Lengths, Stop<Refusal>>
-        requires bin { IsBinOf self.now.file self.now.number info.now }
+    /// A and U: the shader records and uniforms of the states of the binner list, and those that the hardware is given, at
+    /// their offsets. It takes no memory.
+    #[tactic(auto, unfolding(crate::specs::Faults::records_stage), using(field_words::proofs::Questions::answered_none, field_words::proofs::Questions::answered_some))]
+    fn records(&self, alloc: Global, states: &[State], out: &mut [u8]) -> Result<RecordInfo, Stop<Refusal>>
+        requires some { has_bin self.now.file self.now.number ≡ true }
+        requires states { states.now ≡ states_in self.now.file self.now.number }
+        requires room { (layout_of self.now.file self.now.number).end ≤ length out.old }
+        ensures answers { Answers (records_stage self.now.file self.now.number) (AreRecordsOf self.now.file self.now.number) result }
+        ensures written { IfOk result (λ _. out.new ≡ with_bytes (with_bytes out.old (layout_of self.now.file self.now.number).records (records_of self.now.file self.now.number)) (layout_of self.now.file self.now.number).uniforms (streams_of self.now.file self.now.number)) }
+        ensures records_fit { IfOk result (λ _. length (records_of self.now.file self.now.number) ≤ length (job_of self.now.file self.now.number).records) }
+        ensures streams_fit { IfOk result (λ _. length (streams_of self.now.file self.now.number) ≤ length (job_of self.now.file self.now.number).uniforms) }
+    {
+        let job = self.job;
+        match check_records(
+            alloc,
+            states,
+            &job.records,
+            &job.uniforms,
+            self.table,
+            &self.handles,
+            self.shaders,
+            &self.layout,
+            out,
+        ) {
+            Ok(info) => Ok(info),
+            Err(Stop::Fault(fault)) => Err(Stop::Fault(record_refusal(
+                self.file,
+                self.number,
+                &fault,
+            ))),
+            Err(Stop::NoMemory) => Err(Stop::NoMemory),
+        }
+    }
+
+    /// The stages after the records, with what was told of the lists before.
+    fn after_records(&self, bin: &BinInfo, records: &RecordInfo, out: &mut [u8]) -> Result<Lengths, Stop<Refusal>>
+        requires bin { IsBinOf self.now.file self.now.number bin.now }
+        requires records { AreRecordsOf self.now.file self.now.number records.now }
         requires room { (layout_of self.now.file self.now.number).end ≤ length out.old }
         ensures answers { Answers (surfaces_stage self.now.file self.now.number) (λ lengths. lengths ≡ lengths_of self.now.file self.now.number) result }
         ensures written { IfOk result (λ _. out.new ≡ with_bytes out.old (layout_of self.now.file self.now.number).render (render_list_of self.now.file self.now.number)) }
         ensures fits { IfOk result (λ _. (layout_of self.now.file self.now.number).render + length (render_list_of self.now.file self.now.number) ≡ (layout_of self.now.file self.now.number).end) }
     {
-        match self.draw(Some((info.tiles_x, info.tiles_y)), out) {
+        match self.draw(Some((bin.tiles_x, bin.tiles_y)), out) {
             Ok(render) => Ok(Lengths {
-                bin: info.length,
-                records: 0,
-                uniforms: 0,
+                bin: bin.length,
+                records: records.records,
+                uniforms: records.uniforms,
                 render,
             }),
+            Err(stop) => Err(stop),
+        }
+    }
+
+    /// The stages after the binner list, with what was told of it.
+    fn after_bin(&self, alloc: Global, bin: &BinInfo, out: &mut [u8]) -> Result<Lengths, Stop<Refusal>>
+        requires some { has_bin self.now.file self.now.number ≡ true }
+        requires bin { IsBinOf self.now.file self.now.number bin.now }
+        requires room { (layout_of self.now.file self.now.number).end ≤ length out.old }
+        requires bin_fits { length (bin_list_of self.now.file self.now.number) ≤ length (job_of self.now.file self.now.number).bin }
+        ensures answers { Answers (records_stage self.now.file self.now.number ++ surfaces_stage self.now.file self.now.number) (λ lengths. lengths ≡ lengths_of self.now.file self.now.number) result }
+        ensures written { IfOk result (λ _. out.new ≡ placed out.old (later_parts self.now.file self.now.number)) }
+        ensures fit { IfOk result (λ _. PartsFit (layout_of self.now.file self.now.number).end (list_parts self.now.file self.now.number)) }
+    {
+        match self.records(alloc, &bin.states, out) {
+            Ok(records) => self.after_records(bin, &records, out),
             Err(stop) => Err(stop),
         }
     }
@@ -115,14 +167,14 @@ impl<'a> Context<'a> {
         ensures fit { IfOk result (λ _. PartsFit (layout_of self.now.file self.now.number).end (list_parts self.now.file self.now.number)) }
     {
         match self.bin(alloc, out) {
-            Ok(info) => self.after_bin(&info, out),
+            Ok(bin) => self.after_bin(alloc, &bin, out),
             Err(stop) => Err(stop),
         }
     }
 
     /// The stages of a job without a binner list: its records, its declared states and its uniforms are not asked, and
     /// nothing of them is emitted.
-    #[tactic(auto, unfolding(crate::specs::Faults::lists_stages, crate::specs::Faults::bin_stage))]
+    #[tactic(auto, unfolding(crate::specs::Faults::lists_stages, crate::specs::Faults::bin_stage, crate::specs::Faults::records_stage))]
     fn unbinned(&self, out: &mut [u8]) -> Result<Lengths, Stop<Refusal>>
         requires none { has_bin self.now.file self.now.number ≡ false }
         requires room { (layout_of self.now.file self.now.number).end ≤ length out.old }

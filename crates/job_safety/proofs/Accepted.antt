@@ -13,7 +13,8 @@ use Rattle.render_list.specs.Frame.{is_present, is_full, is_multisample, tile_si
 use Rattle.render_list.specs.Length.{load_size, loads_size, writes_size, tile_size, render_length}
 use Rattle.render_list.specs.Surfaces.{surface_faults, frame_questions, surface_questions, shape_questions, size_questions, whole_questions, is_written, is_reversed, is_outside_grid, is_outside_frame, has_unknown_flag, has_unknown_bit, is_unnamed, has_unlisted_tiling, tiling_number, has_unlisted_format, pixel_size_of, is_too_large, plain_end, is_full_with_bits, is_too_large_full, buffer_size}
 use Rattle.render_list.specs.Surfaces.{is_unaligned as is_surface_unaligned}
-use Rattle.job_check.specs.Jobs.{job_of, table_of, has_tiles, render_room, layout_of}
+use Rattle.job_check.specs.Shaders.{table_of}
+use Rattle.job_check.specs.Jobs.{job_of, has_tiles, render_room, layout_of}
 use Rattle.job_check.specs.Faults.{table_refused, handle_refused, surface_refused, table_stage, handles_stage, surfaces_stage, layout_stage, job_stages, file_stages}
 use Rattle.relocation.specs.Layout.{records_start, uniforms_start, render_start}
 use Rattle.thin_job.specs.Thin.{raster_size, IsItem, AreApart, KeepsRules}

@@ -3,7 +3,7 @@ use Rattle.std.proofs.Common.{◌≡◌, ℕ, zero, suc, ◌+◌, ◌/◌, ◌<�
 use Rattle.field_words.specs.WordBytes.{laid}
 use Rattle.field_words.proofs.WordBytes.{length_words, laid_append, laid_nothing}
 use Rattle.field_words.specs.Questions.{first_of}
-use Rattle.emitted_facts.specs.Shader.{ShaderModel}
+use Rattle.qpu_isa.specs.Shader.{ShaderModel}
 use Rattle.shader_records.specs.Inputs.{InputModel}
 use Rattle.shader_records.specs.Sources.{state_at, source_size, emitted_size, record_source, record_offset, uniform_source, stream_offset, shader_used, taken_by, given_by, taken_before, given_before}
 use Rattle.shader_records.specs.Rules.{use_questions, all_questions}

@@ -7,7 +7,7 @@ use Rattle.qpu_isa.specs.declared.inst.Sample.{Sample}
 use Rattle.texture_layouts.specs.Setup.{base_of, texture_of, faces_of}
 use Rattle.texture_layouts.specs.Fits.{texture_questions, direct_questions}
 use Rattle.texture_layouts.proofs.Inside.{lies_in}
-use Rattle.emitted_facts.specs.Shader.{ShaderModel, or_zero, sample_at, first_position, position, address_at, IsSoundShader}
+use Rattle.qpu_isa.specs.Shader.{ShaderModel, or_zero, sample_at, first_position, position, address_at, IsSoundShader}
 use Rattle.emitted_facts.specs.Facts.{setup, word_or_zero}
 use Rattle.shader_records.specs.Inputs.{InputModel}
 use Rattle.shader_records.specs.Sources.{sample_number, source_word, place_in, size_in}

@@ -1,7 +1,7 @@
 -- What is emitted of records and uniforms.
 use Rattle.std.specs.Prelude.{◌≡◌, ◌<◌, slice_index, ℕ, zero, suc, ◌+◌, ◌*◌, ◌/◌, ◌-◌, ◌%◌, ◌==◌, Bool, false, ◌&&◌, ◌||◌, nat_lt, nat_le, List, [], ◌++◌, length, Option, Some, None, if◌then◌else◌}
 use Rattle.field_words.specs.WordBytes.{word_bytes}
-use Rattle.emitted_facts.specs.Shader.{ShaderModel, sample_at, first_position, address_at}
+use Rattle.qpu_isa.specs.Shader.{ShaderModel, sample_at, first_position, address_at}
 use Rattle.emitted_facts.specs.Records.{attribute_count, record_size}
 use Rattle.shader_records.specs.Inputs.{InputModel}
 use Rattle.shader_records.specs.Sources.{state_at, emitted_size, record_source, uniform_source, stream_offset, code_number, attribute_number, shader_used, taken_before, given_before, record_word, sample_number, source_word, place_in}

@@ -4,8 +4,8 @@ use Rattle.std.specs.Prelude.{◌≡◌, ℕ, ◌<◌, List, length, map, Option
 use Rattle.buffer_table.specs.Table.{TableModel, buffer_at}
 use Rattle.buffer_table.specs.Handles.{AreNumbersOf, is_plain}
 use Rattle.qpu_isa.specs.declared.inst.ShaderInfo.{ShaderInfo}
-use Rattle.emitted_facts.specs.Shader.{ShaderModel, shader_view, IsSoundShader}
-use Rattle.shader_records.specs.declared.state.State.{State}
+use Rattle.qpu_isa.specs.Shader.{ShaderModel, shader_view, IsSoundShader}
+use Rattle.bin_list.specs.declared.state.State.{State}
 
 pub record InputModel : Type 0 where
   pub states : List State

@@ -8,9 +8,9 @@ use Rattle.std.specs.Prelude.{ℕ, zero, suc, ◌+◌, ◌*◌, List, length, Op
 use Rattle.field_words.specs.Words.{u32_at, rounded_up}
 use Rattle.buffer_table.specs.Table.{TableModel, buffer_at}
 use Rattle.buffer_table.specs.Handles.{data_of, code_of}
-use Rattle.emitted_facts.specs.Shader.{ShaderModel}
+use Rattle.qpu_isa.specs.Shader.{ShaderModel}
 use Rattle.emitted_facts.specs.Records.{attribute_count, record_size}
-use Rattle.shader_records.specs.declared.state.State.{State}
+use Rattle.bin_list.specs.declared.state.State.{State}
 use Rattle.shader_records.specs.Inputs.{InputModel, shader_in}
 
 abbrev pub no_state : State

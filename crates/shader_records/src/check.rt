@@ -12,7 +12,7 @@ use crate::fault::RecordFault;
 use crate::faults::first_fault;
 use crate::info::RecordInfo;
 use crate::inputs::Inputs;
-use crate::state::State;
+use bin_list::State;
 use buffer_table::{Handles, Table};
 use field_words::Stop;
 use qpu_isa::ShaderInfo;

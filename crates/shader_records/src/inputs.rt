@@ -2,12 +2,12 @@
 ghost use Rattle.std.specs.Prelude.{◌≡◌, ◌+◌, ◌*◌, ◌<◌, ◌≤◌, length, slice_index_or, IfSome, MatchOption, Some, None};
 ghost use Rattle.field_words.specs.Words.{u32_at};
 ghost use Rattle.buffer_table.specs.Table.{buffer_at};
-ghost use Rattle.emitted_facts.specs.Shader.{shader_view, IsSoundShader};
+ghost use Rattle.qpu_isa.specs.Shader.{shader_view, IsSoundShader};
 ghost use Rattle.shader_records.specs.Inputs.{shaders_view, shader_in};
 ghost use Rattle.shader_records.specs.Sources.{no_state, state_at, handles_size, code_number, attribute_number, sample_number, shader_used, is_threaded, record_word, place_in, size_in};
 
 use crate::sizes::handles_size;
-use crate::state::State;
+use bin_list::State;
 use buffer_table::{Handles, Table, use_code, use_data};
 use field_words::get_u32;
 use qpu_isa::ShaderInfo;

@@ -15,11 +15,9 @@ mod inputs;
 mod record_rules;
 mod record_text;
 mod sizes;
-mod state;
 mod stream_text;
 mod uniform_rules;
 
 pub use check::check_records;
 pub use fault::RecordFault;
 pub use info::RecordInfo;
-pub use state::State;

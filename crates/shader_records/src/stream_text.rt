@@ -2,7 +2,7 @@
 ghost use Rattle.std.specs.Prelude.{◌≡◌, ℕ, Some, None, ◌+◌, ◌*◌, ◌<◌, ◌≤◌, ◌^◌, length};
 ghost use Rattle.field_words.specs.Questions.{first_of};
 ghost use Rattle.field_words.specs.WordBytes.{word_bytes, laid};
-ghost use Rattle.emitted_facts.specs.Shader.{shader_view, sample_at, first_position, address_at, IsSoundShader};
+ghost use Rattle.qpu_isa.specs.Shader.{shader_view, sample_at, first_position, address_at, IsSoundShader};
 ghost use Rattle.shader_records.specs.Sources.{sample_number, source_word, place_in, shader_used, taken_by, given_by, taken_before, given_before};
 ghost use Rattle.shader_records.specs.Rules.{use_questions};
 ghost use Rattle.shader_records.specs.Emission.{stream_word_of, stream_text, streams_text};

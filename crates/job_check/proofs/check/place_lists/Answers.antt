@@ -3,7 +3,7 @@ use Rattle.field_words.specs.Writes.{placed}
 use Rattle.field_words.proofs.Questions.{refuses_front, passes}
 use Rattle.phys_mem.specs.Window.{with_window}
 use Rattle.job_format.specs.Model.{job_view}
-use Rattle.job_check.specs.Shaders.{shaders_view}
+use Rattle.shader_records.specs.Inputs.{shaders_view}
 use Rattle.job_check.specs.Context.{InView, IsContext}
 use Rattle.job_check.specs.Faults.{lists_stages, layout_stage}
 use Rattle.job_check.specs.Emit.{list_parts}

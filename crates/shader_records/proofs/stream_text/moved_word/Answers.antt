@@ -1,6 +1,6 @@
 -- A first word is at most a page past its buffer's size, and the buffer ends below 64 MiB.
 use Rattle.std.proofs.Common.{◌<◌, ◌^◌, arith, ◌∙◌, ap}
-use Rattle.emitted_facts.specs.Shader.{shader_view, sample_at, first_position}
+use Rattle.qpu_isa.specs.Shader.{shader_view, sample_at, first_position}
 use Rattle.shader_records.specs.Sources.{source_word, size_in}
 use Rattle.shader_records.proofs.Samples.{base_fits}
 use Rattle.shader_records.proofs.stream_text.moved_word.Goals as goal

@@ -3,7 +3,7 @@ use Rattle.field_words.specs.WordBytes.{laid}
 use Rattle.field_words.proofs.WordBytes.{same_words, put_next, put_word}
 use Rattle.std.specs.Int.{to_le_bytes, w32}
 use Rattle.field_words.specs.Writes.{with_bytes}
-use Rattle.emitted_facts.specs.Shader.{shader_view, sample_at, first_position, address_at}
+use Rattle.qpu_isa.specs.Shader.{shader_view, sample_at, first_position, address_at}
 use Rattle.shader_records.specs.Emission.{moved_word, addressed_word}
 use Rattle.shader_records.proofs.Samples.{moved_none, moved_here, moved_others, addressed_none, addressed_here, addressed_others}
 use Rattle.shader_records.proofs.stream_text.put_words.Goals as goal

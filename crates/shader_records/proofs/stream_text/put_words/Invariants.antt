@@ -2,7 +2,7 @@
 -- address words so far.
 use Rattle.std.proofs.Common.{◌≡◌}
 use Rattle.field_words.specs.WordBytes.{word_bytes, laid}
-use Rattle.emitted_facts.specs.Shader.{shader_view}
+use Rattle.qpu_isa.specs.Shader.{shader_view}
 use Rattle.shader_records.specs.Emission.{moved_word, addressed_word}
 use Rattle.shader_records.proofs.stream_text.put_words.Given as goal
 

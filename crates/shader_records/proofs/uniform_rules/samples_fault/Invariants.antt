@@ -1,7 +1,7 @@
 -- What is left decides as the whole does.
 use Rattle.std.proofs.Common.{◌≡◌, ◌-◌}
 use Rattle.field_words.specs.Questions.{first_of, each}
-use Rattle.emitted_facts.specs.Shader.{shader_view}
+use Rattle.qpu_isa.specs.Shader.{shader_view}
 use Rattle.shader_records.specs.Rules.{sample_questions}
 use Rattle.shader_records.proofs.uniform_rules.samples_fault.Given as goal
 
