@@ -3,3 +3,5 @@ pub mod Inside
 pub mod Walk
 pub mod Facts
 pub mod Plain
+pub mod Least
+pub mod Sound

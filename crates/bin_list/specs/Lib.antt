@@ -2,6 +2,7 @@ pub mod Collected
 pub mod Emitted
 pub mod Fine
 pub mod Info
+pub mod Least
 pub mod Packets
 pub mod Rules
 pub mod Seen

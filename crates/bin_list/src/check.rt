@@ -1,7 +1,7 @@
 //! The check of a binner list.
-ghost use Rattle.field_words.specs.declared.stop.Stop.TheVariants.{NoMemory as OutOfMemory};
+ghost use Rattle.field_words.specs.declared.stop.Stop.TheVariants.{Fault, NoMemory as OutOfMemory};
 ghost use Rattle.std.specs.Prelude.{◌≡◌, ◌≤◌, ◌+◌, Err, [], length, OnOk, IfOk};
-ghost use Rattle.field_words.specs.Questions.{Answers, answered};
+ghost use Rattle.field_words.specs.Questions.{Answers, answered, first_of};
 ghost use Rattle.field_words.specs.Writes.{with_bytes};
 ghost use Rattle.buffer_table.specs.Handles.{AreNumbersOf};
 ghost use Rattle.bin_list.specs.Packets.{passed};
@@ -10,6 +10,8 @@ ghost use Rattle.bin_list.specs.Rules.{asked, fault, end_questions, given_of, bi
 ghost use Rattle.bin_list.specs.Fine.{IsLow};
 ghost use Rattle.bin_list.specs.Emitted.{texts, bin_text};
 ghost use Rattle.bin_list.specs.Info.{IsInfo, IsInfoOf, IsRead, MeetsState};
+ghost use Rattle.bin_list.specs.Told.{IsSoundInfo};
+ghost use Rattle.bin_list.specs.Least.{IsLeastFault};
 ghost use Rattle.packets.specs.Writing.{written};
 
 use crate::cut::split_front;
@@ -84,8 +86,10 @@ fn finish(
 ) -> Result<BinInfo, Stop<ListFault>>
     requires size { given.now.size ≡ length list.now }
     requires short { length list.now ≤ 1048576 }
+    requires fine { first_of (asked given.now (passed list.now)) ≡ None }
     requires read { IsRead given.now layout.now list.now read }
     ensures answers { Answers (answered (fault given.now.size) (end_questions (seen_before (passed list.now)))) (λ info. IsInfoOf given.now layout.now list.now info) result }
+    ensures sound { IfOk result (λ info. IsSoundInfo given.now.declared info) }
     ensures memory { result ≡ Err OutOfMemory → 1 ≤ (seen_before (passed list.now)).states }
 {
     let Read { seen, end, states } = read;
@@ -124,6 +128,8 @@ pub fn check_bin(
     requires slot_limit { layout.now.slot ≤ 67108864 }
     requires room { layout.now.bin + length list.now ≤ length out.old }
     ensures answers { Answers (bin_questions list.now declared table.now handles.now) (λ info. IsInfo list.now declared table.now handles.now layout.now info) result }
+    ensures least { (found : ListFault) → result ≡ Err (Fault found) → IsLeastFault (bin_questions list.now declared table.now handles.now) found }
+    ensures sound { IfOk result (λ info. IsSoundInfo declared info) }
     ensures put { OnOk result (out.new ≡ with_bytes out.old layout.now.bin (bin_text list.now declared table.now handles.now layout.now)) }
     ensures fits { OnOk result (length (bin_text list.now declared table.now handles.now layout.now) ≤ length list.now) }
     ensures long { length out.new ≡ length out.old }

@@ -6,7 +6,7 @@ ghost use Rattle.bin_list.specs.Packets.{opcode, front_packet, behind};
 
 use byteorder::{ByteOrder, LittleEndian};
 use packets::bin_taken;
-use packets::opcode::HALT;
+use packets::opcode::{HALT, NOP};
 
 /// A packet's opcode.
 pub(crate) fn opcode(packet: &[u8]) -> u8
@@ -34,12 +34,17 @@ pub(crate) fn word_at(packet: &[u8], at: usize) -> u32
 }
 
 /// The packet at the front of the bytes, and the bytes behind it that are still read: none behind a halt.
-#[tactic(auto, unfolding(crate::specs::Packets::front_packet, crate::specs::Packets::behind), using(crate::proofs::Cutting::drop_min, crate::proofs::Cutting::take_min))]
+#[tactic(auto, unfolding(crate::specs::Packets::front_packet, crate::specs::Packets::behind, packets::specs::Length::bin_taken, packets::specs::Length::bin_length), using(crate::proofs::Cutting::drop_min, crate::proofs::Cutting::take_min))]
+#[inline]
 pub(crate) fn split_front(bytes: &[u8]) -> (&[u8], &[u8])
     requires { 1 ≤ length bytes.now }
     ensures packet { result.0.now ≡ front_packet bytes.now }
     ensures rest { result.1.now ≡ behind bytes.now }
 {
+    // Lists are filled up with nops: the shortest way for the shortest packet.
+    if bytes[0] == NOP {
+        return (&bytes[..1], &bytes[1..]);
+    }
     let taken = bin_taken(bytes[0]) as usize;
     let (packet, rest) = bytes.split_at(taken.min(bytes.len()));
     if bytes[0] == HALT {

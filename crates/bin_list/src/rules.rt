@@ -23,7 +23,7 @@ use buffer_table::{Buffer, use_data};
 use packets::bin_length;
 use packets::opcode::{
     ARRAY_PRIMITIVE_LIST, BUFFER_HANDLES, FLUSH, GL_SHADER_STATE, INCREMENT_SEMAPHORE,
-    INDEXED_PRIMITIVE_LIST, START_TILE_BINNING, TILE_BINNING_MODE,
+    INDEXED_PRIMITIVE_LIST, NOP, START_TILE_BINNING, TILE_BINNING_MODE,
 };
 use tile_memory::slot_fits;
 
@@ -256,11 +256,13 @@ pub(crate) fn packet_fault(given: &Given, seen: &Seen, packet: &[u8]) -> Option<
 
 /// Whether the packet is whole and of a kind that has no rules of its own and is copied: most packets are.
 #[inline]
+#[tactic(auto, unfolding(packets::specs::Length::bin_length))]
 pub(crate) fn is_plain(packet: &[u8]) -> bool
     requires { 1 ≤ length packet.now }
     ensures { IsTrue result → IsPlain packet.now }
 {
     match opcode(packet) {
+        NOP => true,
         FLUSH | START_TILE_BINNING | INCREMENT_SEMAPHORE => false,
         INDEXED_PRIMITIVE_LIST | ARRAY_PRIMITIVE_LIST | GL_SHADER_STATE => false,
         TILE_BINNING_MODE | BUFFER_HANDLES => false,

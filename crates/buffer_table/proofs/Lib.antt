@@ -1,4 +1,3 @@
-pub mod Asked
 pub mod Named
 pub mod Order
 pub mod Sounds

@@ -1,17 +1,17 @@
 -- A memory table without faults is sound.
-use Rattle.std.proofs.Common.{◌≡◌, ℕ, suc, ◌+◌, ◌-◌, ◌<◌, ◌≤◌, map, min, max, false, List, length, take, get_or, None, sym, ap, subst, arith, ◌∙◌, zero-add}
+use Rattle.std.proofs.Common.{◌≡◌, ℕ, suc, ◌+◌, ◌-◌, ◌<◌, ◌≤◌, map, min, max, false, List, length, take, get_or, None, sym, ap, subst, arith, ◌∙◌}
 use Rattle.std.proofs.lemmas.List.{get_or-take, get_or-map, get_or_read, get_or_default, length-map}
 use Rattle.std.proofs.lemmas.Bool.{ltb-false}
 use Rattle.std.proofs.lemmas.List.Folds.{list_any_at}
 use Rattle.std.proofs.lemmas.Grind.{common_steps}
 use Rattle.field_words.specs.Questions.{first_of, each}
 use Rattle.field_words.proofs.Questions.{none_stands}
+use Rattle.field_words.proofs.Nones.{front_none, rest_none, each_none}
 use Rattle.buffer_table.specs.declared.buffer.Buffer.{Buffer}
 use Rattle.buffer_table.specs.declared.buffer.Regions.{Regions}
 use Rattle.buffer_table.specs.declared.item.Item.{Item}
 use Rattle.buffer_table.specs.Table.{TableModel, items_of, item_at, no_item, buffer_at, past_end, buffer_item, shares, is_off_page, memory_questions, item_questions, all_questions, table_questions}
 use Rattle.buffer_table.specs.Sound.{IsSoundItem, IsSound, IsSoundBuffer, AreApart}
-use Rattle.buffer_table.proofs.Asked.{front_none, rest_none, each_none}
 
 -- An item that passes M2 to M5.
 sound_item : (memory : ℕ) (items : List Item) (k : ℕ) → first_of (item_questions memory items k) ≡ None → IsSoundItem memory (item_at items k)
@@ -43,7 +43,7 @@ sound memory r buffers none =
     let items : List Item = items_of r buffers in
     let first = none_stands (memory_questions memory) (front_none (memory_questions memory) (each (item_questions memory items) 0 (length items)) none) in
     let rest = rest_none (memory_questions memory) (each (item_questions memory items) 0 (length items)) none in
-    let at : (k : ℕ) → k < length items → first_of (item_questions memory items k) ≡ None = λ k below. subst (λ m. first_of (item_questions memory items m) ≡ None) (zero-add k) (each_none (item_questions memory items) 0 (length items) k rest below) in
+    let at : (k : ℕ) → k < length items → first_of (item_questions memory items k) ≡ None = λ k below. each_none (item_questions memory items) 0 (length items) k rest (omega arith) (omega (arith, below)) in
     let good : (k : ℕ) → k < length items → IsSoundItem memory (item_at items k) = λ k below. sound_item memory items k (at k below) in
     record {
       pages = grind (arith, first.0);

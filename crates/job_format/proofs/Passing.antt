@@ -1,9 +1,9 @@
 -- What each part of a file has where no rule of the format stands.
-use Rattle.std.proofs.Common.{◌≡◌, ℕ, ◌+◌, ◌*◌, ◌%◌, ◌<◌, ◌≤◌, List, ◌++◌, length, None, get_or, subst, arith, zero-add}
+use Rattle.std.proofs.Common.{◌≡◌, ℕ, ◌+◌, ◌%◌, ◌<◌, ◌≤◌, List, ◌++◌, length, None, get_or, arith}
 use Rattle.field_words.specs.Words.{u32_at}
 use Rattle.field_words.specs.Questions.{Question, first_of, each}
 use Rattle.field_words.proofs.Questions.{none_stands}
-use Rattle.buffer_table.proofs.Asked.{front_none, rest_none, each_none}
+use Rattle.field_words.proofs.Nones.{front_none, rest_none, each_none}
 use Rattle.job_format.specs.Faults.{magic, header_questions, entry_questions, buffer_questions, job_questions, content_questions, parts_questions, body_questions, format_questions}
 use Rattle.job_format.specs.declared.rule.FormatFault.{FormatFault}
 use Rattle.job_format.specs.Offsets.{entry_offset, job_offset, end_offset}
@@ -112,8 +112,7 @@ passes_all bytes none =
       header = header_passes bytes (front_none (header_questions bytes) (body_questions bytes) none);
       entry = λ b below.
           entry_passes bytes (entry_offset b)
-          (subst (λ k. first_of (buffer_questions bytes k) ≡ None) (zero-add b)
-          (each_none (buffer_questions bytes) 0 count b (front_none entries (after_entries bytes) body) below));
+          (each_none (buffer_questions bytes) 0 count b (front_none entries (after_entries bytes) body) (omega arith) (omega (arith, below)));
       job = job_passes bytes (job_offset bytes) (front_none (job_questions bytes (job_offset bytes)) (contents_and_parts bytes) after);
       end = end_passes bytes parts;
     }

@@ -1,6 +1,6 @@
 -- The rules of the format, in the order in which they are asked: part by part, and in a part
 -- first whether the file ends before it does, then its fields by offset.
-use Rattle.std.specs.Prelude.{◌≡◌, ℕ, ◌+◌, ◌*◌, ◌%◌, not, ◌&&◌, nat_lt, ◌==◌, List, [], ◌∷◌, ◌++◌, length, slice_index, codes, Some, None, Result, Ok, Err}
+use Rattle.std.specs.Prelude.{◌≡◌, ℕ, ◌+◌, ◌%◌, not, ◌&&◌, nat_lt, ◌==◌, List, [], ◌∷◌, ◌++◌, length, slice_index, codes, Some, None, Result, Ok, Err}
 use Rattle.std.specs.Int.{from_le_bytes, w32}
 use Rattle.field_words.specs.Words.{u32_at}
 use Rattle.field_words.specs.Sizes.{most_list, most_code}

@@ -5,4 +5,3 @@ pub mod Shader
 pub mod Terms
 pub mod Told
 pub mod Setups
-pub mod Shader

@@ -2,6 +2,7 @@
 use Rattle.std.proofs.Common.{◌≡◌, ℕ, zero, suc, ◌+◌, ◌*◌, ◌<◌, ◌≤◌, Bool, true, false, ◌||◌, nat_lt, List, [], ◌∷◌, ◌++◌, Option, Some, None, is_some, if◌then◌else◌, refl, sym, ap, arith, ◌∙◌, lit<}
 use Rattle.field_words.specs.Questions.{Question, Ask, first_of, each}
 use Rattle.field_words.proofs.Questions.{passes, none_stands}
+use Rattle.field_words.proofs.Nones.{front_none, rest_none, each_none}
 use Rattle.buffer_table.specs.Table.{TableModel, buffer_at}
 use Rattle.buffer_table.specs.Handles.{data_of}
 use Rattle.job_format.specs.declared.file.Frame.{Frame}
@@ -73,23 +74,6 @@ tiles_inside frame table handles k number present none named inside = λ full.
     let stands : is_full k (surface_at frame k) ≡ true = grind (arith, full) in
     omega (arith, inside, size_named table handles (surface_at frame k) number named, full_inside frame k (surface_at frame k) (buffer_size table handles (surface_at frame k)) stands checked.full)
 
--- Where nothing of a list stands, nothing of its front and rest does.
-front_none : {F : Type 0} → (front rest : List (Question F)) → first_of (front ++ rest) ≡ None → first_of front ≡ None
-front_none [] rest none = refl
-front_none (Ask true answer ∷ front) rest none = cc
-front_none (Ask false answer ∷ front) rest none = front_none front rest none
-
-rest_none : {F : Type 0} → (front rest : List (Question F)) → first_of (front ++ rest) ≡ None → first_of rest ≡ None
-rest_none front rest none = sym (passes front rest (front_none front rest none)) ∙ none
-
-each_none : {F : Type 0} → (questions : ℕ → List (Question F)) (i n k : ℕ) → first_of (each questions i n) ≡ None → k < n → first_of (questions (i + k)) ≡ None
-unfolding each
-each_none questions i zero k none below = absurd (omega arith)
-each_none questions i (suc n) zero none below = let e : i + zero ≡ i = omega arith in ap (λ m. first_of (questions m)) e ∙ front_none (questions i) (each questions (i + 1) n) none
-each_none questions i (suc n) (suc k) none below =
-    let e : i + suc k ≡ i + 1 + k = omega arith in
-    ap (λ m. first_of (questions m)) e ∙ each_none questions (i + 1) n k (rest_none (questions i) (each questions (i + 1) n) none) (omega arith)
-
 -- A frame without faults: its set of tiles isn't reversed, and no surface has a fault.
 pub set_of : (frame : Frame) (grid : Option (ℕ × ℕ)) (table : TableModel) (handles : List ℕ) → first_of (surface_faults frame grid table handles) ≡ None → IsTileSet frame
 unfolding surface_faults frame_questions is_reversed
@@ -104,8 +88,7 @@ unfolding surface_faults
 none_at frame grid table handles none k below =
     let later = rest_none (frame_questions frame grid) (each (surface_questions frame table handles) 0 6 ++ whole_questions frame) none in
     let all = front_none (each (surface_questions frame table handles) 0 6) (whole_questions frame) later in
-    let e : 0 + k ≡ k = omega arith in
-    sym (ap (λ m. first_of (surface_questions frame table handles m)) e) ∙ each_none (surface_questions frame table handles) 0 6 k all below
+    each_none (surface_questions frame table handles) 0 6 k all (omega arith) (omega (arith, below))
 
 -- There is a place exactly where the surface is present.
 named_some : (table : TableModel) (offset : ℕ) (found : Option ℕ) → is_some found ≡ true → is_some (place_behind table offset found) ≡ true

@@ -1,4 +1,5 @@
--- Tables of rules that are sorted by number, and their union.
+-- The least of the numbers that the tables of three crates give; and, as tools of its proof and no part of what the crate claims,
+-- tables of rules that are sorted by number, and their union.
 use Rattle.std.specs.Prelude.{ℕ, Bool, true, ◌&&◌, List, [], ◌∷◌, Option, Some, None, min, nat_lt, nat_le, if◌then◌else◌}
 use Rattle.field_words.specs.Questions.{Question, Ask}
 

@@ -119,6 +119,20 @@ fn asks(word: u64) -> bool
     writes_s(word, 0) || writes_s(word, 1)
 }
 
+/// How many of the first `n` instructions ask for a sample.
+pub(crate) fn count_samples(code: &[u64], n: usize) -> usize
+    requires { n ≤ length code.now }
+    ensures { result ≤ n }
+{
+    let mut count = 0;
+    for at in 0..n {
+        if asks(code[at]) {
+            count += 1;
+        }
+    }
+    count
+}
+
 // The sample that the instruction at `at` asks for of the TMU `tmu`, which keeps the setup words of the uniforms `kept`,
 // `pending` of them.
 #[tactic(auto, unfolding(crate::specs::Info::is_direct_sample))]

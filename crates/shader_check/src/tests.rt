@@ -264,3 +264,36 @@ fn refusals(rt: HostRuntime) -> Result<(), Fail> {
     );
     Ok(())
 }
+
+// As many uniform reads as a shader can have, with the program end and its two further instructions.
+#[test]
+fn most_uniforms(rt: HostRuntime) -> Result<(), Fail> {
+    let mut code = vec![in rt.alloc(); TAKE; 8192]?;
+    code[8189] = END;
+    code[8190] = NOP;
+    code[8191] = NOP;
+    assert_eq!(rt; accepted(&rt, &code)?.uniforms, 8189);
+    Ok(())
+}
+
+// Seventy direct samples under one clamp.
+#[test]
+fn many_samples(rt: HostRuntime) -> Result<(), Fail> {
+    let mut code = vec![in rt.alloc(); NOP; 150]?;
+    code[0] = MAX;
+    code[1] = MIN;
+    for k in 0..70usize {
+        code[2 + 2 * k] = ADD;
+        code[3 + 2 * k] = LOAD;
+    }
+    code[142] = END;
+    let info = accepted(&rt, &code)?;
+    assert_eq!(rt; info.samples.len(), 70);
+    assert_eq!(rt; info.uniforms, 71);
+    let mut last = [None; 4];
+    for sample in &info.samples {
+        last = sample.p;
+    }
+    assert_eq!(rt; last, [Some(70), Some(0), None, None]);
+    Ok(())
+}

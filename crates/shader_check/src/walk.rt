@@ -8,7 +8,7 @@ ghost use Rattle.shader_check.specs.Rules.{questions_at};
 
 use crate::facts::index_fault;
 use crate::fault::ShaderFault;
-use crate::samples::{add_sample, keep};
+use crate::samples::{add_sample, count_samples, keep};
 use clamp_facts::{FactTable, learn};
 use field_words::{Steps, Stop};
 use qpu_isa::Sample;
@@ -33,9 +33,10 @@ pub(crate) fn walk<L: Ledger>(
 {
     let mut kept0 = Vec::new(alloc);
     let mut kept1 = Vec::new(alloc);
-    let mut samples = Vec::new(alloc);
+    let last = checked(code, flow.end);
+    let mut samples = Vec::with_capacity(alloc, count_samples(code, last))?;
     let mut table = FactTable::new();
-    for at in 0..checked(code, flow.end) {
+    for at in 0..last {
         let index = at as u32;
         if let Some(number) = index_fault(code, flow, stream, index, &table, steps) {
             return Err(Stop::Fault(ShaderFault { number, index }));

@@ -1,9 +1,11 @@
-use Rattle.std.proofs.Common.{Some, arith, ap, sym, ◌∙◌}
+use Rattle.std.proofs.Common.{refl, ◌-◌, ◌≡◌, Some, arith, ap, sym, ◌∙◌}
 use Rattle.field_words.specs.Questions.{first_of}
 use Rattle.field_words.proofs.Questions.{answered_none, answered_some}
 use Rattle.bin_list.specs.Packets.{passed}
 use Rattle.bin_list.specs.Seen.{seen_before}
 use Rattle.bin_list.specs.Rules.{fault, end_questions}
+use Rattle.bin_list.specs.declared.info.BinInfo.{BinInfo}
+use Rattle.bin_list.proofs.Sound.{sound_info}
 use Rattle.bin_list.proofs.check.finish.Goals as goal
 
 pub returns-in-Some-clause-answers : goal.returns-in-Some-clause-answers
@@ -25,3 +27,9 @@ returns-clause-answers c =
         length_is = omega (arith, read.end);
       },
     )
+
+pub returns-clause-sound : goal.returns-clause-sound
+returns-clause-sound c =
+    let read = c.requires.read in
+    let info : BinInfo = record { tiles_x = c.args.read.seen.tiles_x; tiles_y = c.args.read.seen.tiles_y; states = c.in_ok-states.states; length = c.args.read.end - c.args.layout.now.bin } in
+    sound_info c.args.given.now c.args.list.now c.args.read.seen info c.requires.fine read.seen (sym c.in_default.ensures) refl refl (c.in_ok-states.ensures.states ∙ read.states)

@@ -1,5 +1,5 @@
 -- What is left decides as the whole does, and the entries so far lie in the file.
-use Rattle.std.proofs.Common.{◌≡◌, ◌+◌, ◌-◌, ◌*◌, ◌≤◌, length}
+use Rattle.std.proofs.Common.{◌≡◌, ◌-◌, ◌≤◌, length}
 use Rattle.field_words.specs.Questions.{first_of, each}
 use Rattle.job_format.specs.Faults.{buffer_questions}
 use Rattle.job_format.specs.Offsets.{entry_offset}

@@ -1,5 +1,5 @@
 -- Contents without a fault leave the decision to those after them; the first fault ends it.
-use Rattle.std.proofs.Common.{◌≡◌, ◌+◌, ◌*◌, sym, ◌∙◌, ap, arith}
+use Rattle.std.proofs.Common.{◌≡◌, ◌+◌, sym, ◌∙◌, ap, arith}
 use Rattle.field_words.proofs.Questions.{each_on, each_stop, each_end}
 use Rattle.field_words.specs.Questions.{each, first_of}
 use Rattle.job_format.specs.Faults.{content_questions}

@@ -16,7 +16,7 @@ loop-at-init g c = record {
   none = (let e : checked_of c.args.code.now - 0 ≡ checked_of c.args.code.now = omega arith in ap (λ n. first_of (each (questions_at c.args.code.now) 0 n)) e);
   first = c.new-kept0.ensures.items;
   second = c.new-kept1.ensures.items;
-  made = c.new-samples.ensures.items;
+  made = c.in_ok-samples.ensures.items;
   table = subst (IsTableOf c.args.code.now (maker_of c.args.code.now 0)) (sym c.new-table.ensures) (blank_keeps c.args.code.now (maker_of c.args.code.now 0) (λ reg. refl));
   steps = omega arith;
 }
@@ -27,7 +27,7 @@ returns-in-Some-clause-answers g c =
     let here = answered_some (fault_at c.loop-at.at) (index_questions c.args.code.now c.loop-at.at) c.in-Some.number (sym c.in-Some.ensures.value) in
     sym c.loop-at.invariant.none
     ∙ each_stop (questions_at c.args.code.now) c.loop-at.at (checked_of c.args.code.now) (fault_at c.loop-at.at c.in-Some.number)
-    (omega (arith, c.loop-at-test.true, c.checked-at-end.ensures.value)) here
+    (omega (arith, c.loop-at-test.true, c.checked-last.ensures.value)) here
 
 pub loop-at-preserved : goal.loop-at-preserved
 unfolding questions_at
@@ -35,7 +35,7 @@ loop-at-preserved g c =
     let none = answered_none (fault_at c.loop-at.at) (index_questions c.args.code.now c.loop-at.at) (sym c.in_default.ensures.value) in
     record {
       none =
-          each_on (questions_at c.args.code.now) c.loop-at.at (checked_of c.args.code.now) (omega (arith, c.loop-at-test.true, c.checked-at-end.ensures.value)) none
+          each_on (questions_at c.args.code.now) c.loop-at.at (checked_of c.args.code.now) (omega (arith, c.loop-at-test.true, c.checked-last.ensures.value)) none
           ∙ c.loop-at.invariant.none;
       first = c.in_ok-keep.ensures;
       second = c.in_ok-keep-2.ensures;
@@ -47,8 +47,8 @@ loop-at-preserved g c =
 pub returns-clause-answers : goal.returns-clause-answers
 unfolding samples_of
 returns-clause-answers g c =
-    let past : checked_of c.args.code.now ≤ c.loop-at.at = omega (arith, c.loop-at-test.false, c.checked-at-end.ensures.value) in
-    let at-end : c.loop-at.at ≡ checked_of c.args.code.now = omega (arith, past, c.loop-at.auto.at-end, c.checked-at-end.ensures.value) in (
+    let past : checked_of c.args.code.now ≤ c.loop-at.at = omega (arith, c.loop-at-test.false, c.checked-last.ensures.value) in
+    let at-end : c.loop-at.at ≡ checked_of c.args.code.now = omega (arith, past, c.loop-at.auto.at-end, c.checked-last.ensures.value) in (
       sym c.loop-at.invariant.none ∙ each_end (questions_at c.args.code.now) c.loop-at.at (checked_of c.args.code.now) past,
       c.loop-at.invariant.made ∙ ap (λ n. map (sample_of c.args.code.now) (indexes n (is_sample c.args.code.now))) at-end,
     )
