@@ -6,7 +6,7 @@ use Rattle.std.proofs.lemmas.Bool.{eqb-false, eqb-true}
 use Rattle.field_words.specs.Words.{u32_at}
 use Rattle.field_words.specs.Questions.{Question, Ask, first_of, answered, NoneStands}
 use Rattle.field_words.proofs.Questions.{none_stands}
-use Rattle.buffer_table.proofs.Asked.{front_none, rest_none}
+use Rattle.field_words.proofs.Nones.{front_none, rest_none}
 use Rattle.packets.specs.Opcode.{start_tile_binning, gl_shader_state, tile_binning_mode}
 use Rattle.tile_memory.specs.Slots.{slot_fits}
 use Rattle.bin_list.specs.declared.seen.Seen.{Seen}
