@@ -1,12 +1,12 @@
 -- What follows where no rule of a list stands.
-use Rattle.std.proofs.Common.{◌≡◌, ◌≢◌, ◌⊎◌, inl, inr, ℕ, zero, suc, ◌+◌, ◌*◌, ◌<◌, ◌≤◌, Bool, true, false, not, ◌||◌, List, [], ◌∷◌, ◌++◌, Option, Some, None, length, get_or, refl, sym, ap, subst, arith, ◌∙◌, nat_lt, nat_le}
+use Rattle.std.proofs.Common.{◌≡◌, ℕ, ◌+◌, ◌*◌, ◌<◌, ◌≤◌, Bool, true, false, List, [], ◌∷◌, Option, Some, None, length, refl, sym, ap, arith, ◌∙◌}
 use Rattle.std.specs.Prelude.{if◌then◌else◌, ◌==◌, All, slice_index}
 use Rattle.std.proofs.lemmas.List.Elements.{All-cons}
-use Rattle.std.proofs.lemmas.Bool.{eqb-false, eqb-true}
+use Rattle.std.proofs.lemmas.Bool.{eqb-true}
 use Rattle.field_words.specs.Words.{u32_at}
-use Rattle.field_words.specs.Questions.{Question, Ask, first_of, answered, NoneStands}
+use Rattle.field_words.specs.Questions.{first_of, answered}
 use Rattle.field_words.proofs.Questions.{none_stands}
-use Rattle.field_words.proofs.Nones.{front_none, rest_none}
+use Rattle.field_words.proofs.Nones.{front_none, rest_none, none_answered}
 use Rattle.packets.specs.Opcode.{start_tile_binning, gl_shader_state, tile_binning_mode}
 use Rattle.tile_memory.specs.Slots.{slot_fits}
 use Rattle.bin_list.specs.declared.seen.Seen.{Seen}
@@ -15,13 +15,6 @@ use Rattle.bin_list.specs.Packets.{opcode, onto}
 use Rattle.bin_list.specs.Seen.{latest, is_there, byte_of, states_in, seen_before}
 use Rattle.bin_list.specs.Rules.{GivenModel, cut_questions, kind_questions, start_questions, state_questions, config_questions, packet_questions, fault, asked}
 use Rattle.bin_list.specs.States.{greatest, state, states_of}
-
--- the same rules under other answers
-none_answered : {F G : Type 0} (change : F → G) → (questions : List (Question F)) → first_of (answered change questions) ≡ None → first_of questions ≡ None
-unfolding answered
-none_answered change [] none = refl
-none_answered change (Ask true answer ∷ later) none = cc
-none_answered change (Ask false answer ∷ later) none = none_answered change later none
 
 -- Where no rule of the list stands, none of a front of it does.
 pub onto_none : (given : GivenModel) (earlier later : List (List ℕ)) → first_of (asked given (onto earlier later)) ≡ None → first_of (asked given earlier) ≡ None

@@ -1,9 +1,9 @@
 -- Packets that are only copied.
-use Rattle.std.proofs.Common.{◌≡◌, ◌≢◌, ℕ, ◌+◌, ◌≤◌, ◌<◌, max, Bool, true, false, List, [], ◌∷◌, ◌++◌, Option, Some, None, length, refl, sym, ap, subst, arith, ◌∙◌}
-use Rattle.std.specs.Prelude.{if◌then◌else◌, ◌==◌, nat_lt}
+use Rattle.std.proofs.Common.{◌≡◌, ℕ, false, List, [], ◌∷◌, ◌++◌, Option, Some, None, length, sym, ap, arith, ◌∙◌}
+use Rattle.std.specs.Prelude.{◌==◌, nat_lt}
 use Rattle.std.proofs.lemmas.Bool.{ne_eqb}
 use Rattle.std.proofs.Math.Nat.{zero-max}
-use Rattle.field_words.specs.Questions.{Question, Ask, first_of}
+use Rattle.field_words.specs.Questions.{Question, first_of}
 use Rattle.field_words.proofs.Questions.{passes}
 use Rattle.relocation.specs.declared.layout.Layout.{Layout}
 use Rattle.packets.specs.Opcode.{flush, start_tile_binning, increment_semaphore, indexed_primitive_list, array_primitive_list, gl_shader_state, tile_binning_mode, buffer_handles}
@@ -14,7 +14,7 @@ use Rattle.bin_list.specs.Packets.{opcode}
 use Rattle.bin_list.specs.Seen.{seen_after, seen_past}
 use Rattle.bin_list.specs.Rules.{GivenModel, cut_questions, kind_questions, packet_questions}
 use Rattle.bin_list.specs.Fine.{IsPlain}
-use Rattle.bin_list.specs.States.{draws_to, states_of}
+use Rattle.bin_list.specs.States.{draws_to}
 use Rattle.bin_list.specs.Collected.{states_to_come, all_states}
 use Rattle.bin_list.specs.Emitted.{packet_text}
 

@@ -1,6 +1,7 @@
 -- The binner list that the hardware is given, packet by packet.
 use Rattle.std.specs.Prelude.{ℕ, ◌+◌, ◌-◌, ◌*◌, ◌%◌, ◌==◌, List, [], ◌∷◌, ◌++◌, slice_index, if◌then◌else◌}
 use Rattle.std.specs.Int.{to_le_bytes, w32}
+use Rattle.field_words.specs.Sizes.{slot_size}
 use Rattle.field_words.specs.Words.{u32_at}
 use Rattle.field_words.specs.Writes.{with_bytes}
 use Rattle.buffer_table.specs.Table.{TableModel}
@@ -24,7 +25,7 @@ state_text layout seen packet = gl_shader_state ∷ to_le_bytes w32 (layout.plac
 unfoldable pub config_text : Layout → List ℕ → List ℕ
 config_text layout packet =
     let start = alloc_offset (slice_index packet 13 * slice_index packet 14) in
-    tile_binning_mode ∷ (to_le_bytes w32 (layout.slot + start) ++ (to_le_bytes w32 (524288 - start) ++ (to_le_bytes w32 layout.slot
+    tile_binning_mode ∷ (to_le_bytes w32 (layout.slot + start) ++ (to_le_bytes w32 (slot_size - start) ++ (to_le_bytes w32 layout.slot
     ++ (slice_index packet 13 ∷ (slice_index packet 14 ∷ ((slice_index packet 15 % 2 + 68) ∷ []))))))
 
 -- what a packet is emitted as: buffer handles are dropped, all but these three kinds are copied

@@ -1,8 +1,7 @@
 -- What a list without faults promises of its grid and its states.
-use Rattle.std.specs.Prelude.{◌≡◌, ◌≤◌, ◌<◌, ℕ, ◌*◌, true, List, length, All}
+use Rattle.std.specs.Prelude.{◌≡◌, ◌≤◌, ◌<◌, ℕ, ◌*◌, true, length, All}
 use Rattle.tile_memory.specs.Slots.{slot_fits}
 use Rattle.bin_list.specs.declared.info.BinInfo.{BinInfo}
-use Rattle.bin_list.specs.declared.state.State.{State}
 
 -- There is a tile at least, and a tile slot has room for all of them. There are no more states than declared, and each
 -- word has its low four bits alone.

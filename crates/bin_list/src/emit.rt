@@ -12,10 +12,10 @@ use crate::cut::{byte_at, opcode, word_at};
 use crate::given::Given;
 use crate::rules::index_buffer;
 use crate::seen::Seen;
-use field_words::put_u32;
+use field_words::{SLOT_SIZE, put_u32};
 use packets::opcode::{BUFFER_HANDLES, GL_SHADER_STATE, INDEXED_PRIMITIVE_LIST, TILE_BINNING_MODE};
 use relocation::Layout;
-use tile_memory::{SLOT_SIZE, alloc_offset};
+use tile_memory::alloc_offset;
 
 /// Puts bytes at a place of the window, and gives the place behind them.
 #[inline]

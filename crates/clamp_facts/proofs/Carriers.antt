@@ -1,17 +1,15 @@
 -- At most one instruction made what is in a register.
-use Rattle.std.proofs.Common.{◌≡◌, ◌≤◌, ◌<◌, ◌+◌, ◌==◌, ℕ, zero, suc, Bool, true, false, not, ◌&&◌, List, Option, Some, None, MatchOption, IfSome, if◌then◌else◌, refl, sym, ap, subst, inl, inr, arith, ◌∙◌, nat_lt}
-use Rattle.std.proofs.lemmas.Bool.{cases_lt, cases_order, cases_Bool, and_parts, and_from, and_left, and_right, not-true, true≢false, lt-ltb, le-ltb, ltb-true, false_from_ne_true}
+use Rattle.std.proofs.Common.{◌≡◌, ◌<◌, ◌+◌, ℕ, Bool, true, false, not, ◌&&◌, List, Option, Some, None, if◌then◌else◌, refl, sym, ap, subst, inl, inr, arith, ◌∙◌, nat_lt}
+use Rattle.std.proofs.lemmas.Bool.{cases_order, cases_Bool, and_parts, and_from, not-true, true≢false, ltb-true, false_from_ne_true}
 use Rattle.qpu_isa.specs.declared.inst.Reg.{Reg}
-use Rattle.qpu_isa.specs.Word.{sig_of}
 use Rattle.qpu_isa.specs.Terms.{names, sets_alone, is_accumulator, is_load_imm, has_small, loaded_value, is_max_with_zero}
-use Rattle.shader_flow.specs.Bounded.{some_in, last_below}
+use Rattle.shader_flow.specs.Bounded.{some_in}
 use Rattle.shader_flow.specs.Flow.{word, checked_of, is_target}
 use Rattle.shader_flow.specs.Pending.{count_of}
-use Rattle.shader_flow.proofs.Bounded.{some_in_none, some_in_not, last_below_none, last_below_one, last_below_found}
-use Rattle.clamp_facts.specs.declared.fact.Fact.{Fact}
-use Rattle.clamp_facts.specs.declared.fact.Fact.TheVariants.{Nothing, Immediate, NotNegative, Clamped}
-use Rattle.clamp_facts.specs.Facts.{sets, stays, switches_between, maker_of, is_delayed, carries, if_readable, carrier_of, clamps, makes_clamp, made, fact_made, fact_by, fact_at, is_max_at, is_not_negative, is_clamped}
-use Rattle.clamp_facts.specs.Readings.{is_from_zero, clamp_in, bound_in, value_in, has_bound}
+use Rattle.shader_flow.proofs.Bounded.{some_in_none, some_in_not, last_below_one, last_below_found}
+use Rattle.clamp_facts.specs.declared.fact.Fact.TheVariants.{Nothing}
+use Rattle.clamp_facts.specs.Facts.{sets, stays, switches_between, maker_of, is_delayed, carries, if_readable, carrier_of, makes_clamp, made, fact_made, fact_by, fact_at, is_max_at, is_not_negative}
+use Rattle.clamp_facts.specs.Readings.{is_from_zero, value_in}
 use Rattle.clamp_facts.specs.Upkeep.{IsLastNaming, IsCarrier}
 
 -- what sets a register alone names it
@@ -42,7 +40,7 @@ pub stays_quiet : (code : List ℕ) (j i k : ℕ) (reg : Reg) → stays code j i
 unfolding stays
 stays_quiet code j i k reg last after below =
     let parts = and_parts (not (some_in (j + 1) i (λ m. names (word code m) reg)))
-        (not (some_in (j + 1) (i + 1) (is_target code)) && not (is_accumulator reg && switches_between code j i)) last in
+    (not (some_in (j + 1) (i + 1) (is_target code)) && not (is_accumulator reg && switches_between code j i)) last in
     some_in_not (j + 1) i k (λ m. names (word code m) reg) (not-true (some_in (j + 1) i (λ m. names (word code m) reg)) parts.0) (omega (arith, after)) below
 
 -- so two that set it and stay are one

@@ -1,6 +1,6 @@
 -- Keeping the table: what one instruction changes of who made what stands in a register.
-use Rattle.std.proofs.Common.{◌≡◌, ◌≤◌, ◌<◌, ◌+◌, ◌-◌, ◌==◌, ℕ, zero, suc, Bool, true, false, not, ◌&&◌, ◌||◌, List, Option, Some, None, if◌then◌else◌, refl, sym, ap, subst, inl, inr, arith, ◌∙◌, nat_lt, nat_le}
-use Rattle.std.proofs.lemmas.Bool.{cases_lt, cases_Bool, and_parts, and_from, and_left, and_right, or_left, or_right, or_cases, true≢false, false_from_ne_true, lt-ltb, le-leb, leb-true}
+use Rattle.std.proofs.Common.{◌≡◌, ◌≤◌, ◌<◌, ◌+◌, ◌-◌, ℕ, Bool, true, false, not, ◌&&◌, ◌||◌, List, Some, None, if◌then◌else◌, refl, sym, ap, subst, inl, inr, arith, ◌∙◌, nat_le}
+use Rattle.std.proofs.lemmas.Bool.{cases_lt, cases_Bool, and_parts, and_from, and_left, and_right, or_left, or_right, or_cases, true≢false, false_from_ne_true, le-leb, leb-true}
 use Rattle.qpu_isa.specs.declared.inst.Reg.{Reg}
 use Rattle.qpu_isa.specs.Terms.{names, is_accumulator, is_switch}
 use Rattle.shader_flow.specs.Bounded.{some_in, some_below, is_back, last_below}
@@ -102,10 +102,10 @@ stays_more code j i reg below =
     ∙ (ap (λ b. not (some_in (j + 1) i (λ k. names (word code k) reg) || names (word code i) reg) && (not b && not (is_accumulator reg && switches_between code j (i + 1))))
     (some_in_last (j + 1) (i + 1) (is_target code) (omega (arith, below)))
     ∙ (ap (λ b. not (some_in (j + 1) i (λ k. names (word code k) reg) || names (word code i) reg)
-        && (not (some_in (j + 1) (i + 1) (is_target code) || is_target code (i + 1)) && not (is_accumulator reg && b)))
+    && (not (some_in (j + 1) (i + 1) (is_target code) || is_target code (i + 1)) && not (is_accumulator reg && b)))
     (between_more code j i (omega (arith, below)))
     ∙ stays_law (some_in (j + 1) i (λ k. names (word code k) reg)) (names (word code i) reg) (some_in (j + 1) (i + 1) (is_target code)) (is_target code (i + 1))
-        (is_accumulator reg) (switches_between code j i) (is_back i 2 (λ k. is_switch (word code k)))))
+    (is_accumulator reg) (switches_between code j i) (is_back i 2 (λ k. is_switch (word code k)))))
 
 pub here_law : (t c k : Bool) → (not false && (not (false || t) && not (c && (false || k)))) ≡ not (t || (c && k))
 here_law true c k = refl

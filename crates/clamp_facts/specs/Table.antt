@@ -1,5 +1,5 @@
 -- The table of facts: an entry for each register that a unit can write.
-use Rattle.std.specs.Prelude.{◌≡◌, ℕ, ◌+◌, Bool, List, replicate, slice_index_or, slice_set, if◌then◌else◌}
+use Rattle.std.specs.Prelude.{ℕ, List, replicate, slice_index_or, slice_set, if◌then◌else◌}
 use Rattle.qpu_isa.specs.declared.inst.Reg.{Reg}
 use Rattle.qpu_isa.specs.declared.inst.Reg.TheVariants.{A, B, Acc}
 use Rattle.clamp_facts.specs.declared.fact.Fact.{Fact}

@@ -6,13 +6,11 @@
 #![tactic(auto)]
 
 mod fact;
-
 mod search;
 mod table;
 mod upkeep;
 
 pub use fact::{Entry, Fact};
-
 pub use search::{clamp_of, immediate_of};
 pub use table::FactTable;
 pub use upkeep::{learn, look};

@@ -27,6 +27,7 @@ pub struct FactTable {
 
 impl Model for FactTable {
     ghost Value = { Table };
+
     ghost view = { λ t. record { a = t.a; b = t.b; acc = t.acc } };
 }
 

@@ -39,12 +39,7 @@ pub fn look<L: Ledger>(
 
 // The instruction at `at` is the minimum of a register that isn't negative and a uniform.
 #[tactic(auto, unfolding(crate::specs::Facts::makes_clamp))]
-fn is_clamp<L: Ledger>(
-    code: &[u64],
-    at: u32,
-    table: &FactTable,
-    steps: &mut Steps<L>,
-) -> bool
+fn is_clamp<L: Ledger>(code: &[u64], at: u32, table: &FactTable, steps: &mut Steps<L>) -> bool
     requires inside { at < length code.now }
     requires few { length code.now ≤ 8192 }
     requires kept { IsTableOf code.now (maker_of code.now at) table.now }
@@ -97,7 +92,11 @@ fn register_at(on_a: bool, address: u8) -> Option<Reg>
     ensures register { IfSome result IsRegister }
 {
     if address < 32 {
-        return Some(if on_a { Reg::A(address) } else { Reg::B(address) });
+        return Some(if on_a {
+            Reg::A(address)
+        } else {
+            Reg::B(address)
+        });
     }
     if address < 36 {
         return Some(Reg::Acc(address - 32));

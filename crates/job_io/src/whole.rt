@@ -59,7 +59,7 @@ pub fn read_all<S: Source>(alloc: Global, source: &mut S, limit: usize) -> Resul
 {
     let mut bytes = Vec::new(alloc);
     let mut piece = [0u8; PIECE];
-    loop {
+    'reading: loop {
         let count = source.read(&mut piece)?;
         if count == 0 {
             return Ok(bytes);

@@ -307,5 +307,9 @@ fn read_number(text: &[u8], below: u64) -> Result<u64, u8>
         return Err(BAD_OPERAND);
     }
     let value = number(text, below);
-    if value < below { Ok(value) } else { Err(OUT_OF_RANGE) }
+    if value < below {
+        Ok(value)
+    } else {
+        Err(OUT_OF_RANGE)
+    }
 }

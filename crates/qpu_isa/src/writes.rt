@@ -287,8 +287,7 @@ pub fn has_two_tmu_writes(word: u64) -> bool
 pub fn has_conditional_tmu_write(word: u64) -> bool
     ensures { result ≡ has_conditional_tmu_write word }
 {
-    (add_is_tmu(word) && !(cond_add(word) == 1))
-        || (mul_is_tmu(word) && !(cond_mul(word) == 1))
+    (add_is_tmu(word) && !(cond_add(word) == 1)) || (mul_is_tmu(word) && !(cond_mul(word) == 1))
 }
 
 /// Whether the add unit's write of this TMU's S is direct.

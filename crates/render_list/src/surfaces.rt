@@ -1,6 +1,6 @@
 //! The rules of a frame and its surfaces.
-ghost use Rattle.std.specs.Prelude.{◌≡◌, ◌<◌, ◌≤◌, ◌⊎◌, ◌+◌, ◌++◌, false, length, ℕ, None, Some, IfNone, IfOk, MatchResult};
-ghost use Rattle.field_words.specs.Questions.{first_of, each};
+ghost use Rattle.std.specs.Prelude.{◌≡◌, ◌<◌, ◌≤◌, ◌⊎◌, ◌+◌, ◌++◌, false, length, ℕ, None, Some, IfNone, IfOk, IfErr, MatchResult};
+ghost use Rattle.field_words.specs.Questions.{first_of, each, IsFirst};
 ghost use Rattle.buffer_table.specs.Handles.{AreNumbersOf};
 ghost use Rattle.texture_layouts.specs.Surface.{IsPixelSize};
 ghost use Rattle.render_list.specs.Frame.{surface_at, is_full, FitsAt, IsTileSet, IsSetupFor};
@@ -463,6 +463,7 @@ pub fn check_surfaces(
         (λ setup. (first_of (surface_faults frame.now tiles table.now handles.now) ≡ None)
         × (setup.places ≡ places_of frame.now table.now handles.now))
         (λ fault. first_of (surface_faults frame.now tiles table.now handles.now) ≡ Some fault) }
+    ensures first { IfErr result (λ fault. IsFirst (surface_faults frame.now tiles table.now handles.now) fault) }
     ensures setup { IfOk result (λ setup. IsSetupFor frame.now setup.places) }
 {
     match first_fault(frame, tiles, table, handles) {

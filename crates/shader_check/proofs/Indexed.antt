@@ -121,8 +121,8 @@ sound_shader uniforms samples words threaded is =
     let firsts = map first_number samples in
     let long = length-map samples first_number in
     let first-is : (i : ℕ) → i < length samples → get_or firsts i 0 ≡ first_position (get_or samples i no_sample) =
-        λ i inside. map_at first_number no_sample samples i inside
-        ∙ sym (first_is_number (get_or samples i no_sample) (full (get_or samples i no_sample) (member_at no_sample samples i inside))) in
+    λ i inside. map_at first_number no_sample samples i inside
+    ∙ sym (first_is_number (get_or samples i no_sample) (full (get_or samples i no_sample) (member_at no_sample samples i inside))) in
     record {
       samples = λ i inside.
           sample_sound uniforms samples words threaded (get_or samples i no_sample) (is.each (get_or samples i no_sample) (member_at no_sample samples i inside)) full;

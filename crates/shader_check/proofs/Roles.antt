@@ -136,9 +136,10 @@ pub clamped_parts : (code : List ℕ) (i : ℕ) → is_clamped_write code i ≡ 
 unfolding is_clamped_write
 clamped_parts code i clamped =
     let both = and_parts (is_add_with_uniform (word code i) && (not (has_small (word code i)) && not (is_add_packed (word code i))))
-    (passes (first_register (word code i)) (is_clamped code i)) clamped in
-    ((and_parts (is_add_with_uniform (word code i)) (not (has_small (word code i)) && not (is_add_packed (word code i))) both.0).0,
-      passed (first_register (word code i)) (is_clamped code i) both.1)
+    (passes (first_register (word code i)) (is_clamped code i)) clamped in (
+      (and_parts (is_add_with_uniform (word code i)) (not (has_small (word code i)) && not (is_add_packed (word code i))) both.0).0,
+      passed (first_register (word code i)) (is_clamped code i) both.1,
+    )
 
 -- the add unit writes one address
 pub one_address : (w a b : ℕ) → add_names w a ≡ true → add_names w b ≡ true → a ≡ b

@@ -103,12 +103,7 @@ fn adds_value<L: Ledger>(
 }
 
 // The first operand of the add unit is a register for which a clamp holds.
-fn adds_clamped<L: Ledger>(
-    code: &[u64],
-    at: u32,
-    table: &FactTable,
-    steps: &mut Steps<L>,
-) -> bool
+fn adds_clamped<L: Ledger>(code: &[u64], at: u32, table: &FactTable, steps: &mut Steps<L>) -> bool
     requires inside { at < length code.now }
     requires few { length code.now ≤ 8192 }
     requires kept { IsTableOf code.now (maker_of code.now at) table.now }
@@ -246,7 +241,14 @@ fn fact_fault<L: Ledger>(
     if breaks_s16(code, at, stream.counts[i], table, steps) {
         return Some(S16_INEXACT_ADDRESS);
     }
-    if breaks_s24(code, at, stream.pending0[i], stream.pending1[i], table, steps) {
+    if breaks_s24(
+        code,
+        at,
+        stream.pending0[i],
+        stream.pending1[i],
+        table,
+        steps,
+    ) {
         return Some(S24_UNCLAMPED_READ);
     }
     None

@@ -18,7 +18,13 @@ use std::sync::ledger::Ledger;
 use uniform_stream::Stream;
 
 /// What a TMU keeps after the instruction at `at`: nothing where it sends, and one uniform more where it is written.
-pub(crate) fn keep(code: &[u64], at: usize, tmu: u8, count: u32, kept: &mut Vec<u32>) -> Result<(), NoMemory>
+pub(crate) fn keep(
+    code: &[u64],
+    at: usize,
+    tmu: u8,
+    count: u32,
+    kept: &mut Vec<u32>,
+) -> Result<(), NoMemory>
     requires inside { at < checked_of code.now }
     requires here { at < length code.now }
     requires number { tmu < 2 }
@@ -51,12 +57,7 @@ fn number(numbers: &[u32], last: u32, k: usize) -> Option<u32>
 }
 
 // The uniform that clamps a direct sample's address.
-fn bound<L: Ledger>(
-    code: &[u64],
-    at: u32,
-    table: &FactTable,
-    steps: &mut Steps<L>,
-) -> Option<u32>
+fn bound<L: Ledger>(code: &[u64], at: u32, table: &FactTable, steps: &mut Steps<L>) -> Option<u32>
     requires inside { at < length code.now }
     requires few { length code.now ≤ 8192 }
     requires kept { IsTableOf code.now (maker_of code.now at) table.now }

@@ -115,7 +115,10 @@ fn clamped_read(rt: HostRuntime) -> Result<(), Fail> {
     let stream = stream(rt.alloc(), &code, &flow)?;
     assert_eq!(rt; stream.counts[8], 2);
     assert!(rt; stream.known[8]);
-    assert_eq!(rt; found::<Brand>(rt.alloc(), &code, 4, Blank::new(1))?, Some(2));
+    assert_eq!(rt;
+        found::<Brand>(rt.alloc(), &code, 4, Blank::new(1))?,
+        Some(2)
+    );
     let info = accepted(&rt, &code)?;
     assert_eq!(rt; info.uniforms, 2);
     assert_eq!(rt; info.address_words.len(), 0);

@@ -5,7 +5,7 @@ use Rattle.field_words.proofs.Numbers.{rounded}
 use Rattle.emitted_facts.specs.Records.{attribute_count, is_extended, record_size}
 use Rattle.shader_records.specs.Sources.{handles_size, source_size, emitted_size}
 
-count_limits : (state : ℕ) → (1 ≤ attribute_count state) × (attribute_count state ≤ 8)
+pub count_limits : (state : ℕ) → (1 ≤ attribute_count state) × (attribute_count state ≤ 8)
 unfolding attribute_count
 count_limits state = (grind arith, grind arith)
 

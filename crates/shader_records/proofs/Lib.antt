@@ -1,6 +1,12 @@
+pub mod Examples
 pub mod Fine
 pub mod Inside
 pub mod Lengths
+pub mod MemoryFacts
+pub mod RecordFacts
+pub mod RecordsInMemory
 pub mod Samples
 pub mod Shaders
 pub mod Steps
+pub mod StreamFacts
+pub mod WordFits

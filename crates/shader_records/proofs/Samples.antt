@@ -4,9 +4,9 @@ use Rattle.std.proofs.lemmas.Bool.{ltb-false}
 use Rattle.field_words.specs.Questions.{first_of}
 use Rattle.field_words.proofs.Questions.{none_stands}
 use Rattle.qpu_isa.specs.declared.inst.Sample.{Sample}
-use Rattle.texture_layouts.specs.Setup.{base_of, texture_of, faces_of}
+use Rattle.texture_layouts.specs.Setup.{base_of, texture_of, faces_of, size_below}
 use Rattle.texture_layouts.specs.Fits.{texture_questions, direct_questions}
-use Rattle.texture_layouts.proofs.Inside.{lies_in}
+use Rattle.texture_layouts.proofs.Inside.{in_buffer}
 use Rattle.qpu_isa.specs.Shader.{ShaderModel, or_zero, sample_at, first_position, position, address_at, IsSoundShader}
 use Rattle.emitted_facts.specs.Facts.{setup, word_or_zero}
 use Rattle.shader_records.specs.Inputs.{InputModel}
@@ -21,13 +21,13 @@ some_face true = omega arith
 some_face false = omega arith
 
 texture_base : (p0 p1 p2 p3 size : ℕ) → p0 < 2 ^ 32 → first_of (texture_questions p0 p1 p2 p3 size) ≡ None → p0 ≤ size + 4095
-unfolding texture_of base_of faces_of
+unfolding texture_of base_of faces_of size_below
 texture_base p0 p1 p2 p3 size fits none =
-    let lies = lies_in p0 p1 p2 p3 size none in
-    let first = lies.faces 0 (some_face (texture_of p0 p1 p2 p3).is_cube) in
+    let inside = in_buffer p0 p1 p2 p3 size none in
+    let first = inside.upto 0 0 (some_face (texture_of p0 p1 p2 p3).is_cube) (omega arith) in
     omega (arith, first, fits)
 
-direct_base : (base bound size : ℕ) → first_of (direct_questions base bound size) ≡ None → base + bound + 4 ≤ size
+pub direct_base : (base bound size : ℕ) → first_of (direct_questions base bound size) ≡ None → base + bound + 4 ≤ size
 unfolding direct_questions
 direct_base base bound size none =
     let n = none_stands (direct_questions base bound size) none in
@@ -38,7 +38,7 @@ setup_base : (direct : Bool) (p0 p1 p2 p3 size : ℕ) → p0 < 2 ^ 32
 setup_base true p0 p1 p2 p3 size fits none = omega (arith, direct_base p0 p1 size none)
 setup_base false p0 p1 p2 p3 size fits none = texture_base p0 p1 p2 p3 size fits none
 
-first_setup : (word : ℕ → ℕ) (o : Option ℕ) (k : ℕ) → k ≡ or_zero o → is_some o ≡ true → word_or_zero word o ≡ word k
+pub first_setup : (word : ℕ → ℕ) (o : Option ℕ) (k : ℕ) → k ≡ or_zero o → is_some o ≡ true → word_or_zero word o ≡ word k
 first_setup word None k here some = cc
 first_setup word (Some n) k here some = ap word (sym here)
 
@@ -57,10 +57,10 @@ base_fits input from shader i sound below none fits =
 next : (n : ℕ) → n + 1 ≡ suc n
 next n = omega arith
 
-if_same : (a x y : ℕ) → (if a == a then x else y) ≡ x
+pub if_same : (a x y : ℕ) → (if a == a then x else y) ≡ x
 if_same a x y = grind arith
 
-if_other : (a k x y : ℕ) → (k ≡ a → ⊥) → (if a == k then x else y) ≡ y
+pub if_other : (a k x y : ℕ) → (k ≡ a → ⊥) → (if a == k then x else y) ≡ y
 if_other a k x y other = grind arith
 
 if_here : (b : Bool) (a x y : ℕ) → (if (b || a == a) then x else y) ≡ x

@@ -93,3 +93,8 @@ emitted_records input first = records_text input first (length input.states)
 
 abbrev pub emitted_uniforms : InputModel → ℕ → List ℕ
 emitted_uniforms input first = uniforms_text input first (length input.states)
+
+-- Memory has the streams of a record's shaders, made of the uniforms from a place on.
+pub record HasStreams (input : InputModel) (at from first : ℕ) (memory : ℕ → ℕ) : Type 0 where
+  pub word : (s : ℕ) (shader : ShaderModel) (k : ℕ) → s < 3 → shader_used input at s ≡ Some shader → k < shader.uniforms
+      → memory (stream_place input at first s + 4 * k) ≡ stream_word_of input (from + taken_before input at s) shader (stream_place input at first s) k

@@ -1,6 +1,8 @@
 pub mod Emission
 pub mod Emitted
+pub mod Examples
 pub mod Going
 pub mod Inputs
+pub mod Named
 pub mod Rules
 pub mod Sources

@@ -1,5 +1,5 @@
 //! What the check is given.
-ghost use Rattle.std.specs.Prelude.{◌≡◌, ◌+◌, ◌*◌, ◌<◌, ◌≤◌, length, slice_index_or, IfSome, MatchOption, Some, None};
+ghost use Rattle.std.specs.Prelude.{◌≡◌, ◌+◌, ◌*◌, ◌^◌, ◌<◌, ◌≤◌, length, slice_index_or, IfSome, MatchOption, Some, None};
 ghost use Rattle.field_words.specs.Words.{u32_at};
 ghost use Rattle.buffer_table.specs.Table.{buffer_at};
 ghost use Rattle.qpu_isa.specs.Shader.{shader_view, IsSoundShader};
@@ -41,6 +41,14 @@ fn word_at(bytes: &[u8], at: usize) -> u32
     ensures { result ≡ u32_at bytes.now at }
 {
     get_u32(bytes, at).unwrap_or(0)
+}
+
+/// A word moved by its buffer's place.
+pub(crate) fn relocated(word: u32, place: u32) -> u32
+    requires { word + place < 2 ^ 32 }
+    ensures { result ≡ word + place }
+{
+    word + place
 }
 
 /// The state of a number.

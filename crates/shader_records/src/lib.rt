@@ -12,6 +12,7 @@ mod fault;
 mod faults;
 mod info;
 mod inputs;
+mod laws;
 mod record_rules;
 mod record_text;
 mod sizes;
@@ -21,3 +22,7 @@ mod uniform_rules;
 pub use check::check_records;
 pub use fault::RecordFault;
 pub use info::RecordInfo;
+pub use laws::{records_are_facts, streams_are_facts};
+
+#[cfg(test)]
+mod tests;

@@ -7,7 +7,7 @@ ghost use Rattle.shader_records.specs.Sources.{handles_size, source_size, emitte
 ghost use Rattle.shader_records.specs.Rules.{record_questions};
 ghost use Rattle.shader_records.specs.Emission.{shader_word, attribute_word, emitted_word, stream_place, record_text, AreStreamsOf};
 
-use crate::inputs::Inputs;
+use crate::inputs::{Inputs, relocated};
 use crate::record_rules::Source;
 use crate::sizes::{attribute_count, emitted_size, record_size};
 use field_words::put_u32;
@@ -102,7 +102,10 @@ fn moved_address(inputs: &Inputs, source: Source, t: usize) -> u32
     ensures { result ≡ record_word inputs.now source.at source.state (9 + 2 * t) + place_in inputs.now.table (attribute_number inputs.now source.at t) }
 {
     let number = inputs.attribute_number(source.at, t);
-    inputs.record_word(source.at, source.state, 9 + 2 * t) + inputs.place_of(number)
+    relocated(
+        inputs.record_word(source.at, source.state, 9 + 2 * t),
+        inputs.place_of(number),
+    )
 }
 
 /// Word `j` of those behind the first nine.

@@ -7,7 +7,7 @@ ghost use Rattle.shader_records.specs.Sources.{sample_number, source_word, place
 ghost use Rattle.shader_records.specs.Rules.{use_questions};
 ghost use Rattle.shader_records.specs.Emission.{stream_word_of, stream_text, streams_text};
 
-use crate::inputs::Inputs;
+use crate::inputs::{Inputs, relocated};
 use crate::record_text::given_by;
 use crate::uniform_rules::first_position;
 use field_words::put_u32;
@@ -35,7 +35,7 @@ fn moved_word(inputs: &Inputs, from: usize, info: &ShaderInfo, i: usize) -> u32
     ensures { result ≡ source_word inputs.now from (shader_view info.now) (first_position (sample_at (shader_view info.now) i)) + place_in inputs.now.table (sample_number inputs.now from i) }
 {
     let word = source_word(inputs, from, info, first_position(info, i));
-    word + inputs.place_of(inputs.sample_number(from, i))
+    relocated(word, inputs.place_of(inputs.sample_number(from, i)))
 }
 
 /// Address word `j` of a shader.

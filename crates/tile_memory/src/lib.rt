@@ -9,18 +9,12 @@ ghost use Rattle.std.specs.Prelude.{◌≡◌, ◌≤◌, ◌<◌, ◌+◌, ◌*
 ghost use Rattle.field_words.specs.Words.{IsRoundedUp};
 ghost use Rattle.tile_memory.specs.Slots.{slot_place, alloc_offset, slot_fits};
 
-use field_words::round_up;
-
-/// The bytes of a slot.
-pub const SLOT_SIZE: u32 = 524_288;
+use field_words::{PAGE_SIZE, SLOT_SIZE, round_up};
 
 /// The bytes of the binner's state of a tile, and of a tile list's first block.
 const TILE_STATE: u32 = 48;
 
 const TILE_BLOCK: u32 = 32;
-
-/// The bytes of a page. The tile lists begin on one.
-const PAGE: u64 = 4096;
 
 /// Where a slot begins, for slots that lie one after another from `tile_place` on.
 pub fn slot_place(tile_place: u32, slot: u32) -> u32
@@ -37,7 +31,7 @@ pub fn alloc_offset(tiles: u32) -> u32
     ensures value { result ≡ alloc_offset tiles }
     ensures rounded { IsRoundedUp (48 * tiles) 4096 result }
 {
-    round_up(u64::from(TILE_STATE * tiles), PAGE) as u32
+    round_up(u64::from(TILE_STATE * tiles), u64::from(PAGE_SIZE)) as u32
 }
 
 /// Whether a slot has room for the states and for the first blocks of this many tiles.

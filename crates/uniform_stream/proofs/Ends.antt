@@ -1,5 +1,5 @@
 -- The last address write, and what a backward branch leaves open.
-use Rattle.std.proofs.Common.{◌≡◌, ◌≤◌, ◌<◌, ◌+◌, ◌-◌, ℕ, zero, suc, Bool, true, false, not, ◌&&◌, nat_le, nat_lt, List, [], ◌∷◌, ◌++◌, length, length-append, slice_index, sym, ap, subst, inl, inr, refl, arith, ◌∙◌}
+use Rattle.std.proofs.Common.{◌≡◌, ◌≤◌, ◌<◌, ◌+◌, ◌-◌, ℕ, zero, suc, Bool, true, false, not, ◌&&◌, nat_le, nat_lt, List, [], ◌∷◌, ◌++◌, length, length-append, slice_index, sym, ap, subst, inl, inr, arith, ◌∙◌}
 use Rattle.std.proofs.lemmas.Bool.{cases_Bool, cases_lt, and_left, true≢false, false_from_ne_true, leb-true, leb-false, le-ltb}
 use Rattle.std.proofs.lemmas.List.{places}
 use Rattle.qpu_isa.specs.Terms.{is_address_write, is_backward}

@@ -1,5 +1,5 @@
 -- How far the walk has come. No part of what the crate claims.
-use Rattle.std.specs.Prelude.{◌≡◌, ◌≤◌, ◌<◌, ℕ, ◌+◌, ◌*◌, ◌-◌, Bool, true, false, List, map, length, slice_index, slice_index_or}
+use Rattle.std.specs.Prelude.{◌≡◌, ◌≤◌, ◌<◌, ℕ, ◌*◌, ◌-◌, true, false, List, map, length, slice_index, slice_index_or}
 use Rattle.shader_flow.specs.Bounded.{indexes}
 use Rattle.uniform_stream.specs.declared.state.Stream.{Stream}
 use Rattle.uniform_stream.specs.declared.walk.Running.{Running}

@@ -1,4 +1,4 @@
-use Rattle.std.proofs.Common.{refl, ◌-◌, ◌≡◌, Some, arith, ap, sym, ◌∙◌}
+use Rattle.std.proofs.Common.{refl, ◌-◌, Some, arith, ap, sym, ◌∙◌}
 use Rattle.field_words.specs.Questions.{first_of}
 use Rattle.field_words.proofs.Questions.{answered_none, answered_some}
 use Rattle.bin_list.specs.Packets.{passed}

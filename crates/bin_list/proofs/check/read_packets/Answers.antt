@@ -1,4 +1,4 @@
-use Rattle.std.proofs.Common.{◌≡◌, ◌≤◌, ◌+◌, ◌<◌, ℕ, List, length, arith, ap, sym, ◌∙◌, refl, inl}
+use Rattle.std.proofs.Common.{◌+◌, length, arith, ap, sym, ◌∙◌, refl, inl}
 use Rattle.field_words.specs.Questions.{first_of}
 use Rattle.packets.specs.Writing.{written}
 use Rattle.bin_list.specs.Rules.{packet_questions}

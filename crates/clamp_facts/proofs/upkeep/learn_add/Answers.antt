@@ -1,5 +1,4 @@
-use Rattle.std.proofs.Common.{sym, subst, ◌∙◌}
-use Rattle.clamp_facts.specs.Facts.{maker_of}
+use Rattle.std.proofs.Common.{sym, subst}
 use Rattle.clamp_facts.specs.Upkeep.{IsTableOf, maker_added}
 use Rattle.clamp_facts.proofs.Entries.{add_keeps, add_none}
 use Rattle.clamp_facts.proofs.upkeep.learn_add.Goals as goal

@@ -1,4 +1,4 @@
-use Rattle.std.proofs.Common.{sym, subst, ◌∙◌}
+use Rattle.std.proofs.Common.{sym, subst}
 use Rattle.clamp_facts.specs.Upkeep.{IsTableOf, maker_written}
 use Rattle.clamp_facts.proofs.Entries.{mul_keeps, mul_none}
 use Rattle.clamp_facts.proofs.upkeep.learn_mul.Goals as goal

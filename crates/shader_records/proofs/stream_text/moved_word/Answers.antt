@@ -5,8 +5,8 @@ use Rattle.shader_records.specs.Sources.{source_word, size_in}
 use Rattle.shader_records.proofs.Samples.{base_fits}
 use Rattle.shader_records.proofs.stream_text.moved_word.Goals as goal
 
-pub overflow_add-result : goal.overflow_add-result
-overflow_add-result c =
+pub relocated-requires : goal.relocated-requires
+relocated-requires c =
     let shader = shader_view c.args.info.now in
     let same = c.source_word-word.ensures ∙ ap (source_word c.args.inputs.now c.args.from shader) c.first_position.ensures.value in
     let fits : source_word c.args.inputs.now c.args.from shader (first_position (sample_at shader c.args.i)) < 2 ^ 32 = omega (arith, same) in

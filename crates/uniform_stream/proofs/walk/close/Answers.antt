@@ -1,4 +1,4 @@
-use Rattle.std.proofs.Common.{slice_index, ◌+◌, ◌++◌, [], ◌∷◌, length, map, if◌then◌else◌, sym, ap, arith, ◌∙◌}
+use Rattle.std.proofs.Common.{slice_index, ◌++◌, [], ◌∷◌, length, map, if◌then◌else◌, ap, ◌∙◌}
 use Rattle.shader_flow.specs.Bounded.{indexes}
 use Rattle.shader_flow.specs.Flow.{checked_of}
 use Rattle.shader_flow.proofs.Ends.{checked_of-le}

@@ -1,4 +1,3 @@
-use Rattle.std.proofs.Common.{length}
 use Rattle.uniform_stream.specs.Walk.{IsRunning, IsFilled}
 use Rattle.uniform_stream.proofs.walk.stream.Given as goal
 

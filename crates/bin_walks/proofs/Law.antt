@@ -1,0 +1,62 @@
+-- The law.
+use Rattle.std.proofs.Common.{◌≡◌, Bool, true, false, ◌&&◌, [], None, length, refl, arith}
+use Rattle.std.specs.Prelude.{◌==◌}
+use Rattle.std.proofs.lemmas.Bool.{eqb-true, false≢true}
+use Rattle.field_words.specs.Questions.{first_of, answered}
+use Rattle.field_words.proofs.Questions.{none_stands}
+use Rattle.field_words.proofs.Nones.{front_none, rest_none, none_answered}
+use Rattle.packets.specs.Opcode.{flush, increment_semaphore}
+use Rattle.bin_list.specs.declared.seen.Seen.{Seen}
+use Rattle.bin_list.specs.Packets.{packets, passed, onto, cut}
+use Rattle.bin_list.specs.Seen.{seen_before}
+use Rattle.bin_list.specs.Rules.{given_of, asked, fault, end_questions, questions_of}
+use Rattle.bin_list.specs.States.{states_of}
+use Rattle.bin_list.proofs.Facts.{configured}
+use Rattle.bin_walks.specs.Walks.{nothing_kept}
+use Rattle.bin_walks.specs.Emission.{config_of}
+use Rattle.bin_walks.specs.Law.{EmittedListsWalk}
+use Rattle.bin_walks.proofs.Walking.{texts_joined, walk_on, are_cut, cut_place, Known, Goes}
+
+both : (a b : Bool) → (a && b) ≡ true → b ≡ true
+both true b is = is
+both false b is = absurd (false≢true is)
+
+ends_with : (seen : Seen) → first_of (end_questions seen) ≡ None → (seen.started ≡ true) × (seen.last ≡ flush)
+unfolding end_questions
+ends_with seen none =
+    let asked = none_stands (end_questions seen) none in
+    let two : (seen.before_last == increment_semaphore && seen.last == flush) ≡ true = grind (arith, asked.1.0) in
+    ((let s : seen.started ≡ true = grind (arith, asked.0) in s), eqb-true seen.last flush (both (seen.before_last == increment_semaphore) (seen.last == flush) two))
+
+pub emitted_lists_walk_law : EmittedListsWalk
+unfolding passed packets questions_of seen_before
+emitted_lists_walk_law list declared table handles layout short low buffers none =
+    let given = given_of list declared table handles in
+    let ps = cut (length list) list in
+    let all = onto [] ps in
+    let fine : first_of (asked given all) ≡ None = front_none (asked given all) (answered (fault given.size) (end_questions (seen_before all))) none in
+    let end : first_of (end_questions (seen_before all)) ≡ None =
+    none_answered (fault given.size) (end_questions (seen_before all)) (rest_none (asked given all) (answered (fault given.size) (end_questions (seen_before all))) none) in
+    let told = ends_with (seen_before all) end in
+    let config = config_of layout (seen_before all).tiles_x (seen_before all).tiles_y in
+    let known : Known given layout config [] ps = record {
+      premises = record { low = low; buffers = buffers };
+      fine = fine;
+      cuts = are_cut (length list) list;
+      some = tt;
+      inside = let c = cut_place (length list) list [] in omega arith;
+      short = short;
+      ends = told.1;
+      there = configured given all fine told.0;
+      grid = refl;
+    } in
+    let goes : Goes layout config (states_of ps) [] ps nothing_kept = record {
+      view = λ some. absurd (omega arith);
+      config_is = λ there. absurd (false≢true there);
+      started_is = λ there. absurd (false≢true there);
+      states = λ word s stands. stands;
+    } in
+    record {
+      text = texts_joined given layout [] ps;
+      walks = walk_on given layout config (states_of ps) [] ps nothing_kept known goes;
+    }

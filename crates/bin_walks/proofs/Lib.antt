@@ -1,0 +1,4 @@
+pub mod Fine
+pub mod Law
+pub mod Texts
+pub mod Walking

@@ -1,0 +1,27 @@
+-- The emitted list as the packets that the binner reads.
+use Rattle.std.specs.Prelude.{ℕ, ◌*◌, ◌+◌, ◌-◌, ◌==◌, List, [], ◌∷◌, if◌then◌else◌}
+use Rattle.relocation.specs.declared.layout.Layout.{Layout}
+use Rattle.packets.specs.Opcode.{buffer_handles}
+use Rattle.tile_memory.specs.Slots.{alloc_offset}
+use Rattle.bin_list.specs.Packets.{opcode}
+use Rattle.bin_list.specs.Seen.{seen_before}
+use Rattle.bin_list.specs.Rules.{GivenModel}
+use Rattle.bin_list.specs.Emitted.{packet_text}
+use Rattle.bin_walks.specs.Walks.{Config}
+
+-- what these packets are emitted as, behind those before them, which come the nearest first; buffer handles are dropped
+abbrev pub emission : GivenModel → Layout → List (List ℕ) → List (List ℕ) → List (List ℕ)
+emission given layout earlier [] = []
+emission given layout earlier (packet ∷ later) =
+    if opcode packet == buffer_handles then emission given layout (packet ∷ earlier) later
+    else packet_text given layout (seen_before earlier) packet ∷ emission given layout (packet ∷ earlier) later
+
+-- the configuration of a grid in the job's tile slot
+abbrev pub config_of : Layout → (across down : ℕ) → Config
+config_of layout across down = record {
+  alloc = layout.slot + alloc_offset (across * down);
+  size = 524288 - alloc_offset (across * down);
+  state = layout.slot;
+  across = across;
+  down = down;
+}

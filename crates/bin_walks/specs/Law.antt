@@ -1,0 +1,29 @@
+-- The law: an emitted list walks.
+use Rattle.std.specs.Prelude.{◌≡◌, ◌≤◌, ◌<◌, ℕ, ◌+◌, List, [], length, None}
+use Rattle.field_words.specs.Questions.{first_of}
+use Rattle.field_words.specs.Pieces.{joined}
+use Rattle.buffer_table.specs.Table.{TableModel, buffer_at}
+use Rattle.relocation.specs.declared.layout.Layout.{Layout}
+use Rattle.bin_list.specs.Packets.{packets, passed}
+use Rattle.bin_list.specs.Seen.{seen_before}
+use Rattle.bin_list.specs.Rules.{given_of, bin_questions}
+use Rattle.bin_list.specs.Fine.{IsLow}
+use Rattle.bin_list.specs.States.{states_of}
+use Rattle.bin_list.specs.Emitted.{bin_text}
+use Rattle.bin_walks.specs.Walks.{nothing_kept, Walks}
+use Rattle.bin_walks.specs.Emission.{emission, config_of}
+use Rattle.bin_walks.specs.Draws.{IsDrawn}
+
+pub record IsWalked (list : List ℕ) (declared : ℕ) (table : TableModel) (handles : List ℕ) (layout : Layout) : Type 0 where
+  pub text : bin_text list declared table handles layout ≡ joined (emission (given_of list declared table handles) layout [] (packets list))
+  pub walks :
+      Walks (config_of layout (seen_before (passed list)).tiles_x (seen_before (passed list)).tiles_y)
+      (IsDrawn table handles layout (states_of (packets list))) nothing_kept (emission (given_of list declared table handles) layout [] (packets list))
+
+abbrev pub EmittedListsWalk : Type 0
+EmittedListsWalk =
+    (list : List ℕ) (declared : ℕ) (table : TableModel) (handles : List ℕ) (layout : Layout)
+    → length list ≤ 1048576 → IsLow layout
+    → ((number : ℕ) → number < length table.buffers → (buffer_at table.buffers number).place + (buffer_at table.buffers number).size ≤ 67108864)
+    → first_of (bin_questions list declared table handles) ≡ None
+    → IsWalked list declared table handles layout

@@ -1,0 +1,4 @@
+pub mod Draws
+pub mod Emission
+pub mod Law
+pub mod Walks

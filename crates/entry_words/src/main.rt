@@ -1,0 +1,43 @@
+//! A program that writes its words, one a line, and then its input, and refuses. Its stored run
+//! shows what `entry` hands over: two words, all of the input, and a status other than 0.
+#![tactic(auto)]
+
+use entry::{Program, status};
+use job_io::{Failed, Sink, Source, read_all, write_all};
+use std::alloc::Global;
+use std::process::ExitCode;
+
+/// The most bytes of input that are written again.
+const LIMIT: usize = 1024;
+
+fn write_lines<K: Sink>(sink: &mut K, words: &Vec<String>) -> Result<(), Failed> {
+    for word in words {
+        write_all(sink, word.as_bytes())?;
+        write_all(sink, b"\n")?;
+    }
+    Ok(())
+}
+
+struct Words;
+
+impl Program for Words {
+    fn run<S: Source, K: Sink>(
+        &self,
+        alloc: Global,
+        words: &Vec<String>,
+        source: &mut S,
+        sink: &mut K,
+    ) -> u8 {
+        let Ok(input) = read_all(alloc, source, LIMIT) else {
+            return 3;
+        };
+        if write_lines(sink, words).is_err() || write_all(sink, &input).is_err() {
+            return 4;
+        }
+        1
+    }
+}
+
+fn main(rt: HostRuntime) -> ExitCode {
+    ExitCode::from(status(&rt, &Words))
+}
