@@ -1,8 +1,8 @@
 -- What a job in view gives its methods.
-use Rattle.std.proofs.Common.{◌≡◌, ℕ, ◌+◌, ◌-◌, ◌≤◌, Bool, true, false, List, [], ◌∷◌, ◌++◌, length, take, drop, is_some, Some, None, Option, refl, sym, ap, subst, arith, add-zero, ◌∙◌}
+use Rattle.std.proofs.Common.{◌≡◌, ℕ, ◌+◌, ◌≤◌, Bool, true, false, List, [], ◌++◌, length, take, drop, is_some, Some, None, Option, refl, sym, ap, subst, arith, add-zero, ◌∙◌}
 use Rattle.std.proofs.lemmas.List.{take-append-drop}
 use Rattle.std.specs.Prelude.{if◌then◌else◌}
-use Rattle.field_words.specs.Writes.{Part, placed, with_bytes}
+use Rattle.field_words.specs.Writes.{placed, with_bytes}
 use Rattle.field_words.specs.declared.stop.Stop.{Stop}
 use Rattle.field_words.specs.Questions.{first_of, answered, Refuses}
 use Rattle.field_words.proofs.Questions.{answered_none, answered_some}
@@ -34,7 +34,7 @@ use Rattle.shader_records.specs.Emission.{emitted_records, emitted_uniforms}
 use Rattle.shader_records.specs.Emitted.{streams_place}
 use Rattle.shader_records.proofs.Lengths.{length_records, length_uniforms, offset_le, stream_le, record_end, uniform_end}
 use Rattle.job_check.specs.Shaders.{table_of}
-use Rattle.job_check.specs.Jobs.{job_of, has_bin, grid_from, grid_of, slot_of, places_in, render_list_of, render_room, layout_of, states_in, input_for, bin_list_of, records_of, streams_of}
+use Rattle.job_check.specs.Jobs.{job_of, has_bin, grid_from, grid_of, slot_of, places_in, render_list_of, layout_of, states_in, input_for, bin_list_of, records_of, streams_of}
 use Rattle.job_check.specs.Faults.{bin_refused, bin_stage, record_refused, records_stage, surfaces_stage, lists_stages}
 use Rattle.job_check.specs.Context.{InView, IsContext}
 use Rattle.job_check.specs.Emit.{PartsFit, list_parts, later_parts, moved, memory_parts, lengths_of}
@@ -248,8 +248,7 @@ pub parts_fit : (f : FileModel) (j : ℕ) → length (bin_list_of f j) ≤ lengt
     → (layout_of f j).render + length (render_list_of f j) ≡ (layout_of f j).end → PartsFit (layout_of f j).end (list_parts f j)
 unfolding list_parts later_parts
 parts_fit f j bin records streams render =
-    let apart = layout_apart f j in
-    (
+    let apart = layout_apart f j in (
       omega (arith, bin, apart.first, apart.second, apart.third, render),
       (
         omega (arith, records, apart.second, apart.third, render),

@@ -1,5 +1,5 @@
 -- The shaders of a file. Each Code buffer holds one, whether or not a job names it: the words that its contents spell.
-use Rattle.std.specs.Prelude.{ℕ, ◌*◌, ◌/◌, ◌%◌, ◌==◌, not, List, [], ◌∷◌, length, map, slice_index_or, Option, Some, None}
+use Rattle.std.specs.Prelude.{◌≡◌, ℕ, ◌*◌, ◌/◌, ◌%◌, ◌==◌, not, List, [], ◌∷◌, length, map, slice_index_or, Option, Some, None}
 use Rattle.std.specs.List.{range_with_len}
 use Rattle.field_words.specs.Words.{u64_at}
 use Rattle.field_words.specs.Questions.{Question, Ask}

@@ -40,7 +40,11 @@ impl<'a> Context<'a> {
             out,
         ) {
             Ok(info) => Ok(info),
-            Err(Stop::Fault(fault)) => Err(Stop::Fault(bin_refusal(self.file, self.number, &fault))),
+            Err(Stop::Fault(fault)) => Err(Stop::Fault(bin_refusal(
+                self.file,
+                self.number,
+                &fault,
+            ))),
             Err(Stop::NoMemory) => Err(Stop::NoMemory),
         }
     }
@@ -90,7 +94,12 @@ impl<'a> Context<'a> {
     /// A and U: the shader records and uniforms of the states of the binner list, and those that the hardware is given, at
     /// their offsets. It takes no memory.
     #[tactic(auto, unfolding(crate::specs::Faults::records_stage), using(field_words::proofs::Questions::answered_none, field_words::proofs::Questions::answered_some))]
-    fn records(&self, alloc: Global, states: &[State], out: &mut [u8]) -> Result<RecordInfo, Stop<Refusal>>
+    fn records(
+        &self,
+        alloc: Global,
+        states: &[State],
+        out: &mut [u8],
+    ) -> Result<RecordInfo, Stop<Refusal>>
         requires some { has_bin self.now.file self.now.number ≡ true }
         requires states { states.now ≡ states_in self.now.file self.now.number }
         requires room { (layout_of self.now.file self.now.number).end ≤ length out.old }
@@ -122,7 +131,12 @@ impl<'a> Context<'a> {
     }
 
     /// The stages after the records, with what was told of the lists before.
-    fn after_records(&self, bin: &BinInfo, records: &RecordInfo, out: &mut [u8]) -> Result<Lengths, Stop<Refusal>>
+    fn after_records(
+        &self,
+        bin: &BinInfo,
+        records: &RecordInfo,
+        out: &mut [u8],
+    ) -> Result<Lengths, Stop<Refusal>>
         requires bin { IsBinOf self.now.file self.now.number bin.now }
         requires records { AreRecordsOf self.now.file self.now.number records.now }
         requires room { (layout_of self.now.file self.now.number).end ≤ length out.old }
@@ -142,7 +156,12 @@ impl<'a> Context<'a> {
     }
 
     /// The stages after the binner list, with what was told of it.
-    fn after_bin(&self, alloc: Global, bin: &BinInfo, out: &mut [u8]) -> Result<Lengths, Stop<Refusal>>
+    fn after_bin(
+        &self,
+        alloc: Global,
+        bin: &BinInfo,
+        out: &mut [u8],
+    ) -> Result<Lengths, Stop<Refusal>>
         requires some { has_bin self.now.file self.now.number ≡ true }
         requires bin { IsBinOf self.now.file self.now.number bin.now }
         requires room { (layout_of self.now.file self.now.number).end ≤ length out.old }

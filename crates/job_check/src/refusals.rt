@@ -184,7 +184,11 @@ pub fn bin_refusal(file: &JobFile, number: usize, fault: &ListFault) -> Refusal
     requires inside { number < length file.now.jobs.items }
     ensures { result ≡ bin_refused (file_view file.now) number fault.now }
 {
-    refusal(Stage::B, fault.number, bin_offset(file, number) + u64::from(fault.at))
+    refusal(
+        Stage::B,
+        fault.number,
+        bin_offset(file, number) + u64::from(fault.at),
+    )
 }
 
 /// The bytes of the binner list and of the records of the job of this number.

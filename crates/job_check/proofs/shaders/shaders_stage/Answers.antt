@@ -1,4 +1,4 @@
-use Rattle.std.proofs.Common.{◌≡◌, ◌+◌, ◌-◌, ◌<◌, ◌≤◌, List, [], ◌∷◌, ◌++◌, length, map, sym, ap, subst, arith, ◌∙◌}
+use Rattle.std.proofs.Common.{◌≡◌, [], ◌∷◌, ◌++◌, length, map, sym, ap, subst, arith, ◌∙◌}
 use Rattle.std.proofs.lemmas.List.{map-append}
 use Rattle.field_words.proofs.Questions.{each_on, each_end}
 use Rattle.job_format.specs.Model.{file_view}
@@ -28,8 +28,7 @@ unfolding shaders_stage
 returns c =
     let f = file_view c.args.file.now in
     let b = c.loop-b.b in
-    let end : b ≡ length f.buffers = omega (arith, c.loop-b-test.false, c.loop-b.auto.b-end, c.len-b-end.ensures) in
-    (
+    let end : b ≡ length f.buffers = omega (arith, c.loop-b-test.false, c.loop-b.auto.b-end, c.len-b-end.ensures) in (
       sym c.loop-b.invariant.none ∙ each_end (shader_stage f) b (length f.buffers) (omega (arith, end)),
       are_shaders f (shaders_view c.loop-b.shaders.items) (c.loop-b.invariant.told ∙ ap (shaders_up_to f) end) c.loop-b.invariant.sound,
     )

@@ -1,10 +1,8 @@
-use Rattle.std.proofs.Common.{◌≡◌, Result, ap, ◌∙◌}
-use Rattle.field_words.specs.Writes.{with_bytes}
+use Rattle.std.proofs.Common.{◌≡◌}
 use Rattle.field_words.proofs.Questions.{answers_later, refuses_front}
 use Rattle.relocation.specs.declared.layout.Lengths.{Lengths}
-use Rattle.job_check.specs.Jobs.{layout_of, render_list_of}
 use Rattle.job_check.specs.Faults.{records_stage, surfaces_stage}
-use Rattle.job_check.specs.Emit.{PartsFit, list_parts, later_parts, lengths_of}
+use Rattle.job_check.specs.Emit.{lengths_of}
 use Rattle.job_check.proofs.Views.{parts_fit, later_placed}
 use Rattle.job_check.proofs.Order.{if_ok}
 use Rattle.job_check.proofs.context.Context.after_bin.Goals as goal

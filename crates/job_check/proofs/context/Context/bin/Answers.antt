@@ -1,4 +1,4 @@
-use Rattle.std.proofs.Common.{◌≡◌, ◌≤◌, List, length, true, Some, None, sym, ap, subst, arith, ◌∙◌}
+use Rattle.std.proofs.Common.{◌≡◌, length, None, sym, ap, subst, arith, ◌∙◌}
 use Rattle.field_words.specs.Writes.{with_bytes}
 use Rattle.field_words.specs.Questions.{first_of}
 use Rattle.job_format.specs.File.{IsJobWellFormed}
@@ -8,9 +8,9 @@ use Rattle.job_check.specs.Context.{InView, IsContext}
 use Rattle.bin_list.specs.Emitted.{bin_text}
 use Rattle.bin_list.specs.Info.{IsInfo}
 use Rattle.bin_list.specs.Rules.{bin_questions}
-use Rattle.job_check.specs.Jobs.{layout_of, job_of, bin_list_of}
+use Rattle.job_check.specs.Jobs.{layout_of}
 use Rattle.job_check.proofs.Layouts.{layout_low, layout_apart}
-use Rattle.job_check.proofs.Views.{bin_stage_is, bin_questions_are, bin_text_is, bin_told}
+use Rattle.job_check.proofs.Views.{bin_none, bin_text_is, bin_told}
 use Rattle.job_check.proofs.context.Context.bin.Goals as goal
 
 pub check_bin-requires-clause-place_limit : goal.check_bin-requires-clause-place_limit

@@ -1,4 +1,4 @@
-use Rattle.std.proofs.Common.{◌≡◌, ◌+◌, ◌≤◌, List, length, true, None, sym, ap, subst, arith, ◌∙◌}
+use Rattle.std.proofs.Common.{◌≡◌, length, Some, None, sym, ap, subst, arith, ◌∙◌}
 use Rattle.field_words.specs.Writes.{with_bytes}
 use Rattle.field_words.specs.Questions.{first_of}
 use Rattle.buffer_table.specs.Table.{TableModel}
@@ -9,10 +9,11 @@ use Rattle.shader_records.specs.Inputs.{InputModel, AreShadersOf, shaders_view, 
 use Rattle.shader_records.specs.Rules.{all_questions}
 use Rattle.shader_records.specs.Emission.{emitted_uniforms}
 use Rattle.shader_records.specs.Emitted.{streams_place, IsEmitted}
-use Rattle.job_check.specs.Jobs.{layout_of, job_of, input_for, records_of}
+use Rattle.job_check.specs.Jobs.{layout_of, input_for, records_of}
+use Rattle.job_check.specs.Faults.{record_refused}
 use Rattle.job_check.specs.Context.{InView, IsContext}
 use Rattle.job_check.proofs.Layouts.{layout_low, layout_apart}
-use Rattle.job_check.proofs.Views.{input_is, records_none, records_are, streams_are, records_within, streams_within}
+use Rattle.job_check.proofs.Views.{input_is, records_none, records_some, records_are, streams_are, records_within, streams_within}
 use Rattle.job_check.proofs.context.Context.records.Goals as goal
 
 pub check_records-requires-clause-shaders : goal.check_records-requires-clause-shaders
@@ -64,10 +65,10 @@ returns-in-Ok c =
     let j = v.number in
     let out = c.args.out.now in
     let same =
-        ap (λ l. input_of c.args.states.now l c.deref-2.result.now x.table.now x.handles c.deref-3.result.now) c.deref.ensures.value
-        ∙ ap (λ l. input_of c.args.states.now x.job.now.records.items l x.table.now x.handles c.deref-3.result.now) c.deref-2.ensures.value
-        ∙ ap (λ l. input_of c.args.states.now x.job.now.records.items x.job.now.uniforms.items x.table.now x.handles l) c.deref-3.ensures.value
-        ∙ input_is v c.args.states.now (job_view x.job.now) x.table.now (shaders_view x.shaders.now.items) x.handles x.layout h c.requires.states in
+    ap (λ l. input_of c.args.states.now l c.deref-2.result.now x.table.now x.handles c.deref-3.result.now) c.deref.ensures.value
+    ∙ ap (λ l. input_of c.args.states.now x.job.now.records.items l x.table.now x.handles c.deref-3.result.now) c.deref-2.ensures.value
+    ∙ ap (λ l. input_of c.args.states.now x.job.now.records.items x.job.now.uniforms.items x.table.now x.handles l) c.deref-3.ensures.value
+    ∙ input_is v c.args.states.now (job_view x.job.now) x.table.now (shaders_view x.shaders.now.items) x.handles x.layout h c.requires.states in
     let none = subst (λ (i : InputModel). first_of (all_questions i) ≡ None) same c.in-Ok.ensures.answers.0 in
     let told = subst (λ (i : InputModel). IsEmitted i x.layout out c.check_records.new.out c.in-Ok.info) same c.in-Ok.ensures.answers.1 in
     let emitted = subst (λ (l : Layout). IsEmitted (input_for f j) l out c.check_records.new.out c.in-Ok.info) h.layout_is told in
@@ -84,3 +85,18 @@ returns-in-Ok c =
       records_fit = records_within f j c.requires.some none;
       streams_fit = streams_within f j c.requires.some none;
     }
+
+pub returns-in-Err-Fault-clause-answers : goal.returns-in-Err-Fault-clause-answers
+returns-in-Err-Fault-clause-answers c =
+    let v = c.args.self.now in
+    let x = c.self.inside in
+    let h = subst (λ (w : InView). IsContext w (job_view x.job.now) x.table.now (shaders_view x.shaders.now.items) x.handles x.layout) c.self.view_is c.self.invariant in
+    let same =
+    ap (λ l. input_of c.args.states.now l c.deref-2.result.now x.table.now x.handles c.deref-3.result.now) c.deref.ensures.value
+    ∙ ap (λ l. input_of c.args.states.now x.job.now.records.items l x.table.now x.handles c.deref-3.result.now) c.deref-2.ensures.value
+    ∙ ap (λ l. input_of c.args.states.now x.job.now.records.items x.job.now.uniforms.items x.table.now x.handles l) c.deref-3.ensures.value
+    ∙ input_is v c.args.states.now (job_view x.job.now) x.table.now (shaders_view x.shaders.now.items) x.handles x.layout h c.requires.states in
+    let told = rw c.in-Err-Fault.field-0-is at c.in-Err-Fault.ensures.answers in
+    let stands = subst (λ (i : InputModel). first_of (all_questions i) ≡ Some c.in-Err-Fault.fault) same told in
+    records_some v.file v.number c.in-Err-Fault.fault c.requires.some stands
+    ∙ sym (ap Some (c.record_refusal.ensures ∙ ap (λ (w : InView). record_refused w.file w.number c.in-Err-Fault.fault) c.self.view_is))

@@ -1,11 +1,11 @@
-use Rattle.std.proofs.Common.{◌≡◌, ◌-◌, length, is_some, sym, ap, subst, arith, ◌∙◌}
+use Rattle.std.proofs.Common.{ap, subst, arith, ◌∙◌}
 use Rattle.field_words.specs.Writes.{with_bytes}
 use Rattle.render_list.specs.Text.{render_text}
 use Rattle.job_format.specs.File.{IsJobWellFormed}
 use Rattle.job_format.specs.Model.{job_view}
 use Rattle.shader_records.specs.Inputs.{shaders_view}
 use Rattle.job_check.specs.Context.{InView, IsContext}
-use Rattle.job_check.specs.Jobs.{layout_of, render_list_of}
+use Rattle.job_check.specs.Jobs.{layout_of}
 use Rattle.job_check.proofs.Layouts.{layout_low}
 use Rattle.job_check.proofs.Views.{render_ends, list_is, list_length}
 use Rattle.job_check.proofs.context.Context.render.Goals as goal

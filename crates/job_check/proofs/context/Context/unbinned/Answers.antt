@@ -1,4 +1,4 @@
-use Rattle.std.proofs.Common.{◌≡◌, length, false, [], sym, ap, arith, ◌∙◌}
+use Rattle.std.proofs.Common.{length, sym, ap, arith, ◌∙◌}
 use Rattle.job_check.proofs.Views.{no_grid, render_alone, parts_fit, lengths_are, no_bin_list, no_records, no_streams, unbinned_none}
 use Rattle.job_check.proofs.context.Context.unbinned.Goals as goal
 
@@ -18,5 +18,5 @@ returns-in-Ok c =
         lengths_are f j 0 0 0 c.in-Ok.render (sym bin) (sym records) (sym streams) c.in-Ok.ensures.answers.1,
       );
       written = c.in-Ok.ensures.written ∙ render_alone f j c.args.out.now c.requires.none;
-      fit = parts_fit f j (omega (arith, bin)) (omega (arith, records)) (omega (arith, streams)) (ap (λ n. _ + n) (sym c.in-Ok.ensures.answers.1) ∙ c.in-Ok.ensures.fits);
+      fit = parts_fit f j (omega (arith, bin)) (omega (arith, records)) (omega (arith, streams)) (omega (arith, c.in-Ok.ensures.answers.1, c.in-Ok.ensures.fits));
     }
