@@ -1,5 +1,5 @@
 -- The texts of `check`: of an accepted job, and of a refusal.
-use Rattle.std.specs.Prelude.{ℕ, ◌<◌, ◌^◌, zero, suc, ◌+◌, ◌-◌, ◌/◌, ◌==◌, Bool, List, [], ◌++◌, length, take, drop, replicate, codes, false, if◌then◌else◌}
+use Rattle.std.specs.Prelude.{ℕ, zero, suc, ◌+◌, ◌-◌, ◌/◌, ◌==◌, Bool, List, [], ◌++◌, length, take, drop, replicate, codes, false, if◌then◌else◌}
 use Rattle.std.specs.List.{list_all}
 use Rattle.std.specs.Fmt.{digits, decimal}
 use Rattle.hex.specs.Hex.{encode_lower}
@@ -64,10 +64,3 @@ accepted_text memory layout lengths = codes "accepted\n" ++ (memory_line (length
 -- what is printed of a refusal: the rule, and the place in the file that it is about
 unfoldable pub refused_text : Refusal → List ℕ
 refused_text refusal = codes "refused " ++ (rule_text refusal.rule ++ (codes " at " ++ (decimal refusal.offset ++ codes "\n")))
-
--- each list's absolute place is a place of the machine
-pub record PlacesFit (layout : Layout) : Type 0 where
-  pub bin : layout.place + layout.bin < 2 ^ 32
-  pub records : layout.place + layout.records < 2 ^ 32
-  pub uniforms : layout.place + layout.uniforms < 2 ^ 32
-  pub render : layout.place + layout.render < 2 ^ 32

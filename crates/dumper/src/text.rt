@@ -2,7 +2,7 @@
 ghost use Rattle.std.specs.Prelude.{◌≡◌, ◌≤◌, ◌<◌, ◌^◌, ◌+◌, ◌*◌, ◌++◌, ◌/◌, ◌%◌, length, IfOk, OnOk, string_bytes};
 ghost use Rattle.field_words.specs.Writes.{with_bytes};
 ghost use Rattle.hex.specs.Hex.{encode_lower};
-ghost use Rattle.dumper.specs.Text.{place_text, list_line, memory_line, slot_line, row_line, row_at, is_blank, filled_rows, row_text, rows_text, layout_text, accepted_text, refused_text, PlacesFit};
+ghost use Rattle.dumper.specs.Text.{place_text, list_line, memory_line, slot_line, row_line, row_at, is_blank, filled_rows, row_text, rows_text, layout_text, accepted_text, refused_text};
 
 use field_words::NoMemory;
 use job_format::Refusal;
@@ -17,14 +17,14 @@ const ROW_LINE: usize = 42;
 const OTHER_LINES: usize = 192;
 
 #[tactic(auto, using(crate::proofs::Rows::place_shown))]
-fn place_text(alloc: Global, place: u32) -> Result<String, AllocError>
+fn place_text(alloc: Global, place: u64) -> Result<String, AllocError>
     ensures { IfOk result (λ text. string_bytes text ≡ place_text place) }
 {
     format!(in alloc; "{place:08x}")
 }
 
 #[tactic(auto, unfolding(crate::specs::Text::list_line))]
-fn list_line(alloc: Global, name: &str, place: u32, length: u32) -> Result<String, AllocError>
+fn list_line(alloc: Global, name: &str, place: u64, length: u32) -> Result<String, AllocError>
     ensures { IfOk result (λ line. string_bytes line ≡ list_line name.now place length) }
 {
     let place = place_text(alloc, place)?;
@@ -39,7 +39,7 @@ fn memory_line(alloc: Global, size: u32) -> Result<String, AllocError>
 }
 
 #[tactic(auto, unfolding(crate::specs::Text::slot_line))]
-fn slot_line(alloc: Global, place: u32) -> Result<String, AllocError>
+fn slot_line(alloc: Global, place: u64) -> Result<String, AllocError>
     ensures { IfOk result (λ line. string_bytes line ≡ slot_line place) }
 {
     let place = place_text(alloc, place)?;
@@ -155,34 +155,23 @@ fn push_layout(
     layout: &Layout,
     lengths: &Lengths,
 ) -> Result<(), AllocError>
-    requires { PlacesFit layout.now }
     ensures { OnOk result (out.new.items ≡ out.old.items ++ layout_text layout.now lengths.now) }
 {
-    let place = layout.place;
-    out.extend_from_slice(list_line(alloc, "bin", place + layout.bin, lengths.bin)?.as_bytes())?;
-    out.extend_from_slice(list_line(
-        alloc,
-        "records",
-        place + layout.records,
-        lengths.records,
-    )?.as_bytes())?;
-    out.extend_from_slice(list_line(
-        alloc,
-        "uniforms",
-        place + layout.uniforms,
-        lengths.uniforms,
-    )?.as_bytes())?;
-    out.extend_from_slice(list_line(
-        alloc,
-        "render",
-        place + layout.render,
-        lengths.render,
-    )?.as_bytes())?;
-    out.extend_from_slice(slot_line(alloc, layout.slot)?.as_bytes())
+    let place = u64::from(layout.place);
+    let bin = place + u64::from(layout.bin);
+    let records = place + u64::from(layout.records);
+    let uniforms = place + u64::from(layout.uniforms);
+    let render = place + u64::from(layout.render);
+    out.extend_from_slice(list_line(alloc, "bin", bin, lengths.bin)?.as_bytes())?;
+    out.extend_from_slice(list_line(alloc, "records", records, lengths.records)?.as_bytes())?;
+    out.extend_from_slice(list_line(alloc, "uniforms", uniforms, lengths.uniforms)?.as_bytes())?;
+    out.extend_from_slice(list_line(alloc, "render", render, lengths.render)?.as_bytes())?;
+    out.extend_from_slice(slot_line(alloc, u64::from(layout.slot))?.as_bytes())
 }
 
 /// The text of an accepted job, from the memory that it runs in and where its parts lie there. Places have eight hexadecimal
-/// digits, lengths and the memory's size in bytes are decimal. A row of 16 bytes that are all zero is left out.
+/// digits, or more where they need more; lengths and the memory's size in bytes are decimal. A row of 16 bytes that are all
+/// zero is left out.
 #[tactic(auto, unfolding(crate::specs::Text::accepted_text))]
 pub fn image_text(
     alloc: Global,
@@ -190,8 +179,7 @@ pub fn image_text(
     layout: &Layout,
     lengths: &Lengths,
 ) -> Result<Vec<u8>, NoMemory>
-    requires rows { length memory.now % 16 ≡ 0 }
-    requires places { PlacesFit layout.now }
+    requires { length memory.now % 16 ≡ 0 }
     ensures { IfOk result (λ text. text.items ≡ accepted_text memory.now layout.now lengths.now) }
 {
     let mut out = Vec::with_capacity(alloc, OTHER_LINES + ROW_LINE * filled_rows(memory))?;
@@ -247,6 +235,35 @@ mod tests {
         };
         let text = image_text(rt.alloc(), &memory, &layout, &lengths)?;
         assert_eq!(rt; text.as_slice(), IMAGE.as_bytes());
+        Ok(())
+    }
+
+    const FAR: &str =
+        "accepted\nmemory 0\nbin 100000010 0\nrecords 1ffffffef 1\nuniforms fffffff0 2\n\
+        render fffffff1 3\nslot ffffffff\nend\n";
+
+    // Places past 2^32 have nine digits.
+    #[test]
+    fn prints_far_places(rt: HostRuntime) -> Result<(), NoMemory> {
+        let memory = PhysMem::new(rt.alloc(), 0)?;
+        assert_eq!(rt; memory.len() % 16, 0);
+        let layout = Layout {
+            place: 0xffff_fff0,
+            bin: 0x20,
+            records: 0xffff_ffff,
+            uniforms: 0,
+            render: 1,
+            end: 4,
+            slot: 0xffff_ffff,
+        };
+        let lengths = Lengths {
+            bin: 0,
+            records: 1,
+            uniforms: 2,
+            render: 3,
+        };
+        let text = image_text(rt.alloc(), &memory, &layout, &lengths)?;
+        assert_eq!(rt; text.as_slice(), FAR.as_bytes());
         Ok(())
     }
 

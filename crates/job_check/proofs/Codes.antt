@@ -1,16 +1,19 @@
 -- Words out of bytes, and shaders by buffer, one more at a time.
-use Rattle.std.proofs.Common.{◌≡◌, ℕ, zero, suc, ◌+◌, ◌*◌, ◌<◌, ◌≤◌, List, [], ◌∷◌, ◌++◌, length, get_or, map, refl, sym, ap, subst, arith, zero-add, ◌∙◌}
+use Rattle.std.proofs.Common.{◌≡◌, ℕ, zero, suc, not, Some, None, IfSome, is_some, Option, ◌+◌, ◌*◌, ◌<◌, ◌≤◌, List, [], ◌∷◌, ◌++◌, length, get_or, map, refl, sym, ap, subst, arith, zero-add, ◌∙◌}
 use Rattle.std.specs.List.{AllByRecursion}
 use Rattle.std.proofs.lemmas.List.{length-map, get_or-map}
-use Rattle.std.proofs.lemmas.List.FromFn.{map-range_with_len_more, length-map-range_with_len}
+use Rattle.std.proofs.lemmas.List.FromFn.{map-range_with_len_more, length-map-range_with_len, get_or-map-range_with_len}
 use Rattle.field_words.specs.Words.{u64_at}
 use Rattle.field_words.specs.Sizes.{most_code}
-use Rattle.buffer_table.specs.declared.buffer.Kind.TheVariants.{Code}
+use Rattle.buffer_table.specs.declared.buffer.Kind.{Kind}
+use Rattle.buffer_table.specs.declared.buffer.Kind.TheVariants.{Plain, Code}
 use Rattle.buffer_table.specs.declared.buffer.Buffer.{Buffer}
 use Rattle.buffer_table.specs.Table.{past_end, buffer_at}
+use Rattle.buffer_table.specs.Handles.{is_plain}
 use Rattle.job_format.specs.File.{IsWellFormed, FitsShader}
 use Rattle.job_format.specs.Model.{FileModel}
-use Rattle.job_check.specs.Shaders.{words_in, content_of, shader_of, shaders_up_to}
+use Rattle.qpu_isa.specs.Shader.{ShaderModel, IsSoundShader}
+use Rattle.job_check.specs.Shaders.{words_in, content_of, shader_for, shader_of, shaders_up_to, shaders_of, AreShadersIn}
 
 pub words_none : (bytes : List ℕ) → words_in bytes 0 ≡ []
 unfolding words_in
@@ -56,3 +59,37 @@ code_fits (x ∷ buffers) (suc b) all below code = code_fits buffers b all.1 (om
 pub shader_short : (f : FileModel) (b : ℕ) → IsWellFormed f → b < length f.buffers → (buffer_at f.buffers b).kind ≡ Code → length (content_of f b) ≤ most_code
 unfolding content_of buffer_at
 shader_short f b h below code = omega (arith, content_long f b h below, code_fits f.buffers b h.code below code)
+
+-- All shaders are sound.
+abbrev pub AllSound : List (Option ShaderModel) → Type 0
+AllSound [] = Unit {0}
+AllSound (x ∷ xs) = IfSome x IsSoundShader × AllSound xs
+
+pub sound_more : (xs : List (Option ShaderModel)) (x : Option ShaderModel) → AllSound xs → IfSome x IsSoundShader → AllSound (xs ++ (x ∷ []))
+sound_more [] x all one = (one, tt)
+sound_more (y ∷ xs) x all one = (all.0, sound_more xs x all.1 one)
+
+sound_at : (xs : List (Option ShaderModel)) (n : ℕ) (shader : ShaderModel) → AllSound xs → get_or xs n None ≡ Some shader → IsSoundShader shader
+sound_at [] n shader all is = cc
+sound_at (x ∷ xs) zero shader all is = subst (λ o. IfSome o IsSoundShader) is all.0
+sound_at (x ∷ xs) (suc n) shader all is = sound_at xs n shader all.1 is
+
+-- there is a shader in a Code buffer alone
+is_code : (kind : Kind) (content : List ℕ) → is_plain kind ≡ not (is_some (shader_for kind content))
+is_code Plain content = refl
+is_code Code content = refl
+
+-- What is kept of all shaders is what the layers above ask for.
+pub are_shaders : (f : FileModel) (shaders : List (Option ShaderModel)) → shaders ≡ shaders_of f → AllSound shaders → AreShadersIn f shaders
+unfolding shaders_up_to shader_of
+are_shaders f shaders told sound =
+    record {
+      told = told;
+      sound = record {
+        count = ap length told ∙ length-map-range_with_len (shader_of f) 0 (length f.buffers);
+        code = λ n below.
+            let here : get_or shaders n None ≡ shader_of f n = ap (λ l. get_or l n None) told ∙ get_or-map-range_with_len (shader_of f) 0 (length f.buffers) n n None below (zero-add n) in
+            is_code (buffer_at f.buffers n).kind (content_of f n) ∙ sym (ap (λ o. not (is_some o)) here);
+        sound = λ n shader is. sound_at shaders n shader sound is;
+      };
+    }

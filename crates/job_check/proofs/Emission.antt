@@ -7,7 +7,7 @@ use Rattle.buffer_table.specs.Table.{no_buffer, buffer_at}
 use Rattle.buffer_table.specs.Sound.{IsSound}
 use Rattle.buffer_table.proofs.Sounds.{sound_buffer}
 use Rattle.job_format.specs.Model.{FileModel}
-use Rattle.job_check.specs.Jobs.{table_of}
+use Rattle.job_check.specs.Shaders.{table_of}
 use Rattle.relocation.specs.declared.layout.Layout.{Layout}
 use Rattle.relocation.specs.declared.layout.Lengths.{Lengths}
 use Rattle.job_check.specs.Jobs.{layout_of}

@@ -1,15 +1,16 @@
 -- The layout of a job: its numbers, and what fits where.
-use Rattle.std.proofs.Common.{◌≡◌, ℕ, ◌+◌, ◌<◌, ◌≤◌, false, Bool, length, refl, sym, subst, arith, lit≤}
+use Rattle.std.proofs.Common.{◌≡◌, ℕ, ◌+◌, ◌<◌, ◌≤◌, Bool, length, refl, sym, subst, arith, lit≤}
 use Rattle.field_words.specs.Words.{rounded_up}
 use Rattle.field_words.proofs.Numbers.{rounded}
 use Rattle.buffer_table.specs.Sound.{IsSound}
 use Rattle.job_format.specs.declared.file.Frame.{Frame}
+use Rattle.job_format.specs.File.{IsJobWellFormed}
 use Rattle.job_format.specs.Model.{FileModel}
 use Rattle.relocation.specs.declared.layout.Layout.{Layout}
-use Rattle.relocation.specs.Layout.{records_start, uniforms_start, render_start, lists_end}
+use Rattle.relocation.specs.Layout.{records_start, uniforms_start, render_start, lists_end, StandApart}
 use Rattle.render_list.specs.Frame.{IsTileSet}
 use Rattle.render_list.specs.Length.{render_length}
-use Rattle.job_check.specs.Jobs.{job_of, slot_of, has_tiles, render_room, layout_of}
+use Rattle.job_check.specs.Jobs.{job_of, slot_of, has_bin, has_tiles, render_room, layout_of}
 use Rattle.job_check.specs.Emit.{InOrder}
 
 -- a set of tiles has its length as room
@@ -18,10 +19,10 @@ unfolding render_room has_tiles
 room_is frame has_bin tiles = grind (arith, tiles.across, tiles.down)
 
 pub layout_numbers : (f : FileModel) (j : ℕ) (layout : Layout) → layout ≡ layout_of f j
-    → (layout.place ≡ f.regions.lists_place) × (layout.slot ≡ slot_of f j) × (layout.render + render_room (job_of f j).frame false ≡ layout.end)
+    → (layout.place ≡ f.regions.lists_place) × (layout.slot ≡ slot_of f j) × (layout.render + render_room (job_of f j).frame (has_bin f j) ≡ layout.end)
 unfolding layout_of
 layout_numbers f j layout e =
-    let P : Layout → Type 0 = λ l. (l.place ≡ f.regions.lists_place) × (l.slot ≡ slot_of f j) × (l.render + render_room (job_of f j).frame false ≡ l.end) in
+    let P : Layout → Type 0 = λ l. (l.place ≡ f.regions.lists_place) × (l.slot ≡ slot_of f j) × (l.render + render_room (job_of f j).frame (has_bin f j) ≡ l.end) in
     subst P (sym e) (refl, refl, refl)
 
 -- the lists' region lies inside the memory
@@ -36,25 +37,45 @@ region_limits f sound =
     let tiles = sound.each_item 1 (omega arith) in
     (omega (arith, lists.inside, sound.limit), omega (arith, lists.inside, sound.limit), omega (arith, tiles.inside, sound.limit))
 
--- the parts of a layout stand in order
-rounds_up : (n : ℕ) → n ≤ rounded_up n 16
-rounds_up n = let r = rounded n 16 (lit≤ tt) in r.least
-
-pub layout_order : (f : FileModel) (j : ℕ) → InOrder (layout_of f j)
+-- the parts of a layout lie apart, and so in order
+pub layout_apart : (f : FileModel) (j : ℕ) → StandApart (layout_of f j) (length (job_of f j).bin) (length (job_of f j).records) (length (job_of f j).uniforms) (render_room (job_of f j).frame (has_bin f j))
 unfolding layout_of records_start uniforms_start render_start
-layout_order f j =
+layout_apart f j =
     let bin = length (job_of f j).bin in
     let records = length (job_of f j).records in
     let uniforms = length (job_of f j).uniforms in
-    let a = rounds_up bin in
-    let b = rounds_up (rounded_up bin 16 + records) in
-    let c = rounds_up (rounded_up (rounded_up bin 16 + records) 16 + uniforms) in
+    let a = rounded bin 16 (lit≤ tt) in
+    let b = rounded (rounded_up bin 16 + records) 16 (lit≤ tt) in
+    let c = rounded (rounded_up (rounded_up bin 16 + records) 16 + uniforms) 16 (lit≤ tt) in
     record {
-      bin = omega arith;
-      records = omega (arith, b);
-      uniforms = omega (arith, c);
-      render = omega arith;
+      first = omega (arith, a.least);
+      second = b.least;
+      third = c.least;
+      last = refl;
+      records_aligned = a.multiple;
+      uniforms_aligned = b.multiple;
+      render_aligned = c.multiple;
     }
+
+pub layout_order : (f : FileModel) (j : ℕ) → InOrder (layout_of f j)
+layout_order f j =
+    let apart = layout_apart f j in
+    record {
+      bin = omega (arith, apart.first);
+      records = omega (arith, apart.second);
+      uniforms = omega (arith, apart.third);
+      render = omega (arith, apart.last);
+    }
+
+-- the lists begin in the first 64 MiB, and the slot too
+pub layout_low : (f : FileModel) (j : ℕ) → IsSound f.mem_size f.regions f.buffers → length f.jobs ≡ 1 → j < length f.jobs → IsJobWellFormed (job_of f j)
+    → ((layout_of f j).place ≤ 67108864) × ((layout_of f j).records ≤ 67108864) × ((layout_of f j).uniforms ≤ 67108864) × ((layout_of f j).slot ≤ 67108864)
+unfolding layout_of records_start uniforms_start slot_of
+layout_low f j sound one inside small =
+    let limits = region_limits f sound in
+    let near = rounded (length (job_of f j).bin) 16 (lit≤ tt) in
+    let next = rounded (rounded_up (length (job_of f j).bin) 16 + length (job_of f j).records) 16 (lit≤ tt) in
+    (limits.0, omega (arith, near.near, small.bin), omega (arith, near.near, next.near, small.bin, small.records), omega (arith, limits.2, one, inside))
 
 -- all lists together have some 11 MiB at most
 rounds_near : (n : ℕ) → rounded_up n 16 < n + 16

@@ -1,5 +1,5 @@
 -- Stages one after the other.
-use Rattle.std.proofs.Common.{◌≡◌, ℕ, ◌<◌, ◌≤◌, List, ◌++◌, Some, None, Result, Ok, Err, refl, ◌∙◌}
+use Rattle.std.proofs.Common.{◌≡◌, ℕ, ◌<◌, ◌≤◌, List, ◌++◌, Some, None, Result, Ok, Err, IfOk, refl, ◌∙◌}
 use Rattle.std.proofs.lemmas.Bool.{le-ltb, lt-ltb}
 use Rattle.field_words.specs.declared.stop.Stop.{Stop}
 use Rattle.field_words.specs.declared.stop.Stop.TheVariants.{Fault, NoMemory}
@@ -25,3 +25,8 @@ layout_fits f j fits = stands_none (layout_stage f j) (le-ltb f.regions.lists_si
 pub layout_stands : (f : FileModel) (j : ℕ) → f.regions.lists_size < (layout_of f j).end → first_of (layout_stage f j) ≡ Some (refused X 1 (layout_offset (job_offset f j)))
 unfolding layout_stage
 layout_stands f j past = rw (lt-ltb f.regions.lists_size (layout_of f j).end past) refl
+
+-- what follows from a clause on Ok
+pub if_ok : {X E : Type 0} {P Q : Type 0} (result : Result X E) → (P → Q) → IfOk result (λ _. P) → IfOk result (λ _. Q)
+if_ok (Ok x) follows h = follows h
+if_ok (Err e) follows h = tt

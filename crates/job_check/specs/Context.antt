@@ -8,8 +8,8 @@ use Rattle.job_format.specs.File.{IsWellFormed, IsJobWellFormed}
 use Rattle.job_format.specs.Model.{FileModel, JobModel}
 use Rattle.relocation.specs.declared.layout.Layout.{Layout}
 use Rattle.qpu_isa.specs.Shader.{ShaderModel}
-use Rattle.job_check.specs.Shaders.{shaders_of}
-use Rattle.job_check.specs.Jobs.{table_of, job_of, layout_of}
+use Rattle.job_check.specs.Shaders.{table_of, AreShadersIn}
+use Rattle.job_check.specs.Jobs.{job_of, layout_of}
 
 -- what contracts see: the file, and the job's number
 pub record InView : Type 0 where
@@ -23,7 +23,7 @@ pub record IsContext (v : InView) (job : JobModel) (table : TableModel) (shaders
   pub job_is : job ≡ job_of v.file v.number
   pub limits : IsJobWellFormed job
   pub table_is : table ≡ table_of v.file
-  pub shaders_are : shaders ≡ shaders_of v.file
+  pub shaders_are : AreShadersIn v.file shaders
   pub sound : IsSound v.file.mem_size v.file.regions v.file.buffers
   pub handles_are : handles ≡ job.handles
   pub numbers : AreNumbersOf table handles

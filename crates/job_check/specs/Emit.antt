@@ -1,12 +1,12 @@
--- The memory of an accepted file: zeros, but for the contents of each buffer at its place and the
--- renderer list in the lists' region.
+-- The memory of an accepted file: zeros, but for the contents of each buffer at its place and the lists of the job in the
+-- lists' region.
 use Rattle.std.specs.Prelude.{◌≡◌, ℕ, ◌+◌, ◌%◌, ◌≤◌, List, [], ◌∷◌, ◌++◌, length}
 use Rattle.field_words.specs.Writes.{Part, emitted}
 use Rattle.buffer_table.specs.declared.buffer.Buffer.{Buffer}
 use Rattle.job_format.specs.Model.{FileModel}
 use Rattle.relocation.specs.declared.layout.Layout.{Layout}
 use Rattle.relocation.specs.declared.layout.Lengths.{Lengths}
-use Rattle.job_check.specs.Jobs.{layout_of, render_list_of}
+use Rattle.job_check.specs.Jobs.{layout_of, bin_list_of, records_of, streams_of, render_list_of}
 
 -- contents at the places of their buffers
 unfoldable pub content_parts : List Buffer → List (List ℕ) → List Part
@@ -14,13 +14,22 @@ content_parts [] contents = []
 content_parts (buffer ∷ buffers) [] = []
 content_parts (buffer ∷ buffers) (content ∷ contents) = record { place = buffer.place; bytes = content } ∷ content_parts buffers contents
 
--- how many bytes of each list are emitted: so far the renderer list alone
+-- how many bytes of each list are emitted
 unfoldable pub lengths_of : FileModel → ℕ → Lengths
-lengths_of f j = record { bin = 0; records = 0; uniforms = 0; render = length (render_list_of f j) }
+lengths_of f j = record { bin = length (bin_list_of f j); records = length (records_of f j); uniforms = length (streams_of f j); render = length (render_list_of f j) }
 
 -- the lists of job j, each at its offset in the lists' region
+abbrev pub part : ℕ → List ℕ → Part
+part place bytes = record { place = place; bytes = bytes }
+
+unfoldable pub later_parts : FileModel → ℕ → List Part
+later_parts f j =
+    part (layout_of f j).records (records_of f j)
+    ∷ (part (layout_of f j).uniforms (streams_of f j)
+    ∷ (part (layout_of f j).render (render_list_of f j) ∷ []))
+
 unfoldable pub list_parts : FileModel → ℕ → List Part
-list_parts f j = record { place = (layout_of f j).render; bytes = render_list_of f j } ∷ []
+list_parts f j = part (layout_of f j).bin (bin_list_of f j) ∷ later_parts f j
 
 -- the same parts, each so many bytes further on
 abbrev pub moved : ℕ → List Part → List Part

@@ -1,6 +1,6 @@
 -- All rules that can refuse a file that was read, in the order of refusal: the memory table, the shaders by buffer,
--- and then job by job its handles, its frame and surfaces, and its layout.
-use Rattle.std.specs.Prelude.{ℕ, ◌+◌, ◌*◌, nat_lt, List, [], ◌∷◌, ◌++◌, length, None}
+-- and then job by job its handles, its binner list, its shader records with their uniforms, its frame and surfaces, and its layout.
+use Rattle.std.specs.Prelude.{ℕ, Bool, ◌+◌, ◌*◌, nat_lt, List, [], ◌∷◌, ◌++◌, length, if◌then◌else◌}
 use Rattle.field_words.specs.Questions.{Question, Ask, each, answered}
 use Rattle.buffer_table.specs.declared.buffer.TableFault.{TableFault}
 use Rattle.buffer_table.specs.declared.buffer.Kind.{Kind}
@@ -8,15 +8,19 @@ use Rattle.buffer_table.specs.declared.buffer.Kind.TheVariants.{Plain, Code}
 use Rattle.buffer_table.specs.Table.{table_questions, buffer_at}
 use Rattle.buffer_table.specs.Handles.{handles_questions}
 use Rattle.job_format.specs.declared.rule.Stage.{Stage}
-use Rattle.job_format.specs.declared.rule.Stage.TheVariants.{M, S, H, G, X}
+use Rattle.job_format.specs.declared.rule.Stage.TheVariants.{M, S, H, B, G, X}
 use Rattle.job_format.specs.declared.rule.Refusal.{Refusal}
 use Rattle.job_format.specs.Model.{FileModel}
 use Rattle.render_list.specs.declared.fault.RenderFault.{RenderFault}
 use Rattle.render_list.specs.Surfaces.{surface_faults}
-use Rattle.job_check.specs.Jobs.{table_of, job_of, layout_of}
+use Rattle.bin_list.specs.declared.fault.ListFault.{ListFault}
+use Rattle.bin_list.specs.Rules.{bin_questions}
+use Rattle.shader_records.specs.declared.fault.RecordFault.{RecordFault}
+use Rattle.shader_records.specs.Rules.{all_questions}
+use Rattle.job_check.specs.Jobs.{job_of, has_bin, grid_of, input_for, layout_of}
 use Rattle.shader_check.specs.declared.fault.ShaderFault.{ShaderFault}
-use Rattle.job_check.specs.Shaders.{content_of, code_questions}
-use Rattle.job_check.specs.Offsets.{item_offset, shader_offset, job_offset, handles_offset, surface_offset, layout_offset}
+use Rattle.job_check.specs.Shaders.{table_of, content_of, code_questions}
+use Rattle.job_check.specs.Offsets.{item_offset, shader_offset, job_offset, handles_offset, bin_offset, records_offset, uniforms_offset, surface_offset, layout_offset}
 
 -- a refusal by a rule, at a place in the file
 abbrev pub refused : Stage → ℕ → ℕ → Refusal
@@ -50,20 +54,44 @@ handle_refused f j index = refused H 1 (handles_offset f j + 4 * index)
 unfoldable pub handles_stage : FileModel → ℕ → List (Question Refusal)
 handles_stage f j = answered (handle_refused f j) (handles_questions (table_of f) (job_of f j).client (job_of f j).handles)
 
+-- B: the binner list of job j, where it has one
+abbrev pub bin_refused : FileModel → ℕ → ListFault → Refusal
+bin_refused f j fault = refused B fault.number (bin_offset f j + fault.at)
+
+unfoldable pub bin_stage : FileModel → ℕ → List (Question Refusal)
+bin_stage f j =
+    if has_bin f j
+    then answered (bin_refused f j) (bin_questions (job_of f j).bin (job_of f j).declared (table_of f) (job_of f j).handles)
+    else []
+
+-- A and U: its shader records and uniforms, where it has a binner list
+unfoldable pub part_offset : FileModel → ℕ → Bool → ℕ
+part_offset f j in_uniforms = if in_uniforms then uniforms_offset f j else records_offset f j
+
+abbrev pub record_refused : FileModel → ℕ → RecordFault → Refusal
+record_refused f j fault = refused fault.stage fault.number (part_offset f j fault.in_uniforms + fault.at)
+
+unfoldable pub records_stage : FileModel → ℕ → List (Question Refusal)
+records_stage f j = if has_bin f j then answered (record_refused f j) (all_questions (input_for f j)) else []
+
 -- G: the frame and the surfaces of job j
 abbrev pub surface_refused : FileModel → ℕ → RenderFault → Refusal
 surface_refused f j fault = refused G fault.number (surface_offset (job_offset f j) fault.item)
 
 unfoldable pub surfaces_stage : FileModel → ℕ → List (Question Refusal)
-surfaces_stage f j = answered (surface_refused f j) (surface_faults (job_of f j).frame None (table_of f) (job_of f j).handles)
+surfaces_stage f j = answered (surface_refused f j) (surface_faults (job_of f j).frame (grid_of f j) (table_of f) (job_of f j).handles)
 
 -- X: the lists of job j don't fit their region
 unfoldable pub layout_stage : FileModel → ℕ → List (Question Refusal)
 layout_stage f j = Ask (nat_lt f.regions.lists_size (layout_of f j).end) (refused X 1 (layout_offset (job_offset f j))) ∷ []
 
+-- the lists of a job
+unfoldable pub lists_stages : FileModel → ℕ → List (Question Refusal)
+lists_stages f j = bin_stage f j ++ (records_stage f j ++ surfaces_stage f j)
+
 -- all of a job, and all of a file that was read
 unfoldable pub job_stages : FileModel → ℕ → List (Question Refusal)
-job_stages f j = handles_stage f j ++ (surfaces_stage f j ++ layout_stage f j)
+job_stages f j = handles_stage f j ++ (lists_stages f j ++ layout_stage f j)
 
 unfoldable pub file_stages : FileModel → List (Question Refusal)
 file_stages f = table_stage f ++ (shaders_stage f ++ each (job_stages f) 0 (length f.jobs))

@@ -1,6 +1,16 @@
 -- The jobs of a file, and where the lists of each go.
-use Rattle.std.specs.Prelude.{ℕ, ◌+◌, ◌*◌, Bool, ◌&&◌, false, nat_le, List, [], length, slice_index_or, Option, None, if◌then◌else◌}
-use Rattle.buffer_table.specs.Table.{TableModel}
+use Rattle.std.specs.Prelude.{ℕ, ◌==◌, Bool, not, ◌&&◌, false, nat_le, List, [], length, slice_index_or, Option, Some, None, if◌then◌else◌}
+use Rattle.bin_list.specs.declared.seen.Seen.{Seen}
+use Rattle.bin_list.specs.declared.state.State.{State}
+use Rattle.bin_list.specs.Packets.{packets, passed}
+use Rattle.bin_list.specs.States.{states_of}
+use Rattle.bin_list.specs.Seen.{seen_before}
+use Rattle.bin_list.specs.Emitted.{bin_text}
+use Rattle.shader_records.specs.Inputs.{InputModel}
+use Rattle.shader_records.specs.Emission.{emitted_records, emitted_uniforms}
+use Rattle.shader_records.specs.Emitted.{streams_place}
+use Rattle.job_check.specs.Shaders.{table_of, shaders_of}
+use Rattle.tile_memory.specs.Slots.{slot_place}
 use Rattle.job_format.specs.declared.file.Frame.{Frame}
 use Rattle.job_format.specs.Model.{FileModel, JobModel}
 use Rattle.relocation.specs.declared.layout.Layout.{Layout}
@@ -8,10 +18,6 @@ use Rattle.relocation.specs.Layout.{layout_for}
 use Rattle.render_list.specs.Surfaces.{places_of}
 use Rattle.render_list.specs.Text.{render_text}
 use Rattle.render_list.specs.Length.{render_length}
-
--- the memory, the regions and the buffers of a file
-abbrev pub table_of : FileModel → TableModel
-table_of f = record { memory = f.mem_size; regions = f.regions; buffers = f.buffers }
 
 -- job j; past the end a job of nothing
 abbrev pub no_frame : Frame
@@ -25,15 +31,26 @@ job_of f j = slice_index_or f.jobs j no_job
 
 -- job j uses tile slot j
 unfoldable pub slot_of : FileModel → ℕ → ℕ
-slot_of f j = f.regions.tile_place + 524288 * j
+slot_of f j = slot_place f.regions.tile_place j
 
 -- the absolute places of the surfaces of job j
 unfoldable pub places_in : FileModel → ℕ → List (Option ℕ)
 places_in f j = places_of (job_of f j).frame (table_of f) (job_of f j).handles
 
+-- job j has a binner list
+unfoldable pub has_bin : FileModel → ℕ → Bool
+has_bin f j = not (length (job_of f j).bin == 0)
+
+-- the binner's grid in tiles across and down, where job j has a binner list
+abbrev pub grid_from : Seen → ℕ × ℕ
+grid_from seen = (seen.tiles_x, seen.tiles_y)
+
+unfoldable pub grid_of : FileModel → ℕ → Option (ℕ × ℕ)
+grid_of f j = if has_bin f j then Some (grid_from (seen_before (passed (job_of f j).bin))) else None
+
 -- the renderer list of job j
 unfoldable pub render_list_of : FileModel → ℕ → List ℕ
-render_list_of f j = render_text (job_of f j).frame (places_in f j) None (slot_of f j)
+render_list_of f j = render_text (job_of f j).frame (places_in f j) (grid_of f j) (slot_of f j)
 
 -- the smallest tile isn't over the largest
 unfoldable pub has_tiles : Frame → Bool
@@ -46,4 +63,23 @@ render_room frame has_bin = if has_tiles frame then render_length frame has_bin 
 
 -- where the lists of job j lie
 unfoldable pub layout_of : FileModel → ℕ → Layout
-layout_of f j = layout_for f.regions (length (job_of f j).bin) (length (job_of f j).records) (length (job_of f j).uniforms) (render_room (job_of f j).frame false) (slot_of f j)
+layout_of f j = layout_for f.regions (length (job_of f j).bin) (length (job_of f j).records) (length (job_of f j).uniforms) (render_room (job_of f j).frame (has_bin f j)) (slot_of f j)
+
+-- the shader states of job j
+unfoldable pub states_in : FileModel → ℕ → List State
+states_in f j = states_of (packets (job_of f j).bin)
+
+-- what the check of the shader records of job j is given
+unfoldable pub input_for : FileModel → ℕ → InputModel
+input_for f j = record { states = states_in f j; records = (job_of f j).records; uniforms = (job_of f j).uniforms; table = table_of f; handles = (job_of f j).handles; shaders = shaders_of f }
+
+-- The lists that the hardware is given for job j. Where the file gives no binner list, nothing is emitted of its records
+-- and uniforms either.
+unfoldable pub bin_list_of : FileModel → ℕ → List ℕ
+bin_list_of f j = if has_bin f j then bin_text (job_of f j).bin (job_of f j).declared (table_of f) (job_of f j).handles (layout_of f j) else []
+
+unfoldable pub records_of : FileModel → ℕ → List ℕ
+records_of f j = if has_bin f j then emitted_records (input_for f j) (streams_place (layout_of f j)) else []
+
+unfoldable pub streams_of : FileModel → ℕ → List ℕ
+streams_of f j = if has_bin f j then emitted_uniforms (input_for f j) (streams_place (layout_of f j)) else []

@@ -4,3 +4,4 @@ pub mod Faults
 pub mod Jobs
 pub mod Offsets
 pub mod Shaders
+pub mod Told

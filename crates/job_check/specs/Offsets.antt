@@ -3,6 +3,7 @@
 use Rattle.std.specs.Prelude.{ℕ, ◌+◌, ◌-◌, ◌*◌, ◌==◌, length, map, sum, sum_by, take, if◌then◌else◌}
 use Rattle.job_format.specs.Offsets.{entry_offset, job_size}
 use Rattle.job_format.specs.Model.{FileModel, JobModel}
+use Rattle.job_check.specs.Jobs.{job_of}
 use Rattle.shader_check.specs.declared.fault.ShaderFault.{ShaderFault}
 
 -- item 0 is the memory, 1 the lists' region, 2 the tile region, 3 + b buffer b
@@ -29,6 +30,16 @@ parts_size job = 4 * length job.handles + length job.bin + length job.records + 
 -- the handles of job j, after the contents of all buffers
 unfoldable pub handles_offset : FileModel → ℕ → ℕ
 handles_offset f j = content_offset f (length f.buffers) + sum_by parts_size (take j f.jobs)
+
+-- the binner list, the records and the uniforms of job j follow its handles
+unfoldable pub bin_offset : FileModel → ℕ → ℕ
+bin_offset f j = handles_offset f j + 4 * length (job_of f j).handles
+
+unfoldable pub records_offset : FileModel → ℕ → ℕ
+records_offset f j = bin_offset f j + length (job_of f j).bin
+
+unfoldable pub uniforms_offset : FileModel → ℕ → ℕ
+uniforms_offset f j = records_offset f j + length (job_of f j).records
 
 -- item 0 of a frame is the frame itself, 1 to 6 its surfaces, 7 the whole
 unfoldable pub surface_offset : ℕ → ℕ → ℕ

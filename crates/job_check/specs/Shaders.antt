@@ -1,19 +1,23 @@
 -- The shaders of a file. Each Code buffer holds one, whether or not a job names it: the words that its contents spell.
-use Rattle.std.specs.Prelude.{ℕ, ◌*◌, ◌/◌, ◌%◌, ◌==◌, not, List, [], ◌∷◌, length, map, slice_index_or, Option, Some, None}
+use Rattle.std.specs.Prelude.{◌≡◌, ℕ, ◌*◌, ◌/◌, ◌%◌, ◌==◌, not, List, [], ◌∷◌, length, map, slice_index_or, Option, Some, None}
 use Rattle.std.specs.List.{range_with_len}
 use Rattle.field_words.specs.Words.{u64_at}
 use Rattle.field_words.specs.Questions.{Question, Ask}
 use Rattle.buffer_table.specs.declared.buffer.Kind.{Kind}
 use Rattle.buffer_table.specs.declared.buffer.Kind.TheVariants.{Plain, Code}
-use Rattle.buffer_table.specs.Table.{buffer_at}
+use Rattle.buffer_table.specs.Table.{TableModel, buffer_at}
 use Rattle.job_format.specs.Model.{FileModel}
-use Rattle.qpu_isa.specs.declared.inst.ShaderInfo.{ShaderInfo}
-use Rattle.qpu_isa.specs.Shader.{ShaderModel, shader_view}
+use Rattle.qpu_isa.specs.Shader.{ShaderModel}
+use Rattle.shader_records.specs.Inputs.{AreShadersOf}
 use Rattle.shader_flow.specs.Flow.{is_threaded}
 use Rattle.uniform_stream.specs.Stream.{uniforms_of, address_words_of}
 use Rattle.shader_check.specs.declared.fault.ShaderFault.{ShaderFault}
 use Rattle.shader_check.specs.Info.{samples_of}
 use Rattle.shader_check.specs.Rules.{shader_questions}
+
+-- the memory, the regions and the buffers of a file
+abbrev pub table_of : FileModel → TableModel
+table_of f = record { memory = f.mem_size; regions = f.regions; buffers = f.buffers }
 
 -- the first n words of eight bytes, the lowest byte first, and all of them
 unfoldable pub words_in : List ℕ → ℕ → List ℕ
@@ -35,12 +39,12 @@ unfoldable pub content_of : FileModel → ℕ → List ℕ
 content_of f b = slice_index_or f.contents b []
 
 -- the shader in buffer b, None in a Plain one, and all by buffer
-abbrev pub shader_in : Kind → List ℕ → Option ShaderModel
-shader_in Plain content = None
-shader_in Code content = Some (told_of (words_of content))
+abbrev pub shader_for : Kind → List ℕ → Option ShaderModel
+shader_for Plain content = None
+shader_for Code content = Some (told_of (words_of content))
 
 unfoldable pub shader_of : FileModel → ℕ → Option ShaderModel
-shader_of f b = shader_in (buffer_at f.buffers b).kind (content_of f b)
+shader_of f b = shader_for (buffer_at f.buffers b).kind (content_of f b)
 
 unfoldable pub shaders_up_to : FileModel → ℕ → List (Option ShaderModel)
 shaders_up_to f n = map (shader_of f) (range_with_len 0 n)
@@ -48,10 +52,7 @@ shaders_up_to f n = map (shader_of f) (range_with_len 0 n)
 abbrev pub shaders_of : FileModel → List (Option ShaderModel)
 shaders_of f = shaders_up_to f (length f.buffers)
 
--- what the check keeps of them
-abbrev pub shader_option : Option ShaderInfo → Option ShaderModel
-shader_option None = None
-shader_option (Some info) = Some (shader_view info)
-
-abbrev pub shaders_view : List (Option ShaderInfo) → List (Option ShaderModel)
-shaders_view shaders = map shader_option shaders
+-- What is kept of them is what is told, one for each buffer, and each is sound.
+pub record AreShadersIn (f : FileModel) (shaders : List (Option ShaderModel)) : Type 0 where
+  pub told : shaders ≡ shaders_of f
+  pub sound : AreShadersOf (table_of f) shaders

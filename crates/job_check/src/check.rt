@@ -1,13 +1,14 @@
 //! The whole check of a job file.
 ghost use Rattle.std.specs.Prelude.{◌≡◌, ◌<◌, ◌≤◌, ◌+◌, ◌++◌, length, IfOk};
-ghost use Rattle.field_words.specs.Questions.{Answers, each};
+ghost use Rattle.field_words.specs.Questions.{Answers, NamesFirst, each};
 ghost use Rattle.field_words.specs.Writes.{placed, zeros};
 ghost use Rattle.job_format.specs.File.{IsWellFormed};
 ghost use Rattle.job_format.specs.Model.{file_view};
 ghost use Rattle.buffer_table.specs.Sound.{IsSound};
-ghost use Rattle.job_check.specs.Shaders.{shaders_of, shaders_view};
-ghost use Rattle.job_check.specs.Jobs.{table_of, layout_of};
-ghost use Rattle.job_check.specs.Faults.{shaders_stage, surfaces_stage, layout_stage, job_stages, file_stages};
+ghost use Rattle.shader_records.specs.Inputs.{shaders_view};
+ghost use Rattle.job_check.specs.Shaders.{table_of, AreShadersIn};
+ghost use Rattle.job_check.specs.Jobs.{layout_of};
+ghost use Rattle.job_check.specs.Faults.{shaders_stage, lists_stages, layout_stage, job_stages, file_stages};
 ghost use Rattle.job_check.specs.Emit.{content_parts, memory_parts, IsPlacedFor, IsEmitted, IsPlaced};
 
 use super::context::Context;
@@ -52,10 +53,10 @@ fn fresh_memory(alloc: Global, file: &JobFile) -> Result<PhysMem, NoMemory>
 /// The rules of a job whose lists don't fit their region: those before X1 are asked over a region of the check's own.
 fn without_room(alloc: Global, job: &Context) -> Result<Lists, Stop<Refusal>>
     requires { job.now.file.regions.lists_size < (layout_of job.now.file job.now.number).end }
-    ensures { Answers (surfaces_stage job.now.file job.now.number ++ layout_stage job.now.file job.now.number) (λ _. ⊥) result }
+    ensures { Answers (lists_stages job.now.file job.now.number ++ layout_stage job.now.file job.now.number) (λ _. ⊥) result }
 {
     let mut region = vec![in alloc; 0u8; job.layout.end as usize]?;
-    match job.write_lists(&mut region) {
+    match job.write_lists(alloc, &mut region) {
         Ok(_) => Err(Stop::Fault(job.layout_refusal())),
         Err(stop) => Err(stop),
     }
@@ -64,7 +65,7 @@ fn without_room(alloc: Global, job: &Context) -> Result<Lists, Stop<Refusal>>
 /// The rules of a job in view, and its lists in the memory.
 fn place_lists(alloc: Global, job: &Context, memory: &mut PhysMem) -> Result<Lists, Stop<Refusal>>
     requires size { length memory.old ≡ job.now.file.mem_size }
-    ensures answers { Answers (surfaces_stage job.now.file job.now.number ++ layout_stage job.now.file job.now.number) (λ lists. IsPlacedFor job.now.file job.now.number lists.layout lists.lengths) result }
+    ensures answers { Answers (lists_stages job.now.file job.now.number ++ layout_stage job.now.file job.now.number) (λ lists. IsPlacedFor job.now.file job.now.number lists.layout lists.lengths) result }
     ensures put { IfOk result (λ _. memory.new ≡ placed memory.old (memory_parts job.now.file job.now.number)) }
     ensures fits { IfOk result (λ lists. lists.layout.end ≤ job.now.file.regions.lists_size) }
     ensures long { IfOk result (λ _. length memory.new ≡ length memory.old) }
@@ -73,7 +74,7 @@ fn place_lists(alloc: Global, job: &Context, memory: &mut PhysMem) -> Result<Lis
         return without_room(alloc, job);
     }
     let layout = job.layout;
-    match job.write_lists(memory.window(layout.place, layout.end)) {
+    match job.write_lists(alloc, memory.window(layout.place, layout.end)) {
         Ok(lengths) => Ok(Lists { layout, lengths }),
         Err(stop) => Err(stop),
     }
@@ -92,7 +93,7 @@ fn check_one(
     requires well_formed { IsWellFormed (file_view file.now) }
     requires inside { number < length file.now.jobs.items }
     requires table_is { table.now ≡ table_of (file_view file.now) }
-    requires shaders_are { shaders_view shaders.now.items ≡ shaders_of (file_view file.now) }
+    requires shaders_are { AreShadersIn (file_view file.now) (shaders_view shaders.now.items) }
     requires sound { IsSound file.now.mem_size file.now.regions file.now.buffers.items }
     requires size { length memory.old ≡ file.now.mem_size }
     ensures answers { Answers (job_stages (file_view file.now) number) (λ lists. IsPlacedFor (file_view file.now) number lists.layout lists.lengths) result }
@@ -115,7 +116,7 @@ fn check_jobs(
 ) -> Result<Checked, Stop<Refusal>>
     requires well_formed { IsWellFormed (file_view file.now) }
     requires table_is { table.now ≡ table_of (file_view file.now) }
-    requires shaders_are { shaders_view shaders.now.items ≡ shaders_of (file_view file.now) }
+    requires shaders_are { AreShadersIn (file_view file.now) (shaders_view shaders.now.items) }
     requires sound { IsSound file.now.mem_size file.now.regions file.now.buffers.items }
     ensures answers { Answers (each (job_stages (file_view file.now)) 0 (length file.now.jobs.items)) (λ checked. IsEmitted (file_view file.now) checked.memory checked.layout checked.lengths) result }
     ensures placed { IfOk result (λ checked. IsPlaced checked.memory checked.layout) }
@@ -146,11 +147,12 @@ fn check_shaders(alloc: Global, file: &JobFile, table: &Table) -> Result<Checked
 }
 
 /// Checks a file that was read. `Ok` comes exactly where no rule stands of the memory table, of the shaders, of the job's
-/// handles, of its frame and surfaces and of its layout; else the refusal is the first that does, with its place in the file.
+/// handles, of its binner list, of its records and uniforms, of its frame and surfaces and of its layout; else the refusal is the first that does, with its place in the file.
 #[tactic(auto, unfolding(crate::specs::Faults::file_stages))]
 pub fn check_job(alloc: Global, file: &JobFile) -> Result<Checked, Stop<Refusal>>
     requires { IsWellFormed (file_view file.now) }
     ensures answers { Answers (file_stages (file_view file.now)) (λ checked. IsEmitted (file_view file.now) checked.memory checked.layout checked.lengths) result }
+    ensures first { NamesFirst (file_stages (file_view file.now)) result }
     ensures placed { IfOk result (λ checked. IsPlaced checked.memory checked.layout) }
 {
     match table_stage(alloc, file) {

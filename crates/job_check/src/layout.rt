@@ -6,12 +6,11 @@ ghost use Rattle.job_format.specs.Model.{file_view, job_view};
 ghost use Rattle.job_check.specs.Jobs.{job_of, has_tiles, render_room, layout_of, slot_of};
 
 use buffer_table::Regions;
+use field_words::MOST_MEMORY;
 use job_format::{Frame, Job, JobFile};
 use relocation::Layout;
 use render_list::render_size;
-
-/// More than all lists together can take.
-const MOST: u32 = 67_108_864;
+use tile_memory::slot_place;
 
 /// Whether the smallest tile isn't over the largest.
 #[tactic(auto, unfolding(crate::specs::Jobs::has_tiles))]
@@ -33,18 +32,9 @@ fn render_room(frame: &Frame, has_bin: bool) -> u64
     0
 }
 
-/// The place of the tile slot of the job of this number.
-#[tactic(auto, unfolding(crate::specs::Jobs::slot_of))]
-fn slot(regions: &Regions, number: usize) -> u32
-    requires { regions.now.tile_place + 524288 * number ≤ 67108864 }
-    ensures { result ≡ regions.now.tile_place + 524288 * number }
-{
-    regions.tile_place + 524_288 * number as u32
-}
-
 /// Where the lists of the job go, also where they don't fit their region: the rules before the one that refuses this
 /// are asked of them all the same.
-#[tactic(auto, unfolding(crate::specs::Jobs::layout_of, crate::specs::Jobs::slot_of))]
+#[tactic(auto, unfolding(crate::specs::Jobs::layout_of, crate::specs::Jobs::slot_of, crate::specs::Jobs::has_bin))]
 pub fn job_layout(file: &JobFile, number: usize, job: &Job) -> Layout
     requires job_is { job_view job.now ≡ job_of (file_view file.now) number }
     requires limits { IsJobWellFormed (job_view job.now) }
@@ -53,12 +43,13 @@ pub fn job_layout(file: &JobFile, number: usize, job: &Job) -> Layout
     ensures { result ≡ layout_of (file_view file.now) number }
 {
     let roomy = Regions {
-        lists_size: MOST,
+        lists_size: MOST_MEMORY,
         ..file.regions
     };
+    let slot = slot_place(file.regions.tile_place, number as u32);
     let bin = job.bin.len() as u32;
     let records = job.records.len() as u32;
     let uniforms = job.uniforms.len() as u32;
-    let render = render_room(&job.frame, false);
-    Layout::of(&roomy, bin, records, uniforms, render, slot(&roomy, number)).unwrap()
+    let render = render_room(&job.frame, job.bin.len() != 0);
+    Layout::of(&roomy, bin, records, uniforms, render, slot).unwrap()
 }

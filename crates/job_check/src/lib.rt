@@ -8,6 +8,7 @@ mod check;
 mod context;
 mod emit;
 mod layout;
+mod lists;
 mod refusals;
 mod shaders;
 mod stages;

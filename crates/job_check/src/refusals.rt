@@ -1,17 +1,21 @@
 //! Refusals: a rule, and the place in the file that it is about.
 ghost use Rattle.std.specs.Prelude.{◌≡◌, ◌≤◌, ◌<◌, ◌+◌, ◌*◌, ◌^◌, length, map, sum, sum_by, take};
-ghost use Rattle.job_format.specs.declared.rule.Stage.TheVariants.{M as StageM, S as StageS, H as StageH, G as StageG, X as StageX};
+ghost use Rattle.job_format.specs.declared.rule.Stage.TheVariants.{M as StageM, S as StageS, H as StageH, B as StageB, G as StageG, X as StageX};
 ghost use Rattle.std.specs.List.{AllByRecursion};
 ghost use Rattle.job_format.specs.File.{IsWellFormed, IsJobWellFormed};
 ghost use Rattle.job_format.specs.Model.{file_view, job_view};
 ghost use Rattle.job_format.specs.Offsets.{entry_offset};
-ghost use Rattle.job_check.specs.Faults.{refused, table_refused, shader_refused, handle_refused, surface_refused};
-ghost use Rattle.job_check.specs.Offsets.{item_offset, job_offset, content_offset, shader_offset, handles_offset, surface_offset, layout_offset, parts_size};
+ghost use Rattle.job_check.specs.Jobs.{job_of};
+ghost use Rattle.job_check.specs.Faults.{refused, table_refused, shader_refused, handle_refused, bin_refused, part_offset, record_refused, surface_refused};
+ghost use Rattle.job_check.specs.Offsets.{item_offset, job_offset, content_offset, shader_offset, handles_offset, bin_offset, records_offset, uniforms_offset, surface_offset, layout_offset, parts_size};
 
+use super::context::job_at;
+use bin_list::ListFault;
 use buffer_table::{Buffer, TableFault};
 use job_format::{ENTRY_SIZE, HEADER_SIZE, JOB_SIZE, Job, JobFile, Refusal, Rule, Stage};
 use render_list::RenderFault;
 use shader_check::ShaderFault;
+use shader_records::RecordFault;
 
 fn refusal(stage: Stage, number: u8, offset: u64) -> Refusal
     ensures { result ≡ refused stage number offset }
@@ -151,6 +155,79 @@ pub fn handle_refusal(file: &JobFile, number: usize, index: u32) -> Refusal
         1,
         handles_offset(file, number) + 4 * u64::from(index),
     )
+}
+
+/// How many handles the job of this number has.
+fn handle_count(file: &JobFile, number: usize) -> u64
+    requires well_formed { IsWellFormed (file_view file.now) }
+    requires inside { number < length file.now.jobs.items }
+    ensures value { result ≡ length (job_of (file_view file.now) number).handles }
+    ensures few { result ≤ 64 }
+{
+    job_at(file, number).handles.len() as u64
+}
+
+/// Where the binner list of the job of this number stands.
+#[tactic(auto, unfolding(crate::specs::Offsets::bin_offset))]
+fn bin_offset(file: &JobFile, number: usize) -> u64
+    requires well_formed { IsWellFormed (file_view file.now) }
+    requires inside { number < length file.now.jobs.items }
+    ensures value { result ≡ bin_offset (file_view file.now) number }
+    ensures fits { result < 2 ^ 43 }
+{
+    handles_offset(file, number) + 4 * handle_count(file, number)
+}
+
+/// A rule on the binner list that stands, at a packet of it or at its end.
+pub fn bin_refusal(file: &JobFile, number: usize, fault: &ListFault) -> Refusal
+    requires well_formed { IsWellFormed (file_view file.now) }
+    requires inside { number < length file.now.jobs.items }
+    ensures { result ≡ bin_refused (file_view file.now) number fault.now }
+{
+    refusal(
+        Stage::B,
+        fault.number,
+        bin_offset(file, number) + u64::from(fault.at),
+    )
+}
+
+/// The bytes of the binner list and of the records of the job of this number.
+fn list_sizes(file: &JobFile, number: usize) -> (u64, u64)
+    requires well_formed { IsWellFormed (file_view file.now) }
+    requires inside { number < length file.now.jobs.items }
+    ensures bin { result.0 ≡ length (job_of (file_view file.now) number).bin }
+    ensures records { result.1 ≡ length (job_of (file_view file.now) number).records }
+    ensures bin_short { result.0 ≤ 1048576 }
+    ensures records_short { result.1 ≤ 1048576 }
+{
+    let job = job_at(file, number);
+    (job.bin.len() as u64, job.records.len() as u64)
+}
+
+/// Where the uniforms of the job of this number stand, or its records.
+#[tactic(auto, unfolding(crate::specs::Faults::part_offset, crate::specs::Offsets::records_offset, crate::specs::Offsets::uniforms_offset))]
+fn part_offset(file: &JobFile, number: usize, in_uniforms: bool) -> u64
+    requires well_formed { IsWellFormed (file_view file.now) }
+    requires inside { number < length file.now.jobs.items }
+    ensures value { result ≡ part_offset (file_view file.now) number in_uniforms }
+    ensures fits { result < 2 ^ 44 }
+{
+    let (bin, records) = list_sizes(file, number);
+    let offset = bin_offset(file, number) + bin;
+    if in_uniforms {
+        return offset + records;
+    }
+    offset
+}
+
+/// A rule on shader records or uniforms that stands.
+pub fn record_refusal(file: &JobFile, number: usize, fault: &RecordFault) -> Refusal
+    requires well_formed { IsWellFormed (file_view file.now) }
+    requires inside { number < length file.now.jobs.items }
+    ensures { result ≡ record_refused (file_view file.now) number fault.now }
+{
+    let offset = part_offset(file, number, fault.in_uniforms);
+    refusal(fault.stage, fault.number, offset + u64::from(fault.at))
 }
 
 #[tactic(auto, unfolding(crate::specs::Offsets::surface_offset))]

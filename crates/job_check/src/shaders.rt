@@ -1,5 +1,5 @@
 //! S: the shaders of a file, by buffer.
-ghost use Rattle.std.specs.Prelude.{◌≡◌, ◌<◌, ◌≤◌, ◌*◌, ◌/◌, ◌^◌, length, IfOk};
+ghost use Rattle.std.specs.Prelude.{◌≡◌, ◌<◌, ◌≤◌, ◌*◌, ◌/◌, ◌^◌, length, IfOk, IfSome};
 ghost use Rattle.field_words.specs.Words.{u64_at};
 ghost use Rattle.field_words.specs.Sizes.{most_code};
 ghost use Rattle.field_words.specs.Questions.{Answers};
@@ -7,18 +7,21 @@ ghost use Rattle.buffer_table.specs.declared.buffer.Kind.TheVariants.{Code as Co
 ghost use Rattle.buffer_table.specs.Table.{buffer_at};
 ghost use Rattle.job_format.specs.File.{IsWellFormed};
 ghost use Rattle.job_format.specs.Model.{file_view};
-ghost use Rattle.qpu_isa.specs.Shader.{shader_view};
-ghost use Rattle.job_check.specs.Shaders.{words_in, words_of, code_questions, told_of, content_of, shader_of, shaders_of, shader_option, shaders_view};
+ghost use Rattle.qpu_isa.specs.Shader.{shader_view, IsSoundShader};
+ghost use Rattle.shader_records.specs.Inputs.{shader_option, shaders_view};
+ghost use Rattle.job_check.specs.Shaders.{words_in, words_of, code_questions, told_of, content_of, shader_of, AreShadersIn};
 ghost use Rattle.job_check.specs.Faults.{shader_stage, shaders_stage};
 
 use super::refusals::shader_refusal;
 use buffer_table::Kind;
 use byteorder::{ByteOrder, LittleEndian};
-use field_words::Stop;
+use field_words::{Steps, Stop};
 use job_format::{JobFile, Refusal};
 use qpu_isa::ShaderInfo;
 use shader_check::{ShaderFault, check_shader};
 use std::alloc::{AllocError, Global};
+use std::marker::Brand;
+use std::sync::ledger::{Blank, Ledger};
 
 /// Word k of the bytes.
 #[tactic(auto, unfolding(field_words::specs::Words::u64_at))]
@@ -43,11 +46,19 @@ fn words_of(alloc: Global, bytes: &[u8]) -> Result<Vec<u64>, AllocError>
     Ok(words)
 }
 
-/// The shader that these bytes hold.
+/// The shader that these bytes hold. The counter of the checker's steps, which has no bytes at run time, is made here.
 #[tactic(auto, unfolding(crate::specs::Shaders::code_questions, crate::specs::Shaders::told_of))]
-fn shader_in(alloc: Global, bytes: &[u8]) -> Result<ShaderInfo, Stop<ShaderFault>>
-    requires { length bytes.now ≤ most_code }
-    ensures { Answers (code_questions bytes.now) (λ info. shader_view info ≡ told_of (words_of bytes.now)) result }
+fn shader_in<L: Ledger>(
+    alloc: Global,
+    bytes: &[u8],
+    blank: Blank,
+) -> Result<ShaderInfo, Stop<ShaderFault>>
+    requires short { length bytes.now ≤ most_code }
+    requires name { blank.name ≡ L.name }
+    requires parts { blank.parts ≡ L.parts }
+    requires some { 0 < blank.parts }
+    ensures answers { Answers (code_questions bytes.now) (λ info. shader_view info ≡ told_of (words_of bytes.now)) result }
+    ensures sound { IfOk result (λ info. IsSoundShader (shader_view info)) }
 {
     if bytes.len() % 8 != 0 {
         return Err(Stop::Fault(ShaderFault {
@@ -56,7 +67,7 @@ fn shader_in(alloc: Global, bytes: &[u8]) -> Result<ShaderInfo, Stop<ShaderFault
         }));
     }
     let code = words_of(alloc, bytes)?;
-    check_shader(alloc, &code)
+    check_shader(alloc, &code, &mut Steps::<L>::new(blank))
 }
 
 /// The kind of buffer `b`.
@@ -83,11 +94,12 @@ fn content_at(file: &JobFile, b: usize) -> &[u8]
 fn shader_at(alloc: Global, file: &JobFile, b: usize) -> Result<Option<ShaderInfo>, Stop<Refusal>>
     requires well_formed { IsWellFormed (file_view file.now) }
     requires inside { b < length file.now.buffers.items }
-    ensures { Answers (shader_stage (file_view file.now) b) (λ shader. shader_option shader ≡ shader_of (file_view file.now) b) result }
+    ensures answers { Answers (shader_stage (file_view file.now) b) (λ shader. shader_option shader ≡ shader_of (file_view file.now) b) result }
+    ensures sound { IfOk result (λ shader. IfSome (shader_option shader) IsSoundShader) }
 {
     match kind_at(file, b) {
         Kind::Plain => Ok(None),
-        Kind::Code => match shader_in(alloc, content_at(file, b)) {
+        Kind::Code => match shader_in::<Brand>(alloc, content_at(file, b), Blank::new(1)) {
             Ok(info) => Ok(Some(info)),
             Err(Stop::Fault(fault)) => Err(Stop::Fault(shader_refusal(file, b, &fault))),
             Err(Stop::NoMemory) => Err(Stop::NoMemory),
@@ -102,7 +114,7 @@ pub fn shaders_stage(
     file: &JobFile,
 ) -> Result<Vec<Option<ShaderInfo>>, Stop<Refusal>>
     requires { IsWellFormed (file_view file.now) }
-    ensures { Answers (shaders_stage (file_view file.now)) (λ shaders. shaders_view shaders.items ≡ shaders_of (file_view file.now)) result }
+    ensures { Answers (shaders_stage (file_view file.now)) (λ shaders. AreShadersIn (file_view file.now) (shaders_view shaders.items)) result }
 {
     let mut shaders = Vec::new(alloc);
     for b in 0..file.buffers.len() {

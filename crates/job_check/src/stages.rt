@@ -4,7 +4,7 @@ ghost use Rattle.field_words.specs.Questions.{Answers};
 ghost use Rattle.job_format.specs.File.{IsWellFormed};
 ghost use Rattle.job_format.specs.Model.{file_view};
 ghost use Rattle.buffer_table.specs.Sound.{IsSound};
-ghost use Rattle.job_check.specs.Jobs.{table_of};
+ghost use Rattle.job_check.specs.Shaders.{table_of};
 ghost use Rattle.job_check.specs.Faults.{table_stage};
 
 use super::refusals::table_refusal;

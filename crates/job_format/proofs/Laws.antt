@@ -1,44 +1,19 @@
 -- What the answer of the reader says of the bytes.
-use Rattle.std.proofs.Common.{◌≡◌, ℕ, List, Result, Ok, Err, Some, None, IfOk, sym, ◌∙◌, subst}
+use Rattle.std.proofs.Common.{◌≡◌, ◌↔◌, ℕ, List, Result, Ok, Err, Some, None, IfOk, sym, ◌∙◌, subst}
 use Rattle.field_words.specs.declared.stop.Stop.{Stop}
 use Rattle.field_words.specs.declared.stop.Stop.TheVariants.{Fault, NoMemory}
 use Rattle.field_words.specs.Words.{IsBytes}
 use Rattle.field_words.specs.Questions.{first_of, Answers}
-use Rattle.field_words.proofs.Questions.{passes}
-use Rattle.field_words.proofs.Nones.{front_none}
 use Rattle.job_format.specs.declared.file.JobFile.{JobFile}
 use Rattle.job_format.specs.declared.rule.FormatFault.{FormatFault}
 use Rattle.job_format.specs.Model.{FileModel, file_view}
-use Rattle.job_format.specs.Faults.{format_questions, unbuilt_questions, file_questions}
-use Rattle.job_format.specs.File.{IsFileOf, IsBuilt, Reads}
+use Rattle.job_format.specs.Faults.{format_questions}
+use Rattle.job_format.specs.File.{IsFileOf, Reads}
 use Rattle.job_format.specs.Reading.{file_at}
 use Rattle.job_format.proofs.Passing.{passes_all}
 use Rattle.job_format.proofs.Fitting.{is_file}
-use Rattle.job_format.proofs.Nones.{format_none, unbuilt_none}
+use Rattle.job_format.proofs.Nones.{format_none}
 use Rattle.job_format.proofs.Only.{only_file}
-
--- No rule stands for the text of a file that is built.
-pub file_none : (bytes : List ℕ) (f : FileModel) → IsFileOf bytes f → IsBuilt f → (first_of (file_questions bytes) ≡ None) × (file_at bytes ≡ f)
-unfolding file_questions
-file_none bytes f is built =
-    let only = only_file bytes f is in
-    (passes (format_questions bytes) (unbuilt_questions bytes) (format_none bytes only.0) ∙ unbuilt_none bytes only.0 (subst IsBuilt (sym only.1) built), only.1)
-
--- Where no rule stands the bytes are the file that they hold.
-pub none_file : (bytes : List ℕ) → IsBytes bytes → first_of (file_questions bytes) ≡ None → IsFileOf bytes (file_at bytes)
-unfolding file_questions
-none_file bytes fits none = is_file bytes fits (passes_all bytes (front_none (format_questions bytes) (unbuilt_questions bytes) none))
-
-pub found_by : (bytes : List ℕ) → IsBytes bytes → (result : Result JobFile (Stop FormatFault)) → Answers (file_questions bytes) (λ f. file_view f ≡ file_at bytes) result
-    → IfOk result (λ f. IsFileOf bytes (file_view f))
-found_by bytes fits (Ok file) answers = subst (IsFileOf bytes) (sym answers.1) (none_file bytes fits answers.0)
-found_by bytes fits (Err stop) answers = tt
-
-pub only_by : (bytes : List ℕ) (result : Result JobFile (Stop FormatFault)) → Answers (file_questions bytes) (λ f. file_view f ≡ file_at bytes) result
-    → (f : FileModel) → IsFileOf bytes f → IsBuilt f → Reads f result
-only_by bytes (Ok file) answers f is built = answers.1 ∙ (file_none bytes f is built).1
-only_by bytes (Err (Fault fault)) answers f is built = let none = (file_none bytes f is built).0 in let wrong : Some fault ≡ None = sym answers ∙ none in cc
-only_by bytes (Err NoMemory) answers f is built = tt
 
 -- A file's text holds the file, and has no fault of the format.
 pub read_again : (bytes : List ℕ) (f : FileModel) → IsFileOf bytes f → (first_of (format_questions bytes) ≡ None) × (file_at bytes ≡ f)
@@ -46,3 +21,22 @@ read_again bytes f is = let only = only_file bytes f is in (format_none bytes on
 
 pub one_file : (bytes : List ℕ) (f g : FileModel) → IsFileOf bytes f → IsFileOf bytes g → f ≡ g
 one_file bytes f g is_f is_g = sym (only_file bytes f is_f).1 ∙ (only_file bytes g is_g).1
+
+-- Where no rule stands the bytes are the file that they hold.
+pub none_file : (bytes : List ℕ) → IsBytes bytes → first_of (format_questions bytes) ≡ None → IsFileOf bytes (file_at bytes)
+none_file bytes fits none = is_file bytes fits (passes_all bytes none)
+
+pub found_by : (bytes : List ℕ) → IsBytes bytes → (result : Result JobFile (Stop FormatFault)) → Answers (format_questions bytes) (λ f. file_view f ≡ file_at bytes) result
+    → IfOk result (λ f. IsFileOf bytes (file_view f))
+found_by bytes fits (Ok file) answers = subst (IsFileOf bytes) (sym answers.1) (none_file bytes fits answers.0)
+found_by bytes fits (Err stop) answers = tt
+
+pub only_by : (bytes : List ℕ) (result : Result JobFile (Stop FormatFault)) → Answers (format_questions bytes) (λ f. file_view f ≡ file_at bytes) result
+    → (f : FileModel) → IsFileOf bytes f → Reads f result
+only_by bytes (Ok file) answers f is = answers.1 ∙ (read_again bytes f is).1
+only_by bytes (Err (Fault fault)) answers f is = let none = (read_again bytes f is).0 in let wrong : Some fault ≡ None = sym answers ∙ none in cc
+only_by bytes (Err NoMemory) answers f is = tt
+
+-- So no rule stands exactly where a file belongs to the bytes.
+pub exact_by : (bytes : List ℕ) → IsBytes bytes → (first_of (format_questions bytes) ≡ None) ↔ ((f : FileModel) × IsFileOf bytes f)
+exact_by bytes fits = (λ none. (file_at bytes, none_file bytes fits none), λ file. (read_again bytes file.0 file.1).0)

@@ -7,10 +7,9 @@ use Rattle.field_words.specs.Words.{u32_at}
 use Rattle.field_words.specs.Questions.{Question, first_of, each}
 use Rattle.field_words.proofs.Questions.{passes, stands_none}
 use Rattle.buffer_table.specs.declared.buffer.Kind.TheVariants.{Plain}
-use Rattle.job_format.specs.Faults.{header_questions, entry_questions, buffer_questions, job_questions, content_questions, parts_questions, body_questions, format_questions, code_questions, list_questions, unbuilt_questions}
+use Rattle.job_format.specs.Faults.{header_questions, entry_questions, buffer_questions, job_questions, content_questions, parts_questions, body_questions, format_questions}
 use Rattle.job_format.specs.Offsets.{entry_offset, job_offset, bin_offset, records_offset, uniforms_offset, end_offset}
 use Rattle.job_format.specs.Reading.{kind_of, entry_at, buffers_at, job_at, file_at}
-use Rattle.job_format.specs.File.{IsBuilt}
 use Rattle.job_format.proofs.Found.{length_cut, handles_in}
 use Rattle.job_format.proofs.Passing.{HeaderPasses, EntryPasses, JobPasses, Passes}
 use Rattle.job_format.proofs.Standing.{content_ends}
@@ -87,25 +86,3 @@ in_all : {A : Type 0} (P : A → Type 0) (f : ℕ → A) (a n : ℕ) → AllByRe
 in_all P f a zero all k from to = absurd (omega (arith, from, to))
 in_all P f a (suc n) all k from to =
     elim (eq-or-lt_of_le from) [ inl same ↦ subst (λ i. P (f i)) same all.0 | inr above ↦ in_all P f (a + 1) n all.1 k (omega arith) (omega arith) ]
-
-plain_number : (n : ℕ) → kind_of n ≡ Plain → (n == 1) ≡ false
-plain_number zero plain = refl
-plain_number (suc zero) plain = cc
-plain_number (suc (suc n)) plain = grind arith
-
-pub unbuilt_none : (bytes : List ℕ) → Passes bytes → IsBuilt (file_at bytes) → first_of (unbuilt_questions bytes) ≡ None
-unfolding unbuilt_questions code_questions list_questions file_at buffers_at entry_at job_at end_offset uniforms_offset records_offset bin_offset
-unbuilt_none bytes p built =
-    let n : ℕ = u32_at bytes 28 in
-    let at : ℕ = job_offset bytes in
-    let end = p.end in
-    let job = built.jobs.0 in
-    let bin : u32_at bytes (at + 12) ≡ 0 = sym (length_cut bytes (bin_offset bytes) (u32_at bytes (at + 12)) (omega arith)) ∙ job.bin in
-    let records : u32_at bytes (at + 16) ≡ 0 = sym (length_cut bytes (records_offset bytes) (u32_at bytes (at + 16)) (omega arith)) ∙ job.records in
-    let uniforms : u32_at bytes (at + 24) ≡ 0 = sym (length_cut bytes (uniforms_offset bytes) (u32_at bytes (at + 24)) (omega arith)) ∙ job.uniforms in
-    let declared : u32_at bytes (at + 20) ≡ 0 = job.declared in
-    both_pass (each (code_questions bytes) 0 n) (list_questions bytes at)
-    (each_passes (code_questions bytes) 0 n
-    (λ k from to. stands_none (code_questions bytes k)
-    (plain_number (u32_at bytes (entry_offset k + 12)) (in_all (λ b. b.kind ≡ Plain) (λ b. entry_at bytes (entry_offset b)) 0 n built.plain k from to), tt)))
-    (stands_none (list_questions bytes at) (grind (arith, bin), (grind (arith, records), (grind (arith, declared), (grind (arith, uniforms), tt)))))

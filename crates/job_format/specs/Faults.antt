@@ -84,27 +84,9 @@ body_questions bytes =
     ++ (each (content_questions bytes) 0 (buffer_count bytes)
     ++ parts_questions bytes))
 
+-- All rules of the format.
 unfoldable pub format_questions : List ℕ → List (Question FormatFault)
 format_questions bytes = header_questions bytes ++ body_questions bytes
-
--- F6: a part that is not built yet: a Code buffer, or a binner list, records, declared states or
--- uniforms.
-unfoldable pub code_questions : List ℕ → ℕ → List (Question FormatFault)
-code_questions bytes b = Ask (u32_at bytes (entry_offset b + 12) == 1) (fault 6 (entry_offset b + 12)) ∷ []
-
-unfoldable pub list_questions : List ℕ → ℕ → List (Question FormatFault)
-list_questions bytes at =
-    Ask (not (u32_at bytes (at + 12) == 0)) (fault 6 (at + 12))
-    ∷ (Ask (not (u32_at bytes (at + 16) == 0)) (fault 6 (at + 16))
-    ∷ (Ask (not (u32_at bytes (at + 20) == 0)) (fault 6 (at + 20))
-    ∷ (Ask (not (u32_at bytes (at + 24) == 0)) (fault 6 (at + 24)) ∷ [])))
-
-unfoldable pub unbuilt_questions : List ℕ → List (Question FormatFault)
-unbuilt_questions bytes = each (code_questions bytes) 0 (buffer_count bytes) ++ list_questions bytes (job_offset bytes)
-
--- All rules of the format, and after them those on parts that are not built yet.
-unfoldable pub file_questions : List ℕ → List (Question FormatFault)
-file_questions bytes = format_questions bytes ++ unbuilt_questions bytes
 
 -- Ok comes only where no rule stands, with P of what it holds; Err is the first that stands.
 abbrev pub Tells : {X F : Type 0} → List (Question F) → (X → Type 0) → Result X F → Type 0

@@ -115,18 +115,6 @@ pub record IsFileOf (bytes : List ℕ) (f : FileModel) : Type 0 where
   pub well_formed : IsWellFormed f
   pub text : bytes ≡ file_text f
 
--- A job that uses only what is built: no binner list, no records, no declared states, no uniforms.
-pub record IsJobBuilt (j : JobModel) : Type 0 where
-  pub bin : length j.bin ≡ 0
-  pub records : length j.records ≡ 0
-  pub declared : j.declared ≡ 0
-  pub uniforms : length j.uniforms ≡ 0
-
--- A file that uses only what is built: no Code buffer, and such jobs.
-pub record IsBuilt (f : FileModel) : Type 0 where
-  pub plain : AllByRecursion (λ b. b.kind ≡ Plain) f.buffers
-  pub jobs : AllByRecursion IsJobBuilt f.jobs
-
 -- What was answered is this file, unless memory ran out.
 abbrev pub Reads : FileModel → Result JobFile (Stop FormatFault) → Type 0
 Reads f (Ok file) = file_view file ≡ f

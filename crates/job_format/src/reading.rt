@@ -1,9 +1,9 @@
 //! The values of a job file of which no format rule stands.
-ghost use Rattle.std.specs.Prelude.{◌≡◌, ◌+◌, ◌*◌, ◌<◌, ◌≤◌, length, map, IfOk};
+ghost use Rattle.std.specs.Prelude.{◌≡◌, ◌↔◌, ◌+◌, ◌*◌, ◌<◌, ◌≤◌, length, map, None, IfOk};
 ghost use Rattle.field_words.specs.Words.{u32_at};
-ghost use Rattle.field_words.specs.Questions.{Answers, NamesFirst, NeverHidesFault};
-ghost use Rattle.job_format.specs.Faults.{unbuilt_questions, file_questions};
-ghost use Rattle.job_format.specs.File.{IsFileOf, IsBuilt, Reads};
+ghost use Rattle.field_words.specs.Questions.{first_of, Answers, NamesFirst, NeverHidesFault};
+ghost use Rattle.job_format.specs.Faults.{format_questions};
+ghost use Rattle.job_format.specs.File.{IsFileOf, Reads};
 ghost use Rattle.job_format.specs.Model.{FileModel, job_view, file_view};
 ghost use Rattle.job_format.specs.Offsets.{header_size, entry_size, job_size, most_buffers, buffer_count, entry_offset, job_offset, content_offset, handles_offset, bin_offset, records_offset, uniforms_offset, end_offset};
 ghost use Rattle.job_format.specs.Whole.{HasParts};
@@ -13,7 +13,6 @@ use crate::faults::{content_size, format_fault};
 use crate::file::{Frame, Job, JobFile, Surface};
 use crate::rule::FormatFault;
 use crate::sizes::{JOB_SIZE, entry_offset};
-use crate::unbuilt::unbuilt_fault;
 use crate::words::{half, word};
 use buffer_table::{Buffer, Kind, Regions};
 use field_words::Stop;
@@ -197,41 +196,30 @@ pub(crate) fn file_of(alloc: Global, bytes: &[u8]) -> Result<JobFile, AllocError
     })
 }
 
-/// The file, or F6.
-fn built_file(alloc: Global, bytes: &[u8]) -> Result<JobFile, Stop<FormatFault>>
-    requires whole { HasParts bytes.now }
-    ensures answers { Answers (unbuilt_questions bytes.now) (λ f. file_view f ≡ file_at bytes.now) result }
-    ensures memory { NeverHidesFault (unbuilt_questions bytes.now) result }
-{
-    if let Some(fault) = unbuilt_fault(bytes) {
-        return Err(Stop::Fault(fault));
-    }
-    Ok(file_of(alloc, bytes)?)
-}
-
 /// The file, or its first fault.
-#[tactic(auto, unfolding(crate::specs::Faults::file_questions), using(field_words::proofs::Questions::passes, field_words::proofs::Questions::stops, field_words::proofs::Questions::hides_later))]
 fn file(alloc: Global, bytes: &[u8]) -> Result<JobFile, Stop<FormatFault>>
-    ensures answers { Answers (file_questions bytes.now) (λ f. file_view f ≡ file_at bytes.now) result }
-    ensures memory { NeverHidesFault (file_questions bytes.now) result }
+    ensures answers { Answers (format_questions bytes.now) (λ f. file_view f ≡ file_at bytes.now) result }
+    ensures memory { NeverHidesFault (format_questions bytes.now) result }
 {
     match format_fault(bytes) {
         Some(fault) => Err(Stop::Fault(fault)),
-        None => built_file(alloc, bytes),
+        None => Ok(file_of(alloc, bytes)?),
     }
 }
 
-/// Reads a job file. The fault is the first of F1 to F5, part by part and in a part by field, and
-/// after them F6, a part of the format that is not built yet. Finding it takes no memory.
+/// Reads a job file. The fault is the first of F1 to F5, part by part and in a part by field. Finding
+/// it takes no memory.
 pub fn read_job(alloc: Global, bytes: &[u8]) -> Result<JobFile, Stop<FormatFault>>
     // Which fault it is, and the fields of the file.
-    ensures read { Answers (file_questions bytes.now) (λ f. file_view f ≡ file_at bytes.now) result }
-    ensures first { NamesFirst (file_questions bytes.now) result }
-    ensures memory { NeverHidesFault (file_questions bytes.now) result }
+    ensures read { Answers (format_questions bytes.now) (λ f. file_view f ≡ file_at bytes.now) result }
+    ensures first { NamesFirst (format_questions bytes.now) result }
+    ensures memory { NeverHidesFault (format_questions bytes.now) result }
     // The file that is read is the one that the bytes spell.
     ensures found { IfOk result (λ f. IsFileOf bytes.now (file_view f)) }
+    // No rule stands exactly where a file belongs to the bytes.
+    ensures exact { (first_of (format_questions bytes.now) ≡ None) ↔ ((f : FileModel) × IsFileOf bytes.now f) }
     // Bytes that spell a file are read, unless memory runs out.
-    ensures only { (f : FileModel) → IsFileOf bytes.now f → IsBuilt f → Reads f result }
+    ensures only { (f : FileModel) → IsFileOf bytes.now f → Reads f result }
 {
     file(alloc, bytes)
 }

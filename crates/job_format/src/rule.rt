@@ -51,9 +51,6 @@ pub const OVER_LIMIT: u8 = 4;
 /// F5: a field holds what has no meaning.
 pub const WITHOUT_MEANING: u8 = 5;
 
-/// F6: the file uses a part that isn't built yet.
-pub const NOT_BUILT: u8 = 6;
-
 /// The first format rule that stands: F`number` at `offset` in the file.
 #[derive(Clone, Copy, Debug, PartialEq, Eq, Error)]
 #[error("rule F{number} stands at byte {offset} of the job file: {}", self.sentence())]
@@ -71,7 +68,6 @@ impl FormatFault {
             BYTES_FOLLOW => "bytes follow the last part",
             OVER_LIMIT => "the number is over its limit",
             WITHOUT_MEANING => "the field holds what has no meaning",
-            NOT_BUILT => "the part can't be checked yet",
             _ => "there is no rule of this number",
         }
     }

@@ -95,8 +95,6 @@ fn one_changed_byte_is_refused_at_its_field(rt: HostRuntime) -> Result<(), Fail>
         (178, 1, WITHOUT_MEANING, 178),
         (179, 1, WITHOUT_MEANING, 179),
         (68, 1, ENDS_EARLY, 184),
-        (48, 1, NOT_BUILT, 48),
-        (76, 1, NOT_BUILT, 76),
     ] {
         let bytes = changed(alloc, at, byte)?;
         assert_eq!(rt; fault_of(alloc, &bytes), Some((rule, offset)));

@@ -236,7 +236,7 @@ pub fn write_job(alloc: Global, file: &JobFile) -> Result<Vec<u8>, NoMemory>
     ensures text { IfOk result (λ v. v.items ≡ file_text (file_view file.now)) }
     // The bytes spell the file,
     ensures spells { IfOk result (λ v. IsFileOf v.items (file_view file.now)) }
-    // so reading them gives the file again, wherever it uses no part that is not built yet.
+    // so reading them gives the file again.
     ensures again { IfOk result (λ v. (first_of (format_questions v.items) ≡ None) × (file_at v.items ≡ file_view file.now)) }
 {
     Ok(text(alloc, file)?)

@@ -2,7 +2,7 @@
 use Rattle.std.proofs.Common.{◌≡◌, ℕ, ◌+◌, ◌*◌, ◌/◌, ◌%◌, ◌==◌, false, not, nat_lt, nat_le, ◌||◌, List, [], ◌∷◌, ◌++◌, length, None, refl, sym, subst, arith, ◌∙◌}
 use Rattle.std.proofs.lemmas.Bool.{le-ltb}
 use Rattle.field_words.specs.Words.{rounded_up}
-use Rattle.field_words.specs.Questions.{Question, first_of, each}
+use Rattle.field_words.specs.Questions.{Question, first_of, answered, each}
 use Rattle.field_words.proofs.Questions.{passes, stands_none, answered_none}
 use Rattle.buffer_table.specs.declared.item.Item.{Item}
 use Rattle.buffer_table.specs.Table.{buffer_at, shares, is_off_page, memory_questions, item_questions, all_questions, table_questions, lists_item, tile_item}
@@ -13,8 +13,9 @@ use Rattle.render_list.specs.Frame.{is_present, is_full, is_multisample, tile_si
 use Rattle.render_list.specs.Length.{load_size, loads_size, writes_size, tile_size, render_length}
 use Rattle.render_list.specs.Surfaces.{surface_faults, frame_questions, surface_questions, shape_questions, size_questions, whole_questions, is_written, is_reversed, is_outside_grid, is_outside_frame, has_unknown_flag, has_unknown_bit, is_unnamed, has_unlisted_tiling, tiling_number, has_unlisted_format, pixel_size_of, is_too_large, plain_end, is_full_with_bits, is_too_large_full, buffer_size}
 use Rattle.render_list.specs.Surfaces.{is_unaligned as is_surface_unaligned}
-use Rattle.job_check.specs.Jobs.{job_of, table_of, has_tiles, render_room, layout_of}
-use Rattle.job_check.specs.Faults.{table_refused, handle_refused, surface_refused, table_stage, handles_stage, surfaces_stage, layout_stage, job_stages, file_stages}
+use Rattle.job_check.specs.Shaders.{table_of}
+use Rattle.job_check.specs.Jobs.{job_of, has_bin, grid_of, has_tiles, render_room, layout_of}
+use Rattle.job_check.specs.Faults.{table_refused, handle_refused, surface_refused, table_stage, shader_stage, shaders_stage, handles_stage, bin_stage, records_stage, surfaces_stage, lists_stages, layout_stage, job_stages, file_stages}
 use Rattle.relocation.specs.Layout.{records_start, uniforms_start, render_start}
 use Rattle.thin_job.specs.Thin.{raster_size, IsItem, AreApart, KeepsRules}
 use Rattle.thin_job.specs.Shape.{thin_of, IsThinFile}
@@ -127,7 +128,7 @@ unfolding render_room has_tiles render_length tile_size loads_size load_size wri
 room_of n = refl
 
 layout_none : (n : Numbers) → numbers_keep n → first_of (layout_stage (thin_file n) 0) ≡ None
-unfolding layout_stage layout_of job_of records_start uniforms_start render_start rounded_up
+unfolding layout_stage layout_of has_bin job_of records_start uniforms_start render_start rounded_up
 layout_none n keeps =
     let lists = keeps.items.lists in
     stands_none (layout_stage (thin_file n) 0) (le-ltb n.regions.lists_size (0 + render_room (thin_frame n) false) (omega (arith, room_of n, lists.some, lists.pages)), tt)
@@ -142,23 +143,32 @@ unfolding handles_stage job_of
 job_handles_none n = answered_none (handle_refused (thin_file n) 0) (handles_questions (table_of (thin_file n)) n.client (0 ∷ [])) (handles_none n)
 
 job_surfaces_none : (n : Numbers) → numbers_keep n → first_of (surfaces_stage (thin_file n) 0) ≡ None
-unfolding surfaces_stage job_of
+unfolding surfaces_stage grid_of has_bin job_of
 job_surfaces_none n keeps = answered_none (surface_refused (thin_file n) 0) (surface_faults (thin_frame n) None (table_of (thin_file n)) (0 ∷ [])) (surfaces_none n keeps)
 
 both_none : {F : Type 0} → (front rest : List (Question F)) → first_of front ≡ None → first_of rest ≡ None → first_of (front ++ rest) ≡ None
 both_none front rest a b = passes front rest a ∙ b
 
+-- a thin file has no binner list and no shader
+job_lists_none : (n : Numbers) → numbers_keep n → first_of (lists_stages (thin_file n) 0) ≡ None
+unfolding lists_stages bin_stage records_stage has_bin job_of
+job_lists_none n keeps = job_surfaces_none n keeps
+
 job_none : (n : Numbers) → numbers_keep n → first_of (job_stages (thin_file n) 0) ≡ None
 unfolding job_stages
 job_none n keeps =
-    both_none (handles_stage (thin_file n) 0) (surfaces_stage (thin_file n) 0 ++ layout_stage (thin_file n) 0) (job_handles_none n)
-    (both_none (surfaces_stage (thin_file n) 0) (layout_stage (thin_file n) 0) (job_surfaces_none n keeps) (layout_none n keeps))
+    both_none (handles_stage (thin_file n) 0) (lists_stages (thin_file n) 0 ++ layout_stage (thin_file n) 0) (job_handles_none n)
+    (both_none (lists_stages (thin_file n) 0) (layout_stage (thin_file n) 0) (job_lists_none n keeps) (layout_none n keeps))
+
+shaders_none : (n : Numbers) → first_of (shaders_stage (thin_file n)) ≡ None
+unfolding shaders_stage shader_stage buffer_at answered each
+shaders_none n = refl
 
 stages_none : (n : Numbers) → numbers_keep n → first_of (file_stages (thin_file n)) ≡ None
 unfolding file_stages each
 stages_none n keeps =
-    both_none (table_stage (thin_file n)) (job_stages (thin_file n) 0 ++ []) (table_none n keeps)
-    (both_none (job_stages (thin_file n) 0) [] (job_none n keeps) refl)
+    both_none (table_stage (thin_file n)) (shaders_stage (thin_file n) ++ (job_stages (thin_file n) 0 ++ [])) (table_none n keeps)
+    (both_none (shaders_stage (thin_file n)) (job_stages (thin_file n) 0 ++ []) (shaders_none n) (both_none (job_stages (thin_file n) 0) [] (job_none n keeps) refl))
 
 -- No rule stands in a thin file.
 pub thin_has_no_fault : (bytes : List ℕ) (f : FileModel) → IsThinFile bytes f → first_of (file_stages f) ≡ None

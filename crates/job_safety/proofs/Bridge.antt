@@ -11,8 +11,8 @@ use Rattle.render_list.specs.Frame.{is_present, is_last_tile}
 use Rattle.render_list.specs.Surfaces.{place_in}
 use Rattle.packets.specs.Packet.{packet_text}
 use Rattle.render_list.specs.Text.{render_text, render_slots, front_slots, head_packet, clear_slots, span_slots, tile_slots, load_slots, list_slots, write_slots, color_store, some_before_color, some_before_zs}
-use Rattle.job_check.specs.Jobs.{job_of, slot_of, places_in, render_list_of, layout_of}
-use Rattle.job_check.specs.Emit.{content_parts, list_parts, memory_parts, memory_of}
+use Rattle.job_check.specs.Jobs.{job_of, has_bin, grid_of, slot_of, places_in, bin_list_of, records_of, streams_of, render_list_of, layout_of}
+use Rattle.job_check.specs.Emit.{content_parts, later_parts, list_parts, memory_parts, memory_of}
 use Rattle.thin_job.specs.Shape.{thin_of, IsThinFile}
 use Rattle.thin_job.specs.Memory.{thin_list, thin_memory}
 use Rattle.thin_job.proofs.Numbers.{Numbers, thin_file}
@@ -27,7 +27,7 @@ put_nothing old at = ap (λ k. take at old ++ drop k old) (add-zero at) ∙ take
 
 -- the renderer list of a thin file, its place, and its memory
 list_of : (n : Numbers) → render_list_of (thin_file n) 0 ≡ thin_list (thin_of (thin_file n))
-unfolding render_list_of job_of slot_of places_in data_of buffer_at place_in is_present render_text render_slots front_slots head_packet clear_slots span_slots tile_slots load_slots list_slots write_slots color_store some_before_color some_before_zs is_last_tile packet_text thin_list
+unfolding render_list_of grid_of has_bin job_of slot_of places_in data_of buffer_at place_in is_present render_text render_slots front_slots head_packet clear_slots span_slots tile_slots load_slots list_slots write_slots color_store some_before_color some_before_zs is_last_tile packet_text thin_list
 list_of n = refl
 
 -- 15 bytes
@@ -40,9 +40,18 @@ unfolding layout_of job_of records_start uniforms_start render_start rounded_up
 place_of n = add-zero n.regions.lists_place
 
 memory_is : (n : Numbers) → memory_of (thin_file n) ≡ thin_memory (thin_of (thin_file n))
-unfolding memory_of content_parts memory_parts list_parts
+unfolding memory_of content_parts memory_parts list_parts later_parts bin_list_of records_of streams_of has_bin job_of
 memory_is n =
-    ap (λ m. with_bytes m ((layout_of (thin_file n) 0).place + (layout_of (thin_file n) 0).render) (render_list_of (thin_file n) 0)) (put_nothing (zeros n.mem_size) n.place)
+    let layout = layout_of (thin_file n) 0 in
+    let bin : ℕ = layout.place + layout.bin in
+    let records : ℕ = layout.place + layout.records in
+    let uniforms : ℕ = layout.place + layout.uniforms in
+    let fresh : List ℕ = with_bytes (zeros n.mem_size) n.place [] in
+    ap (λ m. with_bytes m (layout.place + layout.render) (render_list_of (thin_file n) 0))
+    (put_nothing (with_bytes (with_bytes fresh bin []) records []) uniforms
+    ∙ put_nothing (with_bytes fresh bin []) records
+    ∙ put_nothing fresh bin
+    ∙ put_nothing (zeros n.mem_size) n.place)
     ∙ ap (λ at. with_bytes (zeros n.mem_size) at (render_list_of (thin_file n) 0)) (place_of n)
     ∙ ap (with_bytes (zeros n.mem_size) n.regions.lists_place) (list_of n)
 

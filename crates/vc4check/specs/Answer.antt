@@ -6,7 +6,7 @@ use Rattle.field_words.specs.Questions.{Question, first_of, answered, IsFirst}
 use Rattle.job_format.specs.declared.rule.FormatFault.{FormatFault}
 use Rattle.job_format.specs.declared.rule.Refusal.{Refusal}
 use Rattle.job_format.specs.declared.rule.Stage.TheVariants.{F}
-use Rattle.job_format.specs.Faults.{file_questions}
+use Rattle.job_format.specs.Faults.{format_questions}
 use Rattle.job_format.specs.File.{IsFileOf}
 use Rattle.job_format.specs.Model.{FileModel}
 use Rattle.job_format.specs.Reading.{file_at}
@@ -29,7 +29,7 @@ format_stopped NoMemory = NoMemory
 -- All rules by which these bytes can be refused, in the order of refusal. The stages after the format are asked of the file
 -- that the bytes hold.
 unfoldable pub all_questions : List ℕ → List (Question Refusal)
-all_questions bytes = answered format_refused (file_questions bytes) ++ file_stages (file_at bytes)
+all_questions bytes = answered format_refused (format_questions bytes) ++ file_stages (file_at bytes)
 
 -- the first rule that stands, if any
 unfoldable pub refusal_of : List ℕ → Option Refusal

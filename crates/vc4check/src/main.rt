@@ -10,6 +10,8 @@ mod run;
 mod serve;
 mod shader_text;
 #[cfg(test)]
+mod job_tests;
+#[cfg(test)]
 mod tests;
 
 use entry::{Program, status};

@@ -173,7 +173,7 @@ fn names_the_first_rule(rt: HostRuntime) -> Result<(), Fail> {
         ([(8, 0)].as_slice(), "refused M1 at 8\n"),
         (&[(28, 65)], "refused F4 at 28\n"),
         (&[(48, 2)], "refused F5 at 48\n"),
-        (&[(48, 1)], "refused F6 at 48\n"),
+        (&[(48, 1)], "refused S1 at 52\n"),
         (&[(60, 2)], "refused F5 at 60\n"),
         (&[(80, 2)], "refused F5 at 80\n"),
         (&[(176, 0x0001_0000)], "refused F5 at 178\n"),

@@ -1,7 +1,9 @@
-use Rattle.std.proofs.Common.{◌++◌, length, sym, subst}
+use Rattle.std.proofs.Common.{◌++◌, Result, Err, length, sym, subst}
+use Rattle.field_words.specs.declared.stop.Stop.{Stop}
+use Rattle.job_format.specs.declared.rule.Refusal.{Refusal}
 use Rattle.std.proofs.lemmas.List.{length-map}
 use Rattle.field_words.specs.Questions.{each, Answers}
-use Rattle.field_words.proofs.Questions.{answers_later, refuses_front}
+use Rattle.field_words.proofs.Questions.{answers_later, refuses_front, names_first}
 use Rattle.job_format.specs.Model.{file_view, job_view}
 use Rattle.job_check.specs.declared.check.Checked.{Checked}
 use Rattle.job_check.specs.Faults.{table_stage, shaders_stage, job_stages, file_stages}
@@ -21,3 +23,14 @@ unfolding file_stages
 returns-in-Err-clause-answers c =
     let f = file_view c.args.file.now in
     refuses_front (table_stage f) (shaders_stage f ++ each (job_stages f) 0 (length f.jobs)) c.in-Err.stop c.in-Err.ensures.answers
+
+pub returns-in-Ok-clause-first : goal.returns-in-Ok-clause-first
+returns-in-Ok-clause-first c =
+    let f = file_view c.args.file.now in
+    names_first (file_stages f) (λ (checked : Checked). IsEmitted f checked.memory checked.layout checked.lengths) c.check_shaders.result (returns-in-Ok-clause-answers c)
+
+pub returns-in-Err-clause-first : goal.returns-in-Err-clause-first
+returns-in-Err-clause-first c =
+    let f = file_view c.args.file.now in
+    let result : Result Checked (Stop Refusal) = Err c.in-Err.stop in
+    names_first (file_stages f) (λ (checked : Checked). IsEmitted f checked.memory checked.layout checked.lengths) result (returns-in-Err-clause-answers c)

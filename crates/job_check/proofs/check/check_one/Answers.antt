@@ -4,7 +4,7 @@ use Rattle.field_words.proofs.Questions.{answers_later, refuses_front}
 use Rattle.job_format.specs.Model.{file_view}
 use Rattle.job_check.specs.declared.check.Lists.{Lists}
 use Rattle.job_check.specs.Context.{InView}
-use Rattle.job_check.specs.Faults.{handles_stage, surfaces_stage, layout_stage, job_stages}
+use Rattle.job_check.specs.Faults.{handles_stage, lists_stages, layout_stage, job_stages}
 use Rattle.job_check.specs.Emit.{IsPlacedFor}
 use Rattle.job_check.proofs.check.check_one.Goals as goal
 
@@ -14,12 +14,12 @@ returns-in-Ok-clause-answers c =
     let f = file_view c.args.file.now in
     let j = c.args.number in
     let same : c.in-Ok.job ≡ record { file = f; number = j } = c.in-Ok.ensures.1 in
-    answers_later (handles_stage f j) (surfaces_stage f j ++ layout_stage f j) (λ (lists : Lists). IsPlacedFor f j lists.layout lists.lengths) c.place_lists.result c.in-Ok.ensures.0
-    (subst (λ (v : InView). Answers (surfaces_stage v.file v.number ++ layout_stage v.file v.number) (λ (lists : Lists). IsPlacedFor v.file v.number lists.layout lists.lengths) c.place_lists.result) same c.place_lists.ensures.answers)
+    answers_later (handles_stage f j) (lists_stages f j ++ layout_stage f j) (λ (lists : Lists). IsPlacedFor f j lists.layout lists.lengths) c.place_lists.result c.in-Ok.ensures.0
+    (subst (λ (v : InView). Answers (lists_stages v.file v.number ++ layout_stage v.file v.number) (λ (lists : Lists). IsPlacedFor v.file v.number lists.layout lists.lengths) c.place_lists.result) same c.place_lists.ensures.answers)
 
 pub returns-in-Err-clause-answers : goal.returns-in-Err-clause-answers
 unfolding job_stages
 returns-in-Err-clause-answers c =
     let f = file_view c.args.file.now in
     let j = c.args.number in
-    refuses_front (handles_stage f j) (surfaces_stage f j ++ layout_stage f j) c.in-Err.stop c.in-Err.ensures
+    refuses_front (handles_stage f j) (lists_stages f j ++ layout_stage f j) c.in-Err.stop c.in-Err.ensures

@@ -3,9 +3,9 @@ use Rattle.field_words.specs.Writes.{placed}
 use Rattle.field_words.proofs.Questions.{refuses_front, passes}
 use Rattle.phys_mem.specs.Window.{with_window}
 use Rattle.job_format.specs.Model.{job_view}
-use Rattle.job_check.specs.Shaders.{shaders_view}
+use Rattle.shader_records.specs.Inputs.{shaders_view}
 use Rattle.job_check.specs.Context.{InView, IsContext}
-use Rattle.job_check.specs.Faults.{surfaces_stage, layout_stage}
+use Rattle.job_check.specs.Faults.{lists_stages, layout_stage}
 use Rattle.job_check.specs.Emit.{list_parts}
 use Rattle.job_check.proofs.Order.{layout_fits}
 use Rattle.job_check.proofs.Views.{placed_lists, window_fits}
@@ -35,7 +35,7 @@ returns-in-Ok c =
     let room : x.layout.place + x.layout.end ≤ length c.args.memory.now = omega (arith, fits, c.requires) in
     record {
       answers = (
-        passes (surfaces_stage v.file v.number) (layout_stage v.file v.number) c.in-Ok.ensures.answers.0 ∙ layout_fits v.file v.number (c.if-not-fits.ensures.0 refl),
+        passes (lists_stages v.file v.number) (layout_stage v.file v.number) c.in-Ok.ensures.answers.0 ∙ layout_fits v.file v.number (c.if-not-fits.ensures.0 refl),
         record { layout_is = h.layout_is; lengths_are = c.in-Ok.ensures.answers.1 },
       );
       put =
@@ -46,4 +46,4 @@ returns-in-Ok c =
     }
 
 pub returns-in-Err-clause-answers : goal.returns-in-Err-clause-answers
-returns-in-Err-clause-answers c = let v = c.args.job.now in refuses_front (surfaces_stage v.file v.number) (layout_stage v.file v.number) c.in-Err.stop c.in-Err.ensures.answers
+returns-in-Err-clause-answers c = let v = c.args.job.now in refuses_front (lists_stages v.file v.number) (layout_stage v.file v.number) c.in-Err.stop c.in-Err.ensures.answers

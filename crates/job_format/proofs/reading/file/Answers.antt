@@ -3,5 +3,5 @@ use Rattle.std.proofs.Common.{sym}
 use Rattle.job_format.proofs.Passing.{has_parts}
 use Rattle.job_format.proofs.reading.file.Goals as goal
 
-pub built_file-requires : goal.built_file-requires
-built_file-requires c = record { whole = has_parts c.args.bytes.now (sym c.in-None.ensures) }
+pub file_of-requires : goal.file_of-requires
+file_of-requires c = record { whole = has_parts c.args.bytes.now (sym c.in-None.ensures) }

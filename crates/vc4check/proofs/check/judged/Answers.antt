@@ -4,7 +4,7 @@ use Rattle.field_words.specs.declared.stop.Stop.{Stop}
 use Rattle.field_words.specs.declared.stop.Stop.TheVariants.{Fault, NoMemory}
 use Rattle.job_format.specs.declared.rule.FormatFault.{FormatFault}
 use Rattle.field_words.proofs.Questions.{answers_later, answered_none, answered_some, stops}
-use Rattle.job_format.specs.Faults.{file_questions}
+use Rattle.job_format.specs.Faults.{format_questions}
 use Rattle.job_format.specs.Model.{FileModel, file_view}
 use Rattle.job_format.specs.Reading.{file_at}
 use Rattle.job_check.specs.declared.check.Checked.{Checked}
@@ -18,15 +18,15 @@ unfolding all_questions
 returns-in-Ok-clause-answers c =
     let bytes = c.args.bytes.now in
     let P : FileModel → Checked → Type 0 = λ f checked. IsEmitted f checked.memory checked.layout checked.lengths in
-    answers_later (answered format_refused (file_questions bytes)) (file_stages (file_at bytes)) (P (file_at bytes)) c.check_job.result
-    (answered_none format_refused (file_questions bytes) c.in-Ok.ensures.read.0)
+    answers_later (answered format_refused (format_questions bytes)) (file_stages (file_at bytes)) (P (file_at bytes)) c.check_job.result
+    (answered_none format_refused (format_questions bytes) c.in-Ok.ensures.read.0)
     (subst (λ f. Answers (file_stages f) (P f) c.check_job.result) c.in-Ok.ensures.read.1 c.check_job.ensures.answers)
 
 -- A fault of the format is the first rule of all that stands.
-stopped : (bytes : List ℕ) (stop : Stop FormatFault) → Refuses (file_questions bytes) stop → Refuses (all_questions bytes) (format_stopped stop)
+stopped : (bytes : List ℕ) (stop : Stop FormatFault) → Refuses (format_questions bytes) stop → Refuses (all_questions bytes) (format_stopped stop)
 unfolding all_questions
 stopped bytes (Fault fault) refuses =
-    stops (answered format_refused (file_questions bytes)) (file_stages (file_at bytes)) (format_refused fault) (answered_some format_refused (file_questions bytes) fault refuses)
+    stops (answered format_refused (format_questions bytes)) (file_stages (file_at bytes)) (format_refused fault) (answered_some format_refused (format_questions bytes) fault refuses)
 stopped bytes NoMemory refuses = tt
 
 pub returns-in-Err-clause-answers : goal.returns-in-Err-clause-answers

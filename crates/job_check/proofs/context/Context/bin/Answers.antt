@@ -1,0 +1,64 @@
+use Rattle.std.proofs.Common.{◌≡◌, length, None, sym, ap, subst, arith, ◌∙◌}
+use Rattle.field_words.specs.Writes.{with_bytes}
+use Rattle.field_words.specs.Questions.{first_of}
+use Rattle.job_format.specs.File.{IsJobWellFormed}
+use Rattle.job_format.specs.Model.{job_view}
+use Rattle.shader_records.specs.Inputs.{shaders_view}
+use Rattle.job_check.specs.Context.{InView, IsContext}
+use Rattle.bin_list.specs.Emitted.{bin_text}
+use Rattle.bin_list.specs.Info.{IsInfo}
+use Rattle.bin_list.specs.Rules.{bin_questions}
+use Rattle.job_check.specs.Jobs.{layout_of}
+use Rattle.job_check.proofs.Layouts.{layout_low, layout_apart}
+use Rattle.job_check.proofs.Views.{bin_none, bin_text_is, bin_told}
+use Rattle.job_check.proofs.context.Context.bin.Goals as goal
+
+pub check_bin-requires-clause-place_limit : goal.check_bin-requires-clause-place_limit
+check_bin-requires-clause-place_limit c =
+    let v = c.args.self.now in
+    let x = c.self.inside in
+    let h = subst (λ (w : InView). IsContext w (job_view x.job.now) x.table.now (shaders_view x.shaders.now.items) x.handles x.layout) c.self.view_is c.self.invariant in
+    let low = layout_low v.file v.number h.sound h.well_formed.one_job h.inside (subst IsJobWellFormed h.job_is h.limits) in
+    omega (arith, low.0, ap (λ l. l.place) h.layout_is)
+
+pub check_bin-requires-clause-records_limit : goal.check_bin-requires-clause-records_limit
+check_bin-requires-clause-records_limit c =
+    let v = c.args.self.now in
+    let x = c.self.inside in
+    let h = subst (λ (w : InView). IsContext w (job_view x.job.now) x.table.now (shaders_view x.shaders.now.items) x.handles x.layout) c.self.view_is c.self.invariant in
+    let low = layout_low v.file v.number h.sound h.well_formed.one_job h.inside (subst IsJobWellFormed h.job_is h.limits) in
+    omega (arith, low.1, ap (λ l. l.records) h.layout_is)
+
+pub check_bin-requires-clause-slot_limit : goal.check_bin-requires-clause-slot_limit
+check_bin-requires-clause-slot_limit c =
+    let v = c.args.self.now in
+    let x = c.self.inside in
+    let h = subst (λ (w : InView). IsContext w (job_view x.job.now) x.table.now (shaders_view x.shaders.now.items) x.handles x.layout) c.self.view_is c.self.invariant in
+    let low = layout_low v.file v.number h.sound h.well_formed.one_job h.inside (subst IsJobWellFormed h.job_is h.limits) in
+    omega (arith, low.3, ap (λ l. l.slot) h.layout_is)
+
+pub check_bin-requires-clause-room : goal.check_bin-requires-clause-room
+check_bin-requires-clause-room c =
+    let v = c.args.self.now in
+    let x = c.self.inside in
+    let h = subst (λ (w : InView). IsContext w (job_view x.job.now) x.table.now (shaders_view x.shaders.now.items) x.handles x.layout) c.self.view_is c.self.invariant in
+    let apart = layout_apart v.file v.number in
+    omega (arith, apart.first, apart.second, apart.third, apart.last, ap (λ l. l.bin) h.layout_is, ap length c.deref.ensures.value, ap (λ j. length j.bin) h.job_is, c.requires.room)
+
+pub returns-in-Ok : goal.returns-in-Ok
+returns-in-Ok c =
+    let v = c.args.self.now in
+    let x = c.self.inside in
+    let h = subst (λ (w : InView). IsContext w (job_view x.job.now) x.table.now (shaders_view x.shaders.now.items) x.handles x.layout) c.self.view_is c.self.invariant in
+    let list = ap (λ l. bin_questions l x.job.now.declared x.table.now x.handles) c.deref.ensures.value in
+    let text = ap (λ l. bin_text l x.job.now.declared x.table.now x.handles x.layout) c.deref.ensures.value in
+    let same = text ∙ bin_text_is v (job_view x.job.now) x.table.now (shaders_view x.shaders.now.items) x.handles x.layout h c.requires.some in
+    let none : first_of (bin_questions (job_view x.job.now).bin x.job.now.declared x.table.now x.handles) ≡ None = sym (ap first_of list) ∙ c.in-Ok.ensures.answers.0 in
+    record {
+      answers = (
+        bin_none v (job_view x.job.now) x.table.now (shaders_view x.shaders.now.items) x.handles x.layout h c.requires.some none,
+        bin_told v (job_view x.job.now) x.table.now (shaders_view x.shaders.now.items) x.handles x.layout c.in-Ok.info h c.requires.some (subst (λ l. IsInfo l x.job.now.declared x.table.now x.handles x.layout c.in-Ok.info) c.deref.ensures.value c.in-Ok.ensures.answers.1),
+      );
+      written = c.in-Ok.ensures.put ∙ ap (λ at. with_bytes c.args.out.now at (bin_text c.deref.result.now x.job.now.declared x.table.now x.handles x.layout)) (ap (λ l. l.bin) h.layout_is) ∙ ap (with_bytes c.args.out.now (layout_of v.file v.number).bin) same;
+      fits = omega (arith, c.in-Ok.ensures.fits, ap length same, ap length c.deref.ensures.value, ap (λ j. length j.bin) h.job_is);
+    }

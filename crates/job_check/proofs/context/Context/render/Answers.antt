@@ -1,0 +1,53 @@
+use Rattle.std.proofs.Common.{ap, subst, arith, ◌∙◌}
+use Rattle.field_words.specs.Writes.{with_bytes}
+use Rattle.render_list.specs.Text.{render_text}
+use Rattle.job_format.specs.File.{IsJobWellFormed}
+use Rattle.job_format.specs.Model.{job_view}
+use Rattle.shader_records.specs.Inputs.{shaders_view}
+use Rattle.job_check.specs.Context.{InView, IsContext}
+use Rattle.job_check.specs.Jobs.{layout_of}
+use Rattle.job_check.proofs.Layouts.{layout_low}
+use Rattle.job_check.proofs.Views.{render_ends, list_is, list_length}
+use Rattle.job_check.proofs.context.Context.render.Goals as goal
+
+pub build-requires-clause-slot : goal.build-requires-clause-slot
+build-requires-clause-slot c = λ some.
+    let v = c.args.self.now in
+    let x = c.self.inside in
+    let h = subst (λ (w : InView). IsContext w (job_view x.job.now) x.table.now (shaders_view x.shaders.now.items) x.handles x.layout) c.self.view_is c.self.invariant in
+    let low = layout_low v.file v.number h.sound h.well_formed.one_job h.inside (subst IsJobWellFormed h.job_is h.limits) in
+    omega (arith, low.3, ap (λ l. l.slot) h.layout_is)
+
+pub build-requires-clause-room : goal.build-requires-clause-room
+build-requires-clause-room c =
+    let v = c.args.self.now in
+    let x = c.self.inside in
+    let h = subst (λ (w : InView). IsContext w (job_view x.job.now) x.table.now (shaders_view x.shaders.now.items) x.handles x.layout) c.self.view_is c.self.invariant in
+    let ends = render_ends v (job_view x.job.now) x.table.now (shaders_view x.shaders.now.items) x.handles x.layout c.args.tiles h c.requires.tiles_are c.requires.setup.tiles in
+    omega (arith, ends.0, ends.1, c.requires.room)
+
+pub overflow_sub-result : goal.overflow_sub-result
+overflow_sub-result c =
+    let v = c.args.self.now in
+    let x = c.self.inside in
+    let h = subst (λ (w : InView). IsContext w (job_view x.job.now) x.table.now (shaders_view x.shaders.now.items) x.handles x.layout) c.self.view_is c.self.invariant in
+    let ends = render_ends v (job_view x.job.now) x.table.now (shaders_view x.shaders.now.items) x.handles x.layout c.args.tiles h c.requires.tiles_are c.requires.setup.tiles in
+    omega (arith, ends.0)
+
+pub returns : goal.returns
+returns c =
+    let v = c.args.self.now in
+    let x = c.self.inside in
+    let h = subst (λ (w : InView). IsContext w (job_view x.job.now) x.table.now (shaders_view x.shaders.now.items) x.handles x.layout) c.self.view_is c.self.invariant in
+    let same = list_is v (job_view x.job.now) x.table.now (shaders_view x.shaders.now.items) x.handles x.layout c.args.setup.now.places c.args.tiles h c.requires.places c.requires.tiles_are in
+    let long = list_length v.file v.number c.args.setup.now.places c.requires.places c.requires.setup in
+    let render = ap (λ l. l.render) h.layout_is in
+    let end = ap (λ l. l.end) h.layout_is in
+    record {
+      value = omega (arith, long, render, end);
+      written =
+          c.build.ensures
+          ∙ ap (λ at. with_bytes c.args.out.now at (render_text x.job.now.frame c.args.setup.now.places c.args.tiles x.layout.slot)) render
+          ∙ ap (with_bytes c.args.out.now (layout_of v.file v.number).render) same;
+      fits = omega (arith, long, render, end);
+    }

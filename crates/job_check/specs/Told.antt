@@ -1,0 +1,17 @@
+-- What the stages tell of the lists of a job.
+use Rattle.std.specs.Prelude.{◌≡◌, ℕ, length, Some}
+use Rattle.bin_list.specs.declared.info.BinInfo.{BinInfo}
+use Rattle.shader_records.specs.declared.info.RecordInfo.{RecordInfo}
+use Rattle.job_format.specs.Model.{FileModel}
+use Rattle.job_check.specs.Jobs.{grid_of, states_in, bin_list_of, records_of, streams_of}
+
+-- what is told of the binner list of job j: the grid, the states, and the length of the list that the hardware is given
+pub record IsBinOf (f : FileModel) (j : ℕ) (info : BinInfo) : Type 0 where
+  pub grid : Some (info.tiles_x, info.tiles_y) ≡ grid_of f j
+  pub states : info.states.items ≡ states_in f j
+  pub length_is : info.length ≡ length (bin_list_of f j)
+
+-- what is told of its records and uniforms: the emitted lengths
+pub record AreRecordsOf (f : FileModel) (j : ℕ) (info : RecordInfo) : Type 0 where
+  pub records : info.records ≡ length (records_of f j)
+  pub uniforms : info.uniforms ≡ length (streams_of f j)
