@@ -6,11 +6,11 @@
 mod answer;
 mod check;
 mod command;
+#[cfg(test)]
+mod job_tests;
 mod run;
 mod serve;
 mod shader_text;
-#[cfg(test)]
-mod job_tests;
 #[cfg(test)]
 mod tests;
 
