@@ -109,11 +109,13 @@ mod tests {
     fn reaches_both_ends(rt: HostRuntime) -> Result<(), NoMemory> {
         assert!(rt; PhysMem::new(rt.alloc(), 0)?.len() == 0);
         let mut memory = PhysMem::new(rt.alloc(), 4)?;
-        memory.window(0, 4).fill(0xa5);
+        assert!(rt; memory.len() == 4);
+        let window = memory.window(0, 4);
+        window[0] = 0xa5;
         memory.write_bytes(3, &[0x5a]);
         memory.write_bytes(4, &[]);
-        assert!(rt; memory.window(4, 0).is_empty());
-        assert_eq!(rt; memory.read_word(0), 0x5aa5_a5a5);
+        assert_eq!(rt; memory.window(4, 0).len(), 0);
+        assert_eq!(rt; memory.read_word(0), 0x5a00_00a5);
         Ok(())
     }
 }

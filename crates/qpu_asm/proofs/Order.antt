@@ -1,5 +1,5 @@
 -- The rows of a kind stand for the fields of its struct.
-use Rattle.std.proofs.Common.{◌≡◌, ℕ, refl, sym}
+use Rattle.std.proofs.Common.{refl, sym}
 use Rattle.qpu_isa.specs.Fields.{joined}
 use Rattle.qpu_isa.proofs.Words.{alu_values-alu_of, load_imm_values-load_imm_of, branch_values-branch_of}
 use Rattle.qpu_asm.specs.Table.{nop_word}

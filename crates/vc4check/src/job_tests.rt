@@ -7,7 +7,8 @@ use std::alloc::Global;
 use std::test::Fail;
 
 /// The job of examples/textured.txt: a triangle by indexes, with a texture and a uniform.
-const TEXTURED: &str = "5643344a01000000008008000000000000100000001000000100000007000000010000000010\
+const TEXTURED: &str =
+    "5643344a01000000008008000000000000100000001000000100000007000000010000000010\
     0800001000000100000000000000000000000020080000100000010000000000000000010000\
     0030080000100000010000000000000024000000004008000010000001000000000000000300\
     0000005008000010000001000000010000004000000000600800001000000100000001000000\
@@ -101,14 +102,14 @@ fn emits_a_textured_draw(rt: HostRuntime) -> Result<(), Fail> {
 fn names_the_first_of_several_stages(rt: HostRuntime) -> Result<(), Fail> {
     let alloc = rt.alloc();
     let all = [
-        (4, 2),      // the version
-        (12, 1),     // the lists' place
-        (599, 0),    // the signal of the first shader's first instruction
-        (64, 2),     // the client of the texture's buffer
-        (758, 4),    // the buffer of the indexes is a shader's
-        (794, 4),    // and that of the vertices
-        (842, 4),    // and that of the texture
-        (224, 4),    // and that of the colours
+        (4, 2), // the version
+        (12, 1), // the lists' place
+        (599, 0), // the signal of the first shader's first instruction
+        (64, 2), // the client of the texture's buffer
+        (758, 4), // the buffer of the indexes is a shader's
+        (794, 4), // and that of the vertices
+        (842, 4), // and that of the texture
+        (224, 4), // and that of the colours
     ];
     for (first, line) in [
         (0, "refused F1 at 4\n"),

@@ -6,36 +6,34 @@
 mod answer;
 mod check;
 mod command;
+#[cfg(test)]
+mod job_tests;
 mod run;
 mod serve;
 mod shader_text;
 #[cfg(test)]
-mod job_tests;
-#[cfg(test)]
 mod tests;
 
-use job_io::{ReaderSource, WriterSink};
+use entry::{Program, status};
+use job_io::{Sink, Source};
+use std::alloc::Global;
 use std::process::ExitCode;
-use std::{env, io};
 
-/// The words after the program's name.
-fn words(rt: &HostRuntime) -> io::Result<Vec<String>> {
-    Ok(env::args(rt)?.skip(1).collect(rt.alloc())?)
-}
+/// The program that `main` runs.
+struct Checker;
 
-/// The status of a run over standard input and output. Words that aren't text are no command's.
-fn status(rt: &HostRuntime) -> u8 {
-    match words(rt) {
-        Ok(words) => {
-            let mut source = ReaderSource::new(rt.stdin());
-            let mut sink = WriterSink::new(rt.stdout());
-            run::run(rt.alloc(), &words, &mut source, &mut sink)
-        }
-        Err(error) if error.kind() == io::ErrorKind::OutOfMemory => 5,
-        Err(_) => 2,
+impl Program for Checker {
+    fn run<S: Source, K: Sink>(
+        &self,
+        alloc: Global,
+        words: &Vec<String>,
+        source: &mut S,
+        sink: &mut K,
+    ) -> u8 {
+        run::run(alloc, words, source, sink)
     }
 }
 
 fn main(rt: HostRuntime) -> ExitCode {
-    ExitCode::from(status(&rt))
+    ExitCode::from(status(&rt, &Checker))
 }

@@ -1,0 +1,33 @@
+-- What the units' writes leave alone.
+use Rattle.std.proofs.Common.{◌≡◌, ℕ, List, refl}
+use Rattle.qpu_machine.specs.declared.state.Thread.{Thread}
+use Rattle.qpu_machine.specs.declared.state.Fate.{Fate}
+use Rattle.qpu_machine.specs.Writes.{written_at, added, multiplied, written, stored, loaded, awake, past_uniform, rested}
+
+-- the writes of the two units touch neither place nor setup words
+pub record Keeps (t next : Thread) : Type 0 where
+  pub place : next.place ≡ t.place
+  pub setups0 : next.setups0 ≡ t.setups0
+  pub setups1 : next.setups1 ≡ t.setups1
+
+pub written_keeps : (word : ℕ) (sum product words : List ℕ) (t : Thread) → Keeps t (written word sum product words t)
+unfolding written_at added multiplied written
+written_keeps word sum product words t = record { place = refl; setups0 = refl; setups1 = refl }
+
+-- the TMUs don't touch the place
+pub loaded_place : (word uniform : ℕ) (words : List ℕ) (t : Thread) → (loaded word words (stored word uniform t)).place ≡ t.place
+unfolding stored loaded
+loaded_place word uniform words t = refl
+
+pub awake_keeps : (words : List ℕ) (t : Thread) → Keeps t (awake words t)
+unfolding awake
+awake_keeps words t = record { place = refl; setups0 = refl; setups1 = refl }
+
+pub past_keeps : (t : Thread) → Keeps t (past_uniform t)
+unfolding past_uniform
+past_keeps t = record { place = refl; setups0 = refl; setups1 = refl }
+
+-- rest doesn't either
+pub rested_place : (fate : Fate) (t : Thread) → (rested fate t).place ≡ t.place
+unfolding rested
+rested_place fate t = refl

@@ -1,0 +1,9 @@
+pub mod Reading
+pub mod Places
+pub mod Fronts
+pub mod Results
+pub mod Frames
+pub mod Tame
+pub mod Shown
+pub mod Near
+pub mod Asking

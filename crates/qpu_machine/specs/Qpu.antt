@@ -1,0 +1,194 @@
+-- A shader processor with its two threads and the queues of its two TMUs: its own step, that of a TMU,
+-- and where a program can start.
+use Rattle.std.specs.Prelude.{ℕ, ◌+◌, ◌==◌, ◌&&◌, ◌||◌, not, Bool, true, false, if◌then◌else◌, List, [], ◌∷◌, ◌++◌, drop, length, Option, None, Some, is_some, is_none, option_map}
+use Rattle.std.specs.List.{count_by}
+use Rattle.qpu_machine.specs.declared.launch.Free.{Free}
+use Rattle.qpu_machine.specs.declared.launch.Launch.{Launch}
+use Rattle.qpu_machine.specs.declared.launch.Slot.{Slot}
+use Rattle.machine_plan.specs.Glance.{Glance, Now}
+use Rattle.machine_plan.specs.Plan.{Plan, Done}
+use Rattle.machine_plan.specs.World.{mapped}
+use Rattle.qpu_machine.specs.declared.state.Asked.{Asked}
+use Rattle.qpu_machine.specs.declared.state.Fate.{Fate}
+use Rattle.qpu_machine.specs.declared.state.Fate.TheVariants.{GoesOn, Switches, Ends}
+use Rattle.qpu_machine.specs.declared.state.Qpu.{Qpu}
+use Rattle.qpu_machine.specs.declared.state.Request.{Request}
+use Rattle.qpu_machine.specs.declared.state.Thread.{Thread}
+use Rattle.qpu_machine.specs.Request.{ask_plan}
+use Rattle.qpu_machine.specs.Start.{thread_of}
+use Rattle.qpu_machine.specs.Step.{ThreadTurn, thread_plan, thread_ready}
+
+-- the thread that is active, where it runs, and the other one
+abbrev pub active_of : Qpu → Option Thread
+active_of q = if q.second then q.other else q.first
+
+abbrev pub resting_of : Qpu → Option Thread
+resting_of q = if q.second then q.first else q.other
+
+-- it is one of this thread's
+abbrev pub is_of : Bool → Request → Bool
+is_of second request = if second then request.second else not request.second
+
+-- how many requests of one of the two threads a queue has
+abbrev pub queued : Bool → List Request → ℕ
+queued second requests = count_by (λ r. is_of second r) requests
+
+abbrev pub ready_by : Option Thread → Qpu → Glance Bool
+ready_by None q = Now false
+ready_by (Some t) q = thread_ready t (queued q.second q.queue0.items) (queued q.second q.queue1.items)
+
+-- a processor may step where its active thread runs and isn't held up
+abbrev pub qpu_ready : Qpu → Glance Bool
+qpu_ready q = ready_by (active_of q) q
+
+-- an end leaves no thread, and gives way to the other one, as a switch does
+abbrev pub left_by : Fate → Thread → Option Thread
+left_by GoesOn t = Some t
+left_by Switches t = Some t
+left_by Ends t = None
+
+abbrev pub gives_way : Fate → Bool
+gives_way GoesOn = false
+gives_way Switches = true
+gives_way Ends = true
+
+-- a thread that becomes active is fresh
+abbrev pub refreshed : Thread → Thread
+refreshed t = record t { fresh = true }
+
+abbrev pub woken_slot : Bool → Option Thread → Option Thread
+woken_slot over slot = if over then option_map refreshed slot else slot
+
+-- a TMU's queue with what was asked of it
+abbrev pub queue_with : ℕ → Bool → ℕ → Option Asked → List Request → List Request
+queue_with tmu second job None requests = requests
+queue_with tmu second job (Some asked) requests =
+    if asked.tmu == tmu then requests ++ (record { second = second; job = job; ask = asked.ask }) ∷ [] else requests
+
+-- The processor after a step of its active thread for this job, which left this of the thread. Where
+-- the thread gives way, the other one becomes active if it runs.
+unfoldable pub settled : Qpu → ℕ → Option Thread → Bool → Option Asked → Qpu
+settled q job own over asked = record q {
+  second = if over && is_some (resting_of q) then not q.second else q.second;
+  first = if q.second then woken_slot over q.first else own;
+  other = if q.second then own else woken_slot over q.other;
+  queue0 = record { items = queue_with 0 q.second job asked q.queue0.items };
+  queue1 = record { items = queue_with 1 q.second job asked q.queue1.items };
+}
+
+abbrev pub went : Qpu → Thread → ThreadTurn → Qpu
+went q t turn = settled q t.job (left_by turn.leaves.fate turn.thread) (gives_way turn.leaves.fate) turn.leaves.asked
+
+-- a wild instruction ends its thread
+abbrev pub stopped : Qpu → Thread → Qpu
+stopped q t = settled q t.job None true None
+
+abbrev pub plan_by : Option Thread → Qpu → List ℕ → Plan Qpu
+plan_by None q words = Done q
+plan_by (Some t) q words = mapped (went q t) (thread_plan t words)
+
+-- the step of a processor, and what it keeps after a wild one
+abbrev pub qpu_plan : Qpu → List ℕ → Plan Qpu
+qpu_plan q words = plan_by (active_of q) q words
+
+abbrev pub stopped_by : Option Thread → Qpu → Qpu
+stopped_by None q = q
+stopped_by (Some t) q = stopped q t
+
+abbrev pub qpu_stopped : Qpu → Qpu
+qpu_stopped q = stopped_by (active_of q) q
+
+-- TMU 0 or TMU 1
+abbrev pub queue_of : Qpu → ℕ → List Request
+queue_of q tmu = if tmu == 0 then q.queue0.items else q.queue1.items
+
+-- a TMU may step where its queue isn't empty, and serves the oldest request
+abbrev pub oldest : List Request → Option Request
+oldest [] = None
+oldest (request ∷ requests) = Some request
+
+abbrev pub tmu_ready : Qpu → ℕ → Glance Bool
+tmu_ready q tmu = Now (is_some (oldest (queue_of q tmu)))
+
+-- the thread with one more result of a TMU
+abbrev pub with_result : ℕ → Option (List ℕ) → Thread → Thread
+with_result tmu row t = record t {
+  results0 = record { items = if tmu == 0 then t.results0.items ++ row ∷ [] else t.results0.items };
+  results1 = record { items = if tmu == 0 then t.results1.items else t.results1.items ++ row ∷ [] };
+}
+
+-- The oldest request is gone.
+unfoldable pub dropped : Qpu → ℕ → Qpu
+dropped q tmu = record q {
+  queue0 = record { items = if tmu == 0 then drop 1 q.queue0.items else q.queue0.items };
+  queue1 = record { items = if tmu == 0 then q.queue1.items else drop 1 q.queue1.items };
+}
+
+-- It is gone, and its thread has the result, unless that is idle by now.
+unfoldable pub served : Qpu → ℕ → Request → Option (List ℕ) → Qpu
+served q tmu request row = record (dropped q tmu) {
+  first = if request.second then q.first else option_map (with_result tmu row) q.first;
+  other = if request.second then option_map (with_result tmu row) q.other else q.other;
+}
+
+abbrev pub serving : Option Request → Qpu → ℕ → List ℕ → Plan Qpu
+serving None q tmu words = Done q
+serving (Some request) q tmu words = mapped (served q tmu request) (ask_plan request.ask words)
+
+-- the step of a TMU; after a wild one its request is dropped without a result
+abbrev pub tmu_plan : Qpu → ℕ → List ℕ → Plan Qpu
+tmu_plan q tmu words = serving (oldest (queue_of q tmu)) q tmu words
+
+-- a thread's own queues are empty
+abbrev pub has_none : Bool → Qpu → Bool
+has_none second q = queued second q.queue0.items == 0 && queued second q.queue1.items == 0
+
+-- beside a thread that is idle, or runs a threaded program
+abbrev pub is_beside : Option Thread → Bool
+is_beside None = true
+is_beside (Some t) = t.threaded
+
+-- A threaded program can start in a thread that is idle with empty queues, beside one that is idle or
+-- runs a threaded program. Any other starts in the first thread, of a processor where both threads are
+-- idle and all queues are empty.
+unfoldable pub takes_first : Bool → Qpu → Bool
+takes_first threaded q =
+    (is_none q.first && has_none false q) && (if threaded then is_beside q.other else (is_none q.other && has_none true q))
+
+unfoldable pub takes_other : Bool → Qpu → Bool
+takes_other threaded q = threaded && ((is_none q.other && has_none true q) && is_beside q.first)
+
+-- A thread that starts becomes active where the other one is idle.
+unfoldable pub in_first : Qpu → Thread → Qpu
+in_first q t = record q { first = Some t; second = q.second && is_some q.other }
+
+unfoldable pub in_other : Qpu → Thread → Qpu
+in_other q t = record q { other = Some t; second = q.second || is_none q.first }
+
+-- a program starts in the first thread of the first processor that can take it, if there is one
+abbrev pub started_in : Bool → Thread → List Qpu → List Qpu
+started_in threaded t [] = []
+started_in threaded t (q ∷ qpus) =
+    if takes_first threaded q then in_first q t ∷ qpus
+    else (if takes_other threaded q then in_other q t ∷ qpus else q ∷ started_in threaded t qpus)
+
+abbrev pub launched : ℕ → Launch → List Qpu → List Qpu
+launched job launch qpus = started_in launch.threaded (thread_of job launch) qpus
+
+-- where it would start, from processor n on
+abbrev pub slot_from : Bool → ℕ → List Qpu → Option Slot
+slot_from threaded n [] = None
+slot_from threaded n (q ∷ qpus) =
+    if takes_first threaded q then Some (record { qpu = n; second = false })
+    else (if takes_other threaded q then Some (record { qpu = n; second = true }) else slot_from threaded (n + 1) qpus)
+
+abbrev pub free_in : List Qpu → Free
+free_in qpus = record { threaded = slot_from true 0 qpus; plain = slot_from false 0 qpus }
+
+-- A processor has no work where both threads are idle and both queues are empty.
+abbrev pub is_idle : Qpu → Bool
+is_idle q = (is_none q.first && is_none q.other) && (length q.queue0.items == 0 && length q.queue1.items == 0)
+
+-- a processor at the start
+abbrev pub idle_qpu : Qpu
+idle_qpu = record { first = None; other = None; second = false; queue0 = record { items = [] }; queue1 = record { items = [] } }

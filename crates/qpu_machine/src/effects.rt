@@ -1,0 +1,358 @@
+//! What an instruction writes.
+ghost use Rattle.std.specs.Prelude.{◌≡◌, ◌<◌, ◌≤◌, ◌+◌, ◌++◌, ◌∷◌, [], ◌^◌, true, slice_index};
+ghost use Rattle.arrayvec.specs.ArrayVec.{array_vec_len};
+ghost use Rattle.qpu_isa.specs.Setups.{kept};
+ghost use Rattle.qpu_isa.specs.Terms.{writes_tmu};
+ghost use Rattle.qpu_machine.specs.Writes.{awake, past_uniform, add_address, mul_address, file_after, acc_after, pointer_after, written_at, added, multiplied, written, stored, loads, loaded_row, r4_after, results_after, loaded, led_to, went_on, worked, fate_of, switches, rested, four, ask_of, asked};
+
+use crate::choice::choice_word;
+use crate::lanes::{chosen_row, chosen_rows, has_lane, mask_of, merged};
+use crate::state::{Ask, Asked, Fate, Mark, Row, Thread};
+use arrayvec::ArrayVec;
+use qpu_isa::word::{
+    cond, cond_add, cond_mul, imm, is_branch, is_end, is_switch, sig, waddr_add, waddr_mul, ws,
+};
+use qpu_isa::writes::{add_names, writes_s, writes_tmu};
+
+/// A fresh thread takes r0 to r5 from the choice words.
+#[tactic(auto, unfolding(crate::specs::Writes::awake))]
+pub(crate) fn wake(words: &[u32], thread: &mut Thread)
+    ensures { thread.new ≡ awake words.now thread.old }
+{
+    if thread.fresh {
+        thread.acc = chosen_rows(words);
+    }
+    thread.fresh = false;
+}
+
+/// The uniform pointer goes past the uniform that was taken.
+#[tactic(auto, unfolding(crate::specs::Writes::past_uniform))]
+pub(crate) fn pass_uniform(thread: &mut Thread)
+    ensures { thread.new ≡ past_uniform thread.old }
+{
+    thread.uniforms = thread.uniforms.wrapping_add(4);
+}
+
+#[tactic(auto, unfolding(crate::specs::Writes::add_address))]
+fn add_address(word: u64) -> u8
+    ensures { result ≡ add_address word }
+{
+    if is_branch(word) { 39 } else { waddr_add(word) }
+}
+
+#[tactic(auto, unfolding(crate::specs::Writes::mul_address))]
+fn mul_address(word: u64) -> u8
+    ensures { result ≡ mul_address word }
+{
+    if is_branch(word) { 39 } else { waddr_mul(word) }
+}
+
+// A unit's write to a file, if it is on the file's side.
+#[tactic(auto, unfolding(crate::specs::Writes::file_after))]
+fn write_file(on_side: bool, address: u8, mask: u32, value: &Row, file: &mut [Row; 32])
+    ensures { file.new ≡ file_after on_side address mask value.now file.old }
+{
+    if on_side && address < 32 {
+        let row = merged(mask, &file[address as usize], value);
+        file[address as usize] = row;
+    }
+}
+
+// A unit's write to r0 to r5.
+#[tactic(auto, unfolding(crate::specs::Writes::acc_after))]
+fn write_acc(address: u8, mask: u32, value: &Row, words: &[u32], acc: &mut [Row; 6])
+    ensures { acc.new ≡ acc_after address mask value.now words.now acc.old }
+{
+    if 32 <= address && address < 36 {
+        let row = merged(mask, &acc[address as usize - 32], value);
+        acc[address as usize - 32] = row;
+    } else if address == 37 {
+        let row = merged(mask, &acc[5], &chosen_row(words, 178));
+        acc[5] = row;
+    } else if 52 <= address && address < 56 {
+        let row = merged(mask, &acc[4], &chosen_row(words, 65));
+        acc[4] = row;
+    }
+}
+
+// The uniform pointer after a unit's write.
+#[tactic(auto, unfolding(crate::specs::Writes::pointer_after))]
+fn pointer_after(address: u8, mask: u32, value: &Row, uniforms: u32) -> u32
+    ensures { result ≡ pointer_after address mask value.now uniforms }
+{
+    if address == 40 && has_lane(mask, 0) {
+        value[0]
+    } else {
+        uniforms
+    }
+}
+
+// A unit's write on the A side or the B side.
+#[tactic(auto, unfolding(crate::specs::Writes::written_at))]
+fn write_at(on_a: bool, address: u8, mask: u32, value: &Row, words: &[u32], thread: &mut Thread)
+    ensures { thread.new ≡ written_at on_a address mask value.now words.now thread.old }
+{
+    thread.uniforms = pointer_after(address, mask, value, thread.uniforms);
+    write_file(on_a, address, mask, value, &mut thread.a);
+    write_file(!on_a, address, mask, value, &mut thread.b);
+    write_acc(address, mask, value, words, &mut thread.acc);
+}
+
+#[tactic(auto, unfolding(crate::specs::Writes::added))]
+fn add(word: u64, value: &Row, words: &[u32], thread: &mut Thread)
+    ensures { thread.new ≡ added word value.now words.now thread.old }
+{
+    let mask = mask_of(cond_add(word), words, 0);
+    write_at(!ws(word), add_address(word), mask, value, words, thread);
+}
+
+#[tactic(auto, unfolding(crate::specs::Writes::multiplied))]
+fn multiply(word: u64, value: &Row, words: &[u32], thread: &mut Thread)
+    ensures { thread.new ≡ multiplied word value.now words.now thread.old }
+{
+    let mask = mask_of(cond_mul(word), words, 16);
+    write_at(ws(word), mul_address(word), mask, value, words, thread);
+}
+
+// Both units' writes.
+#[tactic(auto, unfolding(crate::specs::Writes::written))]
+fn write(word: u64, sum: &Row, product: &Row, words: &[u32], thread: &mut Thread)
+    ensures { thread.new ≡ written word sum.now product.now words.now thread.old }
+{
+    add(word, sum, words, thread);
+    multiply(word, product, words, thread);
+}
+
+// The setup words that a TMU keeps.
+#[tactic(auto, unfolding(qpu_isa::specs::Setups::kept))]
+fn keep(word: u64, tmu: u8, uniform: u32, setups: &mut ArrayVec<u32, 4>)
+    requires known { tmu < 2 }
+    requires room { writes_tmu word tmu ≡ true → array_vec_len setups.old < 4 }
+    ensures { setups.new.items ≡ kept word tmu uniform setups.old.items }
+{
+    if writes_s(word, tmu) {
+        setups.clear();
+    } else if writes_tmu(word, tmu) {
+        setups.push(uniform);
+    }
+}
+
+// The setup words that both TMUs keep.
+#[tactic(auto, unfolding(crate::specs::Writes::stored))]
+fn store(word: u64, uniform: u32, thread: &mut Thread)
+    requires room0 { writes_tmu word 0 ≡ true → array_vec_len thread.old.setups0 < 4 }
+    requires room1 { writes_tmu word 1 ≡ true → array_vec_len thread.old.setups1 < 4 }
+    ensures { thread.new ≡ stored word uniform thread.old }
+{
+    keep(word, 0, uniform, &mut thread.setups0);
+    keep(word, 1, uniform, &mut thread.setups1);
+}
+
+/// Whether the instruction loads from this TMU.
+#[tactic(auto, unfolding(crate::specs::Writes::loads))]
+pub(crate) fn loads(word: u64, tmu: u8) -> bool
+    requires { tmu < 2 }
+    ensures { result ≡ loads word tmu }
+{
+    sig(word) == 10 + tmu
+}
+
+// r4 after a load of the oldest of these results.
+#[tactic(auto, unfolding(crate::specs::Writes::loaded_row))]
+fn loaded_row(results: &ArrayVec<Option<Row>, 8>, words: &[u32]) -> Row
+    ensures { result ≡ loaded_row results.now.items words.now }
+{
+    if !results.is_empty()
+        && let Some(row) = results[0]
+    {
+        return row;
+    }
+    chosen_row(words, 65)
+}
+
+// What the signal loads into r4.
+#[tactic(auto, unfolding(crate::specs::Writes::r4_after))]
+fn load_r4(
+    word: u64,
+    words: &[u32],
+    results0: &ArrayVec<Option<Row>, 8>,
+    results1: &ArrayVec<Option<Row>, 8>,
+    acc: &mut [Row; 6],
+)
+    ensures { acc.new ≡ r4_after word words.now results0.now.items results1.now.items acc.old }
+{
+    if loads(word, 0) {
+        acc[4] = loaded_row(results0, words);
+    } else if loads(word, 1) {
+        acc[4] = loaded_row(results1, words);
+    } else if sig(word) == 8 {
+        acc[4] = chosen_row(words, 65);
+    }
+}
+
+// The results that are left.
+#[tactic(auto, using(crate::proofs::Results::remove_first, crate::proofs::Results::drop_none), unfolding(crate::specs::Writes::results_after))]
+fn take(taken: bool, results: &mut ArrayVec<Option<Row>, 8>)
+    ensures { results.new.items ≡ results_after taken results.old.items }
+{
+    if taken && !results.is_empty() {
+        results.remove(0);
+    }
+}
+
+// A load signal takes the oldest result into r4.
+#[tactic(auto, unfolding(crate::specs::Writes::loaded))]
+fn load(word: u64, words: &[u32], thread: &mut Thread)
+    ensures { thread.new ≡ loaded word words.now thread.old }
+{
+    load_r4(
+        word,
+        words,
+        &thread.results0,
+        &thread.results1,
+        &mut thread.acc,
+    );
+    take(loads(word, 0), &mut thread.results0);
+    take(loads(word, 1), &mut thread.results1);
+}
+
+// Where a branch at this place leads.
+#[tactic(auto, unfolding(crate::specs::Writes::led_to))]
+fn led_to(word: u64, words: &[u32], place: u64) -> Option<u32>
+    requires { place < 2 ^ 62 }
+    ensures { result ≡ led_to word words.now place }
+{
+    if is_branch(word) && (cond(word) == 15 || choice_word(words, 81) % 2 == 1) {
+        return Some(((place + 32 + imm(word) as u64) % (1 << 32)) as u32);
+    }
+    None
+}
+
+// The thread goes on to its next instruction.
+#[tactic(auto, unfolding(crate::specs::Writes::went_on))]
+fn go_on(word: u64, words: &[u32], thread: &mut Thread)
+    requires { thread.old.place < 2 ^ 62 }
+    ensures near { thread.new.place ≤ thread.old.place + 2 ^ 33 }
+    ensures value { thread.new ≡ went_on word words.now thread.old }
+{
+    let to = led_to(word, words, thread.place);
+    thread.place = match thread.last3.to {
+        Some(place) => place as u64,
+        None => thread.place + 8,
+    };
+    thread.last3 = thread.last2;
+    thread.last2 = thread.last1;
+    thread.last1 = Mark { word, to };
+}
+
+/// What the thread keeps after the instruction, by what the two units came to.
+#[tactic(auto, using(crate::proofs::Frames::written_keeps, crate::proofs::Frames::loaded_place), unfolding(crate::specs::Writes::worked))]
+pub(crate) fn work(
+    word: u64,
+    uniform: u32,
+    sum: &Row,
+    product: &Row,
+    words: &[u32],
+    thread: &mut Thread,
+)
+    requires place { thread.old.place < 2 ^ 62 }
+    requires room0 { writes_tmu word 0 ≡ true → array_vec_len thread.old.setups0 < 4 }
+    requires room1 { writes_tmu word 1 ≡ true → array_vec_len thread.old.setups1 < 4 }
+    ensures near { thread.new.place ≤ thread.old.place + 2 ^ 33 }
+    ensures value { thread.new ≡ worked word uniform sum.now product.now words.now thread.old }
+{
+    write(word, sum, product, words, thread);
+    store(word, uniform, thread);
+    load(word, words, thread);
+    go_on(word, words, thread);
+}
+
+/// What becomes of the thread after its next instruction.
+#[tactic(auto, unfolding(crate::specs::Writes::fate_of))]
+pub(crate) fn fate_of(thread: &Thread) -> Fate
+    ensures { result ≡ fate_of thread.now }
+{
+    if is_end(thread.last2.word) {
+        Fate::Ends
+    } else if is_switch(thread.last2.word) {
+        Fate::Switches
+    } else {
+        Fate::GoesOn
+    }
+}
+
+/// A thread that switches is fresh from then on.
+#[tactic(auto, unfolding(crate::specs::Writes::rested))]
+pub(crate) fn rest(fate: Fate, thread: &mut Thread)
+    ensures { thread.new ≡ rested fate thread.old }
+{
+    thread.fresh = fate == Fate::Switches || thread.fresh;
+}
+
+// Setup word `i`, where the uniform is the last.
+#[tactic(auto, using(crate::proofs::Results::with_last))]
+fn setup_word(setups: &ArrayVec<u32, 4>, uniform: u32, i: usize) -> u32
+    ensures { result ≡ slice_index (setups.now.items ++ uniform ∷ []) i }
+{
+    if i < setups.len() {
+        return setups[i];
+    }
+    if i == setups.len() { uniform } else { 0 }
+}
+
+// Four setup words, of which the last is the uniform.
+#[tactic(auto, unfolding(crate::specs::Writes::four))]
+fn four(setups: &ArrayVec<u32, 4>, uniform: u32) -> [u32; 4]
+    ensures { result ≡ four (setups.now.items ++ uniform ∷ []) }
+{
+    [
+        setup_word(setups, uniform, 0),
+        setup_word(setups, uniform, 1),
+        setup_word(setups, uniform, 2),
+        setup_word(setups, uniform, 3),
+    ]
+}
+
+// What a send asks this TMU for.
+#[tactic(auto, unfolding(crate::specs::Writes::ask_of, qpu_isa::specs::Terms::s_address))]
+fn ask_of(
+    word: u64,
+    tmu: u8,
+    uniform: u32,
+    sum: &Row,
+    product: &Row,
+    setups: &ArrayVec<u32, 4>,
+) -> Ask
+    requires { tmu < 2 }
+    ensures { result ≡ ask_of word tmu uniform sum.now product.now setups.now.items }
+{
+    if !setups.is_empty() {
+        return Ask::Texture(four(setups, uniform));
+    }
+    if add_names(word, 56 + 4 * tmu) {
+        return Ask::Direct(*sum);
+    }
+    Ask::Direct(*product)
+}
+
+/// The request that the instruction makes.
+#[tactic(auto, unfolding(crate::specs::Writes::asked))]
+pub(crate) fn asked(
+    word: u64,
+    uniform: u32,
+    sum: &Row,
+    product: &Row,
+    thread: &Thread,
+) -> Option<Asked>
+    ensures { result ≡ asked word uniform sum.now product.now thread.now }
+{
+    if writes_s(word, 0) {
+        let ask = ask_of(word, 0, uniform, sum, product, &thread.setups0);
+        return Some(Asked { tmu: 0, ask });
+    }
+    if writes_s(word, 1) {
+        let ask = ask_of(word, 1, uniform, sum, product, &thread.setups1);
+        return Some(Asked { tmu: 1, ask });
+    }
+    None
+}

@@ -1,0 +1,29 @@
+//! A shader processor (QPU) and its texture and memory units: what an instruction reads, computes, writes and asks for.
+//!
+//! `specs/` says the hardware's rules, each as one definition: operands and results by element (`Operands`), what is written
+//! (`Writes`), where the hardware leaves undefined what happens (`Wild`), and the whole instruction as a plan (`Step`). What
+//! the hardware leaves open is answered by choice words. A step takes no memory.
+#![tactic(auto)]
+
+mod choice;
+mod effects;
+mod lanes;
+mod launch;
+mod operands;
+mod plain;
+mod qpu;
+mod request;
+mod start;
+mod state;
+mod step;
+#[cfg(test)]
+mod tests;
+mod texels;
+mod wild;
+
+pub use launch::{Free, Launch, Slot};
+pub use qpu::{is_qpu_idle, is_qpu_ready, takes_first, takes_other};
+pub use request::serve;
+pub use start::start_thread;
+pub use state::{Ask, Asked, Fate, Leaves, Mark, Qpu, Request, Row, Thread};
+pub use step::{is_ready, step_thread};

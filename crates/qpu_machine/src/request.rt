@@ -1,0 +1,126 @@
+//! What a texture and memory unit (TMU) does with a request.
+ghost use Rattle.std.specs.Prelude.{◌≡◌, ◌<◌, ◌≤◌, ◌+◌, ◌++◌, ◌∷◌, [], ◌^◌, true, false, Some, None, slice_index, if◌then◌else◌};
+ghost use Rattle.arrayvec.specs.ArrayVec.{array_vec_len};
+ghost use Rattle.field_words.specs.Words.{u32_at};
+ghost use Rattle.field_words.specs.declared.access.Way.TheVariants.{Read};
+ghost use Rattle.machine_plan.specs.Memory.{bytes_at};
+ghost use Rattle.machine_plan.specs.Plan.{Shows, access, carried};
+ghost use Rattle.texture_layouts.specs.Fits.{is_unlisted};
+ghost use Rattle.texture_layouts.specs.Setup.{texture_of};
+ghost use Rattle.qpu_machine.specs.Request.{direct_plan, texture_reads, is_undefined, texture_plan, ask_plan};
+
+use crate::state::{Ask, Row};
+use crate::texels::{chosen_length, chosen_place};
+use arrayvec::ArrayVec;
+use byteorder::{ByteOrder, LittleEndian};
+use field_words::{Access, Way};
+use machine_plan::{Who, list_access, read_bytes};
+use phys_mem::PhysMem;
+use texture_layouts::{Texture, has_child_image, has_two_strides, lacks_stride};
+
+// Reads the word at this place.
+#[tactic(auto, unfolding(field_words::specs::Words::u32_at))]
+fn read_word(place: u32, who: Who, memory: &PhysMem, accesses: &mut ArrayVec<Access, 272>) -> u32
+    requires { array_vec_len accesses.old < 270 }
+    ensures value { result ≡ u32_at (bytes_at memory.now place 4) 0 }
+    ensures items { accesses.new.items ≡ accesses.old.items ++ access who Read place 4 ∷ [] }
+    ensures len { array_vec_len accesses.new ≡ array_vec_len accesses.old + 1 }
+{
+    let bytes = read_bytes(memory, place as u64, 4);
+    list_access(who, Way::Read, place as u64, 4, accesses);
+    LittleEndian::read_u32(&bytes)
+}
+
+// The words at these addresses, without their low two bits.
+fn read_words(row: &Row, who: Who, memory: &PhysMem, accesses: &mut ArrayVec<Access, 272>) -> Row
+    requires { array_vec_len accesses.old ≤ 100 }
+    ensures { Shows (carried who (direct_plan row.now []) memory.now) accesses.old.items accesses.new.items memory.now (Some result) }
+{
+    let mut found = [0; 16];
+    for e in 0..16 {
+        found[e] = read_word(row[e] - row[e] % 4, who, memory, accesses);
+    }
+    found
+}
+
+// Lists the 128 reads of a texture. False comes exactly where one would be below 0; then a Wild access is listed too.
+fn list_texels(
+    texture: &Texture,
+    words: &[u32],
+    who: Who,
+    memory: &PhysMem,
+    accesses: &mut ArrayVec<Access, 272>,
+) -> bool
+    requires room { array_vec_len accesses.old ≤ 100 }
+    requires listed { is_unlisted texture.now ≡ false }
+    ensures { Shows (carried who (texture_reads texture.now words.now 0 128) memory.now) accesses.old.items accesses.new.items memory.now (if result then Some None else None) }
+{
+    for m in 0..128 {
+        match chosen_place(texture, words, m) {
+            Some(place) => {
+                let len = chosen_length(texture, words, m);
+                list_access(who, Way::Read, place, len, accesses);
+            }
+            None => {
+                list_access(who, Way::Wild, 0, 0, accesses);
+                return false;
+            }
+        }
+    }
+    true
+}
+
+// Whether the setup words leave undefined where the texture lies.
+#[tactic(auto, unfolding(crate::specs::Request::is_undefined))]
+fn is_undefined(four: &[u32; 4], texture: &Texture) -> bool
+    requires { texture.now ≡ texture_of (slice_index four.now 0) (slice_index four.now 1) (slice_index four.now 2) (slice_index four.now 3) }
+    ensures value { result ≡ is_undefined (slice_index four.now 0) (slice_index four.now 1) (slice_index four.now 2) (slice_index four.now 3) }
+    ensures listed { result ≡ false → is_unlisted texture.now ≡ false }
+{
+    (has_two_strides(four) || lacks_stride(four))
+        || (texture.is_unlisted() || has_child_image(four))
+}
+
+// Serves a request for a texture. False comes exactly where it is wild.
+fn serve_texture(
+    four: &[u32; 4],
+    words: &[u32],
+    who: Who,
+    memory: &PhysMem,
+    accesses: &mut ArrayVec<Access, 272>,
+) -> bool
+    requires { array_vec_len accesses.old ≤ 100 }
+    ensures { Shows (carried who (texture_plan (slice_index four.now 0) (slice_index four.now 1) (slice_index four.now 2) (slice_index four.now 3) words.now) memory.now) accesses.old.items accesses.new.items memory.now (if result then Some None else None) }
+{
+    let texture = Texture::of(four);
+    if is_undefined(four, &texture) {
+        list_access(who, Way::Wild, 0, 0, accesses);
+        return false;
+    }
+    list_texels(&texture, words, who, memory, accesses)
+}
+
+/// Serves a request, with the accesses of `who`. What the hardware leaves open is answered by the words; a missing word is
+/// zero. It comes to the words of a direct request, and for a texture to `Some(None)`, a result whose words are free. `None`
+/// comes exactly where the request is wild; then a Wild access is listed behind the reads before it.
+pub fn serve(
+    ask: &Ask,
+    words: &[u32],
+    who: Who,
+    memory: &PhysMem,
+    accesses: &mut ArrayVec<Access, 272>,
+) -> Option<Option<Row>>
+    requires { array_vec_len accesses.old ≤ 100 }
+    ensures { Shows (carried who (ask_plan ask.now words.now) memory.now) accesses.old.items accesses.new.items memory.now result }
+{
+    match ask {
+        Ask::Direct(row) => Some(Some(read_words(row, who, memory, accesses))),
+        Ask::Texture(four) => {
+            if serve_texture(four, words, who, memory, accesses) {
+                Some(None)
+            } else {
+                None
+            }
+        }
+    }
+}

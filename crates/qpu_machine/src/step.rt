@@ -1,0 +1,174 @@
+//! One instruction of a thread.
+ghost use Rattle.std.specs.Prelude.{◌≡◌, ◌<◌, ◌≤◌, ◌+◌, ◌++◌, ◌∷◌, [], ◌^◌, true, false, length, option_map, IfSome};
+ghost use Rattle.std.specs.Int.{from_le_bytes, w64};
+ghost use Rattle.field_words.specs.Words.{u32_at};
+ghost use Rattle.field_words.specs.declared.access.Way.TheVariants.{Read};
+ghost use Rattle.machine_plan.specs.Memory.{bytes_at};
+ghost use Rattle.arrayvec.specs.ArrayVec.{array_vec_len};
+ghost use Rattle.machine_plan.specs.Plan.{Shows, access, carried};
+ghost use Rattle.machine_plan.specs.Glance.{glanced};
+ghost use Rattle.qpu_isa.specs.Terms.{writes_tmu};
+ghost use Rattle.qpu_machine.specs.Wild.{is_wild};
+ghost use Rattle.qpu_machine.specs.Writes.{past_uniform};
+ghost use Rattle.qpu_machine.specs.Step.{executed_with, executed, word_plan, thread_plan, is_held_by, is_held, thread_ready, turn_of};
+
+use crate::effects::{asked, fate_of, loads, pass_uniform, rest, wake, work};
+use crate::operands::{add_row, mul_row};
+use crate::state::{Leaves, Row, Thread};
+use crate::wild::{is_wild, takes_one};
+use arrayvec::ArrayVec;
+use byteorder::{ByteOrder, LittleEndian};
+use field_words::{Access, Way};
+use machine_plan::{Who, list_access, read_bytes};
+use phys_mem::PhysMem;
+use qpu_isa::writes::writes_s;
+
+// Executes an instruction, by what the two units came to.
+#[tactic(auto, using(crate::proofs::Frames::rested_place), unfolding(crate::specs::Step::executed_with))]
+fn execute_with(
+    word: u64,
+    uniform: u32,
+    sum: &Row,
+    product: &Row,
+    words: &[u32],
+    thread: &mut Thread,
+) -> Leaves
+    requires place { thread.old.place < 2 ^ 62 }
+    requires room0 { writes_tmu word 0 ≡ true → array_vec_len thread.old.setups0 < 4 }
+    requires room1 { writes_tmu word 1 ≡ true → array_vec_len thread.old.setups1 < 4 }
+    ensures near { thread.new.place ≤ thread.old.place + 2 ^ 33 }
+    ensures turn { executed_with word uniform sum.now product.now words.now thread.old ≡ record { thread = thread.new; leaves = result } }
+{
+    let fate = fate_of(thread);
+    let asked = asked(word, uniform, sum, product, thread);
+    work(word, uniform, sum, product, words, thread);
+    rest(fate, thread);
+    Leaves { asked, fate }
+}
+
+// Executes an instruction, with the uniform that it took.
+#[tactic(auto, unfolding(crate::specs::Step::executed))]
+fn execute(word: u64, uniform: u32, words: &[u32], thread: &mut Thread) -> Leaves
+    requires place { thread.old.place < 2 ^ 62 }
+    requires room0 { writes_tmu word 0 ≡ true → array_vec_len thread.old.setups0 < 4 }
+    requires room1 { writes_tmu word 1 ≡ true → array_vec_len thread.old.setups1 < 4 }
+    ensures turn { executed word uniform words.now thread.old ≡ record { thread = thread.new; leaves = result } }
+    ensures near { thread.new.place ≤ thread.old.place + 2 ^ 33 }
+{
+    let sum = add_row(thread, word, uniform, words);
+    let product = mul_row(thread, word, uniform, words);
+    execute_with(word, uniform, &sum, &product, words, thread)
+}
+
+// Takes the uniform at the thread's pointer.
+#[tactic(auto, unfolding(field_words::specs::Words::u32_at))]
+fn take_uniform(
+    thread: &mut Thread,
+    who: Who,
+    memory: &PhysMem,
+    accesses: &mut ArrayVec<Access, 272>,
+) -> u32
+    requires { array_vec_len accesses.old < 270 }
+    ensures thread { thread.new ≡ past_uniform thread.old }
+    ensures value { result ≡ u32_at (bytes_at memory.now thread.old.uniforms 4) 0 }
+    ensures items { accesses.new.items ≡ accesses.old.items ++ access who Read thread.old.uniforms 4 ∷ [] }
+{
+    let place = thread.uniforms as u64;
+    let bytes = read_bytes(memory, place, 4);
+    list_access(who, Way::Read, place, 4, accesses);
+    pass_uniform(thread);
+    LittleEndian::read_u32(&bytes)
+}
+
+// Does what an instruction says. `None` comes exactly where it is wild.
+#[tactic(auto, using(crate::proofs::Tame::room0, crate::proofs::Tame::room1, crate::proofs::Frames::awake_keeps, crate::proofs::Frames::past_keeps))]
+fn obey(
+    thread: &mut Thread,
+    word: u64,
+    words: &[u32],
+    who: Who,
+    memory: &PhysMem,
+    accesses: &mut ArrayVec<Access, 272>,
+) -> Option<Leaves>
+    requires place { thread.old.place < 2 ^ 62 }
+    requires room { array_vec_len accesses.old < 270 }
+    ensures near { IfSome result (λ leaves. (is_wild thread.old word ≡ false) × (thread.new.place ≤ thread.old.place + 2 ^ 33)) }
+    ensures shows { Shows (carried who (word_plan thread.old word words.now) memory.now) accesses.old.items accesses.new.items memory.now (option_map (turn_of thread.new) result) }
+{
+    if is_wild(thread, word) {
+        list_access(who, Way::Wild, 0, 0, accesses);
+        return None;
+    }
+    if takes_one(thread, word) {
+        let uniform = take_uniform(thread, who, memory, accesses);
+        wake(words, thread);
+        return Some(execute(word, uniform, words, thread));
+    }
+    wake(words, thread);
+    Some(execute(word, 0, words, thread))
+}
+
+// The instruction's word.
+fn word_in(bytes: &[u8]) -> u64
+    requires { length bytes.now ≡ 8 }
+    ensures { result ≡ from_le_bytes w64 bytes.now }
+{
+    LittleEndian::read_u64(bytes)
+}
+
+/// One instruction of a thread, whose accesses are those of `who`. What the hardware leaves open is answered by the words; a
+/// missing word is zero. It lists its accesses behind those already listed: the read of the instruction, and of the uniform
+/// where it takes one. `None` comes exactly where the instruction is wild; then a Wild access is listed too, and the thread is
+/// as it was.
+pub fn step_thread(
+    thread: &mut Thread,
+    words: &[u32],
+    who: Who,
+    memory: &PhysMem,
+    accesses: &mut ArrayVec<Access, 272>,
+) -> Option<Leaves>
+    requires place { thread.old.place < 2 ^ 62 }
+    requires room { array_vec_len accesses.old ≤ 260 }
+    ensures near { IfSome result (λ leaves. thread.new.place ≤ 2 ^ 34) }
+    ensures shows { Shows (carried who (thread_plan thread.old words.now) memory.now) accesses.old.items accesses.new.items memory.now (option_map (turn_of thread.new) result) }
+{
+    let _size = memory.len();
+    let bytes = read_bytes(memory, thread.place, 8);
+    list_access(who, Way::Read, thread.place, 8, accesses);
+    obey(thread, word_in(&bytes), words, who, memory, accesses)
+}
+
+// Whether an instruction waits for this TMU.
+#[tactic(auto, unfolding(crate::specs::Step::is_held_by))]
+fn is_held_by(word: u64, tmu: u8, queued: usize, finished: usize) -> bool
+    requires known { tmu < 2 }
+    requires few { queued ≤ 1000 }
+    requires done { finished ≤ 8 }
+    ensures { result ≡ is_held_by word tmu queued finished }
+{
+    (loads(word, tmu) && finished == 0) || (writes_s(word, tmu) && 8 <= queued + finished)
+}
+
+// Whether an instruction waits for a TMU.
+#[tactic(auto, unfolding(crate::specs::Step::is_held))]
+fn is_held(thread: &Thread, word: u64, queued0: usize, queued1: usize) -> bool
+    requires few0 { queued0 ≤ 1000 }
+    requires few1 { queued1 ≤ 1000 }
+    ensures { result ≡ is_held thread.now word queued0 queued1 }
+{
+    is_held_by(word, 0, queued0, thread.results0.len())
+        || is_held_by(word, 1, queued1, thread.results1.len())
+}
+
+/// Whether a thread may execute its next instruction: it isn't held up by a TMU. `queued0` and `queued1` are its requests in
+/// the queues of the two TMUs.
+#[tactic(auto, unfolding(crate::specs::Step::thread_ready))]
+pub fn is_ready(thread: &Thread, queued0: usize, queued1: usize, memory: &PhysMem) -> bool
+    requires place { thread.now.place < 2 ^ 62 }
+    requires few0 { queued0 ≤ 1000 }
+    requires few1 { queued1 ≤ 1000 }
+    ensures { result ≡ glanced (thread_ready thread.now queued0 queued1) memory.now }
+{
+    let bytes = read_bytes(memory, thread.place, 8);
+    !is_held(thread, word_in(&bytes), queued0, queued1)
+}
