@@ -127,14 +127,14 @@ fn names_the_first_of_several_stages(rt: HostRuntime) -> Result<(), Fail> {
     Ok(())
 }
 
-// A shader that no handle names is asked all the same, and its length at the buffer's length field.
+// A shader that no handle names is asked all the same.
 #[test]
 fn asks_shaders_that_no_job_names(rt: HostRuntime) -> Result<(), Fail> {
     let alloc = rt.alloc();
     let unnamed = (727, 4);
     for (change, line) in [
         ((663, 0), "refused S3 at 659\n"),
-        ((675, 0), "refused S3 at 675\n"),
+        ((679, 0), "refused S3 at 675\n"),
     ] {
         let sink = printed(alloc, changed(alloc, &[unnamed, change])?, 100_000)?;
         assert_eq!(rt; sink.bytes(), line.as_bytes(), "{line}");
