@@ -1,7 +1,7 @@
 -- The list units of one job: what they keep, when they may step, and what a step comes to.
 use Rattle.std.specs.Prelude.{ℕ, Bool, nat_lt, ◌+◌, List, Option, None}
 use Rattle.machine_plan.specs.Glance.{Glance, Now}
-use Rattle.machine_plan.specs.Launch.{Launch}
+use Rattle.machine_plan.specs.declared.launch.Launch.{Launch}
 use Rattle.machine_plan.specs.Plan.{Plan}
 use Rattle.machine_plan.specs.World.{mapped}
 use Rattle.list_machine.specs.declared.state.Renderer.{Renderer}

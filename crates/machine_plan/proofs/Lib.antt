@@ -3,3 +3,4 @@ pub mod Plans
 pub mod Runs
 pub mod Safe
 pub mod Worlds
+pub mod Reading

@@ -4,4 +4,4 @@ pub mod Plan
 pub mod Runs
 pub mod Glance
 pub mod World
-pub mod Launch
+pub mod Choice

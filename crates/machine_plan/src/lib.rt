@@ -6,7 +6,11 @@
 #![tactic(auto)]
 
 mod bytes;
+mod choice;
+mod launch;
 mod who;
 
 pub use bytes::{byte_at, list_access, put_byte, read_bytes};
+pub use choice::choice_word;
+pub use launch::{Free, Launch, Slot};
 pub use who::Who;

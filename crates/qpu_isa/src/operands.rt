@@ -8,9 +8,10 @@ use crate::word::{
     add_a, add_b, has_small, imm, is_alu, is_load_imm, mode, op_add, pm, raddr_a, raddr_b, unpack,
 };
 
-// The operand of this selector isn't unpacked on its way.
+/// Whether the operand of this selector isn't unpacked on its way.
+#[inline]
 #[tactic(auto, unfolding(crate::specs::Terms::is_plain))]
-fn is_plain(word: u64, selector: u8) -> bool
+pub fn is_plain(word: u64, selector: u8) -> bool
     ensures { result ≡ is_plain word selector }
 {
     if unpack(word) == 0 {

@@ -8,7 +8,7 @@ use Rattle.field_words.specs.declared.access.Way.TheVariants.{Read, Wild}
 use Rattle.machine_plan.specs.declared.who.Who.{Who}
 use Rattle.machine_plan.specs.Memory.{bytes_at}
 use Rattle.machine_plan.specs.Plan.{Plan, Done, Wilds, Reads, Outcome, Shows, access, carried}
-use Rattle.qpu_machine.proofs.Reading.{IsLeft, left_first, left_read, left_done, left_wild}
+use Rattle.machine_plan.proofs.Reading.{IsLeft, left_first, left_read, left_done, left_wild}
 use Rattle.texture_layouts.specs.Setup.{TextureModel, texture_of}
 use Rattle.qpu_machine.specs.Request.{direct_plan, chosen_place, chosen_length, read_at, texture_reads, is_undefined, texture_plan}
 

@@ -1,5 +1,3 @@
-pub mod Reading
-pub mod Places
 pub mod Fronts
 pub mod Results
 pub mod Frames

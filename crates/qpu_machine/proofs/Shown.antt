@@ -7,7 +7,7 @@ use Rattle.field_words.specs.declared.access.Way.TheVariants.{Read, Wild}
 use Rattle.machine_plan.specs.declared.who.Who.{Who}
 use Rattle.machine_plan.specs.Memory.{bytes_at}
 use Rattle.machine_plan.specs.Plan.{Plan, Done, Wilds, Reads, Shows, access, carried}
-use Rattle.qpu_machine.proofs.Reading.{shows_read}
+use Rattle.machine_plan.proofs.Reading.{shows_read}
 use Rattle.qpu_machine.specs.declared.state.Thread.{Thread}
 use Rattle.qpu_machine.specs.Writes.{awake, past_uniform}
 use Rattle.qpu_machine.specs.Wild.{takes_one, is_wild}

@@ -1,4 +1,3 @@
-pub mod Choice
 pub mod Row
 pub mod Operands
 pub mod Writes

@@ -2,9 +2,9 @@
 -- and where a program can start.
 use Rattle.std.specs.Prelude.{ℕ, ◌+◌, ◌==◌, ◌&&◌, ◌||◌, not, Bool, true, false, if◌then◌else◌, List, [], ◌∷◌, ◌++◌, drop, length, Option, None, Some, is_some, is_none, option_map}
 use Rattle.std.specs.List.{count_by}
-use Rattle.qpu_machine.specs.declared.launch.Free.{Free}
-use Rattle.qpu_machine.specs.declared.launch.Launch.{Launch}
-use Rattle.qpu_machine.specs.declared.launch.Slot.{Slot}
+use Rattle.machine_plan.specs.declared.launch.Free.{Free}
+use Rattle.machine_plan.specs.declared.launch.Launch.{Launch}
+use Rattle.machine_plan.specs.declared.launch.Slot.{Slot}
 use Rattle.machine_plan.specs.Glance.{Glance, Now}
 use Rattle.machine_plan.specs.Plan.{Plan, Done}
 use Rattle.machine_plan.specs.World.{mapped}

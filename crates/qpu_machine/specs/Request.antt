@@ -7,7 +7,7 @@ use Rattle.texture_layouts.specs.Surface.{microtile_width_of, microtile_height_o
 use Rattle.texture_layouts.specs.Setup.{TextureModel, texture_of, faces_of, face_place, level_width_of, level_height_of, tiling_at, size_below}
 use Rattle.texture_layouts.specs.Place.{pixel_place_of, microtile_place_of}
 use Rattle.texture_layouts.specs.Fits.{has_two_strides, lacks_stride, is_unlisted, has_child_image}
-use Rattle.qpu_machine.specs.Choice.{word_at}
+use Rattle.machine_plan.specs.Choice.{word_at}
 use Rattle.machine_plan.specs.Plan.{Plan, Done, Wilds, Reads}
 use Rattle.machine_plan.specs.World.{mapped}
 use Rattle.qpu_machine.specs.declared.state.Ask.{Ask}

@@ -1,7 +1,7 @@
 -- Rows of 16 elements, and masks of elements.
 use Rattle.std.specs.Prelude.{ℕ, ◌+◌, ◌/◌, ◌%◌, ◌^◌, ◌==◌, Bool, if◌then◌else◌, List, [], ◌∷◌, map, replicate, slice_index}
 use Rattle.std.specs.List.{range_with_len}
-use Rattle.qpu_machine.specs.Choice.{word_at}
+use Rattle.machine_plan.specs.Choice.{word_at}
 
 -- the row whose element e is f e
 abbrev pub lanes : (ℕ → ℕ) → List ℕ

@@ -1,6 +1,6 @@
 -- A thread that has just been started.
 use Rattle.std.specs.Prelude.{ℕ, ◌+◌, ◌*◌, ◌^◌, true, [], None, replicate}
-use Rattle.qpu_machine.specs.declared.launch.Launch.{Launch}
+use Rattle.machine_plan.specs.declared.launch.Launch.{Launch}
 use Rattle.qpu_machine.specs.declared.state.Mark.{Mark}
 use Rattle.qpu_machine.specs.declared.state.Thread.{Thread}
 use Rattle.qpu_machine.specs.Row.{filled}

@@ -3,7 +3,7 @@ use Rattle.std.specs.Prelude.{ℕ, ◌+◌, ◌-◌, ◌%◌, ◌^◌, ◌==◌,
 use Rattle.qpu_isa.specs.Word.{sig_of, ws_of, waddr_add_of, waddr_mul_of, cond_add_of, cond_mul_of, cond_of, imm_of}
 use Rattle.qpu_isa.specs.Terms.{is_branch, is_switch, is_end, add_names, writes_s, s_address}
 use Rattle.qpu_isa.specs.Setups.{kept}
-use Rattle.qpu_machine.specs.Choice.{word_at}
+use Rattle.machine_plan.specs.Choice.{word_at}
 use Rattle.qpu_machine.specs.declared.state.Thread.{Thread}
 use Rattle.qpu_machine.specs.declared.state.Ask.{Ask}
 use Rattle.qpu_machine.specs.declared.state.Ask.TheVariants.{Direct, Texture}

@@ -5,10 +5,10 @@ ghost use Rattle.qpu_isa.specs.Setups.{kept};
 ghost use Rattle.qpu_isa.specs.Terms.{writes_tmu};
 ghost use Rattle.qpu_machine.specs.Writes.{awake, past_uniform, add_address, mul_address, file_after, acc_after, pointer_after, written_at, added, multiplied, written, stored, loads, loaded_row, r4_after, results_after, loaded, led_to, went_on, worked, fate_of, switches, rested, four, ask_of, asked};
 
-use crate::choice::choice_word;
 use crate::lanes::{chosen_row, chosen_rows, has_lane, mask_of, merged};
 use crate::state::{Ask, Asked, Fate, Mark, Row, Thread};
 use arrayvec::ArrayVec;
+use machine_plan::choice_word;
 use qpu_isa::word::{
     cond, cond_add, cond_mul, imm, is_branch, is_end, is_switch, sig, waddr_add, waddr_mul, ws,
 };

@@ -1,10 +1,10 @@
 //! Rows of 16 elements, and masks of elements.
 ghost use Rattle.std.specs.Prelude.{◌≡◌, ◌+◌, ◌≤◌, ◌<◌, ◌^◌, if◌then◌else◌, slice_index};
-ghost use Rattle.qpu_machine.specs.Choice.{word_at};
+ghost use Rattle.machine_plan.specs.Choice.{word_at};
 ghost use Rattle.qpu_machine.specs.Row.{chosen_row, chosen_rows, has_lane, merged, mask_of};
 
-use crate::choice::choice_word;
 use crate::state::Row;
+use machine_plan::choice_word;
 
 /// 16 choice words, from this one on.
 #[tactic(auto, using(crate::proofs::Fronts::front_more), unfolding(crate::specs::Row::chosen_row))]

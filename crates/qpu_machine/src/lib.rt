@@ -5,12 +5,9 @@
 //! the hardware leaves open is answered by choice words. A step takes no memory.
 #![tactic(auto)]
 
-mod choice;
 mod effects;
 mod lanes;
-mod launch;
 mod operands;
-mod plain;
 mod qpu;
 mod request;
 mod start;
@@ -21,7 +18,6 @@ mod tests;
 mod texels;
 mod wild;
 
-pub use launch::{Free, Launch, Slot};
 pub use qpu::{is_qpu_idle, is_qpu_ready, takes_first, takes_other};
 pub use request::serve;
 pub use start::start_thread;

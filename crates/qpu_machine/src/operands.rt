@@ -1,16 +1,16 @@
 //! What the two units compute with, and what they come to.
 ghost use Rattle.std.specs.Prelude.{◌≡◌, ◌+◌, ◌≤◌, ◌<◌, ◌^◌, ◌%◌, slice_index, unwrap_or};
-ghost use Rattle.qpu_machine.specs.Choice.{word_at};
+ghost use Rattle.machine_plan.specs.Choice.{word_at};
 ghost use Rattle.qpu_alu.specs.Operation.{add_result_of, mul_result_of};
 ghost use Rattle.qpu_isa.specs.Word.{op_add_of, op_mul_of};
 ghost use Rattle.qpu_machine.specs.Operands.{read_a, small_row, read_b, operand, immediate_row, sums, add_row, is_rotated, products, mul_row};
 
-use crate::choice::choice_word;
 use crate::lanes::chosen_row;
-use crate::plain::is_plain;
 use crate::state::{Row, Thread};
+use machine_plan::choice_word;
 use qpu_alu::{add_result, mul_result};
 use qpu_isa::Reg;
+use qpu_isa::operands::is_plain;
 use qpu_isa::word::{
     add_a, add_b, has_small, imm, is_load_imm, mode, mul_a, mul_b, op_add, op_mul, raddr_a, raddr_b,
 };

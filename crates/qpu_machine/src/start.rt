@@ -2,9 +2,9 @@
 ghost use Rattle.std.specs.Prelude.{◌≡◌};
 ghost use Rattle.qpu_machine.specs.Start.{idle, thread_of};
 
-use crate::launch::Launch;
 use crate::state::{Mark, Thread};
 use arrayvec::ArrayVec;
+use machine_plan::Launch;
 
 /// An instruction that does nothing: signal 1, and both units write to 39.
 pub(crate) const IDLE_WORD: u64 = (1 << 60) + (39 << 38) + (39 << 32);

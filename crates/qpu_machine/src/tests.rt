@@ -1,13 +1,12 @@
 //! Instructions of small programs.
 ghost use Rattle.std.specs.Prelude.{◌≡◌, []};
 
-use crate::launch::Launch;
 use crate::start::IDLE_WORD;
 use crate::state::{Ask, Fate, Leaves, Thread};
 use crate::{is_ready, serve, start_thread, step_thread};
 use arrayvec::ArrayVec;
 use field_words::{Access, Actor, NoMemory, Way};
-use machine_plan::Who;
+use machine_plan::{Launch, Who};
 use phys_mem::PhysMem;
 use std::alloc::Global;
 

@@ -4,7 +4,7 @@ ghost use Rattle.texture_layouts.specs.Surface.{IsPixelSize};
 ghost use Rattle.texture_layouts.specs.Fits.{is_unlisted};
 ghost use Rattle.qpu_machine.specs.Request.{chosen_level, chosen_face, chosen_x, chosen_y, offset_in, offset_at, length_in, place_at, chosen_place, chosen_length};
 
-use crate::choice::choice_word;
+use machine_plan::choice_word;
 use texture_layouts::{
     Texture, Tiling, microtile_height, microtile_place, microtile_width, pixel_place,
 };
@@ -48,7 +48,6 @@ fn chosen_y(texture: &Texture, words: &[u32], m: u64) -> u32
 }
 
 // Where what is read of a pixel lies in an image.
-#[tactic(auto, using(crate::proofs::Places::raster_below))]
 fn offset_in(tiling: Tiling, width: u32, cpp: u32, x: u32, y: u32) -> u64
     requires width_limit { width ≤ 2048 }
     requires pixel { IsPixelSize cpp }

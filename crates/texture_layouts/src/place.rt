@@ -92,7 +92,8 @@ pub(crate) fn raster_place(width: u32, cpp: u32, x: u32, y: u32) -> u64
 fn tiled_place(tiling: Tiling, width: u32, cpp: u32, x: u32, y: u32) -> u64
     requires width_limit { width ≤ 65535 }
     requires pixel { IsPixelSize cpp }
-    ensures { result ≡ tiled_place tiling width cpp x y }
+    ensures value { result ≡ tiled_place tiling width cpp x y }
+    ensures limit { result < 2 ^ 57 }
 {
     let mx = x / microtile_width(cpp);
     let my = y / microtile_height(cpp);
@@ -103,7 +104,8 @@ fn tiled_place(tiling: Tiling, width: u32, cpp: u32, x: u32, y: u32) -> u64
 fn place_of_pixel(tiling: Tiling, width: u32, cpp: u32, x: u32, y: u32) -> u64
     requires width_limit { width ≤ 65535 }
     requires pixel { IsPixelSize cpp }
-    ensures { result ≡ pixel_place_of tiling width cpp x y }
+    ensures value { result ≡ pixel_place_of tiling width cpp x y }
+    ensures limit { result < 2 ^ 57 }
 {
     match tiling {
         Tiling::Raster => raster_place(width, cpp, x, y),
@@ -117,6 +119,7 @@ pub fn pixel_place(tiling: Tiling, width: u32, cpp: u32, x: u32, y: u32) -> u64
     requires width_limit { width ≤ 65535 }
     requires pixel { IsPixelSize cpp }
     ensures value { result ≡ pixel_place_of tiling width cpp x y }
+    ensures limit { result < 2 ^ 57 }
 
     // The laws of a surface of any height: it lies inside, and shares no byte with another.
     ensures inside { IsPixelInside tiling width cpp x y result }

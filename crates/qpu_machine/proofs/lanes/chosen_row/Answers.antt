@@ -1,6 +1,6 @@
 -- The row is whole.
 use Rattle.std.proofs.Common.{◌+◌}
-use Rattle.qpu_machine.specs.Choice.{word_at}
+use Rattle.machine_plan.specs.Choice.{word_at}
 use Rattle.qpu_machine.specs.Row.{chosen_row}
 use Rattle.qpu_machine.proofs.Fronts.{front_all}
 use Rattle.qpu_machine.proofs.lanes.chosen_row.Goals as goal

@@ -1,5 +1,5 @@
 use Rattle.std.proofs.Common.{◌+◌}
-use Rattle.qpu_machine.specs.Choice.{word_at}
+use Rattle.machine_plan.specs.Choice.{word_at}
 use Rattle.qpu_machine.proofs.Fronts.{IsFront}
 use Rattle.qpu_machine.proofs.lanes.chosen_row.Given as goal
 

@@ -1,6 +1,6 @@
 use Rattle.std.proofs.Common.{◌+◌, ◌%◌, ◌^◌, slice_index}
 use Rattle.std.specs.Prelude.{unwrap_or}
-use Rattle.qpu_machine.specs.Choice.{word_at}
+use Rattle.machine_plan.specs.Choice.{word_at}
 use Rattle.qpu_alu.specs.Operation.{mul_result_of}
 use Rattle.qpu_machine.proofs.Fronts.{IsFront}
 use Rattle.qpu_machine.proofs.operands.products.Given as goal

@@ -6,9 +6,9 @@ use Rattle.texture_layouts.proofs.place.pixel_place.Goals as goal
 pub returns-clause-inside : goal.returns-clause-inside
 returns-clause-inside c =
     let a = c.args in
-    subst (IsPixelInside a.tiling a.width a.cpp a.x a.y) (sym c.place_of_pixel.ensures) (pixel_inside a.tiling a.width a.cpp a.x a.y c.requires.pixel)
+    subst (IsPixelInside a.tiling a.width a.cpp a.x a.y) (sym c.place_of_pixel.ensures.value) (pixel_inside a.tiling a.width a.cpp a.x a.y c.requires.pixel)
 
 pub returns-clause-apart : goal.returns-clause-apart
 returns-clause-apart c =
     let a = c.args in
-    subst (IsPixelApart a.tiling a.width a.cpp a.x a.y) (sym c.place_of_pixel.ensures) (pixel_apart a.tiling a.width a.cpp a.x a.y c.requires.pixel)
+    subst (IsPixelApart a.tiling a.width a.cpp a.x a.y) (sym c.place_of_pixel.ensures.value) (pixel_apart a.tiling a.width a.cpp a.x a.y c.requires.pixel)

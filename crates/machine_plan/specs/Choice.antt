@@ -1,5 +1,4 @@
 -- Choice words: they answer what the hardware leaves open.
--- To move to machine_plan when the machine takes this crate in.
 use Rattle.std.specs.Prelude.{ℕ, ◌%◌, ◌^◌, List, slice_index}
 
 -- choice word k, which is 0 where it is missing; of each word the low 32 bits count

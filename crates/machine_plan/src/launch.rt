@@ -1,5 +1,4 @@
 //! Programs that a list unit starts, and where they could start.
-// To move to machine_plan when the machine takes this crate in.
 
 /// One of the two threads of a shader processor.
 #[derive(Clone, Copy, Debug, PartialEq, Eq)]

@@ -1,5 +1,4 @@
 -- Plans that code carries out read by read.
--- To move to machine_plan when the machine takes this crate in.
 use Rattle.std.proofs.Common.{◌≡◌, ℕ, List, [], ◌∷◌, ◌++◌, Option, refl, sym, ◌∙◌, ap, subst, append_assoc, append-nil, Some, None}
 use Rattle.field_words.specs.declared.access.Access.{Access}
 use Rattle.field_words.specs.declared.access.Way.TheVariants.{Read, Wild}
