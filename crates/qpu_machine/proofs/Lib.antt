@@ -5,3 +5,4 @@ pub mod Tame
 pub mod Shown
 pub mod Near
 pub mod Asking
+pub mod Settling

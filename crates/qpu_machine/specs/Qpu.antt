@@ -11,6 +11,7 @@ use Rattle.machine_plan.specs.World.{mapped}
 use Rattle.qpu_machine.specs.declared.state.Asked.{Asked}
 use Rattle.qpu_machine.specs.declared.state.Fate.{Fate}
 use Rattle.qpu_machine.specs.declared.state.Fate.TheVariants.{GoesOn, Switches, Ends}
+use Rattle.qpu_machine.specs.declared.state.Leaves.{Leaves}
 use Rattle.qpu_machine.specs.declared.state.Qpu.{Qpu}
 use Rattle.qpu_machine.specs.declared.state.Request.{Request}
 use Rattle.qpu_machine.specs.declared.state.Thread.{Thread}
@@ -47,6 +48,11 @@ left_by GoesOn t = Some t
 left_by Switches t = Some t
 left_by Ends t = None
 
+abbrev pub kept_by : Fate → Option Thread → Option Thread
+kept_by GoesOn slot = slot
+kept_by Switches slot = slot
+kept_by Ends slot = None
+
 abbrev pub gives_way : Fate → Bool
 gives_way GoesOn = false
 gives_way Switches = true
@@ -75,6 +81,26 @@ settled q job own over asked = record q {
   queue0 = record { items = queue_with 0 q.second job asked q.queue0.items };
   queue1 = record { items = queue_with 1 q.second job asked q.queue1.items };
 }
+
+-- the thread that is active is this, or none
+abbrev pub with_active : Qpu → Option Thread → Qpu
+with_active q slot = record q { first = if q.second then q.first else slot; other = if q.second then slot else q.other }
+
+-- The processor after a step whose thread stands in its slot already; a wild one leaves nothing.
+abbrev pub left_slot : Option Leaves → Option Thread → Option Thread
+left_slot None slot = None
+left_slot (Some leaves) slot = kept_by leaves.fate slot
+
+abbrev pub gives_way_by : Option Leaves → Bool
+gives_way_by None = true
+gives_way_by (Some leaves) = gives_way leaves.fate
+
+abbrev pub asked_by : Option Leaves → Option Asked
+asked_by None = None
+asked_by (Some leaves) = leaves.asked
+
+unfoldable pub settled_by : Qpu → ℕ → Option Leaves → Qpu
+settled_by q job left = settled q job (left_slot left (active_of q)) (gives_way_by left) (asked_by left)
 
 abbrev pub went : Qpu → Thread → ThreadTurn → Qpu
 went q t turn = settled q t.job (left_by turn.leaves.fate turn.thread) (gives_way turn.leaves.fate) turn.leaves.asked

@@ -10,6 +10,7 @@ mod lanes;
 mod operands;
 mod qpu;
 mod request;
+mod settle;
 mod start;
 mod state;
 mod step;
