@@ -6,3 +6,5 @@ pub mod Shown
 pub mod Near
 pub mod Asking
 pub mod Settling
+pub mod Starts
+pub mod Served

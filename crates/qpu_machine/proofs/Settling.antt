@@ -1,6 +1,6 @@
 -- The step of a processor: its queues have room, and the code's step is the definition's.
-use Rattle.std.proofs.Common.{◌≡◌, ◌≤◌, ◌<◌, ℕ, zero, suc, ◌+◌, ◌==◌, ◌&&◌, ◌||◌, not, nat_le, Bool, true, false, if◌then◌else◌, IsTrue, List, [], ◌∷◌, ◌++◌, drop, length, ◌^◌, Option, None, Some, IfSome, refl, sym, ◌∙◌, ap, subst, arith}
-use Rattle.std.specs.Prelude.{option_map, is_some, is_none}
+use Rattle.std.proofs.Common.{◌≡◌, ◌≤◌, ◌<◌, ℕ, suc, ◌+◌, ◌==◌, ◌&&◌, ◌||◌, not, nat_le, Bool, true, false, if◌then◌else◌, IsTrue, List, [], ◌∷◌, ◌++◌, length, ◌^◌, Option, None, Some, IfSome, refl, sym, ◌∙◌, ap, subst, arith}
+use Rattle.std.specs.Prelude.{option_map, is_some}
 use Rattle.std.specs.Int.{from_le_bytes, w64}
 use Rattle.std.proofs.lemmas.Grind.{common_steps}
 use Rattle.field_words.specs.Words.{u32_at}
@@ -22,8 +22,8 @@ use Rattle.qpu_machine.specs.declared.state.Thread.{Thread}
 use Rattle.qpu_machine.specs.Operands.{add_row, mul_row}
 use Rattle.qpu_machine.specs.Writes.{awake, past_uniform, written_at, added, multiplied, written, stored, loaded, went_on, worked, rested, results_after, asked, ask_of, loads}
 use Rattle.qpu_machine.specs.Wild.{takes_one, is_wild}
-use Rattle.qpu_machine.specs.Step.{ThreadTurn, turn_of, executed_with, executed, word_plan, thread_plan, is_held_by, is_held, thread_ready}
-use Rattle.qpu_machine.specs.Qpu.{active_of, resting_of, is_of, queued, ready_by, qpu_ready, left_by, kept_by, gives_way, refreshed, woken_slot, queue_with, settled, with_active, left_slot, gives_way_by, asked_by, settled_by, went, stopped, plan_by, qpu_plan, stopped_by, qpu_stopped}
+use Rattle.qpu_machine.specs.Step.{ThreadTurn, turn_of, executed_with, executed, thread_plan, is_held_by, is_held, thread_ready}
+use Rattle.qpu_machine.specs.Qpu.{active_of, job_of_thread, resting_of, is_of, queued, ready_by, qpu_ready, left_by, kept_by, gives_way, woken_slot, queue_with, settled, with_active, left_slot, gives_way_by, asked_by, settled_by, went, stopped, plan_by, qpu_plan, stopped_by, qpu_stopped}
 use Rattle.qpu_machine.specs.Bounds.{IsNear, finished0, finished1, IsFew, IsBounded, SlotSteps}
 use Rattle.qpu_machine.proofs.Shown.{by_tests, plan_is}
 
@@ -110,10 +110,10 @@ thread_limits who t words m queued0 queued1 turn ready is =
     tests_limits who t word words m queued0 queued1 turn (is_wild t word) (takes_one t word) free plan
 
 -- queues with one more request
-abbrev one_if : Bool → ℕ
+abbrev pub one_if : Bool → ℕ
 one_if b = if b then 1 else 0
 
-queued_first : (second : Bool) (r : Request) (requests : List Request) → queued second (r ∷ requests) ≡ one_if (is_of second r) + queued second requests
+pub queued_first : (second : Bool) (r : Request) (requests : List Request) → queued second (r ∷ requests) ≡ one_if (is_of second r) + queued second requests
 queued_first second r requests = grind (arith, common_steps)
 
 queued_last : (second : Bool) (requests : List Request) (r : Request) → queued second (requests ++ r ∷ []) ≡ queued second requests + one_if (is_of second r)
@@ -234,7 +234,7 @@ pub record Stepped (who : Who) (words m : List ℕ) (before listed : List Access
   pub near : IfSome left (λ leaves. next.place ≤ 2 ^ 34)
 
 by_slot : (who : Who) (words m : List ℕ) (before listed : List Access) (q after : Qpu) (job : ℕ) (left : Option Leaves) (slot : Option Thread) → active_of q ≡ slot → IsTrue (glanced (ready_by slot q) m)
-    → IfSome slot (λ t. job ≡ t.job) → after ≡ with_active q (active_of after) → IfSome slot (SlotSteps who words m before listed (active_of after) left) → Stepped who words m before listed q after job left
+    → job ≡ job_of_thread slot → after ≡ with_active q (active_of after) → IfSome slot (SlotSteps who words m before listed (active_of after) left) → Stepped who words m before listed q after job left
 by_slot who words m before listed q after job left None active ready job_is kept steps = absurd cc
 by_slot who words m before listed q after job left (Some t) active ready job_is kept steps = record {
   t = t;
@@ -248,7 +248,7 @@ by_slot who words m before listed q after job left (Some t) active ready job_is 
 }
 
 pub stepped : (who : Who) (words m : List ℕ) (before listed : List Access) (q after : Qpu) (job : ℕ) (left : Option Leaves) → IsTrue (glanced (qpu_ready q) m)
-    → IfSome (active_of q) (λ t. job ≡ t.job) → after ≡ with_active q (active_of after) → IfSome (active_of q) (SlotSteps who words m before listed (active_of after) left) → Stepped who words m before listed q after job left
+    → job ≡ job_of_thread (active_of q) → after ≡ with_active q (active_of after) → IfSome (active_of q) (SlotSteps who words m before listed (active_of after) left) → Stepped who words m before listed q after job left
 stepped who words m before listed q after job left ready job_is kept steps = by_slot who words m before listed q after job left (active_of q) refl ready job_is kept steps
 
 left_limits : (who : Who) (words m : List ℕ) (before listed : List Access) (q after : Qpu) (job : ℕ) (left : Option Leaves) (h : Stepped who words m before listed q after job left)

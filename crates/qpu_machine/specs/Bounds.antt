@@ -1,5 +1,5 @@
 -- What a processor's numbers keep to, so that its queues have room.
-use Rattle.std.specs.Prelude.{◌≡◌, ◌≤◌, ◌<◌, ℕ, ◌+◌, ◌^◌, Bool, false, true, List, length, Option, None, Some, IfSome, option_map}
+use Rattle.std.specs.Prelude.{◌≡◌, ◌≤◌, ◌<◌, ℕ, ◌+◌, ◌^◌, Bool, false, true, List, length, slice_index_or, Option, None, Some, IfSome, option_map}
 use Rattle.field_words.specs.declared.access.Access.{Access}
 use Rattle.machine_plan.specs.declared.who.Who.{Who}
 use Rattle.machine_plan.specs.Plan.{Shows, carried}
@@ -7,7 +7,7 @@ use Rattle.qpu_machine.specs.declared.state.Leaves.{Leaves}
 use Rattle.qpu_machine.specs.declared.state.Qpu.{Qpu}
 use Rattle.qpu_machine.specs.declared.state.Request.{Request}
 use Rattle.qpu_machine.specs.declared.state.Thread.{Thread}
-use Rattle.qpu_machine.specs.Qpu.{queued}
+use Rattle.qpu_machine.specs.Qpu.{queued, idle_qpu}
 use Rattle.qpu_machine.specs.Step.{thread_plan, turn_of}
 
 -- a thread's next instruction is no further than this
@@ -33,6 +33,9 @@ pub record IsBounded (q : Qpu) : Type 0 where
   pub other_near : IsNear q.other
   pub first_few : IsFew false q.first q.queue0.items q.queue1.items
   pub other_few : IsFew true q.other q.queue0.items q.queue1.items
+
+abbrev pub AreBounded : List Qpu → Type 0
+AreBounded qpus = (k : ℕ) → k < length qpus → IsBounded (slice_index_or qpus k idle_qpu)
 
 -- what an instruction of the thread in this slot has come to: the thread, and what it leaves
 pub record SlotSteps (who : Who) (words m : List ℕ) (before listed : List Access) (slot : Option Thread) (result : Option Leaves) (t : Thread) : Type 0 where

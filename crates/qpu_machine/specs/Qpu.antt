@@ -26,6 +26,10 @@ active_of q = if q.second then q.other else q.first
 abbrev pub resting_of : Qpu → Option Thread
 resting_of q = if q.second then q.first else q.other
 
+abbrev pub job_of_thread : Option Thread → ℕ
+job_of_thread None = 0
+job_of_thread (Some t) = t.job
+
 -- it is one of this thread's
 abbrev pub is_of : Bool → Request → Bool
 is_of second request = if second then request.second else not request.second
@@ -133,6 +137,10 @@ abbrev pub oldest : List Request → Option Request
 oldest [] = None
 oldest (request ∷ requests) = Some request
 
+abbrev pub job_of_request : Option Request → ℕ
+job_of_request None = 0
+job_of_request (Some request) = request.job
+
 abbrev pub tmu_ready : Qpu → ℕ → Glance Bool
 tmu_ready q tmu = Now (is_some (oldest (queue_of q tmu)))
 
@@ -150,12 +158,19 @@ dropped q tmu = record q {
   queue1 = record { items = if tmu == 0 then q.queue1.items else drop 1 q.queue1.items };
 }
 
--- It is gone, and its thread has the result, unless that is idle by now.
-unfoldable pub served : Qpu → ℕ → Request → Option (List ℕ) → Qpu
-served q tmu request row = record (dropped q tmu) {
-  first = if request.second then q.first else option_map (with_result tmu row) q.first;
-  other = if request.second then option_map (with_result tmu row) q.other else q.other;
+abbrev pub slot_of : Qpu → Bool → Option Thread
+slot_of q second = if second then q.other else q.first
+
+-- The thread has the result, unless it is idle.
+unfoldable pub given : Qpu → ℕ → Bool → Option (List ℕ) → Qpu
+given q tmu second row = record q {
+  first = if second then q.first else option_map (with_result tmu row) q.first;
+  other = if second then option_map (with_result tmu row) q.other else q.other;
 }
+
+-- The oldest request is gone, and its thread has the result, unless that is idle by now.
+abbrev pub served : Qpu → ℕ → Request → Option (List ℕ) → Qpu
+served q tmu request row = given (dropped q tmu) tmu request.second row
 
 abbrev pub serving : Option Request → Qpu → ℕ → List ℕ → Plan Qpu
 serving None q tmu words = Done q
@@ -190,6 +205,9 @@ in_first q t = record q { first = Some t; second = q.second && is_some q.other }
 
 unfoldable pub in_other : Qpu → Thread → Qpu
 in_other q t = record q { other = Some t; second = q.second || is_none q.first }
+
+abbrev pub in_slot : Bool → Qpu → Thread → Qpu
+in_slot second q t = if second then in_other q t else in_first q t
 
 -- a program starts in the first thread of the first processor that can take it, if there is one
 abbrev pub started_in : Bool → Thread → List Qpu → List Qpu

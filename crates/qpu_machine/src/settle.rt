@@ -3,7 +3,7 @@ ghost use Rattle.std.specs.Prelude.{◌≡◌, ◌<◌, ◌≤◌, ◌^◌, IsTr
 ghost use Rattle.arrayvec.specs.ArrayVec.{array_vec_len};
 ghost use Rattle.machine_plan.specs.Glance.{glanced};
 ghost use Rattle.machine_plan.specs.Plan.{Shows, carried};
-ghost use Rattle.qpu_machine.specs.Qpu.{active_of, resting_of, qpu_ready, qpu_plan, qpu_stopped, woken_slot, queue_with, with_active, left_slot, gives_way_by, asked_by, settled, settled_by};
+ghost use Rattle.qpu_machine.specs.Qpu.{active_of, job_of_thread, resting_of, qpu_ready, qpu_plan, qpu_stopped, woken_slot, queue_with, with_active, left_slot, gives_way_by, asked_by, settled, settled_by};
 ghost use Rattle.qpu_machine.specs.Bounds.{IsNear, IsBounded, SlotSteps};
 
 use crate::state::{Asked, Fate, Leaves, Qpu, Request, Thread};
@@ -41,17 +41,13 @@ fn wake_slot(over: bool, slot: &mut Option<Thread>)
 }
 
 // Puts what was asked into a TMU's queue, if it is for this TMU.
-fn enqueue(
-    tmu: u8,
-    second: bool,
-    job: u8,
-    asked: &Option<Asked>,
-    queue: &mut ArrayVec<Request, 16>,
-)
+fn enqueue(tmu: u8, second: bool, job: u8, asked: &Option<Asked>, queue: &mut ArrayVec<Request, 16>)
     requires room { IfSome asked.now (λ one. one.tmu ≡ tmu → array_vec_len queue.old < 16) }
     ensures { queue.new.items ≡ queue_with tmu second job asked.now queue.old.items }
 {
-    if let Some(asked) = asked && asked.tmu == tmu {
+    if let Some(asked) = asked
+        && asked.tmu == tmu
+    {
         queue.push(Request {
             second,
             job,
@@ -146,9 +142,9 @@ fn step_active(
     step_slot(&mut qpu.first, words, who, memory, accesses)
 }
 
-// The job of the active thread.
-fn active_job(qpu: &Qpu) -> u8
-    ensures { IfSome (active_of qpu.now) (λ thread. result ≡ thread.job) }
+/// The job of the active thread; 0 where none runs.
+pub fn qpu_job(qpu: &Qpu) -> u8
+    ensures { result ≡ job_of_thread (active_of qpu.now) }
 {
     let active = if qpu.second { &qpu.other } else { &qpu.first };
     match active {
@@ -176,7 +172,7 @@ pub fn step_qpu(
     ensures shows { Shows (carried who (qpu_plan qpu.old words.now) memory.now) accesses.old.items accesses.new.items memory.now (if result then Some qpu.new else None) }
     ensures wild { result ≡ false → qpu.new ≡ qpu_stopped qpu.old }
 {
-    let job = active_job(qpu);
+    let job = qpu_job(qpu);
     let left = step_active(qpu, words, who, memory, accesses);
     settle(job, &left, qpu);
     left.is_some()

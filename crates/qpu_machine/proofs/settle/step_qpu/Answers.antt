@@ -1,19 +1,19 @@
 -- A step of the active thread, and what becomes of its processor.
-use Rattle.std.proofs.Common.{◌≡◌, ◌∙◌, sym, subst, Some, None, if◌then◌else◌}
+use Rattle.std.proofs.Common.{◌∙◌, sym, subst, Some, None, if◌then◌else◌}
 use Rattle.machine_plan.specs.Plan.{Shows, carried}
 use Rattle.qpu_machine.specs.Qpu.{qpu_plan}
 use Rattle.qpu_machine.proofs.Settling.{Stepped, stepped, settle_room0, settle_room1, settle_bounded, settle_shows, settle_wild}
 use Rattle.qpu_machine.proofs.settle.step_qpu.Goals as goal
 
-steps : (c : goal.After-settle-arg-1) → Stepped c.args.who c.args.words.now c.args.memory.now c.args.accesses.now.items c.step_active-left.new.accesses.items c.args.qpu.now c.step_active-left.new.qpu c.active_job-job.result c.step_active-left.result
+steps : (c : goal.After-settle-arg-1) → Stepped c.args.who c.args.words.now c.args.memory.now c.args.accesses.now.items c.step_active-left.new.accesses.items c.args.qpu.now c.step_active-left.new.qpu c.qpu_job-job.result c.step_active-left.result
 steps c =
-    stepped c.args.who c.args.words.now c.args.memory.now c.args.accesses.now.items c.step_active-left.new.accesses.items c.args.qpu.now c.step_active-left.new.qpu c.active_job-job.result c.step_active-left.result
-    c.requires.ready c.active_job-job.ensures c.step_active-left.ensures.kept c.step_active-left.ensures.steps
+    stepped c.args.who c.args.words.now c.args.memory.now c.args.accesses.now.items c.step_active-left.new.accesses.items c.args.qpu.now c.step_active-left.new.qpu c.qpu_job-job.result c.step_active-left.result
+    c.requires.ready c.qpu_job-job.ensures c.step_active-left.ensures.kept c.step_active-left.ensures.steps
 
-after : (c : goal.After-is_some) → Stepped c.args.who c.args.words.now c.args.memory.now c.args.accesses.now.items c.step_active-left.new.accesses.items c.args.qpu.now c.step_active-left.new.qpu c.active_job-job.result c.step_active-left.result
+after : (c : goal.After-is_some) → Stepped c.args.who c.args.words.now c.args.memory.now c.args.accesses.now.items c.step_active-left.new.accesses.items c.args.qpu.now c.step_active-left.new.qpu c.qpu_job-job.result c.step_active-left.result
 after c =
-    stepped c.args.who c.args.words.now c.args.memory.now c.args.accesses.now.items c.step_active-left.new.accesses.items c.args.qpu.now c.step_active-left.new.qpu c.active_job-job.result c.step_active-left.result
-    c.requires.ready c.active_job-job.ensures c.step_active-left.ensures.kept c.step_active-left.ensures.steps
+    stepped c.args.who c.args.words.now c.args.memory.now c.args.accesses.now.items c.step_active-left.new.accesses.items c.args.qpu.now c.step_active-left.new.qpu c.qpu_job-job.result c.step_active-left.result
+    c.requires.ready c.qpu_job-job.ensures c.step_active-left.ensures.kept c.step_active-left.ensures.steps
 
 pub settle-requires-clause-room0 : goal.settle-requires-clause-room0
 settle-requires-clause-room0 c = settle_room0 c.args.who c.args.words.now c.args.memory.now c.args.accesses.now.items _ c.args.qpu.now _ _ _ c.requires.bounded (steps c)
