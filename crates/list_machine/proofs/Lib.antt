@@ -1,3 +1,5 @@
 pub mod Storing
+pub mod Covering
+pub mod Left
 pub mod Stepping
 pub mod Keeping

@@ -23,10 +23,10 @@ row_limit place pitch i row first width =
     let rows : i * pitch ≤ 64 * 2 ^ 20 = mul-le-mul some width in
     omega arith
 
-pub bytes_limit : (size i : ℕ) → i < 64 → size ≤ 256 → i * size ≤ 2 ^ 19
+pub bytes_limit : (size i : ℕ) → i < 256 → size ≤ 256 → i * size ≤ 2 ^ 19
 bytes_limit size i row width =
-    let some : i ≤ 64 = omega arith in
-    let rows : i * size ≤ 64 * 256 = mul-le-mul some width in
+    let some : i ≤ 256 = omega arith in
+    let rows : i * size ≤ 256 * 256 = mul-le-mul some width in
     omega arith
 
 -- one more chosen byte is written

@@ -1,4 +1,6 @@
 pub mod Packet
 pub mod Store
+pub mod Cover
+pub mod Surfaces
 pub mod Renderer
 pub mod Lists
