@@ -1,4 +1,4 @@
+pub mod Lists
 pub mod Packet
 pub mod Store
 pub mod Renderer
-pub mod Lists

@@ -1,11 +1,15 @@
-//! The list units of the machine. So far it holds the renderer, with the packets that set up a
-//! frame and the stores of raster frames.
+//! The list units of the machine: what a job's binner and renderer keep, and their steps.
 #![tactic(auto)]
 
+mod job_lists;
 mod packet;
 mod renderer;
 mod state;
 mod store;
 
+pub use job_lists::{JobLists, MOST_ITEMS};
 pub use renderer::step_renderer;
-pub use state::{Frame, Lists, Renderer, Rows};
+pub use state::{
+    Binner, Config, Frame, Item, Kept, Load, Primitive, Program, Renderer, Rows, Spot, SubList,
+    Work,
+};
