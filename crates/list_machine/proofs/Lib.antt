@@ -1,3 +1,4 @@
+pub mod Nearness
 pub mod Storing
 pub mod Stepping
 pub mod Keeping

@@ -1,6 +1,6 @@
 //! What the list units of one job keep, as a whole.
 ghost use Rattle.std.specs.Prelude.{◌≡◌, ◌≤◌, ◌<◌, ◌+◌, ◌*◌, ◌^◌, ◌++◌, ◌∷◌, [], length, IfOk};
-ghost use Rattle.list_machine.specs.Lists.{lists_start, with_binner, with_renderer, with_kept, with_work, with_place, past, incremented, flushed, with_taken, with_item, with_block, binner_ended, most_items};
+ghost use Rattle.list_machine.specs.Lists.{lists_start, with_binner, with_renderer, with_kept, with_work, with_place, past, incremented, flushed, with_taken, with_item, with_block, binner_ended, most_items, AreNear};
 
 use crate::state::{Binner, Item, Kept, Renderer, Work};
 use field_words::NoMemory;
@@ -75,5 +75,149 @@ impl JobLists {
             blocks: 0,
             items,
         })
+    }
+
+    /// The binner.
+    pub(crate) fn binner(&self) -> Binner
+        ensures value { result ≡ self.now.binner }
+        ensures end { result.end < 2 ^ 33 }
+        ensures place { result.place ≤ result.end + 16 }
+    {
+        self.binner
+    }
+
+    /// The renderer.
+    pub(crate) fn renderer(&self) -> Renderer
+        ensures value { result ≡ self.now.renderer }
+        ensures end { result.end < 2 ^ 33 }
+        ensures place { result.place ≤ result.end + 16 }
+    {
+        self.renderer
+    }
+
+    /// The semaphore.
+    pub(crate) fn semaphore(&self) -> u64
+        ensures { result ≡ self.now.semaphore }
+    {
+        self.semaphore
+    }
+
+    /// Whether the tile lists are closed.
+    pub(crate) fn is_closed(&self) -> bool
+        ensures { result ≡ self.now.closed }
+    {
+        self.closed
+    }
+
+    /// How many further blocks are taken.
+    pub(crate) fn blocks(&self) -> u32
+        ensures value { result ≡ self.now.blocks }
+        ensures few { result ≤ 2 ^ 25 }
+    {
+        self.blocks
+    }
+
+    /// The items of all tile lists, the oldest first.
+    pub(crate) fn items(&self) -> &[Item]
+        ensures value { result.now ≡ self.now.items }
+        ensures few { length result.now ≤ most_items }
+        ensures near { AreNear 0 result.now }
+    {
+        self.items.as_slice()
+    }
+
+    /// Changes the renderer.
+    pub(crate) fn set_renderer(&mut self, renderer: Renderer)
+        requires end { renderer.end < 2 ^ 33 }
+        requires place { renderer.place ≤ renderer.end + 16 }
+        ensures { self.new ≡ with_renderer self.old renderer }
+    {
+        self.renderer = renderer;
+    }
+
+    /// Changes what the binner keeps from packet to packet.
+    pub(crate) fn set_kept(&mut self, kept: Kept)
+        ensures { self.new ≡ with_kept self.old kept }
+    {
+        self.binner.kept = kept;
+    }
+
+    /// Changes the primitive in work.
+    pub(crate) fn set_work(&mut self, work: Option<Work>)
+        ensures { self.new ≡ with_work self.old work }
+    {
+        self.binner.work = work;
+    }
+
+    /// Goes past a packet of the binner's list.
+    pub(crate) fn pass(&mut self, len: u32)
+        requires below { self.old.binner.place < self.old.binner.end }
+        requires some { 1 ≤ len }
+        requires few { len ≤ 16 }
+        ensures value { self.new ≡ past self.old len }
+        ensures place { self.new.pending + self.new.semaphore < self.new.binner.place }
+        ensures end { self.new.pending + self.new.semaphore < self.new.binner.end }
+    {
+        self.binner.place += len as u64;
+    }
+
+    /// Goes to the end of the binner's list.
+    pub(crate) fn halt(&mut self)
+        requires { self.old.pending + self.old.semaphore ≤ self.old.binner.end }
+        ensures { self.new ≡ with_place self.old self.old.binner.end }
+    {
+        self.binner.place = self.binner.end;
+    }
+
+    /// Ends the binner's work.
+    pub(crate) fn end_binner(&mut self)
+        requires { self.old.pending + self.old.semaphore ≤ self.old.binner.end }
+        ensures { self.new ≡ binner_ended self.old }
+    {
+        self.binner.place = self.binner.end;
+        self.binner.work = None;
+    }
+
+    /// The semaphore is to be raised once more.
+    pub(crate) fn increment(&mut self)
+        requires { self.old.pending + self.old.semaphore < self.old.binner.place }
+        ensures { self.new ≡ incremented self.old }
+    {
+        self.pending += 1;
+    }
+
+    /// Closes the tile lists, and raises the semaphore as often as was asked.
+    pub(crate) fn flush(&mut self)
+        ensures { self.new ≡ flushed self.old }
+    {
+        self.closed = true;
+        self.semaphore += self.pending;
+        self.pending = 0;
+    }
+
+    /// Takes one from the semaphore.
+    pub(crate) fn take_semaphore(&mut self)
+        requires { 0 < self.old.semaphore }
+        ensures { self.new ≡ with_taken self.old }
+    {
+        self.semaphore -= 1;
+    }
+
+    /// Takes a further block.
+    pub(crate) fn take_block(&mut self)
+        requires { self.old.blocks < 2 ^ 25 }
+        ensures { self.new ≡ with_block self.old }
+    {
+        self.blocks += 1;
+    }
+
+    /// One item more.
+    #[tactic(auto, using(crate::proofs::Nearness::near_push))]
+    pub(crate) fn push_item(&mut self, item: Item)
+        requires few { length self.old.items < most_items }
+        requires near { item.place ≤ 2 ^ 33 + 16 * length self.old.items }
+        ensures { self.new ≡ with_item self.old item }
+    {
+        self.items.push_reserved(item);
     }
 }
