@@ -59,9 +59,9 @@ rows_keep who L G P rows words r i (suc n) m good ends =
 -- a store of a raster frame
 pub raster_keeps : (who : Who) (L : ℕ → ℕ → Type 0) (G : Access → Type 0) (P : List ℕ → Renderer → Type 0) (frame : Frame) (r : Renderer) (words m : List ℕ) →
     is_raster frame.bits ≡ true →
-    ((k : ℕ) → k < (rows_of frame r.tile_x r.tile_y).count → G (access who Write ((rows_of frame r.tile_x r.tile_y).place + k * (rows_of frame r.tile_x r.tile_y).pitch) (rows_of frame r.tile_x r.tile_y).size)) → ((k : List ℕ) → P k r) →
+    ((k : ℕ) → k < (rows_of frame r.x r.y).count → G (access who Write ((rows_of frame r.x r.y).place + k * (rows_of frame r.x r.y).pitch) (rows_of frame r.x r.y).size)) → ((k : List ℕ) → P k r) →
     Keeps who L G P (frame_plan frame r words) m
 unfolding frame_plan
 raster_keeps who L G P frame r words m raster good ends =
-    let rows = rows_of frame r.tile_x r.tile_y in
+    let rows = rows_of frame r.x r.y in
     rw raster (rows_keep who L G P rows words r 0 rows.count m (λ k low high. good k (omega arith)) ends)

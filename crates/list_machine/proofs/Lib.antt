@@ -1,3 +1,4 @@
+pub mod Nearness
 pub mod Storing
 pub mod Covering
 pub mod Left

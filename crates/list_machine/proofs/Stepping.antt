@@ -6,7 +6,8 @@ use Rattle.machine_plan.specs.Memory.{bytes_at}
 use Rattle.machine_plan.specs.Plan.{Shows, access, after_access, carried}
 use Rattle.list_machine.specs.declared.state.Renderer.{Renderer}
 use Rattle.list_machine.specs.Packet.{packet_length}
-use Rattle.list_machine.specs.Renderer.{renderer_of, packet_plan, renderer_plan}
+use Rattle.list_machine.specs.Lists.{renderer_of}
+use Rattle.list_machine.specs.Renderer.{packet_plan, renderer_plan}
 
 pub first_byte : (m : List ℕ) (p n : ℕ) → 1 ≤ n → slice_index (bytes_at m p n) 0 ≡ slice_index m p
 unfolding bytes_at

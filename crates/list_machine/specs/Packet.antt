@@ -23,4 +23,4 @@ with_frame r packet = record r { frame = Some (frame_of packet) }
 
 -- 115 keeps the tile's x and y
 abbrev pub with_tile : Renderer → List ℕ → Renderer
-with_tile r packet = record r { tile_x = slice_index packet 1; tile_y = slice_index packet 2 }
+with_tile r packet = record r { x = slice_index packet 1; y = slice_index packet 2 }

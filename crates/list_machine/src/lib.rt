@@ -1,8 +1,8 @@
-//! The list units of the machine. So far it holds the renderer, with the packets that set up a
-//! frame and the stores of raster frames.
+//! The list units of the machine: what a job's binner and renderer keep, and their steps.
 #![tactic(auto)]
 
 mod cover;
+mod job_lists;
 mod packet;
 mod parts;
 mod renderer;
@@ -10,6 +10,10 @@ mod state;
 mod store;
 mod surface;
 
+pub use job_lists::{JobLists, MOST_ITEMS};
 pub use renderer::step_renderer;
-pub use state::{Frame, Lists, Renderer, Rows};
+pub use state::{
+    Binner, Config, Frame, Item, Kept, Load, Primitive, Program, Renderer, Rows, Spot, SubList,
+    Work,
+};
 pub use surface::{Cover, Style};

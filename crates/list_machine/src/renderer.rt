@@ -3,7 +3,8 @@ ghost use Rattle.std.specs.Prelude.{◌≡◌, ◌+◌, ◌≤◌, ◌<◌, ◌^
 ghost use Rattle.arrayvec.specs.ArrayVec.{array_vec_len};
 ghost use Rattle.machine_plan.specs.Plan.{Shows, carried, Wilds};
 ghost use Rattle.list_machine.specs.Packet.{packet_length, with_frame, with_tile};
-ghost use Rattle.list_machine.specs.Renderer.{renderer_of, frame_plan, store_plan, packet_plan, renderer_plan};
+ghost use Rattle.list_machine.specs.Lists.{renderer_of};
+ghost use Rattle.list_machine.specs.Renderer.{frame_plan, store_plan, packet_plan, renderer_plan};
 
 use crate::packet::{length_of, read_frame};
 use crate::state::{Frame, Renderer};
@@ -38,10 +39,7 @@ pub fn step_renderer(
     list_access(who, Way::Read, renderer.place, len, accesses);
     let past = Renderer {
         place: renderer.place + len as u64,
-        end: renderer.end,
-        frame: renderer.frame,
-        tile_x: renderer.tile_x,
-        tile_y: renderer.tile_y,
+        ..renderer
     };
     obey(past, words, &packet, job, memory, accesses)
 }
@@ -79,11 +77,8 @@ fn set_frame(renderer: Renderer, packet: &[u8]) -> Renderer
     ensures { result ≡ with_frame renderer packet.now }
 {
     Renderer {
-        place: renderer.place,
-        end: renderer.end,
         frame: Some(read_frame(packet)),
-        tile_x: renderer.tile_x,
-        tile_y: renderer.tile_y,
+        ..renderer
     }
 }
 
@@ -93,11 +88,9 @@ fn set_tile(renderer: Renderer, packet: &[u8]) -> Renderer
     ensures { result ≡ with_tile renderer packet.now }
 {
     Renderer {
-        place: renderer.place,
-        end: renderer.end,
-        frame: renderer.frame,
-        tile_x: packet[1],
-        tile_y: packet[2],
+        x: packet[1],
+        y: packet[2],
+        ..renderer
     }
 }
 
@@ -137,7 +130,7 @@ fn store_frame(
     if !stores_raster(frame.bits) {
         return wild(job, memory, accesses);
     }
-    let covered = rows(frame, renderer.tile_x, renderer.tile_y);
+    let covered = rows(frame, renderer.x, renderer.y);
     store_rows(&covered, words, job, memory, accesses);
     Some(renderer)
 }

@@ -7,7 +7,7 @@ ghost use Rattle.texture_layouts.specs.Surface.{microtile_width_of};
 ghost use Rattle.field_words.specs.Words.{rounded_up};
 ghost use Rattle.list_machine.specs.declared.state.Renderer.{Renderer};
 ghost use Rattle.list_machine.specs.Store.{tile_side, pixel_size, is_raster, covered, rows_of, word_at, chosen_byte, chosen, row_writes};
-ghost use Rattle.list_machine.specs.Renderer.{renderer_of};
+ghost use Rattle.list_machine.specs.Lists.{renderer_of};
 
 use crate::state::{Frame, Rows};
 use arrayvec::ArrayVec;

@@ -1,6 +1,6 @@
 -- One more row is written and listed.
 use Rattle.std.proofs.Common.{arith}
-use Rattle.list_machine.specs.Renderer.{renderer_of}
+use Rattle.list_machine.specs.Lists.{renderer_of}
 use Rattle.list_machine.proofs.Storing.{rows_go}
 use Rattle.list_machine.proofs.store.store_rows.Goals as goal
 

@@ -1,7 +1,7 @@
 use Rattle.std.proofs.Common.{◌≡◌, ◌+◌}
 use Rattle.arrayvec.specs.ArrayVec.{array_vec_len}
 use Rattle.list_machine.specs.declared.state.Renderer.{Renderer}
-use Rattle.list_machine.specs.Renderer.{renderer_of}
+use Rattle.list_machine.specs.Lists.{renderer_of}
 use Rattle.list_machine.proofs.Storing.{RowsRemain}
 use Rattle.list_machine.proofs.store.store_rows.Given as goal
 
