@@ -9,7 +9,7 @@ use Rattle.machine_plan.proofs.Reading.{IsLeft, left_first, left_read, left_done
 use Rattle.list_machine.specs.declared.surface.Cover.{Cover}
 use Rattle.list_machine.specs.Store.{chosen}
 use Rattle.list_machine.specs.Cover.{part_count, part_place, parts_written, parts_read}
-use Rattle.list_machine.proofs.Storing.{length-chosen}
+use Rattle.list_machine.proofs.Storing.{chosen_size}
 
 pub left_write : {R : Type 0} (who : Who) (place : ℕ) (bytes : List ℕ) (next : Plan R) (m : List ℕ) (whole : Outcome R) (before now : List Access)
     → IsLeft whole (carried who (Writes place bytes next) m) before now → IsLeft whole (carried who next (stored m place bytes)) before (now ++ access who Write place (length bytes) ∷ [])
@@ -48,7 +48,7 @@ writes_more {R = R} who c words r first m before now n i below left =
     let next : Plan R = parts_written c words (i + 1) (n - (i + 1)) (Done r) in
     let here : IsLeft whole (carried who (Writes place bytes next) m) before now = subst (λ (p : Plan R). IsLeft whole (carried who p m) before now) (written_more c words (Done r) n i below) left in
     let done : IsLeft whole (carried who next (stored m place bytes)) before (now ++ access who Write place (length bytes) ∷ []) = left_write who place bytes next m whole before now here in
-    subst (λ k. IsLeft whole (carried who next (stored m place bytes)) before (now ++ access who Write place k ∷ [])) (length-chosen words (i * c.size) c.size) done
+    subst (λ k. IsLeft whole (carried who next (stored m place bytes)) before (now ++ access who Write place k ∷ [])) (chosen_size words (i * c.size) c.size) done
 
 pub writes_end : {R : Type 0} (who : Who) (c : Cover) (words : List ℕ) (r : R) (first m : List ℕ) (before now : List Access) (n i : ℕ) → n ≤ i → WritesLeft who c words r first m before now n i
     → Shows (carried who (parts_written c words 0 n (Done r)) first) before now m (Some r)

@@ -2,5 +2,3 @@ pub mod Nearness
 pub mod Storing
 pub mod Covering
 pub mod Left
-pub mod Stepping
-pub mod Keeping

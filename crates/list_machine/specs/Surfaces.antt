@@ -3,6 +3,8 @@ use Rattle.std.specs.Prelude.{ℕ, Bool, ◌==◌, ◌-◌, ◌%◌, if◌then�
 use Rattle.field_words.specs.Words.{bits_of}
 use Rattle.machine_plan.specs.Plan.{Plan, Wilds, Reads, Writes}
 use Rattle.list_machine.specs.declared.state.Frame.{Frame}
+use Rattle.list_machine.specs.declared.state.Load.{Load}
+use Rattle.list_machine.specs.declared.state.Load.TheVariants.{Full, General}
 use Rattle.list_machine.specs.declared.surface.Cover.{Cover}
 use Rattle.list_machine.specs.Store.{chosen}
 use Rattle.list_machine.specs.Cover.{general_style, frame_style, cover_for, part_count, parts_written, parts_read}
@@ -49,3 +51,12 @@ whole_written address words next = Writes (aligned address) (chosen words 0 whol
 
 unfoldable pub whole_read : {R : Type 0} → ℕ → Plan R → Plan R
 whole_read address next = Reads (aligned address) whole_size (λ bytes. next)
+
+-- A load that waits, done at tile (x, y).
+abbrev pub load_read : {R : Type 0} → Load → Option Frame → ℕ → ℕ → Plan R → Plan R
+load_read (Full address) frame x y next = whole_read address next
+load_read (General bits address) frame x y next = general_read bits address frame x y next
+
+abbrev pub waiting_read : {R : Type 0} → Option Load → Option Frame → ℕ → ℕ → Plan R → Plan R
+waiting_read None frame x y next = next
+waiting_read (Some load) frame x y next = load_read load frame x y next

@@ -3,17 +3,13 @@
 
 mod cover;
 mod job_lists;
-mod packet;
 mod parts;
-mod renderer;
 mod state;
-mod store;
 mod surface;
 
 pub use job_lists::{JobLists, MOST_ITEMS};
-pub use renderer::step_renderer;
 pub use state::{
-    Binner, Config, Frame, Item, Kept, Load, Primitive, Program, Renderer, Rows, Spot, SubList,
+    Binner, Config, Frame, Item, Kept, Load, Primitive, Program, Renderer, Spot, SubList,
     Work,
 };
-pub use surface::{Cover, Style};
+pub use surface::{Cover, Style, Tile};

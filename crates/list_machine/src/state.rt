@@ -116,13 +116,3 @@ pub struct Spot {
     pub count: u32,
     pub last: u64,
 }
-
-/// The rows that a store of one tile of a raster frame covers: the place of the first, how many
-/// bytes lie between the starts of two rows, the bytes of each row, and how many rows there are.
-#[derive(Clone, Copy, Debug, PartialEq, Eq)]
-pub struct Rows {
-    pub place: u64,
-    pub pitch: u64,
-    pub size: u32,
-    pub count: u32,
-}

@@ -1,4 +1,5 @@
 //! How the pixels of a surface lie, and what part of it a load or store covers.
+use crate::state::Frame;
 use texture_layouts::Tiling;
 
 /// In which tiling a surface's pixels lie, and how many bytes each of them takes.
@@ -24,4 +25,12 @@ pub struct Cover {
     pub across: u32,
     pub down: u32,
     pub size: u32,
+}
+
+/// A tile of the frame, where one is set.
+#[derive(Clone, Copy, Debug, PartialEq, Eq)]
+pub struct Tile {
+    pub frame: Option<Frame>,
+    pub x: u8,
+    pub y: u8,
 }
