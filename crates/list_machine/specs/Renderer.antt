@@ -11,6 +11,7 @@ use Rattle.machine_plan.specs.Glance.{Glance, Now, At}
 use Rattle.machine_plan.specs.Plan.{Plan, Done, Wilds, Reads, Looks}
 use Rattle.machine_plan.specs.World.{mapped}
 use Rattle.list_machine.specs.declared.state.Config.{Config}
+use Rattle.list_machine.specs.declared.state.Found.{Found}
 use Rattle.list_machine.specs.declared.state.Frame.{Frame}
 use Rattle.list_machine.specs.declared.state.Item.{Item}
 use Rattle.list_machine.specs.declared.state.Load.{Load}
@@ -59,13 +60,13 @@ abbrev pub enter_plan : Lists → Option ℕ → Plan Lists
 enter_plan s None = Wilds
 enter_plan s (Some tile) = Done (with_inside s (Some (record { tile = tile; at = 0 })))
 
-abbrev pub branch_in : Lists → Option Config → ℕ → Plan Lists
-branch_in s None address = Wilds
-branch_in s (Some c) address = enter_plan s (tile_named c address)
+abbrev pub tile_by : Option Config → ℕ → Option ℕ
+tile_by None address = None
+tile_by (Some c) address = tile_named c address
 
 -- 17 goes into a tile's list. It is wild unless the lists are closed and one begins at its address.
 unfoldable pub branch_plan : Lists → ℕ → Plan Lists
-branch_plan s address = if s.closed then branch_in s s.binner.kept.config address else Wilds
+branch_plan s address = if s.closed then enter_plan s (tile_by s.binner.kept.config address) else Wilds
 
 -- 115 names the tile, and does the load that waits there
 unfoldable pub tile_plan : Lists → ℕ → ℕ → Plan Lists
@@ -97,11 +98,6 @@ packet_plan s words =
     Looks s.renderer.place 1 (λ head.
     let len = render_taken (slice_index head 0) in
     Reads s.renderer.place len (λ bytes. acted (beyond s len) words (decoded bytes)))
-
--- an item of a tile's list, with its number in the list of all items
-pub record Found : Type 0 where
-  pub number : ℕ
-  pub item : Item
 
 -- the first item of this tile, where the items are numbered from n on
 abbrev pub first_of_tile : ℕ → ℕ → List Item → Option Found

@@ -4,12 +4,13 @@
 mod cover;
 mod job_lists;
 mod parts;
+mod renderer;
 mod state;
 mod surface;
 
 pub use job_lists::{JobLists, MOST_ITEMS};
 pub use state::{
-    Binner, Config, Frame, Item, Kept, Load, Primitive, Program, Renderer, Spot, SubList,
+    Binner, Config, Found, Frame, Item, Kept, Load, Primitive, Program, Renderer, Spot, SubList,
     Work,
 };
 pub use surface::{Cover, Style, Tile};

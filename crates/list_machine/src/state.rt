@@ -116,3 +116,10 @@ pub struct Spot {
     pub count: u32,
     pub last: u64,
 }
+
+/// An item of a tile's list, with its number in the list of all items.
+#[derive(Clone, Copy, Debug, PartialEq, Eq)]
+pub struct Found {
+    pub number: u32,
+    pub item: Item,
+}
