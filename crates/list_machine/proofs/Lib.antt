@@ -1,3 +1,5 @@
+pub mod Nearness
 pub mod Storing
-pub mod Stepping
-pub mod Keeping
+pub mod Covering
+pub mod Left
+pub mod Steps

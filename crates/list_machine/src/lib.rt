@@ -1,11 +1,16 @@
-//! The list units of the machine. So far it holds the renderer, with the packets that set up a
-//! frame and the stores of raster frames.
+//! The list units of the machine: what a job's binner and renderer keep, and their steps.
 #![tactic(auto)]
 
-mod packet;
+mod cover;
+mod job_lists;
+mod parts;
 mod renderer;
 mod state;
-mod store;
+mod surface;
 
-pub use renderer::step_renderer;
-pub use state::{Frame, Lists, Renderer, Rows};
+pub use job_lists::{JobLists, MOST_ITEMS};
+pub use state::{
+    Binner, Config, Found, Frame, Item, Kept, Load, Primitive, Program, Renderer, Spot, SubList,
+    Work,
+};
+pub use surface::{Cover, Style, Tile};
