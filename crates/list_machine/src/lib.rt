@@ -4,6 +4,7 @@
 mod cover;
 mod job_lists;
 mod parts;
+mod reads;
 mod renderer;
 mod state;
 mod surface;

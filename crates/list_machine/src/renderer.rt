@@ -13,11 +13,12 @@ ghost use Rattle.list_machine.specs.Renderer.{beyond, with_frame, with_load, at_
 
 use crate::job_lists::JobLists;
 use crate::parts::{load_waiting, store_frame, store_general, store_whole};
+use crate::reads::read_listed;
 use crate::state::{Config, Frame, Load, Renderer, SubList};
 use crate::surface::Tile;
 use arrayvec::ArrayVec;
 use field_words::{Access, Way};
-use machine_plan::{Who, byte_at, list_access, read_bytes};
+use machine_plan::{Who, byte_at, list_access};
 use packets::opcode::WAIT_ON_SEMAPHORE;
 use packets::{Packet, decode, render_taken};
 use phys_mem::PhysMem;
@@ -311,6 +312,27 @@ impl JobLists {
     }
 
     /// Reads the packet at the renderer's place, goes past it and does what it says. False comes exactly
+    /// where that is wild; then nothing but the renderer's place has changed.
+    fn pass_packet(
+        &mut self,
+        words: &[u32],
+        who: Who,
+        memory: &mut PhysMem,
+        accesses: &mut ArrayVec<Access, 272>,
+    ) -> bool
+        requires below { self.old.renderer.place < self.old.renderer.end }
+        requires room { array_vec_len accesses.old ≤ 4 }
+        ensures shows { Shows (carried who (packet_plan self.old words.now) memory.old) accesses.old.items accesses.new.items memory.new (if result then Some self.new else None) }
+        ensures same { result ≡ false → with_renderer self.new self.old.renderer ≡ self.old }
+    {
+        let place = self.renderer().place;
+        let len = render_taken(byte_at(memory, place));
+        let bytes = read_listed(place, len, who, memory, accesses);
+        self.go_past(len);
+        self.obey(&bytes, words, who, memory, accesses)
+    }
+
+    /// Reads the packet at the renderer's place, goes past it and does what it says. False comes exactly
     /// where that is wild; then the renderer's work ends.
     pub(crate) fn take_packet(
         &mut self,
@@ -325,14 +347,10 @@ impl JobLists {
         ensures wild { result ≡ false → self.new ≡ renderer_ended self.old }
     {
         let kept = self.renderer();
-        let len = render_taken(byte_at(memory, kept.place));
-        let bytes = read_bytes(memory, kept.place, len as usize);
-        list_access(who, Way::Read, kept.place, len, accesses);
-        self.go_past(len);
-        let tame = self.obey(&bytes, words, who, memory, accesses);
-        if !tame {
-            self.end_renderer(kept);
+        if self.pass_packet(words, who, memory, accesses) {
+            return true;
         }
-        tame
+        self.end_renderer(kept);
+        false
     }
 }
