@@ -2,10 +2,13 @@
 #![tactic(auto)]
 
 mod cover;
+mod fetch;
+mod inside;
 mod job_lists;
 mod parts;
 mod reads;
 mod renderer;
+mod start;
 mod state;
 mod surface;
 
