@@ -6,3 +6,4 @@ pub mod Steps
 pub mod Items
 pub mod Fetching
 pub mod Joining
+pub mod Keeping
