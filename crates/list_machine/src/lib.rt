@@ -18,3 +18,6 @@ pub use state::{
     Work,
 };
 pub use surface::{Cover, Style, Tile};
+
+#[cfg(test)]
+mod render_tests;
