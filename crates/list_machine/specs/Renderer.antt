@@ -16,6 +16,7 @@ use Rattle.list_machine.specs.declared.state.Frame.{Frame}
 use Rattle.list_machine.specs.declared.state.Item.{Item}
 use Rattle.list_machine.specs.declared.state.Load.{Load}
 use Rattle.list_machine.specs.declared.state.Load.TheVariants.{Full, General}
+use Rattle.list_machine.specs.declared.state.Program.{Program}
 use Rattle.list_machine.specs.declared.state.Program.TheVariants.{Fragment, Vertex}
 use Rattle.list_machine.specs.declared.state.Renderer.{Renderer}
 use Rattle.list_machine.specs.declared.state.SubList.{SubList}
@@ -121,14 +122,19 @@ vertex_plan s item words =
     if item.primitive.length == 0 then Done (quiet s)
     else mapped (fetched s) (fetch_plan item.primitive item.word (word_at words 1 % item.primitive.length))
 
+-- a program is started
+unfoldable pub program_plan : Lists → Program → Free → Item → Plan Turned
+program_plan s program free item = mapped (turned_to s) (start_plan program free item.word)
+
 -- Choice word 0 says what is done at an item: a vertex is fetched, a vertex program started, a fragment
 -- program started, or the renderer goes past the item.
 unfoldable pub choice_plan : Lists → Free → List ℕ → SubList → Found → Plan Turned
 choice_plan s free words sub found =
+    let here = at_item s sub.tile found.number in
     let choice = word_at words 0 % 4 in
-    if choice == 0 then vertex_plan (at_item s sub.tile found.number) found.item words
-    else (if choice == 1 then mapped (turned_to (at_item s sub.tile found.number)) (start_plan Vertex free found.item.word)
-    else (if choice == 2 then mapped (turned_to (at_item s sub.tile found.number)) (start_plan Fragment free found.item.word)
+    if choice == 0 then vertex_plan here found.item words
+    else (if choice == 1 then program_plan here Vertex free found.item
+    else (if choice == 2 then program_plan here Fragment free found.item
     else Done (quiet (at_item s sub.tile (found.number + 1)))))
 
 -- At an item its 16 bytes are read. Past the last one the renderer leaves the tile's list, without an

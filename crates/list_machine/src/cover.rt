@@ -83,7 +83,10 @@ pub(crate) fn frame_style(bits: u16) -> Option<Style>
     ensures pixel { IfSome result (λ style. IsShort style.cpp) }
 {
     let word = bits as u64;
-    styled(tiling_named(field(word, 7, 6)), frame_pixel(field(word, 3, 2)))
+    styled(
+        tiling_named(field(word, 7, 6)),
+        frame_pixel(field(word, 3, 2)),
+    )
 }
 
 /// The tile's side in pixels.

@@ -2,10 +2,13 @@
 #![tactic(auto)]
 
 mod cover;
+mod fetch;
+mod inside;
 mod job_lists;
 mod parts;
 mod reads;
 mod renderer;
+mod start;
 mod state;
 mod surface;
 
@@ -15,3 +18,6 @@ pub use state::{
     Work,
 };
 pub use surface::{Cover, Style, Tile};
+
+#[cfg(test)]
+mod render_tests;

@@ -237,7 +237,13 @@ fn load_whole(address: u32, who: Who, accesses: &mut ArrayVec<Access, 272>)
     requires { array_vec_len accesses.old ≤ 8 }
     ensures { (m : List ℕ) (r : Lists) → Shows (carried who (whole_read address (Done r)) m) accesses.old.items accesses.new.items m (Some r) }
 {
-    list_access(who, Way::Read, aligned(address) as u64, WHOLE_SIZE, accesses);
+    list_access(
+        who,
+        Way::Read,
+        aligned(address) as u64,
+        WHOLE_SIZE,
+        accesses,
+    );
 }
 
 /// Does a load at tile (x, y). False comes exactly where that is wild.
