@@ -73,3 +73,6 @@ pub record AreWhole (jobs : List Lists) (qpus : List Qpu) : Type 0 where
   pub few : length jobs ≤ 8
   pub twelve : length qpus ≡ 12
   pub bounded : AreBounded qpus
+
+abbrev pub job_at : List Lists → ℕ → Lists
+job_at jobs k = slice_index_or jobs k no_job

@@ -3,6 +3,7 @@
 #![tactic(auto)]
 
 mod job;
+mod lists;
 mod machine;
 mod processors;
 
