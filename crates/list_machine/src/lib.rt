@@ -1,9 +1,14 @@
 //! The list units of the machine: what a job's binner and renderer keep, and their steps.
 #![tactic(auto)]
 
+mod binner;
+mod blocks;
+mod fetch;
 mod job_lists;
 mod packet;
+mod reads;
 mod renderer;
+mod start;
 mod state;
 mod store;
 
