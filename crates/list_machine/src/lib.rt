@@ -2,6 +2,8 @@
 #![tactic(auto)]
 
 mod binner;
+#[cfg(test)]
+mod binner_tests;
 mod blocks;
 mod fetch;
 mod job_lists;
