@@ -1,6 +1,7 @@
 -- Items of lists by their numbers: the code's calls, and the definitions.
 use Rattle.std.proofs.Common.{◌≡◌, ◌≤◌, ◌<◌, ℕ, zero, suc, ◌+◌, Bool, true, false, IsTrue, if◌then◌else◌, List, [], ◌∷◌, length, slice_index_or, slice_set, Option, None, Some, refl, sym, ◌∙◌, ap, subst, arith}
-use Rattle.std.specs.Prelude.{option_map, position, nat_lt}
+use Rattle.std.specs.Prelude.{option_map, position, nat_lt, IfSome}
+use Rattle.std.proofs.lemmas.List.Quantifiers.{position-Some}
 use Rattle.std.specs.List.{position_or_len}
 use Rattle.std.proofs.lemmas.Grind.{common_steps}
 use Rattle.machine_plan.specs.Glance.{Glance, Now, glanced}
@@ -66,3 +67,8 @@ numbered jobs (Some k) = let same : 0 + k ≡ k = omega arith in ap (λ number. 
 
 pub first_is : (p : Lists → Bool) (jobs : List Lists) → first_where p 0 jobs ≡ option_map (picked_in jobs) (position p jobs)
 first_is p jobs = first_from p 0 jobs ∙ numbered jobs (position p jobs)
+
+-- a place that is found is inside
+pub found_inside : (p : Lists → Bool) (jobs : List Lists) (place : Option ℕ) → place ≡ position p jobs → length jobs ≤ 8 → IfSome place (λ k. (k < length jobs) × (k < 8))
+found_inside p jobs None is few = tt
+found_inside p jobs (Some k) is few = let h = position-Some p jobs k no_job (sym is) in (h.0, omega (arith, h.0, few))

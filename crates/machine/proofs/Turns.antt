@@ -4,17 +4,23 @@ use Rattle.std.specs.Prelude.{option_map, unwrap_or, nat_lt, is_some}
 use Rattle.std.proofs.lemmas.List.{length-set}
 use Rattle.field_words.specs.declared.access.Access.{Access}
 use Rattle.field_words.specs.declared.access.Actor.TheVariants.{Qpu as TheQpu, Tmu as TheTmu}
+use Rattle.machine_plan.specs.declared.launch.Free.{Free}
+use Rattle.machine_plan.specs.declared.launch.Launch.{Launch}
 use Rattle.machine_plan.specs.declared.who.Who.{Who}
-use Rattle.machine_plan.specs.Glance.{glanced}
+use Rattle.machine_plan.specs.Glance.{glanced, Now}
+use Rattle.std.proofs.lemmas.Grind.{common_steps}
 use Rattle.machine_plan.specs.Plan.{Plan, Shows, carried}
 use Rattle.machine_plan.specs.World.{Moves, Turn, turned, mapped}
+use Rattle.machine_plan.specs.Runs.{Moved}
 use Rattle.machine_plan.proofs.Worlds.{unit_done}
-use Rattle.list_machine.specs.Lists.{Lists}
+use Rattle.list_machine.specs.Lists.{Lists, Turned, turned_to, quiet, binner_of, renderer_of, binner_ended, renderer_ended}
+use Rattle.list_machine.specs.Binner.{binner_ready, binner_plan}
+use Rattle.list_machine.specs.Renderer.{renderer_plan}
 use Rattle.qpu_machine.specs.declared.state.Qpu.{Qpu}
-use Rattle.qpu_machine.specs.Qpu.{active_of, job_of_thread, qpu_ready, qpu_plan, qpu_stopped, queue_of, oldest, job_of_request, tmu_plan, dropped, idle_qpu}
+use Rattle.qpu_machine.specs.Qpu.{active_of, job_of_thread, qpu_ready, qpu_plan, qpu_stopped, queue_of, oldest, job_of_request, tmu_plan, dropped, free_in, idle_qpu}
 use Rattle.qpu_machine.specs.Bounds.{IsBounded, AreBounded}
-use Rattle.machine.specs.State.{Units, State, item_at, put_at, AreWhole}
-use Rattle.machine.specs.Step.{qpu_may, tmu_may, with_qpu, qpu_turn, tmu_turn}
+use Rattle.machine.specs.State.{Units, State, item_at, put_at, job_at, picked_in, AreWhole}
+use Rattle.machine.specs.Step.{qpu_may, tmu_may, with_launch, with_lists, with_qpu, binner_turn, renderer_turn, qpu_turn, tmu_turn}
 use Rattle.qpu_machine.proofs.Starts.{inside_any, set_bounded}
 use Rattle.machine.proofs.Places.{item_there, put_is}
 
@@ -92,3 +98,64 @@ tmu_done s was is k n job words q next done before listed empty below q_is job_i
 -- the processors stay bounded
 pub whole_with : (jobs : List Lists) (qpus : List Qpu) (k : ℕ) (q : Qpu) → AreWhole jobs qpus → IsBounded q → AreWhole jobs (slice_set qpus k q)
 whole_with jobs qpus k q are fine = record { some = are.some; few = are.few; twelve = length-set qpus k q ∙ are.twelve; bounded = set_bounded qpus k q are.bounded fine }
+
+-- what a list unit's step leaves, wild or not
+abbrev pub PutLists : State → ℕ → Lists → Option (Option Launch) → List ℕ → State
+PutLists s j next started memory = record { memory = memory; units = record { jobs = slice_set s.units.jobs j next; qpus = with_launch j (unwrap_or started None) s.units.qpus } }
+
+lists_after : (u : Units) (j : ℕ) (next ended : Lists) (started : Option (Option Launch)) → (started ≡ None → next ≡ ended)
+    → record { jobs = slice_set u.jobs j next; qpus = with_launch j (unwrap_or started None) u.qpus } ≡ unwrap_or (option_map (with_lists u j) (option_map (turned_to next) started)) (with_lists u j (quiet ended))
+lists_after u j next ended None h = ap (λ jobs. record { jobs = jobs; qpus = u.qpus }) (sym (put_is u.jobs j next) ∙ ap (put_at u.jobs j) (h refl))
+lists_after u j next ended (Some launch) h = ap (λ jobs. record { jobs = jobs; qpus = with_launch j launch u.qpus }) (sym (put_is u.jobs j next))
+
+lists_took : (s : State) (who : Who) (plan : Plan Turned) (j : ℕ) (next ended : Lists) (started : Option (Option Launch)) (listed : List Access) (memory : List ℕ)
+    → Shows (carried who plan s.memory) [] listed memory (option_map (turned_to next) started) → (started ≡ None → next ≡ ended)
+    → Moves (turned s (record { who = who; plan = mapped (with_lists s.units j) plan; wild = with_lists s.units j (quiet ended) })) listed (PutLists s j next started memory)
+lists_took s who plan j next ended started listed memory shows stops =
+    let moves = unit_done s who plan (with_lists s.units j) (with_lists s.units j (quiet ended)) listed memory (option_map (turned_to next) started) shows in
+    record {
+      accesses_are = moves.accesses_are;
+      state_is = ap (λ u. record { memory = memory; units = u }) (lists_after s.units j next ended started stops) ∙ moves.state_is;
+    }
+
+pub binner_done : (s was : State) → s ≡ was → (j : ℕ) (words : List ℕ) (old next : Lists) (free : Free) (started : Option (Option Launch)) (before listed : List Access) (memory : List ℕ) → before ≡ [] → old ≡ job_at s.units.jobs j → free ≡ free_in s.units.qpus
+    → Shows (carried (binner_of j) (binner_plan old free words) s.memory) before listed memory (option_map (turned_to next) started) → (started ≡ None → next ≡ binner_ended old)
+    → Moves (turned was (binner_turn was.units (Some (picked_in was.units.jobs j)) words)) listed (PutLists s j next started memory)
+binner_done s was is j words old next free started before listed memory empty old_is free_is shows stops =
+    let here = job_at s.units.jobs j in
+    let shown : Shows (carried (binner_of j) (binner_plan here (free_in s.units.qpus) words) s.memory) [] listed memory (option_map (turned_to next) started) =
+    subst (λ b. Shows (carried (binner_of j) (binner_plan here (free_in s.units.qpus) words) s.memory) b listed memory (option_map (turned_to next) started)) empty
+    (subst (λ f. Shows (carried (binner_of j) (binner_plan here f words) s.memory) before listed memory (option_map (turned_to next) started)) free_is
+    (subst (λ l. Shows (carried (binner_of j) (binner_plan l free words) s.memory) before listed memory (option_map (turned_to next) started)) old_is shows)) in
+    subst (λ (w : State). Moves (turned w (binner_turn w.units (Some (picked_in w.units.jobs j)) words)) listed (PutLists s j next started memory)) is
+    (lists_took s (binner_of j) (binner_plan here (free_in s.units.qpus) words) j next (binner_ended here) started listed memory shown (λ none. stops none ∙ ap binner_ended old_is))
+
+pub renderer_done : (s was : State) → s ≡ was → (j : ℕ) (words : List ℕ) (old next : Lists) (free : Free) (started : Option (Option Launch)) (before listed : List Access) (memory : List ℕ) → before ≡ [] → old ≡ job_at s.units.jobs j → free ≡ free_in s.units.qpus
+    → Shows (carried (renderer_of j) (renderer_plan old free words) s.memory) before listed memory (option_map (turned_to next) started) → (started ≡ None → next ≡ renderer_ended old)
+    → Moves (turned was (renderer_turn was.units (Some (picked_in was.units.jobs j)) words)) listed (PutLists s j next started memory)
+renderer_done s was is j words old next free started before listed memory empty old_is free_is shows stops =
+    let here = job_at s.units.jobs j in
+    let shown : Shows (carried (renderer_of j) (renderer_plan here (free_in s.units.qpus) words) s.memory) [] listed memory (option_map (turned_to next) started) =
+    subst (λ b. Shows (carried (renderer_of j) (renderer_plan here (free_in s.units.qpus) words) s.memory) b listed memory (option_map (turned_to next) started)) empty
+    (subst (λ f. Shows (carried (renderer_of j) (renderer_plan here f words) s.memory) before listed memory (option_map (turned_to next) started)) free_is
+    (subst (λ l. Shows (carried (renderer_of j) (renderer_plan l free words) s.memory) before listed memory (option_map (turned_to next) started)) old_is shows)) in
+    subst (λ (w : State). Moves (turned w (renderer_turn w.units (Some (picked_in w.units.jobs j)) words)) listed (PutLists s j next started memory)) is
+    (lists_took s (renderer_of j) (renderer_plan here (free_in s.units.qpus) words) j next (renderer_ended here) started listed memory shown (λ none. stops none ∙ ap renderer_ended old_is))
+
+-- a binner that may step is ready as it is
+pub binner_now : (s : Lists) (free : Free) (m : List ℕ) → IsTrue (glanced (binner_ready s free) m) → binner_ready s free ≡ Now true
+unfolding binner_ready
+binner_now s free m may = ap Now may
+
+-- job j as the code finds it
+pub job_here : (jobs : List Lists) (j : ℕ) (old : Lists) → j < length jobs → old ≡ slice_index_or jobs j old → old ≡ job_at jobs j
+job_here jobs j old below here = here ∙ grind (arith, common_steps, below)
+
+-- where the processors after the launch are what the code made of them
+pub with_qpus : (s : State) (j : ℕ) (next : Lists) (started : Option (Option Launch)) (launch : Option Launch) (memory : List ℕ) (old now : List Qpu) (moved : Moved State) (listed : List Access)
+    → now ≡ with_launch j launch old → old ≡ s.units.qpus → launch ≡ unwrap_or started None → Moves moved listed (PutLists s j next started memory)
+    → Moves moved listed (record { memory = memory; units = record { jobs = slice_set s.units.jobs j next; qpus = now } })
+with_qpus s j next started launch memory old now moved listed now_is old_is launch_is moves = record {
+  accesses_are = moves.accesses_are;
+  state_is = ap (λ qpus. record { memory = memory; units = record { jobs = slice_set s.units.jobs j next; qpus = qpus } }) (now_is ∙ (ap (with_launch j launch) old_is ∙ ap (λ l. with_launch j l s.units.qpus) launch_is)) ∙ moves.state_is;
+}

@@ -1,11 +1,14 @@
 //! The machine, its start, and which of its units may step.
-ghost use Rattle.std.specs.Prelude.{◌≡◌, ◌≤◌, length, position, IfOk};
+ghost use Rattle.std.specs.Prelude.{◌≡◌, ◌≤◌, ◌<◌, [], IsTrue, false, length, option_map, unwrap_or, position, IfOk, IfSome};
 ghost use Rattle.list_machine.specs.Binner.{has_binner_work};
 ghost use Rattle.list_machine.specs.Renderer.{has_renderer_work};
-ghost use Rattle.machine.specs.State.{start_of};
+ghost use Rattle.machine_plan.specs.World.{Moves};
+ghost use Rattle.machine.specs.Step.{enabled, finished, job_of, step};
+ghost use Rattle.machine.specs.State.{start_of, binner_job, renderer_job, picked_in};
 
 use crate::job::{Start, all_started, idle_qpus};
-use field_words::NoMemory;
+use arrayvec::ArrayVec;
+use field_words::{Access, Actor, NoMemory};
 use list_machine::JobLists;
 use phys_mem::PhysMem;
 use qpu_machine::Qpu;
@@ -59,17 +62,120 @@ impl Machine {
         &self.memory
     }
 
-    /// The job for which the binner steps: the least one with work left for it.
-    pub(crate) fn binner_job(&self) -> Option<usize>
-        ensures { result ≡ position has_binner_work self.now.units.jobs }
+    // The place of the first job with work left for the binner.
+    fn binner_place(&self) -> Option<usize>
+        ensures place { result ≡ position has_binner_work self.now.units.jobs }
+        ensures few { length self.now.units.jobs ≤ 8 }
     {
         self.jobs.iter().position(|job| job.has_binner_work())
     }
 
-    /// The job for which the renderer steps: the least one with work left for it.
-    pub(crate) fn renderer_job(&self) -> Option<usize>
-        ensures { result ≡ position has_renderer_work self.now.units.jobs }
+    /// The job for which the binner steps: the least one with work left for it.
+    pub(crate) fn binner_job(&self) -> Option<usize>
+        ensures value { binner_job self.now.units ≡ option_map (picked_in self.now.units.jobs) result }
+        ensures within { IfSome result (λ job. (job < length self.now.units.jobs) × (job < 8)) }
+    {
+        self.binner_place()
+    }
+
+    // The place of the first job with work left for the renderer.
+    fn renderer_place(&self) -> Option<usize>
+        ensures place { result ≡ position has_renderer_work self.now.units.jobs }
+        ensures few { length self.now.units.jobs ≤ 8 }
     {
         self.jobs.iter().position(|job| job.has_renderer_work())
+    }
+
+    /// The job for which the renderer steps: the least one with work left for it.
+    pub(crate) fn renderer_job(&self) -> Option<usize>
+        ensures value { renderer_job self.now.units ≡ option_map (picked_in self.now.units.jobs) result }
+        ensures within { IfSome result (λ job. (job < length self.now.units.jobs) × (job < 8)) }
+    {
+        self.renderer_place()
+    }
+
+    /// Whether the unit may step. A processor above 11 or a TMU above 1 never may.
+    #[tactic(auto, unfolding(crate::specs::Step::enabled))]
+    pub fn enabled(&self, unit: Actor) -> bool
+        ensures { result ≡ enabled self.now unit }
+    {
+        match unit {
+            Actor::Binner => self.binner_may(),
+            Actor::Renderer => self.renderer_may(),
+            Actor::Qpu(k) => self.qpu_may(k),
+            Actor::Tmu(k, n) => self.tmu_may(k, n),
+        }
+    }
+
+    /// Whether no unit has any work left: no job is the binner's or the renderer's, all threads are idle, and all queues are
+    /// empty.
+    #[tactic(auto, unfolding(crate::specs::Step::finished))]
+    pub fn finished(&self) -> bool
+        ensures { result ≡ finished self.now }
+    {
+        (self.binner_job().is_none() && self.renderer_job().is_none()) && self.are_qpus_idle()
+    }
+
+    /// The job for which the unit would step; 0 for a unit without a job.
+    #[tactic(auto, unfolding(crate::specs::Step::job_of))]
+    pub fn job_of(&self, unit: Actor) -> u8
+        ensures { result ≡ job_of self.now unit }
+    {
+        match unit {
+            Actor::Binner => number_of(self.binner_job()),
+            Actor::Renderer => number_of(self.renderer_job()),
+            Actor::Qpu(k) => self.thread_job(k),
+            Actor::Tmu(k, n) => self.request_job(k, n),
+        }
+    }
+
+    /// One step of this unit. What the hardware leaves open is answered by the words; a missing word is zero. `accesses` is
+    /// emptied first, and then holds the step's accesses in order.
+    ///
+    /// `NotEnabled` comes exactly where the unit is not enabled, and then nothing else has changed. A step takes no memory.
+    #[tactic(auto, unfolding(crate::specs::Step::enabled))]
+    pub fn step(
+        &mut self,
+        unit: Actor,
+        words: &[u32],
+        accesses: &mut ArrayVec<Access, 272>,
+    ) -> Stepped
+        ensures done { IsTrue (enabled self.old unit) → result ≡ Stepped.Done }
+        ensures refused { enabled self.old unit ≡ false → result ≡ Stepped.NotEnabled }
+        ensures same { result ≡ Stepped.NotEnabled → self.new ≡ self.old }
+        ensures moved { result ≡ Stepped.Done → Moves (step self.old (record { unit = unit; words = words.now })) accesses.new.items self.new }
+    {
+        accesses.clear();
+        if !self.enabled(unit) {
+            return Stepped::NotEnabled;
+        }
+        self.take_turn(unit, words, accesses);
+        Stepped::Done
+    }
+
+    // This unit's turn, which may step.
+    #[tactic(auto, unfolding(crate::specs::Step::enabled, crate::specs::Step::turn))]
+    fn take_turn(&mut self, unit: Actor, words: &[u32], accesses: &mut ArrayVec<Access, 272>)
+        requires empty { accesses.old.items ≡ [] }
+        requires may { IsTrue (enabled self.old unit) }
+        ensures { Moves (step self.old (record { unit = unit; words = words.now })) accesses.new.items self.new }
+    {
+        match unit {
+            Actor::Binner => self.take_binner_turn(words, accesses),
+            Actor::Renderer => self.take_renderer_turn(words, accesses),
+            Actor::Qpu(k) => self.take_qpu_turn(k, words, accesses),
+            Actor::Tmu(k, n) => self.take_tmu_turn(k, n, words, accesses),
+        }
+    }
+}
+
+// The job's number, or 0 where there is none.
+fn number_of(job: Option<usize>) -> u8
+    requires { IfSome job (λ k. k < 8) }
+    ensures { result ≡ unwrap_or job 0 }
+{
+    match job {
+        None => 0,
+        Some(k) => k as u8,
     }
 }

@@ -5,7 +5,7 @@ ghost use Rattle.machine_plan.specs.World.{Moves, turned};
 ghost use Rattle.std.specs.List.{list_all};
 ghost use Rattle.qpu_machine.specs.Qpu.{is_idle};
 ghost use Rattle.machine.specs.State.{item_at};
-ghost use Rattle.machine.specs.Step.{qpu_may, tmu_may, qpu_turn, tmu_turn};
+ghost use Rattle.machine.specs.Step.{qpu_may, tmu_may, qpu_turn, tmu_turn, qpu_job, tmu_job};
 
 use crate::machine::Machine;
 use arrayvec::ArrayVec;
@@ -28,6 +28,30 @@ impl Machine {
     {
         let k = k as usize;
         k < self.qpus.len() && n < 2 && is_tmu_ready(&self.qpus[k], n)
+    }
+
+    /// The job of processor `k`'s active thread; 0 where there is none.
+    pub(crate) fn thread_job(&self, k: u8) -> u8
+        ensures { result ≡ qpu_job (item_at self.now.units.qpus k) }
+    {
+        let k = k as usize;
+        if k < self.qpus.len() {
+            qpu_job(&self.qpus[k])
+        } else {
+            0
+        }
+    }
+
+    /// The job of the oldest request of TMU `n` of processor `k`; 0 where there is none.
+    pub(crate) fn request_job(&self, k: u8, n: u8) -> u8
+        ensures { result ≡ tmu_job (item_at self.now.units.qpus k) n }
+    {
+        let k = k as usize;
+        if k < self.qpus.len() {
+            tmu_job(&self.qpus[k], n)
+        } else {
+            0
+        }
     }
 
     /// Whether all processors are idle.
