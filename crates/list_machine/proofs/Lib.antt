@@ -1,9 +1,11 @@
 pub mod Nearness
+pub mod Joining
+pub mod Fetching
+pub mod Putting
+pub mod Binning
 pub mod Storing
 pub mod Covering
 pub mod Left
 pub mod Steps
 pub mod Items
-pub mod Fetching
-pub mod Joining
 pub mod Keeping

@@ -1,5 +1,5 @@
 -- What the list units of one job keep, and what a step of one of them comes to.
-use Rattle.std.specs.Prelude.{ℕ, Bool, false, true, ◌+◌, ◌*◌, ◌-◌, ◌^◌, ◌<◌, ◌≤◌, List, [], ◌∷◌, ◌++◌, length, Option, None}
+use Rattle.std.specs.Prelude.{ℕ, Bool, false, true, ◌+◌, ◌*◌, ◌-◌, ◌^◌, ◌<◌, ◌≤◌, List, [], ◌∷◌, ◌++◌, length, Option, None, Some, if◌then◌else◌}
 use Rattle.field_words.specs.declared.access.Actor.TheVariants.{Binner as TheBinner, Renderer as TheRenderer}
 use Rattle.machine_plan.specs.declared.launch.Launch.{Launch}
 use Rattle.machine_plan.specs.declared.who.Who.{Who}
@@ -29,6 +29,10 @@ pub record Turned : Type 0 where
 
 abbrev pub turned_to : Lists → Option Launch → Turned
 turned_to lists launch = record { lists = lists; launch = launch }
+
+-- the result of a step that may be wild
+abbrev pub if_tame : {R : Type 0} → Bool → R → Option R
+if_tame tame r = if tame then Some r else None
 
 -- a step that starts no program
 abbrev pub quiet : Lists → Turned
@@ -134,7 +138,7 @@ most_items = 32768
 -- item n, counted from this number on, lies near
 abbrev pub AreNear : ℕ → List Item → Type 0
 AreNear n [] = Unit {0}
-AreNear n (item ∷ items) = (item.place ≤ 2 ^ 33 + 16 * n) × AreNear (n + 1) items
+AreNear n (item ∷ items) = (item.place ≤ 2 ^ 34 + 16 * n) × AreNear (n + 1) items
 
 -- The numbers that are kept stay small: a list ends below 2^33, a unit goes at most one packet past
 -- its list's end, and the semaphore is raised at most once a packet.

@@ -214,7 +214,7 @@ impl JobLists {
     #[tactic(auto, using(crate::proofs::Nearness::near_push))]
     pub(crate) fn push_item(&mut self, item: Item)
         requires few { length self.old.items < most_items }
-        requires near { item.place ≤ 2 ^ 33 + 16 * length self.old.items }
+        requires near { item.place ≤ 2 ^ 34 + 16 * length self.old.items }
         ensures { self.new ≡ with_item self.old item }
     {
         self.items.push_reserved(item);

@@ -1,6 +1,8 @@
 //! The list units of the machine: what a job's binner and renderer keep, and their steps.
 #![tactic(auto)]
 
+mod binner;
+mod blocks;
 mod cover;
 mod fetch;
 mod inside;
@@ -19,5 +21,7 @@ pub use state::{
 };
 pub use surface::{Cover, Style, Tile};
 
+#[cfg(test)]
+mod binner_tests;
 #[cfg(test)]
 mod render_tests;
