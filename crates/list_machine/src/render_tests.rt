@@ -42,7 +42,7 @@ fn comes_to(
         return None;
     }
     let mut accesses = ArrayVec::new();
-    let result = lists.step_renderer(memory, 3, free, words, &mut accesses);
+    let result = lists.step_renderer(3, free, words, memory, &mut accesses);
     if accesses.len() != want.len() {
         return None;
     }
