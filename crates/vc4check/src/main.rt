@@ -9,6 +9,7 @@ mod command;
 #[cfg(test)]
 mod job_tests;
 mod run;
+mod script;
 mod serve;
 mod shader_text;
 #[cfg(test)]

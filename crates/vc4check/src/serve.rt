@@ -10,6 +10,7 @@ ghost use Rattle.vc4check.specs.Words.{limit_of};
 use super::answer::{Answer, reply};
 use super::check::check_answer;
 use super::command::Command;
+use super::script::replay_answer;
 use super::shader_text::{asm_answer, disasm_answer};
 use field_words::NoMemory;
 use job_io::{ReadEnd, Sink, Source, read_all};
@@ -23,6 +24,7 @@ fn answer_to(alloc: Global, command: Command, bytes: &[u8]) -> Result<Answer, No
 {
     match command {
         Command::Check => check_answer(alloc, bytes),
+        Command::Replay { steps, seed } => replay_answer(alloc, steps, seed, bytes),
         Command::Asm => asm_answer(alloc, bytes),
         Command::Disasm => disasm_answer(alloc, bytes),
     }

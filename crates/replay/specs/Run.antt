@@ -1,0 +1,57 @@
+-- A run by a script. `Chooses step n m` says that at this step m is picked of n, `Answers step k word` that its word k is this.
+use Rattle.std.specs.Prelude.{◌≡◌, ◌≢◌, ◌≤◌, ◌<◌, ℕ, ◌+◌, ◌^◌, true, false, IsTrue, List, [], ◌∷◌, length, slice_index}
+use Rattle.machine_plan.specs.Runs.{found_by, reached}
+use Rattle.machine.specs.State.{State}
+use Rattle.machine.specs.Step.{Event, enabled, finished, job_of, step, IsRun}
+use Rattle.replay.specs.declared.trace.Ending.{Ending}
+use Rattle.replay.specs.declared.trace.Ending.TheVariants.{Finished, Waiting, Spent}
+use Rattle.replay.specs.declared.trace.Trace.{Trace}
+use Rattle.replay.specs.declared.trace.TraceLine.{TraceLine}
+use Rattle.replay.specs.Units.{unit_at, word_count, enabled_units}
+use Rattle.replay.specs.Trace.{line_of}
+
+-- what is asked of closures that give a script: at each step below 2^64 one may be picked of each number but 0, which is below
+-- it, and each of 4,096 words may be asked for
+abbrev pub MayChoose : (ℕ → ℕ → Type 0) → Type 0
+MayChoose Pre = (step n : ℕ) → step < 2 ^ 64 → 1 ≤ n → n < 2 ^ 32 → Pre step n
+
+abbrev pub IsBelow : (ℕ → ℕ → ℕ → Type 0) → Type 0
+IsBelow Post = (step n picked : ℕ) → step < 2 ^ 64 → 1 ≤ n → n < 2 ^ 32 → Post step n picked → picked < n
+
+abbrev pub MayAnswer : (ℕ → ℕ → Type 0) → Type 0
+MayAnswer Pre = (step k : ℕ) → step < 2 ^ 64 → k < 4096 → Pre step k
+
+-- Step number i is this event: the machine isn't finished; the unit is the one that was picked among those that may step, with
+-- as many words as it gets, and they are what was answered.
+pub record IsTurn (Chooses Answers : ℕ → ℕ → ℕ → Type 0) (i : ℕ) (s : State) (event : Event) : Type 0 where
+  pub goes : finished s ≡ false
+  pub place : ℕ
+  pub picked : Chooses i (length (enabled_units s)) place
+  pub within : place < length (enabled_units s)
+  pub unit : event.unit ≡ unit_at (slice_index (enabled_units s) place)
+  pub count : length event.words ≡ word_count event.unit
+  pub words : (k : ℕ) → k < length event.words → Answers i k (slice_index event.words k)
+
+-- the steps from number i on are these events
+abbrev pub Follows : (ℕ → ℕ → ℕ → Type 0) → (ℕ → ℕ → ℕ → Type 0) → ℕ → State → List Event → Type 0
+Follows Chooses Answers i s [] = Unit {0}
+Follows Chooses Answers i s (event ∷ events) = IsTurn Chooses Answers i s event × Follows Chooses Answers (i + 1) (step s event).state events
+
+-- a line for each event: its unit, the job for which that stepped, and what it did
+abbrev pub lines_of : State → List Event → List TraceLine
+lines_of s [] = []
+lines_of s (event ∷ events) = line_of event.unit (job_of s event.unit) (step s event).accesses ∷ lines_of (step s event).state events
+
+-- the run ended in this state, after so many of the steps that were asked for
+abbrev pub IsEnded : State → ℕ → ℕ → Ending → Type 0
+IsEnded s steps done Finished = finished s ≡ true
+IsEnded s steps done Waiting = (finished s ≡ false) × (enabled_units s ≡ [])
+IsEnded s steps done Spent = (done ≡ steps) × (finished s ≡ false) × (enabled_units s ≢ [])
+
+-- The trace is that of the run of these events from this state, at most so many, which the script gave.
+pub record IsTrace (Chooses Answers : ℕ → ℕ → ℕ → Type 0) (s : State) (steps : ℕ) (events : List Event) (trace : Trace) : Type 0 where
+  pub run : IsRun s events (found_by step s events) (reached step s events)
+  pub follows : Follows Chooses Answers 0 s events
+  pub lines : trace.lines.items ≡ lines_of s events
+  pub most : length events ≤ steps
+  pub ends : IsEnded (reached step s events) steps (length events) trace.ending

@@ -1,0 +1,29 @@
+-- The units in the order of a script, and how many words a step of each gets.
+use Rattle.std.specs.Prelude.{ℕ, ◌-◌, ◌/◌, ◌%◌, ◌==◌, Bool, if◌then◌else◌, List, filter}
+use Rattle.std.specs.List.{range_with_len}
+use Rattle.field_words.specs.declared.access.Actor.{Actor}
+use Rattle.field_words.specs.declared.access.Actor.TheVariants.{Binner as TheBinner, Renderer as TheRenderer, Qpu as TheQpu, Tmu as TheTmu}
+use Rattle.machine.specs.State.{State}
+use Rattle.machine.specs.Step.{enabled}
+
+-- binner, renderer, and twelve processors with two TMUs each
+abbrev pub unit_count : ℕ
+unit_count = 38
+
+-- The binner, the renderer, and then in turn each processor, its TMU 0 and its TMU 1.
+unfoldable pub unit_at : ℕ → Actor
+unit_at n =
+    if n == 0 then TheBinner
+    else (if n == 1 then TheRenderer
+    else (if n % 3 == 2 then TheQpu ((n - 2) / 3)
+    else (if n % 3 == 0 then TheTmu ((n - 2) / 3) 0 else TheTmu ((n - 2) / 3) 1)))
+
+abbrev pub word_count : Actor → ℕ
+word_count TheBinner = 1
+word_count TheRenderer = 4096
+word_count (TheQpu k) = 194
+word_count (TheTmu k n) = 512
+
+-- the numbers of the units that may step, in that order
+abbrev pub enabled_units : State → List ℕ
+enabled_units s = filter (λ n. enabled s (unit_at n)) (range_with_len 0 unit_count)

@@ -1,0 +1,108 @@
+//! The run itself.
+ghost use Rattle.std.specs.Prelude.{◌≡◌, ◌≤◌, ◌<◌, ◌^◌, ℕ, true, false, [], length, slice_index, IfOk, List};
+ghost use Rattle.machine.specs.Step.{Event, finished, step};
+ghost use Rattle.replay.specs.Units.{unit_at, word_count, enabled_units};
+ghost use Rattle.replay.specs.Trace.{line_of};
+ghost use Rattle.replay.specs.Run.{MayChoose, IsBelow, MayAnswer, IsEnded, IsTurn, IsTrace};
+
+use crate::oracle::Oracle;
+use crate::trace::{Ending, Trace, TraceLine, line_of};
+use crate::units::{enabled_units, unit_at, word_count};
+use arrayvec::ArrayVec;
+use field_words::{Access, NoMemory};
+use machine::Machine;
+use std::alloc::Global;
+
+/// The most choice words that a step gets.
+const MOST_WORDS: usize = 4096;
+
+// The units that may step, or why the run is over.
+fn look(machine: &Machine) -> Result<ArrayVec<u8, 38>, Ending>
+{
+    if machine.finished() {
+        return Err(Ending::Finished);
+    }
+    let units = enabled_units(machine);
+    if units.is_empty() {
+        return Err(Ending::Waiting);
+    }
+    Ok(units)
+}
+
+// The step's words.
+fn fill<C: Fn(u64, u32) -> u32, F: Fn(u64, u32) -> u32>(
+    oracle: &Oracle<C, F>,
+    step: u64,
+    count: u32,
+    words: &mut [u32; MOST_WORDS],
+)
+    requires most { count ≤ 4096 }
+    requires answers { MayAnswer (λ step k. F.pre oracle.now.answer step k) }
+    ensures { (k : ℕ) → k < count → F.post oracle.now.answer step k (slice_index words.new k) }
+{
+    for k in 0..count {
+        words[k as usize] = oracle.word(step, k);
+    }
+}
+
+// One step of the unit that the oracle picks among these.
+fn take_step<C: Fn(u64, u32) -> u32, F: Fn(u64, u32) -> u32>(
+    oracle: &Oracle<C, F>,
+    step: u64,
+    units: &ArrayVec<u8, 38>,
+    words: &mut [u32; MOST_WORDS],
+    accesses: &mut ArrayVec<Access, 272>,
+    machine: &mut Machine,
+) -> TraceLine
+    requires some { 1 ≤ length units.now.items }
+    requires units { units.now.items ≡ enabled_units machine.old }
+    requires chooses { MayChoose (λ step n. C.pre oracle.now.choose step n) }
+    requires below { IsBelow (λ step n picked. C.post oracle.now.choose step n picked) }
+    requires answers { MayAnswer (λ step k. F.pre oracle.now.answer step k) }
+{
+    let place = oracle.pick(step, units.len() as u32);
+    let unit = unit_at(units[place as usize]);
+    let count = word_count(unit);
+    fill(oracle, step, count, words);
+    let job = machine.job_of(unit);
+    machine.step(unit, &words[..count as usize], accesses);
+    line_of(unit, job, accesses.as_slice())
+}
+
+/// Steps the machine as the oracle says, at most `steps` times, and keeps a line of each step. It takes its memory first; the
+/// machine is dropped at the end.
+pub fn replay<C: Fn(u64, u32) -> u32, F: Fn(u64, u32) -> u32>(
+    alloc: Global,
+    mut machine: Machine,
+    oracle: &Oracle<C, F>,
+    steps: u32,
+) -> Result<Trace, NoMemory>
+    requires few { steps ≤ 1000000 }
+    requires chooses { MayChoose (λ step n. C.pre oracle.now.choose step n) }
+    requires below { IsBelow (λ step n picked. C.post oracle.now.choose step n picked) }
+    requires answers { MayAnswer (λ step k. F.pre oracle.now.answer step k) }
+{
+    let mut lines = Vec::with_capacity(alloc, steps as usize)?;
+    let mut words = [0; MOST_WORDS];
+    let mut accesses = ArrayVec::new();
+    for i in 0..steps {
+        match look(&machine) {
+            Err(ending) => return Ok(Trace { lines, ending }),
+            Ok(units) => {
+                lines.push(take_step(
+                    oracle,
+                    i as u64,
+                    &units,
+                    &mut words,
+                    &mut accesses,
+                    &mut machine,
+                ))?;
+            }
+        }
+    }
+    let ending = match look(&machine) {
+        Err(ending) => ending,
+        Ok(_) => Ending::Spent,
+    };
+    Ok(Trace { lines, ending })
+}

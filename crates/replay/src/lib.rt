@@ -1,0 +1,11 @@
+//! A run of the machine by a script: which unit steps, and with which words, is what an oracle says.
+#![tactic(auto)]
+
+mod follow;
+mod oracle;
+mod trace;
+mod units;
+
+pub use follow::replay;
+pub use oracle::Oracle;
+pub use trace::{Ending, Trace, TraceLine};

@@ -1,0 +1,45 @@
+//! What says how a run goes.
+ghost use Rattle.std.specs.Prelude.{◌≡◌, ◌≤◌, ◌<◌};
+ghost use Rattle.replay.specs.Run.{MayChoose, IsBelow, MayAnswer};
+
+/// Two closures that say how a run goes: at step `step`, `choose(step, n)` picks one of the `n` units that may step, and
+/// `answer(step, k)` is the step's choice word `k`.
+#[derive(Clone, Copy)]
+pub struct Oracle<C, F> {
+    choose: C,
+    answer: F,
+}
+
+impl<C: Fn(u64, u32) -> u32, F: Fn(u64, u32) -> u32> Oracle<C, F> {
+    /// An oracle of these closures: `choose` may be called at each step for each `n` that isn't 0, and is below `n`; `answer`
+    /// may be called at each step for each `k` below 4,096. It takes no memory.
+    pub fn new(choose: C, answer: F) -> Oracle<C, F>
+        requires chooses { MayChoose (λ step n. C.pre choose step n) }
+        requires below { IsBelow (λ step n picked. C.post choose step n picked) }
+        requires answers { MayAnswer (λ step k. F.pre answer step k) }
+        ensures choose { result.choose ≡ choose }
+        ensures answer { result.answer ≡ answer }
+    {
+        Oracle { choose, answer }
+    }
+
+    /// Which of `n` units steps.
+    pub(crate) fn pick(&self, step: u64, n: u32) -> u32
+        requires some { 1 ≤ n }
+        requires chooses { MayChoose (λ step n. C.pre self.now.choose step n) }
+        requires below { IsBelow (λ step n picked. C.post self.now.choose step n picked) }
+        ensures gives { C.post self.now.choose step n result }
+        ensures below { result < n }
+    {
+        (self.choose)(step, n)
+    }
+
+    /// Choice word `k` of a step.
+    pub(crate) fn word(&self, step: u64, k: u32) -> u32
+        requires few { k < 4096 }
+        requires answers { MayAnswer (λ step k. F.pre self.now.answer step k) }
+        ensures { F.post self.now.answer step k result }
+    {
+        (self.answer)(step, k)
+    }
+}
