@@ -1,3 +1,11 @@
+pub mod Nearness
+pub mod Joining
+pub mod Fetching
+pub mod Putting
+pub mod Binning
 pub mod Storing
-pub mod Stepping
+pub mod Covering
+pub mod Left
+pub mod Steps
+pub mod Items
 pub mod Keeping

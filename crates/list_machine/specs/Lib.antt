@@ -1,4 +1,9 @@
-pub mod Packet
-pub mod Store
-pub mod Renderer
 pub mod Lists
+pub mod Fetch
+pub mod Start
+pub mod Blocks
+pub mod Binner
+pub mod Store
+pub mod Cover
+pub mod Surfaces
+pub mod Renderer

@@ -1,12 +1,25 @@
--- The list units of one job: what they keep, when they may step, and what a step comes to.
-use Rattle.std.specs.Prelude.{ℕ, Bool, nat_lt, ◌+◌, List, Option, None}
-use Rattle.machine_plan.specs.Glance.{Glance, Now}
+-- What the list units of one job keep, and what a step of one of them comes to.
+use Rattle.std.specs.Prelude.{ℕ, Bool, false, true, ◌+◌, ◌*◌, ◌-◌, ◌^◌, ◌<◌, ◌≤◌, List, [], ◌∷◌, ◌++◌, length, Option, None, Some, if◌then◌else◌}
+use Rattle.field_words.specs.declared.access.Actor.TheVariants.{Binner as TheBinner, Renderer as TheRenderer}
 use Rattle.machine_plan.specs.declared.launch.Launch.{Launch}
-use Rattle.machine_plan.specs.Plan.{Plan}
-use Rattle.machine_plan.specs.World.{mapped}
+use Rattle.machine_plan.specs.declared.who.Who.{Who}
+use Rattle.list_machine.specs.declared.state.Binner.{Binner}
+use Rattle.list_machine.specs.declared.state.Item.{Item}
+use Rattle.list_machine.specs.declared.state.Kept.{Kept}
 use Rattle.list_machine.specs.declared.state.Renderer.{Renderer}
-use Rattle.list_machine.specs.declared.state.Lists.{Lists}
-use Rattle.list_machine.specs.Renderer.{renderer_plan, ended}
+use Rattle.list_machine.specs.declared.state.Work.{Work}
+
+-- What the list units of one job keep: its binner and its renderer; how often the semaphore is still
+-- to be raised, and the semaphore; whether its tile lists are closed; how many further blocks of their
+-- memory are taken; and the items of all tile lists, the oldest first.
+pub record Lists : Type 0 where
+  pub binner : Binner
+  pub renderer : Renderer
+  pub pending : ℕ
+  pub semaphore : ℕ
+  pub closed : Bool
+  pub blocks : ℕ
+  pub items : List Item
 
 -- what a step of a list unit comes to: what the job's list units keep, and the program that it
 -- starts, where it starts one
@@ -14,33 +27,127 @@ pub record Turned : Type 0 where
   pub lists : Lists
   pub launch : Option Launch
 
--- a renderer at the beginning of its list
+abbrev pub turned_to : Lists → Option Launch → Turned
+turned_to lists launch = record { lists = lists; launch = launch }
+
+-- the result of a step that may be wild
+abbrev pub if_tame : {R : Type 0} → Bool → R → Option R
+if_tame tame r = if tame then Some r else None
+
+-- a step that starts no program
+abbrev pub quiet : Lists → Turned
+quiet lists = turned_to lists None
+
+-- the units that step for a job
+abbrev pub binner_of : ℕ → Who
+binner_of job = record { unit = TheBinner; job = job }
+
+abbrev pub renderer_of : ℕ → Who
+renderer_of job = record { unit = TheRenderer; job = job }
+
+-- nothing is kept before the first packet
+abbrev pub nothing_kept : Kept
+nothing_kept = record { config = None; started = false; word = None }
+
+-- a binner and a renderer at the beginning of their lists
+abbrev pub binner_start : ℕ → ℕ → Binner
+binner_start place len = record { place = place; end = place + len; kept = nothing_kept; work = None }
+
 abbrev pub renderer_start : ℕ → ℕ → Renderer
-renderer_start place len = record { place = place; end = place + len; frame = None; tile_x = 0; tile_y = 0 }
+renderer_start place len = record { place = place; end = place + len; frame = None; x = 0; y = 0; waiting = None; inside = None }
 
--- the list units of a job whose renderer list is this long and begins here
-abbrev pub lists_start : ℕ → ℕ → Lists
-lists_start place len = record { renderer = renderer_start place len }
+-- the list units of a job at its start: all else is empty or zero
+abbrev pub lists_start : (bin_place bin_len render_place render_len : ℕ) → Lists
+lists_start bin_place bin_len render_place render_len = record {
+  binner = binner_start bin_place bin_len;
+  renderer = renderer_start render_place render_len;
+  pending = 0;
+  semaphore = 0;
+  closed = false;
+  blocks = 0;
+  items = [];
+}
 
--- the renderer is below its list's end
-abbrev pub renders : Lists → Bool
-renders lists = nat_lt lists.renderer.place lists.renderer.end
-
--- the renderer may step where it has work left; that needs no look so far
-abbrev pub renderer_ready : Lists → Glance Bool
-renderer_ready lists = Now (renders lists)
+-- the same but for one part
+abbrev pub with_binner : Lists → Binner → Lists
+with_binner s binner = record s { binner = binner }
 
 abbrev pub with_renderer : Lists → Renderer → Lists
-with_renderer lists r = record lists { renderer = r }
+with_renderer s renderer = record s { renderer = renderer }
 
--- the renderer has come to r and starts no program; no packet does so far
-abbrev pub rendered : Lists → Renderer → Turned
-rendered lists r = record { lists = with_renderer lists r; launch = None }
+abbrev pub kept_by : Binner → Kept → Binner
+kept_by b kept = record b { kept = kept }
 
--- one step of the renderer among what its job's list units keep
-abbrev pub renderer_turn : Lists → List ℕ → Plan Turned
-renderer_turn lists words = mapped (rendered lists) (renderer_plan lists.renderer words)
+abbrev pub with_kept : Lists → Kept → Lists
+with_kept s kept = with_binner s (kept_by s.binner kept)
 
--- a wild step of the renderer ends its work
-abbrev pub renderer_stopped : Lists → Turned
-renderer_stopped lists = rendered lists (ended lists.renderer)
+abbrev pub worked_by : Binner → Option Work → Binner
+worked_by b work = record b { work = work }
+
+abbrev pub with_work : Lists → Option Work → Lists
+with_work s work = with_binner s (worked_by s.binner work)
+
+abbrev pub moved_to : Binner → ℕ → Binner
+moved_to b place = record b { place = place }
+
+-- the binner stands at this place
+abbrev pub with_place : Lists → ℕ → Lists
+with_place s place = with_binner s (moved_to s.binner place)
+
+-- the binner has gone past a packet of this length
+abbrev pub past : Lists → ℕ → Lists
+past s len = with_place s (s.binner.place + len)
+
+-- the semaphore is to be raised once more
+abbrev pub incremented : Lists → Lists
+incremented s = record s { pending = s.pending + 1 }
+
+-- all tile lists are closed, and the semaphore is raised as often as was asked
+abbrev pub flushed : Lists → Lists
+flushed s = record s { closed = true; semaphore = s.semaphore + s.pending; pending = 0 }
+
+-- one is taken from the semaphore
+abbrev pub with_taken : Lists → Lists
+with_taken s = record s { semaphore = s.semaphore - 1 }
+
+-- one item more, and one block more
+abbrev pub with_item : Lists → Item → Lists
+with_item s item = record s { items = s.items ++ item ∷ [] }
+
+abbrev pub with_block : Lists → Lists
+with_block s = record s { blocks = s.blocks + 1 }
+
+-- A wild step ends its unit's work: the unit goes to its list's end. The binner drops its primitive,
+-- the renderer the load that waits and the tile list that it is in.
+abbrev pub ended_binner : Binner → Binner
+ended_binner b = record b { place = b.end; work = None }
+
+abbrev pub binner_ended : Lists → Lists
+binner_ended s = with_binner s (ended_binner s.binner)
+
+abbrev pub ended_renderer : Renderer → Renderer
+ended_renderer r = record r { place = r.end; waiting = None; inside = None }
+
+abbrev pub renderer_ended : Lists → Lists
+renderer_ended s = with_renderer s (ended_renderer s.renderer)
+
+-- the most items that a job's tile lists have together
+abbrev pub most_items : ℕ
+most_items = 32768
+
+-- item n, counted from this number on, lies near
+abbrev pub AreNear : ℕ → List Item → Type 0
+AreNear n [] = Unit {0}
+AreNear n (item ∷ items) = (item.place ≤ 2 ^ 34 + 16 * n) × AreNear (n + 1) items
+
+-- The numbers that are kept stay small: a list ends below 2^33, a unit goes at most one packet past
+-- its list's end, and the semaphore is raised at most once a packet.
+pub record IsNear (s : Lists) : Type 0 where
+  pub binner_end : s.binner.end < 2 ^ 33
+  pub binner_place : s.binner.place ≤ s.binner.end + 16
+  pub counted : s.pending + s.semaphore ≤ s.binner.place
+  pub renderer_end : s.renderer.end < 2 ^ 33
+  pub renderer_place : s.renderer.place ≤ s.renderer.end + 16
+  pub blocks : s.blocks ≤ 2 ^ 25
+  pub few : length s.items ≤ most_items
+  pub items : AreNear 0 s.items

@@ -1,11 +1,27 @@
-//! The list units of the machine. So far it holds the renderer, with the packets that set up a
-//! frame and the stores of raster frames.
+//! The list units of the machine: what a job's binner and renderer keep, and their steps.
 #![tactic(auto)]
 
-mod packet;
+mod binner;
+mod blocks;
+mod cover;
+mod fetch;
+mod inside;
+mod job_lists;
+mod parts;
+mod reads;
 mod renderer;
+mod start;
 mod state;
-mod store;
+mod surface;
 
-pub use renderer::step_renderer;
-pub use state::{Frame, Lists, Renderer, Rows};
+pub use job_lists::{JobLists, MOST_ITEMS};
+pub use state::{
+    Binner, Config, Found, Frame, Item, Kept, Load, Primitive, Program, Renderer, Spot, SubList,
+    Work,
+};
+pub use surface::{Cover, Style, Tile};
+
+#[cfg(test)]
+mod binner_tests;
+#[cfg(test)]
+mod render_tests;

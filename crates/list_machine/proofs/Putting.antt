@@ -1,0 +1,122 @@
+-- Laws on tile lists and their blocks.
+use Rattle.std.proofs.Common.{◌≡◌, ◌≤◌, ◌<◌, ℕ, zero, suc, ◌+◌, ◌-◌, ◌*◌, ◌^◌, List, [], ◌∷◌, ◌++◌, length, drop, slice_set, slice_index_or, refl, sym, ◌∙◌, ap, subst, arith, drop-cons, Bool, true, false, if◌then◌else◌, ◌==◌, Option, Some, nat_lt}
+use Rattle.std.proofs.Math.Nat.{mul-le-mul}
+use Rattle.std.proofs.lemmas.Bool.Decides.{nat_tests}
+use Rattle.std.proofs.lemmas.Grind.{common_steps}
+use Rattle.field_words.specs.declared.access.Access.{Access}
+use Rattle.field_words.specs.declared.access.Way.TheVariants.{Write}
+use Rattle.machine_plan.specs.declared.who.Who.{Who}
+use Rattle.machine_plan.specs.Memory.{stored}
+use Rattle.machine_plan.specs.Plan.{Writes, Shows, access, carried}
+use Rattle.list_machine.specs.declared.state.Config.{Config}
+use Rattle.list_machine.specs.declared.state.Item.{Item}
+use Rattle.list_machine.specs.declared.state.Spot.{Spot}
+use Rattle.list_machine.specs.declared.state.Work.{Work}
+use Rattle.list_machine.specs.Lists.{Lists, most_items, AreNear, with_item, with_block}
+use Rattle.list_machine.specs.Blocks.{spotted, one_more, spot_in, spot_of, no_spot, further_offset, has_room, block_place, is_full, next_place, link_place, item_of, zeros, put_here, put_plan}
+use Rattle.list_machine.specs.Binner.{item_may}
+use Rattle.list_machine.proofs.Joining.{shows_wrote}
+
+pub tiles_limit : (x y : ℕ) → x < 256 → y < 256 → x * y ≤ 65025
+tiles_limit x y across down =
+    let a : x ≤ 255 = omega arith in
+    let b : y ≤ 255 = omega arith in
+    let c : x * y ≤ 255 * 255 = mul-le-mul a b in
+    omega arith
+
+-- the loop over the items
+pub spot_begin : (tile : ℕ) (items : List Item) → spot_in tile no_spot (drop 0 items) ≡ spot_of tile items
+spot_begin tile items = refl
+
+pub spot_more : (tile : ℕ) (spot : Spot) (items : List Item) (i : ℕ) (d : Item) → i < length items → spot_in tile (spotted tile spot (slice_index_or items i d)) (drop (i + 1) items) ≡ spot_in tile spot (drop i items)
+spot_more tile spot items i d below =
+    let one : suc i ≡ i + 1 = omega arith in
+    sym (ap (spot_in tile spot) (drop-cons items i d below ∙ ap (λ k. slice_index_or items i d ∷ drop k items) one))
+
+-- one zero more is written
+pub zeros_more : (m : List ℕ) (p n i : ℕ) → i < n → stored (slice_set m (p + i) 0) (p + (i + 1)) (zeros (n - (i + 1))) ≡ stored m (p + i) (zeros (n - i))
+unfolding stored
+zeros_more m p n i below =
+    let a : n - i ≡ suc (n - (i + 1)) = omega arith in
+    let b : suc (p + i) ≡ p + (i + 1) = omega arith in
+    sym (ap (λ k. stored m (p + i) (zeros k)) a ∙ ap (λ q. stored (slice_set m (p + i) 0) q (zeros (n - (i + 1)))) b)
+
+pub zeros_first : (m : List ℕ) (p n : ℕ) → stored m (p + 0) (zeros (n - 0)) ≡ stored m p (zeros n)
+zeros_first m p n =
+    let a : p + 0 ≡ p = omega arith in
+    let b : n - 0 ≡ n = omega arith in
+    ap (λ q. stored m q (zeros (n - 0))) a ∙ ap (λ k. stored m p (zeros k)) b
+
+pub zeros_done : (m : List ℕ) (p n i : ℕ) → n ≤ i → stored m (p + i) (zeros (n - i)) ≡ m
+unfolding stored
+zeros_done m p n i all =
+    let none : n - i ≡ 0 = omega arith in
+    ap (λ k. stored m (p + i) (zeros k)) none
+
+pub length-zeros : (n : ℕ) → length (zeros n) ≡ n
+length-zeros zero = refl
+length-zeros (suc n) = ap suc (length-zeros n)
+
+-- a tile's last item lies near
+last_near : (item : Item) (spot : Spot) (n : ℕ) (here : Bool) → item.place ≤ 2 ^ 34 + 16 * n → spot.last + 16 ≤ 2 ^ 34 + 16 * n → (if here then one_more spot item.place else spot).last + 16 ≤ 2 ^ 34 + 16 * (n + 1)
+last_near item spot n true near last = omega (arith, near)
+last_near item spot n false near last = omega (arith, last)
+
+spot_from : (tile n : ℕ) (items : List Item) (spot : Spot) → AreNear n items → spot.last + 16 ≤ 2 ^ 34 + 16 * n → (spot_in tile spot items).last + 16 ≤ 2 ^ 34 + 16 * (n + length items)
+spot_from tile n [] spot near last = omega (arith, last)
+spot_from tile n (item ∷ items) spot near last = omega (arith, spot_from tile (n + 1) items (spotted tile spot item) near.1 (last_near item spot n (item.tile == tile) near.0 last))
+
+pub spot_near : (tile : ℕ) (items : List Item) → AreNear 0 items → (spot_of tile items).last + 16 ≤ 2 ^ 34 + 16 * length items
+spot_near tile items near = omega (arith, spot_from tile 0 items no_spot near (omega arith))
+
+-- room for a block
+pub room_few : (c : Config) (blocks : ℕ) → c.size < 2 ^ 32 → has_room c blocks ≡ true → blocks < 2 ^ 25
+unfolding has_room
+room_few c blocks size room =
+    let fits : further_offset c + 128 * (blocks + 1) ≤ c.size = grind (arith, nat_tests, room) in
+    omega arith
+
+drop_all : (items : List Item) (i : ℕ) → length items ≤ i → drop i items ≡ []
+drop_all items i all = grind (arith, common_steps, all)
+
+pub spot_end : (tile : ℕ) (spot : Spot) (items : List Item) (i : ℕ) → length items ≤ i → spot_in tile spot (drop i items) ≡ spot_of tile items → spot ≡ spot_of tile items
+spot_end tile spot items i all rest = sym (ap (spot_in tile spot) (drop_all items i all)) ∙ rest
+
+pub last_limit : (tile : ℕ) (spot : Spot) (items : List Item) → spot ≡ spot_of tile items → AreNear 0 items → spot.last + 16 ≤ 2 ^ 34 + 16 * length items
+last_limit tile spot items is near = subst (λ (s : Spot). s.last + 16 ≤ 2 ^ 34 + 16 * length items) (sym is) (spot_near tile items near)
+
+-- an item was written and is kept
+pub here_shows : (who : Who) (s after : Lists) (w : Work) (tile place : ℕ) (m k : List ℕ) (before listed : List Access) → listed ≡ before ++ access who Write place 16 ∷ [] → k ≡ stored m place (zeros 16) → after ≡ with_item s (item_of w tile place)
+    → Shows (carried who (put_here s w tile place) m) before listed k (Some after)
+unfolding put_here
+here_shows who s after w tile place m k before listed listed_is k_is after_is = record { accesses = listed_is; memory_is = k_is; result_is = ap Some after_is }
+
+put_is : (s : Lists) (c : Config) (w : Work) (tile : ℕ) (spot : Spot) (full : Bool) → is_full spot ≡ full
+    → put_plan s c w tile spot ≡ (if full then Writes (link_place spot) (zeros 16) (put_here (with_block s) w tile (block_place c s.blocks)) else put_here s w tile (next_place c tile spot))
+unfolding put_plan
+put_is s c w tile spot full is = ap (λ b. if b then Writes (link_place spot) (zeros 16) (put_here (with_block s) w tile (block_place c s.blocks)) else put_here s w tile (next_place c tile spot)) is
+
+-- with a link before it
+pub full_shows : (who : Who) (s blocked : Lists) (c : Config) (w : Work) (tile place : ℕ) (spot of_tile : Spot) (m k : List ℕ) (before listed after : List Access) (memory : List ℕ) (result : Option Lists) → spot ≡ of_tile → is_full spot ≡ true → place ≡ block_place c s.blocks
+    → listed ≡ before ++ access who Write (spot.last + 16) 16 ∷ [] → k ≡ stored m (spot.last + 16) (zeros 16) → blocked ≡ with_block s
+    → Shows (carried who (put_here blocked w tile place) k) listed after memory result → Shows (carried who (put_plan s c w tile of_tile) m) before after memory result
+unfolding link_place
+full_shows who s blocked c w tile place spot of_tile m k before listed after memory result spot_is full place_is listed_is k_is blocked_is shows =
+    let put = subst (λ q. Shows (carried who (put_here (with_block s) w tile q) k) listed after memory result) place_is (subst (λ b. Shows (carried who (put_here b w tile place) k) listed after memory result) blocked_is shows) in
+    let linked = shows_wrote who (spot.last + 16) (zeros 16) (put_here (with_block s) w tile (block_place c s.blocks)) m k before listed after memory result listed_is k_is put in
+    let all = subst (λ plan. Shows (carried who plan m) before after memory result) (sym (put_is s c w tile spot true full)) linked in
+    subst (λ p. Shows (carried who (put_plan s c w tile p) m) before after memory result) spot_is all
+
+-- and without one
+pub next_shows : (who : Who) (s : Lists) (c : Config) (w : Work) (tile place : ℕ) (spot of_tile : Spot) (m : List ℕ) (before after : List Access) (memory : List ℕ) (result : Option Lists) → spot ≡ of_tile → is_full spot ≡ false → place ≡ next_place c tile spot
+    → Shows (carried who (put_here s w tile place) m) before after memory result → Shows (carried who (put_plan s c w tile of_tile) m) before after memory result
+next_shows who s c w tile place spot of_tile m before after memory result spot_is open_block place_is shows =
+    let put = subst (λ q. Shows (carried who (put_here s w tile q) m) before after memory result) place_is shows in
+    let all = subst (λ plan. Shows (carried who plan m) before after memory result) (sym (put_is s c w tile spot false open_block)) put in
+    subst (λ p. Shows (carried who (put_plan s c w tile p) m) before after memory result) spot_is all
+
+-- an item that may be put has room
+pub item_room : (s : Lists) (c : Config) → c.size < 2 ^ 32 → item_may s (Some c) ≡ true → (s.blocks < 2 ^ 25) × (length s.items < most_items)
+item_room s c size may =
+    let both : (has_room c s.blocks ≡ true) × (nat_lt (length s.items) most_items ≡ true) = grind (arith, common_steps, may) in
+    (room_few c s.blocks size both.0, grind (arith, nat_tests, both.1))

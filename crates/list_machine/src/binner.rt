@@ -1,0 +1,505 @@
+//! One step of the binner.
+ghost use Rattle.std.specs.Prelude.{◌≡◌, ◌≤◌, ◌<◌, ◌+◌, ◌^◌, ◌⊎◌, true, false, length, slice_index, Some, None, option_map};
+ghost use Rattle.arrayvec.specs.ArrayVec.{array_vec_len};
+ghost use Rattle.packets.specs.Length.{bin_length, bin_taken};
+ghost use Rattle.packets.specs.Opcode.{tile_binning_mode, gl_shader_state, indexed_primitive_list, array_primitive_list};
+ghost use Rattle.machine_plan.specs.Glance.{Now};
+ghost use Rattle.machine_plan.specs.Plan.{Shows, carried};
+ghost use Rattle.machine_plan.specs.World.{mapped};
+ghost use Rattle.list_machine.specs.Lists.{binner_of, if_tame, turned_to, quiet, binner_ended, with_work, most_items};
+ghost use Rattle.list_machine.specs.Blocks.{has_room};
+ghost use Rattle.list_machine.specs.Fetch.{fetch_plan};
+ghost use Rattle.list_machine.specs.Start.{start_plan};
+ghost use Rattle.list_machine.specs.declared.state.Program.TheVariants.{Coordinate};
+ghost use Rattle.list_machine.specs.Binner.{config_of, configured, with_word, started, clear_plan, begin_plan, primitive_of, work_of, drawn, draw_plan, halted, is_unknown, packet_plan, read_plan, is_due, one_done, fetched_with, not_due, started_with, chosen_tile, tile_plan, item_plan, work_plan, binner_by, binner_plan, item_may, work_may, binner_may, binner_ready, has_binner_work};
+
+use crate::blocks::{has_room, tiles_of, write_zeros};
+use crate::fetch::fetch_vertex;
+use crate::job_lists::{JobLists, MOST_ITEMS};
+use crate::reads::read_listed;
+use crate::start::{can_start, start_program};
+use crate::state::{Config, Kept, Primitive, Program, Work};
+use arrayvec::ArrayVec;
+use byteorder::{ByteOrder, LittleEndian};
+use field_words::{Access, Actor, Way};
+use machine_plan::{Free, Launch, Who, byte_at, choice_word, list_access};
+use packets::opcode::{
+    ARRAY_PRIMITIVE_LIST, BUFFER_HANDLES, FLUSH, GL_SHADER_STATE, HALT, INCREMENT_SEMAPHORE,
+    INDEXED_PRIMITIVE_LIST, START_TILE_BINNING, TILE_BINNING_MODE,
+};
+use packets::{bin_length, bin_taken};
+use phys_mem::PhysMem;
+
+// What opcode 112 sets.
+#[tactic(auto, unfolding(crate::specs::Binner::config_of, field_words::specs::Words::u32_at))]
+fn config_of(packet: &[u8]) -> Config
+    requires { length packet.now ≡ 16 }
+    ensures { result ≡ config_of packet.now }
+{
+    Config {
+        address: LittleEndian::read_u32(&packet[1..]),
+        size: LittleEndian::read_u32(&packet[5..]),
+        states: LittleEndian::read_u32(&packet[9..]),
+        tiles_x: packet[13],
+        tiles_y: packet[14],
+    }
+}
+
+// An indexed primitive.
+#[tactic(auto, unfolding(crate::specs::Binner::primitive_of, field_words::specs::Words::u32_at))]
+fn indexed_primitive(packet: &[u8]) -> Primitive
+    requires opcode { slice_index packet.now 0 ≡ indexed_primitive_list }
+    requires length { length packet.now ≡ 14 }
+    ensures { result ≡ primitive_of packet.now }
+{
+    Primitive {
+        indexed: true,
+        wide: packet[1] / 16 != 0,
+        length: LittleEndian::read_u32(&packet[2..]),
+        address: LittleEndian::read_u32(&packet[6..]),
+        most: LittleEndian::read_u32(&packet[10..]),
+    }
+}
+
+// A primitive whose vertices have the indexes from the first on.
+#[tactic(auto, unfolding(crate::specs::Binner::primitive_of, field_words::specs::Words::u32_at))]
+fn array_primitive(packet: &[u8]) -> Primitive
+    requires opcode { slice_index packet.now 0 ≡ array_primitive_list }
+    requires length { length packet.now ≡ 10 }
+    ensures { result ≡ primitive_of packet.now }
+{
+    Primitive {
+        indexed: false,
+        wide: false,
+        length: LittleEndian::read_u32(&packet[2..]),
+        address: LittleEndian::read_u32(&packet[6..]),
+        most: 0,
+    }
+}
+
+// The primitive of a packet that draws.
+#[tactic(auto, unfolding(packets::specs::Length::bin_taken, packets::specs::Length::bin_length))]
+fn primitive_of(packet: &[u8]) -> Primitive
+    requires draws { (slice_index packet.now 0 ≡ indexed_primitive_list) ⊎ (slice_index packet.now 0 ≡ array_primitive_list) }
+    requires length { length packet.now ≡ bin_taken (slice_index packet.now 0) }
+    ensures { result ≡ primitive_of packet.now }
+{
+    if packet[0] == INDEXED_PRIMITIVE_LIST {
+        indexed_primitive(packet)
+    } else {
+        array_primitive(packet)
+    }
+}
+
+// Whether no packet has this opcode, or only the driver's own.
+#[tactic(auto, unfolding(crate::specs::Binner::is_unknown))]
+fn is_unknown(opcode: u8) -> bool
+    ensures { result ≡ is_unknown opcode }
+{
+    bin_length(opcode) == 0 || opcode == BUFFER_HANDLES
+}
+
+// Whether a program is due when so many vertices are done.
+#[tactic(auto, unfolding(crate::specs::Binner::is_due))]
+fn is_due(work: &Work, done: u32) -> bool
+    ensures { result ≡ is_due work.now done }
+{
+    done % 16 == 0 || done == work.primitive.length
+}
+
+// The work with one vertex more done.
+#[tactic(auto, unfolding(crate::specs::Binner::one_done))]
+fn one_done(work: &Work) -> Work
+    requires { work.now.done < work.now.primitive.length }
+    ensures { result ≡ one_done work.now }
+{
+    let done = work.done + 1;
+    Work {
+        done,
+        due: is_due(work, done),
+        ..*work
+    }
+}
+
+// The work when the program that was due has started.
+#[tactic(auto, unfolding(crate::specs::Binner::not_due))]
+fn not_due(work: &Work) -> Work
+    ensures { result ≡ not_due work.now }
+{
+    Work {
+        due: false,
+        ..*work
+    }
+}
+
+// The tile that the words choose; the number of tiles says that the primitive is done.
+#[tactic(auto, unfolding(crate::specs::Binner::chosen_tile))]
+fn chosen_tile(config: &Config, words: &[u32]) -> u32
+    ensures value { result ≡ chosen_tile config.now words.now }
+    ensures limit { result ≤ 65025 }
+{
+    choice_word(words, 0) % (tiles_of(config) + 1)
+}
+
+impl JobLists {
+    // Opcode 112 keeps the config.
+    #[tactic(auto, unfolding(crate::specs::Binner::configured))]
+    fn configure(&mut self, packet: &[u8])
+        requires { length packet.now ≡ 16 }
+        ensures { self.new ≡ configured self.old packet.now }
+    {
+        let kept = self.binner().kept;
+        self.set_kept(Kept {
+            config: Some(config_of(packet)),
+            ..kept
+        });
+    }
+
+    // Opcode 64 keeps the state word.
+    #[tactic(auto, unfolding(crate::specs::Binner::with_word, field_words::specs::Words::u32_at))]
+    fn keep_word(&mut self, packet: &[u8])
+        requires { length packet.now ≡ 5 }
+        ensures { self.new ≡ with_word self.old packet.now }
+    {
+        let kept = self.binner().kept;
+        self.set_kept(Kept {
+            word: Some(LittleEndian::read_u32(&packet[1..])),
+            ..kept
+        });
+    }
+
+    // Binning is started.
+    #[tactic(auto, unfolding(crate::specs::Binner::started))]
+    fn start_binning(&mut self)
+        ensures { self.new ≡ started self.old }
+    {
+        let kept = self.binner().kept;
+        self.set_kept(Kept {
+            started: true,
+            ..kept
+        });
+    }
+
+    // Opcode 6, with this config.
+    fn clear_states(
+        &mut self,
+        config: &Config,
+        who: Who,
+        memory: &mut PhysMem,
+        accesses: &mut ArrayVec<Access, 272>,
+    )
+        requires { array_vec_len accesses.old < 272 }
+        ensures shows { Shows (carried who (clear_plan self.old config.now) memory.old) accesses.old.items accesses.new.items memory.new (Some self.new) }
+        ensures len { array_vec_len accesses.new ≡ array_vec_len accesses.old + 1 }
+    {
+        write_zeros(
+            config.states as u64,
+            48 * tiles_of(config),
+            who,
+            memory,
+            accesses,
+        );
+        self.start_binning();
+    }
+
+    // Opcode 6 clears the tiles' states and starts binning. False comes exactly where no config is kept;
+    // then it is wild.
+    fn begin(
+        &mut self,
+        who: Who,
+        memory: &mut PhysMem,
+        accesses: &mut ArrayVec<Access, 272>,
+    ) -> bool
+        requires { array_vec_len accesses.old < 272 }
+        ensures shows { Shows (carried who (begin_plan self.old self.old.binner.kept.config) memory.old) accesses.old.items accesses.new.items memory.new (if_tame result self.new) }
+        ensures wild { result ≡ false → self.new ≡ self.old }
+    {
+        match self.binner().kept.config {
+            None => {
+                list_access(who, Way::Wild, 0, 0, accesses);
+                false
+            }
+            Some(config) => {
+                self.clear_states(&config, who, memory, accesses);
+                true
+            }
+        }
+    }
+
+    // Opcodes 32 and 33 bring a primitive into work. False comes exactly where no state word is kept or
+    // binning isn't started; then it is wild.
+    #[tactic(auto, unfolding(crate::specs::Binner::draw_plan, crate::specs::Binner::work_of))]
+    fn draw(
+        &mut self,
+        packet: &[u8],
+        who: Who,
+        memory: &PhysMem,
+        accesses: &mut ArrayVec<Access, 272>,
+    ) -> bool
+        requires draws { (slice_index packet.now 0 ≡ indexed_primitive_list) ⊎ (slice_index packet.now 0 ≡ array_primitive_list) }
+        requires length { length packet.now ≡ bin_taken (slice_index packet.now 0) }
+        requires room { array_vec_len accesses.old < 272 }
+        ensures shows { Shows (carried who (draw_plan self.old packet.now) memory.now) accesses.old.items accesses.new.items memory.now (if_tame result self.new) }
+        ensures wild { result ≡ false → self.new ≡ self.old }
+    {
+        let kept = self.binner().kept;
+        match kept.word {
+            Some(word) if kept.started => {
+                self.set_work(Some(Work {
+                    word,
+                    primitive: primitive_of(packet),
+                    done: 0,
+                    due: false,
+                }));
+                true
+            }
+            _ => {
+                list_access(who, Way::Wild, 0, 0, accesses);
+                false
+            }
+        }
+    }
+
+    // Does what a packet says; the binner stands past it. False comes exactly where it is wild.
+    #[tactic(auto, unfolding(crate::specs::Binner::packet_plan, crate::specs::Binner::halted, packets::specs::Length::bin_taken, packets::specs::Length::bin_length))]
+    fn obey(
+        &mut self,
+        packet: &[u8],
+        who: Who,
+        memory: &mut PhysMem,
+        accesses: &mut ArrayVec<Access, 272>,
+    ) -> bool
+        requires length { length packet.now ≡ bin_taken (slice_index packet.now 0) }
+        requires place { self.old.pending + self.old.semaphore < self.old.binner.place }
+        requires end { self.old.pending + self.old.semaphore < self.old.binner.end }
+        requires room { array_vec_len accesses.old < 271 }
+        ensures shows { Shows (carried who (packet_plan self.old packet.now) memory.old) accesses.old.items accesses.new.items memory.new (if_tame result self.new) }
+        ensures wild { result ≡ false → self.new ≡ self.old }
+    {
+        let opcode = packet[0];
+        if is_unknown(opcode) {
+            list_access(who, Way::Wild, 0, 0, accesses);
+            return false;
+        }
+        match opcode {
+            HALT => self.halt(),
+            TILE_BINNING_MODE => self.configure(packet),
+            START_TILE_BINNING => return self.begin(who, memory, accesses),
+            GL_SHADER_STATE => self.keep_word(packet),
+            INDEXED_PRIMITIVE_LIST | ARRAY_PRIMITIVE_LIST => {
+                return self.draw(packet, who, memory, accesses);
+            }
+            INCREMENT_SEMAPHORE => self.increment(),
+            FLUSH => self.flush(),
+            _ => {}
+        }
+        true
+    }
+
+    // Reads the packet at the binner's place, goes past it and does what it says. False comes exactly where
+    // that is wild; then the binner's work ends.
+    fn step_packet(
+        &mut self,
+        who: Who,
+        memory: &mut PhysMem,
+        accesses: &mut ArrayVec<Access, 272>,
+    ) -> bool
+        requires below { self.old.binner.place < self.old.binner.end }
+        requires room { array_vec_len accesses.old < 270 }
+        ensures shows { Shows (carried who (read_plan self.old) memory.old) accesses.old.items accesses.new.items memory.new (if_tame result self.new) }
+        ensures wild { result ≡ false → self.new ≡ binner_ended self.old }
+    {
+        let place = self.binner().place;
+        let len = bin_taken(byte_at(memory, place));
+        let packet = read_listed(place, len, who, memory, accesses);
+        self.pass(len);
+        if self.obey(&packet, who, memory, accesses) {
+            return true;
+        }
+        self.end_binner();
+        false
+    }
+
+    // The program that is due starts.
+    fn start_due(
+        &mut self,
+        work: &Work,
+        free: &Free,
+        who: Who,
+        memory: &PhysMem,
+        accesses: &mut ArrayVec<Access, 272>,
+    ) -> Option<Launch>
+        requires { array_vec_len accesses.old < 240 }
+        ensures shows { Shows (carried who (mapped (started_with self.old work.now) (start_plan Coordinate free.now work.now.word)) memory.now) accesses.old.items accesses.new.items memory.now (Some (turned_to self.new result)) }
+    {
+        let launch = start_program(Program::Coordinate, free, work.word, who, memory, accesses);
+        self.set_work(Some(not_due(work)));
+        launch
+    }
+
+    // The next vertex is fetched.
+    fn fetch_next(
+        &mut self,
+        work: &Work,
+        who: Who,
+        memory: &PhysMem,
+        accesses: &mut ArrayVec<Access, 272>,
+    )
+        requires more { work.now.done < work.now.primitive.length }
+        requires room { array_vec_len accesses.old < 240 }
+        ensures shows { Shows (carried who (mapped (fetched_with self.old work.now) (fetch_plan work.now.primitive work.now.word work.now.done)) memory.now) accesses.old.items accesses.new.items memory.now (Some (quiet self.new)) }
+    {
+        fetch_vertex(&work.primitive, work.word, work.done, who, memory, accesses);
+        self.set_work(Some(one_done(work)));
+    }
+
+    // An item is put on the tile that the words choose, or the primitive is done.
+    #[tactic(auto, unfolding(crate::specs::Binner::tile_plan))]
+    fn put_chosen(
+        &mut self,
+        config: &Config,
+        work: &Work,
+        words: &[u32],
+        who: Who,
+        memory: &mut PhysMem,
+        accesses: &mut ArrayVec<Access, 272>,
+    )
+        requires few { length self.old.items < most_items }
+        requires blocks { self.old.blocks < 2 ^ 25 }
+        requires room { array_vec_len accesses.old < 240 }
+        ensures shows { Shows (carried who (tile_plan self.old config.now work.now (chosen_tile config.now words.now)) memory.old) accesses.old.items accesses.new.items memory.new (Some self.new) }
+    {
+        let tile = chosen_tile(config, words);
+        if tile == tiles_of(config) {
+            self.set_work(None);
+        } else {
+            self.put(config, work, tile, who, memory, accesses);
+        }
+    }
+
+    // The same with the config that is kept.
+    #[tactic(auto, using(crate::proofs::Putting::item_room))]
+    fn put_item(
+        &mut self,
+        work: &Work,
+        words: &[u32],
+        who: Who,
+        memory: &mut PhysMem,
+        accesses: &mut ArrayVec<Access, 272>,
+    )
+        requires may { item_may self.old self.old.binner.kept.config ≡ true }
+        requires room { array_vec_len accesses.old < 240 }
+        ensures shows { Shows (carried who (item_plan self.old self.old.binner.kept.config work.now words.now) memory.old) accesses.old.items accesses.new.items memory.new (Some self.new) }
+    {
+        match self.binner().kept.config {
+            None => {}
+            Some(config) => self.put_chosen(&config, work, words, who, memory, accesses),
+        }
+    }
+
+    // A step with a primitive in work.
+    #[tactic(auto, unfolding(crate::specs::Binner::work_plan, crate::specs::Binner::work_may))]
+    fn step_work(
+        &mut self,
+        work: &Work,
+        free: &Free,
+        words: &[u32],
+        who: Who,
+        memory: &mut PhysMem,
+        accesses: &mut ArrayVec<Access, 272>,
+    ) -> Option<Launch>
+        requires may { work_may self.old work.now free.now ≡ true }
+        requires room { array_vec_len accesses.old < 240 }
+        ensures shows { Shows (carried who (work_plan self.old work.now free.now words.now) memory.old) accesses.old.items accesses.new.items memory.new (Some (turned_to self.new result)) }
+    {
+        if work.due {
+            self.start_due(work, free, who, memory, accesses)
+        } else if work.done < work.primitive.length {
+            self.fetch_next(work, who, memory, accesses);
+            None
+        } else {
+            self.put_item(work, words, who, memory, accesses);
+            None
+        }
+    }
+
+    // Whether an item can be put on a tile.
+    fn item_may(&self) -> bool
+        ensures { result ≡ item_may self.now self.now.binner.kept.config }
+    {
+        match self.binner().kept.config {
+            None => false,
+            Some(config) => has_room(&config, self.blocks()) && self.items().len() < MOST_ITEMS,
+        }
+    }
+
+    // Whether the binner can go on with a primitive in work.
+    #[tactic(auto, unfolding(crate::specs::Binner::work_may))]
+    fn work_may(&self, work: &Work, free: &Free) -> bool
+        ensures { result ≡ work_may self.now work.now free.now }
+    {
+        if work.due {
+            can_start(false, free)
+        } else if work.done < work.primitive.length {
+            true
+        } else {
+            self.item_may()
+        }
+    }
+
+    /// Whether the binner may step. Without a primitive in work it is below its list's end. With one, the
+    /// program that is due can start, or a vertex is left to fetch, or there is room for a further block
+    /// and for an item.
+    #[tactic(auto, unfolding(crate::specs::Binner::binner_ready))]
+    pub fn is_binner_ready(&self, free: &Free) -> bool
+        ensures { binner_ready self.now free.now ≡ Now result }
+    {
+        let binner = self.binner();
+        match binner.work {
+            None => binner.place < binner.end,
+            Some(work) => self.work_may(&work, free),
+        }
+    }
+
+    /// Whether the binner has work: it is below its list's end, or has a primitive in work.
+    pub fn has_binner_work(&self) -> bool
+        ensures { result ≡ has_binner_work self.now }
+    {
+        let binner = self.binner();
+        binner.place < binner.end || binner.work.is_some()
+    }
+
+    /// One step of the binner, which may step, for the job of this number. What the hardware leaves open is
+    /// answered by the words; a missing word is zero. It lists its accesses behind those already listed,
+    /// and comes to the program that it starts, where it starts one. `None` comes exactly where the step is
+    /// wild; then the binner is at its list's end without work.
+    #[tactic(auto, unfolding(crate::specs::Binner::binner_plan, crate::specs::Binner::binner_ready))]
+    pub fn step_binner(
+        &mut self,
+        job: u8,
+        free: &Free,
+        words: &[u32],
+        memory: &mut PhysMem,
+        accesses: &mut ArrayVec<Access, 272>,
+    ) -> Option<Option<Launch>>
+        requires ready { binner_ready self.old free.now ≡ Now true }
+        requires room { array_vec_len accesses.old < 240 }
+        ensures shows { Shows (carried (binner_of job) (binner_plan self.old free.now words.now) memory.old) accesses.old.items accesses.new.items memory.new (option_map (turned_to self.new) result) }
+        ensures wild { result ≡ None → self.new ≡ binner_ended self.old }
+    {
+        let who = Who {
+            unit: Actor::Binner,
+            job,
+        };
+        match self.binner().work {
+            None => {
+                if self.step_packet(who, memory, accesses) {
+                    Some(None)
+                } else {
+                    None
+                }
+            }
+            Some(work) => Some(self.step_work(&work, free, words, who, memory, accesses)),
+        }
+    }
+}

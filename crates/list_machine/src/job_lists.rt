@@ -1,0 +1,222 @@
+//! What the list units of one job keep, as a whole.
+ghost use Rattle.std.specs.Prelude.{◌≡◌, ◌≤◌, ◌<◌, ◌+◌, ◌*◌, ◌^◌, ◌++◌, ◌∷◌, [], length, IfOk};
+ghost use Rattle.list_machine.specs.Lists.{lists_start, with_binner, with_renderer, with_kept, with_work, with_place, past, incremented, flushed, with_taken, with_item, with_block, binner_ended, most_items, AreNear};
+
+use crate::state::{Binner, Item, Kept, Renderer, Work};
+use field_words::NoMemory;
+use std::alloc::Global;
+use std::marker::Model;
+
+/// The most items that a job's tile lists have together.
+pub const MOST_ITEMS: usize = 32_768;
+
+/// What the list units of one job keep: its binner and its renderer, the semaphore, and its tile
+/// lists. The items of all tile lists are one list, the oldest first; its memory is taken at the
+/// start, so that no step takes any.
+#[derive(Drop)]
+pub struct JobLists {
+    binner: Binner,
+    renderer: Renderer,
+    pending: u64,
+    semaphore: u64,
+    closed: bool,
+    blocks: u32,
+    items: Vec<Item>,
+}
+
+impl Model for JobLists {
+    ghost use Rattle.std.specs.Prelude.{◌≤◌};
+    ghost use Rattle.std.specs.Vec.{vec_capacity};
+    ghost use Rattle.list_machine.specs.Lists.{Lists, IsNear, most_items};
+
+    ghost Value = { Lists };
+
+    ghost view = { λ a. record { binner = a.binner; renderer = a.renderer; pending = a.pending; semaphore = a.semaphore; closed = a.closed; blocks = a.blocks; items = a.items.items } };
+
+    ghost invariant = { λ a. (most_items ≤ vec_capacity a.items) × IsNear (record { binner = a.binner; renderer = a.renderer; pending = a.pending; semaphore = a.semaphore; closed = a.closed; blocks = a.blocks; items = a.items.items }) };
+}
+
+impl JobLists {
+    /// The list units of a job whose lists begin at these places and are this long, at their start.
+    /// The memory for the items of its tile lists may be missing.
+    pub fn new(
+        alloc: Global,
+        bin_place: u32,
+        bin_len: u32,
+        render_place: u32,
+        render_len: u32,
+    ) -> Result<JobLists, NoMemory>
+        ensures { IfOk result (λ lists. lists ≡ lists_start bin_place bin_len render_place render_len) }
+    {
+        let items = Vec::with_capacity(alloc, MOST_ITEMS)?;
+        Ok(JobLists {
+            binner: Binner {
+                place: bin_place as u64,
+                end: bin_place as u64 + bin_len as u64,
+                kept: Kept {
+                    config: None,
+                    started: false,
+                    word: None,
+                },
+                work: None,
+            },
+            renderer: Renderer {
+                place: render_place as u64,
+                end: render_place as u64 + render_len as u64,
+                frame: None,
+                x: 0,
+                y: 0,
+                waiting: None,
+                inside: None,
+            },
+            pending: 0,
+            semaphore: 0,
+            closed: false,
+            blocks: 0,
+            items,
+        })
+    }
+
+    /// The binner.
+    pub(crate) fn binner(&self) -> Binner
+        ensures value { result ≡ self.now.binner }
+        ensures end { result.end < 2 ^ 33 }
+        ensures place { result.place ≤ result.end + 16 }
+    {
+        self.binner
+    }
+
+    /// The renderer.
+    pub(crate) fn renderer(&self) -> Renderer
+        ensures value { result ≡ self.now.renderer }
+        ensures end { result.end < 2 ^ 33 }
+        ensures place { result.place ≤ result.end + 16 }
+    {
+        self.renderer
+    }
+
+    /// The semaphore.
+    pub(crate) fn semaphore(&self) -> u64
+        ensures { result ≡ self.now.semaphore }
+    {
+        self.semaphore
+    }
+
+    /// Whether the tile lists are closed.
+    pub(crate) fn is_closed(&self) -> bool
+        ensures { result ≡ self.now.closed }
+    {
+        self.closed
+    }
+
+    /// How many further blocks are taken.
+    pub(crate) fn blocks(&self) -> u32
+        ensures value { result ≡ self.now.blocks }
+        ensures few { result ≤ 2 ^ 25 }
+    {
+        self.blocks
+    }
+
+    /// The items of all tile lists, the oldest first.
+    pub(crate) fn items(&self) -> &[Item]
+        ensures value { result.now ≡ self.now.items }
+        ensures few { length result.now ≤ most_items }
+        ensures near { AreNear 0 result.now }
+    {
+        self.items.as_slice()
+    }
+
+    /// Changes the renderer.
+    pub(crate) fn set_renderer(&mut self, renderer: Renderer)
+        requires end { renderer.end < 2 ^ 33 }
+        requires place { renderer.place ≤ renderer.end + 16 }
+        ensures { self.new ≡ with_renderer self.old renderer }
+    {
+        self.renderer = renderer;
+    }
+
+    /// Changes what the binner keeps from packet to packet.
+    pub(crate) fn set_kept(&mut self, kept: Kept)
+        ensures { self.new ≡ with_kept self.old kept }
+    {
+        self.binner.kept = kept;
+    }
+
+    /// Changes the primitive in work.
+    pub(crate) fn set_work(&mut self, work: Option<Work>)
+        ensures { self.new ≡ with_work self.old work }
+    {
+        self.binner.work = work;
+    }
+
+    /// Goes past a packet of the binner's list.
+    pub(crate) fn pass(&mut self, len: u32)
+        requires below { self.old.binner.place < self.old.binner.end }
+        requires some { 1 ≤ len }
+        requires few { len ≤ 16 }
+        ensures value { self.new ≡ past self.old len }
+        ensures place { self.new.pending + self.new.semaphore < self.new.binner.place }
+        ensures end { self.new.pending + self.new.semaphore < self.new.binner.end }
+    {
+        self.binner.place += len as u64;
+    }
+
+    /// Goes to the end of the binner's list.
+    pub(crate) fn halt(&mut self)
+        requires { self.old.pending + self.old.semaphore ≤ self.old.binner.end }
+        ensures { self.new ≡ with_place self.old self.old.binner.end }
+    {
+        self.binner.place = self.binner.end;
+    }
+
+    /// Ends the binner's work.
+    pub(crate) fn end_binner(&mut self)
+        requires { self.old.pending + self.old.semaphore ≤ self.old.binner.end }
+        ensures { self.new ≡ binner_ended self.old }
+    {
+        self.binner.place = self.binner.end;
+        self.binner.work = None;
+    }
+
+    /// The semaphore is to be raised once more.
+    pub(crate) fn increment(&mut self)
+        requires { self.old.pending + self.old.semaphore < self.old.binner.place }
+        ensures { self.new ≡ incremented self.old }
+    {
+        self.pending += 1;
+    }
+
+    /// Closes the tile lists, and raises the semaphore as often as was asked.
+    pub(crate) fn flush(&mut self)
+        ensures { self.new ≡ flushed self.old }
+    {
+        self.closed = true;
+        self.semaphore += self.pending;
+        self.pending = 0;
+    }
+
+    /// Takes one from the semaphore, where it isn't zero.
+    pub(crate) fn take_semaphore(&mut self)
+        ensures { self.new ≡ with_taken self.old }
+    {
+        self.semaphore = self.semaphore.saturating_sub(1);
+    }
+
+    /// Takes a further block.
+    pub(crate) fn take_block(&mut self)
+        requires { self.old.blocks < 2 ^ 25 }
+        ensures { self.new ≡ with_block self.old }
+    {
+        self.blocks += 1;
+    }
+
+    /// One item more.
+    #[tactic(auto, using(crate::proofs::Nearness::near_push))]
+    pub(crate) fn push_item(&mut self, item: Item)
+        requires few { length self.old.items < most_items }
+        requires near { item.place ≤ 2 ^ 34 + 16 * length self.old.items }
+        ensures { self.new ≡ with_item self.old item }
+    {
+        self.items.push_reserved(item);
+    }
+}

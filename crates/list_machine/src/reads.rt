@@ -1,0 +1,51 @@
+//! Reads of memory that are listed.
+ghost use Rattle.std.specs.Prelude.{◌≡◌, ◌≤◌, ◌<◌, ◌+◌, ◌^◌, ◌++◌, ◌∷◌, []};
+ghost use Rattle.arrayvec.specs.ArrayVec.{array_vec_len};
+ghost use Rattle.field_words.specs.Words.{u32_at};
+ghost use Rattle.field_words.specs.declared.access.Way.TheVariants.{Read};
+ghost use Rattle.machine_plan.specs.Memory.{bytes_at};
+ghost use Rattle.machine_plan.specs.Plan.{access};
+
+use arrayvec::ArrayVec;
+use byteorder::{ByteOrder, LittleEndian};
+use field_words::{Access, Way};
+use machine_plan::{Who, list_access, read_bytes};
+use phys_mem::PhysMem;
+
+/// Reads the `len` bytes from `place` on, and lists the read.
+pub(crate) fn read_listed(
+    place: u64,
+    len: u32,
+    who: Who,
+    memory: &PhysMem,
+    accesses: &mut ArrayVec<Access, 272>,
+) -> ArrayVec<u8, 16>
+    requires few { len ≤ 16 }
+    requires near { place < 2 ^ 63 }
+    requires room { array_vec_len accesses.old < 272 }
+    ensures value { result.items ≡ bytes_at memory.now place len }
+    ensures size { array_vec_len result ≡ len }
+    ensures items { accesses.new.items ≡ accesses.old.items ++ access who Read place len ∷ [] }
+    ensures len { array_vec_len accesses.new ≡ array_vec_len accesses.old + 1 }
+{
+    list_access(who, Way::Read, place, len, accesses);
+    read_bytes(memory, place, len as usize)
+}
+
+/// Reads the word at `place`, and lists the read.
+#[tactic(auto, unfolding(field_words::specs::Words::u32_at))]
+pub(crate) fn read_word(
+    place: u64,
+    who: Who,
+    memory: &PhysMem,
+    accesses: &mut ArrayVec<Access, 272>,
+) -> u32
+    requires near { place < 2 ^ 63 }
+    requires room { array_vec_len accesses.old < 272 }
+    ensures value { result ≡ u32_at (bytes_at memory.now place 4) 0 }
+    ensures items { accesses.new.items ≡ accesses.old.items ++ access who Read place 4 ∷ [] }
+    ensures len { array_vec_len accesses.new ≡ array_vec_len accesses.old + 1 }
+{
+    let bytes = read_listed(place, 4, who, memory, accesses);
+    LittleEndian::read_u32(&bytes)
+}

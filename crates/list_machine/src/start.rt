@@ -1,0 +1,118 @@
+//! How a list unit starts a program.
+ghost use Rattle.std.specs.Prelude.{◌≡◌, ◌≤◌, ◌<◌, ◌+◌, length, Some};
+ghost use Rattle.arrayvec.specs.ArrayVec.{array_vec_len};
+ghost use Rattle.machine_plan.specs.Plan.{Shows, carried};
+ghost use Rattle.list_machine.specs.Start.{code_offset, can_start, launch_plan, start_as, is_threaded, start_plan};
+
+use crate::fetch::record_place;
+use crate::reads::{read_listed, read_word};
+use crate::state::Program;
+use arrayvec::ArrayVec;
+use field_words::Access;
+use machine_plan::{Free, Launch, Who, read_bytes};
+use phys_mem::PhysMem;
+
+// Where a record holds the place of a program's code.
+fn code_offset(program: Program) -> u64
+    ensures value { result ≡ code_offset program }
+    ensures few { result ≤ 28 }
+{
+    match program {
+        Program::Fragment => 4,
+        Program::Vertex => 16,
+        Program::Coordinate => 28,
+    }
+}
+
+/// Whether a program can start now, threaded or not.
+pub(crate) fn can_start(threaded: bool, free: &Free) -> bool
+    ensures { result ≡ can_start threaded free.now }
+{
+    if threaded {
+        free.threaded.is_some()
+    } else {
+        free.plain.is_some()
+    }
+}
+
+// Reads the flags, and the places of the program's code and of its uniforms.
+#[tactic(auto, unfolding(crate::specs::Start::launch_plan))]
+fn read_launch(
+    program: Program,
+    threaded: bool,
+    word: u32,
+    who: Who,
+    memory: &PhysMem,
+    accesses: &mut ArrayVec<Access, 272>,
+) -> Launch
+    requires { array_vec_len accesses.old < 260 }
+    ensures shows { Shows (carried who (launch_plan program threaded word) memory.now) accesses.old.items accesses.new.items memory.now (Some (Some result)) }
+    ensures len { array_vec_len accesses.new ≡ array_vec_len accesses.old + 3 }
+{
+    let base = record_place(word);
+    let place = base + code_offset(program);
+    read_listed(base, 2, who, memory, accesses);
+    let code = read_word(place, who, memory, accesses);
+    let uniforms = read_word(place + 4, who, memory, accesses);
+    Launch {
+        threaded,
+        code,
+        uniforms,
+    }
+}
+
+// Starts a program, threaded or not, if it can start.
+#[tactic(auto, unfolding(crate::specs::Start::start_as))]
+fn start_as(
+    program: Program,
+    threaded: bool,
+    free: &Free,
+    word: u32,
+    who: Who,
+    memory: &PhysMem,
+    accesses: &mut ArrayVec<Access, 272>,
+) -> Option<Launch>
+    requires { array_vec_len accesses.old < 260 }
+    ensures shows { Shows (carried who (start_as program threaded free.now word) memory.now) accesses.old.items accesses.new.items memory.now (Some result) }
+    ensures len { array_vec_len accesses.new ≤ array_vec_len accesses.old + 3 }
+{
+    if !can_start(threaded, free) {
+        return None;
+    }
+    Some(read_launch(program, threaded, word, who, memory, accesses))
+}
+
+// Whether the flags say that the fragment program is threaded.
+#[tactic(auto, unfolding(crate::specs::Start::is_threaded))]
+fn is_threaded(flags: &[u8]) -> bool
+    requires { length flags.now ≡ 2 }
+    ensures { result ≡ is_threaded flags.now }
+{
+    flags[0] % 2 == 0
+}
+
+/// Starts a program of this state word: reads the flags and the places of its code and of its uniforms.
+/// A program that can't start now reads nothing, and gives `None`.
+#[tactic(auto, unfolding(crate::specs::Start::start_plan))]
+pub(crate) fn start_program(
+    program: Program,
+    free: &Free,
+    word: u32,
+    who: Who,
+    memory: &PhysMem,
+    accesses: &mut ArrayVec<Access, 272>,
+) -> Option<Launch>
+    requires { array_vec_len accesses.old < 260 }
+    ensures shows { Shows (carried who (start_plan program free.now word) memory.now) accesses.old.items accesses.new.items memory.now (Some result) }
+    ensures len { array_vec_len accesses.new ≤ array_vec_len accesses.old + 3 }
+{
+    match program {
+        Program::Fragment => {
+            let flags = read_bytes(memory, record_place(word), 2);
+            let threaded = is_threaded(&flags);
+            start_as(program, threaded, free, word, who, memory, accesses)
+        }
+        Program::Vertex => start_as(program, false, free, word, who, memory, accesses),
+        Program::Coordinate => start_as(program, false, free, word, who, memory, accesses),
+    }
+}
