@@ -1,1 +1,3 @@
+pub mod Deeds
+pub mod Rooms
 pub mod Windows

@@ -3,31 +3,49 @@
 //! Contracts see it as the list of its bytes, and nothing above depends on how it is kept.
 #![tactic(auto)]
 
+mod block;
+
 ghost use Rattle.std.specs.Prelude.{◌≡◌, ◌+◌, ◌≤◌, ◌<◌, ◌^◌, length, slice_index, IfOk};
 ghost use Rattle.std.specs.Borrow.{sem};
 ghost use Rattle.field_words.specs.Words.{u32_at};
 ghost use Rattle.field_words.specs.Writes.{with_bytes, zeros};
 ghost use Rattle.phys_mem.specs.Window.{LendsWindow, window_of};
 
+use block::{Deed, fill, give, take};
 use byteorder::{ByteOrder, LittleEndian};
 use field_words::NoMemory;
 use std::alloc::Global;
 use std::marker::Model;
+use std_alloc::vec::Lodged;
 
 /// One block of memory. Contracts see it as the list of its bytes.
-#[derive(Drop)]
 pub struct PhysMem {
-    bytes: Vec<u8>,
+    bytes: Vec<u8, Lodged>,
+    deed: Deed<Global>,
+    alloc: Global,
 }
 
 impl Model for PhysMem {
-    ghost use Rattle.std.specs.Prelude.{ℕ, ◌<◌, ◌^◌, List, length};
+    ghost use Rattle.std.specs.Prelude.{◌≡◌, ℕ, ◌<◌, ◌^◌, List, length};
 
     ghost Value = { List ℕ };
 
     ghost view = { λ m. m.bytes.items };
 
-    ghost invariant = { λ m. length m.bytes.items < 2 ^ 32 };
+    ghost invariant = { λ m. (length m.bytes.items < 2 ^ 32) × (m.deed.ptr ≡ m.bytes.ptr) × (m.deed.size ≡ m.bytes.cap) × (m.deed.alloc ≡ m.alloc) };
+}
+
+impl Drop for PhysMem {
+    fn drop(self) {
+        let PhysMem {
+            mut bytes,
+            deed,
+            alloc,
+        } = self;
+        let ptr = bytes.as_mut_ptr();
+        let size = bytes.capacity();
+        give(&alloc, ptr, size, bytes, deed);
+    }
 }
 
 impl PhysMem {
@@ -36,8 +54,9 @@ impl PhysMem {
     pub fn new(alloc: Global, size: u32) -> Result<PhysMem, NoMemory>
         ensures { IfOk result (λ m. m ≡ zeros size) }
     {
-        let bytes = vec![in alloc; 0u8; size as usize]?;
-        Ok(PhysMem { bytes })
+        let (mut bytes, deed) = take(&alloc, size as usize)?;
+        fill(&mut bytes, size as usize);
+        Ok(PhysMem { bytes, deed, alloc })
     }
 
     /// The number of bytes, which is below 2^32.
