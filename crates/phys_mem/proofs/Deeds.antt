@@ -26,6 +26,9 @@ deed_val = vstruct (vcons mark vnil)
 abbrev pub deed_fields : List Val → Fml
 deed_fields = One.own_val (tt, tt)
 
+pub mark_told : (vs : List Val) → shadow (Empty.own_val tt vs) → vs ≡ mark ∷ []
+mark_told vs s = s.1.0
+
 pub deed_told : (vs : List Val) → shadow (deed_fields vs) → vs ≡ deed_val ∷ []
 deed_told vs s = s.1.0 ∙ ap (λ us. vstruct (of_list (us ++ [])) ∷ []) s.1.1.0.1.0
 

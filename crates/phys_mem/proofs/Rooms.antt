@@ -1,24 +1,25 @@
 -- A block's room is the room of a list of bytes that has none yet, and goes back as such a room.
-use Rattle.std.proofs.Common.{◌≡◌, ℕ, zero, suc, ◌+◌, ◌-◌, ◌*◌, ◌^◌, ◌<◌, ◌≤◌, List, [], ◌∷◌, length, refl, sym, arith, w64}
+use Rattle.std.proofs.Common.{◌≡◌, ℕ, zero, suc, ◌+◌, ◌-◌, ◌*◌, ◌^◌, ◌<◌, ◌≤◌, List, [], ◌∷◌, length, refl, sym, ◌∙◌, arith, w64}
 use seplogic.Ra.Ura.{Ura}
 use mir.Syntax.{w8, ty_int, ty_array}
 use mir.Val.{Val, vint, vptr}
 use base.Fraction.{full_share}
-use base.Logic.{SProp, ent, emp, never, snd∗}
+use base.Logic.{SProp, ent, emp, via, never, never_e, snd∗}
 use base.Fml.{ftrue, flft, froom, flt}
 use prog.Memory.{Memory}
 use prog.Routine.{Routine}
 use contract.Monad.{Fun, fact, fact_i}
 use contract.BorrowLft.{◌⊑◌, ⊑_refl}
 use types.Logic.{Logic, sem}
-use types.Kit.{‵, raw, ◌$◌, ◌∵◌, !, qed, by, move, use0, use2, drop, join, fsplit, fsplit3, fjoin, fjoin3, feq_i, flt_i, rewrite, done}
+use types.Kit.{‵, raw, given, ◌$◌, ◌∵◌, !, qed, move, use0, use1, drop, join, learn, fsplit, fjoin, feq_i, flt_i, rewrite, done}
 use denote.Array.{Array}
 use denote.Builtin.{u8}
 use denote.Memory.{part_at}
 use denote.Param.{param}
 use denote.Param.Laws.{Laws, of_field}
 use denote.Param.Shared.{copy_shared}
-use denote.RawPtr.{block_ptr, null_ptr}
+use denote.Index.{row}
+use denote.RawPtr.{Ptr, block_ptr, null_ptr, lies_at}
 use denote.RattleType.{RattleType}
 use denote.Steps.{nothing}
 use denote.Struct.Field.{u8-field}
@@ -36,7 +37,7 @@ byte_laws = of_field u8-field u8-laws refl (copy_shared u8-field u8-copy)
 abbrev pub Byte : RattleType
 Byte = param 0 u8
 
-abbrev bytes : El
+abbrev pub bytes : El
 bytes = record { row = u8; laws = byte_laws; al = no_al }
 
 module _ {M : Type 1} {𝓤 : Ura M} (𝓛 : Logic 𝓤) where
@@ -55,17 +56,24 @@ module _ {M : Type 1} {𝓤 : Ura M} (𝓛 : Logic 𝓤) where
       rewrite ! 0 (λ y. ‵ (owns_if y (block_with_items (λ _ _. ftrue) Byte (block_ptr b o) 0 c []))) (sym (is_live c (omega arith))) refl $
       flt_i ! (c * 1) (2 ^ 63) (omega arith) $ fjoin ! $ done !
 
-  pub lies_nowhere : (n c : ℕ) (xs : List ℕ) → ent 𝓤 (sem 𝓛 (lodged Byte null_ptr n c xs)) (never 𝓤)
-  lies_nowhere n c xs = snd∗ 𝓤 (sem 𝓛 (flt (c * 1) (2 ^ 63))) (never 𝓤)
-
-  pub room_again : (b o n c : ℕ) (xs : List ℕ) → n ≤ c → ent 𝓤 (sem 𝓛 (lodged Byte (block_ptr b o) n c xs)) (H.room (ty_array (ty_int w8) c) b o)
-  room_again b o n zero xs le =
-      qed 𝓛 (‵ (lodged Byte (block_ptr b o) n zero xs) ∷ []) ∵ drop ! $ use0 𝓛 (‵ (froom (ty_array (ty_int w8) zero) b o)) (𝓛.laws.room_nil (ty_int w8) b o) $ done !
-  room_again b o n (suc k) xs le =
+  -- a list that fills its room is the bytes in a row
+  pub filled : (p : Ptr) (n c : ℕ) (xs : List ℕ) → n ≡ length xs → n ≡ c → ent 𝓤 (sem 𝓛 (lodged Byte p n c xs)) (sem 𝓛 (lies_at (Array u8 (length xs)) full_share p xs))
+  filled null_ptr n c xs is full = via 𝓤 (never 𝓤) (snd∗ 𝓤 (sem 𝓛 (flt (c * 1) (2 ^ 63))) (never 𝓤)) (never_e 𝓤 _)
+  filled (block_ptr b o) n zero xs is full =
+      qed 𝓛 (‵ (lodged Byte (block_ptr b o) n zero xs) ∷ []) ∵ drop ! $ use0 𝓛 (‵ (part_at (Array u8 (length xs)) full_share xs b o)) (rows.empty bytes 𝓛 xs b o (sym is ∙ full)) $ done !
+  filled (block_ptr b o) n (suc k) xs is full =
       let c : ℕ = suc k in
       qed 𝓛 (‵ (lodged Byte (block_ptr b o) n c xs) ∷ []) ∵ fsplit ! $ drop ! $
       rewrite ! 0 (λ y. ‵ (owns_if y (block_with_items (λ _ _. ftrue) Byte (block_ptr b o) n c xs))) (is_live c (omega arith)) refl $
-      fsplit3 ! $ move ! (2 ∷ []) $ drop ! $ by ! (rows.all_room bytes 𝓛 b o n c xs le)
+      fsplit ! $ move ! (1 ∷ []) $ drop ! $ rewrite ! 0 (λ m. ‵ (part_at (Array u8 m) full_share xs b o)) is refl $ done !
+
+  -- what lay in a row leaves its room
+  pub room_again : (b o n : ℕ) (xs : List ℕ) → length xs ≡ n → ent 𝓤 (sem 𝓛 (lies_at (Array u8 (length xs)) full_share (block_ptr b o) xs)) (H.room (ty_array (ty_int w8) n) b o)
+  room_again b o n xs is =
+      qed 𝓛 (‵ (part_at (Array u8 (length xs)) full_share xs b o) ∷ []) ∵
+      use1 𝓛 (given (length xs ≡ length xs) (‵ (row Byte full_share xs b o))) (rows.apart bytes 𝓛 full_share (length xs) xs b o) $ learn ! (λ _.
+      use1 𝓛 (‵ (froom (ty_array (ty_int w8) (length xs)) b o)) (rows.row_room bytes 𝓛 xs b o) $
+      rewrite ! 0 (λ m. ‵ (froom (ty_array (ty_int w8) m) b o)) is refl $ done !)
 
 module _ {M : Type 1} {𝓤 : Ura M} (𝓛 : Logic 𝓤) (at_mem : Memory → SProp 𝓤) (run : Routine → Fun 𝓤) where
   pub lodge_goes : (b o n c : ℕ) (xs : List ℕ) → n ≡ length xs → n ≤ c → c < 2 ^ 63

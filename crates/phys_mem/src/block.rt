@@ -1,23 +1,15 @@
 //! One block of bytes of an allocator: taken once, filled with zeros, given back once.
-ghost use Rattle.std.specs.Prelude.{◌≡◌, ◌<◌, ◌^◌, ℕ, [], replicate, IfOk};
-ghost use denote.RawPtr.{Ptr};
-ghost use mir.Syntax.{ty_array, ty_int, w8};
+ghost use Rattle.std.specs.Prelude.{◌≡◌, ◌<◌, ◌^◌, [], replicate, length, ◌+◌, ◌≤◌, IfOk};
+ghost use Rattle.std.specs.Borrow.{sem};
+ghost use Rattle.phys_mem.specs.Contents.{LendsPart};
+ghost use Rattle.phys_mem.specs.Window.{window_of};
 
+use crate::contents::Contents;
+use crate::deed::Deed;
 use std::alloc::{AllocError, Allocator};
-use std::marker::{Model, PhantomData};
+use std::marker::PhantomData;
+use std::slice;
 use std_alloc::vec::{Lodged, lodge};
-
-/// The right to give the block of `size` bytes at `ptr` back to `alloc`. It takes no space.
-pub(crate) struct Deed<A: Allocator> {
-    by: PhantomData<A>,
-    ghost ptr: { Ptr },
-    ghost size: { ℕ },
-    ghost alloc: { A },
-}
-
-impl<A: Allocator> Model for Deed<A> {
-    ghost also_owns = { λ d. A.dealloc_token d.alloc (ty_array (ty_int w8) d.size) d.ptr };
-}
 
 /// A new block as a list that has room for `size` bytes and none yet.
 pub(crate) fn take<A: Allocator>(
@@ -43,17 +35,43 @@ pub(crate) fn fill(bytes: &mut Vec<u8, Lodged>, size: usize)
     }
 }
 
-/// Gives the block back.
+/// The bytes of a list that fills its room, without the list.
+pub(crate) fn settle(bytes: Vec<u8, Lodged>) -> Contents
+    requires { bytes.len ≡ bytes.cap }
+    ensures { (result.at ≡ bytes.ptr) × (result.bytes ≡ bytes.items) }
+{
+    let _len = bytes.dislodge();
+    Contents {}
+}
+
+/// Shows all bytes.
+pub(crate) fn show(contents: &Contents, ptr: *mut u8, len: usize) -> &[u8]
+    requires { (contents.now.at ≡ ptr) × (length contents.now.bytes ≡ len) × (len < 2 ^ 63) }
+    ensures { result.now ≡ contents.now.bytes }
+{
+    unsafe { slice::from_raw_parts(ptr, len) }
+}
+
+/// Lends `len` bytes for writing, from the place `from` on.
+pub(crate) fn lend(contents: &mut Contents, ptr: *mut u8, from: usize, len: usize) -> &mut [u8]
+    requires { (contents.old.at ≡ ptr) × (from + len ≤ length contents.old.bytes) × (from + len < 2 ^ 63) }
+    ensures* writes_back { sem 𝓛 (LendsPart contents.entry from result) }
+    ensures value { result.now ≡ window_of contents.old.bytes from len }
+{
+    unsafe { slice::from_raw_parts_mut(ptr.add(from), len) }
+}
+
+/// Gives the block back, with what lies in it.
 pub(crate) fn give<A: Allocator>(
     alloc: &A,
     ptr: *mut u8,
     size: usize,
-    bytes: Vec<u8, Lodged>,
+    contents: Contents,
     deed: Deed<A>,
 )
-    requires { (bytes.ptr ≡ ptr) × (bytes.cap ≡ size) × (deed.ptr ≡ ptr) × (deed.size ≡ size) × (deed.alloc ≡ alloc.now) }
+    requires { (contents.at ≡ ptr) × (length contents.bytes ≡ size) × (deed.ptr ≡ ptr) × (deed.size ≡ size) × (deed.alloc ≡ alloc.now) }
 {
-    let _len = bytes.dislodge();
+    let Contents {} = contents;
     let Deed { by: _ } = deed;
     unsafe { alloc.deallocate(ptr, size, 1) }
 }

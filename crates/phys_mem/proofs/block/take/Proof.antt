@@ -1,17 +1,16 @@
 -- `take` lodges an empty list on the room that the allocator gave, and keeps the right to give it back.
-use Rattle.std.proofs.Common.{◌≡◌, ℕ, ◌*◌, ◌+◌, ◌^◌, ◌<◌, List, [], ◌∷◌, ◌++◌, refl, sym, ap, ◌∙◌, subst, arith, lit<, true, false, w64, Ok, Err, Vec}
+use Rattle.std.proofs.Common.{◌≡◌, ℕ, ◌*◌, ◌^◌, ◌<◌, List, [], ◌∷◌, ◌++◌, refl, sym, ap, ◌∙◌, subst, arith, lit<, true, false, w64, Ok, Err, Vec}
 use mir.Syntax.{Ty, Fn, Args, Body, a_type, dcons, dnil, ty_array, ty_int, w8}
-use mir.Val.{Val, vint, vptr, vstruct, vcons, vnil, of_list}
+use mir.Val.{Val, vint, vptr, of_list}
 use mir.MapTy.{inst_fn}
 use base.Logic.{SProp, emp, id⊢}
-use base.Fml.{Lft, Share, ftrue, flft, froom}
+use base.Fml.{Lft, Share, ftrue, flft}
 use prog.Capped.{capped_is}
 use prog.Wp.{Env, WpFn, Wp, after_seq}
 use contract.BorrowLft.{◌⊑◌, ⊑_trans}
 use contract.Monad.{fact, fact_i}
 use contract.Running.{tables}
 use types.Kit.{‵, raw, ◌⊛◌, some, given, later, prop, at_ret, any_q, post, Post as After, ◌$◌, ◌∵◌, !, qed, by, move, drop, use0, use1, use2, split, join, regoal, rewrite, fsplit, fjoin, pick, learn, await}
-use types.Logic.{Logic}
 use types.Part.{whole, agg}
 use types.Match.{live, vrt, in_variant}
 use types.Run.{stop, fld, lit, of_opd, no_more, and_then, first, blocks, switches_on, exec, returns, enter}
@@ -42,7 +41,7 @@ use Rattle.std_alloc.proofs.vec.lodge.Met as lodge_met
 use Rattle.std_collections.proofs.TreeMemory.Lodging.{Row, row_laws, tells, Lodges, at_lodge, Lodged_as, lodge_gives}
 use Rattle.phys_mem.proofs.Rooms.{Byte, byte_laws, no_bytes_yet, lodge_goes}
 use Rattle.phys_mem.proofs.Deeds.{mark, mark_made, deed_val, deed_fields, deed_made}
-use Rattle.phys_mem.specs.contracts.block.Deed as deed
+use Rattle.phys_mem.specs.contracts.deed.Deed as deed
 use Rattle.phys_mem.specs.contracts.block.take.{ended, clauses}
 use Rattle.phys_mem.specs.contracts.block.take.Key.{name as the_key}
 use Rattle.phys_mem.proofs.block.take.Statement.{statement}
