@@ -2,7 +2,7 @@
 ghost use Rattle.std.specs.Prelude.{◌≡◌, ◌≤◌, ◌<◌, ◌^◌, ◌+◌, ◌*◌, ◌++◌, ◌/◌, ◌%◌, length, IfOk, OnOk, string_bytes};
 ghost use Rattle.field_words.specs.Writes.{with_bytes};
 ghost use Rattle.hex.specs.Hex.{encode_lower};
-ghost use Rattle.dumper.specs.Text.{place_text, list_line, memory_line, slot_line, row_line, row_at, is_blank, filled_rows, row_text, rows_text, layout_text, accepted_text, refused_text};
+ghost use Rattle.dumper.specs.Text.{place_text, list_line, memory_line, slot_line, row_line, row_at, is_blank, row_text, rows_text, layout_text, accepted_text, refused_text};
 
 use field_words::NoMemory;
 use job_format::Refusal;
@@ -13,7 +13,8 @@ use std::alloc::{AllocError, Global};
 /// The length of a row's line: eight digits of its place, a blank, two for each byte and a line feed.
 const ROW_LINE: usize = 42;
 
-/// Room for the lines before and after the rows, which are shorter than that together.
+/// Room for the lines before the rows and the last one, which are shorter than that together. The rows take theirs as they
+/// come: how many aren't all zero is known once all were looked at, which is done once.
 const OTHER_LINES: usize = 192;
 
 #[tactic(auto, using(crate::proofs::Rows::place_shown))]
@@ -108,21 +109,6 @@ fn row_line(place: u32, row: &[u8; 16]) -> [u8; ROW_LINE]
     line
 }
 
-/// How many rows of the memory aren't all zero.
-fn filled_rows(memory: &PhysMem) -> usize
-    ensures value { result ≡ filled_rows memory.now 0 (length memory.now / 16) }
-    ensures fits { result < 2 ^ 28 }
-{
-    let rows = memory.len() / 16;
-    let mut filled = 0;
-    for row in 0..rows {
-        if !is_blank(memory, 16 * row) {
-            filled += 1;
-        }
-    }
-    filled
-}
-
 /// Appends the line of the sixteen bytes at a place, or nothing where they are all zero.
 #[inline]
 #[tactic(auto, unfolding(crate::specs::Text::row_text))]
@@ -182,7 +168,7 @@ pub fn image_text(
     requires { length memory.now % 16 ≡ 0 }
     ensures { IfOk result (λ text. text.items ≡ accepted_text memory.now layout.now lengths.now) }
 {
-    let mut out = Vec::with_capacity(alloc, OTHER_LINES + ROW_LINE * filled_rows(memory))?;
+    let mut out = Vec::with_capacity(alloc, OTHER_LINES)?;
     out.extend_from_slice(b"accepted\n")?;
     out.extend_from_slice(memory_line(alloc, memory.len())?.as_bytes())?;
     push_layout(alloc, &mut out, layout, lengths)?;
