@@ -1,7 +1,8 @@
 //! The texts of an accepted job and of a refusal.
-ghost use Rattle.std.specs.Prelude.{◌≡◌, ◌≤◌, ◌<◌, ◌^◌, ◌+◌, ◌*◌, ◌++◌, ◌/◌, ◌%◌, length, IfOk, OnOk, string_bytes};
+ghost use Rattle.std.specs.Prelude.{◌≡◌, ◌≤◌, ◌<◌, ◌^◌, ◌+◌, ◌*◌, ◌++◌, ◌/◌, ◌%◌, length, false, IfOk, OnOk, string_bytes};
 ghost use Rattle.field_words.specs.Writes.{with_bytes};
 ghost use Rattle.hex.specs.Hex.{encode_lower};
+ghost use Rattle.std.specs.Fmt.{digit_glyph};
 ghost use Rattle.dumper.specs.Text.{place_text, list_line, memory_line, slot_line, row_line, row_at, is_blank, row_text, rows_text, layout_text, accepted_text, refused_text};
 
 use field_words::NoMemory;
@@ -89,13 +90,27 @@ fn is_blank(memory: &PhysMem, place: u32) -> bool
     first + second + third + fourth == 0
 }
 
+/// The digit of a number below 16, in lower case. It is a sum and no look at a table, so that many digits are made at once.
+#[inline]
+fn digit(number: u8) -> u8
+    requires { number < 16 }
+    ensures { result ≡ digit_glyph false number }
+{
+    number + if number < 10 { 48 } else { 87 }
+}
+
 /// Writes two digits for each of these bytes from `at` on.
 #[inline]
+#[tactic(auto, using(crate::proofs::Digits::no_digits))]
 fn put_digits(line: &mut [u8], at: usize, bytes: &[u8])
     requires { at + 2 * length bytes.now ≤ length line.old }
     ensures { line.new ≡ with_bytes line.old at (encode_lower bytes.now) }
 {
-    let _ = hex::encode_to_slice(bytes, &mut line[at..at + 2 * bytes.len()]);
+    for k in 0..bytes.len() {
+        let byte = bytes[k];
+        line[at + 2 * k] = digit(byte / 16);
+        line[at + 2 * k + 1] = digit(byte % 16);
+    }
 }
 
 /// The line of a row: its place, a blank, its bytes and a line feed.
