@@ -130,8 +130,8 @@ digits_more line bytes at k x y inside fits high low small =
     let long : length part ≡ 2 * k = omega (arith, length-encode_with lower_digits (take k bytes), length-take k bytes) in
     two_more line part at (at + 2 * k) x y (omega arith) (omega arith)
     ∙ ap (with_bytes line at)
-      ((λ i. part ++ (high ∙ glyph_is (b / 16) (omega arith)) i ∷ (low ∙ glyph_is (b % 16) (omega arith)) i ∷ [])
-      ∙ sym (ap encode_lower (take_more bytes k 0 inside) ∙ encode_append (take k bytes) b))
+    ((λ i. part ++ (high ∙ glyph_is (b / 16) (omega arith)) i ∷ (low ∙ glyph_is (b % 16) (omega arith)) i ∷ [])
+    ∙ sym (ap encode_lower (take_more bytes k 0 inside) ∙ encode_append (take k bytes) b))
 
 pub no_digits : (line bytes : List ℕ) (at : ℕ) → line ≡ with_bytes line at (encode_lower (take 0 bytes))
 unfolding encode_with

@@ -14,8 +14,7 @@ use std::alloc::{AllocError, Global};
 /// The length of a row's line: eight digits of its place, a blank, two for each byte and a line feed.
 const ROW_LINE: usize = 42;
 
-/// Room for the lines before the rows and the last one, which are shorter than that together. The rows take theirs as they
-/// come: how many aren't all zero is known once all were looked at, which is done once.
+/// Room for the lines before and after the rows, which are shorter than that together.
 const OTHER_LINES: usize = 192;
 
 #[tactic(auto, using(crate::proofs::Rows::place_shown))]
@@ -183,7 +182,9 @@ pub fn image_text(
     requires { length memory.now % 16 ≡ 0 }
     ensures { IfOk result (λ text. text.items ≡ accepted_text memory.now layout.now lengths.now) }
 {
-    let mut out = Vec::with_capacity(alloc, OTHER_LINES)?;
+    // Room for all rows: each is looked at once, so how many are filled isn't known yet. Room that isn't written is never touched.
+    let rows = memory.len() as usize / 16;
+    let mut out = Vec::with_capacity(alloc, OTHER_LINES + ROW_LINE * rows)?;
     out.extend_from_slice(b"accepted\n")?;
     out.extend_from_slice(memory_line(alloc, memory.len())?.as_bytes())?;
     push_layout(alloc, &mut out, layout, lengths)?;
