@@ -123,6 +123,17 @@ fn row_line(place: u32, row: &[u8; 16]) -> [u8; ROW_LINE]
     line
 }
 
+/// Appends the line of the sixteen bytes at a place. It stands apart from the test for zeros, so that its bytes are loaded as
+/// one row and not taken out of the words of the test.
+#[inline(never)]
+fn push_line(out: &mut Vec<u8>, memory: &PhysMem, place: u32) -> Result<(), AllocError>
+    requires inside { place + 16 ≤ length memory.now }
+    requires fits { length memory.now < 2 ^ 32 }
+    ensures { OnOk result (out.new.items ≡ out.old.items ++ row_line place (row_at memory.now place)) }
+{
+    out.extend_from_slice(&row_line(place, &row_at(memory, place)))
+}
+
 /// Appends the line of the sixteen bytes at a place, or nothing where they are all zero.
 #[inline]
 #[tactic(auto, unfolding(crate::specs::Text::row_text))]
@@ -134,7 +145,7 @@ fn push_row(out: &mut Vec<u8>, memory: &PhysMem, place: u32) -> Result<(), Alloc
     if is_blank(memory, place) {
         return Ok(());
     }
-    out.extend_from_slice(&row_line(place, &row_at(memory, place)))
+    push_line(out, memory, place)
 }
 
 /// Appends the lines of all rows of the memory that aren't all zero.
