@@ -55,8 +55,9 @@ fn without_room(alloc: Global, job: &Context) -> Result<Lists, Stop<Refusal>>
     requires { job.now.file.regions.lists_size < (layout_of job.now.file job.now.number).end }
     ensures { Answers (lists_stages job.now.file job.now.number ++ layout_stage job.now.file job.now.number) (λ _. ⊥) result }
 {
-    let mut region = vec![in alloc; 0u8; job.layout.end as usize]?;
-    match job.write_lists(alloc, &mut region) {
+    let end = job.layout.end;
+    let mut region = PhysMem::new(alloc, end)?;
+    match job.write_lists(alloc, region.window(0, end)) {
         Ok(_) => Err(Stop::Fault(job.layout_refusal())),
         Err(stop) => Err(stop),
     }
