@@ -1,5 +1,5 @@
--- What a command answers to all of its input: a status and a text.
-use Rattle.std.specs.Prelude.{◌≡◌, ℕ, ◌++◌, List, Option, Some, None}
+-- What a command answers: a status and a text.
+use Rattle.std.specs.Prelude.{◌≡◌, ℕ, List, length, Option, Some, None}
 use Rattle.field_words.specs.Questions.{IsFirst}
 use Rattle.job_format.specs.declared.rule.Refusal.{Refusal}
 use Rattle.job_format.specs.File.{IsFileOf}
@@ -12,6 +12,9 @@ use Rattle.dumper.specs.Text.{accepted_text, refused_text}
 use Rattle.vc4check.specs.declared.command.Command.{Command}
 use Rattle.vc4check.specs.declared.command.Command.TheVariants.{Check, Asm, Disasm}
 use Rattle.vc4check.specs.Shader.{IsAsmAnswer, IsDisasmAnswer}
+use Rattle.job_format.specs.Text.{file_text}
+use Rattle.dumper.specs.Example.{example_text}
+use Rattle.example_job.specs.Example.{example}
 
 -- what is printed of an accepted file: its emitted memory, and where its lists lie there
 unfoldable pub image_of : FileModel → List ℕ
@@ -31,3 +34,15 @@ abbrev pub IsAnswer : Command → List ℕ → ℕ → List ℕ → Type 0
 IsAnswer Check bytes status text = IsCheckAnswer bytes status text
 IsAnswer Asm bytes status text = IsAsmAnswer bytes status text
 IsAnswer Disasm bytes status text = IsDisasmAnswer bytes status text
+
+-- `gen` makes the example of a number and checks it, as `check` does. It says how long the file and the emitted lists are and what
+-- the bytes of the memory add up to, or why the file is refused.
+unfoldable pub text_of : ℕ → FileModel → List ℕ
+text_of number f = example_text number (length (file_text f)) (memory_of f) (lengths_of f 0)
+
+abbrev pub IsExampleVerdict : ℕ → FileModel → Option Refusal → ℕ → List ℕ → Type 0
+IsExampleVerdict number f None status text = (status ≡ 0) × (text ≡ text_of number f)
+IsExampleVerdict number f (Some refusal) status text = (status ≡ 1) × (text ≡ refused_text refusal)
+
+abbrev pub IsExampleAnswer : ℕ → ℕ → List ℕ → Type 0
+IsExampleAnswer number status text = IsExampleVerdict number (example number) (refusal_of (file_text (example number))) status text
