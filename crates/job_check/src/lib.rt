@@ -12,5 +12,7 @@ mod lists;
 mod refusals;
 mod shaders;
 mod stages;
+mod whole;
 
 pub use check::{Checked, check_job};
+pub use whole::check_bytes;

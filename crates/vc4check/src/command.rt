@@ -1,13 +1,14 @@
-//! The program's commands, and the words that ask for them.
+//! What the program can do, and the words that ask for it.
 ghost use Rattle.std.specs.Prelude.{◌≡◌, ◌≤◌, Some, None};
-ghost use Rattle.vc4check.specs.Words.{texts, command_named, command_of, limit_of, most_file};
+ghost use Rattle.vc4check.specs.Words.{texts, command_named, task_numbered, task_of, limit_of, most_file};
 
 use field_words::MOST_LIST;
+use script::read_number;
 
 /// The most bytes of a job file that `check` takes: 24 MiB.
 const MOST_FILE: usize = 25_165_824;
 
-/// What the program can do.
+/// A command that reads all of its input, and answers to it.
 #[derive(Clone, Copy, Debug, PartialEq, Eq)]
 pub enum Command {
     /// `check`: reads a job file and prints the memory that it runs in, or why it is refused.
@@ -16,6 +17,15 @@ pub enum Command {
     Asm,
     /// `disasm`: reads such words and writes shader text that assembles to them.
     Disasm,
+}
+
+/// What the words ask for.
+#[derive(Clone, Copy, Debug, PartialEq, Eq)]
+pub enum Task {
+    /// To read input by a command.
+    Read(Command),
+    /// `gen <number>`: makes the example job of this number, and says what becomes of it. No input is read.
+    Make(u32),
 }
 
 impl Command {
@@ -46,13 +56,23 @@ fn command_named(word: &str) -> Option<Command>
     None
 }
 
-/// The command that the words ask for. `None` comes exactly where they are no command's. It takes
-/// no memory.
-pub fn command_of(words: &[String]) -> Option<Command>
-    ensures { result ≡ command_of (texts words.now) }
+fn task_numbered(word: &str, number: &str) -> Option<Task>
+    ensures { result ≡ task_numbered word.now number.now }
+{
+    if word == "gen" {
+        let number = read_number(number.as_bytes(), u64::from(u32::MAX))?;
+        return Some(Task::Make(number as u32));
+    }
+    None
+}
+
+/// What the words ask for. `None` comes exactly where they ask for nothing that the program does. It takes no memory.
+pub fn task_of(words: &[String]) -> Option<Task>
+    ensures { result ≡ task_of (texts words.now) }
 {
     match words {
-        [word] => command_named(word.as_str()),
+        [word] => Some(Task::Read(command_named(word.as_str())?)),
+        [word, number] => task_numbered(word.as_str(), number.as_str()),
         _ => None,
     }
 }

@@ -10,8 +10,8 @@ use Rattle.job_format.specs.Reading.{file_at}
 use Rattle.job_check.specs.declared.check.Checked.{Checked}
 use Rattle.job_check.specs.Faults.{file_stages}
 use Rattle.job_check.specs.Emit.{IsEmitted}
-use Rattle.vc4check.specs.Answer.{all_questions, format_refused, format_stopped}
-use Rattle.vc4check.proofs.check.judged.Goals as goal
+use Rattle.job_check.specs.Whole.{all_questions, format_refused, format_stopped}
+use Rattle.job_check.proofs.whole.check_bytes.Goals as goal
 
 pub returns-in-Ok-clause-answers : goal.returns-in-Ok-clause-answers
 unfolding all_questions
