@@ -1,67 +1,72 @@
--- What is kept along a step of the renderer, packet by packet.
-use Rattle.std.proofs.Common.{◌≡◌, ◌≤◌, ◌<◌, ℕ, zero, suc, ◌+◌, ◌*◌, List, slice_index, true, sym, subst, arith}
+-- What is kept along a step of the renderer.
+use Rattle.std.proofs.Common.{◌≡◌, ◌≤◌, ◌<◌, ℕ, zero, suc, ◌+◌, ◌*◌, List, slice_index, Option, Some, None, sym, subst, arith}
 use Rattle.field_words.specs.declared.access.Access.{Access}
 use Rattle.field_words.specs.declared.access.Way.TheVariants.{Read, Write}
+use Rattle.packets.specs.declared.packet.Packet.{Packet}
+use Rattle.packets.specs.Length.{render_taken}
+use Rattle.packets.specs.Packet.{decoded}
 use Rattle.machine_plan.specs.declared.who.Who.{Who}
+use Rattle.machine_plan.specs.declared.launch.Free.{Free}
 use Rattle.machine_plan.specs.Memory.{bytes_at, stored}
 use Rattle.machine_plan.specs.Plan.{Done, Keeps, access}
+use Rattle.machine_plan.proofs.Worlds.{keeps_mapped}
 use Rattle.list_machine.specs.declared.state.Frame.{Frame}
-use Rattle.list_machine.specs.declared.state.Renderer.{Renderer}
-use Rattle.list_machine.specs.declared.state.Rows.{Rows}
-use Rattle.list_machine.specs.Packet.{packet_length, with_frame, with_tile}
-use Rattle.list_machine.specs.Store.{is_raster, rows_of, chosen, row_writes}
-use Rattle.list_machine.specs.Renderer.{frame_plan, store_plan, packet_plan, renderer_plan}
-use Rattle.list_machine.proofs.Storing.{length-chosen}
+use Rattle.list_machine.specs.declared.state.SubList.{SubList}
+use Rattle.list_machine.specs.declared.surface.Cover.{Cover}
+use Rattle.list_machine.specs.declared.surface.Style.{Style}
+use Rattle.list_machine.specs.Lists.{Lists, Turned, quiet}
+use Rattle.list_machine.specs.Store.{chosen}
+use Rattle.list_machine.specs.Cover.{frame_style, cover_in, cover_by, part_count, part_place, parts_written, parts_read}
+use Rattle.list_machine.specs.Surfaces.{cover_written, frame_written}
+use Rattle.list_machine.specs.Renderer.{beyond, act, acted, packet_plan, plan_in, renderer_plan}
+use Rattle.list_machine.proofs.Storing.{chosen_size}
 
--- The step, by the bytes of the packet at the renderer's place.
-pub packet_keeps : (who : Who) (L : ℕ → ℕ → Type 0) (G : Access → Type 0) (P : List ℕ → Renderer → Type 0) (r : Renderer) (words m : List ℕ) (len : ℕ) (packet : List ℕ) →
-    packet_length (slice_index m r.place) ≡ len → bytes_at m r.place len ≡ packet →
-    L r.place 1 → G (access who Read r.place len) → Keeps who L G P (packet_plan (record r { place = r.place + len }) words packet) m →
-    Keeps who L G P (renderer_plan r words) m
-unfolding renderer_plan bytes_at
-packet_keeps who L G P r words m len packet length_is packet_is looks reads rest =
-    let Q : List ℕ → Type 0 = λ bytes. Keeps who L G P (packet_plan (record r { place = r.place + len }) words bytes) m in
-    let read : G (access who Read r.place len) × Keeps who L G P (packet_plan (record r { place = r.place + len }) words (bytes_at m r.place len)) m = (reads, subst Q (sym packet_is) rest) in
-    let S : ℕ → Type 0 = λ n. G (access who Read r.place n) × Keeps who L G P (packet_plan (record r { place = r.place + n }) words (bytes_at m r.place n)) m in
-    (looks, subst S (sym length_is) read)
+-- The step of a renderer that is in no tile's list, by the packet at its place.
+pub packet_keeps : (who : Who) (L : ℕ → ℕ → Type 0) (G : Access → Type 0) (P : List ℕ → Turned → Type 0) (s : Lists) (free : Free) (words m : List ℕ) (len : ℕ) (bytes : List ℕ) (packet : Packet) →
+    s.renderer.inside ≡ None → render_taken (slice_index m s.renderer.place) ≡ len → bytes_at m s.renderer.place len ≡ bytes → decoded bytes ≡ Some packet →
+    L s.renderer.place 1 → G (access who Read s.renderer.place len) → Keeps who L G (λ k next. P k (quiet next)) (act (beyond s len) words packet) m →
+    Keeps who L G P (renderer_plan s free words) m
+unfolding packet_plan renderer_plan bytes_at
+packet_keeps who L G P s free words m len bytes packet outside len_is bytes_is packet_is looks reads rest =
+    let P' : List ℕ → Lists → Type 0 = λ k next. P k (quiet next) in
+    let place = s.renderer.place in
+    let Q : Option Packet → Type 0 = λ p. Keeps who L G P' (acted (beyond s len) words p) m in
+    let decodes : Q (decoded bytes) = subst Q (sym packet_is) rest in
+    let R : List ℕ → Type 0 = λ b. Keeps who L G P' (acted (beyond s len) words (decoded b)) m in
+    let read : G (access who Read place len) × R (bytes_at m place len) = (reads, subst R (sym bytes_is) decodes) in
+    let S : ℕ → Type 0 = λ n. G (access who Read place n) × Keeps who L G P' (acted (beyond s n) words (decoded (bytes_at m place n))) m in
+    let all : Keeps who L G P' (packet_plan s words) m = (looks, subst S (sym len_is) read) in
+    let T : Option SubList → Type 0 = λ inside. Keeps who L G P (plan_in s free words inside) m in
+    subst T (sym outside) (keeps_mapped quiet who L G P (packet_plan s words) m all)
 
--- 113 sets the frame
-pub frame_keeps : (who : Who) (L : ℕ → ℕ → Type 0) (G : Access → Type 0) (P : List ℕ → Renderer → Type 0) (r : Renderer) (words m packet : List ℕ) →
-    slice_index packet 0 ≡ 113 → P m (with_frame r packet) → Keeps who L G P (packet_plan r words packet) m
-unfolding packet_plan
-frame_keeps who L G P r words m packet opcode ends = rw opcode ends
-
--- 115 names the tile
-pub tile_keeps : (who : Who) (L : ℕ → ℕ → Type 0) (G : Access → Type 0) (P : List ℕ → Renderer → Type 0) (r : Renderer) (words m packet : List ℕ) →
-    slice_index packet 0 ≡ 115 → P m (with_tile r packet) → Keeps who L G P (packet_plan r words packet) m
-unfolding packet_plan
-tile_keeps who L G P r words m packet opcode ends = rw opcode ends
-
--- 25 stores
-pub store_keeps : (who : Who) (L : ℕ → ℕ → Type 0) (G : Access → Type 0) (P : List ℕ → Renderer → Type 0) (r : Renderer) (words m packet : List ℕ) →
-    slice_index packet 0 ≡ 25 → Keeps who L G P (store_plan r.frame r words) m → Keeps who L G P (packet_plan r words packet) m
-unfolding packet_plan
-store_keeps who L G P r words m packet opcode ends = rw opcode ends
-
--- each row's write is good, and at the end P holds of any memory
-pub rows_keep : (who : Who) (L : ℕ → ℕ → Type 0) (G : Access → Type 0) (P : List ℕ → Renderer → Type 0) (rows : Rows) (words : List ℕ) (r : Renderer) (i n : ℕ) (m : List ℕ) →
-    ((k : ℕ) → i ≤ k → k < i + n → G (access who Write (rows.place + k * rows.pitch) rows.size)) → ((k : List ℕ) → P k r) →
-    Keeps who L G P (row_writes rows words i n (Done r)) m
-unfolding row_writes
-rows_keep who L G P rows words r i zero m good ends = ends m
-rows_keep who L G P rows words r i (suc n) m good ends =
-    let at = rows.place + i * rows.pitch in
-    let Q : ℕ → Type 0 = λ size. G (access who Write at size) in (
-      subst Q (sym (length-chosen words (i * rows.size) rows.size)) (good i (omega arith) (omega arith)),
-      rows_keep who L G P rows words r (suc i) n (stored m at (chosen words (i * rows.size) rows.size)) (λ k low high. good k (omega arith) (omega arith)) ends,
+-- each part's write is good, and at the end P holds of any memory
+pub written_keep : (who : Who) (L : ℕ → ℕ → Type 0) (G : Access → Type 0) (P : List ℕ → Lists → Type 0) (c : Cover) (words : List ℕ) (s : Lists) (i n : ℕ) (m : List ℕ) →
+    ((k : ℕ) → i ≤ k → k < i + n → G (access who Write (part_place c k) c.size)) → ((k : List ℕ) → P k s) →
+    Keeps who L G P (parts_written c words i n (Done s)) m
+unfolding parts_written
+written_keep who L G P c words s i zero m good ends = ends m
+written_keep who L G P c words s i (suc n) m good ends =
+    let place = part_place c i in
+    let Q : ℕ → Type 0 = λ size. G (access who Write place size) in (
+      subst Q (sym (chosen_size words (i * c.size) c.size)) (good i (omega arith) (omega arith)),
+      written_keep who L G P c words s (suc i) n (stored m place (chosen words (i * c.size) c.size)) (λ k low high. good k (omega arith) (omega arith)) ends,
     )
 
--- a store of a raster frame
-pub raster_keeps : (who : Who) (L : ℕ → ℕ → Type 0) (G : Access → Type 0) (P : List ℕ → Renderer → Type 0) (frame : Frame) (r : Renderer) (words m : List ℕ) →
-    is_raster frame.bits ≡ true →
-    ((k : ℕ) → k < (rows_of frame r.x r.y).count → G (access who Write ((rows_of frame r.x r.y).place + k * (rows_of frame r.x r.y).pitch) (rows_of frame r.x r.y).size)) → ((k : List ℕ) → P k r) →
-    Keeps who L G P (frame_plan frame r words) m
-unfolding frame_plan
-raster_keeps who L G P frame r words m raster good ends =
-    let rows = rows_of frame r.x r.y in
-    rw raster (rows_keep who L G P rows words r 0 rows.count m (λ k low high. good k (omega arith)) ends)
+-- each part's read is good, and at the end P holds
+pub read_keep : (who : Who) (L : ℕ → ℕ → Type 0) (G : Access → Type 0) (P : List ℕ → Lists → Type 0) (c : Cover) (s : Lists) (i n : ℕ) (m : List ℕ) →
+    ((k : ℕ) → i ≤ k → k < i + n → G (access who Read (part_place c k) c.size)) → P m s →
+    Keeps who L G P (parts_read c i n (Done s)) m
+unfolding parts_read
+read_keep who L G P c s i zero m good ends = ends
+read_keep who L G P c s i (suc n) m good ends = (good i (omega arith) (omega arith), read_keep who L G P c s (suc i) n m (λ k low high. good k (omega arith) (omega arith)) ends)
+
+-- a store of the frame
+pub frame_keeps : (who : Who) (L : ℕ → ℕ → Type 0) (G : Access → Type 0) (P : List ℕ → Lists → Type 0) (frame : Frame) (x y : ℕ) (style : Style) (words : List ℕ) (s : Lists) (m : List ℕ) →
+    frame_style frame.bits ≡ Some style →
+    ((k : ℕ) → k < part_count (cover_in style.tiling style.cpp frame frame.address x y) → G (access who Write (part_place (cover_in style.tiling style.cpp frame frame.address x y) k) (cover_in style.tiling style.cpp frame frame.address x y).size)) →
+    ((k : List ℕ) → P k s) → Keeps who L G P (frame_written (Some frame) x y words (Done s)) m
+unfolding frame_written cover_written
+frame_keeps who L G P frame x y style words s m style_is good ends =
+    let c : Cover = cover_in style.tiling style.cpp frame frame.address x y in
+    let Q : Option Style → Type 0 = λ one. Keeps who L G P (cover_written (cover_by one frame frame.address x y) words (Done s)) m in
+    subst Q (sym style_is) (written_keep who L G P c words s 0 (part_count c) m (λ k low high. good k (omega arith)) ends)

@@ -4,5 +4,8 @@ pub mod Fetching
 pub mod Putting
 pub mod Binning
 pub mod Storing
-pub mod Stepping
+pub mod Covering
+pub mod Left
+pub mod Steps
+pub mod Items
 pub mod Keeping

@@ -3,6 +3,7 @@ pub mod Fetch
 pub mod Start
 pub mod Blocks
 pub mod Binner
-pub mod Packet
 pub mod Store
+pub mod Cover
+pub mod Surfaces
 pub mod Renderer

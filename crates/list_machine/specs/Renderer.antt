@@ -1,54 +1,168 @@
 -- One step of the renderer.
-use Rattle.std.specs.Prelude.{ℕ, Bool, nat_lt, ◌+◌, ◌==◌, ◌||◌, if◌then◌else◌, List, Option, Some, None, slice_index}
-use Rattle.machine_plan.specs.Glance.{Glance, Now}
+use Rattle.std.specs.Prelude.{ℕ, ◌+◌, ◌-◌, ◌/◌, ◌%◌, ◌==◌, ◌&&◌, ◌||◌, not, nat_lt, nat_le, Bool, true, false, is_some, if◌then◌else◌, List, [], ◌∷◌, drop, slice_index, Option, Some, None}
+use Rattle.packets.specs.declared.packet.Packet.{Packet}
+use Rattle.packets.specs.declared.packet.Packet.TheVariants.{WaitOnSemaphore, BranchToSubList, StoreTileColor, StoreTileColorAndEnd, StoreFullResolution, LoadFullResolution, StoreTileBuffer, LoadTileBuffer, TileRenderingMode, ClearColors, TileCoordinates}
+use Rattle.packets.specs.Length.{render_taken}
+use Rattle.packets.specs.Opcode.{wait_on_semaphore}
+use Rattle.packets.specs.Packet.{decoded}
+use Rattle.machine_plan.specs.declared.launch.Free.{Free}
+use Rattle.machine_plan.specs.Choice.{word_at}
+use Rattle.machine_plan.specs.Glance.{Glance, Now, At}
 use Rattle.machine_plan.specs.Plan.{Plan, Done, Wilds, Reads, Looks}
 use Rattle.machine_plan.specs.World.{mapped}
+use Rattle.list_machine.specs.declared.state.Config.{Config}
+use Rattle.list_machine.specs.declared.state.Found.{Found}
 use Rattle.list_machine.specs.declared.state.Frame.{Frame}
-use Rattle.list_machine.specs.declared.state.Renderer.{Renderer}
-use Rattle.list_machine.specs.Lists.{Lists, Turned, quiet, with_renderer}
-use Rattle.list_machine.specs.Packet.{packet_length, with_frame, with_tile}
-use Rattle.list_machine.specs.Store.{is_raster, rows_of, row_writes}
+use Rattle.list_machine.specs.declared.state.Item.{Item}
+use Rattle.list_machine.specs.declared.state.Load.{Load}
+use Rattle.list_machine.specs.declared.state.Load.TheVariants.{Full, General}
+use Rattle.list_machine.specs.declared.state.Program.{Program}
+use Rattle.list_machine.specs.declared.state.Program.TheVariants.{Fragment, Vertex}
+use Rattle.list_machine.specs.declared.state.SubList.{SubList}
+use Rattle.list_machine.specs.Lists.{Lists, Turned, turned_to, quiet, with_renderer, with_taken}
+use Rattle.list_machine.specs.Fetch.{fetch_plan}
+use Rattle.list_machine.specs.Start.{start_plan}
+use Rattle.list_machine.specs.Blocks.{tiles_of}
+use Rattle.list_machine.specs.Surfaces.{general_written, frame_written, whole_written, waiting_read}
 
--- the rows of one tile of this frame; what isn't raster is wild so far
-unfoldable pub frame_plan : Frame → Renderer → List ℕ → Plan Renderer
-frame_plan frame r words =
-    let rows = rows_of frame r.x r.y in
-    if is_raster frame.bits then row_writes rows words 0 rows.count (Done r) else Wilds
+-- the renderer has gone past a packet of this length
+abbrev pub beyond : Lists → ℕ → Lists
+beyond s len = with_renderer s (record (s.renderer) { place = s.renderer.place + len })
 
--- 24 and 25 store by what 113 set, and are wild before it
-unfoldable pub store_plan : Option Frame → Renderer → List ℕ → Plan Renderer
-store_plan None r words = Wilds
-store_plan (Some frame) r words = frame_plan frame r words
+-- 113 keeps the frame
+abbrev pub with_frame : Lists → Frame → Lists
+with_frame s frame = with_renderer s (record (s.renderer) { frame = Some frame })
 
--- what a packet does, with the renderer past it; opcodes that aren't built yet are wild
-unfoldable pub packet_plan : Renderer → List ℕ → List ℕ → Plan Renderer
-packet_plan r words packet =
-    let opcode = slice_index packet 0 in
-    if opcode == 113 then Done (with_frame r packet)
-    else (if opcode == 115 then Done (with_tile r packet)
-    else (if opcode == 24 || opcode == 25 then store_plan r.frame r words
-    else Wilds))
+-- a load waits
+abbrev pub with_load : Lists → Load → Lists
+with_load s load = with_renderer s (record (s.renderer) { waiting = Some load })
 
--- The step reads the packet at its place, goes past it and does what it says. To see the packet's
+-- the tile is (x, y), and the load that waited is done
+abbrev pub at_tile : Lists → ℕ → ℕ → Lists
+at_tile s x y = with_renderer s (record (s.renderer) { x = x; y = y; waiting = None })
+
+-- the renderer stands there in a tile's list, or in none
+abbrev pub with_inside : Lists → Option SubList → Lists
+with_inside s inside = with_renderer s (record (s.renderer) { inside = inside })
+
+-- a load is wild where another one waits
+abbrev pub wait_plan : Lists → Option Load → Load → Plan Lists
+wait_plan s None load = Done (with_load s load)
+wait_plan s (Some other) load = Wilds
+
+-- The tile whose list begins at this address: tile t's does at the allocation's address plus 32t.
+unfoldable pub tile_named : Config → ℕ → Option ℕ
+tile_named c address =
+    if (nat_le c.address address && (address - c.address) % 32 == 0) && nat_lt ((address - c.address) / 32) (tiles_of c) then Some ((address - c.address) / 32)
+    else None
+
+abbrev pub enter_plan : Lists → Option ℕ → Plan Lists
+enter_plan s None = Wilds
+enter_plan s (Some tile) = Done (with_inside s (Some (record { tile = tile; at = 0 })))
+
+abbrev pub tile_by : Option Config → ℕ → Option ℕ
+tile_by None address = None
+tile_by (Some c) address = tile_named c address
+
+-- 17 goes into a tile's list. It is wild unless the lists are closed and one begins at its address.
+unfoldable pub branch_plan : Lists → ℕ → Plan Lists
+branch_plan s address = if s.closed then enter_plan s (tile_by s.binner.kept.config address) else Wilds
+
+-- 115 names the tile, and does the load that waits there
+unfoldable pub tile_plan : Lists → ℕ → ℕ → Plan Lists
+tile_plan s x y = waiting_read s.renderer.waiting s.renderer.frame x y (Done (at_tile s x y))
+
+-- What a packet does, with the renderer past it.
+abbrev pub act : Lists → List ℕ → Packet → Plan Lists
+act s words WaitOnSemaphore = Done (with_taken s)
+act s words (BranchToSubList address) = branch_plan s address
+act s words StoreTileColor = frame_written s.renderer.frame s.renderer.x s.renderer.y words (Done s)
+act s words StoreTileColorAndEnd = frame_written s.renderer.frame s.renderer.x s.renderer.y words (Done s)
+act s words (StoreFullResolution address) = whole_written address words (Done s)
+act s words (LoadFullResolution address) = wait_plan s s.renderer.waiting (Full address)
+act s words (StoreTileBuffer bits address) = general_written bits address s.renderer.frame s.renderer.x s.renderer.y words (Done s)
+act s words (LoadTileBuffer bits address) = wait_plan s s.renderer.waiting (General bits address)
+act s words (TileRenderingMode address width height bits) = Done (with_frame s (record { address = address; width = width; height = height; bits = bits }))
+act s words (ClearColors first second z stencil) = Done s
+act s words (TileCoordinates x y) = tile_plan s x y
+
+-- bytes that are no packet of a renderer list are wild
+abbrev pub acted : Lists → List ℕ → Option Packet → Plan Lists
+acted s words None = Wilds
+acted s words (Some packet) = act s words packet
+
+-- The renderer reads the packet at its place, goes past it and does what it says. To see the packet's
 -- length it looks at the opcode.
-unfoldable pub renderer_plan : Renderer → List ℕ → Plan Renderer
-renderer_plan r words =
-    Looks r.place 1 (λ head.
-    let len = packet_length (slice_index head 0) in
-    Reads r.place len (λ packet. packet_plan (record r { place = r.place + len }) words packet))
+unfoldable pub packet_plan : Lists → List ℕ → Plan Lists
+packet_plan s words =
+    Looks s.renderer.place 1 (λ head.
+    let len = render_taken (slice_index head 0) in
+    Reads s.renderer.place len (λ bytes. acted (beyond s len) words (decoded bytes)))
 
--- the renderer is below its list's end
-abbrev pub renders : Lists → Bool
-renders lists = nat_lt lists.renderer.place lists.renderer.end
+-- the first item of this tile, where the items are numbered from n on
+abbrev pub first_of_tile : ℕ → ℕ → List Item → Option Found
+first_of_tile tile n [] = None
+first_of_tile tile n (item ∷ items) = if item.tile == tile then Some (record { number = n; item = item }) else first_of_tile tile (n + 1) items
 
--- the renderer may step where it has work left; that needs no look so far
-abbrev pub renderer_ready : Lists → Glance Bool
-renderer_ready lists = Now (renders lists)
+-- the item at which the renderer stands in a tile's list; past the last it is at none
+unfoldable pub item_at : SubList → List Item → Option Found
+item_at sub items = first_of_tile sub.tile sub.at (drop sub.at items)
 
--- the renderer has come to r and starts no program; no packet does so far
-abbrev pub rendered : Lists → Renderer → Turned
-rendered lists r = quiet (with_renderer lists r)
+-- the renderer stands at this item, or past it
+abbrev pub at_item : Lists → ℕ → ℕ → Lists
+at_item s tile n = with_inside s (Some (record { tile = tile; at = n }))
 
--- one step of the renderer among what its job's list units keep
-abbrev pub renderer_turn : Lists → List ℕ → Plan Turned
-renderer_turn lists words = mapped (rendered lists) (renderer_plan lists.renderer words)
+abbrev pub fetched : Lists → ℕ → Turned
+fetched s index = quiet s
+
+-- a vertex is fetched: of an item without vertices none is
+unfoldable pub vertex_plan : Lists → Item → List ℕ → Plan Turned
+vertex_plan s item words =
+    if item.primitive.length == 0 then Done (quiet s)
+    else mapped (fetched s) (fetch_plan item.primitive item.word (word_at words 1 % item.primitive.length))
+
+-- a program is started
+unfoldable pub program_plan : Lists → Program → Free → Item → Plan Turned
+program_plan s program free item = mapped (turned_to s) (start_plan program free item.word)
+
+-- Choice word 0 says what is done at an item: a vertex is fetched, a vertex program started, a fragment
+-- program started, or the renderer goes past the item.
+unfoldable pub choice_plan : Lists → Free → List ℕ → SubList → Found → Plan Turned
+choice_plan s free words sub found =
+    let here = at_item s sub.tile found.number in
+    let choice = word_at words 0 % 4 in
+    if choice == 0 then vertex_plan here found.item words
+    else (if choice == 1 then program_plan here Vertex free found.item
+    else (if choice == 2 then program_plan here Fragment free found.item
+    else Done (quiet (at_item s sub.tile (found.number + 1)))))
+
+-- At an item its 16 bytes are read. Past the last one the renderer leaves the tile's list, without an
+-- access.
+abbrev pub found_plan : Lists → Free → List ℕ → SubList → Option Found → Plan Turned
+found_plan s free words sub None = Done (quiet (with_inside s None))
+found_plan s free words sub (Some found) = Reads found.item.place 16 (λ bytes. choice_plan s free words sub found)
+
+abbrev pub plan_in : Lists → Free → List ℕ → Option SubList → Plan Turned
+plan_in s free words None = mapped quiet (packet_plan s words)
+plan_in s free words (Some sub) = found_plan s free words sub (item_at sub s.items)
+
+-- the renderer's step
+unfoldable pub renderer_plan : Lists → Free → List ℕ → Plan Turned
+renderer_plan s free words = plan_in s free words s.renderer.inside
+
+-- at opcode 8 the renderer waits for the semaphore
+unfoldable pub may_pass : Lists → ℕ → Bool
+may_pass s opcode = not (opcode == wait_on_semaphore && s.semaphore == 0)
+
+abbrev pub ready_in : Lists → Option SubList → Glance Bool
+ready_in s None = if nat_lt s.renderer.place s.renderer.end then At s.renderer.place 1 (λ head. Now (may_pass s (slice_index head 0))) else Now false
+ready_in s (Some sub) = Now true
+
+-- The renderer may step in a tile's list, and below its list's end where it needn't wait. It looks at the
+-- opcode.
+unfoldable pub renderer_ready : Lists → Glance Bool
+renderer_ready s = ready_in s s.renderer.inside
+
+-- the renderer has work: it is below its list's end, or in a tile's list
+abbrev pub has_renderer_work : Lists → Bool
+has_renderer_work s = nat_lt s.renderer.place s.renderer.end || is_some s.renderer.inside

@@ -195,12 +195,11 @@ impl JobLists {
         self.pending = 0;
     }
 
-    /// Takes one from the semaphore.
+    /// Takes one from the semaphore, where it isn't zero.
     pub(crate) fn take_semaphore(&mut self)
-        requires { 0 < self.old.semaphore }
         ensures { self.new ≡ with_taken self.old }
     {
-        self.semaphore -= 1;
+        self.semaphore = self.semaphore.saturating_sub(1);
     }
 
     /// Takes a further block.

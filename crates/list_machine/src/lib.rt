@@ -5,18 +5,20 @@ mod binner;
 #[cfg(test)]
 mod binner_tests;
 mod blocks;
+mod cover;
 mod fetch;
+mod inside;
 mod job_lists;
-mod packet;
+mod parts;
 mod reads;
 mod renderer;
 mod start;
 mod state;
-mod store;
+mod surface;
 
 pub use job_lists::{JobLists, MOST_ITEMS};
-pub use renderer::step_renderer;
 pub use state::{
-    Binner, Config, Frame, Item, Kept, Load, Primitive, Program, Renderer, Rows, Spot, SubList,
+    Binner, Config, Found, Frame, Item, Kept, Load, Primitive, Program, Renderer, Spot, SubList,
     Work,
 };
+pub use surface::{Cover, Style, Tile};

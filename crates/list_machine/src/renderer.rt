@@ -1,150 +1,356 @@
-//! One step of the renderer.
-ghost use Rattle.std.specs.Prelude.{◌≡◌, ◌+◌, ◌≤◌, ◌<◌, ◌^◌, length, slice_index, IfSome};
+//! The renderer's step outside of tile lists: it reads a packet and does what it says.
+ghost use Rattle.std.specs.Prelude.{◌≡◌, ◌+◌, ◌≤◌, ◌<◌, ◌^◌, ℕ, List, length, slice_index, true, false, Some, None, if◌then◌else◌};
 ghost use Rattle.arrayvec.specs.ArrayVec.{array_vec_len};
-ghost use Rattle.machine_plan.specs.Plan.{Shows, carried, Wilds};
-ghost use Rattle.list_machine.specs.Packet.{packet_length, with_frame, with_tile};
-ghost use Rattle.list_machine.specs.Lists.{renderer_of};
-ghost use Rattle.list_machine.specs.Renderer.{frame_plan, store_plan, packet_plan, renderer_plan};
+ghost use Rattle.packets.specs.Length.{render_taken};
+ghost use Rattle.packets.specs.Packet.{decoded};
+ghost use Rattle.machine_plan.specs.Glance.{glanced};
+ghost use Rattle.machine_plan.specs.Plan.{Shows, carried};
+ghost use Rattle.list_machine.specs.declared.state.Load.{Load};
+ghost use Rattle.list_machine.specs.declared.state.Frame.{Frame};
+ghost use Rattle.list_machine.specs.Lists.{with_renderer, ended_renderer, renderer_ended};
+ghost use Rattle.list_machine.specs.Blocks.{tiles_of};
+ghost use Rattle.list_machine.specs.Renderer.{beyond, with_frame, with_load, at_tile, with_inside, wait_plan, tile_named, enter_plan, tile_by, branch_plan, tile_plan, act, acted, packet_plan, may_pass, renderer_ready};
 
-use crate::packet::{length_of, read_frame};
-use crate::state::{Frame, Renderer};
-use crate::store::{rows, store_rows, stores_raster};
+use crate::job_lists::JobLists;
+use crate::parts::{load_waiting, store_frame, store_general, store_whole};
+use crate::reads::read_listed;
+use crate::state::{Config, Frame, Load, Renderer, SubList};
+use crate::surface::Tile;
 use arrayvec::ArrayVec;
-use field_words::{Access, Actor, Way};
-use machine_plan::{Who, byte_at, list_access, read_bytes};
+use field_words::{Access, Way};
+use machine_plan::{Who, byte_at, list_access};
+use packets::opcode::WAIT_ON_SEMAPHORE;
+use packets::{Packet, decode, render_taken};
 use phys_mem::PhysMem;
 
-/// One step of a renderer that stands below its list's end, for the job of this number. It reads
-/// the packet at its place, goes past it and does what it says, and lists its accesses behind
-/// those already listed. `None` comes exactly where the step is wild.
-#[tactic(auto, using(crate::proofs::Stepping::first_byte))]
-pub fn step_renderer(
-    renderer: Renderer,
-    words: &[u32],
-    job: u8,
-    memory: &mut PhysMem,
-    accesses: &mut ArrayVec<Access, 272>,
-) -> Option<Renderer>
-    requires place { renderer.place < 2 ^ 63 }
-    requires room { array_vec_len accesses.old ≤ 150 }
-    ensures shows { Shows (carried (renderer_of job) (renderer_plan renderer words.now) memory.old) accesses.old.items accesses.new.items memory.new result }
-    ensures near { IfSome result (λ next. (next.end ≡ renderer.end) × (next.place ≤ renderer.place + 14)) }
+/// How many tiles a config has.
+#[tactic(auto, unfolding(crate::specs::Blocks::tiles_of))]
+fn tiles_of(config: &Config) -> u32
+    ensures { result ≡ tiles_of config.now }
 {
-    let who = Who {
-        unit: Actor::Renderer,
-        job,
-    };
-    let len = length_of(byte_at(memory, renderer.place));
-    let packet = read_bytes(memory, renderer.place, len as usize);
-    list_access(who, Way::Read, renderer.place, len, accesses);
-    let past = Renderer {
-        place: renderer.place + len as u64,
-        ..renderer
-    };
-    obey(past, words, &packet, job, memory, accesses)
+    config.tiles_x as u32 * config.tiles_y as u32
 }
 
-/// Does what a packet says; the renderer stands past it.
-#[tactic(auto, unfolding(crate::specs::Renderer::packet_plan, crate::specs::Packet::packet_length))]
-fn obey(
-    renderer: Renderer,
-    words: &[u32],
-    packet: &[u8],
-    job: u8,
-    memory: &mut PhysMem,
-    accesses: &mut ArrayVec<Access, 272>,
-) -> Option<Renderer>
-    requires length { length packet.now ≡ packet_length (slice_index packet.now 0) }
-    requires room { array_vec_len accesses.old ≤ 160 }
-    ensures shows { Shows (carried (renderer_of job) (packet_plan renderer words.now packet.now) memory.old) accesses.old.items accesses.new.items memory.new result }
-    ensures stays { IfSome result (λ next. (next.end ≡ renderer.end) × (next.place ≡ renderer.place)) }
+/// The tile whose list begins at this address.
+#[tactic(auto, unfolding(crate::specs::Renderer::tile_named))]
+fn tile_named(config: &Config, address: u32) -> Option<u32>
+    ensures { result ≡ tile_named config.now address }
 {
-    let opcode = packet[0];
-    if opcode == 113 {
-        Some(set_frame(renderer, packet))
-    } else if opcode == 115 {
-        Some(set_tile(renderer, packet))
-    } else if opcode == 24 || opcode == 25 {
-        store(renderer, words, job, memory, accesses)
+    if config.address <= address
+        && (address - config.address) % 32 == 0
+        && (address - config.address) / 32 < tiles_of(config)
+    {
+        Some((address - config.address) / 32)
     } else {
-        wild(job, memory, accesses)
+        None
     }
 }
 
-/// Opcode 113 sets the frame.
-fn set_frame(renderer: Renderer, packet: &[u8]) -> Renderer
-    requires { length packet.now ≡ 11 }
-    ensures { result ≡ with_frame renderer packet.now }
-{
-    Renderer {
-        frame: Some(read_frame(packet)),
-        ..renderer
+impl JobLists {
+    /// Whether the renderer needn't wait at this opcode.
+    #[tactic(auto, unfolding(crate::specs::Renderer::may_pass))]
+    fn may_pass(&self, opcode: u8) -> bool
+        ensures { result ≡ may_pass self.now opcode }
+    {
+        !(opcode == WAIT_ON_SEMAPHORE && self.semaphore() == 0)
     }
-}
 
-/// Opcode 115 names the tile.
-fn set_tile(renderer: Renderer, packet: &[u8]) -> Renderer
-    requires { length packet.now ≡ 3 }
-    ensures { result ≡ with_tile renderer packet.now }
-{
-    Renderer {
-        x: packet[1],
-        y: packet[2],
-        ..renderer
+    /// Whether the job's renderer may step: it is in a tile's list, or below its own list's end and
+    /// needn't wait there for the semaphore.
+    #[tactic(auto, unfolding(crate::specs::Renderer::renderer_ready), using(crate::proofs::Steps::first_byte))]
+    pub fn is_renderer_ready(&self, memory: &PhysMem) -> bool
+        ensures { result ≡ glanced (renderer_ready self.now) memory.now }
+    {
+        let kept = self.renderer();
+        match kept.inside {
+            Some(_) => true,
+            None => kept.place < kept.end && self.may_pass(byte_at(memory, kept.place)),
+        }
     }
-}
 
-/// Opcodes 24 and 25 store the tile of the frame that is set.
-#[tactic(auto, unfolding(crate::specs::Renderer::store_plan))]
-fn store(
-    renderer: Renderer,
-    words: &[u32],
-    job: u8,
-    memory: &mut PhysMem,
-    accesses: &mut ArrayVec<Access, 272>,
-) -> Option<Renderer>
-    requires { array_vec_len accesses.old ≤ 160 }
-    ensures shows { Shows (carried (renderer_of job) (store_plan renderer.frame renderer words.now) memory.old) accesses.old.items accesses.new.items memory.new result }
-    ensures stays { IfSome result (λ next. (next.end ≡ renderer.end) × (next.place ≡ renderer.place)) }
-{
-    match renderer.frame {
-        None => wild(job, memory, accesses),
-        Some(frame) => store_frame(&frame, renderer, words, job, memory, accesses),
+    /// The renderer goes past a packet.
+    fn go_past(&mut self, len: u32)
+        requires below { self.old.renderer.place < self.old.renderer.end }
+        requires few { len ≤ 16 }
+        ensures { self.new ≡ beyond self.old len }
+    {
+        let kept = self.renderer();
+        self.set_renderer(Renderer {
+            place: kept.place + len as u64,
+            ..kept
+        });
     }
-}
 
-/// Stores the tile of this frame; what isn't raster is wild so far.
-#[tactic(auto, unfolding(crate::specs::Renderer::frame_plan))]
-fn store_frame(
-    frame: &Frame,
-    renderer: Renderer,
-    words: &[u32],
-    job: u8,
-    memory: &mut PhysMem,
-    accesses: &mut ArrayVec<Access, 272>,
-) -> Option<Renderer>
-    requires { array_vec_len accesses.old ≤ 160 }
-    ensures shows { Shows (carried (renderer_of job) (frame_plan frame.now renderer words.now) memory.old) accesses.old.items accesses.new.items memory.new result }
-    ensures stays { IfSome result (λ next. (next.end ≡ renderer.end) × (next.place ≡ renderer.place)) }
-{
-    if !stores_raster(frame.bits) {
-        return wild(job, memory, accesses);
+    /// Keeps the frame.
+    fn keep_frame(&mut self, frame: Frame)
+        ensures { self.new ≡ with_frame self.old frame }
+    {
+        let kept = self.renderer();
+        self.set_renderer(Renderer {
+            frame: Some(frame),
+            ..kept
+        });
     }
-    let covered = rows(frame, renderer.x, renderer.y);
-    store_rows(&covered, words, job, memory, accesses);
-    Some(renderer)
-}
 
-/// Lists a wild access; the step has no result.
-fn wild(job: u8, memory: &PhysMem, accesses: &mut ArrayVec<Access, 272>) -> Option<Renderer>
-    requires { array_vec_len accesses.old ≤ 160 }
-    ensures shows { Shows (carried (renderer_of job) Wilds memory.now) accesses.old.items accesses.new.items memory.now result }
-    ensures none { result ≡ None }
-{
-    let who = Who {
-        unit: Actor::Renderer,
-        job,
-    };
-    list_access(who, Way::Wild, 0, 0, accesses);
-    None
+    /// Keeps a load as waiting.
+    fn keep_load(&mut self, load: Load)
+        ensures { self.new ≡ with_load self.old load }
+    {
+        let kept = self.renderer();
+        self.set_renderer(Renderer {
+            waiting: Some(load),
+            ..kept
+        });
+    }
+
+    /// Keeps the tile's number; no load waits then.
+    fn keep_tile(&mut self, x: u8, y: u8)
+        ensures { self.new ≡ at_tile self.old x y }
+    {
+        let kept = self.renderer();
+        self.set_renderer(Renderer {
+            x,
+            y,
+            waiting: None,
+            ..kept
+        });
+    }
+
+    /// Goes into a tile's list, or out of it.
+    pub(crate) fn go_inside(&mut self, inside: Option<SubList>)
+        ensures { self.new ≡ with_inside self.old inside }
+    {
+        let kept = self.renderer();
+        self.set_renderer(Renderer { inside, ..kept });
+    }
+
+    /// Ends the work of the renderer as it was before a step.
+    fn end_renderer(&mut self, kept: Renderer)
+        requires { kept.end < 2 ^ 33 }
+        ensures { self.new ≡ with_renderer self.old (ended_renderer kept) }
+    {
+        self.set_renderer(Renderer {
+            place: kept.end,
+            waiting: None,
+            inside: None,
+            ..kept
+        });
+    }
+
+    /// Keeps a load as waiting. False comes exactly where that is wild, since another one waits.
+    fn wait_with(&mut self, load: Load, who: Who, accesses: &mut ArrayVec<Access, 272>) -> bool
+        requires { array_vec_len accesses.old ≤ 8 }
+        ensures shows { (m : List ℕ) → Shows (carried who (wait_plan self.old self.old.renderer.waiting load) m) accesses.old.items accesses.new.items m (if result then Some self.new else None) }
+        ensures same { result ≡ false → self.new ≡ self.old }
+    {
+        match self.renderer().waiting {
+            None => {
+                self.keep_load(load);
+                true
+            }
+            Some(_) => {
+                list_access(who, Way::Wild, 0, 0, accesses);
+                false
+            }
+        }
+    }
+
+    /// Goes into the list of this tile. False comes exactly where there is none, which is wild.
+    fn enter(&mut self, tile: Option<u32>, who: Who, accesses: &mut ArrayVec<Access, 272>) -> bool
+        requires { array_vec_len accesses.old ≤ 8 }
+        ensures shows { (m : List ℕ) → Shows (carried who (enter_plan self.old tile) m) accesses.old.items accesses.new.items m (if result then Some self.new else None) }
+        ensures same { result ≡ false → self.new ≡ self.old }
+    {
+        match tile {
+            Some(tile) => {
+                self.go_inside(Some(SubList { tile, at: 0 }));
+                true
+            }
+            None => {
+                list_access(who, Way::Wild, 0, 0, accesses);
+                false
+            }
+        }
+    }
+
+    /// The tile whose list begins at this address, where there is a config.
+    fn tile_at(&self, address: u32) -> Option<u32>
+        ensures { result ≡ tile_by self.now.binner.kept.config address }
+    {
+        match self.binner().kept.config {
+            None => None,
+            Some(config) => tile_named(&config, address),
+        }
+    }
+
+    /// Goes into the tile list at this address. False comes exactly where that is wild: the lists aren't
+    /// closed, or none begins there.
+    #[tactic(auto, unfolding(crate::specs::Renderer::branch_plan))]
+    fn branch(&mut self, address: u32, who: Who, accesses: &mut ArrayVec<Access, 272>) -> bool
+        requires { array_vec_len accesses.old ≤ 8 }
+        ensures shows { (m : List ℕ) → Shows (carried who (branch_plan self.old address) m) accesses.old.items accesses.new.items m (if result then Some self.new else None) }
+        ensures same { result ≡ false → self.new ≡ self.old }
+    {
+        if !self.is_closed() {
+            list_access(who, Way::Wild, 0, 0, accesses);
+            return false;
+        }
+        let tile = self.tile_at(address);
+        self.enter(tile, who, accesses)
+    }
+
+    /// The tile at which loads and stores are done.
+    fn tile(&self) -> Tile
+        ensures frame { result.frame ≡ self.now.renderer.frame }
+        ensures x { result.x ≡ self.now.renderer.x }
+        ensures y { result.y ≡ self.now.renderer.y }
+    {
+        let kept = self.renderer();
+        Tile {
+            frame: kept.frame,
+            x: kept.x,
+            y: kept.y,
+        }
+    }
+
+    /// Names the tile, and does the load that waits there. False comes exactly where that is wild.
+    #[tactic(auto, unfolding(crate::specs::Renderer::tile_plan))]
+    fn name_tile(&mut self, x: u8, y: u8, who: Who, accesses: &mut ArrayVec<Access, 272>) -> bool
+        requires { array_vec_len accesses.old ≤ 8 }
+        ensures shows { (m : List ℕ) → Shows (carried who (tile_plan self.old x y) m) accesses.old.items accesses.new.items m (if result then Some self.new else None) }
+        ensures same { result ≡ false → self.new ≡ self.old }
+    {
+        let kept = self.renderer();
+        let tile = Tile {
+            frame: kept.frame,
+            x,
+            y,
+        };
+        if !load_waiting(kept.waiting, tile, who, accesses) {
+            return false;
+        }
+        self.keep_tile(x, y);
+        true
+    }
+
+    /// Does what a packet says, with the renderer past it. False comes exactly where that is wild.
+    fn act(
+        &mut self,
+        packet: Packet,
+        words: &[u32],
+        who: Who,
+        memory: &mut PhysMem,
+        accesses: &mut ArrayVec<Access, 272>,
+    ) -> bool
+        requires { array_vec_len accesses.old ≤ 8 }
+        ensures shows { Shows (carried who (act self.old words.now packet) memory.old) accesses.old.items accesses.new.items memory.new (if result then Some self.new else None) }
+        ensures same { result ≡ false → self.new ≡ self.old }
+    {
+        let tile = self.tile();
+        match packet {
+            Packet::WaitOnSemaphore => {
+                self.take_semaphore();
+                true
+            }
+            Packet::BranchToSubList { address } => self.branch(address, who, accesses),
+            Packet::StoreTileColor => store_frame(tile, words, who, memory, accesses),
+            Packet::StoreTileColorAndEnd => store_frame(tile, words, who, memory, accesses),
+            Packet::StoreFullResolution { address } => {
+                store_whole(address, words, who, memory, accesses);
+                true
+            }
+            Packet::LoadFullResolution { address } => {
+                self.wait_with(Load::Full(address), who, accesses)
+            }
+            Packet::StoreTileBuffer { bits, address } => {
+                store_general(bits, address, tile, words, who, memory, accesses)
+            }
+            Packet::LoadTileBuffer { bits, address } => {
+                self.wait_with(Load::General { bits, address }, who, accesses)
+            }
+            Packet::TileRenderingMode {
+                address,
+                width,
+                height,
+                bits,
+            } => {
+                self.keep_frame(Frame {
+                    address,
+                    width,
+                    height,
+                    bits,
+                });
+                true
+            }
+            Packet::ClearColors { .. } => true,
+            Packet::TileCoordinates { x, y } => self.name_tile(x, y, who, accesses),
+        }
+    }
+
+    /// Does what the bytes of a packet say, with the renderer past it. False comes exactly where that is
+    /// wild.
+    fn obey(
+        &mut self,
+        bytes: &[u8],
+        words: &[u32],
+        who: Who,
+        memory: &mut PhysMem,
+        accesses: &mut ArrayVec<Access, 272>,
+    ) -> bool
+        requires length { length bytes.now ≡ render_taken (slice_index bytes.now 0) }
+        requires room { array_vec_len accesses.old ≤ 8 }
+        ensures shows { Shows (carried who (acted self.old words.now (decoded bytes.now)) memory.old) accesses.old.items accesses.new.items memory.new (if result then Some self.new else None) }
+        ensures same { result ≡ false → self.new ≡ self.old }
+    {
+        match decode(bytes) {
+            None => {
+                list_access(who, Way::Wild, 0, 0, accesses);
+                false
+            }
+            Some(packet) => self.act(packet, words, who, memory, accesses),
+        }
+    }
+
+    /// Reads the packet at the renderer's place, goes past it and does what it says. False comes exactly
+    /// where that is wild; then nothing but the renderer's place has changed.
+    fn pass_packet(
+        &mut self,
+        words: &[u32],
+        who: Who,
+        memory: &mut PhysMem,
+        accesses: &mut ArrayVec<Access, 272>,
+    ) -> bool
+        requires below { self.old.renderer.place < self.old.renderer.end }
+        requires room { array_vec_len accesses.old ≤ 4 }
+        ensures shows { Shows (carried who (packet_plan self.old words.now) memory.old) accesses.old.items accesses.new.items memory.new (if result then Some self.new else None) }
+        ensures same { result ≡ false → with_renderer self.new self.old.renderer ≡ self.old }
+    {
+        let place = self.renderer().place;
+        let len = render_taken(byte_at(memory, place));
+        let bytes = read_listed(place, len, who, memory, accesses);
+        self.go_past(len);
+        self.obey(&bytes, words, who, memory, accesses)
+    }
+
+    /// Reads the packet at the renderer's place, goes past it and does what it says. False comes exactly
+    /// where that is wild; then the renderer's work ends.
+    pub(crate) fn take_packet(
+        &mut self,
+        words: &[u32],
+        who: Who,
+        memory: &mut PhysMem,
+        accesses: &mut ArrayVec<Access, 272>,
+    ) -> bool
+        requires below { self.old.renderer.place < self.old.renderer.end }
+        requires room { array_vec_len accesses.old ≤ 4 }
+        ensures shows { Shows (carried who (packet_plan self.old words.now) memory.old) accesses.old.items accesses.new.items memory.new (if result then Some self.new else None) }
+        ensures wild { result ≡ false → self.new ≡ renderer_ended self.old }
+    {
+        let kept = self.renderer();
+        if self.pass_packet(words, who, memory, accesses) {
+            return true;
+        }
+        self.end_renderer(kept);
+        false
+    }
 }

@@ -117,12 +117,9 @@ pub struct Spot {
     pub last: u64,
 }
 
-/// The rows that a store of one tile of a raster frame covers: the place of the first, how many
-/// bytes lie between the starts of two rows, the bytes of each row, and how many rows there are.
+/// An item of a tile's list, with its number in the list of all items.
 #[derive(Clone, Copy, Debug, PartialEq, Eq)]
-pub struct Rows {
-    pub place: u64,
-    pub pitch: u64,
-    pub size: u32,
-    pub count: u32,
+pub struct Found {
+    pub number: u32,
+    pub item: Item,
 }

@@ -1,0 +1,16 @@
+-- Each part that is written goes one on.
+use Rattle.std.proofs.Common.{arith}
+use Rattle.list_machine.specs.Cover.{part_count}
+use Rattle.list_machine.proofs.Left.{writes_more, writes_end}
+use Rattle.list_machine.proofs.parts.write_parts.Goals as goal
+
+pub loop-i-preserved : goal.loop-i-preserved
+loop-i-preserved c = record {
+  left = λ r.
+      rw (c.list_access.ensures.items, c.store_chosen.ensures, c.part_place-place.ensures.value, c.bytes_before.ensures.value)
+      (writes_more c.args.who c.args.cover.now c.args.words.now r c.args.memory.now c.loop-i.memory c.args.accesses.now.items c.loop-i.accesses.items (part_count c.args.cover.now) c.loop-i.i (omega arith) (c.loop-i.invariant.left r));
+  long = omega (arith, c.list_access.ensures.len, c.loop-i.invariant.long);
+}
+
+pub returns : goal.returns
+returns c = λ r. writes_end c.args.who c.args.cover.now c.args.words.now r c.args.memory.now c.loop-i.memory c.args.accesses.now.items c.loop-i.accesses.items (part_count c.args.cover.now) c.loop-i.i (omega arith) (c.loop-i.invariant.left r)

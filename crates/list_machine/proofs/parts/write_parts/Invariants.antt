@@ -1,0 +1,12 @@
+use Rattle.std.proofs.Common.{◌≡◌, ◌+◌}
+use Rattle.arrayvec.specs.ArrayVec.{array_vec_len}
+use Rattle.list_machine.specs.Cover.{part_count}
+use Rattle.list_machine.specs.Lists.{Lists}
+use Rattle.list_machine.proofs.Left.{WritesLeft}
+use Rattle.list_machine.proofs.parts.write_parts.Given as goal
+
+abbrev pub invariant-loop-i : goal.invariant-loop-i
+invariant-loop-i l = record {
+  left : (r : Lists) → WritesLeft l.who l.cover l.words r l.initial.memory l.memory l.initial.accesses.items l.accesses.items (part_count l.cover) l.i;
+  long : array_vec_len l.accesses ≡ array_vec_len l.initial.accesses + l.i;
+}

@@ -1,0 +1,62 @@
+-- Loads and stores of surfaces.
+use Rattle.std.specs.Prelude.{ℕ, Bool, ◌==◌, ◌-◌, ◌%◌, if◌then◌else◌, List, Option, Some, None}
+use Rattle.field_words.specs.Words.{bits_of}
+use Rattle.machine_plan.specs.Plan.{Plan, Wilds, Reads, Writes}
+use Rattle.list_machine.specs.declared.state.Frame.{Frame}
+use Rattle.list_machine.specs.declared.state.Load.{Load}
+use Rattle.list_machine.specs.declared.state.Load.TheVariants.{Full, General}
+use Rattle.list_machine.specs.declared.surface.Cover.{Cover}
+use Rattle.list_machine.specs.Store.{chosen}
+use Rattle.list_machine.specs.Cover.{general_style, frame_style, cover_for, part_count, parts_written, parts_read}
+
+-- all parts of a cover are written, or read; without a cover that is wild
+unfoldable pub cover_written : {R : Type 0} → Option Cover → List ℕ → Plan R → Plan R
+cover_written None words next = Wilds
+cover_written (Some c) words next = parts_written c words 0 (part_count c) next
+
+unfoldable pub cover_read : {R : Type 0} → Option Cover → Plan R → Plan R
+cover_read None next = Wilds
+cover_read (Some c) next = parts_read c 0 (part_count c) next
+
+-- an address without its low four bits
+unfoldable pub aligned : ℕ → ℕ
+aligned address = address - address % 16
+
+-- General bits name no buffer: then nothing is done, whatever the other bits say, and also before the
+-- frame is set.
+unfoldable pub names_none : ℕ → Bool
+names_none bits = bits_of bits 2 0 == 0
+
+-- A store of tile (x, y) by general bits, and a load. The surface is as large as the frame.
+unfoldable pub general_written : {R : Type 0} → ℕ → ℕ → Option Frame → ℕ → ℕ → List ℕ → Plan R → Plan R
+general_written bits address frame x y words next =
+    if names_none bits then next else cover_written (cover_for (general_style bits) frame (aligned address) x y) words next
+
+unfoldable pub general_read : {R : Type 0} → ℕ → ℕ → Option Frame → ℕ → ℕ → Plan R → Plan R
+general_read bits address frame x y next =
+    if names_none bits then next else cover_read (cover_for (general_style bits) frame (aligned address) x y) next
+
+-- A store of tile (x, y) of the frame, at the frame's address as it stands.
+unfoldable pub frame_written : {R : Type 0} → Option Frame → ℕ → ℕ → List ℕ → Plan R → Plan R
+frame_written None x y words next = Wilds
+frame_written (Some frame) x y words next = cover_written (cover_for (frame_style frame.bits) (Some frame) frame.address x y) words next
+
+-- The bytes of a tile in full resolution.
+abbrev pub whole_size : ℕ
+whole_size = 16384
+
+-- A store of a tile in full resolution, and a load.
+unfoldable pub whole_written : {R : Type 0} → ℕ → List ℕ → Plan R → Plan R
+whole_written address words next = Writes (aligned address) (chosen words 0 whole_size) next
+
+unfoldable pub whole_read : {R : Type 0} → ℕ → Plan R → Plan R
+whole_read address next = Reads (aligned address) whole_size (λ bytes. next)
+
+-- A load that waits, done at tile (x, y).
+abbrev pub load_read : {R : Type 0} → Load → Option Frame → ℕ → ℕ → Plan R → Plan R
+load_read (Full address) frame x y next = whole_read address next
+load_read (General bits address) frame x y next = general_read bits address frame x y next
+
+abbrev pub waiting_read : {R : Type 0} → Option Load → Option Frame → ℕ → ℕ → Plan R → Plan R
+waiting_read None frame x y next = next
+waiting_read (Some load) frame x y next = load_read load frame x y next

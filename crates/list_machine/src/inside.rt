@@ -1,0 +1,205 @@
+//! The renderer's step in a tile's list, and its whole step.
+ghost use Rattle.std.specs.Prelude.{◌≡◌, ◌+◌, ◌≤◌, ◌<◌, ◌^◌, ℕ, List, drop, length, true, false, Some, None, IfSome, option_map, if◌then◌else◌};
+ghost use Rattle.arrayvec.specs.ArrayVec.{array_vec_len};
+ghost use Rattle.machine_plan.specs.Glance.{glanced};
+ghost use Rattle.machine_plan.specs.Plan.{Shows, carried};
+ghost use Rattle.list_machine.specs.Lists.{Lists, Turned, turned_to, quiet, renderer_of, renderer_ended, most_items};
+ghost use Rattle.list_machine.specs.Renderer.{first_of_tile, item_at, at_item, vertex_plan, program_plan, choice_plan, found_plan, plan_in, renderer_plan, renderer_ready};
+
+use crate::fetch::fetch_vertex;
+use crate::job_lists::JobLists;
+use crate::start::start_program;
+use crate::state::{Found, Item, Program, SubList};
+use arrayvec::ArrayVec;
+use field_words::{Access, Actor, Way};
+use machine_plan::{Free, Launch, Who, choice_word, list_access};
+use phys_mem::PhysMem;
+
+/// The first item of a tile, from item `at` on.
+fn find_item(items: &[Item], sub: SubList) -> Option<Found>
+    requires { length items.now ≤ most_items }
+    ensures value { result ≡ item_at sub items.now }
+    ensures near { IfSome result (λ found. found.number < most_items) }
+{
+    for i in sub.at..items.len() as u32 {
+        let item = items[i as usize];
+        if item.tile == sub.tile {
+            return Some(Found { number: i, item });
+        }
+    }
+    None
+}
+
+/// Fetches a vertex of an item, which choice word 1 chooses.
+#[tactic(auto, unfolding(crate::specs::Renderer::vertex_plan))]
+fn fetch_item(
+    item: &Item,
+    words: &[u32],
+    who: Who,
+    memory: &PhysMem,
+    accesses: &mut ArrayVec<Access, 272>,
+)
+    requires { array_vec_len accesses.old ≤ 8 }
+    ensures { (s : Lists) → Shows (carried who (vertex_plan s item.now words.now) memory.now) accesses.old.items accesses.new.items memory.now (Some (quiet s)) }
+{
+    let length = item.primitive.length;
+    if length != 0 {
+        let k = choice_word(words, 1) % length;
+        fetch_vertex(&item.primitive, item.word, k, who, memory, accesses);
+    }
+}
+
+/// Starts a program of an item, if it can start now.
+#[tactic(auto, unfolding(crate::specs::Renderer::program_plan))]
+fn start_item(
+    item: &Item,
+    program: Program,
+    free: &Free,
+    who: Who,
+    memory: &PhysMem,
+    accesses: &mut ArrayVec<Access, 272>,
+) -> Option<Launch>
+    requires { array_vec_len accesses.old ≤ 8 }
+    ensures { (s : Lists) → Shows (carried who (program_plan s program free.now item.now) memory.now) accesses.old.items accesses.new.items memory.now (Some (turned_to s result)) }
+{
+    start_program(program, free, item.word, who, memory, accesses)
+}
+
+impl JobLists {
+    /// Stands at an item, or past it.
+    fn stand_at(&mut self, tile: u32, at: u32)
+        ensures { self.new ≡ at_item self.old tile at }
+    {
+        self.go_inside(Some(SubList { tile, at }));
+    }
+
+    /// Does at an item what choice word 0 says.
+    #[tactic(auto, unfolding(crate::specs::Renderer::choice_plan))]
+    fn choose(
+        &mut self,
+        sub: SubList,
+        found: &Found,
+        free: &Free,
+        words: &[u32],
+        who: Who,
+        memory: &PhysMem,
+        accesses: &mut ArrayVec<Access, 272>,
+    ) -> Option<Launch>
+        requires near { found.now.number < most_items }
+        requires room { array_vec_len accesses.old ≤ 8 }
+        ensures { Shows (carried who (choice_plan self.old free.now words.now sub found.now) memory.now) accesses.old.items accesses.new.items memory.now (Some (turned_to self.new result)) }
+    {
+        let choice = choice_word(words, 0) % 4;
+        if choice == 3 {
+            self.stand_at(sub.tile, found.number + 1);
+            return None;
+        }
+        self.stand_at(sub.tile, found.number);
+        match choice {
+            0 => {
+                fetch_item(&found.item, words, who, memory, accesses);
+                None
+            }
+            1 => start_item(&found.item, Program::Vertex, free, who, memory, accesses),
+            _ => start_item(&found.item, Program::Fragment, free, who, memory, accesses),
+        }
+    }
+
+    /// Reads an item and does there what choice word 0 says; where there is none, leaves the tile's
+    /// list.
+    fn take_found(
+        &mut self,
+        sub: SubList,
+        found: Option<Found>,
+        free: &Free,
+        words: &[u32],
+        who: Who,
+        memory: &PhysMem,
+        accesses: &mut ArrayVec<Access, 272>,
+    ) -> Option<Launch>
+        requires near { IfSome found (λ one. one.number < most_items) }
+        requires room { array_vec_len accesses.old ≤ 4 }
+        ensures { Shows (carried who (found_plan self.old free.now words.now sub found) memory.now) accesses.old.items accesses.new.items memory.now (Some (turned_to self.new result)) }
+    {
+        match found {
+            None => {
+                self.go_inside(None);
+                None
+            }
+            Some(found) => {
+                list_access(who, Way::Read, found.item.place, 16, accesses);
+                self.choose(sub, &found, free, words, who, memory, accesses)
+            }
+        }
+    }
+
+    /// A step in a tile's list.
+    fn take_item(
+        &mut self,
+        sub: SubList,
+        free: &Free,
+        words: &[u32],
+        who: Who,
+        memory: &PhysMem,
+        accesses: &mut ArrayVec<Access, 272>,
+    ) -> Option<Launch>
+        requires { array_vec_len accesses.old ≤ 4 }
+        ensures { Shows (carried who (plan_in self.old free.now words.now (Some sub)) memory.now) accesses.old.items accesses.new.items memory.now (Some (turned_to self.new result)) }
+    {
+        let found = find_item(self.items(), sub);
+        self.take_found(sub, found, free, words, who, memory, accesses)
+    }
+
+    /// A step outside of tile lists. False comes exactly where it is wild; then the renderer's work ends.
+    fn take_listed(
+        &mut self,
+        free: &Free,
+        words: &[u32],
+        who: Who,
+        memory: &mut PhysMem,
+        accesses: &mut ArrayVec<Access, 272>,
+    ) -> bool
+        requires below { self.old.renderer.place < self.old.renderer.end }
+        requires room { array_vec_len accesses.old ≤ 4 }
+        ensures shows { Shows (carried who (plan_in self.old free.now words.now None) memory.old) accesses.old.items accesses.new.items memory.new (if result then Some (quiet self.new) else None) }
+        ensures wild { result ≡ false → self.new ≡ renderer_ended self.old }
+    {
+        self.take_packet(words, who, memory, accesses)
+    }
+
+    /// One step of the job's renderer, which may step. Its accesses go behind those listed before. What
+    /// the hardware leaves open is answered by the words; a missing word is zero. `free` says where a
+    /// program could start now.
+    ///
+    /// It comes to the program that the step starts, where it starts one. `None` comes exactly where the
+    /// step is wild; then a Wild access is listed behind those before it, and the renderer's work ends.
+    #[tactic(auto, unfolding(crate::specs::Renderer::renderer_plan))]
+    pub fn step_renderer(
+        &mut self,
+        memory: &mut PhysMem,
+        job: u8,
+        free: &Free,
+        words: &[u32],
+        accesses: &mut ArrayVec<Access, 272>,
+    ) -> Option<Option<Launch>>
+        requires ready { glanced (renderer_ready self.old) memory.old ≡ true }
+        requires room { array_vec_len accesses.old ≤ 4 }
+        ensures shows { Shows (carried (renderer_of job) (renderer_plan self.old free.now words.now) memory.old) accesses.old.items accesses.new.items memory.new (option_map (turned_to self.new) result) }
+        ensures wild { result ≡ None → self.new ≡ renderer_ended self.old }
+    {
+        let who = Who {
+            unit: Actor::Renderer,
+            job,
+        };
+        match self.renderer().inside {
+            Some(sub) => Some(self.take_item(sub, free, words, who, memory, accesses)),
+            None => {
+                if self.take_listed(free, words, who, memory, accesses) {
+                    Some(None)
+                } else {
+                    None
+                }
+            }
+        }
+    }
+}

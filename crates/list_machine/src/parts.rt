@@ -1,0 +1,277 @@
+//! The accesses of loads and stores.
+ghost use Rattle.std.specs.Prelude.{◌≡◌, ◌+◌, ◌*◌, ◌≤◌, ◌<◌, ◌^◌, ℕ, List, Some, None, if◌then◌else◌, IfSome};
+ghost use Rattle.arrayvec.specs.ArrayVec.{array_vec_len};
+ghost use Rattle.machine_plan.specs.Memory.{stored};
+ghost use Rattle.machine_plan.specs.Plan.{Shows, carried, Done};
+ghost use Rattle.list_machine.specs.Store.{chosen_byte, chosen};
+ghost use Rattle.list_machine.specs.Cover.{IsSmall, part_count, part_place, parts_written, parts_read};
+ghost use Rattle.list_machine.specs.Surfaces.{aligned, names_none, whole_written, whole_read, cover_written, cover_read, general_written, general_read, frame_written, load_read, waiting_read};
+ghost use Rattle.list_machine.specs.Lists.{Lists};
+
+use crate::cover::{cover_for, frame_style, general_style, part_count, part_place};
+use crate::state::Load;
+use crate::surface::{Cover, Tile};
+use arrayvec::ArrayVec;
+use field_words::{Access, Way, field};
+use machine_plan::{Who, choice_word, list_access, put_byte};
+use phys_mem::PhysMem;
+
+/// The bytes of a tile in full resolution.
+const WHOLE_SIZE: u32 = 16384;
+
+/// Byte `k` of the choice words.
+#[tactic(auto, unfolding(crate::specs::Store::chosen_byte))]
+fn byte_of_words(words: &[u32], k: u64) -> u8
+    requires { k < 2 ^ 20 }
+    ensures { result ≡ chosen_byte words.now k }
+{
+    let word = choice_word(words, k / 4);
+    ((word >> (8 * (k % 4)) as u32) % 256) as u8
+}
+
+/// Writes `size` chosen bytes at `place`, from byte `from` of the choice words on.
+#[tactic(auto, using(crate::proofs::Storing::chosen_step), unfolding(crate::specs::Store::chosen, machine_plan::specs::Memory::stored))]
+fn store_chosen(memory: &mut PhysMem, place: u64, words: &[u32], from: u64, size: u32)
+    requires few { size ≤ 2 ^ 14 }
+    requires near { from ≤ 2 ^ 19 }
+    requires room { place ≤ 2 ^ 60 }
+    ensures { memory.new ≡ stored memory.old place (chosen words.now from size) }
+{
+    for i in 0..size {
+        put_byte(
+            memory,
+            place + i as u64,
+            byte_of_words(words, from + i as u64),
+        );
+    }
+}
+
+/// How many bytes the parts before part `i` take.
+#[tactic(auto, using(crate::proofs::Storing::bytes_limit))]
+fn bytes_before(cover: &Cover, i: u32) -> u64
+    requires small { IsSmall cover.now }
+    requires part { i < 256 }
+    ensures value { result ≡ i * cover.now.size }
+    ensures limit { result ≤ 2 ^ 19 }
+{
+    i as u64 * cover.size as u64
+}
+
+/// Writes all parts with the bytes of the choice words, and lists a write of each.
+fn write_parts(
+    cover: &Cover,
+    words: &[u32],
+    who: Who,
+    memory: &mut PhysMem,
+    accesses: &mut ArrayVec<Access, 272>,
+)
+    requires small { IsSmall cover.now }
+    requires room { array_vec_len accesses.old ≤ 8 }
+    ensures { (r : Lists) → Shows (carried who (parts_written cover.now words.now 0 (part_count cover.now) (Done r)) memory.old) accesses.old.items accesses.new.items memory.new (Some r) }
+{
+    for i in 0..part_count(cover) {
+        let place = part_place(cover, i);
+        store_chosen(memory, place, words, bytes_before(cover, i), cover.size);
+        list_access(who, Way::Write, place, cover.size, accesses);
+    }
+}
+
+/// Lists a read of each part.
+fn read_parts(cover: &Cover, who: Who, accesses: &mut ArrayVec<Access, 272>)
+    requires small { IsSmall cover.now }
+    requires room { array_vec_len accesses.old ≤ 8 }
+    ensures { (m : List ℕ) (r : Lists) → Shows (carried who (parts_read cover.now 0 (part_count cover.now) (Done r)) m) accesses.old.items accesses.new.items m (Some r) }
+{
+    for i in 0..part_count(cover) {
+        list_access(who, Way::Read, part_place(cover, i), cover.size, accesses);
+    }
+}
+
+/// Writes all parts of a cover. False comes exactly where there is none, which is wild.
+#[tactic(auto, unfolding(crate::specs::Surfaces::cover_written))]
+fn write_cover(
+    cover: Option<Cover>,
+    words: &[u32],
+    who: Who,
+    memory: &mut PhysMem,
+    accesses: &mut ArrayVec<Access, 272>,
+) -> bool
+    requires small { IfSome cover IsSmall }
+    requires room { array_vec_len accesses.old ≤ 8 }
+    ensures { (r : Lists) → Shows (carried who (cover_written cover words.now (Done r)) memory.old) accesses.old.items accesses.new.items memory.new (if result then Some r else None) }
+{
+    match cover {
+        Some(cover) => {
+            write_parts(&cover, words, who, memory, accesses);
+            true
+        }
+        None => {
+            list_access(who, Way::Wild, 0, 0, accesses);
+            false
+        }
+    }
+}
+
+/// Reads all parts of a cover. False comes exactly where there is none, which is wild.
+#[tactic(auto, unfolding(crate::specs::Surfaces::cover_read))]
+fn read_cover(cover: Option<Cover>, who: Who, accesses: &mut ArrayVec<Access, 272>) -> bool
+    requires small { IfSome cover IsSmall }
+    requires room { array_vec_len accesses.old ≤ 8 }
+    ensures { (m : List ℕ) (r : Lists) → Shows (carried who (cover_read cover (Done r)) m) accesses.old.items accesses.new.items m (if result then Some r else None) }
+{
+    match cover {
+        Some(cover) => {
+            read_parts(&cover, who, accesses);
+            true
+        }
+        None => {
+            list_access(who, Way::Wild, 0, 0, accesses);
+            false
+        }
+    }
+}
+
+/// An address without its low four bits.
+#[tactic(auto, unfolding(crate::specs::Surfaces::aligned))]
+fn aligned(address: u32) -> u32
+    ensures { result ≡ aligned address }
+{
+    address - address % 16
+}
+
+/// Whether general bits name no buffer.
+#[tactic(auto, unfolding(crate::specs::Surfaces::names_none))]
+fn names_none(bits: u16) -> bool
+    ensures { result ≡ names_none bits }
+{
+    field(bits as u64, 2, 0) == 0
+}
+
+/// Stores tile (x, y) by general bits. False comes exactly where that is wild.
+#[tactic(auto, unfolding(crate::specs::Surfaces::general_written))]
+pub(crate) fn store_general(
+    bits: u16,
+    address: u32,
+    tile: Tile,
+    words: &[u32],
+    who: Who,
+    memory: &mut PhysMem,
+    accesses: &mut ArrayVec<Access, 272>,
+) -> bool
+    requires { array_vec_len accesses.old ≤ 8 }
+    ensures { (r : Lists) → Shows (carried who (general_written bits address tile.frame tile.x tile.y words.now (Done r)) memory.old) accesses.old.items accesses.new.items memory.new (if result then Some r else None) }
+{
+    if names_none(bits) {
+        return true;
+    }
+    let style = general_style(bits);
+    let cover = cover_for(style, tile.frame, aligned(address), tile.x, tile.y);
+    write_cover(cover, words, who, memory, accesses)
+}
+
+/// Loads tile (x, y) by general bits. False comes exactly where that is wild.
+#[tactic(auto, unfolding(crate::specs::Surfaces::general_read))]
+fn load_general(
+    bits: u16,
+    address: u32,
+    tile: Tile,
+    who: Who,
+    accesses: &mut ArrayVec<Access, 272>,
+) -> bool
+    requires { array_vec_len accesses.old ≤ 8 }
+    ensures { (m : List ℕ) (r : Lists) → Shows (carried who (general_read bits address tile.frame tile.x tile.y (Done r)) m) accesses.old.items accesses.new.items m (if result then Some r else None) }
+{
+    if names_none(bits) {
+        return true;
+    }
+    let style = general_style(bits);
+    let cover = cover_for(style, tile.frame, aligned(address), tile.x, tile.y);
+    read_cover(cover, who, accesses)
+}
+
+/// Stores tile (x, y) of the frame. False comes exactly where that is wild.
+#[tactic(auto, unfolding(crate::specs::Surfaces::frame_written, crate::specs::Surfaces::cover_written))]
+pub(crate) fn store_frame(
+    tile: Tile,
+    words: &[u32],
+    who: Who,
+    memory: &mut PhysMem,
+    accesses: &mut ArrayVec<Access, 272>,
+) -> bool
+    requires { array_vec_len accesses.old ≤ 8 }
+    ensures { (r : Lists) → Shows (carried who (frame_written tile.frame tile.x tile.y words.now (Done r)) memory.old) accesses.old.items accesses.new.items memory.new (if result then Some r else None) }
+{
+    match tile.frame {
+        None => {
+            list_access(who, Way::Wild, 0, 0, accesses);
+            false
+        }
+        Some(frame) => {
+            let style = frame_style(frame.bits);
+            let cover = cover_for(style, Some(frame), frame.address, tile.x, tile.y);
+            write_cover(cover, words, who, memory, accesses)
+        }
+    }
+}
+
+/// Stores a tile in full resolution.
+#[tactic(auto, unfolding(crate::specs::Surfaces::whole_written), using(crate::proofs::Storing::chosen_size))]
+pub(crate) fn store_whole(
+    address: u32,
+    words: &[u32],
+    who: Who,
+    memory: &mut PhysMem,
+    accesses: &mut ArrayVec<Access, 272>,
+)
+    requires { array_vec_len accesses.old ≤ 8 }
+    ensures { (r : Lists) → Shows (carried who (whole_written address words.now (Done r)) memory.old) accesses.old.items accesses.new.items memory.new (Some r) }
+{
+    let place = aligned(address) as u64;
+    store_chosen(memory, place, words, 0, WHOLE_SIZE);
+    list_access(who, Way::Write, place, WHOLE_SIZE, accesses);
+}
+
+/// Loads a tile in full resolution.
+#[tactic(auto, unfolding(crate::specs::Surfaces::whole_read))]
+fn load_whole(address: u32, who: Who, accesses: &mut ArrayVec<Access, 272>)
+    requires { array_vec_len accesses.old ≤ 8 }
+    ensures { (m : List ℕ) (r : Lists) → Shows (carried who (whole_read address (Done r)) m) accesses.old.items accesses.new.items m (Some r) }
+{
+    list_access(
+        who,
+        Way::Read,
+        aligned(address) as u64,
+        WHOLE_SIZE,
+        accesses,
+    );
+}
+
+/// Does a load at tile (x, y). False comes exactly where that is wild.
+fn load(load: Load, tile: Tile, who: Who, accesses: &mut ArrayVec<Access, 272>) -> bool
+    requires { array_vec_len accesses.old ≤ 8 }
+    ensures { (m : List ℕ) (r : Lists) → Shows (carried who (load_read load tile.frame tile.x tile.y (Done r)) m) accesses.old.items accesses.new.items m (if result then Some r else None) }
+{
+    match load {
+        Load::Full(address) => {
+            load_whole(address, who, accesses);
+            true
+        }
+        Load::General { bits, address } => load_general(bits, address, tile, who, accesses),
+    }
+}
+
+/// Does the load that waits, where one does. False comes exactly where that is wild.
+pub(crate) fn load_waiting(
+    waiting: Option<Load>,
+    tile: Tile,
+    who: Who,
+    accesses: &mut ArrayVec<Access, 272>,
+) -> bool
+    requires { array_vec_len accesses.old ≤ 8 }
+    ensures { (m : List ℕ) (r : Lists) → Shows (carried who (waiting_read waiting tile.frame tile.x tile.y (Done r)) m) accesses.old.items accesses.new.items m (if result then Some r else None) }
+{
+    match waiting {
+        None => true,
+        Some(waits) => load(waits, tile, who, accesses),
+    }
+}
