@@ -4,7 +4,7 @@ ghost use Rattle.arrayvec.specs.ArrayVec.{array_vec_len};
 ghost use Rattle.machine_plan.specs.Glance.{glanced};
 ghost use Rattle.machine_plan.specs.Plan.{Shows, carried};
 ghost use Rattle.list_machine.specs.Lists.{Lists, Turned, turned_to, quiet, renderer_of, renderer_ended, most_items};
-ghost use Rattle.list_machine.specs.Renderer.{first_of_tile, item_at, at_item, vertex_plan, program_plan, choice_plan, found_plan, plan_in, renderer_plan, renderer_ready};
+ghost use Rattle.list_machine.specs.Renderer.{first_of_tile, item_at, at_item, vertex_plan, program_plan, choice_plan, found_plan, plan_in, renderer_plan, renderer_ready, has_renderer_work};
 
 use crate::fetch::fetch_vertex;
 use crate::job_lists::JobLists;
@@ -167,6 +167,14 @@ impl JobLists {
         self.take_packet(words, who, memory, accesses)
     }
 
+    /// Whether the renderer has work: it is below its list's end, or in a tile's list.
+    pub fn has_renderer_work(&self) -> bool
+        ensures { result ≡ has_renderer_work self.now }
+    {
+        let renderer = self.renderer();
+        renderer.place < renderer.end || renderer.inside.is_some()
+    }
+
     /// One step of the job's renderer, which may step. Its accesses go behind those listed before. What
     /// the hardware leaves open is answered by the words; a missing word is zero. `free` says where a
     /// program could start now.
@@ -176,10 +184,10 @@ impl JobLists {
     #[tactic(auto, unfolding(crate::specs::Renderer::renderer_plan))]
     pub fn step_renderer(
         &mut self,
-        memory: &mut PhysMem,
         job: u8,
         free: &Free,
         words: &[u32],
+        memory: &mut PhysMem,
         accesses: &mut ArrayVec<Access, 272>,
     ) -> Option<Option<Launch>>
         requires ready { glanced (renderer_ready self.old) memory.old ≡ true }

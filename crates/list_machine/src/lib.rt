@@ -2,8 +2,6 @@
 #![tactic(auto)]
 
 mod binner;
-#[cfg(test)]
-mod binner_tests;
 mod blocks;
 mod cover;
 mod fetch;
@@ -22,3 +20,8 @@ pub use state::{
     Work,
 };
 pub use surface::{Cover, Style, Tile};
+
+#[cfg(test)]
+mod binner_tests;
+#[cfg(test)]
+mod render_tests;

@@ -8,9 +8,9 @@ ghost use Rattle.machine_plan.specs.Plan.{Shows, carried};
 ghost use Rattle.list_machine.specs.declared.state.Load.{Load};
 ghost use Rattle.list_machine.specs.declared.state.Frame.{Frame};
 ghost use Rattle.list_machine.specs.Lists.{with_renderer, ended_renderer, renderer_ended};
-ghost use Rattle.list_machine.specs.Blocks.{tiles_of};
 ghost use Rattle.list_machine.specs.Renderer.{beyond, with_frame, with_load, at_tile, with_inside, wait_plan, tile_named, enter_plan, tile_by, branch_plan, tile_plan, act, acted, packet_plan, may_pass, renderer_ready};
 
+use crate::blocks::tiles_of;
 use crate::job_lists::JobLists;
 use crate::parts::{load_waiting, store_frame, store_general, store_whole};
 use crate::reads::read_listed;
@@ -22,14 +22,6 @@ use machine_plan::{Who, byte_at, list_access};
 use packets::opcode::WAIT_ON_SEMAPHORE;
 use packets::{Packet, decode, render_taken};
 use phys_mem::PhysMem;
-
-/// How many tiles a config has.
-#[tactic(auto, unfolding(crate::specs::Blocks::tiles_of))]
-fn tiles_of(config: &Config) -> u32
-    ensures { result ≡ tiles_of config.now }
-{
-    config.tiles_x as u32 * config.tiles_y as u32
-}
 
 /// The tile whose list begins at this address.
 #[tactic(auto, unfolding(crate::specs::Renderer::tile_named))]
@@ -289,7 +281,7 @@ impl JobLists {
 
     /// Does what the bytes of a packet say, with the renderer past it. False comes exactly where that is
     /// wild.
-    fn obey(
+    fn act_on(
         &mut self,
         bytes: &[u8],
         words: &[u32],
@@ -329,7 +321,7 @@ impl JobLists {
         let len = render_taken(byte_at(memory, place));
         let bytes = read_listed(place, len, who, memory, accesses);
         self.go_past(len);
-        self.obey(&bytes, words, who, memory, accesses)
+        self.act_on(&bytes, words, who, memory, accesses)
     }
 
     /// Reads the packet at the renderer's place, goes past it and does what it says. False comes exactly

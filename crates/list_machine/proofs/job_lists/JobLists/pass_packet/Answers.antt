@@ -4,14 +4,14 @@ use Rattle.packets.specs.Length.{render_taken}
 use Rattle.list_machine.proofs.Steps.{packet_long, packet_read}
 use Rattle.list_machine.proofs.job_lists.JobLists.pass_packet.Goals as goal
 
-pub obey-requires-clause-length : goal.obey-requires-clause-length
-obey-requires-clause-length c =
+pub act_on-requires-clause-length : goal.act_on-requires-clause-length
+act_on-requires-clause-length c =
     packet_long c.args.memory.now c.deref.result.now c.renderer-place.result.place c.render_taken-len.result
     (c.render_taken-len.ensures.value ∙ ap render_taken c.byte_at.ensures) c.render_taken-len.ensures.some (c.deref.ensures.0 ∙ c.read_listed-bytes.ensures.value)
 
 pub returns-clause-shows : goal.returns-clause-shows
 returns-clause-shows c =
     packet_read c.args.who c.args.self.now c.go_past.new.self c.args.words.now c.args.memory.now c.deref.result.now c.renderer-place.result.place c.render_taken-len.result
-    c.args.accesses.now.items c.read_listed-bytes.new.accesses.items c.obey.new.accesses.items c.obey.new.memory _
+    c.args.accesses.now.items c.read_listed-bytes.new.accesses.items c.act_on.new.accesses.items c.act_on.new.memory _
     (ap (λ r. r.place) c.renderer-place.ensures.value) (c.render_taken-len.ensures.value ∙ ap render_taken c.byte_at.ensures) (c.deref.ensures.0 ∙ c.read_listed-bytes.ensures.value)
-    c.read_listed-bytes.ensures.items c.go_past.ensures c.obey.ensures.shows
+    c.read_listed-bytes.ensures.items c.go_past.ensures c.act_on.ensures.shows
