@@ -1,2 +1,2 @@
-pub mod Jobs
+pub mod Places
 pub mod Turns

@@ -1,46 +1,78 @@
--- The machine's state: memory, and what the units keep for each job.
-use Rattle.std.specs.Prelude.{◌≤◌, ◌<◌, ℕ, ◌^◌, List, length, map, position, slice_index_or, Option}
+-- The machine's state: memory, what the list units keep for each job, and the shader processors.
+use Rattle.std.specs.Prelude.{◌≡◌, ◌≤◌, ◌<◌, ℕ, zero, suc, ◌+◌, Bool, if◌then◌else◌, List, [], ◌∷◌, length, map, replicate, slice_index_or, Option, None, Some}
 use Rattle.machine_plan.specs.World.{World}
-use Rattle.list_machine.specs.declared.state.Lists.{Lists}
-use Rattle.list_machine.specs.Lists.{lists_start, renders}
+use Rattle.list_machine.specs.Binner.{has_binner_work}
+use Rattle.list_machine.specs.Lists.{Lists, lists_start}
+use Rattle.list_machine.specs.Renderer.{has_renderer_work}
+use Rattle.qpu_machine.specs.declared.state.Qpu.{Qpu}
+use Rattle.qpu_machine.specs.Bounds.{AreBounded}
+use Rattle.qpu_machine.specs.Qpu.{idle_qpu}
 use Rattle.machine.specs.declared.job.Start.{Start}
 
--- All that the machine keeps beside memory: for each job what its list units keep.
+-- All that the machine keeps beside memory: for each job what its list units keep, and the processors,
+-- each with its two threads and the queues of its two TMUs.
 pub record Units : Type 0 where
   pub jobs : List Lists
+  pub qpus : List Qpu
 
 abbrev pub State : Type 0
 State = World Units
 
 abbrev pub job_start : Start → Lists
-job_start start = lists_start start.render_place start.render_len
+job_start start = lists_start start.bin_place start.bin_len start.render_place start.render_len
 
--- the units at the start: each job's stand at the beginnings of its lists, and all else is empty
+-- the units at the start: each job's stand at the beginnings of its lists, all twelve processors are
+-- idle, and all else is empty or zero
 abbrev pub units_start : List Start → Units
-units_start starts = record { jobs = map job_start starts }
+units_start starts = record { jobs = map job_start starts; qpus = replicate 12 idle_qpu }
 
 -- the state in which the units are at their start
 abbrev pub start_of : List ℕ → List Start → State
 start_of memory starts = record { memory = memory; units = units_start starts }
 
--- a job without work
+-- an item with its number in a list
+pub record Picked (X : Type 0) : Type 0 where
+  pub number : ℕ
+  pub item : X
+
+-- the first item of which the test is true, where the list is numbered from n on
+abbrev pub first_where : {X : Type 0} → (X → Bool) → ℕ → List X → Option (Picked X)
+first_where p n [] = None
+first_where p n (x ∷ xs) = if p x then Some (record { number = n; item = x }) else first_where p (n + 1) xs
+
+abbrev pub item_at : {X : Type 0} → List X → ℕ → Option X
+item_at [] n = None
+item_at (x ∷ xs) zero = Some x
+item_at (x ∷ xs) (suc n) = item_at xs n
+
+-- the list with another item there; past its end it stays as it is
+abbrev pub put_at : {X : Type 0} → List X → ℕ → X → List X
+put_at [] n new = []
+put_at (x ∷ xs) zero new = new ∷ xs
+put_at (x ∷ xs) (suc n) new = x ∷ put_at xs n new
+
+-- The binner's job is the least one with work left for the binner, the renderer's the least one with
+-- work left for the renderer.
+abbrev pub binner_job : Units → Option (Picked Lists)
+binner_job u = first_where has_binner_work 0 u.jobs
+
+abbrev pub renderer_job : Units → Option (Picked Lists)
+renderer_job u = first_where has_renderer_work 0 u.jobs
+
+-- a job without lists
 abbrev pub no_job : Lists
-no_job = lists_start 0 0
+no_job = lists_start 0 0 0 0
 
-abbrev pub job_at : List Lists → ℕ → Lists
-job_at jobs j = slice_index_or jobs j no_job
+-- job k with its number
+abbrev pub picked_in : List Lists → ℕ → Picked Lists
+picked_in jobs k = record { number = k; item = slice_index_or jobs k no_job }
 
--- The renderer's job is the least one with work left for the renderer.
-abbrev pub renderer_job : List Lists → Option ℕ
-renderer_job jobs = position renders jobs
-
--- the numbers that the code keeps stay small
-pub record IsBounded (job : Lists) : Type 0 where
-  pub end_below : job.renderer.end < 2 ^ 34
-  pub place_below : job.renderer.place < 2 ^ 35
-
--- one to eight jobs
-pub record AreJobs (jobs : List Lists) : Type 0 where
+-- one to eight jobs, and twelve processors whose queues have room
+pub record AreWhole (jobs : List Lists) (qpus : List Qpu) : Type 0 where
   pub some : 1 ≤ length jobs
   pub few : length jobs ≤ 8
-  pub bounded : (k : ℕ) → k < length jobs → IsBounded (job_at jobs k)
+  pub twelve : length qpus ≡ 12
+  pub bounded : AreBounded qpus
+
+abbrev pub job_at : List Lists → ℕ → Lists
+job_at jobs k = slice_index_or jobs k no_job

@@ -1,60 +1,134 @@
--- Which unit may step, for which job, and what a step does. Each unit is one line of `unit_ready` and
--- one of `unit_turn`.
-use Rattle.std.specs.Prelude.{ℕ, Bool, false, not, is_some, List, Option, Some, None, slice_set}
+-- Which unit may step, for which job, and what a step does. Each unit is one line of `unit_ready`, one
+-- of `unit_turn` and one of `unit_job`.
+use Rattle.std.specs.Prelude.{ℕ, ◌+◌, Bool, false, ◌&&◌, nat_lt, is_none, if◌then◌else◌, List, Option, Some, None}
+use Rattle.std.specs.List.{list_all}
 use Rattle.field_words.specs.declared.access.Access.{Access}
 use Rattle.field_words.specs.declared.access.Actor.{Actor}
-use Rattle.field_words.specs.declared.access.Actor.TheVariants.{Binner, Renderer as TheRenderer, Qpu, Tmu}
+use Rattle.field_words.specs.declared.access.Actor.TheVariants.{Binner as TheBinner, Renderer as TheRenderer, Qpu as TheQpu, Tmu as TheTmu}
+use Rattle.machine_plan.specs.declared.launch.Launch.{Launch}
 use Rattle.machine_plan.specs.Plan.{Done}
 use Rattle.machine_plan.specs.Glance.{Glance, Now, glanced}
 use Rattle.machine_plan.specs.World.{mapped, Turn, world_may, world_step}
 use Rattle.machine_plan.specs.Runs.{Moved, Run}
-use Rattle.list_machine.specs.Renderer.{renderer_of}
-use Rattle.list_machine.specs.Lists.{Turned, renderer_ready, renderer_turn, renderer_stopped}
-use Rattle.machine.specs.State.{Units, State, job_at, renderer_job}
+use Rattle.list_machine.specs.Binner.{binner_ready, binner_plan}
+use Rattle.list_machine.specs.Lists.{Lists, Turned, quiet, binner_of, renderer_of, binner_ended, renderer_ended}
+use Rattle.list_machine.specs.Renderer.{renderer_ready, renderer_plan}
+use Rattle.qpu_machine.specs.declared.state.Qpu.{Qpu}
+use Rattle.qpu_machine.specs.Qpu.{active_of, job_of_thread, qpu_ready, qpu_plan, qpu_stopped, queue_of, oldest, job_of_request, tmu_ready, tmu_plan, dropped, launched, free_in, is_idle}
+use Rattle.machine.specs.State.{Units, State, Picked, item_at, put_at, binner_job, renderer_job}
 
 -- a unit steps, and these words answer what the hardware leaves open
 pub record Event : Type 0 where
   pub unit : Actor
   pub words : List ℕ
 
+-- A program that a list unit starts for job j begins in the first thread that can take it.
+abbrev pub with_launch : ℕ → Option Launch → List Qpu → List Qpu
+with_launch j None qpus = qpus
+with_launch j (Some launch) qpus = launched j launch qpus
+
 -- a list unit has come to this for job j
 abbrev pub with_lists : Units → ℕ → Turned → Units
-with_lists u j turned = record u { jobs = slice_set u.jobs j turned.lists }
+with_lists u j turned = record { jobs = put_at u.jobs j turned.lists; qpus = with_launch j turned.launch u.qpus }
 
--- the renderer may step where it has a job, and is ready for it
-abbrev pub renderer_may : Units → Option ℕ → Glance Bool
-renderer_may u None = Now false
-renderer_may u (Some j) = renderer_ready (job_at u.jobs j)
+-- processor k has come to this
+abbrev pub with_qpu : Units → ℕ → Qpu → Units
+with_qpu u k q = record { jobs = u.jobs; qpus = put_at u.qpus k q }
+
+-- The binner is held where the renderer has a job and the binner's is more than one ahead of it.
+abbrev pub is_ahead : ℕ → Option (Picked Lists) → Bool
+is_ahead n None = false
+is_ahead n (Some r) = nat_lt (r.number + 1) n
+
+-- a list unit may step where it has a job, and is ready for it; the binner, unless it is held
+abbrev pub binner_may : Units → Option (Picked Lists) → Glance Bool
+binner_may u None = Now false
+binner_may u (Some b) = if is_ahead b.number (renderer_job u) then Now false else binner_ready b.item (free_in u.qpus)
+
+abbrev pub renderer_may : Option (Picked Lists) → Glance Bool
+renderer_may None = Now false
+renderer_may (Some r) = renderer_ready r.item
+
+-- there are twelve processors, numbered from 0, with TMUs 0 and 1 each
+abbrev pub qpu_may : Option Qpu → Glance Bool
+qpu_may None = Now false
+qpu_may (Some q) = qpu_ready q
+
+abbrev pub tmu_may : Option Qpu → ℕ → Glance Bool
+tmu_may None n = Now false
+tmu_may (Some q) n = if nat_lt n 2 then tmu_ready q n else Now false
 
 -- a unit that has no work does nothing
 abbrev pub no_turn : Units → Actor → Turn Units
 no_turn u unit = record { who = record { unit = unit; job = 0 }; plan = Done u; wild = u }
 
--- the renderer's turn for job j
-abbrev pub renderer_turn_for : Units → ℕ → List ℕ → Turn Units
-renderer_turn_for u j words = record {
-  who = renderer_of j;
-  plan = mapped (with_lists u j) (renderer_turn (job_at u.jobs j) words);
-  wild = with_lists u j (renderer_stopped (job_at u.jobs j));
+-- the turns of the units, each for the job that it steps for
+abbrev pub binner_turn : Units → Option (Picked Lists) → List ℕ → Turn Units
+binner_turn u None words = no_turn u TheBinner
+binner_turn u (Some b) words = record {
+  who = binner_of b.number;
+  plan = mapped (with_lists u b.number) (binner_plan b.item (free_in u.qpus) words);
+  wild = with_lists u b.number (quiet (binner_ended b.item));
 }
 
-abbrev pub renderer_turn_of : Units → Option ℕ → List ℕ → Turn Units
-renderer_turn_of u None words = no_turn u TheRenderer
-renderer_turn_of u (Some j) words = renderer_turn_for u j words
+abbrev pub renderer_turn : Units → Option (Picked Lists) → List ℕ → Turn Units
+renderer_turn u None words = no_turn u TheRenderer
+renderer_turn u (Some r) words = record {
+  who = renderer_of r.number;
+  plan = mapped (with_lists u r.number) (renderer_plan r.item (free_in u.qpus) words);
+  wild = with_lists u r.number (quiet (renderer_ended r.item));
+}
 
--- whether a unit may step; so far the renderer alone has work
+abbrev pub qpu_turn : Units → ℕ → Option Qpu → List ℕ → Turn Units
+qpu_turn u k None words = no_turn u (TheQpu k)
+qpu_turn u k (Some q) words = record {
+  who = record { unit = TheQpu k; job = job_of_thread (active_of q) };
+  plan = mapped (with_qpu u k) (qpu_plan q words);
+  wild = with_qpu u k (qpu_stopped q);
+}
+
+abbrev pub tmu_turn : Units → ℕ → ℕ → Option Qpu → List ℕ → Turn Units
+tmu_turn u k n None words = no_turn u (TheTmu k n)
+tmu_turn u k n (Some q) words = record {
+  who = record { unit = TheTmu k n; job = job_of_request (oldest (queue_of q n)) };
+  plan = mapped (with_qpu u k) (tmu_plan q n words);
+  wild = with_qpu u k (dropped q n);
+}
+
+-- whether a unit may step
 abbrev pub unit_ready : Units → Actor → Glance Bool
-unit_ready u TheRenderer = renderer_may u (renderer_job u.jobs)
-unit_ready u Binner = Now false
-unit_ready u (Qpu q) = Now false
-unit_ready u (Tmu q n) = Now false
+unit_ready u TheBinner = binner_may u (binner_job u)
+unit_ready u TheRenderer = renderer_may (renderer_job u)
+unit_ready u (TheQpu k) = qpu_may (item_at u.qpus k)
+unit_ready u (TheTmu k n) = tmu_may (item_at u.qpus k) n
 
 -- what a unit would do
 abbrev pub unit_turn : Units → Actor → List ℕ → Turn Units
-unit_turn u TheRenderer words = renderer_turn_of u (renderer_job u.jobs) words
-unit_turn u Binner words = no_turn u Binner
-unit_turn u (Qpu q) words = no_turn u (Qpu q)
-unit_turn u (Tmu q n) words = no_turn u (Tmu q n)
+unit_turn u TheBinner words = binner_turn u (binner_job u) words
+unit_turn u TheRenderer words = renderer_turn u (renderer_job u) words
+unit_turn u (TheQpu k) words = qpu_turn u k (item_at u.qpus k) words
+unit_turn u (TheTmu k n) words = tmu_turn u k n (item_at u.qpus k) words
+
+-- the number, or 0 for a unit without a job
+abbrev pub number_or_zero : Option (Picked Lists) → ℕ
+number_or_zero None = 0
+number_or_zero (Some one) = one.number
+
+abbrev pub qpu_job : Option Qpu → ℕ
+qpu_job None = 0
+qpu_job (Some q) = job_of_thread (active_of q)
+
+abbrev pub tmu_job : Option Qpu → ℕ → ℕ
+tmu_job None n = 0
+tmu_job (Some q) n = job_of_request (oldest (queue_of q n))
+
+-- the job for which a unit steps: the binner's or the renderer's, the active thread's, the oldest
+-- request's
+abbrev pub unit_job : Units → Actor → ℕ
+unit_job u TheBinner = number_or_zero (binner_job u)
+unit_job u TheRenderer = number_or_zero (renderer_job u)
+unit_job u (TheQpu k) = qpu_job (item_at u.qpus k)
+unit_job u (TheTmu k n) = tmu_job (item_at u.qpus k) n
 
 unfoldable pub ready : Units → Event → Glance Bool
 ready u event = unit_ready u event.unit
@@ -63,24 +137,15 @@ unfoldable pub turn : Units → Event → Turn Units
 turn u event = unit_turn u event.unit event.words
 
 -- a unit may step
-abbrev pub enabled : State → Actor → Bool
+unfoldable pub enabled : State → Actor → Bool
 enabled s unit = glanced (unit_ready s.units unit) s.memory
 
--- no job is the renderer's: the other units have no work yet
-abbrev pub finished : State → Bool
-finished s = not (is_some (renderer_job s.units.jobs))
+-- no job is the binner's or the renderer's, all threads are idle and all queues are empty
+unfoldable pub finished : State → Bool
+finished s = (is_none (binner_job s.units) && is_none (renderer_job s.units)) && list_all is_idle s.units.qpus
 
--- the number, or 0 for a unit without a job
-abbrev pub number_or_zero : Option ℕ → ℕ
-number_or_zero None = 0
-number_or_zero (Some j) = j
-
--- the job for which a unit steps
-abbrev pub job_of : State → Actor → ℕ
-job_of s TheRenderer = number_or_zero (renderer_job s.units.jobs)
-job_of s Binner = 0
-job_of s (Qpu q) = 0
-job_of s (Tmu q n) = 0
+unfoldable pub job_of : State → Actor → ℕ
+job_of s unit = unit_job s.units unit
 
 -- an event may happen where its unit may step
 abbrev pub may : State → Event → Bool

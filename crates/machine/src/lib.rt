@@ -1,11 +1,11 @@
-//! The machine: memory, and for each of its jobs the units that step for it. So far the renderer
-//! is its only unit.
+//! The machine: memory, and the units that step for its jobs: binner, renderer, and twelve shader processors with two texture
+//! and memory units each.
 #![tactic(auto)]
 
 mod job;
+mod lists;
 mod machine;
-#[cfg(test)]
-mod tests;
+mod processors;
 
 pub use job::Start;
 pub use machine::{Machine, Stepped};

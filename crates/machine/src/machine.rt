@@ -1,19 +1,17 @@
-//! The machine and its steps.
-ghost use Rattle.std.specs.Prelude.{◌≡◌, ◌≤◌, ◌<◌, ◌∷◌, [], IsTrue, true, false, length, option_map, unwrap_or, IfOk, IfSome, All, Some, ◌+◌, ◌^◌};
-ghost use Rattle.arrayvec.specs.ArrayVec.{array_vec_len};
-ghost use Rattle.machine_plan.specs.World.{Moves, turned};
-ghost use Rattle.machine_plan.specs.Glance.{glanced};
-ghost use Rattle.list_machine.specs.Lists.{renders, with_renderer};
-ghost use Rattle.list_machine.specs.Renderer.{ended};
-ghost use Rattle.machine.specs.State.{start_of, renderer_job, IsBounded};
-ghost use Rattle.machine.specs.Step.{enabled, finished, renderer_may, renderer_turn_for, renderer_turn_of, step};
-ghost use Rattle.field_words.specs.declared.access.Actor.TheVariants.{Renderer as TheRenderer};
+//! The machine, its start, and which of its units may step.
+ghost use Rattle.std.specs.Prelude.{◌≡◌, ◌≤◌, ◌<◌, [], IsTrue, false, length, option_map, unwrap_or, position, IfOk, IfSome};
+ghost use Rattle.list_machine.specs.Binner.{has_binner_work};
+ghost use Rattle.list_machine.specs.Renderer.{has_renderer_work};
+ghost use Rattle.machine_plan.specs.World.{Moves};
+ghost use Rattle.machine.specs.Step.{enabled, finished, job_of, step};
+ghost use Rattle.machine.specs.State.{start_of, binner_job, renderer_job, picked_in};
 
-use crate::job::{Start, all_started};
+use crate::job::{Start, all_started, idle_qpus};
 use arrayvec::ArrayVec;
 use field_words::{Access, Actor, NoMemory};
-use list_machine::{Lists, Renderer, step_renderer};
+use list_machine::JobLists;
 use phys_mem::PhysMem;
+use qpu_machine::Qpu;
 use std::alloc::Global;
 use std::marker::Model;
 
@@ -26,34 +24,35 @@ pub enum Stepped {
     Done,
 }
 
-/// The machine: its memory, and what its units keep for each job.
+/// The machine: its memory, what its list units keep for each job, and its shader processors.
 #[derive(Drop)]
 pub struct Machine {
-    memory: PhysMem,
-    jobs: Vec<Lists>,
+    pub(crate) memory: PhysMem,
+    pub(crate) jobs: Vec<JobLists>,
+    pub(crate) qpus: Vec<Qpu>,
 }
 
 impl Model for Machine {
-    ghost use Rattle.machine.specs.State.{State, AreJobs};
+    ghost use Rattle.machine.specs.State.{State, AreWhole};
 
     ghost Value = { State };
 
-    ghost view = { λ m. record { memory = m.memory; units = record { jobs = m.jobs.items } } };
+    ghost view = { λ m. record { memory = m.memory; units = record { jobs = m.jobs.items; qpus = m.qpus.items } } };
 
-    ghost invariant = { λ m. AreJobs m.jobs.items };
+    ghost invariant = { λ m. AreWhole m.jobs.items m.qpus.items };
 }
 
 impl Machine {
-    /// The machine in its start state over this memory, with one job for each start. So far a
-    /// binner list is empty. It may run out of memory; then the memory is dropped.
+    /// The machine in its start state over this memory, with one job for each start. It may run out of memory; then the memory
+    /// is dropped.
     pub fn new(alloc: Global, memory: PhysMem, starts: &[Start]) -> Result<Machine, NoMemory>
         requires some { 1 ≤ length starts.now }
         requires few { length starts.now ≤ 8 }
-        requires no_binner_list { All (λ start. start.bin_len ≡ 0) starts.now }
         ensures { IfOk result (λ m. m ≡ start_of memory starts.now) }
     {
         let jobs = all_started(alloc, starts)?;
-        Ok(Machine { memory, jobs })
+        let qpus = idle_qpus(alloc)?;
+        Ok(Machine { memory, jobs, qpus })
     }
 
     /// The memory as it stands.
@@ -63,47 +62,78 @@ impl Machine {
         &self.memory
     }
 
+    // The place of the first job with work left for the binner.
+    fn binner_place(&self) -> Option<usize>
+        ensures place { result ≡ position has_binner_work self.now.units.jobs }
+        ensures few { length self.now.units.jobs ≤ 8 }
+    {
+        self.jobs.iter().position(|job| job.has_binner_work())
+    }
+
+    /// The job for which the binner steps: the least one with work left for it.
+    pub(crate) fn binner_job(&self) -> Option<usize>
+        ensures value { binner_job self.now.units ≡ option_map (picked_in self.now.units.jobs) result }
+        ensures within { IfSome result (λ job. (job < length self.now.units.jobs) × (job < 8)) }
+    {
+        self.binner_place()
+    }
+
+    // The place of the first job with work left for the renderer.
+    fn renderer_place(&self) -> Option<usize>
+        ensures place { result ≡ position has_renderer_work self.now.units.jobs }
+        ensures few { length self.now.units.jobs ≤ 8 }
+    {
+        self.jobs.iter().position(|job| job.has_renderer_work())
+    }
+
     /// The job for which the renderer steps: the least one with work left for it.
-    fn renderer_job(&self) -> Option<usize>
-        ensures { result ≡ renderer_job self.now.units.jobs }
+    pub(crate) fn renderer_job(&self) -> Option<usize>
+        ensures value { renderer_job self.now.units ≡ option_map (picked_in self.now.units.jobs) result }
+        ensures within { IfSome result (λ job. (job < length self.now.units.jobs) × (job < 8)) }
     {
-        self.jobs
-            .iter()
-            .position(|job| job.renderer.place < job.renderer.end)
+        self.renderer_place()
     }
 
-    /// Whether the renderer may step: it has a job, and is ready for it.
-    fn renderer_may(&self) -> bool
-        ensures { result ≡ glanced (renderer_may self.now.units (renderer_job self.now.units.jobs)) self.now.memory }
-    {
-        match self.renderer_job() {
-            None => false,
-            Some(job) => renders(&self.jobs[job]),
-        }
-    }
-
-    /// Whether the unit may step.
+    /// Whether the unit may step. A processor above 11 or a TMU above 1 never may.
+    #[tactic(auto, unfolding(crate::specs::Step::enabled))]
     pub fn enabled(&self, unit: Actor) -> bool
         ensures { result ≡ enabled self.now unit }
     {
         match unit {
+            Actor::Binner => self.binner_may(),
             Actor::Renderer => self.renderer_may(),
-            _ => false,
+            Actor::Qpu(k) => self.qpu_may(k),
+            Actor::Tmu(k, n) => self.tmu_may(k, n),
         }
     }
 
-    /// Whether no unit has any work left.
+    /// Whether no unit has any work left: no job is the binner's or the renderer's, all threads are idle, and all queues are
+    /// empty.
+    #[tactic(auto, unfolding(crate::specs::Step::finished))]
     pub fn finished(&self) -> bool
         ensures { result ≡ finished self.now }
     {
-        self.renderer_job().is_none()
+        (self.binner_job().is_none() && self.renderer_job().is_none()) && self.are_qpus_idle()
     }
 
-    /// One step of this unit. What the hardware leaves open is answered by the words; a missing word
-    /// is zero. `accesses` is emptied first, and then holds the step's accesses in order.
+    /// The job for which the unit would step; 0 for a unit without a job.
+    #[tactic(auto, unfolding(crate::specs::Step::job_of))]
+    pub fn job_of(&self, unit: Actor) -> u8
+        ensures { result ≡ job_of self.now unit }
+    {
+        match unit {
+            Actor::Binner => number_of(self.binner_job()),
+            Actor::Renderer => number_of(self.renderer_job()),
+            Actor::Qpu(k) => self.thread_job(k),
+            Actor::Tmu(k, n) => self.request_job(k, n),
+        }
+    }
+
+    /// One step of this unit. What the hardware leaves open is answered by the words; a missing word is zero. `accesses` is
+    /// emptied first, and then holds the step's accesses in order.
     ///
-    /// `NotEnabled` comes exactly where the unit is not enabled, and then nothing else has changed.
-    /// A step takes no memory.
+    /// `NotEnabled` comes exactly where the unit is not enabled, and then nothing else has changed. A step takes no memory.
+    #[tactic(auto, unfolding(crate::specs::Step::enabled))]
     pub fn step(
         &mut self,
         unit: Actor,
@@ -123,63 +153,29 @@ impl Machine {
         Stepped::Done
     }
 
-    /// This unit's turn. A unit without work does nothing.
-    #[tactic(auto, unfolding(crate::specs::Step::turn))]
+    // This unit's turn, which may step.
+    #[tactic(auto, unfolding(crate::specs::Step::enabled, crate::specs::Step::turn))]
     fn take_turn(&mut self, unit: Actor, words: &[u32], accesses: &mut ArrayVec<Access, 272>)
-        requires { accesses.old.items ≡ [] }
+        requires empty { accesses.old.items ≡ [] }
+        requires may { IsTrue (enabled self.old unit) }
         ensures { Moves (step self.old (record { unit = unit; words = words.now })) accesses.new.items self.new }
     {
         match unit {
+            Actor::Binner => self.take_binner_turn(words, accesses),
             Actor::Renderer => self.take_renderer_turn(words, accesses),
-            _ => {}
+            Actor::Qpu(k) => self.take_qpu_turn(k, words, accesses),
+            Actor::Tmu(k, n) => self.take_tmu_turn(k, n, words, accesses),
         }
-    }
-
-    /// The renderer's turn, for its job.
-    fn take_renderer_turn(&mut self, words: &[u32], accesses: &mut ArrayVec<Access, 272>)
-        requires { accesses.old.items ≡ [] }
-        ensures { Moves (turned self.old (renderer_turn_of self.old.units (renderer_job self.old.units.jobs) words.now)) accesses.new.items self.new }
-    {
-        match self.renderer_job() {
-            None => {}
-            Some(job) => self.render(job, words, accesses),
-        }
-    }
-
-    /// One step of the renderer for this job, which has work left for it.
-    fn render(&mut self, job: usize, words: &[u32], accesses: &mut ArrayVec<Access, 272>)
-        requires empty { accesses.old.items ≡ [] }
-        requires chosen { renderer_job self.old.units.jobs ≡ Some job }
-        ensures { Moves (turned self.old (renderer_turn_for self.old.units job words.now)) accesses.new.items self.new }
-    {
-        let lists = self.jobs[job];
-        let next = step_renderer(lists.renderer, words, job as u8, &mut self.memory, accesses);
-        self.jobs[job] = rendered(lists, next);
     }
 }
 
-/// Whether the job's renderer is below its list's end.
-fn renders(lists: &Lists) -> bool
-    ensures { result ≡ renders lists.now }
+// The job's number, or 0 where there is none.
+fn number_of(job: Option<usize>) -> u8
+    requires { IfSome job (λ k. k < 8) }
+    ensures { result ≡ unwrap_or job 0 }
 {
-    lists.renderer.place < lists.renderer.end
-}
-
-/// What a job's list units keep after a step of its renderer: a wild step ends its work.
-fn rendered(lists: Lists, next: Option<Renderer>) -> Lists
-    requires { IfSome next (λ kept. (kept.end ≡ lists.renderer.end) × (kept.place ≤ lists.renderer.place + 14)) }
-    ensures value { result ≡ with_renderer lists (unwrap_or next (ended lists.renderer)) }
-    ensures bounded { lists.renderer.place < lists.renderer.end → lists.renderer.end < 2 ^ 34 → IsBounded result }
-{
-    let renderer = match next {
-        Some(kept) => kept,
-        None => Renderer {
-            place: lists.renderer.end,
-            end: lists.renderer.end,
-            frame: lists.renderer.frame,
-            tile_x: lists.renderer.tile_x,
-            tile_y: lists.renderer.tile_y,
-        },
-    };
-    Lists { renderer }
+    match job {
+        None => 0,
+        Some(k) => k as u8,
+    }
 }

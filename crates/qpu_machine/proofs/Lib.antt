@@ -5,3 +5,6 @@ pub mod Tame
 pub mod Shown
 pub mod Near
 pub mod Asking
+pub mod Settling
+pub mod Starts
+pub mod Served

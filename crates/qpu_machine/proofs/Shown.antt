@@ -24,7 +24,7 @@ by_tests_is : (t : Thread) (word : ℕ) (words : List ℕ) → word_plan t word 
 unfolding word_plan
 by_tests_is t word words = refl
 
-plan_is : (t : Thread) (word : ℕ) (words : List ℕ) (wild takes : Bool) → is_wild t word ≡ wild → takes_one t word ≡ takes → by_tests wild takes t word words ≡ word_plan t word words
+pub plan_is : (t : Thread) (word : ℕ) (words : List ℕ) (wild takes : Bool) → is_wild t word ≡ wild → takes_one t word ≡ takes → by_tests wild takes t word words ≡ word_plan t word words
 plan_is t word words wild takes wild_is takes_is =
     sym (by_tests_is t word words ∙ (ap (λ b. by_tests b (takes_one t word) t word words) wild_is ∙ ap (λ b. by_tests wild b t word words) takes_is))
 

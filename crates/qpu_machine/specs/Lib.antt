@@ -6,3 +6,4 @@ pub mod Step
 pub mod Start
 pub mod Request
 pub mod Qpu
+pub mod Bounds

@@ -11,6 +11,7 @@ use Rattle.machine_plan.specs.World.{mapped}
 use Rattle.qpu_machine.specs.declared.state.Asked.{Asked}
 use Rattle.qpu_machine.specs.declared.state.Fate.{Fate}
 use Rattle.qpu_machine.specs.declared.state.Fate.TheVariants.{GoesOn, Switches, Ends}
+use Rattle.qpu_machine.specs.declared.state.Leaves.{Leaves}
 use Rattle.qpu_machine.specs.declared.state.Qpu.{Qpu}
 use Rattle.qpu_machine.specs.declared.state.Request.{Request}
 use Rattle.qpu_machine.specs.declared.state.Thread.{Thread}
@@ -24,6 +25,10 @@ active_of q = if q.second then q.other else q.first
 
 abbrev pub resting_of : Qpu → Option Thread
 resting_of q = if q.second then q.first else q.other
+
+abbrev pub job_of_thread : Option Thread → ℕ
+job_of_thread None = 0
+job_of_thread (Some t) = t.job
 
 -- it is one of this thread's
 abbrev pub is_of : Bool → Request → Bool
@@ -46,6 +51,11 @@ abbrev pub left_by : Fate → Thread → Option Thread
 left_by GoesOn t = Some t
 left_by Switches t = Some t
 left_by Ends t = None
+
+abbrev pub kept_by : Fate → Option Thread → Option Thread
+kept_by GoesOn slot = slot
+kept_by Switches slot = slot
+kept_by Ends slot = None
 
 abbrev pub gives_way : Fate → Bool
 gives_way GoesOn = false
@@ -75,6 +85,26 @@ settled q job own over asked = record q {
   queue0 = record { items = queue_with 0 q.second job asked q.queue0.items };
   queue1 = record { items = queue_with 1 q.second job asked q.queue1.items };
 }
+
+-- the thread that is active is this, or none
+abbrev pub with_active : Qpu → Option Thread → Qpu
+with_active q slot = record q { first = if q.second then q.first else slot; other = if q.second then slot else q.other }
+
+-- The processor after a step whose thread stands in its slot already; a wild one leaves nothing.
+abbrev pub left_slot : Option Leaves → Option Thread → Option Thread
+left_slot None slot = None
+left_slot (Some leaves) slot = kept_by leaves.fate slot
+
+abbrev pub gives_way_by : Option Leaves → Bool
+gives_way_by None = true
+gives_way_by (Some leaves) = gives_way leaves.fate
+
+abbrev pub asked_by : Option Leaves → Option Asked
+asked_by None = None
+asked_by (Some leaves) = leaves.asked
+
+unfoldable pub settled_by : Qpu → ℕ → Option Leaves → Qpu
+settled_by q job left = settled q job (left_slot left (active_of q)) (gives_way_by left) (asked_by left)
 
 abbrev pub went : Qpu → Thread → ThreadTurn → Qpu
 went q t turn = settled q t.job (left_by turn.leaves.fate turn.thread) (gives_way turn.leaves.fate) turn.leaves.asked
@@ -107,6 +137,10 @@ abbrev pub oldest : List Request → Option Request
 oldest [] = None
 oldest (request ∷ requests) = Some request
 
+abbrev pub job_of_request : Option Request → ℕ
+job_of_request None = 0
+job_of_request (Some request) = request.job
+
 abbrev pub tmu_ready : Qpu → ℕ → Glance Bool
 tmu_ready q tmu = Now (is_some (oldest (queue_of q tmu)))
 
@@ -124,12 +158,19 @@ dropped q tmu = record q {
   queue1 = record { items = if tmu == 0 then q.queue1.items else drop 1 q.queue1.items };
 }
 
--- It is gone, and its thread has the result, unless that is idle by now.
-unfoldable pub served : Qpu → ℕ → Request → Option (List ℕ) → Qpu
-served q tmu request row = record (dropped q tmu) {
-  first = if request.second then q.first else option_map (with_result tmu row) q.first;
-  other = if request.second then option_map (with_result tmu row) q.other else q.other;
+abbrev pub slot_of : Qpu → Bool → Option Thread
+slot_of q second = if second then q.other else q.first
+
+-- The thread has the result, unless it is idle.
+unfoldable pub given : Qpu → ℕ → Bool → Option (List ℕ) → Qpu
+given q tmu second row = record q {
+  first = if second then q.first else option_map (with_result tmu row) q.first;
+  other = if second then option_map (with_result tmu row) q.other else q.other;
 }
+
+-- The oldest request is gone, and its thread has the result, unless that is idle by now.
+abbrev pub served : Qpu → ℕ → Request → Option (List ℕ) → Qpu
+served q tmu request row = given (dropped q tmu) tmu request.second row
 
 abbrev pub serving : Option Request → Qpu → ℕ → List ℕ → Plan Qpu
 serving None q tmu words = Done q
@@ -164,6 +205,9 @@ in_first q t = record q { first = Some t; second = q.second && is_some q.other }
 
 unfoldable pub in_other : Qpu → Thread → Qpu
 in_other q t = record q { other = Some t; second = q.second || is_none q.first }
+
+abbrev pub in_slot : Bool → Qpu → Thread → Qpu
+in_slot second q t = if second then in_other q t else in_first q t
 
 -- a program starts in the first thread of the first processor that can take it, if there is one
 abbrev pub started_in : Bool → Thread → List Qpu → List Qpu

@@ -10,7 +10,10 @@ mod lanes;
 mod operands;
 mod qpu;
 mod request;
+mod serving;
+mod settle;
 mod start;
+mod starting;
 mod state;
 mod step;
 #[cfg(test)]
@@ -20,6 +23,9 @@ mod wild;
 
 pub use qpu::{is_qpu_idle, is_qpu_ready, takes_first, takes_other};
 pub use request::serve;
+pub use serving::{is_tmu_ready, step_tmu, tmu_job};
+pub use settle::{qpu_job, step_qpu};
 pub use start::start_thread;
+pub use starting::{free_in, idle_qpu, start_in};
 pub use state::{Ask, Asked, Fate, Leaves, Mark, Qpu, Request, Row, Thread};
 pub use step::{is_ready, step_thread};

@@ -1,6 +1,7 @@
 //! When a processor may step, and where a program can start.
 ghost use Rattle.std.specs.Prelude.{◌≡◌, ◌<◌, ◌≤◌, ◌^◌, IfSome};
 ghost use Rattle.machine_plan.specs.Glance.{glanced};
+ghost use Rattle.qpu_machine.specs.Bounds.{IsBounded};
 ghost use Rattle.qpu_machine.specs.Qpu.{active_of, is_of, queued, qpu_ready, has_none, is_beside, takes_first, takes_other, is_idle};
 
 use crate::state::{Qpu, Request, Thread};
@@ -35,7 +36,7 @@ fn queued(second: bool, requests: &ArrayVec<Request, 16>) -> usize
 
 /// Whether the processor may step: its active thread runs, and isn't held up by a TMU.
 pub fn is_qpu_ready(qpu: &Qpu, memory: &PhysMem) -> bool
-    requires { IfSome (active_of qpu.now) (λ thread. thread.place < 2 ^ 62) }
+    requires { IsBounded qpu.now }
     ensures { result ≡ glanced (qpu_ready qpu.now) memory.now }
 {
     let active = if qpu.second { &qpu.other } else { &qpu.first };

@@ -1,5 +1,5 @@
 //! A thread that has just been started.
-ghost use Rattle.std.specs.Prelude.{◌≡◌};
+ghost use Rattle.std.specs.Prelude.{◌≡◌, ◌<◌, ◌^◌};
 ghost use Rattle.qpu_machine.specs.Start.{idle, thread_of};
 
 use crate::state::{Mark, Thread};
@@ -21,7 +21,8 @@ fn idle() -> Mark
 /// A thread of this job that has just been started: at the program's first instruction, with zeros in its register files.
 #[tactic(auto, unfolding(crate::specs::Start::thread_of))]
 pub fn start_thread(job: u8, launch: Launch) -> Thread
-    ensures { result ≡ thread_of job launch }
+    ensures value { result ≡ thread_of job launch }
+    ensures near { result.place < 2 ^ 32 }
 {
     Thread {
         job,

@@ -46,6 +46,13 @@ pub enum Ask {
     Texture([u32; 4]),
 }
 
+// What an empty place of a queue holds.
+impl Default for Ask {
+    fn default() -> Ask {
+        Ask::Direct([0; 16])
+    }
+}
+
 /// A request, and the number of the TMU that it goes to.
 #[derive(Clone, Copy, Debug, PartialEq, Eq)]
 pub struct Asked {
@@ -69,7 +76,7 @@ pub struct Leaves {
 }
 
 /// A request in a TMU's queue: which thread of the processor made it (the second or the first), for which job, and what for.
-#[derive(Clone, Copy, Debug, PartialEq, Eq)]
+#[derive(Clone, Copy, Debug, Default, PartialEq, Eq)]
 pub struct Request {
     pub second: bool,
     pub job: u8,

@@ -1,25 +1,17 @@
--- The step is the definition's turn, and the job's new state is bounded.
-use Rattle.std.proofs.Common.{◌≡◌, ◌∙◌, ap, arith}
-use Rattle.std.proofs.lemmas.Grind.{common_steps}
-use Rattle.machine.specs.State.{State, renderer_job, job_at}
-use Rattle.machine.proofs.Jobs.{Renders, chosen_renders, jobs_set}
-use Rattle.machine.proofs.Turns.{render_done}
+-- The renderer's step is its turn.
+use Rattle.std.proofs.Common.{refl, ◌<◌, ◌∙◌, sym, subst, ap, length}
+use Rattle.qpu_machine.specs.Qpu.{free_in}
+use Rattle.machine.specs.State.{State}
+use Rattle.machine.proofs.Turns.{job_here, renderer_done, with_qpus}
 use Rattle.machine.proofs.machine.Machine.render.Goals as goal
-
-chosen_there : (c : goal.After-self-1) → Renders c.self.inside.jobs.items c.args.job
-chosen_there c = chosen_renders c.self.inside.jobs.items c.args.job (ap (λ s. renderer_job s.units.jobs) c.self.view_is ∙ c.requires.chosen)
-
-lists_are : (c : goal.After-self-1) → c.index-lists.result.now ≡ job_at c.self.inside.jobs.items c.args.job
-lists_are c = grind (arith, common_steps, (chosen_there c).inside, c.index-lists.ensures)
-
-pub invariant_of-self : goal.invariant_of-self
-invariant_of-self c =
-    let here = chosen_there c in
-    let old = c.self.invariant.bounded c.args.job here.inside in
-    let e = lists_are c in
-    jobs_set c.self.inside.jobs.items c.args.job _ c.self.invariant here.inside (c.rendered.ensures.bounded (omega (arith, here.below, ap (λ job. job.renderer.place) e, ap (λ job. job.renderer.end) e)) (omega (arith, old.end_below, ap (λ job. job.renderer.end) e)))
 
 pub returns : goal.returns
 returns c =
-    let s : State = record { memory = c.self.inside.memory; units = record { jobs = c.self.inside.jobs.items } } in
-    render_done s c.args.self.now c.self.view_is c.args.job c.args.words.now c.index-lists.result.now c.rendered.result c.args.accesses.now.items _ _ c.step_renderer-next.result c.requires.empty (lists_are c) c.rendered.ensures.value c.step_renderer-next.ensures.shows
+    let s : State = record { memory = c.self.inside.memory; units = record { jobs = c.self.inside.jobs.items; qpus = c.self.inside.qpus.items } } in
+    let below : c.args.job < length s.units.jobs = subst (λ (w : State). c.args.job < length w.units.jobs) (sym c.self.view_is) c.requires.within in
+    let here = job_here s.units.jobs c.args.job c.index_mut.result.now below c.index_mut.ensures.value in
+    let free = c.free_in-free.ensures ∙ ap free_in c.as_slice.ensures.value in
+    with_qpus s c.args.job c.step_renderer-started.new.self c.step_renderer-started.result c.unwrap_or.result c.step_renderer-started.new.memory c.self.inside.qpus.items c.begin.new.qpus.items _ c.step_renderer-started.new.accesses.items
+    c.begin.ensures.value refl c.unwrap_or.ensures
+    (renderer_done s c.args.self.now c.self.view_is c.args.job c.args.words.now c.index_mut.result.now c.step_renderer-started.new.self c.free_in-free.result c.step_renderer-started.result c.args.accesses.now.items c.step_renderer-started.new.accesses.items c.step_renderer-started.new.memory
+    c.requires.empty here free c.step_renderer-started.ensures.shows c.step_renderer-started.ensures.wild)

@@ -1,0 +1,31 @@
+-- The binner's step is its turn.
+use Rattle.std.proofs.Common.{refl, ◌≡◌, ◌<◌, ◌∙◌, sym, subst, ap, IsTrue, length, true}
+use Rattle.machine_plan.specs.Glance.{glanced, Now}
+use Rattle.list_machine.specs.Lists.{Lists}
+use Rattle.list_machine.specs.Binner.{binner_ready}
+use Rattle.qpu_machine.specs.Qpu.{free_in}
+use Rattle.machine.specs.State.{State, job_at}
+use Rattle.machine.proofs.Turns.{binner_now, job_here, binner_done, with_qpus}
+use Rattle.machine.proofs.machine.Machine.bin.Goals as goal
+
+pub step_binner-started-requires-clause-ready : goal.step_binner-started-requires-clause-ready
+step_binner-started-requires-clause-ready c =
+    let s : State = record { memory = c.self.inside.memory; units = record { jobs = c.self.inside.jobs.items; qpus = c.self.inside.qpus.items } } in
+    let below : c.args.job < length s.units.jobs = subst (λ (w : State). c.args.job < length w.units.jobs) (sym c.self.view_is) c.requires.within in
+    let here = job_here s.units.jobs c.args.job c.index_mut.result.now below c.index_mut.ensures.value in
+    let free = c.free_in-free.ensures ∙ ap free_in c.as_slice.ensures.value in
+    let ready : IsTrue (glanced (binner_ready (job_at s.units.jobs c.args.job) (free_in s.units.qpus)) s.memory) =
+    subst (λ (w : State). IsTrue (glanced (binner_ready (job_at w.units.jobs c.args.job) (free_in w.units.qpus)) w.memory)) (sym c.self.view_is) c.requires.ready in
+    binner_now c.index_mut.result.now c.free_in-free.result s.memory
+    (subst (λ f. IsTrue (glanced (binner_ready c.index_mut.result.now f) s.memory)) (sym free) (subst (λ l. IsTrue (glanced (binner_ready l (free_in s.units.qpus)) s.memory)) (sym here) ready))
+
+pub returns : goal.returns
+returns c =
+    let s : State = record { memory = c.self.inside.memory; units = record { jobs = c.self.inside.jobs.items; qpus = c.self.inside.qpus.items } } in
+    let below : c.args.job < length s.units.jobs = subst (λ (w : State). c.args.job < length w.units.jobs) (sym c.self.view_is) c.requires.within in
+    let here = job_here s.units.jobs c.args.job c.index_mut.result.now below c.index_mut.ensures.value in
+    let free = c.free_in-free.ensures ∙ ap free_in c.as_slice.ensures.value in
+    with_qpus s c.args.job c.step_binner-started.new.self c.step_binner-started.result c.unwrap_or.result c.step_binner-started.new.memory c.self.inside.qpus.items c.begin.new.qpus.items _ c.step_binner-started.new.accesses.items
+    c.begin.ensures.value refl c.unwrap_or.ensures
+    (binner_done s c.args.self.now c.self.view_is c.args.job c.args.words.now c.index_mut.result.now c.step_binner-started.new.self c.free_in-free.result c.step_binner-started.result c.args.accesses.now.items c.step_binner-started.new.accesses.items c.step_binner-started.new.memory
+    c.requires.empty here free c.step_binner-started.ensures.shows c.step_binner-started.ensures.wild)

@@ -1,0 +1,45 @@
+-- What a processor's numbers keep to, so that its queues have room.
+use Rattle.std.specs.Prelude.{◌≡◌, ◌≤◌, ◌<◌, ℕ, ◌+◌, ◌^◌, Bool, false, true, List, length, slice_index_or, Option, None, Some, IfSome, option_map}
+use Rattle.field_words.specs.declared.access.Access.{Access}
+use Rattle.machine_plan.specs.declared.who.Who.{Who}
+use Rattle.machine_plan.specs.Plan.{Shows, carried}
+use Rattle.qpu_machine.specs.declared.state.Leaves.{Leaves}
+use Rattle.qpu_machine.specs.declared.state.Qpu.{Qpu}
+use Rattle.qpu_machine.specs.declared.state.Request.{Request}
+use Rattle.qpu_machine.specs.declared.state.Thread.{Thread}
+use Rattle.qpu_machine.specs.Qpu.{queued, idle_qpu}
+use Rattle.qpu_machine.specs.Step.{thread_plan, turn_of}
+
+-- a thread's next instruction is no further than this
+abbrev pub IsNear : Option Thread → Type 0
+IsNear slot = IfSome slot (λ t. t.place < 2 ^ 62)
+
+-- how many finished results of a TMU a thread has
+abbrev pub finished0 : Option Thread → ℕ
+finished0 None = 0
+finished0 (Some t) = length t.results0.items
+
+abbrev pub finished1 : Option Thread → ℕ
+finished1 None = 0
+finished1 (Some t) = length t.results1.items
+
+-- a thread has at most eight requests and results in each TMU
+pub record IsFew (second : Bool) (slot : Option Thread) (queue0 queue1 : List Request) : Type 0 where
+  pub tmu0 : queued second queue0 + finished0 slot ≤ 8
+  pub tmu1 : queued second queue1 + finished1 slot ≤ 8
+
+pub record IsBounded (q : Qpu) : Type 0 where
+  pub first_near : IsNear q.first
+  pub other_near : IsNear q.other
+  pub first_few : IsFew false q.first q.queue0.items q.queue1.items
+  pub other_few : IsFew true q.other q.queue0.items q.queue1.items
+
+abbrev pub AreBounded : List Qpu → Type 0
+AreBounded qpus = (k : ℕ) → k < length qpus → IsBounded (slice_index_or qpus k idle_qpu)
+
+-- what an instruction of the thread in this slot has come to: the thread, and what it leaves
+pub record SlotSteps (who : Who) (words m : List ℕ) (before listed : List Access) (slot : Option Thread) (result : Option Leaves) (t : Thread) : Type 0 where
+  pub next : Thread
+  pub is : slot ≡ Some next
+  pub shows : Shows (carried who (thread_plan t words) m) before listed m (option_map (turn_of next) result)
+  pub near : IfSome result (λ leaves. next.place ≤ 2 ^ 34)

@@ -1,0 +1,128 @@
+//! The step of a processor's texture and memory unit (TMU).
+ghost use Rattle.std.specs.Prelude.{◌≡◌, ◌≢◌, ◌<◌, ◌≤◌, IsTrue, false, Some, None, is_some, option_map, drop, if◌then◌else◌};
+ghost use Rattle.arrayvec.specs.ArrayVec.{array_vec_len};
+ghost use Rattle.machine_plan.specs.Plan.{Shows, carried};
+ghost use Rattle.qpu_machine.specs.Qpu.{queue_of, oldest, job_of_request, slot_of, tmu_plan, dropped, with_result, given};
+ghost use Rattle.qpu_machine.specs.Bounds.{IsBounded, finished0, finished1};
+
+use crate::request::serve;
+use crate::state::{Qpu, Request, Row, Thread};
+use arrayvec::ArrayVec;
+use field_words::Access;
+use machine_plan::Who;
+use phys_mem::PhysMem;
+
+/// Whether TMU `tmu` of the processor has a request, and so may step.
+pub fn is_tmu_ready(qpu: &Qpu, tmu: u8) -> bool
+    ensures { result ≡ is_some (oldest (queue_of qpu.now tmu)) }
+{
+    if tmu == 0 {
+        !qpu.queue0.is_empty()
+    } else {
+        !qpu.queue1.is_empty()
+    }
+}
+
+// The job of the oldest request, or 0 where there is none.
+fn oldest_job(requests: &ArrayVec<Request, 16>) -> u8
+    ensures { result ≡ job_of_request (oldest requests.now.items) }
+{
+    if requests.is_empty() {
+        0
+    } else {
+        requests[0].job
+    }
+}
+
+/// The job of the oldest request of TMU `tmu`; 0 where it has none.
+pub fn tmu_job(qpu: &Qpu, tmu: u8) -> u8
+    ensures { result ≡ job_of_request (oldest (queue_of qpu.now tmu)) }
+{
+    if tmu == 0 {
+        oldest_job(&qpu.queue0)
+    } else {
+        oldest_job(&qpu.queue1)
+    }
+}
+
+// Takes the oldest request from a queue.
+fn take(requests: &mut ArrayVec<Request, 16>) -> Request
+    requires { IsTrue (is_some (oldest requests.old.items)) }
+    ensures value { oldest requests.old.items ≡ Some result }
+    ensures items { requests.new.items ≡ drop 1 requests.old.items }
+{
+    requests.remove(0)
+}
+
+// Takes the oldest request of a TMU.
+#[tactic(auto, unfolding(crate::specs::Qpu::dropped))]
+fn drop_oldest(tmu: u8, qpu: &mut Qpu) -> Request
+    requires { IsTrue (is_some (oldest (queue_of qpu.old tmu))) }
+    ensures value { oldest (queue_of qpu.old tmu) ≡ Some result }
+    ensures qpu { qpu.new ≡ dropped qpu.old tmu }
+{
+    if tmu == 0 {
+        take(&mut qpu.queue0)
+    } else {
+        take(&mut qpu.queue1)
+    }
+}
+
+// A thread, where it isn't idle, gets a result of a TMU.
+fn give_slot(tmu: u8, row: Option<Row>, slot: &mut Option<Thread>)
+    requires room0 { tmu ≡ 0 → finished0 slot.old < 8 }
+    requires room1 { tmu ≢ 0 → finished1 slot.old < 8 }
+    ensures { slot.new ≡ option_map (with_result tmu row) slot.old }
+{
+    if let Some(thread) = slot {
+        if tmu == 0 {
+            thread.results0.push(row);
+        } else {
+            thread.results1.push(row);
+        }
+    }
+}
+
+// The thread that made the request gets its result.
+#[tactic(auto, unfolding(crate::specs::Qpu::given))]
+fn give(tmu: u8, second: bool, row: Option<Row>, qpu: &mut Qpu)
+    requires room0 { tmu ≡ 0 → finished0 (slot_of qpu.old second) < 8 }
+    requires room1 { tmu ≢ 0 → finished1 (slot_of qpu.old second) < 8 }
+    ensures { qpu.new ≡ given qpu.old tmu second row }
+{
+    if second {
+        give_slot(tmu, row, &mut qpu.other);
+    } else {
+        give_slot(tmu, row, &mut qpu.first);
+    }
+}
+
+/// One step of TMU `tmu`, which has a request: it serves the oldest one, with the accesses of `who`, listed behind those
+/// already listed. What the hardware leaves open is answered by the words; a missing word is zero.
+///
+/// False comes exactly where the request is wild: then a Wild access is listed behind the reads before it, and the request is
+/// gone without a result.
+pub fn step_tmu(
+    qpu: &mut Qpu,
+    tmu: u8,
+    words: &[u32],
+    who: Who,
+    memory: &PhysMem,
+    accesses: &mut ArrayVec<Access, 272>,
+) -> bool
+    requires ready { IsTrue (is_some (oldest (queue_of qpu.old tmu))) }
+    requires bounded { IsBounded qpu.old }
+    requires room { array_vec_len accesses.old ≤ 100 }
+    ensures bounded { IsBounded qpu.new }
+    ensures shows { Shows (carried who (tmu_plan qpu.old tmu words.now) memory.now) accesses.old.items accesses.new.items memory.now (if result then Some qpu.new else None) }
+    ensures wild { result ≡ false → qpu.new ≡ dropped qpu.old tmu }
+{
+    let request = drop_oldest(tmu, qpu);
+    match serve(&request.ask, words, who, memory, accesses) {
+        Some(row) => {
+            give(tmu, request.second, row, qpu);
+            true
+        }
+        None => false,
+    }
+}
