@@ -51,6 +51,7 @@ fn fresh_memory(alloc: Global, file: &JobFile) -> Result<PhysMem, NoMemory>
 }
 
 /// The rules of a job whose lists don't fit their region: those before X1 are asked over a region of the check's own.
+#[tactic(auto, unfolding(field_words::specs::Writes::zeros))]
 fn without_room(alloc: Global, job: &Context) -> Result<Lists, Stop<Refusal>>
     requires { job.now.file.regions.lists_size < (layout_of job.now.file job.now.number).end }
     ensures { Answers (lists_stages job.now.file job.now.number ++ layout_stage job.now.file job.now.number) (λ _. ⊥) result }
