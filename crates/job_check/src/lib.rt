@@ -14,3 +14,4 @@ mod shaders;
 mod stages;
 
 pub use check::{Checked, check_job};
+pub use shaders::words_of;

@@ -1,7 +1,7 @@
 //! S: the shaders of a file, by buffer.
 ghost use Rattle.std.specs.Prelude.{◌≡◌, ◌<◌, ◌≤◌, ◌*◌, ◌/◌, ◌^◌, length, IfOk, IfSome};
 ghost use Rattle.field_words.specs.Words.{u64_at};
-ghost use Rattle.field_words.specs.Sizes.{most_code};
+ghost use Rattle.field_words.specs.Sizes.{most_code, most_list};
 ghost use Rattle.field_words.specs.Questions.{Answers, NeverHidesFault};
 ghost use Rattle.buffer_table.specs.declared.buffer.Kind.TheVariants.{Code as CodeKind};
 ghost use Rattle.buffer_table.specs.Table.{buffer_at};
@@ -26,17 +26,17 @@ use std::sync::ledger::{Blank, Ledger};
 /// Word k of the bytes.
 #[tactic(auto, unfolding(field_words::specs::Words::u64_at))]
 fn word_at(bytes: &[u8], k: usize) -> u64
-    requires few { length bytes.now ≤ most_code }
+    requires few { length bytes.now ≤ most_list }
     requires inside { k < length bytes.now / 8 }
     ensures { result ≡ u64_at bytes.now (8 * k) }
 {
     LittleEndian::read_u64(&bytes[8 * k..])
 }
 
-/// The words that the bytes spell.
+/// The words of eight bytes that the bytes spell, the lowest byte first; up to seven bytes after the last are left.
 #[tactic(auto, using(crate::proofs::Codes::words_none, crate::proofs::Codes::words_more))]
-fn words_of(alloc: Global, bytes: &[u8]) -> Result<Vec<u64>, AllocError>
-    requires { length bytes.now ≤ most_code }
+pub fn words_of(alloc: Global, bytes: &[u8]) -> Result<Vec<u64>, AllocError>
+    requires { length bytes.now ≤ most_list }
     ensures { IfOk result (λ words. words.items ≡ words_of bytes.now) }
 {
     let mut words = Vec::with_capacity(alloc, bytes.len() / 8)?;
