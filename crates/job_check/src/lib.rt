@@ -15,4 +15,5 @@ mod stages;
 mod whole;
 
 pub use check::{Checked, check_job};
+pub use shaders::words_of;
 pub use whole::check_bytes;
