@@ -128,13 +128,25 @@ fn mul_register(word: u64) -> Option<Reg>
     register_at(ws(word), waddr_mul(word))
 }
 
-// The fact, where the instruction sets the whole register.
-fn fact_set(word: u64, reg: Reg, fact: Fact) -> Fact
-    requires { IsRegister reg }
-    ensures { result ≡ (if sets_alone word reg then fact else Nothing) }
+// The fact that the instruction at `at` makes of the register, where it sets the whole of it.
+fn fact_set<L: Ledger>(
+    code: &[u64],
+    at: u32,
+    count: u32,
+    reg: Reg,
+    table: &FactTable,
+    steps: &mut Steps<L>,
+) -> Fact
+    requires inside { at < length code.now }
+    requires few { length code.now ≤ 8192 }
+    requires taken { count ≡ count_of code.now at }
+    requires register { IsRegister reg }
+    requires kept { IsTableOf code.now (maker_of code.now at) table.now }
+    ensures value { result ≡ (if sets_alone (word code.now at) reg then made code.now at else Nothing) }
+    ensures steps { steps.new ≤ steps.old + 1 }
 {
-    if sets_alone(word, reg) {
-        return fact;
+    if sets_alone(code[at as usize], reg) {
+        return fact_made(code, at, count, table, steps);
     }
     Fact::Nothing
 }
@@ -143,21 +155,21 @@ fn fact_set(word: u64, reg: Reg, fact: Fact) -> Fact
 fn learn_add<L: Ledger>(
     code: &[u64],
     at: u32,
-    fact: Fact,
+    count: u32,
     table: &mut FactTable,
     steps: &mut Steps<L>,
 )
     requires checked { at < checked_of code.now }
     requires inside { at < length code.now }
     requires few { length code.now ≤ 8192 }
-    requires fact { fact ≡ made code.now at }
+    requires taken { count ≡ count_of code.now at }
     requires before { IsTableOf code.now (maker_of code.now at) table.old }
     ensures after { IsTableOf code.now (maker_added code.now at) table.new }
-    ensures steps { steps.new ≤ steps.old + 1 }
+    ensures steps { steps.new ≤ steps.old + 2 }
 {
-    let word = code[at as usize];
-    if let Some(reg) = add_register(word) {
-        table.put(reg, fact_set(word, reg, fact), at, steps);
+    if let Some(reg) = add_register(code[at as usize]) {
+        let fact = fact_set(code, at, count, reg, table, steps);
+        table.put(reg, fact, at, steps);
     }
 }
 
@@ -221,8 +233,7 @@ pub fn learn<L: Ledger>(
     ensures after { IsTableOf code.now (maker_of code.now (at + 1)) table.new }
     ensures steps { steps.new ≤ steps.old + 4 }
 {
-    let made = fact_made(code, at, count, table, steps);
-    learn_add(code, at, made, table, steps);
+    learn_add(code, at, count, table, steps);
     learn_mul(code, at, table, steps);
     forget(code, flow, at as usize, table, steps);
 }

@@ -42,11 +42,6 @@ unfoldable pub rows_text : List ℕ → ℕ → ℕ → List ℕ
 rows_text memory place zero = []
 rows_text memory place (suc rows) = row_text memory place ++ rows_text memory (place + 16) rows
 
--- how many of so many rows from a place on aren't all zero
-unfoldable pub filled_rows : List ℕ → ℕ → ℕ → ℕ
-filled_rows memory place zero = 0
-filled_rows memory place (suc rows) = (if is_blank (row_at memory place) then 0 else 1) + filled_rows memory (place + 16) rows
-
 -- where the emitted lists and the tile slot lie, by absolute places, and how long the lists are
 unfoldable pub layout_text : Layout → Lengths → List ℕ
 layout_text layout lengths =

@@ -1,8 +1,9 @@
 //! The texts of an accepted job and of a refusal.
-ghost use Rattle.std.specs.Prelude.{◌≡◌, ◌≤◌, ◌<◌, ◌^◌, ◌+◌, ◌*◌, ◌++◌, ◌/◌, ◌%◌, length, IfOk, OnOk, string_bytes};
+ghost use Rattle.std.specs.Prelude.{◌≡◌, ◌≤◌, ◌<◌, ◌^◌, ◌+◌, ◌*◌, ◌++◌, ◌/◌, ◌%◌, length, false, IfOk, OnOk, string_bytes};
 ghost use Rattle.field_words.specs.Writes.{with_bytes};
 ghost use Rattle.hex.specs.Hex.{encode_lower};
-ghost use Rattle.dumper.specs.Text.{place_text, list_line, memory_line, slot_line, row_line, row_at, is_blank, filled_rows, row_text, rows_text, layout_text, accepted_text, refused_text};
+ghost use Rattle.std.specs.Fmt.{digit_glyph};
+ghost use Rattle.dumper.specs.Text.{place_text, list_line, memory_line, slot_line, row_line, row_at, is_blank, row_text, rows_text, layout_text, accepted_text, refused_text};
 
 use field_words::NoMemory;
 use job_format::Refusal;
@@ -88,13 +89,27 @@ fn is_blank(memory: &PhysMem, place: u32) -> bool
     first + second + third + fourth == 0
 }
 
+/// The digit of a number below 16, in lower case. It is a sum and no look at a table, so that many digits are made at once.
+#[inline]
+fn digit(number: u8) -> u8
+    requires { number < 16 }
+    ensures { result ≡ digit_glyph false number }
+{
+    number + if number < 10 { 48 } else { 87 }
+}
+
 /// Writes two digits for each of these bytes from `at` on.
 #[inline]
+#[tactic(auto, using(crate::proofs::Digits::no_digits))]
 fn put_digits(line: &mut [u8], at: usize, bytes: &[u8])
     requires { at + 2 * length bytes.now ≤ length line.old }
     ensures { line.new ≡ with_bytes line.old at (encode_lower bytes.now) }
 {
-    let _ = hex::encode_to_slice(bytes, &mut line[at..at + 2 * bytes.len()]);
+    for k in 0..bytes.len() {
+        let byte = bytes[k];
+        line[at + 2 * k] = digit(byte / 16);
+        line[at + 2 * k + 1] = digit(byte % 16);
+    }
 }
 
 /// The line of a row: its place, a blank, its bytes and a line feed.
@@ -108,19 +123,15 @@ fn row_line(place: u32, row: &[u8; 16]) -> [u8; ROW_LINE]
     line
 }
 
-/// How many rows of the memory aren't all zero.
-fn filled_rows(memory: &PhysMem) -> usize
-    ensures value { result ≡ filled_rows memory.now 0 (length memory.now / 16) }
-    ensures fits { result < 2 ^ 28 }
+/// Appends the line of the sixteen bytes at a place. It stands apart from the test for zeros, so that its bytes are loaded as
+/// one row and not taken out of the words of the test.
+#[inline(never)]
+fn push_line(out: &mut Vec<u8>, memory: &PhysMem, place: u32) -> Result<(), AllocError>
+    requires inside { place + 16 ≤ length memory.now }
+    requires fits { length memory.now < 2 ^ 32 }
+    ensures { OnOk result (out.new.items ≡ out.old.items ++ row_line place (row_at memory.now place)) }
 {
-    let rows = memory.len() / 16;
-    let mut filled = 0;
-    for row in 0..rows {
-        if !is_blank(memory, 16 * row) {
-            filled += 1;
-        }
-    }
-    filled
+    out.extend_from_slice(&row_line(place, &row_at(memory, place)))
 }
 
 /// Appends the line of the sixteen bytes at a place, or nothing where they are all zero.
@@ -134,7 +145,7 @@ fn push_row(out: &mut Vec<u8>, memory: &PhysMem, place: u32) -> Result<(), Alloc
     if is_blank(memory, place) {
         return Ok(());
     }
-    out.extend_from_slice(&row_line(place, &row_at(memory, place)))
+    push_line(out, memory, place)
 }
 
 /// Appends the lines of all rows of the memory that aren't all zero.
@@ -182,7 +193,9 @@ pub fn image_text(
     requires { length memory.now % 16 ≡ 0 }
     ensures { IfOk result (λ text. text.items ≡ accepted_text memory.now layout.now lengths.now) }
 {
-    let mut out = Vec::with_capacity(alloc, OTHER_LINES + ROW_LINE * filled_rows(memory))?;
+    // Room for all rows: each is looked at once, so how many are filled isn't known yet. Room that isn't written is never touched.
+    let rows = memory.len() as usize / 16;
+    let mut out = Vec::with_capacity(alloc, OTHER_LINES + ROW_LINE * rows)?;
     out.extend_from_slice(b"accepted\n")?;
     out.extend_from_slice(memory_line(alloc, memory.len())?.as_bytes())?;
     push_layout(alloc, &mut out, layout, lengths)?;

@@ -6,3 +6,4 @@ pub mod Parts
 pub mod Order
 pub mod Views
 pub mod Windows
+pub mod Wants

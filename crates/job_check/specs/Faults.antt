@@ -1,7 +1,9 @@
 -- All rules that can refuse a file that was read, in the order of refusal: the memory table, the shaders by buffer,
 -- and then job by job its handles, its binner list, its shader records with their uniforms, its frame and surfaces, and its layout.
-use Rattle.std.specs.Prelude.{ℕ, Bool, ◌+◌, ◌*◌, nat_lt, List, [], ◌∷◌, ◌++◌, length, if◌then◌else◌}
-use Rattle.field_words.specs.Questions.{Question, Ask, each, answered}
+use Rattle.std.specs.Prelude.{◌≡◌, ℕ, Bool, not, ◌+◌, ◌*◌, ◌%◌, ◌==◌, ◌<◌, nat_lt, List, [], ◌∷◌, ◌++◌, length, Option, None, Result, Ok, Err, if◌then◌else◌}
+use Rattle.field_words.specs.Questions.{Question, Ask, first_of, each, answered}
+use Rattle.field_words.specs.declared.stop.Stop.{Stop}
+use Rattle.field_words.specs.declared.stop.Stop.TheVariants.{Fault, NoMemory}
 use Rattle.buffer_table.specs.declared.buffer.TableFault.{TableFault}
 use Rattle.buffer_table.specs.declared.buffer.Kind.{Kind}
 use Rattle.buffer_table.specs.declared.buffer.Kind.TheVariants.{Plain, Code}
@@ -46,6 +48,25 @@ shader_stage f b = answered (shader_refused f b) (shader_questions_in (buffer_at
 
 unfoldable pub shaders_stage : FileModel → List (Question Refusal)
 shaders_stage f = each (shader_stage f) 0 (length f.buffers)
+
+-- The one rule of a shader that is asked before memory is taken: its bytes are whole words.
+abbrev pub whole_questions_in : Kind → List ℕ → List (Question ShaderFault)
+whole_questions_in Plain content = []
+whole_questions_in Code content = Ask (not (length content % 8 == 0)) (record { number = 1; index = 0 }) ∷ []
+
+unfoldable pub whole_stage : FileModel → ℕ → List (Question Refusal)
+whole_stage f b = answered (shader_refused f b) (whole_questions_in (buffer_at f.buffers b).kind (content_of f b))
+
+-- Where S may end for want of memory: at a buffer before which no rule of a shader stands, and whose own bytes are whole words.
+pub record MayEndAt (f : FileModel) (b : ℕ) : Type 0 where
+  pub inside : b < length f.buffers
+  pub before : first_of (each (shader_stage f) 0 b) ≡ None
+  pub whole : first_of (whole_stage f b) ≡ None
+
+abbrev pub HidesNoShader : {X : Type 0} → FileModel → Result X (Stop Refusal) → Type 0
+HidesNoShader f (Ok made) = Unit {0}
+HidesNoShader f (Err (Fault refusal)) = Unit {0}
+HidesNoShader f (Err NoMemory) = (b : ℕ) × MayEndAt f b
 
 -- H: the handles of job j
 abbrev pub handle_refused : FileModel → ℕ → ℕ → Refusal

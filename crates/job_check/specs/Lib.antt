@@ -5,3 +5,4 @@ pub mod Jobs
 pub mod Offsets
 pub mod Shaders
 pub mod Told
+pub mod Whole

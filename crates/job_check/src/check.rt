@@ -1,6 +1,6 @@
 //! The whole check of a job file.
 ghost use Rattle.std.specs.Prelude.{◌≡◌, ◌<◌, ◌≤◌, ◌+◌, ◌++◌, length, IfOk};
-ghost use Rattle.field_words.specs.Questions.{Answers, NamesFirst, each};
+ghost use Rattle.field_words.specs.Questions.{Answers, NamesFirst, NeverHidesFault, each};
 ghost use Rattle.field_words.specs.Writes.{placed, zeros};
 ghost use Rattle.job_format.specs.File.{IsWellFormed};
 ghost use Rattle.job_format.specs.Model.{file_view};
@@ -8,7 +8,7 @@ ghost use Rattle.buffer_table.specs.Sound.{IsSound};
 ghost use Rattle.shader_records.specs.Inputs.{shaders_view};
 ghost use Rattle.job_check.specs.Shaders.{table_of, AreShadersIn};
 ghost use Rattle.job_check.specs.Jobs.{layout_of};
-ghost use Rattle.job_check.specs.Faults.{shaders_stage, lists_stages, layout_stage, job_stages, file_stages};
+ghost use Rattle.job_check.specs.Faults.{table_stage, shaders_stage, lists_stages, layout_stage, job_stages, file_stages};
 ghost use Rattle.job_check.specs.Emit.{content_parts, memory_parts, IsPlacedFor, IsEmitted, IsPlaced};
 
 use super::context::Context;
@@ -51,12 +51,14 @@ fn fresh_memory(alloc: Global, file: &JobFile) -> Result<PhysMem, NoMemory>
 }
 
 /// The rules of a job whose lists don't fit their region: those before X1 are asked over a region of the check's own.
+#[tactic(auto, unfolding(field_words::specs::Writes::zeros))]
 fn without_room(alloc: Global, job: &Context) -> Result<Lists, Stop<Refusal>>
     requires { job.now.file.regions.lists_size < (layout_of job.now.file job.now.number).end }
     ensures { Answers (lists_stages job.now.file job.now.number ++ layout_stage job.now.file job.now.number) (λ _. ⊥) result }
 {
-    let mut region = vec![in alloc; 0u8; job.layout.end as usize]?;
-    match job.write_lists(alloc, &mut region) {
+    let end = job.layout.end;
+    let mut region = PhysMem::new(alloc, end)?;
+    match job.write_lists(alloc, region.window(0, end)) {
         Ok(_) => Err(Stop::Fault(job.layout_refusal())),
         Err(stop) => Err(stop),
     }
@@ -148,11 +150,13 @@ fn check_shaders(alloc: Global, file: &JobFile, table: &Table) -> Result<Checked
 
 /// Checks a file that was read. `Ok` comes exactly where no rule stands of the memory table, of the shaders, of the job's
 /// handles, of its binner list, of its records and uniforms, of its frame and surfaces and of its layout; else the refusal is the first that does, with its place in the file.
+/// A fault of the memory table is never answered as want of memory.
 #[tactic(auto, unfolding(crate::specs::Faults::file_stages))]
 pub fn check_job(alloc: Global, file: &JobFile) -> Result<Checked, Stop<Refusal>>
     requires { IsWellFormed (file_view file.now) }
     ensures answers { Answers (file_stages (file_view file.now)) (λ checked. IsEmitted (file_view file.now) checked.memory checked.layout checked.lengths) result }
     ensures first { NamesFirst (file_stages (file_view file.now)) result }
+    ensures memory { NeverHidesFault (table_stage (file_view file.now)) result }
     ensures placed { IfOk result (λ checked. IsPlaced checked.memory checked.layout) }
 {
     match table_stage(alloc, file) {

@@ -1,6 +1,6 @@
 //! A job in view.
 ghost use Rattle.std.specs.Prelude.{◌≡◌, ◌↔◌, ◌<◌, ◌≤◌, ◌+◌, length, IsTrue};
-ghost use Rattle.field_words.specs.Questions.{Answers};
+ghost use Rattle.field_words.specs.Questions.{Answers, NeverHidesFault};
 ghost use Rattle.job_format.specs.File.{IsWellFormed, IsJobWellFormed};
 ghost use Rattle.job_format.specs.Model.{file_view, job_view};
 ghost use Rattle.buffer_table.specs.Sound.{IsSound};
@@ -58,7 +58,7 @@ pub fn job_at(file: &JobFile, number: usize) -> &Job
 }
 
 impl<'a> Context<'a> {
-    /// H: the handles of the job of this number, and with them the job in view.
+    /// H: the handles of the job of this number, and with them the job in view. Finding a fault takes no memory.
     #[tactic(auto, unfolding(crate::specs::Faults::handles_stage), using(field_words::proofs::Questions::answered_none, field_words::proofs::Questions::answered_some))]
     pub fn open(
         alloc: Global,
@@ -72,7 +72,8 @@ impl<'a> Context<'a> {
         requires table_is { table.now ≡ table_of (file_view file.now) }
         requires shaders_are { AreShadersIn (file_view file.now) (shaders_view shaders.now.items) }
         requires sound { IsSound file.now.mem_size file.now.regions file.now.buffers.items }
-        ensures { Answers (handles_stage (file_view file.now) number) (λ c. c ≡ record { file = file_view file.now; number = number }) result }
+        ensures answers { Answers (handles_stage (file_view file.now) number) (λ c. c ≡ record { file = file_view file.now; number = number }) result }
+        ensures memory { NeverHidesFault (handles_stage (file_view file.now) number) result }
     {
         let job = job_at(file, number);
         match Handles::make(alloc, table, job.client, &job.handles) {

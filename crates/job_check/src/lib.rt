@@ -12,5 +12,8 @@ mod lists;
 mod refusals;
 mod shaders;
 mod stages;
+mod whole;
 
 pub use check::{Checked, check_job};
+pub use shaders::words_of;
+pub use whole::check_bytes;

@@ -1,8 +1,8 @@
 //! S: the shaders of a file, by buffer.
 ghost use Rattle.std.specs.Prelude.{◌≡◌, ◌<◌, ◌≤◌, ◌*◌, ◌/◌, ◌^◌, length, IfOk, IfSome};
 ghost use Rattle.field_words.specs.Words.{u64_at};
-ghost use Rattle.field_words.specs.Sizes.{most_code};
-ghost use Rattle.field_words.specs.Questions.{Answers};
+ghost use Rattle.field_words.specs.Sizes.{most_code, most_list};
+ghost use Rattle.field_words.specs.Questions.{Answers, NeverHidesFault};
 ghost use Rattle.buffer_table.specs.declared.buffer.Kind.TheVariants.{Code as CodeKind};
 ghost use Rattle.buffer_table.specs.Table.{buffer_at};
 ghost use Rattle.job_format.specs.File.{IsWellFormed};
@@ -10,7 +10,7 @@ ghost use Rattle.job_format.specs.Model.{file_view};
 ghost use Rattle.qpu_isa.specs.Shader.{shader_view, IsSoundShader};
 ghost use Rattle.shader_records.specs.Inputs.{shader_option, shaders_view};
 ghost use Rattle.job_check.specs.Shaders.{words_in, words_of, code_questions, told_of, content_of, shader_of, AreShadersIn};
-ghost use Rattle.job_check.specs.Faults.{shader_stage, shaders_stage};
+ghost use Rattle.job_check.specs.Faults.{shader_stage, whole_questions_in, whole_stage, shaders_stage, HidesNoShader};
 
 use super::refusals::shader_refusal;
 use buffer_table::Kind;
@@ -26,17 +26,17 @@ use std::sync::ledger::{Blank, Ledger};
 /// Word k of the bytes.
 #[tactic(auto, unfolding(field_words::specs::Words::u64_at))]
 fn word_at(bytes: &[u8], k: usize) -> u64
-    requires few { length bytes.now ≤ most_code }
+    requires few { length bytes.now ≤ most_list }
     requires inside { k < length bytes.now / 8 }
     ensures { result ≡ u64_at bytes.now (8 * k) }
 {
     LittleEndian::read_u64(&bytes[8 * k..])
 }
 
-/// The words that the bytes spell.
+/// The words of eight bytes that the bytes spell, the lowest byte first; up to seven bytes after the last are left.
 #[tactic(auto, using(crate::proofs::Codes::words_none, crate::proofs::Codes::words_more))]
-fn words_of(alloc: Global, bytes: &[u8]) -> Result<Vec<u64>, AllocError>
-    requires { length bytes.now ≤ most_code }
+pub fn words_of(alloc: Global, bytes: &[u8]) -> Result<Vec<u64>, AllocError>
+    requires { length bytes.now ≤ most_list }
     ensures { IfOk result (λ words. words.items ≡ words_of bytes.now) }
 {
     let mut words = Vec::with_capacity(alloc, bytes.len() / 8)?;
@@ -58,6 +58,7 @@ fn shader_in<L: Ledger>(
     requires parts { blank.parts ≡ L.parts }
     requires some { 0 < blank.parts }
     ensures answers { Answers (code_questions bytes.now) (λ info. shader_view info ≡ told_of (words_of bytes.now)) result }
+    ensures memory { NeverHidesFault (whole_questions_in CodeKind bytes.now) result }
     ensures sound { IfOk result (λ info. IsSoundShader (shader_view info)) }
 {
     if bytes.len() % 8 != 0 {
@@ -90,11 +91,12 @@ fn content_at(file: &JobFile, b: usize) -> &[u8]
 }
 
 /// S of buffer `b`: what its shader takes and reads, or `None` where it is a Plain one.
-#[tactic(auto, unfolding(crate::specs::Faults::shader_stage, crate::specs::Shaders::shader_of), using(field_words::proofs::Questions::answered_none, field_words::proofs::Questions::answered_some))]
+#[tactic(auto, unfolding(crate::specs::Faults::shader_stage, crate::specs::Faults::whole_stage, crate::specs::Shaders::shader_of), using(field_words::proofs::Questions::answered_none, field_words::proofs::Questions::answered_some))]
 fn shader_at(alloc: Global, file: &JobFile, b: usize) -> Result<Option<ShaderInfo>, Stop<Refusal>>
     requires well_formed { IsWellFormed (file_view file.now) }
     requires inside { b < length file.now.buffers.items }
     ensures answers { Answers (shader_stage (file_view file.now) b) (λ shader. shader_option shader ≡ shader_of (file_view file.now) b) result }
+    ensures memory { NeverHidesFault (whole_stage (file_view file.now) b) result }
     ensures sound { IfOk result (λ shader. IfSome (shader_option shader) IsSoundShader) }
 {
     match kind_at(file, b) {
@@ -107,14 +109,16 @@ fn shader_at(alloc: Global, file: &JobFile, b: usize) -> Result<Option<ShaderInf
     }
 }
 
-/// S: the shaders in all Code buffers, whether or not a job names them. There is one entry for each buffer.
+/// S: the shaders in all Code buffers, whether or not a job names them. There is one entry for each buffer. Want of memory hides no
+/// fault of an earlier shader, nor that a shader's own bytes aren't whole words.
 #[tactic(auto, unfolding(crate::specs::Faults::shaders_stage), using(field_words::proofs::Questions::each_on, field_words::proofs::Questions::each_stop, field_words::proofs::Questions::each_end, crate::proofs::Codes::shaders_none, crate::proofs::Codes::shaders_more))]
 pub fn shaders_stage(
     alloc: Global,
     file: &JobFile,
 ) -> Result<Vec<Option<ShaderInfo>>, Stop<Refusal>>
     requires { IsWellFormed (file_view file.now) }
-    ensures { Answers (shaders_stage (file_view file.now)) (λ shaders. AreShadersIn (file_view file.now) (shaders_view shaders.items)) result }
+    ensures answers { Answers (shaders_stage (file_view file.now)) (λ shaders. AreShadersIn (file_view file.now) (shaders_view shaders.items)) result }
+    ensures memory { HidesNoShader (file_view file.now) result }
 {
     let mut shaders = Vec::new(alloc);
     for b in 0..file.buffers.len() {

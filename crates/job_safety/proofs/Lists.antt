@@ -1,5 +1,5 @@
 -- The renderer list of a thin job in its memory, byte by byte, and how its packets are read.
-use Rattle.std.proofs.Common.{◌≡◌, ◌<◌, ℕ, ◌+◌, ◌^◌, List, length, slice_index, refl, sym, ◌∙◌, ap, arith, zero-add, add-zero, add_assoc}
+use Rattle.std.proofs.Common.{◌≡◌, ◌<◌, ℕ, ◌+◌, ◌^◌, List, length, slice_index, Some, refl, sym, ◌∙◌, ap, arith, zero-add, add-zero, add_assoc}
 use Rattle.std.proofs.lemmas.List.{length-replicate}
 use Rattle.std.proofs.lemmas.Nat.{from_le_bytes-to_le_bytes_2, from_le_bytes-to_le_bytes_4}
 use Rattle.field_words.specs.Words.{u16_at, u32_at}
@@ -7,11 +7,13 @@ use Rattle.field_words.specs.Writes.{zeros}
 use Rattle.field_words.proofs.Writes.{with_bytes-inside}
 use Rattle.machine_plan.specs.Memory.{bytes_at}
 use Rattle.machine_plan.proofs.Memory.{bytes_same}
-use Rattle.list_machine.specs.Packet.{packet_length, frame_of}
+use Rattle.packets.specs.declared.packet.Packet.{Packet}
+use Rattle.packets.specs.declared.packet.Packet.TheVariants.{StoreTileColorAndEnd, TileRenderingMode, TileCoordinates}
+use Rattle.packets.specs.Length.{render_taken}
+use Rattle.packets.specs.Packet.{packet_named, decoded}
 use Rattle.thin_job.specs.declared.thin.Thin.{Thin}
 use Rattle.thin_job.specs.Thin.{color_place, KeepsRules}
 use Rattle.thin_job.specs.Memory.{thin_list, thin_memory}
-use Rattle.job_safety.proofs.Frames.{thin_frame}
 
 -- the list stands in the memory
 pub record Stands (t : Thin) (m : List ℕ) : Type 0 where
@@ -45,16 +47,16 @@ third_packet t m stands = bytes_same m (thin_list t) (t.regions.lists_place + 14
 
 -- the opcodes and the lengths
 pub record LengthsAre (t : Thin) (m : List ℕ) : Type 0 where
-  pub first : packet_length (slice_index m t.regions.lists_place) ≡ 11
-  pub second : packet_length (slice_index m (t.regions.lists_place + 11)) ≡ 3
-  pub third : packet_length (slice_index m (t.regions.lists_place + 14)) ≡ 1
+  pub first : render_taken (slice_index m t.regions.lists_place) ≡ 11
+  pub second : render_taken (slice_index m (t.regions.lists_place + 11)) ≡ 3
+  pub third : render_taken (slice_index m (t.regions.lists_place + 14)) ≡ 1
 
 pub lengths_are : (t : Thin) (m : List ℕ) → Stands t m → LengthsAre t m
-unfolding packet_length thin_list
+unfolding render_taken thin_list
 lengths_are t m stands = record {
-  first = ap packet_length (ap (λ a. slice_index m a) (sym (add-zero t.regions.lists_place)) ∙ stands.bytes 0 (omega arith));
-  second = ap packet_length (stands.bytes 11 (omega arith));
-  third = ap packet_length (stands.bytes 14 (omega arith));
+  first = ap render_taken (ap (λ a. slice_index m a) (sym (add-zero t.regions.lists_place)) ∙ stands.bytes 0 (omega arith));
+  second = ap render_taken (stands.bytes 11 (omega arith));
+  third = ap render_taken (stands.bytes 14 (omega arith));
 }
 
 pub first_opcode : (t : Thin) → slice_index (bytes_at (thin_list t) 0 11) 0 ≡ 113
@@ -94,11 +96,27 @@ read_bits : (t : Thin) → u16_at (bytes_at (thin_list t) 0 11) 9 ≡ 4
 unfolding bytes_at thin_list u16_at
 read_bits t = refl
 
-pub frame_is : (t : Thin) → KeepsRules t → frame_of (bytes_at (thin_list t) 0 11) ≡ thin_frame (color_place t) t.width t.height
-unfolding frame_of
-frame_is t rules =
-    let a : u32_at (bytes_at (thin_list t) 0 11) 1 ≡ color_place t = read_place t (omega (arith, rules.items.buffer.inside, rules.items.memory.most, rules.frame.inside)) in
-    let b : u16_at (bytes_at (thin_list t) 0 11) 5 ≡ t.width = read_width t (omega (arith, rules.frame.most_wide)) in
-    let c : u16_at (bytes_at (thin_list t) 0 11) 7 ≡ t.height = read_height t (omega (arith, rules.frame.most_high)) in
-    let d : u16_at (bytes_at (thin_list t) 0 11) 9 ≡ 4 = read_bits t in
-    cc
+abbrev frame_packet : ℕ → ℕ → ℕ → ℕ → Packet
+frame_packet place width height bits = TileRenderingMode place width height bits
+
+pub first_decoded : (t : Thin) → KeepsRules t → decoded (bytes_at (thin_list t) 0 11) ≡ Some (TileRenderingMode (color_place t) t.width t.height 4)
+unfolding decoded
+first_decoded t rules =
+    let bytes = bytes_at (thin_list t) 0 11 in
+    let a : u32_at bytes 1 ≡ color_place t = read_place t (omega (arith, rules.items.buffer.inside, rules.items.memory.most, rules.frame.inside)) in
+    let b : u16_at bytes 5 ≡ t.width = read_width t (omega (arith, rules.frame.most_wide)) in
+    let c : u16_at bytes 7 ≡ t.height = read_height t (omega (arith, rules.frame.most_high)) in
+    let d : u16_at bytes 9 ≡ 4 = read_bits t in
+    let fields : frame_packet (u32_at bytes 1) (u16_at bytes 5) (u16_at bytes 7) (u16_at bytes 9) ≡ frame_packet (color_place t) t.width t.height 4 = cc in
+    ap (λ o. packet_named o bytes) (first_opcode t) ∙ ap Some fields
+
+pub second_decoded : (t : Thin) → decoded (bytes_at (thin_list t) 11 3) ≡ Some (TileCoordinates 0 0)
+unfolding decoded
+second_decoded t =
+    let bytes = bytes_at (thin_list t) 11 3 in
+    let both : TileCoordinates (slice_index bytes 1) (slice_index bytes 2) ≡ TileCoordinates 0 0 = cc (second_x t, second_y t) in
+    ap (λ o. packet_named o bytes) (second_opcode t) ∙ ap Some both
+
+pub third_decoded : (t : Thin) → decoded (bytes_at (thin_list t) 14 1) ≡ Some StoreTileColorAndEnd
+unfolding decoded
+third_decoded t = ap (λ o. packet_named o (bytes_at (thin_list t) 14 1)) (third_opcode t)

@@ -8,15 +8,17 @@ use Rattle.machine_plan.specs.Plan.{access}
 use Rattle.machine_plan.specs.Regions.{Rights}
 use Rattle.machine_plan.specs.Runs.{reached}
 use Rattle.machine_plan.specs.World.{IsSafeRun}
-use Rattle.list_machine.specs.Packet.{packet_length}
-use Rattle.list_machine.specs.Renderer.{renderer_of, packet_plan, renderer_plan}
+use Rattle.packets.specs.Length.{render_taken}
+use Rattle.packets.specs.Packet.{decoded}
+use Rattle.list_machine.specs.Lists.{renderer_of}
+use Rattle.list_machine.specs.Renderer.{may_pass, renderer_ready, packet_plan, renderer_plan}
 use Rattle.machine.specs.State.{State, start_of}
 use Rattle.machine.specs.Step.{Event, ready, turn, step}
 use Rattle.job_safety.specs.Safe.{AreSafe}
 use Rattle.job_safety.specs.Stray.{stray_memory, stray_start}
 
 pub stray_is_unsafe : (jobs : List Rights) → AreSafe jobs stray_memory (stray_start ∷ []) → ⊥
-unfolding ready turn renderer_plan packet_plan packet_length bytes_at
+unfolding ready turn renderer_ready may_pass renderer_plan packet_plan render_taken decoded bytes_at
 stray_is_unsafe jobs safe =
     let event : Event = record { unit = TheRenderer; words = [] } in
     let first : State = start_of stray_memory (stray_start ∷ []) in

@@ -1,7 +1,7 @@
 //! A job file, from its bytes to its machine.
 use field_words::{NoMemory, Stop};
-use job_check::{Checked, check_job};
-use job_format::{FormatFault, Refusal, Rule, Stage, read_job};
+use job_check::check_bytes;
+use job_format::Refusal;
 use machine::{Machine, Start};
 use relocation::{Layout, Lengths};
 use std::alloc::Global;
@@ -21,29 +21,9 @@ impl Accepted {
     }
 }
 
-fn format_refusal(stop: Stop<FormatFault>) -> Stop<Refusal> {
-    match stop {
-        Stop::Fault(fault) => Stop::Fault(Refusal {
-            rule: Rule {
-                stage: Stage::F,
-                number: fault.number,
-            },
-            offset: fault.offset,
-        }),
-        Stop::NoMemory => Stop::NoMemory,
-    }
-}
-
-fn judged(alloc: Global, bytes: &[u8]) -> Result<Checked, Stop<Refusal>> {
-    match read_job(alloc, bytes) {
-        Ok(file) => check_job(alloc, &file),
-        Err(stop) => Err(format_refusal(stop)),
-    }
-}
-
 /// Reads and checks a job file, and sets its machine up.
 pub fn accept(alloc: Global, bytes: &[u8]) -> Result<Accepted, Stop<Refusal>> {
-    let checked = judged(alloc, bytes)?;
+    let checked = check_bytes(alloc, bytes)?;
     let layout = checked.layout;
     let lengths = checked.lengths;
     let start = Start {

@@ -1,10 +1,9 @@
 -- How small what a load or store covers is.
-use Rattle.std.proofs.Common.{◌≡◌, ◌≤◌, ◌<◌, ℕ, ◌+◌, ◌*◌, ◌/◌, ◌%◌, ◌^◌, inl, inr, arith, subst, sym}
+use Rattle.std.proofs.Common.{◌≡◌, ◌≤◌, ◌<◌, ℕ, ◌+◌, ◌*◌, ◌/◌, ◌%◌, ◌^◌, inl, inr, arith}
 use Rattle.std.proofs.Math.Nat.{mul-le-mul, div-le_self, div-add-mod, le_refl}
 use Rattle.std.specs.Int.{div_ceil}
 use Rattle.texture_layouts.specs.Surface.{IsPixelSize, microtile_width_of, microtile_height_of}
-use Rattle.list_machine.specs.declared.surface.Cover.{Cover}
-use Rattle.list_machine.specs.Cover.{IsShort, IsSmall}
+use Rattle.list_machine.specs.Cover.{IsShort}
 
 pub wide_unit : (cpp : ℕ) → IsShort cpp → 4 ≤ microtile_width_of cpp
 unfolding microtile_width_of

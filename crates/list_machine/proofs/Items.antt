@@ -1,5 +1,5 @@
 -- Laws on the renderer's step in a tile's list.
-use Rattle.std.proofs.Common.{◌≡◌, ◌≢◌, ◌≤◌, ◌<◌, ℕ, suc, ◌+◌, ◌%◌, ◌==◌, nat_lt, Bool, true, false, List, [], ◌∷◌, length, drop, Option, Some, None, if◌then◌else◌, refl, sym, ◌∙◌, ap, subst, arith, drop-cons, get_or}
+use Rattle.std.proofs.Common.{◌≡◌, ◌≢◌, ◌≤◌, ◌<◌, ℕ, suc, ◌+◌, ◌%◌, ◌==◌, Bool, true, false, List, [], ◌∷◌, length, drop, Option, Some, None, if◌then◌else◌, refl, sym, ◌∙◌, ap, subst, arith, drop-cons, get_or}
 use Rattle.std.proofs.lemmas.Grind.{common_steps}
 use Rattle.std.proofs.lemmas.Bool.Decides.{nat_tests}
 use Rattle.std.specs.Prelude.{option_map}
@@ -16,7 +16,7 @@ use Rattle.list_machine.specs.declared.state.Found.{Found}
 use Rattle.list_machine.specs.declared.state.Item.{Item}
 use Rattle.list_machine.specs.declared.state.Program.{Program}
 use Rattle.list_machine.specs.declared.state.SubList.{SubList}
-use Rattle.list_machine.specs.Lists.{Lists, Turned, turned_to, quiet}
+use Rattle.list_machine.specs.Lists.{Lists, turned_to, quiet}
 use Rattle.list_machine.specs.Fetch.{fetch_plan}
 use Rattle.list_machine.specs.Start.{start_plan}
 use Rattle.list_machine.specs.Renderer.{first_of_tile, renderer_ready, ready_in, fetched, vertex_plan, program_plan, packet_plan}

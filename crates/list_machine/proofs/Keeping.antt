@@ -1,5 +1,5 @@
 -- What is kept along a step of the renderer.
-use Rattle.std.proofs.Common.{◌≡◌, ◌≤◌, ◌<◌, ℕ, zero, suc, ◌+◌, ◌*◌, List, slice_index, Option, Some, None, refl, sym, ap, subst, arith}
+use Rattle.std.proofs.Common.{◌≡◌, ◌≤◌, ◌<◌, ℕ, zero, suc, ◌+◌, ◌*◌, List, slice_index, Option, Some, None, sym, subst, arith}
 use Rattle.field_words.specs.declared.access.Access.{Access}
 use Rattle.field_words.specs.declared.access.Way.TheVariants.{Read, Write}
 use Rattle.packets.specs.declared.packet.Packet.{Packet}
@@ -8,8 +8,7 @@ use Rattle.packets.specs.Packet.{decoded}
 use Rattle.machine_plan.specs.declared.who.Who.{Who}
 use Rattle.machine_plan.specs.declared.launch.Free.{Free}
 use Rattle.machine_plan.specs.Memory.{bytes_at, stored}
-use Rattle.machine_plan.specs.Plan.{Plan, Done, Keeps, access}
-use Rattle.machine_plan.specs.World.{mapped}
+use Rattle.machine_plan.specs.Plan.{Done, Keeps, access}
 use Rattle.machine_plan.proofs.Worlds.{keeps_mapped}
 use Rattle.list_machine.specs.declared.state.Frame.{Frame}
 use Rattle.list_machine.specs.declared.state.SubList.{SubList}

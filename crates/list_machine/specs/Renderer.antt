@@ -1,5 +1,5 @@
 -- One step of the renderer.
-use Rattle.std.specs.Prelude.{ℕ, zero, suc, ◌+◌, ◌-◌, ◌*◌, ◌/◌, ◌%◌, ◌==◌, ◌&&◌, ◌||◌, not, nat_lt, nat_le, Bool, true, false, is_some, if◌then◌else◌, List, [], ◌∷◌, drop, slice_index, Option, Some, None}
+use Rattle.std.specs.Prelude.{ℕ, ◌+◌, ◌-◌, ◌/◌, ◌%◌, ◌==◌, ◌&&◌, ◌||◌, not, nat_lt, nat_le, Bool, true, false, is_some, if◌then◌else◌, List, [], ◌∷◌, drop, slice_index, Option, Some, None}
 use Rattle.packets.specs.declared.packet.Packet.{Packet}
 use Rattle.packets.specs.declared.packet.Packet.TheVariants.{WaitOnSemaphore, BranchToSubList, StoreTileColor, StoreTileColorAndEnd, StoreFullResolution, LoadFullResolution, StoreTileBuffer, LoadTileBuffer, TileRenderingMode, ClearColors, TileCoordinates}
 use Rattle.packets.specs.Length.{render_taken}
@@ -18,7 +18,6 @@ use Rattle.list_machine.specs.declared.state.Load.{Load}
 use Rattle.list_machine.specs.declared.state.Load.TheVariants.{Full, General}
 use Rattle.list_machine.specs.declared.state.Program.{Program}
 use Rattle.list_machine.specs.declared.state.Program.TheVariants.{Fragment, Vertex}
-use Rattle.list_machine.specs.declared.state.Renderer.{Renderer}
 use Rattle.list_machine.specs.declared.state.SubList.{SubList}
 use Rattle.list_machine.specs.Lists.{Lists, Turned, turned_to, quiet, with_renderer, with_taken}
 use Rattle.list_machine.specs.Fetch.{fetch_plan}

@@ -262,7 +262,7 @@ impl JobLists {
 
     // Does what a packet says; the binner stands past it. False comes exactly where it is wild.
     #[tactic(auto, unfolding(crate::specs::Binner::packet_plan, crate::specs::Binner::halted, packets::specs::Length::bin_taken, packets::specs::Length::bin_length))]
-    fn obey(
+    fn bin_packet(
         &mut self,
         packet: &[u8],
         who: Who,
@@ -313,7 +313,7 @@ impl JobLists {
         let len = bin_taken(byte_at(memory, place));
         let packet = read_listed(place, len, who, memory, accesses);
         self.pass(len);
-        if self.obey(&packet, who, memory, accesses) {
+        if self.bin_packet(&packet, who, memory, accesses) {
             return true;
         }
         self.end_binner();

@@ -21,6 +21,13 @@ fn memory_with(alloc: Global, list: &[u8]) -> Result<PhysMem, NoMemory> {
     Ok(memory)
 }
 
+// Writes these bytes, where there is room for them.
+fn put_bytes(memory: &mut PhysMem, place: u32, bytes: &[u8]) {
+    if place < 0x10000 && bytes.len() < 0x100 && place + bytes.len() as u32 <= memory.len() {
+        memory.write_bytes(place, bytes);
+    }
+}
+
 // The word at this place.
 fn word_at(memory: &PhysMem, place: u32) -> u32 {
     if place < 0x10000 && place + 4 <= memory.len() {
@@ -315,10 +322,12 @@ fn tile_list_over_a_link(rt: HostRuntime) -> Result<(), NoMemory> {
 #[test]
 fn programs_of_an_item(rt: HostRuntime) -> Result<(), NoMemory> {
     let mut memory = memory_with(rt.alloc(), &[0x11, 0x20, 0x10, 0, 0])?;
-    if memory.len() >= 0x3000 {
-        memory.write_bytes(0x2000, &[1, 0, 0, 0, 0x34, 0x12, 0, 0, 0x78, 0x56]);
-        memory.write_bytes(0x2010, &[0x10, 0, 0, 0, 0x20]);
-    }
+    put_bytes(
+        &mut memory,
+        0x2000,
+        &[1, 0, 0, 0, 0x34, 0x12, 0, 0, 0x78, 0x56],
+    );
+    put_bytes(&mut memory, 0x2010, &[0x10, 0, 0, 0, 0x20]);
     let mut lists = JobLists::new(rt.alloc(), 0, 0, 0, 5)?;
     lists.set_kept(TWO_TILES);
     lists.flush();

@@ -1,1 +1,4 @@
+pub mod Deeds
+pub mod Parts
+pub mod Rooms
 pub mod Windows

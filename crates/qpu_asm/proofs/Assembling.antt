@@ -1,7 +1,6 @@
 -- A text line by line: its labels, faults and words.
-use Rattle.std.proofs.Common.{◌≡◌, ℕ, zero, suc, ◌+◌, ◌≤◌, inl, inr, Bool, true, false, List, [], ◌∷◌, ◌++◌, length, map, refl, sym, ◌∙◌, ap, subst, arith, Option, None, Some, cond, if◌then◌else◌, All, Contains, append_assoc, append-nil, bytes_eq, length-append}
+use Rattle.std.proofs.Common.{◌≡◌, ℕ, zero, suc, ◌+◌, ◌≤◌, inl, inr, Bool, true, false, List, [], ◌∷◌, ◌++◌, length, map, refl, sym, ◌∙◌, ap, subst, arith, Option, None, Some, if◌then◌else◌, All, Contains, append_assoc, append-nil, length-append}
 use Rattle.std.proofs.lemmas.List.Elements.{All-append, All-map, Contains-append_left}
-use Rattle.qpu_asm.proofs.Bytes.{bytes_same}
 use Rattle.field_words.specs.declared.stop.Stop.{Stop}
 use Rattle.field_words.specs.declared.stop.Stop.TheVariants as stop
 use Rattle.qpu_asm.specs.declared.label.Spot.{Spot}
@@ -30,7 +29,7 @@ unfolding read_lines
 lines_none text none = ap (λ t. map read_line (lines_of t)) (empty text none) ∙ ap (map read_line) no_lines
 
 -- labels
-either_none : (spot : Option Spot) → either_spot spot None ≡ spot
+pub either_none : (spot : Option Spot) → either_spot spot None ≡ spot
 either_none None = refl
 either_none (Some spot) = refl
 
@@ -63,28 +62,6 @@ labels_end spot text name line index none = ap (λ ls. either_spot spot (spot_fr
 pub labels_begin : (text name : List ℕ) (spot : Option Spot) → spot ≡ None → either_spot spot (spot_from (read_lines text) 1 0 name) ≡ spots_of text name
 unfolding spots_of
 labels_begin text name spot none = ap (λ s. either_spot s (spot_from (read_lines text) 1 0 name)) none
-
-added_by : (old : Option Spot) (new : Option Spot) (spot : Spot) (same : Bool) → (same ≡ true → old ≡ None) → new ≡ cond same (Some spot) old
-    → new ≡ either_spot old (if same then Some spot else None)
-added_by old new spot true absent is = is ∙ ap (λ o. either_spot o (Some spot)) (sym (absent refl))
-added_by old new spot false absent is = is ∙ sym (either_none old)
-
-pub label_added : (old : Spots) (new : Option Spot) (spot : Spot) (label name : List ℕ) → None ≡ old label
-    → new ≡ cond (bytes_eq label name) (Some spot) (old name) → new ≡ either_spot (old name) (if bytes_eq label name then Some spot else None)
-label_added old new spot label name absent is =
-    added_by (old name) new spot (bytes_eq label name) (λ same. ap old (sym (bytes_same label name same)) ∙ sym absent) is
-
-kept_by : (old : Option Spot) (new : Option Spot) (spot known : Spot) (same : Bool) → (same ≡ true → old ≡ Some known)
-    → new ≡ (if same then Some known else cond same (Some spot) old) → new ≡ either_spot old (if same then Some spot else None)
-kept_by old new spot known true here is = is ∙ ap (λ o. either_spot o (Some spot)) (sym (here refl))
-kept_by old new spot known false here is = is ∙ sym (either_none old)
-
-pub label_kept : (old : Spots) (between new : Option Spot) (spot known : Spot) (label name : List ℕ) → Some known ≡ old label
-    → between ≡ cond (bytes_eq label name) (Some spot) (old name) → new ≡ (if bytes_eq label name then Some known else between)
-    → new ≡ either_spot (old name) (if bytes_eq label name then Some spot else None)
-label_kept old between new spot known label name there first second =
-    kept_by (old name) new spot known (bytes_eq label name) (λ same. ap old (sym (bytes_same label name same)) ∙ sym there)
-    (second ∙ ap (λ b. if bytes_eq label name then Some known else b) first)
 
 pub size_low : (line : Line) → size_of line ≤ 1
 size_low Blank = omega arith

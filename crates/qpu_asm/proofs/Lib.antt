@@ -6,7 +6,7 @@ pub mod Rows
 pub mod Printing
 pub mod Reading
 pub mod Assembling
-pub mod Keys
+pub mod Sorting
 pub mod Firsts
 pub mod Decimals
 pub mod Law

@@ -53,12 +53,6 @@ unfoldable pub AreFirstBelow : ℕ → Spots → ℕ → List Line → Type 0
 AreFirstBelow bound spots line [] = Unit {0}
 AreFirstBelow bound spots line (first ∷ lines) = IsFirstBelow bound spots line first × AreFirstBelow bound spots (line + 1) lines
 
-abbrev pub IsNewLabel : Spots → Line → Type 0
-IsNewLabel spots Blank = Unit {0}
-IsNewLabel spots (Label name) = spots name ≡ None
-IsNewLabel spots BadLabel = Unit {0}
-IsNewLabel spots (Coded opcode items) = Unit {0}
-
 -- the kinds of the faults of one line
 unfoldable pub line_kinds : Spots → ℕ → ℕ → Line → List ℕ
 line_kinds spots line index Blank = []

@@ -1,19 +1,14 @@
 -- The code's tables as the definitions' tables.
-use Rattle.std.specs.Prelude.{ℕ, ◌+◌, ◌*◌, ◌%◌, ◌^◌, List, [], ◌∷◌, map}
-use Rattle.std.specs.BTreeMap as tree
-use Rattle.std.specs.BTreeMap.{BTreeMap}
-use Rattle.std.specs.Cmp.Lexicographic.{slice_cmp}
-use Rattle.std.specs.Ordering.{nat_cmp, ordering_then}
-use Rattle.std.specs.declared.cmp.Ordering.{Ordering}
+use Rattle.std.specs.Prelude.{ℕ, List, [], ◌∷◌, map, if◌then◌else◌}
+use Rattle.std.specs.Str.{bytes_eq}
 use Rattle.std.specs.declared.option.Option.{Option}
 use Rattle.std.specs.declared.option.Option.TheVariants.{None, Some}
 use Rattle.std.specs.declared.result.Result.{Result}
 use Rattle.std.specs.declared.result.Result.TheVariants.{Ok, Err}
-use denote.Ref.{Bor}
 use Rattle.qpu_asm.specs.declared.lines.Cut.{Cut}
 use Rattle.qpu_asm.specs.declared.lines.Line.{Line}
 use Rattle.qpu_asm.specs.declared.lines.Line.TheVariants as line
-use Rattle.qpu_asm.specs.declared.label.Spot.{Spot}
+use Rattle.qpu_asm.specs.declared.label.Mark.{Mark}
 use Rattle.qpu_asm.specs.Lines as lines
 use Rattle.qpu_asm.specs.Items.{Spots, Read, Good, Bad}
 use Rattle.qpu_asm.specs.declared.table.Named.{Named}
@@ -59,17 +54,7 @@ abbrev pub read_seen : Result ℕ ℕ → Read
 read_seen (Ok value) = Good value
 read_seen (Err kind) = Bad kind
 
--- a number of a name, by which its label is ordered first: the digits to the base 257, modulo 2 ^ 64
-unfoldable pub hash_after : ℕ → List ℕ → ℕ
-hash_after hash [] = hash
-hash_after hash (byte ∷ bytes) = hash_after ((hash * 257 % 2 ^ 64 + byte) % 2 ^ 64) bytes
-
-abbrev pub hash_by : List ℕ → ℕ
-hash_by name = hash_after 0 name
-
--- where a label stands by the map
-abbrev pub key_cmp : List ℕ → ℕ × Bor (List ℕ) → Ordering
-key_cmp name key = ordering_then (nat_cmp (hash_by name) key.0) (slice_cmp nat_cmp name key.1.now)
-
-abbrev pub spots_in : BTreeMap (ℕ × Bor (List ℕ)) Spot → Spots
-spots_in labels name = tree.get_by (key_cmp name) labels
+-- the place of the first mark with that name
+unfoldable pub spots_in : List Mark → Spots
+spots_in [] name = None
+spots_in (mark ∷ marks) name = if bytes_eq mark.name.now name then Some mark.spot else spots_in marks name

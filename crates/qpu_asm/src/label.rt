@@ -1,23 +1,49 @@
-//! The labels of a text.
-ghost use Rattle.std.specs.Prelude.{◌≡◌, ◌<◌, ◌+◌, ◌^◌, List, ℕ, length, min, false, IfOk, OnOk, Some, None, bytes_eq, if◌then◌else◌};
-ghost use Rattle.qpu_asm.specs.Assembly.{spots_of, read_lines, size_of, is_label, either_spot, AreFirstBelow, IsNewLabel};
-ghost use Rattle.qpu_asm.specs.Seen.{line_seen, spots_in, hash_by};
+//! The labels of a text: a mark for each line that defines one, sorted by name.
+ghost use Rattle.std.specs.Prelude.{◌≡◌, ◌<◌, ◌≤◌, ◌+◌, ◌^◌, List, ℕ, length, min, IfOk, OnOk, IsSorted, Some, None, bytes_eq, if◌then◌else◌};
+ghost use Rattle.std.specs.Cmp.Lexicographic.{slice_cmp};
+ghost use Rattle.std.specs.Ordering.{nat_cmp, is_lt};
+ghost use Rattle.qpu_asm.specs.Assembly.{spots_of, read_lines, size_of, AreFirstBelow};
+ghost use Rattle.qpu_asm.specs.Lines.{Label};
+ghost use Rattle.qpu_asm.specs.Marks.{mark_cmp, AreRanked, AreMarked, AddsLine, BoundsRepeats, IsStart};
+ghost use Rattle.qpu_asm.specs.Seen.{line_seen, spots_in};
 
 use crate::lines::{Line, next_line, read_line};
 use std::alloc::{AllocError, Global};
-use std::collections::BTreeMap;
+use std::marker::Model;
 
 /// Where a label stands: its line, and the index of the next instruction.
-#[derive(Clone, Copy, Debug, PartialEq, Eq)]
+#[derive(Clone, Copy, Debug, PartialEq, Eq, PartialOrd, Ord)]
 pub struct Spot {
     pub line: u32,
     pub index: u32,
 }
 
-/// Labels by hash and name: two keys' names are compared only where the hashes are equal.
-pub type Labels<'a> = BTreeMap<(u64, &'a [u8]), Spot>;
+/// A line that defines a label.
+#[derive(Clone, Copy, Debug, PartialEq, Eq, PartialOrd, Ord)]
+pub struct Mark<'a> {
+    pub name: &'a [u8],
+    pub spot: Spot,
+}
 
-/// A text's labels, each at the first line that defines it; no line below `first_below` repeats one.
+/// The marks of a text, by name, and those of one name by line.
+#[derive(Drop)]
+pub struct Labels<'a> {
+    marks: Vec<Mark<'a>>,
+}
+
+impl<'a> Model for Labels<'a> {
+    ghost use Rattle.std.specs.Prelude.{List, IsSorted};
+    ghost use Rattle.qpu_asm.specs.declared.label.Mark.{Mark};
+    ghost use Rattle.qpu_asm.specs.Marks.{mark_cmp};
+
+    ghost Value = { List Mark };
+
+    ghost view = { λ l. l.marks.items };
+
+    ghost invariant = { λ l. IsSorted mark_cmp l.marks.items };
+}
+
+/// A text's labels; no line below `first_below` repeats one.
 #[derive(Drop)]
 pub struct Found<'a> {
     pub labels: Labels<'a>,
@@ -30,38 +56,56 @@ pub fn find_labels(alloc: Global, text: &[u8]) -> Result<Found<'_>, AllocError>
     ensures spots { IfOk result (λ found. spots_in found.labels ≡ spots_of text.now) }
     ensures first { IfOk result (λ found. AreFirstBelow found.first_below (spots_of text.now) 1 (read_lines text.now)) }
 {
-    let mut labels = BTreeMap::new(alloc);
-    let mut first_below: u64 = u64::MAX;
-    let mut rest = text;
-    let mut line: u64 = 1;
-    let mut index: u64 = 0;
-    while !rest.is_empty() {
-        let cut = next_line(rest);
-        let read = read_line(cut.first);
-        let repeated = add_line(
-            &mut labels,
-            read,
-            Spot {
-                line: line as u32,
-                index: index as u32,
-            },
-        )?;
-        first_below = bound_after(first_below, line, repeated);
-        index += size(read);
-        line += 1;
-        rest = cut.rest;
-    }
+    let mut marks = marks_of(alloc, text)?;
+    marks.sort_unstable();
+    let first_below = first_repeat(&marks);
+    let labels = Labels { marks };
     Ok(Found {
         labels,
         first_below,
     })
 }
 
-// A line that repeats a label is a bound.
-fn bound_after(bound: u64, line: u64, repeated: bool) -> u64
-    ensures { result ≡ (if repeated then min bound line else bound) }
+// No text has more labels than colons.
+fn colons(text: &[u8]) -> usize
+    ensures { result ≤ length text.now }
 {
-    if repeated { bound.min(line) } else { bound }
+    let mut count = 0;
+    for byte in text {
+        if *byte == b':' {
+            count += 1;
+        }
+    }
+    count
+}
+
+// The marks of a text, line after line.
+fn marks_of(alloc: Global, text: &[u8]) -> Result<Vec<Mark<'_>>, AllocError>
+    requires { length text.now < 2 ^ 32 }
+    ensures spots { IfOk result (λ marks. spots_in marks.items ≡ spots_of text.now) }
+    ensures ranked { IfOk result (λ marks. AreRanked marks.items) }
+    ensures marked { IfOk result (λ marks. AreMarked marks.items 1 (read_lines text.now)) }
+{
+    let mut marks = Vec::with_capacity(alloc, colons(text))?;
+    let mut rest = text;
+    let mut line: u64 = 1;
+    let mut index: u64 = 0;
+    while !rest.is_empty() {
+        let cut = next_line(rest);
+        let read = read_line(cut.first);
+        add_line(
+            &mut marks,
+            read,
+            Spot {
+                line: line as u32,
+                index: index as u32,
+            },
+        )?;
+        index += size(read);
+        line += 1;
+        rest = cut.rest;
+    }
+    Ok(marks)
 }
 
 // An instruction's line takes an index.
@@ -74,55 +118,91 @@ fn size(line: Line<'_>) -> u64
     }
 }
 
-fn add_line<'a>(labels: &mut Labels<'a>, line: Line<'a>, spot: Spot) -> Result<bool, AllocError>
-    ensures first { IfOk result (λ repeated. repeated ≡ false → IsNewLabel (spots_in labels.old) (line_seen line.entry)) }
-    ensures spots { OnOk result ((name : List ℕ) → spots_in labels.new name ≡ either_spot (spots_in labels.old name) (if is_label name (line_seen line.entry) then Some spot else None)) }
+// Puts a label's line to the marks of the lines above it.
+fn add_line<'a>(marks: &mut Vec<Mark<'a>>, line: Line<'a>, spot: Spot) -> Result<(), AllocError>
+    ensures { OnOk result (AddsLine marks.old.items marks.new.items (line_seen line.entry) spot) }
 {
     match line {
-        Line::Label(name) => add_label(labels, name, spot),
-        _ => Ok(false),
+        Line::Label(name) => add_label(marks, name, spot),
+        _ => Ok(()),
     }
 }
 
-// A label that is known keeps its place, and the result is true.
-fn add_label<'a>(labels: &mut Labels<'a>, label: &'a [u8], spot: Spot) -> Result<bool, AllocError>
-    ensures first { IfOk result (λ repeated. repeated ≡ false → spots_in labels.old label.now ≡ None) }
-    ensures spots { OnOk result ((name : List ℕ) → spots_in labels.new name ≡ either_spot (spots_in labels.old name) (if bytes_eq label.now name then Some spot else None)) }
+fn add_label<'a>(marks: &mut Vec<Mark<'a>>, name: &'a [u8], spot: Spot) -> Result<(), AllocError>
+    ensures { OnOk result (AddsLine marks.old.items marks.new.items (Label name.now) spot) }
 {
-    match labels.insert((hash_of(label), label), spot) {
-        Ok(None) => Ok(false),
-        Ok(Some(known)) => {
-            put_back(labels, label, known)?;
-            Ok(true)
-        }
-        Err(_) => Err(AllocError),
-    }
+    marks.push(Mark { name, spot })?;
+    Ok(())
 }
 
-fn put_back<'a>(labels: &mut Labels<'a>, label: &'a [u8], known: Spot) -> Result<(), AllocError>
-    ensures { OnOk result ((name : List ℕ) → spots_in labels.new name ≡ (if bytes_eq label.now name then Some known else spots_in labels.old name)) }
+// Two marks have one name.
+fn are_same(first: &Mark<'_>, second: &Mark<'_>) -> bool
+    ensures { result ≡ bytes_eq first.now.name.now second.now.name.now }
 {
-    match labels.insert((hash_of(label), label), known) {
-        Ok(_) => Ok(()),
-        Err(_) => Err(AllocError),
+    first.name == second.name
+}
+
+// A line that repeats a label is a bound.
+fn bound_at(bound: u64, first: &Mark<'_>, second: &Mark<'_>) -> u64
+    ensures { result ≡ (if bytes_eq first.now.name.now second.now.name.now then min bound second.now.spot.line else bound) }
+{
+    if are_same(first, second) {
+        return bound.min(second.spot.line as u64);
     }
+    bound
+}
+
+// A bound of the lines that repeat a label, where marks of one name stand together.
+fn first_repeat(marks: &[Mark<'_>]) -> u64
+    ensures { BoundsRepeats marks.now result }
+{
+    let mut bound = u64::MAX;
+    for at in 1..marks.len() {
+        bound = bound_at(bound, &marks[at - 1], &marks[at]);
+    }
+    bound
+}
+
+// The mark has a lesser name.
+fn has_lesser(mark: &Mark<'_>, name: &[u8]) -> bool
+    ensures { result ≡ is_lt (slice_cmp nat_cmp mark.now.name.now name.now) }
+{
+    mark.name.cmp(name).is_lt()
+}
+
+// How many marks have lesser names.
+fn start_of(marks: &[Mark<'_>], name: &[u8]) -> usize
+    requires { IsSorted mark_cmp marks.now }
+    ensures { IsStart marks.now name.now result }
+{
+    marks.partition_point(|mark| has_lesser(mark, name))
+}
+
+// The mark's place, where it has this name.
+fn spot_by(mark: &Mark<'_>, name: &[u8]) -> Option<Spot>
+    ensures { result ≡ (if bytes_eq mark.now.name.now name.now then Some mark.now.spot else None) }
+{
+    if mark.name == name {
+        return Some(mark.spot);
+    }
+    None
+}
+
+// The place of the mark here, where it has this name; marks of lesser names stand before it.
+fn spot_at(marks: &[Mark<'_>], at: usize, name: &[u8]) -> Option<Spot>
+    requires sorted { IsSorted mark_cmp marks.now }
+    requires start { IsStart marks.now name.now at }
+    ensures { result ≡ spots_in marks.now name.now }
+{
+    if at >= marks.len() {
+        return None;
+    }
+    spot_by(&marks[at], name)
 }
 
 /// Where the label of a name stands.
 pub fn find_spot<'a>(labels: &Labels<'a>, name: &'a [u8]) -> Option<Spot>
     ensures { result ≡ spots_in labels.now name.now }
 {
-    labels.get(&(hash_of(name), name)).copied()
-}
-
-// The name's bytes as digits to the base 257, modulo 2^64.
-#[tactic(auto, unfolding(crate::specs::Seen::hash_after))]
-fn hash_of(name: &[u8]) -> u64
-    ensures { result ≡ hash_by name.now }
-{
-    let mut hash: u64 = 0;
-    for byte in name {
-        hash = hash.wrapping_mul(257).wrapping_add(*byte as u64);
-    }
-    hash
+    spot_at(&labels.marks, start_of(&labels.marks, name), name)
 }

@@ -1,3 +1,4 @@
+//! Texts and words worked by hand, and the faults of texts.
 use crate::{assemble, disassemble};
 use field_words::Stop;
 use qpu_isa::{Inst, decode, encode, reads_uniform};

@@ -1,6 +1,6 @@
 -- What a TMU keeps in an accepted shader: as many setup words as are pending, one instruction each, all since its last request.
-use Rattle.std.proofs.Common.{◌≡◌, ◌≤◌, ◌<◌, ◌+◌, ◌==◌, ℕ, zero, suc, true, false, List, [], ◌∷◌, ◌++◌, length, if◌then◌else◌, sym, ap, subst, inl, inr, arith, ◌∙◌, length-append}
-use Rattle.std.proofs.lemmas.Bool.{cases_Bool, and_left}
+use Rattle.std.proofs.Common.{◌≡◌, ◌≤◌, ◌<◌, ◌+◌, ℕ, zero, suc, true, false, List, [], ◌∷◌, ◌++◌, length, if◌then◌else◌, sym, ap, subst, inl, inr, arith, ◌∙◌, length-append}
+use Rattle.std.proofs.lemmas.Bool.{cases_Bool}
 use Rattle.qpu_isa.specs.Terms.{writes_s, writes_tmu}
 use Rattle.shader_flow.specs.Flow.{word, checked_of}
 use Rattle.shader_flow.specs.Pending.{pending_of}

@@ -5,6 +5,7 @@ pub mod Leasts
 pub mod Listed
 pub mod Members
 pub mod Parts
+pub mod Plain
 pub mod Positions
 pub mod Roles
 pub mod Setups

@@ -1,7 +1,7 @@
 -- The instructions that take a sample's uniforms: the first, and one to three more.
-use Rattle.std.proofs.Common.{◌≡◌, ◌≤◌, ◌<◌, ◌+◌, ◌-◌, ◌==◌, ℕ, zero, suc, true, false, ◌&&◌, ◌||◌, List, [], ◌∷◌, ◌++◌, length, if◌then◌else◌, refl, sym, ap, subst, inl, inr, arith, ◌∙◌, nat_le, length-append}
-use Rattle.std.proofs.lemmas.Bool.{and_parts, and_cases, or_cases, or_parts, cases_Bool, true≢false, leb-false, eqb-false, and_right}
-use Rattle.qpu_isa.specs.Terms.{writes_s, s_address, names_address, writes_tmu, is_address_write, is_min_with_uniform, is_add_with_uniform}
+use Rattle.std.proofs.Common.{◌≡◌, ◌≤◌, ◌<◌, ◌+◌, ◌-◌, ℕ, zero, suc, true, false, ◌&&◌, ◌||◌, List, [], ◌∷◌, ◌++◌, length, if◌then◌else◌, refl, sym, ap, subst, inl, inr, arith, ◌∙◌, nat_le, length-append}
+use Rattle.std.proofs.lemmas.Bool.{and_cases, or_cases, or_parts, cases_Bool, true≢false, leb-false, eqb-false}
+use Rattle.qpu_isa.specs.Terms.{writes_s, writes_tmu, is_address_write, is_min_with_uniform, is_add_with_uniform}
 use Rattle.shader_flow.specs.Flow.{word, checked_of}
 use Rattle.qpu_isa.specs.Setups.{is_direct}
 use Rattle.shader_flow.specs.Pending.{pending_of, takes}

@@ -1,5 +1,5 @@
 -- What a TMU keeps after one more instruction, and the clamp of a direct sample.
-use Rattle.std.proofs.Common.{◌≡◌, ◌<◌, ◌+◌, ℕ, suc, Bool, true, false, List, [], ◌∷◌, ◌++◌, map, Option, Some, None, slice_get, if◌then◌else◌, refl, sym, ap, subst, arith, ◌∙◌, nat_lt}
+use Rattle.std.proofs.Common.{◌≡◌, ◌<◌, ◌+◌, ℕ, suc, Bool, true, false, List, [], ◌∷◌, ◌++◌, map, Option, Some, None, slice_get, if◌then◌else◌, refl, sym, ap, arith, ◌∙◌, nat_lt}
 use Rattle.std.proofs.lemmas.Bool.{and_from, and_right, lt-ltb}
 use Rattle.std.proofs.lemmas.List.{map-append}
 use Rattle.qpu_isa.specs.declared.inst.Reg.{Reg}

@@ -19,7 +19,7 @@ use qpu_isa::word::{cond_add, has_small, sig, ws};
 use qpu_isa::writes::{add_names, adds_direct, is_add_packed, is_address_write, muls_direct};
 use shader_flow::{Flow, flow_fault};
 use std::sync::ledger::Ledger;
-use uniform_stream::{Stream, stream_fault};
+use uniform_stream::{Stream, stream_fault, writes_registers};
 
 /// S16: the uniforms' address is set to what is no known word of the stream.
 pub const S16_INEXACT_ADDRESS: u8 = 16;
@@ -238,6 +238,9 @@ fn fact_fault<L: Ledger>(
     ensures steps { steps.new ≤ steps.old + 2 }
 {
     let i = at as usize;
+    if writes_registers(code[i]) {
+        return None;
+    }
     if breaks_s16(code, at, stream.counts[i], table, steps) {
         return Some(S16_INEXACT_ADDRESS);
     }

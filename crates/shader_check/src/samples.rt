@@ -15,16 +15,10 @@ use qpu_isa::Sample;
 use qpu_isa::operands::first_register;
 use qpu_isa::writes::{is_direct, writes_s, writes_tmu};
 use std::sync::ledger::Ledger;
-use uniform_stream::Stream;
+use uniform_stream::{Stream, writes_registers};
 
-/// What a TMU keeps after the instruction at `at`: nothing where it sends, and one uniform more where it is written.
-pub(crate) fn keep(
-    code: &[u64],
-    at: usize,
-    tmu: u8,
-    count: u32,
-    kept: &mut Vec<u32>,
-) -> Result<(), NoMemory>
+// What a TMU keeps after the instruction at `at`: nothing where it sends, and one uniform more where it is written.
+fn keep(code: &[u64], at: usize, tmu: u8, count: u32, kept: &mut Vec<u32>) -> Result<(), NoMemory>
     requires inside { at < checked_of code.now }
     requires here { at < length code.now }
     requires number { tmu < 2 }
@@ -192,8 +186,8 @@ fn asked_sample<L: Ledger>(
     sample_at(code, stream, at, 1, stream.pending1[i], kept1, table, steps)
 }
 
-/// Puts the sample of the checked instruction at `at` to the others, where it asks for one. At most one step.
-pub(crate) fn add_sample<L: Ledger>(
+// Puts the sample of the checked instruction at `at` to the others, where it asks for one. At most one step.
+fn add_sample<L: Ledger>(
     code: &[u64],
     stream: &Stream,
     at: u32,
@@ -219,5 +213,40 @@ pub(crate) fn add_sample<L: Ledger>(
     }
     let sample = asked_sample(code, stream, at, kept0, kept1, table, steps);
     samples.push(sample)?;
+    Ok(())
+}
+
+/// Puts the sample of the checked instruction at `at` to the others, where it asks for one, and keeps what the TMUs keep after
+/// it. At most one step.
+pub(crate) fn note<L: Ledger>(
+    code: &[u64],
+    stream: &Stream,
+    at: u32,
+    kept0: &mut Vec<u32>,
+    kept1: &mut Vec<u32>,
+    table: &FactTable,
+    samples: &mut Vec<Sample>,
+    steps: &mut Steps<L>,
+) -> Result<(), NoMemory>
+    requires inside { at < checked_of code.now }
+    requires here { at < length code.now }
+    requires few { length code.now ≤ 8192 }
+    requires counted { IsStream code.now stream.now }
+    requires first { kept0.old.items ≡ map (count_of code.now) (held code.now 0 at) }
+    requires second { kept1.old.items ≡ map (count_of code.now) (held code.now 1 at) }
+    requires known { IsTableOf code.now (maker_of code.now at) table.now }
+    requires before { samples.old.items ≡ map (sample_of code.now) (indexes at (is_sample code.now)) }
+    ensures first { OnOk result (kept0.new.items ≡ map (count_of code.now) (held code.now 0 (at + 1))) }
+    ensures second { OnOk result (kept1.new.items ≡ map (count_of code.now) (held code.now 1 (at + 1))) }
+    ensures samples { OnOk result (samples.new.items ≡ map (sample_of code.now) (indexes (at + 1) (is_sample code.now))) }
+    ensures steps { steps.new ≤ steps.old + 1 }
+{
+    let i = at as usize;
+    if writes_registers(code[i]) {
+        return Ok(());
+    }
+    add_sample(code, stream, at, kept0, kept1, table, samples, steps)?;
+    keep(code, i, 0, stream.counts[i], kept0)?;
+    keep(code, i, 1, stream.counts[i], kept1)?;
     Ok(())
 }

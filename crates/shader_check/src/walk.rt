@@ -8,7 +8,7 @@ ghost use Rattle.shader_check.specs.Rules.{questions_at};
 
 use crate::facts::index_fault;
 use crate::fault::ShaderFault;
-use crate::samples::{add_sample, count_samples, keep};
+use crate::samples::{count_samples, note};
 use clamp_facts::{FactTable, learn};
 use field_words::{Steps, Stop};
 use qpu_isa::Sample;
@@ -41,18 +41,16 @@ pub(crate) fn walk<L: Ledger>(
         if let Some(number) = index_fault(code, flow, stream, index, &table, steps) {
             return Err(Stop::Fault(ShaderFault { number, index }));
         }
-        add_sample(
+        note(
             code,
             stream,
             index,
-            &kept0,
-            &kept1,
+            &mut kept0,
+            &mut kept1,
             &table,
             &mut samples,
             steps,
         )?;
-        keep(code, at, 0, stream.counts[at], &mut kept0)?;
-        keep(code, at, 1, stream.counts[at], &mut kept1)?;
         learn(code, flow, index, stream.counts[at], &mut table, steps);
     }
     Ok(samples)

@@ -1,3 +1,4 @@
 pub mod Bounded
 pub mod Counts
 pub mod Ends
+pub mod Alone

@@ -1,10 +1,11 @@
 //! The rules on signals, branches and switches at one instruction.
-ghost use Rattle.std.specs.Prelude.{◌≡◌, ◌<◌, ◌≤◌, length};
+ghost use Rattle.std.specs.Prelude.{◌≡◌, ◌<◌, ◌≤◌, false, length};
 ghost use Rattle.field_words.specs.Questions.{first_of};
 ghost use Rattle.shader_flow.specs.Bounded.{is_back};
 ghost use Rattle.qpu_isa.specs.Terms.{is_branch, is_switch};
 ghost use Rattle.shader_flow.specs.Flow.{word, end_of, in_slots, after_switch, leads_outside, is_sound_branch, IsFlow};
 ghost use Rattle.shader_flow.specs.Rules.{s3, s4, s5, s6, s7, s8, s9, s10, s11, s12, s13, s27, flow_questions};
+ghost use Rattle.shader_flow.specs.Kinds.{HasOnlyBranchFaults, HasNoBranchFaults};
 
 use crate::state::Flow;
 use qpu_isa::word::{
@@ -216,20 +217,15 @@ fn breaks_s27(code: &[u64], at: usize) -> bool
     is_load_imm(code[at]) && !(mode == 0 || mode == 1 || mode == 3)
 }
 
-/// The number of the first of the rules S3 to S13 and S27 that stands at the instruction `at`; `None` where none of them
-/// does. They keep a shader inside its own words: each branch goes where the checker can follow it, and no branch or
-/// switch comes while another is on its way.
+// The first of the rules on branches that stands, where no other can.
 #[tactic(auto, unfolding(crate::specs::Rules::flow_questions))]
-pub fn flow_fault(code: &[u64], flow: &Flow, at: u32) -> Option<u8>
+fn branch_fault(code: &[u64], end: u32, at: usize) -> Option<u8>
     requires inside { at < length code.now }
-    requires made { IsFlow code.now flow.now }
+    requires few { length code.now ≤ 8192 }
+    requires last { end ≡ end_of code.now }
+    requires only { HasOnlyBranchFaults code.now at }
     ensures { result ≡ first_of (flow_questions code.now at) }
 {
-    let at = at as usize;
-    let end = flow.end;
-    if breaks_s3(code, at) {
-        return Some(S3_SIGNAL);
-    }
     if breaks_s4(code, at) {
         return Some(S4_BRANCH_IN_SLOTS);
     }
@@ -251,17 +247,66 @@ pub fn flow_fault(code: &[u64], flow: &Flow, at: u32) -> Option<u8>
     if breaks_s10(code, at) {
         return Some(S10_BRANCH_WRITES);
     }
-    if breaks_s11(code, at) {
-        return Some(S11_SWITCH_AFTER_SWITCH);
-    }
     if breaks_s12(code, at) {
         return Some(S12_BRANCH_AFTER_SWITCH);
+    }
+    None
+}
+
+// The first of the rules on switches that stands, where no other can.
+#[tactic(auto, unfolding(crate::specs::Rules::flow_questions))]
+fn switch_fault(code: &[u64], end: u32, at: usize) -> Option<u8>
+    requires inside { at < length code.now }
+    requires few { length code.now ≤ 8192 }
+    requires last { end ≡ end_of code.now }
+    requires signal { s3 code.now at ≡ false }
+    requires no_branch { HasNoBranchFaults code.now at }
+    requires no_load { s27 code.now at ≡ false }
+    ensures { result ≡ first_of (flow_questions code.now at) }
+{
+    if breaks_s11(code, at) {
+        return Some(S11_SWITCH_AFTER_SWITCH);
     }
     if breaks_s13(code, end, at) {
         return Some(S13_SWITCH_MISPLACED);
     }
+    None
+}
+
+// The rule on load immediates, where no other can stand.
+#[tactic(auto, unfolding(crate::specs::Rules::flow_questions))]
+fn load_fault(code: &[u64], at: usize) -> Option<u8>
+    requires inside { at < length code.now }
+    requires signal { s3 code.now at ≡ false }
+    requires no_branch { HasNoBranchFaults code.now at }
+    requires no_s11 { s11 code.now at ≡ false }
+    requires no_s13 { s13 code.now at ≡ false }
+    ensures { result ≡ first_of (flow_questions code.now at) }
+{
     if breaks_s27(code, at) {
         return Some(S27_LOAD_MODE);
     }
     None
+}
+
+/// The number of the first of the rules S3 to S13 and S27 that stands at the instruction `at`; `None` where none of them
+/// does. They keep a shader inside its own words: each branch goes where the checker can follow it, and no branch or
+/// switch comes while another is on its way.
+#[tactic(auto, unfolding(crate::specs::Rules::flow_questions))]
+pub fn flow_fault(code: &[u64], flow: &Flow, at: u32) -> Option<u8>
+    requires inside { at < length code.now }
+    requires made { IsFlow code.now flow.now }
+    ensures { result ≡ first_of (flow_questions code.now at) }
+{
+    let at = at as usize;
+    if breaks_s3(code, at) {
+        return Some(S3_SIGNAL);
+    }
+    if is_branch(code[at]) {
+        return branch_fault(code, flow.end, at);
+    }
+    if is_switch(code[at]) {
+        return switch_fault(code, flow.end, at);
+    }
+    load_fault(code, at)
 }

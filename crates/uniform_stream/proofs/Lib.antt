@@ -1,2 +1,3 @@
+pub mod QuietWrites
 pub mod Ends
 pub mod Restarts

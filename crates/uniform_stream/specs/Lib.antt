@@ -1,3 +1,4 @@
+pub mod Quiet
 pub mod Rules
 pub mod Stream
 pub mod Walk

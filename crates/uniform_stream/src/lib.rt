@@ -6,11 +6,13 @@
 #![tactic(auto)]
 
 mod position;
+mod quiet;
 mod rules;
 mod state;
 mod walk;
 
 pub use position::known;
+pub use quiet::writes_registers;
 pub use rules::{
     S14_FORBIDDEN_REGISTER, S15_RELATIVE_ADDRESS, S17_ADDRESS_IN_SLOTS, S18_UNIFORM_TOO_EARLY,
     S19_POSITION_UNKNOWN, S20_TWO_TMU_WRITES, S21_CONDITIONAL_TMU_WRITE, S22_TMU_FULL,

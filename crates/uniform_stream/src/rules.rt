@@ -7,7 +7,9 @@ ghost use Rattle.shader_flow.specs.Flow.{word, end_of, checked_of, is_target, Is
 ghost use Rattle.shader_flow.specs.Pending.{pending_of, takes};
 ghost use Rattle.uniform_stream.specs.Stream.{is_known, IsStream};
 ghost use Rattle.uniform_stream.specs.Rules.{s14, s15, s17, after_address_write, s18, s19, s20, s21, is_full, s22, s23, s25, stream_questions};
+ghost use Rattle.uniform_stream.specs.Quiet.{HasQuietWrites};
 
+use crate::quiet::writes_registers;
 use crate::state::Stream;
 use qpu_isa::writes::{
     has_conditional_tmu_write, has_setup, has_two_tmu_writes, is_address_write,
@@ -178,51 +180,97 @@ fn breaks_s25(code: &[u64], at: usize, target: bool, pending0: u16, pending1: u1
     target && (0 < pending0 || 0 < pending1)
 }
 
+// The instruction at `at` takes a uniform: one more is taken after it.
+#[tactic(auto, using(crate::proofs::QuietWrites::takes_by_counts))]
+fn takes_here(code: &[u64], stream: &Stream, at: usize) -> bool
+    requires inside { at < length code.now }
+    requires counted { IsStream code.now stream.now }
+    ensures { result ≡ Rattle.shader_flow.specs.Pending.takes code.now at }
+{
+    stream.counts[at] < stream.counts[at + 1]
+}
+
+// The first of the rules that stands at an instruction of which no rule on writes does.
+#[tactic(auto, unfolding(crate::specs::Rules::stream_questions))]
+fn quiet_fault(code: &[u64], flow: &Flow, stream: &Stream, at: usize) -> Option<u8>
+    requires inside { at < length code.now }
+    requires made { IsFlow code.now flow.now }
+    requires counted { IsStream code.now stream.now }
+    requires quiet { HasQuietWrites code.now at }
+    ensures { result ≡ first_of (stream_questions code.now at) }
+{
+    let takes = takes_here(code, stream, at);
+    if breaks_s18(code, at, takes) {
+        return Some(S18_UNIFORM_TOO_EARLY);
+    }
+    if breaks_s19(code, at, takes, stream.known[at]) {
+        return Some(S19_POSITION_UNKNOWN);
+    }
+    let target = flow.targets[at];
+    if breaks_s25(code, at, target, stream.pending0[at], stream.pending1[at]) {
+        return Some(S25_TARGET_AMID_SETUP);
+    }
+    None
+}
+
+// The first of the rules that stands.
+#[tactic(auto, unfolding(crate::specs::Rules::stream_questions))]
+fn loud_fault(code: &[u64], flow: &Flow, stream: &Stream, at: usize) -> Option<u8>
+    requires inside { at < length code.now }
+    requires made { IsFlow code.now flow.now }
+    requires counted { IsStream code.now stream.now }
+    ensures { result ≡ first_of (stream_questions code.now at) }
+{
+    let pending0 = stream.pending0[at];
+    let pending1 = stream.pending1[at];
+    let target = flow.targets[at];
+    let takes = takes_here(code, stream, at);
+    if breaks_s14(code, at) {
+        return Some(S14_FORBIDDEN_REGISTER);
+    }
+    if breaks_s15(code, at) {
+        return Some(S15_RELATIVE_ADDRESS);
+    }
+    if breaks_s17(code, at) {
+        return Some(S17_ADDRESS_IN_SLOTS);
+    }
+    if breaks_s18(code, at, takes) {
+        return Some(S18_UNIFORM_TOO_EARLY);
+    }
+    if breaks_s19(code, at, takes, stream.known[at]) {
+        return Some(S19_POSITION_UNKNOWN);
+    }
+    if breaks_s20(code, at) {
+        return Some(S20_TWO_TMU_WRITES);
+    }
+    if breaks_s21(code, at) {
+        return Some(S21_CONDITIONAL_TMU_WRITE);
+    }
+    if breaks_s22(code, at, pending0, pending1) {
+        return Some(S22_TMU_FULL);
+    }
+    if breaks_s23(code, at, pending0, pending1) {
+        return Some(S23_UNIFORM_TAKEN_TWICE);
+    }
+    if breaks_s25(code, at, target, pending0, pending1) {
+        return Some(S25_TARGET_AMID_SETUP);
+    }
+    None
+}
+
 /// The number of the first of the rules S14, S15, S17 to S23 and S25 that stands at the instruction `at`; `None` where none
 /// of them does. They keep the uniforms that a shader takes those that the checker counts, and the words that a texture unit
 /// gets those that it was shown. At an instruction past the checked ones, which is never executed, the rules on the word
 /// alone can stand too.
-#[tactic(auto, unfolding(crate::specs::Rules::stream_questions))]
 pub fn stream_fault(code: &[u64], flow: &Flow, stream: &Stream, at: u32) -> Option<u8>
     requires inside { at < length code.now }
     requires made { IsFlow code.now flow.now }
     requires counted { IsStream code.now stream.now }
     ensures { result ≡ first_of (stream_questions code.now at) }
 {
-    let i = at as usize;
-    let pending0 = stream.pending0[i];
-    let pending1 = stream.pending1[i];
-    let target = flow.targets[i];
-    let takes = takes_at(code, flow.end, i, pending0, pending1);
-    if breaks_s14(code, i) {
-        return Some(S14_FORBIDDEN_REGISTER);
+    let at = at as usize;
+    if writes_registers(code[at]) {
+        return quiet_fault(code, flow, stream, at);
     }
-    if breaks_s15(code, i) {
-        return Some(S15_RELATIVE_ADDRESS);
-    }
-    if breaks_s17(code, i) {
-        return Some(S17_ADDRESS_IN_SLOTS);
-    }
-    if breaks_s18(code, i, takes) {
-        return Some(S18_UNIFORM_TOO_EARLY);
-    }
-    if breaks_s19(code, i, takes, stream.known[i]) {
-        return Some(S19_POSITION_UNKNOWN);
-    }
-    if breaks_s20(code, i) {
-        return Some(S20_TWO_TMU_WRITES);
-    }
-    if breaks_s21(code, i) {
-        return Some(S21_CONDITIONAL_TMU_WRITE);
-    }
-    if breaks_s22(code, i, pending0, pending1) {
-        return Some(S22_TMU_FULL);
-    }
-    if breaks_s23(code, i, pending0, pending1) {
-        return Some(S23_UNIFORM_TAKEN_TWICE);
-    }
-    if breaks_s25(code, i, target, pending0, pending1) {
-        return Some(S25_TARGET_AMID_SETUP);
-    }
-    None
+    loud_fault(code, flow, stream, at)
 }

@@ -1,17 +1,20 @@
 //! The walk that counts uniforms and setup words.
-ghost use Rattle.std.specs.Prelude.{◌≡◌, ◌<◌, ◌≤◌, ◌+◌, ◌*◌, ◌++◌, ◌∷◌, [], ℕ, List, length, map, if◌then◌else◌, IfOk, OnOk};
+ghost use Rattle.std.specs.Prelude.{◌≡◌, ◌<◌, ◌≤◌, ◌+◌, ◌*◌, ◌++◌, ◌∷◌, [], ℕ, List, true, length, map, nat_lt, ◌&&◌, if◌then◌else◌, IfOk, OnOk};
 ghost use Rattle.shader_flow.specs.Bounded.{indexes};
-ghost use Rattle.shader_flow.specs.Flow.{end_of, checked_of, IsFlow};
+ghost use Rattle.qpu_isa.specs.Terms.{reads_uniform_of};
+ghost use Rattle.shader_flow.specs.Flow.{word, end_of, checked_of, IsFlow};
 ghost use Rattle.shader_flow.specs.Pending.{pending_of, count_of};
 ghost use Rattle.uniform_stream.specs.Stream.{writes_address, leaves_open, is_open, IsStream};
+ghost use Rattle.uniform_stream.specs.Quiet.{writes_registers};
 ghost use Rattle.uniform_stream.specs.Walk.{IsRunning, IsFilled, IsAddressEnd};
 
 use crate::position::{known_after, writes_address};
+use crate::quiet::writes_registers;
 use crate::rules::takes_at;
 use crate::state::Stream;
 use field_words::NoMemory;
 use qpu_isa::word::is_backward;
-use qpu_isa::writes::{tmu_writes, writes_s};
+use qpu_isa::writes::{reads_uniform, tmu_writes, writes_s};
 use shader_flow::{Flow, checked};
 use std::alloc::Global;
 
@@ -63,6 +66,50 @@ fn next_count(code: &[u64], end: u32, at: usize, pending0: u16, pending1: u16, c
     count
 }
 
+// A checked instruction at `at` reads a uniform.
+fn reads_here(code: &[u64], end: u32, at: usize) -> bool
+    requires inside { at < length code.now }
+    requires few { length code.now ≤ 8192 }
+    requires last { end ≡ end_of code.now }
+    ensures { result ≡ (nat_lt at (checked_of code.now) && reads_uniform_of (word code.now at)) }
+{
+    at < checked(code, end) && reads_uniform(code[at])
+}
+
+// How many uniforms are taken up to an instruction at `at` that writes registers alone, where `count` are taken before it.
+fn quiet_count(code: &[u64], end: u32, at: usize, count: u32) -> u32
+    requires inside { at < length code.now }
+    requires few { length code.now ≤ 8192 }
+    requires last { end ≡ end_of code.now }
+    requires quiet { writes_registers (word code.now at) ≡ true }
+    requires taken { count ≡ count_of code.now at }
+    requires bound { count ≤ at }
+    ensures value { result ≡ count_of code.now (at + 1) }
+    ensures bound { result ≤ at + 1 }
+{
+    if reads_here(code, end, at) {
+        return count + 1;
+    }
+    count
+}
+
+// What is carried past an instruction at `at` that writes registers alone.
+#[tactic(auto, using(crate::proofs::QuietWrites::quiet_pending))]
+fn quiet_after(code: &[u64], flow: &Flow, at: usize, now: &Running) -> Running
+    requires inside { at < length code.now }
+    requires made { IsFlow code.now flow.now }
+    requires quiet { writes_registers (word code.now at) ≡ true }
+    requires before { IsRunning code.now at now.now }
+    ensures { IsRunning code.now (at + 1) result }
+{
+    Running {
+        count: quiet_count(code, flow.end, at, now.count),
+        pending0: now.pending0,
+        pending1: now.pending1,
+        known: known_after(code, flow, at, now.known),
+    }
+}
+
 // What is carried past the instruction at `at`.
 fn after(code: &[u64], flow: &Flow, at: usize, now: &Running) -> Running
     requires inside { at < length code.now }
@@ -70,6 +117,9 @@ fn after(code: &[u64], flow: &Flow, at: usize, now: &Running) -> Running
     requires before { IsRunning code.now at now.now }
     ensures { IsRunning code.now (at + 1) result }
 {
+    if writes_registers(code[at]) {
+        return quiet_after(code, flow, at, now);
+    }
     let end = flow.end;
     Running {
         count: next_count(code, end, at, now.pending0, now.pending1, now.count),

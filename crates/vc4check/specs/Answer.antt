@@ -1,39 +1,20 @@
--- What a command answers to all of its input: a status and a text.
-use Rattle.std.specs.Prelude.{◌≡◌, ℕ, ◌++◌, List, Option, Some, None}
-use Rattle.field_words.specs.declared.stop.Stop.{Stop}
-use Rattle.field_words.specs.declared.stop.Stop.TheVariants.{Fault, NoMemory}
-use Rattle.field_words.specs.Questions.{Question, first_of, answered, IsFirst}
-use Rattle.job_format.specs.declared.rule.FormatFault.{FormatFault}
+-- What a command answers: a status and a text.
+use Rattle.std.specs.Prelude.{◌≡◌, ℕ, List, length, Option, Some, None}
+use Rattle.field_words.specs.Questions.{IsFirst}
 use Rattle.job_format.specs.declared.rule.Refusal.{Refusal}
-use Rattle.job_format.specs.declared.rule.Stage.TheVariants.{F}
-use Rattle.job_format.specs.Faults.{format_questions}
 use Rattle.job_format.specs.File.{IsFileOf}
 use Rattle.job_format.specs.Model.{FileModel}
 use Rattle.job_format.specs.Reading.{file_at}
-use Rattle.job_check.specs.Faults.{refused, file_stages}
+use Rattle.job_check.specs.Whole.{all_questions, refusal_of}
 use Rattle.job_check.specs.Emit.{memory_of, lengths_of}
 use Rattle.job_check.specs.Jobs.{layout_of}
 use Rattle.dumper.specs.Text.{accepted_text, refused_text}
 use Rattle.vc4check.specs.declared.command.Command.{Command}
 use Rattle.vc4check.specs.declared.command.Command.TheVariants.{Check, Asm, Disasm}
 use Rattle.vc4check.specs.Shader.{IsAsmAnswer, IsDisasmAnswer}
-
--- F: the format of the file
-abbrev pub format_refused : FormatFault → Refusal
-format_refused fault = refused F fault.number fault.offset
-
-abbrev pub format_stopped : Stop FormatFault → Stop Refusal
-format_stopped (Fault fault) = Fault (format_refused fault)
-format_stopped NoMemory = NoMemory
-
--- All rules by which these bytes can be refused, in the order of refusal. The stages after the format are asked of the file
--- that the bytes hold.
-unfoldable pub all_questions : List ℕ → List (Question Refusal)
-all_questions bytes = answered format_refused (format_questions bytes) ++ file_stages (file_at bytes)
-
--- the first rule that stands, if any
-unfoldable pub refusal_of : List ℕ → Option Refusal
-refusal_of bytes = first_of (all_questions bytes)
+use Rattle.job_format.specs.Text.{file_text}
+use Rattle.dumper.specs.Example.{example_text}
+use Rattle.example_job.specs.Example.{example}
 
 -- what is printed of an accepted file: its emitted memory, and where its lists lie there
 unfoldable pub image_of : FileModel → List ℕ
@@ -53,3 +34,15 @@ abbrev pub IsAnswer : Command → List ℕ → ℕ → List ℕ → Type 0
 IsAnswer Check bytes status text = IsCheckAnswer bytes status text
 IsAnswer Asm bytes status text = IsAsmAnswer bytes status text
 IsAnswer Disasm bytes status text = IsDisasmAnswer bytes status text
+
+-- `gen` makes the example of a number and checks it, as `check` does. It says how long the file and the emitted lists are and what
+-- the bytes of the memory add up to, or why the file is refused.
+unfoldable pub text_of : ℕ → FileModel → List ℕ
+text_of number f = example_text number (length (file_text f)) (memory_of f) (lengths_of f 0)
+
+abbrev pub IsExampleVerdict : ℕ → FileModel → Option Refusal → ℕ → List ℕ → Type 0
+IsExampleVerdict number f None status text = (status ≡ 0) × (text ≡ text_of number f)
+IsExampleVerdict number f (Some refusal) status text = (status ≡ 1) × (text ≡ refused_text refusal)
+
+abbrev pub IsExampleAnswer : ℕ → ℕ → List ℕ → Type 0
+IsExampleAnswer number status text = IsExampleVerdict number (example number) (refusal_of (file_text (example number))) status text

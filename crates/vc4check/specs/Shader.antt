@@ -1,9 +1,9 @@
 -- What `asm` and `disasm` answer to all of their input.
-use Rattle.std.specs.Prelude.{◌≡◌, ◌≢◌, ◌⊎◌, ℕ, ◌*◌, ◌/◌, ◌%◌, List, [], ◌++◌, codes, length, map}
-use Rattle.std.specs.List.{flat_map, range_with_len}
+use Rattle.std.specs.Prelude.{◌≡◌, ◌≢◌, ◌⊎◌, ℕ, ◌%◌, List, [], ◌++◌, codes, length}
+use Rattle.std.specs.List.{flat_map}
 use Rattle.std.specs.Fmt.{decimal}
 use Rattle.std.specs.Int.{to_le_bytes, w64}
-use Rattle.field_words.specs.Words.{u64_at}
+use Rattle.job_check.specs.Shaders.{words_of}
 use Rattle.qpu_asm.specs.declared.fault.AsmFault.{AsmFault}
 use Rattle.qpu_asm.specs.Assembly.{AsmFaults, AsmWords, IsLeastFault}
 use Rattle.qpu_asm.specs.Printed.{AsmText}
@@ -11,13 +11,6 @@ use Rattle.qpu_asm.specs.Printed.{AsmText}
 -- words as bytes, 8 each, the lowest first
 unfoldable pub bytes_of : List ℕ → List ℕ
 bytes_of words = flat_map (to_le_bytes w64) words
-
--- the first n words that stand in such bytes, and all
-unfoldable pub words_in : List ℕ → ℕ → List ℕ
-words_in bytes n = map (λ i. u64_at bytes (8 * i)) (range_with_len 0 n)
-
-abbrev pub words_of : List ℕ → List ℕ
-words_of bytes = words_in bytes (length bytes / 8)
 
 -- a line for the first fault of a text
 unfoldable pub fault_text : AsmFault → List ℕ

@@ -1,10 +1,13 @@
 -- The words after the program's name.
-use Rattle.std.specs.Prelude.{ℕ, List, [], ◌∷◌, codes, map, String, string_bytes, Option, Some, None, if◌then◌else◌}
+use Rattle.std.specs.Prelude.{ℕ, ◌-◌, ◌^◌, List, [], ◌∷◌, codes, map, String, string_bytes, Option, Some, None, option_map, if◌then◌else◌}
 use Rattle.std.specs.Prelude.{bytes_eq}
 use Rattle.std.specs.declared.alloc.Global.{Global}
 use Rattle.field_words.specs.Sizes.{most_list}
 use Rattle.vc4check.specs.declared.command.Command.{Command}
-use Rattle.vc4check.specs.declared.command.Command.TheVariants.{Check, Asm, Disasm}
+use Rattle.vc4check.specs.declared.command.Command.TheVariants.{Check, Replay, Asm, Disasm}
+use Rattle.vc4check.specs.declared.command.Task.{Task}
+use Rattle.vc4check.specs.declared.command.Task.TheVariants.{Read, Make}
+use Rattle.script.specs.Number.{number_within}
 
 abbrev pub texts : List (String Global) → List (List ℕ)
 texts words = map string_bytes words
@@ -15,11 +18,32 @@ command_named word =
     else (if bytes_eq word (codes "asm") then Some Asm
     else (if bytes_eq word (codes "disasm") then Some Disasm else None))
 
--- the command that the words ask for, if they are one's
-abbrev pub command_of : List (List ℕ) → Option Command
-command_of [] = None
-command_of (word ∷ []) = command_named word
-command_of (word ∷ another ∷ more) = None
+-- the greatest number of an example
+abbrev pub most_number : ℕ
+most_number = 4294967295
+
+abbrev pub task_numbered : List ℕ → List ℕ → Option Task
+task_numbered word number = if bytes_eq word (codes "gen") then option_map Make (number_within most_number number) else None
+
+-- a run of at most so many steps, by the script of a seed
+abbrev pub most_steps : ℕ
+most_steps = 1000000
+
+abbrev pub replay_by : Option ℕ → Option ℕ → Option Command
+replay_by None seed = None
+replay_by (Some steps) None = None
+replay_by (Some steps) (Some seed) = Some (Replay steps seed)
+
+abbrev pub replay_named : List ℕ → List ℕ → List ℕ → Option Command
+replay_named word steps seed = if bytes_eq word (codes "replay") then replay_by (number_within most_steps steps) (number_within (2 ^ 64 - 1) seed) else None
+
+-- what the words ask for, if they ask for something: to read input by a command, or to make an example
+abbrev pub task_of : List (List ℕ) → Option Task
+task_of [] = None
+task_of (word ∷ []) = option_map Read (command_named word)
+task_of (word ∷ number ∷ []) = task_numbered word number
+task_of (word ∷ steps ∷ seed ∷ []) = option_map Read (replay_named word steps seed)
+task_of (word ∷ another ∷ further ∷ last ∷ more) = None
 
 -- the most bytes of a job file that `check` takes: 24 MiB
 abbrev pub most_file : ℕ
@@ -28,5 +52,6 @@ most_file = 25165824
 -- the most bytes of input that a command takes
 abbrev pub limit_of : Command → ℕ
 limit_of Check = most_file
+limit_of (Replay steps seed) = most_file
 limit_of Asm = most_list
 limit_of Disasm = most_list

@@ -1,23 +1,37 @@
-//! The program's commands, and the words that ask for them.
+//! What the program can do, and the words that ask for it.
 ghost use Rattle.std.specs.Prelude.{◌≡◌, ◌≤◌, Some, None};
-ghost use Rattle.vc4check.specs.Words.{texts, command_named, command_of, limit_of, most_file};
+ghost use Rattle.vc4check.specs.Words.{texts, command_named, task_numbered, replay_named, task_of, limit_of, most_file};
 
 use field_words::MOST_LIST;
+use script::read_number;
 
 /// The most bytes of a job file that `check` takes: 24 MiB.
 const MOST_FILE: usize = 25_165_824;
 
-/// What the program can do.
+/// The most steps of a run.
+const MOST_STEPS: u64 = 1_000_000;
+
+/// A command that reads all of its input, and answers to it.
 #[derive(Clone, Copy, Debug, PartialEq, Eq)]
 pub enum Command {
     /// `check`: reads a job file and prints the memory that it runs in, or why it is refused.
     Check,
-    /// `replay`: reads a job file and prints what a run of it does, step by step, by a script made from the seed.
+    /// `replay <steps> <seed>`: reads a job file and prints what a run of at most so many steps does, by the script of the seed; or
+    /// why it is refused.
     Replay { steps: u32, seed: u64 },
     /// `asm`: reads shader text and writes the instruction words, 8 bytes each, little endian.
     Asm,
     /// `disasm`: reads such words and writes shader text that assembles to them.
     Disasm,
+}
+
+/// What the words ask for.
+#[derive(Clone, Copy, Debug, PartialEq, Eq)]
+pub enum Task {
+    /// To read input by a command.
+    Read(Command),
+    /// `gen <number>`: makes the example job of this number, and says what becomes of it. No input is read.
+    Make(u32),
 }
 
 impl Command {
@@ -48,42 +62,42 @@ fn command_named(word: &str) -> Option<Command>
     None
 }
 
-// A decimal number without a sign or leading zeros, `0` being itself.
-fn number_of(word: &str) -> Option<u64> {
-    let digits = word.as_bytes();
-    if digits.is_empty() || (digits[0] == b'0' && digits.len() > 1) {
-        return None;
+fn task_numbered(word: &str, number: &str) -> Option<Task>
+    ensures { result ≡ task_numbered word.now number.now }
+{
+    if word == "gen" {
+        let number = read_number(number.as_bytes(), u64::from(u32::MAX))?;
+        return Some(Task::Make(number as u32));
     }
-    let mut number = 0u64;
-    for digit in digits {
-        if !digit.is_ascii_digit() {
-            return None;
-        }
-        number = number.checked_mul(10)?.checked_add((digit - b'0') as u64)?;
-    }
-    Some(number)
+    None
 }
 
-fn replay_named(word: &str, steps: &str, seed: &str) -> Option<Command> {
-    let steps = number_of(steps)?;
-    let seed = number_of(seed)?;
-    if word != "replay" || steps > 1_000_000 {
-        return None;
+fn replay_named(word: &str, steps: &str, seed: &str) -> Option<Command>
+    ensures { result ≡ replay_named word.now steps.now seed.now }
+{
+    if word == "replay" {
+        let steps = read_number(steps.as_bytes(), MOST_STEPS)?;
+        let seed = read_number(seed.as_bytes(), u64::MAX)?;
+        return Some(Command::Replay {
+            steps: steps as u32,
+            seed,
+        });
     }
-    Some(Command::Replay {
-        steps: steps as u32,
-        seed,
-    })
+    None
 }
 
-/// The command that the words ask for. `None` comes exactly where they are no command's. It takes
-/// no memory.
-pub fn command_of(words: &[String]) -> Option<Command>
-    ensures { result ≡ command_of (texts words.now) }
+/// What the words ask for. `None` comes exactly where they ask for nothing that the program does. It takes no memory.
+pub fn task_of(words: &[String]) -> Option<Task>
+    ensures { result ≡ task_of (texts words.now) }
 {
     match words {
-        [word] => command_named(word.as_str()),
-        [word, steps, seed] => replay_named(word.as_str(), steps.as_str(), seed.as_str()),
+        [word] => Some(Task::Read(command_named(word.as_str())?)),
+        [word, number] => task_numbered(word.as_str(), number.as_str()),
+        [word, steps, seed] => Some(Task::Read(replay_named(
+            word.as_str(),
+            steps.as_str(),
+            seed.as_str(),
+        )?)),
         _ => None,
     }
 }

@@ -6,6 +6,7 @@
 mod answer;
 mod check;
 mod command;
+mod example;
 #[cfg(test)]
 mod job_tests;
 mod run;

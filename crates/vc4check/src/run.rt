@@ -1,5 +1,5 @@
 //! The top call: from words and input to a status and a text.
-ghost use Rattle.std.specs.Prelude.{◌≡◌, ◌≢◌, ◌≤◌, ◌<◌, ◌⊎◌, ◌↔◌, ◌∷◌, [], length, IfSome, Some, None};
+ghost use Rattle.std.specs.Prelude.{◌≡◌, ◌≢◌, ◌≤◌, ◌<◌, ◌⊎◌, ◌↔◌, ◌∷◌, [], ℕ, length, IfSome, Some, None};
 ghost use Rattle.std.specs.Io.KnownBytes.{IsAtEnd};
 ghost use Rattle.job_io.specs.Faults.{Rose};
 ghost use Rattle.job_io.specs.Traffic.{count_taken};
@@ -10,23 +10,25 @@ ghost use Rattle.thin_job.specs.Shape.{IsThinFile, thin_of};
 ghost use Rattle.job_safety.specs.Safe.{AreSafe};
 ghost use Rattle.job_safety.specs.Thin.{thin_rights, thin_start};
 ghost use Rattle.vc4check.specs.declared.command.Command.{Command};
-ghost use Rattle.vc4check.specs.Answer.{IsAnswer};
+ghost use Rattle.vc4check.specs.declared.command.Task.TheVariants.{Read, Make};
+ghost use Rattle.vc4check.specs.Answer.{IsAnswer, IsExampleAnswer};
 ghost use Rattle.vc4check.specs.Run.{IsAnswered, IsCut};
-ghost use Rattle.vc4check.specs.Words.{texts, command_of, limit_of};
+ghost use Rattle.vc4check.specs.Words.{texts, task_of, limit_of};
 
-use super::command::command_of;
+use super::command::{Task, task_of};
+use super::example::make;
 use super::serve::serve;
 use job_io::{Sink, Source};
 use std::alloc::Global;
 
-/// Does what the words ask for: reads the command's input from the source, and appends its text to
-/// the sink. The status says how it ended.
+/// Does what the words ask for: reads the command's input from the source, or makes an example, and appends the text that answers
+/// it to the sink. The status says how it ended.
 ///
 /// | Status | Meaning | What the sink gets |
 /// |---|---|---|
 /// | 0 | done | the command's text |
 /// | 1 | refused | the refusal's text |
-/// | 2 | the words are no command's; nothing is read | nothing |
+/// | 2 | the words ask for nothing that the program does; nothing is read | nothing |
 /// | 3 | the source failed | nothing |
 /// | 4 | the sink failed | a front of the text of status 0 or 1 |
 /// | 5 | want of memory | nothing |
@@ -39,7 +41,7 @@ pub fn run<S: Source, K: Sink>(
 ) -> u8
     // Which statuses come, and from what.
     ensures statuses { result ≤ 6 }
-    ensures words { (result ≡ 2) ↔ (command_of (texts words.now.items) ≡ None) }
+    ensures words { (result ≡ 2) ↔ (task_of (texts words.now.items) ≡ None) }
     ensures read { result ≡ 3 → Rose (S.faults source.old) (S.faults source.new) }
     ensures write { result ≡ 4 → Rose (K.faults sink.old) (K.faults sink.new) }
     ensures source_steady { result ≢ 3 → S.faults source.new ≡ S.faults source.old }
@@ -51,25 +53,33 @@ pub fn run<S: Source, K: Sink>(
     ensures untouched { result ≡ 2 → source.new ≡ source.old }
     ensures nothing { 1 < result → result ≢ 4 → sink.new ≡ sink.old }
 
-    // All of the input was read.
-    ensures all { ((result < 2) ⊎ (result ≡ 4)) → IsAtEnd (S.left source.new) }
+    // A command reads all of its input; `gen` reads none.
+    ensures all { (command : Command) → task_of (texts words.now.items) ≡ Some (Read command) → ((result < 2) ⊎ (result ≡ 4)) → IsAtEnd (S.left source.new) }
+    ensures unread { (number : ℕ) → task_of (texts words.now.items) ≡ Some (Make number) → source.new ≡ source.old }
 
     // What each command takes and answers, where the source tells its input.
-    ensures long { (command : Command) → command_of (texts words.now.items) ≡ Some command → IfSome (S.left source.old) (λ _.
+    ensures long { (command : Command) → task_of (texts words.now.items) ≡ Some (Read command) → IfSome (S.left source.old) (λ _.
         (result ≡ 6) ↔ (limit_of command < count_taken (S.left source.old) (S.left source.new))) }
-    ensures within { (command : Command) → command_of (texts words.now.items) ≡ Some command → IfSome (S.left source.old) (λ bytes.
+    ensures within { (command : Command) → task_of (texts words.now.items) ≡ Some (Read command) → IfSome (S.left source.old) (λ bytes.
         length bytes ≤ limit_of command → result ≢ 6) }
-    ensures answered { (command : Command) → command_of (texts words.now.items) ≡ Some command → result < 2 →
-        IfSome (S.left source.old) (λ bytes. IsAnswered (IsAnswer command) bytes result (K.held sink.old) (K.held sink.new)) }
-    ensures cut { (command : Command) → command_of (texts words.now.items) ≡ Some command → result ≡ 4 →
-        IfSome (S.left source.old) (λ bytes. IsCut (IsAnswer command) bytes (K.held sink.old) (K.held sink.new)) }
+    ensures answered { (command : Command) → task_of (texts words.now.items) ≡ Some (Read command) → result < 2 →
+        IfSome (S.left source.old) (λ bytes. IsAnswered (IsAnswer command bytes) result (K.held sink.old) (K.held sink.new)) }
+    ensures cut { (command : Command) → task_of (texts words.now.items) ≡ Some (Read command) → result ≡ 4 →
+        IfSome (S.left source.old) (λ bytes. IsCut (IsAnswer command bytes) (K.held sink.old) (K.held sink.new)) }
+
+    // What `gen` answers.
+    ensures made { (number : ℕ) → task_of (texts words.now.items) ≡ Some (Make number) → result < 2 →
+        IsAnswered (IsExampleAnswer number) result (K.held sink.old) (K.held sink.new) }
+    ensures made_cut { (number : ℕ) → task_of (texts words.now.items) ≡ Some (Make number) → result ≡ 4 →
+        IsCut (IsExampleAnswer number) (K.held sink.old) (K.held sink.new) }
 
     // The memory that `check` prints of a thin job is safe in every run of the machine.
     ensures safe { IfSome (S.left source.old) (λ bytes. (f : FileModel) → IsThinFile bytes f →
         AreSafe (thin_rights (thin_of f)) (memory_of (file_at bytes)) (thin_start (thin_of f) ∷ [])) }
 {
-    match command_of(words) {
+    match task_of(words) {
         None => 2,
-        Some(command) => serve(alloc, command, source, sink),
+        Some(Task::Read(command)) => serve(alloc, command, source, sink),
+        Some(Task::Make(number)) => make(alloc, number, sink),
     }
 }

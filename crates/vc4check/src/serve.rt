@@ -37,8 +37,8 @@ fn respond<K: Sink>(alloc: Global, command: Command, bytes: &[u8], sink: &mut K)
     ensures statuses { (result < 2) ⊎ ((result ≡ 4) ⊎ (result ≡ 5)) }
     ensures write { result ≡ 4 → Rose (K.faults sink.old) (K.faults sink.new) }
     ensures steady { result ≢ 4 → K.faults sink.new ≡ K.faults sink.old }
-    ensures answered { result < 2 → IsAnswered (IsAnswer command) bytes.now result (K.held sink.old) (K.held sink.new) }
-    ensures cut { result ≡ 4 → IsCut (IsAnswer command) bytes.now (K.held sink.old) (K.held sink.new) }
+    ensures answered { result < 2 → IsAnswered (IsAnswer command bytes.now) result (K.held sink.old) (K.held sink.new) }
+    ensures cut { result ≡ 4 → IsCut (IsAnswer command bytes.now) (K.held sink.old) (K.held sink.new) }
     ensures nothing { 1 < result → result ≢ 4 → sink.new ≡ sink.old }
 {
     let Ok(answer) = answer_to(alloc, command, bytes) else {
@@ -68,8 +68,8 @@ pub fn serve<S: Source, K: Sink>(
     ensures long { IfSome (S.left source.old) (λ _. (result ≡ 6) ↔
         (limit_of command < count_taken (S.left source.old) (S.left source.new))) }
     ensures within { IfSome (S.left source.old) (λ bytes. length bytes ≤ limit_of command → result ≢ 6) }
-    ensures answered { result < 2 → IfSome (S.left source.old) (λ bytes. IsAnswered (IsAnswer command) bytes result (K.held sink.old) (K.held sink.new)) }
-    ensures cut { result ≡ 4 → IfSome (S.left source.old) (λ bytes. IsCut (IsAnswer command) bytes (K.held sink.old) (K.held sink.new)) }
+    ensures answered { result < 2 → IfSome (S.left source.old) (λ bytes. IsAnswered (IsAnswer command bytes) result (K.held sink.old) (K.held sink.new)) }
+    ensures cut { result ≡ 4 → IfSome (S.left source.old) (λ bytes. IsCut (IsAnswer command bytes) (K.held sink.old) (K.held sink.new)) }
     ensures complete { (Rose (S.faults source.old) (S.faults source.new) → ⊥) → (Rose (K.faults sink.old) (K.faults sink.new) → ⊥)
         → result ≢ 6 → ((result < 2) ⊎ (result ≡ 5)) }
     ensures nothing { 1 < result → result ≢ 4 → sink.new ≡ sink.old }

@@ -1,12 +1,11 @@
 //! The commands `asm` and `disasm`.
-ghost use Rattle.std.specs.Prelude.{◌≡◌, ◌≢◌, ◌⊎◌, ◌≤◌, ◌<◌, ◌+◌, ◌*◌, ◌/◌, ◌++◌, length, IfOk, string_bytes};
+ghost use Rattle.std.specs.Prelude.{◌≡◌, ◌≤◌, ◌<◌, length, IfOk};
 ghost use Rattle.field_words.specs.Sizes.{most_list};
-ghost use Rattle.field_words.specs.Words.{u64_at};
-ghost use Rattle.vc4check.specs.Shader.{bytes_of, words_of, fault_text, length_text, IsAsmAnswer, IsDisasmAnswer};
+ghost use Rattle.vc4check.specs.Shader.{bytes_of, fault_text, length_text, IsAsmAnswer, IsDisasmAnswer};
 
 use super::answer::Answer;
-use byteorder::{ByteOrder, LittleEndian};
 use field_words::{NoMemory, Stop};
+use job_check::words_of;
 use qpu_asm::{AsmFault, assemble, disassemble};
 use std::alloc::{AllocError, Global};
 
@@ -20,29 +19,6 @@ fn bytes_of(alloc: Global, words: &[u64]) -> Result<Vec<u8>, AllocError>
         bytes.extend_from_slice(&word.to_le_bytes())?;
     }
     Ok(bytes)
-}
-
-/// The words that stand in the bytes, which are whole words.
-#[tactic(auto, using(crate::proofs::Octets::words_none, crate::proofs::Octets::words_more))]
-fn words_of(alloc: Global, bytes: &[u8]) -> Result<Vec<u64>, AllocError>
-    requires { length bytes.now ≤ most_list }
-    ensures { IfOk result (λ words. words.items ≡ words_of bytes.now) }
-{
-    let mut words = Vec::new(alloc);
-    for k in 0..bytes.len() / 8 {
-        words.push(word_at(bytes, k))?;
-    }
-    Ok(words)
-}
-
-/// Word k of the bytes.
-#[tactic(auto, unfolding(field_words::specs::Words::u64_at))]
-fn word_at(bytes: &[u8], k: usize) -> u64
-    requires few { length bytes.now ≤ most_list }
-    requires inside { k < length bytes.now / 8 }
-    ensures { result ≡ u64_at bytes.now (8 * k) }
-{
-    LittleEndian::read_u64(&bytes[8 * k..])
 }
 
 #[tactic(auto, unfolding(crate::specs::Shader::fault_text))]

@@ -286,3 +286,49 @@ fn turns_text_into_words_and_back(rt: HostRuntime) -> Result<(), Fail> {
     }
     Ok(())
 }
+
+// The examples of four numbers. The source has a byte, which none of them reads.
+#[test]
+fn makes_examples(rt: HostRuntime) -> Result<(), Fail> {
+    let alloc = rt.alloc();
+    for (number, text) in [
+        (
+            "7",
+            "gen 7\ninput 1049451\naccepted\nbin 139\nrecords 384\nuniforms 0\nrender 84\nsum 133555995\n",
+        ),
+        (
+            "0",
+            "gen 0\ninput 1048926\naccepted\nbin 34\nrecords 48\nuniforms 0\nrender 21\nsum 133724697\n",
+        ),
+    ] {
+        let mut source = MemSource::new(b"x".to_vec(alloc)?, 5, Vec::new(alloc));
+        let mut sink = MemSink::new(alloc, 1000, 100, Vec::new(alloc))?;
+        let answer = run(
+            alloc,
+            &words(alloc, &["gen", number])?,
+            &mut source,
+            &mut sink,
+        );
+        assert_eq!(rt; answer, 0);
+        assert_eq!(rt; sink.bytes(), text.as_bytes());
+    }
+    Ok(())
+}
+
+#[test]
+fn takes_numbers_without_sign_and_leading_zero(rt: HostRuntime) -> Result<(), Fail> {
+    let alloc = rt.alloc();
+    for number in ["", "07", "+7", "7 ", "4294967296"] {
+        let mut source = MemSource::new(Vec::new(alloc), 5, Vec::new(alloc));
+        let mut sink = MemSink::new(alloc, 1000, 100, Vec::new(alloc))?;
+        let answer = run(
+            alloc,
+            &words(alloc, &["gen", number])?,
+            &mut source,
+            &mut sink,
+        );
+        assert_eq!(rt; answer, 2, "{number}");
+        assert_eq!(rt; sink.bytes(), b"".as_slice());
+    }
+    Ok(())
+}

@@ -8,6 +8,7 @@ use Rattle.job_format.specs.Model.{file_view, job_view}
 use Rattle.job_check.specs.declared.check.Checked.{Checked}
 use Rattle.job_check.specs.Faults.{table_stage, shaders_stage, job_stages, file_stages}
 use Rattle.job_check.specs.Emit.{IsEmitted}
+use Rattle.job_check.proofs.Wants.{never_hidden}
 use Rattle.job_check.proofs.check.check_job.Goals as goal
 
 pub returns-in-Ok-clause-answers : goal.returns-in-Ok-clause-answers
@@ -34,3 +35,6 @@ returns-in-Err-clause-first c =
     let f = file_view c.args.file.now in
     let result : Result Checked (Stop Refusal) = Err c.in-Err.stop in
     names_first (file_stages f) (λ (checked : Checked). IsEmitted f checked.memory checked.layout checked.lengths) result (returns-in-Err-clause-answers c)
+
+pub returns-in-Ok-clause-memory : goal.returns-in-Ok-clause-memory
+returns-in-Ok-clause-memory c = never_hidden (table_stage (file_view c.args.file.now)) c.check_shaders.result c.in-Ok.ensures.answers.0

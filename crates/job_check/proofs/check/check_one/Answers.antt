@@ -13,8 +13,8 @@ unfolding job_stages
 returns-in-Ok-clause-answers c =
     let f = file_view c.args.file.now in
     let j = c.args.number in
-    let same : c.in-Ok.job ≡ record { file = f; number = j } = c.in-Ok.ensures.1 in
-    answers_later (handles_stage f j) (lists_stages f j ++ layout_stage f j) (λ (lists : Lists). IsPlacedFor f j lists.layout lists.lengths) c.place_lists.result c.in-Ok.ensures.0
+    let same : c.in-Ok.job ≡ record { file = f; number = j } = c.in-Ok.ensures.answers.1 in
+    answers_later (handles_stage f j) (lists_stages f j ++ layout_stage f j) (λ (lists : Lists). IsPlacedFor f j lists.layout lists.lengths) c.place_lists.result c.in-Ok.ensures.answers.0
     (subst (λ (v : InView). Answers (lists_stages v.file v.number ++ layout_stage v.file v.number) (λ (lists : Lists). IsPlacedFor v.file v.number lists.layout lists.lengths) c.place_lists.result) same c.place_lists.ensures.answers)
 
 pub returns-in-Err-clause-answers : goal.returns-in-Err-clause-answers
@@ -22,4 +22,4 @@ unfolding job_stages
 returns-in-Err-clause-answers c =
     let f = file_view c.args.file.now in
     let j = c.args.number in
-    refuses_front (handles_stage f j) (lists_stages f j ++ layout_stage f j) c.in-Err.stop c.in-Err.ensures
+    refuses_front (handles_stage f j) (lists_stages f j ++ layout_stage f j) c.in-Err.stop c.in-Err.ensures.answers

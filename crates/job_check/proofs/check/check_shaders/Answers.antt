@@ -11,9 +11,9 @@ pub returns-in-Ok-clause-answers : goal.returns-in-Ok-clause-answers
 returns-in-Ok-clause-answers c =
     let f = file_view c.args.file.now in
     answers_later (shaders_stage f) (each (job_stages f) 0 (length c.args.file.now.jobs.items)) (λ (checked : Checked). IsEmitted f checked.memory checked.layout checked.lengths) c.check_jobs.result
-    c.in-Ok.ensures.0 c.check_jobs.ensures.answers
+    c.in-Ok.ensures.answers.0 c.check_jobs.ensures.answers
 
 pub returns-in-Err-clause-answers : goal.returns-in-Err-clause-answers
 returns-in-Err-clause-answers c =
     let f = file_view c.args.file.now in
-    refuses_front (shaders_stage f) (each (job_stages f) 0 (length c.args.file.now.jobs.items)) c.in-Err.stop c.in-Err.ensures
+    refuses_front (shaders_stage f) (each (job_stages f) 0 (length c.args.file.now.jobs.items)) c.in-Err.stop c.in-Err.ensures.answers

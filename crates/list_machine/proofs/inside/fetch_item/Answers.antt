@@ -1,6 +1,3 @@
-use Rattle.std.proofs.Common.{sym, subst, ◌%◌}
-use Rattle.machine_plan.specs.Plan.{Shows, carried}
-use Rattle.list_machine.specs.Fetch.{fetch_plan}
 use Rattle.list_machine.proofs.Items.{vertex_fetched}
 use Rattle.list_machine.proofs.inside.fetch_item.Goals as goal
 

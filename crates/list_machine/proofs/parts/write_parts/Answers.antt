@@ -1,7 +1,7 @@
 -- Each part that is written goes one on.
-use Rattle.std.proofs.Common.{◌≤◌, ◌<◌, ◌∙◌, sym, subst, arith}
+use Rattle.std.proofs.Common.{arith}
 use Rattle.list_machine.specs.Cover.{part_count}
-use Rattle.list_machine.proofs.Left.{writes_begin, writes_more, writes_end}
+use Rattle.list_machine.proofs.Left.{writes_more, writes_end}
 use Rattle.list_machine.proofs.parts.write_parts.Goals as goal
 
 pub loop-i-preserved : goal.loop-i-preserved

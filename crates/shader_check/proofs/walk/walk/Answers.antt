@@ -37,11 +37,11 @@ loop-at-preserved g c =
       none =
           each_on (questions_at c.args.code.now) c.loop-at.at (checked_of c.args.code.now) (omega (arith, c.loop-at-test.true, c.checked-last.ensures.value)) none
           ∙ c.loop-at.invariant.none;
-      first = c.in_ok-keep.ensures;
-      second = c.in_ok-keep-2.ensures;
-      made = c.in_ok-add_sample.ensures.samples;
+      first = c.in_ok-note.ensures.first;
+      second = c.in_ok-note.ensures.second;
+      made = c.in_ok-note.ensures.samples;
       table = c.learn.ensures.after;
-      steps = omega (arith, c.learn.ensures.steps, c.in_ok-add_sample.ensures.steps, c.in_default.ensures.steps, c.loop-at.invariant.steps);
+      steps = omega (arith, c.learn.ensures.steps, c.in_ok-note.ensures.steps, c.in_default.ensures.steps, c.loop-at.invariant.steps);
     }
 
 pub returns-clause-answers : goal.returns-clause-answers

@@ -1,5 +1,5 @@
 -- What the packet does, behind the read of the packet.
-use Rattle.std.proofs.Common.{◌≡◌, ◌∙◌, ap, slice_index}
+use Rattle.std.proofs.Common.{◌∙◌, ap}
 use Rattle.packets.specs.Length.{render_taken}
 use Rattle.list_machine.proofs.Steps.{packet_long, packet_read}
 use Rattle.list_machine.proofs.job_lists.JobLists.pass_packet.Goals as goal

@@ -1,0 +1,50 @@
+-- An example's file is well formed, whatever its number.
+use Rattle.std.proofs.Common.{◌≡◌, ◌<◌, ◌≤◌, ℕ, suc, zero, ◌+◌, ◌*◌, List, [], ◌∷◌, ◌++◌, length, map, replicate, arith, refl, sym, ◌∙◌, ap, subst}
+use Rattle.field_words.specs.Pieces.{joined}
+use Rattle.buffer_table.specs.declared.buffer.Buffer.{Buffer}
+use Rattle.job_format.specs.File.{IsWellFormed, IsJobWellFormed}
+use Rattle.example_job.specs.Noise.{next_state, noise}
+use Rattle.example_job.specs.Lists.{state, triangle, states_from, packets_of, bin_of, record_bytes, records_of}
+use Rattle.example_job.specs.Example.{job_of, file_of, shader, vertex_bytes, code_buffer, vertex_buffer, frame_buffer}
+
+pub noise_length : (x n : ℕ) → length (noise x n) ≡ n
+unfolding noise
+noise_length x zero = refl
+noise_length x (suc n) = ap suc (noise_length (next_state x) n)
+
+states_length : (j n : ℕ) → length (joined (states_from j n)) ≡ 15 * n + 2
+states_length j zero = refl
+states_length j (suc n) = omega (arith, states_length (j + 1) n)
+
+pub bin_length : (across down count : ℕ) → length (bin_of across down count) ≡ 15 * count + 19
+unfolding bin_of
+bin_length across down count = omega (arith, states_length 0 count)
+
+records_joined : (n : ℕ) → length (joined (replicate n record_bytes)) ≡ 60 * n
+records_joined zero = refl
+records_joined (suc n) = omega (arith, records_joined n)
+
+pub records_length : (count : ℕ) → length (records_of count) ≡ 60 * count
+unfolding records_of
+records_length count = records_joined count
+
+job_formed : (across down count : ℕ) → count ≤ 4000 → IsJobWellFormed (job_of across down count)
+job_formed across down count few = record {
+  handles = omega arith;
+  bin = omega (arith, few, bin_length across down count);
+  records = omega (arith, few, records_length count);
+  declared = omega (arith, few);
+  uniforms = omega arith;
+  whole_words = refl;
+}
+
+pub well_formed : (seed across down count : ℕ) → count ≤ 4000 → IsWellFormed (file_of seed across down count)
+unfolding file_of
+well_formed seed across down count few = record {
+  version = refl;
+  buffers = omega arith;
+  code = (omega arith, (tt, (tt, tt)));
+  contents = ap (λ n. 24 ∷ n ∷ 0 ∷ []) (noise_length seed vertex_bytes);
+  one_job = refl;
+  jobs = (job_formed across down count few, tt);
+}

@@ -1,0 +1,3 @@
+pub mod Noise
+pub mod Lists
+pub mod Example

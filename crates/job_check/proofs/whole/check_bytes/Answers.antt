@@ -1,0 +1,34 @@
+use Rattle.std.proofs.Common.{◌≡◌, ℕ, List, sym, subst}
+use Rattle.field_words.specs.Questions.{Answers, Refuses, answered}
+use Rattle.field_words.specs.declared.stop.Stop.{Stop}
+use Rattle.field_words.specs.declared.stop.Stop.TheVariants.{Fault, NoMemory}
+use Rattle.job_format.specs.declared.rule.FormatFault.{FormatFault}
+use Rattle.field_words.proofs.Questions.{answers_later, answered_none, answered_some, stops}
+use Rattle.job_format.specs.Faults.{format_questions}
+use Rattle.job_format.specs.Model.{FileModel, file_view}
+use Rattle.job_format.specs.Reading.{file_at}
+use Rattle.job_check.specs.declared.check.Checked.{Checked}
+use Rattle.job_check.specs.Faults.{file_stages}
+use Rattle.job_check.specs.Emit.{IsEmitted}
+use Rattle.job_check.specs.Whole.{all_questions, format_refused, format_stopped}
+use Rattle.job_check.proofs.whole.check_bytes.Goals as goal
+
+pub returns-in-Ok-clause-answers : goal.returns-in-Ok-clause-answers
+unfolding all_questions
+returns-in-Ok-clause-answers c =
+    let bytes = c.args.bytes.now in
+    let P : FileModel → Checked → Type 0 = λ f checked. IsEmitted f checked.memory checked.layout checked.lengths in
+    answers_later (answered format_refused (format_questions bytes)) (file_stages (file_at bytes)) (P (file_at bytes)) c.check_job.result
+    (answered_none format_refused (format_questions bytes) c.in-Ok.ensures.read.0)
+    (subst (λ f. Answers (file_stages f) (P f) c.check_job.result) c.in-Ok.ensures.read.1 c.check_job.ensures.answers)
+
+-- A fault of the format is the first rule of all that stands.
+stopped : (bytes : List ℕ) (stop : Stop FormatFault) → Refuses (format_questions bytes) stop → Refuses (all_questions bytes) (format_stopped stop)
+unfolding all_questions
+stopped bytes (Fault fault) refuses =
+    stops (answered format_refused (format_questions bytes)) (file_stages (file_at bytes)) (format_refused fault) (answered_some format_refused (format_questions bytes) fault refuses)
+stopped bytes NoMemory refuses = tt
+
+pub returns-in-Err-clause-answers : goal.returns-in-Err-clause-answers
+returns-in-Err-clause-answers c =
+    subst (λ stop. Refuses (all_questions c.args.bytes.now) stop) (sym c.format_refusal.ensures) (stopped c.args.bytes.now c.in-Err.stop c.in-Err.ensures.read)

@@ -1,0 +1,44 @@
+//! The check of a job file from its bytes on.
+ghost use Rattle.std.specs.Prelude.{◌≡◌, IfOk, IsOk};
+ghost use Rattle.field_words.specs.Questions.{Answers};
+ghost use Rattle.job_format.specs.Reading.{file_at};
+ghost use Rattle.job_format.specs.File.{IsFileOf};
+ghost use Rattle.job_check.specs.Emit.{IsEmitted, IsPlaced};
+ghost use Rattle.job_check.specs.Whole.{all_questions, format_stopped};
+
+use super::check::{Checked, check_job};
+use field_words::{NoMemory, Stop};
+use job_format::{FormatFault, Refusal, Rule, Stage, read_job};
+use std::alloc::Global;
+
+/// A fault of the format is a refusal by a rule F.
+fn format_refusal(stop: Stop<FormatFault>) -> Stop<Refusal>
+    ensures { result ≡ format_stopped stop }
+{
+    match stop {
+        Stop::Fault(fault) => Stop::Fault(Refusal {
+            rule: Rule {
+                stage: Stage::F,
+                number: fault.number,
+            },
+            offset: fault.offset,
+        }),
+        Stop::NoMemory => Stop::NoMemory,
+    }
+}
+
+/// The first rule that stands for these bytes, or the memory of the job that they hold.
+///
+/// # Errors
+/// The first rule that stands, by its letter, its number and its place in the bytes; or want of memory.
+#[tactic(auto, unfolding(crate::specs::Whole::all_questions))]
+pub fn check_bytes(alloc: Global, bytes: &[u8]) -> Result<Checked, Stop<Refusal>>
+    ensures answers { Answers (all_questions bytes.now) (λ checked. IsEmitted (file_at bytes.now) checked.memory checked.layout checked.lengths) result }
+    ensures placed { IfOk result (λ checked. IsPlaced checked.memory checked.layout) }
+    ensures spelled { IsOk result → IsFileOf bytes.now (file_at bytes.now) }
+{
+    match read_job(alloc, bytes) {
+        Ok(file) => check_job(alloc, &file),
+        Err(stop) => Err(format_refusal(stop)),
+    }
+}

@@ -1,0 +1,415 @@
+-- What is found among sorted marks is the first label of that name in the text.
+use Rattle.std.proofs.Common.{◌≡◌, ℕ, zero, suc, ◌+◌, ◌-◌, ◌<◌, ◌≤◌, inl, inr, ◌⊎◌, Bool, true, false, List, [], ◌∷◌, ◌++◌, length, get_or, refl, sym, ◌∙◌, ap, subst, arith, nat_lt, min, Option, None, Some, if◌then◌else◌, All, Contains, bytes_eq}
+use Rattle.std.proofs.lemmas.Bool.{cases_Bool, cases_lt, false≢true, true≢false, ltb-true}
+use Rattle.std.proofs.lemmas.Bool.Decides.{nat_tests}
+use Rattle.std.proofs.lemmas.Cmp.{then_total, on_total, nat_cmp_total, nat_list_cmp_total, tied_itself}
+use Rattle.std.proofs.lemmas.List.{get_or_read}
+use Rattle.std.proofs.lemmas.List.Elements.{All-cons, All-push, All-weaker, All-contains, Contains-append_left, Contains-push}
+use Rattle.std.proofs.lemmas.List.Sorted.{sorted_far, ranks_by, All-permutation, Contains-permutation}
+use Rattle.std.proofs.lemmas.Map.Text.{is_eq-slice_cmp}
+use Rattle.std.specs.Cmp.{IsTotalOrder}
+use Rattle.std.specs.Cmp.Lexicographic.{slice_cmp}
+use Rattle.std.specs.List.Sorted.{IsSorted, IsPermutation, IsPartitionedBy}
+use Rattle.std.specs.Ordering.{nat_cmp, ordering_then, ordering_reverse, is_lt, is_eq}
+use Rattle.std.specs.declared.cmp.Ordering.{Ordering}
+use Rattle.std.specs.declared.cmp.Ordering.TheVariants.{Less, Equal, Greater}
+use Rattle.qpu_asm.specs.declared.label.Spot.{Spot}
+use Rattle.qpu_asm.specs.declared.label.Mark.{Mark}
+use Rattle.qpu_asm.specs.Lines.{Line, Blank, Label, BadLabel, Coded}
+use Rattle.qpu_asm.specs.Assembly.{is_label, either_spot, is_before, IsFirstBelow, AreFirstBelow}
+use Rattle.qpu_asm.specs.Marks.{spot_cmp, mark_cmp, IsNotLater, AreRanked, IsMarked, AreMarked, AreAbove, AddsLine, BoundsRepeats, IsStart}
+use Rattle.qpu_asm.specs.Seen.{spots_in}
+use Rattle.qpu_asm.proofs.Assembling.{either_none}
+use Rattle.qpu_asm.proofs.Bytes.{bytes_same, bytes_itself}
+
+-- the order of marks
+marks_total : IsTotalOrder mark_cmp
+marks_total =
+    then_total (on_total (λ m. m.name.now) nat_list_cmp_total)
+    (on_total (λ m. m.spot) (then_total (on_total (λ s. s.line) nat_cmp_total) (on_total (λ s. s.index) nat_cmp_total)))
+
+-- sorted marks, any two of them
+abbrev pub FarSorted : List Mark → Type 0
+FarSorted marks = (i j : ℕ) (d : Mark) → i ≤ j → j < length marks → is_lt (mark_cmp (get_or marks j d) (get_or marks i d)) ≡ false
+
+pub far : (marks : List Mark) → IsSorted mark_cmp marks → FarSorted marks
+far marks up = sorted_far (λ x y. is_lt (mark_cmp x y)) (ranks_by marks_total (λ m. m)) marks up
+
+first_not : (first second : Ordering) → is_lt (ordering_then first second) ≡ false → is_lt first ≡ false
+first_not Less second not-lt = not-lt
+first_not Equal second not-lt = refl
+first_not Greater second not-lt = refl
+
+-- its name is no lesser
+pub name_not : (x y : Mark) → is_lt (mark_cmp x y) ≡ false → is_lt (slice_cmp nat_cmp x.name.now y.name.now) ≡ false
+name_not x y not-lt = first_not (slice_cmp nat_cmp x.name.now y.name.now) (spot_cmp x.spot y.spot) not-lt
+
+alike : (x y : Mark) → x.name.now ≡ y.name.now → slice_cmp nat_cmp x.name.now y.name.now ≡ Equal
+alike x y same = ap (slice_cmp nat_cmp x.name.now) (sym same) ∙ tied_itself nat_list_cmp_total x.name.now
+
+later_numbers : (a b c d : ℕ) → is_lt (ordering_then (nat_cmp a c) (nat_cmp b d)) ≡ false → (c < a) ⊎ ((c ≡ a) × (d ≤ b))
+later_numbers a b c d not-lt = grind (arith, nat_tests)
+
+-- of one name, it is no earlier
+pub spot_not : (x y : Mark) → x.name.now ≡ y.name.now → is_lt (mark_cmp x y) ≡ false → IsNotLater y.spot x.spot
+spot_not x y same not-lt =
+    later_numbers x.spot.line x.spot.index y.spot.line y.spot.index
+    (sym (ap (λ o. is_lt (ordering_then o (spot_cmp x.spot y.spot))) (alike x y same)) ∙ not-lt)
+
+not_both : (o p : Ordering) → o ≡ ordering_reverse p → is_lt o ≡ false → is_lt p ≡ false → is_eq o ≡ true
+not_both Less p is not-lt not-gt = absurd (true≢false not-lt)
+not_both Equal p is not-lt not-gt = refl
+not_both Greater Less is not-lt not-gt = absurd (true≢false not-gt)
+not_both Greater Equal is not-lt not-gt = absurd (cc)
+not_both Greater Greater is not-lt not-gt = absurd (cc)
+
+pub same_names : (a b : List ℕ) → is_lt (slice_cmp nat_cmp a b) ≡ false → is_lt (slice_cmp nat_cmp b a) ≡ false → a ≡ b
+same_names a b not-lt not-gt =
+    bytes_same a b (sym (is_eq-slice_cmp a b)
+    ∙ not_both (slice_cmp nat_cmp a b) (slice_cmp nat_cmp b a) (IsTotalOrder.antisymm nat_list_cmp_total a b) not-lt not-gt)
+
+-- the mark of a name that comes first in the text
+pub record IsLeastMark (marks : List Mark) (name : List ℕ) (mark : Mark) : Type 0 where
+  pub there : Contains marks mark
+  pub named : mark.name.now ≡ name
+  pub least : All (λ other. other.name.now ≡ name → IsNotLater mark.spot other.spot) marks
+
+abbrev pub IsFound : List Mark → List ℕ → Option Spot → Type 0
+IsFound marks name None = All (λ mark. mark.name.now ≡ name → ⊥) marks
+IsFound marks name (Some spot) = (mark : Mark) × (mark.spot ≡ spot) × IsLeastMark marks name mark
+
+same_spot : (x y : Spot) → IsNotLater x y → IsNotLater y x → x ≡ y
+same_spot x y first second =
+    let lines : x.line ≡ y.line = grind (arith, first, second) in
+    let indexes : x.index ≡ y.index = grind (arith, first, second) in
+    let one : x ≡ record { line = y.line; index = x.index } = ap (λ n. record { line = n; index = x.index }) lines in
+    let two : (record { line = y.line; index = x.index }) ≡ y = ap (λ n. record { line = y.line; index = n }) indexes in
+    one ∙ two
+
+pub found_once : (marks : List Mark) (name : List ℕ) (a b : Option Spot) → IsFound marks name a → IsFound marks name b → a ≡ b
+found_once marks name None None first second = refl
+found_once marks name None (Some spot) first second =
+    absurd (All-contains (λ mark. mark.name.now ≡ name → ⊥) marks second.0 first second.2.there second.2.named)
+found_once marks name (Some spot) None first second =
+    absurd (All-contains (λ mark. mark.name.now ≡ name → ⊥) marks first.0 second first.2.there first.2.named)
+found_once marks name (Some spot) (Some other) first second =
+    let forth = All-contains (λ m. m.name.now ≡ name → IsNotLater first.0.spot m.spot) marks second.0 first.2.least second.2.there second.2.named in
+    let back = All-contains (λ m. m.name.now ≡ name → IsNotLater second.0.spot m.spot) marks first.0 second.2.least first.2.there first.2.named in
+    ap Some (sym first.1 ∙ (same_spot first.0.spot second.0.spot forth back ∙ second.1))
+
+pub found_permuted : (marks others : List Mark) (name : List ℕ) (a : Option Spot) → IsPermutation marks others → IsFound marks name a → IsFound others name a
+found_permuted marks others name None moved is = All-permutation (λ mark. mark.name.now ≡ name → ⊥) marks others moved is
+found_permuted marks others name (Some spot) moved (mark, at, is) = (
+  mark,
+  at,
+  record {
+    there = Contains-permutation marks others mark moved is.there;
+    named = is.named;
+    least = All-permutation (λ other. other.name.now ≡ name → IsNotLater mark.spot other.spot) marks others moved is.least;
+  },
+)
+
+found_later : (first : Mark) (marks : List Mark) (name : List ℕ) (a : Option Spot) → (first.name.now ≡ name → ⊥) → IsFound marks name a → IsFound (first ∷ marks) name a
+found_later first marks name None other is = All-cons (λ mark. mark.name.now ≡ name → ⊥) first marks other is
+found_later first marks name (Some spot) other (mark, at, is) = (
+  mark,
+  at,
+  record {
+    there = (suc is.there.0, omega (arith, is.there.1), is.there.2);
+    named = is.named;
+    least = All-cons (λ m. m.name.now ≡ name → IsNotLater mark.spot m.spot) first marks (λ same. absurd (other same)) is.least;
+  },
+)
+
+not_later_itself : (spot : Spot) → IsNotLater spot spot
+not_later_itself spot = inr (refl, omega arith)
+
+-- in ranked marks the first of a name is the least
+pub found_first : (marks : List Mark) (name : List ℕ) → AreRanked marks → IsFound marks name (spots_in marks name)
+unfolding AreRanked spots_in
+found_first [] name ranked = λ k d inside. absurd (omega (arith, inside))
+found_first (mark ∷ marks) name ranked =
+    elim (cases_Bool (bytes_eq mark.name.now name)) [
+      | inl same ↦
+          (let named : mark.name.now ≡ name = bytes_same mark.name.now name same in
+          subst (λ b. IsFound (mark ∷ marks) name (if b then Some mark.spot else spots_in marks name)) (sym same) (
+            mark,
+            refl,
+            record {
+              there = (zero, omega arith, refl);
+              named = named;
+              least = All-cons (λ m. m.name.now ≡ name → IsNotLater mark.spot m.spot) mark marks (λ itself. not_later_itself mark.spot)
+                  (λ k d inside other. ranked.0 k d inside (named ∙ sym other));
+            },
+          ))
+      | inr apart ↦
+          subst (λ b. IsFound (mark ∷ marks) name (if b then Some mark.spot else spots_in marks name)) (sym apart)
+          (found_later mark marks name (spots_in marks name)
+          (λ same. false≢true (sym apart ∙ (ap (bytes_eq mark.name.now) (sym same) ∙ bytes_itself mark.name.now)))
+          (found_first marks name ranked.1))
+    ]
+
+-- sorted marks are ranked
+pub ranked_sorted : (marks : List Mark) → FarSorted marks → AreRanked marks
+unfolding AreRanked
+ranked_sorted [] sorted = tt
+ranked_sorted (mark ∷ marks) sorted = (
+  λ k d inside same. spot_not (get_or marks k d) mark (sym same) (sorted zero (suc k) d (omega arith) (omega (arith, inside))),
+  ranked_sorted marks (λ i j d below inside. sorted (suc i) (suc j) d (omega (arith, below)) (omega (arith, inside))),
+)
+
+-- sorting changes nothing of what is found
+pub sorted_spots : (marks sorted : List Mark) (name : List ℕ) → IsPermutation marks sorted → AreRanked marks → IsSorted mark_cmp sorted
+    → spots_in sorted name ≡ spots_in marks name
+sorted_spots marks sorted name moved ranked up =
+    found_once sorted name (spots_in sorted name) (spots_in marks name) (found_first sorted name (ranked_sorted sorted (far sorted up)))
+    (found_permuted marks sorted name (spots_in marks name) moved (found_first marks name ranked))
+
+-- one mark more
+pub spots_pushed : (marks : List Mark) (mark : Mark) (name : List ℕ)
+    → spots_in (marks ++ mark ∷ []) name ≡ either_spot (spots_in marks name) (if bytes_eq mark.name.now name then Some mark.spot else None)
+unfolding spots_in
+spots_pushed [] mark name = refl
+spots_pushed (first ∷ marks) mark name =
+    elim (cases_Bool (bytes_eq first.name.now name)) [
+      | inl same ↦
+          ap (λ b. if b then Some first.spot else spots_in (marks ++ mark ∷ []) name) same
+          ∙ sym (ap (λ b. either_spot (if b then Some first.spot else spots_in marks name) (if bytes_eq mark.name.now name then Some mark.spot else None)) same)
+      | inr apart ↦
+          ap (λ b. if b then Some first.spot else spots_in (marks ++ mark ∷ []) name) apart ∙ (spots_pushed marks mark name
+          ∙ sym (ap (λ b. either_spot (if b then Some first.spot else spots_in marks name) (if bytes_eq mark.name.now name then Some mark.spot else None)) apart))
+    ]
+
+ranked_pushed : (marks : List Mark) (mark : Mark) → AreAbove mark.spot.line marks → AreRanked marks → AreRanked (marks ++ mark ∷ [])
+unfolding AreRanked
+ranked_pushed [] mark above ranked = (λ k d inside. absurd (omega (arith, inside)), tt)
+ranked_pushed (first ∷ marks) mark above ranked = (
+  All-push (λ other. first.name.now ≡ other.name.now → IsNotLater first.spot other.spot) marks mark ranked.0 (λ same. inl (above zero first (omega arith))),
+  ranked_pushed marks mark (λ k d inside. above (suc k) d (omega (arith, inside))) ranked.1,
+)
+
+pub line_added : (marks : List Mark) (mark : Mark) → AddsLine marks (marks ++ mark ∷ []) (Label mark.name.now) mark.spot
+line_added marks mark = record {
+  spots = spots_pushed marks mark;
+  ranked = ranked_pushed marks mark;
+  above = λ above. All-push (λ m. m.spot.line < mark.spot.line + 1) marks mark
+      (All-weaker (λ m. m.spot.line < mark.spot.line) (λ m. m.spot.line < mark.spot.line + 1) (λ m low. omega (arith, low)) marks above) (omega arith);
+  kept = λ other at. Contains-append_left marks (mark ∷ []) other at;
+  marked = (mark, refl, refl, Contains-push marks mark);
+}
+
+pub nothing_added : (marks : List Mark) (line : Line) (spot : Spot) → ((name : List ℕ) → is_label name line ≡ false) → IsMarked marks spot.line line → AddsLine marks marks line spot
+nothing_added marks line spot none marked = record {
+  spots = λ name. sym (ap (λ b. either_spot (spots_in marks name) (if b then Some spot else None)) (none name) ∙ either_none (spots_in marks name));
+  ranked = λ above ranked. ranked;
+  above = λ above. All-weaker (λ m. m.spot.line < spot.line) (λ m. m.spot.line < spot.line + 1) (λ m low. omega (arith, low)) marks above;
+  kept = λ mark at. at;
+  marked = marked;
+}
+
+-- marks of all label lines
+marked_among : (marks others : List Mark) (line : ℕ) (first : Line) → ((mark : Mark) → Contains marks mark → Contains others mark)
+    → IsMarked marks line first → IsMarked others line first
+marked_among marks others line Blank holds is = tt
+marked_among marks others line (Label name) holds (mark, named, at, there) = (mark, named, at, holds mark there)
+marked_among marks others line BadLabel holds is = tt
+marked_among marks others line (Coded opcode items) holds is = tt
+
+pub marked_more : (marks others : List Mark) (line : ℕ) (lines later : List Line) (first : Line) → lines ≡ first ∷ later
+    → ((mark : Mark) → Contains marks mark → Contains others mark) → IsMarked marks line first → AreMarked others (line + 1) later → AreMarked others line lines
+unfolding AreMarked
+marked_more marks others line lines later first is holds here more =
+    subst (AreMarked others line) (sym is) (marked_among marks others line first holds here, more)
+
+pub marked_end : (marks : List Mark) (line : ℕ) (lines : List Line) → lines ≡ [] → AreMarked marks line lines
+unfolding AreMarked
+marked_end marks line lines none = subst (AreMarked marks line) (sym none) tt
+
+pub marked_sorted : (marks others : List Mark) (line : ℕ) (lines : List Line) → IsPermutation marks others → AreMarked marks line lines → AreMarked others line lines
+unfolding AreMarked
+marked_sorted marks others line [] moved is = tt
+marked_sorted marks others line (first ∷ lines) moved is = (
+  marked_among marks others line first (λ mark there. Contains-permutation marks others mark moved there) is.0,
+  marked_sorted marks others (line + 1) lines moved is.1,
+)
+
+-- a mark below the bound is the first of its name
+after_it : (marks : List Mark) (bound line i j k : ℕ) (early late : Mark) → FarSorted marks → BoundsRepeats marks bound
+    → early ≡ get_or marks i late → j < length marks → late ≡ get_or marks j late → k + 1 ≡ j → i ≤ k
+    → early.name.now ≡ late.name.now → late.spot.line ≡ line → line < bound → ⊥
+after_it marks bound line i j k early late sorted bounds early-at inside late-at next below same at-line low =
+    let middle = get_or marks k late in
+    let no-less : is_lt (slice_cmp nat_cmp middle.name.now early.name.now) ≡ false =
+    subst (λ m. is_lt (slice_cmp nat_cmp middle.name.now m.name.now) ≡ false) (sym early-at) (name_not middle (get_or marks i late) (sorted i k late below (omega (arith, next, inside)))) in
+    let no-more : is_lt (slice_cmp nat_cmp late.name.now middle.name.now) ≡ false =
+    subst (λ m. is_lt (slice_cmp nat_cmp m.name.now middle.name.now) ≡ false) (sym late-at) (name_not (get_or marks j late) middle (sorted k j late (omega (arith, next)) inside)) in
+    let tied : middle.name.now ≡ late.name.now =
+    same_names middle.name.now late.name.now (subst (λ n. is_lt (slice_cmp nat_cmp middle.name.now n) ≡ false) same no-less) no-more in
+    let late-next : late ≡ get_or marks (k + 1) late = late-at ∙ ap (λ n. get_or marks n late) (sym next) in
+    let bounded : bound ≤ (get_or marks (k + 1) late).spot.line = bounds k late (omega (arith, next, inside)) (tied ∙ ap (λ m. m.name.now) late-next) in
+    let line-is : (get_or marks (k + 1) late).spot.line ≡ line = ap (λ m. m.spot.line) (sym late-next) ∙ at-line in
+    omega (arith, bounded, line-is, low)
+
+before_it : (marks : List Mark) (line i j : ℕ) (early late : Mark) → FarSorted marks → i < length marks → early ≡ get_or marks i late
+    → late ≡ get_or marks j late → j ≤ i → early.name.now ≡ late.name.now → late.spot.line ≡ line → early.spot.line < line → ⊥
+before_it marks line i j early late sorted inside early-at late-at below same at-line earlier =
+    let order : is_lt (mark_cmp early late) ≡ false =
+    subst (λ m. is_lt (mark_cmp m late) ≡ false) (sym early-at) (subst (λ m. is_lt (mark_cmp (get_or marks i late) m) ≡ false) (sym late-at) (sorted j i late below inside)) in
+    elim (spot_not early late same order) [
+      | inl less ↦ omega (arith, less, at-line, earlier)
+      | inr (equal, index) ↦ omega (arith, equal, at-line, earlier)
+    ]
+
+no_earlier : (marks : List Mark) (bound line : ℕ) (early late : Mark) → FarSorted marks → BoundsRepeats marks bound
+    → Contains marks early → Contains marks late → early.name.now ≡ late.name.now → late.spot.line ≡ line → line < bound → early.spot.line < line → ⊥
+no_earlier marks bound line early late sorted bounds (i, i-inside, i-at) (j, j-inside, j-at) same at-line low earlier =
+    let early-at = get_or_read marks i early i-inside (sym i-at) late in
+    elim (cases_lt i j) [
+      | inl before ↦ after_it marks bound line i j (j - 1) early late sorted bounds early-at j-inside (sym j-at) (omega (arith, before)) (omega (arith, before)) same at-line low
+      | inr after ↦ before_it marks line i j early late sorted i-inside early-at (sym j-at) after same at-line earlier
+    ]
+
+not_before : (marks : List Mark) (bound line : ℕ) (name : List ℕ) (late : Mark) (a : Option Spot) → FarSorted marks → BoundsRepeats marks bound
+    → late.name.now ≡ name → late.spot.line ≡ line → Contains marks late → line < bound → IsFound marks name a → is_before line a ≡ false
+not_before marks bound line name late None sorted bounds named at-line there low found = refl
+not_before marks bound line name late (Some spot) sorted bounds named at-line there low found =
+    elim (cases_Bool (nat_lt spot.line line)) [
+      | inl earlier ↦
+          absurd (no_earlier marks bound line found.0 late sorted bounds found.2.there there (found.2.named ∙ sym named) at-line low
+          (subst (λ s. s.line < line) (sym found.1) (ltb-true spot.line line earlier)))
+      | inr first ↦ first
+    ]
+
+first_marked : (marks : List Mark) (bound line : ℕ) (first : Line) → FarSorted marks → BoundsRepeats marks bound
+    → IsMarked marks line first → IsFirstBelow bound (spots_in marks) line first
+first_marked marks bound line Blank sorted bounds is = tt
+first_marked marks bound line (Label name) sorted bounds (mark, named, at, there) = λ low.
+    not_before marks bound line name mark (spots_in marks name) sorted bounds named at there low (found_first marks name (ranked_sorted marks sorted))
+first_marked marks bound line BadLabel sorted bounds is = tt
+first_marked marks bound line (Coded opcode items) sorted bounds is = tt
+
+pub firsts_below : (marks : List Mark) (bound line : ℕ) (lines : List Line) → FarSorted marks → BoundsRepeats marks bound
+    → AreMarked marks line lines → AreFirstBelow bound (spots_in marks) line lines
+unfolding AreMarked AreFirstBelow
+firsts_below marks bound line [] sorted bounds is = tt
+firsts_below marks bound line (first ∷ lines) sorted bounds is =
+    (first_marked marks bound line first sorted bounds is.0, firsts_below marks bound (line + 1) lines sorted bounds is.1)
+
+-- where a search among sorted marks ends
+lesser_other : (marks : List Mark) (name : List ℕ) (at k : ℕ) (d : Mark) → IsStart marks name at → k < at → (get_or marks k d).name.now ≡ name → ⊥
+lesser_other marks name at k d start below named =
+    true≢false (sym (start.below k d below) ∙ (ap (λ n. is_lt (slice_cmp nat_cmp n name)) named ∙ ap is_lt (tied_itself nat_list_cmp_total name)))
+
+none_past : (marks : List Mark) (name : List ℕ) (at : ℕ) → IsStart marks name at → length marks ≤ at → IsFound marks name None
+none_past marks name at start past = λ k d inside named. lesser_other marks name at k d start (omega (arith, past, inside)) named
+
+none_other : (marks : List Mark) (name : List ℕ) (at : ℕ) (here : Mark) → FarSorted marks → IsStart marks name at → at < length marks
+    → here ≡ get_or marks at here → (here.name.now ≡ name → ⊥) → IsFound marks name None
+none_other marks name at here sorted start inside is other = λ k d k-inside named.
+    elim (cases_lt k at) [
+      | inl below ↦ lesser_other marks name at k d start below named
+      | inr above ↦
+          (let here-at = get_or_read marks at here inside is d in
+          let no-less : is_lt (slice_cmp nat_cmp here.name.now name) ≡ false = subst (λ m. is_lt (slice_cmp nat_cmp m.name.now name) ≡ false) (sym here-at) (start.above at d (omega arith) inside) in
+          let no-more : is_lt (slice_cmp nat_cmp name here.name.now) ≡ false =
+          subst (λ n. is_lt (slice_cmp nat_cmp n here.name.now) ≡ false) named
+          (subst (λ m. is_lt (slice_cmp nat_cmp (get_or marks k d).name.now m.name.now) ≡ false) (sym here-at) (name_not (get_or marks k d) (get_or marks at d) (sorted at k d above k-inside))) in
+          other (same_names here.name.now name no-less no-more))
+    ]
+
+some_here : (marks : List Mark) (name : List ℕ) (at : ℕ) (here : Mark) → FarSorted marks → IsStart marks name at → at < length marks
+    → here ≡ get_or marks at here → here.name.now ≡ name → IsFound marks name (Some here.spot)
+some_here marks name at here sorted start inside is named = (
+  here,
+  refl,
+  record {
+    there = (at, inside, sym is);
+    named = named;
+    least = λ k d k-inside same.
+        elim (cases_lt k at) [
+          | inl below ↦ absurd (lesser_other marks name at k d start below same)
+          | inr above ↦
+              (let here-at = get_or_read marks at here inside is d in
+              spot_not (get_or marks k d) here (same ∙ sym named)
+              (subst (λ m. is_lt (mark_cmp (get_or marks k d) m) ≡ false) (sym here-at) (sorted at k d above k-inside)))
+        ];
+  },
+)
+
+pub found_past : (marks : List Mark) (name : List ℕ) (at : ℕ) → IsSorted mark_cmp marks → IsStart marks name at → length marks ≤ at → None ≡ spots_in marks name
+found_past marks name at up start past =
+    found_once marks name None (spots_in marks name) (none_past marks name at start past) (found_first marks name (ranked_sorted marks (far marks up)))
+
+-- inside a list the default says nothing
+any_default : (marks : List Mark) (i : ℕ) (d e : Mark) → i < length marks → get_or marks i d ≡ get_or marks i e
+any_default [] i d e inside = absurd (omega (arith, inside))
+any_default (mark ∷ marks) zero d e inside = refl
+any_default (mark ∷ marks) (suc i) d e inside = any_default marks i d e (omega (arith, inside))
+
+found_by : (marks : List Mark) (name : List ℕ) (at : ℕ) (here : Mark) → FarSorted marks → IsStart marks name at → at < length marks
+    → here ≡ get_or marks at here → IsFound marks name (if bytes_eq here.name.now name then Some here.spot else None)
+found_by marks name at here sorted start inside is =
+    elim (cases_Bool (bytes_eq here.name.now name)) [
+      | inl same ↦
+          subst (λ b. IsFound marks name (if b then Some here.spot else None)) (sym same)
+          (some_here marks name at here sorted start inside is (bytes_same here.name.now name same))
+      | inr other ↦
+          subst (λ b. IsFound marks name (if b then Some here.spot else None)) (sym other)
+          (none_other marks name at here sorted start inside is (λ same. false≢true (sym other ∙ (ap (bytes_eq here.name.now) (sym same) ∙ bytes_itself here.name.now))))
+    ]
+
+pub found_at : (marks : List Mark) (name : List ℕ) (at : ℕ) (d : Mark) → IsSorted mark_cmp marks → IsStart marks name at → at < length marks
+    → (if bytes_eq (get_or marks at d).name.now name then Some (get_or marks at d).spot else None) ≡ spots_in marks name
+found_at marks name at d up start inside =
+    found_once marks name (if bytes_eq (get_or marks at d).name.now name then Some (get_or marks at d).spot else None) (spots_in marks name)
+    (found_by marks name at (get_or marks at d) (far marks up) start inside (any_default marks at d (get_or marks at d) inside))
+    (found_first marks name (ranked_sorted marks (far marks up)))
+
+-- the bound so far
+abbrev pub BoundsBelow : List Mark → ℕ → ℕ → Type 0
+BoundsBelow marks at bound = (k : ℕ) (d : Mark) → k + 1 < at → (get_or marks k d).name.now ≡ (get_or marks (k + 1) d).name.now → bound ≤ (get_or marks (k + 1) d).spot.line
+
+bound_by : (same : Bool) (old new line : ℕ) → new ≡ (if same then min old line else old) → (new ≤ old) × (same ≡ true → new ≤ line)
+bound_by true old new line is = (omega (arith, is), λ same. omega (arith, is))
+bound_by false old new line is = (omega (arith, is), λ same. absurd (false≢true same))
+
+pub bound_more : (marks : List Mark) (at old new : ℕ) (d : Mark) → 1 ≤ at → at < length marks
+    → new ≡ (if bytes_eq (get_or marks (at - 1) d).name.now (get_or marks at d).name.now then min old (get_or marks at d).spot.line else old)
+    → BoundsBelow marks at old → BoundsBelow marks (at + 1) new
+bound_more marks at old new d some inside is below k e k-below same =
+    let bounds = bound_by (bytes_eq (get_or marks (at - 1) d).name.now (get_or marks at d).name.now) old new (get_or marks at d).spot.line is in
+    elim (cases_lt (k + 1) at) [
+      | inl earlier ↦ (let kept = below k e earlier same in omega (arith, kept, bounds.0))
+      | inr last ↦
+          (let here : at ≡ k + 1 = omega (arith, last, k-below) in
+          let before : at - 1 ≡ k = omega (arith, here) in
+          let second : get_or marks at d ≡ get_or marks (k + 1) e = any_default marks at d e inside ∙ ap (λ n. get_or marks n e) here in
+          let first : get_or marks (at - 1) d ≡ get_or marks k e = any_default marks (at - 1) d e (omega (arith, inside)) ∙ ap (λ n. get_or marks n e) before in
+          let named : (get_or marks (at - 1) d).name.now ≡ (get_or marks at d).name.now = ap (λ m. m.name.now) first ∙ (same ∙ sym (ap (λ m. m.name.now) second)) in
+          let tied = ap (bytes_eq (get_or marks (at - 1) d).name.now) (sym named) ∙ bytes_itself (get_or marks (at - 1) d).name.now in
+          let low = bounds.1 tied in
+          let line : (get_or marks at d).spot.line ≡ (get_or marks (k + 1) e).spot.line = ap (λ m. m.spot.line) second in
+          omega (arith, low, line))
+    ]
+
+-- marks of lesser names come first
+less_is : (o : Ordering) → is_lt o ≡ true → o ≡ Less
+less_is Less is = refl
+less_is Equal is = absurd (false≢true is)
+less_is Greater is = absurd (false≢true is)
+
+lesser_by : (first second name : List ℕ) (o : Ordering) → slice_cmp nat_cmp first second ≡ o → is_lt (slice_cmp nat_cmp second first) ≡ false
+    → slice_cmp nat_cmp second name ≡ Less → slice_cmp nat_cmp first name ≡ Less
+lesser_by first second name Less is not-lt lesser = IsTotalOrder.trans nat_list_cmp_total first second name is lesser
+lesser_by first second name Equal is not-lt lesser = IsTotalOrder.congr nat_list_cmp_total first second name is ∙ lesser
+lesser_by first second name Greater is not-lt lesser =
+    absurd (true≢false (sym (ap is_lt (IsTotalOrder.antisymm nat_list_cmp_total second first ∙ ap ordering_reverse is)) ∙ not-lt))
+
+name_lesser : (first second name : List ℕ) → is_lt (slice_cmp nat_cmp second first) ≡ false → is_lt (slice_cmp nat_cmp second name) ≡ true → is_lt (slice_cmp nat_cmp first name) ≡ true
+name_lesser first second name not-lt lesser =
+    ap is_lt (lesser_by first second name (slice_cmp nat_cmp first second) refl not-lt (less_is (slice_cmp nat_cmp second name) lesser))
+
+pub names_part : (marks : List Mark) (name : List ℕ) → IsSorted mark_cmp marks → IsPartitionedBy (λ m. is_lt (slice_cmp nat_cmp m.name.now name)) marks
+names_part marks name up i j d below inside lesser =
+    name_lesser (get_or marks i d).name.now (get_or marks j d).name.now name
+    (name_not (get_or marks j d) (get_or marks i d) (far marks up i j d below inside)) lesser

@@ -1,0 +1,57 @@
+//! Numbers as words.
+ghost use Rattle.std.specs.Prelude.{◌≡◌, ◌≤◌, ◌<◌, ◌^◌, true, min};
+ghost use Rattle.std.specs.Str.{all_ascii_digits};
+ghost use Rattle.script.specs.Number.{number_of, number_within, is_number as number_test};
+
+#[tactic(auto, using(crate::proofs::Digits::all_digits_more, crate::proofs::Digits::all_digits_fail))]
+fn are_digits(word: &[u8]) -> bool
+    ensures { result ≡ all_ascii_digits word.now }
+{
+    for byte in word {
+        if !byte.is_ascii_digit() {
+            return false;
+        }
+    }
+    true
+}
+
+#[tactic(auto, unfolding(crate::specs::Number::is_number))]
+fn is_number(word: &[u8]) -> bool
+    ensures { result ≡ number_test word.now }
+{
+    match word {
+        [] => false,
+        [b'0', _, ..] => false,
+        _ => are_digits(word),
+    }
+}
+
+// The number that digits write, or `limit` where it is larger.
+fn number(digits: &[u8], limit: u128) -> u128
+    requires digits { all_ascii_digits digits.now ≡ true }
+    requires small { limit ≤ 2 ^ 64 }
+    ensures { result ≡ min (number_of digits.now) limit }
+{
+    let mut number = 0;
+    for digit in digits {
+        number = (10 * number + (*digit - b'0') as u128).min(limit);
+    }
+    number
+}
+
+/// The number that the word is: decimal digits without sign and leading zero, `0` being itself. `None` comes exactly where the
+/// word is no such number, or one over `most`. It takes no memory.
+#[tactic(auto, unfolding(crate::specs::Number::number_within), using(crate::proofs::Digits::number_digits))]
+pub fn read_number(word: &[u8], most: u64) -> Option<u64>
+    ensures { result ≡ number_within most word.now }
+{
+    if !is_number(word) {
+        return None;
+    }
+    let number = number(word, u128::from(most) + 1);
+    if number <= u128::from(most) {
+        Some(number as u64)
+    } else {
+        None
+    }
+}

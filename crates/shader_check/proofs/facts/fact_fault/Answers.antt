@@ -1,0 +1,7 @@
+use Rattle.std.proofs.Common.{sym, ◌∙◌}
+use Rattle.shader_check.proofs.Plain.{no_fact_fault}
+use Rattle.shader_check.proofs.facts.fact_fault.Goals as goal
+
+pub returns-then-writes_registers-clause-value : goal.returns-then-writes_registers-clause-value
+returns-then-writes_registers-clause-value g c =
+    no_fact_fault c.args.code.now c.args.at (sym c.writes_registers.ensures ∙ c.if-writes_registers.true)
