@@ -1,5 +1,5 @@
 -- The memory of a thin file is safe.
-use Rattle.std.proofs.Common.{◌≡◌, ℕ, List, [], ◌∷◌, None, Some, IfSome, sym, subst}
+use Rattle.std.proofs.Common.{ℕ, List, [], ◌∷◌, None, Some, IfSome, sym, subst}
 use Rattle.std.specs.Prelude.{Option}
 use Rattle.job_format.specs.Model.{FileModel}
 use Rattle.job_format.specs.Reading.{file_at}

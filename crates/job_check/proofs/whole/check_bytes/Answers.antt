@@ -1,11 +1,11 @@
-use Rattle.std.proofs.Common.{◌≡◌, ℕ, List, sym, subst}
+use Rattle.std.proofs.Common.{ℕ, List, sym, subst}
 use Rattle.field_words.specs.Questions.{Answers, Refuses, answered}
 use Rattle.field_words.specs.declared.stop.Stop.{Stop}
 use Rattle.field_words.specs.declared.stop.Stop.TheVariants.{Fault, NoMemory}
 use Rattle.job_format.specs.declared.rule.FormatFault.{FormatFault}
 use Rattle.field_words.proofs.Questions.{answers_later, answered_none, answered_some, stops}
 use Rattle.job_format.specs.Faults.{format_questions}
-use Rattle.job_format.specs.Model.{FileModel, file_view}
+use Rattle.job_format.specs.Model.{FileModel}
 use Rattle.job_format.specs.Reading.{file_at}
 use Rattle.job_check.specs.declared.check.Checked.{Checked}
 use Rattle.job_check.specs.Faults.{file_stages}

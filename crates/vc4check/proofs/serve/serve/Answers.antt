@@ -1,5 +1,3 @@
-use Rattle.std.proofs.Common.{◌≡◌, ◌<◌}
-use Rattle.std.specs.Io.KnownBytes.{Appends}
 use Rattle.vc4check.specs.Answer.{IsAnswer}
 use Rattle.vc4check.specs.Run.{IsAnswered, IsCut}
 use Rattle.vc4check.proofs.Told.{told}

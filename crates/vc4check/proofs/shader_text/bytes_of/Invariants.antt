@@ -1,6 +1,5 @@
 -- The bytes of the words so far.
 use Rattle.std.proofs.Common.{◌≡◌, take}
-use Rattle.std.specs.Prelude.{List}
 use Rattle.std.specs.List.{flat_map}
 use Rattle.std.specs.Int.{to_le_bytes, w64}
 use Rattle.vc4check.proofs.shader_text.bytes_of.Given as goal
