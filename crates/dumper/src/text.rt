@@ -18,7 +18,7 @@ const ROW_LINE: usize = 42;
 const OTHER_LINES: usize = 192;
 
 #[tactic(auto, using(crate::proofs::Rows::place_shown))]
-fn place_text(alloc: Global, place: u64) -> Result<String, AllocError>
+pub(crate) fn place_text(alloc: Global, place: u64) -> Result<String, AllocError>
     ensures { IfOk result (λ text. string_bytes text ≡ place_text place) }
 {
     format!(in alloc; "{place:08x}")

@@ -1,0 +1,42 @@
+-- The text of `replay`: what the units did, step by step.
+use Rattle.std.specs.Prelude.{ℕ, ◌+◌, ◌==◌, ◌&&◌, List, ◌++◌, length, codes, if◌then◌else◌}
+use Rattle.std.specs.Fmt.{decimal}
+use Rattle.std.specs.List.{flat_map}
+use Rattle.field_words.specs.declared.access.Actor.{Actor}
+use Rattle.field_words.specs.declared.access.Actor.TheVariants.{Binner, Renderer, Qpu, Tmu}
+use Rattle.replay.specs.declared.trace.Ending.{Ending}
+use Rattle.replay.specs.declared.trace.Ending.TheVariants.{Finished, Waiting, Spent}
+use Rattle.replay.specs.declared.trace.Trace.{Trace}
+use Rattle.replay.specs.declared.trace.TraceLine.{TraceLine}
+use Rattle.dumper.specs.Text.{place_text}
+
+-- a unit's name
+unfoldable pub unit_text : Actor → List ℕ
+unit_text Binner = codes "binner"
+unit_text Renderer = codes "renderer"
+unit_text (Qpu q) = codes "qpu" ++ decimal q
+unit_text (Tmu q n) = codes "tmu" ++ (decimal q ++ (codes "." ++ decimal n))
+
+-- from where to where a step's accesses reach, by absolute places; of a step without one, two lines
+unfoldable pub reach_text : TraceLine → List ℕ
+reach_text line =
+    if line.reads == 0 && line.writes == 0 then codes "- -"
+    else place_text line.low ++ (codes " " ++ place_text line.high)
+
+-- the line of a step: its unit, how many reads and writes it did, and how far they reach
+unfoldable pub step_text : TraceLine → List ℕ
+step_text line =
+    unit_text line.unit ++ (codes " " ++ (decimal line.reads ++ (codes " " ++ (decimal line.writes ++ (codes " " ++ (reach_text line ++ codes "\n"))))))
+
+abbrev pub ending_name : Ending → List ℕ
+ending_name Finished = codes "finished"
+ending_name Waiting = codes "waiting"
+ending_name Spent = codes "steps spent"
+
+-- how it ended, after so many steps
+unfoldable pub ending_text : Ending → ℕ → List ℕ
+ending_text ending steps = ending_name ending ++ (codes " after " ++ (decimal steps ++ codes "\n"))
+
+-- what is printed of a run
+unfoldable pub trace_text : Trace → List ℕ
+trace_text trace = flat_map step_text trace.lines.items ++ ending_text trace.ending (length trace.lines.items)
