@@ -6,6 +6,8 @@ mod job;
 mod lists;
 mod machine;
 mod processors;
+#[cfg(test)]
+mod tests;
 
 pub use job::Start;
 pub use machine::{Machine, Stepped};

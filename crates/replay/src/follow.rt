@@ -17,8 +17,7 @@ use std::alloc::Global;
 const MOST_WORDS: usize = 4096;
 
 // The units that may step, or why the run is over.
-fn look(machine: &Machine) -> Result<ArrayVec<u8, 38>, Ending>
-{
+fn look(machine: &Machine) -> Result<ArrayVec<u8, 38>, Ending> {
     if machine.finished() {
         return Err(Ending::Finished);
     }

@@ -72,7 +72,9 @@ fn with_access(line: TraceLine, access: &Access) -> TraceLine
         } else {
             line.low.min(access.place)
         },
-        high: line.high.max(access.place.saturating_add(access.len as u64)),
+        high: line
+            .high
+            .max(access.place.saturating_add(access.len as u64)),
     }
 }
 

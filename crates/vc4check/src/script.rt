@@ -24,18 +24,15 @@ fn answered(seed: u64, step: u64, k: u32) -> u32 {
 }
 
 /// What `replay` answers to these bytes.
-pub fn replay_answer(
-    alloc: Global,
-    steps: u32,
-    seed: u64,
-    bytes: &[u8],
-) -> Result<Answer, NoMemory>
+pub fn replay_answer(alloc: Global, steps: u32, seed: u64, bytes: &[u8]) -> Result<Answer, NoMemory>
     requires { steps ≤ 1000000 }
 {
     match accept(alloc, bytes) {
         Ok(accepted) => {
             let oracle = Oracle::new(
-                |step: u64, n: u32| requires { 1 ≤ n } { chosen(seed, step, n) },
+                |step: u64, n: u32|
+                    requires { 1 ≤ n }
+                { chosen(seed, step, n) },
                 |step: u64, k: u32| answered(seed, step, k),
             );
             let trace = replay(alloc, accepted.into_machine(), &oracle, steps)?;
