@@ -1,4 +1,11 @@
 //! A job file, from its bytes to its machine.
+ghost use Rattle.std.specs.Prelude.{◌≡◌, ◌+◌, ◌<◌, ◌^◌, IsOk};
+ghost use Rattle.field_words.specs.Questions.{Answers};
+ghost use Rattle.job_format.specs.Reading.{file_at};
+ghost use Rattle.job_format.specs.File.{IsFileOf};
+ghost use Rattle.job_check.specs.Whole.{all_questions};
+ghost use Rattle.job_safety.specs.Accepted.{start_by, machine_of, IsAccepted};
+
 use field_words::{NoMemory, Stop};
 use job_check::check_bytes;
 use job_format::Refusal;
@@ -16,28 +23,52 @@ pub struct Accepted {
 
 impl Accepted {
     /// The machine. It takes no memory.
-    pub fn into_machine(self) -> Machine {
+    pub fn into_machine(self) -> Machine
+        ensures { result ≡ self.machine }
+    {
         self.machine
     }
 }
 
-/// Reads and checks a job file, and sets its machine up.
-pub fn accept(alloc: Global, bytes: &[u8]) -> Result<Accepted, Stop<Refusal>> {
-    let checked = check_bytes(alloc, bytes)?;
-    let layout = checked.layout;
-    let lengths = checked.lengths;
-    let start = Start {
+// Where the job's lists stand.
+#[tactic(auto, unfolding(crate::specs::Accepted::start_by))]
+fn start_by(layout: &Layout, lengths: &Lengths) -> Start
+    requires bin { layout.now.place + layout.now.bin < 2 ^ 32 }
+    requires render { layout.now.place + layout.now.render < 2 ^ 32 }
+    ensures { result ≡ start_by layout.now lengths.now }
+{
+    Start {
         bin_place: layout.place + layout.bin,
         bin_len: lengths.bin,
         render_place: layout.place + layout.render,
         render_len: lengths.render,
-    };
-    match Machine::new(alloc, checked.memory, &[start]) {
-        Ok(machine) => Ok(Accepted {
-            layout,
-            lengths,
-            machine,
-        }),
-        Err(NoMemory) => Err(Stop::NoMemory),
+    }
+}
+
+/// Reads and checks a job file, and sets its machine up: at the beginnings of the job's lists, over the memory that the job is to
+/// run in.
+///
+/// # Errors
+/// The first rule that stands for the bytes, by its letter, its number and its place in them; or want of memory.
+#[tactic(auto, unfolding(crate::specs::Accepted::machine_of))]
+pub fn accept(alloc: Global, bytes: &[u8]) -> Result<Accepted, Stop<Refusal>>
+    ensures answers { Answers (all_questions bytes.now) (IsAccepted (file_at bytes.now)) result }
+    ensures spelled { IsOk result → IsFileOf bytes.now (file_at bytes.now) }
+{
+    match check_bytes(alloc, bytes) {
+        Ok(checked) => {
+            let layout = checked.layout;
+            let lengths = checked.lengths;
+            let start = start_by(&layout, &lengths);
+            match Machine::new(alloc, checked.memory, &[start]) {
+                Ok(machine) => Ok(Accepted {
+                    layout,
+                    lengths,
+                    machine,
+                }),
+                Err(NoMemory) => Err(Stop::NoMemory),
+            }
+        }
+        Err(stop) => Err(stop),
     }
 }

@@ -10,7 +10,8 @@ use Rattle.job_check.specs.Emit.{memory_of, lengths_of}
 use Rattle.job_check.specs.Jobs.{layout_of}
 use Rattle.dumper.specs.Text.{accepted_text, refused_text}
 use Rattle.vc4check.specs.declared.command.Command.{Command}
-use Rattle.vc4check.specs.declared.command.Command.TheVariants.{Check, Asm, Disasm}
+use Rattle.vc4check.specs.declared.command.Command.TheVariants.{Check, Replay, Asm, Disasm}
+use Rattle.vc4check.specs.Replay.{IsReplayAnswer}
 use Rattle.vc4check.specs.Shader.{IsAsmAnswer, IsDisasmAnswer}
 use Rattle.job_format.specs.Text.{file_text}
 use Rattle.dumper.specs.Example.{example_text}
@@ -32,6 +33,7 @@ IsCheckAnswer bytes status text = IsVerdict bytes (refusal_of bytes) (file_at by
 -- what each command answers
 abbrev pub IsAnswer : Command → List ℕ → ℕ → List ℕ → Type 0
 IsAnswer Check bytes status text = IsCheckAnswer bytes status text
+IsAnswer (Replay steps seed) bytes status text = IsReplayAnswer steps seed bytes status text
 IsAnswer Asm bytes status text = IsAsmAnswer bytes status text
 IsAnswer Disasm bytes status text = IsDisasmAnswer bytes status text
 

@@ -1,5 +1,5 @@
 -- The words after the program's name.
-use Rattle.std.specs.Prelude.{ℕ, ◌-◌, ◌^◌, List, [], ◌∷◌, codes, map, String, string_bytes, Option, Some, None, option_map, if◌then◌else◌}
+use Rattle.std.specs.Prelude.{ℕ, ◌≤◌, ◌-◌, ◌^◌, List, [], ◌∷◌, codes, map, String, string_bytes, Option, Some, None, option_map, if◌then◌else◌}
 use Rattle.std.specs.Prelude.{bytes_eq}
 use Rattle.std.specs.declared.alloc.Global.{Global}
 use Rattle.field_words.specs.Sizes.{most_list}
@@ -36,6 +36,17 @@ replay_by (Some steps) (Some seed) = Some (Replay steps seed)
 
 abbrev pub replay_named : List ℕ → List ℕ → List ℕ → Option Command
 replay_named word steps seed = if bytes_eq word (codes "replay") then replay_by (number_within most_steps steps) (number_within (2 ^ 64 - 1) seed) else None
+
+-- a command whose number of steps is within that
+abbrev pub IsWithin : Command → Type 0
+IsWithin Check = Unit {0}
+IsWithin (Replay steps seed) = steps ≤ most_steps
+IsWithin Asm = Unit {0}
+IsWithin Disasm = Unit {0}
+
+abbrev pub ReadsWithin : Task → Type 0
+ReadsWithin (Read command) = IsWithin command
+ReadsWithin (Make number) = Unit {0}
 
 -- what the words ask for, if they ask for something: to read input by a command, or to make an example
 abbrev pub task_of : List (List ℕ) → Option Task

@@ -1,6 +1,6 @@
 //! What the program can do, and the words that ask for it.
-ghost use Rattle.std.specs.Prelude.{◌≡◌, ◌≤◌, Some, None};
-ghost use Rattle.vc4check.specs.Words.{texts, command_named, task_numbered, replay_named, task_of, limit_of, most_file};
+ghost use Rattle.std.specs.Prelude.{◌≡◌, ◌≤◌, Some, None, IfSome};
+ghost use Rattle.vc4check.specs.Words.{texts, command_named, task_numbered, replay_named, task_of, limit_of, most_file, IsWithin, ReadsWithin};
 
 use field_words::MOST_LIST;
 use script::read_number;
@@ -48,7 +48,8 @@ impl Command {
 }
 
 fn command_named(word: &str) -> Option<Command>
-    ensures { result ≡ command_named word.now }
+    ensures value { result ≡ command_named word.now }
+    ensures within { IfSome result IsWithin }
 {
     if word == "check" {
         return Some(Command::Check);
@@ -63,7 +64,8 @@ fn command_named(word: &str) -> Option<Command>
 }
 
 fn task_numbered(word: &str, number: &str) -> Option<Task>
-    ensures { result ≡ task_numbered word.now number.now }
+    ensures value { result ≡ task_numbered word.now number.now }
+    ensures within { IfSome result ReadsWithin }
 {
     if word == "gen" {
         let number = read_number(number.as_bytes(), u64::from(u32::MAX))?;
@@ -73,7 +75,8 @@ fn task_numbered(word: &str, number: &str) -> Option<Task>
 }
 
 fn replay_named(word: &str, steps: &str, seed: &str) -> Option<Command>
-    ensures { result ≡ replay_named word.now steps.now seed.now }
+    ensures value { result ≡ replay_named word.now steps.now seed.now }
+    ensures within { IfSome result IsWithin }
 {
     if word == "replay" {
         let steps = read_number(steps.as_bytes(), MOST_STEPS)?;
@@ -88,7 +91,8 @@ fn replay_named(word: &str, steps: &str, seed: &str) -> Option<Command>
 
 /// What the words ask for. `None` comes exactly where they ask for nothing that the program does. It takes no memory.
 pub fn task_of(words: &[String]) -> Option<Task>
-    ensures { result ≡ task_of (texts words.now) }
+    ensures value { result ≡ task_of (texts words.now) }
+    ensures within { IfSome result ReadsWithin }
 {
     match words {
         [word] => Some(Task::Read(command_named(word.as_str())?)),

@@ -9,8 +9,8 @@ mod command;
 mod example;
 #[cfg(test)]
 mod job_tests;
+mod replayed;
 mod run;
-mod script;
 mod serve;
 mod shader_text;
 #[cfg(test)]

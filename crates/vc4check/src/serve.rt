@@ -5,12 +5,12 @@ ghost use Rattle.job_io.specs.Faults.{Rose};
 ghost use Rattle.job_io.specs.Traffic.{count_taken};
 ghost use Rattle.vc4check.specs.Answer.{IsAnswer};
 ghost use Rattle.vc4check.specs.Run.{IsAnswered, IsCut};
-ghost use Rattle.vc4check.specs.Words.{limit_of};
+ghost use Rattle.vc4check.specs.Words.{limit_of, IsWithin};
 
 use super::answer::{Answer, reply};
 use super::check::check_answer;
 use super::command::Command;
-use super::script::replay_answer;
+use super::replayed::replay_answer;
 use super::shader_text::{asm_answer, disasm_answer};
 use field_words::NoMemory;
 use job_io::{ReadEnd, Sink, Source, read_all};
@@ -18,7 +18,8 @@ use std::alloc::Global;
 
 /// What the command answers to these bytes.
 fn answer_to(alloc: Global, command: Command, bytes: &[u8]) -> Result<Answer, NoMemory>
-    requires { length bytes.now ≤ limit_of command }
+    requires few { length bytes.now ≤ limit_of command }
+    requires within { IsWithin command }
     ensures answers { IfOk result (λ a. IsAnswer command bytes.now a.status a.text.items) }
     ensures status { IfOk result (λ a. a.status < 2) }
 {
@@ -33,7 +34,8 @@ fn answer_to(alloc: Global, command: Command, bytes: &[u8]) -> Result<Answer, No
 /// Appends the answer to these bytes to the sink. All memory is taken before the first byte is
 /// written.
 fn respond<K: Sink>(alloc: Global, command: Command, bytes: &[u8], sink: &mut K) -> u8
-    requires { length bytes.now ≤ limit_of command }
+    requires few { length bytes.now ≤ limit_of command }
+    requires within { IsWithin command }
     ensures statuses { (result < 2) ⊎ ((result ≡ 4) ⊎ (result ≡ 5)) }
     ensures write { result ≡ 4 → Rose (K.faults sink.old) (K.faults sink.new) }
     ensures steady { result ≢ 4 → K.faults sink.new ≡ K.faults sink.old }
@@ -58,6 +60,7 @@ pub fn serve<S: Source, K: Sink>(
     source: &mut S,
     sink: &mut K,
 ) -> u8
+    requires { IsWithin command }
     ensures statuses { result ≤ 6 }
     ensures asked { result ≢ 2 }
     ensures read { result ≡ 3 → Rose (S.faults source.old) (S.faults source.new) }
