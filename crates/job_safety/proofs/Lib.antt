@@ -4,4 +4,4 @@ pub mod Stages
 pub mod Runs
 pub mod Stray
 pub mod Bridge
-pub mod Accepted
+pub mod ThinFiles

@@ -7,7 +7,7 @@ use Rattle.job_check.specs.Emit.{memory_of, lengths_of}
 use Rattle.job_check.specs.Jobs.{layout_of}
 use Rattle.machine.specs.State.{State, start_of}
 use Rattle.machine.specs.declared.job.Start.{Start}
-use Rattle.job_safety.specs.declared.accept.Accepted.{Accepted}
+use Rattle.job_safety.specs.declared.accepting.Accepted.{Accepted}
 
 -- where a job's binner list and its renderer list stand, and how long they are
 unfoldable pub start_by : Layout → Lengths → Start

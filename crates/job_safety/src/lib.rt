@@ -2,12 +2,12 @@
 //! tile.
 #![tactic(auto)]
 
-mod accept;
+mod accepting;
 mod files;
 mod thin;
 mod wild;
 
-pub use accept::{Accepted, accept};
+pub use accepting::{Accepted, accept};
 pub use files::{
     accepted_thin_files_are_safe, accepted_thin_files_are_same, thin_files_have_no_fault,
 };
