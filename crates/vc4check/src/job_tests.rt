@@ -67,14 +67,21 @@ fn changed(alloc: Global, changes: &[(usize, u32)]) -> Result<Vec<u8>, Fail> {
     Ok(bytes)
 }
 
-/// What `check` prints of these bytes, which takes no more than this room.
-fn printed(alloc: Global, bytes: Vec<u8>, room: usize) -> Result<MemSink, Fail> {
+/// What the program prints for these words and bytes, which takes no more than this room.
+fn answered(alloc: Global, texts: &[&str], bytes: Vec<u8>, room: usize) -> Result<MemSink, Fail> {
     let mut words = Vec::new(alloc);
-    words.push(String::from_str(alloc, "check")?)?;
+    for text in texts {
+        words.push(String::from_str(alloc, text)?)?;
+    }
     let mut source = SteadySource::new(bytes);
     let mut sink = MemSink::new(alloc, 100_000, room, Vec::new(alloc))?;
     run(alloc, &words, &mut source, &mut sink);
     Ok(sink)
+}
+
+/// What `check` prints of these bytes.
+fn printed(alloc: Global, bytes: Vec<u8>, room: usize) -> Result<MemSink, Fail> {
+    answered(alloc, &["check"], bytes, room)
 }
 
 // The binner list loses its 9 bytes of buffer handles; a record of 44 bytes is filled to 48. The indexes' address and the
@@ -165,5 +172,20 @@ fn accepts_a_usual_frame(rt: HostRuntime) -> Result<(), Fail> {
         00000000 7000a0000000a00700004000001e1144\n";
     assert!(rt; sink.bytes().starts_with(front));
     assert!(rt; sink.bytes().ends_with(b"\nend\n"));
+    Ok(())
+}
+
+// A run of the usual frame to its end, and its first steps. The first line of a run of no steps says that there were none.
+#[test]
+fn replays_a_usual_frame(rt: HostRuntime) -> Result<(), Fail> {
+    let alloc = rt.alloc();
+    let sink = answered(alloc, &["replay", "10000", "1"], usual(alloc)?, 1_000_000)?;
+    assert!(rt; sink.bytes().ends_with(b"\nfinished after 8563\n"));
+    let none = answered(alloc, &["replay", "0", "1"], usual(alloc)?, 1_000)?;
+    assert_eq!(rt; none.bytes(), b"steps spent after 0\n".as_slice());
+    let refused = answered(alloc, &["replay", "5", "0"], Vec::new(alloc), 1_000)?;
+    assert_eq!(rt; refused.bytes(), b"refused F2 at 0\n".as_slice());
+    let wordless = answered(alloc, &["replay", "1000001", "1"], Vec::new(alloc), 1_000)?;
+    assert_eq!(rt; wordless.bytes(), b"".as_slice());
     Ok(())
 }
