@@ -332,3 +332,24 @@ fn takes_numbers_without_sign_and_leading_zero(rt: HostRuntime) -> Result<(), Fa
     }
     Ok(())
 }
+
+// The smallest job has three packets: the frame, the tile and its store, of sixteen rows. A run of fewer steps stops there.
+#[test]
+fn replays_the_smallest_job(rt: HostRuntime) -> Result<(), Fail> {
+    let alloc = rt.alloc();
+    let steps = "renderer 1 0 00000000 0000000b\nrenderer 1 0 0000000b 0000000e\n";
+    for (most, ending) in [
+        ("10", "renderer 1 16 0000000e 00081400\nfinished after 3\n"),
+        ("2", "steps spent after 2\n"),
+    ] {
+        let mut source = SteadySource::new(file(alloc, SMALLEST)?);
+        let mut sink = MemSink::new(alloc, 100_000, 1_000, Vec::new(alloc))?;
+        let words = words(alloc, &["replay", most, "1"])?;
+        let answer = run(alloc, &words, &mut source, &mut sink);
+        assert_eq!(rt; answer, 0);
+        assert!(rt; sink.bytes().starts_with(steps.as_bytes()));
+        assert!(rt; sink.bytes().ends_with(ending.as_bytes()));
+        assert_eq!(rt; sink.bytes().len(), steps.len() + ending.len());
+    }
+    Ok(())
+}
