@@ -1,9 +1,9 @@
 //! The run itself.
-ghost use Rattle.std.specs.Prelude.{◌≡◌, ◌≤◌, ◌<◌, ◌^◌, ℕ, true, false, [], length, slice_index, IfOk, List};
+ghost use Rattle.std.specs.Prelude.{◌≡◌, ◌≤◌, ◌<◌, ◌^◌, ℕ, true, false, [], length, slice_index, IfOk, IfErr, List};
 ghost use Rattle.machine.specs.Step.{Event, finished, step};
 ghost use Rattle.replay.specs.Units.{unit_at, word_count, enabled_units};
 ghost use Rattle.replay.specs.Trace.{line_of};
-ghost use Rattle.replay.specs.Run.{MayChoose, IsBelow, MayAnswer, IsEnded, IsTurn, IsTrace};
+ghost use Rattle.replay.specs.Run.{MayChoose, IsBelow, MayAnswer, IsOver, StepsBy, IsTrace};
 
 use crate::oracle::Oracle;
 use crate::trace::{Ending, Trace, TraceLine, line_of};
@@ -53,11 +53,13 @@ fn take_step<C: Fn(u64, u32) -> u32, F: Fn(u64, u32) -> u32>(
     accesses: &mut ArrayVec<Access, 272>,
     machine: &mut Machine,
 ) -> TraceLine
+    requires goes { finished machine.old ≡ false }
     requires some { 1 ≤ length units.now.items }
     requires units { units.now.items ≡ enabled_units machine.old }
     requires chooses { MayChoose (λ step n. C.pre oracle.now.choose step n) }
     requires below { IsBelow (λ step n picked. C.post oracle.now.choose step n picked) }
     requires answers { MayAnswer (λ step k. F.pre oracle.now.answer step k) }
+    ensures { StepsBy (λ i n picked. C.post oracle.now.choose i n picked) (λ i k word. F.post oracle.now.answer i k word) step machine.old machine.new result }
 {
     let place = oracle.pick(step, units.len() as u32);
     let unit = unit_at(units[place as usize]);
@@ -80,6 +82,7 @@ pub fn replay<C: Fn(u64, u32) -> u32, F: Fn(u64, u32) -> u32>(
     requires chooses { MayChoose (λ step n. C.pre oracle.now.choose step n) }
     requires below { IsBelow (λ step n picked. C.post oracle.now.choose step n picked) }
     requires answers { MayAnswer (λ step k. F.pre oracle.now.answer step k) }
+    ensures { IfOk result (λ trace. (events : List Event) × IsTrace (λ i n picked. C.post oracle.now.choose i n picked) (λ i k word. F.post oracle.now.answer i k word) machine steps events trace) }
 {
     let mut lines = Vec::with_capacity(alloc, steps as usize)?;
     let mut words = [0; MOST_WORDS];
