@@ -1,5 +1,5 @@
 //! The run itself.
-ghost use Rattle.std.specs.Prelude.{◌≡◌, ◌≤◌, ◌<◌, ◌^◌, ℕ, true, false, [], length, slice_index, IfOk, IfErr, List};
+ghost use Rattle.std.specs.Prelude.{◌≡◌, ◌≤◌, ◌<◌, ◌^◌, ℕ, true, false, [], length, slice_index, IfOk, IfErr, IsErr, List};
 ghost use Rattle.machine.specs.Step.{Event, finished, step};
 ghost use Rattle.replay.specs.Units.{unit_at, word_count, enabled_units};
 ghost use Rattle.replay.specs.Trace.{line_of};
@@ -70,6 +70,55 @@ fn take_step<C: Fn(u64, u32) -> u32, F: Fn(u64, u32) -> u32>(
     line_of(unit, job, accesses.as_slice())
 }
 
+// One step of the machine, or why it steps no further.
+fn go_on<C: Fn(u64, u32) -> u32, F: Fn(u64, u32) -> u32>(
+    oracle: &Oracle<C, F>,
+    step: u64,
+    words: &mut [u32; MOST_WORDS],
+    accesses: &mut ArrayVec<Access, 272>,
+    machine: &mut Machine,
+) -> Result<TraceLine, Ending>
+    requires chooses { MayChoose (λ step n. C.pre oracle.now.choose step n) }
+    requires below { IsBelow (λ step n picked. C.post oracle.now.choose step n picked) }
+    requires answers { MayAnswer (λ step k. F.pre oracle.now.answer step k) }
+    ensures goes { IfOk result (λ line. StepsBy (λ i n picked. C.post oracle.now.choose i n picked) (λ i k word. F.post oracle.now.answer i k word) step machine.old machine.new line) }
+    ensures over { IfErr result (IsOver machine.old) }
+    ensures same { IsErr result → machine.new ≡ machine.old }
+{
+    match look(machine) {
+        Err(ending) => Err(ending),
+        Ok(units) => Ok(take_step(oracle, step, &units, words, accesses, machine)),
+    }
+}
+
+// The steps that the script gives, at most so many.
+fn follow<C: Fn(u64, u32) -> u32, F: Fn(u64, u32) -> u32>(
+    oracle: &Oracle<C, F>,
+    steps: u32,
+    lines: &mut Vec<TraceLine>,
+    machine: &mut Machine,
+) -> Result<Ending, NoMemory>
+    requires empty { lines.old.items ≡ [] }
+    requires few { steps ≤ 1000000 }
+    requires chooses { MayChoose (λ step n. C.pre oracle.now.choose step n) }
+    requires below { IsBelow (λ step n picked. C.post oracle.now.choose step n picked) }
+    requires answers { MayAnswer (λ step k. F.pre oracle.now.answer step k) }
+    ensures { IfOk result (λ ending. (events : List Event) × IsTrace (λ i n picked. C.post oracle.now.choose i n picked) (λ i k word. F.post oracle.now.answer i k word) machine.old steps events (record { lines = lines.new; ending = ending })) }
+{
+    let mut words = [0; MOST_WORDS];
+    let mut accesses = ArrayVec::new();
+    for i in 0..steps {
+        match go_on(oracle, i as u64, &mut words, &mut accesses, machine) {
+            Err(ending) => return Ok(ending),
+            Ok(line) => lines.push(line)?,
+        }
+    }
+    match look(machine) {
+        Err(ending) => Ok(ending),
+        Ok(_) => Ok(Ending::Spent),
+    }
+}
+
 /// Steps the machine as the oracle says, at most `steps` times, and keeps a line of each step. It takes its memory first; the
 /// machine is dropped at the end.
 pub fn replay<C: Fn(u64, u32) -> u32, F: Fn(u64, u32) -> u32>(
@@ -85,26 +134,6 @@ pub fn replay<C: Fn(u64, u32) -> u32, F: Fn(u64, u32) -> u32>(
     ensures { IfOk result (λ trace. (events : List Event) × IsTrace (λ i n picked. C.post oracle.now.choose i n picked) (λ i k word. F.post oracle.now.answer i k word) machine steps events trace) }
 {
     let mut lines = Vec::with_capacity(alloc, steps as usize)?;
-    let mut words = [0; MOST_WORDS];
-    let mut accesses = ArrayVec::new();
-    for i in 0..steps {
-        match look(&machine) {
-            Err(ending) => return Ok(Trace { lines, ending }),
-            Ok(units) => {
-                lines.push(take_step(
-                    oracle,
-                    i as u64,
-                    &units,
-                    &mut words,
-                    &mut accesses,
-                    &mut machine,
-                ))?;
-            }
-        }
-    }
-    let ending = match look(&machine) {
-        Err(ending) => ending,
-        Ok(_) => Ending::Spent,
-    };
+    let ending = follow(oracle, steps, &mut lines, &mut machine)?;
     Ok(Trace { lines, ending })
 }

@@ -14,4 +14,4 @@ returns g c =
     let size = c.len.ensures.value in
     let long = c.fill.array_long in
     steps_by _ _ c.args.step c.args.machine.now c.step.new.self c.args.units.now.items c.pick-place.result c.word_count-count.result c.unit_at-unit.result c.fill.new.words c.as_slice.result.now c.step.new.accesses.items c.job_of-job.result c.line_of.result
-    c.requires.goes c.requires.units below (subst (λ n. _) size picked) unit_is c.word_count-count.ensures.value c.fill.ensures (omega (arith, long, c.word_count-count.ensures.most)) (c.step.ensures.moved (c.step.ensures.done may)) c.as_slice.ensures.value c.job_of-job.ensures c.line_of.ensures
+    c.requires.goes c.requires.units below (subst (λ n. goal.C-post g c.args.oracle.now.choose c.args.step n c.pick-place.result) size picked) unit_is c.word_count-count.ensures.value c.fill.ensures (omega (arith, long, c.word_count-count.ensures.most)) (c.step.ensures.moved (c.step.ensures.done may)) c.as_slice.ensures.value c.job_of-job.ensures c.line_of.ensures
