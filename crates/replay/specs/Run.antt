@@ -48,6 +48,20 @@ IsEnded s steps done Finished = finished s ≡ true
 IsEnded s steps done Waiting = (finished s ≡ false) × (enabled_units s ≡ [])
 IsEnded s steps done Spent = (done ≡ steps) × (finished s ≡ false) × (enabled_units s ≢ [])
 
+-- why a machine in this state steps no further
+abbrev pub IsOver : State → Ending → Type 0
+IsOver s Finished = finished s ≡ true
+IsOver s Waiting = (finished s ≡ false) × (enabled_units s ≡ [])
+IsOver s Spent = ⊥
+
+-- one step that the script gave: the state after it, and its line
+pub record StepsBy (Chooses Answers : ℕ → ℕ → ℕ → Type 0) (i : ℕ) (s next : State) (line : TraceLine) : Type 0 where
+  pub event : Event
+  pub turn : IsTurn Chooses Answers i s event
+  pub may : IsTrue (enabled s event.unit)
+  pub next_is : next ≡ (step s event).state
+  pub line_is : line ≡ line_of event.unit (job_of s event.unit) (step s event).accesses
+
 -- The trace is that of the run of these events from this state, at most so many, which the script gave.
 pub record IsTrace (Chooses Answers : ℕ → ℕ → ℕ → Type 0) (s : State) (steps : ℕ) (events : List Event) (trace : Trace) : Type 0 where
   pub run : IsRun s events (found_by step s events) (reached step s events)

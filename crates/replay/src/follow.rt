@@ -1,9 +1,9 @@
 //! The run itself.
-ghost use Rattle.std.specs.Prelude.{◌≡◌, ◌≤◌, ◌<◌, ◌^◌, ℕ, true, false, [], length, slice_index, IfOk, List};
+ghost use Rattle.std.specs.Prelude.{◌≡◌, ◌≤◌, ◌<◌, ◌^◌, ℕ, true, false, [], length, slice_index, IfOk, IfErr, IsErr, List};
 ghost use Rattle.machine.specs.Step.{Event, finished, step};
 ghost use Rattle.replay.specs.Units.{unit_at, word_count, enabled_units};
 ghost use Rattle.replay.specs.Trace.{line_of};
-ghost use Rattle.replay.specs.Run.{MayChoose, IsBelow, MayAnswer, IsEnded, IsTurn, IsTrace};
+ghost use Rattle.replay.specs.Run.{MayChoose, IsBelow, MayAnswer, IsOver, StepsBy, IsTrace};
 
 use crate::oracle::Oracle;
 use crate::trace::{Ending, Trace, TraceLine, line_of};
@@ -53,11 +53,13 @@ fn take_step<C: Fn(u64, u32) -> u32, F: Fn(u64, u32) -> u32>(
     accesses: &mut ArrayVec<Access, 272>,
     machine: &mut Machine,
 ) -> TraceLine
+    requires goes { finished machine.old ≡ false }
     requires some { 1 ≤ length units.now.items }
     requires units { units.now.items ≡ enabled_units machine.old }
     requires chooses { MayChoose (λ step n. C.pre oracle.now.choose step n) }
     requires below { IsBelow (λ step n picked. C.post oracle.now.choose step n picked) }
     requires answers { MayAnswer (λ step k. F.pre oracle.now.answer step k) }
+    ensures { StepsBy (λ i n picked. C.post oracle.now.choose i n picked) (λ i k word. F.post oracle.now.answer i k word) step machine.old machine.new result }
 {
     let place = oracle.pick(step, units.len() as u32);
     let unit = unit_at(units[place as usize]);
@@ -66,6 +68,55 @@ fn take_step<C: Fn(u64, u32) -> u32, F: Fn(u64, u32) -> u32>(
     let job = machine.job_of(unit);
     machine.step(unit, &words[..count as usize], accesses);
     line_of(unit, job, accesses.as_slice())
+}
+
+// One step of the machine, or why it steps no further.
+fn go_on<C: Fn(u64, u32) -> u32, F: Fn(u64, u32) -> u32>(
+    oracle: &Oracle<C, F>,
+    step: u64,
+    words: &mut [u32; MOST_WORDS],
+    accesses: &mut ArrayVec<Access, 272>,
+    machine: &mut Machine,
+) -> Result<TraceLine, Ending>
+    requires chooses { MayChoose (λ step n. C.pre oracle.now.choose step n) }
+    requires below { IsBelow (λ step n picked. C.post oracle.now.choose step n picked) }
+    requires answers { MayAnswer (λ step k. F.pre oracle.now.answer step k) }
+    ensures goes { IfOk result (λ line. StepsBy (λ i n picked. C.post oracle.now.choose i n picked) (λ i k word. F.post oracle.now.answer i k word) step machine.old machine.new line) }
+    ensures over { IfErr result (IsOver machine.old) }
+    ensures same { IsErr result → machine.new ≡ machine.old }
+{
+    match look(machine) {
+        Err(ending) => Err(ending),
+        Ok(units) => Ok(take_step(oracle, step, &units, words, accesses, machine)),
+    }
+}
+
+// The steps that the script gives, at most so many.
+fn follow<C: Fn(u64, u32) -> u32, F: Fn(u64, u32) -> u32>(
+    oracle: &Oracle<C, F>,
+    steps: u32,
+    lines: &mut Vec<TraceLine>,
+    machine: &mut Machine,
+) -> Result<Ending, NoMemory>
+    requires empty { lines.old.items ≡ [] }
+    requires few { steps ≤ 1000000 }
+    requires chooses { MayChoose (λ step n. C.pre oracle.now.choose step n) }
+    requires below { IsBelow (λ step n picked. C.post oracle.now.choose step n picked) }
+    requires answers { MayAnswer (λ step k. F.pre oracle.now.answer step k) }
+    ensures { IfOk result (λ ending. (events : List Event) × IsTrace (λ i n picked. C.post oracle.now.choose i n picked) (λ i k word. F.post oracle.now.answer i k word) machine.old steps events (record { lines = lines.new; ending = ending })) }
+{
+    let mut words = [0; MOST_WORDS];
+    let mut accesses = ArrayVec::new();
+    for i in 0..steps {
+        match go_on(oracle, i as u64, &mut words, &mut accesses, machine) {
+            Err(ending) => return Ok(ending),
+            Ok(line) => lines.push(line)?,
+        }
+    }
+    match look(machine) {
+        Err(ending) => Ok(ending),
+        Ok(_) => Ok(Ending::Spent),
+    }
 }
 
 /// Steps the machine as the oracle says, at most `steps` times, and keeps a line of each step. It takes its memory first; the
@@ -80,28 +131,9 @@ pub fn replay<C: Fn(u64, u32) -> u32, F: Fn(u64, u32) -> u32>(
     requires chooses { MayChoose (λ step n. C.pre oracle.now.choose step n) }
     requires below { IsBelow (λ step n picked. C.post oracle.now.choose step n picked) }
     requires answers { MayAnswer (λ step k. F.pre oracle.now.answer step k) }
+    ensures { IfOk result (λ trace. (events : List Event) × IsTrace (λ i n picked. C.post oracle.now.choose i n picked) (λ i k word. F.post oracle.now.answer i k word) machine steps events trace) }
 {
     let mut lines = Vec::with_capacity(alloc, steps as usize)?;
-    let mut words = [0; MOST_WORDS];
-    let mut accesses = ArrayVec::new();
-    for i in 0..steps {
-        match look(&machine) {
-            Err(ending) => return Ok(Trace { lines, ending }),
-            Ok(units) => {
-                lines.push(take_step(
-                    oracle,
-                    i as u64,
-                    &units,
-                    &mut words,
-                    &mut accesses,
-                    &mut machine,
-                ))?;
-            }
-        }
-    }
-    let ending = match look(&machine) {
-        Err(ending) => ending,
-        Ok(_) => Ending::Spent,
-    };
+    let ending = follow(oracle, steps, &mut lines, &mut machine)?;
     Ok(Trace { lines, ending })
 }

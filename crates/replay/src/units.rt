@@ -44,6 +44,7 @@ pub(crate) fn word_count(unit: Actor) -> u32
 }
 
 /// The numbers of the units that may step.
+#[tactic(auto, using(crate::proofs::Order::units_more))]
 pub(crate) fn enabled_units(machine: &Machine) -> ArrayVec<u8, 38>
     ensures { result.items ≡ enabled_units machine.now }
 {

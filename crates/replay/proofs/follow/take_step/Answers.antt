@@ -1,0 +1,17 @@
+-- The step is one that the script gave.
+use Rattle.std.proofs.Common.{◌≡◌, ◌≤◌, ◌<◌, ◌∙◌, sym, subst, ap, length, slice_index, arith}
+use Rattle.replay.specs.Units.{unit_at}
+use Rattle.replay.proofs.Going.{unit_may, steps_by}
+use Rattle.replay.proofs.follow.take_step.Goals as goal
+
+pub returns : goal.returns
+returns g c =
+    let units_are = c.deref.ensures.0 in
+    let unit_is = c.unit_at-unit.ensures ∙ ap (λ us. unit_at (slice_index us c.pick-place.result)) units_are in
+    let below : c.pick-place.result < length c.args.units.now.items = omega (arith, c.pick-place.ensures.below, c.len.ensures.value) in
+    let may = unit_may c.args.machine.now c.args.units.now.items c.pick-place.result c.unit_at-unit.result c.requires.units below unit_is in
+    let picked = c.pick-place.ensures.gives in
+    let size = c.len.ensures.value in
+    let long = c.fill.array_long in
+    steps_by _ _ c.args.step c.args.machine.now c.step.new.self c.args.units.now.items c.pick-place.result c.word_count-count.result c.unit_at-unit.result c.fill.new.words c.as_slice.result.now c.step.new.accesses.items c.job_of-job.result c.line_of.result
+    c.requires.goes c.requires.units below (subst (λ n. goal.C-post g c.args.oracle.now.choose c.args.step n c.pick-place.result) size picked) unit_is c.word_count-count.ensures.value c.fill.ensures (omega (arith, long, c.word_count-count.ensures.most)) (c.step.ensures.moved (c.step.ensures.done may)) c.as_slice.ensures.value c.job_of-job.ensures c.line_of.ensures
