@@ -17,7 +17,12 @@ use std::alloc::Global;
 const MOST_WORDS: usize = 4096;
 
 // The units that may step, or why the run is over.
-fn look(machine: &Machine) -> Result<ArrayVec<u8, 38>, Ending> {
+fn look(machine: &Machine) -> Result<ArrayVec<u8, 38>, Ending>
+    ensures goes { IfOk result (λ _. finished machine.now ≡ false) }
+    ensures some { IfOk result (λ units. 1 ≤ length units.items) }
+    ensures units { IfOk result (λ units. units.items ≡ enabled_units machine.now) }
+    ensures over { IfErr result (IsOver machine.now) }
+{
     if machine.finished() {
         return Err(Ending::Finished);
     }
