@@ -5,5 +5,7 @@
 #![tactic(auto)]
 
 mod asks;
+mod thread;
 
 pub use asks::{asks_stay_in, fine_asks_are_safe};
+pub use thread::{never_wild, stays_in_code};
