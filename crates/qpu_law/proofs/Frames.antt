@@ -6,7 +6,9 @@ use Rattle.qpu_machine.specs.declared.state.Fate.{Fate}
 use Rattle.qpu_machine.specs.declared.state.Mark.{Mark}
 use Rattle.qpu_machine.specs.declared.state.Thread.{Thread}
 use Rattle.qpu_machine.specs.Operands.{add_row, mul_row}
-use Rattle.qpu_machine.specs.Writes.{awake, past_uniform, written_at, added, multiplied, written, stored, loaded, went_on, worked, led_to, fate_of, rested, asked}
+use Rattle.qpu_machine.specs.Writes.{awake, past_uniform, written_at, added, multiplied, written, stored, loaded, went_on, worked, led_to, fate_of, rested, asked, pointer_after, add_address, mul_address}
+use Rattle.qpu_machine.specs.Row.{mask_of}
+use Rattle.qpu_isa.specs.Word.{cond_add_of, cond_mul_of}
 use Rattle.qpu_machine.specs.Step.{executed_with, executed}
 use Rattle.qpu_law.specs.Home.{readied, done}
 
@@ -43,3 +45,11 @@ pub asked_is : (word uniform uniforms : ℕ) (words : List ℕ) (t : Thread)
     ≡ asked word uniform (add_row (readied uniforms words t) word uniform words) (mul_row (readied uniforms words t) word uniform words) (readied uniforms words t)
 unfolding executed executed_with
 asked_is word uniform uniforms words t = refl
+
+-- the uniform pointer
+pub uniforms_are : (word uniform uniforms : ℕ) (words : List ℕ) (t : Thread)
+    → (done word uniform uniforms words t).thread.uniforms
+    ≡ pointer_after (mul_address word) (mask_of (cond_mul_of word) words 16) (mul_row (readied uniforms words t) word uniform words)
+    (pointer_after (add_address word) (mask_of (cond_add_of word) words 0) (add_row (readied uniforms words t) word uniform words) uniforms)
+unfolding awake executed executed_with rested worked went_on loaded stored written multiplied added written_at
+uniforms_are word uniform uniforms words t = refl

@@ -15,7 +15,7 @@ use Rattle.qpu_machine.specs.declared.state.Mark.{Mark}
 use Rattle.qpu_machine.specs.declared.state.Thread.{Thread}
 use Rattle.qpu_machine.specs.declared.state.Fate.TheVariants.{Ends, Switches, GoesOn}
 use Rattle.qpu_machine.specs.Writes.{led_to, fate_of}
-use Rattle.qpu_law.specs.Home.{Home, HasNoFault, IsQuiet, IsExact, IsRoot, IsBlank, MarkIs, IsAt, Jumps, GoesTo, done, StaysInCode}
+use Rattle.qpu_law.specs.Home.{Home, HasNoFault, IsQuiet, IsExact, IsRoot, IsBlank, MarkIs, IsAt, Jumps, Lands, GoesTo, done, StaysInCode}
 use Rattle.qpu_law.proofs.Rules.{IsFineAt, fine_at, in_checked, checked_is, end_inside}
 use Rattle.qpu_law.proofs.Frames.{IsWent, is_went, fate_is}
 
@@ -104,7 +104,7 @@ true_of : (b : Bool) → not b ≡ false → b ≡ true
 true_of true is = refl
 true_of false is = absurd cc
 
-not_of : (b : Bool) → b ≡ false → not b ≡ true
+pub not_of : (b : Bool) → b ≡ false → not b ≡ true
 not_of true is = absurd cc
 not_of false is = refl
 
@@ -127,7 +127,7 @@ pub record IsSound (code : List ℕ) (b : ℕ) : Type 0 where
   pub whole : imm_of (word code b) % 8 ≡ 0
   pub inside : target_of (word code b) b ≤ end_of code
 
-both : (a b : Bool) → (a && b) ≡ true → (a ≡ true) × (b ≡ true)
+pub both : (a b : Bool) → (a && b) ≡ true → (a ≡ true) × (b ≡ true)
 both true b is = (refl, is)
 both false b is = absurd cc
 
@@ -262,7 +262,7 @@ led_by h n t p at led =
     ]
 
 pub jumps : (h : Home) (n : ℕ) (words : List ℕ) (t next : Thread) (p : ℕ) → HasNoFault h.code → h.place + 8 * length h.code ≤ 2 ^ 32
-    → IsAt h n t → t.last3.to ≡ Some p → IsWent (word h.code n) words t next → GoesTo h n next
+    → IsAt h n t → t.last3.to ≡ Some p → IsWent (word h.code n) words t next → GoesTo h n t next
 unfolding target_of
 jumps h n words t next p none low at led went =
     let exact = led_by h n t p at led in
@@ -283,9 +283,19 @@ jumps h n words t next p none low at led went =
     let quiet : (j : ℕ) → b < j → j ≤ b + 3 → IsQuiet (word code j) = λ j after near. slot_quiet code none b j b_in branch after near in
     let back = exact.back in
     let own : IsQuiet (word code n) = quiet n (omega (arith, back)) (omega (arith, back)) in
+    let nothing1 : IsQuiet (word code n) × (led_to (word code n) words t.place ≡ None) = (own, led_none (word code n) words t.place own.branch) in
+    let nothing2 = says_nothing h.place code n 1 t.last1 at.mark1 (λ k. quiet (n - 1) (omega (arith, back)) (omega (arith, back))) in
+    let nothing3 = says_nothing h.place code n 2 t.last2 at.mark2 (λ k. quiet (n - 2) (omega (arith, back)) (omega (arith, back))) in
     record {
       to = to;
-      way = inr (record { from = exact.back; branch = branch; is = refl; target = target });
+      way = inr (record {
+        jump = record { from = exact.back; branch = branch; is = refl; target = target };
+        led = p;
+        led_is = led;
+        none1 = ap (λ (m : Mark). m.to) went.last1 ∙ nothing1.1;
+        none2 = ap (λ (m : Mark). m.to) went.last2 ∙ nothing2.1;
+        none3 = ap (λ (m : Mark). m.to) went.last3 ∙ nothing3.1;
+      });
       at = record {
         place = went.place ∙ (ap (λ o. unwrap_or o (t.place + 8)) led ∙ leads);
         inside = omega (arith, sound.inside);
@@ -316,7 +326,7 @@ ends h n t none at last =
 
 -- The law: where the thread doesn't end, it is at a next instruction.
 pub next_index : (h : Home) (n : ℕ) (words : List ℕ) (t next : Thread) → HasNoFault h.code → h.place + 8 * length h.code ≤ 2 ^ 32
-    → IsAt h n t → fate_of t ≢ Ends → IsWent (word h.code n) words t next → (to : Option ℕ) → t.last3.to ≡ to → GoesTo h n next
+    → IsAt h n t → fate_of t ≢ Ends → IsWent (word h.code n) words t next → (to : Option ℕ) → t.last3.to ≡ to → GoesTo h n t next
 next_index h n words t next none low at lives went (Some p) led = jumps h n words t next p none low at led went
 next_index h n words t next none low at lives went None stays =
     record { to = n + 1; way = inl refl; at = goes_on h n words t next none at (λ last. lives (ends h n t none at last)) stays went }

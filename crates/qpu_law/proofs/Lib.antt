@@ -1,6 +1,9 @@
+pub mod Counts
 pub mod Frames
 pub mod Going
 pub mod Marks
+pub mod Pointer
 pub mod Reading
 pub mod Rules
+pub mod Setups
 pub mod Wild

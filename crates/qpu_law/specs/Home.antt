@@ -74,10 +74,19 @@ pub record Jumps (code : List ℕ) (n to : ℕ) : Type 0 where
   pub is : to ≡ target_of (word code (n - 3)) (n - 3)
   pub target : is_target code to ≡ true
 
+-- It does so because the mark three back says so, and then no mark says that a branch was taken.
+pub record Lands (code : List ℕ) (n to : ℕ) (t next : Thread) : Type 0 where
+  pub jump : Jumps code n to
+  pub led : ℕ
+  pub led_is : t.last3.to ≡ Some led
+  pub none1 : next.last1.to ≡ None
+  pub none2 : next.last2.to ≡ None
+  pub none3 : next.last3.to ≡ None
+
 -- After the instruction at n the thread is at the next one, or at such a target.
-pub record GoesTo (h : Home) (n : ℕ) (next : Thread) : Type 0 where
+pub record GoesTo (h : Home) (n : ℕ) (t next : Thread) : Type 0 where
   pub to : ℕ
-  pub way : (to ≡ n + 1) ⊎ Jumps h.code n to
+  pub way : (to ≡ n + 1) ⊎ Lands h.code n to t next
   pub at : IsAt h to next
 
 -- the shader's code ends below 4 GiB
@@ -100,4 +109,4 @@ abbrev pub StaysInCode : Type 0
 StaysInCode =
     (h : Home) (n uniform uniforms : ℕ) (words : List ℕ) (t : Thread) → HasNoFault h.code → IsLow h → IsAt h n t
     → (done (word h.code n) uniform uniforms words t).leaves.fate ≢ Ends
-    → GoesTo h n (done (word h.code n) uniform uniforms words t).thread
+    → GoesTo h n t (done (word h.code n) uniform uniforms words t).thread
