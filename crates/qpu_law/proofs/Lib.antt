@@ -2,8 +2,10 @@ pub mod Counts
 pub mod Frames
 pub mod Going
 pub mod Marks
+pub mod Operands
 pub mod Pointer
 pub mod Reading
 pub mod Rules
 pub mod Setups
+pub mod Values
 pub mod Wild

@@ -1,3 +1,4 @@
 pub mod Asks
 pub mod Home
 pub mod Stream
+pub mod Facts
