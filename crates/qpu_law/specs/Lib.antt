@@ -2,3 +2,4 @@ pub mod Asks
 pub mod Home
 pub mod Stream
 pub mod Facts
+pub mod Thread

@@ -1,5 +1,6 @@
 //! One instruction of a thread.
 ghost use Rattle.qpu_law.specs.Home.{NeverWild, StaysInCode};
+ghost use Rattle.qpu_law.specs.Thread.{ThreadsKeep};
 
 /// No instruction of a checked shader is wild, where the thread's marks say what it executed and its setup words are as many as
 /// the rules count.
@@ -11,4 +12,12 @@ pub fn never_wild()
 /// one or at a branch's target, with marks that say what it executed.
 pub fn stays_in_code()
     ensures { StaysInCode }
+{}
+
+/// A step of a thread of a job, whose checked shader and stream stand in memory, is never wild, reads its instruction and its
+/// uniform in the job's region and nothing else, changes no byte, and leaves such a thread or none: it stands at a checked
+/// instruction, its marks say what it executed, its pointer is where the stream's count says or no uniform is taken where it isn't
+/// known, its setup words are the stream's, and each fact of the rules is true of its registers.
+pub fn threads_keep()
+    ensures { ThreadsKeep }
 {}
