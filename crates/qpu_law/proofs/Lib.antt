@@ -8,7 +8,9 @@ pub mod Operands
 pub mod Pointer
 pub mod Reading
 pub mod Rules
+pub mod Samples
 pub mod Setups
+pub mod Starting
 pub mod Sums
 pub mod Values
 pub mod Wild

@@ -3,3 +3,4 @@ pub mod Home
 pub mod Stream
 pub mod Facts
 pub mod Thread
+pub mod Samples

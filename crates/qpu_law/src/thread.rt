@@ -1,5 +1,6 @@
 //! One instruction of a thread.
 ghost use Rattle.qpu_law.specs.Home.{NeverWild, StaysInCode};
+ghost use Rattle.qpu_law.specs.Samples.{StartsStand};
 ghost use Rattle.qpu_law.specs.Thread.{ThreadsKeep};
 
 /// No instruction of a checked shader is wild, where the thread's marks say what it executed and its setup words are as many as
@@ -20,4 +21,9 @@ pub fn stays_in_code()
 /// known, its setup words are the stream's, and each fact of the rules is true of its registers.
 pub fn threads_keep()
     ensures { ThreadsKeep }
+{}
+
+/// A program begins as such a thread, where it is started at the shader's code, with its stream, and as threaded as it is.
+pub fn starts_stand()
+    ensures { StartsStand }
 {}
