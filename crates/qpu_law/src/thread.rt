@@ -1,6 +1,6 @@
 //! One instruction of a thread.
 ghost use Rattle.qpu_law.specs.Home.{NeverWild, StaysInCode};
-ghost use Rattle.qpu_law.specs.Samples.{StartsStand};
+ghost use Rattle.qpu_law.specs.Samples.{AsksAreFine, StartsStand};
 ghost use Rattle.qpu_law.specs.Thread.{ThreadsKeep};
 
 /// No instruction of a checked shader is wild, where the thread's marks say what it executed and its setup words are as many as
@@ -26,4 +26,11 @@ pub fn threads_keep()
 /// A program begins as such a thread, where it is started at the shader's code, with its stream, and as threaded as it is.
 pub fn starts_stand()
     ensures { StartsStand }
+{}
+
+/// What an instruction of such a thread asks a TMU for is fine: a direct request reads at addresses that a clamp keeps in the
+/// buffer of its sample, and a texture's setup words are the stream's at that sample's positions. Each sample is one of the
+/// shader's, as emission places it.
+pub fn asks_are_fine()
+    ensures { AsksAreFine }
 {}
