@@ -1,9 +1,9 @@
 -- Where a thread comes to a target, its count is an address word's, or no more uniforms are taken.
-use Rattle.std.proofs.Common.{◌≡◌, ◌<◌, ◌≤◌, inl, inr, ◌⊎◌, ℕ, zero, suc, ◌+◌, ◌-◌, Bool, true, false, ◌&&◌, ◌||◌, not, List, [], length, refl, sym, ap, subst, arith, ◌∙◌, nat_lt, nat_le, ◌==◌, if◌then◌else◌}
-use Rattle.std.proofs.lemmas.Bool.{cases_Bool, cases_lt, cases_eq, and_from, and_left, and_right, le-ltb, lt-ltb, ltb-true, false_from_ne_true, true≢false, or_from, leb-true}
+use Rattle.std.proofs.Common.{◌≡◌, ◌<◌, ◌≤◌, inl, inr, ◌⊎◌, ℕ, zero, suc, ◌+◌, ◌-◌, Bool, true, false, ◌&&◌, not, List, length, refl, sym, ap, subst, arith, ◌∙◌, nat_lt, nat_le, ◌==◌}
+use Rattle.std.proofs.lemmas.Bool.{cases_Bool, cases_eq, and_from, and_right, lt-ltb, false_from_ne_true, true≢false, or_from, leb-true}
 use Rattle.qpu_isa.specs.Terms.{is_backward, is_address_write}
-use Rattle.shader_flow.specs.Bounded.{some_below, some_in, is_back}
-use Rattle.shader_flow.specs.Flow.{word, checked_of, is_target, end_of}
+use Rattle.shader_flow.specs.Bounded.{some_in, is_back}
+use Rattle.shader_flow.specs.Flow.{word, checked_of, is_target}
 use Rattle.shader_flow.specs.Pending.{count_of, takes, pending_of}
 use Rattle.qpu_isa.specs.Setups.{takes_with}
 use Rattle.shader_flow.proofs.Bounded.{some_below_here, some_below_found, some_in_none, some_in_not}
@@ -15,7 +15,7 @@ use Rattle.uniform_stream.proofs.Restarts.{known_not, known_on}
 use Rattle.shader_check.proofs.Clean.{clean}
 use Rattle.shader_check.proofs.SoundInfo.{address_takes}
 use Rattle.qpu_law.specs.Home.{HasNoFault}
-use Rattle.qpu_law.specs.Stream.{IsWritten, IsLast, IsAddressCount, TakesNone, GoesForward}
+use Rattle.qpu_law.specs.Stream.{IsAddressCount, TakesNone, GoesForward}
 use Rattle.qpu_law.proofs.Rules.{fine_at}
 use Rattle.qpu_law.proofs.Going.{behind, both, not_of}
 

@@ -1,12 +1,10 @@
 -- What one instruction leaves alone, field by field.
-use Rattle.std.proofs.Common.{◌≡◌, ℕ, ◌+◌, ◌%◌, ◌^◌, List, refl}
+use Rattle.std.proofs.Common.{◌≡◌, ℕ, ◌+◌, List, refl}
 use Rattle.std.specs.Prelude.{unwrap_or}
 use Rattle.qpu_isa.specs.Setups.{kept}
-use Rattle.qpu_machine.specs.declared.state.Fate.{Fate}
-use Rattle.qpu_machine.specs.declared.state.Mark.{Mark}
 use Rattle.qpu_machine.specs.declared.state.Thread.{Thread}
 use Rattle.qpu_machine.specs.Operands.{add_row, mul_row}
-use Rattle.qpu_machine.specs.Writes.{awake, past_uniform, written_at, added, multiplied, written, stored, loaded, went_on, worked, led_to, fate_of, rested, asked, pointer_after, add_address, mul_address}
+use Rattle.qpu_machine.specs.Writes.{awake, written_at, added, multiplied, written, stored, loaded, went_on, worked, led_to, fate_of, rested, asked, pointer_after, add_address, mul_address}
 use Rattle.qpu_machine.specs.Row.{mask_of}
 use Rattle.qpu_isa.specs.Word.{cond_add_of, cond_mul_of}
 use Rattle.qpu_machine.specs.Step.{executed_with, executed}

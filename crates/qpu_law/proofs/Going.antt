@@ -1,11 +1,11 @@
 -- Where a thread goes, and what its marks say then.
 use Rattle.std.proofs.Common.{◌≡◌, ◌≢◌, ◌<◌, ◌≤◌, inl, inr, ◌⊎◌, ℕ, zero, suc, ◌+◌, ◌-◌, ◌*◌, ◌/◌, ◌%◌, ◌^◌, Bool, true, false, ◌&&◌, ◌||◌, ◌==◌, not, List, [], ◌∷◌, length, Option, Some, None, refl, sym, ap, subst, arith, ◌∙◌, nat_lt, nat_le, if◌then◌else◌}
-use Rattle.std.specs.Prelude.{unwrap_or, slice_index}
-use Rattle.std.proofs.lemmas.Bool.{or_from, or_parts, and_from, and_left, and_right, and_cases, le-leb, or_left, or_right, or_cases, cases_Bool, cases_eq, eqb-true, false_from_ne_true, true≢false}
+use Rattle.std.specs.Prelude.{unwrap_or}
+use Rattle.std.proofs.lemmas.Bool.{and_from, le-leb, or_left, or_right, or_cases, cases_Bool, eqb-true, false_from_ne_true, true≢false}
 use Rattle.std.proofs.lemmas.Grind.{common_steps}
 use Rattle.qpu_isa.specs.Word.{imm_of, cond_of, relative_of, register_of}
 use Rattle.qpu_isa.specs.Terms.{is_branch, is_switch, is_end, is_address_write, target_of}
-use Rattle.shader_flow.specs.Bounded.{is_back, some_below}
+use Rattle.shader_flow.specs.Bounded.{is_back}
 use Rattle.shader_flow.specs.Flow.{word, end_of, checked_of, in_slots, is_target, makes_target, is_sound_branch, leads_outside}
 use Rattle.shader_flow.specs.Rules.{s4, s5, s6, s7, s8, s9, s13}
 use Rattle.shader_flow.proofs.Bounded.{some_below_here, some_below_found}
@@ -15,7 +15,7 @@ use Rattle.qpu_machine.specs.declared.state.Mark.{Mark}
 use Rattle.qpu_machine.specs.declared.state.Thread.{Thread}
 use Rattle.qpu_machine.specs.declared.state.Fate.TheVariants.{Ends, Switches, GoesOn}
 use Rattle.qpu_machine.specs.Writes.{led_to, fate_of}
-use Rattle.qpu_law.specs.Home.{Home, HasNoFault, IsQuiet, IsExact, IsRoot, IsBlank, MarkIs, IsAt, Jumps, Lands, GoesTo, done, StaysInCode}
+use Rattle.qpu_law.specs.Home.{Home, HasNoFault, IsQuiet, IsExact, IsRoot, IsBlank, MarkIs, IsAt, GoesTo, done, StaysInCode}
 use Rattle.qpu_law.proofs.Rules.{IsFineAt, fine_at, in_checked, checked_is, end_inside}
 use Rattle.qpu_law.proofs.Frames.{IsWent, is_went, fate_is}
 

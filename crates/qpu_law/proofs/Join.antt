@@ -1,14 +1,13 @@
 -- A step of a thread keeps what is known of it.
-use Rattle.std.proofs.Common.{◌≡◌, ◌≢◌, ◌<◌, ◌≤◌, inl, inr, ◌⊎◌, ℕ, zero, suc, ◌+◌, ◌-◌, ◌*◌, ◌%◌, ◌^◌, Bool, true, false, ◌&&◌, ◌||◌, ◌==◌, not, Option, Some, None, List, [], length, refl, sym, ap, subst, arith, ◌∙◌, nat_lt, nat_le, if◌then◌else◌}
+use Rattle.std.proofs.Common.{◌≡◌, ◌≢◌, ◌<◌, inl, inr, ◌⊎◌, ℕ, ◌+◌, ◌*◌, ◌%◌, ◌^◌, Bool, true, false, ◌&&◌, ◌||◌, Some, List, length, refl, sym, ap, subst, arith, ◌∙◌, nat_lt, if◌then◌else◌}
 use Rattle.std.specs.Prelude.{slice_index}
 use Rattle.std.specs.Int.{from_le_bytes, w64}
-use Rattle.std.proofs.lemmas.Bool.{cases_Bool, and_from, lt-ltb, true≢false}
+use Rattle.std.proofs.lemmas.Bool.{and_from, lt-ltb, true≢false}
 use Rattle.field_words.specs.Words.{u32_at}
-use Rattle.field_words.specs.declared.access.Access.{Access}
 use Rattle.qpu_isa.specs.declared.inst.Reg.{Reg}
 use Rattle.qpu_isa.specs.Word.{add_a_of}
 use Rattle.qpu_isa.specs.Terms.{is_address_write, is_add_with_uniform, first_register, operand_register, passes}
-use Rattle.shader_flow.specs.Flow.{word, checked_of, is_target, end_of}
+use Rattle.shader_flow.specs.Flow.{word, checked_of, end_of}
 use Rattle.shader_flow.specs.Pending.{count_of, takes}
 use Rattle.shader_flow.proofs.Ends.{checked_of-le}
 use Rattle.uniform_stream.specs.Stream.{uniforms_of, writes_address}
@@ -20,26 +19,27 @@ use Rattle.shader_check.proofs.SoundInfo.{address_takes, count_total, total_le}
 use Rattle.machine_plan.specs.declared.who.Who.{Who}
 use Rattle.machine_plan.specs.Memory.{bytes_at}
 use Rattle.machine_plan.specs.Plan.{Plan, Done, Wilds, Reads, Keeps}
-use Rattle.machine_plan.specs.Regions.{Inside, Rights, IsSafeIn}
+use Rattle.machine_plan.specs.Regions.{Interval, Inside, Rights, IsSafeIn}
 use Rattle.qpu_machine.specs.declared.state.Thread.{Thread}
-use Rattle.qpu_machine.specs.declared.state.Fate.TheVariants.{Ends}
+use Rattle.qpu_machine.specs.declared.state.Fate.TheVariants.{Ends, Switches}
 use Rattle.qpu_machine.specs.Operands.{operand, add_row}
 use Rattle.qpu_machine.specs.Step.{ThreadTurn, executed, word_plan, thread_plan}
 use Rattle.qpu_machine.specs.Wild.{takes_one, is_wild}
-use Rattle.qpu_machine.specs.Writes.{awake, past_uniform, fate_of}
-use Rattle.qpu_law.specs.Home.{Home, HasNoFault, IsAt, ArePending, Lands, GoesTo, readied, done}
+use Rattle.qpu_machine.specs.Writes.{awake, past_uniform, switches}
+use Rattle.qpu_law.specs.Home.{Home, HasNoFault, IsAt, ArePending, Lands, readied, done}
 use Rattle.qpu_law.specs.Stream.{uniform_at, AreSetups}
 use Rattle.qpu_law.specs.Facts.{FactsHold}
-use Rattle.qpu_law.specs.Thread.{IsHome, IsThread, Stands, Left, ThreadsKeep}
-use Rattle.qpu_law.proofs.Frames.{fate_is}
+use Rattle.qpu_law.specs.Thread.{IsHome, IsThread, HasSamples, Stands, Left, ThreadsKeep}
+use Rattle.qpu_law.proofs.Frames.{fate_is, is_went}
 use Rattle.qpu_law.proofs.Going.{both, ends, stays_in_code_law}
 use Rattle.qpu_law.proofs.Keeping.{carried_operand, immediate_found, facts_on, facts_jump}
-use Rattle.qpu_law.proofs.Pointer.{Fetches, IsPast, uniform_is, exact_at, added_at, pointer_goes, IsAdded}
+use Rattle.qpu_law.proofs.Pointer.{IsPast, uniform_is, exact_at, added_at, pointer_goes}
 use Rattle.qpu_law.proofs.Reading.{read_safe}
 use Rattle.qpu_law.proofs.Rules.{checked_is, in_checked}
 use Rattle.qpu_law.proofs.Setups.{are_pending, setups_on, setups_jump}
 use Rattle.qpu_law.proofs.Sums.{sum_lane}
-use Rattle.qpu_law.proofs.Values.{rows_on}
+use Rattle.qpu_law.proofs.Values.{rows_on, fresh_is}
+use Rattle.qpu_law.proofs.Samples.{asks_are_fine_law}
 use Rattle.qpu_law.proofs.Wild.{never_wild, takes_same}
 
 -- What an exact address write is made of.
@@ -119,43 +119,51 @@ stands_after h m rights n u p words t home is taken past lives =
       };
     }
 
+fresh_by : (w u p : ℕ) (words : List ℕ) (t : Thread) → (done w u p words t).leaves.fate ≡ Switches → (done w u p words t).thread.fresh ≡ true
+fresh_by w u p words t is = fresh_is w u p words t ∙ ap (λ f. switches f || false) (sym (fate_is w u p words t) ∙ is)
+
+left : (h : Home) (buffers : List Interval) (m : List ℕ) (rights : Rights) (n u p : ℕ) (words : List ℕ) (t : Thread) → IsHome m rights.region h → HasSamples buffers h → IsThread h n t
+    → (takes h.code n ≡ true → u ≡ uniform_at h n) → IsPast h n p t → Left h buffers t m m (done (word h.code n) u p words t)
+left h buffers m rights n u p words t home has is taken past =
+    let went = is_went (word h.code n) u p words t in
+    record {
+      memory = refl;
+      stands = stands_after h m rights n u p words t home is taken past;
+      asks = asks_are_fine_law h buffers rights.region m n u p words t home has is taken;
+      job = went.job;
+      threaded = went.threaded;
+      rests = fresh_by (word h.code n) u p words t;
+    }
+
 -- the two ways to go on
-taken_keeps : (h : Home) (m : List ℕ) (rights : Rights) (n : ℕ) (words : List ℕ) (t : Thread) (who : Who) → IsHome m rights.region h → IsThread h n t → takes h.code n ≡ true
-    → Keeps who (Inside rights.region) (IsSafeIn rights) (λ k turn. Left h m k turn) (Reads t.uniforms 4 (λ bytes. Done (executed (word h.code n) (u32_at bytes 0) words (awake words (past_uniform t))))) m
+taken_keeps : (h : Home) (buffers : List Interval) (m : List ℕ) (rights : Rights) (n : ℕ) (words : List ℕ) (t : Thread) (who : Who) → IsHome m rights.region h → HasSamples buffers h → IsThread h n t → takes h.code n ≡ true
+    → Keeps who (Inside rights.region) (IsSafeIn rights) (λ k turn. Left h buffers t m k turn) (Reads t.uniforms 4 (λ bytes. Done (executed (word h.code n) (u32_at bytes 0) words (awake words (past_uniform t))))) m
 unfolding past_uniform
-taken_keeps h m rights n words t who home is takes_it =
+taken_keeps h buffers m rights n words t who home has is takes_it =
     let fetch = uniform_is h n t home.sound home.addresses is.pointer takes_it in
     let value : u32_at (bytes_at m t.uniforms 4) 0 ≡ uniform_at h n =
     ap (λ q. u32_at (bytes_at m q 4) 0) fetch.is ∙ (home.stream_is fetch.at fetch.below ∙ fetch.same) in (
       read_safe rights who t.uniforms 4 (subst (λ q. Inside rights.region q 4) (sym fetch.is) (home.stream_in fetch.at fetch.below)),
-      record {
-        memory = refl;
-        stands = λ lives.
-            stands_after h m rights n (u32_at (bytes_at m t.uniforms 4) 0) ((t.uniforms + 4) % 2 ^ 32) words t home is (λ again. value)
-            (record { taken = λ again. refl; untaken = λ none. absurd (true≢false (sym takes_it ∙ none)) }) lives;
-      },
+      left h buffers m rights n (u32_at (bytes_at m t.uniforms 4) 0) ((t.uniforms + 4) % 2 ^ 32) words t home has is (λ again. value)
+          (record { taken = λ again. refl; untaken = λ none. absurd (true≢false (sym takes_it ∙ none)) }),
     )
 
-untaken_keeps : (h : Home) (m : List ℕ) (rights : Rights) (n : ℕ) (words : List ℕ) (t : Thread) (who : Who) → IsHome m rights.region h → IsThread h n t → takes h.code n ≡ false
-    → Keeps who (Inside rights.region) (IsSafeIn rights) (λ k turn. Left h m k turn) (Done (executed (word h.code n) 0 words (awake words t))) m
-untaken_keeps h m rights n words t who home is untaken =
-    record {
-      memory = refl;
-      stands = λ lives.
-          stands_after h m rights n 0 t.uniforms words t home is (λ again. absurd (true≢false (sym again ∙ untaken)))
-          (record { taken = λ again. absurd (true≢false (sym again ∙ untaken)); untaken = λ none. refl }) lives;
-    }
+untaken_keeps : (h : Home) (buffers : List Interval) (m : List ℕ) (rights : Rights) (n : ℕ) (words : List ℕ) (t : Thread) (who : Who) → IsHome m rights.region h → HasSamples buffers h → IsThread h n t → takes h.code n ≡ false
+    → Keeps who (Inside rights.region) (IsSafeIn rights) (λ k turn. Left h buffers t m k turn) (Done (executed (word h.code n) 0 words (awake words t))) m
+untaken_keeps h buffers m rights n words t who home has is untaken =
+    left h buffers m rights n 0 t.uniforms words t home has is (λ again. absurd (true≢false (sym again ∙ untaken)))
+    (record { taken = λ again. absurd (true≢false (sym again ∙ untaken)); untaken = λ none. refl })
 
-choice_keeps : (h : Home) (m : List ℕ) (rights : Rights) (n : ℕ) (words : List ℕ) (t : Thread) (who : Who) (b : Bool) → IsHome m rights.region h → IsThread h n t → takes h.code n ≡ b
-    → Keeps who (Inside rights.region) (IsSafeIn rights) (λ k turn. Left h m k turn)
+choice_keeps : (h : Home) (buffers : List Interval) (m : List ℕ) (rights : Rights) (n : ℕ) (words : List ℕ) (t : Thread) (who : Who) (b : Bool) → IsHome m rights.region h → HasSamples buffers h → IsThread h n t → takes h.code n ≡ b
+    → Keeps who (Inside rights.region) (IsSafeIn rights) (λ k turn. Left h buffers t m k turn)
     (if b then Reads t.uniforms 4 (λ bytes. Done (executed (word h.code n) (u32_at bytes 0) words (awake words (past_uniform t)))) else Done (executed (word h.code n) 0 words (awake words t))) m
-choice_keeps h m rights n words t who true home is taken = taken_keeps h m rights n words t who home is taken
-choice_keeps h m rights n words t who false home is untaken = untaken_keeps h m rights n words t who home is untaken
+choice_keeps h buffers m rights n words t who true home has is taken = taken_keeps h buffers m rights n words t who home has is taken
+choice_keeps h buffers m rights n words t who false home has is untaken = untaken_keeps h buffers m rights n words t who home has is untaken
 
-word_keeps : (h : Home) (m : List ℕ) (rights : Rights) (n : ℕ) (words : List ℕ) (t : Thread) (who : Who) → IsHome m rights.region h → IsThread h n t
-    → Keeps who (Inside rights.region) (IsSafeIn rights) (λ k turn. Left h m k turn) (word_plan t (word h.code n) words) m
+word_keeps : (h : Home) (buffers : List Interval) (m : List ℕ) (rights : Rights) (n : ℕ) (words : List ℕ) (t : Thread) (who : Who) → IsHome m rights.region h → HasSamples buffers h → IsThread h n t
+    → Keeps who (Inside rights.region) (IsSafeIn rights) (λ k turn. Left h buffers t m k turn) (word_plan t (word h.code n) words) m
 unfolding word_plan
-word_keeps h m rights n words t who home is =
+word_keeps h buffers m rights n words t who home has is =
     let w = word h.code n in
     let inside : n < checked_of h.code = in_checked h.code n home.sound is.at.inside in
     let pending : ArePending h.code n t = are_pending h n t home.sound (omega (arith, inside)) is.setups in
@@ -163,18 +171,18 @@ word_keeps h m rights n words t who home is =
     let same : takes_one t w ≡ takes h.code n = takes_same h.code n t inside pending in
     let on : Plan ThreadTurn =
     if takes_one t w then Reads t.uniforms 4 (λ bytes. Done (executed w (u32_at bytes 0) words (awake words (past_uniform t)))) else Done (executed w 0 words (awake words t)) in
-    subst (λ b. Keeps who (Inside rights.region) (IsSafeIn rights) (λ k turn. Left h m k turn) (if b then Wilds else on) m) (sym tame)
-    (choice_keeps h m rights n words t who (takes_one t w) home is (sym same))
+    subst (λ b. Keeps who (Inside rights.region) (IsSafeIn rights) (λ k turn. Left h buffers t m k turn) (if b then Wilds else on) m) (sym tame)
+    (choice_keeps h buffers m rights n words t who (takes_one t w) home has is (sym same))
 
 pub threads_keep_law : ThreadsKeep
 unfolding thread_plan
-threads_keep_law h m rights n t who words home is =
+threads_keep_law h buffers m rights n t who words home has is =
     let inside : n < checked_of h.code = in_checked h.code n home.sound is.at.inside in
     let size = checked_of-le h.code in
     let there : n < length h.code = omega (arith, inside, size) in
     let place = is.at.place in
     let read : from_le_bytes w64 (bytes_at m t.place 8) ≡ word h.code n = ap (λ q. from_le_bytes w64 (bytes_at m q 8)) place ∙ home.code_is n there in (
       read_safe rights who t.place 8 (subst (λ q. Inside rights.region q 8) (sym place) (home.code_in n there)),
-      subst (λ w. Keeps who (Inside rights.region) (IsSafeIn rights) (λ k turn. Left h m k turn) (word_plan t w words) m) (sym read)
-          (word_keeps h m rights n words t who home is),
+      subst (λ w. Keeps who (Inside rights.region) (IsSafeIn rights) (λ k turn. Left h buffers t m k turn) (word_plan t w words) m) (sym read)
+          (word_keeps h buffers m rights n words t who home has is),
     )

@@ -1,29 +1,27 @@
 -- Facts on registers, from one instruction to the next.
-use Rattle.std.proofs.Common.{◌≡◌, ◌≢◌, ◌<◌, ◌≤◌, inl, inr, ◌⊎◌, ℕ, zero, suc, ◌+◌, ◌-◌, ◌*◌, ◌%◌, ◌^◌, Bool, true, false, ◌&&◌, ◌||◌, ◌==◌, not, Option, Some, None, List, [], length, refl, sym, ap, subst, arith, ◌∙◌, nat_lt, nat_le, if◌then◌else◌}
+use Rattle.std.proofs.Common.{◌≡◌, ◌≢◌, ◌<◌, ◌≤◌, inl, inr, ℕ, ◌+◌, ◌-◌, Bool, true, false, ◌&&◌, ◌||◌, ◌==◌, not, Option, Some, None, List, refl, sym, ap, subst, arith, ◌∙◌, nat_le, if◌then◌else◌}
 use Rattle.std.specs.Prelude.{slice_index}
-use Rattle.std.proofs.lemmas.Bool.{cases_Bool, cases_eq, and_from, and_left, or_parts, true≢false, eqb-true, le-leb, leb-true, false_from_ne_true, not_from_true, not_from_false}
+use Rattle.std.proofs.lemmas.Bool.{cases_eq, and_from, true≢false, eqb-true, le-leb, leb-true, false_from_ne_true, not_from_false}
 use Rattle.std.proofs.lemmas.Bool.Decides.{nat_tests}
 use Rattle.qpu_isa.specs.declared.inst.Reg.{Reg}
 use Rattle.qpu_isa.specs.Word.{add_a_of, cond_add_of}
-use Rattle.qpu_isa.specs.Terms.{is_end, is_switch, names, is_accumulator, loaded_value, is_max_with_zero, is_min_with_uniform, is_add_with_uniform, is_add_packed, sets_alone, first_register, operand_register, add_names_reg, mul_names_reg, passes}
-use Rattle.qpu_isa.specs.Told.{IsRegister}
-use Rattle.shader_flow.specs.Bounded.{some_in, some_below}
+use Rattle.qpu_isa.specs.Terms.{is_end, is_switch, names, is_accumulator, loaded_value, is_max_with_zero, is_min_with_uniform, is_add_packed, sets_alone, first_register, operand_register, add_names_reg, mul_names_reg, passes}
+use Rattle.shader_flow.specs.Bounded.{some_in}
 use Rattle.shader_flow.specs.Flow.{word, checked_of, is_target}
-use Rattle.shader_flow.specs.Pending.{count_of, takes}
+use Rattle.shader_flow.specs.Pending.{takes}
 use Rattle.shader_flow.proofs.Bounded.{some_in_not, some_in_none, some_below_here, some_below_none, some_below_not}
 use Rattle.clamp_facts.specs.declared.fact.Fact.{Fact}
 use Rattle.clamp_facts.specs.declared.fact.Fact.TheVariants.{Nothing, Immediate, NotNegative, Clamped}
-use Rattle.clamp_facts.specs.Facts.{sets, stays, switches_between, is_delayed, carrier_of, is_max_at, is_not_negative, makes_clamp, made, fact_by, fact_at, is_immediate}
+use Rattle.clamp_facts.specs.Facts.{stays, switches_between, is_delayed, carrier_of, is_max_at, is_not_negative, makes_clamp, made, fact_by, fact_at, is_immediate}
 use Rattle.clamp_facts.specs.Readings.{is_value, value_in}
 use Rattle.clamp_facts.specs.Upkeep.{IsCarrier}
 use Rattle.clamp_facts.proofs.Carriers.{sets_parts, carried_parts, carrier_found, stays_quiet, value_of_made}
 use Rattle.shader_check.proofs.Roles.{reads_takes, min_parts, passed}
 use Rattle.qpu_machine.specs.declared.state.Thread.{Thread}
-use Rattle.qpu_machine.specs.declared.state.Fate.{Fate}
 use Rattle.qpu_machine.specs.declared.state.Fate.TheVariants.{GoesOn, Switches, Ends}
 use Rattle.qpu_machine.specs.Operands.{operand, add_row}
 use Rattle.qpu_machine.specs.Writes.{fate_of, switches}
-use Rattle.qpu_law.specs.Home.{Home, HasNoFault, IsExact, IsBlank, MarkIs, IsAt, readied, done}
+use Rattle.qpu_law.specs.Home.{Home, IsAt, readied, done}
 use Rattle.qpu_law.specs.Stream.{uniform_at}
 use Rattle.qpu_law.specs.Facts.{row_of, HasRows, IsMade, Tells, FactsHold}
 use Rattle.qpu_law.proofs.Going.{both}

@@ -1,15 +1,14 @@
 -- What marks say.
-use Rattle.std.proofs.Common.{◌≡◌, ◌<◌, ◌≤◌, inl, inr, ◌⊎◌, ℕ, zero, suc, ◌+◌, ◌-◌, ◌*◌, ◌%◌, ◌^◌, Bool, true, false, ◌&&◌, ◌||◌, not, List, [], ◌∷◌, length, Option, Some, None, refl, sym, ap, subst, arith, ◌∙◌, nat_lt, nat_le, if◌then◌else◌}
-use Rattle.std.proofs.lemmas.Bool.{or_from, or_parts, and_left, and_right, and_cases, le-leb, true≢false, false_from_ne_true, or_left, or_right}
-use Rattle.std.proofs.lemmas.Grind.{common_steps}
-use Rattle.qpu_isa.specs.Terms.{is_branch, is_switch, is_end, is_address_write}
-use Rattle.shader_flow.specs.Bounded.{is_back, some_below}
-use Rattle.shader_flow.specs.Flow.{word, end_of, in_slots, after_switch, is_target, makes_target, is_sound_branch, leads_outside}
+use Rattle.std.proofs.Common.{◌≡◌, ◌≤◌, inl, inr, ℕ, ◌-◌, Bool, false, ◌&&◌, ◌||◌, List, sym, ap, ◌∙◌}
+use Rattle.std.proofs.lemmas.Bool.{or_from, or_parts, le-leb}
+use Rattle.qpu_isa.specs.Terms.{is_branch, is_switch, is_address_write}
+use Rattle.shader_flow.specs.Bounded.{is_back}
+use Rattle.shader_flow.specs.Flow.{word, in_slots, after_switch}
 use Rattle.uniform_stream.specs.Rules.{after_address_write}
 use Rattle.qpu_machine.specs.declared.state.Mark.{Mark}
 use Rattle.qpu_machine.specs.declared.state.Thread.{Thread}
 use Rattle.qpu_machine.specs.Wild as wild
-use Rattle.qpu_law.specs.Home.{Home, HasNoFault, IsQuiet, IsExact, IsRoot, IsBlank, MarkIs, IsAt}
+use Rattle.qpu_law.specs.Home.{Home, IsQuiet, MarkIs, IsAt}
 
 back_here : (n k : ℕ) (test : ℕ → Bool) → k ≤ n → is_back n k test ≡ false → test (n - k) ≡ false
 unfolding is_back

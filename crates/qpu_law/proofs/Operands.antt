@@ -1,28 +1,25 @@
 -- What an instruction computes with, where a fact stands for its register.
-use Rattle.std.proofs.Common.{◌≡◌, ◌≢◌, ◌<◌, ◌≤◌, inl, inr, ◌⊎◌, ℕ, zero, suc, ◌+◌, ◌-◌, ◌*◌, ◌%◌, ◌^◌, Bool, true, false, ◌&&◌, ◌||◌, ◌==◌, not, Option, Some, None, List, [], length, refl, sym, ap, subst, arith, ◌∙◌, nat_lt, nat_le, if◌then◌else◌}
-use Rattle.std.specs.Prelude.{slice_index, slice_index_or, unwrap_or}
-use Rattle.std.proofs.lemmas.Bool.{cases_Bool, cases_eq, and_from, or_parts, or_cases, true≢false, eqb-true, eqb-false, lt-ltb, ltb-true, false_from_ne_true}
+use Rattle.std.proofs.Common.{◌≡◌, ◌≢◌, ◌<◌, ◌≤◌, inl, inr, ℕ, ◌+◌, ◌-◌, Bool, true, false, ◌&&◌, ◌==◌, not, Option, Some, None, List, [], refl, sym, ap, subst, arith, ◌∙◌, nat_lt, if◌then◌else◌}
+use Rattle.std.specs.Prelude.{slice_index_or}
+use Rattle.std.proofs.lemmas.Bool.{cases_Bool, true≢false, eqb-true, ltb-true}
 use Rattle.std.proofs.lemmas.Bool.Decides.{nat_tests}
-use Rattle.std.proofs.lemmas.Grind.{common_steps}
 use Rattle.qpu_isa.specs.declared.inst.Reg.{Reg}
 use Rattle.qpu_isa.specs.declared.inst.Reg.TheVariants.{A, B, Acc}
-use Rattle.qpu_isa.specs.Word.{sig_of, raddr_a_of, raddr_b_of, add_a_of, add_b_of, op_add_of, imm_of, mode_of}
-use Rattle.qpu_isa.specs.Terms.{is_alu, is_load_imm, has_small, is_plain, is_uniform_operand, operand_register, first_register, names, is_accumulator, loaded_value, is_max_with_zero, is_min_with_uniform, is_add_with_uniform, is_add_packed, sets_alone}
+use Rattle.qpu_isa.specs.Word.{raddr_a_of, raddr_b_of}
+use Rattle.qpu_isa.specs.Terms.{has_small, is_plain, operand_register, names, is_accumulator}
 use Rattle.qpu_isa.specs.Told.{IsRegister}
 use Rattle.shader_flow.specs.Flow.{word, is_target}
 use Rattle.shader_flow.specs.Bounded.{some_in}
 use Rattle.shader_flow.proofs.Bounded.{some_in_not}
-use Rattle.clamp_facts.specs.Facts.{stays, is_delayed, switches_between}
+use Rattle.clamp_facts.specs.Facts.{stays, switches_between}
 use Rattle.clamp_facts.proofs.Carriers.{stays_quiet}
-use Rattle.qpu_alu.specs.Operation.{add_result_of, signed_min, signed_max}
 use Rattle.qpu_machine.specs.declared.state.Thread.{Thread}
-use Rattle.qpu_machine.specs.Operands.{read_a, read_b, small_row, operand, immediate_row, sums, add_row}
+use Rattle.qpu_machine.specs.Operands.{read_a, read_b, small_row, operand}
 use Rattle.qpu_machine.specs.Row.{filled, chosen_row, chosen_rows}
 use Rattle.qpu_machine.specs.Writes.{awake}
-use Rattle.qpu_law.specs.Home.{Home, HasNoFault, IsExact, IsBlank, IsRoot, MarkIs, IsAt, readied}
+use Rattle.qpu_law.specs.Home.{Home, IsAt, readied}
 use Rattle.qpu_law.specs.Facts.{row_of, IsMade}
 use Rattle.qpu_law.proofs.Going.{both}
-use Rattle.qpu_law.proofs.Values.{lane_at}
 
 false_of : (b : Bool) → not b ≡ true → b ≡ false
 false_of true is = absurd (true≢false (sym is))

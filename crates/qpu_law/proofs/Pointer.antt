@@ -1,11 +1,10 @@
 -- Where a thread's uniform pointer stands.
-use Rattle.std.proofs.Common.{◌≡◌, ◌≢◌, ◌<◌, ◌≤◌, inl, inr, ◌⊎◌, ℕ, zero, suc, ◌+◌, ◌-◌, ◌*◌, ◌/◌, ◌%◌, ◌^◌, Bool, true, false, ◌&&◌, ◌||◌, ◌==◌, not, List, [], length, Option, Some, None, refl, sym, ap, subst, arith, ◌∙◌, nat_lt, nat_le, if◌then◌else◌}
+use Rattle.std.proofs.Common.{◌≡◌, ◌<◌, ◌≤◌, inl, inr, ◌⊎◌, ℕ, ◌+◌, ◌-◌, ◌*◌, ◌/◌, ◌%◌, ◌^◌, Bool, true, false, ◌&&◌, ◌==◌, not, List, length, Some, None, refl, sym, ap, subst, arith, ◌∙◌, nat_le, if◌then◌else◌}
 use Rattle.std.specs.Prelude.{slice_index}
-use Rattle.std.proofs.lemmas.Bool.{cases_Bool, and_from, and_left, or_parts, or_from, true≢false, eqb-true, false_from_ne_true, leb-false}
-use Rattle.std.proofs.lemmas.Bool.Decides.{nat_tests}
+use Rattle.std.proofs.lemmas.Bool.{cases_Bool, true≢false, eqb-true, false_from_ne_true, leb-false}
 use Rattle.qpu_isa.specs.Word.{ws_of, waddr_add_of, waddr_mul_of, cond_add_of, cond_mul_of, imm_of}
 use Rattle.qpu_isa.specs.Terms.{is_branch, is_backward, target_of, add_names, mul_names, names_on_a, names_on_b, is_address_write, is_relative_address_write, is_add_packed}
-use Rattle.shader_flow.specs.Flow.{word, checked_of, is_target, end_of}
+use Rattle.shader_flow.specs.Flow.{word, checked_of, is_target}
 use Rattle.shader_flow.specs.Pending.{count_of, takes}
 use Rattle.shader_flow.proofs.Counts.{count_taken, count_same}
 use Rattle.shader_flow.proofs.Ends.{checked_of-le}
@@ -19,13 +18,13 @@ use Rattle.qpu_machine.specs.declared.state.Mark.{Mark}
 use Rattle.qpu_machine.specs.declared.state.Thread.{Thread}
 use Rattle.qpu_machine.specs.Operands.{add_row, mul_row}
 use Rattle.qpu_machine.specs.Row.{has_lane, mask_of}
-use Rattle.qpu_machine.specs.Writes.{pointer_after, add_address, mul_address, led_to}
-use Rattle.qpu_law.specs.Home.{Home, HasNoFault, IsAt, Jumps, Lands, readied, done}
-use Rattle.qpu_law.specs.Stream.{uniform_at, IsWritten, IsLast, IsAddressCount, HoldsAddresses, IsStreamLow, TakesNone, GoesForward, IsRight, IsLost, IsOver, PointerIs}
-use Rattle.qpu_law.proofs.Rules.{fine_at, in_checked, checked_is}
-use Rattle.qpu_law.proofs.Going.{behind, both, branch_room, makes_on, target_inside}
-use Rattle.qpu_law.proofs.Frames.{IsWent, is_went, uniforms_are}
-use Rattle.qpu_law.proofs.Counts.{lost_writes, writes_checked, writes_takes, unknown_next, none_writes, takes_checked, last_word, next_word, NoMore}
+use Rattle.qpu_machine.specs.Writes.{pointer_after, add_address, mul_address}
+use Rattle.qpu_law.specs.Home.{Home, HasNoFault, Lands, readied, done}
+use Rattle.qpu_law.specs.Stream.{uniform_at, IsAddressCount, HoldsAddresses, IsStreamLow, TakesNone, GoesForward, IsRight, IsLost, IsOver, PointerIs}
+use Rattle.qpu_law.proofs.Rules.{fine_at}
+use Rattle.qpu_law.proofs.Going.{behind, both, makes_on}
+use Rattle.qpu_law.proofs.Frames.{is_went, uniforms_are}
+use Rattle.qpu_law.proofs.Counts.{lost_writes, writes_checked, unknown_next, takes_checked, last_word, next_word}
 
 -- What the thread would fetch there is the uniform that its instruction takes.
 pub record Fetches (h : Home) (n pointer : ℕ) : Type 0 where

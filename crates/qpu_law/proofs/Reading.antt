@@ -22,7 +22,7 @@ use Rattle.texture_layouts.proofs.Moved.{texture_moved}
 use Rattle.machine_plan.specs.declared.who.Who.{Who}
 use Rattle.machine_plan.specs.Choice.{word_at}
 use Rattle.machine_plan.specs.Memory.{bytes_at}
-use Rattle.machine_plan.specs.Plan.{Plan, Reads, Wilds, Done, access, Keeps}
+use Rattle.machine_plan.specs.Plan.{Plan, Wilds, access, Keeps}
 use Rattle.machine_plan.specs.Regions.{Every, Interval, LiesIn, Inside, Rights, IsSafeIn}
 use Rattle.machine_plan.proofs.Worlds.{keeps_mapped}
 use Rattle.qpu_machine.specs.declared.state.Ask.{Ask}

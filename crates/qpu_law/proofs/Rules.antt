@@ -1,12 +1,11 @@
 -- What no rule's standing says of a checked instruction.
-use Rattle.std.proofs.Common.{◌≡◌, ◌<◌, ◌≤◌, ℕ, ◌+◌, Bool, true, false, ◌&&◌, ◌||◌, not, List, length, None, refl, sym, ap, subst, arith, ◌∙◌, min}
+use Rattle.std.proofs.Common.{◌≡◌, ◌<◌, ◌≤◌, ℕ, ◌+◌, false, List, length, sym, ap, arith, ◌∙◌}
 use Rattle.field_words.specs.Questions.{first_of, each, answered}
 use Rattle.field_words.proofs.Questions.{none_stands}
-use Rattle.shader_flow.specs.Flow.{end_of, checked_of, is_threaded}
-use Rattle.shader_flow.specs.Bounded.{some_below}
+use Rattle.shader_flow.specs.Flow.{end_of, checked_of}
 use Rattle.shader_flow.specs.Rules.{s3, s4, s5, s6, s7, s8, s9, s10, s11, s12, s13, s27}
 use Rattle.uniform_stream.specs.Rules.{s14, s15, s17, s18, s19, s20, s21, s22, s23, s25}
-use Rattle.shader_check.specs.Rules.{s1, s2, s16, s24, s26, index_questions, questions_at, fault_at, whole_questions, shader_questions}
+use Rattle.shader_check.specs.Rules.{s2, s16, s24, s26, index_questions, questions_at, fault_at, whole_questions, shader_questions}
 use Rattle.shader_check.proofs.Clean.{none_front, none_rest, none_answered, none_each}
 use Rattle.qpu_law.specs.Home.{HasNoFault}
 

@@ -1,46 +1,40 @@
 -- What a thread asks for.
-use Rattle.std.proofs.Common.{◌≡◌, ◌≢◌, ◌<◌, ◌≤◌, inl, inr, ◌⊎◌, ℕ, zero, suc, ◌+◌, ◌-◌, ◌*◌, ◌%◌, ◌^◌, Bool, true, false, ◌&&◌, ◌||◌, ◌==◌, not, Option, Some, None, List, [], ◌∷◌, ◌++◌, map, length, refl, sym, ap, subst, arith, ◌∙◌, nat_lt, nat_le, if◌then◌else◌}
-use Rattle.std.specs.Prelude.{slice_index, slice_index_or, slice_get, unwrap_or}
-use Rattle.std.specs.List.{range_with_len}
+use Rattle.std.proofs.Common.{◌≡◌, ◌<◌, ◌≤◌, inl, inr, ℕ, zero, suc, ◌+◌, ◌-◌, ◌%◌, ◌^◌, Bool, true, false, ◌&&◌, ◌||◌, ◌==◌, not, Option, Some, None, List, [], ◌∷◌, ◌++◌, map, length, refl, sym, ap, subst, arith, ◌∙◌, nat_lt, if◌then◌else◌}
+use Rattle.std.specs.Prelude.{slice_index, slice_get, unwrap_or}
 use Rattle.std.proofs.lemmas.List.{map-append}
-use Rattle.std.proofs.lemmas.List.FromFn.{get_or-map-range_with_len}
-use Rattle.std.proofs.lemmas.Bool.{cases_Bool, and_from, and_right, or_from, or_cases, or_left, or_right, or_parts, lt-ltb, true≢false, eqb-true, eqb-false}
-use Rattle.std.proofs.lemmas.Bool.Decides.{nat_tests}
+use Rattle.std.proofs.lemmas.Bool.{and_from, and_right, or_from, or_cases, or_left, or_right, or_parts, lt-ltb, true≢false}
 use Rattle.field_words.specs.Questions.{first_of}
 use Rattle.qpu_isa.specs.declared.inst.Reg.{Reg}
-use Rattle.qpu_isa.specs.declared.inst.Sample.{Sample}
 use Rattle.qpu_isa.specs.Word.{add_a_of, add_b_of, op_add_of}
 use Rattle.qpu_isa.specs.Terms.{writes_s, s_address, names_address, add_names, mul_names, is_add_with_uniform, is_add_packed, first_register, has_small, is_load_imm, is_alu, is_uniform_operand, operand_register, passes}
 use Rattle.qpu_isa.specs.Setups.{is_direct, adds_direct, muls_direct}
-use Rattle.qpu_isa.specs.Shader.{position}
 use Rattle.shader_flow.specs.Flow.{word, checked_of}
 use Rattle.shader_flow.specs.Pending.{count_of, pending_of, takes}
-use Rattle.clamp_facts.specs.Facts.{is_clamped, clamps, makes_clamp}
+use Rattle.clamp_facts.specs.Facts.{is_clamped}
 use Rattle.clamp_facts.proofs.Clamps.{clamped_found, clamps_parts}
-use Rattle.shader_check.specs.Info.{held, asks, is_sample, sample_tmu, is_direct_sample, clamp_parts, sample_parts, padded, sample_of}
+use Rattle.shader_check.specs.Info.{held, asks, is_sample, sample_tmu, is_direct_sample, clamp_parts, sample_parts, sample_of}
 use Rattle.shader_check.specs.Rules.{s24, direct_by_add, direct_by_mul, is_clamped_write}
 use Rattle.shader_check.proofs.Clean.{clean}
 use Rattle.shader_check.proofs.Parts.{directs}
 use Rattle.shader_check.proofs.Positions.{clamp_parts_one}
-use Rattle.shader_check.proofs.Roles.{direct_parts, clamped_parts, reads_takes, sets_takes, sum_parts, passed}
+use Rattle.shader_check.proofs.Roles.{direct_parts, reads_takes, sets_takes, sum_parts, passed}
 use Rattle.shader_check.proofs.Setups.{sets_one, s_writes}
-use Rattle.emitted_facts.specs.Facts.{word_or_zero, setup, IsSampleIn}
+use Rattle.emitted_facts.specs.Facts.{word_or_zero, setup}
 use Rattle.machine_plan.specs.Regions.{Interval, Every, LiesIn}
 use Rattle.machine_plan.specs.Choice.{word_at}
 use Rattle.texture_layouts.specs.Fits.{texture_questions}
 use Rattle.qpu_alu.specs.Operation.{add_result_of}
-use Rattle.qpu_machine.specs.declared.state.Ask.{Ask}
 use Rattle.qpu_machine.specs.declared.state.Ask.TheVariants.{Direct, Texture}
 use Rattle.qpu_machine.specs.declared.state.Asked.{Asked}
 use Rattle.qpu_machine.specs.declared.state.Thread.{Thread}
 use Rattle.qpu_machine.specs.Operands.{operand, immediate_row, sums, add_row, mul_row}
 use Rattle.qpu_machine.specs.Row.{lanes, chosen_row}
 use Rattle.qpu_machine.specs.Writes.{four, ask_of, asked, awake}
-use Rattle.qpu_law.specs.Asks.{IsWordIn, IsTextureIn, IsAskIn, IsFineAsk, IsOneOf}
-use Rattle.qpu_law.specs.Home.{Home, HasNoFault, readied, done}
-use Rattle.qpu_law.specs.Stream.{uniform_at, held_words, AreSetups}
-use Rattle.qpu_law.specs.Thread.{IsHome, IsThread}
-use Rattle.qpu_law.specs.Samples.{HasSamples, AsksAreFine}
+use Rattle.qpu_law.specs.Asks.{IsWordIn, IsFineAsk, IsOneOf}
+use Rattle.qpu_law.specs.Home.{Home, readied}
+use Rattle.qpu_law.specs.Stream.{uniform_at, held_words}
+use Rattle.qpu_law.specs.Thread.{IsHome, IsThread, HasSamples}
+use Rattle.qpu_law.specs.Samples.{AsksAreFine}
 use Rattle.qpu_law.proofs.Frames.{asked_is}
 use Rattle.qpu_law.proofs.Going.{both}
 use Rattle.qpu_law.proofs.Keeping.{carried_operand}

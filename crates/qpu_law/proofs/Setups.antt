@@ -1,14 +1,14 @@
 -- The setup words that a thread keeps.
-use Rattle.std.proofs.Common.{◌≡◌, ◌<◌, ◌≤◌, inl, inr, ◌⊎◌, ℕ, zero, suc, ◌+◌, ◌-◌, Bool, true, false, ◌&&◌, ◌||◌, List, [], ◌∷◌, ◌++◌, length, map, refl, sym, ap, subst, arith, ◌∙◌, nat_lt, if◌then◌else◌}
+use Rattle.std.proofs.Common.{◌≡◌, ◌<◌, ◌≤◌, ℕ, zero, suc, ◌+◌, ◌-◌, Bool, true, false, ◌||◌, List, [], ◌∷◌, ◌++◌, length, map, refl, sym, ap, subst, arith, ◌∙◌, nat_lt, if◌then◌else◌}
 use Rattle.std.proofs.lemmas.List.{map-append, length-map}
-use Rattle.std.proofs.lemmas.Bool.{or_parts, cases_Bool, or_left, or_right, true≢false}
-use Rattle.qpu_isa.specs.Terms.{writes_s, writes_tmu, is_branch, target_of}
-use Rattle.qpu_isa.specs.Setups.{kept, is_direct}
+use Rattle.std.proofs.lemmas.Bool.{or_parts}
+use Rattle.qpu_isa.specs.Terms.{writes_s, writes_tmu}
+use Rattle.qpu_isa.specs.Setups.{kept}
 use Rattle.shader_flow.specs.Flow.{word, checked_of, is_target}
-use Rattle.shader_flow.specs.Pending.{pending_of, count_of, takes}
+use Rattle.shader_flow.specs.Pending.{pending_of, takes}
 use Rattle.uniform_stream.specs.Rules.{s25}
 use Rattle.shader_check.specs.Info.{held}
-use Rattle.shader_check.proofs.Clean.{IsClean, clean}
+use Rattle.shader_check.proofs.Clean.{clean}
 use Rattle.shader_check.proofs.Positions.{held_next}
 use Rattle.shader_check.proofs.Held.{held_is}
 use Rattle.shader_check.proofs.Setups.{sets_one, not_sent}

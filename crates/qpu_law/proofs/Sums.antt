@@ -1,10 +1,10 @@
 -- What the add unit comes to, where a rule looks at it.
-use Rattle.std.proofs.Common.{◌≡◌, ◌≢◌, ◌<◌, ◌≤◌, inl, inr, ◌⊎◌, ℕ, zero, suc, ◌+◌, ◌-◌, ◌*◌, ◌%◌, ◌^◌, Bool, true, false, ◌&&◌, ◌||◌, ◌==◌, not, Option, Some, None, List, [], length, refl, sym, ap, subst, arith, ◌∙◌, nat_lt, nat_le, if◌then◌else◌}
+use Rattle.std.proofs.Common.{◌≡◌, ◌<◌, ◌≤◌, inl, inr, ◌⊎◌, ℕ, ◌+◌, ◌%◌, ◌^◌, Bool, true, false, ◌&&◌, ◌||◌, ◌==◌, not, Some, None, List, refl, sym, ap, subst, arith, ◌∙◌, if◌then◌else◌}
 use Rattle.std.specs.Prelude.{slice_index, unwrap_or}
-use Rattle.std.proofs.lemmas.Bool.{cases_Bool, or_cases, true≢false, eqb-true}
+use Rattle.std.proofs.lemmas.Bool.{or_cases, true≢false, eqb-true}
 use Rattle.std.proofs.lemmas.Bool.Decides.{nat_tests}
 use Rattle.std.proofs.lemmas.List.{get_or-replicate}
-use Rattle.qpu_isa.specs.Word.{sig_of, raddr_a_of, raddr_b_of, add_a_of, add_b_of, op_add_of, imm_of, mode_of}
+use Rattle.qpu_isa.specs.Word.{raddr_a_of, raddr_b_of, add_a_of, add_b_of, op_add_of, imm_of, mode_of}
 use Rattle.qpu_isa.specs.Terms.{is_alu, is_load_imm, has_small, is_plain, is_uniform_operand, loaded_value, is_max_with_zero, is_min_with_uniform, is_add_with_uniform, is_add_packed}
 use Rattle.qpu_alu.specs.Operation.{add_result_of, signed_min, signed_max}
 use Rattle.qpu_alu.proofs.Order.{signed_max_zero, signed_max_zero_first, signed_min-upto}

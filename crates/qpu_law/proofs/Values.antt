@@ -1,5 +1,5 @@
 -- What a register holds after an instruction.
-use Rattle.std.proofs.Common.{◌≡◌, ◌≢◌, ◌<◌, ◌≤◌, inl, inr, ◌⊎◌, ℕ, zero, suc, ◌+◌, ◌-◌, ◌%◌, ◌^◌, Bool, true, false, ◌&&◌, ◌||◌, ◌==◌, not, Option, List, [], length, get_or, set, refl, sym, ap, subst, arith, ◌∙◌, nat_lt, nat_le, if◌then◌else◌}
+use Rattle.std.proofs.Common.{◌≡◌, ◌≢◌, ◌<◌, inl, inr, ℕ, ◌+◌, ◌-◌, Bool, true, false, ◌&&◌, ◌||◌, ◌==◌, not, Option, List, [], length, refl, sym, ap, arith, ◌∙◌, nat_lt, nat_le, if◌then◌else◌}
 use Rattle.std.specs.Prelude.{slice_index, slice_index_or, slice_set}
 use Rattle.std.proofs.lemmas.Bool.{cases_Bool, and_from, or_parts, true≢false, eqb-true, eqb-false, lt-ltb, le-leb, agree_below_at}
 use Rattle.std.proofs.lemmas.Grind.{common_steps}
@@ -8,14 +8,14 @@ use Rattle.std.proofs.lemmas.List.{length-set, get_or-set_same, get_or-set_other
 use Rattle.std.proofs.lemmas.List.FromFn.{get_or-map-range_with_len}
 use Rattle.qpu_isa.specs.declared.inst.Reg.{Reg}
 use Rattle.qpu_isa.specs.declared.inst.Reg.TheVariants.{A, B, Acc}
-use Rattle.qpu_isa.specs.Word.{ws_of, waddr_add_of, waddr_mul_of, cond_add_of, cond_mul_of, sig_of}
-use Rattle.qpu_isa.specs.Terms.{is_branch, add_names, mul_names, add_names_reg, mul_names_reg, names, is_accumulator, sets_alone, is_add_packed}
+use Rattle.qpu_isa.specs.Word.{ws_of, waddr_add_of, waddr_mul_of, cond_add_of, cond_mul_of}
+use Rattle.qpu_isa.specs.Terms.{is_branch, add_names, mul_names, add_names_reg, mul_names_reg, names, sets_alone, is_add_packed}
 use Rattle.qpu_isa.specs.Told.{IsRegister}
 use Rattle.qpu_machine.specs.declared.state.Thread.{Thread}
 use Rattle.qpu_machine.specs.Operands.{add_row, mul_row}
 use Rattle.qpu_machine.specs.Row.{lanes, has_lane, merged, mask_of, chosen_row, chosen_rows}
 use Rattle.qpu_machine.specs.Step.{executed, executed_with}
-use Rattle.qpu_machine.specs.Writes.{awake, file_after, acc_after, add_address, mul_address, written_at, added, multiplied, written, stored, loaded, r4_after, loads, loaded_row, went_on, worked, rested, fate_of, switches}
+use Rattle.qpu_machine.specs.Writes.{awake, file_after, acc_after, add_address, mul_address, written_at, added, multiplied, written, stored, loaded, r4_after, went_on, worked, rested, fate_of, switches}
 use Rattle.qpu_law.specs.Home.{readied, done}
 use Rattle.qpu_law.specs.Facts.{row_of, HasRows}
 

@@ -1,15 +1,15 @@
 -- No instruction of a checked shader is wild.
-use Rattle.std.proofs.Common.{◌≡◌, ◌<◌, ◌≤◌, ◌⊎◌, ℕ, ◌+◌, Bool, true, false, ◌&&◌, ◌||◌, not, List, length, refl, sym, ap, subst, arith, ◌∙◌, nat_le, nat_lt}
-use Rattle.std.proofs.lemmas.Bool.{or_from, or_parts, and_left, and_right, cases_Bool, lt-ltb}
-use Rattle.qpu_isa.specs.Word.{sig_of, mode_of, relative_of, register_of}
-use Rattle.qpu_isa.specs.Terms.{is_branch, is_switch, is_load_imm, is_address_write, is_relative_address_write, names_forbidden, has_two_tmu_writes, has_conditional_tmu_write, writes_tmu, reads_upper, names_upper}
+use Rattle.std.proofs.Common.{◌≡◌, ◌<◌, ℕ, ◌+◌, Bool, true, false, ◌&&◌, ◌||◌, not, List, length, refl, sym, ap, ◌∙◌, nat_le, nat_lt}
+use Rattle.std.proofs.lemmas.Bool.{or_from, or_parts, lt-ltb}
+use Rattle.qpu_isa.specs.Word.{relative_of, register_of}
+use Rattle.qpu_isa.specs.Terms.{is_branch, is_switch, is_address_write, is_relative_address_write, names_forbidden, has_two_tmu_writes, has_conditional_tmu_write, writes_tmu, reads_upper, names_upper}
 use Rattle.qpu_isa.specs.Setups.{takes_with}
 use Rattle.shader_flow.specs.Bounded.{some_below}
 use Rattle.shader_flow.specs.Flow.{word, end_of, checked_of, in_slots, after_switch, is_threaded}
-use Rattle.shader_flow.specs.Rules.{s3, s4, s5, s6, s7, s8, s9, s10, s11, s12, s13, s27}
+use Rattle.shader_flow.specs.Rules.{s3, s4, s5, s6, s11, s12, s13, s27}
 use Rattle.shader_flow.specs.Pending.{pending_of, takes}
 use Rattle.shader_flow.proofs.Bounded.{some_below_not, some_below_here}
-use Rattle.uniform_stream.specs.Rules.{s14, s15, s17, s18, s20, s21, s22, is_full, after_address_write}
+use Rattle.uniform_stream.specs.Rules.{s14, s15, s18, s20, s21, s22, is_full, after_address_write}
 use Rattle.shader_check.specs.Rules.{s26, uses_upper}
 use Rattle.qpu_machine.specs.declared.state.Thread.{Thread}
 use Rattle.qpu_machine.specs.Wild as wild

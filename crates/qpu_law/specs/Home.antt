@@ -1,5 +1,5 @@
 -- What a thread runs, and what is known before each of its instructions.
-use Rattle.std.specs.Prelude.{◌≡◌, ◌≢◌, ◌≤◌, ◌<◌, ℕ, ◌+◌, ◌-◌, ◌*◌, ◌%◌, ◌^◌, ◌⊎◌, true, false, List, [], length, Option, Some, None, slice_index}
+use Rattle.std.specs.Prelude.{◌≡◌, ◌≢◌, ◌≤◌, ◌<◌, ℕ, ◌+◌, ◌-◌, ◌*◌, ◌%◌, ◌^◌, ◌⊎◌, true, false, List, length, Some, None}
 use Rattle.field_words.specs.Questions.{first_of}
 use Rattle.qpu_isa.specs.Word.{imm_of}
 use Rattle.qpu_isa.specs.Terms.{is_branch, is_switch, is_end, is_address_write, target_of}

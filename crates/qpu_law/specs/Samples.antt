@@ -1,25 +1,16 @@
 -- What a thread asks for: each request is fine.
-use Rattle.std.specs.Prelude.{◌≡◌, ◌≤◌, ◌<◌, ℕ, ◌+◌, ◌%◌, ◌^◌, List, Some, true, slice_index}
-use Rattle.emitted_facts.specs.Facts.{IsSampleIn}
+use Rattle.std.specs.Prelude.{◌≡◌, ℕ, List, Some, true}
 use Rattle.machine_plan.specs.declared.launch.Launch.{Launch}
 use Rattle.machine_plan.specs.Regions.{Interval}
 use Rattle.shader_flow.specs.Flow.{word, is_threaded}
-use Rattle.shader_check.specs.Info.{is_sample, sample_of}
 use Rattle.qpu_machine.specs.declared.state.Asked.{Asked}
 use Rattle.qpu_machine.specs.declared.state.Thread.{Thread}
 use Rattle.qpu_machine.specs.Start.{thread_of}
 use Rattle.qpu_law.specs.Asks.{IsOneOf, IsFineAsk}
 use Rattle.qpu_law.specs.Home.{Home, done}
 use Rattle.qpu_law.specs.Stream.{uniform_at}
-use Rattle.qpu_law.specs.Thread.{IsHome, IsThread}
+use Rattle.qpu_law.specs.Thread.{IsHome, IsThread, HasSamples}
 use Rattle.shader_flow.specs.Pending.{takes}
-
--- Each sample of the shader reads in one of these buffers, which begin at pages and end below 4 GiB; the stream's words are words.
-pub record HasSamples (buffers : List Interval) (h : Home) : Type 0 where
-  pub samples : (n : ℕ) → is_sample h.code n ≡ true → IsSampleIn (IsOneOf buffers) (λ k. slice_index h.words k) (sample_of h.code n)
-  pub page : (place size : ℕ) → IsOneOf buffers place size → place % 4096 ≡ 0
-  pub low : (place size : ℕ) → IsOneOf buffers place size → place + size ≤ 2 ^ 32
-  pub words : (k : ℕ) → slice_index h.words k < 2 ^ 32
 
 -- The law that what such a thread asks for is fine, where the instruction took the stream's uniform.
 abbrev pub AsksAreFine : Type 0

@@ -6,7 +6,7 @@ use Rattle.shader_flow.specs.Pending.{count_of, takes}
 use Rattle.uniform_stream.specs.Stream.{writes_address, is_known, is_open, uniforms_of}
 use Rattle.shader_check.specs.Info.{held}
 use Rattle.qpu_machine.specs.declared.state.Thread.{Thread}
-use Rattle.qpu_law.specs.Home.{Home, Jumps}
+use Rattle.qpu_law.specs.Home.{Home}
 
 -- the uniform that the instruction at n takes
 abbrev pub uniform_at : Home → ℕ → ℕ

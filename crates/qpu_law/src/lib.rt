@@ -8,4 +8,6 @@ mod asks;
 mod thread;
 
 pub use asks::{asks_stay_in, fine_asks_are_safe};
-pub use thread::{asks_are_fine, never_wild, starts_stand, stays_in_code, threads_keep};
+pub use thread::{
+    asks_are_fine, never_wild, results_keep, starts_stand, stays_in_code, threads_keep,
+};

@@ -1,7 +1,7 @@
 //! One instruction of a thread.
 ghost use Rattle.qpu_law.specs.Home.{NeverWild, StaysInCode};
 ghost use Rattle.qpu_law.specs.Samples.{AsksAreFine, StartsStand};
-ghost use Rattle.qpu_law.specs.Thread.{ThreadsKeep};
+ghost use Rattle.qpu_law.specs.Thread.{ResultsKeep, ThreadsKeep};
 
 /// No instruction of a checked shader is wild, where the thread's marks say what it executed and its setup words are as many as
 /// the rules count.
@@ -16,7 +16,7 @@ pub fn stays_in_code()
 {}
 
 /// A step of a thread of a job, whose checked shader and stream stand in memory, is never wild, reads its instruction and its
-/// uniform in the job's region and nothing else, changes no byte, and leaves such a thread or none: it stands at a checked
+/// uniform in the job's region and nothing else, changes no byte, and leaves such a thread or none, and a fine request or none. The thread stands at a checked
 /// instruction, its marks say what it executed, its pointer is where the stream's count says or no uniform is taken where it isn't
 /// known, its setup words are the stream's, and each fact of the rules is true of its registers.
 pub fn threads_keep()
@@ -33,4 +33,9 @@ pub fn starts_stand()
 /// shader's, as emission places it.
 pub fn asks_are_fine()
     ensures { AsksAreFine }
+{}
+
+/// A finished result changes nothing of what is known of a thread.
+pub fn results_keep()
+    ensures { ResultsKeep }
 {}
