@@ -1,3 +1,4 @@
+pub mod Emitting
 pub mod Counts
 pub mod Frames
 pub mod Going

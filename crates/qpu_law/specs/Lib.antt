@@ -4,3 +4,4 @@ pub mod Stream
 pub mod Facts
 pub mod Thread
 pub mod Samples
+pub mod Emitted

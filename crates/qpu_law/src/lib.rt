@@ -9,5 +9,6 @@ mod thread;
 
 pub use asks::{asks_stay_in, fine_asks_are_safe};
 pub use thread::{
-    asks_are_fine, never_wild, results_keep, starts_stand, stays_in_code, threads_keep,
+    asks_are_fine, never_wild, results_keep, starts_stand, stays_in_code, streams_serve,
+    threads_keep,
 };

@@ -1,4 +1,5 @@
 //! One instruction of a thread.
+ghost use Rattle.qpu_law.specs.Emitted.{StreamsServe};
 ghost use Rattle.qpu_law.specs.Home.{NeverWild, StaysInCode};
 ghost use Rattle.qpu_law.specs.Samples.{AsksAreFine, StartsStand};
 ghost use Rattle.qpu_law.specs.Thread.{ResultsKeep, ThreadsKeep};
@@ -38,4 +39,10 @@ pub fn asks_are_fine()
 /// A finished result changes nothing of what is known of a thread.
 pub fn results_keep()
     ensures { ResultsKeep }
+{}
+
+/// A stream that was emitted for a shader serves its threads: each address word is the stream's place, and each sample of an
+/// instruction reads in one of the buffers.
+pub fn streams_serve()
+    ensures { StreamsServe }
 {}
