@@ -1,0 +1,256 @@
+-- What a TMU reads for a request that is fine.
+use Rattle.std.proofs.Common.{◌≡◌, ◌≢◌, ◌≤◌, ◌<◌, ℕ, zero, suc, ◌+◌, ◌-◌, ◌*◌, ◌%◌, ◌^◌, ◌&&◌, ◌||◌, ◌==◌, Bool, true, false, if◌then◌else◌, List, [], ◌∷◌, ◌++◌, Option, Some, None, inl, inr, refl, sym, ap, subst, arith, ◌∙◌, nat_lt}
+use Rattle.std.specs.Prelude.{slice_index}
+use Rattle.std.proofs.lemmas.Bool.{or_from}
+use Rattle.std.proofs.lemmas.Grind.{common_steps}
+use Rattle.field_words.specs.Questions.{first_of}
+use Rattle.field_words.proofs.Questions.{none_stands}
+use Rattle.field_words.specs.declared.access.Access.{Access}
+use Rattle.field_words.specs.declared.access.Way.{Way}
+use Rattle.field_words.specs.declared.access.Way.TheVariants.{Read, Write, Wild}
+use Rattle.field_words.specs.Words.{u32_at}
+use Rattle.texture_layouts.specs.declared.surface.Tiling.{Tiling}
+use Rattle.texture_layouts.specs.declared.surface.Tiling.TheVariants.{Raster, T, Lt}
+use Rattle.field_words.specs.Words.{bits_of}
+use Rattle.texture_layouts.specs.Level.{level_side_of}
+use Rattle.texture_layouts.specs.Setup.{TextureModel, texture_of, is_cube_word, kind_of, cube_stride_of, type_of, pixels_of, side_of, faces_of, face_place, level_width_of, level_height_of, tiling_at, size_at, size_below}
+use Rattle.texture_layouts.specs.Fits.{has_two_strides, lacks_stride, is_unlisted, has_child_image, texture_questions}
+use Rattle.texture_layouts.specs.Fetch.{fetch_offset_of, fetch_size_of, fetch_reach, AreFetchesIn}
+use Rattle.texture_layouts.proofs.Inside.{in_buffer}
+use Rattle.texture_layouts.proofs.Fetches.{fetches_in}
+use Rattle.texture_layouts.proofs.Moved.{texture_moved}
+use Rattle.machine_plan.specs.declared.who.Who.{Who}
+use Rattle.machine_plan.specs.Choice.{word_at}
+use Rattle.machine_plan.specs.Memory.{bytes_at}
+use Rattle.machine_plan.specs.Plan.{Plan, Wilds, access, Keeps}
+use Rattle.machine_plan.specs.Regions.{Every, Interval, LiesIn, Inside, Rights, IsSafeIn}
+use Rattle.machine_plan.proofs.Worlds.{keeps_mapped}
+use Rattle.qpu_machine.specs.declared.state.Ask.{Ask}
+use Rattle.qpu_machine.specs.declared.state.Ask.TheVariants.{Direct, Texture}
+use Rattle.qpu_machine.specs.Request.{direct_plan, ask_plan, offset_in, length_in, offset_at, place_from, place_at, chosen_level, chosen_face, chosen_x, chosen_y, chosen_place, chosen_length, read_at, texture_reads, is_undefined, texture_plan}
+use Rattle.qpu_law.specs.Asks.{IsWordIn, IsTextureIn, IsAskIn, IsFineAsk, IsReadIn, IsOneOf, AsksStayIn, FineAsksAreSafe}
+
+-- A direct request reads at each of its addresses.
+direct_keeps : (within : Interval) (row found : List ℕ) → Every (IsWordIn within) row
+    → (who : Who) (m : List ℕ) (L : ℕ → ℕ → Type 0) (G : Access → Type 0)
+    → ((place len : ℕ) → LiesIn place len within → G (access who Read place len))
+    → Keeps who L G (λ k r. k ≡ m) (direct_plan row found) m
+unfolding direct_plan
+direct_keeps within [] found fine who m L G usable = refl
+direct_keeps within (address ∷ row) found fine who m L G usable =
+    (usable (address - address % 4) 4 fine.0, direct_keeps within row (found ++ (u32_at (bytes_at m (address - address % 4) 4) 0 ∷ [])) fine.1 who m L G usable)
+
+-- What is read of a pixel is what is fetched for it.
+offset_same : (tiling : Tiling) (width cpp x y : ℕ) → offset_in tiling width cpp x y ≡ fetch_offset_of tiling width cpp x y
+unfolding fetch_offset_of
+offset_same Raster width cpp x y = refl
+offset_same T width cpp x y = refl
+offset_same Lt width cpp x y = refl
+
+length_same : (tiling : Tiling) (cpp : ℕ) → length_in tiling cpp ≡ fetch_size_of tiling cpp
+unfolding fetch_size_of
+length_same Raster cpp = refl
+length_same T cpp = refl
+length_same Lt cpp = refl
+
+reach_same : (t : TextureModel) (level face x y : ℕ) → face_place t face + offset_at t level x y ≡ fetch_reach t face level x y
+unfolding fetch_reach offset_at
+reach_same t level face x y = ap (λ o. face_place t face + o) (offset_same (tiling_at t level) (level_width_of t level) t.cpp x y)
+
+-- the read of a pixel that doesn't lie below 0 and ends in the interval
+record IsPixelIn (within : Interval) (place : Option ℕ) (len : ℕ) : Type 0 where
+  at : ℕ
+  is : place ≡ Some at
+  inside : LiesIn at len within
+
+if_in : (reach below : ℕ) (b : Bool) → nat_lt reach below ≡ b → below ≤ reach → (if b then None else Some (reach - below)) ≡ Some (reach - below)
+if_in reach below true is not-below = let over : reach < below = grind (arith, is) in absurd (omega (arith, over))
+if_in reach below false is not-below = refl
+
+place_some : (reach below : ℕ) → below ≤ reach → place_from reach below ≡ Some (reach - below)
+place_some reach below not-below = if_in reach below (nat_lt reach below) refl not-below
+
+-- Where fetches lie in a buffer, and the texture's base counts from the buffer's place, the reads lie in the buffer.
+moved_reach : (t : TextureModel) (place level face x y : ℕ)
+    → fetch_reach (record t { base = t.base + place }) face level x y ≡ fetch_reach t face level x y + place
+unfolding fetch_reach
+moved_reach t place level face x y = omega arith
+
+below_moved : (t : TextureModel) (place n : ℕ) → size_below (record t { base = t.base + place }) n ≡ size_below t n
+unfolding size_below
+below_moved t place zero = refl
+below_moved t place (suc n) = ap (λ b. b + size_at t (n + 1)) (below_moved t place n)
+
+faces_moved : (t : TextureModel) (place : ℕ) → faces_of (record t { base = t.base + place }) ≡ faces_of t
+unfolding faces_of
+faces_moved t place = refl
+
+read_in : (t : TextureModel) (within : Interval) (level face x y : ℕ) → AreFetchesIn t within.size
+    → face < faces_of t → level ≤ t.levels → x < level_width_of t level → y < level_height_of t level
+    → IsPixelIn within (place_at (record t { base = t.base + within.place }) level face x y) (length_in (tiling_at t level) t.cpp)
+unfolding place_at
+read_in t within level face x y fits face_in level_in x_in y_in =
+    let moved = record t { base = t.base + within.place } in
+    let reach : face_place moved face + offset_at moved level x y ≡ fetch_reach t face level x y + within.place =
+    reach_same moved level face x y ∙ moved_reach t within.place level face x y in
+    let below : size_below moved level ≡ size_below t level = below_moved t within.place level in
+    let from = fits.from face level x y face_in level_in x_in y_in in
+    let upto = fits.upto face level x y face_in level_in x_in y_in in
+    let len : length_in (tiling_at t level) t.cpp ≡ fetch_size_of (tiling_at t level) t.cpp = length_same (tiling_at t level) t.cpp in
+    record {
+      at = face_place moved face + offset_at moved level x y - size_below moved level;
+      is = place_some (face_place moved face + offset_at moved level x y) (size_below moved level) (omega (arith, reach, below, from));
+      inside = record { from = omega (arith, reach, below, from); upto = omega (arith, reach, below, from, upto, len) };
+    }
+
+-- The choice words name a level, a face and a pixel that there are.
+below_modulo : (n k : ℕ) → 0 < k → n % k < k
+below_modulo n k some = grind (arith, common_steps, some)
+
+side_some : (side level : ℕ) → 0 < side → 0 < level_side_of side level
+unfolding level_side_of
+side_some side level some = grind (arith, common_steps, some)
+
+faces_some : (t : TextureModel) → 0 < faces_of t
+unfolding faces_of
+faces_some t = grind (arith, common_steps)
+
+-- what is asked of a texture is a texture with both sides
+record HasSides (t : TextureModel) : Type 0 where
+  across : 0 < t.width
+  down : 0 < t.height
+
+pixels_some : (field : ℕ) → 0 < pixels_of field
+unfolding pixels_of
+pixels_some field = grind (arith, common_steps)
+
+side_of_some : (kind field : ℕ) → 0 < side_of kind field
+unfolding side_of
+side_of_some kind field = let some = pixels_some field in grind (arith, common_steps, some)
+
+has_sides : (p0 p1 p2 p3 : ℕ) → HasSides (texture_of p0 p1 p2 p3)
+unfolding texture_of
+has_sides p0 p1 p2 p3 = record { across = side_of_some (type_of p0 p1) (bits_of p1 18 8); down = side_of_some (type_of p0 p1) (bits_of p1 30 20) }
+
+chosen_in : (t : TextureModel) (within : Interval) (words : List ℕ) (m : ℕ) → AreFetchesIn t within.size → HasSides t
+    → IsPixelIn within (chosen_place (record t { base = t.base + within.place }) words m) (chosen_length (record t { base = t.base + within.place }) words m)
+unfolding chosen_place chosen_length chosen_level chosen_face chosen_x chosen_y faces_of
+chosen_in t within words m fits sides =
+    let level = word_at words (4 * m) % (t.levels + 1) in
+    read_in t within level (word_at words (4 * m + 1) % faces_of t)
+    (word_at words (4 * m + 2) % level_width_of t level) (word_at words (4 * m + 3) % level_height_of t level) fits
+    (below_modulo (word_at words (4 * m + 1)) (faces_of t) (faces_some t))
+    (let h = below_modulo (word_at words (4 * m)) (t.levels + 1) (omega arith) in omega (arith, h))
+    (below_modulo (word_at words (4 * m + 2)) (level_width_of t level) (side_some t.width level sides.across))
+    (below_modulo (word_at words (4 * m + 3)) (level_height_of t level) (side_some t.height level sides.down))
+
+read_keeps : {R : Type 0} (within : Interval) (place : Option ℕ) (len : ℕ) (next : Plan R) → IsPixelIn within place len
+    → (who : Who) (m : List ℕ) (L : ℕ → ℕ → Type 0) (G : Access → Type 0) (P : List ℕ → R → Type 0)
+    → ((q n : ℕ) → LiesIn q n within → G (access who Read q n))
+    → Keeps who L G P next m → Keeps who L G P (read_at place len next) m
+read_keeps within None len next read who m L G P usable later = absurd (let e = read.is in cc)
+read_keeps within (Some place) len next read who m L G P usable later =
+    let e = read.is in
+    let same : place ≡ read.at = cc in
+    (usable place len (subst (λ p. LiesIn p len within) (sym same) read.inside), later)
+
+reads_keep : (t : TextureModel) (within : Interval) (words : List ℕ) → AreFetchesIn t within.size → HasSides t
+    → (who : Who) (m : List ℕ) (L : ℕ → ℕ → Type 0) (G : Access → Type 0)
+    → ((q n : ℕ) → LiesIn q n within → G (access who Read q n))
+    → (n k : ℕ) → Keeps who L G (λ k r. k ≡ m) (texture_reads (record t { base = t.base + within.place }) words k n) m
+unfolding texture_reads
+reads_keep t within words fits sides who m L G usable zero k = refl
+reads_keep t within words fits sides who m L G usable (suc n) k =
+    let moved = record t { base = t.base + within.place } in
+    read_keeps within (chosen_place moved words k) (chosen_length moved words k) (texture_reads moved words (k + 1) n)
+    (chosen_in t within words k fits sides) who m L G (λ k r. k ≡ m) usable (reads_keep t within words fits sides who m L G usable n (k + 1))
+
+cube_moves : (source place : ℕ) → place % 4096 ≡ 0 → is_cube_word (source + place) ≡ is_cube_word source
+unfolding is_cube_word
+cube_moves source place page = ap (λ b. b == 1) (omega (arith, page))
+
+-- No rule of textures stands, so nothing of the four words is undefined.
+unlisted_moves : (t : TextureModel) (place : ℕ) → is_unlisted (record t { base = t.base + place }) ≡ is_unlisted t
+unfolding is_unlisted
+unlisted_moves t place = refl
+
+strides_move : (source place p2 p3 : ℕ) → place % 4096 ≡ 0 → has_two_strides (source + place) p2 p3 ≡ has_two_strides source p2 p3
+unfolding has_two_strides
+strides_move source place p2 p3 page = ap (λ c. c && (kind_of p2 == 1 && kind_of p3 == 1)) (cube_moves source place page)
+
+lacks_moves : (source place p2 p3 : ℕ) → place % 4096 ≡ 0 → lacks_stride (source + place) p2 p3 ≡ lacks_stride source p2 p3
+unfolding lacks_stride
+lacks_moves source place p2 p3 page = ap (λ c. c && cube_stride_of p2 p3 == 0) (cube_moves source place page)
+
+defined : (source place p1 p2 p3 size : ℕ) → place % 4096 ≡ 0 → source + place < 2 ^ 32 → first_of (texture_questions source p1 p2 p3 size) ≡ None
+    → is_undefined (source + place) p1 p2 p3 ≡ false
+unfolding is_undefined texture_questions
+defined source place p1 p2 p3 size page word none =
+    let asked = none_stands (texture_questions source p1 p2 p3 size) none in
+    let two : has_two_strides (source + place) p2 p3 ≡ false = strides_move source place p2 p3 page ∙ asked.0 in
+    let lacks : lacks_stride (source + place) p2 p3 ≡ false = lacks_moves source place p2 p3 page ∙ asked.1.0 in
+    let listed : is_unlisted (texture_of (source + place) p1 p2 p3) ≡ false =
+    ap is_unlisted (texture_moved source place p1 p2 p3 page word) ∙ (unlisted_moves (texture_of source p1 p2 p3) place ∙ asked.1.1.0) in
+    let child : has_child_image p2 p3 ≡ false = asked.1.1.1.1.1.0 in
+    or_from (has_two_strides (source + place) p2 p3 || lacks_stride (source + place) p2 p3) (is_unlisted (texture_of (source + place) p1 p2 p3) || has_child_image p2 p3)
+    (or_from (has_two_strides (source + place) p2 p3) (lacks_stride (source + place) p2 p3) two lacks)
+    (or_from (is_unlisted (texture_of (source + place) p1 p2 p3)) (has_child_image p2 p3) listed child)
+
+texture_keeps : (within : Interval) (p0 p1 p2 p3 : ℕ) → IsTextureIn within p0 p1 p2 p3
+    → (who : Who) (words m : List ℕ) (L : ℕ → ℕ → Type 0) (G : Access → Type 0)
+    → ((q n : ℕ) → LiesIn q n within → G (access who Read q n))
+    → Keeps who L G (λ k r. k ≡ m) (texture_plan p0 p1 p2 p3 words) m
+unfolding texture_plan
+texture_keeps within p0 p1 p2 p3 fine who words m L G usable =
+    let t = texture_of fine.source p1 p2 p3 in
+    let word : fine.source + within.place < 2 ^ 32 = subst (λ p. p < 2 ^ 32) fine.base fine.word in
+    let whole : Keeps who L G (λ k r. k ≡ m) (texture_reads (record t { base = t.base + within.place }) words 0 128) m =
+    reads_keep t within words (fetches_in t within.size (in_buffer fine.source p1 p2 p3 within.size fine.rules)) (has_sides fine.source p1 p2 p3) who m L G usable 128 0 in
+    let moved : Keeps who L G (λ k r. k ≡ m) (texture_reads (texture_of (fine.source + within.place) p1 p2 p3) words 0 128) m =
+    subst (λ u. Keeps who L G (λ k r. k ≡ m) (texture_reads u words 0 128) m) (sym (texture_moved fine.source within.place p1 p2 p3 fine.page word)) whole in
+    let tame : Keeps who L G (λ k r. k ≡ m) (texture_plan (fine.source + within.place) p1 p2 p3 words) m =
+    subst (λ b. Keeps who L G (λ k r. k ≡ m) (if b then Wilds else texture_reads (texture_of (fine.source + within.place) p1 p2 p3) words 0 128) m)
+    (sym (defined fine.source within.place p1 p2 p3 within.size fine.page word fine.rules)) moved in
+    subst (λ p. Keeps who L G (λ k r. k ≡ m) (texture_plan p p1 p2 p3 words) m) (sym fine.base) tame
+
+-- over any demands on looks and accesses
+pub ask_keeps : (within : Interval) (ask : Ask) → IsAskIn within ask
+    → (who : Who) (words m : List ℕ) (L : ℕ → ℕ → Type 0) (G : Access → Type 0)
+    → ((q n : ℕ) → LiesIn q n within → G (access who Read q n))
+    → Keeps who L G (λ k r. k ≡ m) (ask_plan ask words) m
+ask_keeps within (Direct row) fine who words m L G usable =
+    keeps_mapped Some who L G (λ k r. k ≡ m) (direct_plan row []) m (direct_keeps within row [] fine who m L G usable)
+ask_keeps within (Texture four) fine who words m L G usable =
+    texture_keeps within (slice_index four 0) (slice_index four 1) (slice_index four 2) (slice_index four 3) fine who words m L G usable
+
+pub asks_stay_in_law : AsksStayIn
+asks_stay_in_law within ask fine who words m =
+    ask_keeps within ask fine who words m (λ place len. ⊥) (IsReadIn within) (λ q n inside. record { way = refl; inside = inside })
+
+read_tame : (way : Way) → way ≡ Read → way ≢ Wild
+read_tame way is wild = cc
+
+read_only : (way : Way) → way ≡ Read → way ≡ Write → ⊥
+read_only way is write = cc
+
+-- a read inside the region is safe
+pub read_safe : (rights : Rights) (who : Who) (q n : ℕ) → Inside rights.region q n → IsSafeIn rights (access who Read q n)
+read_safe rights who q n inside = record { tame = read_tame Read refl; inside = inside; writes = λ is. absurd (read_only Read refl is) }
+
+pub one_inside : (region : List Interval) (place size q n : ℕ) → IsOneOf region place size → LiesIn q n (record { place = place; size = size }) → Inside region q n
+one_inside [] place size q n none lies = absurd none
+one_inside (one ∷ others) place size q n (inl is) lies = inl (subst (λ i. LiesIn q n i) (sym is) lies)
+one_inside (one ∷ others) place size q n (inr other) lies = inr (one_inside others place size q n other lies)
+
+-- likewise over any naming that the region covers
+pub fine_ask_keeps : (IsNamed : ℕ → ℕ → Type 0) (rights : Rights)
+    → ((place size q n : ℕ) → IsNamed place size → LiesIn q n (record { place = place; size = size }) → Inside rights.region q n)
+    → (ask : Ask) → IsFineAsk IsNamed ask → (who : Who) (words m : List ℕ) (L : ℕ → ℕ → Type 0)
+    → Keeps who L (IsSafeIn rights) (λ k r. k ≡ m) (ask_plan ask words) m
+fine_ask_keeps IsNamed rights covers ask fine who words m L =
+    ask_keeps (record { place = fine.place; size = fine.size }) ask fine.reads who words m L (IsSafeIn rights)
+    (λ q n inside. read_safe rights who q n (covers fine.place fine.size q n fine.named inside))
+
+pub fine_asks_are_safe_law : FineAsksAreSafe
+fine_asks_are_safe_law rights ask fine who words m =
+    fine_ask_keeps (IsOneOf rights.region) rights (one_inside rights.region) ask fine who words m (Inside rights.region)
