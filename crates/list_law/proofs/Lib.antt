@@ -1,2 +1,5 @@
 pub mod Safe
 pub mod Fetching
+pub mod Bytes
+pub mod Logs
+pub mod Binning
