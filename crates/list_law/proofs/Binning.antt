@@ -14,6 +14,7 @@ use Rattle.packets.specs.Opcode.{halt, flush, start_tile_binning, increment_sema
 use Rattle.machine_plan.specs.declared.who.Who.{Who}
 use Rattle.machine_plan.specs.declared.launch.Free.{Free}
 use Rattle.machine_plan.specs.declared.launch.Launch.{Launch}
+use Rattle.machine_plan.specs.Choice.{word_at}
 use Rattle.machine_plan.specs.Glance.{glanced}
 use Rattle.machine_plan.specs.Memory.{bytes_at, stored}
 use Rattle.machine_plan.specs.Plan.{Plan, Done, Wilds, Reads, Keeps, access}
@@ -31,7 +32,7 @@ use Rattle.list_machine.specs.declared.state.Item.{Item}
 use Rattle.list_machine.specs.declared.state.Kept.{Kept}
 use Rattle.list_machine.specs.declared.state.Program.TheVariants.{Coordinate}
 use Rattle.list_machine.specs.declared.state.Work.{Work}
-use Rattle.list_machine.specs.Lists.{Lists, Turned, turned_to, quiet, with_binner, with_kept, with_work, past, incremented, flushed, with_item, with_block}
+use Rattle.list_machine.specs.Lists.{Lists, Turned, turned_to, quiet, with_binner, with_kept, with_work, past, incremented, flushed, with_item, with_block, most_items}
 use Rattle.list_machine.specs.Blocks.{tiles_of, has_room, spot_of, item_of, zeros, put_plan}
 use Rattle.list_machine.specs.Fetch.{fetch_plan}
 use Rattle.list_machine.specs.Start.{start_plan, can_start}
@@ -282,3 +283,118 @@ packet_keeps who r K O c f L s packet m allocates fine tame way =
         (λ no_raise. keeps_if who L G P m (o == flush) (Done (flushed after)) (Done after)
         (λ on. shut r K O c f after rest (only_by kept.config c (tame.closes (same o flush on))))
         (λ no_flush. rest))))))))
+
+-- The binner reads its next packet.
+none_left : (place end : ℕ) → place + 0 ≡ end → place < end → ⊥
+none_left place end ends below = omega (arith, ends, below)
+
+read_step : (who : Who) (r : Rights) (K : List ℕ → Type 0) (O : Launch → Type 0) (c : Config) (f : Frame) (s : Lists) (m : List ℕ) (rest : List (List ℕ))
+    → Allocates r c → K m → ListsFine r K O c f s → s.binner.place < s.binner.end
+    → s.binner.place + length (joined rest) ≡ s.binner.end → Walks (grid_of c) (DrawsSo r K O) (passed_of s.binner.kept) rest
+    → ((n : List ℕ) → K n → bytes_at n s.binner.place (length (joined rest)) ≡ joined rest) → Inside r.region s.binner.place (length (joined rest))
+    → Keeps who (Inside r.region) (IsSafeIn r) (λ k next. ListsFine r K O c f next) (read_plan s) m
+read_step who r K O c f s m [] allocates here fine below ends walks stands reads = absurd (none_left s.binner.place s.binner.end ends below)
+read_step who r K O c f s m (packet ∷ packets) allocates here fine below ends walks stands reads =
+    let place = s.binner.place in
+    let tame : Tame (grid_of c) (DrawsSo r K O) (passed_of s.binner.kept) packet = walks.0 in
+    let bytes : bytes_at m place (length packet) ≡ packet = bytes_front m place packet (joined packets) (stands m here) in
+    let some : 1 ≤ length packet = omega (arith, tame.whole, tame.known) in
+    let first : slice_index m place ≡ opcode packet = byte_front m place packet some bytes in
+    let inside : Inside r.region place (length packet) = front_inside r.region place packet (joined packets) reads in
+    read_keeps who (Inside r.region) (IsSafeIn r) (λ k next. ListsFine r K O c f next) s m (length packet) packet
+    (ap bin_taken first ∙ taken_is packet tame.whole tame.known) bytes
+    (inside_part r.region place (length packet) place 1 inside (omega arith) (omega (arith, some))) (read_safe r who place (length packet) inside)
+    (packet_keeps who r K O c f (Inside r.region) s packet m allocates fine tame
+    (λ after is. way_behind r K O c place s.binner.end s.binner.kept after packet packets ends walks.1 stands reads is))
+
+-- A primitive in work.
+first_true : (a b : Bool) → (a && b) ≡ true → a ≡ true
+first_true true b h = refl
+first_true false b h = h
+
+ready_item : (due more start item : Bool) → due ≡ false → more ≡ false → (if due then start else (if more then true else item)) ≡ true → item ≡ true
+ready_item true more start item off all ready = absurd cc
+ready_item false true start item off all ready = absurd cc
+ready_item false false start item off all ready = ready
+
+tile_below : (c : Config) (words : List ℕ) → (chosen_tile c words == tiles_of c) ≡ false → chosen_tile c words < tiles_of c
+unfolding chosen_tile
+tile_below c words off =
+    let low : chosen_tile c words < tiles_of c + 1 = mod-lt (word_at words 0) (omega arith) in
+    let differs = not_same (chosen_tile c words) (tiles_of c) off in
+    omega (arith, low, differs)
+
+item_keeps : (who : Who) (r : Rights) (K : List ℕ → Type 0) (O : Launch → Type 0) (c : Config) (f : Frame) (L : ℕ → ℕ → Type 0) (s : Lists) (w : Work) (words m : List ℕ) (config : Option Config)
+    → Allocates r c → ListsFine r K O c f s → WorkFine r K O w → IsOnly c config → item_may s config ≡ true
+    → Keeps who L (IsSafeIn r) (λ k next. ListsFine r K O c f next) (item_plan s config w words) m
+unfolding tile_plan
+item_keeps who r K O c f L s w words m None allocates fine work only ready = fine
+item_keeps who r K O c f L s w words m (Some one) allocates fine work (NotYet e) ready = absurd cc
+item_keeps who r K O c f L s w words m (Some one) allocates fine work (Only e) ready =
+    let is : c ≡ one = sym (ap (λ o. unwrap_or o c) e) in
+    let P = λ (k : List ℕ) (next : Lists). ListsFine r K O c f next in
+    let Q : Config → Type 0 = λ x. item_may s (Some x) ≡ true → Keeps who L (IsSafeIn r) P (item_plan s (Some x) w words) m in
+    let tile : ℕ = chosen_tile c words in
+    let here : Q c = λ may.
+    keeps_if who L (IsSafeIn r) P m (tile == tiles_of c) (Done (with_work s None)) (put_plan s c w tile (spot_of tile s.items))
+    (λ on. work_set r K O c f s None fine tt)
+    (λ off. put_keeps who r K O c L P s w tile m allocates fine.log work (tile_below c words off) (first_true (has_room c s.blocks) (nat_lt (length s.items) most_items) may)
+        (λ k place log. (log_set r K O c f s s.blocks (s.items ++ item_of w tile place ∷ []) fine log, log_set r K O c f s (s.blocks + 1) (s.items ++ item_of w tile place ∷ []) fine log))) in
+    subst Q is here ready
+
+work_keeps : (who : Who) (r : Rights) (K : List ℕ → Type 0) (O : Launch → Type 0) (c : Config) (f : Frame) (s : Lists) (w : Work) (free : Free) (words m : List ℕ)
+    → Allocates r c → K m → ListsFine r K O c f s → WorkFine r K O w → work_may s w free ≡ true
+    → Keeps who (Inside r.region) (IsSafeIn r) (λ k turned. TurnedFine r K O c f turned) (work_plan s w free words) m
+unfolding work_plan work_may one_done not_due
+work_keeps who r K O c f s w free words m allocates here fine work ready =
+    let L = Inside r.region in
+    let G = IsSafeIn r in
+    let P = λ (k : List ℕ) (turned : Turned). TurnedFine r K O c f turned in
+    keeps_if who L G P m w.due (mapped (started_with s w) (start_plan Coordinate free w.word)) (if nat_lt w.done w.primitive.length then mapped (fetched_with s w) (fetch_plan w.primitive w.word w.done) else mapped quiet (item_plan s s.binner.kept.config w words))
+    (λ on. keeps_mapped (started_with s w) who L G P (start_plan Coordinate free w.word) m
+        (keeps_weaker who L L G G (λ n launch. IfSome launch O) (λ n launch. P n (started_with s w launch)) (λ p n h. h) (λ a h. h)
+        (λ n launch may. record {
+          lists = work_set r K O c f s (Some (not_due w)) fine (record { few = work.few; uses = work.uses });
+          launch = may;
+        })
+        (start_plan Coordinate free w.word) m (start_fine who r O m Coordinate free w.word (work.uses.programs m here))))
+    (λ off. keeps_if who L G P m (nat_lt w.done w.primitive.length) (mapped (fetched_with s w) (fetch_plan w.primitive w.word w.done)) (mapped quiet (item_plan s s.binner.kept.config w words))
+    (λ more.
+        let below : w.done < w.primitive.length = grind (arith, common_steps, nat_tests, more) in
+        keeps_mapped (fetched_with s w) who L G P (fetch_plan w.primitive w.word w.done) m
+        (keeps_weaker who L L G G AnyEnd (λ n index. P n (fetched_with s w index)) (λ p n h. h) (λ a h. h)
+        (λ n index any. record {
+          lists = work_set r K O c f s (Some (one_done w)) fine (record { few = omega (arith, below); uses = work.uses });
+          launch = tt;
+        })
+        (fetch_plan w.primitive w.word w.done) m (fetch_keeps who r m w.word w.primitive w.done (work.uses.fetches m here) below)))
+    (λ all.
+        let may : item_may s s.binner.kept.config ≡ true = ready_item w.due (nat_lt w.done w.primitive.length) (can_start false free) (item_may s s.binner.kept.config) off all ready in
+        keeps_mapped quiet who L G P (item_plan s s.binner.kept.config w words) m
+        (keeps_weaker who L L G G (λ n next. ListsFine r K O c f next) (λ n next. P n (quiet next)) (λ p n h. h) (λ a h. h)
+        (λ n next one. record { lists = one; launch = tt })
+        (item_plan s s.binner.kept.config w words) m
+        (item_keeps who r K O c f L s w words m s.binner.kept.config allocates fine work fine.configs may))))
+
+binner_keeps_by : (who : Who) (r : Rights) (K : List ℕ → Type 0) (O : Launch → Type 0) (c : Config) (f : Frame) (s : Lists) (work : Option Work) (free : Free) (words m : List ℕ)
+    → Allocates r c → K m → ListsFine r K O c f s → IfSome work (WorkFine r K O) → binner_may s work free ≡ true
+    → Keeps who (Inside r.region) (IsSafeIn r) (λ k turned. TurnedFine r K O c f turned) (binner_by s work free words) m
+binner_keeps_by who r K O c f s None free words m allocates here fine work ready =
+    let below : s.binner.place < s.binner.end = grind (arith, common_steps, nat_tests, ready) in
+    let way = fine.binner in
+    let L = Inside r.region in
+    let G = IsSafeIn r in
+    let P = λ (k : List ℕ) (turned : Turned). TurnedFine r K O c f turned in
+    keeps_mapped quiet who L G P (read_plan s) m
+    (keeps_weaker who L L G G (λ n next. ListsFine r K O c f next) (λ n next. P n (quiet next)) (λ p n h. h) (λ a h. h)
+    (λ n next one. record { lists = one; launch = tt })
+    (read_plan s) m
+    (read_step who r K O c f s m way.rest allocates here fine below way.ends way.walks way.stands way.reads))
+binner_keeps_by who r K O c f s (Some w) free words m allocates here fine work ready = work_keeps who r K O c f s w free words m allocates here fine work ready
+
+-- One step of the binner.
+pub binner_keeps : (who : Who) (r : Rights) (K : List ℕ → Type 0) (O : Launch → Type 0) (c : Config) (f : Frame) (s : Lists) (free : Free) (words m : List ℕ)
+    → Allocates r c → K m → ListsFine r K O c f s → glanced (binner_ready s free) m ≡ true
+    → Keeps who (Inside r.region) (IsSafeIn r) (λ k turned. TurnedFine r K O c f turned) (binner_plan s free words) m
+unfolding binner_plan binner_ready
+binner_keeps who r K O c f s free words m allocates here fine ready = binner_keeps_by who r K O c f s s.binner.work free words m allocates here fine fine.work ready
