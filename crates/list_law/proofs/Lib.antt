@@ -3,3 +3,4 @@ pub mod Fetching
 pub mod Bytes
 pub mod Logs
 pub mod Binning
+pub mod Surfaces

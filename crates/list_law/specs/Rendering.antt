@@ -18,7 +18,8 @@ use Rattle.list_machine.specs.declared.state.Renderer.{Renderer}
 use Rattle.list_machine.specs.declared.state.SubList.{SubList}
 use Rattle.list_machine.specs.declared.surface.Style.{Style}
 use Rattle.list_machine.specs.Blocks.{tiles_of}
-use Rattle.list_machine.specs.Cover.{IsShort, frame_style, general_style}
+use Rattle.list_machine.specs.declared.surface.Cover.{Cover}
+use Rattle.list_machine.specs.Cover.{IsShort, frame_style, general_style, part_count, part_place}
 use Rattle.list_machine.specs.Surfaces.{aligned, names_none, whole_size}
 use Rattle.list_law.specs.May.{MayWrite}
 
@@ -105,3 +106,8 @@ pub record RenderWay (r : Rights) (K : List ℕ → Type 0) (c : Config) (f : Fr
   pub reads : Inside r.region renderer.place (length (slots_text rest))
   pub frame : IfSome renderer.frame (λ one. one ≡ f)
   pub inside : IfSome renderer.inside (λ sub. (sub.tile < tiles_of c) × (waited ≡ true))
+
+-- each part of a cover meets M; and there is a cover
+abbrev pub PartsMeet : (ℕ → ℕ → Type 0) → Option Cover → Type 0
+PartsMeet M None = ⊥
+PartsMeet M (Some cover) = (i : ℕ) → i < part_count cover → M (part_place cover i) cover.size
