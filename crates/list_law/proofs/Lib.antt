@@ -4,3 +4,4 @@ pub mod Bytes
 pub mod Logs
 pub mod Binning
 pub mod Surfaces
+pub mod Rendering
