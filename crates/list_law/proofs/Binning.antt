@@ -1,5 +1,5 @@
 -- One step of the binner keeps all that stands.
-use Rattle.std.proofs.Common.{◌≡◌, ◌≢◌, ◌≤◌, ◌<◌, ◌⊎◌, inl, inr, ℕ, zero, suc, ◌+◌, ◌*◌, ◌%◌, ◌==◌, ◌||◌, ◌&&◌, Bool, true, false, List, [], ◌∷◌, ◌++◌, length, slice_index, Option, Some, None, IfSome, if◌then◌else◌, refl, sym, ◌∙◌, ap, subst, arith}
+use Rattle.std.proofs.Common.{◌≡◌, ◌≢◌, ◌≤◌, ◌<◌, ◌⊎◌, inl, inr, ℕ, ◌+◌, ◌*◌, ◌==◌, ◌||◌, ◌&&◌, Bool, true, false, List, [], ◌∷◌, ◌++◌, length, slice_index, Option, Some, None, IfSome, if◌then◌else◌, refl, sym, ◌∙◌, ap, subst, arith}
 use Rattle.std.specs.Prelude.{nat_lt, option_map, unwrap_or}
 use Rattle.std.proofs.lemmas.Grind.{common_steps}
 use Rattle.std.proofs.lemmas.Bool.Decides.{nat_tests}
@@ -17,7 +17,7 @@ use Rattle.machine_plan.specs.declared.launch.Launch.{Launch}
 use Rattle.machine_plan.specs.Choice.{word_at}
 use Rattle.machine_plan.specs.Glance.{glanced}
 use Rattle.machine_plan.specs.Memory.{bytes_at, stored}
-use Rattle.machine_plan.specs.Plan.{Plan, Done, Wilds, Reads, Keeps, access}
+use Rattle.machine_plan.specs.Plan.{Plan, Done, Wilds, Keeps, access}
 use Rattle.machine_plan.specs.Regions.{Inside, Rights, IsSafeIn}
 use Rattle.machine_plan.specs.World.{mapped}
 use Rattle.machine_plan.proofs.Memory.{inside_part}
@@ -32,13 +32,12 @@ use Rattle.list_machine.specs.declared.state.Item.{Item}
 use Rattle.list_machine.specs.declared.state.Kept.{Kept}
 use Rattle.list_machine.specs.declared.state.Program.TheVariants.{Coordinate}
 use Rattle.list_machine.specs.declared.state.Work.{Work}
-use Rattle.list_machine.specs.Lists.{Lists, Turned, turned_to, quiet, with_binner, with_kept, with_work, past, incremented, flushed, with_item, with_block, most_items}
+use Rattle.list_machine.specs.Lists.{Lists, Turned, quiet, with_binner, with_kept, with_work, past, incremented, flushed, most_items}
 use Rattle.list_machine.specs.Blocks.{tiles_of, has_room, spot_of, item_of, zeros, put_plan}
 use Rattle.list_machine.specs.Fetch.{fetch_plan}
 use Rattle.list_machine.specs.Start.{start_plan, can_start}
-use Rattle.list_machine.specs.Binner.{config_of, configured, with_word, started, clear_plan, begin_plan, primitive_of, work_of, drawn, draw_plan, halted, is_unknown, packet_plan, read_plan, is_due, one_done, fetched_with, not_due, started_with, chosen_tile, tile_plan, item_plan, work_plan, binner_by, binner_plan, item_may, work_may, binner_may, binner_ready}
-use Rattle.list_law.specs.Uses.{MayUse}
-use Rattle.list_law.specs.Binning.{grid_of, passed_of, Allocates, DrawsSo, OnWay, WorkFine, ItemFine, LogFine, IsOnly, NotYet, Only}
+use Rattle.list_machine.specs.Binner.{config_of, configured, with_word, started, clear_plan, begin_plan, work_of, drawn, draw_plan, halted, is_unknown, packet_plan, read_plan, one_done, fetched_with, not_due, started_with, chosen_tile, tile_plan, item_plan, work_plan, binner_by, binner_plan, item_may, work_may, binner_may, binner_ready}
+use Rattle.list_law.specs.Binning.{grid_of, passed_of, Allocates, DrawsSo, OnWay, WorkFine, LogFine, IsOnly, NotYet, Only}
 use Rattle.list_law.specs.Lists.{ListsFine, TurnedFine}
 use Rattle.list_law.proofs.Safe.{read_safe, write_safe, keeps_if}
 use Rattle.list_law.proofs.Fetching.{AnyEnd, fetch_keeps, start_fine}
@@ -255,34 +254,34 @@ packet_keeps who r K O c f L s packet m allocates fine tame way =
     (λ known. keeps_if who L G P m (o == halt) (Done (halted after)) (plan_config after packet) (λ on. absurd (tame.no_halt (same o halt on)))
     (λ no_halt. keeps_if who L G P m (o == tile_binning_mode) (Done (configured after packet)) (plan_start after packet)
     (λ on.
-        let is : o ≡ tile_binning_mode = same o tile_binning_mode on in
-        let now : config_of packet ≡ c = config_is packet c (tame.configures is) in
-        gone (record kept { config = Some (config_of packet) })
-        (passed_config kept packet (passed_is (passed_of kept) packet true false false on (other o tile_binning_mode gl_shader_state is refl) (other o tile_binning_mode start_tile_binning is refl)))
-        (Only (ap Some now)) (λ closed. ap Some now))
+    let is : o ≡ tile_binning_mode = same o tile_binning_mode on in
+    let now : config_of packet ≡ c = config_is packet c (tame.configures is) in
+    gone (record kept { config = Some (config_of packet) })
+    (passed_config kept packet (passed_is (passed_of kept) packet true false false on (other o tile_binning_mode gl_shader_state is refl) (other o tile_binning_mode start_tile_binning is refl)))
+    (Only (ap Some now)) (λ closed. ap Some now))
     (λ no_config. keeps_if who L G P m (o == start_tile_binning) (begin_plan after kept.config) (plan_word after packet)
     (λ on.
-        let is : o ≡ start_tile_binning = same o start_tile_binning on in
-        clear_keeps who r L P c after kept.config m allocates (only_by kept.config c (tame.starts is))
-        (λ k. gone (record kept { started = true })
-        (passed_is (passed_of kept) packet false false true no_config (other o start_tile_binning gl_shader_state is refl) on)
-        fine.configs fine.closed))
+    let is : o ≡ start_tile_binning = same o start_tile_binning on in
+    clear_keeps who r L P c after kept.config m allocates (only_by kept.config c (tame.starts is))
+    (λ k. gone (record kept { started = true })
+    (passed_is (passed_of kept) packet false false true no_config (other o start_tile_binning gl_shader_state is refl) on)
+    fine.configs fine.closed))
     (λ no_start. keeps_if who L G P m (o == gl_shader_state) (Done (with_word after packet)) (plan_draw after packet)
     (λ on. gone (record kept { word = Some (u32_at packet 1) }) (passed_is (passed_of kept) packet false true false no_config on no_start) fine.configs fine.closed)
     (λ no_state.
-        let rest : ListsFine r K O c f after = gone kept (passed_is (passed_of kept) packet false false false no_config no_state no_start) fine.configs fine.closed in
-        keeps_if who L G P m (o == indexed_primitive_list || o == array_primitive_list) (draw_plan after packet) (plan_raise after packet)
-        (λ on.
-            let drawing : Drawing (DrawsSo r K O) (passed_of kept) packet = elim (both_off (o == indexed_primitive_list) (o == array_primitive_list) on) [
-              inl e ↦ tame.indexed (same o indexed_primitive_list e)
-            | inr e ↦ tame.array (same o array_primitive_list e)
-            ] in
-            draw_keeps who r K O c f L after packet m drawing rest)
-        (λ no_draw. keeps_if who L G P m (o == increment_semaphore) (Done (incremented after)) (plan_flush after packet)
-        (λ on. raised r K O c f after rest)
-        (λ no_raise. keeps_if who L G P m (o == flush) (Done (flushed after)) (Done after)
-        (λ on. shut r K O c f after rest (only_by kept.config c (tame.closes (same o flush on))))
-        (λ no_flush. rest))))))))
+    let rest : ListsFine r K O c f after = gone kept (passed_is (passed_of kept) packet false false false no_config no_state no_start) fine.configs fine.closed in
+    keeps_if who L G P m (o == indexed_primitive_list || o == array_primitive_list) (draw_plan after packet) (plan_raise after packet)
+    (λ on.
+    let drawing : Drawing (DrawsSo r K O) (passed_of kept) packet = elim (both_off (o == indexed_primitive_list) (o == array_primitive_list) on) [
+      | inl e ↦ tame.indexed (same o indexed_primitive_list e)
+      | inr e ↦ tame.array (same o array_primitive_list e)
+    ] in
+    draw_keeps who r K O c f L after packet m drawing rest)
+    (λ no_draw. keeps_if who L G P m (o == increment_semaphore) (Done (incremented after)) (plan_flush after packet)
+    (λ on. raised r K O c f after rest)
+    (λ no_raise. keeps_if who L G P m (o == flush) (Done (flushed after)) (Done after)
+    (λ on. shut r K O c f after rest (only_by kept.config c (tame.closes (same o flush on))))
+    (λ no_flush. rest))))))))
 
 -- The binner reads its next packet.
 none_left : (place end : ℕ) → place + 0 ≡ end → place < end → ⊥
@@ -339,7 +338,7 @@ item_keeps who r K O c f L s w words m (Some one) allocates fine work (Only e) r
     keeps_if who L (IsSafeIn r) P m (tile == tiles_of c) (Done (with_work s None)) (put_plan s c w tile (spot_of tile s.items))
     (λ on. work_set r K O c f s None fine tt)
     (λ off. put_keeps who r K O c L P s w tile m allocates fine.log work (tile_below c words off) (first_true (has_room c s.blocks) (nat_lt (length s.items) most_items) may)
-        (λ k place log. (log_set r K O c f s s.blocks (s.items ++ item_of w tile place ∷ []) fine log, log_set r K O c f s (s.blocks + 1) (s.items ++ item_of w tile place ∷ []) fine log))) in
+    (λ k place log. (log_set r K O c f s s.blocks (s.items ++ item_of w tile place ∷ []) fine log, log_set r K O c f s (s.blocks + 1) (s.items ++ item_of w tile place ∷ []) fine log))) in
     subst Q is here ready
 
 work_keeps : (who : Who) (r : Rights) (K : List ℕ → Type 0) (O : Launch → Type 0) (c : Config) (f : Frame) (s : Lists) (w : Work) (free : Free) (words m : List ℕ)
@@ -352,29 +351,29 @@ work_keeps who r K O c f s w free words m allocates here fine work ready =
     let P = λ (k : List ℕ) (turned : Turned). TurnedFine r K O c f turned in
     keeps_if who L G P m w.due (mapped (started_with s w) (start_plan Coordinate free w.word)) (if nat_lt w.done w.primitive.length then mapped (fetched_with s w) (fetch_plan w.primitive w.word w.done) else mapped quiet (item_plan s s.binner.kept.config w words))
     (λ on. keeps_mapped (started_with s w) who L G P (start_plan Coordinate free w.word) m
-        (keeps_weaker who L L G G (λ n launch. IfSome launch O) (λ n launch. P n (started_with s w launch)) (λ p n h. h) (λ a h. h)
-        (λ n launch may. record {
-          lists = work_set r K O c f s (Some (not_due w)) fine (record { few = work.few; uses = work.uses });
-          launch = may;
-        })
-        (start_plan Coordinate free w.word) m (start_fine who r O m Coordinate free w.word (work.uses.programs m here))))
+    (keeps_weaker who L L G G (λ n launch. IfSome launch O) (λ n launch. P n (started_with s w launch)) (λ p n h. h) (λ a h. h)
+    (λ n launch may. record {
+      lists = work_set r K O c f s (Some (not_due w)) fine (record { few = work.few; uses = work.uses });
+      launch = may;
+    })
+    (start_plan Coordinate free w.word) m (start_fine who r O m Coordinate free w.word (work.uses.programs m here))))
     (λ off. keeps_if who L G P m (nat_lt w.done w.primitive.length) (mapped (fetched_with s w) (fetch_plan w.primitive w.word w.done)) (mapped quiet (item_plan s s.binner.kept.config w words))
     (λ more.
-        let below : w.done < w.primitive.length = grind (arith, common_steps, nat_tests, more) in
-        keeps_mapped (fetched_with s w) who L G P (fetch_plan w.primitive w.word w.done) m
-        (keeps_weaker who L L G G AnyEnd (λ n index. P n (fetched_with s w index)) (λ p n h. h) (λ a h. h)
-        (λ n index any. record {
-          lists = work_set r K O c f s (Some (one_done w)) fine (record { few = omega (arith, below); uses = work.uses });
-          launch = tt;
-        })
-        (fetch_plan w.primitive w.word w.done) m (fetch_keeps who r m w.word w.primitive w.done (work.uses.fetches m here) below)))
+    let below : w.done < w.primitive.length = grind (arith, common_steps, nat_tests, more) in
+    keeps_mapped (fetched_with s w) who L G P (fetch_plan w.primitive w.word w.done) m
+    (keeps_weaker who L L G G AnyEnd (λ n index. P n (fetched_with s w index)) (λ p n h. h) (λ a h. h)
+    (λ n index any. record {
+      lists = work_set r K O c f s (Some (one_done w)) fine (record { few = omega (arith, below); uses = work.uses });
+      launch = tt;
+    })
+    (fetch_plan w.primitive w.word w.done) m (fetch_keeps who r m w.word w.primitive w.done (work.uses.fetches m here) below)))
     (λ all.
-        let may : item_may s s.binner.kept.config ≡ true = ready_item w.due (nat_lt w.done w.primitive.length) (can_start false free) (item_may s s.binner.kept.config) off all ready in
-        keeps_mapped quiet who L G P (item_plan s s.binner.kept.config w words) m
-        (keeps_weaker who L L G G (λ n next. ListsFine r K O c f next) (λ n next. P n (quiet next)) (λ p n h. h) (λ a h. h)
-        (λ n next one. record { lists = one; launch = tt })
-        (item_plan s s.binner.kept.config w words) m
-        (item_keeps who r K O c f L s w words m s.binner.kept.config allocates fine work fine.configs may))))
+    let may : item_may s s.binner.kept.config ≡ true = ready_item w.due (nat_lt w.done w.primitive.length) (can_start false free) (item_may s s.binner.kept.config) off all ready in
+    keeps_mapped quiet who L G P (item_plan s s.binner.kept.config w words) m
+    (keeps_weaker who L L G G (λ n next. ListsFine r K O c f next) (λ n next. P n (quiet next)) (λ p n h. h) (λ a h. h)
+    (λ n next one. record { lists = one; launch = tt })
+    (item_plan s s.binner.kept.config w words) m
+    (item_keeps who r K O c f L s w words m s.binner.kept.config allocates fine work fine.configs may))))
 
 binner_keeps_by : (who : Who) (r : Rights) (K : List ℕ → Type 0) (O : Launch → Type 0) (c : Config) (f : Frame) (s : Lists) (work : Option Work) (free : Free) (words m : List ℕ)
     → Allocates r c → K m → ListsFine r K O c f s → IfSome work (WorkFine r K O) → binner_may s work free ≡ true

@@ -1,27 +1,24 @@
 -- Vertices are fetched and programs started safely.
-use Rattle.std.proofs.Common.{◌≡◌, ◌≤◌, ◌<◌, ℕ, zero, suc, ◌+◌, ◌*◌, ◌%◌, ◌^◌, ◌&&◌, Bool, true, false, IsTrue, List, slice_index, Option, Some, None, IfSome, if◌then◌else◌, refl, sym, ◌∙◌, ap, subst, arith}
+use Rattle.std.proofs.Common.{◌≡◌, ◌≤◌, ◌<◌, ℕ, zero, suc, ◌+◌, ◌*◌, ◌%◌, ◌^◌, ◌&&◌, Bool, true, false, List, None, IfSome, if◌then◌else◌, refl, subst, arith}
 use Rattle.std.specs.Prelude.{nat_lt}
 use Rattle.std.proofs.lemmas.Grind.{common_steps}
 use Rattle.std.proofs.lemmas.Bool.Decides.{nat_tests}
 use Rattle.field_words.specs.Words.{u32_at}
-use Rattle.field_words.specs.declared.access.Access.{Access}
-use Rattle.field_words.specs.declared.access.Way.TheVariants.{Read}
 use Rattle.emitted_facts.specs.Records.{attribute_count, is_extended}
 use Rattle.machine_plan.specs.declared.who.Who.{Who}
 use Rattle.machine_plan.specs.declared.launch.Free.{Free}
 use Rattle.machine_plan.specs.declared.launch.Launch.{Launch}
 use Rattle.machine_plan.specs.Memory.{bytes_at}
-use Rattle.machine_plan.specs.Plan.{Plan, Done, Reads, Keeps, access}
-use Rattle.machine_plan.specs.Regions.{Interval, Inside, Rights, IsSafeIn}
-use Rattle.machine_plan.specs.World.{followed}
+use Rattle.machine_plan.specs.Plan.{Done, Reads, Keeps}
+use Rattle.machine_plan.specs.Regions.{Inside, Rights, IsSafeIn}
 use Rattle.machine_plan.proofs.Memory.{inside_part}
 use Rattle.machine_plan.proofs.Worlds.{keeps_followed}
 use Rattle.list_machine.specs.declared.state.Primitive.{Primitive}
 use Rattle.list_machine.specs.declared.state.Program.{Program}
 use Rattle.list_machine.specs.declared.state.Program.TheVariants.{Fragment, Vertex, Coordinate}
 use Rattle.list_machine.specs.Fetch.{index_size, index_in, index_plan, draws_nothing, record_place, attribute_place, extension_place, data_size, data_place, data_plan, extended_plan, attribute_plan, attributes_plan, indexed_plan, fetch_plan}
-use Rattle.list_machine.specs.Start.{code_offset, can_start, launch_of, launch_plan, start_as, is_threaded, start_plan}
-use Rattle.list_law.specs.Uses.{attribute_at, extension_at, Fetches, launched, threaded_by, Programs}
+use Rattle.list_machine.specs.Start.{code_offset, can_start, launch_plan, start_as, start_plan}
+use Rattle.list_law.specs.Uses.{Fetches, launched, threaded_by, Programs}
 use Rattle.list_law.proofs.Safe.{read_safe, keeps_if}
 
 -- any end will do

@@ -1,6 +1,5 @@
 -- The items of tile lists, and the blocks in which they lie.
-use Rattle.std.proofs.Common.{◌≡◌, ◌≢◌, ◌≤◌, ◌<◌, ℕ, zero, suc, ◌+◌, ◌*◌, ◌-◌, ◌%◌, ◌==◌, Bool, true, false, List, [], ◌∷◌, ◌++◌, length, replicate, if◌then◌else◌, refl, sym, ◌∙◌, ap, subst, arith}
-use Rattle.std.specs.Prelude.{nat_le}
+use Rattle.std.proofs.Common.{◌≡◌, ◌≢◌, ◌≤◌, ◌<◌, ℕ, ◌+◌, ◌*◌, ◌-◌, ◌%◌, ◌==◌, Bool, true, false, List, [], ◌∷◌, ◌++◌, if◌then◌else◌, refl, sym, subst, arith}
 use Rattle.std.proofs.lemmas.Grind.{common_steps}
 use Rattle.std.proofs.lemmas.Bool.Decides.{nat_tests}
 use Rattle.std.proofs.lemmas.List.{length-replicate}
@@ -9,7 +8,7 @@ use Rattle.machine_plan.specs.declared.who.Who.{Who}
 use Rattle.machine_plan.specs.declared.launch.Launch.{Launch}
 use Rattle.machine_plan.specs.Memory.{stored}
 use Rattle.machine_plan.specs.Plan.{Writes, Keeps, access}
-use Rattle.machine_plan.specs.Regions.{Inside, Rights, Every, IsSafeIn}
+use Rattle.machine_plan.specs.Regions.{Rights, IsSafeIn}
 use Rattle.machine_plan.proofs.Memory.{inside_part}
 use Rattle.machine_plan.proofs.Runs.{every-append}
 use Rattle.list_machine.specs.declared.state.Config.{Config}
@@ -19,7 +18,6 @@ use Rattle.list_machine.specs.declared.state.Work.{Work}
 use Rattle.list_machine.specs.Lists.{Lists, with_item, with_block}
 use Rattle.list_machine.specs.Blocks.{tiles_of, further_offset, block_place, has_room, no_spot, one_more, spotted, spot_in, spot_of, is_full, next_place, link_place, item_of, zeros, put_here, put_plan}
 use Rattle.list_law.specs.May.{MayWrite}
-use Rattle.list_law.specs.Uses.{MayUse}
 use Rattle.list_law.specs.Binning.{Allocates, ItemFine, FitsIn, LogFine, WorkFine}
 use Rattle.list_law.proofs.Safe.{write_safe, keeps_if}
 
@@ -139,18 +137,18 @@ put_keeps who r K O c L P s w tile m allocates log work below room ends =
     let end : ℕ = c.address + c.size in
     keeps_if who L (IsSafeIn r) P m (is_full spot) (Writes (spot.last + 16) (zeros 16) (put_here (with_block s) w tile (c.address + further_offset c + 128 * s.blocks))) (put_here s w tile (next_place c tile spot))
     (λ on.
-        let full : spot.count % 7 ≡ 1 = full_is spot on in
-        let some : 0 < spot.count = some_full spot.count full in
-        let fits : FitsIn c spot = log.spots tile in
-        let from : c.address ≤ spot.last = fits.from some in
-        let may : MayWrite r (spot.last + 16) 16 = may_part r c.address c.size (spot.last + 16) 16 allocates.all (omega (arith, from)) (link_room spot.count spot.last end full (fits.upto some)) in
-        let place : ℕ = c.address + further_offset c + 128 * s.blocks in (
-          subst (λ n. IsSafeIn r (access who Write (spot.last + 16) n)) (sym (length-replicate {A = ℕ} 16 0)) (write_safe r who (spot.last + 16) 16 may),
-          put_at who r K O c L P (with_block s) w tile place (stored m (spot.last + 16) (zeros 16)) allocates log work (omega arith)
+    let full : spot.count % 7 ≡ 1 = full_is spot on in
+    let some : 0 < spot.count = some_full spot.count full in
+    let fits : FitsIn c spot = log.spots tile in
+    let from : c.address ≤ spot.last = fits.from some in
+    let may : MayWrite r (spot.last + 16) 16 = may_part r c.address c.size (spot.last + 16) 16 allocates.all (omega (arith, from)) (link_room spot.count spot.last end full (fits.upto some)) in
+    let place : ℕ = c.address + further_offset c + 128 * s.blocks in (
+      subst (λ n. IsSafeIn r (access who Write (spot.last + 16) n)) (sym (length-replicate {A = ℕ} 16 0)) (write_safe r who (spot.last + 16) 16 may),
+      put_at who r K O c L P (with_block s) w tile place (stored m (spot.last + 16) (zeros 16)) allocates log work (omega arith)
           (new_room spot.count c.address (further_offset c) s.blocks c.size full (room_is c s.blocks room))
           (λ k more. (ends k place more).1),
-        ))
+    ))
     (λ off.
-        let place = next_place c tile spot in
-        let lies = next_at c tile spot allocates.first below (log.spots tile) (free_is spot off) in
-        put_at who r K O c L P s w tile place m allocates log work lies.0 lies.1 (λ k more. (ends k place more).0))
+    let place = next_place c tile spot in
+    let lies = next_at c tile spot allocates.first below (log.spots tile) (free_is spot off) in
+    put_at who r K O c L P s w tile place m allocates log work lies.0 lies.1 (λ k more. (ends k place more).0))

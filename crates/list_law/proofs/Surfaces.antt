@@ -1,19 +1,18 @@
 -- What a load or store covers lies in its surface.
-use Rattle.std.proofs.Common.{◌≡◌, ◌≢◌, ◌≤◌, ◌<◌, ◌⊎◌, inl, inr, ℕ, zero, suc, ◌+◌, ◌*◌, ◌-◌, ◌/◌, ◌%◌, ◌==◌, Bool, true, false, min, Option, Some, None, if◌then◌else◌, refl, sym, ◌∙◌, ap, subst, arith}
+use Rattle.std.proofs.Common.{◌≡◌, ◌≢◌, ◌≤◌, ◌<◌, ◌⊎◌, inl, inr, ℕ, zero, suc, ◌+◌, ◌*◌, ◌-◌, ◌/◌, ◌%◌, ◌==◌, Bool, true, false, min, Option, Some, if◌then◌else◌, refl, sym, subst, arith}
 use Rattle.std.specs.Int.{div_ceil}
-use Rattle.std.proofs.Math.Nat.{mul-le-mul_right, mul-le-mul_left, div-mul-le_self, div-add-mod, mod-lt, mul_comm}
+use Rattle.std.proofs.Math.Nat.{mul-le-mul_right, div-add-mod, mod-lt, mul_comm}
 use Rattle.std.proofs.lemmas.Nat.{div_below}
-use Rattle.field_words.specs.Words.{rounded_up, bits_of}
+use Rattle.field_words.specs.Words.{bits_of}
 use Rattle.field_words.proofs.Numbers.{rounded}
 use Rattle.texture_layouts.specs.declared.surface.Tiling.{Tiling}
 use Rattle.texture_layouts.specs.declared.surface.Tiling.TheVariants.{Raster, T, Lt}
-use Rattle.texture_layouts.specs.Surface.{IsPixelSize, microtile_width_of, microtile_height_of, unit_across, unit_down, size_for}
+use Rattle.texture_layouts.specs.Surface.{microtile_width_of, microtile_height_of, unit_across, unit_down, size_for}
 use Rattle.texture_layouts.specs.Place.{aligned_across, aligned_down, microtiles_across, microtiles_down, microtile_place_of, raster_place}
 use Rattle.texture_layouts.proofs.Places.{width_some, height_some, across_parts, down_exact, microtile_inside}
 use Rattle.machine_plan.specs.Regions.{Inside, Rights}
 use Rattle.machine_plan.proofs.Memory.{inside_part}
 use Rattle.list_machine.specs.declared.state.Frame.{Frame}
-use Rattle.list_machine.specs.declared.surface.Cover.{Cover}
 use Rattle.list_machine.specs.declared.surface.Style.{Style}
 use Rattle.list_machine.specs.Store.{tile_side, covered}
 use Rattle.list_machine.specs.Cover.{IsShort, raster_cover, tiled_cover, cover_in, cover_by, cover_for, part_count, part_offset, part_place}
@@ -109,7 +108,7 @@ tiled_inside : (tiling : Tiling) → (tiling ≡ T) ⊎ (tiling ≡ Lt) → (cpp
     → (0 < unit_across tiling cpp) → (0 < unit_down tiling cpp)
     → i < div_ceil (min side (wide - x * side)) (microtile_width_of cpp) * div_ceil (min side (high - y * side)) (microtile_height_of cpp)
     → microtile_place_of tiling wide cpp (x * side / microtile_width_of cpp + i % div_ceil (min side (wide - x * side)) (microtile_width_of cpp)) (y * side / microtile_height_of cpp + i / div_ceil (min side (wide - x * side)) (microtile_width_of cpp)) + 64
-      ≤ size_for tiling wide high cpp
+    ≤ size_for tiling wide high cpp
 tiled_inside tiling tiled cpp wide high x y side i short sides unit_wide unit_high below =
     let mw : ℕ = microtile_width_of cpp in
     let mh : ℕ = microtile_height_of cpp in
@@ -154,8 +153,8 @@ parts_styled : (M : ℕ → ℕ → Type 0) (style : Option Style) (one : Style)
 parts_styled M style one f base x y is short lies =
     subst (λ s. PartsMeet M (cover_by s f base x y)) (sym is)
     (λ i below.
-        let place = place_is one.tiling one.cpp f base x y i short below in
-        lies (part_place (cover_in one.tiling one.cpp f base x y) i) (cover_in one.tiling one.cpp f base x y).size place.from place.upto)
+    let place = place_is one.tiling one.cpp f base x y i short below in
+    lies (part_place (cover_in one.tiling one.cpp f base x y) i) (cover_in one.tiling one.cpp f base x y).size place.from place.upto)
 
 pub store_fine : (r : Rights) (style : Option Style) (f : Frame) (base x y : ℕ) → StoresSurface r style f base → PartsMeet (MayWrite r) (cover_for style (Some f) base x y)
 store_fine r style f base x y stores =

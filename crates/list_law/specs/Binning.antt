@@ -8,7 +8,6 @@ use Rattle.machine_plan.specs.declared.launch.Launch.{Launch}
 use Rattle.machine_plan.specs.Memory.{bytes_at}
 use Rattle.machine_plan.specs.Regions.{Inside, Rights, Every}
 use Rattle.bin_walks.specs.Walks.{Walks, Config as Grid, Kept as Passed}
-use Rattle.list_machine.specs.declared.state.Binner.{Binner}
 use Rattle.list_machine.specs.declared.state.Config.{Config}
 use Rattle.list_machine.specs.declared.state.Item.{Item}
 use Rattle.list_machine.specs.declared.state.Kept.{Kept}

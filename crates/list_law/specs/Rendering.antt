@@ -2,12 +2,12 @@
 --
 -- The job has one frame f. The rest of the renderer's list is said as packets that walk, by the definitions of those who
 -- write it.
-use Rattle.std.specs.Prelude.{◌≡◌, ◌≤◌, ◌<◌, ◌⊎◌, ℕ, ◌+◌, ◌*◌, Bool, true, List, [], ◌∷◌, length, Option, Some, None, option_map, is_some, IfSome}
+use Rattle.std.specs.Prelude.{◌≡◌, ◌<◌, ◌⊎◌, ℕ, ◌+◌, ◌*◌, Bool, true, List, [], ◌∷◌, length, Option, Some, None, option_map, is_some, IfSome}
 use Rattle.packets.specs.declared.packet.Packet.{Packet}
 use Rattle.packets.specs.declared.packet.Packet.TheVariants.{WaitOnSemaphore, BranchToSubList, StoreTileColor, StoreTileColorAndEnd, StoreFullResolution, LoadFullResolution, StoreTileBuffer, LoadTileBuffer, TileRenderingMode, ClearColors, TileCoordinates}
 use Rattle.packets.specs.Packet.{slots_text}
 use Rattle.machine_plan.specs.Memory.{bytes_at}
-use Rattle.machine_plan.specs.Regions.{Interval, Inside, Rights}
+use Rattle.machine_plan.specs.Regions.{Inside, Rights}
 use Rattle.texture_layouts.specs.Surface.{size_for}
 use Rattle.render_walks.specs.Walks.{View, WalksTo, AllFit}
 use Rattle.list_machine.specs.declared.state.Config.{Config}
@@ -15,7 +15,6 @@ use Rattle.list_machine.specs.declared.state.Frame.{Frame}
 use Rattle.list_machine.specs.declared.state.Load.{Load}
 use Rattle.list_machine.specs.declared.state.Load.TheVariants.{Full, General}
 use Rattle.list_machine.specs.declared.state.Renderer.{Renderer}
-use Rattle.list_machine.specs.declared.state.SubList.{SubList}
 use Rattle.list_machine.specs.declared.surface.Style.{Style}
 use Rattle.list_machine.specs.Blocks.{tiles_of}
 use Rattle.list_machine.specs.declared.surface.Cover.{Cover}

@@ -1,11 +1,13 @@
 //! The laws of a job's binner and renderer.
 //!
-//! The crate has laws on definitions alone: in one step of either unit, from all that stands of what the
-//! job's list units keep, each look lies in the job's region, each access is safe by the job's rights, and
-//! the same stands again. They speak of one job's rights and count no jobs.
+//! The crate has laws on definitions alone. From all that stands of what the job's list units keep
+//! (`specs::Lists::ListsFine`), one step of either unit looks in the job's region, does accesses that are safe
+//! by the job's rights, and starts only programs that may be started; and all stands again. The laws speak of
+//! one job's rights and count no jobs. Those in `proofs/` of the same names speak of any memories and of any
+//! condition on programs; those here, of the memories of runs and of a test.
 #![tactic(auto)]
 
-ghost use Rattle.list_law.specs.Laws.{FetchKeeps, StartFine};
+ghost use Rattle.list_law.specs.Laws.{FetchKeeps, StartFine, BinnerKeeps, RendererKeeps, RendererLooks, StoreFine, LoadFine};
 
 /// A vertex of a primitive is fetched by safe reads alone, where the primitive's indexes, the attributes of its
 /// record and the data of each vertex that counts lie in the job's region.
@@ -17,4 +19,29 @@ pub fn fetch_keeps()
 /// the state word's record.
 pub fn start_fine()
     ensures { StartFine }
+{}
+
+/// One step of the binner keeps all that stands, where the job may write the memory of its tile lists.
+pub fn binner_keeps()
+    ensures { BinnerKeeps }
+{}
+
+/// One step of the renderer keeps all that stands.
+pub fn renderer_keeps()
+    ensures { RendererKeeps }
+{}
+
+/// Whether the renderer may step is seen in the job's region.
+pub fn renderer_looks()
+    ensures { RendererLooks }
+{}
+
+/// All that a store of one tile writes lies in its surface, at whatever tile.
+pub fn store_fine()
+    ensures { StoreFine }
+{}
+
+/// All that a load of one tile reads lies in its surface, at whatever tile.
+pub fn load_fine()
+    ensures { LoadFine }
 {}
