@@ -5,3 +5,4 @@ pub mod Logs
 pub mod Binning
 pub mod Surfaces
 pub mod Rendering
+pub mod Start

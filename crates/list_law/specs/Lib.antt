@@ -4,3 +4,4 @@ pub mod Binning
 pub mod Rendering
 pub mod Lists
 pub mod Laws
+pub mod Start

@@ -8,6 +8,7 @@
 #![tactic(auto)]
 
 ghost use Rattle.list_law.specs.Laws.{FetchKeeps, StartFine, BinnerKeeps, RendererKeeps, RendererLooks, StoreFine, LoadFine};
+ghost use Rattle.list_law.specs.Start.{ListsBegin, HeadSets};
 
 /// A vertex of a primitive is fetched by safe reads alone, where the primitive's indexes, the attributes of its
 /// record and the data of each vertex that counts lie in the job's region.
@@ -44,4 +45,14 @@ pub fn store_fine()
 /// All that a load of one tile reads lies in its surface, at whatever tile.
 pub fn load_fine()
     ensures { LoadFine }
+{}
+
+/// All stands at the start, where the two lists of a job walk, stand in memory and lie in its region.
+pub fn lists_begin()
+    ensures { ListsBegin }
+{}
+
+/// Of the renderer list that is written for a job, its head alone sets a frame.
+pub fn head_sets()
+    ensures { HeadSets }
 {}
