@@ -6,3 +6,5 @@ pub mod Binning
 pub mod Surfaces
 pub mod Rendering
 pub mod Start
+pub mod Words
+pub mod Emitted

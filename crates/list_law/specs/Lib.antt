@@ -5,3 +5,4 @@ pub mod Rendering
 pub mod Lists
 pub mod Laws
 pub mod Start
+pub mod Emitted

@@ -9,6 +9,7 @@
 
 ghost use Rattle.list_law.specs.Laws.{FetchKeeps, StartFine, BinnerKeeps, RendererKeeps, RendererLooks, StoreFine, LoadFine};
 ghost use Rattle.list_law.specs.Start.{ListsBegin, HeadSets};
+ghost use Rattle.list_law.specs.Emitted.{EmittedFetches, EmittedPrograms};
 
 /// A vertex of a primitive is fetched by safe reads alone, where the primitive's indexes, the attributes of its
 /// record and the data of each vertex that counts lie in the job's region.
@@ -55,4 +56,16 @@ pub fn lists_begin()
 /// Of the renderer list that is written for a job, its head alone sets a frame.
 pub fn head_sets()
     ensures { HeadSets }
+{}
+
+/// A primitive that was emitted may be fetched under a record that was emitted for it, where the record stands in
+/// memory and the data that the job may name lie in its region.
+pub fn emitted_fetches()
+    ensures { EmittedFetches }
+{}
+
+/// Each program of a record that stands in memory may be started, where the three that its words name may be. The
+/// fragment program is threaded where the flags don't say that it is single-threaded.
+pub fn emitted_programs()
+    ensures { EmittedPrograms }
 {}
