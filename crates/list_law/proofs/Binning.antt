@@ -1,0 +1,399 @@
+-- One step of the binner keeps all that stands.
+use Rattle.std.proofs.Common.{◌≡◌, ◌≢◌, ◌≤◌, ◌<◌, ◌⊎◌, inl, inr, ℕ, ◌+◌, ◌*◌, ◌==◌, ◌||◌, ◌&&◌, Bool, true, false, List, [], ◌∷◌, ◌++◌, length, slice_index, Option, Some, None, IfSome, if◌then◌else◌, refl, sym, ◌∙◌, ap, subst, arith}
+use Rattle.std.specs.Prelude.{nat_lt, option_map, unwrap_or}
+use Rattle.std.proofs.lemmas.Grind.{common_steps}
+use Rattle.std.proofs.lemmas.Bool.Decides.{nat_tests}
+use Rattle.std.proofs.lemmas.List.{length-replicate}
+use Rattle.std.proofs.Math.Nat.{mod-lt}
+use Rattle.field_words.specs.Pieces.{joined}
+use Rattle.field_words.specs.Words.{u32_at}
+use Rattle.field_words.specs.declared.access.Access.{Access}
+use Rattle.field_words.specs.declared.access.Way.TheVariants.{Read, Write}
+use Rattle.packets.specs.Length.{bin_length, bin_taken}
+use Rattle.packets.specs.Opcode.{halt, flush, start_tile_binning, increment_semaphore, indexed_primitive_list, array_primitive_list, gl_shader_state, tile_binning_mode, buffer_handles}
+use Rattle.machine_plan.specs.declared.who.Who.{Who}
+use Rattle.machine_plan.specs.declared.launch.Free.{Free}
+use Rattle.machine_plan.specs.declared.launch.Launch.{Launch}
+use Rattle.machine_plan.specs.Choice.{word_at}
+use Rattle.machine_plan.specs.Glance.{glanced}
+use Rattle.machine_plan.specs.Memory.{bytes_at, stored}
+use Rattle.machine_plan.specs.Plan.{Plan, Done, Wilds, Keeps, access}
+use Rattle.machine_plan.specs.Regions.{Inside, Rights, IsSafeIn}
+use Rattle.machine_plan.specs.World.{mapped}
+use Rattle.machine_plan.proofs.Memory.{inside_part}
+use Rattle.machine_plan.proofs.Plans.{keeps_weaker}
+use Rattle.machine_plan.proofs.Worlds.{keeps_mapped}
+use Rattle.bin_list.specs.Packets.{opcode}
+use Rattle.bin_walks.specs.Walks.{Config as Grid, Kept as Passed, config_in, kept_after, Drawing, Tame, Walks}
+use Rattle.list_machine.specs.declared.state.Binner.{Binner}
+use Rattle.list_machine.specs.declared.state.Config.{Config}
+use Rattle.list_machine.specs.declared.state.Frame.{Frame}
+use Rattle.list_machine.specs.declared.state.Item.{Item}
+use Rattle.list_machine.specs.declared.state.Kept.{Kept}
+use Rattle.list_machine.specs.declared.state.Program.TheVariants.{Coordinate}
+use Rattle.list_machine.specs.declared.state.Work.{Work}
+use Rattle.list_machine.specs.Lists.{Lists, Turned, quiet, with_binner, with_kept, with_work, past, incremented, flushed, most_items}
+use Rattle.list_machine.specs.Blocks.{tiles_of, has_room, spot_of, item_of, zeros, put_plan}
+use Rattle.list_machine.specs.Fetch.{fetch_plan}
+use Rattle.list_machine.specs.Start.{start_plan, can_start}
+use Rattle.list_machine.specs.Binner.{config_of, configured, with_word, started, clear_plan, begin_plan, work_of, drawn, draw_plan, halted, is_unknown, packet_plan, read_plan, one_done, fetched_with, not_due, started_with, chosen_tile, tile_plan, item_plan, work_plan, binner_by, binner_plan, item_may, work_may, binner_may, binner_ready}
+use Rattle.list_law.specs.Binning.{grid_of, passed_of, Allocates, DrawsSo, OnWay, WorkFine, LogFine, IsOnly, NotYet, Only}
+use Rattle.list_law.specs.Lists.{ListsFine, TurnedFine}
+use Rattle.list_law.proofs.Safe.{read_safe, write_safe, keeps_if}
+use Rattle.list_law.proofs.Fetching.{AnyEnd, fetch_keeps, start_fine}
+use Rattle.list_law.proofs.Bytes.{bytes_front, bytes_behind, byte_front, front_inside, behind_inside, behind_ends}
+use Rattle.list_law.proofs.Logs.{same, not_same, put_keeps}
+
+-- The same with another binner.
+pub binner_set : (r : Rights) (K : List ℕ → Type 0) (O : Launch → Type 0) (c : Config) (f : Frame) (s : Lists) (b : Binner) → ListsFine r K O c f s
+    → OnWay r K O c b.place b.end b.kept → IfSome b.work (WorkFine r K O) → IsOnly c b.kept.config → (s.closed ≡ true → b.kept.config ≡ Some c)
+    → ListsFine r K O c f (with_binner s b)
+binner_set r K O c f s b fine way work configs closed = record {
+  waited = fine.waited;
+  binner = way;
+  work = work;
+  configs = configs;
+  log = fine.log;
+  renderer = fine.renderer;
+  counted = fine.counted;
+  passed = fine.passed;
+  closed = closed;
+}
+
+-- another primitive in work, or none
+pub work_set : (r : Rights) (K : List ℕ → Type 0) (O : Launch → Type 0) (c : Config) (f : Frame) (s : Lists) (work : Option Work) → ListsFine r K O c f s → IfSome work (WorkFine r K O)
+    → ListsFine r K O c f (with_work s work)
+work_set r K O c f s work fine one = binner_set r K O c f s (record (s.binner) { work = work }) fine fine.binner one fine.configs fine.closed
+
+-- more items
+log_set : (r : Rights) (K : List ℕ → Type 0) (O : Launch → Type 0) (c : Config) (f : Frame) (s : Lists) (blocks : ℕ) (items : List Item) → ListsFine r K O c f s → LogFine r K O c items
+    → ListsFine r K O c f (record s { blocks = blocks; items = items })
+log_set r K O c f s blocks items fine log = record {
+  waited = fine.waited;
+  binner = fine.binner;
+  work = fine.work;
+  configs = fine.configs;
+  log = log;
+  renderer = fine.renderer;
+  counted = fine.counted;
+  passed = fine.passed;
+  closed = fine.closed;
+}
+
+raised : (r : Rights) (K : List ℕ → Type 0) (O : Launch → Type 0) (c : Config) (f : Frame) (s : Lists) → ListsFine r K O c f s → ListsFine r K O c f (incremented s)
+raised r K O c f s fine = record {
+  waited = fine.waited;
+  binner = fine.binner;
+  work = fine.work;
+  configs = fine.configs;
+  log = fine.log;
+  renderer = fine.renderer;
+  counted = fine.counted;
+  passed = fine.passed;
+  closed = fine.closed;
+}
+
+shut : (r : Rights) (K : List ℕ → Type 0) (O : Launch → Type 0) (c : Config) (f : Frame) (s : Lists) → ListsFine r K O c f s → s.binner.kept.config ≡ Some c → ListsFine r K O c f (flushed s)
+shut r K O c f s fine only = record {
+  waited = fine.waited;
+  binner = fine.binner;
+  work = fine.work;
+  configs = fine.configs;
+  log = fine.log;
+  renderer = fine.renderer;
+  counted = inr refl;
+  passed = λ waited. refl;
+  closed = λ on. only;
+}
+
+-- What is kept behind a packet, by which of the three packets it is that tell something.
+abbrev passed_by : Passed → List ℕ → Bool → Bool → Bool → Passed
+passed_by kept packet configures states starts = record {
+  config = (if configures then Some (config_in packet) else kept.config);
+  word = (if states then Some (u32_at packet 1) else kept.word);
+  started = (if starts then true else kept.started);
+}
+
+passed_is : (kept : Passed) (packet : List ℕ) (configures states starts : Bool)
+    → (opcode packet == tile_binning_mode) ≡ configures → (opcode packet == gl_shader_state) ≡ states → (opcode packet == start_tile_binning) ≡ starts
+    → kept_after kept packet ≡ passed_by kept packet configures states starts
+unfolding kept_after
+passed_is kept packet configures states starts a b d = λ i. passed_by kept packet (a i) (b i) (d i)
+
+-- where one opcode is read, another isn't
+other : (o k n : ℕ) → o ≡ k → (k == n) ≡ false → (o == n) ≡ false
+other o k n is differs = ap (λ x. x == n) is ∙ differs
+
+-- a configuration in the words of those who emit lists is that configuration
+abbrev grid_back : Grid → Config
+grid_back g = record { address = g.alloc; size = g.size; states = g.state; tiles_x = g.across; tiles_y = g.down }
+
+only_by : (config : Option Config) (c : Config) → option_map grid_of config ≡ Some (grid_of c) → config ≡ Some c
+only_by None c e = absurd cc
+only_by (Some one) c e = ap Some (ap grid_back (ap (λ o. unwrap_or o (grid_of c)) e))
+
+config_is : (packet : List ℕ) (c : Config) → config_in packet ≡ grid_of c → config_of packet ≡ c
+unfolding config_in config_of
+config_is packet c e = ap grid_back e
+
+-- The packet is read, and what it says is done.
+read_keeps : (who : Who) (L : ℕ → ℕ → Type 0) (G : Access → Type 0) (P : List ℕ → Lists → Type 0) (s : Lists) (m : List ℕ) (len : ℕ) (packet : List ℕ)
+    → bin_taken (slice_index m s.binner.place) ≡ len → bytes_at m s.binner.place len ≡ packet → L s.binner.place 1 → G (access who Read s.binner.place len)
+    → Keeps who L G P (packet_plan (past s len) packet) m → Keeps who L G P (read_plan s) m
+unfolding read_plan bytes_at
+read_keeps who L G P s m len packet len_is bytes_is looks reads rest =
+    let place = s.binner.place in
+    let R : List ℕ → Type 0 = λ b. Keeps who L G P (packet_plan (past s len) b) m in
+    let read : G (access who Read place len) × R (bytes_at m place len) = (reads, subst R (sym bytes_is) rest) in
+    let S : ℕ → Type 0 = λ n. G (access who Read place n) × Keeps who L G P (packet_plan (past s n) (bytes_at m place n)) m in
+    (looks, subst S (sym len_is) read)
+
+taken_is : (packet : List ℕ) → length packet ≡ bin_length (opcode packet) → bin_length (opcode packet) ≢ 0 → bin_taken (opcode packet) ≡ length packet
+unfolding bin_taken
+taken_is packet whole known =
+    let differs : (bin_length (opcode packet) == 0) ≡ false = grind (arith, common_steps, nat_tests, known) in
+    ap (λ b. if b then 1 else bin_length (opcode packet)) differs ∙ sym whole
+
+is_known : (o : ℕ) → bin_length o ≢ 0 → o ≢ buffer_handles → is_unknown o ≡ false
+unfolding is_unknown
+is_known o known no_handles = grind (arith, common_steps, nat_tests, known, no_handles)
+
+-- where the binner stands behind a packet, with what it keeps then
+way_behind : (r : Rights) (K : List ℕ → Type 0) (O : Launch → Type 0) (c : Config) (place end : ℕ) (kept after : Kept) (packet : List ℕ) (packets : List (List ℕ))
+    → place + length (packet ++ joined packets) ≡ end → Walks (grid_of c) (DrawsSo r K O) (kept_after (passed_of kept) packet) packets
+    → ((m : List ℕ) → K m → bytes_at m place (length (packet ++ joined packets)) ≡ packet ++ joined packets) → Inside r.region place (length (packet ++ joined packets))
+    → kept_after (passed_of kept) packet ≡ passed_of after → OnWay r K O c (place + length packet) end after
+way_behind r K O c place end kept after packet packets ends walks stands reads is = record {
+  rest = packets;
+  ends = behind_ends place end packet (joined packets) ends;
+  walks = subst (λ (passed : Passed). Walks (grid_of c) (DrawsSo r K O) passed packets) is walks;
+  stands = λ m here. bytes_behind m place packet (joined packets) (stands m here);
+  reads = behind_inside r.region place packet (joined packets) reads;
+}
+
+-- The packet plan from each test on.
+abbrev plan_flush : Lists → List ℕ → Plan Lists
+plan_flush s p = if slice_index p 0 == flush then Done (flushed s) else Done s
+
+abbrev plan_raise : Lists → List ℕ → Plan Lists
+plan_raise s p = if slice_index p 0 == increment_semaphore then Done (incremented s) else plan_flush s p
+
+abbrev plan_draw : Lists → List ℕ → Plan Lists
+plan_draw s p = if slice_index p 0 == indexed_primitive_list || slice_index p 0 == array_primitive_list then draw_plan s p else plan_raise s p
+
+abbrev plan_word : Lists → List ℕ → Plan Lists
+plan_word s p = if slice_index p 0 == gl_shader_state then Done (with_word s p) else plan_draw s p
+
+abbrev plan_start : Lists → List ℕ → Plan Lists
+plan_start s p = if slice_index p 0 == start_tile_binning then begin_plan s s.binner.kept.config else plan_word s p
+
+abbrev plan_config : Lists → List ℕ → Plan Lists
+plan_config s p = if slice_index p 0 == tile_binning_mode then Done (configured s p) else plan_start s p
+
+abbrev plan_halt : Lists → List ℕ → Plan Lists
+plan_halt s p = if slice_index p 0 == halt then Done (halted s) else plan_config s p
+
+-- a start clears the states of all tiles
+clear_keeps : (who : Who) (r : Rights) (L : ℕ → ℕ → Type 0) (P : List ℕ → Lists → Type 0) (c : Config) (s : Lists) (config : Option Config) (m : List ℕ)
+    → Allocates r c → config ≡ Some c → ((k : List ℕ) → P k (started s)) → Keeps who L (IsSafeIn r) P (begin_plan s config) m
+unfolding clear_plan
+clear_keeps who r L P c s None m allocates is ends = absurd cc
+clear_keeps who r L P c s (Some one) m allocates is ends =
+    let Q : Config → Type 0 = λ x. IsSafeIn r (access who Write x.states (length (zeros (48 * tiles_of x)))) × P (stored m x.states (zeros (48 * tiles_of x))) (started s) in
+    let e : c ≡ one = sym (ap (λ o. unwrap_or o c) is) in
+    subst Q e (
+      subst (λ n. IsSafeIn r (access who Write c.states n)) (sym (length-replicate {A = ℕ} (48 * tiles_of c) 0)) (write_safe r who c.states (48 * tiles_of c) allocates.states),
+      ends (stored m c.states (zeros (48 * tiles_of c))),
+    )
+
+-- a primitive is drawn under the state word, behind the start
+draw_keeps_by : (who : Who) (G : Access → Type 0) (L : ℕ → ℕ → Type 0) (P : List ℕ → Lists → Type 0) (s : Lists) (packet m : List ℕ) (on : Bool) (kept : Option ℕ) (word : ℕ)
+    → kept ≡ Some word → on ≡ true → P m (with_work s (Some (work_of word packet))) → Keeps who L G P (if on then drawn s kept packet else Wilds) m
+draw_keeps_by who G L P s packet m true None word is begun ends = absurd cc
+draw_keeps_by who G L P s packet m true (Some one) word is begun ends =
+    let e : word ≡ one = sym (ap (λ o. unwrap_or o word) is) in
+    subst (λ w. P m (with_work s (Some (work_of w packet)))) e ends
+draw_keeps_by who G L P s packet m false kept word is begun ends = absurd cc
+
+draw_keeps : (who : Who) (r : Rights) (K : List ℕ → Type 0) (O : Launch → Type 0) (c : Config) (f : Frame) (L : ℕ → ℕ → Type 0) (s : Lists) (packet m : List ℕ)
+    → Drawing (DrawsSo r K O) (passed_of s.binner.kept) packet → ListsFine r K O c f s
+    → Keeps who L (IsSafeIn r) (λ k next. ListsFine r K O c f next) (draw_plan s packet) m
+unfolding draw_plan work_of
+draw_keeps who r K O c f L s packet m drawing fine =
+    draw_keeps_by who (IsSafeIn r) L (λ k next. ListsFine r K O c f next) s packet m s.binner.kept.started s.binner.kept.word drawing.word drawing.kept_word drawing.started
+    (work_set r K O c f s (Some (work_of drawing.word packet)) fine (record { few = omega arith; uses = drawing.allowed }))
+
+both_off : (a b : Bool) → (a || b) ≡ true → (a ≡ true) ⊎ (b ≡ true)
+both_off true b h = inl refl
+both_off false b h = inr h
+
+clash : (b : Bool) → b ≡ true → b ≡ false → ⊥
+clash true on off = cc
+clash false on off = cc
+
+passed_config : (kept : Kept) (packet : List ℕ) → kept_after (passed_of kept) packet ≡ passed_by (passed_of kept) packet true false false
+    → kept_after (passed_of kept) packet ≡ passed_of (record kept { config = Some (config_of packet) })
+unfolding config_in config_of
+passed_config kept packet e = e
+
+-- What a packet of the list says is done safely, and all stands again.
+packet_keeps : (who : Who) (r : Rights) (K : List ℕ → Type 0) (O : Launch → Type 0) (c : Config) (f : Frame) (L : ℕ → ℕ → Type 0) (s : Lists) (packet m : List ℕ)
+    → Allocates r c → ListsFine r K O c f s → Tame (grid_of c) (DrawsSo r K O) (passed_of s.binner.kept) packet
+    → ((after : Kept) → kept_after (passed_of s.binner.kept) packet ≡ passed_of after → OnWay r K O c (s.binner.place + length packet) s.binner.end after)
+    → Keeps who L (IsSafeIn r) (λ k next. ListsFine r K O c f next) (packet_plan (past s (length packet)) packet) m
+unfolding packet_plan configured with_word started
+packet_keeps who r K O c f L s packet m allocates fine tame way =
+    let G = IsSafeIn r in
+    let P = λ (k : List ℕ) (next : Lists). ListsFine r K O c f next in
+    let o : ℕ = opcode packet in
+    let kept : Kept = s.binner.kept in
+    let after : Lists = past s (length packet) in
+    let gone : (k : Kept) → kept_after (passed_of kept) packet ≡ passed_of k → IsOnly c k.config → (s.closed ≡ true → k.config ≡ Some c) → ListsFine r K O c f (with_kept after k) =
+    λ k is configs closed. binner_set r K O c f s (record (s.binner) { place = s.binner.place + length packet; kept = k }) fine (way k is) fine.work configs closed in
+    keeps_if who L G P m (is_unknown o) Wilds (plan_halt after packet) (λ on. absurd (clash (is_unknown o) on (is_known o tame.known tame.no_handles)))
+    (λ known. keeps_if who L G P m (o == halt) (Done (halted after)) (plan_config after packet) (λ on. absurd (tame.no_halt (same o halt on)))
+    (λ no_halt. keeps_if who L G P m (o == tile_binning_mode) (Done (configured after packet)) (plan_start after packet)
+    (λ on.
+    let is : o ≡ tile_binning_mode = same o tile_binning_mode on in
+    let now : config_of packet ≡ c = config_is packet c (tame.configures is) in
+    gone (record kept { config = Some (config_of packet) })
+    (passed_config kept packet (passed_is (passed_of kept) packet true false false on (other o tile_binning_mode gl_shader_state is refl) (other o tile_binning_mode start_tile_binning is refl)))
+    (Only (ap Some now)) (λ closed. ap Some now))
+    (λ no_config. keeps_if who L G P m (o == start_tile_binning) (begin_plan after kept.config) (plan_word after packet)
+    (λ on.
+    let is : o ≡ start_tile_binning = same o start_tile_binning on in
+    clear_keeps who r L P c after kept.config m allocates (only_by kept.config c (tame.starts is))
+    (λ k. gone (record kept { started = true })
+    (passed_is (passed_of kept) packet false false true no_config (other o start_tile_binning gl_shader_state is refl) on)
+    fine.configs fine.closed))
+    (λ no_start. keeps_if who L G P m (o == gl_shader_state) (Done (with_word after packet)) (plan_draw after packet)
+    (λ on. gone (record kept { word = Some (u32_at packet 1) }) (passed_is (passed_of kept) packet false true false no_config on no_start) fine.configs fine.closed)
+    (λ no_state.
+    let rest : ListsFine r K O c f after = gone kept (passed_is (passed_of kept) packet false false false no_config no_state no_start) fine.configs fine.closed in
+    keeps_if who L G P m (o == indexed_primitive_list || o == array_primitive_list) (draw_plan after packet) (plan_raise after packet)
+    (λ on.
+    let drawing : Drawing (DrawsSo r K O) (passed_of kept) packet = elim (both_off (o == indexed_primitive_list) (o == array_primitive_list) on) [
+      | inl e ↦ tame.indexed (same o indexed_primitive_list e)
+      | inr e ↦ tame.array (same o array_primitive_list e)
+    ] in
+    draw_keeps who r K O c f L after packet m drawing rest)
+    (λ no_draw. keeps_if who L G P m (o == increment_semaphore) (Done (incremented after)) (plan_flush after packet)
+    (λ on. raised r K O c f after rest)
+    (λ no_raise. keeps_if who L G P m (o == flush) (Done (flushed after)) (Done after)
+    (λ on. shut r K O c f after rest (only_by kept.config c (tame.closes (same o flush on))))
+    (λ no_flush. rest))))))))
+
+-- The binner reads its next packet.
+none_left : (place end : ℕ) → place + 0 ≡ end → place < end → ⊥
+none_left place end ends below = omega (arith, ends, below)
+
+read_step : (who : Who) (r : Rights) (K : List ℕ → Type 0) (O : Launch → Type 0) (c : Config) (f : Frame) (s : Lists) (m : List ℕ) (rest : List (List ℕ))
+    → Allocates r c → K m → ListsFine r K O c f s → s.binner.place < s.binner.end
+    → s.binner.place + length (joined rest) ≡ s.binner.end → Walks (grid_of c) (DrawsSo r K O) (passed_of s.binner.kept) rest
+    → ((n : List ℕ) → K n → bytes_at n s.binner.place (length (joined rest)) ≡ joined rest) → Inside r.region s.binner.place (length (joined rest))
+    → Keeps who (Inside r.region) (IsSafeIn r) (λ k next. ListsFine r K O c f next) (read_plan s) m
+read_step who r K O c f s m [] allocates here fine below ends walks stands reads = absurd (none_left s.binner.place s.binner.end ends below)
+read_step who r K O c f s m (packet ∷ packets) allocates here fine below ends walks stands reads =
+    let place = s.binner.place in
+    let tame : Tame (grid_of c) (DrawsSo r K O) (passed_of s.binner.kept) packet = walks.0 in
+    let bytes : bytes_at m place (length packet) ≡ packet = bytes_front m place packet (joined packets) (stands m here) in
+    let some : 1 ≤ length packet = omega (arith, tame.whole, tame.known) in
+    let first : slice_index m place ≡ opcode packet = byte_front m place packet some bytes in
+    let inside : Inside r.region place (length packet) = front_inside r.region place packet (joined packets) reads in
+    read_keeps who (Inside r.region) (IsSafeIn r) (λ k next. ListsFine r K O c f next) s m (length packet) packet
+    (ap bin_taken first ∙ taken_is packet tame.whole tame.known) bytes
+    (inside_part r.region place (length packet) place 1 inside (omega arith) (omega (arith, some))) (read_safe r who place (length packet) inside)
+    (packet_keeps who r K O c f (Inside r.region) s packet m allocates fine tame
+    (λ after is. way_behind r K O c place s.binner.end s.binner.kept after packet packets ends walks.1 stands reads is))
+
+-- A primitive in work.
+first_true : (a b : Bool) → (a && b) ≡ true → a ≡ true
+first_true true b h = refl
+first_true false b h = h
+
+ready_item : (due more start item : Bool) → due ≡ false → more ≡ false → (if due then start else (if more then true else item)) ≡ true → item ≡ true
+ready_item true more start item off all ready = absurd cc
+ready_item false true start item off all ready = absurd cc
+ready_item false false start item off all ready = ready
+
+tile_below : (c : Config) (words : List ℕ) → (chosen_tile c words == tiles_of c) ≡ false → chosen_tile c words < tiles_of c
+unfolding chosen_tile
+tile_below c words off =
+    let low : chosen_tile c words < tiles_of c + 1 = mod-lt (word_at words 0) (omega arith) in
+    let differs = not_same (chosen_tile c words) (tiles_of c) off in
+    omega (arith, low, differs)
+
+item_keeps : (who : Who) (r : Rights) (K : List ℕ → Type 0) (O : Launch → Type 0) (c : Config) (f : Frame) (L : ℕ → ℕ → Type 0) (s : Lists) (w : Work) (words m : List ℕ) (config : Option Config)
+    → Allocates r c → ListsFine r K O c f s → WorkFine r K O w → IsOnly c config → item_may s config ≡ true
+    → Keeps who L (IsSafeIn r) (λ k next. ListsFine r K O c f next) (item_plan s config w words) m
+unfolding tile_plan
+item_keeps who r K O c f L s w words m None allocates fine work only ready = fine
+item_keeps who r K O c f L s w words m (Some one) allocates fine work (NotYet e) ready = absurd cc
+item_keeps who r K O c f L s w words m (Some one) allocates fine work (Only e) ready =
+    let is : c ≡ one = sym (ap (λ o. unwrap_or o c) e) in
+    let P = λ (k : List ℕ) (next : Lists). ListsFine r K O c f next in
+    let Q : Config → Type 0 = λ x. item_may s (Some x) ≡ true → Keeps who L (IsSafeIn r) P (item_plan s (Some x) w words) m in
+    let tile : ℕ = chosen_tile c words in
+    let here : Q c = λ may.
+    keeps_if who L (IsSafeIn r) P m (tile == tiles_of c) (Done (with_work s None)) (put_plan s c w tile (spot_of tile s.items))
+    (λ on. work_set r K O c f s None fine tt)
+    (λ off. put_keeps who r K O c L P s w tile m allocates fine.log work (tile_below c words off) (first_true (has_room c s.blocks) (nat_lt (length s.items) most_items) may)
+    (λ k place log. (log_set r K O c f s s.blocks (s.items ++ item_of w tile place ∷ []) fine log, log_set r K O c f s (s.blocks + 1) (s.items ++ item_of w tile place ∷ []) fine log))) in
+    subst Q is here ready
+
+work_keeps : (who : Who) (r : Rights) (K : List ℕ → Type 0) (O : Launch → Type 0) (c : Config) (f : Frame) (s : Lists) (w : Work) (free : Free) (words m : List ℕ)
+    → Allocates r c → K m → ListsFine r K O c f s → WorkFine r K O w → work_may s w free ≡ true
+    → Keeps who (Inside r.region) (IsSafeIn r) (λ k turned. TurnedFine r K O c f turned) (work_plan s w free words) m
+unfolding work_plan work_may one_done not_due
+work_keeps who r K O c f s w free words m allocates here fine work ready =
+    let L = Inside r.region in
+    let G = IsSafeIn r in
+    let P = λ (k : List ℕ) (turned : Turned). TurnedFine r K O c f turned in
+    keeps_if who L G P m w.due (mapped (started_with s w) (start_plan Coordinate free w.word)) (if nat_lt w.done w.primitive.length then mapped (fetched_with s w) (fetch_plan w.primitive w.word w.done) else mapped quiet (item_plan s s.binner.kept.config w words))
+    (λ on. keeps_mapped (started_with s w) who L G P (start_plan Coordinate free w.word) m
+    (keeps_weaker who L L G G (λ n launch. IfSome launch O) (λ n launch. P n (started_with s w launch)) (λ p n h. h) (λ a h. h)
+    (λ n launch may. record {
+      lists = work_set r K O c f s (Some (not_due w)) fine (record { few = work.few; uses = work.uses });
+      launch = may;
+    })
+    (start_plan Coordinate free w.word) m (start_fine who r O m Coordinate free w.word (work.uses.programs m here))))
+    (λ off. keeps_if who L G P m (nat_lt w.done w.primitive.length) (mapped (fetched_with s w) (fetch_plan w.primitive w.word w.done)) (mapped quiet (item_plan s s.binner.kept.config w words))
+    (λ more.
+    let below : w.done < w.primitive.length = grind (arith, common_steps, nat_tests, more) in
+    keeps_mapped (fetched_with s w) who L G P (fetch_plan w.primitive w.word w.done) m
+    (keeps_weaker who L L G G AnyEnd (λ n index. P n (fetched_with s w index)) (λ p n h. h) (λ a h. h)
+    (λ n index any. record {
+      lists = work_set r K O c f s (Some (one_done w)) fine (record { few = omega (arith, below); uses = work.uses });
+      launch = tt;
+    })
+    (fetch_plan w.primitive w.word w.done) m (fetch_keeps who r m w.word w.primitive w.done (work.uses.fetches m here) below)))
+    (λ all.
+    let may : item_may s s.binner.kept.config ≡ true = ready_item w.due (nat_lt w.done w.primitive.length) (can_start false free) (item_may s s.binner.kept.config) off all ready in
+    keeps_mapped quiet who L G P (item_plan s s.binner.kept.config w words) m
+    (keeps_weaker who L L G G (λ n next. ListsFine r K O c f next) (λ n next. P n (quiet next)) (λ p n h. h) (λ a h. h)
+    (λ n next one. record { lists = one; launch = tt })
+    (item_plan s s.binner.kept.config w words) m
+    (item_keeps who r K O c f L s w words m s.binner.kept.config allocates fine work fine.configs may))))
+
+binner_keeps_by : (who : Who) (r : Rights) (K : List ℕ → Type 0) (O : Launch → Type 0) (c : Config) (f : Frame) (s : Lists) (work : Option Work) (free : Free) (words m : List ℕ)
+    → Allocates r c → K m → ListsFine r K O c f s → IfSome work (WorkFine r K O) → binner_may s work free ≡ true
+    → Keeps who (Inside r.region) (IsSafeIn r) (λ k turned. TurnedFine r K O c f turned) (binner_by s work free words) m
+binner_keeps_by who r K O c f s None free words m allocates here fine work ready =
+    let below : s.binner.place < s.binner.end = grind (arith, common_steps, nat_tests, ready) in
+    let way = fine.binner in
+    let L = Inside r.region in
+    let G = IsSafeIn r in
+    let P = λ (k : List ℕ) (turned : Turned). TurnedFine r K O c f turned in
+    keeps_mapped quiet who L G P (read_plan s) m
+    (keeps_weaker who L L G G (λ n next. ListsFine r K O c f next) (λ n next. P n (quiet next)) (λ p n h. h) (λ a h. h)
+    (λ n next one. record { lists = one; launch = tt })
+    (read_plan s) m
+    (read_step who r K O c f s m way.rest allocates here fine below way.ends way.walks way.stands way.reads))
+binner_keeps_by who r K O c f s (Some w) free words m allocates here fine work ready = work_keeps who r K O c f s w free words m allocates here fine work ready
+
+-- One step of the binner.
+pub binner_keeps : (who : Who) (r : Rights) (K : List ℕ → Type 0) (O : Launch → Type 0) (c : Config) (f : Frame) (s : Lists) (free : Free) (words m : List ℕ)
+    → Allocates r c → K m → ListsFine r K O c f s → glanced (binner_ready s free) m ≡ true
+    → Keeps who (Inside r.region) (IsSafeIn r) (λ k turned. TurnedFine r K O c f turned) (binner_plan s free words) m
+unfolding binner_plan binner_ready
+binner_keeps who r K O c f s free words m allocates here fine ready = binner_keeps_by who r K O c f s s.binner.work free words m allocates here fine fine.work ready

@@ -1,0 +1,48 @@
+-- The bytes of a packet in memory, and those behind it.
+use Rattle.std.proofs.Common.{◌≡◌, ◌≤◌, ℕ, suc, ◌+◌, List, [], ◌∷◌, ◌++◌, length, slice_index, refl, ◌∙◌, ap, arith}
+use Rattle.std.proofs.lemmas.List.{length-append}
+use Rattle.machine_plan.specs.Memory.{bytes_at}
+use Rattle.machine_plan.specs.Regions.{Interval, Inside}
+use Rattle.machine_plan.proofs.Memory.{inside_part}
+
+pub bytes_front : (m : List ℕ) (p : ℕ) (front rest : List ℕ) → bytes_at m p (length (front ++ rest)) ≡ front ++ rest → bytes_at m p (length front) ≡ front
+unfolding bytes_at
+bytes_front m p [] rest e = refl
+bytes_front m p (b ∷ front) rest e =
+    let here : slice_index m p ≡ b = cc in
+    let behind : bytes_at m (suc p) (length (front ++ rest)) ≡ front ++ rest = cc in
+    let later : bytes_at m (suc p) (length front) ≡ front = bytes_front m (suc p) front rest behind in
+    cc
+
+pub bytes_behind : (m : List ℕ) (p : ℕ) (front rest : List ℕ) → bytes_at m p (length (front ++ rest)) ≡ front ++ rest → bytes_at m (p + length front) (length rest) ≡ rest
+unfolding bytes_at
+bytes_behind m p [] rest e =
+    let here : p + 0 ≡ p = omega arith in
+    ap (λ q. bytes_at m q (length rest)) here ∙ e
+bytes_behind m p (b ∷ front) rest e =
+    let behind : bytes_at m (suc p) (length (front ++ rest)) ≡ front ++ rest = cc in
+    let there : p + length (b ∷ front) ≡ suc p + length front = omega arith in
+    ap (λ q. bytes_at m q (length rest)) there ∙ bytes_behind m (suc p) front rest behind
+
+-- the first byte
+pub byte_front : (m : List ℕ) (p : ℕ) (text : List ℕ) → 1 ≤ length text → bytes_at m p (length text) ≡ text → slice_index m p ≡ slice_index text 0
+unfolding bytes_at
+byte_front m p [] some e = absurd (omega (arith, some))
+byte_front m p (b ∷ text) some e =
+    let here : slice_index m p ≡ b = cc in
+    here
+
+pub front_inside : (region : List Interval) (p : ℕ) (front rest : List ℕ) → Inside region p (length (front ++ rest)) → Inside region p (length front)
+front_inside region p front rest inside =
+    let long : length (front ++ rest) ≡ length front + length rest = length-append front rest in
+    inside_part region p (length (front ++ rest)) p (length front) inside (omega arith) (omega (arith, long))
+
+pub behind_inside : (region : List Interval) (p : ℕ) (front rest : List ℕ) → Inside region p (length (front ++ rest)) → Inside region (p + length front) (length rest)
+behind_inside region p front rest inside =
+    let long : length (front ++ rest) ≡ length front + length rest = length-append front rest in
+    inside_part region p (length (front ++ rest)) (p + length front) (length rest) inside (omega arith) (omega (arith, long))
+
+pub behind_ends : (p end : ℕ) (front rest : List ℕ) → p + length (front ++ rest) ≡ end → p + length front + length rest ≡ end
+behind_ends p end front rest ends =
+    let long : length (front ++ rest) ≡ length front + length rest = length-append front rest in
+    omega (arith, long, ends)

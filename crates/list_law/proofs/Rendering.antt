@@ -1,0 +1,499 @@
+-- One step of the renderer keeps all that stands.
+use Rattle.std.proofs.Common.{◌≡◌, ◌≢◌, ◌≤◌, ◌<◌, ◌⊎◌, inl, inr, ℕ, zero, suc, ◌+◌, ◌*◌, ◌-◌, ◌/◌, ◌%◌, ◌==◌, ◌&&◌, not, Bool, true, false, List, [], ◌∷◌, length, drop, slice_index, Option, Some, None, IfSome, if◌then◌else◌, refl, sym, ◌∙◌, ap, subst, arith}
+use Rattle.std.specs.Prelude.{nat_lt, nat_le, option_map, is_some}
+use Rattle.std.proofs.lemmas.Grind.{common_steps}
+use Rattle.std.proofs.lemmas.Bool.Decides.{nat_tests}
+use Rattle.std.proofs.Math.Nat.{mod-lt}
+use Rattle.field_words.specs.declared.access.Way.TheVariants.{Write}
+use Rattle.packets.specs.declared.packet.Packet.{Packet}
+use Rattle.packets.specs.declared.packet.Packet.TheVariants.{WaitOnSemaphore, BranchToSubList, StoreTileColor, StoreTileColorAndEnd, StoreFullResolution, LoadFullResolution, StoreTileBuffer, LoadTileBuffer, TileRenderingMode, ClearColors, TileCoordinates}
+use Rattle.packets.specs.Length.{render_taken}
+use Rattle.packets.specs.Packet.{packet_text, slots_text}
+use Rattle.packets.proofs.Laws.{decoded_text, taken_text}
+use Rattle.machine_plan.specs.declared.who.Who.{Who}
+use Rattle.machine_plan.specs.declared.launch.Free.{Free}
+use Rattle.machine_plan.specs.declared.launch.Launch.{Launch}
+use Rattle.machine_plan.specs.Choice.{word_at}
+use Rattle.machine_plan.specs.Glance.{Glance, Now, At, glanced, GlancesIn}
+use Rattle.machine_plan.specs.Memory.{bytes_at, stored}
+use Rattle.machine_plan.specs.Plan.{Done, Wilds, Keeps, access}
+use Rattle.machine_plan.specs.Regions.{Inside, Rights, Every, IsSafeIn}
+use Rattle.machine_plan.specs.World.{mapped}
+use Rattle.machine_plan.proofs.Memory.{inside_part}
+use Rattle.machine_plan.proofs.Plans.{keeps_weaker}
+use Rattle.machine_plan.proofs.Worlds.{keeps_mapped}
+use Rattle.render_walks.specs.Walks.{View, pass, IsDoneAt, Tame, WalksTo, AllFit}
+use Rattle.list_machine.specs.declared.state.Config.{Config}
+use Rattle.list_machine.specs.declared.state.Found.{Found}
+use Rattle.list_machine.specs.declared.state.Frame.{Frame}
+use Rattle.list_machine.specs.declared.state.Item.{Item}
+use Rattle.list_machine.specs.declared.state.Load.{Load}
+use Rattle.list_machine.specs.declared.state.Load.TheVariants.{Full, General}
+use Rattle.list_machine.specs.declared.state.Program.{Program}
+use Rattle.list_machine.specs.declared.state.Program.TheVariants.{Fragment, Vertex}
+use Rattle.list_machine.specs.declared.state.Renderer.{Renderer}
+use Rattle.list_machine.specs.declared.state.SubList.{SubList}
+use Rattle.list_machine.specs.declared.surface.Cover.{Cover}
+use Rattle.list_machine.specs.Lists.{Lists, Turned, turned_to, quiet, with_renderer, with_taken}
+use Rattle.list_machine.specs.Blocks.{tiles_of}
+use Rattle.list_machine.specs.Fetch.{fetch_plan}
+use Rattle.list_machine.specs.Start.{start_plan}
+use Rattle.list_machine.specs.Store.{chosen}
+use Rattle.list_machine.specs.Cover.{general_style, frame_style, cover_for, part_count, part_place}
+use Rattle.list_machine.specs.Surfaces.{cover_written, cover_read, aligned, names_none, general_written, general_read, frame_written, whole_size, whole_written, whole_read, waiting_read}
+use Rattle.list_machine.specs.Renderer.{beyond, with_load, at_tile, with_inside, wait_plan, tile_named, enter_plan, tile_by, branch_plan, tile_plan, act, first_of_tile, item_at, at_item, fetched, vertex_plan, program_plan, choice_plan, found_plan, plan_in, renderer_plan, may_pass, ready_in, renderer_ready}
+use Rattle.list_machine.proofs.Storing.{chosen_size}
+use Rattle.list_machine.proofs.Keeping.{packet_keeps, written_keep, read_keep}
+use Rattle.list_machine.proofs.Items.{ready_below}
+use Rattle.list_law.specs.May.{MayWrite}
+use Rattle.list_law.specs.Binning.{ItemFine}
+use Rattle.list_law.specs.Rendering.{StoresSurface, LoadsSurface, IsTileList, MayDo, SetsOnly, AllSet, load_packet, view_of, NoMatter, RenderWay, PartsMeet}
+use Rattle.list_law.specs.Lists.{ListsFine, TurnedFine}
+use Rattle.list_law.proofs.Safe.{read_safe, write_safe, keeps_if}
+use Rattle.list_law.proofs.Fetching.{AnyEnd, fetch_keeps, start_fine}
+use Rattle.list_law.proofs.Bytes.{bytes_front, bytes_behind, byte_front, front_inside, behind_inside, behind_ends}
+use Rattle.list_law.proofs.Logs.{not_same}
+use Rattle.list_law.proofs.Surfaces.{store_fine, load_fine}
+
+-- The same with another renderer.
+pub render_set : (r : Rights) (K : List ℕ → Type 0) (O : Launch → Type 0) (c : Config) (f : Frame) (s : Lists) (renderer : Renderer) (waited : Bool) → ListsFine r K O c f s
+    → RenderWay r K c f renderer waited → (waited ≡ true → s.closed ≡ true) → ListsFine r K O c f (with_renderer s renderer)
+render_set r K O c f s renderer waited fine way passed = record {
+  waited = waited;
+  binner = fine.binner;
+  work = fine.work;
+  configs = fine.configs;
+  log = fine.log;
+  renderer = way;
+  counted = fine.counted;
+  passed = passed;
+  closed = fine.closed;
+}
+
+-- one less on the semaphore
+less : (n : ℕ) (b : Bool) → (n ≡ 0) ⊎ (b ≡ true) → (n - 1 ≡ 0) ⊎ (b ≡ true)
+less n b (inl e) = inl (omega (arith, e))
+less n b (inr e) = inr e
+
+taken_fine : (r : Rights) (K : List ℕ → Type 0) (O : Launch → Type 0) (c : Config) (f : Frame) (s : Lists) → ListsFine r K O c f s → ListsFine r K O c f (with_taken s)
+taken_fine r K O c f s fine = record {
+  waited = fine.waited;
+  binner = fine.binner;
+  work = fine.work;
+  configs = fine.configs;
+  log = fine.log;
+  renderer = fine.renderer;
+  counted = less s.semaphore s.closed fine.counted;
+  passed = fine.passed;
+  closed = fine.closed;
+}
+
+still : (r : Rights) (K : List ℕ → Type 0) (O : Launch → Type 0) (c : Config) (f : Frame) (s : Lists) → ListsFine r K O c f s → TurnedFine r K O c f (quiet s)
+still r K O c f s fine = record { lists = fine; launch = tt }
+
+-- Loads and stores.
+covered_written : (who : Who) (r : Rights) (L : ℕ → ℕ → Type 0) (P : List ℕ → Lists → Type 0) (cover : Option Cover) (words : List ℕ) (s : Lists) (m : List ℕ)
+    → PartsMeet (MayWrite r) cover → ((k : List ℕ) → P k s) → Keeps who L (IsSafeIn r) P (cover_written cover words (Done s)) m
+unfolding cover_written
+covered_written who r L P None words s m parts ends = absurd parts
+covered_written who r L P (Some cover) words s m parts ends =
+    written_keep who L (IsSafeIn r) P cover words s 0 (part_count cover) m (λ k low high. write_safe r who (part_place cover k) cover.size (parts k (omega (arith, high)))) ends
+
+covered_read : (who : Who) (r : Rights) (L : ℕ → ℕ → Type 0) (P : List ℕ → Lists → Type 0) (cover : Option Cover) (s : Lists) (m : List ℕ)
+    → PartsMeet (Inside r.region) cover → P m s → Keeps who L (IsSafeIn r) P (cover_read cover (Done s)) m
+unfolding cover_read
+covered_read who r L P None s m parts ends = absurd parts
+covered_read who r L P (Some cover) s m parts ends =
+    read_keep who L (IsSafeIn r) P cover s 0 (part_count cover) m (λ k low high. read_safe r who (part_place cover k) cover.size (parts k (omega (arith, high)))) ends
+
+whole_stored : (who : Who) (r : Rights) (L : ℕ → ℕ → Type 0) (P : List ℕ → Lists → Type 0) (address : ℕ) (words : List ℕ) (s : Lists) (m : List ℕ)
+    → MayWrite r (aligned address) whole_size → ((k : List ℕ) → P k s) → Keeps who L (IsSafeIn r) P (whole_written address words (Done s)) m
+unfolding whole_written
+whole_stored who r L P address words s m may ends = (
+  subst (λ n. IsSafeIn r (access who Write (aligned address) n)) (sym (chosen_size words 0 whole_size)) (write_safe r who (aligned address) whole_size may),
+  ends (stored m (aligned address) (chosen words 0 whole_size)),
+)
+
+-- the frame that is set is the job's one
+frame_is : (f : Frame) (frame : Option Frame) → is_some frame ≡ true → IfSome frame (λ one. one ≡ f) → frame ≡ Some f
+frame_is f None framed only = absurd cc
+frame_is f (Some one) framed only = ap Some only
+
+frame_stored : (who : Who) (r : Rights) (L : ℕ → ℕ → Type 0) (P : List ℕ → Lists → Type 0) (f : Frame) (frame : Option Frame) (x y : ℕ) (words : List ℕ) (s : Lists) (m : List ℕ)
+    → frame ≡ Some f → StoresSurface r (frame_style f.bits) f f.address → ((k : List ℕ) → P k s) → Keeps who L (IsSafeIn r) P (frame_written frame x y words (Done s)) m
+unfolding frame_written
+frame_stored who r L P f frame x y words s m is stores ends =
+    subst (λ (one : Option Frame). Keeps who L (IsSafeIn r) P (frame_written one x y words (Done s)) m) (sym is)
+    (covered_written who r L P (cover_for (frame_style f.bits) (Some f) f.address x y) words s m (store_fine r (frame_style f.bits) f f.address x y stores) ends)
+
+off_surface : (A : Type 0) (b : Bool) → (b ≡ true) ⊎ A → b ≡ false → A
+off_surface A b (inl e) off = absurd cc
+off_surface A b (inr a) off = a
+
+general_stored : (who : Who) (r : Rights) (L : ℕ → ℕ → Type 0) (P : List ℕ → Lists → Type 0) (f : Frame) (frame : Option Frame) (bits address x y : ℕ) (words : List ℕ) (s : Lists) (m : List ℕ)
+    → frame ≡ Some f → (names_none bits ≡ true) ⊎ StoresSurface r (general_style bits) f (aligned address) → ((k : List ℕ) → P k s)
+    → Keeps who L (IsSafeIn r) P (general_written bits address frame x y words (Done s)) m
+unfolding general_written
+general_stored who r L P f frame bits address x y words s m is stores ends =
+    keeps_if who L (IsSafeIn r) P m (names_none bits) (Done s) (cover_written (cover_for (general_style bits) frame (aligned address) x y) words (Done s))
+    (λ on. ends m)
+    (λ off. covered_written who r L P (cover_for (general_style bits) frame (aligned address) x y) words s m
+    (subst (λ (one : Option Frame). PartsMeet (MayWrite r) (cover_for (general_style bits) one (aligned address) x y)) (sym is)
+    (store_fine r (general_style bits) f (aligned address) x y (off_surface (StoresSurface r (general_style bits) f (aligned address)) (names_none bits) stores off))) ends)
+
+general_loaded : (who : Who) (r : Rights) (L : ℕ → ℕ → Type 0) (P : List ℕ → Lists → Type 0) (f : Frame) (frame : Option Frame) (bits address x y : ℕ) (s : Lists) (m : List ℕ)
+    → frame ≡ Some f → (names_none bits ≡ true) ⊎ LoadsSurface r (general_style bits) f (aligned address) → P m s
+    → Keeps who L (IsSafeIn r) P (general_read bits address frame x y (Done s)) m
+unfolding general_read
+general_loaded who r L P f frame bits address x y s m is loads ends =
+    keeps_if who L (IsSafeIn r) P m (names_none bits) (Done s) (cover_read (cover_for (general_style bits) frame (aligned address) x y) (Done s))
+    (λ on. ends)
+    (λ off. covered_read who r L P (cover_for (general_style bits) frame (aligned address) x y) s m
+    (subst (λ (one : Option Frame). PartsMeet (Inside r.region) (cover_for (general_style bits) one (aligned address) x y)) (sym is)
+    (load_fine r (general_style bits) f (aligned address) x y (off_surface (LoadsSurface r (general_style bits) f (aligned address)) (names_none bits) loads off))) ends)
+
+-- the load that waits is done
+waiting_loaded : (who : Who) (r : Rights) (c : Config) (f : Frame) (L : ℕ → ℕ → Type 0) (P : List ℕ → Lists → Type 0) (frame : Option Frame) (waiting : Option Load) (x y : ℕ) (s : Lists) (m : List ℕ)
+    → frame ≡ Some f → IsDoneAt (MayDo r c f) (option_map load_packet waiting) x y → P m s
+    → Keeps who L (IsSafeIn r) P (waiting_read waiting frame x y (Done s)) m
+unfolding whole_read
+waiting_loaded who r c f L P frame None x y s m is may ends = ends
+waiting_loaded who r c f L P frame (Some (Full address)) x y s m is may ends = (read_safe r who (aligned address) whole_size may, ends)
+waiting_loaded who r c f L P frame (Some (General bits address)) x y s m is may ends = general_loaded who r L P f frame bits address x y s m is may ends
+
+-- no load waits
+idle : (waiting : Option Load) → option_map load_packet waiting ≡ None → waiting ≡ None
+idle None e = refl
+idle (Some load) e = absurd cc
+
+-- the tile whose list begins at the address
+offset_is : (base tile : ℕ) → base + 32 * tile - base ≡ 32 * tile
+offset_is base tile = omega arith
+
+tile_is : (c : Config) (address tile : ℕ) → address ≡ c.address + 32 * tile → tile < tiles_of c → tile_named c address ≡ Some tile
+unfolding tile_named
+tile_is c address tile is below =
+    let low : nat_le c.address address ≡ true = grind (arith, common_steps, nat_tests, is) in
+    let offset : address - c.address ≡ 32 * tile = omega (arith, is) in
+    let whole : (32 * tile % 32 == 0) ≡ true = grind (arith, common_steps, nat_tests) in
+    let number : 32 * tile / 32 ≡ tile = omega arith in
+    let few : nat_lt tile (tiles_of c) ≡ true = grind (arith, common_steps, nat_tests, below) in
+    ap (λ o. if (nat_le c.address address && o % 32 == 0) && nat_lt (o / 32) (tiles_of c) then Some (o / 32) else None) offset
+    ∙ ap (λ n. if (nat_le c.address address && 32 * tile % 32 == 0) && nat_lt n (tiles_of c) then Some n else None) number
+    ∙ (λ i. if (low i && whole i) && few i then Some tile else None)
+
+branch_keeps : (who : Who) (r : Rights) (L : ℕ → ℕ → Type 0) (P : List ℕ → Lists → Type 0) (c : Config) (s : Lists) (address : ℕ) (m : List ℕ) (config : Option Config) (closed : Bool) (list : IsTileList c address)
+    → closed ≡ true → config ≡ Some c → P m (with_inside s (Some (record { tile = list.tile; at = 0 })))
+    → Keeps who L (IsSafeIn r) P (if closed then enter_plan s (tile_by config address) else Wilds) m
+branch_keeps who r L P c s address m config closed list on is ends =
+    let Q : Option Config → Type 0 = λ (one : Option Config). Keeps who L (IsSafeIn r) P (enter_plan s (tile_by one address)) m in
+    let R : Option ℕ → Type 0 = λ (one : Option ℕ). Keeps who L (IsSafeIn r) P (enter_plan s one) m in
+    let there : Q (Some c) = subst R (sym (tile_is c address list.tile list.is list.below)) ends in
+    subst (λ (b : Bool). Keeps who L (IsSafeIn r) P (if b then enter_plan s (tile_by config address) else Wilds) m) (sym on) (subst Q (sym is) there)
+
+-- The renderer behind a packet, with what it keeps then.
+abbrev behind : Renderer → ℕ → Option Frame → (x y : ℕ) → Option Load → Option SubList → Renderer
+behind renderer len frame x y waiting inside = record { place = renderer.place + len; end = renderer.end; frame = frame; x = x; y = y; waiting = waiting; inside = inside }
+
+-- What is known of the list behind a packet.
+record Ahead (r : Rights) (K : List ℕ → Type 0) (c : Config) (f : Frame) (place end : ℕ) (view : View) (rest : List (Option Packet)) : Type 0 where
+  pub ends : place + length (slots_text rest) ≡ end
+  pub walks : WalksTo (MayDo r c f) NoMatter view rest
+  pub fit : AllFit rest
+  pub sets : AllSet f rest
+  pub stands : (m : List ℕ) → K m → bytes_at m place (length (slots_text rest)) ≡ slots_text rest
+  pub reads : Inside r.region place (length (slots_text rest))
+
+way_on : (r : Rights) (K : List ℕ → Type 0) (c : Config) (f : Frame) (renderer : Renderer) (waited : Bool) (rest : List (Option Packet))
+    → Ahead r K c f renderer.place renderer.end (view_of renderer waited) rest → IfSome renderer.frame (λ one. one ≡ f) → IfSome renderer.inside (λ sub. (sub.tile < tiles_of c) × (waited ≡ true))
+    → RenderWay r K c f renderer waited
+way_on r K c f renderer waited rest ahead frame inside = record {
+  rest = rest;
+  ends = ahead.ends;
+  walks = ahead.walks;
+  fit = ahead.fit;
+  sets = ahead.sets;
+  stands = ahead.stands;
+  reads = ahead.reads;
+  frame = frame;
+  inside = inside;
+}
+
+raised_when : (n : ℕ) (b : Bool) → (n ≡ 0) ⊎ (b ≡ true) → n ≢ 0 → b ≡ true
+raised_when n b (inl e) some = absurd (some e)
+raised_when n b (inr e) some = e
+
+inside_again : (c : Config) (inside : Option SubList) (waited : Bool) → inside ≡ None → IfSome inside (λ sub. (sub.tile < tiles_of c) × (waited ≡ true))
+inside_again c None waited e = tt
+inside_again c (Some sub) waited e = absurd cc
+
+wait_keeps : (who : Who) (r : Rights) (L : ℕ → ℕ → Type 0) (P : List ℕ → Lists → Type 0) (s : Lists) (waiting : Option Load) (load : Load) (m : List ℕ)
+    → waiting ≡ None → P m (with_load s load) → Keeps who L (IsSafeIn r) P (wait_plan s waiting load) m
+wait_keeps who r L P s None load m is ends = ends
+wait_keeps who r L P s (Some other) load m is ends = absurd cc
+
+-- What a packet of the list says is done safely, and all stands again.
+act_keeps : (who : Who) (r : Rights) (K : List ℕ → Type 0) (O : Launch → Type 0) (c : Config) (f : Frame) (L : ℕ → ℕ → Type 0) (s : Lists) (words m : List ℕ) (packet : Packet) (rest : List (Option Packet))
+    → (fine : ListsFine r K O c f s) → s.renderer.inside ≡ None → (packet ≡ WaitOnSemaphore → s.semaphore ≢ 0)
+    → Tame (MayDo r c f) (view_of s.renderer fine.waited) packet → SetsOnly f packet
+    → Ahead r K c f (s.renderer.place + length (packet_text packet)) s.renderer.end (pass (view_of s.renderer fine.waited) packet) rest
+    → Keeps who L (IsSafeIn r) (λ k next. TurnedFine r K O c f (quiet next)) (act (beyond s (length (packet_text packet))) words packet) m
+unfolding branch_plan tile_plan packet_text
+act_keeps who r K O c f L s words m WaitOnSemaphore rest fine outside raised tame sets ahead =
+    let renderer : Renderer = behind s.renderer 1 s.renderer.frame s.renderer.x s.renderer.y s.renderer.waiting s.renderer.inside in
+    let closed : s.closed ≡ true = raised_when s.semaphore s.closed fine.counted (raised refl) in
+    let way : RenderWay r K c f renderer true = way_on r K c f renderer true rest ahead fine.renderer.frame (inside_again c s.renderer.inside true outside) in
+    let next : Lists = with_renderer s renderer in
+    still r K O c f (with_taken next) (taken_fine r K O c f next (render_set r K O c f s renderer true fine way (λ waited. closed)))
+act_keeps who r K O c f L s words m (BranchToSubList address) rest fine outside raised tame sets ahead =
+    let next : Lists = beyond s 5 in
+    let closed : s.closed ≡ true = fine.passed tame.0 in
+    let list : IsTileList c address = tame.1 in
+    let sub : SubList = record { tile = list.tile; at = 0 } in
+    let renderer : Renderer = behind s.renderer 5 s.renderer.frame s.renderer.x s.renderer.y s.renderer.waiting (Some sub) in
+    let way : RenderWay r K c f renderer fine.waited = way_on r K c f renderer fine.waited rest ahead fine.renderer.frame (list.below, tame.0) in
+    branch_keeps who r L (λ k next. TurnedFine r K O c f (quiet next)) c next address m s.binner.kept.config s.closed list closed (fine.closed closed)
+    (still r K O c f (with_renderer s renderer) (render_set r K O c f s renderer fine.waited fine way fine.passed))
+act_keeps who r K O c f L s words m StoreTileColor rest fine outside raised tame sets ahead =
+    let next : Lists = beyond s 1 in
+    let way : RenderWay r K c f next.renderer fine.waited = way_on r K c f next.renderer fine.waited rest ahead fine.renderer.frame fine.renderer.inside in
+    frame_stored who r L (λ k next. TurnedFine r K O c f (quiet next)) f s.renderer.frame s.renderer.x s.renderer.y words next m (frame_is f s.renderer.frame tame.0 fine.renderer.frame) tame.1
+    (λ k. still r K O c f next (render_set r K O c f s next.renderer fine.waited fine way fine.passed))
+act_keeps who r K O c f L s words m StoreTileColorAndEnd rest fine outside raised tame sets ahead =
+    let next : Lists = beyond s 1 in
+    let way : RenderWay r K c f next.renderer fine.waited = way_on r K c f next.renderer fine.waited rest ahead fine.renderer.frame fine.renderer.inside in
+    frame_stored who r L (λ k next. TurnedFine r K O c f (quiet next)) f s.renderer.frame s.renderer.x s.renderer.y words next m (frame_is f s.renderer.frame tame.0 fine.renderer.frame) tame.1
+    (λ k. still r K O c f next (render_set r K O c f s next.renderer fine.waited fine way fine.passed))
+act_keeps who r K O c f L s words m (StoreFullResolution address) rest fine outside raised tame sets ahead =
+    let next : Lists = beyond s 5 in
+    let way : RenderWay r K c f next.renderer fine.waited = way_on r K c f next.renderer fine.waited rest ahead fine.renderer.frame fine.renderer.inside in
+    whole_stored who r L (λ k next. TurnedFine r K O c f (quiet next)) address words next m tame.1
+    (λ k. still r K O c f next (render_set r K O c f s next.renderer fine.waited fine way fine.passed))
+act_keeps who r K O c f L s words m (LoadFullResolution address) rest fine outside raised tame sets ahead =
+    let next : Lists = beyond s 5 in
+    let load : Load = Full address in
+    let renderer : Renderer = behind s.renderer 5 s.renderer.frame s.renderer.x s.renderer.y (Some load) s.renderer.inside in
+    let way : RenderWay r K c f renderer fine.waited = way_on r K c f renderer fine.waited rest ahead fine.renderer.frame fine.renderer.inside in
+    wait_keeps who r L (λ k next. TurnedFine r K O c f (quiet next)) next s.renderer.waiting load m (idle s.renderer.waiting tame)
+    (still r K O c f (with_renderer s renderer) (render_set r K O c f s renderer fine.waited fine way fine.passed))
+act_keeps who r K O c f L s words m (StoreTileBuffer bits address) rest fine outside raised tame sets ahead =
+    let next : Lists = beyond s 7 in
+    let way : RenderWay r K c f next.renderer fine.waited = way_on r K c f next.renderer fine.waited rest ahead fine.renderer.frame fine.renderer.inside in
+    general_stored who r L (λ k next. TurnedFine r K O c f (quiet next)) f s.renderer.frame bits address s.renderer.x s.renderer.y words next m (frame_is f s.renderer.frame tame.0 fine.renderer.frame) tame.1
+    (λ k. still r K O c f next (render_set r K O c f s next.renderer fine.waited fine way fine.passed))
+act_keeps who r K O c f L s words m (LoadTileBuffer bits address) rest fine outside raised tame sets ahead =
+    let next : Lists = beyond s 7 in
+    let load : Load = General bits address in
+    let renderer : Renderer = behind s.renderer 7 s.renderer.frame s.renderer.x s.renderer.y (Some load) s.renderer.inside in
+    let way : RenderWay r K c f renderer fine.waited = way_on r K c f renderer fine.waited rest ahead fine.renderer.frame fine.renderer.inside in
+    wait_keeps who r L (λ k next. TurnedFine r K O c f (quiet next)) next s.renderer.waiting load m (idle s.renderer.waiting tame)
+    (still r K O c f (with_renderer s renderer) (render_set r K O c f s renderer fine.waited fine way fine.passed))
+act_keeps who r K O c f L s words m (TileRenderingMode address width height bits) rest fine outside raised tame sets ahead =
+    let one : Frame = record { address = address; width = width; height = height; bits = bits } in
+    let renderer : Renderer = behind s.renderer 11 (Some one) s.renderer.x s.renderer.y s.renderer.waiting s.renderer.inside in
+    let way : RenderWay r K c f renderer fine.waited = way_on r K c f renderer fine.waited rest ahead sets fine.renderer.inside in
+    still r K O c f (with_renderer s renderer) (render_set r K O c f s renderer fine.waited fine way fine.passed)
+act_keeps who r K O c f L s words m (ClearColors first second z stencil) rest fine outside raised tame sets ahead =
+    let next : Lists = beyond s 14 in
+    let way : RenderWay r K c f next.renderer fine.waited = way_on r K c f next.renderer fine.waited rest ahead fine.renderer.frame fine.renderer.inside in
+    still r K O c f next (render_set r K O c f s next.renderer fine.waited fine way fine.passed)
+act_keeps who r K O c f L s words m (TileCoordinates x y) rest fine outside raised tame sets ahead =
+    let next : Lists = beyond s 3 in
+    let renderer : Renderer = behind s.renderer 3 s.renderer.frame x y None s.renderer.inside in
+    let way : RenderWay r K c f renderer fine.waited = way_on r K c f renderer fine.waited rest ahead fine.renderer.frame fine.renderer.inside in
+    waiting_loaded who r c f L (λ k next. TurnedFine r K O c f (quiet next)) s.renderer.frame s.renderer.waiting x y (at_tile next x y) m (frame_is f s.renderer.frame tame.0 fine.renderer.frame) tame.1
+    (still r K O c f (with_renderer s renderer) (render_set r K O c f s renderer fine.waited fine way fine.passed))
+
+-- The renderer reads its next packet.
+none_left : (place end : ℕ) → place + 0 ≡ end → place < end → ⊥
+none_left place end ends below = omega (arith, ends, below)
+
+waits : (s : Lists) (packet : Packet) → may_pass s (slice_index (packet_text packet) 0) ≡ true → packet ≡ WaitOnSemaphore → s.semaphore ≢ 0
+unfolding may_pass packet_text
+waits s packet passes is none =
+    let here : not (8 == 8 && s.semaphore == 0) ≡ true = subst (λ p. may_pass s (slice_index (packet_text p) 0) ≡ true) is passes in
+    grind (arith, common_steps, nat_tests, here, none)
+
+some_text : (packet : Packet) → 1 ≤ length (packet_text packet)
+unfolding packet_text
+some_text WaitOnSemaphore = omega arith
+some_text (BranchToSubList address) = omega arith
+some_text StoreTileColor = omega arith
+some_text StoreTileColorAndEnd = omega arith
+some_text (StoreFullResolution address) = omega arith
+some_text (LoadFullResolution address) = omega arith
+some_text (StoreTileBuffer bits address) = omega arith
+some_text (LoadTileBuffer bits address) = omega arith
+some_text (TileRenderingMode address width height bits) = omega arith
+some_text (ClearColors first second z stencil) = omega arith
+some_text (TileCoordinates x y) = omega arith
+
+packet_step : (who : Who) (r : Rights) (K : List ℕ → Type 0) (O : Launch → Type 0) (c : Config) (f : Frame) (s : Lists) (free : Free) (words m : List ℕ) (rest : List (Option Packet))
+    → K m → (fine : ListsFine r K O c f s) → s.renderer.inside ≡ None → s.renderer.place < s.renderer.end → may_pass s (slice_index m s.renderer.place) ≡ true
+    → Ahead r K c f s.renderer.place s.renderer.end (view_of s.renderer fine.waited) rest
+    → Keeps who (Inside r.region) (IsSafeIn r) (λ k turned. TurnedFine r K O c f turned) (renderer_plan s free words) m
+packet_step who r K O c f s free words m [] here fine outside below passes ahead = absurd (none_left s.renderer.place s.renderer.end ahead.ends below)
+packet_step who r K O c f s free words m (None ∷ slots) here fine outside below passes ahead =
+    packet_step who r K O c f s free words m slots here fine outside below passes
+    (record { ends = ahead.ends; walks = ahead.walks; fit = ahead.fit.1; sets = ahead.sets; stands = ahead.stands; reads = ahead.reads })
+packet_step who r K O c f s free words m (Some packet ∷ slots) here fine outside below passes ahead =
+    let place = s.renderer.place in
+    let text : List ℕ = packet_text packet in
+    let later : List ℕ = slots_text slots in
+    let some : 1 ≤ length text = some_text packet in
+    let bytes : bytes_at m place (length text) ≡ text = bytes_front m place text later (ahead.stands m here) in
+    let first : slice_index m place ≡ slice_index text 0 = byte_front m place text some bytes in
+    let inside : Inside r.region place (length text) = front_inside r.region place text later ahead.reads in
+    let walks = ahead.walks in
+    let fit = ahead.fit in
+    let sets = ahead.sets in
+    packet_keeps who (Inside r.region) (IsSafeIn r) (λ k turned. TurnedFine r K O c f turned) s free words m (length text) text packet outside
+    (ap render_taken first ∙ taken_text packet) bytes (decoded_text packet fit.0)
+    (inside_part r.region place (length text) place 1 inside (omega arith) (omega (arith, some))) (read_safe r who place (length text) inside)
+    (act_keeps who r K O c f (Inside r.region) s words m packet slots fine outside (waits s packet (ap (may_pass s) (sym first) ∙ passes)) walks.0 sets.0
+    (record {
+      ends = behind_ends place s.renderer.end text later ahead.ends;
+      walks = walks.1;
+      fit = fit.1;
+      sets = sets.1;
+      stands = λ n there. bytes_behind n place text later (ahead.stands n there);
+      reads = behind_inside r.region place text later ahead.reads;
+    }))
+
+-- In a tile's list.
+every_drop : (P : Item → Type 0) (n : ℕ) (items : List Item) → Every P items → Every P (drop n items)
+every_drop P zero items all = all
+every_drop P (suc n) [] all = tt
+every_drop P (suc n) (item ∷ items) all = every_drop P n items all.1
+
+found_by : (P : Item → Type 0) (tile n : ℕ) (item : Item) (later : Option Found) (b : Bool) → P item → IfSome later (λ found. P found.item)
+    → IfSome (if b then Some (record { number = n; item = item }) else later) (λ found. P found.item)
+found_by P tile n item later true one rest = one
+found_by P tile n item later false one rest = rest
+
+found_fine : (P : Item → Type 0) (tile n : ℕ) (items : List Item) → Every P items → IfSome (first_of_tile tile n items) (λ found. P found.item)
+found_fine P tile n [] all = tt
+found_fine P tile n (item ∷ items) all = found_by P tile n item (first_of_tile tile (n + 1) items) (item.tile == tile) all.0 (found_fine P tile (n + 1) items all.1)
+
+item_fine : (P : Item → Type 0) (sub : SubList) (items : List Item) → Every P items → IfSome (item_at sub items) (λ found. P found.item)
+unfolding item_at
+item_fine P sub items all = found_fine P sub.tile sub.at (drop sub.at items) (every_drop P sub.at items all)
+
+-- the renderer stands elsewhere in the same tile's list, or has left it
+moved_fine : (r : Rights) (K : List ℕ → Type 0) (O : Launch → Type 0) (c : Config) (f : Frame) (s : Lists) (inside : Option SubList) → (fine : ListsFine r K O c f s)
+    → IfSome inside (λ sub. (sub.tile < tiles_of c) × (fine.waited ≡ true)) → ListsFine r K O c f (with_inside s inside)
+moved_fine r K O c f s inside fine there =
+    let way = fine.renderer in
+    let renderer : Renderer = record (s.renderer) { inside = inside } in
+    render_set r K O c f s renderer fine.waited fine
+    (record { rest = way.rest; ends = way.ends; walks = way.walks; fit = way.fit; sets = way.sets; stands = way.stands; reads = way.reads; frame = way.frame; inside = there })
+    fine.passed
+
+vertex_keeps : (who : Who) (r : Rights) (K : List ℕ → Type 0) (O : Launch → Type 0) (c : Config) (f : Frame) (s : Lists) (item : Item) (words m : List ℕ)
+    → K m → ListsFine r K O c f s → ItemFine r K O item
+    → Keeps who (Inside r.region) (IsSafeIn r) (λ k turned. TurnedFine r K O c f turned) (vertex_plan s item words) m
+unfolding vertex_plan
+vertex_keeps who r K O c f s item words m here fine one =
+    let L = Inside r.region in
+    let G = IsSafeIn r in
+    let P = λ (k : List ℕ) (turned : Turned). TurnedFine r K O c f turned in
+    let p = item.primitive in
+    let k : ℕ = word_at words 1 % p.length in
+    keeps_if who L G P m (p.length == 0) (Done (quiet s)) (mapped (fetched s) (fetch_plan p item.word k))
+    (λ on. still r K O c f s fine)
+    (λ off.
+    let differs = not_same p.length 0 off in
+    keeps_mapped (fetched s) who L G P (fetch_plan p item.word k) m
+    (keeps_weaker who L L G G AnyEnd (λ n index. P n (fetched s index)) (λ p n h. h) (λ a h. h) (λ n index any. still r K O c f s fine)
+    (fetch_plan p item.word k) m (fetch_keeps who r m item.word p k (one.uses.fetches m here) (mod-lt (word_at words 1) (omega (arith, differs))))))
+
+program_keeps : (who : Who) (r : Rights) (K : List ℕ → Type 0) (O : Launch → Type 0) (c : Config) (f : Frame) (s : Lists) (program : Program) (free : Free) (item : Item) (m : List ℕ)
+    → K m → ListsFine r K O c f s → ItemFine r K O item
+    → Keeps who (Inside r.region) (IsSafeIn r) (λ k turned. TurnedFine r K O c f turned) (program_plan s program free item) m
+unfolding program_plan
+program_keeps who r K O c f s program free item m here fine one =
+    let L = Inside r.region in
+    let G = IsSafeIn r in
+    let P = λ (k : List ℕ) (turned : Turned). TurnedFine r K O c f turned in
+    keeps_mapped (turned_to s) who L G P (start_plan program free item.word) m
+    (keeps_weaker who L L G G (λ n launch. IfSome launch O) (λ n launch. P n (turned_to s launch)) (λ p n h. h) (λ a h. h) (λ n launch may. record { lists = fine; launch = may })
+    (start_plan program free item.word) m (start_fine who r O m program free item.word (one.uses.programs m here)))
+
+choice_keeps : (who : Who) (r : Rights) (K : List ℕ → Type 0) (O : Launch → Type 0) (c : Config) (f : Frame) (s : Lists) (free : Free) (words m : List ℕ) (sub : SubList) (found : Found)
+    → K m → (fine : ListsFine r K O c f s) → (sub.tile < tiles_of c) × (fine.waited ≡ true) → ItemFine r K O found.item
+    → Keeps who (Inside r.region) (IsSafeIn r) (λ k turned. TurnedFine r K O c f turned) (choice_plan s free words sub found) m
+unfolding choice_plan
+choice_keeps who r K O c f s free words m sub found here fine tile one =
+    let L = Inside r.region in
+    let G = IsSafeIn r in
+    let P = λ (k : List ℕ) (turned : Turned). TurnedFine r K O c f turned in
+    let at : Lists = at_item s sub.tile found.number in
+    let next : Lists = at_item s sub.tile (found.number + 1) in
+    let choice : ℕ = word_at words 0 % 4 in
+    let stands : ListsFine r K O c f at = moved_fine r K O c f s (Some (record { tile = sub.tile; at = found.number })) fine tile in
+    keeps_if who L G P m (choice == 0) (vertex_plan at found.item words) (if choice == 1 then program_plan at Vertex free found.item else (if choice == 2 then program_plan at Fragment free found.item else Done (quiet next)))
+    (λ on. vertex_keeps who r K O c f at found.item words m here stands one)
+    (λ off. keeps_if who L G P m (choice == 1) (program_plan at Vertex free found.item) (if choice == 2 then program_plan at Fragment free found.item else Done (quiet next))
+    (λ on. program_keeps who r K O c f at Vertex free found.item m here stands one)
+    (λ off. keeps_if who L G P m (choice == 2) (program_plan at Fragment free found.item) (Done (quiet next))
+    (λ on. program_keeps who r K O c f at Fragment free found.item m here stands one)
+    (λ off. still r K O c f next (moved_fine r K O c f s (Some (record { tile = sub.tile; at = found.number + 1 })) fine tile))))
+
+found_keeps : (who : Who) (r : Rights) (K : List ℕ → Type 0) (O : Launch → Type 0) (c : Config) (f : Frame) (s : Lists) (free : Free) (words m : List ℕ) (sub : SubList) (found : Option Found)
+    → K m → (fine : ListsFine r K O c f s) → (sub.tile < tiles_of c) × (fine.waited ≡ true) → IfSome found (λ one. ItemFine r K O one.item)
+    → Keeps who (Inside r.region) (IsSafeIn r) (λ k turned. TurnedFine r K O c f turned) (found_plan s free words sub found) m
+found_keeps who r K O c f s free words m sub None here fine tile one = still r K O c f (with_inside s None) (moved_fine r K O c f s None fine tt)
+found_keeps who r K O c f s free words m sub (Some found) here fine tile one =
+    (read_safe r who found.item.place 16 one.lies, choice_keeps who r K O c f s free words m sub found here fine tile one)
+
+-- Where the renderer may step.
+pass_by : (below : Bool) (s : Lists) (m : List ℕ) → glanced (if below then At s.renderer.place 1 (λ head. Now (may_pass s (slice_index head 0))) else Now false) m ≡ true → may_pass s (slice_index m s.renderer.place) ≡ true
+unfolding bytes_at
+pass_by true s m ready = ready
+pass_by false s m ready = absurd cc
+
+ready_pass : (s : Lists) (m : List ℕ) → s.renderer.inside ≡ None → glanced (renderer_ready s) m ≡ true → may_pass s (slice_index m s.renderer.place) ≡ true
+unfolding renderer_ready bytes_at
+ready_pass s m outside ready =
+    let here : glanced (ready_in s None) m ≡ true = subst (λ (inside : Option SubList). glanced (ready_in s inside) m ≡ true) outside ready in
+    pass_by (nat_lt s.renderer.place s.renderer.end) s m here
+
+renderer_keeps_by : (who : Who) (r : Rights) (K : List ℕ → Type 0) (O : Launch → Type 0) (c : Config) (f : Frame) (s : Lists) (free : Free) (words m : List ℕ) (inside : Option SubList)
+    → K m → ListsFine r K O c f s → glanced (renderer_ready s) m ≡ true → s.renderer.inside ≡ inside
+    → Keeps who (Inside r.region) (IsSafeIn r) (λ k turned. TurnedFine r K O c f turned) (renderer_plan s free words) m
+unfolding renderer_plan
+renderer_keeps_by who r K O c f s free words m None here fine ready outside =
+    let way = fine.renderer in
+    packet_step who r K O c f s free words m way.rest here fine outside (ready_below s m outside ready) (ready_pass s m outside ready)
+    (record { ends = way.ends; walks = way.walks; fit = way.fit; sets = way.sets; stands = way.stands; reads = way.reads })
+renderer_keeps_by who r K O c f s free words m (Some sub) here fine ready is =
+    let there : IfSome (Some sub) (λ one. (one.tile < tiles_of c) × (fine.waited ≡ true)) = subst (λ (inside : Option SubList). IfSome inside (λ one. (one.tile < tiles_of c) × (fine.waited ≡ true))) is fine.renderer.inside in
+    subst (λ (inside : Option SubList). Keeps who (Inside r.region) (IsSafeIn r) (λ k turned. TurnedFine r K O c f turned) (plan_in s free words inside) m) (sym is)
+    (found_keeps who r K O c f s free words m sub (item_at sub s.items) here fine there (item_fine (ItemFine r K O) sub s.items fine.log.items))
+
+-- One step of the renderer.
+pub renderer_keeps : (who : Who) (r : Rights) (K : List ℕ → Type 0) (O : Launch → Type 0) (c : Config) (f : Frame) (s : Lists) (free : Free) (words m : List ℕ)
+    → K m → ListsFine r K O c f s → glanced (renderer_ready s) m ≡ true
+    → Keeps who (Inside r.region) (IsSafeIn r) (λ k turned. TurnedFine r K O c f turned) (renderer_plan s free words) m
+renderer_keeps who r K O c f s free words m here fine ready = renderer_keeps_by who r K O c f s free words m s.renderer.inside here fine ready refl
+
+-- By which look it sees whether it may.
+looks_by : (L : ℕ → ℕ → Type 0) (place : ℕ) (next : List ℕ → Glance Bool) (m : List ℕ) (below : Bool) → ((bytes : List ℕ) → GlancesIn L (next bytes) m) → (below ≡ true → L place 1) → GlancesIn L (if below then At place 1 next else Now false) m
+looks_by L place next m true later look = (look refl, later (bytes_at m place 1))
+looks_by L place next m false later look = tt
+
+below_is : (place end : ℕ) → nat_lt place end ≡ true → place < end
+below_is place end on = grind (arith, common_steps, nat_tests, on)
+
+looks_in : (r : Rights) (s : Lists) (m : List ℕ) (inside : Option SubList) → (s.renderer.place < s.renderer.end → Inside r.region s.renderer.place 1) → GlancesIn (Inside r.region) (ready_in s inside) m
+looks_in r s m None look =
+    looks_by (Inside r.region) s.renderer.place (λ head. Now (may_pass s (slice_index head 0))) m (nat_lt s.renderer.place s.renderer.end) (λ bytes. tt)
+    (λ on. look (below_is s.renderer.place s.renderer.end on))
+looks_in r s m (Some sub) look = tt
+
+pub renderer_looks : (r : Rights) (K : List ℕ → Type 0) (O : Launch → Type 0) (c : Config) (f : Frame) (s : Lists) (m : List ℕ) → ListsFine r K O c f s → GlancesIn (Inside r.region) (renderer_ready s) m
+unfolding renderer_ready
+renderer_looks r K O c f s m fine =
+    let way = fine.renderer in
+    let len : ℕ = length (slots_text way.rest) in
+    looks_in r s m s.renderer.inside (λ below. inside_part r.region s.renderer.place len s.renderer.place 1 way.reads (omega arith) (omega (arith, below, way.ends)))

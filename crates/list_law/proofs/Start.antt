@@ -1,0 +1,206 @@
+-- All stands at the start.
+use Rattle.std.proofs.Common.{◌≡◌, inl, ℕ, zero, suc, ◌+◌, Bool, true, false, ◌&&◌, List, [], ◌∷◌, ◌++◌, length, Option, Some, None, if◌then◌else◌, bit_or, refl, arith}
+use Rattle.field_words.specs.Pieces.{joined}
+use Rattle.job_format.specs.declared.file.Frame.{Frame as JobFrame}
+use Rattle.packets.specs.declared.packet.Packet.{Packet}
+use Rattle.packets.specs.declared.packet.Packet.TheVariants.{WaitOnSemaphore, BranchToSubList, StoreTileColor, StoreTileColorAndEnd, StoreFullResolution, LoadFullResolution, StoreTileBuffer, LoadTileBuffer, TileRenderingMode, ClearColors, TileCoordinates}
+use Rattle.packets.specs.Packet.{slots_text}
+use Rattle.machine_plan.specs.declared.launch.Launch.{Launch}
+use Rattle.machine_plan.specs.Regions.{Rights}
+use Rattle.bin_walks.specs.Walks.{Config as Grid, Kept as Passed, kept_after, Drawing, Tame, Walks}
+use Rattle.render_list.specs.Frame.{place_at, surface_at, is_full, full_place, is_first_tile, is_last_tile, tiles_across, tiles_down}
+use Rattle.render_list.specs.Text.{packet_where, idle_store, head_packet, clear_packet, clear_slots, front_slots, load_packet, load_slot, wait_slot, list_slot, full_store, full_store_slot, zs_store, zs_store_slot, color_store, color_store_slot, is_there, more_after_multisample_color, more_after_multisample_zs, some_before_zs, some_before_color, load_slots, list_slots, write_slots, tile_slots, span_slots, row_slots, all_tile_slots, render_slots}
+use Rattle.render_walks.specs.Walks.{View, pass, IsDoneAt, Tame as Harmless, WalksTo}
+use Rattle.list_machine.specs.declared.state.Config.{Config}
+use Rattle.list_machine.specs.declared.state.Frame.{Frame}
+use Rattle.list_machine.specs.Lists.{lists_start}
+use Rattle.list_law.specs.Binning.{FitsIn, NotYet}
+use Rattle.list_law.specs.Rendering.{NoMatter, SetsOnly, AllSet}
+use Rattle.list_law.specs.Lists.{ListsFine}
+use Rattle.list_law.specs.Start.{frame_of, BinnerBegins, RendererBegins}
+
+never : false ≡ true → ⊥
+never e = cc
+
+-- nothing is in a tile's list
+empty_fits : (c : Config) → FitsIn c (record { count = 0; last = 0 })
+empty_fits c = record { from = λ some. absurd (omega (arith, some)); upto = λ some. absurd (omega (arith, some)) }
+
+pub lists_begin : (r : Rights) (K : List ℕ → Type 0) (O : Launch → Type 0) (c : Config) (f : Frame) (bin_place render_place : ℕ) (packets : List (List ℕ)) (slots : List (Option Packet))
+    → BinnerBegins r K O c bin_place packets → RendererBegins r K c f render_place slots
+    → ListsFine r K O c f (lists_start bin_place (length (joined packets)) render_place (length (slots_text slots)))
+lists_begin r K O c f bin_place render_place packets slots bin render = record {
+  waited = false;
+  binner = record { rest = packets; ends = refl; walks = bin.walks; stands = bin.stands; reads = bin.reads };
+  work = tt;
+  configs = NotYet refl;
+  log = record { items = tt; spots = λ tile. empty_fits c };
+  renderer = record { rest = slots; ends = refl; walks = render.walks; fit = render.fit; sets = render.sets; stands = render.stands; reads = render.reads; frame = tt; inside = tt };
+  counted = inl refl;
+  passed = λ e. absurd (never e);
+  closed = λ e. absurd (never e);
+}
+
+-- Where lists walk by one condition, they walk by a weaker one.
+drawing_weaker : (R Q : ℕ → List ℕ → Type 0) → ((word : ℕ) (packet : List ℕ) → R word packet → Q word packet) → (kept : Passed) (packet : List ℕ) → Drawing R kept packet → Drawing Q kept packet
+drawing_weaker R Q weaker kept packet d = record { word = d.word; kept_word = d.kept_word; started = d.started; allowed = weaker d.word packet d.allowed }
+
+pub walks_weaker : (c : Grid) (R Q : ℕ → List ℕ → Type 0) → ((word : ℕ) (packet : List ℕ) → R word packet → Q word packet) → (kept : Passed) (packets : List (List ℕ)) → Walks c R kept packets → Walks c Q kept packets
+walks_weaker c R Q weaker kept [] walks = tt
+walks_weaker c R Q weaker kept (packet ∷ packets) walks =
+    let tame : Tame c R kept packet = walks.0 in (
+      record {
+        whole = tame.whole;
+        known = tame.known;
+        no_halt = tame.no_halt;
+        no_handles = tame.no_handles;
+        configures = tame.configures;
+        starts = tame.starts;
+        indexed = λ e. drawing_weaker R Q weaker kept packet (tame.indexed e);
+        array = λ e. drawing_weaker R Q weaker kept packet (tame.array e);
+        closes = tame.closes;
+      },
+      walks_weaker c R Q weaker (kept_after kept packet) packets walks.1,
+    )
+
+done_weaker : (R Q : Packet → ℕ → ℕ → Type 0) → ((p : Packet) (x y : ℕ) → R p x y → Q p x y) → (load : Option Packet) (x y : ℕ) → IsDoneAt R load x y → IsDoneAt Q load x y
+done_weaker R Q weaker None x y h = tt
+done_weaker R Q weaker (Some load) x y h = weaker load x y h
+
+harmless_weaker : (R Q : Packet → ℕ → ℕ → Type 0) → ((p : Packet) (x y : ℕ) → R p x y → Q p x y) → (k : View) (packet : Packet) → Harmless R k packet → Harmless Q k packet
+harmless_weaker R Q weaker k WaitOnSemaphore h = h
+harmless_weaker R Q weaker k (BranchToSubList address) h = (h.0, weaker (BranchToSubList address) k.x k.y h.1)
+harmless_weaker R Q weaker k StoreTileColor h = (h.0, weaker StoreTileColor k.x k.y h.1)
+harmless_weaker R Q weaker k StoreTileColorAndEnd h = (h.0, weaker StoreTileColorAndEnd k.x k.y h.1)
+harmless_weaker R Q weaker k (StoreFullResolution address) h = (h.0, weaker (StoreFullResolution address) k.x k.y h.1)
+harmless_weaker R Q weaker k (LoadFullResolution address) h = h
+harmless_weaker R Q weaker k (StoreTileBuffer bits address) h = (h.0, weaker (StoreTileBuffer bits address) k.x k.y h.1)
+harmless_weaker R Q weaker k (LoadTileBuffer bits address) h = h
+harmless_weaker R Q weaker k (TileRenderingMode address width height bits) h = h
+harmless_weaker R Q weaker k (ClearColors first second z stencil) h = h
+harmless_weaker R Q weaker k (TileCoordinates x y) h = (h.0, done_weaker R Q weaker k.waiting x y h.1)
+
+pub walks_to_weaker : (R Q : Packet → ℕ → ℕ → Type 0) (I : View → Type 0) → ((p : Packet) (x y : ℕ) → R p x y → Q p x y) → (k : View) (slots : List (Option Packet)) → WalksTo R I k slots → WalksTo Q NoMatter k slots
+walks_to_weaker R Q I weaker k [] walks = tt
+walks_to_weaker R Q I weaker k (None ∷ slots) walks = walks_to_weaker R Q I weaker k slots walks
+walks_to_weaker R Q I weaker k (Some packet ∷ slots) walks = (harmless_weaker R Q weaker k packet walks.0, walks_to_weaker R Q I weaker (pass k packet) slots walks.1)
+
+-- The head alone sets a frame.
+sets_append : (f : Frame) (front rest : List (Option Packet)) → AllSet f front → AllSet f rest → AllSet f (front ++ rest)
+sets_append f [] rest one two = two
+sets_append f (None ∷ front) rest one two = sets_append f front rest one two
+sets_append f (Some packet ∷ front) rest one two = (one.0, sets_append f front rest one.1 two)
+
+sets_span : (f : Frame) (slots : ℕ → List (Option Packet)) (first n : ℕ) → ((x : ℕ) → AllSet f (slots x)) → AllSet f (span_slots slots first n)
+unfolding span_slots
+sets_span f slots first zero each = tt
+sets_span f slots first (suc n) each = sets_append f (slots first) (span_slots slots (first + 1) n) (each first) (sets_span f slots (first + 1) n each)
+
+-- one slot before others
+sets_next : (f : Frame) (slot : Option Packet) (rest : List (Option Packet)) → AllSet f (slot ∷ []) → AllSet f rest → AllSet f (slot ∷ rest)
+sets_next f None rest one two = two
+sets_next f (Some packet) rest one two = (one.0, two)
+
+sets_where : (f : Frame) (test : Bool) (packet : Packet) → SetsOnly f packet → AllSet f (packet_where test packet ∷ [])
+sets_where f true packet one = (one, tt)
+sets_where f false packet one = tt
+
+load_by : (f : Frame) (full : Bool) (far bits place : ℕ) → SetsOnly f (if full then LoadFullResolution far else LoadTileBuffer bits place)
+load_by f true far bits place = tt
+load_by f false far bits place = tt
+
+sets_load : (f : Frame) (frame : JobFrame) (k left_out : ℕ) (place : Option ℕ) (x y : ℕ) → AllSet f (load_slot frame k left_out place x y ∷ [])
+unfolding load_packet
+sets_load f frame k left_out None x y = tt
+sets_load f frame k left_out (Some place) x y = (load_by f (is_full k (surface_at frame k)) (bit_or (full_place frame place x y) left_out) (surface_at frame k).bits place, tt)
+
+sets_wait : (f : Frame) (frame : JobFrame) (grid : Option (ℕ × ℕ)) (x y : ℕ) → AllSet f (wait_slot frame grid x y ∷ [])
+sets_wait f frame None x y = tt
+sets_wait f frame (Some grid) x y = sets_where f (is_first_tile frame x y) WaitOnSemaphore tt
+
+sets_list : (f : Frame) (grid : Option (ℕ × ℕ)) (slot x y : ℕ) → AllSet f (list_slot grid slot x y ∷ [])
+sets_list f None slot x y = tt
+sets_list f (Some grid) slot x y = (tt, tt)
+
+sets_full : (f : Frame) (frame : JobFrame) (place : Option ℕ) (left_out : ℕ) (more : Bool) (x y : ℕ) → AllSet f (full_store_slot frame place left_out more x y ∷ [])
+unfolding full_store
+sets_full f frame None left_out more x y = tt
+sets_full f frame (Some place) left_out more x y = (tt, tt)
+
+sets_zs : (f : Frame) (frame : JobFrame) (place : Option ℕ) (more : Bool) (x y : ℕ) → AllSet f (zs_store_slot frame place more x y ∷ [])
+unfolding zs_store
+sets_zs f frame None more x y = tt
+sets_zs f frame (Some place) more x y = (tt, tt)
+
+color_by : (f : Frame) (last : Bool) → SetsOnly f (if last then StoreTileColorAndEnd else StoreTileColor)
+color_by f true = tt
+color_by f false = tt
+
+sets_color : (f : Frame) (frame : JobFrame) (place : Option ℕ) (x y : ℕ) → AllSet f (color_store_slot frame place x y ∷ [])
+unfolding color_store
+sets_color f frame None x y = tt
+sets_color f frame (Some place) x y = (color_by f (is_last_tile frame x y), tt)
+
+sets_loads : (f : Frame) (frame : JobFrame) (places : List (Option ℕ)) (x y : ℕ) → AllSet f (load_slots frame places x y)
+unfolding load_slots
+sets_loads f frame places x y =
+    let both : Bool = is_there places 0 && is_there places 2 in
+    let last = load_slot frame 2 1 (place_at places 2) x y ∷ [] in
+    let third = packet_where both idle_store ∷ last in
+    let second = packet_where both (TileCoordinates x y) ∷ third in
+    sets_next f (load_slot frame 0 2 (place_at places 0) x y) second (sets_load f frame 0 2 (place_at places 0) x y)
+    (sets_next f (packet_where both (TileCoordinates x y)) third (sets_where f both (TileCoordinates x y) tt)
+    (sets_next f (packet_where both idle_store) last (sets_where f both idle_store tt) (sets_load f frame 2 1 (place_at places 2) x y)))
+
+sets_lists : (f : Frame) (frame : JobFrame) (grid : Option (ℕ × ℕ)) (slot x y : ℕ) → AllSet f (list_slots frame grid slot x y)
+unfolding list_slots
+sets_lists f frame grid slot x y = (tt, sets_next f (wait_slot frame grid x y) (list_slot grid slot x y ∷ []) (sets_wait f frame grid x y) (sets_list f grid slot x y))
+
+sets_writes : (f : Frame) (frame : JobFrame) (places : List (Option ℕ)) (x y : ℕ) → AllSet f (write_slots frame places x y)
+unfolding write_slots
+sets_writes f frame places x y =
+    let at : Packet = TileCoordinates x y in
+    let a = full_store_slot frame (place_at places 4) 2 (more_after_multisample_color places) x y in
+    let b_test : Bool = is_there places 5 && is_there places 4 in
+    let d = full_store_slot frame (place_at places 5) 1 (more_after_multisample_zs places) x y in
+    let e_test : Bool = is_there places 3 && some_before_zs places in
+    let g = zs_store_slot frame (place_at places 3) (is_there places 1) x y in
+    let h_test : Bool = is_there places 1 && some_before_color places in
+    let k = color_store_slot frame (place_at places 1) x y in
+    let six = k ∷ [] in
+    let five = packet_where h_test at ∷ six in
+    let four = g ∷ five in
+    let three = packet_where e_test at ∷ four in
+    let two = d ∷ three in
+    let one = packet_where b_test at ∷ two in
+    sets_next f a one (sets_full f frame (place_at places 4) 2 (more_after_multisample_color places) x y)
+    (sets_next f (packet_where b_test at) two (sets_where f b_test at tt)
+    (sets_next f d three (sets_full f frame (place_at places 5) 1 (more_after_multisample_zs places) x y)
+    (sets_next f (packet_where e_test at) four (sets_where f e_test at tt)
+    (sets_next f g five (sets_zs f frame (place_at places 3) (is_there places 1) x y)
+    (sets_next f (packet_where h_test at) six (sets_where f h_test at tt) (sets_color f frame (place_at places 1) x y))))))
+
+sets_tile : (f : Frame) (frame : JobFrame) (places : List (Option ℕ)) (grid : Option (ℕ × ℕ)) (slot y x : ℕ) → AllSet f (tile_slots frame places grid slot y x)
+unfolding tile_slots
+sets_tile f frame places grid slot y x =
+    sets_append f (load_slots frame places x y) (list_slots frame grid slot x y ++ write_slots frame places x y) (sets_loads f frame places x y)
+    (sets_append f (list_slots frame grid slot x y) (write_slots frame places x y) (sets_lists f frame grid slot x y) (sets_writes f frame places x y))
+
+sets_front : (frame : JobFrame) (places : List (Option ℕ)) → AllSet (frame_of frame places) (front_slots frame places)
+unfolding front_slots head_packet clear_slots clear_packet
+sets_front frame places =
+    let f : Frame = frame_of frame places in
+    let last = packet_where frame.clear (StoreTileBuffer 0 0) ∷ [] in
+    let second = packet_where frame.clear (TileCoordinates 0 0) ∷ last in (
+      refl,
+      sets_next f (packet_where frame.clear (clear_packet frame)) second (sets_where f frame.clear (clear_packet frame) tt)
+          (sets_next f (packet_where frame.clear (TileCoordinates 0 0)) last (sets_where f frame.clear (TileCoordinates 0 0) tt) (sets_where f frame.clear (StoreTileBuffer 0 0) tt)),
+    )
+
+pub head_sets : (frame : JobFrame) (places : List (Option ℕ)) (grid : Option (ℕ × ℕ)) (slot : ℕ) → AllSet (frame_of frame places) (render_slots frame places grid slot)
+unfolding render_slots
+head_sets frame places grid slot =
+    let f : Frame = frame_of frame places in
+    sets_append f (front_slots frame places) (all_tile_slots frame places grid slot) (sets_front frame places)
+    (sets_span f (row_slots frame places grid slot) frame.min_y (tiles_down frame)
+    (λ y. sets_span f (tile_slots frame places grid slot y) frame.min_x (tiles_across frame) (λ x. sets_tile f frame places grid slot y x)))

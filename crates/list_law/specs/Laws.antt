@@ -1,0 +1,75 @@
+-- The laws of a job's list units.
+use Rattle.std.specs.Prelude.{◌≡◌, ◌<◌, ℕ, Bool, true, IsTrue, List, Option, Some, IfSome}
+use Rattle.machine_plan.specs.declared.who.Who.{Who}
+use Rattle.machine_plan.specs.declared.launch.Free.{Free}
+use Rattle.machine_plan.specs.declared.launch.Launch.{Launch}
+use Rattle.machine_plan.specs.Glance.{glanced, GlancesIn}
+use Rattle.machine_plan.specs.Plan.{Keeps}
+use Rattle.machine_plan.specs.Regions.{Inside, Rights, IsSafeIn, IsKept}
+use Rattle.list_machine.specs.declared.state.Config.{Config}
+use Rattle.list_machine.specs.declared.state.Frame.{Frame}
+use Rattle.list_machine.specs.declared.state.Primitive.{Primitive}
+use Rattle.list_machine.specs.declared.state.Program.{Program}
+use Rattle.list_machine.specs.declared.surface.Style.{Style}
+use Rattle.list_machine.specs.Lists.{Lists}
+use Rattle.list_machine.specs.Fetch.{fetch_plan}
+use Rattle.list_machine.specs.Start.{start_plan}
+use Rattle.list_machine.specs.Binner.{binner_plan, binner_ready}
+use Rattle.list_machine.specs.Cover.{cover_for}
+use Rattle.list_machine.specs.Renderer.{renderer_plan, renderer_ready}
+use Rattle.list_law.specs.May.{MayWrite}
+use Rattle.list_law.specs.Uses.{Fetches, Programs}
+use Rattle.list_law.specs.Binning.{Allocates}
+use Rattle.list_law.specs.Rendering.{StoresSurface, LoadsSurface, PartsMeet}
+use Rattle.list_law.specs.Lists.{ListsFine, TurnedFine}
+
+-- A fetch of one of a primitive's vertices does safe reads alone, where each of its vertices may be fetched.
+abbrev pub FetchKeeps : Type 0
+FetchKeeps =
+    (who : Who) (r : Rights) (m : List ℕ) (word : ℕ) (p : Primitive) (k : ℕ)
+    → Fetches r.region m word p → k < p.length
+    → Keeps who (Inside r.region) (IsSafeIn r) (λ n index. Unit {0}) (fetch_plan p word k) m
+
+-- A start of a program does safe reads alone, and starts one that may be started.
+abbrev pub StartFine : Type 0
+StartFine =
+    (who : Who) (r : Rights) (may : Launch → Bool) (m : List ℕ) (program : Program) (free : Free) (word : ℕ)
+    → Programs r.region (λ launch. IsTrue (may launch)) m word
+    → Keeps who (Inside r.region) (IsSafeIn r) (λ n launch. IfSome launch (λ one. IsTrue (may one))) (start_plan program free word) m
+
+-- In these laws the memories that runs can come to are those where nothing changed but what the jobs may write, and a
+-- program may be started where a test says so.
+abbrev pub Passes : (Launch → Bool) → Launch → Type 0
+Passes may launch = IsTrue (may launch)
+
+-- One step of a job's binner that may step looks in the job's region and does safe accesses alone, and all stands again.
+abbrev pub BinnerKeeps : Type 0
+BinnerKeeps =
+    (who : Who) (r : Rights) (jobs : List Rights) (first : List ℕ) (may : Launch → Bool) (c : Config) (f : Frame) (s : Lists) (free : Free) (words m : List ℕ)
+    → Allocates r c → IsKept jobs first m → ListsFine r (IsKept jobs first) (Passes may) c f s → glanced (binner_ready s free) m ≡ true
+    → Keeps who (Inside r.region) (IsSafeIn r) (λ n turned. TurnedFine r (IsKept jobs first) (Passes may) c f turned) (binner_plan s free words) m
+
+-- So does one step of its renderer.
+abbrev pub RendererKeeps : Type 0
+RendererKeeps =
+    (who : Who) (r : Rights) (jobs : List Rights) (first : List ℕ) (may : Launch → Bool) (c : Config) (f : Frame) (s : Lists) (free : Free) (words m : List ℕ)
+    → IsKept jobs first m → ListsFine r (IsKept jobs first) (Passes may) c f s → glanced (renderer_ready s) m ≡ true
+    → Keeps who (Inside r.region) (IsSafeIn r) (λ n turned. TurnedFine r (IsKept jobs first) (Passes may) c f turned) (renderer_plan s free words) m
+
+-- To see whether it may step, the renderer looks in the job's region.
+abbrev pub RendererLooks : Type 0
+RendererLooks =
+    (r : Rights) (jobs : List Rights) (first : List ℕ) (may : Launch → Bool) (c : Config) (f : Frame) (s : Lists) (m : List ℕ)
+    → ListsFine r (IsKept jobs first) (Passes may) c f s → GlancesIn (Inside r.region) (renderer_ready s) m
+
+-- Each part that a store covers may be written where the whole surface may, at whatever tile, and each part that a load
+-- covers lies in the region where the whole surface does.
+abbrev pub StoreFine : Type 0
+StoreFine =
+    (r : Rights) (style : Option Style) (f : Frame) (base x y : ℕ)
+    → StoresSurface r style f base → PartsMeet (MayWrite r) (cover_for style (Some f) base x y)
+
+abbrev pub LoadFine : Type 0
+LoadFine =
+    (r : Rights) (style : Option Style) (f : Frame) (base x y : ℕ)
+    → LoadsSurface r style f base → PartsMeet (Inside r.region) (cover_for style (Some f) base x y)
