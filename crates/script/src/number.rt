@@ -1,5 +1,5 @@
 //! Numbers as words.
-ghost use Rattle.std.specs.Prelude.{◌≡◌, ◌≤◌, ◌<◌, ◌^◌, true, min};
+ghost use Rattle.std.specs.Prelude.{◌≡◌, ◌≤◌, ◌<◌, ◌^◌, true, min, IfSome};
 ghost use Rattle.std.specs.Str.{all_ascii_digits};
 ghost use Rattle.script.specs.Number.{number_of, number_within, is_number as number_test};
 
@@ -43,7 +43,8 @@ fn number(digits: &[u8], limit: u128) -> u128
 /// word is no such number, or one over `most`. It takes no memory.
 #[tactic(auto, unfolding(crate::specs::Number::number_within), using(crate::proofs::Digits::number_digits))]
 pub fn read_number(word: &[u8], most: u64) -> Option<u64>
-    ensures { result ≡ number_within most word.now }
+    ensures number { result ≡ number_within most word.now }
+    ensures most { IfSome result (λ number. number ≤ most) }
 {
     if !is_number(word) {
         return None;
