@@ -1,6 +1,6 @@
 -- What is true after any list of calls: no slot belongs to two jobs, and blocks lie apart, each in a slot of its own job past the
 -- bytes that the slot's front takes.
-use Rattle.std.specs.Prelude.{◌≡◌, ◌≤◌, ◌<◌, ◌⊎◌, ℕ, ◌+◌, true, List, [], ◌∷◌, All, Contains}
+use Rattle.std.specs.Prelude.{◌≡◌, ◌≤◌, ◌<◌, ◌⊎◌, ℕ, ◌+◌, true, List, [], ◌∷◌}
 use Rattle.field_words.specs.Sizes.{slot_size}
 use Rattle.overflow_slots.specs.declared.pool.Block.{Block}
 use Rattle.overflow_slots.specs.declared.call.Call.{Call}
@@ -16,7 +16,7 @@ pub record LiesIn (block : Block) (one : Held) : Type 0 where
   pub slot : block.slot ≡ one.slot
   pub front : one.front ≤ block.at
   pub used : block.at + block_size ≤ one.used
-  pub inside : one.used ≤ slot_size
+  pub inside : block.at + block_size ≤ slot_size
 
 -- the block lies in one of these slots
 abbrev pub LiesInOne : List Held → Block → Type 0

@@ -17,4 +17,4 @@ mod tests;
 
 pub use call::Call;
 pub use pool::{Block, Pool};
-pub use replies::script;
+pub use replies::{script, stays_ordered};

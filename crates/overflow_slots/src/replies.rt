@@ -3,6 +3,7 @@ ghost use Rattle.std.specs.Prelude.{◌≡◌, ◌≤◌, ◌<◌, ◌^◌, ◌+
 ghost use Rattle.overflow_slots.specs.Calls.{call_of, fault_line, is_formed as formed, IsInRange};
 ghost use Rattle.overflow_slots.specs.Desk.{Agrees};
 ghost use Rattle.overflow_slots.specs.SlotRun.{Run, after};
+ghost use Rattle.overflow_slots.specs.Laws.{StaysOrdered};
 ghost use Rattle.overflow_slots.specs.Text.{refused_line, slot_line, block_line, free_line, line_of, line_reply, after_line, replies, IsScriptFault};
 
 use super::call::{Call, read_call};
@@ -132,3 +133,9 @@ pub fn script(alloc: Global, slots: u32, text: &[u8]) -> Result<Vec<u8>, Stop<u3
     }
     Ok(out.into_bytes())
 }
+
+/// A law: after any list of calls no slot belongs to two jobs; each block that a running job was given lies in a slot of that job,
+/// past the bytes of the slot's front; and no two blocks of running jobs have a byte in common.
+pub fn stays_ordered()
+    ensures { StaysOrdered }
+{}

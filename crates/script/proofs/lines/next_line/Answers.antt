@@ -1,4 +1,3 @@
-use Rattle.std.proofs.Common.{◌∙◌}
 use Rattle.script.proofs.Cuts.{lines_first}
 use Rattle.script.proofs.lines.next_line.Goals as goal
 
