@@ -1,9 +1,15 @@
 //! Scripts and their answers.
+ghost use Rattle.std.specs.Prelude.{◌≤◌, ◌<◌, ◌^◌, length};
+
 use super::*;
 use field_words::Stop;
 use std::test::*;
 
-fn answer(rt: &HostRuntime, slots: u32, text: &[u8]) -> Result<String, Fail> {
+fn answer(rt: &HostRuntime, slots: u32, text: &[u8]) -> Result<String, Fail>
+    requires some { 1 ≤ slots }
+    requires few { slots ≤ 32 }
+    requires length { length text.now < 2 ^ 32 }
+{
     match script(rt.alloc(), slots, text) {
         Ok(bytes) => match String::from_utf8(bytes) {
             Ok(text) => Ok(text),
