@@ -1,8 +1,10 @@
 //! Words and lines of scripts: what callers write to the program beside files.
 #![tactic(auto)]
 
+mod lines;
 mod number;
 #[cfg(test)]
 mod tests;
 
+pub use lines::{Cut, cut_at, next_line};
 pub use number::read_number;

@@ -43,8 +43,8 @@ fn number(digits: &[u8], limit: u128) -> u128
 /// word is no such number, or one over `most`. It takes no memory.
 #[tactic(auto, unfolding(crate::specs::Number::number_within), using(crate::proofs::Digits::number_digits))]
 pub fn read_number(word: &[u8], most: u64) -> Option<u64>
-    ensures value { result ≡ number_within most word.now }
-    ensures small { IfSome result (λ number. number ≤ most) }
+    ensures number { result ≡ number_within most word.now }
+    ensures most { IfSome result (λ number. number ≤ most) }
 {
     if !is_number(word) {
         return None;

@@ -1,0 +1,4 @@
+pub mod Desks
+pub mod Laws
+pub mod Lines
+pub mod Searches
