@@ -3,6 +3,8 @@
 
 mod follow;
 mod oracle;
+#[cfg(test)]
+mod tests;
 mod trace;
 mod units;
 
