@@ -128,3 +128,32 @@ steps_by Chooses Answers i s next units place count unit words listed found job 
   next_is = moves.state_is;
   line_is = line_is ∙ (ap (λ j. line_of unit j listed) job_is ∙ ap (line_of unit (job_of s unit)) (listed_is ∙ moves.accesses_are));
 }
+
+-- The same trace by a script that says less.
+follows_by : (Chooses Answers Chose Told : ℕ → ℕ → ℕ → Type 0) → ((i n m : ℕ) → Chooses i n m → Chose i n m) → ((i k word : ℕ) → Answers i k word → Told i k word) → (i : ℕ) (s : State) (events : List Event) → Follows Chooses Answers i s events → Follows Chose Told i s events
+follows_by Chooses Answers Chose Told chose told i s [] h = tt
+follows_by Chooses Answers Chose Told chose told i s (event ∷ events) h =
+    let turn = h.0 in (
+      record {
+        goes = turn.goes;
+        place = turn.place;
+        picked = chose i (length (enabled_units s)) turn.place turn.picked;
+        within = turn.within;
+        unit = turn.unit;
+        count = turn.count;
+        words = λ k below. told i k (slice_index event.words k) (turn.words k below);
+      },
+      follows_by Chooses Answers Chose Told chose told (i + 1) (step s event).state events h.1,
+    )
+
+pub trace_by : (Chooses Answers Chose Told : ℕ → ℕ → ℕ → Type 0) → ((i n m : ℕ) → Chooses i n m → Chose i n m) → ((i k word : ℕ) → Answers i k word → Told i k word) → (s : State) (steps : ℕ) (trace : Trace) → (events : List Event) × IsTrace Chooses Answers s steps events trace → (events : List Event) × IsTrace Chose Told s steps events trace
+trace_by Chooses Answers Chose Told chose told s steps trace (events, h) = (
+  events,
+  record {
+    run = h.run;
+    follows = follows_by Chooses Answers Chose Told chose told 0 s events h.follows;
+    lines = h.lines;
+    most = h.most;
+    ends = h.ends;
+  },
+)

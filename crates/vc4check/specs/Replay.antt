@@ -1,6 +1,5 @@
 -- What `replay` answers: a run of the job's machine, by a script that a seed gives.
-use Rattle.std.specs.Prelude.{◌≡◌, ℕ, ◌+◌, ◌*◌, ◌/◌, ◌%◌, ◌^◌, List, Option, Some, None}
-use Rattle.std.specs.Int.{bit_xor}
+use Rattle.std.specs.Prelude.{◌≡◌, ℕ, ◌/◌, ◌%◌, ◌^◌, bit_xor, List, Option, Some, None}
 use Rattle.field_words.specs.Questions.{IsFirst}
 use Rattle.job_format.specs.declared.rule.Refusal.{Refusal}
 use Rattle.job_format.specs.File.{IsFileOf}

@@ -46,7 +46,10 @@ fn run_of(alloc: Global, machine: Machine, steps: u32, seed: u64) -> Result<Trac
             ensures { result ≡ word_by seed step k }
         { word(seed, step, k) },
     );
-    replay(alloc, machine, &oracle, steps)
+    match replay(alloc, machine, &oracle, steps) {
+        Ok(trace) => Ok(trace),
+        Err(stop) => Err(stop),
+    }
 }
 
 /// What `replay` answers to these bytes: the text of a run of the job's machine, by the script of the seed; or a refusal.
