@@ -3,3 +3,4 @@ pub mod Run
 pub mod Shader
 pub mod Words
 pub mod Replay
+pub mod Scripts

@@ -1,10 +1,10 @@
 -- The words after the program's name.
-use Rattle.std.specs.Prelude.{ℕ, ◌≤◌, ◌-◌, ◌^◌, List, [], ◌∷◌, codes, map, String, string_bytes, Option, Some, None, option_map, if◌then◌else◌}
+use Rattle.std.specs.Prelude.{ℕ, ◌≤◌, ◌==◌, ◌-◌, ◌^◌, List, [], ◌∷◌, codes, map, String, string_bytes, Option, Some, None, option_map, if◌then◌else◌}
 use Rattle.std.specs.Prelude.{bytes_eq}
 use Rattle.std.specs.declared.alloc.Global.{Global}
 use Rattle.field_words.specs.Sizes.{most_list}
 use Rattle.vc4check.specs.declared.command.Command.{Command}
-use Rattle.vc4check.specs.declared.command.Command.TheVariants.{Check, Replay, Asm, Disasm}
+use Rattle.vc4check.specs.declared.command.Command.TheVariants.{Check, Replay, Asm, Disasm, Slots}
 use Rattle.vc4check.specs.declared.command.Task.{Task}
 use Rattle.vc4check.specs.declared.command.Task.TheVariants.{Read, Make}
 use Rattle.script.specs.Number.{number_within}
@@ -22,8 +22,21 @@ command_named word =
 abbrev pub most_number : ℕ
 most_number = 4294967295
 
+-- the most slots of a book of tile memory; it has one at least
+abbrev pub most_slots : ℕ
+most_slots = 32
+
+abbrev pub slots_of : ℕ → Option Command
+slots_of slots = if slots == 0 then None else Some (Slots slots)
+
+abbrev pub slots_by : Option ℕ → Option Command
+slots_by None = None
+slots_by (Some slots) = slots_of slots
+
 abbrev pub task_numbered : List ℕ → List ℕ → Option Task
-task_numbered word number = if bytes_eq word (codes "gen") then option_map Make (number_within most_number number) else None
+task_numbered word number =
+    if bytes_eq word (codes "gen") then option_map Make (number_within most_number number)
+    else (if bytes_eq word (codes "slots") then option_map Read (slots_by (number_within most_slots number)) else None)
 
 -- a run of at most so many steps, by the script of a seed
 abbrev pub most_steps : ℕ
@@ -37,12 +50,13 @@ replay_by (Some steps) (Some seed) = Some (Replay steps seed)
 abbrev pub replay_named : List ℕ → List ℕ → List ℕ → Option Command
 replay_named word steps seed = if bytes_eq word (codes "replay") then replay_by (number_within most_steps steps) (number_within (2 ^ 64 - 1) seed) else None
 
--- a command whose number of steps is within that
+-- a command whose numbers are within these
 abbrev pub IsWithin : Command → Type 0
 IsWithin Check = Unit {0}
 IsWithin (Replay steps seed) = steps ≤ most_steps
 IsWithin Asm = Unit {0}
 IsWithin Disasm = Unit {0}
+IsWithin (Slots slots) = (1 ≤ slots) × (slots ≤ most_slots)
 
 abbrev pub ReadsWithin : Task → Type 0
 ReadsWithin (Read command) = IsWithin command
@@ -66,3 +80,4 @@ limit_of Check = most_file
 limit_of (Replay steps seed) = most_file
 limit_of Asm = most_list
 limit_of Disasm = most_list
+limit_of (Slots slots) = most_list

@@ -1,6 +1,7 @@
 //! What the program can do, and the words that ask for it.
 ghost use Rattle.std.specs.Prelude.{◌≡◌, ◌≤◌, Some, None, IfSome};
-ghost use Rattle.vc4check.specs.Words.{texts, command_named, task_numbered, replay_named, task_of, limit_of, most_file, IsWithin, ReadsWithin};
+ghost use Rattle.vc4check.specs.Words.{texts, command_named, task_numbered, replay_named, task_of, limit_of, most_file, IsWithin, ReadsWithin, most_slots, slots_by};
+ghost use Rattle.script.specs.Number.{number_within};
 
 use field_words::MOST_LIST;
 use script::read_number;
@@ -10,6 +11,9 @@ const MOST_FILE: usize = 25_165_824;
 
 /// The most steps of a run.
 const MOST_STEPS: u64 = 1_000_000;
+
+/// The most slots of a book of tile memory.
+const MOST_SLOTS: u64 = 32;
 
 /// A command that reads all of its input, and answers to it.
 #[derive(Clone, Copy, Debug, PartialEq, Eq)]
@@ -23,6 +27,8 @@ pub enum Command {
     Asm,
     /// `disasm`: reads such words and writes shader text that assembles to them.
     Disasm,
+    /// `slots <n>`: reads a script of calls on a book of so many slots of tile memory, and answers each.
+    Slots(u32),
 }
 
 /// What the words ask for.
@@ -42,7 +48,7 @@ impl Command {
     {
         match self {
             Command::Check | Command::Replay { .. } => MOST_FILE,
-            Command::Asm | Command::Disasm => MOST_LIST as usize,
+            Command::Asm | Command::Disasm | Command::Slots(_) => MOST_LIST as usize,
         }
     }
 }
@@ -63,6 +69,16 @@ fn command_named(word: &str) -> Option<Command>
     None
 }
 
+fn slots_named(number: &str) -> Option<Command>
+    ensures value { result ≡ slots_by (number_within most_slots number.now) }
+    ensures within { IfSome result IsWithin }
+{
+    match read_number(number.as_bytes(), MOST_SLOTS)? {
+        0 => None,
+        slots => Some(Command::Slots(slots as u32)),
+    }
+}
+
 fn task_numbered(word: &str, number: &str) -> Option<Task>
     ensures value { result ≡ task_numbered word.now number.now }
     ensures within { IfSome result ReadsWithin }
@@ -70,6 +86,9 @@ fn task_numbered(word: &str, number: &str) -> Option<Task>
     if word == "gen" {
         let number = read_number(number.as_bytes(), u64::from(u32::MAX))?;
         return Some(Task::Make(number as u32));
+    }
+    if word == "slots" {
+        return Some(Task::Read(slots_named(number)?));
     }
     None
 }

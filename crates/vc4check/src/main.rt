@@ -11,6 +11,7 @@ mod example;
 mod job_tests;
 mod replayed;
 mod run;
+mod scripts;
 mod serve;
 mod shader_text;
 #[cfg(test)]

@@ -353,3 +353,28 @@ fn replays_the_smallest_job(rt: HostRuntime) -> Result<(), Fail> {
     }
     Ok(())
 }
+
+// A script on a book of two slots; a line that is no call; no slots at all, and more than there can be.
+#[test]
+fn answers_scripts_of_slots(rt: HostRuntime) -> Result<(), Fail> {
+    let alloc = rt.alloc();
+    for (slots, text, status, output) in [
+        ("2", "begin 0 1\nend 0", 0, "slot 0\nfree 1\n"),
+        ("2", "", 0, ""),
+        ("2", "begin 0 1\nbegin 0\n", 1, "line 2 fault 1\n"),
+        ("0", "begin 0 1\n", 2, ""),
+        ("33", "begin 0 1\n", 2, ""),
+    ] {
+        let mut source = SteadySource::new(text.as_bytes().to_vec(alloc)?);
+        let mut sink = MemSink::new(alloc, 100, 1_000, Vec::new(alloc))?;
+        let answer = run(
+            alloc,
+            &words(alloc, &["slots", slots])?,
+            &mut source,
+            &mut sink,
+        );
+        assert_eq!(rt; answer, status);
+        assert_eq!(rt; sink.bytes(), output.as_bytes());
+    }
+    Ok(())
+}

@@ -1,0 +1,33 @@
+//! Commands that answer scripts: `slots`.
+ghost use Rattle.std.specs.Prelude.{◌≡◌, ◌≤◌, ◌<◌, length, IfOk};
+ghost use Rattle.field_words.specs.Sizes.{most_list};
+ghost use Rattle.vc4check.specs.Scripts.{malformed_text, IsSlotsAnswer};
+
+use super::answer::Answer;
+use field_words::{NoMemory, Stop};
+use std::alloc::{AllocError, Global};
+
+#[tactic(auto, unfolding(crate::specs::Scripts::malformed_text))]
+fn malformed_text(alloc: Global, line: u32) -> Result<Vec<u8>, AllocError>
+    ensures { IfOk result (λ text. text.items ≡ malformed_text line) }
+{
+    Ok(format!(in alloc; "line {line} fault 1\n")?.into_bytes())
+}
+
+/// What `slots` answers to a script on so many slots: a line for each call, or its first malformed line.
+pub fn slots_answer(alloc: Global, slots: u32, text: &[u8]) -> Result<Answer, NoMemory>
+    requires some { 1 ≤ slots }
+    requires few { slots ≤ 32 }
+    requires small { length text.now ≤ most_list }
+    ensures answers { IfOk result (λ a. IsSlotsAnswer slots text.now a.status a.text.items) }
+    ensures status { IfOk result (λ a. a.status < 2) }
+{
+    match overflow_slots::script(alloc, slots, text) {
+        Ok(text) => Ok(Answer { status: 0, text }),
+        Err(Stop::Fault(line)) => {
+            let text = malformed_text(alloc, line)?;
+            Ok(Answer { status: 1, text })
+        }
+        Err(Stop::NoMemory) => Err(NoMemory),
+    }
+}
