@@ -1,5 +1,5 @@
 -- What is kept of a step.
-use Rattle.std.specs.Prelude.{ℕ, ◌+◌, ◌-◌, ◌^◌, ◌==◌, ◌&&◌, Bool, true, false, min, max, if◌then◌else◌, List}
+use Rattle.std.specs.Prelude.{ℕ, ◌+◌, ◌-◌, ◌^◌, ◌==◌, ◌&&◌, min, max, if◌then◌else◌, List}
 use Rattle.std.specs.List.{fold}
 use Rattle.field_words.specs.declared.access.Access.{Access}
 use Rattle.field_words.specs.declared.access.Actor.{Actor}

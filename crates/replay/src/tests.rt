@@ -1,4 +1,6 @@
 //! Runs of machines made by hand.
+ghost use Rattle.std.specs.Prelude.{◌≡◌, ◌≤◌};
+
 use super::*;
 use field_words::{Actor, NoMemory};
 use machine::{Machine, Start};

@@ -1,5 +1,5 @@
 -- One step more is followed; at the end the trace is that of the steps that were.
-use Rattle.std.proofs.Common.{◌≡◌, ◌≤◌, ◌∙◌, length, subst, arith}
+use Rattle.std.proofs.Common.{◌≤◌, ◌∙◌, length, subst, arith}
 use Rattle.replay.specs.declared.trace.Ending.TheVariants.{Spent}
 use Rattle.replay.proofs.Going.{followed_more, trace_over, trace_spent}
 use Rattle.replay.proofs.follow.follow.Goals as goal

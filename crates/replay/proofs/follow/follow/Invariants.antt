@@ -1,4 +1,3 @@
-use Rattle.std.proofs.Common.{ℕ}
 use Rattle.replay.proofs.Going.{Followed}
 use Rattle.replay.proofs.follow.follow.Given as goal
 

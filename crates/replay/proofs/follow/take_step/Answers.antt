@@ -1,5 +1,5 @@
 -- The step is one that the script gave.
-use Rattle.std.proofs.Common.{◌≡◌, ◌≤◌, ◌<◌, ◌∙◌, sym, subst, ap, length, slice_index, arith}
+use Rattle.std.proofs.Common.{◌<◌, ◌∙◌, subst, ap, length, slice_index, arith}
 use Rattle.replay.specs.Units.{unit_at}
 use Rattle.replay.proofs.Going.{unit_may, steps_by}
 use Rattle.replay.proofs.follow.take_step.Goals as goal

@@ -1,5 +1,5 @@
 -- One unit further.
-use Rattle.std.proofs.Common.{◌≡◌, ◌∙◌, sym, ap, arith, length}
+use Rattle.std.proofs.Common.{◌∙◌, sym, ap, arith, length}
 use Rattle.machine.specs.Step.{enabled}
 use Rattle.replay.specs.Units.{unit_at}
 use Rattle.replay.proofs.Order.{units_put, units_past}
