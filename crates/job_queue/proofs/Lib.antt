@@ -1,1 +1,4 @@
 pub mod Laws
+pub mod Desks
+pub mod Loops
+pub mod Writers

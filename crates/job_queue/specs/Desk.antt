@@ -1,5 +1,5 @@
 -- What the code keeps, and when it stands for what a list of calls did.
-use Rattle.std.specs.Prelude.{◌≡◌, ◌≤◌, ◌<◌, ℕ, ◌+◌, ◌%◌, List, [], ◌∷◌, length, slice_index}
+use Rattle.std.specs.Prelude.{◌≡◌, ◌≤◌, ◌<◌, ℕ, ◌+◌, ◌%◌, List, [], ◌∷◌, length, slice_index, slice_set, max}
 use Rattle.job_queue.specs.Past.{Past, last_before, last_writer}
 
 -- For each buffer its last writer's number, or 0. For each job that hasn't rendered, at its number less one modulo 4,096, the last
@@ -32,3 +32,13 @@ pub record Agrees (past : Past) (desk : Desk) : Type 0 where
 -- A call's answer is that of the past, whatever past the queue stands for, and the queue then stands for the past with this call.
 abbrev pub Answers : {A : Type 0} → (Past → A) → (Past → Past) → A → Desk → Desk → Type 0
 Answers answer after result old new = (past : Past) → Agrees past old → (result ≡ answer past) × Agrees (after past) new
+
+-- the greatest of what is kept for these buffers and of what was found before
+unfoldable pub greatest : List ℕ → ℕ → List ℕ → ℕ
+greatest writers found [] = found
+greatest writers found (buffer ∷ buffers) = greatest writers (max found (slice_index writers buffer)) buffers
+
+-- the job is kept for each of these buffers
+unfoldable pub written : List ℕ → List ℕ → ℕ → List ℕ
+written writers [] job = writers
+written writers (buffer ∷ buffers) job = written (slice_set writers buffer job) buffers job

@@ -1,7 +1,8 @@
 //! The queue.
-ghost use Rattle.std.specs.Prelude.{◌≡◌, ◌≤◌, ◌<◌, ◌^◌, IfOk};
+ghost use Rattle.std.specs.Prelude.{◌≡◌, ◌≤◌, ◌<◌, ◌^◌, length, IfOk, None};
 ghost use Rattle.job_queue.specs.Past.{none_yet, submit_answer, start_answer, bin_answer, render_answer, after_submit, after_start, after_bin, after_render};
-ghost use Rattle.job_queue.specs.Desk.{Agrees, Answers};
+ghost use Rattle.job_queue.specs.Past.{first_unknown as unknown};
+ghost use Rattle.job_queue.specs.Desk.{Agrees, Answers, greatest, written};
 ghost use Rattle.job_queue.specs.Laws.{StartsLate};
 
 use field_words::NoMemory;
@@ -60,7 +61,10 @@ impl Model for Queue {
 }
 
 // The first of these numbers that is no buffer's.
-fn first_unknown(numbers: &[u32], buffers: usize) -> Option<u32> {
+#[tactic(auto, using(crate::proofs::Loops::unknown_more, crate::proofs::Loops::unknown_end))]
+fn first_unknown(numbers: &[u32], buffers: usize) -> Option<u32>
+    ensures { result ≡ unknown buffers numbers.now }
+{
     for number in numbers {
         if *number as usize >= buffers {
             return Some(*number);
@@ -70,16 +74,27 @@ fn first_unknown(numbers: &[u32], buffers: usize) -> Option<u32> {
 }
 
 // The last job that writes one of these buffers, or 0.
-fn last_writer(writers: &[u64], reads: &[u32]) -> u64 {
+#[tactic(auto, using(crate::proofs::Loops::known_here, crate::proofs::Loops::greatest_end))]
+fn last_writer(writers: &[u64], reads: &[u32]) -> u64
+    requires { unknown (length writers.now) reads.now ≡ None }
+    ensures { result ≡ greatest writers.now 0 reads.now }
+{
     let mut last = 0;
     for buffer in reads {
-        last = last.max(writers[*buffer as usize]);
+        let writer = writers[*buffer as usize];
+        if writer > last {
+            last = writer;
+        }
     }
     last
 }
 
 // The job becomes the last writer of these buffers.
-fn set_writer(writers: &mut [u64], writes: &[u32], job: u64) {
+#[tactic(auto, using(crate::proofs::Loops::known_here))]
+fn set_writer(writers: &mut [u64], writes: &[u32], job: u64)
+    requires { unknown (length writers.old) writes.now ≡ None }
+    ensures { writers.new ≡ written writers.old writes.now job }
+{
     for buffer in writes {
         writers[*buffer as usize] = job;
     }
