@@ -1,4 +1,5 @@
 pub mod Laws
 pub mod Desks
 pub mod Loops
+pub mod Words
 pub mod Writers

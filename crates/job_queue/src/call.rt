@@ -1,13 +1,14 @@
 //! The calls of a script.
-ghost use Rattle.std.specs.Prelude.{◌≡◌};
+ghost use Rattle.std.specs.Prelude.{◌≡◌, ◌++◌, IfOk};
+ghost use Rattle.job_queue.specs.Calls.{are_numbers as numbers_told, are_buffers as buffers_told, buffers_of, call_of, is_submit as submit_told};
 
 use script::{cut_at, read_number};
 use std::alloc::AllocError;
 
-/// A call on a queue. A job's buffers are still text: `-`, or numbers parted by commas.
+/// A call on a queue. A submitted job's buffers stand on its line.
 #[derive(Clone, Copy)]
-pub enum Call<'a> {
-    Submit { reads: &'a [u8], writes: &'a [u8] },
+pub enum Call {
+    Submit,
     Start,
     Bin,
     Render,
@@ -16,7 +17,9 @@ pub enum Call<'a> {
 const LAST_NUMBER: u64 = 4_294_967_295;
 
 // Whether it is numbers parted by commas.
-fn are_numbers(word: &[u8]) -> bool {
+fn are_numbers(word: &[u8]) -> bool
+    ensures { result ≡ numbers_told word.now }
+{
     let mut rest = word;
     loop {
         let cut = cut_at(rest, b',');
@@ -31,12 +34,28 @@ fn are_numbers(word: &[u8]) -> bool {
 }
 
 // Whether it is buffers: `-`, or numbers.
-fn are_buffers(word: &[u8]) -> bool {
+#[tactic(auto, unfolding(crate::specs::Calls::are_buffers))]
+fn are_buffers(word: &[u8]) -> bool
+    ensures { result ≡ buffers_told word.now }
+{
     word == b"-".as_slice() || are_numbers(word)
 }
 
+// Whether it is `submit` and two words of buffers.
+fn is_submit(line: &[u8]) -> bool
+    ensures { result ≡ submit_told line.now }
+{
+    let cut = cut_at(line, b' ');
+    let buffers = cut_at(cut.rest, b' ');
+    cut.first == b"submit".as_slice()
+        && are_buffers(buffers.first)
+        && are_buffers(buffers.rest)
+}
+
 /// The numbers that a word is, after those that are there.
-pub fn put_numbers(numbers: &mut Vec<u32>, word: &[u8]) -> Result<(), AllocError> {
+pub fn put_numbers(numbers: &mut Vec<u32>, word: &[u8]) -> Result<(), AllocError>
+    ensures { IfOk result (λ _. numbers.new.items ≡ numbers.old.items ++ buffers_of word.now) }
+{
     let mut rest = word;
     while !rest.is_empty() {
         let cut = cut_at(rest, b',');
@@ -49,7 +68,10 @@ pub fn put_numbers(numbers: &mut Vec<u32>, word: &[u8]) -> Result<(), AllocError
 }
 
 /// The call that a line is, or `None` exactly where it is none.
-pub fn read_call(line: &[u8]) -> Option<Call<'_>> {
+#[tactic(auto, unfolding(crate::specs::Calls::call_of))]
+pub fn read_call(line: &[u8]) -> Option<Call>
+    ensures { result ≡ call_of line.now }
+{
     if line == b"start".as_slice() {
         return Some(Call::Start);
     }
@@ -59,16 +81,8 @@ pub fn read_call(line: &[u8]) -> Option<Call<'_>> {
     if line == b"render".as_slice() {
         return Some(Call::Render);
     }
-    let cut = cut_at(line, b' ');
-    let buffers = cut_at(cut.rest, b' ');
-    if cut.first == b"submit".as_slice()
-        && are_buffers(buffers.first)
-        && are_buffers(buffers.rest)
-    {
-        return Some(Call::Submit {
-            reads: buffers.first,
-            writes: buffers.rest,
-        });
+    if is_submit(line) {
+        return Some(Call::Submit);
     }
     None
 }

@@ -1,22 +1,37 @@
 //! Scripts of calls, and their answers.
-ghost use Rattle.std.specs.Prelude.{◌≡◌, ◌≤◌, ◌<◌, ◌^◌, length};
+ghost use Rattle.std.specs.Prelude.{◌≡◌, ◌≤◌, ◌<◌, ◌^◌, ◌++◌, length, IfOk, IfErr, None, string_bytes};
+ghost use Rattle.job_queue.specs.Calls.{call_of, fault_line, is_formed as formed, buffers_of, reads_word, writes_word};
+ghost use Rattle.job_queue.specs.Desk.{Agrees};
+ghost use Rattle.job_queue.specs.Past.{Past, submit_answer, after_submit};
+ghost use Rattle.job_queue.specs.Text.{refused_line, job_line, start_line, binned_line, rendered_line, line_reply, after_line, replies, IsScriptFault};
 
 use super::call::{Call, put_numbers, read_call};
 use super::queue::{Queue, QueueFault};
 use field_words::Stop;
-use script::next_line;
+use script::{cut_at, next_line};
 use std::alloc::{AllocError, Global};
 use std::fmt::Write;
+
+#[tactic(auto, unfolding(crate::specs::Calls::is_formed))]
+fn is_formed(line: &[u8]) -> bool
+    ensures { result ≡ formed line.now }
+{
+    match read_call(line) {
+        Some(_) => true,
+        None => false,
+    }
+}
 
 // The number of the first line that is no call.
 fn first_malformed(text: &[u8]) -> Option<u32>
     requires { length text.now < 2 ^ 32 }
+    ensures { result ≡ fault_line text.now }
 {
     let mut rest = text;
     let mut line: u64 = 1;
     while !rest.is_empty() {
         let cut = next_line(rest);
-        if read_call(cut.first).is_none() {
+        if !is_formed(cut.first) {
             return Some(line as u32);
         }
         line += 1;
@@ -25,7 +40,10 @@ fn first_malformed(text: &[u8]) -> Option<u32>
     None
 }
 
-fn put_refused(out: &mut String, fault: QueueFault) -> Result<(), AllocError> {
+#[tactic(auto, unfolding(crate::specs::Text::refused_line))]
+fn put_refused(out: &mut String, fault: QueueFault) -> Result<(), AllocError>
+    ensures { IfOk result (λ _. string_bytes out.new ≡ string_bytes out.old ++ refused_line fault) }
+{
     match fault {
         QueueFault::Unknown { .. } => write!(out, "refused Q1\n"),
         QueueFault::Full => write!(out, "refused Q2\n"),
@@ -37,57 +55,79 @@ fn put_refused(out: &mut String, fault: QueueFault) -> Result<(), AllocError> {
     }
 }
 
-fn put_job(out: &mut String, answer: Result<u64, QueueFault>) -> Result<(), AllocError> {
+#[tactic(auto, unfolding(crate::specs::Text::job_line))]
+fn put_job(out: &mut String, answer: Result<u64, QueueFault>) -> Result<(), AllocError>
+    ensures { IfOk result (λ _. string_bytes out.new ≡ string_bytes out.old ++ job_line answer) }
+{
     match answer {
         Ok(job) => write!(out, "job {job}\n"),
         Err(fault) => put_refused(out, fault),
     }
 }
 
-fn put_start(out: &mut String, answer: Result<u64, QueueFault>) -> Result<(), AllocError> {
+#[tactic(auto, unfolding(crate::specs::Text::start_line))]
+fn put_start(out: &mut String, answer: Result<u64, QueueFault>) -> Result<(), AllocError>
+    ensures { IfOk result (λ _. string_bytes out.new ≡ string_bytes out.old ++ start_line answer) }
+{
     match answer {
         Ok(job) => write!(out, "start {job}\n"),
         Err(fault) => put_refused(out, fault),
     }
 }
 
-fn put_binned(out: &mut String, answer: Result<u64, QueueFault>) -> Result<(), AllocError> {
+#[tactic(auto, unfolding(crate::specs::Text::binned_line))]
+fn put_binned(out: &mut String, answer: Result<u64, QueueFault>) -> Result<(), AllocError>
+    ensures { IfOk result (λ _. string_bytes out.new ≡ string_bytes out.old ++ binned_line answer) }
+{
     match answer {
         Ok(job) => write!(out, "binned {job}\n"),
         Err(fault) => put_refused(out, fault),
     }
 }
 
-fn put_rendered(out: &mut String, answer: Result<u64, QueueFault>) -> Result<(), AllocError> {
+#[tactic(auto, unfolding(crate::specs::Text::rendered_line))]
+fn put_rendered(out: &mut String, answer: Result<u64, QueueFault>) -> Result<(), AllocError>
+    ensures { IfOk result (λ _. string_bytes out.new ≡ string_bytes out.old ++ rendered_line answer) }
+{
     match answer {
         Ok(job) => write!(out, "rendered {job}\n"),
         Err(fault) => put_refused(out, fault),
     }
 }
 
-// Submits a job, and puts the line that answers it.
+// Submits a job, and puts the line that answers it. Its buffers stand on this line.
 fn put_submit(
     alloc: Global,
     out: &mut String,
     queue: &mut Queue,
-    reads: &[u8],
-    writes: &[u8],
-) -> Result<(), AllocError> {
-    let mut read = Vec::new(alloc);
-    put_numbers(&mut read, reads)?;
-    let mut written = Vec::new(alloc);
-    put_numbers(&mut written, writes)?;
-    put_job(out, queue.submit(&read, &written))
+    line: &[u8],
+) -> Result<(), AllocError>
+    requires { queue.old.submitted < 2 ^ 63 }
+    ensures line { (past : Past) → Agrees past queue.old → IfOk result (λ _. string_bytes out.new ≡ string_bytes out.old ++ job_line (submit_answer past (buffers_of (reads_word line.now)) (buffers_of (writes_word line.now)))) }
+    ensures kept { (past : Past) → Agrees past queue.old → IfOk result (λ _. Agrees (after_submit past (buffers_of (reads_word line.now)) (buffers_of (writes_word line.now))) queue.new) }
+{
+    let buffers = cut_at(cut_at(line, b' ').rest, b' ');
+    let mut reads = Vec::new(alloc);
+    put_numbers(&mut reads, buffers.first)?;
+    let mut writes = Vec::new(alloc);
+    put_numbers(&mut writes, buffers.rest)?;
+    put_job(out, queue.submit(&reads, &writes))
 }
 
+// Makes the call that a line is, if any, and puts the line that answers it.
+#[tactic(auto, unfolding(crate::specs::Text::line_reply, crate::specs::Text::after_line))]
 fn put_line(
     alloc: Global,
     out: &mut String,
     queue: &mut Queue,
     line: &[u8],
-) -> Result<(), AllocError> {
+) -> Result<(), AllocError>
+    requires { queue.old.submitted < 2 ^ 63 }
+    ensures line { (past : Past) → Agrees past queue.old → IfOk result (λ _. string_bytes out.new ≡ string_bytes out.old ++ line_reply past line.now (call_of line.now)) }
+    ensures kept { (past : Past) → Agrees past queue.old → IfOk result (λ _. Agrees (after_line past line.now (call_of line.now)) queue.new) }
+{
     match read_call(line) {
-        Some(Call::Submit { reads, writes }) => put_submit(alloc, out, queue, reads, writes),
+        Some(Call::Submit) => put_submit(alloc, out, queue, line),
         Some(Call::Start) => put_start(out, queue.start()),
         Some(Call::Bin) => put_binned(out, queue.bin_done()),
         Some(Call::Render) => put_rendered(out, queue.render_done()),
@@ -103,6 +143,8 @@ fn put_line(
 pub fn script(alloc: Global, buffers: u32, text: &[u8]) -> Result<Vec<u8>, Stop<u32>>
     requires few { buffers ≤ 1024 }
     requires length { length text.now < 2 ^ 32 }
+    ensures answers { IfOk result (λ bytes. (fault_line text.now ≡ None) × (bytes.items ≡ replies buffers text.now)) }
+    ensures fault { IfErr result (IsScriptFault text.now) }
 {
     if let Some(line) = first_malformed(text) {
         return Err(Stop::Fault(line));

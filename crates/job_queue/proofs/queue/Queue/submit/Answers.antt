@@ -1,5 +1,7 @@
 use Rattle.std.proofs.Common.{◌≡◌, ◌+◌, ◌≤◌, length, Some, None, sym, ◌∙◌, ap, arith}
+use Rattle.std.proofs.lemmas.List.{with_items_is}
 use Rattle.job_queue.specs.Past.{first_unknown}
+use Rattle.job_queue.proofs.Writers.{written_size}
 use Rattle.job_queue.specs.declared.queue.QueueFault.TheVariants.{Unknown, Full}
 use Rattle.job_queue.proofs.Desks.{submit_refused, submit_reads, submit_writes, submit_full, submit_kept, of_writers}
 use Rattle.job_queue.specs.Desk.{Desk, greatest, written}
@@ -43,9 +45,13 @@ returns c =
       binned = c.self.inside.binned;
       rendered = c.self.inside.rendered;
     } in
+    let kept : c.set_writer.new.writers ≡ written c.self.inside.writers.items c.args.writes.now (c.self.inside.submitted + 1) =
+    c.set_writer.ensures ∙ ap (λ w. written w c.args.writes.now (c.self.inside.submitted + 1)) c.deref_mut.ensures.value in
+    let size : length c.set_writer.new.writers ≡ c.self.inside.writers.len =
+    ap length kept ∙ written_size c.self.inside.writers.items c.args.writes.now (c.self.inside.submitted + 1) ∙ sym c.self.inside.writers.ok.0 in
     rw (← c.self.view_is) (λ p agrees.
-    submit_kept p desk c.args.reads.now c.args.writes.now c.set_writer.new.writers c.last_writer-last.result
-    (c.set_writer.ensures ∙ ap (λ w. written w c.args.writes.now (c.self.inside.submitted + 1)) c.deref_mut.ensures.value)
+    submit_kept p desk c.args.reads.now c.args.writes.now _ c.last_writer-last.result
+    (with_items_is c.self.inside.writers c.set_writer.new.writers size ∙ kept)
     (c.last_writer-last.ensures ∙ ap (λ w. greatest w 0 c.args.reads.now) c.deref.ensures.value)
     c.self.invariant.size none none_too
     (omega (arith, c.if-self-ge-MOST_WAITING.false, c.self.invariant.few, c.self.invariant.rendered_first, c.self.invariant.binned_first, c.self.invariant.started_first)) agrees)
