@@ -50,35 +50,35 @@ first_part : (bytes : List ℕ) (later : List (List ℕ)) → parts_of bytes ≡
 unfolding are_all_numbers
 first_part bytes later is = rw is refl
 
-no_number_by : (bytes first : List ℕ) (all same : Bool) → (length (before 44 bytes) == length bytes) ≡ same → first ≡ before 44 bytes → number_within last_number first ≡ None
+no_number_by : (bytes first : List ℕ) (all same : Bool) → (length (before 44 bytes) == length bytes) ≡ same → first ≡ before 44 bytes → is_some (number_within last_number first) ≡ false
     → are_all_numbers (parts_of bytes) ≡ all → false ≡ all
 no_number_by bytes first all true same cut none told =
     let e : length (before 44 bytes) ≡ length bytes = grind (arith, nat_tests) in
-    let here : number_within last_number (before 44 bytes) ≡ None = ap (number_within last_number) (sym cut) ∙ none in
-    sym (first_part bytes [] (whole bytes e).0 ∙ ap (λ o. is_some o && are_all_numbers []) here) ∙ told
+    let here : is_some (number_within last_number (before 44 bytes)) ≡ false = ap (λ w. is_some (number_within last_number w)) (sym cut) ∙ none in
+    sym (first_part bytes [] (whole bytes e).0 ∙ ap (λ b. b && are_all_numbers []) here) ∙ told
 no_number_by bytes first all false same cut none told =
     let apart : length (before 44 bytes) ≡ length bytes → ⊥ = λ e. absurd (false≢true (sym same ∙ eq-eqb _ _ e)) in
-    let here : number_within last_number (before 44 bytes) ≡ None = ap (number_within last_number) (sym cut) ∙ none in
-    sym (first_part bytes (parts_of (behind 44 bytes)) (more bytes apart) ∙ ap (λ o. is_some o && are_all_numbers (parts_of (behind 44 bytes))) here) ∙ told
+    let here : is_some (number_within last_number (before 44 bytes)) ≡ false = ap (λ w. is_some (number_within last_number w)) (sym cut) ∙ none in
+    sym (first_part bytes (parts_of (behind 44 bytes)) (more bytes apart) ∙ ap (λ b. b && are_all_numbers (parts_of (behind 44 bytes))) here) ∙ told
 
-pub no_number : (bytes first : List ℕ) (all : Bool) → first ≡ before 44 bytes → number_within last_number first ≡ None → are_all_numbers (parts_of bytes) ≡ all → false ≡ all
+pub no_number : (bytes first : List ℕ) (all : Bool) → first ≡ before 44 bytes → is_some (number_within last_number first) ≡ false → are_all_numbers (parts_of bytes) ≡ all → false ≡ all
 no_number bytes first all cut none told = no_number_by bytes first all (length (before 44 bytes) == length bytes) refl cut none told
 
-pub one_number : (bytes first : List ℕ) (number : ℕ) (all : Bool) → first ≡ before 44 bytes → number_within last_number first ≡ Some number → length first ≡ length bytes
+pub one_number : (bytes first : List ℕ) (all : Bool) → first ≡ before 44 bytes → is_some (number_within last_number first) ≡ true → length first ≡ length bytes
     → are_all_numbers (parts_of bytes) ≡ all → true ≡ all
 unfolding are_all_numbers
-one_number bytes first number all cut is size told =
+one_number bytes first all cut is size told =
     let known = whole bytes (ap length (sym cut) ∙ size) in
-    let here : number_within last_number (before 44 bytes) ≡ Some number = ap (number_within last_number) (sym cut) ∙ is in
-    sym (first_part bytes [] known.0 ∙ ap (λ o. is_some o && true) here) ∙ told
+    let here : is_some (number_within last_number (before 44 bytes)) ≡ true = ap (λ w. is_some (number_within last_number w)) (sym cut) ∙ is in
+    sym (first_part bytes [] known.0 ∙ ap (λ b. b && true) here) ∙ told
 
-pub more_numbers : (bytes first rest : List ℕ) (number : ℕ) (all : Bool) → first ≡ before 44 bytes → rest ≡ behind 44 bytes → number_within last_number first ≡ Some number
+pub more_numbers : (bytes first rest : List ℕ) (all : Bool) → first ≡ before 44 bytes → rest ≡ behind 44 bytes → is_some (number_within last_number first) ≡ true
     → (length first ≡ length bytes → ⊥) → are_all_numbers (parts_of bytes) ≡ all → are_all_numbers (parts_of rest) ≡ all
-more_numbers bytes first rest number all cut after is size told =
+more_numbers bytes first rest all cut after is size told =
     let known = more bytes (λ e. size (ap length cut ∙ e)) in
-    let here : number_within last_number (before 44 bytes) ≡ Some number = ap (number_within last_number) (sym cut) ∙ is in
+    let here : is_some (number_within last_number (before 44 bytes)) ≡ true = ap (λ w. is_some (number_within last_number w)) (sym cut) ∙ is in
     ap (λ r. are_all_numbers (parts_of r)) after
-    ∙ sym (first_part bytes (parts_of (behind 44 bytes)) known ∙ ap (λ o. is_some o && are_all_numbers (parts_of (behind 44 bytes))) here) ∙ told
+    ∙ sym (first_part bytes (parts_of (behind 44 bytes)) known ∙ ap (λ b. b && are_all_numbers (parts_of (behind 44 bytes))) here) ∙ told
 
 pub more_inside : (bytes first : List ℕ) → first ≡ before 44 bytes → (length first ≡ length bytes → ⊥) → 0 < length bytes
 more_inside bytes first cut size = some_bytes bytes (λ e. size (ap length cut ∙ e))

@@ -1,6 +1,7 @@
 //! The calls of a script.
 ghost use Rattle.std.specs.Prelude.{◌≡◌, ◌++◌, IfOk};
-ghost use Rattle.job_queue.specs.Calls.{are_numbers as numbers_told, are_buffers as buffers_told, buffers_of, call_of, is_submit as submit_told};
+ghost use Rattle.script.specs.Number.{number_within};
+ghost use Rattle.job_queue.specs.Calls.{is_some, last_number, are_numbers as numbers_told, are_buffers as buffers_told, buffers_of, call_of, is_submit as submit_told};
 
 use script::{cut_at, read_number};
 use std::alloc::AllocError;
@@ -16,6 +17,15 @@ pub enum Call {
 
 const LAST_NUMBER: u64 = 4_294_967_295;
 
+fn is_number(word: &[u8]) -> bool
+    ensures { result ≡ is_some (number_within last_number word.now) }
+{
+    match read_number(word, LAST_NUMBER) {
+        Some(_) => true,
+        None => false,
+    }
+}
+
 // Whether it is numbers parted by commas.
 fn are_numbers(word: &[u8]) -> bool
     ensures { result ≡ numbers_told word.now }
@@ -23,7 +33,7 @@ fn are_numbers(word: &[u8]) -> bool
     let mut rest = word;
     loop {
         let cut = cut_at(rest, b',');
-        if read_number(cut.first, LAST_NUMBER).is_none() {
+        if !is_number(cut.first) {
             return false;
         }
         if cut.first.len() == rest.len() {
