@@ -1,0 +1,74 @@
+-- Buffers of a job, one after the other.
+use Rattle.std.proofs.Common.{◌≡◌, ℕ, zero, suc, ◌+◌, ◌-◌, ◌≤◌, ◌<◌, ◌==◌, Bool, true, false, max, nat_lt, List, [], ◌∷◌, ◌++◌, length, get_or, set, drop, refl, sym, ◌∙◌, ap, arith, drop-cons, add-one, Option, Some, None, if◌then◌else◌}
+use Rattle.std.proofs.lemmas.Bool.Decides.{nat_tests}
+use Rattle.std.proofs.lemmas.List.{drop_all}
+use Rattle.std.specs.Prelude.{slice_index, slice_set}
+use Rattle.job_queue.specs.Past.{first_unknown}
+use Rattle.job_queue.specs.Desk.{greatest, written}
+
+-- the items from one place on
+pub from_here : (xs : List ℕ) (i : ℕ) → i < length xs → drop i xs ≡ get_or xs i 0 ∷ drop (i + 1) xs
+from_here xs i inside = rw add-one (drop-cons xs i 0 inside)
+
+lt_of : (a b : ℕ) → a < b → nat_lt a b ≡ true
+lt_of a b h = grind (arith, nat_tests)
+
+ge_of : (a b : ℕ) → b ≤ a → nat_lt a b ≡ false
+ge_of a b h = grind (arith, nat_tests)
+
+-- the first number that is no buffer's
+pub unknown_here : (buffers : ℕ) (xs : List ℕ) (i : ℕ) (all : Option ℕ) → i < length xs → buffers ≤ get_or xs i 0 → first_unknown buffers (drop i xs) ≡ all
+    → Some (get_or xs i 0) ≡ all
+unfolding first_unknown
+unknown_here buffers xs i all inside past before =
+    sym (ap (first_unknown buffers) (from_here xs i inside) ∙ ap (λ b. if b then first_unknown buffers (drop (i + 1) xs) else Some (get_or xs i 0)) (ge_of (get_or xs i 0) buffers past)) ∙ before
+
+pub unknown_more : (buffers : ℕ) (xs : List ℕ) (i : ℕ) (all : Option ℕ) → i < length xs → get_or xs i 0 < buffers → first_unknown buffers (drop i xs) ≡ all
+    → first_unknown buffers (drop (i + 1) xs) ≡ all
+unfolding first_unknown
+unknown_more buffers xs i all inside below before =
+    sym (ap (first_unknown buffers) (from_here xs i inside) ∙ ap (λ b. if b then first_unknown buffers (drop (i + 1) xs) else Some (get_or xs i 0)) (lt_of (get_or xs i 0) buffers below)) ∙ before
+
+pub unknown_end : (buffers : ℕ) (xs : List ℕ) (i : ℕ) (all : Option ℕ) → length xs ≤ i → first_unknown buffers (drop i xs) ≡ all → None ≡ all
+unfolding first_unknown
+unknown_end buffers xs i all past before = sym (ap (first_unknown buffers) (drop_all i xs past)) ∙ before
+
+-- where there is none, each number is a buffer's
+known_by : (b : Bool) (buffer buffers : ℕ) (others : Option ℕ) → nat_lt buffer buffers ≡ b → (if b then others else Some buffer) ≡ None → (buffer < buffers) × (others ≡ None)
+known_by true buffer buffers others is none = (grind (arith, nat_tests), none)
+known_by false buffer buffers others is none = let no : ⊥ = cc in absurd no
+
+pub known_first : (buffers buffer : ℕ) (others : List ℕ) → first_unknown buffers (buffer ∷ others) ≡ None → (buffer < buffers) × (first_unknown buffers others ≡ None)
+unfolding first_unknown
+known_first buffers buffer others none = known_by (nat_lt buffer buffers) buffer buffers (first_unknown buffers others) refl none
+
+known_at : (buffers : ℕ) (xs : List ℕ) (i : ℕ) → i < length xs → first_unknown buffers (drop i xs) ≡ None
+    → (get_or xs i 0 < buffers) × (first_unknown buffers (drop (i + 1) xs) ≡ None)
+known_at buffers xs i inside none = known_first buffers (get_or xs i 0) (drop (i + 1) xs) (sym (ap (first_unknown buffers) (from_here xs i inside)) ∙ none)
+
+pub known_here : (buffers : ℕ) (xs : List ℕ) (i : ℕ) → i < length xs → first_unknown buffers (drop i xs) ≡ None → get_or xs i 0 < buffers
+known_here buffers xs i inside none = (known_at buffers xs i inside none).0
+
+pub known_later : (buffers : ℕ) (xs : List ℕ) (i : ℕ) → i < length xs → first_unknown buffers (drop i xs) ≡ None → first_unknown buffers (drop (i + 1) xs) ≡ None
+known_later buffers xs i inside none = (known_at buffers xs i inside none).1
+
+-- the greatest that is kept
+pub greatest_more : (writers xs : List ℕ) (i found next all : ℕ) → i < length xs → next ≡ max found (slice_index writers (get_or xs i 0))
+    → greatest writers found (drop i xs) ≡ all → greatest writers next (drop (i + 1) xs) ≡ all
+unfolding greatest
+greatest_more writers xs i found next all inside is before =
+    ap (λ n. greatest writers n (drop (i + 1) xs)) is ∙ sym (ap (greatest writers found) (from_here xs i inside)) ∙ before
+
+pub greatest_end : (writers xs : List ℕ) (i found all : ℕ) → length xs ≤ i → greatest writers found (drop i xs) ≡ all → found ≡ all
+unfolding greatest
+greatest_end writers xs i found all past before = sym (ap (greatest writers found) (drop_all i xs past)) ∙ before
+
+-- a job is kept
+pub written_more : (writers xs all : List ℕ) (i job : ℕ) → i < length xs → written writers (drop i xs) job ≡ all
+    → written (slice_set writers (get_or xs i 0) job) (drop (i + 1) xs) job ≡ all
+unfolding written
+written_more writers xs all i job inside before = sym (ap (λ bs. written writers bs job) (from_here xs i inside)) ∙ before
+
+pub written_end : (writers xs all : List ℕ) (i job : ℕ) → length xs ≤ i → written writers (drop i xs) job ≡ all → writers ≡ all
+unfolding written
+written_end writers xs all i job past before = sym (ap (λ bs. written writers bs job) (drop_all i xs past)) ∙ before

@@ -1,0 +1,28 @@
+use Rattle.std.proofs.Common.{refl, sym, ◌∙◌, arith}
+use Rattle.std.proofs.lemmas.Bool.Decides.{nat_tests}
+use Rattle.std.proofs.Common.{◌≤◌, length}
+use Rattle.script.specs.Lines.{lines_of}
+use Rattle.job_queue.specs.Calls.{fault_line}
+use Rattle.job_queue.proofs.Lines.{malformed_here, malformed_later, malformed_end}
+use Rattle.job_queue.proofs.replies.first_malformed.Goals as goal
+
+pub loop-rest-init : goal.loop-rest-init
+unfolding fault_line
+loop-rest-init c = record { lines = omega arith; same = refl }
+
+pub returns-then-not-is_formed : goal.returns-then-not-is_formed
+returns-then-not-is_formed c =
+    sym (malformed_here (lines_of c.loop-rest.rest.now) (lines_of c.next_line-cut.result.rest.now) c.next_line-cut.result.first.now c.loop-rest.line
+    c.next_line-cut.ensures.lines (sym c.is_formed.ensures ∙ c.if-not-is_formed.true)) ∙ c.loop-rest.invariant.same
+
+pub loop-rest-preserved : goal.loop-rest-preserved
+loop-rest-preserved c = record {
+  lines = omega (arith, c.next_line-cut.ensures.shorter, c.loop-rest.invariant.lines);
+  same = malformed_later (lines_of c.loop-rest.rest.now) (lines_of c.next_line-cut.result.rest.now) c.next_line-cut.result.first.now c.loop-rest.line
+      c.next_line-cut.ensures.lines (sym c.is_formed.ensures ∙ c.if-not-is_formed.false) ∙ c.loop-rest.invariant.same;
+}
+
+pub returns : goal.returns
+returns c =
+    let none : length c.loop-rest.rest.now ≤ 0 = grind (arith, nat_tests, c.is_empty.ensures, c.loop-rest-test.false) in
+    sym (malformed_end c.loop-rest.rest.now c.loop-rest.line none) ∙ c.loop-rest.invariant.same

@@ -1,0 +1,5 @@
+pub mod Calls
+pub mod Desk
+pub mod Laws
+pub mod Past
+pub mod Text
