@@ -10,9 +10,9 @@ use Rattle.job_check.specs.Emit.{memory_of, lengths_of}
 use Rattle.job_check.specs.Jobs.{layout_of}
 use Rattle.dumper.specs.Text.{accepted_text, refused_text}
 use Rattle.vc4check.specs.declared.command.Command.{Command}
-use Rattle.vc4check.specs.declared.command.Command.TheVariants.{Check, Replay, Asm, Disasm, Slots}
+use Rattle.vc4check.specs.declared.command.Command.TheVariants.{Check, Replay, Asm, Disasm, Slots, Queue}
 use Rattle.vc4check.specs.Replay.{IsReplayAnswer}
-use Rattle.vc4check.specs.Scripts.{IsSlotsAnswer}
+use Rattle.vc4check.specs.Scripts.{IsSlotsAnswer, IsQueueAnswer}
 use Rattle.vc4check.specs.Shader.{IsAsmAnswer, IsDisasmAnswer}
 use Rattle.job_format.specs.Text.{file_text}
 use Rattle.dumper.specs.Example.{example_text}
@@ -38,6 +38,7 @@ IsAnswer (Replay steps seed) bytes status text = IsReplayAnswer steps seed bytes
 IsAnswer Asm bytes status text = IsAsmAnswer bytes status text
 IsAnswer Disasm bytes status text = IsDisasmAnswer bytes status text
 IsAnswer (Slots slots) bytes status text = IsSlotsAnswer slots bytes status text
+IsAnswer (Queue buffers) bytes status text = IsQueueAnswer buffers bytes status text
 
 -- `gen` makes the example of a number and checks it, as `check` does. It says how long the file and the emitted lists are and what
 -- the bytes of the memory add up to, or why the file is refused.

@@ -1,15 +1,24 @@
 -- What a script is answered: a line for each of its lines, or the first line that is no call.
-use Rattle.std.specs.Prelude.{◌≡◌, ◌⊎◌, ℕ, List, ◌++◌, codes, None, Some}
+use Rattle.std.specs.Prelude.{◌≡◌, ◌⊎◌, ℕ, List, ◌++◌, codes, Option, None, Some}
 use Rattle.std.specs.Fmt.{decimal}
-use Rattle.overflow_slots.specs.Text.{replies}
-use Rattle.overflow_slots.specs.Calls.{fault_line}
+use Rattle.overflow_slots.specs.Text.{replies as slots_replies}
+use Rattle.overflow_slots.specs.Calls.{fault_line as slots_fault}
+use Rattle.job_queue.specs.Text.{replies as queue_replies}
+use Rattle.job_queue.specs.Calls.{fault_line as queue_fault}
 
 -- a line for the first line of a script that is no call
 unfoldable pub malformed_text : ℕ → List ℕ
 malformed_text line = codes "line " ++ (decimal line ++ codes " fault 1\n")
 
--- A script whose lines are calls is answered with its replies on so many slots, any other with its first malformed line.
+-- A script is answered with these replies where no line is malformed, else with the first line that is.
+abbrev pub IsScriptAnswer : Option ℕ → List ℕ → ℕ → List ℕ → Type 0
+IsScriptAnswer fault replies status out =
+    ((fault ≡ None) × (status ≡ 0) × (out ≡ replies))
+    ⊎ ((line : ℕ) × (fault ≡ Some line) × (status ≡ 1) × (out ≡ malformed_text line))
+
+-- calls on a book of so many slots, and on a queue of jobs with so many buffers
 abbrev pub IsSlotsAnswer : ℕ → List ℕ → ℕ → List ℕ → Type 0
-IsSlotsAnswer slots text status out =
-    ((fault_line text ≡ None) × (status ≡ 0) × (out ≡ replies slots text))
-    ⊎ ((line : ℕ) × (fault_line text ≡ Some line) × (status ≡ 1) × (out ≡ malformed_text line))
+IsSlotsAnswer slots text status out = IsScriptAnswer (slots_fault text) (slots_replies slots text) status out
+
+abbrev pub IsQueueAnswer : ℕ → List ℕ → ℕ → List ℕ → Type 0
+IsQueueAnswer buffers text status out = IsScriptAnswer (queue_fault text) (queue_replies buffers text) status out

@@ -4,7 +4,7 @@ use Rattle.std.specs.Prelude.{bytes_eq}
 use Rattle.std.specs.declared.alloc.Global.{Global}
 use Rattle.field_words.specs.Sizes.{most_list}
 use Rattle.vc4check.specs.declared.command.Command.{Command}
-use Rattle.vc4check.specs.declared.command.Command.TheVariants.{Check, Replay, Asm, Disasm, Slots}
+use Rattle.vc4check.specs.declared.command.Command.TheVariants.{Check, Replay, Asm, Disasm, Slots, Queue}
 use Rattle.vc4check.specs.declared.command.Task.{Task}
 use Rattle.vc4check.specs.declared.command.Task.TheVariants.{Read, Make}
 use Rattle.script.specs.Number.{number_within}
@@ -33,10 +33,15 @@ abbrev pub slots_by : Option ℕ → Option Command
 slots_by None = None
 slots_by (Some slots) = slots_of slots
 
+-- the most buffers that jobs of a queue name
+abbrev pub most_queued : ℕ
+most_queued = 1024
+
 abbrev pub task_numbered : List ℕ → List ℕ → Option Task
 task_numbered word number =
     if bytes_eq word (codes "gen") then option_map Make (number_within most_number number)
-    else (if bytes_eq word (codes "slots") then option_map Read (slots_by (number_within most_slots number)) else None)
+    else (if bytes_eq word (codes "slots") then option_map Read (slots_by (number_within most_slots number))
+    else (if bytes_eq word (codes "queue") then option_map Read (option_map Queue (number_within most_queued number)) else None))
 
 -- a run of at most so many steps, by the script of a seed
 abbrev pub most_steps : ℕ
@@ -57,6 +62,7 @@ IsWithin (Replay steps seed) = steps ≤ most_steps
 IsWithin Asm = Unit {0}
 IsWithin Disasm = Unit {0}
 IsWithin (Slots slots) = (1 ≤ slots) × (slots ≤ most_slots)
+IsWithin (Queue buffers) = buffers ≤ most_queued
 
 abbrev pub ReadsWithin : Task → Type 0
 ReadsWithin (Read command) = IsWithin command
@@ -81,3 +87,4 @@ limit_of (Replay steps seed) = most_file
 limit_of Asm = most_list
 limit_of Disasm = most_list
 limit_of (Slots slots) = most_list
+limit_of (Queue buffers) = most_list

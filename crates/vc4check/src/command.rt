@@ -15,6 +15,9 @@ const MOST_STEPS: u64 = 1_000_000;
 /// The most slots of a book of tile memory.
 const MOST_SLOTS: u64 = 32;
 
+/// The most buffers that jobs of a queue name.
+const MOST_QUEUED: u64 = 1024;
+
 /// A command that reads all of its input, and answers to it.
 #[derive(Clone, Copy, Debug, PartialEq, Eq)]
 pub enum Command {
@@ -29,6 +32,8 @@ pub enum Command {
     Disasm,
     /// `slots <n>`: reads a script of calls on a book of so many slots of tile memory, and answers each.
     Slots(u32),
+    /// `queue <buffers>`: reads a script of calls on a queue of jobs that name so many buffers, and answers each.
+    Queue(u32),
 }
 
 /// What the words ask for.
@@ -48,7 +53,9 @@ impl Command {
     {
         match self {
             Command::Check | Command::Replay { .. } => MOST_FILE,
-            Command::Asm | Command::Disasm | Command::Slots(_) => MOST_LIST as usize,
+            Command::Asm | Command::Disasm | Command::Slots(_) | Command::Queue(_) => {
+                MOST_LIST as usize
+            }
         }
     }
 }
@@ -89,6 +96,10 @@ fn task_numbered(word: &str, number: &str) -> Option<Task>
     }
     if word == "slots" {
         return Some(Task::Read(slots_named(number)?));
+    }
+    if word == "queue" {
+        let buffers = read_number(number.as_bytes(), MOST_QUEUED)?;
+        return Some(Task::Read(Command::Queue(buffers as u32)));
     }
     None
 }

@@ -1,7 +1,7 @@
-//! Commands that answer scripts: `slots`.
+//! Commands that answer scripts: `slots` and `queue`.
 ghost use Rattle.std.specs.Prelude.{◌≡◌, ◌≤◌, ◌<◌, length, IfOk};
 ghost use Rattle.field_words.specs.Sizes.{most_list};
-ghost use Rattle.vc4check.specs.Scripts.{malformed_text, IsSlotsAnswer};
+ghost use Rattle.vc4check.specs.Scripts.{malformed_text, IsSlotsAnswer, IsQueueAnswer};
 
 use super::answer::Answer;
 use field_words::{NoMemory, Stop};
@@ -23,6 +23,23 @@ pub fn slots_answer(alloc: Global, slots: u32, text: &[u8]) -> Result<Answer, No
     ensures status { IfOk result (λ a. a.status < 2) }
 {
     match overflow_slots::script(alloc, slots, text) {
+        Ok(text) => Ok(Answer { status: 0, text }),
+        Err(Stop::Fault(line)) => {
+            let text = malformed_text(alloc, line)?;
+            Ok(Answer { status: 1, text })
+        }
+        Err(Stop::NoMemory) => Err(NoMemory),
+    }
+}
+
+/// What `queue` answers to a script on a queue of jobs with so many buffers: a line for each call, or its first malformed line.
+pub fn queue_answer(alloc: Global, buffers: u32, text: &[u8]) -> Result<Answer, NoMemory>
+    requires few { buffers ≤ 1024 }
+    requires small { length text.now ≤ most_list }
+    ensures answers { IfOk result (λ a. IsQueueAnswer buffers text.now a.status a.text.items) }
+    ensures status { IfOk result (λ a. a.status < 2) }
+{
+    match job_queue::script(alloc, buffers, text) {
         Ok(text) => Ok(Answer { status: 0, text }),
         Err(Stop::Fault(line)) => {
             let text = malformed_text(alloc, line)?;

@@ -11,7 +11,7 @@ use super::answer::{Answer, reply};
 use super::check::check_answer;
 use super::command::Command;
 use super::replayed::replay_answer;
-use super::scripts::slots_answer;
+use super::scripts::{queue_answer, slots_answer};
 use super::shader_text::{asm_answer, disasm_answer};
 use field_words::NoMemory;
 use job_io::{ReadEnd, Sink, Source, read_all};
@@ -30,6 +30,7 @@ fn answer_to(alloc: Global, command: Command, bytes: &[u8]) -> Result<Answer, No
         Command::Asm => asm_answer(alloc, bytes),
         Command::Disasm => disasm_answer(alloc, bytes),
         Command::Slots(slots) => slots_answer(alloc, slots, bytes),
+        Command::Queue(buffers) => queue_answer(alloc, buffers, bytes),
     }
 }
 

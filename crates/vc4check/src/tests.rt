@@ -354,22 +354,33 @@ fn replays_the_smallest_job(rt: HostRuntime) -> Result<(), Fail> {
     Ok(())
 }
 
-// A script on a book of two slots; a line that is no call; no slots at all, and more than there can be.
+// A script on a book of two slots; a line that is no call; no slots at all, and more than there can be. A reader that waits for its
+// writer, in a queue of jobs; a call that is malformed; more buffers than a queue can have.
 #[test]
-fn answers_scripts_of_slots(rt: HostRuntime) -> Result<(), Fail> {
+fn answers_scripts(rt: HostRuntime) -> Result<(), Fail> {
     let alloc = rt.alloc();
-    for (slots, text, status, output) in [
-        ("2", "begin 0 1\nend 0", 0, "slot 0\nfree 1\n"),
-        ("2", "", 0, ""),
-        ("2", "begin 0 1\nbegin 0\n", 1, "line 2 fault 1\n"),
-        ("0", "begin 0 1\n", 2, ""),
-        ("33", "begin 0 1\n", 2, ""),
+    for (command, number, text, status, output) in [
+        ("slots", "2", "begin 0 1\nend 0", 0, "slot 0\nfree 1\n"),
+        ("slots", "2", "", 0, ""),
+        ("slots", "2", "begin 0 1\nbegin 0\n", 1, "line 2 fault 1\n"),
+        ("slots", "0", "begin 0 1\n", 2, ""),
+        ("slots", "33", "begin 0 1\n", 2, ""),
+        (
+            "queue",
+            "2",
+            "submit 0 1\nsubmit 1 0\nstart\nbin\nstart\nrender\nstart",
+            0,
+            "job 1\njob 2\nstart 1\nbinned 1\nrefused Q5 1\nrendered 1\nstart 2\n",
+        ),
+        ("queue", "0", "", 0, ""),
+        ("queue", "2", "submit -\n", 1, "line 1 fault 1\n"),
+        ("queue", "1025", "", 2, ""),
     ] {
         let mut source = SteadySource::new(text.as_bytes().to_vec(alloc)?);
         let mut sink = MemSink::new(alloc, 100, 1_000, Vec::new(alloc))?;
         let answer = run(
             alloc,
-            &words(alloc, &["slots", slots])?,
+            &words(alloc, &[command, number])?,
             &mut source,
             &mut sink,
         );
