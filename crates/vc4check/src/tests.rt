@@ -360,7 +360,7 @@ fn replays_the_smallest_job(rt: HostRuntime) -> Result<(), Fail> {
 fn answers_scripts(rt: HostRuntime) -> Result<(), Fail> {
     let alloc = rt.alloc();
     for (command, number, text, status, output) in [
-        ("slots", "2", "begin 0 1\nend 0", 0, "slot 0\nfree 1\n"),
+        ("slots", "2", "begin 0 1\nend 0", 0, "slot 0\nfree 2\n"),
         ("slots", "2", "", 0, ""),
         ("slots", "2", "begin 0 1\nbegin 0\n", 1, "line 2 fault 1\n"),
         ("slots", "0", "begin 0 1\n", 2, ""),
