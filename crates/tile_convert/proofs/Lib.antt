@@ -1,0 +1,5 @@
+pub mod Numbers
+pub mod Parts
+pub mod Places
+pub mod Steps
+pub mod Whole
