@@ -16,11 +16,11 @@ part_copied source from old to count source_fits target_fits =
       size = length-with_bytes old to part fits;
       part = λ k below. with_bytes-inside old to part k fits (omega (arith, len)) ∙ get_or-take count (drop from source) k 0 below ∙ get_or-drop from source k 0;
       rest = λ i none.
-      elim (cases_lt i to) [
-        inl before ↦ with_bytes-before old to part i fits before
-      | inr after ↦ elim (cases_lt i (to + count)) [
-          inl inside ↦ absurd (none (i - to) (omega arith) (omega arith))
-        | inr behind ↦ with_bytes-behind old to part i fits (omega (arith, len))
-        ]
-      ];
+          elim (cases_lt i to) [
+            | inl before ↦ with_bytes-before old to part i fits before
+            | inr after ↦ elim (cases_lt i (to + count)) [
+              | inl inside ↦ absurd (none (i - to) (omega arith) (omega arith))
+              | inr behind ↦ with_bytes-behind old to part i fits (omega (arith, len))
+            ]
+          ];
     }

@@ -59,20 +59,20 @@ one_part from to width cpp x y n a b source old mid new pixel inside from_a to_b
     record {
       size = copied.size ∙ before.size;
       pixels = λ u v c first c_in.
-      elim first.1 [
-        inl above ↦ earlier u v c (first.0, inl above) c_in
-      | inr left ↦ elim (cases_lt u x) [
-          inl below ↦ earlier u v c (first.0, inr (left.0, below)) c_in
-        | inr least ↦ subst (λ w. get_or new (place_in to width cpp u w + c) 0 ≡ get_or source (place_in from width cpp u w + c) 0) (sym left.0)
-          (of_part from to width cpp x y n a b u c source mid new from_a to_b copied least left.1 c_in)
-        ]
-      ];
+          elim first.1 [
+            | inl above ↦ earlier u v c (first.0, inl above) c_in
+            | inr left ↦ elim (cases_lt u x) [
+              | inl below ↦ earlier u v c (first.0, inr (left.0, below)) c_in
+              | inr least ↦ subst (λ w. get_or new (place_in to width cpp u w + c) 0 ≡ get_or source (place_in from width cpp u w + c) 0) (sym left.0)
+                  (of_part from to width cpp x y n a b u c source mid new from_a to_b copied least left.1 c_in)
+            ]
+          ];
       rest = λ i none.
-      copied.rest i (λ k k_in same.
-      let part = in_part to width cpp x y n b k (pixel_some cpp pixel) to_b k_in in
-      none (x + part.0) y (k % cpp) (omega (arith, part.1.0), inr (refl, omega (arith, part.1.0))) (omega (arith, pixel_some cpp pixel)) (same ∙ sym part.1.1))
-      ∙ before.rest i (λ u v c first c_in same.
-      none u v c (first.0, elim first.1 [ inl above ↦ inl above | inr left ↦ inr (left.0, omega (arith, left.1)) ]) c_in same);
+          copied.rest i (λ k k_in same.
+          let part = in_part to width cpp x y n b k (pixel_some cpp pixel) to_b k_in in
+          none (x + part.0) y (k % cpp) (omega (arith, part.1.0), inr (refl, omega (arith, part.1.0))) (omega (arith, pixel_some cpp pixel)) (same ∙ sym part.1.1))
+          ∙ before.rest i (λ u v c first c_in same.
+          none u v c (first.0, elim first.1 [ inl above ↦ inl above | inr left ↦ inr (left.0, omega (arith, left.1)) ]) c_in same);
     }
 
 -- nothing is copied yet
@@ -87,8 +87,8 @@ none_copied from to width cpp source old =
 in_row : (width u v y : ℕ) → IsBefore width u v 0 (y + 1) → (v < y) ⊎ ((v ≡ y) × (u < width))
 in_row width u v y first =
     elim (cases_lt v y) [
-      inl above ↦ inl above
-    | inr here ↦ inr (elim first.1 [ inl next ↦ (omega (arith, next), first.0) | inr left ↦ absurd (omega (arith, left.1)) ])
+      | inl above ↦ inl above
+      | inr here ↦ inr (elim first.1 [ inl next ↦ (omega (arith, next), first.0) | inr left ↦ absurd (omega (arith, left.1)) ])
     ]
 
 in_next : (u v width y : ℕ) → (v < y) ⊎ ((v ≡ y) × (u < width)) → (v < y + 1) ⊎ ((v ≡ y + 1) × (u < 0))
@@ -138,7 +138,7 @@ part_fits order width cpp mx y size pixel row below =
 -- One microtile's pixels more.
 pub one_more : (from to : Order) (width cpp mx y : ℕ) (source old mid new : List ℕ) → IsPixelSize cpp → mx < div_ceil width (microtile_width_of cpp)
     → IsPartCopied source (place_in from width cpp 0 y + part_offset from cpp mx) mid (place_in to width cpp 0 y + part_offset to cpp mx)
-        (pixels_there width (microtile_width_of cpp) mx * cpp) new
+    (pixels_there width (microtile_width_of cpp) mx * cpp) new
     → IsCopied from to width cpp source old mid (min (mx * microtile_width_of cpp) width) y
     → IsCopied from to width cpp source old new (min ((mx + 1) * microtile_width_of cpp) width) y
 one_more from to width cpp mx y source old mid new pixel below copied before =

@@ -14,7 +14,7 @@ use Rattle.tile_convert.proofs.Places.{pixel_fits}
 abbrev pub zeros : ℕ → List ℕ
 zeros n = replicate n 0
 
-length_zeros : (n : ℕ) → length (zeros n) ≡ n
+pub length_zeros : (n : ℕ) → length (zeros n) ≡ n
 length_zeros n = grind (arith, places)
 
 zero_at : (n i : ℕ) → get_or (zeros n) i 0 ≡ 0
@@ -28,8 +28,8 @@ copied_whole from to width height cpp n source new size copied =
       size = copied.size ∙ length_zeros n ∙ size;
       pixels = λ x y b x_in y_in b_in. copied.pixels x y b (x_in, inl y_in) b_in;
       blank = λ i outside. copied.rest i (λ u v b first b_in same.
-      elim first.1 [ inl above ↦ outside u v b first.0 above b_in same | inr left ↦ absurd (omega (arith, left.1)) ])
-      ∙ zero_at n i;
+          elim first.1 [ inl above ↦ outside u v b first.0 above b_in same | inr left ↦ absurd (omega (arith, left.1)) ])
+          ∙ zero_at n i;
     }
 
 -- There and back: a byte of a pixel is that byte of that pixel, and all others are zero in both.
@@ -38,11 +38,11 @@ back_at : (from to : Order) (width height cpp : ℕ) (source target back : List 
     → IsZeroOutside from width height cpp source → get_or back i 0 ≡ get_or source i 0
 back_at from to width height cpp source target back i there again clear =
     elim (cases_eq (get_or back i 0) (get_or source i 0)) [
-      inl same ↦ same
-    | inr differ ↦
-      let outside : IsOutside from width height cpp i = λ x y b x_in y_in b_in is.
-      differ (ap (λ j. get_or back j 0) is ∙ again.pixels x y b x_in y_in b_in ∙ there.pixels x y b x_in y_in b_in ∙ sym (ap (λ j. get_or source j 0) is)) in
-      again.blank i outside ∙ sym (clear i outside)
+      | inl same ↦ same
+      | inr differ ↦
+          let outside : IsOutside from width height cpp i = λ x y b x_in y_in b_in is.
+          differ (ap (λ j. get_or back j 0) is ∙ again.pixels x y b x_in y_in b_in ∙ there.pixels x y b x_in y_in b_in ∙ sym (ap (λ j. get_or source j 0) is)) in
+          again.blank i outside ∙ sym (clear i outside)
     ]
 
 pub comes_back : (from to : Order) (width height cpp : ℕ) (source target back : List ℕ) → length source ≡ size_in from width height cpp
@@ -60,14 +60,14 @@ pub all_inside : (width height cpp : ℕ) (raster : List ℕ) → IsPixelSize cp
 unfolding place_in
 all_inside width height cpp raster pixel size i outside =
     elim (cases_lt i (length raster)) [
-      inr past ↦ get_or_past raster i 0 past
-    | inl below ↦ absurd (let some : 0 < cpp = pixel_some cpp pixel in
-      let number : ℕ = i / cpp in
-      let number_in : number < width * height = div_below i cpp (width * height) some (subst (λ n. i < n) size below) in
-      let wide : 0 < width = wide_some width height number number_in in
-      let row_in : number / width < height = div_below number width height wide (omega (arith, number_in)) in
-      outside (number % width) (number / width) (i % cpp) (omega (arith, wide)) row_in (omega (arith, some))
-      (sym (div-add-mod' i cpp) ∙ ap (λ n. n * cpp + i % cpp) (sym (div-add-mod' number width))))
+      | inr past ↦ get_or_past raster i 0 past
+      | inl below ↦ absurd (let some : 0 < cpp = pixel_some cpp pixel in
+          let number : ℕ = i / cpp in
+          let number_in : number < width * height = div_below i cpp (width * height) some (subst (λ n. i < n) size below) in
+          let wide : 0 < width = wide_some width height number number_in in
+          let row_in : number / width < height = div_below number width height wide (omega (arith, number_in)) in
+          outside (number % width) (number / width) (i % cpp) (omega (arith, wide)) row_in (omega (arith, some))
+          (sym (div-add-mod' i cpp) ∙ ap (λ n. n * cpp + i % cpp) (sym (div-add-mod' number width))))
     ]
 
 pub untiles_what_was_tiled : UntilesWhatWasTiled

@@ -56,7 +56,15 @@ fn copy_row(from: Order, to: Order, width: u32, cpp: u32, y: u32, source: &[u8],
 }
 
 /// Copies all pixels, by rows.
-fn copy_rows(from: Order, to: Order, width: u32, height: u32, cpp: u32, source: &[u8], target: &mut [u8])
+fn copy_rows(
+    from: Order,
+    to: Order,
+    width: u32,
+    height: u32,
+    cpp: u32,
+    source: &[u8],
+    target: &mut [u8],
+)
     requires width_limit { width ≤ 4096 }
     requires height_limit { height ≤ 4096 }
     requires pixel { IsPixelSize cpp }
@@ -71,7 +79,15 @@ fn copy_rows(from: Order, to: Order, width: u32, height: u32, cpp: u32, source: 
 
 /// The picture in another order. Bytes that belong to no pixel are zero.
 #[tactic(auto, using(crate::proofs::Whole::copied_whole))]
-pub(crate) fn copied(alloc: Global, from: Order, to: Order, width: u32, height: u32, cpp: u32, source: &[u8]) -> Result<Vec<u8>, NoMemory>
+pub(crate) fn copied(
+    alloc: Global,
+    from: Order,
+    to: Order,
+    width: u32,
+    height: u32,
+    cpp: u32,
+    source: &[u8],
+) -> Result<Vec<u8>, NoMemory>
     requires width_limit { width ≤ 4096 }
     requires height_limit { height ≤ 4096 }
     requires pixel { IsPixelSize cpp }

@@ -52,7 +52,13 @@ fn level_fault(p: [u32; 4], size: u32, face: u32, level: u32) -> Option<LevelFau
 }
 
 /// The picture of a level that lies in the buffer.
-fn level_picture(alloc: Global, texture: &Texture, bytes: &[u8], face: u32, level: u32) -> Result<Vec<u8>, NoMemory>
+fn level_picture(
+    alloc: Global,
+    texture: &Texture,
+    bytes: &[u8],
+    face: u32,
+    level: u32,
+) -> Result<Vec<u8>, NoMemory>
     requires listed { is_unlisted texture.now ≡ false }
     requires inside { IsInBuffer texture.now (length bytes.now) }
     requires face { face < faces_of texture.now }
@@ -63,15 +69,13 @@ fn level_picture(alloc: Global, texture: &Texture, bytes: &[u8], face: u32, leve
         unreachable!();
     };
     let end = place + texture.level_size(level);
-    copied(
-        alloc,
-        Order::Surface(texture.level_tiling(level)),
-        Order::Rows,
-        texture.level_width(level),
-        texture.level_height(level),
-        texture.pixel_bytes(),
-        &bytes[place as usize..end as usize],
-    )
+    let part = &bytes[place as usize..end as usize];
+    let tiling = texture.level_tiling(level);
+    let width = texture.level_width(level);
+    let height = texture.level_height(level);
+    let cpp = texture.pixel_bytes();
+    let order = Order::Surface(tiling);
+    copied(alloc, order, Order::Rows, width, height, cpp, part)
 }
 
 /// One level of a face of the texture with these set-up words, whose base counts from the start of `bytes`: its pixels by rows, or
@@ -79,13 +83,20 @@ fn level_picture(alloc: Global, texture: &Texture, bytes: &[u8], face: u32, leve
 ///
 /// [`LevelFault::Texture`] comes exactly where [`texture_fits`] refuses, with its number; else [`LevelFault::Face`] exactly where
 /// `face` is over 5 in cube mode, or over 0 without; else [`LevelFault::Level`] exactly where `level` is over the texture's levels.
-pub fn extract(alloc: Global, p: [u32; 4], bytes: &[u8], face: u32, level: u32) -> Result<Vec<u8>, Stop<LevelFault>>
+pub fn extract(
+    alloc: Global,
+    p: [u32; 4],
+    bytes: &[u8],
+    face: u32,
+    level: u32,
+) -> Result<Vec<u8>, Stop<LevelFault>>
     requires { length bytes.now < 2 ^ 32 }
     ensures picture { Answers (level_questions (slice_index p 0) (slice_index p 1) (slice_index p 2) (slice_index p 3) (length bytes.now) face level) (λ raster. IsLevelPicture (texture_of (slice_index p 0) (slice_index p 1) (slice_index p 2) (slice_index p 3)) face level bytes.now raster.items) result }
     ensures honest { NeverHidesFault (level_questions (slice_index p 0) (slice_index p 1) (slice_index p 2) (slice_index p 3) (length bytes.now) face level) result }
 {
-    if let Some(fault) = level_fault(p, bytes.len() as u32, face, level) {
-        return Err(Stop::Fault(fault));
+    let texture = Texture::of(&p);
+    match level_fault(p, bytes.len() as u32, face, level) {
+        Some(fault) => Err(Stop::Fault(fault)),
+        None => Ok(level_picture(alloc, &texture, bytes, face, level)?),
     }
-    Ok(level_picture(alloc, &Texture::of(&p), bytes, face, level)?)
 }

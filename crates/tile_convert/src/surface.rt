@@ -15,7 +15,14 @@ use texture_layouts::Tiling;
 ///
 /// The fault is the size of such a surface in bytes, and comes exactly where `bytes` hasn't that length.
 #[tactic(auto, unfolding(crate::specs::Picture::size_in))]
-pub fn untile(alloc: Global, tiling: Tiling, width: u32, height: u32, cpp: u32, bytes: &[u8]) -> Result<Vec<u8>, Stop<u64>>
+pub fn untile(
+    alloc: Global,
+    tiling: Tiling,
+    width: u32,
+    height: u32,
+    cpp: u32,
+    bytes: &[u8],
+) -> Result<Vec<u8>, Stop<u64>>
     requires width_limit { width ≤ 4096 }
     requires height_limit { height ≤ 4096 }
     requires pixel { IsPixelSize cpp }
@@ -26,7 +33,15 @@ pub fn untile(alloc: Global, tiling: Tiling, width: u32, height: u32, cpp: u32, 
     if bytes.len() as u64 != wanted {
         return Err(Stop::Fault(wanted));
     }
-    Ok(copied(alloc, Order::Surface(tiling), Order::Rows, width, height, cpp, bytes)?)
+    Ok(copied(
+        alloc,
+        Order::Surface(tiling),
+        Order::Rows,
+        width,
+        height,
+        cpp,
+        bytes,
+    )?)
 }
 
 /// The surface of a picture, `raster`, of `width` times `height` pixels of `cpp` bytes by rows of pixels. The surface's bytes are
@@ -34,7 +49,14 @@ pub fn untile(alloc: Global, tiling: Tiling, width: u32, height: u32, cpp: u32, 
 ///
 /// The fault is `width * height * cpp`, and comes exactly where `raster` hasn't that length.
 #[tactic(auto, unfolding(crate::specs::Picture::size_in))]
-pub fn tile(alloc: Global, tiling: Tiling, width: u32, height: u32, cpp: u32, raster: &[u8]) -> Result<Vec<u8>, Stop<u64>>
+pub fn tile(
+    alloc: Global,
+    tiling: Tiling,
+    width: u32,
+    height: u32,
+    cpp: u32,
+    raster: &[u8],
+) -> Result<Vec<u8>, Stop<u64>>
     requires width_limit { width ≤ 4096 }
     requires height_limit { height ≤ 4096 }
     requires pixel { IsPixelSize cpp }
@@ -45,7 +67,15 @@ pub fn tile(alloc: Global, tiling: Tiling, width: u32, height: u32, cpp: u32, ra
     if raster.len() as u64 != wanted {
         return Err(Stop::Fault(wanted));
     }
-    Ok(copied(alloc, Order::Rows, Order::Surface(tiling), width, height, cpp, raster)?)
+    Ok(copied(
+        alloc,
+        Order::Rows,
+        Order::Surface(tiling),
+        width,
+        height,
+        cpp,
+        raster,
+    )?)
 }
 
 /// A law: what [`untile`] gives of what [`tile`] gave of a raster is that raster.
