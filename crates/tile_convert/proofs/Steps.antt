@@ -8,7 +8,7 @@ use Rattle.std.proofs.lemmas.Bool.{cases_lt}
 use Rattle.texture_layouts.specs.Surface.{IsPixelSize, microtile_width_of}
 use Rattle.texture_layouts.proofs.Places.{pixel_some, width_some}
 use Rattle.tile_convert.specs.declared.order.Order.{Order}
-use Rattle.tile_convert.specs.Picture.{place_in, part_offset}
+use Rattle.tile_convert.specs.Picture.{place_in, part_offset, pixels_there, parts_across}
 use Rattle.tile_convert.specs.Steps.{IsPartCopied, IsBefore, IsCopied, HasRow}
 use Rattle.tile_convert.proofs.Places.{pixels_apart, stand_together}
 
@@ -106,28 +106,28 @@ next_row from to width cpp y source old new copied =
     }
 
 -- A microtile that a row reaches begins in the row.
-begins_inside : (width across mx : ℕ) → 0 < across → mx < div_ceil width across → mx * across < width
-begins_inside width across mx some below =
-    let bounds = div_ceil_times width across some in
+pub begins_inside : (width cpp mx : ℕ) → mx < parts_across width cpp → mx * microtile_width_of cpp < width
+unfolding parts_across
+begins_inside width cpp mx below =
+    let across : ℕ = microtile_width_of cpp in
+    let bounds = div_ceil_times width across (width_some cpp) in
     let next : (mx + 1) * across ≤ div_ceil width across * across = mul-le-mul_right across (let h : mx + 1 ≤ div_ceil width across = omega arith in h) in
     omega (arith, bounds.1, next)
 
--- The first pixel of microtile mx in the row, and how many pixels it has there.
-abbrev pub pixels_there : ℕ → ℕ → ℕ → ℕ
-pixels_there width across mx = min across (width - mx * across)
-
+-- Its pixels in the row stand together.
 there_together : (order : Order) (width cpp mx y n : ℕ) → n ≤ microtile_width_of cpp
     → Together order width cpp (mx * microtile_width_of cpp) y n (place_in order width cpp 0 y + part_offset order cpp mx)
 there_together order width cpp mx y n few k k_in = stand_together order width cpp mx k y (omega arith)
 
--- Its bytes there lie inside.
-pub part_fits : (order : Order) (width cpp mx y size : ℕ) → IsPixelSize cpp → HasRow order width cpp y size → mx < div_ceil width (microtile_width_of cpp)
-    → place_in order width cpp 0 y + part_offset order cpp mx + pixels_there width (microtile_width_of cpp) mx * cpp ≤ size
-part_fits order width cpp mx y size pixel row below =
+-- Their bytes lie inside.
+pub part_fits : (order : Order) (width cpp mx y size : ℕ) → HasRow order width cpp y size → mx < parts_across width cpp
+    → place_in order width cpp 0 y + part_offset order cpp mx + pixels_there width cpp mx * cpp ≤ size
+unfolding pixels_there
+part_fits order width cpp mx y size row below =
     let across : ℕ = microtile_width_of cpp in
     let x : ℕ = mx * across in
-    let inside : x < width = begins_inside width across mx (width_some cpp) below in
-    let n : ℕ = pixels_there width across mx in
+    let inside : x < width = begins_inside width cpp mx below in
+    let n : ℕ = min across (width - x) in
     let some : 1 ≤ n = omega (arith, inside, width_some cpp) in
     let within : x + (n - 1) < width = omega (arith, some, inside) in
     let last = row (x + (n - 1)) within in
@@ -136,16 +136,17 @@ part_fits order width cpp mx y size pixel row below =
     omega (arith, last, place, bytes)
 
 -- One microtile's pixels more.
-pub one_more : (from to : Order) (width cpp mx y : ℕ) (source old mid new : List ℕ) → IsPixelSize cpp → mx < div_ceil width (microtile_width_of cpp)
+pub one_more : (from to : Order) (width cpp mx y : ℕ) (source old mid new : List ℕ) → IsPixelSize cpp → mx < parts_across width cpp
     → IsPartCopied source (place_in from width cpp 0 y + part_offset from cpp mx) mid (place_in to width cpp 0 y + part_offset to cpp mx)
-    (pixels_there width (microtile_width_of cpp) mx * cpp) new
+    (pixels_there width cpp mx * cpp) new
     → IsCopied from to width cpp source old mid (min (mx * microtile_width_of cpp) width) y
     → IsCopied from to width cpp source old new (min ((mx + 1) * microtile_width_of cpp) width) y
+unfolding pixels_there
 one_more from to width cpp mx y source old mid new pixel below copied before =
     let across : ℕ = microtile_width_of cpp in
     let x : ℕ = mx * across in
-    let inside : x < width = begins_inside width across mx (width_some cpp) below in
-    let n : ℕ = pixels_there width across mx in
+    let inside : x < width = begins_inside width cpp mx below in
+    let n : ℕ = min across (width - x) in
     let here : min x width ≡ x = omega (arith, inside) in
     let there : x + n ≡ min ((mx + 1) * across) width = omega (arith, inside) in
     subst (λ u. IsCopied from to width cpp source old new u y) there
@@ -154,5 +155,6 @@ one_more from to width cpp mx y source old mid new pixel below copied before =
     copied (subst (λ u. IsCopied from to width cpp source old mid u y) here before))
 
 -- All microtiles that a row reaches are the row.
-pub whole_row : (width across : ℕ) → 0 < across → min (div_ceil width across * across) width ≡ width
-whole_row width across some = omega (arith, (div_ceil_times width across some).0)
+pub whole_row : (width cpp : ℕ) → min (parts_across width cpp * microtile_width_of cpp) width ≡ width
+unfolding parts_across
+whole_row width cpp = omega (arith, (div_ceil_times width (microtile_width_of cpp) (width_some cpp)).0)

@@ -1,5 +1,6 @@
 -- Pictures: width times height pixels of cpp bytes, in the order of rows or in that of a surface.
-use Rattle.std.specs.Prelude.{◌≡◌, ◌<◌, ◌≤◌, ℕ, ◌+◌, ◌*◌, ◌/◌, ◌%◌, ◌==◌, not, List, [], ◌∷◌, length, slice_index}
+use Rattle.std.specs.Prelude.{◌≡◌, ◌<◌, ◌≤◌, ℕ, ◌+◌, ◌*◌, ◌/◌, ◌%◌, ◌==◌, ◌-◌, min, not, List, [], ◌∷◌, length, slice_index}
+use Rattle.std.specs.Int.{div_ceil}
 use Rattle.field_words.specs.Questions.{Question, Ask}
 use Rattle.texture_layouts.specs.declared.surface.Tiling.{Tiling}
 use Rattle.texture_layouts.specs.declared.surface.Tiling.TheVariants.{Raster, T, Lt}
@@ -50,6 +51,13 @@ part_offset Rows cpp mx = mx * microtile_width_of cpp * cpp
 part_offset (Surface Raster) cpp mx = mx * microtile_width_of cpp * cpp
 part_offset (Surface T) cpp mx = mx / 8 * 4096 + mx % 8 * 64
 part_offset (Surface Lt) cpp mx = mx * 64
+
+-- how many microtiles a row reaches, and how many pixels of it the one mx across has
+unfoldable pub parts_across : ℕ → ℕ → ℕ
+parts_across width cpp = div_ceil width (microtile_width_of cpp)
+
+unfoldable pub pixels_there : ℕ → ℕ → ℕ → ℕ
+pixels_there width cpp mx = min (microtile_width_of cpp) (width - mx * microtile_width_of cpp)
 
 -- What comes back. A raster that goes to a surface and back is itself, and a surface that goes to a raster and back is itself
 -- where it is zero outside its pixels.

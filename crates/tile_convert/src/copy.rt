@@ -5,10 +5,9 @@ ghost use Rattle.texture_layouts.specs.Surface.{IsPixelSize};
 ghost use Rattle.tile_convert.specs.Picture.{size_in, IsCopy};
 ghost use Rattle.tile_convert.specs.Steps.{IsPartCopied, IsCopied, HasRow};
 
-use crate::order::{Order, part_offset, row_start, size_in};
+use crate::order::{Order, part_offset, parts_across, pixels_there, row_start, size_in};
 use field_words::NoMemory;
 use std::alloc::Global;
-use texture_layouts::microtile_width;
 
 /// Puts bytes at a place. No other byte changes.
 fn put(part: &[u8], target: &mut [u8], to: usize)
@@ -38,11 +37,10 @@ fn copy_row(from: Order, to: Order, width: u32, cpp: u32, y: u32, source: &[u8],
     requires target { HasRow to width cpp y (length target.old) }
     ensures { (old : List ℕ) → IsCopied from to width cpp source.now old target.old 0 y → IsCopied from to width cpp source.now old target.new 0 (y + 1) }
 {
-    let across = microtile_width(cpp);
     let source_row = row_start(from, width, cpp, y);
     let target_row = row_start(to, width, cpp, y);
-    for mx in 0..width.div_ceil(across) {
-        let count = across.min(width - mx * across) * cpp;
+    for mx in 0..parts_across(width, cpp) {
+        let count = pixels_there(width, cpp, mx) * cpp;
         let source_at = source_row + part_offset(from, cpp, mx);
         let target_at = target_row + part_offset(to, cpp, mx);
         copy_part(

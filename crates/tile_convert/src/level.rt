@@ -1,8 +1,8 @@
 //! One level of a texture.
-ghost use Rattle.std.specs.Prelude.{◌≡◌, ◌<◌, ◌≤◌, ◌+◌, ◌^◌, false, Some, None, length, slice_index, IfOk};
+ghost use Rattle.std.specs.Prelude.{◌≡◌, ◌<◌, ◌≤◌, ◌+◌, ◌^◌, false, Some, None, length, take, drop, slice_index, IfOk};
 ghost use Rattle.field_words.specs.Questions.{first_of, Answers, NeverHidesFault};
 ghost use Rattle.texture_layouts.specs.Fits.{is_unlisted, IsInBuffer};
-ghost use Rattle.texture_layouts.specs.Setup.{texture_of, faces_of};
+ghost use Rattle.texture_layouts.specs.Setup.{texture_of, faces_of, size_at, level_place_of};
 ghost use Rattle.tile_convert.specs.Level.{part_questions, level_questions, IsLevelPicture};
 
 use crate::copy::copied;
@@ -51,6 +51,22 @@ fn level_fault(p: [u32; 4], size: u32, face: u32, level: u32) -> Option<LevelFau
     }
 }
 
+/// The bytes of a level that lies in the buffer.
+#[tactic(auto, using(crate::proofs::Levels::faces_few, crate::proofs::Levels::same_count))]
+fn level_part<'a>(texture: &Texture, bytes: &'a [u8], face: u32, level: u32) -> &'a [u8]
+    requires listed { is_unlisted texture.now ≡ false }
+    requires inside { IsInBuffer texture.now (length bytes.now) }
+    requires face { face < faces_of texture.now }
+    requires level { level ≤ texture.now.levels }
+    ensures { result.now ≡ take (size_at texture.now level) (drop (level_place_of texture.now face level) bytes.now) }
+{
+    let Some(place) = texture.level_place(face, level) else {
+        unreachable!();
+    };
+    let end = place + texture.level_size(level);
+    &bytes[place as usize..end as usize]
+}
+
 /// The picture of a level that lies in the buffer.
 fn level_picture(
     alloc: Global,
@@ -65,11 +81,7 @@ fn level_picture(
     requires level { level ≤ texture.now.levels }
     ensures { IfOk result (λ raster. IsLevelPicture texture.now face level bytes.now raster.items) }
 {
-    let Some(place) = texture.level_place(face, level) else {
-        unreachable!();
-    };
-    let end = place + texture.level_size(level);
-    let part = &bytes[place as usize..end as usize];
+    let part = level_part(texture, bytes, face, level);
     let tiling = texture.level_tiling(level);
     let width = texture.level_width(level);
     let height = texture.level_height(level);

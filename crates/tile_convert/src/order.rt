@@ -1,7 +1,7 @@
 //! Where the pixels of a picture lie.
 ghost use Rattle.std.specs.Prelude.{◌≡◌, ◌<◌, ◌≤◌, ◌^◌};
 ghost use Rattle.texture_layouts.specs.Surface.{IsPixelSize};
-ghost use Rattle.tile_convert.specs.Picture.{place_in, size_in, part_offset};
+ghost use Rattle.tile_convert.specs.Picture.{place_in, size_in, part_offset, pixels_there, parts_across};
 
 use texture_layouts::{Tiling, microtile_width, pixel_place, surface_size};
 
@@ -57,4 +57,25 @@ pub(crate) fn part_offset(order: Order, cpp: u32, mx: u32) -> u64
         Order::Surface(Tiling::T) => u64::from(mx / 8 * 4096 + mx % 8 * 64),
         Order::Surface(Tiling::Lt) => u64::from(mx * 64),
     }
+}
+
+/// How many pixels of a row its microtile `mx` has: all that it is wide, or those that are left.
+#[tactic(auto, using(crate::proofs::Steps::begins_inside, texture_layouts::proofs::Places::width_some), unfolding(crate::specs::Picture::pixels_there))]
+pub(crate) fn pixels_there(width: u32, cpp: u32, mx: u32) -> u32
+    requires { mx < parts_across width cpp }
+    ensures value { result ≡ pixels_there width cpp mx }
+    ensures limit { result ≤ 8 }
+{
+    let across = microtile_width(cpp);
+    across.min(width - mx * across)
+}
+
+/// How many microtiles a row reaches.
+#[tactic(auto, unfolding(crate::specs::Picture::parts_across))]
+pub(crate) fn parts_across(width: u32, cpp: u32) -> u32
+    requires { width ≤ 4096 }
+    ensures value { result ≡ parts_across width cpp }
+    ensures limit { result ≤ 4096 }
+{
+    width.div_ceil(microtile_width(cpp))
 }
