@@ -1,7 +1,7 @@
 -- A level's part of the buffer, and its picture.
 use Rattle.std.proofs.Common.{◌≡◌, ℕ, ◌+◌, ◌-◌, ◌*◌, ◌<◌, ◌≤◌, List, not, nat_lt, false, Option, None, length, take, drop, get_or, length-drop, refl, sym, ap, subst, arith, ◌∙◌}
 use Rattle.std.proofs.lemmas.List.{get_or-drop, get_or-take, length-take-le}
-use Rattle.std.proofs.lemmas.Bool.{ltb-true, ltb-false}
+use Rattle.std.proofs.lemmas.Bool.{ltb-false}
 use Rattle.field_words.specs.Questions.{first_of, answered}
 use Rattle.field_words.proofs.Questions.{none_stands}
 use Rattle.field_words.proofs.Nones.{front_none, rest_none, none_answered}

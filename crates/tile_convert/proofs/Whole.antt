@@ -1,5 +1,5 @@
 -- A whole picture, and what comes back.
-use Rattle.std.proofs.Common.{◌≡◌, ℕ, zero, suc, ◌+◌, ◌*◌, ◌/◌, ◌%◌, ◌<◌, ◌≤◌, ◌⊎◌, inl, inr, List, length, replicate, get_or, refl, sym, ap, subst, arith, ◌∙◌}
+use Rattle.std.proofs.Common.{◌≡◌, ℕ, zero, suc, ◌+◌, ◌*◌, ◌/◌, ◌%◌, ◌<◌, inl, inr, List, length, replicate, get_or, sym, ap, subst, arith, ◌∙◌}
 use Rattle.std.proofs.lemmas.Nat.{div_below, div-add-mod'}
 use Rattle.std.proofs.lemmas.List.{places, get_or-replicate, get_or_past, ext_get_or}
 use Rattle.std.proofs.lemmas.Bool.{cases_lt, cases_eq}
@@ -8,8 +8,7 @@ use Rattle.texture_layouts.proofs.Places.{pixel_some}
 use Rattle.tile_convert.specs.declared.order.Order.{Order}
 use Rattle.tile_convert.specs.declared.order.Order.TheVariants.{Rows, Surface}
 use Rattle.tile_convert.specs.Picture.{place_in, size_in, IsOutside, IsZeroOutside, IsCopy, UntilesWhatWasTiled, TilesWhatWasUntiled}
-use Rattle.tile_convert.specs.Steps.{IsBefore, IsCopied}
-use Rattle.tile_convert.proofs.Places.{pixel_fits}
+use Rattle.tile_convert.specs.Steps.{IsCopied}
 
 abbrev pub zeros : ℕ → List ℕ
 zeros n = replicate n 0

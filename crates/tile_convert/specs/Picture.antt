@@ -1,5 +1,5 @@
 -- Pictures: width times height pixels of cpp bytes, in the order of rows or in that of a surface.
-use Rattle.std.specs.Prelude.{◌≡◌, ◌<◌, ◌≤◌, ℕ, ◌+◌, ◌*◌, ◌/◌, ◌%◌, ◌==◌, ◌-◌, min, not, List, [], ◌∷◌, length, slice_index}
+use Rattle.std.specs.Prelude.{◌≡◌, ◌<◌, ℕ, ◌+◌, ◌*◌, ◌/◌, ◌%◌, ◌==◌, ◌-◌, min, not, List, [], ◌∷◌, length, slice_index}
 use Rattle.std.specs.Int.{div_ceil}
 use Rattle.field_words.specs.Questions.{Question, Ask}
 use Rattle.texture_layouts.specs.declared.surface.Tiling.{Tiling}

@@ -1,4 +1,4 @@
-use Rattle.std.proofs.Common.{◌≡◌, ◌+◌, ◌<◌, ◌≤◌, ℕ, List, length, sym, subst, arith, ◌∙◌}
+use Rattle.std.proofs.Common.{◌+◌, ◌≤◌, sym, subst, ◌∙◌}
 use Rattle.tile_convert.specs.Picture.{place_in}
 use Rattle.tile_convert.proofs.Places.{pixel_fits}
 use Rattle.tile_convert.proofs.copy.copy_rows.Goals as goal

@@ -1,4 +1,4 @@
-use Rattle.std.proofs.Common.{length, slice_index}
+use Rattle.std.proofs.Common.{length}
 use Rattle.tile_convert.proofs.Levels.{found_there}
 use Rattle.tile_convert.proofs.level.extract.Goals as goal
 

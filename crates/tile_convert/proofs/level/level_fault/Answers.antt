@@ -1,7 +1,7 @@
-use Rattle.std.proofs.Common.{◌≡◌, ℕ, Some, None, sym, ap, ◌∙◌, slice_index}
+use Rattle.std.proofs.Common.{◌≡◌, ℕ, Some, None, sym, ap, ◌∙◌}
 use Rattle.field_words.specs.Questions.{first_of, answered}
 use Rattle.field_words.proofs.Questions.{passes, stops, answered_none, answered_some}
-use Rattle.texture_layouts.specs.Setup.{TextureModel, texture_of}
+use Rattle.texture_layouts.specs.Setup.{texture_of}
 use Rattle.texture_layouts.specs.Fits.{texture_questions}
 use Rattle.tile_convert.specs.declared.level.LevelFault.TheVariants.{Texture}
 use Rattle.tile_convert.specs.Level.{part_questions, level_questions}

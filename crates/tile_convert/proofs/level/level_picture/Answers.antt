@@ -1,4 +1,4 @@
-use Rattle.std.proofs.Common.{◌≡◌, ℕ, List, length, sym, ap, subst, ◌∙◌}
+use Rattle.std.proofs.Common.{length, sym, ap, subst, ◌∙◌}
 use Rattle.std.proofs.lemmas.Result.{IfOk-weaker}
 use Rattle.texture_layouts.specs.Setup.{TextureModel, tiling_at, size_at, level_width_of, level_height_of, level_place_of}
 use Rattle.tile_convert.specs.declared.order.Order.TheVariants.{Rows, Surface}
