@@ -1,0 +1,4 @@
+pub mod Places
+pub mod Processors
+pub mod Owes
+pub mod Jobs
