@@ -1,13 +1,10 @@
 -- The units' laws of one job, as the machine's units owe them.
-use Rattle.std.proofs.Common.{◌≡◌, ◌≢◌, ◌<◌, ℕ, zero, suc, ◌+◌, ◌*◌, Bool, true, List, [], ◌∷◌, length, map, replicate, Option, Some, None, refl, sym, subst, arith}
-use Rattle.std.specs.Prelude.{IfSome}
+use Rattle.std.proofs.Common.{◌≡◌, ◌<◌, ℕ, zero, suc, ◌+◌, true, List, [], ◌∷◌, map, replicate, Option, sym, subst, arith}
 use Rattle.machine_plan.specs.declared.launch.Free.{Free}
 use Rattle.machine_plan.specs.declared.launch.Launch.{Launch}
 use Rattle.machine_plan.specs.declared.who.Who.{Who}
 use Rattle.machine_plan.specs.Glance.{glanced, GlancesIn}
-use Rattle.machine_plan.specs.Plan.{Plan, Keeps}
-use Rattle.machine_plan.specs.Regions.{Interval, Inside, Every, Rights, rights_of, IsSafeIn, IsKept, joined}
-use Rattle.machine_plan.specs.World.{Covers, Owes, Safe, Same}
+use Rattle.machine_plan.specs.Regions.{Inside, Every, Rights, rights_of, IsSafeIn, IsKept, joined}
 use Rattle.machine_plan.proofs.Plans.{keeps_weaker}
 use Rattle.machine_plan.proofs.Safe.{joined_covers}
 use Rattle.machine_plan.proofs.Worlds.{safe_law, same_law}
@@ -18,9 +15,6 @@ use Rattle.list_law.specs.Lists.{TurnedFine}
 use Rattle.list_law.proofs.Binning.{binner_keeps}
 use Rattle.list_law.proofs.Rendering.{renderer_keeps, renderer_looks}
 use Rattle.qpu_machine.specs.declared.state.Ask.{Ask}
-use Rattle.qpu_machine.specs.declared.state.Asked.{Asked}
-use Rattle.qpu_machine.specs.declared.state.Fate.TheVariants.{Ends}
-use Rattle.qpu_machine.specs.declared.state.Qpu.{Qpu}
 use Rattle.qpu_machine.specs.declared.state.Thread.{Thread}
 use Rattle.qpu_machine.specs.Qpu.{with_result, idle_qpu}
 use Rattle.qpu_machine.specs.Request.{ask_plan}
@@ -30,7 +24,7 @@ use Rattle.shader_flow.specs.Flow.{checked_of}
 use Rattle.shader_flow.proofs.Ends.{checked_of-le}
 use Rattle.qpu_law.specs.Asks.{IsOneOf, IsFineAsk}
 use Rattle.qpu_law.specs.Home.{Home}
-use Rattle.qpu_law.specs.Thread.{IsHome, IsThread, Stands, Left}
+use Rattle.qpu_law.specs.Thread.{IsHome, IsThread, Left}
 use Rattle.qpu_law.proofs.Rules.{in_checked}
 use Rattle.qpu_law.proofs.Join.{threads_keep_law}
 use Rattle.qpu_law.proofs.Reading.{fine_asks_are_safe_law}
@@ -38,7 +32,7 @@ use Rattle.qpu_law.proofs.Starting.{starts_stand_law, results_keep_law}
 use Rattle.machine.specs.declared.job.Start.{Start}
 use Rattle.machine.specs.State.{Units, job_start, units_start}
 use Rattle.machine.specs.Step.{ready, turn}
-use Rattle.machine_law.specs.Units.{Facts, EachAt, QpuFine, UnitsFine, ListsTurned, ThreadTurned, KeepsFor, UnitLaws}
+use Rattle.machine_law.specs.Units.{Facts, EachAt, QpuFine, ListsTurned, ThreadTurned, KeepsFor, UnitLaws}
 use Rattle.machine_law.specs.Jobs.{HomeFine, LaunchFine, ThreadFine, JobFine, facts_of}
 use Rattle.machine_law.specs.Laws.{AreFine, UnitsOwe, MachineSafe, StartSafe}
 use Rattle.machine_law.proofs.Owes.{units_owe}

@@ -2,3 +2,4 @@ pub mod Places
 pub mod Processors
 pub mod Owes
 pub mod Jobs
+pub mod Begins

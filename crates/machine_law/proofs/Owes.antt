@@ -1,7 +1,6 @@
 -- All units of the machine owe what makes runs safe, from what each owes for one job.
-use Rattle.std.proofs.Common.{◌≡◌, ℕ, ◌+◌, Bool, true, false, IsTrue, if◌then◌else◌, List, [], ◌∷◌, Option, Some, None, refl, arith}
+use Rattle.std.proofs.Common.{◌≡◌, ℕ, Bool, true, false, IsTrue, if◌then◌else◌, List, Option, Some, None, refl, arith}
 use Rattle.std.specs.Prelude.{IfSome, nat_lt}
-use Rattle.field_words.specs.declared.access.Access.{Access}
 use Rattle.field_words.specs.declared.access.Actor.{Actor}
 use Rattle.field_words.specs.declared.access.Actor.TheVariants.{Binner as TheBinner, Renderer as TheRenderer, Qpu as TheQpu, Tmu as TheTmu}
 use Rattle.machine_plan.specs.declared.launch.Free.{Free}
@@ -24,8 +23,8 @@ use Rattle.qpu_machine.specs.declared.state.Thread.{Thread}
 use Rattle.qpu_machine.specs.Qpu.{active_of, job_of_thread, queued, ready_by, plan_by, went, queue_of, oldest, job_of_request, tmu_ready, served, serving, free_in}
 use Rattle.qpu_machine.specs.Request.{ask_plan}
 use Rattle.qpu_machine.specs.Step.{ThreadTurn, thread_plan}
-use Rattle.machine.specs.State.{Units, Picked, item_at, put_at, binner_job, renderer_job}
-use Rattle.machine.specs.Step.{Event, with_launch, with_lists, with_qpu, is_ahead, binner_may, renderer_may, qpu_may, tmu_may, binner_turn, renderer_turn, qpu_turn, tmu_turn, unit_ready, unit_turn, ready, turn}
+use Rattle.machine.specs.State.{Units, Picked, item_at, binner_job, renderer_job}
+use Rattle.machine.specs.Step.{with_launch, with_lists, with_qpu, is_ahead, binner_may, renderer_may, qpu_may, tmu_may, binner_turn, renderer_turn, qpu_turn, tmu_turn, unit_ready, unit_turn, ready, turn}
 use Rattle.machine_law.specs.Units.{Facts, AskOf, QpuFine, UnitsFine, ListsTurned, ThreadTurned, KeepsFor, UnitLaws}
 use Rattle.machine_law.proofs.Places.{item_fine, put_fine, put_each, PickedFine, first_fine}
 use Rattle.machine_law.proofs.Processors.{SlotFine, active_fine, launched_fine, went_fine, oldest_fine, queue_of_fine, served_fine}

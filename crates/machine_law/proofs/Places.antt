@@ -1,5 +1,5 @@
 -- What is known of each item of a list, by its place and by its number.
-use Rattle.std.proofs.Common.{◌≡◌, ℕ, zero, suc, ◌+◌, Bool, true, false, IsTrue, if◌then◌else◌, List, [], ◌∷◌, Option, Some, None, refl, sym, subst, arith}
+use Rattle.std.proofs.Common.{◌≡◌, ℕ, zero, suc, ◌+◌, Bool, true, false, if◌then◌else◌, List, [], ◌∷◌, Option, Some, subst, arith}
 use Rattle.std.specs.Prelude.{IfSome, drop}
 use Rattle.machine_plan.specs.Regions.{Every}
 use Rattle.machine.specs.State.{Picked, first_where, item_at, put_at}

@@ -1,6 +1,6 @@
 -- What is known of a processor stays known: where a program starts in it, after a step of its thread, and after one of a TMU.
-use Rattle.std.proofs.Common.{◌≡◌, ◌≢◌, ℕ, ◌+◌, Bool, true, false, if◌then◌else◌, List, [], ◌∷◌, ◌++◌, Option, Some, None, refl, sym, ap, subst}
-use Rattle.std.specs.Prelude.{IfSome, drop, ◌==◌, ◌&&◌, ◌||◌, not, is_some, is_none, option_map}
+use Rattle.std.proofs.Common.{◌≡◌, ◌≢◌, ℕ, Bool, true, false, if◌then◌else◌, List, [], ◌∷◌, ◌++◌, Option, Some, None, refl, ap, subst}
+use Rattle.std.specs.Prelude.{IfSome, drop, ◌==◌, ◌&&◌, ◌||◌, is_some, is_none, option_map}
 use Rattle.machine_plan.specs.declared.launch.Launch.{Launch}
 use Rattle.machine_plan.specs.Regions.{Every}
 use Rattle.machine_plan.proofs.Runs.{every-append}
