@@ -1,0 +1,5 @@
+pub mod Places
+pub mod Processors
+pub mod Owes
+pub mod Jobs
+pub mod Begins

@@ -1,0 +1,5 @@
+use Rattle.machine_law.proofs.Begins.{fixed_stays_law}
+use Rattle.machine_law.proofs.fixed_stays.Goals as goal
+
+pub returns : goal.returns
+returns c = fixed_stays_law

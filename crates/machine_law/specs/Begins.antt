@@ -1,0 +1,75 @@
+-- What jobs begin with, said of the first memory alone: no job may write their lists, their code and their streams.
+use Rattle.std.specs.Prelude.{◌≡◌, ◌<◌, ℕ, ◌+◌, ◌*◌, List, Option, length}
+use Rattle.field_words.specs.Pieces.{joined as joined_bytes}
+use Rattle.packets.specs.declared.packet.Packet.{Packet}
+use Rattle.packets.specs.Packet.{slots_text}
+use Rattle.machine_plan.specs.Memory.{bytes_at}
+use Rattle.machine_plan.specs.Regions.{Interval, Inside, Rights, rights_of, IsKept, IsOutside, joined}
+use Rattle.machine_plan.specs.World.{Safe, Same}
+use Rattle.uniform_stream.specs.Stream.{uniforms_of}
+use Rattle.list_machine.specs.declared.state.Config.{Config}
+use Rattle.list_machine.specs.declared.state.Frame.{Frame}
+use Rattle.bin_walks.specs.Walks.{nothing_kept, Walks}
+use Rattle.render_walks.specs.Walks.{at_start, WalksTo, AllFit}
+use Rattle.list_law.specs.Binning.{grid_of, DrawsSo, Allocates}
+use Rattle.list_law.specs.Rendering.{MayDo, NoMatter, AllSet}
+use Rattle.qpu_law.specs.Asks.{IsOneOf}
+use Rattle.qpu_law.specs.Home.{Home}
+use Rattle.qpu_law.specs.Thread.{IsHome, HasSamples}
+use Rattle.machine.specs.declared.job.Start.{Start}
+use Rattle.machine.specs.State.{units_start}
+use Rattle.machine.specs.Step.{ready, turn}
+use Rattle.machine_law.specs.Units.{EachAt}
+use Rattle.machine_law.specs.Jobs.{LaunchFine, HomeFine}
+
+-- no job may write any of the n bytes from a place on
+abbrev pub IsFixed : List Rights → ℕ → ℕ → Type 0
+IsFixed rights place n = (i : ℕ) → i < n → IsOutside rights (place + i)
+
+-- These bytes stand at a place in the first memory, in the region of job j, and no job may write them.
+pub record TextBegins (rights : List Rights) (first : List ℕ) (j place : ℕ) (text : List ℕ) : Type 0 where
+  pub stands : bytes_at first place (length text) ≡ text
+  pub reads : Inside (rights_of rights j).region place (length text)
+  pub fixed : IsFixed rights place (length text)
+
+-- A shader and its stream are a home in the first memory, which no job may write. Each sample of the shader reads in one of these
+-- buffers, which the region of job j has.
+pub record HomeBegins (rights : List Rights) (first : List ℕ) (j : ℕ) (home : Home) (buffers : List Interval) : Type 0 where
+  pub stands : IsHome first (rights_of rights j).region home
+  pub code : IsFixed rights home.place (8 * length home.code)
+  pub stream : IsFixed rights home.stream (4 * uniforms_of home.code)
+  pub samples : HasSamples buffers home
+  pub named : (place size : ℕ) → IsOneOf buffers place size → IsOneOf (rights_of rights j).region place size
+
+-- Job j begins with a binner list and a renderer list that walk under one configuration and one frame, and may write the memory of
+-- its tile lists. What a primitive draws may be fetched and started in each memory where nothing changed but what jobs may write.
+pub record JobBegins (rights : List Rights) (first : List ℕ) (j : ℕ) (start : Start) : Type 0 where
+  pub config : Config
+  pub frame : Frame
+  pub allocates : Allocates (rights_of rights j) config
+  pub packets : List (List ℕ)
+  pub bin_walks : Walks (grid_of config) (DrawsSo (rights_of rights j) (IsKept rights first) (LaunchFine rights first j)) nothing_kept packets
+  pub bin_text : TextBegins rights first j start.bin_place (joined_bytes packets)
+  pub bin_len : start.bin_len ≡ length (joined_bytes packets)
+  pub slots : List (Option Packet)
+  pub render_walks : WalksTo (MayDo (rights_of rights j) config frame) NoMatter at_start slots
+  pub render_fits : AllFit slots
+  pub render_sets : AllSet frame slots
+  pub render_text : TextBegins rights first j start.render_place (slots_text slots)
+  pub render_len : start.render_len ≡ length (slots_text slots)
+
+-- What no job may write stays, and so a home stays one.
+abbrev pub FixedStays : Type 0
+FixedStays =
+    (rights : List Rights) (first m : List ℕ) (place size : ℕ) → IsFixed rights place size → IsKept rights first m
+    → bytes_at m place size ≡ bytes_at first place size
+
+abbrev pub HomesStay : Type 0
+HomesStay =
+    (rights : List Rights) (first : List ℕ) (j : ℕ) (home : Home) (buffers : List Interval) → HomeBegins rights first j home buffers → HomeFine rights first j home buffers
+
+-- From what each job begins with, every run of the machine is safe and depends on nothing else.
+abbrev pub JobsSafe : Type 0
+JobsSafe =
+    (rights : List Rights) (first : List ℕ) (starts : List Start) → EachAt (JobBegins rights first) 0 starts
+    → Safe ready turn rights first (units_start starts) × Same ready turn rights (joined rights) first (units_start starts)

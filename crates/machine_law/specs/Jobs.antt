@@ -1,0 +1,55 @@
+-- What the jobs of a machine begin with, and what is known then of all that its units keep.
+use Rattle.std.specs.Prelude.{◌≡◌, ℕ, List}
+use Rattle.machine_plan.specs.declared.launch.Launch.{Launch}
+use Rattle.machine_plan.specs.Regions.{Interval, Rights, rights_of, IsKept}
+use Rattle.shader_flow.specs.Flow.{is_threaded}
+use Rattle.list_machine.specs.declared.state.Config.{Config}
+use Rattle.list_machine.specs.declared.state.Frame.{Frame}
+use Rattle.list_machine.specs.Lists.{Lists}
+use Rattle.qpu_machine.specs.declared.state.Thread.{Thread}
+use Rattle.list_law.specs.Binning.{Allocates}
+use Rattle.list_law.specs.Lists.{ListsFine}
+use Rattle.qpu_law.specs.Asks.{IsOneOf, IsFineAsk}
+use Rattle.qpu_law.specs.Home.{Home}
+use Rattle.qpu_law.specs.Thread.{IsHome, HasSamples, Stands}
+use Rattle.machine_law.specs.Units.{Facts}
+
+-- A shader and its stream are a home for threads of job j: they stand in each memory where nothing changed but what the jobs
+-- may write, in the job's region, and each sample of the shader reads in one of these buffers, which the region has.
+pub record HomeFine (rights : List Rights) (first : List ℕ) (j : ℕ) (home : Home) (buffers : List Interval) : Type 0 where
+  pub stands : (m : List ℕ) → IsKept rights first m → IsHome m (rights_of rights j).region home
+  pub samples : HasSamples buffers home
+  pub named : (place size : ℕ) → IsOneOf buffers place size → IsOneOf (rights_of rights j).region place size
+
+-- Job j may start the program: it is a home's, by its code, its uniforms, and whether it is threaded.
+pub record LaunchFine (rights : List Rights) (first : List ℕ) (j : ℕ) (launch : Launch) : Type 0 where
+  pub home : Home
+  pub buffers : List Interval
+  pub fine : HomeFine rights first j home buffers
+  pub code : launch.code ≡ home.place
+  pub uniforms : launch.uniforms ≡ home.stream
+  pub threaded : launch.threaded ≡ is_threaded home.code
+
+-- The thread stands before an instruction of a home of its job.
+pub record ThreadFine (rights : List Rights) (first : List ℕ) (t : Thread) : Type 0 where
+  pub home : Home
+  pub buffers : List Interval
+  pub fine : HomeFine rights first t.job home buffers
+  pub stands : Stands home t
+
+-- All stands of what the list units of job j keep, under one configuration and one frame, and the job may write the memory of
+-- its tile lists.
+pub record JobFine (rights : List Rights) (first : List ℕ) (j : ℕ) (s : Lists) : Type 0 where
+  pub config : Config
+  pub frame : Frame
+  pub allocates : Allocates (rights_of rights j) config
+  pub lists : ListsFine (rights_of rights j) (IsKept rights first) (LaunchFine rights first j) config frame s
+
+-- what is known of all that the units keep, for jobs with these rights over this first memory
+abbrev pub facts_of : List Rights → List ℕ → Facts
+facts_of rights first = record {
+  OfJob = JobFine rights first;
+  OfLaunch = LaunchFine rights first;
+  OfThread = ThreadFine rights first;
+  OfAsk = λ j ask. IsFineAsk (IsOneOf (rights_of rights j).region) ask;
+}

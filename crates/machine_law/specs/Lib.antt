@@ -1,0 +1,4 @@
+pub mod Units
+pub mod Jobs
+pub mod Laws
+pub mod Begins

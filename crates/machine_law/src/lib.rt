@@ -1,0 +1,40 @@
+//! The laws of the whole machine: all its units, for any jobs.
+//!
+//! The crate has laws on definitions alone. From what is known of each job's lists and of each home of its threads
+//! (`specs::Jobs`), each unit of the machine owes what `Owes` says, so every run is safe and depends on nothing outside
+//! the jobs' regions. The laws say nothing of job files, and name no number of jobs.
+#![tactic(auto)]
+
+ghost use Rattle.machine_law.specs.Laws.{UnitsOwe, MachineSafe, StartSafe};
+ghost use Rattle.machine_law.specs.Begins.{FixedStays, HomesStay, JobsSafe};
+
+/// Each unit of the machine keeps all that is known, in each memory where nothing changed but what the jobs may write.
+pub fn units_owe()
+    ensures { UnitsOwe }
+{}
+
+/// Where all is known of what the units keep, every run is safe, and bytes outside the jobs' regions have no effect.
+pub fn machine_safe()
+    ensures { MachineSafe }
+{}
+
+/// From the machine's start it is so where all stands of each job's lists at their beginnings: all processors are idle.
+pub fn start_safe()
+    ensures { StartSafe }
+{}
+
+/// What no job may write stays as it was first.
+pub fn fixed_stays()
+    ensures { FixedStays }
+{}
+
+/// A home whose code and stream no job may write stays a home of its job's threads.
+pub fn homes_stay()
+    ensures { HomesStay }
+{}
+
+/// Every run of the machine is safe, and bytes outside the jobs' regions have no effect, where each job begins with two lists that
+/// walk, which no job may write.
+pub fn jobs_safe()
+    ensures { JobsSafe }
+{}
