@@ -10,10 +10,10 @@ whole_by : (byte : ℕ) (bytes : List ℕ) (b : Bool) → (byte == 44) ≡ b →
     → length (before 44 (byte ∷ bytes)) ≡ length (byte ∷ bytes) → (parts_of (byte ∷ bytes) ≡ before 44 (byte ∷ bytes) ∷ []) × (behind 44 (byte ∷ bytes) ≡ [])
 unfolding before behind parts_of
 whole_by byte bytes true is later size = absurd (short byte bytes is size) where
-    short : (byte : ℕ) (bytes : List ℕ) → (byte == 44) ≡ true → length (if byte == 44 then [] else byte ∷ before 44 bytes) ≡ suc (length bytes) → ⊥
-    short byte bytes is size =
-        let none : 0 ≡ suc (length bytes) = sym (ap (λ b. length (if b then [] else byte ∷ before 44 bytes)) is) ∙ size in
-        omega (arith, none)
+  short : (byte : ℕ) (bytes : List ℕ) → (byte == 44) ≡ true → length (if byte == 44 then [] else byte ∷ before 44 bytes) ≡ suc (length bytes) → ⊥
+  short byte bytes is size =
+      let none : 0 ≡ suc (length bytes) = sym (ap (λ b. length (if b then [] else byte ∷ before 44 bytes)) is) ∙ size in
+      omega (arith, none)
 whole_by byte bytes false is later size =
     let inner : suc (length (before 44 bytes)) ≡ suc (length bytes) = sym (ap (λ b. length (if b then [] else byte ∷ before 44 bytes)) is) ∙ size in
     let known = later (omega (arith, inner)) in
