@@ -1,5 +1,5 @@
 -- The queue stands for the past, call by call.
-use Rattle.std.proofs.Common.{◌≡◌, ℕ, zero, suc, ◌+◌, ◌-◌, ◌*◌, ◌%◌, ◌≤◌, ◌<◌, ◌==◌, Bool, true, false, ◌||◌, max, nat_lt, nat_le, List, [], ◌∷◌, ◌++◌, length, get_or, set, replicate, refl, sym, ◌∙◌, ap, subst, arith, Option, Some, None, Result, Ok, Err, eq-eqb, ne_eqb, get_or-set_other, get_or-set_same, length-set, length-append, if◌then◌else◌}
+use Rattle.std.proofs.Common.{◌≡◌, ℕ, zero, suc, ◌+◌, ◌%◌, ◌≤◌, ◌<◌, ◌==◌, Bool, true, false, ◌||◌, max, nat_lt, nat_le, List, [], ◌∷◌, ◌++◌, length, get_or, replicate, refl, sym, ◌∙◌, ap, arith, Option, Some, None, Ok, Err, eq-eqb, ne_eqb, get_or-set_other, get_or-set_same, length-append, if◌then◌else◌}
 use Rattle.std.proofs.lemmas.Bool.{false≢true}
 use Rattle.std.proofs.lemmas.List.{length-replicate}
 use Rattle.std.proofs.lemmas.Bool.Decides.{nat_tests}
@@ -36,8 +36,10 @@ start_binning p desk h agrees = rw (lt_of p.binned p.started (omega (arith, h, a
 pub start_none : (p : Past) (desk : Desk) → desk.started ≤ desk.binned → desk.started ≡ desk.submitted → Agrees p desk → start_answer p ≡ Err NoJob
 unfolding start_answer
 start_none p desk h all agrees =
-    rw (ge_of p.binned p.started (omega (arith, h, agrees.binned, agrees.started)),
-    eq-eqb p.started (length p.jobs) (sym agrees.started ∙ all ∙ agrees.submitted)) refl
+    rw (
+      ge_of p.binned p.started (omega (arith, h, agrees.binned, agrees.started)),
+      eq-eqb p.started (length p.jobs) (sym agrees.started ∙ all ∙ agrees.submitted),
+    ) refl
 
 -- the next job waits for the one that is kept for it
 kept : (p : Past) (desk : Desk) → desk.rendered ≤ desk.started → desk.started < desk.submitted → Agrees p desk
@@ -50,9 +52,12 @@ pub start_waits : (p : Past) (desk : Desk) (writer : ℕ) → desk.rendered ≤ 
 unfolding start_answer
 start_waits p desk writer low h some is late agrees =
     let waits : last_writer p.jobs (p.started + 1) ≡ writer = sym (kept p desk low some agrees) ∙ is in
-    rw (ge_of p.binned p.started (omega (arith, h, agrees.binned, agrees.started)),
-    ne_eqb p.started (length p.jobs) (λ e. absurd (omega (arith, e, some, agrees.started, agrees.submitted))), waits,
-    lt_of p.rendered writer (omega (arith, late, agrees.rendered))) refl
+    rw (
+      ge_of p.binned p.started (omega (arith, h, agrees.binned, agrees.started)),
+      ne_eqb p.started (length p.jobs) (λ e. absurd (omega (arith, e, some, agrees.started, agrees.submitted))),
+      waits,
+      lt_of p.rendered writer (omega (arith, late, agrees.rendered)),
+    ) refl
 
 abbrev pub with_started : Desk → ℕ → Desk
 with_started desk n = record { writers = desk.writers; waits = desk.waits; submitted = desk.submitted; started = n; binned = desk.binned; rendered = desk.rendered }
@@ -62,25 +67,29 @@ start_free : (p : Past) (desk : Desk) → desk.rendered ≤ desk.started → des
 unfolding start_answer
 start_free p desk low h some early agrees =
     let waits = kept p desk low some agrees in
-    rw (ge_of p.binned p.started (omega (arith, h, agrees.binned, agrees.started)),
-    ne_eqb p.started (length p.jobs) (λ e. absurd (omega (arith, e, some, agrees.started, agrees.submitted))),
-    ge_of p.rendered (last_writer p.jobs (p.started + 1)) (omega (arith, early, waits, agrees.rendered))) refl
+    rw (
+      ge_of p.binned p.started (omega (arith, h, agrees.binned, agrees.started)),
+      ne_eqb p.started (length p.jobs) (λ e. absurd (omega (arith, e, some, agrees.started, agrees.submitted))),
+      ge_of p.rendered (last_writer p.jobs (p.started + 1)) (omega (arith, early, waits, agrees.rendered)),
+    ) refl
 
 pub start_done : (p : Past) (desk : Desk) → desk.rendered ≤ desk.started → desk.started ≤ desk.binned → desk.started < desk.submitted
     → slice_index desk.waits (desk.started % 4096) ≤ desk.rendered → Agrees p desk
     → (Ok (desk.started + 1) ≡ start_answer p) × Agrees (after_start p) (with_started desk (desk.started + 1))
 unfolding after_start
 start_done p desk low h some early agrees =
-    let answer = start_free p desk low h some early agrees in
-    (sym (rw agrees.started answer), rw answer (record {
-      buffers = agrees.buffers;
-      submitted = agrees.submitted;
-      started = ap (λ n. n + 1) agrees.started;
-      binned = agrees.binned;
-      rendered = agrees.rendered;
-      writers = agrees.writers;
-      waits = agrees.waits;
-    }))
+    let answer = start_free p desk low h some early agrees in (
+      sym (rw agrees.started answer),
+      rw answer (record {
+        buffers = agrees.buffers;
+        submitted = agrees.submitted;
+        started = ap (λ n. n + 1) agrees.started;
+        binned = agrees.binned;
+        rendered = agrees.rendered;
+        writers = agrees.writers;
+        waits = agrees.waits;
+      }),
+    )
 
 -- the end of binning
 pub bin_refused : (p : Past) (desk : Desk) → desk.started ≡ desk.binned → Agrees p desk → (Err NotBinning ≡ bin_answer p) × Agrees (after_bin p) desk
@@ -95,15 +104,18 @@ pub bin_done : (p : Past) (desk : Desk) → (desk.started ≡ desk.binned → �
     → (Ok desk.started ≡ bin_answer p) × Agrees (after_bin p) (with_binned desk desk.started)
 unfolding after_bin bin_answer
 bin_done p desk h agrees =
-    rw (ne_eqb p.started p.binned (λ e. h (agrees.started ∙ e ∙ sym agrees.binned)), agrees.started) (refl, record {
-      buffers = agrees.buffers;
-      submitted = agrees.submitted;
-      started = refl;
-      binned = refl;
-      rendered = agrees.rendered;
-      writers = agrees.writers;
-      waits = agrees.waits;
-    })
+    rw (ne_eqb p.started p.binned (λ e. h (agrees.started ∙ e ∙ sym agrees.binned)), agrees.started) (
+      refl,
+      record {
+        buffers = agrees.buffers;
+        submitted = agrees.submitted;
+        started = refl;
+        binned = refl;
+        rendered = agrees.rendered;
+        writers = agrees.writers;
+        waits = agrees.waits;
+      },
+    )
 
 -- the end of rendering
 pub render_refused : (p : Past) (desk : Desk) → desk.rendered ≡ desk.binned → Agrees p desk → (Err NotBinned ≡ render_answer p) × Agrees (after_render p) desk
@@ -118,15 +130,18 @@ pub render_done : (p : Past) (desk : Desk) → (desk.rendered ≡ desk.binned �
     → (Ok (desk.rendered + 1) ≡ render_answer p) × Agrees (after_render p) (with_rendered desk (desk.rendered + 1))
 unfolding after_render render_answer
 render_done p desk h agrees =
-    rw (ne_eqb p.rendered p.binned (λ e. h (agrees.rendered ∙ e ∙ sym agrees.binned)), agrees.rendered) (refl, record {
-      buffers = agrees.buffers;
-      submitted = agrees.submitted;
-      started = agrees.started;
-      binned = agrees.binned;
-      rendered = refl;
-      writers = agrees.writers;
-      waits = λ job low inside. agrees.waits job (omega (arith, low, agrees.rendered)) inside;
-    })
+    rw (ne_eqb p.rendered p.binned (λ e. h (agrees.rendered ∙ e ∙ sym agrees.binned)), agrees.rendered) (
+      refl,
+      record {
+        buffers = agrees.buffers;
+        submitted = agrees.submitted;
+        started = agrees.started;
+        binned = agrees.binned;
+        rendered = refl;
+        writers = agrees.writers;
+        waits = λ job low inside. agrees.waits job (omega (arith, low, agrees.rendered)) inside;
+      },
+    )
 
 -- a job's buffers
 some_by : (t : Bool) (x y : Option ℕ) (buffer b : ℕ) → (x ≡ Some b → y ≡ Some b) → (if t then x else Some buffer) ≡ Some b → (if t then y else Some buffer) ≡ Some b
@@ -242,8 +257,8 @@ waits_more p desk reads writes size none room agrees job low inside true is =
     ∙ zero_max (last_before reads (length p.jobs + 1) p.jobs 1 0)
     ∙ sym (writer_last p.jobs (record { reads = reads; writes = writes }))
     ∙ ap (λ n. last_writer (jobs_with p reads writes) (n + 1)) (sym e) where
-    zero_max : (n : ℕ) → max 0 n ≡ n
-    zero_max n = omega arith
+      zero_max : (n : ℕ) → max 0 n ≡ n
+      zero_max n = omega arith
 waits_more p desk reads writes size none room agrees job low inside false is =
     let more = size_more p.jobs (record { reads = reads; writes = writes }) in
     let apart : job ≡ length p.jobs → ⊥ = λ e. absurd (false≢true (sym is ∙ eq-eqb job (length p.jobs) e)) in
@@ -258,16 +273,18 @@ pub submit_done : (p : Past) (desk : Desk) (reads writes : List ℕ) → length 
     → (Ok (desk.submitted + 1) ≡ submit_answer p reads writes) × Agrees (after_submit p reads writes) (with_submitted desk reads writes)
 unfolding after_submit
 submit_done p desk reads writes size none none_too room agrees =
-    let answer = submit_room p desk reads writes none none_too room agrees in
-    (sym (answer ∙ ap (λ n. Ok (n + 1)) (sym agrees.submitted)), rw answer (record {
-      buffers = written_size desk.writers writes (desk.submitted + 1) ∙ agrees.buffers;
-      submitted = ap (λ n. n + 1) agrees.submitted ∙ sym (size_more p.jobs (record { reads = reads; writes = writes }));
-      started = agrees.started;
-      binned = agrees.binned;
-      rendered = agrees.rendered;
-      writers = writers_more p desk reads writes agrees;
-      waits = λ job low inside. waits_more p desk reads writes size none room agrees job low inside (job == length p.jobs) refl;
-    }))
+    let answer = submit_room p desk reads writes none none_too room agrees in (
+      sym (answer ∙ ap (λ n. Ok (n + 1)) (sym agrees.submitted)),
+      rw answer (record {
+        buffers = written_size desk.writers writes (desk.submitted + 1) ∙ agrees.buffers;
+        submitted = ap (λ n. n + 1) agrees.submitted ∙ sym (size_more p.jobs (record { reads = reads; writes = writes }));
+        started = agrees.started;
+        binned = agrees.binned;
+        rendered = agrees.rendered;
+        writers = writers_more p desk reads writes agrees;
+        waits = λ job low inside. waits_more p desk reads writes size none room agrees job low inside (job == length p.jobs) refl;
+      }),
+    )
 
 zeros : (n k : ℕ) → slice_index (replicate n 0) k ≡ 0
 zeros zero k = refl

@@ -1,19 +1,19 @@
 -- Numbers parted by commas.
-use Rattle.std.proofs.Common.{◌≡◌, ℕ, zero, suc, ◌+◌, ◌≤◌, ◌<◌, ◌==◌, ◌&&◌, Bool, true, false, List, [], ◌∷◌, ◌++◌, length, refl, sym, ◌∙◌, ap, append_assoc, append-nil, arith, eq-eqb, Option, Some, None, if◌then◌else◌}
+use Rattle.std.proofs.Common.{◌≡◌, ℕ, suc, ◌≤◌, ◌<◌, ◌==◌, ◌&&◌, Bool, true, false, List, [], ◌∷◌, ◌++◌, length, refl, sym, ◌∙◌, ap, append_assoc, append-nil, arith, eq-eqb, Option, Some, None, if◌then◌else◌}
 use Rattle.std.proofs.lemmas.Bool.{false≢true}
 use Rattle.std.proofs.lemmas.Bool.Decides.{nat_tests}
 use Rattle.script.specs.Lines.{before, behind, onto_line}
 use Rattle.script.specs.Number.{number_within, is_number}
-use Rattle.job_queue.specs.Calls.{parts_of, are_all_numbers, are_numbers, numbers_in, buffers_of, onto_numbers, is_some, last_number}
+use Rattle.job_queue.specs.Calls.{parts_of, are_all_numbers, numbers_in, onto_numbers, is_some, last_number}
 
 whole_by : (byte : ℕ) (bytes : List ℕ) (b : Bool) → (byte == 44) ≡ b → (length (before 44 bytes) ≡ length bytes → (parts_of bytes ≡ before 44 bytes ∷ []) × (behind 44 bytes ≡ []))
     → length (before 44 (byte ∷ bytes)) ≡ length (byte ∷ bytes) → (parts_of (byte ∷ bytes) ≡ before 44 (byte ∷ bytes) ∷ []) × (behind 44 (byte ∷ bytes) ≡ [])
 unfolding before behind parts_of
 whole_by byte bytes true is later size = absurd (short byte bytes is size) where
-    short : (byte : ℕ) (bytes : List ℕ) → (byte == 44) ≡ true → length (if byte == 44 then [] else byte ∷ before 44 bytes) ≡ suc (length bytes) → ⊥
-    short byte bytes is size =
-        let none : 0 ≡ suc (length bytes) = sym (ap (λ b. length (if b then [] else byte ∷ before 44 bytes)) is) ∙ size in
-        omega (arith, none)
+  short : (byte : ℕ) (bytes : List ℕ) → (byte == 44) ≡ true → length (if byte == 44 then [] else byte ∷ before 44 bytes) ≡ suc (length bytes) → ⊥
+  short byte bytes is size =
+      let none : 0 ≡ suc (length bytes) = sym (ap (λ b. length (if b then [] else byte ∷ before 44 bytes)) is) ∙ size in
+      omega (arith, none)
 whole_by byte bytes false is later size =
     let inner : suc (length (before 44 bytes)) ≡ suc (length bytes) = sym (ap (λ b. length (if b then [] else byte ∷ before 44 bytes)) is) ∙ size in
     let known = later (omega (arith, inner)) in

@@ -1,5 +1,5 @@
 -- The last writer of what a job reads, when a job comes.
-use Rattle.std.proofs.Common.{◌≡◌, ℕ, zero, suc, ◌+◌, ◌-◌, ◌≤◌, ◌<◌, ◌==◌, Bool, true, false, ◌||◌, max, nat_lt, List, [], ◌∷◌, ◌++◌, length, get_or, set, replicate, refl, sym, ◌∙◌, ap, subst, arith, Option, Some, None, get_or-set_other, get_or-set_same, length-set, if◌then◌else◌}
+use Rattle.std.proofs.Common.{◌≡◌, ℕ, zero, suc, ◌+◌, ◌-◌, ◌≤◌, ◌<◌, ◌==◌, Bool, true, false, ◌||◌, max, nat_lt, List, [], ◌∷◌, ◌++◌, length, get_or, set, refl, sym, ◌∙◌, ap, arith, None, get_or-set_other, get_or-set_same, length-set, if◌then◌else◌}
 use Rattle.std.proofs.lemmas.Bool.Decides.{nat_tests}
 use Rattle.std.specs.Prelude.{slice_index, slice_set}
 use Rattle.job_queue.specs.Past.{Job, is_in, meet, last_before, last_writer, reads_of, first_unknown}
@@ -17,9 +17,9 @@ pub nothing_read : (n : ℕ) (jobs : List Job) (number found : ℕ) → last_bef
 unfolding last_before meet
 nothing_read n [] number found = refl
 nothing_read n (job ∷ jobs) number found = nothing_by (nat_lt number n) found (nothing_read n jobs (number + 1) found) where
-    nothing_by : (b : Bool) (found : ℕ) {x : ℕ} → x ≡ found → (if b then x else found) ≡ found
-    nothing_by true found e = e
-    nothing_by false found e = refl
+  nothing_by : (b : Bool) (found : ℕ) {x : ℕ} → x ≡ found → (if b then x else found) ≡ found
+  nothing_by true found e = e
+  nothing_by false found e = refl
 
 -- of two reads the later writer
 pick : (p q : Bool) (number a b : ℕ) → a ≤ number → b ≤ number
@@ -58,8 +58,8 @@ greatest_is writers jobs n buffers found (buffer ∷ reads) known kept =
     ∙ ap (λ w. max (max found w) (last_before reads n jobs 1 0)) (kept buffer first.0)
     ∙ assoc found (last_before (buffer ∷ []) n jobs 1 0) (last_before reads n jobs 1 0)
     ∙ ap (max found) (sym (both_read buffer reads n jobs 1 0 0 (omega arith) (omega arith))) where
-    assoc : (a b c : ℕ) → max (max a b) c ≡ max a (max b c)
-    assoc a b c = grind (arith)
+      assoc : (a b c : ℕ) → max (max a b) c ≡ max a (max b c)
+      assoc a b c = grind (arith)
 
 -- a job at the end
 later_by : (t : Bool) (x y found : ℕ) → x ≡ y → (if t then x else found) ≡ (if t then y else found)

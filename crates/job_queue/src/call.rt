@@ -57,9 +57,7 @@ fn is_submit(line: &[u8]) -> bool
 {
     let cut = cut_at(line, b' ');
     let buffers = cut_at(cut.rest, b' ');
-    cut.first == b"submit".as_slice()
-        && are_buffers(buffers.first)
-        && are_buffers(buffers.rest)
+    cut.first == b"submit".as_slice() && are_buffers(buffers.first) && are_buffers(buffers.rest)
 }
 
 /// The numbers that a word is, after those that are there.
