@@ -1,5 +1,5 @@
 -- The lines of a script, and the calls that they are.
-use Rattle.std.specs.Prelude.{◌≡◌, ℕ, ◌==◌, ◌||◌, ◌&&◌, Bool, true, false, bytes_eq, codes, List, [], ◌∷◌, Option, Some, None, if◌then◌else◌}
+use Rattle.std.specs.Prelude.{ℕ, ◌==◌, ◌||◌, ◌&&◌, Bool, true, false, bytes_eq, codes, List, [], ◌∷◌, Option, Some, None, if◌then◌else◌}
 use Rattle.script.specs.Lines.{before, behind, first_malformed, onto_line}
 use Rattle.script.specs.Number.{number_within}
 use Rattle.job_queue.specs.declared.call.Call.{Call}

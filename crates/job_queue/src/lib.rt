@@ -5,6 +5,7 @@
 //!
 //! In `specs/`, `Past` says what a list of calls does: it keeps every job that was submitted. The code keeps for each buffer its
 //! last writer's number, and for each job that hasn't rendered the number of the last job for which it waits.
+//! `Calls` and `Text` say what a script and its answer are.
 #![tactic(auto)]
 
 mod call;

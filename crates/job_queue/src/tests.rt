@@ -47,6 +47,17 @@ fn reads_are_asked_before_writes(rt: HostRuntime) -> Result<(), Fail> {
 }
 
 #[test]
+fn the_last_writer_that_has_not_rendered_is_named(rt: HostRuntime) -> Result<(), Fail> {
+    let text =
+        b"submit - 1\nsubmit - 0\nsubmit 0,1 -\nstart\nbin\nstart\nbin\nrender\nstart\nrender\nstart\n";
+    assert_eq!(rt;
+        answer(&rt, 2, text)?.as_str(),
+        "job 1\njob 2\njob 3\nstart 1\nbinned 1\nstart 2\nbinned 2\nrendered 1\nrefused Q5 2\nrendered 2\nstart 3\n"
+    );
+    Ok(())
+}
+
+#[test]
 fn the_queue_is_full_at_4096_jobs(rt: HostRuntime) -> Result<(), Fail> {
     let mut queue = Queue::new(rt.alloc(), 1)?;
     for job in 1..4097 {

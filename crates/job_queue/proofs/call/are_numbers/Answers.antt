@@ -1,4 +1,4 @@
-use Rattle.std.proofs.Common.{refl, sym, ◌∙◌, arith}
+use Rattle.std.proofs.Common.{refl, sym, ◌∙◌}
 use Rattle.job_queue.specs.Calls.{are_numbers}
 use Rattle.job_queue.proofs.Words.{no_number, one_number, more_numbers, more_inside}
 use Rattle.job_queue.proofs.call.are_numbers.Goals as goal

@@ -1,4 +1,3 @@
-use Rattle.std.proofs.Common.{arith}
 use Rattle.job_queue.proofs.Desks.{new_agrees}
 use Rattle.job_queue.proofs.queue.Queue.new.Goals as goal
 
