@@ -1,17 +1,23 @@
 -- What jobs begin with, said of the first memory alone: no job may write their lists, their code and their streams.
-use Rattle.std.specs.Prelude.{◌≡◌, ◌<◌, ℕ, ◌+◌, ◌*◌, List, Option, length}
+use Rattle.std.specs.Prelude.{◌≡◌, ◌<◌, ◌⊎◌, ℕ, ◌+◌, ◌*◌, false, not, List, Option, length, slice_index}
 use Rattle.field_words.specs.Pieces.{joined as joined_bytes}
 use Rattle.packets.specs.declared.packet.Packet.{Packet}
 use Rattle.packets.specs.Packet.{slots_text}
+use Rattle.emitted_facts.specs.Facts.{IsAttributeIn, IsPrimitive}
+use Rattle.emitted_facts.specs.Records.{attribute_count, record_size, is_single}
+use Rattle.machine_plan.specs.declared.launch.Launch.{Launch}
 use Rattle.machine_plan.specs.Memory.{bytes_at}
 use Rattle.machine_plan.specs.Regions.{Interval, Inside, Rights, rights_of, IsKept, IsOutside, joined}
 use Rattle.machine_plan.specs.World.{Safe, Same}
+use Rattle.shader_flow.specs.Flow.{is_threaded}
 use Rattle.uniform_stream.specs.Stream.{uniforms_of}
 use Rattle.list_machine.specs.declared.state.Config.{Config}
 use Rattle.list_machine.specs.declared.state.Frame.{Frame}
 use Rattle.bin_walks.specs.Walks.{nothing_kept, Walks}
 use Rattle.render_walks.specs.Walks.{at_start, WalksTo, AllFit}
 use Rattle.list_law.specs.Binning.{grid_of, DrawsSo, Allocates}
+use Rattle.list_machine.specs.Fetch.{record_place}
+use Rattle.list_law.specs.Emitted.{words_in, RecordStands, IsStateOf, program_in}
 use Rattle.list_law.specs.Rendering.{MayDo, NoMatter, AllSet}
 use Rattle.qpu_law.specs.Asks.{IsOneOf}
 use Rattle.qpu_law.specs.Home.{Home}
@@ -41,14 +47,39 @@ pub record HomeBegins (rights : List Rights) (first : List ℕ) (j : ℕ) (home 
   pub samples : HasSamples buffers home
   pub named : (place size : ℕ) → IsOneOf buffers place size → IsOneOf (rights_of rights j).region place size
 
+-- Job j may start the program from the first memory on: it is a home's there.
+pub record LaunchBegins (rights : List Rights) (first : List ℕ) (j : ℕ) (launch : Launch) : Type 0 where
+  pub home : Home
+  pub buffers : List Interval
+  pub begins : HomeBegins rights first j home buffers
+  pub code : launch.code ≡ home.place
+  pub uniforms : launch.uniforms ≡ home.stream
+  pub threaded : launch.threaded ≡ is_threaded home.code
+
+-- The packet draws a primitive that was emitted for job j, under the record of a state word that was emitted for it, which stands
+-- in the first memory and which no job may write. Its data and its indexes lie in the job's region, and the three programs may be
+-- started.
+pub record DrawBegins (rights : List Rights) (first : List ℕ) (j word : ℕ) (packet : List ℕ) : Type 0 where
+  pub state : ℕ
+  pub most : ℕ
+  pub is_state : IsStateOf state word
+  pub record_stands : RecordStands (rights_of rights j).region first word
+  pub record_fixed : IsFixed rights (record_place word) (record_size word)
+  pub attributes : (t : ℕ) → t < attribute_count state → IsAttributeIn (Inside (rights_of rights j).region) state (words_in first word) most t
+  pub fragment : LaunchBegins rights first j (program_in first word (not (is_single (words_in first word))) 0)
+  pub vertex : LaunchBegins rights first j (program_in first word false 1)
+  pub coordinate : LaunchBegins rights first j (program_in first word false 2)
+  pub kind : (slice_index packet 0 ≡ 32) ⊎ (slice_index packet 0 ≡ 33)
+  pub primitive : IsPrimitive (Inside (rights_of rights j).region) packet most
+
 -- Job j begins with a binner list and a renderer list that walk under one configuration and one frame, and may write the memory of
--- its tile lists. What a primitive draws may be fetched and started in each memory where nothing changed but what jobs may write.
+-- its tile lists.
 pub record JobBegins (rights : List Rights) (first : List ℕ) (j : ℕ) (start : Start) : Type 0 where
   pub config : Config
   pub frame : Frame
   pub allocates : Allocates (rights_of rights j) config
   pub packets : List (List ℕ)
-  pub bin_walks : Walks (grid_of config) (DrawsSo (rights_of rights j) (IsKept rights first) (LaunchFine rights first j)) nothing_kept packets
+  pub bin_walks : Walks (grid_of config) (DrawBegins rights first j) nothing_kept packets
   pub bin_text : TextBegins rights first j start.bin_place (joined_bytes packets)
   pub bin_len : start.bin_len ≡ length (joined_bytes packets)
   pub slots : List (Option Packet)
@@ -67,6 +98,12 @@ FixedStays =
 abbrev pub HomesStay : Type 0
 HomesStay =
     (rights : List Rights) (first : List ℕ) (j : ℕ) (home : Home) (buffers : List Interval) → HomeBegins rights first j home buffers → HomeFine rights first j home buffers
+
+-- So a primitive may be drawn in each memory where nothing changed but what jobs may write.
+abbrev pub DrawsStay : Type 0
+DrawsStay =
+    (rights : List Rights) (first : List ℕ) (j word : ℕ) (packet : List ℕ) → DrawBegins rights first j word packet
+    → DrawsSo (rights_of rights j) (IsKept rights first) (LaunchFine rights first j) word packet
 
 -- From what each job begins with, every run of the machine is safe and depends on nothing else.
 abbrev pub JobsSafe : Type 0

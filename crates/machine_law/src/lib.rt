@@ -6,7 +6,7 @@
 #![tactic(auto)]
 
 ghost use Rattle.machine_law.specs.Laws.{UnitsOwe, MachineSafe, StartSafe};
-ghost use Rattle.machine_law.specs.Begins.{FixedStays, HomesStay, JobsSafe};
+ghost use Rattle.machine_law.specs.Begins.{DrawsStay, FixedStays, HomesStay, JobsSafe};
 
 /// Each unit of the machine keeps all that is known, in each memory where nothing changed but what the jobs may write.
 pub fn units_owe()
@@ -31,6 +31,11 @@ pub fn fixed_stays()
 /// A home whose code and stream no job may write stays a home of its job's threads.
 pub fn homes_stay()
     ensures { HomesStay }
+{}
+
+/// A primitive that was emitted for a job may be drawn in every run, where no job may write its record, its code and its streams.
+pub fn draws_stay()
+    ensures { DrawsStay }
 {}
 
 /// Every run of the machine is safe, and bytes outside the jobs' regions have no effect, where each job begins with two lists that

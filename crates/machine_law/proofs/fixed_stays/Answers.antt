@@ -1,4 +1,4 @@
-use Rattle.machine_law.proofs.Begins.{fixed_stays_law}
+use Rattle.machine_law.proofs.Fixed.{fixed_stays_law}
 use Rattle.machine_law.proofs.fixed_stays.Goals as goal
 
 pub returns : goal.returns
