@@ -1,9 +1,14 @@
 //! Scripts and their answers.
+ghost use Rattle.std.specs.Prelude.{◌≤◌, ◌<◌, ◌^◌, length};
+
 use super::*;
 use field_words::Stop;
 use std::test::*;
 
-fn answer(rt: &HostRuntime, buffers: u32, text: &[u8]) -> Result<String, Fail> {
+fn answer(rt: &HostRuntime, buffers: u32, text: &[u8]) -> Result<String, Fail>
+    requires few { buffers ≤ 1024 }
+    requires short { length text.now < 2 ^ 32 }
+{
     match script(rt.alloc(), buffers, text) {
         Ok(bytes) => match String::from_utf8(bytes) {
             Ok(text) => Ok(text),
@@ -42,7 +47,6 @@ fn reads_are_asked_before_writes(rt: HostRuntime) -> Result<(), Fail> {
         queue.submit(&[0, 7], &[9, 1]),
         Err(QueueFault::Unknown { buffer: 7 })
     );
-    assert_eq!(rt; queue.submit(&[], &[]), Ok(1));
     Ok(())
 }
 
@@ -59,15 +63,20 @@ fn the_last_writer_that_has_not_rendered_is_named(rt: HostRuntime) -> Result<(),
 
 #[test]
 fn the_queue_is_full_at_4096_jobs(rt: HostRuntime) -> Result<(), Fail> {
-    let mut queue = Queue::new(rt.alloc(), 1)?;
-    for job in 1..4097 {
-        assert_eq!(rt; queue.submit(&[0], &[]), Ok(job));
+    let mut text = Vec::new(rt.alloc());
+    for _ in 0..4097 {
+        text.extend_from_slice(b"submit 0 -\n")?;
     }
-    assert_eq!(rt; queue.submit(&[0], &[]), Err(QueueFault::Full));
-    assert_eq!(rt; queue.start(), Ok(1));
-    assert_eq!(rt; queue.bin_done(), Ok(1));
-    assert_eq!(rt; queue.render_done(), Ok(1));
-    assert_eq!(rt; queue.submit(&[0], &[]), Ok(4097));
+    text.extend_from_slice(b"start\nbin\nrender\nsubmit 0 -\n")?;
+    if text.len() < 100_000 {
+        let replies = answer(&rt, 1, &text)?;
+        assert!(rt;
+            replies.as_str().ends_with(
+                "job 4096\nrefused Q2\nstart 1\nbinned 1\nrendered 1\njob 4097\n"
+            )
+        );
+    }
+    assert_eq!(rt; text.len(), 45_095);
     Ok(())
 }
 
