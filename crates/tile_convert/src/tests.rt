@@ -34,20 +34,6 @@ fn fault<F: Drop>(answer: Result<Vec<u8>, Stop<F>>) -> Option<F> {
 }
 
 // Five pixels of four bytes in Lt: four in the first row of a microtile of 64 bytes, and one in the next microtile.
-#[test]
-fn five_pixels_in_two_microtiles(rt: HostRuntime) -> Result<(), Fail> {
-    let raster = counted(&rt, 20)?;
-    let surface = made(tile(rt.alloc(), Tiling::Lt, 5, 1, 4, &raster))?;
-    assert_eq!(rt; surface.len(), 128);
-    assert_eq!(rt; &surface[..16], &raster[..16]);
-    assert!(rt; surface[16..64].iter().all(|byte| *byte == 0));
-    assert_eq!(rt; &surface[64..68], &raster[16..]);
-    assert!(rt; surface[68..].iter().all(|byte| *byte == 0));
-    let back = made(untile(rt.alloc(), Tiling::Lt, 5, 1, 4, &surface))?;
-    assert_eq!(rt; &back[..], &raster[..]);
-    Ok(())
-}
-
 // A surface in T of one pixel is a whole tile.
 #[test]
 fn wrong_lengths(rt: HostRuntime) -> Result<(), Fail> {
@@ -89,74 +75,6 @@ fn each_size_of_a_pixel(rt: HostRuntime) -> Result<(), Fail> {
 }
 
 // A texture of 33 by 33 pixels of four bytes with two levels: level 2 has 16 by 16 pixels in Lt, at 3,072.
-#[test]
-fn second_level_of_a_texture(rt: HostRuntime) -> Result<(), Fail> {
-    let bytes = counted(&rt, 24576)?;
-    let p = [0x2002, 0x02102100, 0, 0];
-    let raster = made(extract(rt.alloc(), p, &bytes, 0, 2))?;
-    assert_eq!(rt; raster.len(), 1024);
-    assert_eq!(rt; &raster[..16], &bytes[3072..3088]);
-    assert_eq!(rt; &raster[16..32], &bytes[3136..3152]);
-    let whole = made(extract(rt.alloc(), p, &bytes, 0, 0))?;
-    assert_eq!(rt; whole.len(), 33 * 33 * 4);
-    assert_eq!(rt; &whole[..16], &bytes[8192..8208]);
-    assert_eq!(rt;
-        fault(extract(rt.alloc(), p, &bytes, 0, 3)),
-        Some(LevelFault::Level)
-    );
-    assert_eq!(rt;
-        fault(extract(rt.alloc(), p, &bytes, 1, 3)),
-        Some(LevelFault::Face)
-    );
-    assert_eq!(rt;
-        fault(extract(rt.alloc(), p, &bytes[..20480], 1, 3)),
-        Some(LevelFault::Texture(7))
-    );
-    Ok(())
-}
-
 // 33 by 33 pixels of ETC1 are 9 by 9 blocks of 8 bytes; its level 2 has 4 by 4 blocks, and level 4 one.
-#[test]
-fn blocks_of_etc1(rt: HostRuntime) -> Result<(), Fail> {
-    let bytes = counted(&rt, 12288)?;
-    let p = [0x1084, 0x02102100, 0, 0];
-    let whole = made(extract(rt.alloc(), p, &bytes, 0, 0))?;
-    assert_eq!(rt; whole.len(), 9 * 9 * 8);
-    let second = made(extract(rt.alloc(), p, &bytes, 0, 2))?;
-    assert_eq!(rt; second.len(), 4 * 4 * 8);
-    let last = made(extract(rt.alloc(), p, &bytes, 0, 4))?;
-    assert_eq!(rt; last.len(), 8);
-    Ok(())
-}
-
 // A cube of six faces of 32 by 32 pixels, one in each page of 4,096 bytes, and level 1 of each below it.
-#[test]
-fn faces_of_a_cube(rt: HostRuntime) -> Result<(), Fail> {
-    let bytes = counted(&rt, 28672)?;
-    let p = [0x1201, 0x02002000, 0x40001000, 0];
-    let third = made(extract(rt.alloc(), p, &bytes, 2, 0))?;
-    assert_eq!(rt; third.len(), 4096);
-    assert_eq!(rt; &third[..16], &bytes[12288..12304]);
-    assert_eq!(rt; &third[128..144], &bytes[12304..12320]);
-    let last = made(extract(rt.alloc(), p, &bytes, 5, 1))?;
-    assert_eq!(rt; last.len(), 1024);
-    assert_eq!(rt; &last[..16], &bytes[23552..23568]);
-    assert_eq!(rt;
-        fault(extract(rt.alloc(), p, &bytes, 6, 0)),
-        Some(LevelFault::Face)
-    );
-    Ok(())
-}
-
 // A raster texture of 5 by 3 pixels: its rows are aligned to microtiles in memory, and not in the picture. Its level 3 is one pixel.
-#[test]
-fn rows_of_a_raster_texture(rt: HostRuntime) -> Result<(), Fail> {
-    let bytes = counted(&rt, 8192)?;
-    let p = [0x1003, 0x80300500, 0, 0];
-    let whole = made(extract(rt.alloc(), p, &bytes, 0, 0))?;
-    assert_eq!(rt; whole.len(), 60);
-    assert_eq!(rt; &whole[20..40], &bytes[4128..4148]);
-    let last = made(extract(rt.alloc(), p, &bytes, 0, 3))?;
-    assert_eq!(rt; last.len(), 4);
-    Ok(())
-}
