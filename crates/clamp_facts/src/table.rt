@@ -1,5 +1,6 @@
 //! The table of facts.
 ghost use Rattle.std.specs.Prelude.{◌≡◌, ◌<◌, ◌≤◌, ◌+◌};
+ghost use Rattle.field_words.specs.Sizes.{most_words};
 ghost use Rattle.qpu_isa.specs.Told.{IsRegister};
 ghost use Rattle.clamp_facts.specs.Table.{Table, entry_of, with_entry, seen, blank_table, without_accumulators};
 ghost use Rattle.clamp_facts.specs.Facts.{is_delayed};
@@ -66,7 +67,7 @@ impl FactTable {
     /// before, nothing yet.
     pub fn get<L: Ledger>(&self, reg: Reg, at: u32, steps: &mut Steps<L>) -> Fact
         requires register { IsRegister reg }
-        requires place { at ≤ 8192 }
+        requires place { at ≤ most_words }
         ensures fact { result ≡ seen (entry_of self.now reg) at reg }
         ensures steps { steps.new ≡ steps.old + 1 }
     {
@@ -81,7 +82,7 @@ impl FactTable {
     /// The instruction at `at` makes this fact of the register. All other entries stay.
     pub fn put<L: Ledger>(&mut self, reg: Reg, fact: Fact, at: u32, steps: &mut Steps<L>)
         requires register { IsRegister reg }
-        requires place { at ≤ 8192 }
+        requires place { at ≤ most_words }
         ensures entry { self.new ≡ with_entry self.old reg (record { fact = fact; place = at }) }
         ensures steps { steps.new ≡ steps.old + 1 }
     {

@@ -25,3 +25,7 @@ most_code = 65536
 
 abbrev pub most_words : ℕ
 most_words = 8192
+
+-- a renderer list of a job: 8 MiB
+abbrev pub most_render : ℕ
+most_render = 8388608

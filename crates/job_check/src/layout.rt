@@ -1,5 +1,6 @@
 //! Where the lists of a job go.
 ghost use Rattle.std.specs.Prelude.{◌≡◌, ◌≤◌, ◌+◌, ◌*◌};
+ghost use Rattle.field_words.specs.Sizes.{most_render};
 ghost use Rattle.buffer_table.specs.Sound.{IsSound};
 ghost use Rattle.job_format.specs.File.{IsWellFormed, IsJobWellFormed};
 ghost use Rattle.job_format.specs.Model.{file_view, job_view};
@@ -24,7 +25,7 @@ fn has_tiles(frame: &Frame) -> bool
 #[tactic(auto, unfolding(crate::specs::Jobs::render_room, crate::specs::Jobs::has_tiles))]
 fn render_room(frame: &Frame, has_bin: bool) -> u64
     ensures value { result ≡ render_room frame.now has_bin }
-    ensures limit { result ≤ 8388608 }
+    ensures limit { result ≤ most_render }
 {
     if has_tiles(frame) {
         return render_size(frame, has_bin);

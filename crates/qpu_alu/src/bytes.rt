@@ -1,4 +1,4 @@
-// Operations on the four bytes of a word, each for itself.
+//! Operations on the four bytes of a word, each for itself.
 ghost use Rattle.std.specs.Prelude.{◌≡◌};
 ghost use Rattle.qpu_alu.specs.Operation.{byte_of, by_bytes};
 

@@ -1,4 +1,4 @@
-// Each operation of both units, worked by hand.
+//! Each operation of both units, worked by hand.
 use super::*;
 
 // operation, operands, result

@@ -1,4 +1,4 @@
-// The add unit and the multiply unit.
+//! The add unit and the multiply unit.
 ghost use Rattle.std.specs.Prelude.{◌≡◌, ◌<◌};
 ghost use Rattle.qpu_alu.specs.Operation.{signed_min, signed_max, shifted_signed, product_of, add_result_of, mul_result_of};
 

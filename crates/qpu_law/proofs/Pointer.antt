@@ -2,6 +2,7 @@
 use Rattle.std.proofs.Common.{◌≡◌, ◌<◌, ◌≤◌, inl, inr, ◌⊎◌, ℕ, ◌+◌, ◌-◌, ◌*◌, ◌/◌, ◌%◌, ◌^◌, Bool, true, false, ◌&&◌, ◌==◌, not, List, length, Some, None, refl, sym, ap, subst, arith, ◌∙◌, nat_le, if◌then◌else◌}
 use Rattle.std.specs.Prelude.{slice_index}
 use Rattle.std.proofs.lemmas.Bool.{cases_Bool, true≢false, eqb-true, false_from_ne_true, leb-false}
+use Rattle.field_words.specs.Sizes.{most_words}
 use Rattle.qpu_isa.specs.Word.{ws_of, waddr_add_of, waddr_mul_of, cond_add_of, cond_mul_of, imm_of}
 use Rattle.qpu_isa.specs.Terms.{is_branch, is_backward, target_of, add_names, mul_names, names_on_a, names_on_b, is_address_write, is_relative_address_write, is_add_packed}
 use Rattle.shader_flow.specs.Flow.{word, checked_of, is_target}
@@ -253,7 +254,7 @@ landed h n to root t next way from none forward = record {
 }
 
 -- At a branch's target.
-settled_jump : (h : Home) (n to : ℕ) (t next : Thread) → HasNoFault h.code → length h.code ≤ 8192 → n + 1 < checked_of h.code
+settled_jump : (h : Home) (n to : ℕ) (t next : Thread) → HasNoFault h.code → length h.code ≤ most_words → n + 1 < checked_of h.code
     → Lands h.code n to t next → IsSettled h (n + 1) next.uniforms → PointerIs h to next
 settled_jump h n to t next none few inside way (inl right) =
     let code = h.code in
@@ -279,7 +280,7 @@ settled_jump h n to t next none few inside way (inl right) =
 settled_jump h n to t next none few inside way (inr lost) =
     inr (inl (record { at = lost.at; address = lost.address; is = lost.is; unknown = known_not h.code to way.jump.target }))
 
-over_jump : (h : Home) (n to : ℕ) (t next : Thread) → length h.code ≤ 8192 → n + 1 < checked_of h.code → Lands h.code n to t next → IsOver h n t → PointerIs h to next
+over_jump : (h : Home) (n to : ℕ) (t next : Thread) → length h.code ≤ most_words → n + 1 < checked_of h.code → Lands h.code n to t next → IsOver h n t → PointerIs h to next
 over_jump h n to t next few inside way over =
     let reached = over.pending way.led way.led_is in
     let code = h.code in
@@ -290,19 +291,19 @@ over_jump h n to t next few inside way over =
     let is = way.jump.is in
     inr (inr (landed h n to over.root t next way (omega (arith, ahead, reached, is)) over.none over.forward))
 
-settled_goes : (h : Home) (n to : ℕ) (t next : Thread) → HasNoFault h.code → length h.code ≤ 8192 → n + 1 < checked_of h.code
+settled_goes : (h : Home) (n to : ℕ) (t next : Thread) → HasNoFault h.code → length h.code ≤ most_words → n + 1 < checked_of h.code
     → (to ≡ n + 1) ⊎ Lands h.code n to t next → IsSettled h (n + 1) next.uniforms → PointerIs h to next
 settled_goes h n to t next none few inside (inl on) (inl right) = inl (subst (λ i. IsRight h i next.uniforms) (sym on) right)
 settled_goes h n to t next none few inside (inl on) (inr lost) = inr (inl (subst (λ i. IsLost h i next.uniforms) (sym on) lost))
 settled_goes h n to t next none few inside (inr way) settled = settled_jump h n to t next none few inside way settled
 
-over_goes : (h : Home) (n to u p : ℕ) (words : List ℕ) (t : Thread) → length h.code ≤ 8192 → n + 1 < checked_of h.code
+over_goes : (h : Home) (n to u p : ℕ) (words : List ℕ) (t : Thread) → length h.code ≤ most_words → n + 1 < checked_of h.code
     → (to ≡ n + 1) ⊎ Lands h.code n to t (done (word h.code n) u p words t).thread → IsOver h n t → PointerIs h to (done (word h.code n) u p words t).thread
 over_goes h n to u p words t few inside (inl on) over = inr (inr (subst (λ i. IsOver h i (done (word h.code n) u p words t).thread) (sym on) (over_on h n u p words t over)))
 over_goes h n to u p words t few inside (inr way) over = over_jump h n to t (done (word h.code n) u p words t).thread few inside way over
 
 -- Where the thread comes to, its pointer stands as it should.
-pub pointer_goes : (h : Home) (n to u p : ℕ) (words : List ℕ) (t : Thread) → HasNoFault h.code → length h.code ≤ 8192 → IsStreamLow h → n + 1 < checked_of h.code
+pub pointer_goes : (h : Home) (n to u p : ℕ) (words : List ℕ) (t : Thread) → HasNoFault h.code → length h.code ≤ most_words → IsStreamLow h → n + 1 < checked_of h.code
     → (is_address_write (word h.code n) ≡ true → slice_index (add_row (readied p words t) (word h.code n) u words) 0 % 2 ^ 32 ≡ h.stream + 4 * (count_of h.code n + 1))
     → IsPast h n p t → (to ≡ n + 1) ⊎ Lands h.code n to t (done (word h.code n) u p words t).thread
     → PointerIs h n t → PointerIs h to (done (word h.code n) u p words t).thread

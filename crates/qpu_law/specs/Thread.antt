@@ -1,6 +1,7 @@
 -- A thread of a job: what is known before each of its instructions, and the law that a step keeps it.
 use Rattle.std.specs.Prelude.{◌≡◌, ◌≢◌, ◌≤◌, ◌<◌, ℕ, ◌+◌, ◌*◌, ◌%◌, ◌^◌, true, List, Option, Some, length, slice_index}
 use Rattle.std.specs.Int.{from_le_bytes, w64}
+use Rattle.field_words.specs.Sizes.{most_words}
 use Rattle.field_words.specs.Words.{u32_at}
 use Rattle.shader_flow.specs.Flow.{word}
 use Rattle.uniform_stream.specs.Stream.{uniforms_of}
@@ -24,7 +25,7 @@ use Rattle.qpu_law.specs.Facts.{HasRows, FactsHold}
 -- memory and in this region.
 pub record IsHome (m : List ℕ) (region : List Interval) (h : Home) : Type 0 where
   pub sound : HasNoFault h.code
-  pub few : length h.code ≤ 8192
+  pub few : length h.code ≤ most_words
   pub low : IsLow h
   pub stream_low : IsStreamLow h
   pub addresses : HoldsAddresses h

@@ -30,7 +30,7 @@ pub struct Lengths {
 }
 
 impl Layout {
-    ghost use Rattle.field_words.specs.Sizes.{most_memory, most_list};
+    ghost use Rattle.field_words.specs.Sizes.{most_memory, most_list, most_render};
     ghost use Rattle.relocation.specs.Layout.{layout_for, lists_end, StandApart};
 
     /// The layout for parts of these sizes in bytes, in this order, or `None` exactly where their
@@ -53,7 +53,7 @@ impl Layout {
         requires bin_limit { bin ≤ most_list }
         requires records_limit { records ≤ most_list }
         requires uniforms_limit { uniforms ≤ most_list }
-        requires render_limit { render ≤ 8388608 }
+        requires render_limit { render ≤ most_render }
         ensures exact { SomeIff result
             (lists_end bin records uniforms render ≤ regions.now.lists_size)
             (layout_for regions.now bin records uniforms render slot) }

@@ -1,5 +1,6 @@
 //! How long a renderer list is.
 ghost use Rattle.std.specs.Prelude.{◌≡◌, ◌≤◌, ◌<◌, ◌||◌, ◌+◌, ◌*◌, ℕ, List, length, is_some, Option};
+ghost use Rattle.field_words.specs.Sizes.{most_render};
 ghost use Rattle.render_list.specs.Frame.{surface_at, is_present, tiles_across, tiles_down, IsTileSet, ArePlacesOf};
 ghost use Rattle.render_list.specs.Length.{load_size, loads_size, write_size, writes_size, tile_size, render_length};
 ghost use Rattle.render_list.specs.Text.{number_where, render_text};
@@ -104,7 +105,7 @@ pub fn render_size(frame: &Frame, has_bin: bool) -> u64
     ensures value { result ≡ render_length frame.now has_bin }
     ensures text { (places : List (Option ℕ)) (grid : Option (ℕ × ℕ)) (slot : ℕ) → ArePlacesOf frame.now places → is_some grid ≡ has_bin
         → length (render_text frame.now places grid slot) ≡ result }
-    ensures limit { result ≤ 8388608 }
+    ensures limit { result ≤ most_render }
 {
     let clear = size_where(frame.clear, 24);
     11 + (clear + (tiles_size(frame, has_bin) + size_where(has_bin, 1)))

@@ -1,5 +1,6 @@
 //! The checker.
 ghost use Rattle.std.specs.Prelude.{◌≡◌, ◌≤◌, ◌+◌, ◌*◌, length, IfOk, IfErr};
+ghost use Rattle.field_words.specs.Sizes.{most_words};
 ghost use Rattle.field_words.specs.Questions.{Answers};
 ghost use Rattle.qpu_isa.specs.Shader.{IsSoundShader, shader_view};
 ghost use Rattle.shader_flow.specs.Flow.{IsFlow};
@@ -45,7 +46,7 @@ fn uniforms(code: &[u64], flow: &Flow, count: u32) -> u32
 ///
 /// ```text
 /// fn checked<L: Ledger>(alloc: Global, code: &[u64], blank: Blank) -> Result<ShaderInfo, Stop<ShaderFault>>
-///     requires few { length code.now ≤ 8192 }
+///     requires few { length code.now ≤ most_words }
 ///     requires name { blank.name ≡ L.name }
 ///     requires parts { blank.parts ≡ L.parts }
 ///     requires some { 0 < blank.parts }
@@ -62,7 +63,7 @@ pub fn check_shader<L: Ledger>(
     code: &[u64],
     steps: &mut Steps<L>,
 ) -> Result<ShaderInfo, Stop<ShaderFault>>
-    requires { length code.now ≤ 8192 }
+    requires { length code.now ≤ most_words }
     ensures answers { Answers (shader_questions code.now) (IsInfo code.now) result }
     ensures least { IfErr result (IsLeastStop code.now) }
     ensures sound { IfOk result (λ info. IsSoundShader (shader_view info)) }

@@ -1,5 +1,6 @@
 //! The rules on facts at one instruction, and the least of all rules there.
 ghost use Rattle.std.specs.Prelude.{◌≡◌, ◌<◌, ◌≤◌, ◌+◌, ◌*◌, ◌==◌, ℕ, true, length};
+ghost use Rattle.field_words.specs.Sizes.{most_words};
 ghost use Rattle.field_words.specs.Questions.{first_of};
 ghost use Rattle.qpu_isa.specs.Terms.{is_address_write, first_register, passes};
 ghost use Rattle.qpu_isa.specs.Told.{IsRegister};
@@ -54,7 +55,7 @@ fn holds_value<L: Ledger>(
     steps: &mut Steps<L>,
 ) -> bool
     requires inside { at < length code.now }
-    requires few { length code.now ≤ 8192 }
+    requires few { length code.now ≤ most_words }
     requires register { IsRegister reg }
     requires kept { IsTableOf code.now (maker_of code.now at) table.now }
     ensures value { result ≡ is_immediate code.now at reg value }
@@ -73,7 +74,7 @@ fn has_clamp<L: Ledger>(
     steps: &mut Steps<L>,
 ) -> bool
     requires inside { at < length code.now }
-    requires few { length code.now ≤ 8192 }
+    requires few { length code.now ≤ most_words }
     requires register { IsRegister reg }
     requires kept { IsTableOf code.now (maker_of code.now at) table.now }
     ensures value { result ≡ is_clamped code.now at reg }
@@ -91,7 +92,7 @@ fn adds_value<L: Ledger>(
     steps: &mut Steps<L>,
 ) -> bool
     requires inside { at < length code.now }
-    requires few { length code.now ≤ 8192 }
+    requires few { length code.now ≤ most_words }
     requires kept { IsTableOf code.now (maker_of code.now at) table.now }
     ensures value { result ≡ passes (first_register (word code.now at)) (λ reg. is_immediate code.now at reg value) }
     ensures steps { steps.new ≤ steps.old + 1 }
@@ -105,7 +106,7 @@ fn adds_value<L: Ledger>(
 // The first operand of the add unit is a register for which a clamp holds.
 fn adds_clamped<L: Ledger>(code: &[u64], at: u32, table: &FactTable, steps: &mut Steps<L>) -> bool
     requires inside { at < length code.now }
-    requires few { length code.now ≤ 8192 }
+    requires few { length code.now ≤ most_words }
     requires kept { IsTableOf code.now (maker_of code.now at) table.now }
     ensures value { result ≡ passes (first_register (word code.now at)) (is_clamped code.now at) }
     ensures steps { steps.new ≤ steps.old + 1 }
@@ -126,7 +127,7 @@ fn is_exact_address_write<L: Ledger>(
     steps: &mut Steps<L>,
 ) -> bool
     requires inside { at < length code.now }
-    requires few { length code.now ≤ 8192 }
+    requires few { length code.now ≤ most_words }
     requires taken { count ≡ count_of code.now at }
     requires kept { IsTableOf code.now (maker_of code.now at) table.now }
     ensures value { result ≡ is_exact_address_write code.now at }
@@ -147,7 +148,7 @@ fn breaks_s16<L: Ledger>(
     steps: &mut Steps<L>,
 ) -> bool
     requires inside { at < length code.now }
-    requires few { length code.now ≤ 8192 }
+    requires few { length code.now ≤ most_words }
     requires taken { count ≡ count_of code.now at }
     requires kept { IsTableOf code.now (maker_of code.now at) table.now }
     ensures value { result ≡ s16 code.now at }
@@ -189,7 +190,7 @@ fn is_clamped_write<L: Ledger>(
     steps: &mut Steps<L>,
 ) -> bool
     requires inside { at < length code.now }
-    requires few { length code.now ≤ 8192 }
+    requires few { length code.now ≤ most_words }
     requires kept { IsTableOf code.now (maker_of code.now at) table.now }
     ensures value { result ≡ is_clamped_write code.now at }
     ensures steps { steps.new ≤ steps.old + 1 }
@@ -210,7 +211,7 @@ fn breaks_s24<L: Ledger>(
     steps: &mut Steps<L>,
 ) -> bool
     requires inside { at < length code.now }
-    requires few { length code.now ≤ 8192 }
+    requires few { length code.now ≤ most_words }
     requires first { pending0 ≡ pending_of code.now 0 at }
     requires second { pending1 ≡ pending_of code.now 1 at }
     requires kept { IsTableOf code.now (maker_of code.now at) table.now }
@@ -231,7 +232,7 @@ fn fact_fault<L: Ledger>(
     steps: &mut Steps<L>,
 ) -> Option<u8>
     requires inside { at < length code.now }
-    requires few { length code.now ≤ 8192 }
+    requires few { length code.now ≤ most_words }
     requires counted { IsStream code.now stream.now }
     requires kept { IsTableOf code.now (maker_of code.now at) table.now }
     ensures value { result ≡ first_of (fact_questions code.now at) }

@@ -1,5 +1,6 @@
 //! Shaders with their answers, worked out by hand.
 ghost use Rattle.std.specs.Prelude.{◌≡◌, ◌<◌, ◌≤◌, length};
+ghost use Rattle.field_words.specs.Sizes.{most_words};
 
 use super::*;
 use clamp_facts::clamp_of;
@@ -53,7 +54,7 @@ fn checked<L: Ledger>(
     code: &[u64],
     blank: Blank,
 ) -> Result<ShaderInfo, Stop<ShaderFault>>
-    requires few { length code.now ≤ 8192 }
+    requires few { length code.now ≤ most_words }
     requires name { blank.name ≡ L.name }
     requires parts { blank.parts ≡ L.parts }
     requires some { 0 < blank.parts }
@@ -64,7 +65,7 @@ fn checked<L: Ledger>(
 
 // The clamp that a search finds, with a counter of its own.
 fn found<L: Ledger>(alloc: Global, code: &[u64], at: u32, blank: Blank) -> Result<Option<u32>, Fail>
-    requires few { length code.now ≤ 8192 }
+    requires few { length code.now ≤ most_words }
     requires inside { at < length code.now }
     requires name { blank.name ≡ L.name }
     requires parts { blank.parts ≡ L.parts }
@@ -77,7 +78,7 @@ fn found<L: Ledger>(alloc: Global, code: &[u64], at: u32, blank: Blank) -> Resul
 
 // What is told of an accepted shader.
 fn accepted(rt: &HostRuntime, code: &[u64]) -> Result<ShaderInfo, Fail>
-    requires { length code.now ≤ 8192 }
+    requires { length code.now ≤ most_words }
 {
     match checked::<Brand>(rt.alloc(), code, Blank::new(1)) {
         Ok(info) => Ok(info),
@@ -87,7 +88,7 @@ fn accepted(rt: &HostRuntime, code: &[u64]) -> Result<ShaderInfo, Fail>
 
 // The fault of a refused shader, as its number and its index.
 fn refused(rt: &HostRuntime, code: &[u64]) -> Result<(u8, u32), Fail>
-    requires { length code.now ≤ 8192 }
+    requires { length code.now ≤ most_words }
 {
     match checked::<Brand>(rt.alloc(), code, Blank::new(1)) {
         Err(Stop::Fault(fault)) => Ok((fault.number, fault.index)),

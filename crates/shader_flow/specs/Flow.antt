@@ -1,5 +1,6 @@
 -- Where a shader may go: its end, its checked instructions, and the targets of its branches. A shader is its list of words.
 use Rattle.std.specs.Prelude.{◌≡◌, ◌≤◌, ℕ, suc, ◌+◌, ◌%◌, ◌==◌, Bool, false, not, ◌&&◌, ◌||◌, List, [], ◌∷◌, length, min, nat_lt, slice_index, slice_index_or, if◌then◌else◌}
+use Rattle.field_words.specs.Sizes.{most_words}
 use Rattle.qpu_isa.specs.Word.{imm_of, relative_of, register_of}
 use Rattle.qpu_isa.specs.Terms.{is_end, is_branch, is_switch, target_of}
 use Rattle.shader_flow.specs.declared.state.Flow.{Flow}
@@ -52,7 +53,7 @@ is_threaded code = some_below (checked_of code) (λ k. is_switch (word code k))
 -- What `flow` keeps of a shader of at most 8,192 words: its program end, a mark for each target from 0 to the number of words,
 -- and whether it switches threads.
 pub record IsFlow (code : List ℕ) (flow : Flow) : Type 0 where
-  pub few : length code ≤ 8192
+  pub few : length code ≤ most_words
   pub last_is : flow.end ≡ end_of code
   pub size : length flow.targets.items ≡ length code + 1
   pub marks : (i : ℕ) → i ≤ length code → slice_index_or flow.targets.items i false ≡ is_target code i

@@ -1,5 +1,6 @@
 //! The program end and the targets.
 ghost use Rattle.std.specs.Prelude.{◌≡◌, ◌<◌, ◌≤◌, ◌+◌, ◌==◌, ◌||◌, ℕ, false, length, slice_index_or, IfOk};
+ghost use Rattle.field_words.specs.Sizes.{most_words};
 ghost use Rattle.qpu_isa.specs.Terms.{target_of};
 ghost use Rattle.shader_flow.specs.Bounded.{some_below};
 ghost use Rattle.shader_flow.specs.Flow.{end_of, checked_of, is_threaded, is_target, makes_target, IsFlow};
@@ -12,7 +13,7 @@ use std::alloc::Global;
 
 // The index of the first program end, or the number of words where there is none.
 fn program_end(code: &[u64]) -> u32
-    requires { length code.now ≤ 8192 }
+    requires { length code.now ≤ most_words }
     ensures { result ≡ end_of code.now }
 {
     let mut end = 0;
@@ -28,7 +29,7 @@ fn program_end(code: &[u64]) -> u32
 /// The number of instructions that are checked: those up to the program end `end`, and the two after it.
 #[tactic(auto, unfolding(crate::specs::Flow::checked_of))]
 pub fn checked(code: &[u64], end: u32) -> usize
-    requires few { length code.now ≤ 8192 }
+    requires few { length code.now ≤ most_words }
     requires last { end ≡ end_of code.now }
     ensures value { result ≡ checked_of code.now }
     ensures inside { result ≤ length code.now }
@@ -39,7 +40,7 @@ pub fn checked(code: &[u64], end: u32) -> usize
 // Whether a checked instruction is a switch.
 #[tactic(auto, unfolding(crate::specs::Flow::is_threaded))]
 fn switches(code: &[u64], end: u32) -> bool
-    requires few { length code.now ≤ 8192 }
+    requires few { length code.now ≤ most_words }
     requires last { end ≡ end_of code.now }
     ensures { result ≡ is_threaded code.now }
 {
@@ -63,7 +64,7 @@ fn mark(targets: &mut [bool], at: usize)
 
 // Marks where the branch `word` at index `at` leads, and where its slots end.
 fn mark_branch(targets: &mut [bool], word: u64, at: u32)
-    requires { at < 8192 }
+    requires { at < most_words }
     ensures size { length targets.new ≡ length targets.old }
     ensures marks { (i : ℕ) → i < length targets.old → slice_index_or targets.new i false ≡ (slice_index_or targets.old i false || (i == at + 4 || i == target_of word at)) }
 {
@@ -75,7 +76,7 @@ fn mark_branch(targets: &mut [bool], word: u64, at: u32)
 #[tactic(auto, unfolding(crate::specs::Flow::makes_target))]
 fn mark_from(targets: &mut [bool], code: &[u64], end: u32, at: usize)
     requires inside { at < length code.now }
-    requires few { length code.now ≤ 8192 }
+    requires few { length code.now ≤ most_words }
     requires last { end ≡ end_of code.now }
     ensures size { length targets.new ≡ length targets.old }
     ensures marks { (i : ℕ) → i < length targets.old → slice_index_or targets.new i false ≡ (slice_index_or targets.old i false || makes_target code.now at i) }
@@ -89,7 +90,7 @@ fn mark_from(targets: &mut [bool], code: &[u64], end: u32, at: usize)
 #[tactic(auto, unfolding(crate::specs::Flow::is_target))]
 fn mark_all(targets: &mut [bool], code: &[u64], end: u32)
     requires clear { (i : ℕ) → slice_index_or targets.old i false ≡ false }
-    requires few { length code.now ≤ 8192 }
+    requires few { length code.now ≤ most_words }
     requires last { end ≡ end_of code.now }
     ensures size { length targets.new ≡ length targets.old }
     ensures marks { (i : ℕ) → i < length targets.old → slice_index_or targets.new i false ≡ is_target code.now i }
@@ -102,7 +103,7 @@ fn mark_all(targets: &mut [bool], code: &[u64], end: u32)
 /// Walks a shader of at most 8,192 words for its program end, its targets and whether it switches threads. Only want of
 /// memory fails.
 pub fn flow(alloc: Global, code: &[u64]) -> Result<Flow, NoMemory>
-    requires { length code.now ≤ 8192 }
+    requires { length code.now ≤ most_words }
     ensures { IfOk result (IsFlow code.now) }
 {
     let end = program_end(code);

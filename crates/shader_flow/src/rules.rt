@@ -1,5 +1,6 @@
 //! The rules on signals, branches and switches at one instruction.
 ghost use Rattle.std.specs.Prelude.{◌≡◌, ◌<◌, ◌≤◌, false, length};
+ghost use Rattle.field_words.specs.Sizes.{most_words};
 ghost use Rattle.field_words.specs.Questions.{first_of};
 ghost use Rattle.shader_flow.specs.Bounded.{is_back};
 ghost use Rattle.qpu_isa.specs.Terms.{is_branch, is_switch};
@@ -78,7 +79,7 @@ fn is_after_switch(code: &[u64], at: usize) -> bool
 #[tactic(auto, unfolding(crate::specs::Flow::leads_outside))]
 fn is_outside(code: &[u64], end: u32, at: usize) -> bool
     requires inside { at < length code.now }
-    requires few { length code.now ≤ 8192 }
+    requires few { length code.now ≤ most_words }
     requires last { end ≡ end_of code.now }
     ensures { result ≡ leads_outside code.now at }
 {
@@ -89,7 +90,7 @@ fn is_outside(code: &[u64], end: u32, at: usize) -> bool
 #[tactic(auto, unfolding(crate::specs::Flow::is_sound_branch))]
 pub(crate) fn is_sound(code: &[u64], end: u32, at: usize) -> bool
     requires inside { at < length code.now }
-    requires few { length code.now ≤ 8192 }
+    requires few { length code.now ≤ most_words }
     requires last { end ≡ end_of code.now }
     ensures { result ≡ is_sound_branch code.now at }
 {
@@ -151,7 +152,7 @@ fn breaks_s7(code: &[u64], at: usize) -> bool
 #[tactic(auto, unfolding(crate::specs::Rules::s8))]
 fn breaks_s8(code: &[u64], end: u32, at: usize) -> bool
     requires inside { at < length code.now }
-    requires few { length code.now ≤ 8192 }
+    requires few { length code.now ≤ most_words }
     requires last { end ≡ end_of code.now }
     ensures { result ≡ s8 code.now at }
 {
@@ -162,7 +163,7 @@ fn breaks_s8(code: &[u64], end: u32, at: usize) -> bool
 #[tactic(auto, unfolding(crate::specs::Rules::s9))]
 fn breaks_s9(code: &[u64], end: u32, at: usize) -> bool
     requires inside { at < length code.now }
-    requires few { length code.now ≤ 8192 }
+    requires few { length code.now ≤ most_words }
     requires last { end ≡ end_of code.now }
     ensures { result ≡ s9 code.now at }
 {
@@ -200,7 +201,7 @@ fn breaks_s12(code: &[u64], at: usize) -> bool
 #[tactic(auto, unfolding(crate::specs::Rules::s13))]
 fn breaks_s13(code: &[u64], end: u32, at: usize) -> bool
     requires inside { at < length code.now }
-    requires few { length code.now ≤ 8192 }
+    requires few { length code.now ≤ most_words }
     requires last { end ≡ end_of code.now }
     ensures { result ≡ s13 code.now at }
 {
@@ -221,7 +222,7 @@ fn breaks_s27(code: &[u64], at: usize) -> bool
 #[tactic(auto, unfolding(crate::specs::Rules::flow_questions))]
 fn branch_fault(code: &[u64], end: u32, at: usize) -> Option<u8>
     requires inside { at < length code.now }
-    requires few { length code.now ≤ 8192 }
+    requires few { length code.now ≤ most_words }
     requires last { end ≡ end_of code.now }
     requires only { HasOnlyBranchFaults code.now at }
     ensures { result ≡ first_of (flow_questions code.now at) }
@@ -257,7 +258,7 @@ fn branch_fault(code: &[u64], end: u32, at: usize) -> Option<u8>
 #[tactic(auto, unfolding(crate::specs::Rules::flow_questions))]
 fn switch_fault(code: &[u64], end: u32, at: usize) -> Option<u8>
     requires inside { at < length code.now }
-    requires few { length code.now ≤ 8192 }
+    requires few { length code.now ≤ most_words }
     requires last { end ≡ end_of code.now }
     requires signal { s3 code.now at ≡ false }
     requires no_branch { HasNoBranchFaults code.now at }

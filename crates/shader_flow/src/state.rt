@@ -1,3 +1,4 @@
+//! What one walk over a shader finds of where it may go.
 /// What the rules need to know of where a shader may go.
 ///
 /// `end` is the index of its first program end, or the number of words where there is none. `targets` has a mark for each

@@ -1,5 +1,6 @@
 //! The checker's answer for a line, as text.
 ghost use Rattle.std.specs.Prelude.{◌≡◌, ◌<◌, ◌≤◌, length, vec_len};
+ghost use Rattle.field_words.specs.Sizes.{most_words};
 
 use field_words::{Steps, Stop};
 use qpu_isa::{Sample, ShaderInfo};
@@ -61,7 +62,7 @@ fn checked<L: Ledger>(
     code: &[u64],
     blank: Blank,
 ) -> Result<ShaderInfo, Stop<ShaderFault>>
-    requires few { length code.now ≤ 8192 }
+    requires few { length code.now ≤ most_words }
     requires name { blank.name ≡ L.name }
     requires parts { blank.parts ≡ L.parts }
     requires some { 0 < blank.parts }

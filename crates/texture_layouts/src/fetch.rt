@@ -1,4 +1,4 @@
-// What is fetched of a texture for one pixel: its whole microtile, or in raster the pixel alone.
+//! What is fetched of a texture for one pixel: its whole microtile, or in raster the pixel alone.
 ghost use Rattle.std.specs.Prelude.{◌≡◌, ◌<◌, ◌≤◌, ◌^◌, false};
 ghost use Rattle.texture_layouts.specs.Surface.{IsPixelSize};
 ghost use Rattle.texture_layouts.specs.Fetch.{fetch_offset_of, fetch_size_of};

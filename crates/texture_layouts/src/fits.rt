@@ -1,4 +1,4 @@
-// The rules of textures, U2 to U9.
+//! The rules of textures, U2 to U9.
 ghost use Rattle.std.specs.Prelude.{◌≡◌, OnOk, false, slice_index};
 ghost use Rattle.field_words.specs.Questions.{first_of};
 ghost use Rattle.texture_layouts.specs.Fits.{has_two_strides, lacks_stride, is_unlisted, has_face_past, has_level_below, has_child_image, texture_questions, direct_questions, AnswersFirst, AnswersLeast, IsInBuffer};

@@ -1,4 +1,4 @@
-// The levels of a texture, each of half the sides of the one before.
+//! The levels of a texture, each of half the sides of the one before.
 ghost use Rattle.std.specs.Prelude.{◌≡◌, ◌<◌, ◌≤◌, ◌^◌};
 ghost use Rattle.texture_layouts.specs.Surface.{IsPixelSize};
 ghost use Rattle.texture_layouts.specs.Level.{power_above, level_side_of, level_tiling_of, image_size_of, level_size_of};

@@ -1,4 +1,4 @@
-// Where the microtiles and pixels of a surface lie.
+//! Where the microtiles and pixels of a surface lie.
 ghost use Rattle.std.specs.Prelude.{◌≡◌, ◌<◌, ◌≤◌, ◌+◌, ◌^◌};
 ghost use Rattle.texture_layouts.specs.Surface.{IsPixelSize};
 ghost use Rattle.texture_layouts.specs.Place.{aligned_across, microtiles_across, microtile_number, microtile_place_of, place_in_microtile, raster_place, tiled_place, pixel_place_of, IsMicrotileInside, IsMicrotileApart, IsPixelInside, IsPixelApart};

@@ -1,4 +1,4 @@
-// Textures, as their set-up words describe them.
+//! Textures, as their set-up words describe them.
 ghost use Rattle.std.specs.Prelude.{◌≡◌, ◌<◌, ◌≤◌, ◌+◌, ◌*◌, ◌^◌, ◌⊎◌, true, false, slice_index};
 ghost use Rattle.std.specs.Option.{SomeIff};
 ghost use Rattle.texture_layouts.specs.Surface.{IsPixelSize};

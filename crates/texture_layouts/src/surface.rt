@@ -1,4 +1,4 @@
-// The tilings, and the sizes that surfaces take in memory.
+//! The tilings, and the sizes that surfaces take in memory.
 ghost use Rattle.std.specs.Prelude.{◌≡◌, ◌<◌, ◌≤◌, ◌^◌};
 ghost use Rattle.texture_layouts.specs.Surface.{IsPixelSize, microtile_width_of, microtile_height_of, tiling_for, unit_across, unit_down, size_for};
 

@@ -1,4 +1,4 @@
-// Worked examples of the rules of textures and of where their levels lie.
+//! Worked examples of the rules of textures and of where their levels lie.
 use super::*;
 use crate::level::{level_side, level_tiling};
 

@@ -1,3 +1,4 @@
+//! Files that are thin, and files that a part is changed of.
 use super::*;
 use buffer_table::Regions;
 use std::test::Fail;
