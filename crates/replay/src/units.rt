@@ -9,9 +9,9 @@ use machine::Machine;
 /// How many units a machine has.
 const UNITS: u8 = 38;
 
-/// Unit `n`: the binner, the renderer, and then each processor with its two TMUs.
+/// Unit `n`: the binner, the renderer, and then each processor with its two TMUs. It takes no memory.
 #[tactic(auto, unfolding(crate::specs::Units::unit_at))]
-pub(crate) fn unit_at(n: u8) -> Actor
+pub fn unit_at(n: u8) -> Actor
     ensures { result ≡ unit_at n }
 {
     if n == 0 {
@@ -30,8 +30,8 @@ pub(crate) fn unit_at(n: u8) -> Actor
     }
 }
 
-/// How many words a step of this unit gets.
-pub(crate) fn word_count(unit: Actor) -> u32
+/// How many choice words a step of this unit gets. It takes no memory.
+pub fn word_count(unit: Actor) -> u32
     ensures value { result ≡ word_count unit }
     ensures most { result ≤ 4096 }
 {
@@ -43,9 +43,9 @@ pub(crate) fn word_count(unit: Actor) -> u32
     }
 }
 
-/// The numbers of the units that may step.
+/// The numbers of the units that may step, the least first. It takes no memory.
 #[tactic(auto, using(crate::proofs::Order::units_more))]
-pub(crate) fn enabled_units(machine: &Machine) -> ArrayVec<u8, 38>
+pub fn enabled_units(machine: &Machine) -> ArrayVec<u8, 38>
     ensures { result.items ≡ enabled_units machine.now }
 {
     let mut units = ArrayVec::new();
