@@ -1,3 +1,7 @@
 //! What an accepted job file begins with: from the rules and from what emission comes to, all that the laws of the machine's
 //! units ask.
 #![tactic(auto)]
+
+mod records;
+
+pub use records::records_launch;

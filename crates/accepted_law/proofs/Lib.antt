@@ -1,0 +1,4 @@
+pub mod Streams
+pub mod Uses
+pub mod Homes
+pub mod Programs
