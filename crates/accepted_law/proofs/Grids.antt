@@ -1,5 +1,5 @@
 -- A binner's grid has fewer than 256 tiles each way: its two numbers are bytes of a packet.
-use Rattle.std.proofs.Common.{◌≡◌, ◌<◌, ℕ, zero, suc, ◌==◌, Bool, true, false, List, [], ◌∷◌, length, take, drop, get_or, Option, Some, None, if◌then◌else◌, arith, lit<}
+use Rattle.std.proofs.Common.{◌<◌, ℕ, zero, suc, ◌==◌, Bool, true, false, List, [], ◌∷◌, length, drop, Option, Some, if◌then◌else◌, lit<}
 use Rattle.field_words.specs.Words.{IsBytes}
 use Rattle.field_words.proofs.Numbers.{front_bytes, rest_bytes}
 use Rattle.packets.specs.Length.{bin_taken}
@@ -12,12 +12,8 @@ AreBytes [] = Unit {0}
 AreBytes (packet ∷ packets) = IsBytes packet × AreBytes packets
 
 -- Packets are parts of the list.
-none_are : (i : ℕ) → get_or [] i 0 < 256
-none_are zero = lit< tt
-none_are (suc i) = lit< tt
-
 behind_by : (halts : Bool) (n : ℕ) (bytes : List ℕ) → IsBytes bytes → IsBytes (if halts then [] else drop n bytes)
-behind_by true n bytes are = none_are
+behind_by true n bytes are = λ i. lit< tt
 behind_by false n bytes are = rest_bytes n bytes are
 
 cut_bytes : (n : ℕ) (bytes : List ℕ) → IsBytes bytes → AreBytes (cut n bytes)

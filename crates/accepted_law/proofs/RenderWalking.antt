@@ -1,26 +1,23 @@
 -- The renderer list of a file in which no rule stands walks.
-use Rattle.std.proofs.Common.{◌≡◌, ◌≤◌, ◌<◌, ◌⊎◌, ℕ, zero, suc, ◌+◌, ◌*◌, ◌^◌, ◌||◌, Bool, true, false, nat_le, List, [], ◌∷◌, ◌++◌, Option, Some, None, if◌then◌else◌, refl, sym, ap, subst, arith, ◌∙◌, inl, lit<}
+use Rattle.std.proofs.Common.{◌≡◌, ◌≤◌, ◌<◌, ℕ, zero, suc, ◌+◌, ◌||◌, Bool, true, false, nat_le, List, ◌++◌, Option, Some, None, if◌then◌else◌, refl, arith, inl, lit<}
 use Rattle.field_words.specs.Questions.{first_of, each}
 use Rattle.field_words.proofs.Questions.{none_stands}
 use Rattle.field_words.proofs.Nones.{front_none}
 use Rattle.buffer_table.specs.Table.{TableModel, items_of, item_at}
 use Rattle.buffer_table.specs.Sound.{IsSoundItem}
-use Rattle.shader_records.specs.Named.{IsDataIn}
-use Rattle.bin_list.specs.Packets.{passed}
-use Rattle.bin_list.specs.Seen.{seen_before}
 use Rattle.job_format.specs.declared.file.Frame.{Frame as JobFrame}
 use Rattle.job_format.specs.Model.{FileModel}
 use Rattle.machine_plan.specs.Regions.{Rights, LiesIn}
 use Rattle.packets.specs.Packet.{slots_text}
-use Rattle.render_list.specs.Frame.{place_at, surface_at, is_full, full_place, FitsAt, IsTileSet, IsSetupFor}
+use Rattle.render_list.specs.Frame.{place_at, surface_at, FitsAt, IsTileSet, IsSetupFor}
 use Rattle.render_list.specs.Surfaces.{is_outside_grid, frame_questions, surface_questions, whole_questions, surface_faults, place_in, places_of}
 use Rattle.render_list.specs.Text.{render_slots, render_text}
 use Rattle.render_list.proofs.Checked.{set_of, none_at, is_setup}
-use Rattle.render_walks.specs.Walks.{WalksTo, OwesFine, IsBetween, at_start, AllFit, PlacesFit, GridFits}
+use Rattle.render_walks.specs.Walks.{WalksTo, OwesFine, at_start, GridFits}
 use Rattle.render_walks.proofs.Walking.{render_walks}
 use Rattle.render_walks.proofs.Numbers.{render_fits}
 use Rattle.job_check.specs.Shaders.{table_of}
-use Rattle.job_check.specs.Jobs.{job_of, has_bin, grid_from, grid_of, slot_of, places_in, render_list_of}
+use Rattle.job_check.specs.Jobs.{job_of, has_bin, grid_of, slot_of, places_in, render_list_of}
 use Rattle.qpu_law.specs.Asks.{IsOneOf}
 use Rattle.qpu_law.proofs.Reading.{one_inside}
 use Rattle.list_machine.specs.declared.state.Config.{Config}
@@ -30,10 +27,10 @@ use Rattle.list_law.specs.Start.{frame_of}
 use Rattle.list_law.proofs.Start.{walks_to_weaker, head_sets}
 use Rattle.accepted_law.specs.Holdings.{plain_of, job_rights, across_of, down_of, config_for, frame_for}
 use Rattle.accepted_law.specs.Settled.{Settled, Grounds}
-use Rattle.accepted_law.specs.Parts.{RenderWalks, RendersWalk}
-use Rattle.accepted_law.proofs.Frames.{IsRoom, HasRoom, IsSurfaceAt, AreSurfacesAt, surface_is}
+use Rattle.accepted_law.specs.Parts.{RendersWalk}
+use Rattle.accepted_law.proofs.Frames.{HasRoom, IsSurfaceAt, AreSurfacesAt, surface_is}
 use Rattle.accepted_law.proofs.Grids.{across_small, down_small}
-use Rattle.accepted_law.proofs.Tiles.{IsGridFor, HasGridFor, names_none_at, tile_fine}
+use Rattle.accepted_law.proofs.Tiles.{HasGridFor, names_none_at, tile_fine}
 
 -- The job may write each part of a Plain buffer that its handles name.
 may_write : (f : FileModel) (m : List ℕ) (place size p n : ℕ) → Grounds f m → IsOneOf (plain_of f 0) place size → place ≤ p → p + n ≤ place + size → MayWrite (job_rights f 0) p n
@@ -78,10 +75,6 @@ unfolding is_outside_grid
 tiles_below frame across down none =
     let outside : (nat_le across frame.max_x || nat_le down frame.max_y) ≡ false = none in
     (grind (arith, outside), grind (arith, outside))
-
-grid_by : (b : Bool) (c : Config) (frame : JobFrame) (slot across down : ℕ) → IsGridFor c frame slot (across, down) → HasGridFor c frame slot (if b then Some (across, down) else None)
-grid_by true c frame slot across down is = is
-grid_by false c frame slot across down is = tt
 
 has_grid : (b : Bool) (f : FileModel) (frame : JobFrame) → is_outside_grid frame (if b then Some (across_of f 0, down_of f 0) else None) ≡ false
     → HasGridFor (config_for f 0) frame (slot_of f 0) (if b then Some (across_of f 0, down_of f 0) else None)

@@ -1,17 +1,17 @@
 -- Each packet of a tile may be done, where each surface lies in its buffer and the tile is one of the binner's grid.
-use Rattle.std.proofs.Common.{◌≡◌, ◌≤◌, ◌<◌, ◌⊎◌, inl, inr, ℕ, ◌+◌, ◌*◌, ◌%◌, ◌==◌, ◌&&◌, not, Bool, true, false, List, Option, Some, None, if◌then◌else◌, refl, sym, ap, subst, arith, ◌∙◌, bit_or, lit<}
+use Rattle.std.proofs.Common.{◌≡◌, ◌≤◌, ◌<◌, inl, inr, ℕ, ◌+◌, ◌*◌, ◌%◌, ◌==◌, ◌&&◌, not, Bool, true, false, List, Option, Some, None, if◌then◌else◌, refl, sym, ap, subst, arith, bit_or, lit<}
 use Rattle.std.proofs.Math.Nat.{mul-le-mul_right}
 use Rattle.std.specs.Int.Bits.{or_zero_r}
 use Rattle.job_format.specs.declared.file.Frame.{Frame as JobFrame}
 use Rattle.job_format.specs.declared.file.Surface.{Surface}
 use Rattle.packets.specs.declared.packet.Packet.{Packet}
-use Rattle.packets.specs.declared.packet.Packet.TheVariants.{WaitOnSemaphore, StoreTileColor, StoreTileColorAndEnd, LoadFullResolution, StoreTileBuffer, LoadTileBuffer, TileCoordinates}
+use Rattle.packets.specs.declared.packet.Packet.TheVariants.{WaitOnSemaphore, StoreTileColor, StoreTileColorAndEnd, LoadFullResolution, LoadTileBuffer, TileCoordinates}
 use Rattle.field_words.specs.Words.{bits_of}
 use Rattle.texture_layouts.specs.declared.surface.Tiling.{Tiling}
 use Rattle.texture_layouts.specs.Surface.{size_for}
 use Rattle.tile_memory.specs.Slots.{alloc_offset}
 use Rattle.machine_plan.specs.Regions.{Rights, Inside}
-use Rattle.render_list.specs.Frame.{place_at, surface_at, is_full, full_tile, full_place, is_first_tile, is_last_tile}
+use Rattle.render_list.specs.Frame.{place_at, surface_at, is_full, full_place, is_first_tile, is_last_tile}
 use Rattle.render_list.specs.Surfaces.{tiling_number, tiling_named, write_pixel, general_pixel, pixel_size_of}
 use Rattle.render_list.specs.Text.{number_where, packet_where, idle_store, color_place, color_bits, load_packet, load_slot, wait_slot, list_place, list_slot, full_store, full_store_slot, zs_store, zs_store_slot, color_store, color_store_slot, is_there, more_after_multisample_color, more_after_multisample_zs, some_before_zs, some_before_color, load_slots, list_slots, write_slots, tile_slots}
 use Rattle.render_walks.specs.Walks.{IsSlotFine, AreFine}
@@ -22,9 +22,9 @@ use Rattle.list_machine.specs.Blocks.{tiles_of}
 use Rattle.list_machine.specs.Cover.{frame_style, general_style}
 use Rattle.list_machine.specs.Surfaces.{aligned, names_none, whole_size}
 use Rattle.list_law.specs.May.{MayWrite}
-use Rattle.list_law.specs.Rendering.{StoresSurface, LoadsSurface, IsTileList, MayDo}
+use Rattle.list_law.specs.Rendering.{StoresSurface, LoadsSurface, MayDo}
 use Rattle.list_law.specs.Start.{frame_of}
-use Rattle.accepted_law.proofs.Frames.{IsPlainAt, IsFullAt, IsSurfaceAt, AreSurfacesAt, IsStyle, aligned_or, aligned_same, style_kept, frame_style_is, general_style_is}
+use Rattle.accepted_law.proofs.Frames.{IsPlainAt, IsSurfaceAt, AreSurfacesAt, IsStyle, aligned_or, aligned_same, style_kept, frame_style_is, general_style_is}
 
 -- The machine's frame, by the place of the surface that colour is written to.
 abbrev pub head : JobFrame → Option ℕ → Frame
