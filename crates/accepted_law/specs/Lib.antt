@@ -1,3 +1,4 @@
 pub mod Holdings
 pub mod Settled
 pub mod Parts
+pub mod Texts

@@ -62,7 +62,7 @@ pub record Grounds (f : FileModel) (m : List ℕ) : Type 0 where
   pub settled : Settled f
   pub holds : Holds f m
   pub ends : ListsEnd f
-  pub data : (place size : ℕ) → IsDataIn (table_of f) (job_of f 0).handles place size → IsOneOf (plain_of f 0) place size
+  pub named_data : (place size : ℕ) → IsDataIn (table_of f) (job_of f 0).handles place size → IsOneOf (plain_of f 0) place size
   pub data_reads : (place size : ℕ) → IsOneOf (plain_of f 0) place size → IsOneOf (job_rights f 0).region place size
   pub data_writes : (place size : ℕ) → IsOneOf (plain_of f 0) place size → IsOneOf (job_rights f 0).writable place size
   pub data_page : (place size : ℕ) → IsOneOf (plain_of f 0) place size → place % page_size ≡ 0
