@@ -1,6 +1,5 @@
 -- The frame of a file in which no rule stands: its places are a setup for it, and the numbers of its renderer list fit their fields.
-use Rattle.std.proofs.Common.{◌≡◌, ℕ, zero, suc, ◌+◌, ◌*◌, ◌<◌, ◌≤◌, ◌^◌, Bool, true, false, if◌then◌else◌, List, [], ◌∷◌, Option, Some, None, length, refl, sym, ap, subst, arith, ◌∙◌, lit<}
-use Rattle.std.specs.List.{AllByRecursion}
+use Rattle.std.proofs.Common.{◌≡◌, ℕ, zero, suc, ◌+◌, ◌<◌, ◌≤◌, ◌^◌, Bool, true, false, if◌then◌else◌, List, Option, Some, None, refl, arith, lit<}
 use Rattle.field_words.specs.Questions.{first_of}
 use Rattle.field_words.specs.Words.{IsBytes}
 use Rattle.buffer_table.specs.Table.{TableModel, buffer_at}

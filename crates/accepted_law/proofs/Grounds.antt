@@ -1,5 +1,5 @@
 -- What the job's rights have, and what no job may write.
-use Rattle.std.proofs.Common.{◌≡◌, ◌⊎◌, inl, inr, ℕ, zero, suc, ◌+◌, ◌-◌, ◌*◌, ◌%◌, ◌<◌, ◌≤◌, Bool, true, false, not, ◌&&◌, nat_lt, nat_le, ◌==◌, if◌then◌else◌, List, [], ◌∷◌, ◌++◌, Option, Some, None, length, slice_index, refl, sym, ap, subst, arith, ◌∙◌, lit<, lit≤}
+use Rattle.std.proofs.Common.{◌≡◌, ◌⊎◌, inl, inr, ℕ, zero, suc, ◌+◌, ◌-◌, ◌*◌, ◌%◌, ◌<◌, ◌≤◌, Bool, true, false, not, ◌&&◌, nat_lt, ◌==◌, if◌then◌else◌, List, [], ◌∷◌, ◌++◌, Option, Some, None, length, slice_index, refl, sym, ap, subst, arith, ◌∙◌, lit≤}
 use Rattle.std.proofs.lemmas.Bool.{cases_lt, ltb-true, leb-true, eqb-true}
 use Rattle.field_words.specs.Sizes.{page_size, slot_size, most_memory}
 use Rattle.field_words.specs.Words.{rounded_up}
@@ -10,9 +10,8 @@ use Rattle.field_words.proofs.Nones.{front_none, rest_none, none_answered}
 use Rattle.buffer_table.specs.declared.buffer.Buffer.{Buffer}
 use Rattle.buffer_table.specs.declared.buffer.Kind.{Kind}
 use Rattle.buffer_table.specs.declared.buffer.Kind.TheVariants.{Plain, Code}
-use Rattle.buffer_table.specs.Table.{TableModel, tile_item, lists_item, buffer_item, buffer_at}
+use Rattle.buffer_table.specs.Table.{TableModel, buffer_at}
 use Rattle.buffer_table.specs.Handles.{is_named, is_plain, data_of, code_of}
-use Rattle.buffer_table.specs.Sound.{IsSound, AreApart}
 use Rattle.tile_memory.specs.Slots.{alloc_offset, slot_fits}
 use Rattle.bin_list.specs.declared.seen.Seen.{Seen}
 use Rattle.bin_list.specs.Packets.{packets, passed}
@@ -21,21 +20,20 @@ use Rattle.bin_list.specs.Rules.{GivenModel, given_of, asked, fault, end_questio
 use Rattle.bin_list.proofs.Facts.{has_grid, configured}
 use Rattle.shader_records.specs.Named.{IsDataIn}
 use Rattle.job_format.specs.Model.{FileModel}
-use Rattle.relocation.specs.declared.layout.Layout.{Layout}
 use Rattle.job_check.specs.Shaders.{table_of}
 use Rattle.job_check.specs.Jobs.{job_of, has_bin, slot_of, layout_of, bin_list_of, records_of, streams_of, render_list_of}
-use Rattle.job_check.specs.Emit.{memory_of, lengths_of}
+use Rattle.job_check.specs.Emit.{lengths_of}
 use Rattle.job_check.proofs.Layouts.{layout_numbers}
 use Rattle.machine_plan.specs.Memory.{bytes_at}
-use Rattle.machine_plan.specs.Regions.{Interval, LiesIn, Inside, Rights, rights_of, IsOutside}
+use Rattle.machine_plan.specs.Regions.{Interval, Inside, rights_of, IsOutside}
 use Rattle.list_machine.specs.Blocks.{tiles_of}
 use Rattle.list_law.specs.May.{MayWrite}
 use Rattle.list_law.specs.Binning.{Allocates}
 use Rattle.qpu_law.specs.Asks.{IsOneOf}
 use Rattle.qpu_law.proofs.Reading.{one_inside}
 use Rattle.machine_law.specs.Begins.{IsFixed, TextBegins}
-use Rattle.accepted_law.specs.Holdings.{interval, buffer_interval, interval_where, named_buffers, plain_of, codes_of, lists_in, lists_of, slot_in, job_rights, file_rights, start_by, across_of, down_of, config_for}
-use Rattle.accepted_law.specs.Settled.{Settled, Holds, ListsEnd, Grounds}
+use Rattle.accepted_law.specs.Holdings.{interval, buffer_interval, interval_where, named_buffers, plain_of, codes_of, lists_of, slot_in, job_rights, file_rights, start_by, across_of, down_of, config_for}
+use Rattle.accepted_law.specs.Settled.{Settled, ListsEnd, Grounds}
 use Rattle.accepted_law.specs.Parts.{FilesGround, FilesAllocate}
 use Rattle.accepted_law.specs.Texts.{BinTextsBegin, RenderTextsBegin}
 use Rattle.accepted_law.proofs.Placing.{IsClear}
@@ -56,7 +54,7 @@ both_lists : (front rest : List Interval) (place size : ℕ) → IsOneOf (front 
 both_lists [] rest place size one = inr one
 both_lists (first ∷ front) rest place size (inl is) = inl (inl is)
 both_lists (first ∷ front) rest place size (inr other) =
-    elim (both_lists front rest place size other) [ | inl here ↦ inl (inr here) | inr there ↦ inr there ]
+    elim (both_lists front rest place size other) [ inl here ↦ inl (inr here) | inr there ↦ inr there ]
 
 -- The buffer that a handle names is among those of all handles, and each of those is named by one.
 where_some : (buffers : List Buffer) (found : Option ℕ) (number : ℕ) → found ≡ Some number
@@ -249,7 +247,7 @@ other_kind f one other code plain same =
     cc
 
 less_by : (m n : ℕ) → m ≤ n → (m ≡ n → ⊥) → m < n
-less_by m n upto differ = elim (cases_lt m n) [ | inl less ↦ less | inr past ↦ absurd (differ (omega (arith, upto, past))) ]
+less_by m n upto differ = elim (cases_lt m n) [ inl less ↦ less | inr past ↦ absurd (differ (omega (arith, upto, past))) ]
 
 two_apart : (f : FileModel) → Settled f → (one other : ℕ) → one < length f.buffers → other < length f.buffers → (one ≡ other → ⊥)
     → ((buffer_at f.buffers other).place + (buffer_at f.buffers other).size ≤ (buffer_at f.buffers one).place)

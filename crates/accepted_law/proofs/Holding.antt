@@ -1,28 +1,25 @@
 -- The memory that a settled file is emitted as holds its contents and its lists.
-use Rattle.std.proofs.Common.{◌≡◌, ◌⊎◌, inl, inr, ℕ, zero, suc, ◌+◌, ◌*◌, ◌<◌, ◌≤◌, Bool, true, false, List, [], ◌∷◌, ◌++◌, None, length, get_or, map, slice_index, refl, sym, ap, subst, arith, ◌∙◌}
+use Rattle.std.proofs.Common.{◌≡◌, ◌⊎◌, inl, inr, ℕ, ◌+◌, ◌<◌, ◌≤◌, Bool, true, false, List, [], ◌∷◌, ◌++◌, None, length, get_or, slice_index, refl, sym, ap, subst, arith, ◌∙◌}
 use Rattle.std.specs.List.{AllByRecursion}
-use Rattle.std.proofs.lemmas.Bool.{cases_Bool}
-use Rattle.std.proofs.lemmas.List.{get_or-map, length-map, get_or_default}
+use Rattle.std.proofs.lemmas.List.{get_or-map}
 use Rattle.field_words.specs.Questions.{first_of, answered}
 use Rattle.field_words.proofs.Nones.{front_none}
 use Rattle.field_words.specs.Words.{IsBytes}
 use Rattle.field_words.specs.Writes.{Part, placed, zeros}
 use Rattle.buffer_table.specs.declared.buffer.Buffer.{Buffer}
-use Rattle.buffer_table.specs.Table.{lists_item, buffer_item, buffer_at, past_end}
-use Rattle.buffer_table.specs.Sound.{IsSound, AreApart}
+use Rattle.buffer_table.specs.Table.{buffer_at, past_end}
 use Rattle.machine_plan.specs.Memory.{bytes_at}
 use Rattle.bin_list.specs.Packets.{passed}
 use Rattle.bin_list.specs.Seen.{seen_before}
 use Rattle.bin_list.specs.Rules.{given_of, asked, fault, end_questions, questions_of, bin_questions}
 use Rattle.bin_list.specs.Emitted.{bin_text}
 use Rattle.shader_records.specs.Emitted.{streams_place}
-use Rattle.shader_records.specs.Emission.{emitted_records, emitted_uniforms}
 use Rattle.render_list.specs.Text.{render_slots, render_text}
-use Rattle.job_format.specs.File.{IsWellFormed, Fits}
+use Rattle.job_format.specs.File.{IsWellFormed}
 use Rattle.job_format.specs.Model.{FileModel}
 use Rattle.job_check.specs.Shaders.{table_of, content_of}
 use Rattle.job_check.specs.Jobs.{job_of, has_bin, grid_of, slot_of, places_in, input_for, layout_of, bin_list_of, records_of, streams_of, render_list_of}
-use Rattle.job_check.specs.Emit.{PartsFit, ContentsFit, content_parts, part, moved, list_parts, later_parts, memory_parts, memory_of}
+use Rattle.job_check.specs.Emit.{PartsFit, content_parts, part, list_parts, later_parts, memory_parts, memory_of}
 use Rattle.job_check.proofs.Codes.{as_many}
 use Rattle.job_check.proofs.Layouts.{layout_numbers, lists_inside, layout_apart}
 use Rattle.job_check.proofs.Windows.{length_placed}
@@ -30,7 +27,7 @@ use Rattle.job_check.proofs.Emission.{placed-append, length_zeros, contents_fit}
 use Rattle.job_check.proofs.Views.{no_bin_list, no_records, no_streams, records_within, streams_within, records_are, streams_are, list_length}
 use Rattle.accepted_law.specs.Settled.{Settled, Holds, ListsEnd}
 use Rattle.accepted_law.proofs.ByteTexts.{bytes_none, bytes_zeros, bytes_placed, bytes_passed, bytes_texts, bytes_records, bytes_uniforms, bytes_slots}
-use Rattle.accepted_law.proofs.Placing.{bytes_are, IsClear, Misses, placed_kept, placed_part, fit_append, contents_parts_fit, content_stands}
+use Rattle.accepted_law.proofs.Placing.{bytes_are, IsClear, Misses, placed_part, fit_append, contents_parts_fit, content_stands}
 use Rattle.accepted_law.proofs.BinRoom.{list_within}
 use Rattle.accepted_law.proofs.Tables.{buffer_sound, buffers_apart, lists_apart}
 use Rattle.accepted_law.proofs.FrameFine.{frame_setup, frame_fits}

@@ -1,6 +1,6 @@
 -- A file in which no rule stands settles.
-use Rattle.std.proofs.Common.{◌≡◌, ℕ, zero, suc, ◌+◌, ◌*◌, ◌%◌, ◌==◌, ◌<◌, ◌≤◌, inl, inr, Bool, true, false, not, nat_lt, if◌then◌else◌, List, [], ◌∷◌, ◌++◌, Option, Some, None, IfSome, is_some, length, get_or, map, refl, sym, ap, subst, arith, ◌∙◌, zero-add}
-use Rattle.std.specs.List.{AllByRecursion, range_with_len}
+use Rattle.std.proofs.Common.{◌≡◌, ℕ, ◌%◌, ◌==◌, ◌<◌, ◌≤◌, inl, inr, Bool, true, false, not, if◌then◌else◌, List, [], ◌∷◌, ◌++◌, Some, None, is_some, length, get_or, refl, sym, ap, subst, arith, ◌∙◌, zero-add}
+use Rattle.std.specs.List.{AllByRecursion}
 use Rattle.std.proofs.lemmas.Bool.{ltb-false, cases_lt}
 use Rattle.std.proofs.lemmas.List.{get_or_past}
 use Rattle.std.proofs.lemmas.List.FromFn.{length-map-range_with_len, get_or-map-range_with_len}
@@ -33,7 +33,6 @@ use Rattle.job_check.specs.Jobs.{no_job, job_of, has_bin, grid_of, input_for, la
 use Rattle.job_check.specs.Faults.{table_refused, table_stage, shader_refused, shader_questions_in, shader_stage, shaders_stage, handle_refused, handles_stage, bin_refused, bin_stage, record_refused, records_stage, surface_refused, surfaces_stage, layout_stage, lists_stages, job_stages, file_stages}
 use Rattle.job_check.proofs.Jobs.{job_limits}
 use Rattle.accepted_law.specs.Parts.{FilesSettle}
-use Rattle.accepted_law.specs.Settled.{Settled}
 
 -- no rule of a stage that is asked where a test is true
 asked_if : {F : Type 0} (b : Bool) (rules : List (Question F)) → b ≡ true → first_of (if b then rules else []) ≡ None → first_of rules ≡ None

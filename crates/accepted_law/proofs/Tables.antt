@@ -1,11 +1,10 @@
 -- Buffers and regions of a sound memory table.
-use Rattle.std.proofs.Common.{◌≡◌, ◌⊎◌, inl, inr, ℕ, suc, ◌+◌, ◌*◌, ◌%◌, ◌<◌, ◌≤◌, List, length, get_or, map, refl, sym, ap, subst, arith, ◌∙◌}
+use Rattle.std.proofs.Common.{◌≡◌, inl, inr, ℕ, suc, ◌+◌, ◌*◌, ◌<◌, ◌≤◌, List, length, ap, subst, arith, ◌∙◌}
 use Rattle.std.proofs.lemmas.Bool.{cases_lt}
-use Rattle.std.proofs.lemmas.List.{get_or-map, get_or_default, get_or_past, length-map}
-use Rattle.field_words.specs.Sizes.{page_size, slot_size, most_memory}
+use Rattle.std.proofs.lemmas.List.{get_or-map, get_or_past}
+use Rattle.field_words.specs.Sizes.{slot_size, most_memory}
 use Rattle.buffer_table.specs.declared.buffer.Buffer.{Buffer}
 use Rattle.buffer_table.specs.declared.buffer.Regions.{Regions}
-use Rattle.buffer_table.specs.declared.item.Item.{Item}
 use Rattle.buffer_table.specs.Table.{items_of, item_at, no_item, lists_item, tile_item, buffer_item, buffer_at, past_end}
 use Rattle.buffer_table.specs.Sound.{IsSound, IsSoundItem, AreApart}
 use Rattle.buffer_table.proofs.Sounds.{length_items}
