@@ -6,3 +6,4 @@ pub mod FrameFine
 pub mod Settling
 pub mod Holding
 pub mod Grounds
+pub mod Joining

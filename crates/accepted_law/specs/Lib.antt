@@ -2,3 +2,4 @@ pub mod Holdings
 pub mod Settled
 pub mod Parts
 pub mod Texts
+pub mod Whole

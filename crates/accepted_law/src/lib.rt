@@ -3,5 +3,7 @@
 #![tactic(auto)]
 
 mod memory;
+mod whole;
 
 pub use memory::{bin_texts_begin, files_allocate, files_ground, files_settle, render_texts_begin};
+pub use whole::{beginnings_save, files_join};
