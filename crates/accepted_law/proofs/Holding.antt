@@ -195,10 +195,6 @@ clear_of : (p n q size i : ℕ) → (p + n ≤ q) ⊎ (q + size ≤ p) → (m : 
 clear_of p n q size i (inl before) m front below = inl (omega (arith, before, below))
 clear_of p n q size i (inr behind) m front below = inr (omega (arith, behind, front))
 
-turned : (p n q m : ℕ) → (p + n ≤ q) ⊎ (q + m ≤ p) → (q + m ≤ p) ⊎ (p + n ≤ q)
-turned p n q m (inl before) = inr before
-turned p n q m (inr behind) = inl behind
-
 clear_later : (f : FileModel) → Settled f → (number i : ℕ) → number < length f.buffers → i < (buffer_at f.buffers number).size
     → (j : ℕ) → number < j → j < length f.buffers → IsClear ((buffer_at f.buffers number).place + i) (buffer_at f.buffers j).place (length (content_of f j))
 clear_later f s number i inside below j less there =

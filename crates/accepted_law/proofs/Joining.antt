@@ -11,7 +11,9 @@ use Rattle.accepted_law.specs.Parts.{BinWalks, RenderWalks}
 use Rattle.accepted_law.specs.Texts.{start_of}
 use Rattle.accepted_law.specs.Whole.{FilesJoin, BeginningsSave}
 use Rattle.accepted_law.proofs.Settling.{files_settle_law}
-use Rattle.accepted_law.proofs.Grounds.{files_ground_law, files_allocate_law, bin_texts_begin_law, render_texts_begin_law}
+use Rattle.accepted_law.proofs.Grounds.{files_ground_law}
+use Rattle.accepted_law.proofs.Allocating.{files_allocate_law}
+use Rattle.accepted_law.proofs.ListTexts.{bin_texts_begin_law, render_texts_begin_law}
 
 pub files_join_law : FilesJoin
 files_join_law bins renders f well fits none =

@@ -6,4 +6,6 @@ pub mod FrameFine
 pub mod Settling
 pub mod Holding
 pub mod Grounds
+pub mod Allocating
+pub mod ListTexts
 pub mod Joining
