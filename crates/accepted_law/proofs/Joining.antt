@@ -7,20 +7,23 @@ use Rattle.machine_law.specs.Begins.{TextBegins}
 use Rattle.machine_law.proofs.Begins.{jobs_safe_law}
 use Rattle.accepted_law.specs.Holdings.{file_rights, file_starts, config_for, frame_for}
 use Rattle.accepted_law.specs.Settled.{Grounds}
-use Rattle.accepted_law.specs.Parts.{BinWalks, RenderWalks}
+use Rattle.accepted_law.specs.Parts.{BinWalks, RenderWalks, FilesBegin}
 use Rattle.accepted_law.specs.Texts.{start_of}
-use Rattle.accepted_law.specs.Whole.{FilesJoin, BeginningsSave}
+use Rattle.accepted_law.specs.Whole.{FilesSafe}
 use Rattle.accepted_law.proofs.Settling.{files_settle_law}
 use Rattle.accepted_law.proofs.Grounds.{files_ground_law}
 use Rattle.accepted_law.proofs.Allocating.{files_allocate_law}
+use Rattle.accepted_law.proofs.Programs.{records_launch_law}
+use Rattle.accepted_law.proofs.BinWalking.{bins_walk_law}
+use Rattle.accepted_law.proofs.RenderWalking.{renders_walk_law}
 use Rattle.accepted_law.proofs.ListTexts.{bin_texts_begin_law, render_texts_begin_law}
 
-pub files_join_law : FilesJoin
-files_join_law bins renders f well fits none =
+pub files_begin_law : FilesBegin
+files_begin_law f well fits none =
     let m : List ℕ = memory_of f in
     let grounds : Grounds f m = files_ground_law f (files_settle_law f well fits none) in
-    let bin : BinWalks f m = bins f m grounds in
-    let render : RenderWalks f = renders f m grounds in
+    let bin : BinWalks f m = bins_walk_law records_launch_law f m grounds in
+    let render : RenderWalks f = renders_walk_law f m grounds in
     let bin_begins = bin_texts_begin_law f m grounds in
     let render_begins = render_texts_begin_law f m grounds in
     record {
@@ -39,5 +42,5 @@ files_join_law bins renders f well fits none =
       render_len = render_begins.1 ∙ ap length render.text;
     }
 
-pub beginnings_save_law : BeginningsSave
-beginnings_save_law begins f well fits none = jobs_safe_law (file_rights f) (memory_of f) (file_starts f) (begins f well fits none, tt)
+pub files_safe_law : FilesSafe
+files_safe_law f well fits none = jobs_safe_law (file_rights f) (memory_of f) (file_starts f) (files_begin_law f well fits none, tt)

@@ -10,11 +10,6 @@ use Rattle.job_format.specs.Model.{FileModel}
 use Rattle.job_check.specs.Emit.{memory_of}
 use Rattle.job_check.specs.Faults.{file_stages}
 use Rattle.accepted_law.specs.Holdings.{file_rights, file_starts}
-use Rattle.accepted_law.specs.Parts.{BinsWalk, RendersWalk, FilesBegin}
-
--- Where the lists of every file walk, every accepted file begins as the laws of the machine's units ask.
-abbrev pub FilesJoin : Type 0
-FilesJoin = BinsWalk → RendersWalk → FilesBegin
 
 -- From the memory of an accepted file every run of the machine is safe, and bytes outside the job's region have no effect.
 abbrev pub FilesSafe : Type 0
@@ -22,7 +17,3 @@ FilesSafe =
     (f : FileModel) → IsWellFormed f → Fits f → first_of (file_stages f) ≡ None
     → Safe ready turn (file_rights f) (memory_of f) (units_start (file_starts f))
     × Same ready turn (file_rights f) (joined (file_rights f)) (memory_of f) (units_start (file_starts f))
-
--- So it is where every accepted file begins so.
-abbrev pub BeginningsSave : Type 0
-BeginningsSave = FilesBegin → FilesSafe
