@@ -1,10 +1,14 @@
 -- Texts that are appended one after the other.
-use Rattle.std.proofs.Common.{◌≡◌, ◌≤◌, ℕ, ◌+◌, List, ◌++◌, length, take, drop, None, Some, refl, sym, ap, ◌∙◌, append_assoc, length-append, subst, arith}
+use Rattle.std.proofs.Common.{◌≡◌, ◌≤◌, ℕ, ◌+◌, List, [], ◌++◌, length, take, drop, None, Some, refl, sym, ap, ◌∙◌, append_assoc, append-nil, length-append, subst, arith}
 use Rattle.std.proofs.lemmas.List.{take-append-le, take_at, drop_at}
 use Rattle.std.proofs.Math.Seq.{take-add}
-use Rattle.std.specs.Prelude.{Option}
+use Rattle.std.specs.Prelude.{Option, Result, Ok, Err, OnErr}
 use Rattle.std.specs.Io.KnownBytes.{Appends}
 use Rattle.job_io.specs.Traffic.{AppendsFront}
+
+pub none_appended : (held : Option (List ℕ)) → Appends held held []
+none_appended None = tt
+none_appended (Some bytes) = sym (append-nil bytes)
 
 pub both_appended : (before mid now : Option (List ℕ)) (x y : List ℕ) → Appends before mid x → Appends mid now y → Appends before now (x ++ y)
 both_appended None mid now x y first second = tt
@@ -26,3 +30,7 @@ front_of_second before mid (Some c) x y first (n, few, is) =
     let same : take (length x + n) (x ++ y) ≡ x ++ take n y =
     take-add (length x) n (x ++ y) ∙ ap (λ l. l ++ take n (drop (length x) (x ++ y))) (take_at x y (length x) refl) ∙ ap (λ l. x ++ take n l) (drop_at x y (length x) refl) in
     (length x + n, omega (arith, length-append x y, few), subst (Appends before (Some c)) (sym same) (both_appended before mid (Some c) x (take n y) first is))
+
+pub on_err : {X E : Type 0} {P : Type 0} (result : Result X E) → P → OnErr result P
+on_err (Ok value) p = tt
+on_err (Err error) p = p
