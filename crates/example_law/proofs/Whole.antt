@@ -5,6 +5,7 @@ use Rattle.field_words.specs.Questions.{Question, Ask, first_of, each, answered}
 use Rattle.field_words.proofs.Questions.{passes, answered_none}
 use Rattle.buffer_table.specs.Table.{table_questions, buffer_at}
 use Rattle.buffer_table.specs.Handles.{handles_questions}
+use Rattle.job_format.specs.declared.rule.Refusal.{Refusal}
 use Rattle.job_format.specs.File.{IsWellFormed, IsFileOf}
 use Rattle.job_format.specs.Faults.{format_questions}
 use Rattle.job_format.specs.Reading.{file_at}
@@ -175,3 +176,7 @@ example_accepted number bytes is =
     let again = read_again bytes (example number) is in
     both (answered format_refused (format_questions bytes)) (file_stages (file_at bytes)) (answered_none format_refused (format_questions bytes) again.0)
     (ap (λ f. first_of (file_stages f)) again.1 ∙ (example_faultless number).none)
+
+pub never_refused : (number : ℕ) (bytes : List ℕ) (refusal : Refusal) → IsFileOf bytes (example number) → first_of (file_questions bytes) ≡ Some refusal → ⊥
+unfolding refusal_of
+never_refused number bytes refusal is stands = let none = example_accepted number bytes is in cc
