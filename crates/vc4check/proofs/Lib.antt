@@ -1,2 +1,3 @@
 pub mod Safe
 pub mod Told
+pub mod Appending

@@ -4,3 +4,4 @@ pub mod Shader
 pub mod Words
 pub mod Replay
 pub mod Scripts
+pub mod Reply

@@ -1,6 +1,6 @@
 //! The command `gen`.
 ghost use Rattle.std.specs.Prelude.{◌≡◌, ◌≢◌, ◌≤◌, ◌<◌, ◌⊎◌, IfOk};
-ghost use Rattle.job_io.specs.Faults.{Rose};
+ghost use Rattle.job_io.specs.Faults.{Rose, LastCallFailed};
 ghost use Rattle.vc4check.specs.Answer.{text_of, IsExampleAnswer};
 ghost use Rattle.vc4check.specs.Run.{IsAnswered, IsCut};
 
@@ -34,6 +34,7 @@ fn example_answer(alloc: Global, number: u32) -> Result<Answer, NoMemory>
 pub fn make<K: Sink>(alloc: Global, number: u32, sink: &mut K) -> u8
     ensures statuses { (result ≡ 0) ⊎ ((result ≡ 4) ⊎ (result ≡ 5)) }
     ensures write { result ≡ 4 → Rose (K.faults sink.old) (K.faults sink.new) }
+    ensures write_last { result ≡ 4 → LastCallFailed K.held K.faults sink.old sink.new }
     ensures steady { result ≢ 4 → K.faults sink.new ≡ K.faults sink.old }
     ensures made { result < 2 → IsAnswered (IsExampleAnswer number) result (K.held sink.old) (K.held sink.new) }
     ensures cut { result ≡ 4 → IsCut (IsExampleAnswer number) (K.held sink.old) (K.held sink.new) }

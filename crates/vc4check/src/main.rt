@@ -10,6 +10,7 @@ mod example;
 #[cfg(test)]
 mod job_tests;
 mod replayed;
+mod reply;
 mod run;
 mod scripts;
 mod serve;

@@ -1,7 +1,7 @@
 //! The top call: from words and input to a status and a text.
 ghost use Rattle.std.specs.Prelude.{◌≡◌, ◌≢◌, ◌≤◌, ◌<◌, ◌⊎◌, ◌↔◌, ◌∷◌, [], ℕ, length, IfSome, Some, None};
 ghost use Rattle.std.specs.Io.KnownBytes.{IsAtEnd};
-ghost use Rattle.job_io.specs.Faults.{Rose};
+ghost use Rattle.job_io.specs.Faults.{Rose, LastCallFailed};
 ghost use Rattle.job_io.specs.Traffic.{count_taken};
 ghost use Rattle.job_format.specs.Model.{FileModel};
 ghost use Rattle.job_format.specs.Reading.{file_at};
@@ -43,7 +43,9 @@ pub fn run<S: Source, K: Sink>(
     ensures statuses { result ≤ 6 }
     ensures words { (result ≡ 2) ↔ (task_of (texts words.now.items) ≡ None) }
     ensures read { result ≡ 3 → Rose (S.faults source.old) (S.faults source.new) }
+    ensures read_last { result ≡ 3 → LastCallFailed S.left S.faults source.old source.new }
     ensures write { result ≡ 4 → Rose (K.faults sink.old) (K.faults sink.new) }
+    ensures write_last { result ≡ 4 → LastCallFailed K.held K.faults sink.old sink.new }
     ensures source_steady { result ≢ 3 → S.faults source.new ≡ S.faults source.old }
     ensures sink_steady { result ≢ 4 → K.faults sink.new ≡ K.faults sink.old }
     ensures complete { (Rose (S.faults source.old) (S.faults source.new) → ⊥) → (Rose (K.faults sink.old) (K.faults sink.new) → ⊥)
