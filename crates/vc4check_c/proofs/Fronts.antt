@@ -1,5 +1,5 @@
 -- Writing over a list from its front on.
-use Rattle.std.proofs.Common.{◌≡◌, ℕ, zero, suc, ◌+◌, ◌<◌, ◌≤◌, List, [], ◌∷◌, ◌++◌, length, get_or, map, take, drop, slice_set, ap, arith}
+use Rattle.std.proofs.Common.{◌≡◌, ℕ, zero, suc, ◌<◌, ◌≤◌, List, [], ◌∷◌, ◌++◌, length, get_or, map, take, drop, slice_set, ap, arith}
 
 -- one more of the front
 pub one_more : {X Y : Type 0} (f : X → Y) (xs : List X) (old : List Y) (k : ℕ) (x : X) → k < length xs → length xs ≤ length old → x ≡ get_or xs k x

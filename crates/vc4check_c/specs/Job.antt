@@ -8,7 +8,7 @@ use Rattle.job_format.specs.File.{IsFileOf}
 use Rattle.job_format.specs.Reading.{file_at}
 use Rattle.relocation.specs.declared.layout.Layout.{Layout}
 use Rattle.relocation.specs.declared.layout.Lengths.{Lengths}
-use Rattle.job_check.specs.Emit.{memory_of, lengths_of}
+use Rattle.job_check.specs.Emit.{memory_of, lengths_of, IsPlaced}
 use Rattle.job_check.specs.Jobs.{layout_of}
 use Rattle.job_check.specs.Whole.{all_questions, refusal_of}
 use Rattle.vc4check_c.specs.declared.job.JobAnswer.{JobAnswer}
@@ -57,10 +57,12 @@ refused_answer refusal = record {
   render_length = 0;
 }
 
--- No rule stands: the bytes spell their file, and this is told of it.
+-- No rule stands: the bytes spell their file, its memory is whole pages of at most 64 MiB in which the lists lie in their order, and
+-- this is told of it.
 pub record IsAccepted (bytes : List ℕ) (answer : JobAnswer) : Type 0 where
   pub none_stands : refusal_of bytes ≡ None
   pub spelled : IsFileOf bytes (file_at bytes)
+  pub placed : IsPlaced (memory_of (file_at bytes)) (layout_of (file_at bytes) 0)
   pub told : answer ≡ accepted_answer (length (memory_of (file_at bytes))) (layout_of (file_at bytes) 0) (lengths_of (file_at bytes) 0)
 
 -- A rule stands, none before it in the order of refusal does, and it is told.

@@ -133,6 +133,7 @@ pub extern "C" fn vc4check_check(
     ensures relocated { result ≡ 0 → block.new ≡ with_bytes block.old 0 (memory_of (file_at bytes.now)) }
     ensures refused { result ≡ 1 → IsRefused bytes.now (refusal_of bytes.now) answer.new }
     ensures short { result ≡ 2 → IsAccepted bytes.now answer.new }
+    ensures fits { result ≡ 0 → length (memory_of (file_at bytes.now)) ≤ length block.old }
     ensures room { result ≡ 2 → length block.old < length (memory_of (file_at bytes.now)) }
     ensures kept { result ≢ 0 → block.new ≡ block.old }
     ensures starved { result ≡ 3 → answer.new ≡ answer.old }

@@ -1,7 +1,9 @@
 //! The check of a shader alone.
-ghost use Rattle.std.specs.Prelude.{◌≡◌, ◌≢◌, ◌≤◌, ◌<◌, ◌+◌, ◌*◌, ◌↔◌, ◌⊎◌, ℕ, List, length, map};
+ghost use Rattle.std.specs.Prelude.{◌≡◌, ◌≢◌, ◌≤◌, ◌<◌, ◌+◌, ◌*◌, ◌↔◌, ◌⊎◌, ℕ, List, length, map, IfOk};
 ghost use Rattle.field_words.specs.Sizes.{most_words};
 ghost use Rattle.field_words.specs.Questions.{Answers, first_of};
+ghost use Rattle.qpu_isa.specs.Shader.{IsSoundShader};
+ghost use Rattle.job_check.specs.Shaders.{told_of};
 ghost use Rattle.shader_check.specs.Info.{IsInfo, samples_of};
 ghost use Rattle.shader_check.specs.Rules.{shader_questions};
 ghost use Rattle.uniform_stream.specs.Stream.{address_words_of};
@@ -111,6 +113,7 @@ fn refused(fault: &ShaderFault) -> ShaderAnswer
 }
 
 /// The checker's answer, with a counter of its own, which has no bytes at run time.
+#[tactic(auto, unfolding(job_check::specs::Shaders::told_of))]
 fn checked<L: Ledger>(
     alloc: Global,
     code: &[u64],
@@ -120,7 +123,8 @@ fn checked<L: Ledger>(
     requires name { blank.name ≡ L.name }
     requires parts { blank.parts ≡ L.parts }
     requires some { 0 < blank.parts }
-    ensures { Answers (shader_questions code.now) (IsInfo code.now) result }
+    ensures answers { Answers (shader_questions code.now) (IsInfo code.now) result }
+    ensures sound { IfOk result (λ _. IsSoundShader (told_of code.now)) }
 {
     check_shader(alloc, code, &mut Steps::<L>::new(blank))
 }
@@ -146,6 +150,7 @@ pub extern "C" fn vc4check_shader(
 ) -> u32
     ensures statuses { result ≤ 4 }
     ensures accepted { result ≡ 0 → IsAcceptedShader code.now answer.new }
+    ensures sound { result ≡ 0 → IsSoundShader (told_of code.now) }
     ensures samples { result ≡ 0 → samples.new ≡ with_front samples.old (map told_sample (samples_of code.now)) }
     ensures address_words { result ≡ 0 → address_words.new ≡ with_front address_words.old (address_words_of code.now) }
     ensures refused { result ≡ 1 → IsRefusedShader code.now (first_of (shader_questions code.now)) answer.new }
