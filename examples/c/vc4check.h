@@ -76,7 +76,7 @@ struct vc4check_shader_answer {
 
 /* One texture or memory access of a shader, in program order. */
 struct vc4check_sample {
-    uint32_t positions[4]; /* which uniforms its set-up words are, from 0; then VC4CHECK_NO_POSITION */
+    uint32_t positions[4]; /* which uniforms its set-up words are, from 0 and below `uniforms`; then VC4CHECK_NO_POSITION */
     uint32_t direct;       /* 1 where it reads memory at an address that the shader computed (position 0 has the base and
                               position 1 the bound), 0 where it asks a texture */
 };
