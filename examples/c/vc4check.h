@@ -81,6 +81,12 @@ struct vc4check_sample {
                               position 1 the bound), 0 where it asks a texture */
 };
 
+#if !defined(__cplusplus) && defined(__STDC_VERSION__) && __STDC_VERSION__ >= 201112L
+_Static_assert(sizeof(struct vc4check_answer) == 64, "as long as the library's");
+_Static_assert(sizeof(struct vc4check_shader_answer) == 16 + 2 * sizeof(size_t), "as long as the library's");
+_Static_assert(sizeof(struct vc4check_sample) == 20, "as long as the library's");
+#endif
+
 /* The version of the library: compare it with VC4CHECK_VERSION. */
 uint32_t vc4check_version(void);
 
