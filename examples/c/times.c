@@ -1,5 +1,6 @@
 /* times FILE COUNT: checks a job file so many times into one block, and prints the microseconds that one check takes, by the clock and
  * of processor time. */
+#define _POSIX_C_SOURCE 199309L
 #include <stdio.h>
 #include <stdlib.h>
 #include <time.h>
