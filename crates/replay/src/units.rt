@@ -9,9 +9,9 @@ use machine::Machine;
 /// How many processors a machine has.
 const PROCESSORS: u8 = 12;
 
-/// Unit `n`: the binner, the renderer, and then each processor with its two TMUs.
+/// Unit `n`: the binner, the renderer, and then each processor with its two TMUs. It takes no memory.
 #[tactic(auto, unfolding(crate::specs::Units::unit_at))]
-pub(crate) fn unit_at(n: u8) -> Actor
+pub fn unit_at(n: u8) -> Actor
     ensures { result ≡ unit_at n }
 {
     if n == 0 {
@@ -30,8 +30,8 @@ pub(crate) fn unit_at(n: u8) -> Actor
     }
 }
 
-/// How many words a step of this unit gets.
-pub(crate) fn word_count(unit: Actor) -> u32
+/// How many choice words a step of this unit gets. It takes no memory.
+pub fn word_count(unit: Actor) -> u32
     ensures value { result ≡ word_count unit }
     ensures most { result ≤ 4096 }
 {
@@ -59,9 +59,9 @@ fn put_enabled(units: &mut ArrayVec<u8, 38>, machine: &Machine, n: u8, unit: Act
     }
 }
 
-/// The numbers of the units that may step. Each kind is asked for itself, so that no number has to be taken apart.
+/// The numbers of the units that may step, the least first. It takes no memory. Each kind is asked for itself, so that no number has to be taken apart.
 #[tactic(auto, using(crate::proofs::Order::qpu_at, crate::proofs::Order::tmu0_at, crate::proofs::Order::tmu1_at, crate::proofs::Order::binner_at, crate::proofs::Order::renderer_at))]
-pub(crate) fn enabled_units(machine: &Machine) -> ArrayVec<u8, 38>
+pub fn enabled_units(machine: &Machine) -> ArrayVec<u8, 38>
     ensures { result.items ≡ enabled_units machine.now }
 {
     let mut units = ArrayVec::new();
