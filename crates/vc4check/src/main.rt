@@ -9,6 +9,9 @@ mod command;
 mod example;
 #[cfg(test)]
 mod job_tests;
+#[cfg(test)]
+mod picture_tests;
+mod pictures;
 mod replayed;
 mod run;
 mod scripts;
