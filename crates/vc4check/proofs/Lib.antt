@@ -1,3 +1,4 @@
+pub mod Counts
 pub mod Safe
 pub mod Told
 pub mod Appending

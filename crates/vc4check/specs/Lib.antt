@@ -1,4 +1,5 @@
 pub mod Answer
+pub mod Pictures
 pub mod Run
 pub mod Shader
 pub mod Words

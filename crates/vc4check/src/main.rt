@@ -12,6 +12,9 @@ mod hostile_tests;
 #[cfg(test)]
 mod job_tests;
 mod notice;
+#[cfg(test)]
+mod picture_tests;
+mod pictures;
 mod replayed;
 mod reply;
 mod run;
