@@ -1,3 +1,3 @@
-pub mod Safe
+pub mod Headline
 pub mod Told
 pub mod Appending

@@ -5,3 +5,4 @@ pub mod Words
 pub mod Replay
 pub mod Scripts
 pub mod Reply
+pub mod Headline
