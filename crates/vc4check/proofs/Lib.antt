@@ -1,4 +1,4 @@
 pub mod Counts
-pub mod Safe
+pub mod Headline
 pub mod Told
 pub mod Appending

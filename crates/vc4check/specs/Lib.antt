@@ -7,3 +7,4 @@ pub mod Replay
 pub mod Scripts
 pub mod Reply
 pub mod Notice
+pub mod Headline

@@ -3,15 +3,11 @@ ghost use Rattle.std.specs.Prelude.{◌≡◌, ◌≢◌, ◌≤◌, ◌<◌, �
 ghost use Rattle.std.specs.Io.KnownBytes.{IsAtEnd};
 ghost use Rattle.job_io.specs.Faults.{Rose, LastCallFailed};
 ghost use Rattle.job_io.specs.Traffic.{count_taken};
-ghost use Rattle.job_format.specs.Model.{FileModel};
-ghost use Rattle.job_format.specs.Reading.{file_at};
-ghost use Rattle.job_check.specs.Emit.{memory_of};
-ghost use Rattle.thin_job.specs.Shape.{IsThinFile, thin_of};
-ghost use Rattle.job_safety.specs.Safe.{AreSafe};
-ghost use Rattle.job_safety.specs.Thin.{thin_rights, thin_start};
 ghost use Rattle.vc4check.specs.declared.command.Command.{Command};
+ghost use Rattle.vc4check.specs.declared.command.Command.TheVariants.{Check};
 ghost use Rattle.vc4check.specs.declared.command.Task.TheVariants.{Read, Make};
 ghost use Rattle.vc4check.specs.Answer.{IsAnswer, IsExampleAnswer};
+ghost use Rattle.vc4check.specs.Headline.{IsSafelyAccepted, AcceptedMayRun};
 ghost use Rattle.vc4check.specs.Run.{IsAnswered, IsCut};
 ghost use Rattle.vc4check.specs.Words.{texts, task_of, limit_of};
 
@@ -33,6 +29,7 @@ use std::alloc::Global;
 /// | 4 | the sink failed | a front of the text of status 0 or 1 |
 /// | 5 | want of memory | nothing |
 /// | 6 | more input than the command's limit | nothing |
+#[tactic(auto, using(crate::proofs::Headline::safely_accepted, crate::proofs::Headline::accepted_may_run))]
 pub fn run<S: Source, K: Sink>(
     alloc: Global,
     words: &Vec<String>,
@@ -75,9 +72,12 @@ pub fn run<S: Source, K: Sink>(
     ensures made_cut { (number : ℕ) → task_of (texts words.now.items) ≡ Some (Make number) → result ≡ 4 →
         IsCut (IsExampleAnswer number) (K.held sink.old) (K.held sink.new) }
 
-    // The memory that `check` prints of a thin job is safe in every run of the machine.
-    ensures safe { IfSome (S.left source.old) (λ bytes. (f : FileModel) → IsThinFile bytes f →
-        AreSafe (thin_rights (thin_of f)) (memory_of (file_at bytes)) (thin_start (thin_of f) ∷ [])) }
+    // From just the memory that `check` prints of an accepted job, every run of the machine is safe, and bytes outside what the job may
+    // reach have no effect.
+    ensures safe { task_of (texts words.now.items) ≡ Some (Read Check) → result ≡ 0 →
+        IfSome (S.left source.old) (λ bytes. IsSafelyAccepted bytes (K.held sink.old) (K.held sink.new)) }
+    // And so it is of all bytes of which no rule stands, whatever the source tells.
+    ensures law { AcceptedMayRun }
 {
     match task_of(words) {
         None => 2,
