@@ -16,19 +16,7 @@ use Rattle.bin_list.specs.Rules.{GivenModel, index_buffer, packet_questions, ask
 use Rattle.bin_list.specs.Emitted.{index_text, state_text, config_text, packet_text, texts}
 use Rattle.bin_walks.proofs.Fine.{cut_fine}
 use Rattle.bin_walks.proofs.Texts.{state_long, config_long}
-use Rattle.bin_walks.proofs.Walking.{cut_place}
-
-long_indexed : bin_length indexed_primitive_list ≡ 14
-unfolding bin_length
-long_indexed = refl
-
-long_state : bin_length gl_shader_state ≡ 5
-unfolding bin_length
-long_state = refl
-
-long_config : bin_length tile_binning_mode ≡ 16
-unfolding bin_length
-long_config = refl
+use Rattle.bin_walks.proofs.Walking.{cut_place, long_indexed, long_state, long_config}
 
 index_long : (given : GivenModel) (seen : Seen) (p : List ℕ) → 14 ≤ length p → length (index_text given seen p) ≡ length p
 unfolding index_text

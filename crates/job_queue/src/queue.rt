@@ -1,5 +1,5 @@
 //! The queue.
-ghost use Rattle.std.specs.Prelude.{◌≡◌, ◌≤◌, ◌<◌, ◌^◌, length, IfOk, None};
+ghost use Rattle.std.specs.Prelude.{◌≡◌, ◌≤◌, ◌<◌, ◌^◌, length, IfOk, None, IsErr};
 ghost use Rattle.job_queue.specs.Past.{none_yet, submit_answer, start_answer, bin_answer, render_answer, after_submit, after_start, after_bin, after_render};
 ghost use Rattle.job_queue.specs.Past.{first_unknown as unknown};
 ghost use Rattle.job_queue.specs.Desk.{Agrees, Answers, greatest, written};
@@ -122,7 +122,8 @@ impl Queue {
     /// 4,096 jobs haven't rendered. It takes no memory.
     pub fn submit(&mut self, reads: &[u32], writes: &[u32]) -> Result<u64, QueueFault>
         requires { self.old.submitted < 2 ^ 63 }
-        ensures { Answers (λ past. submit_answer past reads.now writes.now) (λ past. after_submit past reads.now writes.now) result self.old self.new }
+        ensures answers { Answers (λ past. submit_answer past reads.now writes.now) (λ past. after_submit past reads.now writes.now) result self.old self.new }
+        ensures same { IsErr result → self.new ≡ self.old }
     {
         if let Some(buffer) = first_unknown(reads, self.writers.len()) {
             return Err(QueueFault::Unknown { buffer });
@@ -144,7 +145,8 @@ impl Queue {
     /// where each job was started; while an earlier job that writes a buffer which this one reads hasn't rendered. It takes no
     /// memory.
     pub fn start(&mut self) -> Result<u64, QueueFault>
-        ensures { Answers start_answer after_start result self.old self.new }
+        ensures answers { Answers start_answer after_start result self.old self.new }
+        ensures same { IsErr result → self.new ≡ self.old }
     {
         if self.started > self.binned {
             return Err(QueueFault::Binning { job: self.started });
@@ -162,7 +164,8 @@ impl Queue {
 
     /// Ends the binning, and gives the job's number. It is refused where none is binning. It takes no memory.
     pub fn bin_done(&mut self) -> Result<u64, QueueFault>
-        ensures { Answers bin_answer after_bin result self.old self.new }
+        ensures answers { Answers bin_answer after_bin result self.old self.new }
+        ensures same { IsErr result → self.new ≡ self.old }
     {
         if self.started == self.binned {
             return Err(QueueFault::NotBinning);
@@ -174,7 +177,8 @@ impl Queue {
     /// Says that the least binned job that hasn't rendered has rendered, and gives its number. It is refused where each binned job
     /// has. It takes no memory.
     pub fn render_done(&mut self) -> Result<u64, QueueFault>
-        ensures { Answers render_answer after_render result self.old self.new }
+        ensures answers { Answers render_answer after_render result self.old self.new }
+        ensures same { IsErr result → self.new ≡ self.old }
     {
         if self.rendered == self.binned {
             return Err(QueueFault::NotBinned);

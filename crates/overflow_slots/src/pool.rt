@@ -1,5 +1,5 @@
 //! The book of the slots.
-ghost use Rattle.std.specs.Prelude.{◌≡◌, ◌≤◌, ◌<◌, ◌+◌, ◌*◌};
+ghost use Rattle.std.specs.Prelude.{◌≡◌, ◌≤◌, ◌<◌, ◌+◌, ◌*◌, IsErr};
 ghost use Rattle.overflow_slots.specs.Desk.{Agrees, Answers, free_slot, with_slot as slot_kept};
 ghost use Rattle.overflow_slots.specs.SlotRun.{start, front as front_of, has_room as room, slot_answer, begin_answer, take_answer, overflow_answer, end_answer};
 ghost use Rattle.overflow_slots.specs.declared.call.Call.TheVariants.{Begin, Take, Overflow, End};
@@ -94,7 +94,8 @@ impl Pool {
     pub fn begin(&mut self, job: u8, tiles: u32) -> Result<u32, u8>
         requires job { job < 32 }
         requires tiles { tiles ≤ 65025 }
-        ensures { Answers (λ run. begin_answer run job tiles) (Begin job tiles) result self.old self.new }
+        ensures answers { Answers (λ run. begin_answer run job tiles) (Begin job tiles) result self.old self.new }
+        ensures same { IsErr result → self.new ≡ self.old }
     {
         if self.newest[job as usize] != 0 {
             return Err(1);
@@ -112,7 +113,8 @@ impl Pool {
     /// whose newest slot has no room for a block. A refusal changes nothing.
     pub fn take(&mut self, job: u8) -> Result<Block, u8>
         requires { job < 32 }
-        ensures { Answers (λ run. take_answer run job) (Take job) result self.old self.new }
+        ensures answers { Answers (λ run. take_answer run job) (Take job) result self.old self.new }
+        ensures same { IsErr result → self.new ≡ self.old }
     {
         let newest = self.newest[job as usize];
         if newest == 0 {
@@ -134,7 +136,8 @@ impl Pool {
     /// nothing.
     pub fn overflow(&mut self, job: u8) -> Result<u32, u8>
         requires { job < 32 }
-        ensures { Answers (λ run. overflow_answer run job) (Overflow job) result self.old self.new }
+        ensures answers { Answers (λ run. overflow_answer run job) (Overflow job) result self.old self.new }
+        ensures same { IsErr result → self.new ≡ self.old }
     {
         if self.newest[job as usize] == 0 {
             return Err(2);
@@ -149,7 +152,8 @@ impl Pool {
     /// which changes nothing.
     pub fn end(&mut self, job: u8) -> Result<u32, u8>
         requires { job < 32 }
-        ensures { Answers (λ run. end_answer run job) (End job) result self.old self.new }
+        ensures answers { Answers (λ run. end_answer run job) (End job) result self.old self.new }
+        ensures same { IsErr result → self.new ≡ self.old }
     {
         if self.newest[job as usize] == 0 {
             return Err(2);

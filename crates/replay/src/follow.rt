@@ -16,21 +16,22 @@ use std::alloc::Global;
 /// The most choice words that a step gets.
 const MOST_WORDS: usize = 4096;
 
-// The units that may step, or why the run is over.
+// The units that may step, or why the run is over. Where one may step the machine isn't finished, so that is asked of the others
+// alone.
 fn look(machine: &Machine) -> Result<ArrayVec<u8, 38>, Ending>
     ensures goes { IfOk result (λ _. finished machine.now ≡ false) }
     ensures some { IfOk result (λ units. 1 ≤ length units.items) }
     ensures units { IfOk result (λ units. units.items ≡ enabled_units machine.now) }
     ensures over { IfErr result (IsOver machine.now) }
 {
+    let units = enabled_units(machine);
+    if !units.is_empty() {
+        return Ok(units);
+    }
     if machine.finished() {
         return Err(Ending::Finished);
     }
-    let units = enabled_units(machine);
-    if units.is_empty() {
-        return Err(Ending::Waiting);
-    }
-    Ok(units)
+    Err(Ending::Waiting)
 }
 
 // The step's words, as many as there are places for.

@@ -11,3 +11,4 @@ mod units;
 pub use follow::replay;
 pub use oracle::Oracle;
 pub use trace::{Ending, Trace, TraceLine};
+pub use units::{enabled_units, unit_at, word_count};

@@ -23,22 +23,24 @@ impl<C: Fn(u64, u32) -> u32, F: Fn(u64, u32) -> u32> Oracle<C, F> {
         Oracle { choose, answer }
     }
 
-    /// Which of `n` units steps.
-    pub(crate) fn pick(&self, step: u64, n: u32) -> u32
-        requires some { 1 ≤ n }
+    /// Which of `count` units steps: what `choose` gives, which is below `count`. It takes no memory, and refuses nothing. The last
+    /// two conditions are those of `new`, which no value of this type can carry.
+    pub fn pick(&self, step: u64, count: u32) -> u32
+        requires some { 1 ≤ count }
         requires chooses { MayChoose (λ step n. C.pre self.now.choose step n) }
         requires below { IsBelow (λ step n picked. C.post self.now.choose step n picked) }
-        ensures gives { C.post self.now.choose step n result }
-        ensures below { result < n }
+        ensures gives { C.post self.now.choose step count result }
+        ensures below { result < count }
     {
-        (self.choose)(step, n)
+        (self.choose)(step, count)
     }
 
-    /// Choice word `k` of a step.
-    pub(crate) fn word(&self, step: u64, k: u32) -> u32
+    /// Choice word `k` of a step: what `answer` gives. It takes no memory, and refuses nothing. The last condition is that of
+    /// `new`.
+    pub fn word(&self, step: u64, k: u32) -> u32
         requires few { k < 4096 }
         requires answers { MayAnswer (λ step k. F.pre self.now.answer step k) }
-        ensures { F.post self.now.answer step k result }
+        ensures gives { F.post self.now.answer step k result }
     {
         (self.answer)(step, k)
     }

@@ -1,17 +1,17 @@
 //! The units in the order of a script.
-ghost use Rattle.std.specs.Prelude.{◌≡◌, ◌≤◌, ◌<◌, length, All};
-ghost use Rattle.replay.specs.Units.{unit_count, unit_at, word_count, enabled_units};
+ghost use Rattle.std.specs.Prelude.{◌≡◌, ◌≤◌, ◌<◌, ◌+◌, length, All};
+ghost use Rattle.replay.specs.Units.{unit_count, unit_at, word_count, enabled_below, enabled_units};
 
 use arrayvec::ArrayVec;
 use field_words::Actor;
 use machine::Machine;
 
-/// How many units a machine has.
-const UNITS: u8 = 38;
+/// How many processors a machine has.
+const PROCESSORS: u8 = 12;
 
-/// Unit `n`: the binner, the renderer, and then each processor with its two TMUs.
+/// Unit `n`: the binner, the renderer, and then each processor with its two TMUs. It takes no memory.
 #[tactic(auto, unfolding(crate::specs::Units::unit_at))]
-pub(crate) fn unit_at(n: u8) -> Actor
+pub fn unit_at(n: u8) -> Actor
     ensures { result ≡ unit_at n }
 {
     if n == 0 {
@@ -30,8 +30,8 @@ pub(crate) fn unit_at(n: u8) -> Actor
     }
 }
 
-/// How many words a step of this unit gets.
-pub(crate) fn word_count(unit: Actor) -> u32
+/// How many choice words a step of this unit gets. It takes no memory.
+pub fn word_count(unit: Actor) -> u32
     ensures value { result ≡ word_count unit }
     ensures most { result ≤ 4096 }
 {
@@ -43,16 +43,34 @@ pub(crate) fn word_count(unit: Actor) -> u32
     }
 }
 
-/// The numbers of the units that may step.
-#[tactic(auto, using(crate::proofs::Order::units_more))]
-pub(crate) fn enabled_units(machine: &Machine) -> ArrayVec<u8, 38>
+// Puts unit `n` to those before it that may step, if it may; it is this one.
+#[inline]
+#[tactic(auto, using(crate::proofs::Order::units_put, crate::proofs::Order::units_past))]
+fn put_enabled(units: &mut ArrayVec<u8, 38>, machine: &Machine, n: u8, unit: Actor)
+    requires inside { n < unit_count }
+    requires is { unit ≡ unit_at n }
+    requires before { units.old.items ≡ enabled_below machine.now n }
+    requires few { length units.old.items ≤ n }
+    ensures value { units.new.items ≡ enabled_below machine.now (n + 1) }
+    ensures few { length units.new.items ≤ n + 1 }
+{
+    if machine.enabled(unit) {
+        units.push(n);
+    }
+}
+
+/// The numbers of the units that may step, the least first. It takes no memory. Each kind is asked for itself, so that no number has to be taken apart.
+#[tactic(auto, using(crate::proofs::Order::qpu_at, crate::proofs::Order::tmu0_at, crate::proofs::Order::tmu1_at, crate::proofs::Order::binner_at, crate::proofs::Order::renderer_at))]
+pub fn enabled_units(machine: &Machine) -> ArrayVec<u8, 38>
     ensures { result.items ≡ enabled_units machine.now }
 {
     let mut units = ArrayVec::new();
-    for n in 0..UNITS {
-        if machine.enabled(unit_at(n)) {
-            units.push(n);
-        }
+    put_enabled(&mut units, machine, 0, Actor::Binner);
+    put_enabled(&mut units, machine, 1, Actor::Renderer);
+    for q in 0..PROCESSORS {
+        put_enabled(&mut units, machine, 3 * q + 2, Actor::Qpu(q));
+        put_enabled(&mut units, machine, 3 * q + 3, Actor::Tmu(q, 0));
+        put_enabled(&mut units, machine, 3 * q + 4, Actor::Tmu(q, 1));
     }
     units
 }

@@ -1,3 +1,4 @@
 pub mod Headline
+pub mod Counts
 pub mod Told
 pub mod Appending

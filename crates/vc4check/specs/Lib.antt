@@ -1,4 +1,5 @@
 pub mod Answer
+pub mod Pictures
 pub mod Run
 pub mod Shader
 pub mod Words
@@ -6,3 +7,4 @@ pub mod Replay
 pub mod Scripts
 pub mod Reply
 pub mod Headline
+pub mod Notice

@@ -150,7 +150,7 @@ fn asks_shaders_that_no_job_names(rt: HostRuntime) -> Result<(), Fail> {
 }
 
 /// The usual frame, its textures filled by a rule.
-fn usual(alloc: Global) -> Result<Vec<u8>, Fail> {
+pub(crate) fn usual(alloc: Global) -> Result<Vec<u8>, Fail> {
     let mut bytes = hex::decode(alloc, FRONT)?;
     for i in 0..TEXTURE {
         bytes.push((7 * i % 251) as u8)?;

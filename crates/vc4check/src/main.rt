@@ -8,7 +8,13 @@ mod check;
 mod command;
 mod example;
 #[cfg(test)]
+mod hostile_tests;
+#[cfg(test)]
 mod job_tests;
+mod notice;
+#[cfg(test)]
+mod picture_tests;
+mod pictures;
 mod replayed;
 mod reply;
 mod run;
@@ -20,7 +26,9 @@ mod tests;
 
 use entry::{Program, status};
 use job_io::{Sink, Source};
+use notice::notice_of;
 use std::alloc::Global;
+use std::io::Eprint;
 use std::process::ExitCode;
 
 /// The program that `main` runs.
@@ -39,5 +47,10 @@ impl Program for Checker {
 }
 
 fn main(rt: HostRuntime) -> ExitCode {
-    ExitCode::from(status(&rt, &Checker))
+    let status = status(&rt, &Checker);
+    if let Some(notice) = notice_of(status) {
+        // Where this fails the status is what it was.
+        let _ = rt.eprintln(notice);
+    }
+    ExitCode::from(status)
 }

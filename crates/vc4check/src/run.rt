@@ -66,7 +66,7 @@ pub fn run<S: Source, K: Sink>(
     ensures cut { (command : Command) → task_of (texts words.now.items) ≡ Some (Read command) → result ≡ 4 →
         IfSome (S.left source.old) (λ bytes. IsCut (IsAnswer command bytes) (K.held sink.old) (K.held sink.new)) }
 
-    // What `gen` answers.
+    // What `gen` answers, which is never a refusal.
     ensures made { (number : ℕ) → task_of (texts words.now.items) ≡ Some (Make number) → result < 2 →
         IsAnswered (IsExampleAnswer number) result (K.held sink.old) (K.held sink.new) }
     ensures made_cut { (number : ℕ) → task_of (texts words.now.items) ≡ Some (Make number) → result ≡ 4 →

@@ -10,6 +10,7 @@ ghost use Rattle.vc4check.specs.Words.{limit_of, IsWithin};
 
 use super::check::check_answer;
 use super::command::Command;
+use super::pictures::{level_answer, tile_answer, untile_answer};
 use super::replayed::replay_answer;
 use super::reply::{Reply, print};
 use super::scripts::{queue_answer, slots_answer};
@@ -32,6 +33,9 @@ fn answer_to(alloc: Global, command: Command, bytes: &[u8]) -> Result<Reply, NoM
         Command::Disasm => disasm_answer(alloc, bytes),
         Command::Slots(slots) => slots_answer(alloc, slots, bytes),
         Command::Queue(buffers) => queue_answer(alloc, buffers, bytes),
+        Command::Untile(picture) => untile_answer(alloc, picture, bytes),
+        Command::Tile(picture) => tile_answer(alloc, picture, bytes),
+        Command::Level(part) => level_answer(alloc, part, bytes),
     };
     Ok(Reply::Text(answer?))
 }

@@ -8,7 +8,7 @@ use std::alloc::{AllocError, Global};
 use std::test::Fail;
 
 /// The smallest job: a tile of a buffer of one page, the lists at place 0.
-const SMALLEST: &str =
+pub(crate) const SMALLEST: &str =
     "5643344a01000000002008000000000000100000001000000100000001000000010000000010\
     0800001000000100000000000000000000000100000000000000010000000000000000000000\
     00000000000000001000100000000000ffffffff000000000000000000000000000000000400\
@@ -30,7 +30,8 @@ const FRAME: &str = "5643344a010000000090870000000000001000000010000001000000010
     0000ffffffff0000000000000000ffffffff0000000000000000ffffffff0000000000000000\
     ffffffff0000000000000000ff8040ffff8040ffffffff000000000000000000";
 
-const SMALLEST_TEXT: &str = "accepted\nmemory 532480\nbin 00000000 0\nrecords 00000000 0\n\
+pub(crate) const SMALLEST_TEXT: &str =
+    "accepted\nmemory 532480\nbin 00000000 0\nrecords 00000000 0\n\
     uniforms 00000000 0\nrender 00000000 15\nslot 00001000\n\
     00000000 71001008001000100004007300001900\nend\n";
 
@@ -38,11 +39,11 @@ const MOVED_TEXT: &str = "accepted\nmemory 536576\nbin 00001000 0\nrecords 00001
     uniforms 00001000 0\nrender 00001000 15\nslot 00002000\n\
     00001000 71102008001000100004007300001900\nend\n";
 
-fn file(alloc: Global, text: &str) -> Result<Vec<u8>, Fail> {
+pub(crate) fn file(alloc: Global, text: &str) -> Result<Vec<u8>, Fail> {
     Ok(hex::decode(alloc, text)?)
 }
 
-fn words(alloc: Global, all: &[&str]) -> Result<Vec<String>, AllocError> {
+pub(crate) fn words(alloc: Global, all: &[&str]) -> Result<Vec<String>, AllocError> {
     let mut words = Vec::new(alloc);
     for word in all {
         words.push(String::from_str(alloc, word)?)?;

@@ -7,14 +7,14 @@ use Rattle.job_queue.proofs.Desks.{submit_refused, submit_reads, submit_writes, 
 use Rattle.job_queue.specs.Desk.{Desk, greatest, written}
 use Rattle.job_queue.proofs.queue.Queue.submit.Goals as goal
 
-pub returns-in-Some : goal.returns-in-Some
-returns-in-Some c = rw (← c.self.view_is) (λ p agrees.
+pub returns-in-Some-clause-answers : goal.returns-in-Some-clause-answers
+returns-in-Some-clause-answers c = rw (← c.self.view_is) (λ p agrees.
     let is : first_unknown (length c.self.inside.writers.items) c.args.reads.now ≡ Some c.in-Some.buffer =
     of_writers c.args.reads.now (Some c.in-Some.buffer) _ _ c.self.inside.writers.ok.0 c.len.ensures c.first_unknown.ensures c.in-Some.is in
     submit_refused p _ c.args.reads.now c.args.writes.now (Unknown c.in-Some.buffer) (submit_reads p _ c.args.reads.now c.args.writes.now c.in-Some.buffer is agrees) agrees)
 
-pub returns-in-Some-first_unknown : goal.returns-in-Some-first_unknown
-returns-in-Some-first_unknown c = rw (← c.self.view_is) (λ p agrees.
+pub returns-in-Some-first_unknown-clause-answers : goal.returns-in-Some-first_unknown-clause-answers
+returns-in-Some-first_unknown-clause-answers c = rw (← c.self.view_is) (λ p agrees.
     let none : first_unknown (length c.self.inside.writers.items) c.args.reads.now ≡ None =
     of_writers c.args.reads.now None _ _ c.self.inside.writers.ok.0 c.len.ensures c.first_unknown.ensures c.in_default.is in
     let is : first_unknown (length c.self.inside.writers.items) c.args.writes.now ≡ Some c.in-Some-first_unknown.buffer =
@@ -22,8 +22,8 @@ returns-in-Some-first_unknown c = rw (← c.self.view_is) (λ p agrees.
     submit_refused p _ c.args.reads.now c.args.writes.now (Unknown c.in-Some-first_unknown.buffer)
     (submit_writes p _ c.args.reads.now c.args.writes.now c.in-Some-first_unknown.buffer none is agrees) agrees)
 
-pub returns-then-self-ge-MOST_WAITING : goal.returns-then-self-ge-MOST_WAITING
-returns-then-self-ge-MOST_WAITING c = rw (← c.self.view_is) (λ p agrees.
+pub returns-then-self-ge-MOST_WAITING-clause-answers : goal.returns-then-self-ge-MOST_WAITING-clause-answers
+returns-then-self-ge-MOST_WAITING-clause-answers c = rw (← c.self.view_is) (λ p agrees.
     let none : first_unknown (length c.self.inside.writers.items) c.args.reads.now ≡ None =
     of_writers c.args.reads.now None _ _ c.self.inside.writers.ok.0 c.len.ensures c.first_unknown.ensures c.in_default.is in
     let none_too : first_unknown (length c.self.inside.writers.items) c.args.writes.now ≡ None =
@@ -31,8 +31,8 @@ returns-then-self-ge-MOST_WAITING c = rw (← c.self.view_is) (λ p agrees.
     submit_refused p _ c.args.reads.now c.args.writes.now Full
     (submit_full p _ c.args.reads.now c.args.writes.now none none_too (omega (arith, c.if-self-ge-MOST_WAITING.true)) agrees) agrees)
 
-pub returns : goal.returns
-returns c =
+pub returns-clause-answers : goal.returns-clause-answers
+returns-clause-answers c =
     let none : first_unknown (length c.self.inside.writers.items) c.args.reads.now ≡ None =
     of_writers c.args.reads.now None _ _ c.self.inside.writers.ok.0 c.len.ensures c.first_unknown.ensures c.in_default.is in
     let none_too : first_unknown (length c.self.inside.writers.items) c.args.writes.now ≡ None =
