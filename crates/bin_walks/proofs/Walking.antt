@@ -253,15 +253,15 @@ text_choice P false false true c x y z p kept one two three other = two refl
 text_choice P false false false true x y z p kept one two three other = three refl
 text_choice P false false false false x y z p kept one two three other = other
 
-long_indexed : bin_length indexed_primitive_list ≡ 14
+pub long_indexed : bin_length indexed_primitive_list ≡ 14
 unfolding bin_length
 long_indexed = refl
 
-long_state : bin_length gl_shader_state ≡ 5
+pub long_state : bin_length gl_shader_state ≡ 5
 unfolding bin_length
 long_state = refl
 
-long_config : bin_length tile_binning_mode ≡ 16
+pub long_config : bin_length tile_binning_mode ≡ 16
 unfolding bin_length
 long_config = refl
 

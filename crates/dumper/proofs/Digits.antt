@@ -3,7 +3,7 @@ use Rattle.std.proofs.lemmas.List.{places, set_at, take_more, length-take, lengt
 use Rattle.field_words.proofs.Pieces.{drop_drop}
 use Rattle.field_words.specs.Writes.{with_bytes}
 use Rattle.hex.proofs.HexLemmas.{length-encode_with}
-use Rattle.std.proofs.Common.{slice_set, get_or, take, drop, ◌*◌, ◌≡◌, ℕ, zero, suc, ◌+◌, ◌-◌, ◌/◌, ◌%◌, ◌^◌, ◌<◌, ◌≤◌, List, [], ◌∷◌, ◌++◌, length, replicate, false, refl, sym, ap, ◌∙◌, arith}
+use Rattle.std.proofs.Common.{slice_set, get_or, take, drop, ◌*◌, ◌≡◌, ℕ, zero, suc, ◌+◌, ◌-◌, ◌/◌, ◌%◌, ◌^◌, ◌<◌, ◌≤◌, List, [], ◌∷◌, ◌++◌, length, replicate, codes, false, refl, sym, ap, ◌∙◌, arith}
 use Rattle.std.specs.Prelude.{◌==◌, slice_index, if◌then◌else◌}
 use Rattle.std.specs.Fmt.{digits, digits_onto, digit_glyph}
 use Rattle.std.specs.Int.{to_be_bytes, w32}
@@ -136,3 +136,8 @@ digits_more line bytes at k x y inside fits high low small =
 pub no_digits : (line bytes : List ℕ) (at : ℕ) → line ≡ with_bytes line at (encode_lower (take 0 bytes))
 unfolding encode_with
 no_digits line bytes at = grind (arith, places)
+
+-- The digits of a place in place of eight characters are its text.
+pub place_put : (place : ℕ) → place < 2 ^ 32 → with_bytes (codes "........") 0 (encode_lower (to_be_bytes w32 place)) ≡ place_text place
+unfolding encode_with
+place_put place small = place_is place small

@@ -1,10 +1,11 @@
 -- Rows of a memory and their texts.
-use Rattle.std.proofs.Common.{◌≡◌, ℕ, zero, suc, ◌+◌, ◌-◌, ◌^◌, ◌<◌, ◌≤◌, ◌&&◌, List, [], ◌∷◌, ◌++◌, length, take, drop, get_or, replicate, false, length-drop, refl, sym, ap, ◌∙◌, arith, append-nil, zero-add, add-zero}
+use Rattle.std.proofs.Common.{◌≡◌, ℕ, zero, suc, ◌+◌, ◌-◌, ◌*◌, ◌^◌, ◌<◌, ◌≤◌, ◌⊎◌, inl, inr, ◌&&◌, List, [], ◌∷◌, ◌++◌, length, take, drop, get_or, replicate, false, length-drop, refl, sym, ap, ◌∙◌, arith, append-nil, append_assoc, zero-add, add-zero}
 use Rattle.std.specs.Prelude.{◌==◌, codes}
 use Rattle.std.specs.List.{list_all}
 use Rattle.std.specs.Fmt.{digits, padded_integral, format_spec, char_count}
 use Rattle.std.specs.Int.{from_le_bytes, to_be_bytes, w32}
-use Rattle.std.proofs.lemmas.List.{get_or-drop}
+use Rattle.std.proofs.lemmas.List.{get_or-drop, length-take-le, take_at, drop_at}
+use Rattle.std.proofs.Math.Seq.{take-add}
 use Rattle.field_words.proofs.Pieces.{drop_drop}
 use Rattle.std.proofs.Math.Nat.{suc-add}
 use Rattle.std.proofs.Math.Dec.{eqb-suc-zero}
@@ -97,19 +98,46 @@ blank_is memory place inside =
     ∙ ap (λ word. from_le_bytes w32 xs + from_le_bytes w32 (drop 4 xs) + from_le_bytes w32 (drop 8 xs) + word == 0) (ap (from_le_bytes w32) (sym (drop_drop place 12 memory)))
     ∙ blank_front xs long
 
--- the rows from one on are that row and those after it
-pub rows_step : (memory : List ℕ) (place k rows : ℕ) → k < rows
-    → rows_text memory place (rows - k) ≡ row_text memory place ++ rows_text memory (place + 16) (rows - (k + 1))
+-- so many rows, and so many behind them
+pub rows_on : (memory : List ℕ) (place : ℕ) (a b : ℕ) → rows_text memory place (a + b) ≡ rows_text memory place a ++ rows_text memory (place + 16 * a) b
 unfolding rows_text
-rows_step memory place k rows inside =
-    let more : rows - k ≡ suc (rows - (k + 1)) = omega arith in
-    ap (rows_text memory place) more
+rows_on memory place zero b = ap (λ n. rows_text memory place n) (zero-add b) ∙ ap (λ at. rows_text memory at b) (sym (add-zero place))
+rows_on memory place (suc a) b =
+    ap (rows_text memory place) (suc-add a b)
+    ∙ ap (λ text. row_text memory place ++ text) (rows_on memory (place + 16) a b)
+    ∙ sym (append_assoc (row_text memory place) (rows_text memory (place + 16) a) (rows_text memory (place + 16 + 16 * a) b))
+    ∙ ap (λ at. row_text memory place ++ rows_text memory (place + 16) a ++ rows_text memory at b) (omega arith)
 
-pub no_rows : (memory : List ℕ) (place k rows : ℕ) → rows ≤ k → rows_text memory place (rows - k) ≡ []
+-- one row is its line
+pub row_alone : (memory : List ℕ) (place : ℕ) → rows_text memory place 1 ≡ row_text memory place
 unfolding rows_text
-no_rows memory place k rows none =
-    let zero_left : rows - k ≡ 0 = omega arith in
-    ap (rows_text memory place) zero_left
+row_alone memory place = append-nil (row_text memory place)
+
+pub no_rows : (memory : List ℕ) (place : ℕ) → rows_text memory place 0 ≡ []
+unfolding rows_text
+no_rows memory place = refl
+
+-- the first rows, and those behind them up to a row
+pub rows_upto : (memory : List ℕ) (row next : ℕ) → row ≤ next → rows_text memory 0 row ++ rows_text memory (16 * row) (next - row) ≡ rows_text memory 0 next
+rows_upto memory row next order =
+    let on : row + (next - row) ≡ next = omega (arith, order) in
+    ap (λ at. rows_text memory 0 row ++ rows_text memory at (next - row)) (sym (zero-add (16 * row)))
+    ∙ sym (rows_on memory 0 row (next - row))
+    ∙ ap (rows_text memory 0) on
+
+-- A piece that is too full for one more line has some: an empty one has room.
+pub moves_on : (row next at line room : ℕ) → (row < next) ⊎ (at ≡ 0) → room < at + line → line ≤ room → row < next
+moves_on row next at line room (inl less) full fits = less
+moves_on row next at line room (inr none) full fits = absurd (omega (arith, none, full, fits))
+
+-- the front of a piece with a line put behind it
+pub put_front : (piece line : List ℕ) (at n : ℕ) → length line ≡ n → at + n ≤ length piece → take (at + n) (with_bytes piece at line) ≡ take at piece ++ line
+put_front piece line at n size fits =
+    let front : length (take at piece) ≡ at = length-take-le at piece (omega arith) in
+    take-add at n (with_bytes piece at line)
+    ∙ ap (λ l. l ++ take n (drop at (with_bytes piece at line))) (take_at (take at piece) (line ++ drop (at + length line) piece) at front)
+    ∙ ap (λ l. take at piece ++ take n l) (drop_at (take at piece) (line ++ drop (at + length line) piece) at front)
+    ∙ ap (λ l. take at piece ++ l) (take_at line (drop (at + length line) piece) n size)
 
 -- a line in which the digits are still to be written
 abbrev pub empty_line : List ℕ

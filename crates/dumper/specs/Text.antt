@@ -22,6 +22,10 @@ memory_line size = codes "memory " ++ (decimal size ++ codes "\n")
 unfoldable pub slot_line : ℕ → List ℕ
 slot_line place = codes "slot " ++ (place_text place ++ codes "\n")
 
+-- a row's line has eight digits of its place, a blank, two digits for each byte and a line feed
+abbrev pub row_size : ℕ
+row_size = 42
+
 -- a line of sixteen bytes and the place of the first
 unfoldable pub row_line : ℕ → List ℕ → List ℕ
 row_line place row = place_text place ++ (codes " " ++ (encode_lower row ++ codes "\n"))
@@ -51,10 +55,13 @@ layout_text layout lengths =
     ++ (list_line (codes "render") (layout.place + layout.render) lengths.render
     ++ slot_line layout.slot)))
 
--- what is printed of an accepted job: its memory's size, where its parts lie, and each row of the
+-- what is printed of an accepted job: its memory's size and where its parts lie, and then each row of the
 -- memory that isn't all zero
+unfoldable pub head_text : ℕ → Layout → Lengths → List ℕ
+head_text size layout lengths = codes "accepted\n" ++ (memory_line size ++ layout_text layout lengths)
+
 unfoldable pub accepted_text : List ℕ → Layout → Lengths → List ℕ
-accepted_text memory layout lengths = codes "accepted\n" ++ (memory_line (length memory) ++ (layout_text layout lengths ++ (rows_text memory 0 (length memory / 16) ++ codes "end\n")))
+accepted_text memory layout lengths = head_text (length memory) layout lengths ++ (rows_text memory 0 (length memory / 16) ++ codes "end\n")
 
 -- what is printed of a refusal: the rule, and the place in the file that it is about
 unfoldable pub refused_text : Refusal → List ℕ

@@ -23,10 +23,13 @@ reach_text line =
     if line.reads == 0 && line.writes == 0 then codes "- -"
     else place_text line.low ++ (codes " " ++ place_text line.high)
 
+-- how many reads and writes it did
+unfoldable pub counts_text : TraceLine → List ℕ
+counts_text line = codes " " ++ (decimal line.reads ++ (codes " " ++ (decimal line.writes ++ codes " ")))
+
 -- the line of a step: its unit, how many reads and writes it did, and how far they reach
 unfoldable pub step_text : TraceLine → List ℕ
-step_text line =
-    unit_text line.unit ++ (codes " " ++ (decimal line.reads ++ (codes " " ++ (decimal line.writes ++ (codes " " ++ (reach_text line ++ codes "\n"))))))
+step_text line = unit_text line.unit ++ (counts_text line ++ (reach_text line ++ codes "\n"))
 
 abbrev pub ending_name : Ending → List ℕ
 ending_name Finished = codes "finished"

@@ -6,5 +6,5 @@ mod text;
 mod trace;
 
 pub use example::example_text;
-pub use text::{image_text, refusal_text};
+pub use text::{Filled, IMAGE_END, PIECE, image_head, image_text, put_rows, refusal_text};
 pub use trace::trace_text;

@@ -1,9 +1,9 @@
 //! The texts of an accepted job and of a refusal.
-ghost use Rattle.std.specs.Prelude.{◌≡◌, ◌≤◌, ◌<◌, ◌^◌, ◌+◌, ◌*◌, ◌++◌, ◌/◌, ◌%◌, length, false, IfOk, OnOk, string_bytes};
+ghost use Rattle.std.specs.Prelude.{◌≡◌, ◌≤◌, ◌<◌, ◌^◌, ◌+◌, ◌*◌, ◌++◌, ◌/◌, ◌%◌, ◌-◌, length, take, false, IfOk, OnOk, string_bytes};
 ghost use Rattle.field_words.specs.Writes.{with_bytes};
 ghost use Rattle.hex.specs.Hex.{encode_lower};
 ghost use Rattle.std.specs.Fmt.{digit_glyph};
-ghost use Rattle.dumper.specs.Text.{place_text, list_line, memory_line, slot_line, row_line, row_at, is_blank, row_text, rows_text, layout_text, accepted_text, refused_text};
+ghost use Rattle.dumper.specs.Text.{place_text, list_line, memory_line, slot_line, row_size, row_line, row_at, is_blank, row_text, rows_text, layout_text, head_text, accepted_text, refused_text};
 
 use field_words::NoMemory;
 use job_format::Refusal;
@@ -14,8 +14,11 @@ use std::alloc::{AllocError, Global};
 /// The length of a row's line: eight digits of its place, a blank, two for each byte and a line feed.
 const ROW_LINE: usize = 42;
 
-/// Room for the lines before and after the rows, which are shorter than that together.
-const OTHER_LINES: usize = 192;
+/// The last line of the text of an accepted job.
+pub const IMAGE_END: &[u8; 4] = b"end\n";
+
+/// How many bytes of rows are made at once.
+pub const PIECE: usize = 65536;
 
 #[tactic(auto, using(crate::proofs::Rows::place_shown))]
 pub(crate) fn place_text(alloc: Global, place: u64) -> Result<String, AllocError>
@@ -101,7 +104,7 @@ fn digit(number: u8) -> u8
 /// Writes two digits for each of these bytes from `at` on.
 #[inline]
 #[tactic(auto, using(crate::proofs::Digits::no_digits))]
-fn put_digits(line: &mut [u8], at: usize, bytes: &[u8])
+pub(crate) fn put_digits(line: &mut [u8], at: usize, bytes: &[u8])
     requires { at + 2 * length bytes.now ≤ length line.old }
     ensures { line.new ≡ with_bytes line.old at (encode_lower bytes.now) }
 {
@@ -123,38 +126,78 @@ fn row_line(place: u32, row: &[u8; 16]) -> [u8; ROW_LINE]
     line
 }
 
-/// Appends the line of the sixteen bytes at a place. It stands apart from the test for zeros, so that its bytes are loaded as
-/// one row and not taken out of the words of the test.
+/// Puts the line of the sixteen bytes at a place into a piece. It stands apart from the test for zeros, so that its bytes are
+/// loaded as one row and not taken out of the words of the test.
 #[inline(never)]
-fn push_line(out: &mut Vec<u8>, memory: &PhysMem, place: u32) -> Result<(), AllocError>
+#[tactic(auto, using(crate::proofs::Rows::put_front))]
+fn put_line(piece: &mut [u8], at: usize, memory: &PhysMem, place: u32)
     requires inside { place + 16 ≤ length memory.now }
     requires fits { length memory.now < 2 ^ 32 }
-    ensures { OnOk result (out.new.items ≡ out.old.items ++ row_line place (row_at memory.now place)) }
+    requires room { at + row_size ≤ length piece.old }
+    ensures text { take (at + row_size) piece.new ≡ take at piece.old ++ row_line place (row_at memory.now place) }
+    ensures long { length piece.new ≡ length piece.old }
 {
-    out.extend_from_slice(&row_line(place, &row_at(memory, place)))
+    let line = row_line(place, &row_at(memory, place));
+    piece[at..at + ROW_LINE].copy_from_slice(&line);
 }
 
-/// Appends the line of the sixteen bytes at a place, or nothing where they are all zero.
+/// Puts the line of the sixteen bytes at a place into a piece, or nothing where they are all zero, and says where it ends.
 #[inline]
 #[tactic(auto, unfolding(crate::specs::Text::row_text))]
-fn push_row(out: &mut Vec<u8>, memory: &PhysMem, place: u32) -> Result<(), AllocError>
+fn put_row(piece: &mut [u8], at: usize, memory: &PhysMem, place: u32) -> usize
     requires inside { place + 16 ≤ length memory.now }
     requires fits { length memory.now < 2 ^ 32 }
-    ensures { OnOk result (out.new.items ≡ out.old.items ++ row_text memory.now place) }
+    requires room { at + row_size ≤ length piece.old }
+    ensures text { take result piece.new ≡ take at piece.old ++ row_text memory.now place }
+    ensures end { result ≤ at + row_size }
+    ensures long { length piece.new ≡ length piece.old }
 {
     if is_blank(memory, place) {
-        return Ok(());
+        return at;
     }
-    push_line(out, memory, place)
+    put_line(piece, at, memory, place);
+    at + ROW_LINE
+}
+
+/// A piece of the rows' text: the number of the row that comes next, and how many bytes of the piece are filled.
+#[derive(Clone, Copy, PartialEq, Eq, Debug)]
+pub struct Filled {
+    pub row: u32,
+    pub len: usize,
+}
+
+/// Fills a piece with the lines of the memory's rows from one on, as many rows as have room in it whatever they hold. A row has
+/// sixteen bytes, and no line where they are all zero. It takes no memory.
+pub fn put_rows(memory: &PhysMem, row: u32, piece: &mut [u8]) -> Filled
+    requires from { row ≤ length memory.now / 16 }
+    requires room { row_size ≤ length piece.old }
+    ensures text { take result.len piece.new ≡ rows_text memory.now (16 * row) (result.row - row) }
+    ensures within { result.len ≤ length piece.new }
+    ensures inside { result.row ≤ length memory.now / 16 }
+    ensures more { row < length memory.now / 16 → row < result.row }
+    ensures long { length piece.new ≡ length piece.old }
+{
+    let rows = memory.len() / 16;
+    let mut next = row;
+    let mut at = 0;
+    while next < rows && at + ROW_LINE <= piece.len() {
+        at = put_row(piece, at, memory, 16 * next);
+        next += 1;
+    }
+    Filled { row: next, len: at }
 }
 
 /// Appends the lines of all rows of the memory that aren't all zero.
 fn push_rows(out: &mut Vec<u8>, memory: &PhysMem) -> Result<(), AllocError>
     ensures { OnOk result (out.new.items ≡ out.old.items ++ rows_text memory.now 0 (length memory.now / 16)) }
 {
+    let mut piece = [0; PIECE];
     let rows = memory.len() / 16;
-    for row in 0..rows {
-        push_row(out, memory, 16 * row)?;
+    let mut row = 0;
+    while row < rows {
+        let filled = put_rows(memory, row, &mut piece);
+        out.extend_from_slice(&piece[..filled.len])?;
+        row = filled.row;
     }
     Ok(())
 }
@@ -180,9 +223,27 @@ fn push_layout(
     out.extend_from_slice(slot_line(alloc, u64::from(layout.slot))?.as_bytes())
 }
 
+/// The text of an accepted job up to its rows: the memory's size in decimal, and where the job's parts lie.
+#[tactic(auto, unfolding(crate::specs::Text::head_text))]
+pub fn image_head(
+    alloc: Global,
+    size: u32,
+    layout: &Layout,
+    lengths: &Lengths,
+) -> Result<Vec<u8>, NoMemory>
+    ensures { IfOk result (λ text. text.items ≡ head_text size layout.now lengths.now) }
+{
+    let mut out = Vec::new(alloc);
+    out.extend_from_slice(b"accepted\n")?;
+    out.extend_from_slice(memory_line(alloc, size)?.as_bytes())?;
+    push_layout(alloc, &mut out, layout, lengths)?;
+    Ok(out)
+}
+
 /// The text of an accepted job, from the memory that it runs in and where its parts lie there. Places have eight hexadecimal
 /// digits, or more where they need more; lengths and the memory's size in bytes are decimal. A row of 16 bytes that are all
-/// zero is left out.
+/// zero is left out. A caller that passes the text on can do without all of it in memory, by [`image_head`], [`put_rows`] and
+/// [`IMAGE_END`].
 #[tactic(auto, unfolding(crate::specs::Text::accepted_text))]
 pub fn image_text(
     alloc: Global,
@@ -193,14 +254,9 @@ pub fn image_text(
     requires { length memory.now % 16 ≡ 0 }
     ensures { IfOk result (λ text. text.items ≡ accepted_text memory.now layout.now lengths.now) }
 {
-    // Room for all rows: each is looked at once, so how many are filled isn't known yet. Room that isn't written is never touched.
-    let rows = memory.len() as usize / 16;
-    let mut out = Vec::with_capacity(alloc, OTHER_LINES + ROW_LINE * rows)?;
-    out.extend_from_slice(b"accepted\n")?;
-    out.extend_from_slice(memory_line(alloc, memory.len())?.as_bytes())?;
-    push_layout(alloc, &mut out, layout, lengths)?;
+    let mut out = image_head(alloc, memory.len(), layout, lengths)?;
     push_rows(&mut out, memory)?;
-    out.extend_from_slice(b"end\n")?;
+    out.extend_from_slice(IMAGE_END)?;
     Ok(out)
 }
 

@@ -1,56 +1,98 @@
 //! The text of a run.
-ghost use Rattle.std.specs.Prelude.{◌≡◌, ◌++◌, length, IfOk, OnOk, string_bytes};
+ghost use Rattle.std.specs.Prelude.{◌≡◌, ◌≤◌, ◌<◌, ◌++◌, length, IfOk, OnOk, string_bytes};
 ghost use Rattle.std.specs.List.{flat_map};
-ghost use Rattle.dumper.specs.Trace.{unit_text, reach_text, step_text, ending_name, ending_text, trace_text};
+ghost use Rattle.dumper.specs.Trace.{unit_text, counts_text, reach_text, step_text, ending_name, ending_text, trace_text};
+ghost use Rattle.dumper.specs.Text.{place_text};
+ghost use Rattle.std.specs.Fmt.{decimal};
 
-use super::text::place_text;
+use super::text::{place_text, put_digits};
 use field_words::{Actor, NoMemory};
+use itoa::Buffer;
 use replay::{Ending, Trace, TraceLine};
 use std::alloc::{AllocError, Global};
 
 /// Room for a step's line as it mostly is.
 const STEP_LINE: usize = 32;
 
+#[tactic(auto)]
+fn push_number(out: &mut Vec<u8>, number: u32) -> Result<(), AllocError>
+    ensures { OnOk result (out.new.items ≡ out.old.items ++ decimal number) }
+{
+    let mut buffer = Buffer::new();
+    out.extend_from_slice(buffer.format(number).as_bytes())
+}
+
 #[tactic(auto, unfolding(crate::specs::Trace::unit_text))]
-fn unit_text(alloc: Global, unit: Actor) -> Result<String, AllocError>
-    ensures { IfOk result (λ text. string_bytes text ≡ unit_text unit) }
+fn push_unit(out: &mut Vec<u8>, unit: Actor) -> Result<(), AllocError>
+    ensures { OnOk result (out.new.items ≡ out.old.items ++ unit_text unit) }
 {
     match unit {
-        Actor::Binner => format!(in alloc; "binner"),
-        Actor::Renderer => format!(in alloc; "renderer"),
-        Actor::Qpu(q) => format!(in alloc; "qpu{q}"),
-        Actor::Tmu(q, n) => format!(in alloc; "tmu{q}.{n}"),
+        Actor::Binner => out.extend_from_slice(b"binner"),
+        Actor::Renderer => out.extend_from_slice(b"renderer"),
+        Actor::Qpu(q) => {
+            out.extend_from_slice(b"qpu")?;
+            push_number(out, u32::from(q))
+        }
+        Actor::Tmu(q, n) => {
+            out.extend_from_slice(b"tmu")?;
+            push_number(out, u32::from(q))?;
+            out.extend_from_slice(b".")?;
+            push_number(out, u32::from(n))
+        }
     }
+}
+
+// A place; one that needs more than eight digits takes memory of its own.
+#[tactic(auto, using(crate::proofs::Digits::place_put))]
+fn push_place(alloc: Global, out: &mut Vec<u8>, place: u64) -> Result<(), AllocError>
+    ensures { OnOk result (out.new.items ≡ out.old.items ++ place_text place) }
+{
+    if place >= 1 << 32 {
+        return out.extend_from_slice(place_text(alloc, place)?.as_bytes());
+    }
+    let mut digits = *b"........";
+    put_digits(&mut digits, 0, &(place as u32).to_be_bytes());
+    out.extend_from_slice(&digits)
 }
 
 #[tactic(auto, unfolding(crate::specs::Trace::reach_text))]
-fn reach_text(alloc: Global, line: &TraceLine) -> Result<String, AllocError>
-    ensures { IfOk result (λ text. string_bytes text ≡ reach_text line.now) }
+fn push_reach(alloc: Global, out: &mut Vec<u8>, line: &TraceLine) -> Result<(), AllocError>
+    ensures { OnOk result (out.new.items ≡ out.old.items ++ reach_text line.now) }
 {
     if line.reads == 0 && line.writes == 0 {
-        return format!(in alloc; "- -");
+        return out.extend_from_slice(b"- -");
     }
-    let low = place_text(alloc, line.low)?;
-    let high = place_text(alloc, line.high)?;
-    format!(in alloc; "{low} {high}")
+    push_place(alloc, out, line.low)?;
+    out.extend_from_slice(b" ")?;
+    push_place(alloc, out, line.high)
+}
+
+#[tactic(auto, unfolding(crate::specs::Trace::counts_text))]
+fn push_counts(out: &mut Vec<u8>, line: &TraceLine) -> Result<(), AllocError>
+    ensures { OnOk result (out.new.items ≡ out.old.items ++ counts_text line.now) }
+{
+    out.extend_from_slice(b" ")?;
+    push_number(out, line.reads)?;
+    out.extend_from_slice(b" ")?;
+    push_number(out, line.writes)?;
+    out.extend_from_slice(b" ")
 }
 
 #[tactic(auto, unfolding(crate::specs::Trace::step_text))]
-fn step_text(alloc: Global, line: &TraceLine) -> Result<String, AllocError>
-    ensures { IfOk result (λ text. string_bytes text ≡ step_text line.now) }
+fn push_step(alloc: Global, out: &mut Vec<u8>, line: &TraceLine) -> Result<(), AllocError>
+    ensures { OnOk result (out.new.items ≡ out.old.items ++ step_text line.now) }
 {
-    let unit = unit_text(alloc, line.unit)?;
-    let reach = reach_text(alloc, line)?;
-    let reads = line.reads;
-    let writes = line.writes;
-    format!(in alloc; "{unit} {reads} {writes} {reach}\n")
+    push_unit(out, line.unit)?;
+    push_counts(out, line)?;
+    push_reach(alloc, out, line)?;
+    out.extend_from_slice(b"\n")
 }
 
 fn push_steps(alloc: Global, out: &mut Vec<u8>, lines: &[TraceLine]) -> Result<(), AllocError>
     ensures { OnOk result (out.new.items ≡ out.old.items ++ flat_map step_text lines.now) }
 {
     for line in lines {
-        out.extend_from_slice(step_text(alloc, line)?.as_bytes())?;
+        push_step(alloc, out, line)?;
     }
     Ok(())
 }
@@ -79,7 +121,7 @@ fn ending_text(alloc: Global, ending: Ending, steps: usize) -> Result<String, Al
 pub fn trace_text(alloc: Global, trace: &Trace) -> Result<Vec<u8>, NoMemory>
     ensures { IfOk result (λ text. text.items ≡ trace_text trace.now) }
 {
-    let mut out = Vec::with_capacity(alloc, STEP_LINE)?;
+    let mut out = Vec::with_capacity(alloc, STEP_LINE.saturating_mul(trace.lines.len()))?;
     push_steps(alloc, &mut out, &trace.lines)?;
     out.extend_from_slice(ending_text(alloc, trace.ending, trace.lines.len())?.as_bytes())?;
     Ok(out)

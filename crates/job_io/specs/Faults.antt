@@ -1,5 +1,6 @@
 -- Counts of faults.
-use Rattle.std.specs.Prelude.{◌≤◌, ℕ, ◌+◌, ◌-◌, ◌^◌, min}
+use Rattle.std.specs.Prelude.{◌≡◌, ◌≤◌, ℕ, ◌+◌, ◌-◌, ◌^◌, min, List, Option}
+use Rattle.job_io.specs.Traffic.{KeepsOrHides}
 
 -- a count of faults or of calls stays at this value once it has come there
 abbrev pub last_count : ℕ
@@ -12,3 +13,8 @@ counted count = min (count + 1) last_count
 -- The count rose in a call: it is greater than before, or stands at its last value.
 abbrev pub Rose : ℕ → ℕ → Type 0
 Rose before now = counted before ≤ now
+
+-- A source or a sink came from one state to another by calls of which the last failed and no other did: at the state before the
+-- last call no fault was counted, and that call left the bytes as they were. So nothing was asked for after a failure.
+abbrev pub LastCallFailed : {X : Type 0} → (X → Option (List ℕ)) → (X → ℕ) → X → X → Type 0
+LastCallFailed {X} bytes faults old new = (last : X) × (faults last ≡ faults old) × KeepsOrHides (bytes last) (bytes new) × Rose (faults last) (faults new)

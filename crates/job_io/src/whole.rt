@@ -1,7 +1,7 @@
 //! Reading to the end of input, and writing all of a part.
 ghost use Rattle.std.specs.Prelude.{◌≤◌, ◌<◌, ◌+◌, ◌≡◌, ◌≢◌, ◌↔◌, Err, length, vec_len, IfOk, OnOk, OnErr, IfSome, IsErrOf};
 ghost use Rattle.std.specs.Io.KnownBytes.{Appends, IsAtEnd};
-ghost use Rattle.job_io.specs.Faults.{Rose};
+ghost use Rattle.job_io.specs.Faults.{Rose, LastCallFailed};
 ghost use Rattle.job_io.specs.Traffic.{piece_size, count_taken, AppendsFront};
 ghost use Rattle.job_io.specs.declared.whole.ReadEnd.TheVariants.{ReadFault as Fault, NoMemory as OutOfMemory};
 
@@ -51,6 +51,7 @@ pub fn read_all<S: Source>(alloc: Global, source: &mut S, limit: usize) -> Resul
     ensures within { IfOk result (λ bytes. vec_len bytes ≤ limit) }
 
     ensures fault { IsErrOf result ReadEnd.ReadFault → Rose (S.faults source.old) (S.faults source.new) }
+    ensures last { IsErrOf result ReadEnd.ReadFault → LastCallFailed S.left S.faults source.old source.new }
     ensures steady { result ≢ Err Fault → S.faults source.new ≡ S.faults source.old }
     ensures long { IfSome (S.left source.old) (λ _. IsErrOf result ReadEnd.TooLong ↔
         (limit < count_taken (S.left source.old) (S.left source.new))) }
@@ -77,6 +78,7 @@ pub fn write_all<K: Sink>(sink: &mut K, part: &[u8]) -> Result<(), Failed>
     ensures ok { OnOk result (Appends (K.held sink.old) (K.held sink.new) part.now) }
     ensures front { OnErr result (AppendsFront (K.held sink.old) (K.held sink.new) part.now) }
     ensures failed { OnErr result (Rose (K.faults sink.old) (K.faults sink.new)) }
+    ensures last { OnErr result (LastCallFailed K.held K.faults sink.old sink.new) }
     ensures steady { OnOk result (K.faults sink.new ≡ K.faults sink.old) }
     ensures nothing { length part.now ≡ 0 → sink.new ≡ sink.old }
     ensures counted { K.faults sink.old ≤ K.faults sink.new }

@@ -1,7 +1,3 @@
-pub mod Frames
-pub mod Lists
-pub mod Stages
-pub mod Runs
+pub mod Safety
+pub mod Steps
 pub mod Stray
-pub mod Bridge
-pub mod ThinFiles

@@ -15,7 +15,7 @@ use Rattle.list_machine.specs.Renderer.{may_pass, renderer_ready, packet_plan, r
 use Rattle.machine.specs.State.{State, start_of}
 use Rattle.machine.specs.Step.{Event, ready, turn, step}
 use Rattle.job_safety.specs.Safe.{AreSafe}
-use Rattle.job_safety.specs.Stray.{stray_memory, stray_start}
+use Rattle.job_safety.specs.Strength.{stray_memory, stray_start}
 
 pub stray_is_unsafe : (jobs : List Rights) → AreSafe jobs stray_memory (stray_start ∷ []) → ⊥
 unfolding ready turn renderer_ready may_pass renderer_plan packet_plan render_taken decoded bytes_at

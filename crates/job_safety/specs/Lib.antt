@@ -1,5 +1,4 @@
 pub mod Safe
-pub mod Holdings
-pub mod Thin
-pub mod Stray
+pub mod Strength
 pub mod Accepted
+pub mod Files

@@ -1,15 +1,14 @@
-//! Why accepted jobs are safe in the machine. So far it speaks of thin jobs, which store one empty
-//! tile.
+//! Why accepted jobs are safe in the machine: the file that any bytes hold of which no rule stands, the machine that it is run in,
+//! and what safety refuses.
 #![tactic(auto)]
 
 mod accepting;
 mod files;
-mod thin;
-mod wild;
+mod strength;
 
 pub use accepting::{Accepted, accept};
-pub use files::{
-    accepted_thin_files_are_safe, accepted_thin_files_are_same, thin_files_have_no_fault,
+pub use files::accepted_bytes_are_safe;
+pub use strength::{
+    code_past_is_unsafe, direct_reads_past_are_unsafe, lists_past_are_unsafe,
+    stray_packets_are_unsafe, textures_past_are_unsafe,
 };
-pub use thin::{start_thin, thin_jobs_are_safe, thin_jobs_are_same};
-pub use wild::stray_packets_are_unsafe;

@@ -98,31 +98,26 @@ trace_over Chooses Answers start now steps done trace h most over = trace_with C
 pub trace_spent : (Chooses Answers : ℕ → ℕ → ℕ → Type 0) (start now : State) (steps done : ℕ) (trace : Trace) → Followed Chooses Answers start now done trace.lines.items → done ≤ steps → IsEnded now steps done trace.ending → (events : List Event) × IsTrace Chooses Answers start steps events trace
 trace_spent Chooses Answers start now steps done trace h most ends = trace_with Chooses Answers start now steps done trace h most ends
 
-taken : (words : List ℕ) (count : ℕ) → count ≤ length words → length (take count words) ≡ count
-taken words count long = grind (arith, common_steps, long)
-
-taken_at : (words : List ℕ) (count k : ℕ) → count ≤ length words → k < count → slice_index (take count words) k ≡ slice_index words k
-taken_at words count k long below = grind (arith, common_steps, long, below)
-
 -- the code's step is one that the script gave
 pub unit_may : (s : State) (units : List ℕ) (place : ℕ) (unit : Actor) → units ≡ enabled_units s → place < length units → unit ≡ unit_at (slice_index units place) → IsTrue (enabled s unit)
 unit_may s units place unit units_are below unit_is =
     let within : place < length (enabled_units s) = subst (λ us. place < length us) units_are below in
     subst (λ u. IsTrue (enabled s u)) (sym (unit_is ∙ ap (λ us. unit_at (slice_index us place)) units_are)) (among_may s place within)
 
-pub steps_by : (Chooses Answers : ℕ → ℕ → ℕ → Type 0) (i : ℕ) (s next : State) (units : List ℕ) (place count : ℕ) (unit : Actor) (words : List ℕ) (listed found : List Access) (job : ℕ) (line : TraceLine)
-    → finished s ≡ false → units ≡ enabled_units s → place < length units → Chooses i (length units) place → unit ≡ unit_at (slice_index units place) → count ≡ word_count unit → ((k : ℕ) → k < count → Answers i k (slice_index words k)) → count ≤ length words
-    → Moves (step s (record { unit = unit; words = take count words })) found next → listed ≡ found → job ≡ job_of s unit → line ≡ line_of unit job listed → StepsBy Chooses Answers i s next line
-steps_by Chooses Answers i s next units place count unit words listed found job line goes units_are below picked unit_is count_is answers long moves listed_is job_is line_is = record {
-  event = record { unit = unit; words = take count words };
+pub steps_by : (Chooses Answers : ℕ → ℕ → ℕ → Type 0) (i : ℕ) (s next : State) (units : List ℕ) (place : ℕ) (unit : Actor) (words : List ℕ) (listed found : List Access) (job : ℕ) (line : TraceLine)
+    → finished s ≡ false → units ≡ enabled_units s → place < length units → Chooses i (length units) place → unit ≡ unit_at (slice_index units place)
+    → length words ≡ word_count unit → ((k : ℕ) → k < length words → Answers i k (slice_index words k))
+    → Moves (step s (record { unit = unit; words = words })) found next → listed ≡ found → job ≡ job_of s unit → line ≡ line_of unit job listed → StepsBy Chooses Answers i s next line
+steps_by Chooses Answers i s next units place unit words listed found job line goes units_are below picked unit_is long answers moves listed_is job_is line_is = record {
+  event = record { unit = unit; words = words };
   turn = record {
     goes = goes;
     place = place;
     picked = subst (λ us. Chooses i (length us) place) units_are picked;
     within = subst (λ us. place < length us) units_are below;
     unit = unit_is ∙ ap (λ us. unit_at (slice_index us place)) units_are;
-    count = taken words count long ∙ count_is;
-    words = λ k here. let less : k < count = omega (arith, here, taken words count long) in subst (Answers i k) (sym (taken_at words count k long less)) (answers k less);
+    count = long;
+    words = answers;
   };
   may = unit_may s units place unit units_are below unit_is;
   next_is = moves.state_is;

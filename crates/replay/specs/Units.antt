@@ -24,6 +24,9 @@ word_count TheRenderer = 4096
 word_count (TheQpu k) = 194
 word_count (TheTmu k n) = 512
 
--- the numbers of the units that may step, in that order
+-- the numbers below n of units that may step, and those of all that may, in that order
+abbrev pub enabled_below : State → ℕ → List ℕ
+enabled_below s n = filter (λ k. enabled s (unit_at k)) (range_with_len 0 n)
+
 abbrev pub enabled_units : State → List ℕ
-enabled_units s = filter (λ n. enabled s (unit_at n)) (range_with_len 0 unit_count)
+enabled_units s = enabled_below s unit_count

@@ -16,36 +16,37 @@ use std::alloc::Global;
 /// The most choice words that a step gets.
 const MOST_WORDS: usize = 4096;
 
-// The units that may step, or why the run is over.
+// The units that may step, or why the run is over. Where one may step the machine isn't finished, so that is asked of the others
+// alone.
 fn look(machine: &Machine) -> Result<ArrayVec<u8, 38>, Ending>
     ensures goes { IfOk result (λ _. finished machine.now ≡ false) }
     ensures some { IfOk result (λ units. 1 ≤ length units.items) }
     ensures units { IfOk result (λ units. units.items ≡ enabled_units machine.now) }
     ensures over { IfErr result (IsOver machine.now) }
 {
+    let units = enabled_units(machine);
+    if !units.is_empty() {
+        return Ok(units);
+    }
     if machine.finished() {
         return Err(Ending::Finished);
     }
-    let units = enabled_units(machine);
-    if units.is_empty() {
-        return Err(Ending::Waiting);
-    }
-    Ok(units)
+    Err(Ending::Waiting)
 }
 
-// The step's words.
+// The step's words, as many as there are places for.
 fn fill<C: Fn(u64, u32) -> u32, F: Fn(u64, u32) -> u32>(
     oracle: &Oracle<C, F>,
     step: u64,
-    count: u32,
-    words: &mut [u32; MOST_WORDS],
+    words: &mut [u32],
 )
-    requires most { count ≤ 4096 }
+    requires most { length words.old ≤ 4096 }
     requires answers { MayAnswer (λ step k. F.pre oracle.now.answer step k) }
-    ensures { (k : ℕ) → k < count → F.post oracle.now.answer step k (slice_index words.new k) }
+    ensures given { (k : ℕ) → k < length words.new → F.post oracle.now.answer step k (slice_index words.new k) }
+    ensures long { length words.new ≡ length words.old }
 {
-    for k in 0..count {
-        words[k as usize] = oracle.word(step, k);
+    for k in 0..words.len() {
+        words[k] = oracle.word(step, k as u32);
     }
 }
 
@@ -68,10 +69,10 @@ fn take_step<C: Fn(u64, u32) -> u32, F: Fn(u64, u32) -> u32>(
 {
     let place = oracle.pick(step, units.len() as u32);
     let unit = unit_at(units[place as usize]);
-    let count = word_count(unit);
-    fill(oracle, step, count, words);
+    let words = &mut words[..word_count(unit) as usize];
+    fill(oracle, step, words);
     let job = machine.job_of(unit);
-    machine.step(unit, &words[..count as usize], accesses);
+    machine.step(unit, words, accesses);
     line_of(unit, job, accesses.as_slice())
 }
 

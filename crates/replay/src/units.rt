@@ -1,13 +1,13 @@
 //! The units in the order of a script.
-ghost use Rattle.std.specs.Prelude.{◌≡◌, ◌≤◌, ◌<◌, length, All};
-ghost use Rattle.replay.specs.Units.{unit_count, unit_at, word_count, enabled_units};
+ghost use Rattle.std.specs.Prelude.{◌≡◌, ◌≤◌, ◌<◌, ◌+◌, length, All};
+ghost use Rattle.replay.specs.Units.{unit_count, unit_at, word_count, enabled_below, enabled_units};
 
 use arrayvec::ArrayVec;
 use field_words::Actor;
 use machine::Machine;
 
-/// How many units a machine has.
-const UNITS: u8 = 38;
+/// How many processors a machine has.
+const PROCESSORS: u8 = 12;
 
 /// Unit `n`: the binner, the renderer, and then each processor with its two TMUs. It takes no memory.
 #[tactic(auto, unfolding(crate::specs::Units::unit_at))]
@@ -43,16 +43,34 @@ pub fn word_count(unit: Actor) -> u32
     }
 }
 
-/// The numbers of the units that may step, the least first. It takes no memory.
-#[tactic(auto, using(crate::proofs::Order::units_more))]
+// Puts unit `n` to those before it that may step, if it may; it is this one.
+#[inline]
+#[tactic(auto, using(crate::proofs::Order::units_put, crate::proofs::Order::units_past))]
+fn put_enabled(units: &mut ArrayVec<u8, 38>, machine: &Machine, n: u8, unit: Actor)
+    requires inside { n < unit_count }
+    requires is { unit ≡ unit_at n }
+    requires before { units.old.items ≡ enabled_below machine.now n }
+    requires few { length units.old.items ≤ n }
+    ensures value { units.new.items ≡ enabled_below machine.now (n + 1) }
+    ensures few { length units.new.items ≤ n + 1 }
+{
+    if machine.enabled(unit) {
+        units.push(n);
+    }
+}
+
+/// The numbers of the units that may step, the least first. It takes no memory. Each kind is asked for itself, so that no number has to be taken apart.
+#[tactic(auto, using(crate::proofs::Order::qpu_at, crate::proofs::Order::tmu0_at, crate::proofs::Order::tmu1_at, crate::proofs::Order::binner_at, crate::proofs::Order::renderer_at))]
 pub fn enabled_units(machine: &Machine) -> ArrayVec<u8, 38>
     ensures { result.items ≡ enabled_units machine.now }
 {
     let mut units = ArrayVec::new();
-    for n in 0..UNITS {
-        if machine.enabled(unit_at(n)) {
-            units.push(n);
-        }
+    put_enabled(&mut units, machine, 0, Actor::Binner);
+    put_enabled(&mut units, machine, 1, Actor::Renderer);
+    for q in 0..PROCESSORS {
+        put_enabled(&mut units, machine, 3 * q + 2, Actor::Qpu(q));
+        put_enabled(&mut units, machine, 3 * q + 3, Actor::Tmu(q, 0));
+        put_enabled(&mut units, machine, 3 * q + 4, Actor::Tmu(q, 1));
     }
     units
 }

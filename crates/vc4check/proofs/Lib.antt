@@ -1,2 +1,4 @@
-pub mod Safe
+pub mod Counts
+pub mod Headline
 pub mod Told
+pub mod Appending

@@ -10,7 +10,8 @@ use Rattle.job_check.specs.Emit.{memory_of, lengths_of}
 use Rattle.job_check.specs.Jobs.{layout_of}
 use Rattle.dumper.specs.Text.{accepted_text, refused_text}
 use Rattle.vc4check.specs.declared.command.Command.{Command}
-use Rattle.vc4check.specs.declared.command.Command.TheVariants.{Check, Replay, Asm, Disasm, Slots, Queue}
+use Rattle.vc4check.specs.declared.command.Command.TheVariants.{Check, Replay, Asm, Disasm, Slots, Queue, Untile, Tile, Level}
+use Rattle.vc4check.specs.Pictures.{IsUntileAnswer, IsTileAnswer, IsLevelAnswer}
 use Rattle.vc4check.specs.Replay.{IsReplayAnswer}
 use Rattle.vc4check.specs.Scripts.{IsSlotsAnswer, IsQueueAnswer}
 use Rattle.vc4check.specs.Shader.{IsAsmAnswer, IsDisasmAnswer}
@@ -39,15 +40,14 @@ IsAnswer Asm bytes status text = IsAsmAnswer bytes status text
 IsAnswer Disasm bytes status text = IsDisasmAnswer bytes status text
 IsAnswer (Slots slots) bytes status text = IsSlotsAnswer slots bytes status text
 IsAnswer (Queue buffers) bytes status text = IsQueueAnswer buffers bytes status text
+IsAnswer (Untile picture) bytes status text = IsUntileAnswer picture bytes status text
+IsAnswer (Tile picture) bytes status text = IsTileAnswer picture bytes status text
+IsAnswer (Level part) bytes status text = IsLevelAnswer part bytes status text
 
--- `gen` makes the example of a number and checks it, as `check` does. It says how long the file and the emitted lists are and what
--- the bytes of the memory add up to, or why the file is refused.
+-- `gen` makes the example of a number and checks it, as `check` does: no rule stands for it. It says how long the file and the
+-- emitted lists are and what the bytes of the memory add up to.
 unfoldable pub text_of : ℕ → FileModel → List ℕ
 text_of number f = example_text number (length (file_text f)) (memory_of f) (lengths_of f 0)
 
-abbrev pub IsExampleVerdict : ℕ → FileModel → Option Refusal → ℕ → List ℕ → Type 0
-IsExampleVerdict number f None status text = (status ≡ 0) × (text ≡ text_of number f)
-IsExampleVerdict number f (Some refusal) status text = (status ≡ 1) × (text ≡ refused_text refusal)
-
 abbrev pub IsExampleAnswer : ℕ → ℕ → List ℕ → Type 0
-IsExampleAnswer number status text = IsExampleVerdict number (example number) (refusal_of (file_text (example number))) status text
+IsExampleAnswer number status text = (status ≡ 0) × (text ≡ text_of number (example number))

@@ -1,7 +1,10 @@
 pub mod Answer
+pub mod Pictures
 pub mod Run
 pub mod Shader
 pub mod Words
 pub mod Replay
 pub mod Scripts
+pub mod Reply
 pub mod Notice
+pub mod Headline

@@ -4,10 +4,11 @@ use Rattle.std.specs.Prelude.{bytes_eq}
 use Rattle.std.specs.declared.alloc.Global.{Global}
 use Rattle.field_words.specs.Sizes.{most_list}
 use Rattle.vc4check.specs.declared.command.Command.{Command}
-use Rattle.vc4check.specs.declared.command.Command.TheVariants.{Check, Replay, Asm, Disasm, Slots, Queue}
+use Rattle.vc4check.specs.declared.command.Command.TheVariants.{Check, Replay, Asm, Disasm, Slots, Queue, Untile, Tile, Level}
 use Rattle.vc4check.specs.declared.command.Task.{Task}
 use Rattle.vc4check.specs.declared.command.Task.TheVariants.{Read, Make}
 use Rattle.script.specs.Number.{number_within}
+use Rattle.vc4check.specs.Pictures.{picture_named, level_named, IsPictureWithin}
 
 abbrev pub texts : List (String Global) → List (List ℕ)
 texts words = map string_bytes words
@@ -55,6 +56,15 @@ replay_by (Some steps) (Some seed) = Some (Replay steps seed)
 abbrev pub replay_named : List ℕ → List ℕ → List ℕ → Option Command
 replay_named word steps seed = if bytes_eq word (codes "replay") then replay_by (number_within most_steps steps) (number_within (2 ^ 64 - 1) seed) else None
 
+-- a picture in a tiling, and a level of a texture
+abbrev pub pictured : List ℕ → List ℕ → List ℕ → List ℕ → List ℕ → Option Command
+pictured word tiling cpp width height =
+    if bytes_eq word (codes "untile") then option_map Untile (picture_named tiling cpp width height)
+    else (if bytes_eq word (codes "tile") then option_map Tile (picture_named tiling cpp width height) else None)
+
+abbrev pub textured : List ℕ → List ℕ → List ℕ → List ℕ → List ℕ → List ℕ → List ℕ → Option Command
+textured word p0 p1 p2 p3 face level = if bytes_eq word (codes "level") then option_map Level (level_named p0 p1 p2 p3 face level) else None
+
 -- a command whose numbers are within these
 abbrev pub IsWithin : Command → Type 0
 IsWithin Check = Unit {0}
@@ -63,20 +73,25 @@ IsWithin Asm = Unit {0}
 IsWithin Disasm = Unit {0}
 IsWithin (Slots slots) = (1 ≤ slots) × (slots ≤ most_slots)
 IsWithin (Queue buffers) = buffers ≤ most_queued
+IsWithin (Untile picture) = IsPictureWithin picture
+IsWithin (Tile picture) = IsPictureWithin picture
+IsWithin (Level part) = Unit {0}
 
 abbrev pub ReadsWithin : Task → Type 0
 ReadsWithin (Read command) = IsWithin command
 ReadsWithin (Make number) = Unit {0}
 
 -- what the words ask for, if they ask for something: to read input by a command, or to make an example
-abbrev pub task_of : List (List ℕ) → Option Task
+unfoldable pub task_of : List (List ℕ) → Option Task
 task_of [] = None
 task_of (word ∷ []) = option_map Read (command_named word)
 task_of (word ∷ number ∷ []) = task_numbered word number
 task_of (word ∷ steps ∷ seed ∷ []) = option_map Read (replay_named word steps seed)
-task_of (word ∷ another ∷ further ∷ last ∷ more) = None
+task_of (word ∷ tiling ∷ cpp ∷ width ∷ height ∷ []) = option_map Read (pictured word tiling cpp width height)
+task_of (word ∷ p0 ∷ p1 ∷ p2 ∷ p3 ∷ face ∷ level ∷ []) = option_map Read (textured word p0 p1 p2 p3 face level)
+task_of _ = None
 
--- the most bytes of a job file that `check` takes: 24 MiB
+-- the most bytes of a job file that `check` takes, and of a picture: 24 MiB
 abbrev pub most_file : ℕ
 most_file = 25165824
 
@@ -88,3 +103,6 @@ limit_of Asm = most_list
 limit_of Disasm = most_list
 limit_of (Slots slots) = most_list
 limit_of (Queue buffers) = most_list
+limit_of (Untile picture) = most_file
+limit_of (Tile picture) = most_file
+limit_of (Level part) = most_file

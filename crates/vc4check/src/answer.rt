@@ -1,7 +1,7 @@
 //! An answer to all of the input, and its way into the sink.
 ghost use Rattle.std.specs.Prelude.{◌≡◌, ◌≢◌, ◌≤◌, ◌<◌};
 ghost use Rattle.std.specs.Io.KnownBytes.{Appends};
-ghost use Rattle.job_io.specs.Faults.{Rose};
+ghost use Rattle.job_io.specs.Faults.{Rose, LastCallFailed};
 ghost use Rattle.job_io.specs.Traffic.{AppendsFront};
 
 use job_io::{Failed, Sink, write_all};
@@ -22,6 +22,7 @@ pub fn reply<K: Sink>(sink: &mut K, answer: &Answer) -> u8
     ensures written { result ≢ 4 → Appends (K.held sink.old) (K.held sink.new) answer.now.text.items }
     ensures cut { result ≡ 4 → AppendsFront (K.held sink.old) (K.held sink.new) answer.now.text.items }
     ensures failed { result ≡ 4 → Rose (K.faults sink.old) (K.faults sink.new) }
+    ensures last { result ≡ 4 → LastCallFailed K.held K.faults sink.old sink.new }
     ensures steady { result ≢ 4 → K.faults sink.new ≡ K.faults sink.old }
 {
     match write_all(sink, &answer.text) {

@@ -1,12 +1,13 @@
 //! What the program can do, and the words that ask for it.
 ghost use Rattle.std.specs.Prelude.{◌≡◌, ◌≤◌, Some, None, IfSome};
-ghost use Rattle.vc4check.specs.Words.{texts, command_named, task_numbered, replay_named, task_of, limit_of, most_file, IsWithin, ReadsWithin, most_slots, slots_by};
+ghost use Rattle.vc4check.specs.Words.{texts, command_named, task_numbered, replay_named, pictured, textured, task_of, limit_of, most_file, IsWithin, ReadsWithin, most_slots, slots_by};
 ghost use Rattle.script.specs.Number.{number_within};
 
+use super::pictures::{Picture, TexturePart, level_named, picture_named};
 use field_words::MOST_LIST;
 use script::read_number;
 
-/// The most bytes of a job file that `check` takes: 24 MiB.
+/// The most bytes of a job file that `check` takes, and of a picture: 24 MiB.
 const MOST_FILE: usize = 25_165_824;
 
 /// The most steps of a run.
@@ -34,6 +35,12 @@ pub enum Command {
     Slots(u32),
     /// `queue <buffers>`: reads a script of calls on a queue of jobs that name so many buffers, and answers each.
     Queue(u32),
+    /// `untile <t|lt> <cpp> <width> <height>`: reads a surface of such a picture and writes its pixels by rows.
+    Untile(Picture),
+    /// `tile <t|lt> <cpp> <width> <height>`: reads pixels by rows and writes the surface of such a picture.
+    Tile(Picture),
+    /// `level <p0> <p1> <p2> <p3> <face> <level>`: reads a buffer and writes a level of the texture with these set-up words.
+    Level(TexturePart),
 }
 
 /// What the words ask for.
@@ -53,6 +60,7 @@ impl Command {
     {
         match self {
             Command::Check | Command::Replay { .. } => MOST_FILE,
+            Command::Untile(_) | Command::Tile(_) | Command::Level(_) => MOST_FILE,
             Command::Asm | Command::Disasm | Command::Slots(_) | Command::Queue(_) => {
                 MOST_LIST as usize
             }
@@ -119,7 +127,39 @@ fn replay_named(word: &str, steps: &str, seed: &str) -> Option<Command>
     None
 }
 
+fn pictured(word: &str, tiling: &str, cpp: &str, width: &str, height: &str) -> Option<Command>
+    ensures value { result ≡ pictured word.now tiling.now cpp.now width.now height.now }
+    ensures within { IfSome result IsWithin }
+{
+    if word == "untile" {
+        return Some(Command::Untile(picture_named(tiling, cpp, width, height)?));
+    }
+    if word == "tile" {
+        return Some(Command::Tile(picture_named(tiling, cpp, width, height)?));
+    }
+    None
+}
+
+fn textured(
+    word: &str,
+    p0: &str,
+    p1: &str,
+    p2: &str,
+    p3: &str,
+    face: &str,
+    level: &str,
+) -> Option<Command>
+    ensures value { result ≡ textured word.now p0.now p1.now p2.now p3.now face.now level.now }
+    ensures within { IfSome result IsWithin }
+{
+    if word == "level" {
+        return Some(Command::Level(level_named(p0, p1, p2, p3, face, level)?));
+    }
+    None
+}
+
 /// What the words ask for. `None` comes exactly where they ask for nothing that the program does. It takes no memory.
+#[tactic(auto, unfolding(crate::specs::Words::task_of))]
 pub fn task_of(words: &[String]) -> Option<Task>
     ensures value { result ≡ task_of (texts words.now) }
     ensures within { IfSome result ReadsWithin }
@@ -131,6 +171,22 @@ pub fn task_of(words: &[String]) -> Option<Task>
             word.as_str(),
             steps.as_str(),
             seed.as_str(),
+        )?)),
+        [word, tiling, cpp, width, height] => Some(Task::Read(pictured(
+            word.as_str(),
+            tiling.as_str(),
+            cpp.as_str(),
+            width.as_str(),
+            height.as_str(),
+        )?)),
+        [word, p0, p1, p2, p3, face, level] => Some(Task::Read(textured(
+            word.as_str(),
+            p0.as_str(),
+            p1.as_str(),
+            p2.as_str(),
+            p3.as_str(),
+            face.as_str(),
+            level.as_str(),
         )?)),
         _ => None,
     }

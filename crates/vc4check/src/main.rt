@@ -12,7 +12,11 @@ mod hostile_tests;
 #[cfg(test)]
 mod job_tests;
 mod notice;
+#[cfg(test)]
+mod picture_tests;
+mod pictures;
 mod replayed;
+mod reply;
 mod run;
 mod scripts;
 mod serve;

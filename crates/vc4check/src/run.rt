@@ -1,17 +1,13 @@
 //! The top call: from words and input to a status and a text.
 ghost use Rattle.std.specs.Prelude.{◌≡◌, ◌≢◌, ◌≤◌, ◌<◌, ◌⊎◌, ◌↔◌, ◌∷◌, [], ℕ, length, IfSome, Some, None};
 ghost use Rattle.std.specs.Io.KnownBytes.{IsAtEnd};
-ghost use Rattle.job_io.specs.Faults.{Rose};
+ghost use Rattle.job_io.specs.Faults.{Rose, LastCallFailed};
 ghost use Rattle.job_io.specs.Traffic.{count_taken};
-ghost use Rattle.job_format.specs.Model.{FileModel};
-ghost use Rattle.job_format.specs.Reading.{file_at};
-ghost use Rattle.job_check.specs.Emit.{memory_of};
-ghost use Rattle.thin_job.specs.Shape.{IsThinFile, thin_of};
-ghost use Rattle.job_safety.specs.Safe.{AreSafe};
-ghost use Rattle.job_safety.specs.Thin.{thin_rights, thin_start};
 ghost use Rattle.vc4check.specs.declared.command.Command.{Command};
+ghost use Rattle.vc4check.specs.declared.command.Command.TheVariants.{Check};
 ghost use Rattle.vc4check.specs.declared.command.Task.TheVariants.{Read, Make};
 ghost use Rattle.vc4check.specs.Answer.{IsAnswer, IsExampleAnswer};
+ghost use Rattle.vc4check.specs.Headline.{IsSafelyAccepted, AcceptedMayRun};
 ghost use Rattle.vc4check.specs.Run.{IsAnswered, IsCut};
 ghost use Rattle.vc4check.specs.Words.{texts, task_of, limit_of};
 
@@ -33,6 +29,7 @@ use std::alloc::Global;
 /// | 4 | the sink failed | a front of the text of status 0 or 1 |
 /// | 5 | want of memory | nothing |
 /// | 6 | more input than the command's limit | nothing |
+#[tactic(auto, using(crate::proofs::Headline::safely_accepted, crate::proofs::Headline::accepted_may_run))]
 pub fn run<S: Source, K: Sink>(
     alloc: Global,
     words: &Vec<String>,
@@ -43,7 +40,9 @@ pub fn run<S: Source, K: Sink>(
     ensures statuses { result ≤ 6 }
     ensures words { (result ≡ 2) ↔ (task_of (texts words.now.items) ≡ None) }
     ensures read { result ≡ 3 → Rose (S.faults source.old) (S.faults source.new) }
+    ensures read_last { result ≡ 3 → LastCallFailed S.left S.faults source.old source.new }
     ensures write { result ≡ 4 → Rose (K.faults sink.old) (K.faults sink.new) }
+    ensures write_last { result ≡ 4 → LastCallFailed K.held K.faults sink.old sink.new }
     ensures source_steady { result ≢ 3 → S.faults source.new ≡ S.faults source.old }
     ensures sink_steady { result ≢ 4 → K.faults sink.new ≡ K.faults sink.old }
     ensures complete { (Rose (S.faults source.old) (S.faults source.new) → ⊥) → (Rose (K.faults sink.old) (K.faults sink.new) → ⊥)
@@ -67,15 +66,18 @@ pub fn run<S: Source, K: Sink>(
     ensures cut { (command : Command) → task_of (texts words.now.items) ≡ Some (Read command) → result ≡ 4 →
         IfSome (S.left source.old) (λ bytes. IsCut (IsAnswer command bytes) (K.held sink.old) (K.held sink.new)) }
 
-    // What `gen` answers.
+    // What `gen` answers, which is never a refusal.
     ensures made { (number : ℕ) → task_of (texts words.now.items) ≡ Some (Make number) → result < 2 →
         IsAnswered (IsExampleAnswer number) result (K.held sink.old) (K.held sink.new) }
     ensures made_cut { (number : ℕ) → task_of (texts words.now.items) ≡ Some (Make number) → result ≡ 4 →
         IsCut (IsExampleAnswer number) (K.held sink.old) (K.held sink.new) }
 
-    // The memory that `check` prints of a thin job is safe in every run of the machine.
-    ensures safe { IfSome (S.left source.old) (λ bytes. (f : FileModel) → IsThinFile bytes f →
-        AreSafe (thin_rights (thin_of f)) (memory_of (file_at bytes)) (thin_start (thin_of f) ∷ [])) }
+    // From just the memory that `check` prints of an accepted job, every run of the machine is safe, and bytes outside what the job may
+    // reach have no effect.
+    ensures safe { task_of (texts words.now.items) ≡ Some (Read Check) → result ≡ 0 →
+        IfSome (S.left source.old) (λ bytes. IsSafelyAccepted bytes (K.held sink.old) (K.held sink.new)) }
+    // And so it is of all bytes of which no rule stands, whatever the source tells.
+    ensures law { AcceptedMayRun }
 {
     match task_of(words) {
         None => 2,

@@ -1,16 +1,18 @@
 //! A command from its input to its text in the sink.
 ghost use Rattle.std.specs.Prelude.{◌≡◌, ◌≢◌, ◌≤◌, ◌<◌, ◌⊎◌, ◌↔◌, length, IfOk, IfSome};
 ghost use Rattle.std.specs.Io.KnownBytes.{IsAtEnd};
-ghost use Rattle.job_io.specs.Faults.{Rose};
+ghost use Rattle.job_io.specs.Faults.{Rose, LastCallFailed};
 ghost use Rattle.job_io.specs.Traffic.{count_taken};
 ghost use Rattle.vc4check.specs.Answer.{IsAnswer};
+ghost use Rattle.vc4check.specs.Reply.{reply_status, reply_text};
 ghost use Rattle.vc4check.specs.Run.{IsAnswered, IsCut};
 ghost use Rattle.vc4check.specs.Words.{limit_of, IsWithin};
 
-use super::answer::{Answer, reply};
 use super::check::check_answer;
 use super::command::Command;
+use super::pictures::{level_answer, tile_answer, untile_answer};
 use super::replayed::replay_answer;
+use super::reply::{Reply, print};
 use super::scripts::{queue_answer, slots_answer};
 use super::shader_text::{asm_answer, disasm_answer};
 use field_words::NoMemory;
@@ -18,20 +20,24 @@ use job_io::{ReadEnd, Sink, Source, read_all};
 use std::alloc::Global;
 
 /// What the command answers to these bytes.
-fn answer_to(alloc: Global, command: Command, bytes: &[u8]) -> Result<Answer, NoMemory>
+fn answer_to(alloc: Global, command: Command, bytes: &[u8]) -> Result<Reply, NoMemory>
     requires few { length bytes.now ≤ limit_of command }
     requires within { IsWithin command }
-    ensures answers { IfOk result (λ a. IsAnswer command bytes.now a.status a.text.items) }
-    ensures status { IfOk result (λ a. a.status < 2) }
+    ensures answers { IfOk result (λ a. IsAnswer command bytes.now (reply_status a) (reply_text a)) }
+    ensures status { IfOk result (λ a. reply_status a < 2) }
 {
-    match command {
-        Command::Check => check_answer(alloc, bytes),
+    let answer = match command {
+        Command::Check => return check_answer(alloc, bytes),
         Command::Replay { steps, seed } => replay_answer(alloc, steps, seed, bytes),
         Command::Asm => asm_answer(alloc, bytes),
         Command::Disasm => disasm_answer(alloc, bytes),
         Command::Slots(slots) => slots_answer(alloc, slots, bytes),
         Command::Queue(buffers) => queue_answer(alloc, buffers, bytes),
-    }
+        Command::Untile(picture) => untile_answer(alloc, picture, bytes),
+        Command::Tile(picture) => tile_answer(alloc, picture, bytes),
+        Command::Level(part) => level_answer(alloc, part, bytes),
+    };
+    Ok(Reply::Text(answer?))
 }
 
 /// Appends the answer to these bytes to the sink. All memory is taken before the first byte is
@@ -41,6 +47,7 @@ fn respond<K: Sink>(alloc: Global, command: Command, bytes: &[u8], sink: &mut K)
     requires within { IsWithin command }
     ensures statuses { (result < 2) ⊎ ((result ≡ 4) ⊎ (result ≡ 5)) }
     ensures write { result ≡ 4 → Rose (K.faults sink.old) (K.faults sink.new) }
+    ensures write_last { result ≡ 4 → LastCallFailed K.held K.faults sink.old sink.new }
     ensures steady { result ≢ 4 → K.faults sink.new ≡ K.faults sink.old }
     ensures answered { result < 2 → IsAnswered (IsAnswer command bytes.now) result (K.held sink.old) (K.held sink.new) }
     ensures cut { result ≡ 4 → IsCut (IsAnswer command bytes.now) (K.held sink.old) (K.held sink.new) }
@@ -49,7 +56,7 @@ fn respond<K: Sink>(alloc: Global, command: Command, bytes: &[u8], sink: &mut K)
     let Ok(answer) = answer_to(alloc, command, bytes) else {
         return 5;
     };
-    reply(sink, &answer)
+    print(sink, &answer)
 }
 
 /// Reads all of the command's input, and appends its answer to the sink. All memory is taken before
@@ -67,7 +74,9 @@ pub fn serve<S: Source, K: Sink>(
     ensures statuses { result ≤ 6 }
     ensures asked { result ≢ 2 }
     ensures read { result ≡ 3 → Rose (S.faults source.old) (S.faults source.new) }
+    ensures read_last { result ≡ 3 → LastCallFailed S.left S.faults source.old source.new }
     ensures write { result ≡ 4 → Rose (K.faults sink.old) (K.faults sink.new) }
+    ensures write_last { result ≡ 4 → LastCallFailed K.held K.faults sink.old sink.new }
     ensures source_steady { result ≢ 3 → S.faults source.new ≡ S.faults source.old }
     ensures sink_steady { result ≢ 4 → K.faults sink.new ≡ K.faults sink.old }
     ensures all { ((result < 2) ⊎ (result ≡ 4)) → IsAtEnd (S.left source.new) }

@@ -1,5 +1,8 @@
-use Rattle.std.proofs.Common.{ℕ, ◌<◌, slice_index}
+use Rattle.std.proofs.Common.{◌≡◌, ℕ, ◌<◌, length, slice_index}
 use Rattle.replay.proofs.follow.fill.Given as goal
 
 abbrev pub invariant-loop-k : goal.invariant-loop-k
-invariant-loop-k g l = (j : ℕ) → j < l.k → goal.F-post g l.oracle.answer l.step j (slice_index l.words j)
+invariant-loop-k g l = record {
+  given : (j : ℕ) → j < l.k → goal.F-post g l.oracle.answer l.step j (slice_index l.words j);
+  long : length l.words ≡ length l.initial.words;
+}

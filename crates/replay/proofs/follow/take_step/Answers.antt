@@ -1,5 +1,6 @@
 -- The step is one that the script gave.
-use Rattle.std.proofs.Common.{◌<◌, ◌∙◌, subst, ap, length, slice_index, arith}
+use Rattle.std.proofs.Common.{◌≡◌, ◌<◌, ◌∙◌, subst, ap, length, slice_index, arith}
+use Rattle.std.proofs.lemmas.List.{length-take-le}
 use Rattle.replay.specs.Units.{unit_at}
 use Rattle.replay.proofs.Going.{unit_may, steps_by}
 use Rattle.replay.proofs.follow.take_step.Goals as goal
@@ -12,6 +13,9 @@ returns g c =
     let may = unit_may c.args.machine.now c.args.units.now.items c.pick-place.result c.unit_at-unit.result c.requires.units below unit_is in
     let picked = c.pick-place.ensures.gives in
     let size = c.len.ensures.value in
-    let long = c.fill.array_long in
-    steps_by _ _ c.args.step c.args.machine.now c.step.new.self c.args.units.now.items c.pick-place.result c.word_count-count.result c.unit_at-unit.result c.fill.new.words c.as_slice.result.now c.step.new.accesses.items c.job_of-job.result c.line_of.result
-    c.requires.goes c.requires.units below (subst (λ n. goal.C-post g c.args.oracle.now.choose c.args.step n c.pick-place.result) size picked) unit_is c.word_count-count.ensures.value c.fill.ensures (omega (arith, long, c.word_count-count.ensures.most)) (c.step.ensures.moved (c.step.ensures.done may)) c.as_slice.ensures.value c.job_of-job.ensures c.line_of.ensures
+    let given = c.fill.new.words in
+    let count = c.word_count.result in
+    let long : length given ≡ count = c.fill.ensures.long ∙ length-take-le count _ (omega (arith, c.word_count.ensures.most)) in
+    steps_by _ _ c.args.step c.args.machine.now c.step.new.self c.args.units.now.items c.pick-place.result c.unit_at-unit.result given c.as_slice.result.now c.step.new.accesses.items c.job_of-job.result c.line_of.result
+    c.requires.goes c.requires.units below (subst (λ n. goal.C-post g c.args.oracle.now.choose c.args.step n c.pick-place.result) size picked) unit_is (long ∙ c.word_count.ensures.value) c.fill.ensures.given
+    (c.step.ensures.moved (c.step.ensures.done may)) c.as_slice.ensures.value c.job_of-job.ensures c.line_of.ensures

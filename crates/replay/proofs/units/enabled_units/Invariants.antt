@@ -1,12 +1,10 @@
-use Rattle.std.proofs.Common.{◌≡◌, ◌≤◌, length}
-use Rattle.std.specs.Prelude.{filter}
-use Rattle.std.specs.List.{range_with_len}
-use Rattle.machine.specs.Step.{enabled}
-use Rattle.replay.specs.Units.{unit_at}
+-- The binner, the renderer and the units of the processors so far are asked.
+use Rattle.std.proofs.Common.{◌≡◌, ◌≤◌, ◌+◌, ◌*◌, length}
+use Rattle.replay.specs.Units.{enabled_below}
 use Rattle.replay.proofs.units.enabled_units.Given as goal
 
-abbrev pub invariant-loop-n : goal.invariant-loop-n
-invariant-loop-n l = record {
-  value : l.units.items ≡ filter (λ n. enabled l.machine (unit_at n)) (range_with_len 0 l.n);
-  few : length l.units.items ≤ l.n;
+abbrev pub invariant-loop-q : goal.invariant-loop-q
+invariant-loop-q l = record {
+  value : l.units.items ≡ enabled_below l.machine (3 * l.q + 2);
+  few : length l.units.items ≤ 3 * l.q + 2;
 }

@@ -1,0 +1,97 @@
+-- The configuration of the job's grid is the job's to write.
+use Rattle.std.proofs.Common.{◌≡◌, inl, ℕ, ◌+◌, ◌-◌, ◌*◌, ◌≤◌, Bool, true, false, not, ◌==◌, List, [], ◌∷◌, None, length, refl, arith, lit≤}
+use Rattle.std.proofs.lemmas.Bool.{leb-true, eqb-true}
+use Rattle.field_words.specs.Sizes.{page_size, slot_size}
+use Rattle.field_words.specs.Words.{rounded_up}
+use Rattle.field_words.proofs.Numbers.{rounded}
+use Rattle.field_words.proofs.Questions.{none_stands}
+use Rattle.field_words.specs.Questions.{first_of, answered}
+use Rattle.field_words.proofs.Nones.{front_none, rest_none, none_answered}
+use Rattle.tile_memory.specs.Slots.{alloc_offset, slot_fits}
+use Rattle.bin_list.specs.declared.seen.Seen.{Seen}
+use Rattle.bin_list.specs.Packets.{packets, passed}
+use Rattle.bin_list.specs.Seen.{seen_before}
+use Rattle.bin_list.specs.Rules.{GivenModel, given_of, asked, fault, end_questions, questions_of, bin_questions}
+use Rattle.bin_list.proofs.Facts.{has_grid, configured}
+use Rattle.job_format.specs.Model.{FileModel}
+use Rattle.job_check.specs.Shaders.{table_of}
+use Rattle.job_check.specs.Jobs.{job_of, has_bin, slot_of}
+use Rattle.list_machine.specs.Blocks.{tiles_of}
+use Rattle.list_law.specs.May.{MayWrite}
+use Rattle.list_law.specs.Binning.{Allocates}
+use Rattle.accepted_law.specs.Holdings.{slot_in, job_rights, across_of, down_of, config_for}
+use Rattle.accepted_law.specs.Settled.{Settled}
+use Rattle.accepted_law.specs.Parts.{FilesAllocate}
+
+-- The grid has room in a slot; where there is no binner list it has no tiles.
+started : (seen : Seen) → first_of (end_questions seen) ≡ None → seen.started ≡ true
+unfolding end_questions
+started seen none = let asked = none_stands (end_questions seen) none in grind (arith, asked.0)
+
+grid_room : (given : GivenModel) (list : List ℕ) → first_of (questions_of given (passed list)) ≡ None
+    → slot_fits ((seen_before (passed list)).tiles_x * (seen_before (passed list)).tiles_y) ≡ true
+unfolding questions_of seen_before
+grid_room given list none =
+    let all = passed list in
+    let end = answered (fault given.size) (end_questions (seen_before all)) in
+    let fine = front_none (asked given all) end none in
+    let ends : first_of (end_questions (seen_before all)) ≡ None = none_answered (fault given.size) (end_questions (seen_before all)) (rest_none (asked given all) end none) in
+    let grid = has_grid given all fine (configured given all fine (started (seen_before all) ends)) in
+    grid.room
+
+nothing_fits : slot_fits (0 * 0) ≡ true
+unfolding slot_fits alloc_offset rounded_up
+nothing_fits = refl
+
+empty_room : (list : List ℕ) → length list ≡ 0 → slot_fits ((seen_before (passed list)).tiles_x * (seen_before (passed list)).tiles_y) ≡ true
+unfolding passed packets seen_before
+empty_room [] none = nothing_fits
+empty_room (o ∷ body) none = absurd (omega (arith, none))
+
+not_false : (b : Bool) → not b ≡ false → b ≡ true
+not_false true is = refl
+not_false false is = absurd (cc)
+
+not_some : (n : ℕ) → not (n == 0) ≡ false → n ≡ 0
+not_some n is = eqb-true n 0 (not_false (n == 0) is)
+
+room_by : (f : FileModel) (b : Bool) → not (length (job_of f 0).bin == 0) ≡ b
+    → (b ≡ true → first_of (bin_questions (job_of f 0).bin (job_of f 0).declared (table_of f) (job_of f 0).handles) ≡ None)
+    → slot_fits (across_of f 0 * down_of f 0) ≡ true
+room_by f true is none =
+    let job = job_of f 0 in
+    grid_room (given_of job.bin job.declared (table_of f) job.handles) job.bin (none refl)
+room_by f false is none = empty_room (job_of f 0).bin (not_some (length (job_of f 0).bin) is)
+
+room_of : (f : FileModel) → Settled f → slot_fits (across_of f 0 * down_of f 0) ≡ true
+unfolding has_bin
+room_of f s = room_by f (not (length (job_of f 0).bin == 0)) refl s.bin
+
+record HasRoom (tiles : ℕ) : Type 0 where
+  states : 48 * tiles ≤ alloc_offset tiles
+  lists : alloc_offset tiles + 32 * tiles ≤ slot_size
+
+has_room : (tiles : ℕ) → slot_fits tiles ≡ true → HasRoom tiles
+unfolding slot_fits alloc_offset
+has_room tiles fits =
+    let near = rounded (48 * tiles) page_size (lit≤ tt) in
+    record { states = near.least; lists = leb-true (alloc_offset tiles + 32 * tiles) slot_size fits }
+
+lies_in_slot : (f : FileModel) (p n : ℕ) → slot_of f 0 ≤ p → p + n ≤ slot_of f 0 + slot_size → MayWrite (job_rights f 0) p n
+unfolding slot_in
+lies_in_slot f p n from upto = record { region = inl (record { from = from; upto = upto }); writable = inl (record { from = from; upto = upto }) }
+
+allocates : (f : FileModel) → HasRoom (across_of f 0 * down_of f 0) → Allocates (job_rights f 0) (config_for f 0)
+unfolding config_for tiles_of
+allocates f room =
+    let tiles = across_of f 0 * down_of f 0 in
+    let states = room.states in
+    let lists = room.lists in
+    record {
+      states = lies_in_slot f (slot_of f 0) (48 * tiles) (omega arith) (omega (arith, states, lists));
+      all = lies_in_slot f (slot_of f 0 + alloc_offset tiles) (slot_size - alloc_offset tiles) (omega arith) (omega (arith, lists));
+      first = omega (arith, lists);
+    }
+
+pub files_allocate_law : FilesAllocate
+files_allocate_law f grounds = allocates f (has_room (across_of f 0 * down_of f 0) (room_of f grounds.settled))

@@ -1,0 +1,113 @@
+-- A primitive of the emitted binner list may be drawn.
+use Rattle.std.proofs.Common.{◌≡◌, ◌≤◌, ◌<◌, ℕ, ◌+◌, ◌-◌, ◌%◌, ◌==◌, ◌&&◌, nat_lt, Bool, true, false, List, slice_index, length, Some, None, if◌then◌else◌, refl, ◌∙◌, ap, subst, arith}
+use Rattle.std.proofs.lemmas.Bool.{eqb-true}
+use Rattle.field_words.specs.Words.{u32_at}
+use Rattle.packets.specs.Opcode.{indexed_primitive_list, array_primitive_list}
+use Rattle.buffer_table.specs.Table.{TableModel, buffer_at}
+use Rattle.buffer_table.specs.Handles.{IsData, is_plain, data_of}
+use Rattle.emitted_facts.specs.Facts.{IsIndexedPrimitive, IsPrimitive}
+use Rattle.bin_list.specs.declared.state.State.{State}
+use Rattle.bin_list.specs.Packets.{opcode}
+use Rattle.bin_list.specs.Rules.{index_size}
+use Rattle.bin_list.specs.States.{last_index, draws_to}
+use Rattle.bin_walks.specs.Draws.{IsStateAt, AreIndexesInside, IsDrawn}
+use Rattle.shader_records.specs.Named.{IsDataIn}
+use Rattle.shader_records.specs.Sources.{state_at, record_offset}
+use Rattle.job_format.specs.Model.{FileModel}
+use Rattle.job_check.specs.Shaders.{table_of}
+use Rattle.job_check.specs.Jobs.{job_of, input_for, layout_of, states_in}
+use Rattle.machine_plan.specs.Regions.{Inside}
+use Rattle.accepted_law.specs.Holdings.{job_rights}
+use Rattle.accepted_law.specs.Settled.{Grounds}
+use Rattle.accepted_law.specs.Parts.{RecordsLaunch, DrawsBegin}
+use Rattle.accepted_law.proofs.States.{StateFound, state_found, place_for, place_whole, place_of, state_of, record_kept, data_inside, attributes_of}
+
+-- a Plain buffer that a handle names
+data_named : (table : TableModel) (handles : List ℕ) (handle : ℕ) → IsData table handles handle → data_of table handles handle ≡ Some (slice_index handles handle)
+unfolding data_of
+data_named table handles handle is =
+    let inside : nat_lt handle (length handles) ≡ true = grind (arith, is.0.0) in
+    let known : nat_lt (slice_index handles handle) (length table.buffers) ≡ true = grind (arith, is.0.1) in
+    λ i. if (inside i && known i) && is_plain (is.1 i) then Some (slice_index handles handle) else None
+
+data_in : (table : TableModel) (handles : List ℕ) (handle : ℕ) → IsData table handles handle
+    → IsDataIn table handles (buffer_at table.buffers (slice_index handles handle)).place (buffer_at table.buffers (slice_index handles handle)).size
+data_in table handles handle is = record { handle = handle; number = slice_index handles handle; named = data_named table handles handle is; place_is = refl; size_is = refl }
+
+draws_indexed : (packet : List ℕ) → opcode packet ≡ indexed_primitive_list → draws_to packet ≡ u32_at packet 10
+unfolding draws_to
+draws_indexed packet is = ap (λ o. if o == indexed_primitive_list then u32_at packet 10 else (if o == array_primitive_list then last_index (u32_at packet 6) (u32_at packet 2) else 0)) is
+
+draws_array : (packet : List ℕ) → opcode packet ≡ array_primitive_list → draws_to packet ≡ last_index (u32_at packet 6) (u32_at packet 2)
+unfolding draws_to
+draws_array packet is = ap (λ o. if o == indexed_primitive_list then u32_at packet 10 else (if o == array_primitive_list then last_index (u32_at packet 6) (u32_at packet 2) else 0)) is
+
+last_if : (b : Bool) (first count : ℕ) → (count == 0) ≡ b → 0 < count → (if b then 0 else first + count - 1) ≡ first + count - 1
+last_if true first count none some = let zero_is = eqb-true count 0 none in absurd (omega (arith, zero_is, some))
+last_if false first count is some = refl
+
+last_below : (first count most : ℕ) → last_index first count ≤ most → 0 < count → first + count ≤ most + 1
+last_below first count most upto some = let last = last_if (count == 0) first count refl some in omega (arith, last, upto, some)
+
+indexed_inside : (table : TableModel) (handles : List ℕ) (IsNamed : ℕ → ℕ → Type 0) (packet : List ℕ) (most : ℕ) → ((place size : ℕ) → IsDataIn table handles place size → IsNamed place size)
+    → AreIndexesInside table handles packet → u32_at packet 10 ≤ most → IsIndexedPrimitive IsNamed packet most
+unfolding index_size
+indexed_inside table handles IsNamed packet most named indexes greatest =
+    let buffer = buffer_at table.buffers (slice_index handles indexes.handle) in
+    record {
+      place = buffer.place;
+      size = buffer.size;
+      named = named buffer.place buffer.size (data_in table handles indexes.handle indexes.buffer);
+      from = indexes.from;
+      upto = indexes.upto;
+      greatest = greatest;
+    }
+
+primitive_of : (f : FileModel) (m : List ℕ) (word : ℕ) (packet : List ℕ) → Grounds f m → (drawn : IsDrawn (table_of f) (job_of f 0).handles (layout_of f 0) (states_in f 0) word packet)
+    → IsPrimitive (Inside (job_rights f 0).region) packet drawn.state.max_index
+primitive_of f m word packet grounds drawn = record {
+  indexed = λ is. indexed_inside (table_of f) (job_of f 0).handles (Inside (job_rights f 0).region) packet drawn.state.max_index (data_inside f m grounds) (drawn.indexes is)
+      (let draws = draws_indexed packet is in omega (arith, draws, drawn.most));
+  array = λ is. record { greatest = let draws = draws_array packet is in last_below (u32_at packet 6) (u32_at packet 2) drawn.state.max_index (subst (λ n. n ≤ drawn.state.max_index) draws drawn.most) };
+}
+
+found_in : (f : FileModel) (word : ℕ) (state : State) → IsStateAt (layout_of f 0) 0 (states_in f 0) word state → StateFound (input_for f 0) (layout_of f 0) word state
+unfolding input_for
+found_in f word state is = state_found (input_for f 0) (layout_of f 0) word state is
+
+listed : (f : FileModel) (k : ℕ) → k < length (input_for f 0).states → k < length (states_in f 0)
+unfolding input_for
+listed f k below = below
+
+points_there : (f : FileModel) (word : ℕ) (state : State) → (found : StateFound (input_for f 0) (layout_of f 0) word state) → word ≡ place_for f found.number + (state_at (input_for f 0) found.number).word % 16
+unfolding place_for
+points_there f word state found = found.points
+
+place_known : (f : FileModel) (k : ℕ) → place_for f k ≡ (layout_of f 0).place + (layout_of f 0).records + record_offset (input_for f 0) k
+unfolding place_for
+place_known f k = refl
+
+pub draws_begin_law : RecordsLaunch → DrawsBegin
+draws_begin_law launch f m word packet grounds has drawn kind =
+    let found = found_in f word drawn.state drawn.is_state in
+    let k : ℕ = found.number in
+    let points = points_there f word drawn.state found in
+    let whole = place_whole f k grounds.settled.sound in
+    let n : ℕ = (state_at (input_for f 0) k).word in
+    let place_is = place_of word (place_for f k) n whole points in
+    let state_is = state_of word (place_for f k) n whole points in
+    let kept = record_kept f m k word grounds has found.below place_is state_is in
+    let launches = launch f m k word grounds has (listed f k found.below) (place_is ∙ place_known f k) in
+    record {
+      state = n;
+      most = (state_at (input_for f 0) k).max_index;
+      is_state = state_is;
+      record_stands = kept.stands;
+      record_fixed = kept.fixed;
+      attributes = attributes_of f m k word grounds has found.below place_is;
+      fragment = launches.fragment;
+      vertex = launches.vertex;
+      coordinate = launches.coordinate;
+      kind = kind;
+      primitive = subst (λ state. IsPrimitive (Inside (job_rights f 0).region) packet state.max_index) found.same (primitive_of f m word packet grounds drawn);
+    }

@@ -1,0 +1,278 @@
+-- The three programs that the emitted record of a state names.
+use Rattle.std.proofs.Common.{◌≡◌, ◌≤◌, ◌<◌, ℕ, zero, suc, ◌+◌, ◌-◌, ◌*◌, ◌/◌, ◌%◌, ◌==◌, Bool, true, false, not, nat_lt, nat_le, if◌then◌else◌, List, length, Some, None, refl, sym, ap, subst, arith, inl, inr, ◌∙◌}
+use Rattle.std.proofs.lemmas.Bool.{cases_lt}
+use Rattle.field_words.specs.Words.{u32_at}
+use Rattle.field_words.specs.Questions.{first_of}
+use Rattle.buffer_table.specs.declared.buffer.Kind.TheVariants.{Code}
+use Rattle.buffer_table.specs.Table.{buffer_at}
+use Rattle.job_format.specs.Model.{FileModel}
+use Rattle.qpu_isa.specs.Shader.{ShaderModel, IsSoundShader}
+use Rattle.emitted_facts.specs.Records.{record_size, is_single, code_word, stream_word}
+use Rattle.emitted_facts.specs.Facts.{IsStream}
+use Rattle.shader_flow.specs.Flow.{is_threaded}
+use Rattle.uniform_stream.specs.Stream.{uniforms_of}
+use Rattle.shader_records.specs.Inputs.{InputModel, shader_in}
+use Rattle.shader_records.specs.Named.{IsDataIn}
+use Rattle.shader_records.specs.Sources.{state_at, emitted_size, record_source, record_offset, uniform_source, stream_offset, code_number, shader_used, is_threaded as switches, given_by, given_before, taken_before, record_word, place_in}
+use Rattle.shader_records.specs.Rules.{use_questions, disagrees}
+use Rattle.shader_records.specs.Emission.{emitted_word, shader_word, attribute_word, stream_place, stream_word_of}
+use Rattle.shader_records.specs.Emitted.{streams_place}
+use Rattle.shader_records.proofs.Fine.{state_fine, code_fine, flags_fine}
+use Rattle.shader_records.proofs.Inside.{count_limits, attributes_in, emitted_in}
+use Rattle.shader_records.proofs.Steps.{given_upto}
+use Rattle.shader_records.proofs.Lengths.{length_uniforms}
+use Rattle.shader_records.proofs.RecordFacts.{known_code}
+use Rattle.shader_records.proofs.StreamFacts.{emitted_stream_is, same_stream}
+use Rattle.shader_records.proofs.MemoryFacts.{record_in_memory, streams_in_memory}
+use Rattle.job_check.specs.Shaders.{table_of, content_of, words_of, told_of}
+use Rattle.job_check.specs.Jobs.{job_of, has_bin, input_for, layout_of, streams_of}
+use Rattle.list_machine.specs.Fetch.{record_place}
+use Rattle.list_law.specs.Emitted.{words_in, program_in}
+use Rattle.machine_law.specs.Begins.{LaunchBegins}
+use Rattle.accepted_law.specs.Holdings.{plain_of, file_rights}
+use Rattle.accepted_law.specs.Settled.{Grounds}
+use Rattle.accepted_law.specs.Parts.{RecordsLaunch}
+use Rattle.accepted_law.proofs.Uses.{inputs_are, inputs_low, streams_low, emitted_stand, streams_are, code_is, told_is}
+use Rattle.accepted_law.proofs.Homes.{home_of, IsStarted, home_begins}
+
+-- Words of the record that name its shaders.
+small_word : (state i : ℕ) → i < 9 → (4 * i < record_size state) × (4 * i < emitted_size state)
+small_word state i below =
+    let few = (count_limits state).0 in
+    let inside = attributes_in state in
+    let whole = (emitted_in state).0 in
+    (omega (arith, few, inside, below), omega (arith, few, inside, below, whole))
+
+not_past : (state i : ℕ) → 4 * i < record_size state → nat_le (record_size state) (4 * i) ≡ false
+not_past state i inside = grind (arith, inside)
+
+first_nine : (i : ℕ) → i < 9 → nat_lt i 9 ≡ true
+first_nine i below = grind (arith, below)
+
+shader_emitted : (input : InputModel) (at state : ℕ) (streams : ℕ → ℕ) (i : ℕ) → i < 9 → emitted_word input at state streams i ≡ shader_word input at state streams i
+unfolding emitted_word
+shader_emitted input at state streams i below =
+    ap (λ b. if b then 0 else (if nat_lt i 9 then shader_word input at state streams i else attribute_word input at state (i - 9))) (not_past state i (small_word state i below).0)
+    ∙ ap (λ b. if b then shader_word input at state streams i else attribute_word input at state (i - 9)) (first_nine i below)
+
+code_third : (s : ℕ) → ((3 * s + 1) % 3 == 1) ≡ true
+code_third s = grind arith
+
+stream_third : (s : ℕ) → ((3 * s + 2) % 3 == 1) ≡ false
+stream_third s = grind arith
+
+stream_last : (s : ℕ) → ((3 * s + 2) % 3 == 2) ≡ true
+stream_last s = grind arith
+
+code_emitted : (input : InputModel) (at state : ℕ) (streams : ℕ → ℕ) (s : ℕ) → shader_word input at state streams (3 * s + 1) ≡ place_in input.table (code_number input at s)
+unfolding shader_word
+code_emitted input at state streams s =
+    let i : ℕ = 3 * s + 1 in
+    let third : i / 3 ≡ s = omega arith in
+    ap (λ b. if b then place_in input.table (code_number input at (i / 3)) else (if i % 3 == 2 then streams (i / 3) else record_word input at state i)) (code_third s)
+    ∙ ap (λ n. place_in input.table (code_number input at n)) third
+
+stream_emitted : (input : InputModel) (at state : ℕ) (streams : ℕ → ℕ) (s : ℕ) → shader_word input at state streams (3 * s + 2) ≡ streams s
+unfolding shader_word
+stream_emitted input at state streams s =
+    let i : ℕ = 3 * s + 2 in
+    let third : i / 3 ≡ s = omega arith in
+    ap (λ b. if b then place_in input.table (code_number input at (i / 3)) else (if i % 3 == 2 then streams (i / 3) else record_word input at state i)) (stream_third s)
+    ∙ ap (λ b. if b then streams (i / 3) else record_word input at state i) (stream_last s)
+    ∙ ap streams third
+
+flags_emitted : (input : InputModel) (at state : ℕ) (streams : ℕ → ℕ) → shader_word input at state streams 0 ≡ record_word input at state 0
+unfolding shader_word
+flags_emitted input at state streams = refl
+
+-- Shader s of state k: its buffer and its stream, and the two words of the record that name them.
+record IsProgram (f : FileModel) (m : List ℕ) (k s : ℕ) : Type 0 where
+  handle : ℕ
+  number : ℕ
+  stream : ℕ
+  started : IsStarted f m handle number stream
+  used : shader_used (input_for f 0) (record_source (input_for f 0) k) s ≡ Some (told_of (words_of (content_of f number)))
+  code_there : u32_at m ((layout_of f 0).place + (layout_of f 0).records + record_offset (input_for f 0) k + 4 * code_word s) ≡ (buffer_at f.buffers number).place
+  stream_there : u32_at m ((layout_of f 0).place + (layout_of f 0).records + record_offset (input_for f 0) k + 4 * stream_word s) ≡ stream
+
+-- one word of the record, among the first nine
+record_has : (f : FileModel) (m : List ℕ) (k i : ℕ) → Grounds f m → has_bin f 0 ≡ true → k < length (input_for f 0).states → i < 9
+    → u32_at m ((layout_of f 0).place + (layout_of f 0).records + record_offset (input_for f 0) k + 4 * i)
+    ≡ shader_word (input_for f 0) (record_source (input_for f 0) k) (state_at (input_for f 0) k).word (stream_place (input_for f 0) (record_source (input_for f 0) k) ((layout_of f 0).place + (layout_of f 0).uniforms + stream_offset (input_for f 0) k)) i
+record_has f m k i grounds some below small =
+    let input : InputModel = input_for f 0 in
+    let first : ℕ = (layout_of f 0).place + (layout_of f 0).uniforms in
+    let at : ℕ = record_source input k in
+    let state : ℕ = (state_at input k).word in
+    record_in_memory input ((layout_of f 0).place + (layout_of f 0).records) first m k i (inputs_low f grounds.settled) (grounds.settled.records some) below (streams_low f grounds.settled)
+    (emitted_stand f m grounds some) (small_word state i small).1
+    ∙ shader_emitted input at state (stream_place input at (first + stream_offset input k)) i small
+
+-- the streams of states that come before end before those of others
+offset_rises : (input : InputModel) (k n : ℕ) → k < n → stream_offset input k + given_before input (record_source input k) 3 ≤ stream_offset input n
+unfolding stream_offset
+offset_rises input k zero below = absurd (omega (arith, below))
+offset_rises input k (suc n) below =
+    elim (cases_lt k n) [
+      | inl earlier ↦ let e = offset_rises input k n earlier in omega (arith, e)
+      | inr past ↦
+          let same : k ≡ n = omega (arith, below, past) in
+          subst (λ x. stream_offset input k + given_before input (record_source input k) 3 ≤ stream_offset input x + given_before input (record_source input x) 3) same (omega arith)
+    ]
+
+-- so they end among those that were emitted
+streams_end : (f : FileModel) (k : ℕ) → has_bin f 0 ≡ true → k < length (input_for f 0).states
+    → stream_offset (input_for f 0) k + given_before (input_for f 0) (record_source (input_for f 0) k) 3 ≤ length (streams_of f 0)
+streams_end f k some below =
+    let input : InputModel = input_for f 0 in
+    let all = ap length (streams_are f some) ∙ length_uniforms input (streams_place (layout_of f 0)) (length input.states) in
+    let rises = offset_rises input k (length input.states) below in
+    omega (arith, all, rises)
+
+-- where the streams of state k begin, and that of its shader s
+abbrev streams_from : FileModel → ℕ → ℕ
+streams_from f k = (layout_of f 0).place + (layout_of f 0).uniforms + stream_offset (input_for f 0) k
+
+abbrev stream_at : FileModel → ℕ → ℕ → ℕ
+stream_at f k s = stream_place (input_for f 0) (record_source (input_for f 0) k) (streams_from f k) s
+
+-- It was made for the shader.
+stream_takes : (f : FileModel) (m : List ℕ) (k s : ℕ) (shader : ShaderModel) → Grounds f m → has_bin f 0 ≡ true → k < length (input_for f 0).states → s < 3
+    → shader_used (input_for f 0) (record_source (input_for f 0) k) s ≡ Some shader → IsSoundShader shader
+    → IsStream (IsDataIn (input_for f 0).table (input_for f 0).handles) shader (stream_at f k s) (λ i. u32_at m (stream_at f k s + 4 * i))
+stream_takes f m k s shader grounds some below small used sound =
+    let input : InputModel = input_for f 0 in
+    let first : ℕ = (layout_of f 0).place + (layout_of f 0).uniforms in
+    let at : ℕ = record_source input k in
+    let source : ℕ = uniform_source input k + taken_before input at s in
+    let none = grounds.settled.records some in
+    let fine = state_fine input k none below in
+    let streams = streams_in_memory input ((layout_of f 0).place + (layout_of f 0).records) first m k (inputs_are f grounds.settled) (inputs_low f grounds.settled) none below (streams_low f grounds.settled) (emitted_stand f m grounds some) in
+    let fits : first_of (use_questions input source (Some shader)) ≡ None = ap (λ o. first_of (use_questions input source o)) (sym used) ∙ fine.of_use s small in
+    same_stream (IsDataIn input.table input.handles) shader (stream_at f k s) (λ i. u32_at m (stream_at f k s + 4 * i)) (stream_word_of input source shader (stream_at f k s)) sound
+    (λ i inside. streams.word s shader i small used inside)
+    (emitted_stream_is input source shader (stream_at f k s) sound fits)
+
+-- It lies among the emitted streams.
+stream_ends : (f : FileModel) (k s uniforms : ℕ) → has_bin f 0 ≡ true → k < length (input_for f 0).states → s < 3
+    → given_by (shader_used (input_for f 0) (record_source (input_for f 0) k) s) ≡ 4 * uniforms
+    → ((layout_of f 0).place + (layout_of f 0).uniforms ≤ stream_at f k s) × (stream_at f k s + 4 * uniforms ≤ (layout_of f 0).place + (layout_of f 0).uniforms + length (streams_of f 0))
+unfolding stream_place
+stream_ends f k s uniforms some below small given =
+    let ends = streams_end f k some below in
+    let upto = given_upto (input_for f 0) (record_source (input_for f 0) k) s small in
+    (omega arith, omega (arith, ends, upto, given))
+
+program_told : (f : FileModel) (m : List ℕ) (k s number : ℕ) → Grounds f m → has_bin f 0 ≡ true → k < length (input_for f 0).states → s < 3
+    → code_number (input_for f 0) (record_source (input_for f 0) k) s ≡ Some number
+    → shader_used (input_for f 0) (record_source (input_for f 0) k) s ≡ Some (told_of (words_of (content_of f number))) → IsSoundShader (told_of (words_of (content_of f number)))
+    → IsProgram f m k s
+unfolding input_for code_number told_of
+program_told f m k s number grounds some below small named used sound =
+    let input : InputModel = input_for f 0 in
+    let at : ℕ = record_source input k in
+    let state : ℕ = (state_at input k).word in
+    let ends = stream_ends f k s (uniforms_of (words_of (content_of f number))) some below small (ap given_by used) in
+    record {
+      handle = u32_at input.records (at + 4 * s);
+      number = number;
+      stream = stream_at f k s;
+      started = record {
+        named = named;
+        sound = sound;
+        from = ends.0;
+        upto = ends.1;
+        takes = stream_takes f m k s (told_of (words_of (content_of f number))) grounds some below small used sound;
+      };
+      used = used;
+      code_there =
+          record_has f m k (code_word s) grounds some below (omega (arith, small))
+          ∙ code_emitted input at state (stream_place input at (streams_from f k)) s ∙ ap (place_in (table_of f)) named;
+      stream_there =
+          record_has f m k (stream_word s) grounds some below (omega (arith, small))
+          ∙ stream_emitted input at state (stream_place input at (streams_from f k)) s;
+    }
+
+program_of : (f : FileModel) (m : List ℕ) (k s number : ℕ) (shader : ShaderModel) → Grounds f m → has_bin f 0 ≡ true → k < length (input_for f 0).states → s < 3
+    → code_number (input_for f 0) (record_source (input_for f 0) k) s ≡ Some number → number < length f.buffers → (buffer_at f.buffers number).kind ≡ Code
+    → shader_in (input_for f 0).shaders number ≡ Some shader
+    → shader_used (input_for f 0) (record_source (input_for f 0) k) s ≡ Some shader → IsSoundShader shader
+    → IsProgram f m k s
+program_of f m k s number shader grounds some below small named inside code is used sound =
+    let told : shader ≡ told_of (words_of (content_of f number)) = told_is f number shader inside code is in
+    program_told f m k s number grounds some below small named
+    (subst (λ x. shader_used (input_for f 0) (record_source (input_for f 0) k) s ≡ Some x) told used) (subst IsSoundShader told sound)
+
+named_code : (f : FileModel) (at s number : ℕ) → code_number (input_for f 0) at s ≡ Some number → (number < length f.buffers) × ((buffer_at f.buffers number).kind ≡ Code)
+unfolding input_for code_number
+named_code f at s number named = code_is (table_of f) (job_of f 0).handles (u32_at (job_of f 0).records (at + 4 * s)) number named
+
+program_at : (f : FileModel) (m : List ℕ) (k s : ℕ) → Grounds f m → has_bin f 0 ≡ true → k < length (input_for f 0).states → s < 3 → IsProgram f m k s
+program_at f m k s grounds some below small =
+    let input : InputModel = input_for f 0 in
+    let at : ℕ = record_source input k in
+    let fine = state_fine input k (grounds.settled.records some) below in
+    let known = known_code input at s (inputs_are f grounds.settled) (code_fine input at (state_at input k).word (state_at input k).max_index s fine.of_record small) in
+    let is = named_code f at s known.number known.named in
+    program_of f m k s known.number known.shader grounds some below small known.named is.0 is.1 known.shader_is known.used known.sound
+
+-- So each may be started, as threaded as its shader is.
+threaded_is : (f : FileModel) (number : ℕ) → switches (Some (told_of (words_of (content_of f number)))) ≡ is_threaded (words_of (content_of f number))
+unfolding told_of
+threaded_is f number = refl
+
+launch_begins : (f : FileModel) (m : List ℕ) (k s word : ℕ) (threaded : Bool) → Grounds f m → has_bin f 0 ≡ true → k < length (input_for f 0).states → s < 3
+    → record_place word ≡ (layout_of f 0).place + (layout_of f 0).records + record_offset (input_for f 0) k
+    → threaded ≡ switches (shader_used (input_for f 0) (record_source (input_for f 0) k) s)
+    → LaunchBegins (file_rights f) m 0 (program_in m word threaded s)
+unfolding home_of
+launch_begins f m k s word threaded grounds some below small there agrees =
+    let program = program_at f m k s grounds some below small in
+    record {
+      home = home_of f m program.number program.stream;
+      buffers = plain_of f 0;
+      begins = home_begins f m program.handle program.number program.stream grounds program.started;
+      code = ap (λ q. u32_at m (q + 4 * code_word s)) there ∙ program.code_there;
+      uniforms = ap (λ q. u32_at m (q + 4 * stream_word s)) there ∙ program.stream_there;
+      threaded = agrees ∙ ap switches program.used ∙ threaded_is f program.number;
+    }
+
+-- The flags agree with the fragment shader.
+agrees_not : (single threaded : Bool) → disagrees single threaded ≡ false → not single ≡ threaded
+unfolding disagrees
+agrees_not true true fine = cc
+agrees_not true false fine = refl
+agrees_not false true fine = refl
+agrees_not false false fine = cc
+
+flags_there : (f : FileModel) (m : List ℕ) (k word : ℕ) → Grounds f m → has_bin f 0 ≡ true → k < length (input_for f 0).states
+    → record_place word ≡ (layout_of f 0).place + (layout_of f 0).records + record_offset (input_for f 0) k
+    → is_single (words_in m word) ≡ is_single (record_word (input_for f 0) (record_source (input_for f 0) k) (state_at (input_for f 0) k).word)
+unfolding is_single
+flags_there f m k word grounds some below there =
+    let input : InputModel = input_for f 0 in
+    let at : ℕ = record_source input k in
+    let flags =
+    ap (λ q. u32_at m (q + 4 * 0)) there
+    ∙ record_has f m k 0 grounds some below (omega arith)
+    ∙ flags_emitted input at (state_at input k).word (stream_place input at (streams_from f k)) in
+    ap (λ w. w % 2 == 1) flags
+
+pub records_launch_law : RecordsLaunch
+unfolding input_for
+records_launch_law f m k word grounds some below there =
+    let input : InputModel = input_for f 0 in
+    let at : ℕ = record_source input k in
+    let state : ℕ = (state_at input k).word in
+    let most : ℕ = (state_at input k).max_index in
+    let fine = state_fine input k (grounds.settled.records some) below in
+    let vertex = code_fine input at state most 1 fine.of_record (omega arith) in
+    let coordinate = code_fine input at state most 2 fine.of_record (omega arith) in
+    let flags = flags_there f m k word grounds some below there in
+    record {
+      fragment =
+          launch_begins f m k 0 word (not (is_single (words_in m word))) grounds some below (omega arith) there
+          (ap not flags ∙ agrees_not (is_single (record_word input at state)) (switches (shader_used input at 0)) (flags_fine input at state most fine.of_record));
+      vertex = launch_begins f m k 1 word false grounds some below (omega arith) there (sym vertex.single);
+      coordinate = launch_begins f m k 2 word false grounds some below (omega arith) there (sym coordinate.single);
+    }

@@ -1,0 +1,186 @@
+-- A file in which no rule stands settles.
+use Rattle.std.proofs.Common.{◌≡◌, ℕ, ◌%◌, ◌==◌, ◌<◌, ◌≤◌, inl, inr, Bool, true, false, not, if◌then◌else◌, List, [], ◌∷◌, ◌++◌, Some, None, is_some, length, get_or, refl, sym, ap, subst, arith, ◌∙◌, zero-add}
+use Rattle.std.specs.List.{AllByRecursion}
+use Rattle.std.proofs.lemmas.Bool.{ltb-false, cases_lt}
+use Rattle.std.proofs.lemmas.List.{get_or_past}
+use Rattle.std.proofs.lemmas.List.FromFn.{length-map-range_with_len, get_or-map-range_with_len}
+use Rattle.field_words.specs.Questions.{Question, Ask, first_of, each, answered}
+use Rattle.field_words.proofs.Questions.{none_stands}
+use Rattle.field_words.proofs.Nones.{front_none, rest_none, each_none, none_answered}
+use Rattle.buffer_table.specs.declared.buffer.Kind.{Kind}
+use Rattle.buffer_table.specs.declared.buffer.Kind.TheVariants.{Plain, Code}
+use Rattle.buffer_table.specs.Table.{buffer_at, table_questions}
+use Rattle.buffer_table.specs.Handles.{AreNumbersOf, handles_questions, is_plain}
+use Rattle.buffer_table.specs.Sound.{IsSound}
+use Rattle.buffer_table.proofs.Sounds.{sound}
+use Rattle.buffer_table.proofs.Named.{are_numbers}
+use Rattle.bin_list.specs.Rules.{bin_questions}
+use Rattle.qpu_isa.specs.Shader.{ShaderModel, IsSoundShader}
+use Rattle.shader_flow.specs.Flow.{is_threaded}
+use Rattle.uniform_stream.specs.Stream.{uniforms_of, address_words_of}
+use Rattle.shader_check.specs.Info.{samples_of}
+use Rattle.shader_check.specs.Rules.{shader_questions}
+use Rattle.shader_check.proofs.Clean.{clean}
+use Rattle.shader_check.proofs.SoundInfo.{sound as info_sound}
+use Rattle.shader_check.proofs.Indexed.{sound_shader}
+use Rattle.shader_records.specs.Inputs.{AreShadersOf, shader_in}
+use Rattle.shader_records.specs.Rules.{all_questions}
+use Rattle.render_list.specs.Surfaces.{surface_faults}
+use Rattle.job_format.specs.File.{IsWellFormed, Fits, JobFits}
+use Rattle.job_format.specs.Model.{FileModel, JobModel}
+use Rattle.job_check.specs.Shaders.{table_of, words_of, code_questions, told_of, content_of, shader_for, shader_of, shaders_up_to, shaders_of}
+use Rattle.job_check.specs.Jobs.{no_job, job_of, has_bin, grid_of, input_for, layout_of}
+use Rattle.job_check.specs.Faults.{table_refused, table_stage, shader_refused, shader_questions_in, shader_stage, shaders_stage, handle_refused, handles_stage, bin_refused, bin_stage, record_refused, records_stage, surface_refused, surfaces_stage, layout_stage, lists_stages, job_stages, file_stages}
+use Rattle.job_check.proofs.Jobs.{job_limits}
+use Rattle.accepted_law.specs.Parts.{FilesSettle}
+
+-- no rule of a stage that is asked where a test is true
+asked_if : {F : Type 0} (b : Bool) (rules : List (Question F)) → b ≡ true → first_of (if b then rules else []) ≡ None → first_of rules ≡ None
+asked_if true rules is none = none
+asked_if false rules is none = absurd (cc)
+
+-- the stages of a file, and of its job
+record NoneStands (f : FileModel) : Type 0 where
+  table : first_of (table_stage f) ≡ None
+  shaders : first_of (shaders_stage f) ≡ None
+  handles : first_of (handles_stage f 0) ≡ None
+  bin : first_of (bin_stage f 0) ≡ None
+  records : first_of (records_stage f 0) ≡ None
+  surfaces : first_of (surfaces_stage f 0) ≡ None
+  layout : first_of (layout_stage f 0) ≡ None
+
+none_in : (f : FileModel) → length f.jobs ≡ 1 → first_of (file_stages f) ≡ None → NoneStands f
+unfolding file_stages job_stages lists_stages
+none_in f one none =
+    let jobs = each (job_stages f) 0 (length f.jobs) in
+    let rest = rest_none (table_stage f) (shaders_stage f ++ jobs) none in
+    let job : first_of (job_stages f 0) ≡ None = each_none (job_stages f) 0 (length f.jobs) 0 (rest_none (shaders_stage f) jobs rest) (omega arith) (omega (arith, one)) in
+    let lists = bin_stage f 0 ++ (records_stage f 0 ++ surfaces_stage f 0) in
+    let later = rest_none (handles_stage f 0) (lists ++ layout_stage f 0) job in
+    let all = front_none lists (layout_stage f 0) later in
+    let behind = rest_none (bin_stage f 0) (records_stage f 0 ++ surfaces_stage f 0) all in
+    record {
+      table = front_none (table_stage f) (shaders_stage f ++ jobs) none;
+      shaders = front_none (shaders_stage f) jobs rest;
+      handles = front_none (handles_stage f 0) (lists ++ layout_stage f 0) job;
+      bin = front_none (bin_stage f 0) (records_stage f 0 ++ surfaces_stage f 0) all;
+      records = front_none (records_stage f 0) (surfaces_stage f 0) behind;
+      surfaces = rest_none (records_stage f 0) (surfaces_stage f 0) behind;
+      layout = rest_none lists (layout_stage f 0) later;
+    }
+
+-- M
+table_sound : (f : FileModel) → first_of (table_stage f) ≡ None → IsSound f.mem_size f.regions f.buffers
+unfolding table_stage
+table_sound f none = sound f.mem_size f.regions f.buffers (none_answered table_refused (table_questions f.mem_size f.regions f.buffers) none)
+
+-- S
+code_none : (kind : Kind) (content : List ℕ) → kind ≡ Code → first_of (shader_questions_in kind content) ≡ None → first_of (code_questions content) ≡ None
+code_none Plain content is none = absurd (cc)
+code_none Code content is none = none
+
+code_at : (f : FileModel) → first_of (shaders_stage f) ≡ None → (number : ℕ) → number < length f.buffers → (buffer_at f.buffers number).kind ≡ Code → first_of (code_questions (content_of f number)) ≡ None
+unfolding shaders_stage shader_stage
+code_at f none number inside is =
+    let here = each_none (shader_stage f) 0 (length f.buffers) number none (omega arith) (omega (arith, inside)) in
+    code_none (buffer_at f.buffers number).kind (content_of f number) is
+    (none_answered (shader_refused f number) (shader_questions_in (buffer_at f.buffers number).kind (content_of f number)) here)
+
+-- A shader without faults is told of soundly.
+code_rules : (content : List ℕ) → first_of (code_questions content) ≡ None → first_of (shader_questions (words_of content)) ≡ None
+unfolding code_questions
+code_rules content none = rest_none (Ask (not (length content % 8 == 0)) (record { number = 1; index = 0 }) ∷ []) (shader_questions (words_of content)) none
+
+pub told_sound : (code : List ℕ) → first_of (shader_questions code) ≡ None → IsSoundShader (told_of code)
+unfolding told_of
+told_sound code none = sound_shader (uniforms_of code) (samples_of code) (address_words_of code) (is_threaded code) (info_sound code (clean code none))
+
+sound_for : (kind : Kind) (content : List ℕ) (shader : ShaderModel) → (kind ≡ Code → first_of (code_questions content) ≡ None) → shader_for kind content ≡ Some shader → IsSoundShader shader
+sound_for Plain content shader none is = cc
+sound_for Code content shader none is =
+    let same : told_of (words_of content) ≡ shader = cc in
+    subst IsSoundShader same (told_sound (words_of content) (code_rules content (none refl)))
+
+is_code : (kind : Kind) (content : List ℕ) → is_plain kind ≡ not (is_some (shader_for kind content))
+is_code Plain content = refl
+is_code Code content = refl
+
+shader_at : (f : FileModel) (number : ℕ) → number < length f.buffers → shader_in (shaders_of f) number ≡ shader_for (buffer_at f.buffers number).kind (content_of f number)
+unfolding shaders_up_to shader_of
+shader_at f number inside = get_or-map-range_with_len (shader_of f) 0 (length f.buffers) number number None inside (zero-add number)
+
+shader_count : (f : FileModel) → length (shaders_of f) ≡ length f.buffers
+unfolding shaders_up_to
+shader_count f = length-map-range_with_len (shader_of f) 0 (length f.buffers)
+
+sound_at : (f : FileModel) → first_of (shaders_stage f) ≡ None → (number : ℕ) (shader : ShaderModel) → shader_in (shaders_of f) number ≡ Some shader → IsSoundShader shader
+sound_at f none number shader is =
+    elim (cases_lt number (length f.buffers)) [
+      | inl inside ↦
+          sound_for (buffer_at f.buffers number).kind (content_of f number) shader (code_at f none number inside) (sym (shader_at f number inside) ∙ is)
+      | inr past ↦
+          (let nothing : shader_in (shaders_of f) number ≡ None = get_or_past (shaders_of f) number None (omega (arith, past, shader_count f)) in
+          cc)
+    ]
+
+pub shaders_are : (f : FileModel) → first_of (shaders_stage f) ≡ None → AreShadersOf (table_of f) (shaders_of f)
+shaders_are f none = record {
+  count = shader_count f;
+  code = λ number inside. is_code (buffer_at f.buffers number).kind (content_of f number) ∙ sym (ap (λ o. not (is_some o)) (shader_at f number inside));
+  sound = sound_at f none;
+}
+
+-- H, B, A and U, G, X
+handles_none : (f : FileModel) → first_of (handles_stage f 0) ≡ None → AreNumbersOf (table_of f) (job_of f 0).handles
+unfolding handles_stage
+handles_none f none =
+    are_numbers (table_of f) (job_of f 0).client (job_of f 0).handles
+    (none_answered (handle_refused f 0) (handles_questions (table_of f) (job_of f 0).client (job_of f 0).handles) none)
+
+bin_none : (f : FileModel) → first_of (bin_stage f 0) ≡ None → has_bin f 0 ≡ true → first_of (bin_questions (job_of f 0).bin (job_of f 0).declared (table_of f) (job_of f 0).handles) ≡ None
+unfolding bin_stage
+bin_none f none some =
+    let rules = bin_questions (job_of f 0).bin (job_of f 0).declared (table_of f) (job_of f 0).handles in
+    none_answered (bin_refused f 0) rules (asked_if (has_bin f 0) (answered (bin_refused f 0) rules) some none)
+
+records_none : (f : FileModel) → first_of (records_stage f 0) ≡ None → has_bin f 0 ≡ true → first_of (all_questions (input_for f 0)) ≡ None
+unfolding records_stage
+records_none f none some =
+    none_answered (record_refused f 0) (all_questions (input_for f 0)) (asked_if (has_bin f 0) (answered (record_refused f 0) (all_questions (input_for f 0))) some none)
+
+surfaces_none : (f : FileModel) → first_of (surfaces_stage f 0) ≡ None → first_of (surface_faults (job_of f 0).frame (grid_of f 0) (table_of f) (job_of f 0).handles) ≡ None
+unfolding surfaces_stage
+surfaces_none f none = none_answered (surface_refused f 0) (surface_faults (job_of f 0).frame (grid_of f 0) (table_of f) (job_of f 0).handles) none
+
+lists_fit : (f : FileModel) → first_of (layout_stage f 0) ≡ None → (layout_of f 0).end ≤ f.regions.lists_size
+unfolding layout_stage
+lists_fit f none =
+    let asked = none_stands (layout_stage f 0) none in
+    ltb-false f.regions.lists_size (layout_of f 0).end asked.0
+
+-- what is true of each job is true of the first
+first_job : (P : JobModel → Type 0) (jobs : List JobModel) → length jobs ≡ 1 → AllByRecursion P jobs → P (get_or jobs 0 no_job)
+first_job P [] one all = absurd (omega (arith, one))
+first_job P (job ∷ jobs) one all = all.0
+
+job_fits : (f : FileModel) → IsWellFormed f → Fits f → JobFits (job_of f 0)
+unfolding job_of
+job_fits f well fits = first_job JobFits f.jobs well.one_job fits.jobs
+
+pub files_settle_law : FilesSettle
+files_settle_law f well fits none =
+    let stages = none_in f well.one_job none in
+    record {
+      well_formed = well;
+      fits = fits;
+      limits = job_limits f 0 well.jobs (omega (arith, well.one_job));
+      job_fits = job_fits f well fits;
+      sound = table_sound f stages.table;
+      codes = code_at f stages.shaders;
+      shaders = shaders_are f stages.shaders;
+      numbers = handles_none f stages.handles;
+      bin = bin_none f stages.bin;
+      records = records_none f stages.records;
+      surfaces = surfaces_none f stages.surfaces;
+      lists = lists_fit f stages.layout;
+    }

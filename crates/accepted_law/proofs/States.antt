@@ -1,0 +1,259 @@
+-- The state that a word in the emitted binner list points to, and where its record stands.
+use Rattle.std.proofs.Common.{◌≡◌, ◌≤◌, ◌<◌, ℕ, zero, suc, ◌+◌, ◌-◌, ◌*◌, ◌/◌, ◌%◌, ◌^◌, ◌==◌, true, List, [], ◌∷◌, length, take, drop, get_or, if◌then◌else◌, refl, sym, ◌∙◌, ap, subst, arith, inl, inr, length-drop, get_or-drop, get_or-take}
+use Rattle.std.proofs.Math.Seq.{drop-cons}
+use Rattle.std.proofs.lemmas.Bool.{cases_lt}
+use Rattle.std.proofs.lemmas.List.{get_or_past, get_or_default, length-take-le}
+use Rattle.std.proofs.lemmas.Grind.{same_number_lists}
+use Rattle.field_words.specs.Pieces.{IsPiece}
+use Rattle.field_words.specs.Words.{u32_at}
+use Rattle.emitted_facts.specs.Facts.{IsAttributeIn, IsRecord}
+use Rattle.emitted_facts.specs.Records.{attribute_count, is_extended, record_size}
+use Rattle.buffer_table.specs.declared.buffer.Buffer.{Buffer}
+use Rattle.buffer_table.specs.Table.{buffer_at, past_end}
+use Rattle.buffer_table.specs.Sound.{IsSound}
+use Rattle.buffer_table.proofs.Sounds.{sound_buffer}
+use Rattle.bin_list.specs.declared.state.State.{State}
+use Rattle.bin_list.specs.Seen.{attributes as listed_count, is_extended as is_listed_extended, record_size as listed_size, record_room}
+use Rattle.bin_walks.specs.Draws.{IsStateAt}
+use Rattle.relocation.specs.declared.layout.Layout.{Layout}
+use Rattle.shader_records.specs.Inputs.{InputModel, AreInputs}
+use Rattle.shader_records.specs.Named.{IsDataIn, IsCodeIn, AreInMemory, IsEmittedIn}
+use Rattle.shader_records.specs.Sources.{no_state, state_at, emitted_size, record_offset}
+use Rattle.shader_records.specs.Emission.{emitted_records, emitted_uniforms}
+use Rattle.shader_records.specs.Emitted.{streams_place}
+use Rattle.shader_records.proofs.Inside.{emitted_in}
+use Rattle.shader_records.proofs.Lengths.{length_records}
+use Rattle.shader_records.proofs.RecordsInMemory.{records_in_memory}
+use Rattle.job_format.specs.Model.{FileModel}
+use Rattle.job_check.specs.Shaders.{table_of}
+use Rattle.job_check.specs.Jobs.{job_of, has_bin, input_for, layout_of, records_of, streams_of}
+use Rattle.job_check.specs.Emit.{lengths_of}
+use Rattle.job_check.proofs.Layouts.{layout_apart, layout_numbers, lists_inside}
+use Rattle.machine_plan.specs.Memory.{bytes_at}
+use Rattle.machine_plan.specs.Regions.{Interval, Inside, Rights, IsOutside}
+use Rattle.machine_plan.proofs.Memory.{length-bytes_at}
+use Rattle.list_machine.specs.Fetch.{record_place}
+use Rattle.list_law.specs.Emitted.{words_in, RecordStands}
+use Rattle.list_law.proofs.Words.{byte_read}
+use Rattle.qpu_law.specs.Asks.{IsOneOf}
+use Rattle.qpu_law.proofs.Reading.{one_inside}
+use Rattle.machine_law.specs.Begins.{IsFixed}
+use Rattle.accepted_law.specs.Holdings.{lists_of, job_rights, file_rights}
+use Rattle.accepted_law.specs.Settled.{Grounds}
+
+-- The word points to the record of the state of this number.
+pub record StateFound (input : InputModel) (layout : Layout) (word : ℕ) (state : State) : Type 0 where
+  pub number : ℕ
+  pub below : number < length input.states
+  pub points : word ≡ layout.place + layout.records + record_offset input number + (state_at input number).word % 16
+  pub same : state ≡ state_at input number
+
+-- a record takes the same room in the list's words and in those of the records
+same_room : (word : ℕ) → record_room word ≡ emitted_size word
+unfolding record_room emitted_size listed_size record_size listed_count attribute_count is_listed_extended is_extended
+same_room word = refl
+
+some_left : (states : List State) (i : ℕ) (first : State) (later : List State) → first ∷ later ≡ drop i states → i < length states
+some_left states i first later cut = let long : suc (length later) ≡ length states - i = ap length cut ∙ length-drop i states in omega (arith, long)
+
+-- the states from number i on, whose records stand from an offset on
+found_from : (input : InputModel) (layout : Layout) (word : ℕ) (state : State) (i at : ℕ) (rest : List State) → rest ≡ drop i input.states → at ≡ record_offset input i
+    → IsStateAt layout at rest word state → StateFound input layout word state
+unfolding record_offset
+found_from input layout word state i at [] rest offset none = absurd none
+found_from input layout word state i at (first ∷ later) rest offset (inl here) =
+    let below = some_left input.states i first later rest in
+    let cut : first ∷ later ≡ state_at input i ∷ drop (suc i) input.states = rest ∙ drop-cons input.states i no_state below in
+    let one : first ≡ state_at input i = ap (λ states. get_or states 0 no_state) cut in
+    record {
+      number = i;
+      below = below;
+      points = here.0 ∙ (λ j. layout.place + layout.records + offset j + (one j).word % 16);
+      same = here.1 ∙ one;
+    }
+found_from input layout word state i at (first ∷ later) rest offset (inr other) =
+    let below = some_left input.states i first later rest in
+    let cut : first ∷ later ≡ state_at input i ∷ drop (suc i) input.states = rest ∙ drop-cons input.states i no_state below in
+    let one : first ≡ state_at input i = ap (λ states. get_or states 0 no_state) cut in
+    let room : record_room first.word ≡ emitted_size (state_at input i).word = ap (λ s. record_room s.word) one ∙ same_room (state_at input i).word in
+    found_from input layout word state (suc i) (at + record_room first.word) later (ap (drop 1) cut) (λ j. offset j + room j) other
+
+pub state_found : (input : InputModel) (layout : Layout) (word : ℕ) (state : State) → IsStateAt layout 0 input.states word state → StateFound input layout word state
+unfolding record_offset
+state_found input layout word state stands = found_from input layout word state 0 0 input.states refl refl stands
+
+-- records stand at multiples of 16, one after the other
+offset_whole : (input : InputModel) (k : ℕ) → record_offset input k % 16 ≡ 0
+unfolding record_offset
+offset_whole input zero = refl
+offset_whole input (suc k) = let before = offset_whole input k in let size = (emitted_in (state_at input k).word).2 in omega (arith, before, size)
+
+record_ends : (input : InputModel) (n k : ℕ) → k < n → record_offset input k + emitted_size (state_at input k).word ≤ record_offset input n
+unfolding record_offset
+record_ends input zero k below = absurd (omega (arith, below))
+record_ends input (suc n) k below =
+    elim (cases_lt k n) [
+      | inl earlier ↦ let before = record_ends input n k earlier in omega (arith, before)
+      | inr past ↦ let same : n ≡ k = omega arith in subst (λ i. record_offset input k + emitted_size (state_at input k).word ≤ record_offset input i + emitted_size (state_at input i).word) (sym same) (omega arith)
+    ]
+
+-- where the record of state k stands
+unfoldable pub place_for : FileModel → ℕ → ℕ
+place_for f k = (layout_of f 0).place + (layout_of f 0).records + record_offset (input_for f 0) k
+
+pub place_whole : (f : FileModel) (k : ℕ) → IsSound f.mem_size f.regions f.buffers → place_for f k % 16 ≡ 0
+unfolding place_for
+place_whole f k sound =
+    let numbers = layout_numbers f 0 (layout_of f 0) refl in
+    let page = (sound.each_item 0 (omega arith)).place in
+    let records = (layout_apart f 0).records_aligned in
+    let offset = offset_whole (input_for f 0) k in
+    omega (arith, numbers.0, page, records, offset)
+
+pub place_of : (word base n : ℕ) → base % 16 ≡ 0 → word ≡ base + n % 16 → record_place word ≡ base
+unfolding record_place
+place_of word base n whole points = omega (arith, whole, points)
+
+pub state_of : (word base n : ℕ) → base % 16 ≡ 0 → word ≡ base + n % 16 → n % 16 ≡ word % 16
+state_of word base n whole points = omega (arith, whole, points)
+
+-- the words of the emitted list and of the records, as they stand in memory
+bytes_taken : (m : List ℕ) (place n : ℕ) → place + n ≤ length m → take n (drop place m) ≡ bytes_at m place n
+bytes_taken m place n fits =
+    let long = length-bytes_at m place n in
+    let cut : length (take n (drop place m)) ≡ n = length-take-le n (drop place m) (rw length-drop (omega arith)) in
+    same_number_lists (take n (drop place m)) (bytes_at m place n) (cut ∙ sym long)
+    (λ i below. get_or-take n (drop place m) i 0 (omega (arith, cut, below)) ∙ get_or-drop place m i 0 ∙ sym (byte_read m place n i (omega (arith, cut, below))))
+
+piece_of : (m : List ℕ) (place : ℕ) (text : List ℕ) → bytes_at m place (length text) ≡ text → place + length text ≤ length m → IsPiece m place (length text) text
+piece_of m place text stands fits = record { size = refl; inside = fits; same = bytes_taken m place (length text) fits ∙ stands }
+
+-- a part of what no job may write
+fixed_in : (rights : List Rights) (place size q n : ℕ) → IsFixed rights place size → place ≤ q → q + n ≤ place + size → IsFixed rights q n
+fixed_in rights place size q n fixed from upto i below =
+    let there : place + (q - place + i) ≡ q + i = omega (arith, from) in
+    subst (λ p. IsOutside rights p) there (fixed (q - place + i) (omega (arith, from, upto, below)))
+
+-- what is emitted where there is a binner list
+records_are : (f : FileModel) → has_bin f 0 ≡ true → records_of f 0 ≡ emitted_records (input_for f 0) (streams_place (layout_of f 0))
+unfolding records_of
+records_are f has = ap (λ b. if b then emitted_records (input_for f 0) (streams_place (layout_of f 0)) else []) has
+
+streams_are : (f : FileModel) → has_bin f 0 ≡ true → streams_of f 0 ≡ emitted_uniforms (input_for f 0) (streams_place (layout_of f 0))
+unfolding streams_of
+streams_are f has = ap (λ b. if b then emitted_uniforms (input_for f 0) (streams_place (layout_of f 0)) else []) has
+
+-- the record of state k ends in the emitted records
+record_room_in : (f : FileModel) (k : ℕ) → has_bin f 0 ≡ true → k < length (input_for f 0).states → record_offset (input_for f 0) k + emitted_size (state_at (input_for f 0) k).word ≤ length (records_of f 0)
+record_room_in f k has below =
+    let long : length (records_of f 0) ≡ record_offset (input_for f 0) (length (input_for f 0).states) =
+    ap length (records_are f has) ∙ length_records (input_for f 0) (streams_place (layout_of f 0)) (length (input_for f 0).states) in
+    let ends = record_ends (input_for f 0) (length (input_for f 0).states) k below in
+    omega (arith, long, ends)
+
+records_listed : (f : FileModel) → IsOneOf (lists_of f 0) ((layout_of f 0).place + (layout_of f 0).records) (length (records_of f 0))
+unfolding lists_of lengths_of
+records_listed f = inr (inl refl)
+
+-- The sizes of a record go by the low four bits of its word.
+same_size : (state word : ℕ) → state % 16 ≡ word % 16 → record_size state ≡ record_size word
+unfolding record_size is_extended attribute_count
+same_size state word is =
+    let low : state % 8 ≡ word % 8 = omega (arith, is) in
+    let high : state / 8 % 2 ≡ word / 8 % 2 = omega (arith, is) in
+    λ i. if high i == 1 then 100 + 4 * (if low i == 0 then 8 else low i) else 36 + 8 * (if low i == 0 then 8 else low i)
+
+-- The record of state k, of which a word has the place and the low four bits, stands in memory; no job may write it.
+pub record RecordKept (f : FileModel) (m : List ℕ) (word : ℕ) : Type 0 where
+  pub stands : RecordStands (job_rights f 0).region m word
+  pub fixed : IsFixed (file_rights f) (record_place word) (record_size word)
+
+pub record_kept : (f : FileModel) (m : List ℕ) (k word : ℕ) → Grounds f m → has_bin f 0 ≡ true → k < length (input_for f 0).states → record_place word ≡ place_for f k
+    → (state_at (input_for f 0) k).word % 16 ≡ word % 16 → RecordKept f m word
+unfolding place_for
+record_kept f m k word grounds has below place_is is =
+    let base : ℕ = (layout_of f 0).place + (layout_of f 0).records in
+    let state : ℕ = (state_at (input_for f 0) k).word in
+    let room = record_room_in f k has below in
+    let size = (emitted_in state).0 in
+    let same = same_size state word is in
+    let from : base ≤ record_place word = omega (arith, place_is) in
+    let upto : record_place word + record_size word ≤ base + length (records_of f 0) = omega (arith, place_is, room, size, same) in
+    record {
+      stands = record {
+        inside = one_inside (job_rights f 0).region base (length (records_of f 0)) (record_place word) (record_size word) (grounds.lists base (length (records_of f 0)) (records_listed f)) (record { from = from; upto = upto });
+        bytes = λ i small. grounds.holds.bytes (record_place word + i);
+      };
+      fixed = fixed_in (file_rights f) base (length (records_of f 0)) (record_place word) (record_size word) (grounds.lists_fixed base (length (records_of f 0)) (records_listed f)) from upto;
+    }
+
+-- What the records were made of, and where they stand.
+inputs_of : (f : FileModel) (m : List ℕ) → Grounds f m → AreInputs (input_for f 0)
+unfolding input_for
+inputs_of f m grounds = record { handles = grounds.settled.numbers; shaders = grounds.settled.shaders }
+
+pub buffer_ends : (f : FileModel) → IsSound f.mem_size f.regions f.buffers → (number : ℕ) → (buffer_at f.buffers number).place + (buffer_at f.buffers number).size ≤ 67108864
+unfolding buffer_at
+buffer_ends f sound number =
+    elim (cases_lt number (length f.buffers)) [
+      | inl below ↦
+          let b : Buffer = get_or f.buffers number past_end in
+          let good = (sound_buffer (table_of f) number b sound below (sym (get_or_default f.buffers number b past_end below))).1 in
+          omega (arith, good.0, good.1.inside)
+      | inr past ↦
+          let none : get_or f.buffers number past_end ≡ past_end = get_or_past f.buffers number past_end past in
+          subst (λ b. b.place + b.size ≤ 67108864) (sym none) (omega arith)
+    ]
+
+fits_of : (f : FileModel) (m : List ℕ) → Grounds f m → AreInMemory (input_for f 0)
+unfolding input_for
+fits_of f m grounds = record { records = grounds.settled.job_fits.records; uniforms = grounds.settled.job_fits.uniforms; buffers = buffer_ends f grounds.settled.sound }
+
+emitted_of : (f : FileModel) (m : List ℕ) → Grounds f m → has_bin f 0 ≡ true → IsEmittedIn (input_for f 0) ((layout_of f 0).place + (layout_of f 0).records) (streams_place (layout_of f 0)) m
+emitted_of f m grounds has =
+    let layout = layout_of f 0 in
+    let inside = lists_inside f grounds.settled.sound in
+    let ends = grounds.ends in
+    let records = piece_of m (layout.place + layout.records) (records_of f 0) grounds.holds.records (omega (arith, grounds.holds.long, inside, ends.records, ends.uniforms, ends.render, ends.region)) in
+    let uniforms = piece_of m (layout.place + layout.uniforms) (streams_of f 0) grounds.holds.uniforms (omega (arith, grounds.holds.long, inside, ends.uniforms, ends.render, ends.region)) in
+    record {
+      records_are = subst (λ text. IsPiece m (layout.place + layout.records) (length text) text) (records_are f has) records;
+      uniforms_are = subst (λ text. IsPiece m (layout.place + layout.uniforms) (length text) text) (streams_are f has) uniforms;
+    }
+
+uniforms_low : (f : FileModel) (m : List ℕ) → Grounds f m → streams_place (layout_of f 0) + length (input_for f 0).uniforms < 2 ^ 32
+unfolding input_for
+uniforms_low f m grounds =
+    let numbers = layout_numbers f 0 (layout_of f 0) refl in
+    let third = (layout_apart f 0).third in
+    let last = (layout_apart f 0).last in
+    let sound = grounds.settled.sound in
+    let inside = lists_inside f sound in
+    omega (arith, numbers.0, third, last, inside, sound.limit, grounds.settled.lists)
+
+-- The record of state k is one of the facts of emission.
+pub record_fact : (f : FileModel) (m : List ℕ) (k : ℕ) → Grounds f m → has_bin f 0 ≡ true → k < length (input_for f 0).states
+    → IsRecord (IsDataIn (table_of f) (job_of f 0).handles) (IsCodeIn (input_for f 0)) (state_at (input_for f 0) k).word (state_at (input_for f 0) k).max_index (λ i. u32_at m (place_for f k + 4 * i)) (u32_at m)
+unfolding place_for input_for
+record_fact f m k grounds has below =
+    records_in_memory (input_for f 0) ((layout_of f 0).place + (layout_of f 0).records) (streams_place (layout_of f 0)) m k (inputs_of f m grounds) (fits_of f m grounds) (grounds.settled.records has) below (uniforms_low f m grounds) (emitted_of f m grounds has)
+
+-- Data that the job's handles name lie in its region, and so do attributes.
+pub data_inside : (f : FileModel) (m : List ℕ) → Grounds f m → (place size : ℕ) → IsDataIn (table_of f) (job_of f 0).handles place size → Inside (job_rights f 0).region place size
+data_inside f m grounds place size named =
+    one_inside (job_rights f 0).region place size place size (grounds.data_reads place size (grounds.named_data place size named)) (record { from = omega arith; upto = omega arith })
+
+attribute_inside : (IsNamed : ℕ → ℕ → Type 0) (region : List Interval) (state : ℕ) (word : ℕ → ℕ) (most t : ℕ) → ((place size : ℕ) → IsNamed place size → Inside region place size)
+    → IsAttributeIn IsNamed state word most t → IsAttributeIn (Inside region) state word most t
+attribute_inside IsNamed region state word most t inside one =
+    record { place = one.place; size = one.size; named = inside one.place one.size one.named; from = one.from; upto = one.upto }
+
+pub attributes_of : (f : FileModel) (m : List ℕ) (k word : ℕ) → Grounds f m → has_bin f 0 ≡ true → k < length (input_for f 0).states → record_place word ≡ place_for f k
+    → (t : ℕ) → t < attribute_count (state_at (input_for f 0) k).word
+    → IsAttributeIn (Inside (job_rights f 0).region) (state_at (input_for f 0) k).word (words_in m word) (state_at (input_for f 0) k).max_index t
+attributes_of f m k word grounds has below place_is t small =
+    let state : State = state_at (input_for f 0) k in
+    let fact = (record_fact f m k grounds has below).attributes t small in
+    let there : IsAttributeIn (IsDataIn (table_of f) (job_of f 0).handles) state.word (words_in m word) state.max_index t =
+    subst (λ p. IsAttributeIn (IsDataIn (table_of f) (job_of f 0).handles) state.word (λ i. u32_at m (p + 4 * i)) state.max_index t) (sym place_is) fact in
+    attribute_inside (IsDataIn (table_of f) (job_of f 0).handles) (job_rights f 0).region state.word (words_in m word) state.max_index t (data_inside f m grounds) there

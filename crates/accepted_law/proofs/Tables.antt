@@ -1,0 +1,71 @@
+-- Buffers and regions of a sound memory table.
+use Rattle.std.proofs.Common.{◌≡◌, inl, inr, ℕ, suc, ◌+◌, ◌*◌, ◌<◌, ◌≤◌, List, length, ap, subst, arith, ◌∙◌}
+use Rattle.std.proofs.lemmas.Bool.{cases_lt}
+use Rattle.std.proofs.lemmas.List.{get_or-map, get_or_past}
+use Rattle.field_words.specs.Sizes.{slot_size, most_memory}
+use Rattle.buffer_table.specs.declared.buffer.Buffer.{Buffer}
+use Rattle.buffer_table.specs.declared.buffer.Regions.{Regions}
+use Rattle.buffer_table.specs.Table.{items_of, item_at, no_item, lists_item, tile_item, buffer_item, buffer_at, past_end}
+use Rattle.buffer_table.specs.Sound.{IsSound, IsSoundItem, AreApart}
+use Rattle.buffer_table.proofs.Sounds.{length_items}
+
+-- the item of a buffer is two after the regions
+item_of_buffer : (r : Regions) (buffers : List Buffer) (number : ℕ) → number < length buffers → item_at (items_of r buffers) (number + 2) ≡ buffer_item (buffer_at buffers number)
+unfolding buffer_at
+item_of_buffer r buffers number inside =
+    ap (λ k. item_at (items_of r buffers) k) (let e : number + 2 ≡ suc (suc number) = omega arith in e)
+    ∙ get_or-map buffer_item buffers number past_end no_item inside
+
+pub buffer_sound : (memory : ℕ) (r : Regions) (buffers : List Buffer) → IsSound memory r buffers → (number : ℕ) → number < length buffers → IsSoundItem memory (buffer_item (buffer_at buffers number))
+buffer_sound memory r buffers sound number inside =
+    subst (IsSoundItem memory) (item_of_buffer r buffers number inside) (sound.each_item (number + 2) (omega (arith, inside, length_items r buffers)))
+
+-- what lies in neither of two that are apart
+pub buffers_apart : (memory : ℕ) (r : Regions) (buffers : List Buffer) → IsSound memory r buffers → (j k : ℕ) → j < k → k < length buffers
+    → AreApart (buffer_item (buffer_at buffers j)) (buffer_item (buffer_at buffers k))
+buffers_apart memory r buffers sound j k less inside =
+    let there : AreApart (item_at (items_of r buffers) (j + 2)) (item_at (items_of r buffers) (k + 2)) =
+    sound.apart (j + 2) (k + 2) (omega (arith, less)) (omega (arith, inside, length_items r buffers)) in
+    let one : AreApart (buffer_item (buffer_at buffers j)) (item_at (items_of r buffers) (k + 2)) =
+    subst (λ x. AreApart x (item_at (items_of r buffers) (k + 2))) (item_of_buffer r buffers j (omega (arith, less, inside))) there in
+    subst (AreApart (buffer_item (buffer_at buffers j))) (item_of_buffer r buffers k inside) one
+
+pub lists_apart : (memory : ℕ) (r : Regions) (buffers : List Buffer) → IsSound memory r buffers → (k : ℕ) → k < length buffers
+    → AreApart (lists_item r) (buffer_item (buffer_at buffers k))
+lists_apart memory r buffers sound k inside =
+    let there : AreApart (item_at (items_of r buffers) 0) (item_at (items_of r buffers) (k + 2)) = sound.apart 0 (k + 2) (omega arith) (omega (arith, inside, length_items r buffers)) in
+    subst (AreApart (lists_item r)) (item_of_buffer r buffers k inside) there
+
+pub tiles_apart : (memory : ℕ) (r : Regions) (buffers : List Buffer) → IsSound memory r buffers → (k : ℕ) → k < length buffers
+    → AreApart (tile_item r) (buffer_item (buffer_at buffers k))
+tiles_apart memory r buffers sound k inside =
+    let there : AreApart (item_at (items_of r buffers) 1) (item_at (items_of r buffers) (k + 2)) = sound.apart 1 (k + 2) (omega arith) (omega (arith, inside, length_items r buffers)) in
+    subst (AreApart (tile_item r)) (item_of_buffer r buffers k inside) there
+
+pub regions_apart : (memory : ℕ) (r : Regions) (buffers : List Buffer) → IsSound memory r buffers → AreApart (lists_item r) (tile_item r)
+regions_apart memory r buffers sound = sound.apart 0 1 (omega arith) (omega (arith, length_items r buffers))
+
+-- the first slot lies in the tile region
+slots_some : (n : ℕ) → 0 < slot_size * n → slot_size ≤ slot_size * n
+slots_some n some = omega (arith, some)
+
+pub one_slot : (memory : ℕ) (r : Regions) (buffers : List Buffer) → IsSound memory r buffers → slot_size ≤ slot_size * r.tile_slots
+one_slot memory r buffers sound =
+    let tiles = sound.each_item 1 (omega (arith, length_items r buffers)) in
+    slots_some r.tile_slots tiles.not_empty
+
+-- Each buffer ends in the first 64 MiB; past the last one there is none, of no bytes.
+past_low : (b : Buffer) → b ≡ past_end → b.place + b.size ≤ most_memory
+past_low b is = omega (arith, ap (λ x. x.place) is, ap (λ x. x.size) is)
+
+past_is : (buffers : List Buffer) (number : ℕ) → length buffers ≤ number → buffer_at buffers number ≡ past_end
+unfolding buffer_at
+past_is buffers number past = get_or_past buffers number past_end past
+
+pub buffer_low : (memory : ℕ) (r : Regions) (buffers : List Buffer) → IsSound memory r buffers → (number : ℕ)
+    → (buffer_at buffers number).place + (buffer_at buffers number).size ≤ most_memory
+buffer_low memory r buffers sound number =
+    elim (cases_lt number (length buffers)) [
+      | inl inside ↦ (let s = buffer_sound memory r buffers sound number inside in omega (arith, s.inside, sound.limit))
+      | inr past ↦ past_low (buffer_at buffers number) (past_is buffers number past)
+    ]

@@ -1,0 +1,5 @@
+pub mod Holdings
+pub mod Settled
+pub mod Parts
+pub mod Texts
+pub mod Whole

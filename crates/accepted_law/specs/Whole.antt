@@ -1,0 +1,19 @@
+-- The whole: from the parts to what the job of an accepted file begins with, and so to every run of the machine.
+use Rattle.std.specs.Prelude.{◌≡◌, None}
+use Rattle.field_words.specs.Questions.{first_of}
+use Rattle.machine_plan.specs.Regions.{joined}
+use Rattle.machine_plan.specs.World.{Safe, Same}
+use Rattle.machine.specs.State.{units_start}
+use Rattle.machine.specs.Step.{ready, turn}
+use Rattle.job_format.specs.File.{IsWellFormed, Fits}
+use Rattle.job_format.specs.Model.{FileModel}
+use Rattle.job_check.specs.Emit.{memory_of}
+use Rattle.job_check.specs.Faults.{file_stages}
+use Rattle.accepted_law.specs.Holdings.{file_rights, file_starts}
+
+-- From the memory of an accepted file every run of the machine is safe, and bytes outside the job's region have no effect.
+abbrev pub FilesSafe : Type 0
+FilesSafe =
+    (f : FileModel) → IsWellFormed f → Fits f → first_of (file_stages f) ≡ None
+    → Safe ready turn (file_rights f) (memory_of f) (units_start (file_starts f))
+    × Same ready turn (file_rights f) (joined (file_rights f)) (memory_of f) (units_start (file_starts f))

@@ -1,0 +1,12 @@
+//! The emitted binner list of an accepted file walks, and each primitive of it may be drawn.
+ghost use Rattle.accepted_law.specs.Parts.{DrawsBegin, BinsWalk};
+
+/// Each primitive of the emitted binner list may be drawn.
+pub fn draws_begin()
+    ensures { DrawsBegin }
+{}
+
+/// The emitted binner list walks.
+pub fn bins_walk()
+    ensures { BinsWalk }
+{}

@@ -1,0 +1,15 @@
+//! What an accepted job file begins with: from the rules and from what emission comes to, all that the laws of the machine's
+//! units ask.
+#![tactic(auto)]
+
+mod bins;
+mod memory;
+mod records;
+mod renders;
+mod whole;
+
+pub use bins::{bins_walk, draws_begin};
+pub use memory::{bin_texts_begin, files_allocate, files_ground, files_settle, render_texts_begin};
+pub use records::records_launch;
+pub use renders::renders_walk;
+pub use whole::{accepted_files_are_safe, files_begin};

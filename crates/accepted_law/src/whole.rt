@@ -1,0 +1,16 @@
+//! From the parts to the whole: what the job of an accepted file begins with, and so every run of the machine.
+ghost use Rattle.accepted_law.specs.Parts.{FilesBegin};
+ghost use Rattle.accepted_law.specs.Whole.{FilesSafe};
+
+/// Every accepted file begins as the laws of the machine's units ask: its two lists walk, and what they draw, load and store may be
+/// drawn, loaded and stored.
+pub fn files_begin()
+    ensures { FilesBegin }
+{}
+
+/// From the memory of an accepted file every run of the machine is safe: whichever unit steps next and whatever words answer, no
+/// access is wild, each lies in the job's own buffers, lists, code or tile slot, and each write in a Plain buffer of the job or in
+/// its tile slot. And bytes outside have no effect.
+pub fn accepted_files_are_safe()
+    ensures { FilesSafe }
+{}

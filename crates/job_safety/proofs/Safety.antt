@@ -1,0 +1,55 @@
+-- A file in which no rule stands is safe.
+use Rattle.std.proofs.Common.{◌≡◌, ℕ, List, [], ◌∷◌, ◌++◌, Some, None, refl}
+use Rattle.std.specs.Prelude.{true, false}
+use Rattle.field_words.specs.Words.{IsBytes}
+use Rattle.field_words.specs.Questions.{Question, Ask, first_of, answered}
+use Rattle.job_format.specs.File.{IsFileOf}
+use Rattle.job_format.specs.Faults.{format_questions}
+use Rattle.job_format.specs.Reading.{file_at}
+use Rattle.job_format.proofs.Laws.{none_file}
+use Rattle.job_check.specs.Emit.{memory_of}
+use Rattle.job_check.specs.Faults.{file_stages}
+use Rattle.job_check.specs.Whole.{format_refused, all_questions, refusal_of}
+use Rattle.accepted_law.specs.Holdings.{file_rights, file_starts}
+use Rattle.accepted_law.proofs.Joining.{files_safe_law}
+use Rattle.job_safety.specs.Safe.{AreSafe, AreSame}
+use Rattle.job_safety.specs.Files.{IsSafeFile, BytesSafe}
+
+-- where none of two lists of rules stands, none of either does
+both_none : {F : Type 0} → (front rest : List (Question F)) → first_of (front ++ rest) ≡ None → (first_of front ≡ None) × (first_of rest ≡ None)
+both_none [] rest none = (refl, none)
+both_none (Ask true answer ∷ later) rest none = let wrong : Some answer ≡ None = none in cc
+both_none (Ask false answer ∷ later) rest none = both_none later rest none
+
+answered_none_of : {F G : Type 0} (change : F → G) → (questions : List (Question F)) → first_of (answered change questions) ≡ None → first_of questions ≡ None
+unfolding answered
+answered_none_of change [] none = refl
+answered_none_of change (Ask true answer ∷ later) none = let wrong : Some (change answer) ≡ None = none in cc
+answered_none_of change (Ask false answer ∷ later) none = answered_none_of change later none
+
+-- the rules of the format, and those of the file
+parts_none : (bytes : List ℕ) → first_of (all_questions bytes) ≡ None → (first_of (format_questions bytes) ≡ None) × (first_of (file_stages (file_at bytes)) ≡ None)
+unfolding all_questions
+parts_none bytes none =
+    let both = both_none (answered format_refused (format_questions bytes)) (file_stages (file_at bytes)) none in
+    (answered_none_of format_refused (format_questions bytes) both.0, both.1)
+
+file_is_safe : (bytes : List ℕ) → IsFileOf bytes (file_at bytes) → first_of (all_questions bytes) ≡ None → IsSafeFile (file_at bytes)
+file_is_safe bytes is none =
+    let both = files_safe_law (file_at bytes) is.well_formed is.fits (parts_none bytes none).1 in
+    record { safe = both.0; same = both.1 }
+
+-- bytes of which no rule stands are a file's
+pub bytes_spell : (bytes : List ℕ) → IsBytes bytes → first_of (all_questions bytes) ≡ None → IsFileOf bytes (file_at bytes)
+bytes_spell bytes fits none = none_file bytes fits (parts_none bytes none).0
+
+pub bytes_safe_law : BytesSafe
+unfolding refusal_of
+bytes_safe_law bytes fits none = file_is_safe bytes (bytes_spell bytes fits none) none
+
+-- So each file that is accepted is safe, and does the same over other memories.
+pub accepted_is_safe : (bytes : List ℕ) → IsFileOf bytes (file_at bytes) → first_of (all_questions bytes) ≡ None → AreSafe (file_rights (file_at bytes)) (memory_of (file_at bytes)) (file_starts (file_at bytes))
+accepted_is_safe bytes is none = (file_is_safe bytes is none).safe
+
+pub accepted_is_same : (bytes : List ℕ) → IsFileOf bytes (file_at bytes) → first_of (all_questions bytes) ≡ None → AreSame (file_rights (file_at bytes)) (memory_of (file_at bytes)) (file_starts (file_at bytes))
+accepted_is_same bytes is none = (file_is_safe bytes is none).same

@@ -1,0 +1,132 @@
+-- A step that reaches outside is not safe.
+use Rattle.std.proofs.Common.{◌≡◌, ◌<◌, ℕ, zero, suc, ◌-◌, ◌%◌, Bool, IsTrue, true, false, List, [], ◌∷◌, ◌++◌, length, Some, None, refl, ap, subst, ◌∙◌, arith}
+use Rattle.std.specs.Prelude.{Option, IfSome, nat_lt, slice_index, if◌then◌else◌}
+use Rattle.std.proofs.lemmas.Bool.Decides.{nat_tests}
+use Rattle.field_words.specs.Words.{u32_at}
+use Rattle.field_words.specs.declared.access.Access.{Access}
+use Rattle.field_words.specs.declared.access.Actor.TheVariants.{Binner as TheBinner, Qpu as TheQpu, Tmu as TheTmu}
+use Rattle.machine_plan.specs.declared.launch.Free.{Free}
+use Rattle.machine_plan.specs.declared.who.Who.{Who}
+use Rattle.machine_plan.specs.Glance.{glanced}
+use Rattle.machine_plan.specs.Memory.{bytes_at}
+use Rattle.machine_plan.specs.Plan.{Plan, Wilds, carried}
+use Rattle.machine_plan.specs.Regions.{Every, Inside, Rights, rights_of, IsSafeAccess}
+use Rattle.machine_plan.specs.Runs.{reached}
+use Rattle.machine_plan.specs.World.{Safe, mapped}
+use Rattle.machine_plan.proofs.Runs.{every-front}
+use Rattle.machine_plan.proofs.Worlds.{carried_mapped}
+use Rattle.list_machine.specs.Binner.{read_plan, binner_plan, binner_by}
+use Rattle.list_machine.specs.Lists.{Lists, quiet, binner_of}
+use Rattle.qpu_machine.specs.declared.state.Request.{Request}
+use Rattle.qpu_machine.specs.declared.state.Thread.{Thread}
+use Rattle.qpu_machine.specs.Qpu.{free_in, went, plan_by, served, serving}
+use Rattle.qpu_machine.specs.Request.{direct_plan, chosen_place, chosen_length, read_at, texture_reads, is_undefined, texture_plan, ask_plan}
+use Rattle.qpu_machine.specs.Step.{thread_plan}
+use Rattle.texture_layouts.specs.Setup.{TextureModel, texture_of}
+use Rattle.machine.specs.State.{Units, State}
+use Rattle.machine.specs.Step.{Event, with_lists, with_qpu, ready, turn, step, enabled}
+use Rattle.job_safety.specs.Strength.{IsPast, IsAtPacket, ListsPastAreUnsafe, IsActive, CodePastIsUnsafe, IsOldest, DirectReadsPastAreUnsafe, IsChosenPast, TexturesPastAreUnsafe}
+
+-- each access of the first step of a safe machine is safe
+first_step : (jobs : List Rights) (m : List ℕ) (u : Units) (e : Event) → IsTrue (glanced (ready u e) m) → Safe ready turn jobs m u
+    → Every (IsSafeAccess jobs) (carried (turn u e).who (turn u e).plan m).accesses
+first_step jobs m u e may safe =
+    let start : State = record { memory = m; units = u } in
+    let found : List Access = (step start e).accesses ++ [] in
+    let all = safe.every_run (e ∷ []) found (reached step start (e ∷ [])) (record { allowed = (may, tt); accesses = refl; last = refl }) in
+    every-front (IsSafeAccess jobs) (step start e).accesses [] all.accesses
+
+-- the accesses of a plan with its result handed on
+mapped_accesses : {R T : Type 0} (put : R → T) (who : Who) (plan : Plan R) (m : List ℕ) → (carried who (mapped put plan) m).accesses ≡ (carried who plan m).accesses
+mapped_accesses put who plan m = ap (λ o. o.accesses) (carried_mapped put who plan m)
+
+-- the binner at a packet
+at_packet : (lists : Lists) (free : Free) (words : List ℕ) → lists.binner.work ≡ None → binner_plan lists free words ≡ mapped quiet (read_plan lists)
+unfolding binner_plan
+at_packet lists free words idle = ap (λ work. binner_by lists work free words) idle
+
+packet_step : (jobs : List Rights) (m : List ℕ) (u : Units) (j : ℕ) (lists : Lists) → IsAtPacket m u j lists → Safe ready turn jobs m u
+    → Every (IsSafeAccess jobs) (carried (binner_of j) (read_plan lists) m).accesses
+unfolding turn ready enabled
+packet_step jobs m u j lists at safe =
+    let e : Event = record { unit = TheBinner; words = [] } in
+    let is : (carried (turn u e).who (turn u e).plan m).accesses ≡ (carried (binner_of j) (read_plan lists) m).accesses =
+    rw at.job_is (mapped_accesses (with_lists u j) (binner_of j) (binner_plan lists (free_in u.qpus) []) m
+    ∙ ap (λ plan. (carried (binner_of j) plan m).accesses) (at_packet lists (free_in u.qpus) [] at.idle)
+    ∙ mapped_accesses quiet (binner_of j) (read_plan lists) m) in
+    subst (Every (IsSafeAccess jobs)) is (first_step jobs m u e at.may safe)
+
+pub lists_past_law : ListsPastAreUnsafe
+unfolding read_plan
+lists_past_law jobs m u j lists at past safe = past (packet_step jobs m u j lists at safe).0.inside
+
+-- the active thread of a processor
+thread_step : (jobs : List Rights) (m : List ℕ) (u : Units) (k : ℕ) (thread : Thread) → IsActive m u k thread → Safe ready turn jobs m u
+    → Every (IsSafeAccess jobs) (carried (record { unit = TheQpu k; job = thread.job }) (thread_plan thread []) m).accesses
+unfolding turn ready enabled
+thread_step jobs m u k thread at safe =
+    let e : Event = record { unit = TheQpu k; words = [] } in
+    let who : Who = record { unit = TheQpu k; job = thread.job } in
+    let is : (carried (turn u e).who (turn u e).plan m).accesses ≡ (carried who (thread_plan thread []) m).accesses =
+    rw (at.qpu_is, at.active_is) (mapped_accesses (with_qpu u k) who (plan_by (Some thread) at.qpu []) m ∙ mapped_accesses (went at.qpu thread) who (thread_plan thread []) m) in
+    subst (Every (IsSafeAccess jobs)) is (first_step jobs m u e at.may safe)
+
+pub code_past_law : CodePastIsUnsafe
+unfolding thread_plan
+code_past_law jobs m u k thread at past safe = past (thread_step jobs m u k thread at safe).0.inside
+
+-- there are two texture units
+is_unit : (n : ℕ) → n < 2 → nat_lt n 2 ≡ true
+is_unit n below = grind (arith, nat_tests)
+
+-- the oldest request of a texture unit
+request_step : (jobs : List Rights) (m : List ℕ) (u : Units) (k unit : ℕ) (request : Request) (words : List ℕ) → IsOldest u k unit request → Safe ready turn jobs m u
+    → Every (IsSafeAccess jobs) (carried (record { unit = TheTmu k unit; job = request.job }) (ask_plan request.ask words) m).accesses
+unfolding turn ready
+request_step jobs m u k unit request words at safe =
+    let e : Event = record { unit = TheTmu k unit; words = words } in
+    let who : Who = record { unit = TheTmu k unit; job = request.job } in
+    let may : IsTrue (glanced (ready u e) m) = rw (at.qpu_is, is_unit unit at.unit_is, at.oldest_is) refl in
+    let is : (carried (turn u e).who (turn u e).plan m).accesses ≡ (carried who (ask_plan request.ask words) m).accesses =
+    rw (at.qpu_is, at.oldest_is) (mapped_accesses (with_qpu u k) who (serving (Some request) at.qpu unit words) m ∙ mapped_accesses (served at.qpu unit request) who (ask_plan request.ask words) m) in
+    subst (Every (IsSafeAccess jobs)) is (first_step jobs m u e may safe)
+
+-- each word of a direct request
+direct_reads : (jobs : List Rights) (who : Who) (m row found : List ℕ) (i : ℕ) → i < length row → Every (IsSafeAccess jobs) (carried who (direct_plan row found) m).accesses
+    → Inside (rights_of jobs who.job).region (slice_index row i - slice_index row i % 4) 4
+unfolding direct_plan
+direct_reads jobs who m [] found i inside all = absurd (omega (arith, inside))
+direct_reads jobs who m (address ∷ row) found zero inside all = all.0.inside
+direct_reads jobs who m (address ∷ row) found (suc i) inside all =
+    direct_reads jobs who m row (found ++ (u32_at (bytes_at m (address - address % 4) 4) 0 ∷ [])) i (omega arith) all.1
+
+pub direct_reads_past_law : DirectReadsPastAreUnsafe
+direct_reads_past_law jobs m u k unit request at row is i inside past safe =
+    let who : Who = record { unit = TheTmu k unit; job = request.job } in
+    let served = subst (λ ask. Every (IsSafeAccess jobs) (carried who (ask_plan ask []) m).accesses) is (request_step jobs m u k unit request [] at safe) in
+    past (direct_reads jobs who m row [] i inside (subst (Every (IsSafeAccess jobs)) (mapped_accesses Some who (direct_plan row []) m) served))
+
+-- the first read of a texture
+read_past : {R : Type 0} (jobs : List Rights) (who : Who) (m : List ℕ) (chosen : Option ℕ) (len : ℕ) (next : Plan R) → IfSome chosen (λ place. IsPast jobs who.job place len)
+    → Every (IsSafeAccess jobs) (carried who (read_at chosen len next) m).accesses → ⊥
+read_past jobs who m None len next past all = all.0.tame refl
+read_past jobs who m (Some place) len next past all = past all.0.inside
+
+texture_past : (jobs : List Rights) (who : Who) (m : List ℕ) (texture : TextureModel) (words : List ℕ) → IsChosenPast jobs who.job texture words
+    → Every (IsSafeAccess jobs) (carried who (texture_reads texture words 0 128) m).accesses → ⊥
+unfolding texture_reads
+texture_past jobs who m texture words past all = read_past jobs who m (chosen_place texture words 0) (chosen_length texture words 0) (texture_reads texture words 1 127) past all
+
+undefined_or : {R : Type 0} (jobs : List Rights) (who : Who) (m : List ℕ) (undefined : Bool) (plan : Plan R) → Every (IsSafeAccess jobs) (carried who (if undefined then Wilds else plan) m).accesses
+    → Every (IsSafeAccess jobs) (carried who plan m).accesses
+undefined_or jobs who m true plan all = absurd (all.0.tame refl)
+undefined_or jobs who m false plan all = all
+
+pub textures_past_law : TexturesPastAreUnsafe
+unfolding texture_plan
+textures_past_law jobs m u k unit request at four is words past safe =
+    let who : Who = record { unit = TheTmu k unit; job = request.job } in
+    let texture : TextureModel = texture_of (slice_index four 0) (slice_index four 1) (slice_index four 2) (slice_index four 3) in
+    let served = subst (λ ask. Every (IsSafeAccess jobs) (carried who (ask_plan ask words) m).accesses) is (request_step jobs m u k unit request words at safe) in
+    texture_past jobs who m texture words past
+    (undefined_or jobs who m (is_undefined (slice_index four 0) (slice_index four 1) (slice_index four 2) (slice_index four 3)) (texture_reads texture words 0 128) served)

@@ -1,0 +1,19 @@
+-- What is so of each file in which no rule stands.
+use Rattle.std.specs.Prelude.{◌≡◌, List, ℕ, None}
+use Rattle.field_words.specs.Words.{IsBytes}
+use Rattle.job_format.specs.Model.{FileModel}
+use Rattle.job_format.specs.Reading.{file_at}
+use Rattle.job_check.specs.Emit.{memory_of}
+use Rattle.job_check.specs.Whole.{refusal_of}
+use Rattle.accepted_law.specs.Holdings.{file_rights, file_starts}
+use Rattle.job_safety.specs.Safe.{AreSafe, AreSame}
+
+-- From the memory that the file is emitted as, with its job's rights and from the beginnings of its lists, every run of the machine
+-- is safe, and bytes outside what the job may reach have no effect.
+pub record IsSafeFile (f : FileModel) : Type 0 where
+  pub safe : AreSafe (file_rights f) (memory_of f) (file_starts f)
+  pub same : AreSame (file_rights f) (memory_of f) (file_starts f)
+
+-- So it is of the file that any bytes hold of which no rule stands.
+abbrev pub BytesSafe : Type 0
+BytesSafe = (bytes : List ℕ) → IsBytes bytes → refusal_of bytes ≡ None → IsSafeFile (file_at bytes)

@@ -1,0 +1,38 @@
+-- What `check` promises of a job that it accepts, in one place: from just the memory that it prints, every run of the machine is safe,
+-- and bytes outside what the job may reach have no effect.
+--
+-- `refusal_of` (job_check, specs/Whole) is the first rule of the list of all rules that stands of the bytes. `file_at` (job_format,
+-- specs/Reading) is the file that they hold, and `IsFileOf` (specs/File) says that they are its text. `memory_of`, `layout_of` and
+-- `lengths_of` (job_check, specs/Emit, Jobs) are the memory that it is emitted as, where its lists lie there, and how long they are;
+-- `accepted_text` (dumper, specs/Text) prints these three. `file_rights` (accepted_law, specs/Holdings) is what its job may reach: the
+-- buffers that its handles name, its four emitted lists and its tile slot; and what it may write: the slot and the Plain buffers among
+-- them. `file_starts` (the same) is where its two lists begin. `AreSafe` and `AreSame` (job_safety, specs/Safe) speak of every run of
+-- the machine (machine, specs/Step), by whichever unit steps next and whatever words answer what the hardware leaves open.
+use Rattle.std.specs.Prelude.{◌≡◌, ℕ, List, Option, None}
+use Rattle.std.specs.Io.KnownBytes.{Appends}
+use Rattle.field_words.specs.Words.{IsBytes}
+use Rattle.job_format.specs.File.{IsFileOf}
+use Rattle.job_format.specs.Reading.{file_at}
+use Rattle.job_check.specs.Emit.{memory_of, lengths_of}
+use Rattle.job_check.specs.Jobs.{layout_of}
+use Rattle.job_check.specs.Whole.{refusal_of}
+use Rattle.dumper.specs.Text.{accepted_text}
+use Rattle.accepted_law.specs.Holdings.{file_rights, file_starts}
+use Rattle.job_safety.specs.Safe.{AreSafe, AreSame}
+
+-- No rule stands of the bytes, they are one file's, and from the memory that it is emitted as every run of the machine is safe, and
+-- does the same over each memory that agrees with it on what the job may reach.
+pub record MayRun (bytes : List ℕ) : Type 0 where
+  pub none : refusal_of bytes ≡ None
+  pub spells : IsFileOf bytes (file_at bytes)
+  pub safe : AreSafe (file_rights (file_at bytes)) (memory_of (file_at bytes)) (file_starts (file_at bytes))
+  pub same : AreSame (file_rights (file_at bytes)) (memory_of (file_at bytes)) (file_starts (file_at bytes))
+
+-- The sink got just that memory, with where the lists lie in it and how long they are; and the job may run.
+pub record IsSafelyAccepted (bytes : List ℕ) (before now : Option (List ℕ)) : Type 0 where
+  pub printed : Appends before now (accepted_text (memory_of (file_at bytes)) (layout_of (file_at bytes) 0) (lengths_of (file_at bytes) 0))
+  pub may_run : MayRun bytes
+
+-- Whatever bytes they are: where no rule stands of them, the job may run.
+abbrev pub AcceptedMayRun : Type 0
+AcceptedMayRun = (bytes : List ℕ) → IsBytes bytes → refusal_of bytes ≡ None → MayRun bytes

@@ -1,0 +1,16 @@
+//! The checker as a library for C: each call here is known to C under its own name.
+//!
+//! The header is `examples/c/vc4check.h`; what a call promises and what its caller owes is in `docs/LIBRARY.md`. Each call says
+//! by a number how it ended, writes what it tells into values of the caller's, and keeps nothing.
+#![tactic(auto)]
+
+mod asked;
+mod job;
+mod shader;
+mod status;
+
+pub use job::JobAnswer;
+pub use shader::{ShaderAnswer, ShaderSample};
+
+#[cfg(test)]
+mod tests;

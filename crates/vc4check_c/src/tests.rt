@@ -1,0 +1,147 @@
+//! Each call once, as C calls it.
+
+use crate::asked::{vc4check_size, vc4check_version};
+use crate::job::{JobAnswer, vc4check_check};
+use crate::shader::{ShaderAnswer, ShaderSample, vc4check_shader};
+use crate::status::{ACCEPTED, REFUSED, SHORT, TOO_LONG};
+use std::alloc::Global;
+use std::test::Fail;
+
+/// The job of examples/smallest.txt.
+const SMALLEST: &str = "5643344a0100000000200800000000000010000000100000010000000100000001000000\
+    0010080000100000010000000000000000000000\
+    01000000000000000100000000000000000000000000000000000000100010000000000\
+    0ffffffff0000000000000000000000000000000004000000ffffffff0000000000000000\
+    ffffffff0000000000000000ffffffff0000000000000000ffffffff0000000000000000\
+    0000000000000000000000000000000000000000";
+
+/// Nothing told.
+const NOTHING: JobAnswer = JobAnswer {
+    offset: 0,
+    letter: 0,
+    number: 0,
+    size: 0,
+    lists: 0,
+    slot: 0,
+    bin: 0,
+    records: 0,
+    uniforms: 0,
+    render: 0,
+    end: 0,
+    bin_length: 0,
+    records_length: 0,
+    uniforms_length: 0,
+    render_length: 0,
+};
+
+// What a block of so many bytes gets, and what is told.
+fn checked(alloc: Global, bytes: &[u8], room: usize) -> Result<(u32, JobAnswer, Vec<u8>), Fail> {
+    let mut block = vec![in alloc; 0xa5u8; room]?;
+    let mut answer = NOTHING;
+    let status = vc4check_check(alloc, bytes, &mut block, &mut answer);
+    Ok((status, answer, block))
+}
+
+// The smallest job: 15 bytes of a renderer list at the start of 532,480 bytes, and the tile slot behind a page.
+#[test]
+fn accepts(rt: HostRuntime) -> Result<(), Fail> {
+    let bytes = hex::decode(rt.alloc(), SMALLEST)?;
+    let told = JobAnswer {
+        size: 532_480,
+        slot: 4096,
+        end: 15,
+        render_length: 15,
+        ..NOTHING
+    };
+    assert_eq!(rt; vc4check_size(&bytes), 532_480);
+    let (status, answer, block) = checked(rt.alloc(), &bytes, 532_481)?;
+    assert_eq!(rt; status, ACCEPTED);
+    assert_eq!(rt; answer, told);
+    assert_eq!(rt; block.get(0).copied(), Some(113));
+    assert_eq!(rt; block.get(15).copied(), Some(0));
+    assert_eq!(rt; block.get(532_480).copied(), Some(0xa5));
+    let (status, answer, block) = checked(rt.alloc(), &bytes, 15)?;
+    assert_eq!(rt; status, SHORT);
+    assert_eq!(rt; answer, told);
+    assert_eq!(rt; block.get(0).copied(), Some(0xa5));
+    Ok(())
+}
+
+// No file: it ends before its header does.
+#[test]
+fn refuses(rt: HostRuntime) -> Result<(), Fail> {
+    let told = JobAnswer {
+        letter: 70,
+        number: 2,
+        ..NOTHING
+    };
+    let (status, answer, block) = checked(rt.alloc(), &[], 1)?;
+    assert_eq!(rt; status, REFUSED);
+    assert_eq!(rt; answer, told);
+    assert_eq!(rt; block.get(0).copied(), Some(0xa5));
+    assert_eq!(rt; vc4check_size(&[]), 0);
+    assert_eq!(rt; vc4check_version(), 1);
+    Ok(())
+}
+
+/// A read of memory at a clamped offset: `alu sig=13 ca=1 wa=32 oa=max rb=0 ab=7`, `alu ca=1 wa=32 oa=min ra=32 ab=6`,
+/// `alu ca=1 wa=56 oa=add ra=32 ab=6`, `alu sig=10`, `alu sig=3`, `nop`, `nop`.
+const READ: [u64; 7] = [
+    0xd0020827139c01c0,
+    0x1002082712827180,
+    0x10020e270c827180,
+    0xa00009e7009e7000,
+    0x300009e7009e7000,
+    0x100009e7009e7000,
+    0x100009e7009e7000,
+];
+
+// A sample's place, and what is told of a shader, before any call.
+const NO_SAMPLE: ShaderSample = ShaderSample {
+    positions: [7; 4],
+    direct: 7,
+};
+
+const UNTOLD: ShaderAnswer = ShaderAnswer {
+    number: 7,
+    index: 7,
+    uniforms: 7,
+    threaded: 7,
+    samples: 7,
+    address_words: 7,
+};
+
+// Two uniforms, the bound and the address, of one direct sample; a shader without its end; and too many words.
+#[test]
+fn checks_shaders(rt: HostRuntime) -> Result<(), Fail> {
+    let mut samples = [NO_SAMPLE; 2];
+    let mut answer = UNTOLD;
+    let none = &mut [];
+    let told = ShaderAnswer {
+        number: 0,
+        index: 0,
+        uniforms: 2,
+        threaded: 0,
+        samples: 1,
+        address_words: 0,
+    };
+    let read = ShaderSample {
+        positions: [1, 0, u32::MAX, u32::MAX],
+        direct: 1,
+    };
+    let status = vc4check_shader(rt.alloc(), &READ, &mut samples, none, &mut answer);
+    assert_eq!(rt; status, ACCEPTED);
+    assert_eq!(rt; answer, told);
+    assert_eq!(rt; samples, [read, NO_SAMPLE]);
+    answer = UNTOLD;
+    let status = vc4check_shader(rt.alloc(), &READ, &mut samples[..0], none, &mut answer);
+    assert_eq!(rt; status, SHORT);
+    assert_eq!(rt; answer, told);
+    let status = vc4check_shader(rt.alloc(), &READ[..4], &mut samples, none, &mut answer);
+    assert_eq!(rt; status, REFUSED);
+    assert_eq!(rt; (answer.number, answer.index), (2, 4));
+    let long = vec![in rt.alloc(); 0u64; 8193]?;
+    let status = vc4check_shader(rt.alloc(), &long, &mut samples, none, &mut answer);
+    assert_eq!(rt; status, TOO_LONG);
+    Ok(())
+}

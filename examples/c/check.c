@@ -1,0 +1,56 @@
+/* check FILE: checks a job file, and prints what `vc4check check` prints of it. Status 0: accepted, 1: refused, 3: the file can't
+ * be read, 5: want of memory. */
+#include <stdio.h>
+#include <stdlib.h>
+#include "vc4check.h"
+
+static uint8_t *whole(const char *name, size_t *length) {
+    FILE *file = fopen(name, "rb");
+    if (!file) return NULL;
+    size_t room = 1 << 16, got;
+    uint8_t *bytes = malloc(room);
+    *length = 0;
+    while (bytes && (got = fread(bytes + *length, 1, room - *length, file)) > 0) {
+        *length += got;
+        if (*length == room) {
+            uint8_t *more = realloc(bytes, room *= 2);
+            if (!more) free(bytes);
+            bytes = more;
+        }
+    }
+    fclose(file);
+    return bytes;
+}
+
+static void print_row(uint32_t place, const uint8_t *row) {
+    uint8_t any = 0;
+    for (int i = 0; i < 16; i++) any |= row[i];
+    if (!any) return;
+    printf("%08x ", place);
+    for (int i = 0; i < 16; i++) printf("%02x", row[i]);
+    putchar('\n');
+}
+
+static void print_accepted(const struct vc4check_answer *a, const uint8_t *memory) {
+    printf("accepted\nmemory %u\n", a->size);
+    printf("bin %08x %u\nrecords %08x %u\n", a->lists + a->bin, a->bin_length, a->lists + a->records, a->records_length);
+    printf("uniforms %08x %u\nrender %08x %u\n", a->lists + a->uniforms, a->uniforms_length, a->lists + a->render, a->render_length);
+    printf("slot %08x\n", a->slot);
+    for (uint32_t place = 0; place < a->size; place += 16) print_row(place, memory + place);
+    puts("end");
+}
+
+int main(int count, char **words) {
+    size_t length = 0;
+    uint8_t *bytes = count == 2 ? whole(words[1], &length) : NULL;
+    if (!bytes || vc4check_version() != VC4CHECK_VERSION) return 3;
+    uint32_t room = vc4check_size(bytes, length);
+    uint8_t *block = malloc(room ? room : 1);
+    struct vc4check_answer answer;
+    uint32_t status = block ? vc4check_check(bytes, length, block, room, &answer) : VC4CHECK_NO_MEMORY;
+    if (status == VC4CHECK_ACCEPTED) print_accepted(&answer, block);
+    if (status == VC4CHECK_REFUSED) printf("refused %c%u at %llu\n", (int)answer.letter, answer.number, (unsigned long long)answer.offset);
+    free(block);
+    free(bytes);
+    return status > VC4CHECK_REFUSED ? 5 : (int)status;
+}

@@ -1,0 +1,127 @@
+/*
+ * vc4check: the proved checker of VideoCore IV 3D jobs, as a library.
+ *
+ * Each call reads what it is given, writes the values that it is lent, and keeps nothing: no call remembers another, and the
+ * caller owns all memory that it hands over. What a call takes for its own work it gives back before it returns.
+ *
+ * What the caller owes, which nothing checks:
+ *  - Each pointer is good for as many elements as its length says, is aligned, and is not null, also where the length is 0.
+ *    A length in bytes is below 2^63.
+ *  - What is written (block, samples, address_words, answer) shares no byte with anything else that the call is given.
+ *  - While a call runs, no other thread and no device writes what it reads, or touches what it writes. Copy a job out of its
+ *    client's reach first.
+ *  - No call is made from a signal handler, or in the child of a fork of a process with threads.
+ *  - malloc, realloc and free come from one allocator, and align to 16.
+ * Calls from several threads at once are fine where these hold.
+ */
+#ifndef VC4CHECK_H
+#define VC4CHECK_H
+
+#include <stddef.h>
+#include <stdint.h>
+
+#ifdef __cplusplus
+extern "C" {
+#endif
+
+/* The version of this header. It is that of the library where vc4check_version() answers the same. */
+#define VC4CHECK_VERSION 1
+
+/* How a call ended. */
+enum {
+    VC4CHECK_ACCEPTED = 0,  /* no rule stands, and all that was asked for is written */
+    VC4CHECK_REFUSED = 1,   /* a rule stands, and it is told */
+    VC4CHECK_SHORT = 2,     /* no rule stands, and the room is too small for what was asked for */
+    VC4CHECK_NO_MEMORY = 3, /* memory ran out before the answer was known; the same call may answer later */
+    VC4CHECK_TOO_LONG = 4   /* of a shader alone: more than 8,192 words; no rule was asked */
+};
+
+/*
+ * What is told of a job file. After VC4CHECK_REFUSED the first three fields say why, and the others are 0; after
+ * VC4CHECK_ACCEPTED and VC4CHECK_SHORT those three are 0, and the others are the job's. Sizes, places and lengths are in bytes.
+ */
+struct vc4check_answer {
+    uint64_t offset;          /* of what the rule is about, from the file's start */
+    uint32_t letter;          /* of the rule, in ASCII: 'F' 'M' 'S' 'H' 'B' 'A' 'U' 'G' 'X' */
+    uint32_t number;          /* of the rule, from 1 on */
+    uint32_t size;            /* of the job's memory */
+    uint32_t lists;           /* the place of the lists' region in it */
+    uint32_t slot;            /* the place of the job's tile slot in it, of 524,288 bytes */
+    uint32_t bin;             /* where in the lists' region the binner list begins, */
+    uint32_t records;         /*   the shader records, */
+    uint32_t uniforms;        /*   the uniforms, */
+    uint32_t render;          /*   the renderer list, */
+    uint32_t end;             /*   and where that list ends */
+    uint32_t bin_length;      /* how much of each was emitted */
+    uint32_t records_length;
+    uint32_t uniforms_length;
+    uint32_t render_length;
+};
+
+/*
+ * What is told of a shader. After VC4CHECK_REFUSED the first two fields say why, and the others are 0; after VC4CHECK_ACCEPTED
+ * and VC4CHECK_SHORT those two are 0.
+ */
+struct vc4check_shader_answer {
+    uint32_t number;      /* of the rule S that stands, from 1 on */
+    uint32_t index;       /* of the instruction; the number of words for a rule on the whole shader */
+    uint32_t uniforms;    /* how many words of uniforms it takes */
+    uint32_t threaded;    /* 1 where it switches threads, else 0 */
+    size_t samples;       /* how many samples it asks for */
+    size_t address_words; /* how many of its uniforms are addresses of uniforms */
+};
+
+/* A position that is absent. */
+#define VC4CHECK_NO_POSITION UINT32_MAX
+
+/* One texture or memory access of a shader, in program order. */
+struct vc4check_sample {
+    uint32_t positions[4]; /* which uniforms its set-up words are, from 0 and below `uniforms`; then VC4CHECK_NO_POSITION */
+    uint32_t direct;       /* 1 where it reads memory at an address that the shader computed (position 0 has the base and
+                              position 1 the bound), 0 where it asks a texture */
+};
+
+#if !defined(__cplusplus) && defined(__STDC_VERSION__) && __STDC_VERSION__ >= 201112L
+_Static_assert(sizeof(struct vc4check_answer) == 64, "as long as the library's");
+_Static_assert(sizeof(struct vc4check_shader_answer) == 16 + 2 * sizeof(size_t), "as long as the library's");
+_Static_assert(sizeof(struct vc4check_sample) == 20, "as long as the library's");
+#endif
+
+/* The version of the library: compare it with VC4CHECK_VERSION. */
+uint32_t vc4check_version(void);
+
+/*
+ * How many bytes of memory the job file asks for, at most 64 MiB; 0 where it can't be accepted, since its header isn't there or
+ * has a size that no memory may have. No other rule is asked. An accepted file needs a block of exactly so many bytes.
+ */
+uint32_t vc4check_size(const uint8_t *bytes, size_t length);
+
+/*
+ * Checks the job file in `bytes`. Where no rule stands, the memory that the job is to run in is put into `block`, from its start
+ * on and with all lists relocated: places in it count from the block's start. Bytes of the block behind the job's memory stay.
+ *
+ * VC4CHECK_ACCEPTED   `answer` is filled in, and the memory is in the block.
+ * VC4CHECK_REFUSED    `answer` names the first rule that stands, and where; the block is as before.
+ * VC4CHECK_SHORT      the job is accepted and `answer` is filled in, but `room` is below answer->size; the block is as before. A
+ *                     room of 0 asks for the verdict alone.
+ * VC4CHECK_NO_MEMORY  `answer` and the block are as before.
+ */
+uint32_t vc4check_check(const uint8_t *bytes, size_t length, uint8_t *block, size_t room, struct vc4check_answer *answer);
+
+/*
+ * Checks a shader by itself: `words` instructions of 64 bits. Where no rule stands, its samples are put into `samples` and the
+ * numbers of the uniforms that are addresses of uniforms into `address_words`, each from its start on.
+ *
+ * VC4CHECK_ACCEPTED   `answer` is filled in, and both lists are written.
+ * VC4CHECK_REFUSED    `answer` names the first rule S that stands, and where; the lists are as before.
+ * VC4CHECK_SHORT      the shader is accepted and `answer` is filled in, but a list has too little room; both are as before.
+ * VC4CHECK_NO_MEMORY, VC4CHECK_TOO_LONG  `answer` and the lists are as before.
+ */
+uint32_t vc4check_shader(const uint64_t *code, size_t words, struct vc4check_sample *samples, size_t sample_room,
+                         uint32_t *address_words, size_t address_room, struct vc4check_shader_answer *answer);
+
+#ifdef __cplusplus
+}
+#endif
+
+#endif
