@@ -20,3 +20,4 @@ pub mod Grids
 pub mod Tiles
 pub mod RenderWalking
 pub mod Joining
+pub mod Bounds

@@ -3,3 +3,4 @@ pub mod Settled
 pub mod Parts
 pub mod Texts
 pub mod Whole
+pub mod Held

@@ -1,0 +1,8 @@
+//! What a job of a file may reach, from above.
+ghost use Rattle.accepted_law.specs.Held.{RightsAreHeld};
+
+/// A job may reach nothing but what it holds: its tile slot, the Plain and the Code buffers that its handles name, and its four emitted
+/// lists. It may write nothing but its slot and those Plain buffers.
+pub fn rights_are_held()
+    ensures { RightsAreHeld }
+{}
