@@ -3,6 +3,7 @@ use Rattle.std.proofs.Common.{◌≡◌, ◌≢◌, ◌≤◌, ◌<◌, ◌+◌,
 use Rattle.std.proofs.Math.ListN.{length-set}
 use Rattle.std.proofs.lemmas.Bool.{cases_Bool, and_left, and_right, or_left, or_right, true≢false, false_from_ne_true, eqb-true, eqb-false, ltb-true, ltb-false, lt-ltb}
 use Rattle.std.proofs.lemmas.Bool.Decides.{nat_tests}
+use Rattle.field_words.specs.Sizes.{most_words}
 use Rattle.qpu_isa.specs.declared.inst.Reg.{Reg}
 use Rattle.qpu_isa.specs.declared.inst.Reg.TheVariants.{A, B, Acc}
 use Rattle.qpu_isa.specs.Word.{ws_of, waddr_add_of, waddr_mul_of, cond_add_of}
@@ -173,6 +174,7 @@ pub put_keeps : (code : List ℕ) (old new : Reg → Option ℕ) (t : Table) (r 
 put_keeps code old new t r e is small here others =
     let sizes = sizes_put code old t r e is in
     record {
+      few = is.few;
       a_size = sizes.a_size;
       b_size = sizes.b_size;
       acc_size = sizes.acc_size;
@@ -189,6 +191,7 @@ put_keeps code old new t r e is small here others =
 pub skip_keeps : (code : List ℕ) (old new : Reg → Option ℕ) (t : Table) → IsTableOf code old t
     → ((reg : Reg) → IsRegister reg → new reg ≡ old reg) → IsTableOf code new t
 skip_keeps code old new t is same = record {
+  few = is.few;
   a_size = is.a_size;
   b_size = is.b_size;
   acc_size = is.acc_size;
@@ -285,18 +288,19 @@ blank_entry (A n) = no_entries 32 n
 blank_entry (B n) = no_entries 32 n
 blank_entry (Acc n) = no_entries 4 n
 
-pub blank_keeps : (code : List ℕ) (new : Reg → Option ℕ) → ((reg : Reg) → new reg ≡ None) → IsTableOf code new blank_table
-blank_keeps code new none = record {
+pub blank_keeps : (code : List ℕ) (new : Reg → Option ℕ) → length code ≤ most_words → ((reg : Reg) → new reg ≡ None) → IsTableOf code new blank_table
+blank_keeps code new few none = record {
+  few = few;
   a_size = refl;
   b_size = refl;
   acc_size = refl;
   each = λ reg in-file. subst (λ o. Keeps code o (entry_of blank_table reg)) (sym (none reg)) (ap (λ e. e.fact) (blank_entry reg));
 }
 
-pub target_keeps : (code : List ℕ) (at : ℕ) → is_target code (at + 1) ≡ true → IsTableOf code (maker_of code (at + 1)) blank_table
+pub target_keeps : (code : List ℕ) (at : ℕ) → length code ≤ most_words → is_target code (at + 1) ≡ true → IsTableOf code (maker_of code (at + 1)) blank_table
 unfolding is_cut
-target_keeps code at target =
-    blank_keeps code (maker_of code (at + 1))
+target_keeps code at few target =
+    blank_keeps code (maker_of code (at + 1)) few
     (λ reg. maker_cut code at reg (or_left (is_target code (at + 1)) (is_accumulator reg && is_back at 2 (λ k. is_switch (word code k))) target))
 
 pub kept_entry : (code : List ℕ) (at : ℕ) (t : Table) → is_target code (at + 1) ≡ false → is_back at 2 (λ k. is_switch (word code k)) ≡ true
@@ -314,6 +318,7 @@ kept_entry code at t none acts is (Acc n) small =
 pub switch_keeps : (code : List ℕ) (at : ℕ) (t : Table) → is_target code (at + 1) ≡ false → is_back at 2 (λ k. is_switch (word code k)) ≡ true
     → IsTableOf code (maker_written code at) t → IsTableOf code (maker_of code (at + 1)) (without_accumulators t)
 switch_keeps code at t none acts is = record {
+  few = is.few;
   a_size = is.a_size;
   b_size = is.b_size;
   acc_size = refl;

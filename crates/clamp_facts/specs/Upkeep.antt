@@ -1,7 +1,8 @@
 -- How the walk keeps the table, and how the searches look back. No part of what the crate claims.
-use Rattle.std.specs.Prelude.{◌≡◌, ◌<◌, ℕ, ◌-◌, Bool, true, false, not, List, length, nat_lt, if◌then◌else◌}
+use Rattle.std.specs.Prelude.{◌≡◌, ◌≤◌, ◌<◌, ℕ, ◌-◌, Bool, true, false, not, List, length, nat_lt, if◌then◌else◌}
 use Rattle.std.specs.declared.option.Option.{Option}
 use Rattle.std.specs.declared.option.Option.TheVariants.{None, Some}
+use Rattle.field_words.specs.Sizes.{most_words}
 use Rattle.qpu_isa.specs.declared.inst.Reg.{Reg}
 use Rattle.qpu_isa.specs.declared.inst.Reg.TheVariants.{A, B, Acc}
 use Rattle.qpu_isa.specs.Word.{ws_of, waddr_add_of, waddr_mul_of}
@@ -18,8 +19,9 @@ abbrev pub Keeps : List ℕ → Option ℕ → Entry → Type 0
 Keeps code None entry = entry.fact ≡ Nothing
 Keeps code (Some j) entry = (entry.fact ≡ made code j) × (entry.place ≡ j)
 
--- the table has an entry for each register, by whom made what stands in it
+-- the table has an entry for each register, by whom made what stands in it, in a shader of at most 8,192 words
 pub record IsTableOf (code : List ℕ) (makers : Reg → Option ℕ) (table : Table) : Type 0 where
+  pub few : length code ≤ most_words
   pub a_size : length table.a ≡ 32
   pub b_size : length table.b ≡ 32
   pub acc_size : length table.acc ≡ 4

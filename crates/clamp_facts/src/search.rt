@@ -1,7 +1,6 @@
 //! Looking back from a use for the instruction that made what is in a register. The walk over a shader asks the table
 //! instead; these count each look.
 ghost use Rattle.std.specs.Prelude.{◌≡◌, ◌<◌, ◌≤◌, ◌+◌, ◌==◌, ℕ, false, true, not, ◌&&◌, nat_le, length, IfSome, MatchOption};
-ghost use Rattle.field_words.specs.Sizes.{most_words};
 ghost use Rattle.qpu_isa.specs.Terms.{names, is_accumulator, is_switch};
 ghost use Rattle.qpu_isa.specs.Told.{IsRegister};
 ghost use Rattle.shader_flow.specs.Bounded.{some_in};
@@ -51,7 +50,6 @@ fn has_target(code: &[u64], flow: &Flow, from: usize, to: usize) -> bool
 // A switch at `s` acts after the instruction at `j`, and before the one at `i`.
 fn acts_between(code: &[u64], s: usize, j: usize, i: usize) -> bool
     requires inside { s < length code.now }
-    requires few { length code.now ≤ most_words }
     ensures { result ≡ (is_switch (word code.now s) && (nat_le j (s + 2) && nat_le (s + 3) i)) }
 {
     is_switch(code[s]) && (j <= s + 2 && s + 3 <= i)
@@ -60,7 +58,6 @@ fn acts_between(code: &[u64], s: usize, j: usize, i: usize) -> bool
 // Some switch acts after the instruction at `j`, and before the one at `i`.
 fn has_switch(code: &[u64], j: usize, i: usize) -> bool
     requires inside { i < length code.now }
-    requires few { length code.now ≤ most_words }
     ensures { result ≡ switches_between code.now j i }
 {
     for s in 0..i {
@@ -74,7 +71,6 @@ fn has_switch(code: &[u64], j: usize, i: usize) -> bool
 // An accumulator was another thread's after the instruction at `j`.
 fn is_switched(code: &[u64], j: usize, at: usize, reg: Reg) -> bool
     requires inside { at < length code.now }
-    requires few { length code.now ≤ most_words }
     ensures { result ≡ (is_accumulator reg && switches_between code.now j at) }
 {
     is_accumulator(reg) && has_switch(code, j, at)

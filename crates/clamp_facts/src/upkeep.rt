@@ -1,6 +1,5 @@
 //! Keeping the table on the way up a shader.
 ghost use Rattle.std.specs.Prelude.{◌≡◌, ◌<◌, ◌≤◌, ◌+◌, length, IfSome, if◌then◌else◌};
-ghost use Rattle.field_words.specs.Sizes.{most_words};
 ghost use Rattle.qpu_isa.specs.Terms.{is_switch, sets_alone};
 ghost use Rattle.qpu_isa.specs.Told.{IsRegister};
 ghost use Rattle.clamp_facts.specs.declared.fact.Fact.TheVariants.{Nothing};
@@ -29,7 +28,6 @@ pub fn look<L: Ledger>(
     steps: &mut Steps<L>,
 ) -> Fact
     requires inside { at < length code.now }
-    requires few { length code.now ≤ most_words }
     requires register { IsRegister reg }
     requires kept { IsTableOf code.now (maker_of code.now at) table.now }
     ensures value { result ≡ fact_at code.now at reg }
@@ -42,7 +40,6 @@ pub fn look<L: Ledger>(
 #[tactic(auto, unfolding(crate::specs::Facts::makes_clamp))]
 fn is_clamp<L: Ledger>(code: &[u64], at: u32, table: &FactTable, steps: &mut Steps<L>) -> bool
     requires inside { at < length code.now }
-    requires few { length code.now ≤ most_words }
     requires kept { IsTableOf code.now (maker_of code.now at) table.now }
     ensures value { result ≡ makes_clamp code.now at }
     ensures steps { steps.new ≤ steps.old + 1 }
@@ -67,7 +64,6 @@ fn fact_made<L: Ledger>(
     steps: &mut Steps<L>,
 ) -> Fact
     requires inside { at < length code.now }
-    requires few { length code.now ≤ most_words }
     requires taken { count ≡ count_of code.now at }
     requires kept { IsTableOf code.now (maker_of code.now at) table.now }
     ensures value { result ≡ made code.now at }
@@ -139,7 +135,6 @@ fn fact_set<L: Ledger>(
     steps: &mut Steps<L>,
 ) -> Fact
     requires inside { at < length code.now }
-    requires few { length code.now ≤ most_words }
     requires taken { count ≡ count_of code.now at }
     requires register { IsRegister reg }
     requires kept { IsTableOf code.now (maker_of code.now at) table.now }
@@ -162,7 +157,6 @@ fn learn_add<L: Ledger>(
 )
     requires checked { at < checked_of code.now }
     requires inside { at < length code.now }
-    requires few { length code.now ≤ most_words }
     requires taken { count ≡ count_of code.now at }
     requires before { IsTableOf code.now (maker_of code.now at) table.old }
     ensures after { IsTableOf code.now (maker_added code.now at) table.new }
@@ -177,7 +171,6 @@ fn learn_add<L: Ledger>(
 // Nothing is known of the register that the multiply unit writes.
 fn learn_mul<L: Ledger>(code: &[u64], at: u32, table: &mut FactTable, steps: &mut Steps<L>)
     requires inside { at < length code.now }
-    requires few { length code.now ≤ most_words }
     requires before { IsTableOf code.now (maker_added code.now at) table.old }
     ensures after { IsTableOf code.now (maker_written code.now at) table.new }
     ensures steps { steps.new ≤ steps.old + 1 }

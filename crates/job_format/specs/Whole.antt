@@ -1,7 +1,13 @@
--- The parts of a file that the first format rules leave inside it.
+-- The header and the parts of a file that the first format rules leave inside it.
 use Rattle.std.specs.Prelude.{◌≡◌, ℕ, ◌+◌, ◌≤◌, List, length}
 use Rattle.field_words.specs.Words.{u32_at}
-use Rattle.job_format.specs.Offsets.{job_size, most_buffers, most_handles, buffer_count, job_offset, end_offset}
+use Rattle.job_format.specs.Offsets.{header_size, job_size, most_buffers, most_handles, buffer_count, job_offset, end_offset}
+
+-- the bytes have a whole header, and it names this many buffers, no more than a file may have
+pub record HasHeader (bytes : List ℕ) (count : ℕ) : Type 0 where
+  pub whole : header_size ≤ length bytes
+  pub number : count ≡ buffer_count bytes
+  pub few : count ≤ most_buffers
 
 pub record HasParts (bytes : List ℕ) : Type 0 where
   pub buffers : buffer_count bytes ≤ most_buffers

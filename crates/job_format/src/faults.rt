@@ -3,6 +3,7 @@ ghost use Rattle.std.specs.Prelude.{◌≡◌, ◌+◌, ◌*◌, ◌++◌, ◌<�
 ghost use Rattle.field_words.specs.Words.{u32_at};
 ghost use Rattle.field_words.specs.Questions.{first_of, each};
 ghost use Rattle.job_format.specs.Faults.{header_questions, entry_questions, buffer_questions, job_questions, content_questions, parts_questions, body_questions, format_questions, Tells};
+ghost use Rattle.job_format.specs.Whole.{HasHeader};
 ghost use Rattle.job_format.specs.Offsets.{header_size, entry_size, job_size, most_buffers, buffer_count, entry_offset, job_offset, content_size, content_offset, handles_offset};
 
 use crate::rule::{
@@ -124,8 +125,7 @@ fn buffer_fault(bytes: &[u8], b: usize) -> Option<FormatFault>
 
 /// The entries of `count` buffers.
 fn buffers_fault(bytes: &[u8], count: usize) -> Option<FormatFault>
-    requires before { header_size ≤ length bytes.now }
-    requires few { count ≤ most_buffers }
+    requires header { HasHeader bytes.now count }
     ensures first { result ≡ first_of (each (buffer_questions bytes.now) 0 count) }
     ensures inside { IfNone result (entry_offset count ≤ length bytes.now) }
 {
@@ -167,8 +167,7 @@ fn content_fault(bytes: &[u8], b: usize, at: usize) -> Result<usize, FormatFault
 
 /// The contents of the buffers, and the offset where they end.
 fn contents_fault(bytes: &[u8], count: usize) -> Result<usize, FormatFault>
-    requires few { count ≤ most_buffers }
-    requires count { count ≡ buffer_count bytes.now }
+    requires header { HasHeader bytes.now count }
     requires before { entry_offset count + job_size ≤ length bytes.now }
     ensures { Tells (each (content_questions bytes.now) 0 count) (λ end. (end ≡ handles_offset bytes.now) × (end ≤ length bytes.now)) result }
 {
@@ -221,8 +220,7 @@ fn parts_fault(bytes: &[u8], job: usize, at: usize) -> Option<FormatFault>
 /// The contents of the buffers, and the parts after them.
 #[tactic(auto, using(field_words::proofs::Questions::passes, field_words::proofs::Questions::stops))]
 fn rest_fault(bytes: &[u8], count: usize) -> Option<FormatFault>
-    requires few { count ≤ most_buffers }
-    requires count { count ≡ buffer_count bytes.now }
+    requires header { HasHeader bytes.now count }
     requires before { entry_offset count + job_size ≤ length bytes.now }
     ensures { result ≡ first_of (each (content_questions bytes.now) 0 (buffer_count bytes.now) ++ parts_questions bytes.now) }
 {
@@ -235,8 +233,7 @@ fn rest_fault(bytes: &[u8], count: usize) -> Option<FormatFault>
 /// The job's entry, and what follows it.
 #[tactic(auto, using(field_words::proofs::Questions::passes, field_words::proofs::Questions::stops))]
 fn job_and_rest_fault(bytes: &[u8], count: usize) -> Option<FormatFault>
-    requires few { count ≤ most_buffers }
-    requires count { count ≡ buffer_count bytes.now }
+    requires header { HasHeader bytes.now count }
     requires before { entry_offset count ≤ length bytes.now }
     ensures { result ≡ first_of (job_questions bytes.now (job_offset bytes.now) ++ (each (content_questions bytes.now) 0 (buffer_count bytes.now) ++ parts_questions bytes.now)) }
 {
@@ -249,9 +246,7 @@ fn job_and_rest_fault(bytes: &[u8], count: usize) -> Option<FormatFault>
 /// The buffers' entries, and what follows them.
 #[tactic(auto, using(field_words::proofs::Questions::passes, field_words::proofs::Questions::stops))]
 fn body_fault(bytes: &[u8], count: usize) -> Option<FormatFault>
-    requires few { count ≤ most_buffers }
-    requires count { count ≡ buffer_count bytes.now }
-    requires before { header_size ≤ length bytes.now }
+    requires header { HasHeader bytes.now count }
     ensures { result ≡ first_of (body_questions bytes.now) }
 {
     match buffers_fault(bytes, count) {

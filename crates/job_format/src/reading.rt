@@ -6,7 +6,7 @@ ghost use Rattle.job_format.specs.Faults.{format_questions};
 ghost use Rattle.job_format.specs.File.{IsFileOf, Reads};
 ghost use Rattle.job_format.specs.Model.{FileModel, job_view, file_view};
 ghost use Rattle.job_format.specs.Offsets.{header_size, entry_size, job_size, most_buffers, buffer_count, entry_offset, job_offset, content_offset, handles_offset, bin_offset, records_offset, uniforms_offset, end_offset};
-ghost use Rattle.job_format.specs.Whole.{HasParts};
+ghost use Rattle.job_format.specs.Whole.{HasHeader, HasParts};
 ghost use Rattle.job_format.specs.Reading.{cut, regions_at, entry_at, surface_at, frame_at, kind_of, words_at, buffers_at, contents_at, job_at, file_at};
 
 use crate::faults::{content_size, format_fault};
@@ -132,8 +132,7 @@ fn bytes_at(alloc: Global, bytes: &[u8], at: usize, size: usize) -> Result<Vec<u
 /// The contents of `count` buffers, one after the other, and the offset where they end.
 #[tactic(auto, using(crate::proofs::Listed::contents_none, crate::proofs::Listed::contents_more, crate::proofs::Standing::content_offset_step, crate::proofs::Standing::content_offset_first, crate::proofs::Standing::content_ends))]
 fn contents(alloc: Global, bytes: &[u8], count: usize) -> Result<(Vec<Vec<u8>>, usize), AllocError>
-    requires few { count ≤ 64 }
-    requires count { count ≡ buffer_count bytes.now }
+    requires header { HasHeader bytes.now count }
     requires entries { entry_offset count + job_size ≤ length bytes.now }
     requires inside { content_offset bytes.now count ≤ length bytes.now }
     ensures values { IfOk result (λ v. map (λ c. c.items) v.0.items ≡ contents_at bytes.now count) }

@@ -1,5 +1,6 @@
 //! Writing packets into a window.
 ghost use Rattle.std.specs.Prelude.{◌≡◌, ◌≤◌, ◌+◌, [], ◌∷◌, ◌++◌, length};
+ghost use Rattle.packets.specs.Opcode.{tile_rendering_mode, clear_colors};
 ghost use Rattle.packets.specs.Packet.{half, word, packet_text, slots_text};
 ghost use Rattle.packets.specs.Writing.{written};
 
@@ -43,6 +44,68 @@ fn put_half_word(out: &mut [u8], at: usize, opcode: u8, bits: u16, address: u32)
     put(out, at, &[opcode, b0, b1, a0, a1, a2, a3])
 }
 
+/// The image to draw: its address, its width and height in pixels, and the bits of its format.
+fn put_rendering_mode(
+    out: &mut [u8],
+    at: usize,
+    address: u32,
+    width: u16,
+    height: u16,
+    bits: u16,
+) -> usize
+    requires room { at + 11 ≤ length out.old }
+    ensures text { out.new ≡ written out.old at (tile_rendering_mode ∷ (word address ++ (half width ++ (half height ++ half bits)))) }
+    ensures end { result ≡ at + 11 }
+{
+    let [a0, a1, a2, a3] = address.to_le_bytes();
+    let [w0, w1] = width.to_le_bytes();
+    let [h0, h1] = height.to_le_bytes();
+    let [b0, b1] = bits.to_le_bytes();
+    put(
+        out,
+        at,
+        &[TILE_RENDERING_MODE, a0, a1, a2, a3, w0, w1, h0, h1, b0, b1],
+    )
+}
+
+/// What the tile buffer is cleared to: two colours, the depth and the stencil.
+fn put_clear_colors(
+    out: &mut [u8],
+    at: usize,
+    first: u32,
+    second: u32,
+    z: u32,
+    stencil: u8,
+) -> usize
+    requires room { at + 14 ≤ length out.old }
+    ensures text { out.new ≡ written out.old at (clear_colors ∷ (word first ++ (word second ++ (word z ++ (stencil ∷ []))))) }
+    ensures end { result ≡ at + 14 }
+{
+    let [f0, f1, f2, f3] = first.to_le_bytes();
+    let [s0, s1, s2, s3] = second.to_le_bytes();
+    let [z0, z1, z2, z3] = z.to_le_bytes();
+    put(
+        out,
+        at,
+        &[
+            CLEAR_COLORS,
+            f0,
+            f1,
+            f2,
+            f3,
+            s0,
+            s1,
+            s2,
+            s3,
+            z0,
+            z1,
+            z2,
+            z3,
+            stencil,
+        ],
+    )
+}
+
 /// Puts a packet at a place of the window, and gives the place behind it.
 #[tactic(auto, unfolding(crate::specs::Packet::packet_text))]
 pub fn put_packet(out: &mut [u8], at: usize, packet: Packet) -> usize
@@ -70,47 +133,13 @@ pub fn put_packet(out: &mut [u8], at: usize, packet: Packet) -> usize
             width,
             height,
             bits,
-        } => {
-            let [a0, a1, a2, a3] = address.to_le_bytes();
-            let [w0, w1] = width.to_le_bytes();
-            let [h0, h1] = height.to_le_bytes();
-            let [b0, b1] = bits.to_le_bytes();
-            put(
-                out,
-                at,
-                &[TILE_RENDERING_MODE, a0, a1, a2, a3, w0, w1, h0, h1, b0, b1],
-            )
-        }
+        } => put_rendering_mode(out, at, address, width, height, bits),
         Packet::ClearColors {
             first,
             second,
             z,
             stencil,
-        } => {
-            let [f0, f1, f2, f3] = first.to_le_bytes();
-            let [s0, s1, s2, s3] = second.to_le_bytes();
-            let [z0, z1, z2, z3] = z.to_le_bytes();
-            put(
-                out,
-                at,
-                &[
-                    CLEAR_COLORS,
-                    f0,
-                    f1,
-                    f2,
-                    f3,
-                    s0,
-                    s1,
-                    s2,
-                    s3,
-                    z0,
-                    z1,
-                    z2,
-                    z3,
-                    stencil,
-                ],
-            )
-        }
+        } => put_clear_colors(out, at, first, second, z, stencil),
         Packet::TileCoordinates { x, y } => put(out, at, &[TILE_COORDINATES, x, y]),
     }
 }

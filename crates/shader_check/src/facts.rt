@@ -1,6 +1,5 @@
 //! The rules on facts at one instruction, and the least of all rules there.
 ghost use Rattle.std.specs.Prelude.{◌≡◌, ◌<◌, ◌≤◌, ◌+◌, ◌*◌, ◌==◌, ℕ, true, length};
-ghost use Rattle.field_words.specs.Sizes.{most_words};
 ghost use Rattle.field_words.specs.Questions.{first_of};
 ghost use Rattle.qpu_isa.specs.Terms.{is_address_write, first_register, passes};
 ghost use Rattle.qpu_isa.specs.Told.{IsRegister};
@@ -55,7 +54,6 @@ fn holds_value<L: Ledger>(
     steps: &mut Steps<L>,
 ) -> bool
     requires inside { at < length code.now }
-    requires few { length code.now ≤ most_words }
     requires register { IsRegister reg }
     requires kept { IsTableOf code.now (maker_of code.now at) table.now }
     ensures value { result ≡ is_immediate code.now at reg value }
@@ -74,7 +72,6 @@ fn has_clamp<L: Ledger>(
     steps: &mut Steps<L>,
 ) -> bool
     requires inside { at < length code.now }
-    requires few { length code.now ≤ most_words }
     requires register { IsRegister reg }
     requires kept { IsTableOf code.now (maker_of code.now at) table.now }
     ensures value { result ≡ is_clamped code.now at reg }
@@ -92,7 +89,6 @@ fn adds_value<L: Ledger>(
     steps: &mut Steps<L>,
 ) -> bool
     requires inside { at < length code.now }
-    requires few { length code.now ≤ most_words }
     requires kept { IsTableOf code.now (maker_of code.now at) table.now }
     ensures value { result ≡ passes (first_register (word code.now at)) (λ reg. is_immediate code.now at reg value) }
     ensures steps { steps.new ≤ steps.old + 1 }
@@ -106,7 +102,6 @@ fn adds_value<L: Ledger>(
 // The first operand of the add unit is a register for which a clamp holds.
 fn adds_clamped<L: Ledger>(code: &[u64], at: u32, table: &FactTable, steps: &mut Steps<L>) -> bool
     requires inside { at < length code.now }
-    requires few { length code.now ≤ most_words }
     requires kept { IsTableOf code.now (maker_of code.now at) table.now }
     ensures value { result ≡ passes (first_register (word code.now at)) (is_clamped code.now at) }
     ensures steps { steps.new ≤ steps.old + 1 }
@@ -127,7 +122,6 @@ fn is_exact_address_write<L: Ledger>(
     steps: &mut Steps<L>,
 ) -> bool
     requires inside { at < length code.now }
-    requires few { length code.now ≤ most_words }
     requires taken { count ≡ count_of code.now at }
     requires kept { IsTableOf code.now (maker_of code.now at) table.now }
     ensures value { result ≡ is_exact_address_write code.now at }
@@ -148,7 +142,6 @@ fn breaks_s16<L: Ledger>(
     steps: &mut Steps<L>,
 ) -> bool
     requires inside { at < length code.now }
-    requires few { length code.now ≤ most_words }
     requires taken { count ≡ count_of code.now at }
     requires kept { IsTableOf code.now (maker_of code.now at) table.now }
     ensures value { result ≡ s16 code.now at }
@@ -190,7 +183,6 @@ fn is_clamped_write<L: Ledger>(
     steps: &mut Steps<L>,
 ) -> bool
     requires inside { at < length code.now }
-    requires few { length code.now ≤ most_words }
     requires kept { IsTableOf code.now (maker_of code.now at) table.now }
     ensures value { result ≡ is_clamped_write code.now at }
     ensures steps { steps.new ≤ steps.old + 1 }
@@ -211,7 +203,6 @@ fn breaks_s24<L: Ledger>(
     steps: &mut Steps<L>,
 ) -> bool
     requires inside { at < length code.now }
-    requires few { length code.now ≤ most_words }
     requires first { pending0 ≡ pending_of code.now 0 at }
     requires second { pending1 ≡ pending_of code.now 1 at }
     requires kept { IsTableOf code.now (maker_of code.now at) table.now }
@@ -232,7 +223,6 @@ fn fact_fault<L: Ledger>(
     steps: &mut Steps<L>,
 ) -> Option<u8>
     requires inside { at < length code.now }
-    requires few { length code.now ≤ most_words }
     requires counted { IsStream code.now stream.now }
     requires kept { IsTableOf code.now (maker_of code.now at) table.now }
     ensures value { result ≡ first_of (fact_questions code.now at) }

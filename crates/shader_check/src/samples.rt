@@ -1,7 +1,6 @@
 //! The samples of a shader: which uniforms each of its requests to a texture unit takes.
 ghost use Rattle.std.specs.Prelude.{◌≡◌, ◌<◌, ◌≤◌, ◌+◌, ◌++◌, ◌∷◌, [], ℕ, false, true, map, length, slice_get, IfOk, OnOk};
 ghost use Rattle.std.specs.Option.{option_to_list};
-ghost use Rattle.field_words.specs.Sizes.{most_words};
 ghost use Rattle.shader_flow.specs.Bounded.{indexes};
 ghost use Rattle.shader_flow.specs.Flow.{word, checked_of, IsFlow};
 ghost use Rattle.shader_flow.specs.Pending.{count_of, pending_of};
@@ -54,7 +53,6 @@ fn number(numbers: &[u32], last: u32, k: usize) -> Option<u32>
 // The uniform that clamps a direct sample's address.
 fn bound<L: Ledger>(code: &[u64], at: u32, table: &FactTable, steps: &mut Steps<L>) -> Option<u32>
     requires inside { at < length code.now }
-    requires few { length code.now ≤ most_words }
     requires kept { IsTableOf code.now (maker_of code.now at) table.now }
     ensures value { option_to_list result ≡ map (count_of code.now) (clamp_parts code.now at) }
     ensures steps { steps.new ≤ steps.old + 1 }
@@ -74,7 +72,6 @@ fn direct_sample<L: Ledger>(
     steps: &mut Steps<L>,
 ) -> Sample
     requires inside { at < length code.now }
-    requires few { length code.now ≤ most_words }
     requires taken { count ≡ count_of code.now at }
     requires direct { is_direct_sample code.now at ≡ true }
     requires kept { IsTableOf code.now (maker_of code.now at) table.now }
@@ -143,7 +140,6 @@ fn sample_at<L: Ledger>(
     steps: &mut Steps<L>,
 ) -> Sample
     requires inside { at < length code.now }
-    requires few { length code.now ≤ most_words }
     requires counted { IsStream code.now stream.now }
     requires number { tmu < 2 }
     requires asked { tmu ≡ sample_tmu (word code.now at) }
@@ -172,7 +168,6 @@ fn asked_sample<L: Ledger>(
     steps: &mut Steps<L>,
 ) -> Sample
     requires here { at < length code.now }
-    requires few { length code.now ≤ most_words }
     requires counted { IsStream code.now stream.now }
     requires first { kept0.now ≡ map (count_of code.now) (held code.now 0 at) }
     requires second { kept1.now ≡ map (count_of code.now) (held code.now 1 at) }
@@ -200,7 +195,6 @@ fn add_sample<L: Ledger>(
 ) -> Result<(), NoMemory>
     requires inside { at < checked_of code.now }
     requires here { at < length code.now }
-    requires few { length code.now ≤ most_words }
     requires counted { IsStream code.now stream.now }
     requires first { kept0.now ≡ map (count_of code.now) (held code.now 0 at) }
     requires second { kept1.now ≡ map (count_of code.now) (held code.now 1 at) }
@@ -231,7 +225,6 @@ pub(crate) fn note<L: Ledger>(
 ) -> Result<(), NoMemory>
     requires inside { at < checked_of code.now }
     requires here { at < length code.now }
-    requires few { length code.now ≤ most_words }
     requires counted { IsStream code.now stream.now }
     requires first { kept0.old.items ≡ map (count_of code.now) (held code.now 0 at) }
     requires second { kept1.old.items ≡ map (count_of code.now) (held code.now 1 at) }

@@ -50,11 +50,15 @@ is_target code i = some_below (end_of code) (λ b. makes_target code b i)
 unfoldable pub is_threaded : List ℕ → Bool
 is_threaded code = some_below (checked_of code) (λ k. is_switch (word code k))
 
+-- the shader has at most 8,192 words, and its program end is at this index
+pub record EndsAt (code : List ℕ) (end : ℕ) : Type 0 where
+  pub few : length code ≤ most_words
+  pub last : end ≡ end_of code
+
 -- What `flow` keeps of a shader of at most 8,192 words: its program end, a mark for each target from 0 to the number of words,
 -- and whether it switches threads.
 pub record IsFlow (code : List ℕ) (flow : Flow) : Type 0 where
-  pub few : length code ≤ most_words
-  pub last_is : flow.end ≡ end_of code
+  pub ends : EndsAt code flow.end
   pub size : length flow.targets.items ≡ length code + 1
   pub marks : (i : ℕ) → i ≤ length code → slice_index_or flow.targets.items i false ≡ is_target code i
   pub threaded_is : flow.threaded ≡ is_threaded code

@@ -3,7 +3,7 @@ ghost use Rattle.std.specs.Prelude.{◌≡◌, ◌<◌, ◌≤◌, ◌+◌, ◌=
 ghost use Rattle.field_words.specs.Sizes.{most_words};
 ghost use Rattle.qpu_isa.specs.Terms.{target_of};
 ghost use Rattle.shader_flow.specs.Bounded.{some_below};
-ghost use Rattle.shader_flow.specs.Flow.{end_of, checked_of, is_threaded, is_target, makes_target, IsFlow};
+ghost use Rattle.shader_flow.specs.Flow.{end_of, checked_of, is_threaded, is_target, makes_target, EndsAt, IsFlow};
 
 use crate::rules::is_sound;
 use crate::state::Flow;
@@ -29,7 +29,6 @@ fn program_end(code: &[u64]) -> u32
 /// The number of instructions that are checked: those up to the program end `end`, and the two after it.
 #[tactic(auto, unfolding(crate::specs::Flow::checked_of))]
 pub fn checked(code: &[u64], end: u32) -> usize
-    requires few { length code.now ≤ most_words }
     requires last { end ≡ end_of code.now }
     ensures value { result ≡ checked_of code.now }
     ensures inside { result ≤ length code.now }
@@ -40,7 +39,6 @@ pub fn checked(code: &[u64], end: u32) -> usize
 // Whether a checked instruction is a switch.
 #[tactic(auto, unfolding(crate::specs::Flow::is_threaded))]
 fn switches(code: &[u64], end: u32) -> bool
-    requires few { length code.now ≤ most_words }
     requires last { end ≡ end_of code.now }
     ensures { result ≡ is_threaded code.now }
 {
@@ -76,8 +74,7 @@ fn mark_branch(targets: &mut [bool], word: u64, at: u32)
 #[tactic(auto, unfolding(crate::specs::Flow::makes_target))]
 fn mark_from(targets: &mut [bool], code: &[u64], end: u32, at: usize)
     requires inside { at < length code.now }
-    requires few { length code.now ≤ most_words }
-    requires last { end ≡ end_of code.now }
+    requires ends { EndsAt code.now end }
     ensures size { length targets.new ≡ length targets.old }
     ensures marks { (i : ℕ) → i < length targets.old → slice_index_or targets.new i false ≡ (slice_index_or targets.old i false || makes_target code.now at i) }
 {
@@ -90,8 +87,7 @@ fn mark_from(targets: &mut [bool], code: &[u64], end: u32, at: usize)
 #[tactic(auto, unfolding(crate::specs::Flow::is_target))]
 fn mark_all(targets: &mut [bool], code: &[u64], end: u32)
     requires clear { (i : ℕ) → slice_index_or targets.old i false ≡ false }
-    requires few { length code.now ≤ most_words }
-    requires last { end ≡ end_of code.now }
+    requires ends { EndsAt code.now end }
     ensures size { length targets.new ≡ length targets.old }
     ensures marks { (i : ℕ) → i < length targets.old → slice_index_or targets.new i false ≡ is_target code.now i }
 {

@@ -1,10 +1,9 @@
 //! The rules on signals, branches and switches at one instruction.
 ghost use Rattle.std.specs.Prelude.{◌≡◌, ◌<◌, ◌≤◌, false, length};
-ghost use Rattle.field_words.specs.Sizes.{most_words};
 ghost use Rattle.field_words.specs.Questions.{first_of};
 ghost use Rattle.shader_flow.specs.Bounded.{is_back};
 ghost use Rattle.qpu_isa.specs.Terms.{is_branch, is_switch};
-ghost use Rattle.shader_flow.specs.Flow.{word, end_of, in_slots, after_switch, leads_outside, is_sound_branch, IsFlow};
+ghost use Rattle.shader_flow.specs.Flow.{word, end_of, in_slots, after_switch, leads_outside, is_sound_branch, EndsAt, IsFlow};
 ghost use Rattle.shader_flow.specs.Rules.{s3, s4, s5, s6, s7, s8, s9, s10, s11, s12, s13, s27, flow_questions};
 ghost use Rattle.shader_flow.specs.Kinds.{HasOnlyBranchFaults, HasNoBranchFaults};
 
@@ -79,8 +78,7 @@ fn is_after_switch(code: &[u64], at: usize) -> bool
 #[tactic(auto, unfolding(crate::specs::Flow::leads_outside))]
 fn is_outside(code: &[u64], end: u32, at: usize) -> bool
     requires inside { at < length code.now }
-    requires few { length code.now ≤ most_words }
-    requires last { end ≡ end_of code.now }
+    requires ends { EndsAt code.now end }
     ensures { result ≡ leads_outside code.now at }
 {
     end < target(code[at], at as u32)
@@ -90,8 +88,7 @@ fn is_outside(code: &[u64], end: u32, at: usize) -> bool
 #[tactic(auto, unfolding(crate::specs::Flow::is_sound_branch))]
 pub(crate) fn is_sound(code: &[u64], end: u32, at: usize) -> bool
     requires inside { at < length code.now }
-    requires few { length code.now ≤ most_words }
-    requires last { end ≡ end_of code.now }
+    requires ends { EndsAt code.now end }
     ensures { result ≡ is_sound_branch code.now at }
 {
     let word = code[at];
@@ -152,8 +149,7 @@ fn breaks_s7(code: &[u64], at: usize) -> bool
 #[tactic(auto, unfolding(crate::specs::Rules::s8))]
 fn breaks_s8(code: &[u64], end: u32, at: usize) -> bool
     requires inside { at < length code.now }
-    requires few { length code.now ≤ most_words }
-    requires last { end ≡ end_of code.now }
+    requires ends { EndsAt code.now end }
     ensures { result ≡ s8 code.now at }
 {
     is_branch(code[at]) && imm(code[at]) % 8 == 0 && is_outside(code, end, at)
@@ -163,7 +159,6 @@ fn breaks_s8(code: &[u64], end: u32, at: usize) -> bool
 #[tactic(auto, unfolding(crate::specs::Rules::s9))]
 fn breaks_s9(code: &[u64], end: u32, at: usize) -> bool
     requires inside { at < length code.now }
-    requires few { length code.now ≤ most_words }
     requires last { end ≡ end_of code.now }
     ensures { result ≡ s9 code.now at }
 {
@@ -201,7 +196,6 @@ fn breaks_s12(code: &[u64], at: usize) -> bool
 #[tactic(auto, unfolding(crate::specs::Rules::s13))]
 fn breaks_s13(code: &[u64], end: u32, at: usize) -> bool
     requires inside { at < length code.now }
-    requires few { length code.now ≤ most_words }
     requires last { end ≡ end_of code.now }
     ensures { result ≡ s13 code.now at }
 {
@@ -222,8 +216,7 @@ fn breaks_s27(code: &[u64], at: usize) -> bool
 #[tactic(auto, unfolding(crate::specs::Rules::flow_questions))]
 fn branch_fault(code: &[u64], end: u32, at: usize) -> Option<u8>
     requires inside { at < length code.now }
-    requires few { length code.now ≤ most_words }
-    requires last { end ≡ end_of code.now }
+    requires ends { EndsAt code.now end }
     requires only { HasOnlyBranchFaults code.now at }
     ensures { result ≡ first_of (flow_questions code.now at) }
 {
@@ -258,7 +251,6 @@ fn branch_fault(code: &[u64], end: u32, at: usize) -> Option<u8>
 #[tactic(auto, unfolding(crate::specs::Rules::flow_questions))]
 fn switch_fault(code: &[u64], end: u32, at: usize) -> Option<u8>
     requires inside { at < length code.now }
-    requires few { length code.now ≤ most_words }
     requires last { end ≡ end_of code.now }
     requires signal { s3 code.now at ≡ false }
     requires no_branch { HasNoBranchFaults code.now at }

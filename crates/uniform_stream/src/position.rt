@@ -1,6 +1,5 @@
 //! Where the position in the uniform stream is known.
 ghost use Rattle.std.specs.Prelude.{◌≡◌, ◌<◌, ◌≤◌, ◌+◌, ◌-◌, ◌&&◌, ◌||◌, not, length};
-ghost use Rattle.field_words.specs.Sizes.{most_words};
 ghost use Rattle.shader_flow.specs.Bounded.{is_back};
 ghost use Rattle.shader_flow.specs.Flow.{end_of, is_target, IsFlow};
 ghost use Rattle.uniform_stream.specs.Stream.{writes_address, is_restart, is_known};
@@ -12,7 +11,6 @@ use shader_flow::{Flow, checked, is_marked};
 #[tactic(auto, unfolding(crate::specs::Stream::writes_address))]
 pub(crate) fn writes_address(code: &[u64], end: u32, at: usize) -> bool
     requires inside { at < length code.now }
-    requires few { length code.now ≤ most_words }
     requires last { end ≡ end_of code.now }
     ensures { result ≡ writes_address code.now at }
 {
@@ -23,7 +21,6 @@ pub(crate) fn writes_address(code: &[u64], end: u32, at: usize) -> bool
 #[tactic(auto, unfolding(crate::specs::Stream::is_restart, shader_flow::specs::Bounded::is_back))]
 fn is_restart(code: &[u64], end: u32, at: usize) -> bool
     requires inside { at < length code.now }
-    requires few { length code.now ≤ most_words }
     requires last { end ≡ end_of code.now }
     ensures { result ≡ is_restart code.now at }
 {

@@ -1,6 +1,5 @@
 //! The rules on the uniform stream and on TMU writes at one instruction.
 ghost use Rattle.std.specs.Prelude.{◌≡◌, ◌<◌, ◌≤◌, ◌+◌, length};
-ghost use Rattle.field_words.specs.Sizes.{most_words};
 ghost use Rattle.field_words.specs.Questions.{first_of};
 ghost use Rattle.qpu_isa.specs.Terms.{is_address_write};
 ghost use Rattle.shader_flow.specs.Bounded.{is_back};
@@ -61,7 +60,6 @@ fn is_after_address_write(code: &[u64], at: usize) -> bool
 #[tactic(auto, unfolding(shader_flow::specs::Pending::takes))]
 pub fn takes_at(code: &[u64], end: u32, at: usize, pending0: u16, pending1: u16) -> bool
     requires inside { at < length code.now }
-    requires few { length code.now ≤ most_words }
     requires last { end ≡ end_of code.now }
     requires first { pending0 ≡ pending_of code.now 0 at }
     requires second { pending1 ≡ pending_of code.now 1 at }

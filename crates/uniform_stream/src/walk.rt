@@ -3,7 +3,7 @@ ghost use Rattle.std.specs.Prelude.{◌≡◌, ◌<◌, ◌≤◌, ◌+◌, ◌*
 ghost use Rattle.field_words.specs.Sizes.{most_words};
 ghost use Rattle.shader_flow.specs.Bounded.{indexes};
 ghost use Rattle.qpu_isa.specs.Terms.{reads_uniform_of};
-ghost use Rattle.shader_flow.specs.Flow.{word, end_of, checked_of, IsFlow};
+ghost use Rattle.shader_flow.specs.Flow.{word, end_of, checked_of, EndsAt, IsFlow};
 ghost use Rattle.shader_flow.specs.Pending.{pending_of, count_of};
 ghost use Rattle.uniform_stream.specs.Stream.{writes_address, leaves_open, is_open, IsStream};
 ghost use Rattle.uniform_stream.specs.Quiet.{writes_registers};
@@ -32,8 +32,7 @@ pub struct Running {
 // How many setup words the TMU keeps after the instruction at `at`, where it keeps `pending` before.
 fn next_pending(code: &[u64], end: u32, tmu: u8, at: usize, pending: u16) -> u16
     requires inside { at < length code.now }
-    requires few { length code.now ≤ most_words }
-    requires last { end ≡ end_of code.now }
+    requires ends { EndsAt code.now end }
     requires number { tmu < 2 }
     requires kept { pending ≡ pending_of code.now tmu at }
     requires bound { pending ≤ 2 * at }
@@ -52,8 +51,7 @@ fn next_pending(code: &[u64], end: u32, tmu: u8, at: usize, pending: u16) -> u16
 // How many uniforms are taken up to the instruction at `at`, where `count` are taken before it.
 fn next_count(code: &[u64], end: u32, at: usize, pending0: u16, pending1: u16, count: u32) -> u32
     requires inside { at < length code.now }
-    requires few { length code.now ≤ most_words }
-    requires last { end ≡ end_of code.now }
+    requires ends { EndsAt code.now end }
     requires first { pending0 ≡ pending_of code.now 0 at }
     requires second { pending1 ≡ pending_of code.now 1 at }
     requires taken { count ≡ count_of code.now at }
@@ -70,7 +68,6 @@ fn next_count(code: &[u64], end: u32, at: usize, pending0: u16, pending1: u16, c
 // A checked instruction at `at` reads a uniform.
 fn reads_here(code: &[u64], end: u32, at: usize) -> bool
     requires inside { at < length code.now }
-    requires few { length code.now ≤ most_words }
     requires last { end ≡ end_of code.now }
     ensures { result ≡ (nat_lt at (checked_of code.now) && reads_uniform_of (word code.now at)) }
 {
@@ -80,8 +77,7 @@ fn reads_here(code: &[u64], end: u32, at: usize) -> bool
 // How many uniforms are taken up to an instruction at `at` that writes registers alone, where `count` are taken before it.
 fn quiet_count(code: &[u64], end: u32, at: usize, count: u32) -> u32
     requires inside { at < length code.now }
-    requires few { length code.now ≤ most_words }
-    requires last { end ≡ end_of code.now }
+    requires ends { EndsAt code.now end }
     requires quiet { writes_registers (word code.now at) ≡ true }
     requires taken { count ≡ count_of code.now at }
     requires bound { count ≤ at }
@@ -139,7 +135,6 @@ fn add_address(
     words: &mut Vec<u32>,
 ) -> Result<(), NoMemory>
     requires inside { at < length code.now }
-    requires few { length code.now ≤ most_words }
     requires last { end ≡ end_of code.now }
     requires taken { count ≡ count_of code.now at }
     requires before { words.old.items ≡ map (count_of code.now) (indexes at (writes_address code.now)) }
@@ -177,7 +172,6 @@ fn fill(
 
 // The index after the last checked instruction that sets the address, or 0.
 fn address_end(code: &[u64], end: u32) -> usize
-    requires few { length code.now ≤ most_words }
     requires last { end ≡ end_of code.now }
     ensures { IsAddressEnd code.now (checked_of code.now) result }
 {
@@ -193,7 +187,6 @@ fn address_end(code: &[u64], end: u32) -> usize
 // The instruction at `at` is a backward branch, and no write of the address stands after its slots.
 fn leaves_open(code: &[u64], last: usize, at: usize) -> bool
     requires inside { at < length code.now }
-    requires few { length code.now ≤ most_words }
     requires written { IsAddressEnd code.now (checked_of code.now) last }
     ensures { result ≡ leaves_open code.now at }
 {

@@ -7,7 +7,7 @@ use Rattle.clamp_facts.proofs.upkeep.forget.Goals as goal
 pub returns-then-is_marked-clause-after : goal.returns-then-is_marked-clause-after
 returns-then-is_marked-clause-after g c =
     subst (IsTableOf c.args.code.now (maker_of c.args.code.now (c.args.at + 1))) (sym c.forget_all.ensures.entries)
-    (target_keeps c.args.code.now c.args.at (sym c.is_marked.ensures ∙ c.if-is_marked.true))
+    (target_keeps c.args.code.now c.args.at c.requires.before.few (sym c.is_marked.ensures ∙ c.if-is_marked.true))
 
 pub returns-then-switch_acts-clause-after : goal.returns-then-switch_acts-clause-after
 returns-then-switch_acts-clause-after g c =

@@ -10,7 +10,7 @@ use Rattle.job_format.proofs.faults.contents_fault.Goals as goal
 pub loop-b-init : goal.loop-b-init
 loop-b-init c = (
   ap (λ n. first_of (each (content_questions c.args.bytes.now) 0 n)) (omega arith),
-  (ap (λ n. n + 124) (c.entry_offset-at.ensures ∙ ap entry_offset c.requires.count) ∙ sym (content_offset_first c.args.bytes.now), omega (arith, c.entry_offset-at.ensures, c.requires.before)),
+  (ap (λ n. n + 124) (c.entry_offset-at.ensures ∙ ap entry_offset c.requires.header.number) ∙ sym (content_offset_first c.args.bytes.now), omega (arith, c.entry_offset-at.ensures, c.requires.before)),
 )
 
 pub loop-b-preserved : goal.loop-b-preserved
@@ -25,5 +25,5 @@ pub returns : goal.returns
 unfolding handles_offset
 returns c = (
   sym c.loop-b.invariant.0 ∙ each_end (content_questions c.args.bytes.now) c.loop-b.b c.args.count c.loop-b-test.false,
-  (c.loop-b.invariant.1.0 ∙ ap (content_offset c.args.bytes.now) (let e : c.loop-b.b ≡ c.args.count = omega (arith, c.loop-b-test.false, c.loop-b.auto.b-end) in e ∙ c.requires.count), c.loop-b.invariant.1.1),
+  (c.loop-b.invariant.1.0 ∙ ap (content_offset c.args.bytes.now) (let e : c.loop-b.b ≡ c.args.count = omega (arith, c.loop-b-test.false, c.loop-b.auto.b-end) in e ∙ c.requires.header.number), c.loop-b.invariant.1.1),
 )

@@ -17,7 +17,7 @@ loop-at-init g c = record {
   first = c.new-kept0.ensures.items;
   second = c.new-kept1.ensures.items;
   made = c.in_ok-samples.ensures.items;
-  table = subst (IsTableOf c.args.code.now (maker_of c.args.code.now 0)) (sym c.new-table.ensures) (blank_keeps c.args.code.now (maker_of c.args.code.now 0) (λ reg. refl));
+  table = subst (IsTableOf c.args.code.now (maker_of c.args.code.now 0)) (sym c.new-table.ensures) (blank_keeps c.args.code.now (maker_of c.args.code.now 0) c.requires.made.ends.few (λ reg. refl));
   steps = omega arith;
 }
 

@@ -10,7 +10,7 @@ unfolding some_below
 loop-at-init c = record { size = refl; marks = λ i below. c.requires.clear i }
 
 pub mark_from-requires-clause-inside : goal.mark_from-requires-clause-inside
-mark_from-requires-clause-inside c = omega (arith, c.loop-at-test.true, c.requires.last, end_of-le c.args.code.now)
+mark_from-requires-clause-inside c = omega (arith, c.loop-at-test.true, c.requires.ends.last, end_of-le c.args.code.now)
 
 pub loop-at-preserved : goal.loop-at-preserved
 loop-at-preserved c = record {
