@@ -1,4 +1,4 @@
-pub mod Headline
 pub mod Counts
+pub mod Headline
 pub mod Told
 pub mod Appending

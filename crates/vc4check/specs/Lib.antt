@@ -6,5 +6,5 @@ pub mod Words
 pub mod Replay
 pub mod Scripts
 pub mod Reply
-pub mod Headline
 pub mod Notice
+pub mod Headline
