@@ -1,5 +1,5 @@
 -- Laws on tile lists and their blocks.
-use Rattle.std.proofs.Common.{◌≡◌, ◌≤◌, ◌<◌, ℕ, zero, suc, ◌+◌, ◌-◌, ◌*◌, ◌^◌, List, [], ◌∷◌, ◌++◌, length, drop, slice_set, slice_index_or, refl, sym, ◌∙◌, ap, subst, arith, drop-cons, Bool, true, false, if◌then◌else◌, ◌==◌, Option, Some, nat_lt}
+use Rattle.std.proofs.Common.{◌≡◌, ◌≤◌, ◌<◌, ℕ, zero, suc, ◌+◌, ◌-◌, ◌*◌, ◌^◌, List, [], ◌∷◌, ◌++◌, length, slice_set, refl, sym, ◌∙◌, ap, subst, arith, Bool, true, false, if◌then◌else◌, ◌==◌, Option, Some, nat_lt}
 use Rattle.std.proofs.Math.Nat.{mul-le-mul}
 use Rattle.std.proofs.lemmas.Bool.Decides.{nat_tests}
 use Rattle.std.proofs.lemmas.Grind.{common_steps}
@@ -23,15 +23,6 @@ tiles_limit x y across down =
     let b : y ≤ 255 = omega arith in
     let c : x * y ≤ 255 * 255 = mul-le-mul a b in
     omega arith
-
--- the loop over the items
-pub spot_begin : (tile : ℕ) (items : List Item) → spot_in tile no_spot (drop 0 items) ≡ spot_of tile items
-spot_begin tile items = refl
-
-pub spot_more : (tile : ℕ) (spot : Spot) (items : List Item) (i : ℕ) (d : Item) → i < length items → spot_in tile (spotted tile spot (slice_index_or items i d)) (drop (i + 1) items) ≡ spot_in tile spot (drop i items)
-spot_more tile spot items i d below =
-    let one : suc i ≡ i + 1 = omega arith in
-    sym (ap (spot_in tile spot) (drop-cons items i d below ∙ ap (λ k. slice_index_or items i d ∷ drop k items) one))
 
 -- one zero more is written
 pub zeros_more : (m : List ℕ) (p n i : ℕ) → i < n → stored (slice_set m (p + i) 0) (p + (i + 1)) (zeros (n - (i + 1))) ≡ stored m (p + i) (zeros (n - i))
@@ -75,15 +66,6 @@ unfolding has_room
 room_few c blocks size room =
     let fits : further_offset c + 128 * (blocks + 1) ≤ c.size = grind (arith, nat_tests, room) in
     omega arith
-
-drop_all : (items : List Item) (i : ℕ) → length items ≤ i → drop i items ≡ []
-drop_all items i all = grind (arith, common_steps, all)
-
-pub spot_end : (tile : ℕ) (spot : Spot) (items : List Item) (i : ℕ) → length items ≤ i → spot_in tile spot (drop i items) ≡ spot_of tile items → spot ≡ spot_of tile items
-spot_end tile spot items i all rest = sym (ap (spot_in tile spot) (drop_all items i all)) ∙ rest
-
-pub last_limit : (tile : ℕ) (spot : Spot) (items : List Item) → spot ≡ spot_of tile items → AreNear 0 items → spot.last + 16 ≤ 2 ^ 34 + 16 * length items
-last_limit tile spot items is near = subst (λ (s : Spot). s.last + 16 ≤ 2 ^ 34 + 16 * length items) (sym is) (spot_near tile items near)
 
 -- an item was written and is kept
 pub here_shows : (who : Who) (s after : Lists) (w : Work) (tile place : ℕ) (m k : List ℕ) (before listed : List Access) → listed ≡ before ++ access who Write place 16 ∷ [] → k ≡ stored m place (zeros 16) → after ≡ with_item s (item_of w tile place)

@@ -7,3 +7,4 @@ pub mod Store
 pub mod Cover
 pub mod Surfaces
 pub mod Renderer
+pub mod Spots

@@ -4,8 +4,8 @@ ghost use Rattle.arrayvec.specs.ArrayVec.{array_vec_len};
 ghost use Rattle.field_words.specs.declared.access.Way.TheVariants.{Write};
 ghost use Rattle.machine_plan.specs.Memory.{stored};
 ghost use Rattle.machine_plan.specs.Plan.{Shows, access, carried};
-ghost use Rattle.list_machine.specs.Lists.{AreNear, most_items};
-ghost use Rattle.list_machine.specs.Blocks.{tiles_of, further_offset, block_place, has_room, one_more, spotted, spot_of, is_full, next_place, link_place, item_of, zeros, put_here, put_plan};
+ghost use Rattle.list_machine.specs.Lists.{most_items};
+ghost use Rattle.list_machine.specs.Blocks.{tiles_of, further_offset, block_place, has_room, one_more, spot_of, is_full, next_place, link_place, item_of, zeros, put_here, put_plan};
 
 use crate::job_lists::JobLists;
 use crate::state::{Config, Item, Spot, Work};
@@ -50,35 +50,6 @@ pub(crate) fn has_room(config: &Config, blocks: u32) -> bool
     ensures few { result ≡ true → blocks < 2 ^ 25 }
 {
     further_offset(config) + 128 * (blocks as u64 + 1) <= config.size as u64
-}
-
-// What a tile's list has, with one of the job's items more.
-fn spotted(tile: u32, spot: Spot, item: &Item) -> Spot
-    requires { spot.count < 2 ^ 31 }
-    ensures { result ≡ spotted tile spot item.now }
-{
-    if item.tile == tile {
-        Spot {
-            count: spot.count + 1,
-            last: item.place,
-        }
-    } else {
-        spot
-    }
-}
-
-/// What a tile's list has, by the items of all lists.
-#[tactic(auto, using(crate::proofs::Putting::spot_more))]
-pub(crate) fn spot_of(tile: u32, items: &[Item]) -> Spot
-    requires { length items.now ≤ most_items }
-    ensures value { result ≡ spot_of tile items.now }
-    ensures near { AreNear 0 items.now → result.last + 16 ≤ 2 ^ 34 + 16 * length items.now }
-{
-    let mut spot = Spot { count: 0, last: 0 };
-    for item in items {
-        spot = spotted(tile, spot, item);
-    }
-    spot
 }
 
 // Whether the block is full in which the last item lies.
@@ -136,6 +107,7 @@ impl JobLists {
         memory: &mut PhysMem,
         accesses: &mut ArrayVec<Access, 272>,
     )
+        requires tile { tile ≤ 65025 }
         requires few { length self.old.items < most_items }
         requires near { place ≤ 2 ^ 34 + 16 * length self.old.items }
         requires room { array_vec_len accesses.old < 272 }
@@ -169,7 +141,7 @@ impl JobLists {
         ensures shows { Shows (carried who (put_plan self.old config.now work.now tile (spot_of tile self.old.items)) memory.old) accesses.old.items accesses.new.items memory.new (Some self.new) }
         ensures len { array_vec_len accesses.new ≤ array_vec_len accesses.old + 2 }
     {
-        let spot = spot_of(tile, self.items());
+        let spot = self.spot(tile);
         if is_full(spot) {
             let place = block_place(config, self.blocks());
             write_zeros(spot.last + 16, 16, who, memory, accesses);

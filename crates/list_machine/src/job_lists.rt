@@ -1,8 +1,9 @@
 //! What the list units of one job keep, as a whole.
 ghost use Rattle.std.specs.Prelude.{◌≡◌, ◌≤◌, ◌<◌, ◌+◌, ◌*◌, ◌^◌, ◌++◌, ◌∷◌, [], length, IfOk};
 ghost use Rattle.list_machine.specs.Lists.{lists_start, with_binner, with_renderer, with_kept, with_work, with_place, past, incremented, flushed, with_taken, with_item, with_block, binner_ended, most_items, AreNear};
+ghost use Rattle.list_machine.specs.Blocks.{spot_of};
 
-use crate::state::{Binner, Item, Kept, Renderer, Work};
+use crate::state::{Binner, Item, Kept, Renderer, Spot, Work};
 use field_words::NoMemory;
 use std::alloc::Global;
 use std::marker::Model;
@@ -10,9 +11,15 @@ use std::marker::Model;
 /// The most items that a job's tile lists have together.
 pub const MOST_ITEMS: usize = 32_768;
 
+/// As many tiles as a grid may have, and the one behind them.
+const MOST_TILES: usize = 65_026;
+
+/// What an empty tile list has.
+const NO_SPOT: Spot = Spot { count: 0, last: 0 };
+
 /// What the list units of one job keep: its binner and its renderer, the semaphore, and its tile
-/// lists. The items of all tile lists are one list, the oldest first; its memory is taken at the
-/// start, so that no step takes any.
+/// lists. The items of all tile lists are one list, the oldest first; beside it stands for each tile
+/// what its own list has. All memory is taken at the start, so that no step takes any.
 #[derive(Drop)]
 pub struct JobLists {
     binner: Binner,
@@ -22,23 +29,26 @@ pub struct JobLists {
     closed: bool,
     blocks: u32,
     items: Vec<Item>,
+    spots: Vec<Spot>,
 }
 
 impl Model for JobLists {
     ghost use Rattle.std.specs.Prelude.{◌≤◌};
     ghost use Rattle.std.specs.Vec.{vec_capacity};
     ghost use Rattle.list_machine.specs.Lists.{Lists, IsNear, most_items};
+    ghost use Rattle.list_machine.specs.Spots.{AreSpotsOf};
 
     ghost Value = { Lists };
 
     ghost view = { λ a. record { binner = a.binner; renderer = a.renderer; pending = a.pending; semaphore = a.semaphore; closed = a.closed; blocks = a.blocks; items = a.items.items } };
 
-    ghost invariant = { λ a. (most_items ≤ vec_capacity a.items) × IsNear (record { binner = a.binner; renderer = a.renderer; pending = a.pending; semaphore = a.semaphore; closed = a.closed; blocks = a.blocks; items = a.items.items }) };
+    ghost invariant = { λ a. (most_items ≤ vec_capacity a.items) × IsNear (record { binner = a.binner; renderer = a.renderer; pending = a.pending; semaphore = a.semaphore; closed = a.closed; blocks = a.blocks; items = a.items.items }) × AreSpotsOf a.items.items a.spots.items };
 }
 
 impl JobLists {
     /// The list units of a job whose lists begin at these places and are this long, at their start.
-    /// The memory for the items of its tile lists may be missing.
+    /// Memory may be missing: that for the items of its tile lists, and for what each of 65,026 tiles has.
+    #[tactic(auto, using(crate::proofs::Spots::spots_begin))]
     pub fn new(
         alloc: Global,
         bin_place: u32,
@@ -49,6 +59,7 @@ impl JobLists {
         ensures { IfOk result (λ lists. lists ≡ lists_start bin_place bin_len render_place render_len) }
     {
         let items = Vec::with_capacity(alloc, MOST_ITEMS)?;
+        let spots = vec![in alloc; NO_SPOT; MOST_TILES]?;
         Ok(JobLists {
             binner: Binner {
                 place: bin_place as u64,
@@ -74,6 +85,7 @@ impl JobLists {
             closed: false,
             blocks: 0,
             items,
+            spots,
         })
     }
 
@@ -115,6 +127,18 @@ impl JobLists {
         ensures few { result ≤ 2 ^ 25 }
     {
         self.blocks
+    }
+
+    /// What a tile's list has.
+    #[tactic(auto, using(crate::proofs::Putting::spot_near, crate::proofs::Spots::count_limit))]
+    pub(crate) fn spot(&self, tile: u32) -> Spot
+        requires { tile ≤ 65025 }
+        ensures value { result ≡ spot_of tile self.now.items }
+        ensures near { result.last + 16 ≤ 2 ^ 34 + 16 * length self.now.items }
+        ensures count { result.count ≤ length self.now.items }
+        ensures few { length self.now.items ≤ most_items }
+    {
+        self.spots[tile as usize]
     }
 
     /// The items of all tile lists, the oldest first.
@@ -211,12 +235,18 @@ impl JobLists {
     }
 
     /// One item more.
-    #[tactic(auto, using(crate::proofs::Nearness::near_push))]
+    #[tactic(auto, using(crate::proofs::Nearness::near_push, crate::proofs::Spots::spots_put))]
     pub(crate) fn push_item(&mut self, item: Item)
+        requires tile { item.tile ≤ 65025 }
         requires few { length self.old.items < most_items }
         requires near { item.place ≤ 2 ^ 34 + 16 * length self.old.items }
         ensures { self.new ≡ with_item self.old item }
     {
+        let spot = self.spot(item.tile);
+        self.spots[item.tile as usize] = Spot {
+            count: spot.count + 1,
+            last: item.place,
+        };
         self.items.push_reserved(item);
     }
 }
