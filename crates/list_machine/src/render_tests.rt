@@ -259,7 +259,9 @@ fn rows_and_whole_tiles(rt: HostRuntime) -> Result<(), NoMemory> {
 
 // An item at this place on a tile, with a record at 0x2000 and a primitive of this many vertices, whose
 // indexes begin at 5.
-fn put_item(lists: &mut JobLists, tile: u32, place: u64, length: u32) {
+fn put_item(lists: &mut JobLists, tile: u32, place: u64, length: u32)
+    requires { tile ≤ 65025 }
+{
     if lists.items().len() < MOST_ITEMS && place < 0x10000 {
         lists.push_item(Item {
             tile,
