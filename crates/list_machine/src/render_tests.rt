@@ -1,4 +1,6 @@
 //! Steps of a renderer, with their accesses.
+ghost use Rattle.std.specs.Prelude.{◌≤◌};
+
 use crate::job_lists::{JobLists, MOST_ITEMS};
 use crate::state::{Config, Item, Kept, Primitive};
 use arrayvec::ArrayVec;
