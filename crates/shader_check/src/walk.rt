@@ -17,6 +17,9 @@ use std::alloc::Global;
 use std::sync::ledger::Ledger;
 use uniform_stream::Stream;
 
+// The most set-up words that a TMU keeps before the one that sends its request.
+const MOST_KEPT: usize = 3;
+
 /// The first fault at a checked instruction; else all samples in program order. At most eight steps an instruction.
 #[tactic(auto, unfolding(crate::specs::Info::samples_of))]
 pub(crate) fn walk<L: Ledger>(
@@ -31,10 +34,10 @@ pub(crate) fn walk<L: Ledger>(
     ensures answers { Answers (each (questions_at code.now) 0 (checked_of code.now)) (λ v. v.items ≡ samples_of code.now) result }
     ensures steps { steps.new ≤ steps.old + 8 * length code.now }
 {
-    let mut kept0 = Vec::new(alloc);
-    let mut kept1 = Vec::new(alloc);
     let last = checked(code, flow.end);
     let mut samples = Vec::with_capacity(alloc, count_samples(code, last))?;
+    let mut kept0 = Vec::with_capacity(alloc, MOST_KEPT)?;
+    let mut kept1 = Vec::with_capacity(alloc, MOST_KEPT)?;
     let mut table = FactTable::new();
     for at in 0..last {
         let index = at as u32;

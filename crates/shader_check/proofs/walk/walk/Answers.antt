@@ -14,8 +14,8 @@ pub loop-at-init : goal.loop-at-init
 unfolding held indexes maker_of last_below
 loop-at-init g c = record {
   none = (let e : checked_of c.args.code.now - 0 ≡ checked_of c.args.code.now = omega arith in ap (λ n. first_of (each (questions_at c.args.code.now) 0 n)) e);
-  first = c.new-kept0.ensures.items;
-  second = c.new-kept1.ensures.items;
+  first = c.in_ok-kept0.ensures.items;
+  second = c.in_ok-kept1.ensures.items;
   made = c.in_ok-samples.ensures.items;
   table = subst (IsTableOf c.args.code.now (maker_of c.args.code.now 0)) (sym c.new-table.ensures) (blank_keeps c.args.code.now (maker_of c.args.code.now 0) c.requires.made.ends.few (λ reg. refl));
   steps = omega arith;
