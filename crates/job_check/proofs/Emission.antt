@@ -71,6 +71,7 @@ is_placed f memory layout sound size is fits =
     let numbers = layout_numbers f 0 layout is in
     record {
       pages = ap (λ n. n % 4096) size ∙ sound.pages;
+      not_empty = omega (arith, size, sound.not_empty);
       limit = omega (arith, size, sound.limit);
       inside = omega (arith, size, numbers.0, fits, lists_inside f sound);
       order = subst InOrder (sym is) (layout_order f 0);

@@ -1,6 +1,6 @@
 -- The memory of an accepted file: zeros, but for the contents of each buffer at its place and the lists of the job in the
 -- lists' region.
-use Rattle.std.specs.Prelude.{◌≡◌, ℕ, ◌+◌, ◌%◌, ◌≤◌, List, [], ◌∷◌, ◌++◌, length}
+use Rattle.std.specs.Prelude.{◌≡◌, ℕ, ◌+◌, ◌%◌, ◌≤◌, ◌<◌, List, [], ◌∷◌, ◌++◌, length}
 use Rattle.field_words.specs.Writes.{Part, emitted}
 use Rattle.buffer_table.specs.declared.buffer.Buffer.{Buffer}
 use Rattle.job_format.specs.Model.{FileModel}
@@ -68,9 +68,10 @@ pub record InOrder (layout : Layout) : Type 0 where
   pub uniforms : layout.uniforms ≤ layout.render
   pub render : layout.render ≤ layout.end
 
--- The memory is whole pages, at most 64 MiB of them, and the lists lie inside it.
+-- The memory is whole pages, at least one and at most 64 MiB of them, and the lists lie inside it.
 pub record IsPlaced (memory : List ℕ) (layout : Layout) : Type 0 where
   pub pages : length memory % 4096 ≡ 0
+  pub not_empty : 0 < length memory
   pub limit : length memory ≤ 67108864
   pub inside : layout.place + layout.end ≤ length memory
   pub order : InOrder layout

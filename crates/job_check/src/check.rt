@@ -122,6 +122,7 @@ fn check_jobs(
     requires sound { IsSound file.now.mem_size file.now.regions file.now.buffers.items }
     ensures answers { Answers (each (job_stages (file_view file.now)) 0 (length file.now.jobs.items)) (λ checked. IsEmitted (file_view file.now) checked.memory checked.layout checked.lengths) result }
     ensures placed { IfOk result (λ checked. IsPlaced checked.memory checked.layout) }
+    ensures sized { IfOk result (λ checked. length checked.memory ≡ file.now.mem_size) }
 {
     let mut memory = fresh_memory(alloc, file)?;
     match check_one(alloc, file, 0, table, shaders, &mut memory) {
@@ -141,6 +142,7 @@ fn check_shaders(alloc: Global, file: &JobFile, table: &Table) -> Result<Checked
     requires sound { IsSound file.now.mem_size file.now.regions file.now.buffers.items }
     ensures answers { Answers (shaders_stage (file_view file.now) ++ each (job_stages (file_view file.now)) 0 (length file.now.jobs.items)) (λ checked. IsEmitted (file_view file.now) checked.memory checked.layout checked.lengths) result }
     ensures placed { IfOk result (λ checked. IsPlaced checked.memory checked.layout) }
+    ensures sized { IfOk result (λ checked. length checked.memory ≡ file.now.mem_size) }
 {
     match shaders_stage(alloc, file) {
         Ok(shaders) => check_jobs(alloc, file, table, &shaders),
@@ -158,6 +160,7 @@ pub fn check_job(alloc: Global, file: &JobFile) -> Result<Checked, Stop<Refusal>
     ensures first { NamesFirst (file_stages (file_view file.now)) result }
     ensures memory { NeverHidesFault (table_stage (file_view file.now)) result }
     ensures placed { IfOk result (λ checked. IsPlaced checked.memory checked.layout) }
+    ensures sized { IfOk result (λ checked. length checked.memory ≡ file.now.mem_size) }
 {
     match table_stage(alloc, file) {
         Ok(table) => check_shaders(alloc, file, &table),

@@ -15,13 +15,11 @@ ghost use Rattle.job_check.specs.Faults.{shader_stage, whole_questions_in, whole
 use super::refusals::shader_refusal;
 use buffer_table::Kind;
 use byteorder::{ByteOrder, LittleEndian};
-use field_words::{Steps, Stop};
+use field_words::Stop;
 use job_format::{JobFile, Refusal};
 use qpu_isa::ShaderInfo;
-use shader_check::{ShaderFault, check_shader};
+use shader_check::{ShaderFault, check_code};
 use std::alloc::{AllocError, Global};
-use std::marker::Brand;
-use std::sync::ledger::{Blank, Ledger};
 
 /// Word k of the bytes.
 #[tactic(auto, unfolding(field_words::specs::Words::u64_at))]
@@ -46,17 +44,10 @@ pub fn words_of(alloc: Global, bytes: &[u8]) -> Result<Vec<u64>, AllocError>
     Ok(words)
 }
 
-/// The shader that these bytes hold. The counter of the checker's steps, which has no bytes at run time, is made here.
+/// The shader that these bytes hold.
 #[tactic(auto, unfolding(crate::specs::Shaders::code_questions, crate::specs::Shaders::told_of))]
-fn shader_in<L: Ledger>(
-    alloc: Global,
-    bytes: &[u8],
-    blank: Blank,
-) -> Result<ShaderInfo, Stop<ShaderFault>>
-    requires short { length bytes.now ≤ most_code }
-    requires name { blank.name ≡ L.name }
-    requires parts { blank.parts ≡ L.parts }
-    requires some { 0 < blank.parts }
+fn shader_in(alloc: Global, bytes: &[u8]) -> Result<ShaderInfo, Stop<ShaderFault>>
+    requires { length bytes.now ≤ most_code }
     ensures answers { Answers (code_questions bytes.now) (λ info. shader_view info ≡ told_of (words_of bytes.now)) result }
     ensures memory { NeverHidesFault (whole_questions_in CodeKind bytes.now) result }
     ensures sound { IfOk result (λ info. IsSoundShader (shader_view info)) }
@@ -68,7 +59,7 @@ fn shader_in<L: Ledger>(
         }));
     }
     let code = words_of(alloc, bytes)?;
-    check_shader(alloc, &code, &mut Steps::<L>::new(blank))
+    check_code(alloc, &code)
 }
 
 /// The kind of buffer `b`.
@@ -101,7 +92,7 @@ fn shader_at(alloc: Global, file: &JobFile, b: usize) -> Result<Option<ShaderInf
 {
     match kind_at(file, b) {
         Kind::Plain => Ok(None),
-        Kind::Code => match shader_in::<Brand>(alloc, content_at(file, b), Blank::new(1)) {
+        Kind::Code => match shader_in(alloc, content_at(file, b)) {
             Ok(info) => Ok(Some(info)),
             Err(Stop::Fault(fault)) => Err(Stop::Fault(shader_refusal(file, b, &fault))),
             Err(Stop::NoMemory) => Err(Stop::NoMemory),

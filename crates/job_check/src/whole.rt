@@ -1,5 +1,5 @@
 //! The check of a job file from its bytes on.
-ghost use Rattle.std.specs.Prelude.{◌≡◌, IfOk, IsOk};
+ghost use Rattle.std.specs.Prelude.{◌≡◌, length, IfOk, IsOk};
 ghost use Rattle.field_words.specs.Questions.{Answers};
 ghost use Rattle.job_format.specs.Reading.{file_at};
 ghost use Rattle.job_format.specs.File.{IsFileOf};
@@ -35,6 +35,7 @@ fn format_refusal(stop: Stop<FormatFault>) -> Stop<Refusal>
 pub fn check_bytes(alloc: Global, bytes: &[u8]) -> Result<Checked, Stop<Refusal>>
     ensures answers { Answers (all_questions bytes.now) (λ checked. IsEmitted (file_at bytes.now) checked.memory checked.layout checked.lengths) result }
     ensures placed { IfOk result (λ checked. IsPlaced checked.memory checked.layout) }
+    ensures sized { IfOk result (λ checked. length checked.memory ≡ (file_at bytes.now).mem_size) }
     ensures spelled { IsOk result → IsFileOf bytes.now (file_at bytes.now) }
 {
     match read_job(alloc, bytes) {

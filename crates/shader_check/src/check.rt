@@ -1,5 +1,5 @@
 //! The checker.
-ghost use Rattle.std.specs.Prelude.{◌≡◌, ◌≤◌, ◌+◌, ◌*◌, length, IfOk, IfErr};
+ghost use Rattle.std.specs.Prelude.{◌≡◌, ◌<◌, ◌≤◌, ◌+◌, ◌*◌, length, IfOk, IfErr};
 ghost use Rattle.field_words.specs.Sizes.{most_words};
 ghost use Rattle.field_words.specs.Questions.{Answers};
 ghost use Rattle.qpu_isa.specs.Shader.{IsSoundShader, shader_view};
@@ -17,7 +17,8 @@ use field_words::{Steps, Stop};
 use qpu_isa::ShaderInfo;
 use shader_flow::{Flow, flow};
 use std::alloc::Global;
-use std::sync::ledger::Ledger;
+use std::marker::Brand;
+use std::sync::ledger::{Blank, Ledger};
 use uniform_stream::{is_open, stream};
 
 // How many uniforms the shader's stream has, where its instructions take `count`.
@@ -42,22 +43,7 @@ fn uniforms(code: &[u64], flow: &Flow, count: u32) -> u32
 /// it tests.
 ///
 /// `steps` counts the looks at the table of facts and its changes: at most eight a word and eight more, whatever is answered. A
-/// caller makes the counter in a function that is handed a `blank: Blank` for a ledger, one call for each counter:
-///
-/// ```text
-/// fn checked<L: Ledger>(alloc: Global, code: &[u64], blank: Blank) -> Result<ShaderInfo, Stop<ShaderFault>>
-///     requires few { length code.now ≤ most_words }
-///     requires name { blank.name ≡ L.name }
-///     requires parts { blank.parts ≡ L.parts }
-///     requires some { 0 < blank.parts }
-/// {
-///     let mut steps = Steps::<L>::new(blank);
-///     check_shader(alloc, code, &mut steps)
-/// }
-/// ```
-///
-/// It is called as `checked::<Brand>(alloc, code, Blank::new(1))` (`Brand` of `std::marker`, `Blank` of `std::sync::ledger`), and the
-/// caller's Invariants.antt has `ghosts-checked a = record { name = a.blank.name; parts = a.blank.parts }`.
+/// caller that doesn't want the count takes [`check_code`].
 pub fn check_shader<L: Ledger>(
     alloc: Global,
     code: &[u64],
@@ -86,4 +72,31 @@ pub fn check_shader<L: Ledger>(
         address_words: stream.address_words,
         threaded: flow.threaded,
     })
+}
+
+// The checker's answer, with a counter that is made here and has no bytes at run time.
+fn counted<L: Ledger>(
+    alloc: Global,
+    code: &[u64],
+    blank: Blank,
+) -> Result<ShaderInfo, Stop<ShaderFault>>
+    requires few { length code.now ≤ most_words }
+    requires name { blank.name ≡ L.name }
+    requires parts { blank.parts ≡ L.parts }
+    requires some { 0 < blank.parts }
+    ensures answers { Answers (shader_questions code.now) (IsInfo code.now) result }
+    ensures least { IfErr result (IsLeastStop code.now) }
+    ensures sound { IfOk result (λ info. IsSoundShader (shader_view info)) }
+{
+    check_shader(alloc, code, &mut Steps::<L>::new(blank))
+}
+
+/// Checks a shader as [`check_shader`] does, and keeps the count of its steps to itself.
+pub fn check_code(alloc: Global, code: &[u64]) -> Result<ShaderInfo, Stop<ShaderFault>>
+    requires { length code.now ≤ most_words }
+    ensures answers { Answers (shader_questions code.now) (IsInfo code.now) result }
+    ensures least { IfErr result (IsLeastStop code.now) }
+    ensures sound { IfOk result (λ info. IsSoundShader (shader_view info)) }
+{
+    counted::<Brand>(alloc, code, Blank::new(1))
 }

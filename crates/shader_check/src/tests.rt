@@ -48,21 +48,6 @@ const SETUP_T: u64 = 0x10020e67009e7000;
 // `alu ca=1 wa=56`: S of TMU 0 = r0
 const SETUP_S: u64 = 0x10020e27009e7000;
 
-// The checker's answer, with a counter of its own.
-fn checked<L: Ledger>(
-    alloc: Global,
-    code: &[u64],
-    blank: Blank,
-) -> Result<ShaderInfo, Stop<ShaderFault>>
-    requires few { length code.now ≤ most_words }
-    requires name { blank.name ≡ L.name }
-    requires parts { blank.parts ≡ L.parts }
-    requires some { 0 < blank.parts }
-{
-    let mut steps = Steps::<L>::new(blank);
-    check_shader(alloc, code, &mut steps)
-}
-
 // The clamp that a search finds, with a counter of its own.
 fn found<L: Ledger>(alloc: Global, code: &[u64], at: u32, blank: Blank) -> Result<Option<u32>, Fail>
     requires few { length code.now ≤ most_words }
@@ -80,7 +65,7 @@ fn found<L: Ledger>(alloc: Global, code: &[u64], at: u32, blank: Blank) -> Resul
 fn accepted(rt: &HostRuntime, code: &[u64]) -> Result<ShaderInfo, Fail>
     requires { length code.now ≤ most_words }
 {
-    match checked::<Brand>(rt.alloc(), code, Blank::new(1)) {
+    match check_code(rt.alloc(), code) {
         Ok(info) => Ok(info),
         Err(_) => Err(Fail::from(AllocError)),
     }
@@ -90,7 +75,7 @@ fn accepted(rt: &HostRuntime, code: &[u64]) -> Result<ShaderInfo, Fail>
 fn refused(rt: &HostRuntime, code: &[u64]) -> Result<(u8, u32), Fail>
     requires { length code.now ≤ most_words }
 {
-    match checked::<Brand>(rt.alloc(), code, Blank::new(1)) {
+    match check_code(rt.alloc(), code) {
         Err(Stop::Fault(fault)) => Ok((fault.number, fault.index)),
         _ => Err(Fail::from(AllocError)),
     }

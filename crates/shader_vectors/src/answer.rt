@@ -2,12 +2,10 @@
 ghost use Rattle.std.specs.Prelude.{◌≡◌, ◌<◌, ◌≤◌, length, vec_len};
 ghost use Rattle.field_words.specs.Sizes.{most_words};
 
-use field_words::{Steps, Stop};
+use field_words::Stop;
 use qpu_isa::{Sample, ShaderInfo};
-use shader_check::{ShaderFault, check_shader};
+use shader_check::check_code;
 use std::alloc::{AllocError, Global};
-use std::marker::Brand;
-use std::sync::ledger::{Blank, Ledger};
 
 // The greatest number of words of a shader.
 const MOST: usize = 8192;
@@ -56,28 +54,13 @@ fn info_text(alloc: Global, info: &ShaderInfo) -> Result<String, AllocError> {
     )
 }
 
-// The checker's answer, with a counter of its own.
-fn checked<L: Ledger>(
-    alloc: Global,
-    code: &[u64],
-    blank: Blank,
-) -> Result<ShaderInfo, Stop<ShaderFault>>
-    requires few { length code.now ≤ most_words }
-    requires name { blank.name ≡ L.name }
-    requires parts { blank.parts ≡ L.parts }
-    requires some { 0 < blank.parts }
-{
-    let mut steps = Steps::<L>::new(blank);
-    check_shader(alloc, code, &mut steps)
-}
-
 /// The checker's answer for one line, as text.
 pub fn answer(alloc: Global, line: &str) -> Result<String, AllocError> {
     let code = words(alloc, line)?;
     if code.len() > MOST {
         return format!(in alloc; "too long");
     }
-    match checked::<Brand>(alloc, &code, Blank::new(1)) {
+    match check_code(alloc, &code) {
         Ok(info) => info_text(alloc, &info),
         Err(Stop::Fault(fault)) => {
             let number = fault.number;

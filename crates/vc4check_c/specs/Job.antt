@@ -12,6 +12,7 @@ use Rattle.job_check.specs.Emit.{memory_of, lengths_of, IsPlaced}
 use Rattle.job_check.specs.Jobs.{layout_of}
 use Rattle.job_check.specs.Whole.{all_questions, refusal_of}
 use Rattle.vc4check_c.specs.declared.job.JobAnswer.{JobAnswer}
+use Rattle.vc4check_c.specs.Asked.{asked_size}
 
 -- of an accepted job: how long its memory is, where its lists lie there, and how many bytes of each were emitted
 unfoldable pub accepted_answer : ℕ → Layout → Lengths → JobAnswer
@@ -57,11 +58,12 @@ refused_answer refusal = record {
   render_length = 0;
 }
 
--- No rule stands: the bytes spell their file, its memory is whole pages of at most 64 MiB in which the lists lie in their order, and
--- this is told of it.
+-- No rule stands: the bytes spell their file, its memory is as long as the file's header asks, whole pages of at most 64 MiB in which the
+-- lists lie in their order, and this is told of it.
 pub record IsAccepted (bytes : List ℕ) (answer : JobAnswer) : Type 0 where
   pub none_stands : refusal_of bytes ≡ None
   pub spelled : IsFileOf bytes (file_at bytes)
+  pub asked : length (memory_of (file_at bytes)) ≡ asked_size bytes
   pub placed : IsPlaced (memory_of (file_at bytes)) (layout_of (file_at bytes) 0)
   pub told : answer ≡ accepted_answer (length (memory_of (file_at bytes))) (layout_of (file_at bytes) 0) (lengths_of (file_at bytes) 0)
 

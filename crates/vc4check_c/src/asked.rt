@@ -32,7 +32,8 @@ pub extern "C" fn vc4check_version() -> u32
 }
 
 /// How many bytes of memory the job file that `bytes` hold asks for: the size in its header, or 0 where the header's first twelve
-/// bytes aren't there or no memory may have that size. It asks no other rule. A file that is accepted needs exactly so many bytes.
+/// bytes aren't there or no memory may have that size. It asks no other rule. The memory of an accepted
+/// file has exactly so many bytes, as `IsAccepted` says.
 #[unsafe(no_mangle)]
 #[tactic(auto, unfolding(crate::specs::Asked::asked_size))]
 pub extern "C" fn vc4check_size(bytes: &[u8]) -> u32

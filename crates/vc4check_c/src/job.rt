@@ -121,7 +121,7 @@ fn copy_out(memory: &mut PhysMem, block: &mut [u8])
 /// | 2 | accepted, and the block is too short | size, places and lengths | as before |
 /// | 3 | want of memory; nothing is said of the file | as before | as before |
 #[unsafe(no_mangle)]
-#[tactic(auto, unfolding(job_check::specs::Whole::refusal_of), using(field_words::proofs::Questions::first_is))]
+#[tactic(auto, unfolding(job_check::specs::Whole::refusal_of), using(field_words::proofs::Questions::first_is, crate::proofs::Sizes::is_accepted))]
 pub extern "C" fn vc4check_check(
     alloc: Global,
     bytes: &[u8],

@@ -10,12 +10,10 @@ ghost use Rattle.uniform_stream.specs.Stream.{address_words_of};
 ghost use Rattle.vc4check_c.specs.Shader.{told_position, told_sample, told_shader, told_fault, with_front, IsAcceptedShader, IsRefusedShader};
 
 use crate::status::{ACCEPTED, NO_MEMORY, REFUSED, SHORT, TOO_LONG};
-use field_words::{MOST_WORDS, Steps, Stop};
+use field_words::{MOST_WORDS, Stop};
 use qpu_isa::{Sample, ShaderInfo};
-use shader_check::{ShaderFault, check_shader};
+use shader_check::{ShaderFault, check_code};
 use std::alloc::Global;
-use std::marker::Brand;
-use std::sync::ledger::{Blank, Ledger};
 
 /// What is told of a shader. Of an accepted one: how many uniforms it takes, how many samples it asks for, how many address words
 /// its stream has, and whether it switches threads (1) or not (0). Of a refused one: the number of the rule S, and the
@@ -112,21 +110,14 @@ fn refused(fault: &ShaderFault) -> ShaderAnswer
     }
 }
 
-/// The checker's answer, with a counter of its own, which has no bytes at run time.
+/// The checker's answer.
 #[tactic(auto, unfolding(job_check::specs::Shaders::told_of))]
-fn checked<L: Ledger>(
-    alloc: Global,
-    code: &[u64],
-    blank: Blank,
-) -> Result<ShaderInfo, Stop<ShaderFault>>
-    requires few { length code.now ≤ most_words }
-    requires name { blank.name ≡ L.name }
-    requires parts { blank.parts ≡ L.parts }
-    requires some { 0 < blank.parts }
+fn checked(alloc: Global, code: &[u64]) -> Result<ShaderInfo, Stop<ShaderFault>>
+    requires { length code.now ≤ most_words }
     ensures answers { Answers (shader_questions code.now) (IsInfo code.now) result }
     ensures sound { IfOk result (λ _. IsSoundShader (told_of code.now)) }
 {
-    check_shader(alloc, code, &mut Steps::<L>::new(blank))
+    check_code(alloc, code)
 }
 
 /// Checks a shader of at most 8,192 words. Where no rule stands, its samples are put into `samples` and the numbers of its address
@@ -164,7 +155,7 @@ pub extern "C" fn vc4check_shader(
     if code.len() > MOST_WORDS as usize {
         return TOO_LONG;
     }
-    match checked::<Brand>(alloc, code, Blank::new(1)) {
+    match checked(alloc, code) {
         Ok(info) => {
             *answer = accepted(&info);
             if samples.len() < info.samples.len()

@@ -1,4 +1,0 @@
-use Rattle.shader_check.proofs.tests.refused.Given as goal
-
-abbrev pub ghosts-checked : goal.ghosts-checked
-ghosts-checked a = record { name = a.blank.name; parts = a.blank.parts }
