@@ -47,6 +47,8 @@ const ADD_A16: u64 = 0x10020e270c420dc0;
 const SETUP_T: u64 = 0x10020e67009e7000;
 // `alu ca=1 wa=56`: S of TMU 0 = r0
 const SETUP_S: u64 = 0x10020e27009e7000;
+// `br imm=0`: to the fourth instruction after it
+const BRANCH: u64 = 0xf00809e700000000;
 
 // The clamp that a search finds, with a counter of its own.
 fn found<L: Ledger>(alloc: Global, code: &[u64], at: u32, blank: Blank) -> Result<Option<u32>, Fail>
@@ -125,9 +127,8 @@ fn target_ends_facts(rt: HostRuntime) -> Result<(), Fail> {
         LOAD, END, NOP, NOP,
     ];
     assert_eq!(rt; refused(&rt, &between)?, (24, 14));
-    let branch = 0xf00809e700000000;
     let before = [
-        branch, NOP, NOP, NOP, MAX, FOUR, ADDRESS, NOP, NOP, MIN, TWELVE, ADDRESS, NOP, NOP, ADD,
+        BRANCH, NOP, NOP, NOP, MAX, FOUR, ADDRESS, NOP, NOP, MIN, TWELVE, ADDRESS, NOP, NOP, ADD,
         LOAD, END, NOP, NOP,
     ];
     let info = accepted(&rt, &before)?;
@@ -242,14 +243,113 @@ fn uniforms_count_once(rt: HostRuntime) -> Result<(), Fail> {
 // A target while a TMU keeps a setup word, and a minimum of a register that was never made positive.
 #[test]
 fn refusals(rt: HostRuntime) -> Result<(), Fail> {
-    let branch = 0xf00809e700000000;
     assert_eq!(rt;
-        refused(&rt, &[SETUP_T, branch, NOP, NOP, NOP, NOP, END, NOP, NOP])?,
+        refused(&rt, &[SETUP_T, BRANCH, NOP, NOP, NOP, NOP, END, NOP, NOP])?,
         (25, 5)
     );
     assert_eq!(rt;
         refused(&rt, &[0xe002082700000005, MIN, ADD, LOAD, END, NOP, NOP])?,
         (24, 2)
+    );
+    Ok(())
+}
+
+// Signals, branches, switches and load immediates that no shader may have, or not there.
+#[test]
+fn refused_by_where_it_may_go(rt: HostRuntime) -> Result<(), Fail> {
+    // `alu sig=0`
+    assert_eq!(rt; refused(&rt, &[0x9e7009e7000, NOP, END, NOP, NOP])?, (3, 0));
+    assert_eq!(rt;
+        refused(&rt, &[BRANCH, BRANCH, NOP, NOP, NOP, END, NOP, NOP])?,
+        (4, 1)
+    );
+    // `br reg=1 imm=0`, `br rel=0 imm=0`, `br imm=4`, `br imm=4096`, `br wa=32 imm=0`
+    assert_eq!(rt;
+        refused(&rt, &[0xf00c09e700000000, NOP, NOP, NOP, END, NOP, NOP])?,
+        (5, 0)
+    );
+    assert_eq!(rt;
+        refused(&rt, &[0xf00009e700000000, NOP, NOP, NOP, END, NOP, NOP])?,
+        (6, 0)
+    );
+    assert_eq!(rt;
+        refused(&rt, &[0xf00809e700000004, NOP, NOP, NOP, END, NOP, NOP])?,
+        (7, 0)
+    );
+    assert_eq!(rt;
+        refused(&rt, &[0xf00809e700001000, NOP, NOP, NOP, END, NOP, NOP])?,
+        (8, 0)
+    );
+    assert_eq!(rt;
+        refused(&rt, &[0xf008082700000000, NOP, NOP, NOP, END, NOP, NOP])?,
+        (10, 0)
+    );
+    // `br imm=-32`: to itself, with a slot past the program end's two
+    assert_eq!(rt;
+        refused(&rt, &[NOP, 0xf00809e7ffffffe0, END, NOP, NOP])?,
+        (9, 1)
+    );
+    assert_eq!(rt;
+        refused(&rt, &[SWITCH, SWITCH, NOP, END, NOP, NOP])?,
+        (11, 1)
+    );
+    assert_eq!(rt;
+        refused(&rt, &[SWITCH, BRANCH, NOP, NOP, NOP, END, NOP, NOP])?,
+        (12, 1)
+    );
+    assert_eq!(rt;
+        refused(&rt, &[BRANCH, SWITCH, NOP, NOP, NOP, END, NOP, NOP])?,
+        (13, 1)
+    );
+    // `li mode=2 imm=0`
+    assert_eq!(rt;
+        refused(&rt, &[0xe40009e700000000, END, NOP, NOP])?,
+        (27, 0)
+    );
+    Ok(())
+}
+
+// Writes of other units, of the uniforms' address and of set-up words that no shader may have, or not there.
+#[test]
+fn refused_by_its_stream(rt: HostRuntime) -> Result<(), Fail> {
+    // `alu ca=1 wa=50`
+    assert_eq!(rt;
+        refused(&rt, &[0x10020ca7009e7000, END, NOP, NOP])?,
+        (14, 0)
+    );
+    // the address on the side of file B
+    assert_eq!(rt;
+        refused(&rt, &[FOUR, 0x10021a270c827380, NOP, NOP, END, NOP, NOP])?,
+        (15, 1)
+    );
+    assert_eq!(rt;
+        refused(&rt, &[FOUR, BRANCH, ADDRESS, NOP, NOP, END, NOP, NOP])?,
+        (17, 2)
+    );
+    assert_eq!(rt;
+        refused(&rt, &[FOUR, ADDRESS, TAKE, NOP, END, NOP, NOP])?,
+        (18, 2)
+    );
+    // `alu ca=1 cm=1 wa=57 wm=57`, `alu ca=2 wa=57`
+    assert_eq!(rt;
+        refused(&rt, &[0x10024e79009e7000, NOP, END, NOP, NOP])?,
+        (20, 0)
+    );
+    assert_eq!(rt;
+        refused(&rt, &[0x10040e67009e7000, NOP, END, NOP, NOP])?,
+        (21, 0)
+    );
+    assert_eq!(rt;
+        refused(
+            &rt,
+            &[SETUP_T, SETUP_T, SETUP_T, SETUP_T, SETUP_T, END, NOP, NOP]
+        )?,
+        (22, 4)
+    );
+    // `alu ca=1 wa=57 ra=32`
+    assert_eq!(rt;
+        refused(&rt, &[0x10020e6700827000, NOP, END, NOP, NOP])?,
+        (23, 0)
     );
     Ok(())
 }
