@@ -7,7 +7,8 @@ use Rattle.qpu_isa.specs.Fields.{joined, width_of}
 use Rattle.qpu_asm.specs.declared.label.Spot.{Spot}
 use Rattle.qpu_asm.specs.Table.{Row, Named, Kind, widths_of, fallbacks_of, nop_kind, alu_kind, load_imm_kind, branch_kind}
 use Rattle.qpu_asm.specs.Lines.{Cut, is_name}
-use Rattle.qpu_asm.specs.Items.{Read, Good, Bad, Spots, kinds_of, values_in, read_value, read_plain, or_number, read_number, number_of, is_number, find_named, read_target, distance, distance_to, is_row, has_row, skip_to, named_reads, reads_of, item_reads, cut_at, kind_code, kind_named}
+use Rattle.script.specs.Number.{number_of, is_number}
+use Rattle.qpu_asm.specs.Items.{Read, Good, Bad, Spots, kinds_of, values_in, read_value, read_plain, or_number, read_number, find_named, read_target, distance, distance_to, is_row, has_row, skip_to, named_reads, reads_of, item_reads, cut_at, kind_code, kind_named}
 use Rattle.qpu_asm.specs.Partial.{GoesOn, IsOpen, IsCodeOf, IsLeastKind, least_with, least_in, least_kind, either_least, is_ready, are_ready}
 use Rattle.qpu_asm.specs.declared.table.Row as code
 use Rattle.qpu_asm.specs.Seen.{read_seen, row_seen, rows_seen}

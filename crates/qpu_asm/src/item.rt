@@ -10,8 +10,9 @@ ghost use Rattle.qpu_asm.specs.Seen.{named_seen, row_seen, rows_seen, kind_seen,
 use crate::fault::{BAD_OPERAND, OUT_OF_RANGE, UNKNOWN_LABEL, UNKNOWN_WORD};
 use crate::label::{Labels, find_spot};
 use crate::lines::{Cut, cut_at, next_word};
-use crate::names::{is_name, is_number, number};
+use crate::names::is_name;
 use crate::table::{Kind, Named, Row, alu, branch, load_imm, nop};
+use script::{is_number, number_up_to};
 
 /// An instruction whose items have been read in part: the word's fields so far, the rows that may still come, and the
 /// least kind of a fault so far.
@@ -306,9 +307,9 @@ fn read_number(text: &[u8], below: u64) -> Result<u64, u8>
     if !is_number(text) {
         return Err(BAD_OPERAND);
     }
-    let value = number(text, below);
-    if value < below {
-        Ok(value)
+    let value = number_up_to(text, u128::from(below));
+    if value < u128::from(below) {
+        Ok(value as u64)
     } else {
         Err(OUT_OF_RANGE)
     }

@@ -8,5 +8,5 @@ mod replies;
 mod tests;
 
 pub use lines::{Cut, cut_at, next_line};
-pub use number::read_number;
+pub use number::{is_number, number_up_to, read_number};
 pub use replies::{Clerk, answer};
