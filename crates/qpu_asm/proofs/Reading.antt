@@ -254,6 +254,24 @@ pub open_first : (word : ℕ) (rest later : List code.Row) (row : code.Row) → 
     → IsOpen word (row_seen row ∷ rows_seen later)
 open_first word rest later row is o = subst (λ rows. IsOpen word (rows_seen rows)) is o
 
+-- a default is put below the word
+pub default_room : (word : ℕ) (rest later : List code.Row) (row : code.Row) → rest ≡ row ∷ later → IsOpen word (rows_seen rest) → (word + 1) * 2 ^ row.width ≤ 2 ^ 64
+default_room word rest later row is o = open_room word (row_seen row) (rows_seen later) (open_first word rest later row is o)
+
+pub default_facts : (word : ℕ) (rest later : List code.Row) (row : code.Row) → rest ≡ row ∷ later → IsOpen word (rows_seen rest) → RowFacts (row_seen row)
+default_facts word rest later row is o = open_facts word (row_seen row) (rows_seen later) (open_first word rest later row is o)
+
+pub default_narrow : (word : ℕ) (rest later : List code.Row) (row : code.Row) → rest ≡ row ∷ later → IsOpen word (rows_seen rest) → row.width ≤ 32
+default_narrow word rest later row is o = (default_facts word rest later row is o).high
+
+pub default_small : (word : ℕ) (rest later : List code.Row) (row : code.Row) → rest ≡ row ∷ later → IsOpen word (rows_seen rest) → row.fallback < 2 ^ row.width
+default_small word rest later row is o = (default_facts word rest later row is o).fallback
+
+pub default_open : (word : ℕ) (rest later : List code.Row) (row : code.Row) → rest ≡ row ∷ later → IsOpen word (rows_seen rest)
+    → IsOpen (word * 2 ^ row.width + row.fallback) (rows_seen later)
+default_open word rest later row is o =
+    open_step word (row_seen row) (rows_seen later) row.fallback (open_first word rest later row is o) (default_small word rest later row is o)
+
 pub defaults_first : (word : ℕ) (rest later : List code.Row) (row : code.Row) → rest ≡ row ∷ later
     → joined (word * 2 ^ row.width + row.fallback) (widths_of (rows_seen later)) (fallbacks_of (rows_seen later))
     ≡ joined word (widths_of (rows_seen rest)) (fallbacks_of (rows_seen rest))

@@ -79,6 +79,7 @@ fn close(partial: Partial) -> Result<u64, u8>
     }
 }
 
+#[tactic(auto, using(crate::proofs::Reading::default_narrow))]
 fn with_defaults(word: u64, rows: &[Row]) -> u64
     requires { IsOpen word (rows_seen rows.now) }
     ensures { result ≡ joined word (widths_of (rows_seen rows.now)) (fallbacks_of (rows_seen rows.now)) }
@@ -160,6 +161,7 @@ fn kind_of_name(name: &[u8], all: &[Row]) -> u8
     if has_row(name, all) { 2 } else { 1 }
 }
 
+#[tactic(auto, using(crate::proofs::Reading::default_narrow))]
 fn skip_to<'a>(labels: &Labels<'a>, index: u32, partial: Partial, cut: Cut<'a>) -> Partial
     requires still { IsOpen partial.word (rows_seen partial.rows.now) }
     requires has { row_among cut.first.now (rows_seen partial.rows.now) ≡ true }
