@@ -95,10 +95,7 @@ impl Clerk for Queue {
 
     #[tactic(auto, unfolding(crate::specs::Calls::is_formed))]
     fn is_formed(line: &[u8]) -> bool {
-        match read_call(line) {
-            Some(_) => true,
-            None => false,
-        }
+        read_call(line).is_some()
     }
 
     #[tactic(auto, using(crate::proofs::Lines::few_more))]

@@ -1,6 +1,5 @@
 -- The lines of a script, and the calls that they are.
-use Rattle.std.specs.Prelude.{ℕ, ◌≤◌, ◌<◌, Bool, true, false, codes, List, Option, Some, None, if◌then◌else◌}
-use Rattle.std.specs.Prelude.{bytes_eq}
+use Rattle.std.specs.Prelude.{ℕ, is_some, ◌≤◌, ◌<◌, Bool, bytes_eq, codes, List, Option, Some, None, if◌then◌else◌}
 use Rattle.script.specs.Lines.{before, behind, first_malformed}
 use Rattle.script.specs.Number.{number_within}
 use Rattle.overflow_slots.specs.declared.call.Call.{Call}
@@ -37,10 +36,6 @@ call_named name words =
 -- the call that a line is; words are parted by one space
 unfoldable pub call_of : List ℕ → Option Call
 call_of line = call_named (before 32 line) (behind 32 line)
-
-abbrev pub is_some : Option Call → Bool
-is_some None = false
-is_some (Some call) = true
 
 unfoldable pub is_formed : List ℕ → Bool
 is_formed line = is_some (call_of line)

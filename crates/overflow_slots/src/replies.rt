@@ -73,10 +73,7 @@ impl Clerk for Pool {
 
     #[tactic(auto, unfolding(crate::specs::Calls::is_formed))]
     fn is_formed(line: &[u8]) -> bool {
-        match read_call(line) {
-            Some(_) => true,
-            None => false,
-        }
+        read_call(line).is_some()
     }
 
     fn put_reply(
