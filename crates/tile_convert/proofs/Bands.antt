@@ -1,9 +1,11 @@
 -- Pictures one above the other.
-use Rattle.std.proofs.Common.{◌≡◌, ℕ, ◌+◌, ◌-◌, ◌*◌, ◌/◌, ◌%◌, ◌<◌, inl, inr, List, ◌++◌, length, get_or, min, refl, sym, ap, subst, length-append, arith, ◌∙◌}
-use Rattle.std.proofs.Math.Nat.{mul-add-div_right, mul-add-mod_self_right, mul-div_cancel, mul-mod_left}
+use Rattle.std.proofs.Common.{◌≡◌, ℕ, ◌+◌, ◌-◌, ◌*◌, ◌/◌, ◌%◌, ◌<◌, ◌≤◌, inl, inr, List, [], ◌++◌, length, get_or, min, refl, sym, ap, subst, length-append, arith, ◌∙◌}
+use Rattle.std.proofs.Math.Nat.{mul-add-div_right, mul-add-mod_self_right, mul-div_cancel, mul-mod_left, mul-le-mul_left, mul-le-mul_right}
 use Rattle.std.proofs.lemmas.Nat.{div-add-mod'}
 use Rattle.std.proofs.lemmas.List.{get_or_append_left, get_or-append-add, get_or-append_right}
 use Rattle.std.proofs.lemmas.Bool.{cases_lt}
+use Rattle.std.proofs.lemmas.Grind.{div_ceil_times}
+use Rattle.std.specs.Int.{div_ceil}
 use Rattle.field_words.specs.Words.{rounded_up}
 use Rattle.texture_layouts.specs.declared.surface.Tiling.{Tiling}
 use Rattle.texture_layouts.specs.declared.surface.Tiling.TheVariants.{Raster, T, Lt}
@@ -12,8 +14,8 @@ use Rattle.texture_layouts.specs.Place.{aligned_across, microtiles_across, micro
 use Rattle.texture_layouts.proofs.Places.{height_some, microtile_bytes, across_parts, across_whole}
 use Rattle.tile_convert.specs.declared.order.Order.{Order}
 use Rattle.tile_convert.specs.declared.order.Order.TheVariants.{Rows, Surface}
-use Rattle.tile_convert.specs.Picture.{place_in, size_in, band_height_of, BandsJoin}
-use Rattle.tile_convert.proofs.Places.{pixel_fits}
+use Rattle.tile_convert.specs.Picture.{place_in, size_in, band_height_of, IsCopy, BandsJoin}
+use Rattle.tile_convert.proofs.Places.{down_some, pixel_fits}
 
 -- A multiple of the unit in front stays as it is.
 rounded_behind : (k n unit : ℕ) → 0 < unit → rounded_up (k * unit + n) unit ≡ k * unit + rounded_up n unit
@@ -182,3 +184,36 @@ bands_join from to width above below cpp upper lower upper_copy lower_copy pixel
                 outside x (above + y) b x_in (omega (arith, y_in)) b_in (omega (arith, same, behind, first.size, place_joined to width above cpp x y pixel whole)))
           ];
     }
+
+-- No rows have no bytes, and their copy is empty.
+size_none : (order : Order) (width cpp : ℕ) → size_in order width 0 cpp ≡ 0
+size_none order width cpp =
+    let whole : 0 % band_height_of cpp ≡ 0 = omega (arith, height_some cpp) in
+    omega (arith, size_joined order width 0 0 cpp whole)
+
+pub nothing_copied : (from to : Order) (width cpp : ℕ) (source : List ℕ) → IsCopy from to width 0 cpp source []
+nothing_copied from to width cpp source =
+    record {
+      size = sym (size_none to width cpp);
+      pixels = λ x y b x_in y_in b_in. absurd (omega (arith, y_in));
+      blank = λ i outside. refl;
+    }
+
+-- Fewer rows have no more bytes.
+rounded_le : (a b unit : ℕ) → 0 < unit → a ≤ b → rounded_up a unit ≤ rounded_up b unit
+unfolding rounded_up
+rounded_le a b unit some order =
+    let j : ℕ = div_ceil a unit in
+    let k : ℕ = div_ceil b unit in
+    let less : j * unit < a + unit = (div_ceil_times a unit some).1 in
+    let least : b ≤ k * unit = (div_ceil_times b unit some).0 in
+    elim (cases_lt k j) [
+      | inl below ↦ absurd (let next : (k + 1) * unit ≤ j * unit = mul-le-mul_right unit (let h : k + 1 ≤ j = omega (arith, below) in h) in omega (arith, less, least, next, order))
+      | inr upto ↦ mul-le-mul_right unit upto
+    ]
+
+pub size_in_le : (order : Order) (width a b cpp : ℕ) → a ≤ b → size_in order width a cpp ≤ size_in order width b cpp
+unfolding size_in
+size_in_le Rows width a b cpp order = mul-le-mul_right cpp (mul-le-mul_left width order)
+size_in_le (Surface tiling) width a b cpp order =
+    mul-le-mul_right cpp (mul-le-mul_left (aligned_across tiling width cpp) (rounded_le a b (unit_down tiling cpp) (down_some tiling cpp) order))
