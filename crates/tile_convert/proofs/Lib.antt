@@ -1,3 +1,5 @@
+pub mod Bands
+pub mod Exists
 pub mod Levels
 pub mod Numbers
 pub mod Parts

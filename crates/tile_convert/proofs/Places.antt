@@ -18,7 +18,7 @@ across_some Raster cpp = omega (arith, width_some cpp)
 across_some T cpp = omega (arith, width_some cpp)
 across_some Lt cpp = omega (arith, width_some cpp)
 
-down_some : (tiling : Tiling) (cpp : ℕ) → 1 ≤ unit_down tiling cpp
+pub down_some : (tiling : Tiling) (cpp : ℕ) → 1 ≤ unit_down tiling cpp
 down_some Raster cpp = omega arith
 down_some T cpp = omega (arith, height_some cpp)
 down_some Lt cpp = omega (arith, height_some cpp)

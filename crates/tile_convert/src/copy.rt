@@ -5,7 +5,7 @@ ghost use Rattle.texture_layouts.specs.Surface.{IsPixelSize};
 ghost use Rattle.tile_convert.specs.Picture.{size_in, IsCopy};
 ghost use Rattle.tile_convert.specs.Steps.{IsPartCopied, IsCopied, HasRow};
 
-use crate::order::{Order, part_offset, parts_across, pixels_there, row_start, size_in};
+use crate::order::{Order, part_offset, parts_across, picture_size, pixels_there, row_start};
 use field_words::NoMemory;
 use std::alloc::Global;
 
@@ -75,8 +75,30 @@ fn copy_rows(
     }
 }
 
-/// The picture in another order. Bytes that belong to no pixel are zero.
+/// Fills all of `target` with the picture that `source` holds, in another order. Bytes that belong to no pixel are zero. It takes no
+/// memory.
 #[tactic(auto, using(crate::proofs::Whole::copied_whole))]
+pub fn copy_picture(
+    from: Order,
+    to: Order,
+    width: u32,
+    height: u32,
+    cpp: u32,
+    source: &[u8],
+    target: &mut [u8],
+)
+    requires width_limit { width ≤ 4096 }
+    requires height_limit { height ≤ 4096 }
+    requires pixel { IsPixelSize cpp }
+    requires source { length source.now ≡ size_in from width height cpp }
+    requires target { length target.old ≡ size_in to width height cpp }
+    ensures { IsCopy from to width height cpp source.now target.new }
+{
+    target.fill(0);
+    copy_rows(from, to, width, height, cpp, source, target);
+}
+
+/// The picture in another order. Bytes that belong to no pixel are zero.
 pub(crate) fn copied(
     alloc: Global,
     from: Order,
@@ -92,7 +114,7 @@ pub(crate) fn copied(
     requires source { length source.now ≡ size_in from width height cpp }
     ensures { IfOk result (λ target. IsCopy from to width height cpp source.now target.items) }
 {
-    let mut target = vec![in alloc; 0u8; size_in(to, width, height, cpp) as usize]?;
-    copy_rows(from, to, width, height, cpp, source, &mut target);
+    let mut target = vec![in alloc; 0u8; picture_size(to, width, height, cpp) as usize]?;
+    copy_picture(from, to, width, height, cpp, source, &mut target);
     Ok(target)
 }

@@ -2,10 +2,10 @@
 ghost use Rattle.std.specs.Prelude.{◌≡◌, ◌≤◌, ◌*◌, length};
 ghost use Rattle.field_words.specs.Questions.{Answers, NeverHidesFault};
 ghost use Rattle.texture_layouts.specs.Surface.{IsPixelSize, size_for};
-ghost use Rattle.tile_convert.specs.Picture.{IsPicture, IsSurface, length_questions, UntilesWhatWasTiled, TilesWhatWasUntiled};
+ghost use Rattle.tile_convert.specs.Picture.{IsPicture, IsSurface, length_questions, UntilesWhatWasTiled, TilesWhatWasUntiled, BandsJoin};
 
 use crate::copy::copied;
-use crate::order::{Order, size_in};
+use crate::order::{Order, picture_size};
 use field_words::Stop;
 use std::alloc::Global;
 use texture_layouts::Tiling;
@@ -29,7 +29,7 @@ pub fn untile(
     ensures picture { Answers (length_questions bytes.now (size_for tiling width height cpp)) (λ raster. IsPicture tiling width height cpp bytes.now raster.items) result }
     ensures honest { NeverHidesFault (length_questions bytes.now (size_for tiling width height cpp)) result }
 {
-    let wanted = size_in(Order::Surface(tiling), width, height, cpp);
+    let wanted = picture_size(Order::Surface(tiling), width, height, cpp);
     if bytes.len() as u64 != wanted {
         return Err(Stop::Fault(wanted));
     }
@@ -63,7 +63,7 @@ pub fn tile(
     ensures surface { Answers (length_questions raster.now (width * height * cpp)) (λ surface. IsSurface tiling width height cpp raster.now surface.items) result }
     ensures honest { NeverHidesFault (length_questions raster.now (width * height * cpp)) result }
 {
-    let wanted = size_in(Order::Rows, width, height, cpp);
+    let wanted = picture_size(Order::Rows, width, height, cpp);
     if raster.len() as u64 != wanted {
         return Err(Stop::Fault(wanted));
     }
@@ -86,4 +86,10 @@ pub fn untile_of_tile()
 /// A law: what [`tile`] gives of what [`untile`] gave of a surface is that surface, wherever its bytes are zero outside its pixels.
 pub fn tile_of_untile()
     ensures { TilesWhatWasUntiled }
+{}
+
+/// A law: pictures one above the other, of which the upper one is made of whole bands, lie one behind the other in each order, and
+/// what was copied of them is a copy of both as one picture.
+pub fn bands_join()
+    ensures { BandsJoin }
 {}

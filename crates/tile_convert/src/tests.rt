@@ -1,5 +1,5 @@
 //! Worked examples, and pictures of each size of a pixel both ways.
-ghost use Rattle.std.specs.Prelude.{◌≡◌, length, IfOk};
+ghost use Rattle.std.specs.Prelude.{◌≡◌, ◌≤◌, length, IfOk};
 ghost use Rattle.texture_layouts.specs.Surface.{IsPixelSize};
 
 use super::*;
@@ -97,6 +97,36 @@ fn each_size_of_a_pixel(rt: HostRuntime) -> Result<(), Fail> {
     assert!(rt; comes_back(&rt, Tiling::Lt, 2, 40 * 44 * 2)?);
     assert!(rt; comes_back(&rt, Tiling::Lt, 4, 40 * 44 * 4)?);
     assert!(rt; comes_back(&rt, Tiling::Lt, 8, 38 * 44 * 8)?);
+    Ok(())
+}
+
+/// Copies a part of a picture that is five pixels of four bytes wide. It says whether the bytes were as many as are wanted.
+fn copy_part(from: Order, to: Order, rows: u32, source: &[u8], target: &mut [u8]) -> bool
+    requires { rows ≤ 4096 }
+{
+    let fits = source.len() as u64 == picture_size(from, 5, rows, 4)
+        && target.len() as u64 == picture_size(to, 5, rows, 4);
+    if fits {
+        copy_picture(from, to, 5, rows, 4, source, target);
+    }
+    fits
+}
+
+// 70 rows are two bands of 32 and one of 6. What a band held before is gone.
+#[test]
+fn band_by_band(rt: HostRuntime) -> Result<(), Fail> {
+    let raster = counted(&rt, 5 * 70 * 4)?;
+    let whole = made(tile(rt.alloc(), Tiling::T, 5, 70, 4, &raster))?;
+    let surface = Order::Surface(Tiling::T);
+    let mut band = vec![in rt.alloc(); 7u8; 4096]?;
+    assert_eq!(rt; band_height(4), 32);
+    assert_eq!(rt; band_height(1), 64);
+    for (number, part) in raster.chunks(20 * 32).enumerate() {
+        let front = number * 4096;
+        let rows = part.len() as u32 / 20;
+        assert!(rt; copy_part(Order::Rows, surface, rows, part, &mut band));
+        assert!(rt; same(&whole, front..front + 4096, &band, 0..4096));
+    }
     Ok(())
 }
 

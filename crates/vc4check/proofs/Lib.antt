@@ -1,3 +1,5 @@
+pub mod Fronts
+pub mod Replies
 pub mod Counts
 pub mod Headline
 pub mod Told

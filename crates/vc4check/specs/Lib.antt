@@ -1,4 +1,5 @@
 pub mod Answer
+pub mod Bands
 pub mod Pictures
 pub mod Run
 pub mod Shader

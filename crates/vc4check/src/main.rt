@@ -4,6 +4,7 @@
 #![tactic(auto)]
 
 mod answer;
+mod bands;
 mod check;
 mod command;
 mod example;

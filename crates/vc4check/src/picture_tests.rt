@@ -5,6 +5,8 @@ use job_io::{MemSink, SteadySource};
 use std::alloc::Global;
 use std::ops::Range;
 use std::test::Fail;
+use texture_layouts::Tiling;
+use tile_convert::tile;
 
 /// The status of a run, and what it wrote.
 #[derive(Drop)]
@@ -13,15 +15,25 @@ struct Reply {
     sink: MemSink,
 }
 
-fn answered(alloc: Global, texts: &[&str], bytes: Vec<u8>) -> Result<Reply, Fail> {
+/// Of the sink's calls one may fail.
+fn answered_with(
+    alloc: Global,
+    texts: &[&str],
+    bytes: Vec<u8>,
+    failing: &[u64],
+) -> Result<Reply, Fail> {
     let mut words = Vec::new(alloc);
     for text in texts {
         words.push(String::from_str(alloc, text)?)?;
     }
     let mut source = SteadySource::new(bytes);
-    let mut sink = MemSink::new(alloc, 1_000, 100_000, Vec::new(alloc))?;
+    let mut sink = MemSink::new(alloc, 1_000, 100_000, failing.to_vec(alloc)?)?;
     let status = run(alloc, &words, &mut source, &mut sink);
     Ok(Reply { status, sink })
+}
+
+fn answered(alloc: Global, texts: &[&str], bytes: Vec<u8>) -> Result<Reply, Fail> {
+    answered_with(alloc, texts, bytes, &[])
 }
 
 /// `count` bytes of which byte `i` is `i % 251`, so that rows and microtiles don't repeat.
@@ -62,6 +74,43 @@ fn tiles_five_pixels_and_back(rt: HostRuntime) -> Result<(), Fail> {
     )?;
     assert_eq!(rt; back.status, 0);
     assert_eq!(rt; back.sink.bytes(), &raster[..]);
+    Ok(())
+}
+
+/// 4 by 70 pixels of four bytes, which are three bands, and their surface in T.
+const TALL: [&str; 5] = ["tile", "t", "4", "4", "70"];
+
+const TALL_BACK: [&str; 5] = ["untile", "t", "4", "4", "70"];
+
+// The bands one after the other are what is made at once.
+#[test]
+fn bands_are_the_whole(rt: HostRuntime) -> Result<(), Fail> {
+    let alloc = rt.alloc();
+    let raster = counted(alloc, 1_120)?;
+    let surface = answered(alloc, &TALL, counted(alloc, 1_120)?)?;
+    assert_eq!(rt; surface.status, 0);
+    let bytes = surface.sink.bytes();
+    let Ok(whole) = tile(alloc, Tiling::T, 4, 70, 4, &raster) else {
+        return Err("no surface".into());
+    };
+    assert_eq!(rt; bytes, &whole[..]);
+    let back = answered(alloc, &TALL_BACK, bytes.to_vec(alloc)?)?;
+    assert_eq!(rt; back.status, 0);
+    assert_eq!(rt; back.sink.bytes(), &raster[..]);
+    Ok(())
+}
+
+// Three bands of 4,096 bytes, each of which the sink takes in five writes: where the first of a band's fails, it holds those before.
+#[test]
+fn failing_sinks_hold_a_front(rt: HostRuntime) -> Result<(), Fail> {
+    let alloc = rt.alloc();
+    let whole = answered(alloc, &TALL, counted(alloc, 1_120)?)?;
+    for (failing, len) in [(0, 0), (5, 4_096), (10, 8_192), (12, 10_192)] {
+        let cut = answered_with(alloc, &TALL, counted(alloc, 1_120)?, &[failing])?;
+        assert_eq!(rt; cut.status, 4);
+        assert_eq!(rt; cut.sink.bytes().len(), len);
+        assert!(rt; whole.sink.bytes().starts_with(cut.sink.bytes()));
+    }
     Ok(())
 }
 

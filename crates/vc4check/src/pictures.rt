@@ -2,15 +2,19 @@
 ghost use Rattle.std.specs.Prelude.{◌≡◌, ◌≤◌, ◌<◌, ◌^◌, length, Some, IfOk, IfSome};
 ghost use Rattle.script.specs.Number.{number_within};
 ghost use Rattle.texture_layouts.specs.Surface.{IsPixelSize};
+ghost use Rattle.tile_convert.specs.Picture.{size_in, IsCopy};
 ghost use Rattle.vc4check.specs.Pictures.{tiling_named, pixel_by, side_by, most_side, most_word, picture_named, level_named, IsPictureWithin};
-ghost use Rattle.vc4check.specs.Pictures.{length_wanted_text, level_refusal, IsUntileAnswer, IsTileAnswer, IsLevelAnswer};
+ghost use Rattle.vc4check.specs.Pictures.{length_wanted_text, level_refusal, IsSizedAnswer, IsLevelAnswer};
+ghost use Rattle.vc4check.specs.Reply.{reply_status, IsReplyOf, IsReplyReady};
 
 use super::answer::Answer;
+use super::bands::{Conversion, band_room};
+use super::reply::Reply;
 use field_words::{NoMemory, Stop};
 use script::read_number;
 use std::alloc::{AllocError, Global};
 use texture_layouts::Tiling;
-use tile_convert::{LevelFault, extract, tile, untile};
+use tile_convert::{LevelFault, Order, extract, picture_size};
 
 /// The most pixels of a picture's side.
 const MOST_SIDE: u64 = 4096;
@@ -133,50 +137,41 @@ fn level_refusal(alloc: Global, fault: LevelFault) -> Result<Vec<u8>, AllocError
     Ok(text.into_bytes())
 }
 
-/// What `untile` answers to a surface: its pixels by rows, or how many bytes are wanted.
-pub fn untile_answer(alloc: Global, picture: Picture, bytes: &[u8]) -> Result<Answer, NoMemory>
+/// What is answered to a picture that is to be put into another order: that picture, for which memory for one band is taken; or how
+/// many bytes are wanted.
+pub fn picture_reply(
+    alloc: Global,
+    from: Order,
+    to: Order,
+    picture: Picture,
+    bytes: &[u8],
+) -> Result<Reply, NoMemory>
     requires { IsPictureWithin picture }
-    ensures answers { IfOk result (λ a. IsUntileAnswer picture bytes.now a.status a.text.items) }
-    ensures status { IfOk result (λ a. a.status < 2) }
+    ensures answers { IfOk result (IsReplyOf (IsSizedAnswer bytes.now (size_in from picture.width picture.height picture.cpp)
+        (IsCopy from to picture.width picture.height picture.cpp bytes.now)) bytes.now) }
+    ensures status { IfOk result (λ a. reply_status a < 2) }
+    ensures ready { IfOk result (IsReplyReady bytes.now) }
 {
-    match untile(
-        alloc,
-        picture.tiling,
-        picture.width,
-        picture.height,
-        picture.cpp,
-        bytes,
-    ) {
-        Ok(text) => Ok(Answer { status: 0, text }),
-        Err(Stop::Fault(wanted)) => {
-            let text = length_wanted_text(alloc, bytes.len(), wanted)?;
-            Ok(Answer { status: 1, text })
-        }
-        Err(Stop::NoMemory) => Err(NoMemory),
+    let Picture {
+        cpp,
+        width,
+        height,
+        ..
+    } = picture;
+    let wanted = picture_size(from, width, height, cpp);
+    if bytes.len() as u64 != wanted {
+        let text = length_wanted_text(alloc, bytes.len(), wanted)?;
+        return Ok(Reply::Text(Answer { status: 1, text }));
     }
-}
-
-/// What `tile` answers to rows of pixels: the surface that has them, or how many bytes are wanted.
-pub fn tile_answer(alloc: Global, picture: Picture, bytes: &[u8]) -> Result<Answer, NoMemory>
-    requires { IsPictureWithin picture }
-    ensures answers { IfOk result (λ a. IsTileAnswer picture bytes.now a.status a.text.items) }
-    ensures status { IfOk result (λ a. a.status < 2) }
-{
-    match tile(
-        alloc,
-        picture.tiling,
-        picture.width,
-        picture.height,
-        picture.cpp,
-        bytes,
-    ) {
-        Ok(text) => Ok(Answer { status: 0, text }),
-        Err(Stop::Fault(wanted)) => {
-            let text = length_wanted_text(alloc, bytes.len(), wanted)?;
-            Ok(Answer { status: 1, text })
-        }
-        Err(Stop::NoMemory) => Err(NoMemory),
-    }
+    let conversion = Conversion {
+        from,
+        to,
+        width,
+        height,
+        cpp,
+    };
+    let band = vec![in alloc; 0u8; band_room(conversion)]?;
+    Ok(Reply::Bands(conversion, band))
 }
 
 /// What `level` answers to a buffer that has a texture: the level's pixels by rows, or its blocks, or the first rule that stands.

@@ -4,19 +4,22 @@ ghost use Rattle.std.specs.Io.KnownBytes.{Appends};
 ghost use Rattle.job_io.specs.Faults.{Rose, LastCallFailed};
 ghost use Rattle.job_io.specs.Traffic.{AppendsFront};
 ghost use Rattle.dumper.specs.Text.{rows_text};
-ghost use Rattle.vc4check.specs.Reply.{rest_text, reply_status, reply_text};
+ghost use Rattle.vc4check.specs.Reply.{rest_text, reply_status, IsReplyReady, AppendsReply, AppendsReplyFront};
 
 use super::answer::{Answer, reply};
+use super::bands::{Conversion, write_bands};
 use dumper::{IMAGE_END, PIECE, put_rows};
 use job_io::{Failed, Sink, write_all};
 use phys_mem::PhysMem;
 
-/// A text with its status; or the image of an accepted job: its text up to the rows, and the memory, whose rows are printed from
-/// it piece by piece. So the text of a whole memory is never in memory itself.
+/// A text with its status; the image of an accepted job: its text up to the rows, and the memory, whose rows are printed from it
+/// piece by piece; or the picture of the input in another order, which is printed band by band from the input, and memory for one
+/// band. So the text of a whole memory or a picture is never in memory itself.
 #[derive(Drop)]
 pub enum Reply {
     Text(Answer),
     Image(Vec<u8>, PhysMem),
+    Bands(Conversion, Vec<u8>),
 }
 
 // Writes the rows of the memory. It takes no memory.
@@ -64,23 +67,26 @@ fn write_image<K: Sink>(sink: &mut K, head: &[u8], memory: &PhysMem) -> Result<(
     write_rest(sink, memory)
 }
 
-/// Writes all of a reply, and says its status; or 4 where the sink failed, which then has a front of the text, where it still
-/// tells. It takes no memory.
-pub fn print<K: Sink>(sink: &mut K, given: &Reply) -> u8
-    requires { reply_status given.now < 2 }
-    ensures status { result ≢ 4 → result ≡ reply_status given.now }
+/// Writes all of a reply to these bytes, and says its status; or 4 where the sink failed, which then has a front of the text, where
+/// it still tells. It takes no memory.
+pub fn print<K: Sink>(sink: &mut K, given: Reply, bytes: &[u8]) -> u8
+    requires status { reply_status given < 2 }
+    requires ready { IsReplyReady bytes.now given }
+    ensures status { result ≢ 4 → result ≡ reply_status given }
     ensures failing { result ≤ 4 }
-    ensures written { result ≢ 4 → Appends (K.held sink.old) (K.held sink.new) (reply_text given.now) }
-    ensures cut { result ≡ 4 → AppendsFront (K.held sink.old) (K.held sink.new) (reply_text given.now) }
+    ensures written { result ≢ 4 → AppendsReply given bytes.now (K.held sink.old) (K.held sink.new) }
+    ensures cut { result ≡ 4 → AppendsReplyFront given bytes.now (K.held sink.old) (K.held sink.new) }
     ensures failed { result ≡ 4 → Rose (K.faults sink.old) (K.faults sink.new) }
     ensures last { result ≡ 4 → LastCallFailed K.held K.faults sink.old sink.new }
     ensures steady { result ≢ 4 → K.faults sink.new ≡ K.faults sink.old }
 {
-    match given {
-        Reply::Text(answer) => reply(sink, answer),
-        Reply::Image(head, memory) => match write_image(sink, head, memory) {
-            Ok(()) => 0,
-            Err(Failed) => 4,
-        },
+    let written = match given {
+        Reply::Text(answer) => return reply(sink, &answer),
+        Reply::Image(head, memory) => write_image(sink, &head, &memory),
+        Reply::Bands(conversion, mut band) => write_bands(sink, conversion, bytes, &mut band),
+    };
+    match written {
+        Ok(()) => 0,
+        Err(Failed) => 4,
     }
 }

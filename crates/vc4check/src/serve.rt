@@ -4,13 +4,13 @@ ghost use Rattle.std.specs.Io.KnownBytes.{IsAtEnd};
 ghost use Rattle.job_io.specs.Faults.{Rose, LastCallFailed};
 ghost use Rattle.job_io.specs.Traffic.{count_taken};
 ghost use Rattle.vc4check.specs.Answer.{IsAnswer};
-ghost use Rattle.vc4check.specs.Reply.{reply_status, reply_text};
+ghost use Rattle.vc4check.specs.Reply.{reply_status, IsReplyOf, IsReplyReady};
 ghost use Rattle.vc4check.specs.Run.{IsAnswered, IsCut};
 ghost use Rattle.vc4check.specs.Words.{limit_of, IsWithin};
 
 use super::check::check_answer;
 use super::command::Command;
-use super::pictures::{level_answer, tile_answer, untile_answer};
+use super::pictures::{level_answer, picture_reply};
 use super::replayed::replay_answer;
 use super::reply::{Reply, print};
 use super::scripts::{queue_answer, slots_answer};
@@ -18,13 +18,16 @@ use super::shader_text::{asm_answer, disasm_answer};
 use field_words::NoMemory;
 use job_io::{ReadEnd, Sink, Source, read_all};
 use std::alloc::Global;
+use tile_convert::Order;
 
 /// What the command answers to these bytes.
+#[tactic(auto, unfolding(tile_convert::specs::Picture::size_in))]
 fn answer_to(alloc: Global, command: Command, bytes: &[u8]) -> Result<Reply, NoMemory>
     requires few { length bytes.now ≤ limit_of command }
     requires within { IsWithin command }
-    ensures answers { IfOk result (λ a. IsAnswer command bytes.now (reply_status a) (reply_text a)) }
+    ensures answers { IfOk result (IsReplyOf (IsAnswer command bytes.now) bytes.now) }
     ensures status { IfOk result (λ a. reply_status a < 2) }
+    ensures ready { IfOk result (IsReplyReady bytes.now) }
 {
     let answer = match command {
         Command::Check => return check_answer(alloc, bytes),
@@ -33,8 +36,14 @@ fn answer_to(alloc: Global, command: Command, bytes: &[u8]) -> Result<Reply, NoM
         Command::Disasm => disasm_answer(alloc, bytes),
         Command::Slots(slots) => slots_answer(alloc, slots, bytes),
         Command::Queue(buffers) => queue_answer(alloc, buffers, bytes),
-        Command::Untile(picture) => untile_answer(alloc, picture, bytes),
-        Command::Tile(picture) => tile_answer(alloc, picture, bytes),
+        Command::Untile(picture) => {
+            let from = Order::Surface(picture.tiling);
+            return picture_reply(alloc, from, Order::Rows, picture, bytes);
+        }
+        Command::Tile(picture) => {
+            let to = Order::Surface(picture.tiling);
+            return picture_reply(alloc, Order::Rows, to, picture, bytes);
+        }
         Command::Level(part) => level_answer(alloc, part, bytes),
     };
     Ok(Reply::Text(answer?))
@@ -56,7 +65,7 @@ fn respond<K: Sink>(alloc: Global, command: Command, bytes: &[u8], sink: &mut K)
     let Ok(answer) = answer_to(alloc, command, bytes) else {
         return 5;
     };
-    print(sink, &answer)
+    print(sink, answer, bytes)
 }
 
 /// Reads all of the command's input, and appends its answer to the sink. All memory is taken before
