@@ -28,7 +28,7 @@ pub record Adapted (T : Type 0) : Type 0 where
 
 -- how many bytes one call of `read_all` asks for
 abbrev pub piece_size : ℕ
-piece_size = 16384
+piece_size = 65536
 
 -- the bytes, or none where they are not told
 abbrev pub told : Option (List ℕ) → List ℕ
