@@ -1,4 +1,5 @@
--- What safety refuses: where the next step of a unit is wild or reaches outside its job's region, the machine isn't safe from there.
+-- What safety refuses. Where a list unit is to read a packet that is none, or the next step of a unit reads outside its job's region, the
+-- machine isn't safe from there, whatever the memory, the state of the units and the rights.
 use Rattle.std.specs.Prelude.{◌≡◌, ◌<◌, ◌⊎◌, ℕ, ◌-◌, ◌%◌, IsTrue, List, ◌∷◌, length, slice_index, IfSome, Some, None}
 use Rattle.field_words.specs.declared.access.Actor.TheVariants.{Binner as TheBinner, Renderer as TheRenderer, Qpu as TheQpu}
 use Rattle.packets.specs.Length.{bin_length, bin_taken, render_taken}
