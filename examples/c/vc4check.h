@@ -91,8 +91,8 @@ _Static_assert(sizeof(struct vc4check_sample) == 20, "as long as the library's")
 uint32_t vc4check_version(void);
 
 /*
- * How many bytes of memory the job file asks for, at most 64 MiB; 0 where it can't be accepted, since its header isn't there or
- * has a size that no memory may have. No other rule is asked. An accepted file needs a block of exactly so many bytes.
+ * How many bytes of memory the job file asks for, at most 64 MiB; 0 where its first twelve bytes aren't there or it asks for a
+ * size that no memory may have. No other rule is asked. An accepted file needs a block of exactly so many bytes.
  */
 uint32_t vc4check_size(const uint8_t *bytes, size_t length);
 

@@ -1,18 +1,17 @@
 -- The configuration of the job's grid is the job's to write.
 use Rattle.std.proofs.Common.{◌≡◌, inl, ℕ, ◌+◌, ◌-◌, ◌*◌, ◌≤◌, Bool, true, false, not, ◌==◌, List, [], ◌∷◌, None, length, refl, arith, lit≤}
-use Rattle.std.proofs.lemmas.Bool.{leb-true, eqb-true}
+use Rattle.std.proofs.lemmas.Bool.{leb-true, eqb-true, not-false}
 use Rattle.field_words.specs.Sizes.{page_size, slot_size}
 use Rattle.field_words.specs.Words.{rounded_up}
 use Rattle.field_words.proofs.Numbers.{rounded}
-use Rattle.field_words.proofs.Questions.{none_stands}
 use Rattle.field_words.specs.Questions.{first_of, answered}
 use Rattle.field_words.proofs.Nones.{front_none, rest_none, none_answered}
 use Rattle.tile_memory.specs.Slots.{alloc_offset, slot_fits}
-use Rattle.bin_list.specs.declared.seen.Seen.{Seen}
 use Rattle.bin_list.specs.Packets.{packets, passed}
 use Rattle.bin_list.specs.Seen.{seen_before}
 use Rattle.bin_list.specs.Rules.{GivenModel, given_of, asked, fault, end_questions, questions_of, bin_questions}
 use Rattle.bin_list.proofs.Facts.{has_grid, configured}
+use Rattle.bin_list.proofs.Sound.{started}
 use Rattle.job_format.specs.Model.{FileModel}
 use Rattle.job_check.specs.Shaders.{table_of}
 use Rattle.job_check.specs.Jobs.{job_of, has_bin, slot_of}
@@ -24,10 +23,6 @@ use Rattle.accepted_law.specs.Settled.{Settled}
 use Rattle.accepted_law.specs.Parts.{FilesAllocate}
 
 -- The grid has room in a slot; where there is no binner list it has no tiles.
-started : (seen : Seen) → first_of (end_questions seen) ≡ None → seen.started ≡ true
-unfolding end_questions
-started seen none = let asked = none_stands (end_questions seen) none in grind (arith, asked.0)
-
 grid_room : (given : GivenModel) (list : List ℕ) → first_of (questions_of given (passed list)) ≡ None
     → slot_fits ((seen_before (passed list)).tiles_x * (seen_before (passed list)).tiles_y) ≡ true
 unfolding questions_of seen_before
@@ -48,12 +43,8 @@ unfolding passed packets seen_before
 empty_room [] none = nothing_fits
 empty_room (o ∷ body) none = absurd (omega (arith, none))
 
-not_false : (b : Bool) → not b ≡ false → b ≡ true
-not_false true is = refl
-not_false false is = absurd (cc)
-
 not_some : (n : ℕ) → not (n == 0) ≡ false → n ≡ 0
-not_some n is = eqb-true n 0 (not_false (n == 0) is)
+not_some n is = eqb-true n 0 (not-false (n == 0) is)
 
 room_by : (f : FileModel) (b : Bool) → not (length (job_of f 0).bin == 0) ≡ b
     → (b ≡ true → first_of (bin_questions (job_of f 0).bin (job_of f 0).declared (table_of f) (job_of f 0).handles) ≡ None)

@@ -14,9 +14,10 @@ use Rattle.bin_list.specs.Packets.{opcode, packets, cut, onto, passed}
 use Rattle.bin_list.specs.Seen.{place, seen_before}
 use Rattle.bin_list.specs.Rules.{GivenModel, index_buffer, packet_questions, asked, fault}
 use Rattle.bin_list.specs.Emitted.{index_text, state_text, config_text, packet_text, texts}
+use Rattle.bin_list.proofs.Least.{cut_place}
 use Rattle.bin_walks.proofs.Fine.{cut_fine}
 use Rattle.bin_walks.proofs.Texts.{state_long, config_long}
-use Rattle.bin_walks.proofs.Walking.{cut_place, long_indexed, long_state, long_config}
+use Rattle.bin_walks.proofs.Walking.{long_indexed, long_state, long_config}
 
 index_long : (given : GivenModel) (seen : Seen) (p : List ℕ) → 14 ≤ length p → length (index_text given seen p) ≡ length p
 unfolding index_text

@@ -20,7 +20,8 @@ use Rattle.machine_law.specs.Begins.{DrawBegins}
 use Rattle.accepted_law.specs.Holdings.{file_rights, across_of, down_of, config_for}
 use Rattle.accepted_law.specs.Settled.{Grounds}
 use Rattle.accepted_law.specs.Parts.{RecordsLaunch, BinWalks, BinsWalk}
-use Rattle.accepted_law.proofs.States.{buffer_ends}
+use Rattle.accepted_law.proofs.Holding.{bin_is}
+use Rattle.accepted_law.proofs.Tables.{buffer_low}
 use Rattle.accepted_law.proofs.Primitives.{draws_begin_law}
 
 -- Where lists walk by one condition, they walk by another that follows from it of each packet that draws.
@@ -52,11 +53,6 @@ grid_is : (f : FileModel) → config_of (layout_of f 0) (across_of f 0) (down_of
 unfolding layout_of config_for
 grid_is f = refl
 
--- the list as it was emitted
-list_is : (f : FileModel) → has_bin f 0 ≡ true → bin_list_of f 0 ≡ bin_text (job_of f 0).bin (job_of f 0).declared (table_of f) (job_of f 0).handles (layout_of f 0)
-unfolding bin_list_of
-list_is f has = ap (λ b. if b then bin_text (job_of f 0).bin (job_of f 0).declared (table_of f) (job_of f 0).handles (layout_of f 0) else []) has
-
 nothing_is : (f : FileModel) → has_bin f 0 ≡ false → bin_list_of f 0 ≡ []
 unfolding bin_list_of
 nothing_is f none = ap (λ b. if b then bin_text (job_of f 0).bin (job_of f 0).declared (table_of f) (job_of f 0).handles (layout_of f 0) else []) none
@@ -70,7 +66,7 @@ low f m grounds =
 walked : (f : FileModel) (m : List ℕ) → Grounds f m → has_bin f 0 ≡ true → IsWalked (job_of f 0).bin (job_of f 0).declared (table_of f) (job_of f 0).handles (layout_of f 0)
 walked f m grounds has =
     emitted_lists_walk_law (job_of f 0).bin (job_of f 0).declared (table_of f) (job_of f 0).handles (layout_of f 0) grounds.settled.limits.bin (low f m grounds)
-    (λ number below. buffer_ends f grounds.settled.sound number) (grounds.settled.bin has)
+    (λ number below. buffer_low f.mem_size f.regions f.buffers grounds.settled.sound number) (grounds.settled.bin has)
 
 drawn_begins : (f : FileModel) (m : List ℕ) → RecordsLaunch → Grounds f m → has_bin f 0 ≡ true
     → Follows (IsDrawn (table_of f) (job_of f 0).handles (layout_of f 0) (states_of (packets (job_of f 0).bin))) (DrawBegins (file_rights f) m 0)
@@ -86,7 +82,7 @@ some_walk f m launch grounds has =
     let walks = walks_so (config_of (layout_of f 0) (across_of f 0) (down_of f 0)) (IsDrawn (table_of f) (job_of f 0).handles (layout_of f 0) (states_of (packets bin))) R (drawn_begins f m launch grounds has) nothing_kept list it.walks in
     record {
       packets = list;
-      text = list_is f has ∙ it.text;
+      text = bin_is f has ∙ it.text;
       walks = subst (λ config. Walks config R nothing_kept list) (grid_is f) walks;
     }
 

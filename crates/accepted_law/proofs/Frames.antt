@@ -13,7 +13,8 @@ use Rattle.job_format.specs.declared.file.Surface.{Surface}
 use Rattle.texture_layouts.specs.declared.surface.Tiling.{Tiling}
 use Rattle.texture_layouts.specs.Surface.{size_for}
 use Rattle.render_list.specs.Frame.{place_at, surface_at, is_present, is_full, full_tile, full_place}
-use Rattle.render_list.specs.Surfaces.{shape_questions, size_questions, surface_questions, has_unlisted_tiling, has_unlisted_format, is_unaligned, is_full_with_bits, is_too_large, is_too_large_full, buffer_size, size_in, plain_end, full_end, tiling_number, tiling_named, write_pixel, color_pixel, zs_pixel, general_pixel, pixel_size_of, place_behind, place_in}
+use Rattle.render_list.specs.Surfaces.{shape_questions, size_questions, surface_questions, has_unlisted_tiling, has_unlisted_format, is_unaligned, is_full_with_bits, is_too_large, is_too_large_full, buffer_size, plain_end, full_end, tiling_number, tiling_named, write_pixel, color_pixel, zs_pixel, general_pixel, pixel_size_of, place_behind, place_in}
+use Rattle.render_list.proofs.Checked.{size_named}
 use Rattle.render_list.proofs.Places.{full_place_grows}
 use Rattle.machine_plan.specs.Regions.{Rights}
 use Rattle.list_machine.specs.declared.surface.Style.{Style}
@@ -107,11 +108,6 @@ both_false false b c here none = cc
 never_full : (k : ℕ) (surface : Surface) → is_full_with_bits k surface ≡ false → (k == 3) ≡ true → is_full k surface ≡ false
 unfolding is_full_with_bits
 never_full k surface none here = both_false (k == 3) (is_full k surface) (not (surface.bits == 0)) here none
-
-size_named : (table : TableModel) (handles : List ℕ) (surface : Surface) (number : ℕ) → data_of table handles surface.hindex ≡ Some number
-    → buffer_size table handles surface ≡ (buffer_at table.buffers number).size
-unfolding buffer_size
-size_named table handles surface number named = ap (size_in table) named
 
 -- A surface with a place is present, and its handle names a Plain buffer.
 record IsFoundIn (table : TableModel) (present : Bool) (offset : ℕ) (found : Option ℕ) (base : ℕ) : Type 0 where

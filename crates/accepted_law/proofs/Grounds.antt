@@ -1,12 +1,11 @@
 -- What the job's rights have, and what no job may write.
-use Rattle.std.proofs.Common.{◌≡◌, ◌⊎◌, inl, inr, ℕ, zero, suc, ◌+◌, ◌*◌, ◌%◌, ◌<◌, ◌≤◌, Bool, true, false, not, ◌&&◌, nat_lt, if◌then◌else◌, List, [], ◌∷◌, ◌++◌, Option, Some, None, length, slice_index, refl, sym, ap, subst, arith, ◌∙◌}
-use Rattle.std.proofs.lemmas.Bool.{cases_lt, ltb-true}
+use Rattle.std.proofs.Common.{◌≡◌, ◌⊎◌, inl, inr, ℕ, zero, suc, ◌+◌, ◌*◌, ◌%◌, ◌<◌, ◌≤◌, List, [], ◌∷◌, ◌++◌, Some, length, refl, sym, ap, subst, arith, ◌∙◌}
+use Rattle.std.proofs.lemmas.Bool.{cases_lt}
 use Rattle.field_words.specs.Sizes.{page_size, slot_size, most_memory}
-use Rattle.buffer_table.specs.declared.buffer.Buffer.{Buffer}
-use Rattle.buffer_table.specs.declared.buffer.Kind.{Kind}
 use Rattle.buffer_table.specs.declared.buffer.Kind.TheVariants.{Plain, Code}
-use Rattle.buffer_table.specs.Table.{TableModel, buffer_at}
-use Rattle.buffer_table.specs.Handles.{is_named, is_plain, data_of, code_of}
+use Rattle.buffer_table.specs.Table.{buffer_at}
+use Rattle.buffer_table.specs.Handles.{data_of, code_of}
+use Rattle.buffer_table.proofs.Named.{data_is, code_is}
 use Rattle.shader_records.specs.Named.{IsDataIn}
 use Rattle.job_format.specs.Model.{FileModel}
 use Rattle.job_check.specs.Shaders.{table_of}
@@ -16,122 +15,13 @@ use Rattle.job_check.proofs.Layouts.{layout_numbers}
 use Rattle.machine_plan.specs.Regions.{Interval, Inside, rights_of, IsOutside}
 use Rattle.qpu_law.specs.Asks.{IsOneOf}
 use Rattle.machine_law.specs.Begins.{IsFixed}
-use Rattle.accepted_law.specs.Holdings.{interval, buffer_interval, interval_where, named_buffers, plain_of, codes_of, lists_of, slot_in, job_rights, file_rights}
+use Rattle.accepted_law.specs.Holdings.{interval, plain_of, codes_of, lists_of, slot_in, job_rights, file_rights}
 use Rattle.accepted_law.specs.Settled.{Settled, ListsEnd}
 use Rattle.accepted_law.specs.Parts.{FilesGround}
+use Rattle.accepted_law.proofs.Intervals.{one_left, one_right, named_there, named_by}
 use Rattle.accepted_law.proofs.Placing.{IsClear}
 use Rattle.accepted_law.proofs.Tables.{buffer_sound, buffers_apart, lists_apart, tiles_apart, regions_apart, one_slot}
 use Rattle.accepted_law.proofs.Holding.{lists_end, holds_all}
-
--- one of the intervals of two lists
-pub one_left : (front rest : List Interval) (place size : ℕ) → IsOneOf front place size → IsOneOf (front ++ rest) place size
-one_left [] rest place size one = absurd one
-one_left (first ∷ front) rest place size (inl is) = inl is
-one_left (first ∷ front) rest place size (inr other) = inr (one_left front rest place size other)
-
-pub one_right : (front rest : List Interval) (place size : ℕ) → IsOneOf rest place size → IsOneOf (front ++ rest) place size
-one_right [] rest place size one = one
-one_right (first ∷ front) rest place size one = inr (one_right front rest place size one)
-
-both_lists : (front rest : List Interval) (place size : ℕ) → IsOneOf (front ++ rest) place size → IsOneOf front place size ⊎ IsOneOf rest place size
-both_lists [] rest place size one = inr one
-both_lists (first ∷ front) rest place size (inl is) = inl (inl is)
-both_lists (first ∷ front) rest place size (inr other) =
-    elim (both_lists front rest place size other) [ inl here ↦ inl (inr here) | inr there ↦ inr there ]
-
--- The buffer that a handle names is among those of all handles, and each of those is named by one.
-where_some : (buffers : List Buffer) (found : Option ℕ) (number : ℕ) → found ≡ Some number
-    → IsOneOf (interval_where buffers found) (buffer_at buffers number).place (buffer_at buffers number).size
-where_some buffers None number is = absurd (cc)
-where_some buffers (Some n) number is =
-    let same : n ≡ number = cc in
-    inl (ap (buffer_interval buffers) same)
-
-pub named_there : (names : ℕ → Option ℕ) (buffers : List Buffer) (n handle number : ℕ) → handle < n → names handle ≡ Some number
-    → IsOneOf (named_buffers names buffers n) (buffer_at buffers number).place (buffer_at buffers number).size
-unfolding named_buffers
-named_there names buffers zero handle number below is = absurd (omega (arith, below))
-named_there names buffers (suc n) handle number below is =
-    let place = (buffer_at buffers number).place in
-    let size = (buffer_at buffers number).size in
-    elim (cases_lt handle n) [
-      | inl before ↦ one_left (named_buffers names buffers n) (interval_where buffers (names n)) place size (named_there names buffers n handle number before is)
-      | inr past ↦
-          (let same : handle ≡ n = omega (arith, below, past) in
-          one_right (named_buffers names buffers n) (interval_where buffers (names n)) place size
-          (where_some buffers (names n) number (sym (ap names same) ∙ is)))
-    ]
-
-record IsNamedBy (names : ℕ → Option ℕ) (buffers : List Buffer) (place size : ℕ) : Type 0 where
-  handle : ℕ
-  number : ℕ
-  named : names handle ≡ Some number
-  place_is : place ≡ (buffer_at buffers number).place
-  size_is : size ≡ (buffer_at buffers number).size
-
-where_named : (names : ℕ → Option ℕ) (buffers : List Buffer) (handle : ℕ) (found : Option ℕ) (place size : ℕ) → names handle ≡ found
-    → IsOneOf (interval_where buffers found) place size → IsNamedBy names buffers place size
-where_named names buffers handle None place size is one = absurd one
-where_named names buffers handle (Some number) place size is (inl same) =
-    record { handle = handle; number = number; named = is; place_is = sym (ap (λ i. i.place) same); size_is = sym (ap (λ i. i.size) same) }
-where_named names buffers handle (Some number) place size is (inr none) = absurd none
-
-named_by : (names : ℕ → Option ℕ) (buffers : List Buffer) (n place size : ℕ) → IsOneOf (named_buffers names buffers n) place size → IsNamedBy names buffers place size
-unfolding named_buffers
-named_by names buffers zero place size one = absurd one
-named_by names buffers (suc n) place size one =
-    elim (both_lists (named_buffers names buffers n) (interval_where buffers (names n)) place size one) [
-      | inl before ↦ named_by names buffers n place size before
-      | inr here ↦ where_named names buffers n (names n) place size refl here
-    ]
-
--- What a handle names is a buffer of the table, and of the kind.
-record IsBufferOf (table : TableModel) (handles : List ℕ) (kind : Kind) (handle number : ℕ) : Type 0 where
-  handle_in : handle < length handles
-  inside : number < length table.buffers
-  kind_is : (buffer_at table.buffers number).kind ≡ kind
-
-both_true : (a b : Bool) → (a && b) ≡ true → (a ≡ true) × (b ≡ true)
-both_true true b is = (refl, is)
-both_true false b is = absurd (cc)
-
-some_if : (b : Bool) (x n : ℕ) → (if b then Some x else None) ≡ Some n → (b ≡ true) × (x ≡ n)
-some_if true x n is = (refl, cc)
-some_if false x n is = absurd (cc)
-
-plain_kind : (kind : Kind) → is_plain kind ≡ true → kind ≡ Plain
-plain_kind Plain is = refl
-plain_kind Code is = absurd (cc)
-
-code_kind : (kind : Kind) → not (is_plain kind) ≡ true → kind ≡ Code
-code_kind Plain is = absurd (cc)
-code_kind Code is = refl
-
-buffer_of : (table : TableModel) (handles : List ℕ) (kind : Kind) (handle number : ℕ) → is_named table handles handle ≡ true → slice_index handles handle ≡ number
-    → (buffer_at table.buffers (slice_index handles handle)).kind ≡ kind → IsBufferOf table handles kind handle number
-buffer_of table handles kind handle number named is of_kind =
-    let two = both_true (nat_lt handle (length handles)) (nat_lt (slice_index handles handle) (length table.buffers)) named in
-    record {
-      handle_in = ltb-true handle (length handles) two.0;
-      inside = subst (λ n. n < length table.buffers) is (ltb-true (slice_index handles handle) (length table.buffers) two.1);
-      kind_is = subst (λ n. (buffer_at table.buffers n).kind ≡ kind) is of_kind;
-    }
-
-data_is : (table : TableModel) (handles : List ℕ) (handle number : ℕ) → data_of table handles handle ≡ Some number → IsBufferOf table handles Plain handle number
-unfolding data_of
-data_is table handles handle number is =
-    let kind = (buffer_at table.buffers (slice_index handles handle)).kind in
-    let some = some_if (is_named table handles handle && is_plain kind) (slice_index handles handle) number is in
-    let two = both_true (is_named table handles handle) (is_plain kind) some.0 in
-    buffer_of table handles Plain handle number two.0 some.1 (plain_kind kind two.1)
-
-code_is : (table : TableModel) (handles : List ℕ) (handle number : ℕ) → code_of table handles handle ≡ Some number → IsBufferOf table handles Code handle number
-unfolding code_of
-code_is table handles handle number is =
-    let kind = (buffer_at table.buffers (slice_index handles handle)).kind in
-    let some = some_if (is_named table handles handle && not (is_plain kind)) (slice_index handles handle) number is in
-    let two = both_true (is_named table handles handle) (not (is_plain kind)) some.0 in
-    buffer_of table handles Code handle number two.0 some.1 (code_kind kind two.1)
 
 -- A Plain buffer of the job.
 record IsPlainAt (f : FileModel) (place size : ℕ) : Type 0 where

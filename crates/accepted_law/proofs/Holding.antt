@@ -1,13 +1,12 @@
 -- The memory that a settled file is emitted as holds its contents and its lists.
-use Rattle.std.proofs.Common.{◌≡◌, ◌⊎◌, inl, inr, ℕ, ◌+◌, ◌<◌, ◌≤◌, Bool, true, false, List, [], ◌∷◌, ◌++◌, None, length, get_or, slice_index, refl, sym, ap, subst, arith, ◌∙◌}
+use Rattle.std.proofs.Common.{◌≡◌, ◌⊎◌, inl, inr, ℕ, ◌+◌, ◌<◌, ◌≤◌, Bool, true, false, List, [], ◌∷◌, ◌++◌, None, length, slice_index, refl, sym, ap, subst, arith, ◌∙◌}
 use Rattle.std.specs.List.{AllByRecursion}
-use Rattle.std.proofs.lemmas.List.{get_or-map}
 use Rattle.field_words.specs.Questions.{first_of, answered}
 use Rattle.field_words.proofs.Nones.{front_none}
 use Rattle.field_words.specs.Words.{IsBytes}
 use Rattle.field_words.specs.Writes.{Part, placed, zeros}
 use Rattle.buffer_table.specs.declared.buffer.Buffer.{Buffer}
-use Rattle.buffer_table.specs.Table.{buffer_at, past_end}
+use Rattle.buffer_table.specs.Table.{buffer_at}
 use Rattle.machine_plan.specs.Memory.{bytes_at}
 use Rattle.bin_list.specs.Packets.{passed}
 use Rattle.bin_list.specs.Seen.{seen_before}
@@ -15,12 +14,11 @@ use Rattle.bin_list.specs.Rules.{given_of, asked, fault, end_questions, question
 use Rattle.bin_list.specs.Emitted.{bin_text}
 use Rattle.shader_records.specs.Emitted.{streams_place}
 use Rattle.render_list.specs.Text.{render_slots, render_text}
-use Rattle.job_format.specs.File.{IsWellFormed}
 use Rattle.job_format.specs.Model.{FileModel}
 use Rattle.job_check.specs.Shaders.{table_of, content_of}
 use Rattle.job_check.specs.Jobs.{job_of, has_bin, grid_of, slot_of, places_in, input_for, layout_of, bin_list_of, records_of, streams_of, render_list_of}
 use Rattle.job_check.specs.Emit.{PartsFit, content_parts, part, list_parts, later_parts, memory_parts, memory_of}
-use Rattle.job_check.proofs.Codes.{as_many}
+use Rattle.job_check.proofs.Codes.{as_many, content_long}
 use Rattle.job_check.proofs.Layouts.{layout_numbers, lists_inside, layout_apart}
 use Rattle.job_check.proofs.Windows.{length_placed}
 use Rattle.job_check.proofs.Emission.{placed-append, length_zeros, contents_fit}
@@ -40,7 +38,7 @@ rules_of_list list declared f handles none =
     let given = given_of list declared (table_of f) handles in
     front_none (asked given (passed list)) (answered (fault given.size) (end_questions (seen_before (passed list)))) none
 
-bin_is : (f : FileModel) → has_bin f 0 ≡ true → bin_list_of f 0 ≡ bin_text (job_of f 0).bin (job_of f 0).declared (table_of f) (job_of f 0).handles (layout_of f 0)
+pub bin_is : (f : FileModel) → has_bin f 0 ≡ true → bin_list_of f 0 ≡ bin_text (job_of f 0).bin (job_of f 0).declared (table_of f) (job_of f 0).handles (layout_of f 0)
 unfolding bin_list_of
 bin_is f some = rw some refl
 
@@ -184,12 +182,6 @@ lists_stand f s ends =
     }
 
 -- The contents of a buffer stand: buffers are apart from each other and from the lists.
-pub content_long : (f : FileModel) (b : ℕ) → IsWellFormed f → b < length f.buffers → length (content_of f b) ≡ (buffer_at f.buffers b).content
-unfolding content_of buffer_at
-content_long f b h below =
-    let inside : b < length f.contents = omega (arith, as_many f h, below) in
-    sym (get_or-map length f.contents b [] 0 inside) ∙ ap (λ l. get_or l b 0) h.contents ∙ get_or-map (λ x. x.content) f.buffers b past_end 0 below
-
 -- a byte of one of two that are apart is clear of a front of the other
 clear_of : (p n q size i : ℕ) → (p + n ≤ q) ⊎ (q + size ≤ p) → (m : ℕ) → m ≤ size → i < n → IsClear (p + i) q m
 clear_of p n q size i (inl before) m front below = inl (omega (arith, before, below))

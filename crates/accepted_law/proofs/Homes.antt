@@ -1,26 +1,22 @@
 -- The homes of a record's three programs.
-use Rattle.std.proofs.Common.{◌≡◌, ◌≤◌, ◌<◌, ℕ, ◌+◌, ◌-◌, ◌*◌, ◌/◌, ◌%◌, ◌==◌, Bool, true, false, not, List, [], ◌∷◌, length, slice_index, get_or, Some, None, refl, sym, ap, subst, arith, inl, inr, zero-add, ◌∙◌}
-use Rattle.std.proofs.lemmas.List.{get_or-map}
+use Rattle.std.proofs.Common.{◌≡◌, ◌≤◌, ◌<◌, ℕ, ◌+◌, ◌-◌, ◌*◌, ◌/◌, List, length, slice_index, Some, refl, sym, arith, inl, inr, zero-add, ◌∙◌}
 use Rattle.std.proofs.lemmas.List.FromFn.{get_or-map-range_with_len}
 use Rattle.field_words.specs.Words.{u32_at, u64_at}
-use Rattle.field_words.specs.Questions.{Question, Ask, first_of}
 use Rattle.buffer_table.specs.declared.buffer.Kind.TheVariants.{Code}
-use Rattle.buffer_table.specs.Table.{buffer_at, past_end}
+use Rattle.buffer_table.specs.Table.{buffer_at}
 use Rattle.buffer_table.specs.Handles.{code_of}
-use Rattle.job_format.specs.File.{IsWellFormed}
+use Rattle.buffer_table.proofs.Named.{code_is}
 use Rattle.job_format.specs.Model.{FileModel}
 use Rattle.qpu_isa.specs.Shader.{ShaderModel, sample_at, IsSoundShader}
 use Rattle.emitted_facts.specs.Facts.{IsSampleIn, IsStream}
 use Rattle.shader_flow.specs.Flow.{word}
 use Rattle.uniform_stream.specs.Stream.{uniforms_of}
-use Rattle.shader_check.specs.Rules.{shader_questions}
 use Rattle.shader_records.specs.Named.{IsDataIn}
 use Rattle.shader_records.proofs.StreamFacts.{same_stream}
-use Rattle.job_check.specs.Shaders.{table_of, content_of, words_in, words_of, code_questions, told_of}
+use Rattle.job_check.specs.Shaders.{table_of, content_of, words_in, words_of, told_of}
 use Rattle.job_check.specs.Jobs.{job_of, layout_of, streams_of}
 use Rattle.job_check.specs.Emit.{lengths_of}
-use Rattle.job_check.proofs.Codes.{as_many, length_words, shader_short}
-use Rattle.machine_plan.specs.Regions.{IsOutside}
+use Rattle.job_check.proofs.Codes.{content_long, length_words, shader_short}
 use Rattle.list_law.proofs.Words.{word_read}
 use Rattle.qpu_law.specs.Asks.{IsOneOf}
 use Rattle.qpu_law.specs.Home.{Home}
@@ -28,11 +24,13 @@ use Rattle.qpu_law.specs.Thread.{IsHome, HasSamples}
 use Rattle.qpu_law.specs.Emitted.{Emits}
 use Rattle.qpu_law.proofs.Reading.{one_inside}
 use Rattle.qpu_law.proofs.Emitting.{streams_serve_law}
-use Rattle.machine_law.specs.Begins.{IsFixed, HomeBegins}
+use Rattle.machine_law.specs.Begins.{HomeBegins}
+use Rattle.machine_law.proofs.Fixed.{fixed_inside}
 use Rattle.accepted_law.specs.Holdings.{plain_of, lists_of, job_rights, file_rights}
 use Rattle.accepted_law.specs.Settled.{Settled, Grounds}
+use Rattle.accepted_law.proofs.Settling.{code_rules}
 use Rattle.accepted_law.proofs.Streams.{number_at, words_from, word_from, words_fit}
-use Rattle.accepted_law.proofs.Uses.{buffer_inside, lists_low, code_is}
+use Rattle.accepted_law.proofs.Uses.{buffer_inside, lists_low}
 
 -- the shader in a buffer, with a stream of a memory
 unfoldable pub home_of : FileModel → List ℕ → ℕ → ℕ → Home
@@ -50,13 +48,6 @@ pub record IsStarted (f : FileModel) (m : List ℕ) (handle number stream : ℕ)
   pub from : (layout_of f 0).place + (layout_of f 0).uniforms ≤ stream
   pub upto : stream + 4 * uniforms_of (words_of (content_of f number)) ≤ (layout_of f 0).place + (layout_of f 0).uniforms + length (streams_of f 0)
   pub takes : IsStream (IsDataIn (table_of f) (job_of f 0).handles) (told_of (words_of (content_of f number))) stream (λ k. u32_at m (stream + 4 * k))
-
--- How long a shader is.
-content_long : (f : FileModel) (b : ℕ) → IsWellFormed f → b < length f.buffers → length (content_of f b) ≡ (buffer_at f.buffers b).content
-unfolding content_of buffer_at
-content_long f b h below =
-    let inside : b < length f.contents = omega (arith, as_many f h, below) in
-    sym (get_or-map length f.contents b [] 0 inside) ∙ ap (λ l. get_or l b 0) h.contents ∙ get_or-map (λ x. x.content) f.buffers b past_end 0 below
 
 -- Its words are in its contents, which are in its buffer, which is in the memory.
 record IsCodeLow (f : FileModel) (number : ℕ) : Type 0 where
@@ -78,15 +69,6 @@ code_low f number settled below code =
       inside = omega (arith, content, buffer.1);
       upto = omega (arith, buffer.0, limit);
     }
-
-tail_none : {F : Type 0} → (stands : Bool) (answer : F) (later : List (Question F)) → first_of (Ask stands answer ∷ later) ≡ None → first_of later ≡ None
-tail_none true answer later none = cc
-tail_none false answer later none = none
-
--- no rule of shaders stands in the words
-words_sound : (content : List ℕ) → first_of (code_questions content) ≡ None → first_of (shader_questions (words_of content)) ≡ None
-unfolding code_questions
-words_sound content none = tail_none (not (length content % 8 == 0)) (record { number = 1; index = 0 }) (shader_questions (words_of content)) none
 
 -- word i is the number of its eight bytes
 word_is : (content : List ℕ) (i : ℕ) → i < length (words_of content) → u64_at content (8 * i) ≡ word (words_of content) i
@@ -132,7 +114,7 @@ home_stands f m handle number stream grounds started =
     let content : List ℕ = content_of f number in
     let place : ℕ = (buffer_at f.buffers number).place in
     let is = code_is (table_of f) (job_of f 0).handles handle number started.named in
-    let low = code_low f number grounds.settled is.0 is.1 in
+    let low = code_low f number grounds.settled is.inside is.kind_is in
     let words = low.words in
     let inside = low.inside in
     let upto = low.upto in
@@ -143,7 +125,7 @@ home_stands f m handle number stream grounds started =
     let ends = started.upto in
     let emits = stream_serves f m handle number stream grounds started in
     record {
-      sound = words_sound content (grounds.settled.codes number is.0 is.1);
+      sound = code_rules content (grounds.settled.codes number is.inside is.kind_is);
       few = low.few;
       low = omega (arith, words, inside, upto);
       stream_low = omega (arith, lists, limit, room, ends);
@@ -151,7 +133,7 @@ home_stands f m handle number stream grounds started =
       code_in = λ i below.
           one_inside (job_rights f 0).region place (buffer_at f.buffers number).size (place + 8 * i) 8 (grounds.code handle number started.named)
           (record { from = omega arith; upto = omega (arith, below, words, inside) });
-      code_is = λ i below. number_at m content place i (grounds.holds.contents number is.0) (omega (arith, below, words)) ∙ word_is content i below;
+      code_is = λ i below. number_at m content place i (grounds.holds.contents number is.inside) (omega (arith, below, words)) ∙ word_is content i below;
       stream_in = λ k below.
           one_inside (job_rights f 0).region ((layout_of f 0).place + (layout_of f 0).uniforms) (length (streams_of f 0)) (stream + 4 * k) 4
           (grounds.lists ((layout_of f 0).place + (layout_of f 0).uniforms) (length (streams_of f 0)) (uniforms_list f))
@@ -171,26 +153,20 @@ home_samples f m handle number stream grounds started =
       words = λ k. words_fit m stream (uniforms_of (words_of (content_of f number))) k grounds.holds.bytes;
     }
 
--- a part of what no job may write is what no job may write
-fixed_inside : (f : FileModel) (place size q n : ℕ) → IsFixed (file_rights f) place size → place ≤ q → q + n ≤ place + size → IsFixed (file_rights f) q n
-fixed_inside f place size q n fixed from upto i below =
-    let there : place + (q - place + i) ≡ q + i = omega (arith, from) in
-    subst (λ p. IsOutside (file_rights f) p) there (fixed (q - place + i) (omega (arith, from, upto, below)))
-
 pub home_begins : (f : FileModel) (m : List ℕ) (handle number stream : ℕ) → Grounds f m → IsStarted f m handle number stream → HomeBegins (file_rights f) m 0 (home_of f m number stream) (plain_of f 0)
 unfolding home_of
 home_begins f m handle number stream grounds started =
     let place : ℕ = (buffer_at f.buffers number).place in
     let code : List ℕ = words_of (content_of f number) in
     let is = code_is (table_of f) (job_of f 0).handles handle number started.named in
-    let low = code_low f number grounds.settled is.0 is.1 in
+    let low = code_low f number grounds.settled is.inside is.kind_is in
     let words = low.words in
     let inside = low.inside in
     let uniforms : ℕ = (layout_of f 0).place + (layout_of f 0).uniforms in
     record {
       stands = home_stands f m handle number stream grounds started;
-      code = fixed_inside f place (buffer_at f.buffers number).size place (8 * length code) (grounds.code_fixed handle number started.named) (omega arith) (omega (arith, words, inside));
-      stream = fixed_inside f uniforms (length (streams_of f 0)) stream (4 * uniforms_of code) (grounds.lists_fixed uniforms (length (streams_of f 0)) (uniforms_list f)) started.from started.upto;
+      code = fixed_inside (file_rights f) place (buffer_at f.buffers number).size place (8 * length code) (grounds.code_fixed handle number started.named) (omega arith) (omega (arith, words, inside));
+      stream = fixed_inside (file_rights f) uniforms (length (streams_of f 0)) stream (4 * uniforms_of code) (grounds.lists_fixed uniforms (length (streams_of f 0)) (uniforms_list f)) started.from started.upto;
       samples = home_samples f m handle number stream grounds started;
       named = grounds.data_reads;
     }

@@ -4,6 +4,7 @@ pub mod BinRoom
 pub mod Tables
 pub mod FrameFine
 pub mod Settling
+pub mod Intervals
 pub mod Holding
 pub mod Grounds
 pub mod Allocating

@@ -11,6 +11,7 @@ use Rattle.bin_list.specs.Packets.{opcode}
 use Rattle.bin_list.specs.Rules.{index_size}
 use Rattle.bin_list.specs.States.{last_index, draws_to}
 use Rattle.bin_walks.specs.Draws.{IsStateAt, AreIndexesInside, IsDrawn}
+use Rattle.bin_walks.proofs.Walking.{draws_indexed}
 use Rattle.shader_records.specs.Named.{IsDataIn}
 use Rattle.shader_records.specs.Sources.{state_at, record_offset}
 use Rattle.job_format.specs.Model.{FileModel}
@@ -33,10 +34,6 @@ data_named table handles handle is =
 data_in : (table : TableModel) (handles : List ℕ) (handle : ℕ) → IsData table handles handle
     → IsDataIn table handles (buffer_at table.buffers (slice_index handles handle)).place (buffer_at table.buffers (slice_index handles handle)).size
 data_in table handles handle is = record { handle = handle; number = slice_index handles handle; named = data_named table handles handle is; place_is = refl; size_is = refl }
-
-draws_indexed : (packet : List ℕ) → opcode packet ≡ indexed_primitive_list → draws_to packet ≡ u32_at packet 10
-unfolding draws_to
-draws_indexed packet is = ap (λ o. if o == indexed_primitive_list then u32_at packet 10 else (if o == array_primitive_list then last_index (u32_at packet 6) (u32_at packet 2) else 0)) is
 
 draws_array : (packet : List ℕ) → opcode packet ≡ array_primitive_list → draws_to packet ≡ last_index (u32_at packet 6) (u32_at packet 2)
 unfolding draws_to

@@ -1,59 +1,50 @@
 -- The three programs that the emitted record of a state names.
-use Rattle.std.proofs.Common.{◌≡◌, ◌≤◌, ◌<◌, ℕ, zero, suc, ◌+◌, ◌-◌, ◌*◌, ◌/◌, ◌%◌, ◌==◌, Bool, true, false, not, nat_lt, nat_le, if◌then◌else◌, List, length, Some, None, refl, sym, ap, subst, arith, inl, inr, ◌∙◌}
+use Rattle.std.proofs.Common.{◌≡◌, ◌≤◌, ◌<◌, ℕ, zero, suc, ◌+◌, ◌-◌, ◌*◌, ◌/◌, ◌%◌, ◌==◌, Bool, true, false, not, if◌then◌else◌, List, length, Some, None, refl, sym, ap, subst, arith, inl, inr, ◌∙◌}
 use Rattle.std.proofs.lemmas.Bool.{cases_lt}
+use Rattle.std.proofs.Math.Bool.{not-not}
 use Rattle.field_words.specs.Words.{u32_at}
 use Rattle.field_words.specs.Questions.{first_of}
 use Rattle.buffer_table.specs.declared.buffer.Kind.TheVariants.{Code}
 use Rattle.buffer_table.specs.Table.{buffer_at}
+use Rattle.buffer_table.proofs.Named.{IsBufferOf, code_is}
 use Rattle.job_format.specs.Model.{FileModel}
 use Rattle.qpu_isa.specs.Shader.{ShaderModel, IsSoundShader}
-use Rattle.emitted_facts.specs.Records.{record_size, is_single, code_word, stream_word}
+use Rattle.emitted_facts.specs.Records.{is_single, code_word, stream_word}
 use Rattle.emitted_facts.specs.Facts.{IsStream}
+use Rattle.emitted_facts.proofs.Records.{header_in}
 use Rattle.shader_flow.specs.Flow.{is_threaded}
 use Rattle.uniform_stream.specs.Stream.{uniforms_of}
 use Rattle.shader_records.specs.Inputs.{InputModel, shader_in}
 use Rattle.shader_records.specs.Named.{IsDataIn}
 use Rattle.shader_records.specs.Sources.{state_at, emitted_size, record_source, record_offset, uniform_source, stream_offset, code_number, shader_used, is_threaded as switches, given_by, given_before, taken_before, record_word, place_in}
-use Rattle.shader_records.specs.Rules.{use_questions, disagrees}
-use Rattle.shader_records.specs.Emission.{emitted_word, shader_word, attribute_word, stream_place, stream_word_of}
+use Rattle.shader_records.specs.Rules.{use_questions}
+use Rattle.shader_records.specs.Emission.{shader_word, stream_place, stream_word_of}
 use Rattle.shader_records.specs.Emitted.{streams_place}
 use Rattle.shader_records.proofs.Fine.{state_fine, code_fine, flags_fine}
-use Rattle.shader_records.proofs.Inside.{count_limits, attributes_in, emitted_in}
+use Rattle.shader_records.proofs.Inside.{emitted_in}
 use Rattle.shader_records.proofs.Steps.{given_upto}
 use Rattle.shader_records.proofs.Lengths.{length_uniforms}
-use Rattle.shader_records.proofs.RecordFacts.{known_code}
+use Rattle.shader_records.proofs.RecordFacts.{known_code, emitted_shader, agree}
 use Rattle.shader_records.proofs.StreamFacts.{emitted_stream_is, same_stream}
 use Rattle.shader_records.proofs.MemoryFacts.{record_in_memory, streams_in_memory}
 use Rattle.job_check.specs.Shaders.{table_of, content_of, words_of, told_of}
 use Rattle.job_check.specs.Jobs.{job_of, has_bin, input_for, layout_of, streams_of}
+use Rattle.job_check.proofs.Views.{streams_are}
 use Rattle.list_machine.specs.Fetch.{record_place}
 use Rattle.list_law.specs.Emitted.{words_in, program_in}
 use Rattle.machine_law.specs.Begins.{LaunchBegins}
 use Rattle.accepted_law.specs.Holdings.{plain_of, file_rights}
 use Rattle.accepted_law.specs.Settled.{Grounds}
 use Rattle.accepted_law.specs.Parts.{RecordsLaunch}
-use Rattle.accepted_law.proofs.Uses.{inputs_are, inputs_low, streams_low, emitted_stand, streams_are, code_is, told_is}
+use Rattle.accepted_law.proofs.Uses.{inputs_are, inputs_low, streams_low, emitted_stand, told_is}
 use Rattle.accepted_law.proofs.Homes.{home_of, IsStarted, home_begins}
 
 -- Words of the record that name its shaders.
-small_word : (state i : ℕ) → i < 9 → (4 * i < record_size state) × (4 * i < emitted_size state)
+small_word : (state i : ℕ) → i < 9 → 4 * i < emitted_size state
 small_word state i below =
-    let few = (count_limits state).0 in
-    let inside = attributes_in state in
+    let header = header_in state in
     let whole = (emitted_in state).0 in
-    (omega (arith, few, inside, below), omega (arith, few, inside, below, whole))
-
-not_past : (state i : ℕ) → 4 * i < record_size state → nat_le (record_size state) (4 * i) ≡ false
-not_past state i inside = grind (arith, inside)
-
-first_nine : (i : ℕ) → i < 9 → nat_lt i 9 ≡ true
-first_nine i below = grind (arith, below)
-
-shader_emitted : (input : InputModel) (at state : ℕ) (streams : ℕ → ℕ) (i : ℕ) → i < 9 → emitted_word input at state streams i ≡ shader_word input at state streams i
-unfolding emitted_word
-shader_emitted input at state streams i below =
-    ap (λ b. if b then 0 else (if nat_lt i 9 then shader_word input at state streams i else attribute_word input at state (i - 9))) (not_past state i (small_word state i below).0)
-    ∙ ap (λ b. if b then shader_word input at state streams i else attribute_word input at state (i - 9)) (first_nine i below)
+    omega (arith, header, below, whole)
 
 code_third : (s : ℕ) → ((3 * s + 1) % 3 == 1) ≡ true
 code_third s = grind arith
@@ -105,8 +96,8 @@ record_has f m k i grounds some below small =
     let at : ℕ = record_source input k in
     let state : ℕ = (state_at input k).word in
     record_in_memory input ((layout_of f 0).place + (layout_of f 0).records) first m k i (inputs_low f grounds.settled) (grounds.settled.records some) below (streams_low f grounds.settled)
-    (emitted_stand f m grounds some) (small_word state i small).1
-    ∙ shader_emitted input at state (stream_place input at (first + stream_offset input k)) i small
+    (emitted_stand f m grounds some) (small_word state i small)
+    ∙ emitted_shader input at state (stream_place input at (first + stream_offset input k)) i small
 
 -- the streams of states that come before end before those of others
 offset_rises : (input : InputModel) (k n : ℕ) → k < n → stream_offset input k + given_before input (record_source input k) 3 ≤ stream_offset input n
@@ -125,7 +116,7 @@ streams_end : (f : FileModel) (k : ℕ) → has_bin f 0 ≡ true → k < length 
     → stream_offset (input_for f 0) k + given_before (input_for f 0) (record_source (input_for f 0) k) 3 ≤ length (streams_of f 0)
 streams_end f k some below =
     let input : InputModel = input_for f 0 in
-    let all = ap length (streams_are f some) ∙ length_uniforms input (streams_place (layout_of f 0)) (length input.states) in
+    let all = ap length (sym (streams_are f 0 some)) ∙ length_uniforms input (streams_place (layout_of f 0)) (length input.states) in
     let rises = offset_rises input k (length input.states) below in
     omega (arith, all, rises)
 
@@ -203,7 +194,7 @@ program_of f m k s number shader grounds some below small named inside code is u
     program_told f m k s number grounds some below small named
     (subst (λ x. shader_used (input_for f 0) (record_source (input_for f 0) k) s ≡ Some x) told used) (subst IsSoundShader told sound)
 
-named_code : (f : FileModel) (at s number : ℕ) → code_number (input_for f 0) at s ≡ Some number → (number < length f.buffers) × ((buffer_at f.buffers number).kind ≡ Code)
+named_code : (f : FileModel) (at s number : ℕ) → code_number (input_for f 0) at s ≡ Some number → IsBufferOf (table_of f) (job_of f 0).handles Code (u32_at (job_of f 0).records (at + 4 * s)) number
 unfolding input_for code_number
 named_code f at s number named = code_is (table_of f) (job_of f 0).handles (u32_at (job_of f 0).records (at + 4 * s)) number named
 
@@ -214,7 +205,7 @@ program_at f m k s grounds some below small =
     let fine = state_fine input k (grounds.settled.records some) below in
     let known = known_code input at s (inputs_are f grounds.settled) (code_fine input at (state_at input k).word (state_at input k).max_index s fine.of_record small) in
     let is = named_code f at s known.number known.named in
-    program_of f m k s known.number known.shader grounds some below small known.named is.0 is.1 known.shader_is known.used known.sound
+    program_of f m k s known.number known.shader grounds some below small known.named is.inside is.kind_is known.shader_is known.used known.sound
 
 -- So each may be started, as threaded as its shader is.
 threaded_is : (f : FileModel) (number : ℕ) → switches (Some (told_of (words_of (content_of f number)))) ≡ is_threaded (words_of (content_of f number))
@@ -238,13 +229,6 @@ launch_begins f m k s word threaded grounds some below small there agrees =
     }
 
 -- The flags agree with the fragment shader.
-agrees_not : (single threaded : Bool) → disagrees single threaded ≡ false → not single ≡ threaded
-unfolding disagrees
-agrees_not true true fine = cc
-agrees_not true false fine = refl
-agrees_not false true fine = refl
-agrees_not false false fine = cc
-
 flags_there : (f : FileModel) (m : List ℕ) (k word : ℕ) → Grounds f m → has_bin f 0 ≡ true → k < length (input_for f 0).states
     → record_place word ≡ (layout_of f 0).place + (layout_of f 0).records + record_offset (input_for f 0) k
     → is_single (words_in m word) ≡ is_single (record_word (input_for f 0) (record_source (input_for f 0) k) (state_at (input_for f 0) k).word)
@@ -272,7 +256,7 @@ records_launch_law f m k word grounds some below there =
     record {
       fragment =
           launch_begins f m k 0 word (not (is_single (words_in m word))) grounds some below (omega arith) there
-          (ap not flags ∙ agrees_not (is_single (record_word input at state)) (switches (shader_used input at 0)) (flags_fine input at state most fine.of_record));
+          (ap not flags ∙ ap not (agree (is_single (record_word input at state)) (switches (shader_used input at 0)) (flags_fine input at state most fine.of_record)) ∙ not-not (switches (shader_used input at 0)));
       vertex = launch_begins f m k 1 word false grounds some below (omega arith) there (sym vertex.single);
       coordinate = launch_begins f m k 2 word false grounds some below (omega arith) there (sym coordinate.single);
     }

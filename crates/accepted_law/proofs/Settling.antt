@@ -1,16 +1,15 @@
 -- A file in which no rule stands settles.
-use Rattle.std.proofs.Common.{◌≡◌, ℕ, ◌%◌, ◌==◌, ◌<◌, ◌≤◌, inl, inr, Bool, true, false, not, if◌then◌else◌, List, [], ◌∷◌, ◌++◌, Some, None, is_some, length, get_or, refl, sym, ap, subst, arith, ◌∙◌, zero-add}
+use Rattle.std.proofs.Common.{◌≡◌, ℕ, ◌%◌, ◌==◌, ◌<◌, ◌≤◌, inl, inr, Bool, true, false, not, if◌then◌else◌, List, [], ◌∷◌, ◌++◌, Some, None, is_some, length, get_or, refl, sym, ap, subst, arith, ◌∙◌}
 use Rattle.std.specs.List.{AllByRecursion}
 use Rattle.std.proofs.lemmas.Bool.{ltb-false, cases_lt}
 use Rattle.std.proofs.lemmas.List.{get_or_past}
-use Rattle.std.proofs.lemmas.List.FromFn.{length-map-range_with_len, get_or-map-range_with_len}
 use Rattle.field_words.specs.Questions.{Question, Ask, first_of, each, answered}
 use Rattle.field_words.proofs.Questions.{none_stands}
 use Rattle.field_words.proofs.Nones.{front_none, rest_none, each_none, none_answered}
 use Rattle.buffer_table.specs.declared.buffer.Kind.{Kind}
 use Rattle.buffer_table.specs.declared.buffer.Kind.TheVariants.{Plain, Code}
 use Rattle.buffer_table.specs.Table.{buffer_at, table_questions}
-use Rattle.buffer_table.specs.Handles.{AreNumbersOf, handles_questions, is_plain}
+use Rattle.buffer_table.specs.Handles.{AreNumbersOf, handles_questions}
 use Rattle.buffer_table.specs.Sound.{IsSound}
 use Rattle.buffer_table.proofs.Sounds.{sound}
 use Rattle.buffer_table.proofs.Named.{are_numbers}
@@ -28,9 +27,10 @@ use Rattle.shader_records.specs.Rules.{all_questions}
 use Rattle.render_list.specs.Surfaces.{surface_faults}
 use Rattle.job_format.specs.File.{IsWellFormed, Fits, JobFits}
 use Rattle.job_format.specs.Model.{FileModel, JobModel}
-use Rattle.job_check.specs.Shaders.{table_of, words_of, code_questions, told_of, content_of, shader_for, shader_of, shaders_up_to, shaders_of}
+use Rattle.job_check.specs.Shaders.{table_of, words_of, code_questions, told_of, content_of, shader_for, shaders_of}
 use Rattle.job_check.specs.Jobs.{no_job, job_of, has_bin, grid_of, input_for, layout_of}
 use Rattle.job_check.specs.Faults.{table_refused, table_stage, shader_refused, shader_questions_in, shader_stage, shaders_stage, handle_refused, handles_stage, bin_refused, bin_stage, record_refused, records_stage, surface_refused, surfaces_stage, layout_stage, lists_stages, job_stages, file_stages}
+use Rattle.job_check.proofs.Codes.{is_code, shader_at, shader_count}
 use Rattle.job_check.proofs.Jobs.{job_limits}
 use Rattle.accepted_law.specs.Parts.{FilesSettle}
 
@@ -87,7 +87,7 @@ code_at f none number inside is =
     (none_answered (shader_refused f number) (shader_questions_in (buffer_at f.buffers number).kind (content_of f number)) here)
 
 -- A shader without faults is told of soundly.
-code_rules : (content : List ℕ) → first_of (code_questions content) ≡ None → first_of (shader_questions (words_of content)) ≡ None
+pub code_rules : (content : List ℕ) → first_of (code_questions content) ≡ None → first_of (shader_questions (words_of content)) ≡ None
 unfolding code_questions
 code_rules content none = rest_none (Ask (not (length content % 8 == 0)) (record { number = 1; index = 0 }) ∷ []) (shader_questions (words_of content)) none
 
@@ -100,18 +100,6 @@ sound_for Plain content shader none is = cc
 sound_for Code content shader none is =
     let same : told_of (words_of content) ≡ shader = cc in
     subst IsSoundShader same (told_sound (words_of content) (code_rules content (none refl)))
-
-is_code : (kind : Kind) (content : List ℕ) → is_plain kind ≡ not (is_some (shader_for kind content))
-is_code Plain content = refl
-is_code Code content = refl
-
-shader_at : (f : FileModel) (number : ℕ) → number < length f.buffers → shader_in (shaders_of f) number ≡ shader_for (buffer_at f.buffers number).kind (content_of f number)
-unfolding shaders_up_to shader_of
-shader_at f number inside = get_or-map-range_with_len (shader_of f) 0 (length f.buffers) number number None inside (zero-add number)
-
-shader_count : (f : FileModel) → length (shaders_of f) ≡ length f.buffers
-unfolding shaders_up_to
-shader_count f = length-map-range_with_len (shader_of f) 0 (length f.buffers)
 
 sound_at : (f : FileModel) → first_of (shaders_stage f) ≡ None → (number : ℕ) (shader : ShaderModel) → shader_in (shaders_of f) number ≡ Some shader → IsSoundShader shader
 sound_at f none number shader is =

@@ -1,45 +1,39 @@
 -- The state that a word in the emitted binner list points to, and where its record stands.
-use Rattle.std.proofs.Common.{◌≡◌, ◌≤◌, ◌<◌, ℕ, zero, suc, ◌+◌, ◌-◌, ◌*◌, ◌/◌, ◌%◌, ◌^◌, ◌==◌, true, List, [], ◌∷◌, length, take, drop, get_or, if◌then◌else◌, refl, sym, ◌∙◌, ap, subst, arith, inl, inr, length-drop, get_or-drop, get_or-take}
+use Rattle.std.proofs.Common.{◌≡◌, ◌≤◌, ◌<◌, ℕ, zero, suc, ◌+◌, ◌-◌, ◌*◌, ◌%◌, true, List, [], ◌∷◌, length, drop, get_or, if◌then◌else◌, refl, sym, ◌∙◌, ap, subst, arith, inl, inr, length-drop}
 use Rattle.std.proofs.Math.Seq.{drop-cons}
 use Rattle.std.proofs.lemmas.Bool.{cases_lt}
-use Rattle.std.proofs.lemmas.List.{get_or_past, get_or_default, length-take-le}
-use Rattle.std.proofs.lemmas.Grind.{same_number_lists}
-use Rattle.field_words.specs.Pieces.{IsPiece}
 use Rattle.field_words.specs.Words.{u32_at}
 use Rattle.emitted_facts.specs.Facts.{IsAttributeIn, IsRecord}
 use Rattle.emitted_facts.specs.Records.{attribute_count, is_extended, record_size}
-use Rattle.buffer_table.specs.declared.buffer.Buffer.{Buffer}
-use Rattle.buffer_table.specs.Table.{buffer_at, past_end}
 use Rattle.buffer_table.specs.Sound.{IsSound}
-use Rattle.buffer_table.proofs.Sounds.{sound_buffer}
 use Rattle.bin_list.specs.declared.state.State.{State}
 use Rattle.bin_list.specs.Seen.{attributes as listed_count, is_extended as is_listed_extended, record_size as listed_size, record_room}
 use Rattle.bin_walks.specs.Draws.{IsStateAt}
 use Rattle.relocation.specs.declared.layout.Layout.{Layout}
-use Rattle.shader_records.specs.Inputs.{InputModel, AreInputs}
-use Rattle.shader_records.specs.Named.{IsDataIn, IsCodeIn, AreInMemory, IsEmittedIn}
+use Rattle.shader_records.specs.Inputs.{InputModel}
+use Rattle.shader_records.specs.Named.{IsDataIn, IsCodeIn}
 use Rattle.shader_records.specs.Sources.{no_state, state_at, emitted_size, record_offset}
-use Rattle.shader_records.specs.Emission.{emitted_records, emitted_uniforms}
 use Rattle.shader_records.specs.Emitted.{streams_place}
 use Rattle.shader_records.proofs.Inside.{emitted_in}
 use Rattle.shader_records.proofs.Lengths.{length_records}
 use Rattle.shader_records.proofs.RecordsInMemory.{records_in_memory}
 use Rattle.job_format.specs.Model.{FileModel}
 use Rattle.job_check.specs.Shaders.{table_of}
-use Rattle.job_check.specs.Jobs.{job_of, has_bin, input_for, layout_of, records_of, streams_of}
+use Rattle.job_check.specs.Jobs.{job_of, has_bin, input_for, layout_of, records_of}
 use Rattle.job_check.specs.Emit.{lengths_of}
-use Rattle.job_check.proofs.Layouts.{layout_apart, layout_numbers, lists_inside}
-use Rattle.machine_plan.specs.Memory.{bytes_at}
-use Rattle.machine_plan.specs.Regions.{Interval, Inside, Rights, IsOutside}
-use Rattle.machine_plan.proofs.Memory.{length-bytes_at}
+use Rattle.job_check.proofs.Layouts.{layout_apart, layout_numbers}
+use Rattle.job_check.proofs.Views.{records_are}
+use Rattle.machine_plan.specs.Regions.{Interval, Inside}
 use Rattle.list_machine.specs.Fetch.{record_place}
 use Rattle.list_law.specs.Emitted.{words_in, RecordStands}
-use Rattle.list_law.proofs.Words.{byte_read}
+use Rattle.list_law.proofs.Emitted.{same_count, same_extended}
 use Rattle.qpu_law.specs.Asks.{IsOneOf}
 use Rattle.qpu_law.proofs.Reading.{one_inside}
 use Rattle.machine_law.specs.Begins.{IsFixed}
+use Rattle.machine_law.proofs.Fixed.{fixed_inside}
 use Rattle.accepted_law.specs.Holdings.{lists_of, job_rights, file_rights}
 use Rattle.accepted_law.specs.Settled.{Grounds}
+use Rattle.accepted_law.proofs.Uses.{inputs_are, inputs_low, streams_low, emitted_stand}
 
 -- The word points to the record of the state of this number.
 pub record StateFound (input : InputModel) (layout : Layout) (word : ℕ) (state : State) : Type 0 where
@@ -117,37 +111,11 @@ place_of word base n whole points = omega (arith, whole, points)
 pub state_of : (word base n : ℕ) → base % 16 ≡ 0 → word ≡ base + n % 16 → n % 16 ≡ word % 16
 state_of word base n whole points = omega (arith, whole, points)
 
--- the words of the emitted list and of the records, as they stand in memory
-bytes_taken : (m : List ℕ) (place n : ℕ) → place + n ≤ length m → take n (drop place m) ≡ bytes_at m place n
-bytes_taken m place n fits =
-    let long = length-bytes_at m place n in
-    let cut : length (take n (drop place m)) ≡ n = length-take-le n (drop place m) (rw length-drop (omega arith)) in
-    same_number_lists (take n (drop place m)) (bytes_at m place n) (cut ∙ sym long)
-    (λ i below. get_or-take n (drop place m) i 0 (omega (arith, cut, below)) ∙ get_or-drop place m i 0 ∙ sym (byte_read m place n i (omega (arith, cut, below))))
-
-piece_of : (m : List ℕ) (place : ℕ) (text : List ℕ) → bytes_at m place (length text) ≡ text → place + length text ≤ length m → IsPiece m place (length text) text
-piece_of m place text stands fits = record { size = refl; inside = fits; same = bytes_taken m place (length text) fits ∙ stands }
-
--- a part of what no job may write
-fixed_in : (rights : List Rights) (place size q n : ℕ) → IsFixed rights place size → place ≤ q → q + n ≤ place + size → IsFixed rights q n
-fixed_in rights place size q n fixed from upto i below =
-    let there : place + (q - place + i) ≡ q + i = omega (arith, from) in
-    subst (λ p. IsOutside rights p) there (fixed (q - place + i) (omega (arith, from, upto, below)))
-
--- what is emitted where there is a binner list
-records_are : (f : FileModel) → has_bin f 0 ≡ true → records_of f 0 ≡ emitted_records (input_for f 0) (streams_place (layout_of f 0))
-unfolding records_of
-records_are f has = ap (λ b. if b then emitted_records (input_for f 0) (streams_place (layout_of f 0)) else []) has
-
-streams_are : (f : FileModel) → has_bin f 0 ≡ true → streams_of f 0 ≡ emitted_uniforms (input_for f 0) (streams_place (layout_of f 0))
-unfolding streams_of
-streams_are f has = ap (λ b. if b then emitted_uniforms (input_for f 0) (streams_place (layout_of f 0)) else []) has
-
 -- the record of state k ends in the emitted records
 record_room_in : (f : FileModel) (k : ℕ) → has_bin f 0 ≡ true → k < length (input_for f 0).states → record_offset (input_for f 0) k + emitted_size (state_at (input_for f 0) k).word ≤ length (records_of f 0)
 record_room_in f k has below =
     let long : length (records_of f 0) ≡ record_offset (input_for f 0) (length (input_for f 0).states) =
-    ap length (records_are f has) ∙ length_records (input_for f 0) (streams_place (layout_of f 0)) (length (input_for f 0).states) in
+    ap length (sym (records_are f 0 has)) ∙ length_records (input_for f 0) (streams_place (layout_of f 0)) (length (input_for f 0).states) in
     let ends = record_ends (input_for f 0) (length (input_for f 0).states) k below in
     omega (arith, long, ends)
 
@@ -157,11 +125,11 @@ records_listed f = inr (inl refl)
 
 -- The sizes of a record go by the low four bits of its word.
 same_size : (state word : ℕ) → state % 16 ≡ word % 16 → record_size state ≡ record_size word
-unfolding record_size is_extended attribute_count
+unfolding record_size
 same_size state word is =
-    let low : state % 8 ≡ word % 8 = omega (arith, is) in
-    let high : state / 8 % 2 ≡ word / 8 % 2 = omega (arith, is) in
-    λ i. if high i == 1 then 100 + 4 * (if low i == 0 then 8 else low i) else 36 + 8 * (if low i == 0 then 8 else low i)
+    let count = same_count state word is in
+    let extended = same_extended state word is in
+    λ i. if extended i then 100 + 4 * count i else 36 + 8 * count i
 
 -- The record of state k, of which a word has the place and the low four bits, stands in memory; no job may write it.
 pub record RecordKept (f : FileModel) (m : List ℕ) (word : ℕ) : Type 0 where
@@ -184,59 +152,15 @@ record_kept f m k word grounds has below place_is is =
         inside = one_inside (job_rights f 0).region base (length (records_of f 0)) (record_place word) (record_size word) (grounds.lists base (length (records_of f 0)) (records_listed f)) (record { from = from; upto = upto });
         bytes = λ i small. grounds.holds.bytes (record_place word + i);
       };
-      fixed = fixed_in (file_rights f) base (length (records_of f 0)) (record_place word) (record_size word) (grounds.lists_fixed base (length (records_of f 0)) (records_listed f)) from upto;
+      fixed = fixed_inside (file_rights f) base (length (records_of f 0)) (record_place word) (record_size word) (grounds.lists_fixed base (length (records_of f 0)) (records_listed f)) from upto;
     }
-
--- What the records were made of, and where they stand.
-inputs_of : (f : FileModel) (m : List ℕ) → Grounds f m → AreInputs (input_for f 0)
-unfolding input_for
-inputs_of f m grounds = record { handles = grounds.settled.numbers; shaders = grounds.settled.shaders }
-
-pub buffer_ends : (f : FileModel) → IsSound f.mem_size f.regions f.buffers → (number : ℕ) → (buffer_at f.buffers number).place + (buffer_at f.buffers number).size ≤ 67108864
-unfolding buffer_at
-buffer_ends f sound number =
-    elim (cases_lt number (length f.buffers)) [
-      | inl below ↦
-          let b : Buffer = get_or f.buffers number past_end in
-          let good = (sound_buffer (table_of f) number b sound below (sym (get_or_default f.buffers number b past_end below))).1 in
-          omega (arith, good.0, good.1.inside)
-      | inr past ↦
-          let none : get_or f.buffers number past_end ≡ past_end = get_or_past f.buffers number past_end past in
-          subst (λ b. b.place + b.size ≤ 67108864) (sym none) (omega arith)
-    ]
-
-fits_of : (f : FileModel) (m : List ℕ) → Grounds f m → AreInMemory (input_for f 0)
-unfolding input_for
-fits_of f m grounds = record { records = grounds.settled.job_fits.records; uniforms = grounds.settled.job_fits.uniforms; buffers = buffer_ends f grounds.settled.sound }
-
-emitted_of : (f : FileModel) (m : List ℕ) → Grounds f m → has_bin f 0 ≡ true → IsEmittedIn (input_for f 0) ((layout_of f 0).place + (layout_of f 0).records) (streams_place (layout_of f 0)) m
-emitted_of f m grounds has =
-    let layout = layout_of f 0 in
-    let inside = lists_inside f grounds.settled.sound in
-    let ends = grounds.ends in
-    let records = piece_of m (layout.place + layout.records) (records_of f 0) grounds.holds.records (omega (arith, grounds.holds.long, inside, ends.records, ends.uniforms, ends.render, ends.region)) in
-    let uniforms = piece_of m (layout.place + layout.uniforms) (streams_of f 0) grounds.holds.uniforms (omega (arith, grounds.holds.long, inside, ends.uniforms, ends.render, ends.region)) in
-    record {
-      records_are = subst (λ text. IsPiece m (layout.place + layout.records) (length text) text) (records_are f has) records;
-      uniforms_are = subst (λ text. IsPiece m (layout.place + layout.uniforms) (length text) text) (streams_are f has) uniforms;
-    }
-
-uniforms_low : (f : FileModel) (m : List ℕ) → Grounds f m → streams_place (layout_of f 0) + length (input_for f 0).uniforms < 2 ^ 32
-unfolding input_for
-uniforms_low f m grounds =
-    let numbers = layout_numbers f 0 (layout_of f 0) refl in
-    let third = (layout_apart f 0).third in
-    let last = (layout_apart f 0).last in
-    let sound = grounds.settled.sound in
-    let inside = lists_inside f sound in
-    omega (arith, numbers.0, third, last, inside, sound.limit, grounds.settled.lists)
 
 -- The record of state k is one of the facts of emission.
 pub record_fact : (f : FileModel) (m : List ℕ) (k : ℕ) → Grounds f m → has_bin f 0 ≡ true → k < length (input_for f 0).states
     → IsRecord (IsDataIn (table_of f) (job_of f 0).handles) (IsCodeIn (input_for f 0)) (state_at (input_for f 0) k).word (state_at (input_for f 0) k).max_index (λ i. u32_at m (place_for f k + 4 * i)) (u32_at m)
 unfolding place_for input_for
 record_fact f m k grounds has below =
-    records_in_memory (input_for f 0) ((layout_of f 0).place + (layout_of f 0).records) (streams_place (layout_of f 0)) m k (inputs_of f m grounds) (fits_of f m grounds) (grounds.settled.records has) below (uniforms_low f m grounds) (emitted_of f m grounds has)
+    records_in_memory (input_for f 0) ((layout_of f 0).place + (layout_of f 0).records) (streams_place (layout_of f 0)) m k (inputs_are f grounds.settled) (inputs_low f grounds.settled) (grounds.settled.records has) below (streams_low f grounds.settled) (emitted_stand f m grounds has)
 
 -- Data that the job's handles name lie in its region, and so do attributes.
 pub data_inside : (f : FileModel) (m : List ℕ) → Grounds f m → (place size : ℕ) → IsDataIn (table_of f) (job_of f 0).handles place size → Inside (job_rights f 0).region place size

@@ -1,20 +1,13 @@
 -- Buffers and regions of a sound memory table.
-use Rattle.std.proofs.Common.{◌≡◌, inl, inr, ℕ, suc, ◌+◌, ◌*◌, ◌<◌, ◌≤◌, List, length, ap, subst, arith, ◌∙◌}
+use Rattle.std.proofs.Common.{◌≡◌, inl, inr, ℕ, ◌+◌, ◌*◌, ◌<◌, ◌≤◌, List, length, ap, subst, arith}
 use Rattle.std.proofs.lemmas.Bool.{cases_lt}
-use Rattle.std.proofs.lemmas.List.{get_or-map, get_or_past}
+use Rattle.std.proofs.lemmas.List.{get_or_past}
 use Rattle.field_words.specs.Sizes.{slot_size, most_memory}
 use Rattle.buffer_table.specs.declared.buffer.Buffer.{Buffer}
 use Rattle.buffer_table.specs.declared.buffer.Regions.{Regions}
-use Rattle.buffer_table.specs.Table.{items_of, item_at, no_item, lists_item, tile_item, buffer_item, buffer_at, past_end}
+use Rattle.buffer_table.specs.Table.{items_of, item_at, lists_item, tile_item, buffer_item, buffer_at, past_end}
 use Rattle.buffer_table.specs.Sound.{IsSound, IsSoundItem, AreApart}
-use Rattle.buffer_table.proofs.Sounds.{length_items}
-
--- the item of a buffer is two after the regions
-item_of_buffer : (r : Regions) (buffers : List Buffer) (number : ℕ) → number < length buffers → item_at (items_of r buffers) (number + 2) ≡ buffer_item (buffer_at buffers number)
-unfolding buffer_at
-item_of_buffer r buffers number inside =
-    ap (λ k. item_at (items_of r buffers) k) (let e : number + 2 ≡ suc (suc number) = omega arith in e)
-    ∙ get_or-map buffer_item buffers number past_end no_item inside
+use Rattle.buffer_table.proofs.Sounds.{item_of_buffer, length_items}
 
 pub buffer_sound : (memory : ℕ) (r : Regions) (buffers : List Buffer) → IsSound memory r buffers → (number : ℕ) → number < length buffers → IsSoundItem memory (buffer_item (buffer_at buffers number))
 buffer_sound memory r buffers sound number inside =

@@ -15,6 +15,7 @@ use Rattle.render_list.specs.Frame.{place_at, surface_at, is_full, full_place, i
 use Rattle.render_list.specs.Surfaces.{tiling_number, tiling_named, write_pixel, general_pixel, pixel_size_of}
 use Rattle.render_list.specs.Text.{number_where, packet_where, idle_store, color_place, color_bits, load_packet, load_slot, wait_slot, list_place, list_slot, full_store, full_store_slot, zs_store, zs_store_slot, color_store, color_store_slot, is_there, more_after_multisample_color, more_after_multisample_zs, some_before_zs, some_before_color, load_slots, list_slots, write_slots, tile_slots}
 use Rattle.render_walks.specs.Walks.{IsSlotFine, AreFine}
+use Rattle.render_walks.proofs.Numbers.{small_where}
 use Rattle.list_machine.specs.declared.state.Config.{Config}
 use Rattle.list_machine.specs.declared.state.Frame.{Frame}
 use Rattle.list_machine.specs.declared.surface.Style.{Style}
@@ -79,10 +80,6 @@ full_whole frame base x y whole = omega (arith, whole)
 fine_where : (Fine : Packet → ℕ → ℕ → Type 0) (x y : ℕ) (test : Bool) (packet : Packet) → Fine packet x y → IsSlotFine Fine x y (packet_where test packet)
 fine_where Fine x y true packet fine = fine
 fine_where Fine x y false packet fine = tt
-
-small_where : (test : Bool) (n : ℕ) → number_where test n ≤ n
-small_where true n = omega arith
-small_where false n = omega arith
 
 -- The loads.
 load_by : (r : Rights) (c : Config) (frame : JobFrame) (color : Option ℕ) (k left_out base x y : ℕ) (full : Bool) → is_full k (surface_at frame k) ≡ full → (k == 1) ≡ false → left_out < 16

@@ -41,7 +41,7 @@ kind_state : (given : GivenModel) (seen : Seen) (p : List ℕ) → opcode p ≡ 
 unfolding kind_questions
 kind_state given seen p is = rw is refl
 
-kind_config : (given : GivenModel) (seen : Seen) (p : List ℕ) → opcode p ≡ tile_binning_mode → kind_questions given seen p ≡ config_questions seen p
+pub kind_config : (given : GivenModel) (seen : Seen) (p : List ℕ) → opcode p ≡ tile_binning_mode → kind_questions given seen p ≡ config_questions seen p
 unfolding kind_questions
 kind_config given seen p is = rw is refl
 

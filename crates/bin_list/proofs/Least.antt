@@ -141,7 +141,7 @@ sorted_asked given (p ∷ earlier) some =
     (between (place earlier) (asked given earlier) (packet_questions given (seen_before earlier) p) (before_place given earlier some.1) (up_packet given (seen_before earlier) p))
 
 -- The packets take no more bytes than the list.
-cut_place : (n : ℕ) (bytes : List ℕ) (earlier : List (List ℕ)) → place (onto earlier (cut n bytes)) ≤ place earlier + length bytes
+pub cut_place : (n : ℕ) (bytes : List ℕ) (earlier : List (List ℕ)) → place (onto earlier (cut n bytes)) ≤ place earlier + length bytes
 cut_place zero bytes earlier = omega arith
 cut_place (suc n) [] earlier = omega arith
 cut_place (suc n) (o ∷ body) earlier =

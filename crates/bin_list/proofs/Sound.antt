@@ -13,7 +13,7 @@ use Rattle.bin_list.specs.States.{states_of}
 use Rattle.bin_list.specs.Told.{IsSoundInfo}
 use Rattle.bin_list.proofs.Facts.{IsGrid, has_grid, configured, few_states, counted, low_words}
 
-started : (seen : Seen) → first_of (end_questions seen) ≡ None → seen.started ≡ true
+pub started : (seen : Seen) → first_of (end_questions seen) ≡ None → seen.started ≡ true
 unfolding end_questions
 started seen none = let asked = none_stands (end_questions seen) none in grind (arith, asked.0)
 

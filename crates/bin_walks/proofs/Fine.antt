@@ -1,21 +1,19 @@
 -- What a packet promises of which no rule stands.
-use Rattle.std.proofs.Common.{◌≡◌, ◌≢◌, ℕ, ◌+◌, ◌*◌, ◌<◌, ◌≤◌, ◌^◌, Bool, true, false, ◌&&◌, List, ◌++◌, Some, None, length, is_some, refl, sym, ap, arith, ◌∙◌, nat_lt}
-use Rattle.std.specs.Prelude.{if◌then◌else◌, ◌==◌, slice_index}
+use Rattle.std.proofs.Common.{◌≡◌, ◌≢◌, ℕ, ◌+◌, ◌*◌, ◌<◌, ◌≤◌, ◌^◌, Bool, true, false, List, ◌++◌, None, length, is_some, refl, sym, ap, arith, ◌∙◌, nat_lt}
+use Rattle.std.specs.Prelude.{if◌then◌else◌, ◌==◌}
 use Rattle.std.proofs.lemmas.Bool.{eqb-false, eqb-true}
 use Rattle.field_words.specs.Words.{u32_at}
 use Rattle.field_words.specs.Questions.{first_of}
 use Rattle.field_words.proofs.Questions.{none_stands}
-use Rattle.buffer_table.specs.declared.buffer.Kind.{Kind}
-use Rattle.buffer_table.specs.declared.buffer.Kind.TheVariants.{Plain, Code}
-use Rattle.buffer_table.specs.Table.{TableModel, buffer_at}
-use Rattle.buffer_table.specs.Handles.{IsData, is_named, is_plain, data_of}
+use Rattle.buffer_table.specs.Handles.{IsData, data_of}
+use Rattle.buffer_table.proofs.Named.{data_named}
 use Rattle.field_words.proofs.Nones.{front_none, rest_none}
 use Rattle.packets.specs.Opcode.{flush, indexed_primitive_list, array_primitive_list, tile_binning_mode}
 use Rattle.packets.specs.Length.{bin_length, bin_taken}
 use Rattle.bin_list.specs.declared.seen.Seen.{Seen}
 use Rattle.bin_list.specs.Packets.{opcode}
 use Rattle.bin_list.specs.Rules.{GivenModel, cut_questions, kind_questions, flush_questions, primitive_questions, index_buffer, index_size, indexes_end, index_questions, array_questions, config_questions, packet_questions}
-use Rattle.bin_list.proofs.Facts.{kind_none}
+use Rattle.bin_list.proofs.Facts.{kind_none, kind_config}
 
 pub cut_fine : (given : GivenModel) (seen : Seen) (p : List ℕ) → first_of (packet_questions given seen p) ≡ None
     → (bin_length (opcode p) ≢ 0) × (bin_length (opcode p) ≤ length p)
@@ -46,10 +44,6 @@ kind_array : (given : GivenModel) (seen : Seen) (p : List ℕ) → opcode p ≡ 
 unfolding kind_questions
 kind_array given seen p is = rw is refl
 
-kind_config : (given : GivenModel) (seen : Seen) (p : List ℕ) → opcode p ≡ tile_binning_mode → kind_questions given seen p ≡ config_questions seen p
-unfolding kind_questions
-kind_config given seen p is = rw is refl
-
 pub flush_fine : (given : GivenModel) (seen : Seen) (p : List ℕ) → first_of (packet_questions given seen p) ≡ None → opcode p ≡ flush → seen.at + 1 ≡ given.size
 unfolding flush_questions
 flush_fine given seen p none is =
@@ -68,28 +62,6 @@ primitive_fine seen none =
     let some : seen.states ≢ 0 = eqb-false seen.states 0 asked.0 in
     record { states = omega arith; started = grind (arith, asked.1.0) }
 
-plain_kind : (k : Kind) → is_plain k ≡ true → k ≡ Plain
-plain_kind Plain is = refl
-plain_kind Code is = absurd (cc)
-
-data_if : (b : Bool) (x : ℕ) → is_some (if b then Some x else None) ≡ true → b ≡ true
-data_if true x is = refl
-data_if false x is = absurd (cc)
-
-both : (a b : Bool) → (a && b) ≡ true → (a ≡ true) × (b ≡ true)
-both true true is = (refl, refl)
-both true false is = absurd (cc)
-both false b is = absurd (cc)
-
-is_data : (t : TableModel) (handles : List ℕ) (i : ℕ) → is_some (data_of t handles i) ≡ true → IsData t handles i
-unfolding data_of
-is_data t handles i is =
-    let two = both (is_named t handles i) (is_plain (buffer_at t.buffers (slice_index handles i)).kind) (data_if _ (slice_index handles i) is) in
-    let named = both (nat_lt i (length handles)) (nat_lt (slice_index handles i) (length t.buffers)) two.0 in
-    let one = named.0 in
-    let other = named.1 in
-    (((let l : i < length handles = grind (arith, one) in l), (let l : slice_index handles i < length t.buffers = grind (arith, other) in l)), plain_kind _ two.1)
-
 leb_of : (m n : ℕ) → nat_lt m n ≡ false → n ≤ m
 leb_of m n is = grind (arith, is)
 
@@ -107,7 +79,7 @@ indexed_fine given seen p none is =
     let found : is_some (data_of given.table given.handles seen.index_handle) ≡ true = grind (arith, asked.0) in
     record {
       primitive = primitive_fine seen (front_none (primitive_questions seen) (index_questions given seen p) all);
-      buffer = is_data given.table given.handles seen.index_handle found;
+      buffer = data_named given.table given.handles seen.index_handle found;
       inside = leb_of (index_buffer given seen).size (u32_at p 6 + u32_at p 2 * index_size p) asked.1.0;
     }
 

@@ -1,7 +1,7 @@
 -- The law.
-use Rattle.std.proofs.Common.{◌≡◌, Bool, true, false, ◌&&◌, [], None, length, refl, arith}
+use Rattle.std.proofs.Common.{◌≡◌, true, false, ◌&&◌, [], None, length, refl, arith}
 use Rattle.std.specs.Prelude.{◌==◌}
-use Rattle.std.proofs.lemmas.Bool.{eqb-true, false≢true}
+use Rattle.std.proofs.lemmas.Bool.{eqb-true, and_parts, false≢true}
 use Rattle.field_words.specs.Questions.{first_of, answered}
 use Rattle.field_words.proofs.Questions.{none_stands}
 use Rattle.field_words.proofs.Nones.{front_none, rest_none, none_answered}
@@ -12,21 +12,18 @@ use Rattle.bin_list.specs.Seen.{seen_before}
 use Rattle.bin_list.specs.Rules.{given_of, asked, fault, end_questions, questions_of}
 use Rattle.bin_list.specs.States.{states_of}
 use Rattle.bin_list.proofs.Facts.{configured}
+use Rattle.bin_list.proofs.Least.{cut_place}
 use Rattle.bin_walks.specs.Walks.{nothing_kept}
 use Rattle.bin_walks.specs.Emission.{config_of}
 use Rattle.bin_walks.specs.Law.{EmittedListsWalk}
-use Rattle.bin_walks.proofs.Walking.{texts_joined, walk_on, are_cut, cut_place, Known, Goes}
-
-both : (a b : Bool) → (a && b) ≡ true → b ≡ true
-both true b is = is
-both false b is = absurd (false≢true is)
+use Rattle.bin_walks.proofs.Walking.{texts_joined, walk_on, are_cut, Known, Goes}
 
 ends_with : (seen : Seen) → first_of (end_questions seen) ≡ None → (seen.started ≡ true) × (seen.last ≡ flush)
 unfolding end_questions
 ends_with seen none =
     let asked = none_stands (end_questions seen) none in
     let two : (seen.before_last == increment_semaphore && seen.last == flush) ≡ true = grind (arith, asked.1.0) in
-    ((let s : seen.started ≡ true = grind (arith, asked.0) in s), eqb-true seen.last flush (both (seen.before_last == increment_semaphore) (seen.last == flush) two))
+    ((let s : seen.started ≡ true = grind (arith, asked.0) in s), eqb-true seen.last flush (and_parts (seen.before_last == increment_semaphore) (seen.last == flush) two).1)
 
 pub emitted_lists_walk_law : EmittedListsWalk
 unfolding passed packets questions_of seen_before

@@ -23,7 +23,7 @@ use Rattle.bin_list.specs.States.{draws_to, greatest, state, states_of}
 use Rattle.bin_list.specs.Emitted.{index_text, state_text, config_text, packet_text, texts}
 use Rattle.bin_list.proofs.Facts.{onto_none, packet_none, start_fine, config_fine}
 use Rattle.std.proofs.lemmas.List.{places}
-use Rattle.bin_list.proofs.Walk.{front_some, front_behind, taken_some}
+use Rattle.bin_list.proofs.Walk.{front_some, taken_some}
 use Rattle.bin_walks.specs.Walks.{Config, config_in, Kept, kept_after, Drawing, Tame, Walks}
 use Rattle.bin_walks.specs.Emission.{emission, config_of}
 use Rattle.bin_walks.specs.Draws.{IsStateAt, IsDrawn}
@@ -307,7 +307,7 @@ is_text given layout seen p premises none whole kept =
     (record { same = refl; long = whole })
 
 -- Primitives.
-draws_indexed : (p : List ℕ) → opcode p ≡ indexed_primitive_list → draws_to p ≡ u32_at p 10
+pub draws_indexed : (p : List ℕ) → opcode p ≡ indexed_primitive_list → draws_to p ≡ u32_at p 10
 unfolding draws_to
 draws_indexed p is = rw is refl
 
@@ -513,9 +513,6 @@ walk_on given layout config all earlier (p ∷ later) kept known goes =
     ))
 
 -- The packets of a list are cut so.
-taken_one : (o : ℕ) → 1 ≤ bin_taken o
-taken_one o = taken_some o
-
 head_take : (n o : ℕ) (body : List ℕ) → 1 ≤ n → get_or (take n (o ∷ body)) 0 0 ≡ o
 head_take zero o body some = absurd (omega arith)
 head_take (suc n) o body some = refl
@@ -527,7 +524,7 @@ front_short : (o : ℕ) (body : List ℕ) → length (front_packet (o ∷ body))
 unfolding front_packet
 front_short o body =
     let short = take_short (bin_taken o) (o ∷ body) in
-    let e : bin_taken (opcode (take (bin_taken o) (o ∷ body))) ≡ bin_taken o = ap bin_taken (head_take (bin_taken o) o body (taken_one o)) in
+    let e : bin_taken (opcode (take (bin_taken o) (o ∷ body))) ≡ bin_taken o = ap bin_taken (head_take (bin_taken o) o body (taken_some o)) in
     omega arith
 
 halt_if : (b : Bool) (n : ℕ) (rest : List ℕ) → b ≡ true → cut n (if b then [] else rest) ≡ []
@@ -538,18 +535,10 @@ halt_if false n rest is = absurd (false≢true is)
 cut_behind : (n : ℕ) (o : ℕ) (body : List ℕ) → opcode (front_packet (o ∷ body)) ≡ halt → cut n (behind (o ∷ body)) ≡ []
 unfolding front_packet behind
 cut_behind n o body is =
-    let some = taken_one o in
+    let some = taken_some o in
     halt_if (o == halt) n (drop (bin_taken o) (o ∷ body)) (eq-eqb o halt (sym (head_take (bin_taken o) o body some) ∙ is))
 
 pub are_cut : (n : ℕ) (bytes : List ℕ) → AreCut (cut n bytes)
 are_cut zero bytes = tt
 are_cut (suc n) [] = tt
 are_cut (suc n) (o ∷ body) = (front_some (o ∷ body) (omega arith), front_short o body, cut_behind n o body, are_cut n (behind (o ∷ body)))
-
-pub cut_place : (n : ℕ) (bytes : List ℕ) (earlier : List (List ℕ)) → place (onto earlier (cut n bytes)) ≤ place earlier + length bytes
-cut_place zero bytes earlier = omega arith
-cut_place (suc n) [] earlier = omega arith
-cut_place (suc n) (o ∷ body) earlier =
-    let whole = front_behind (o ∷ body) in
-    let rest = cut_place n (behind (o ∷ body)) (front_packet (o ∷ body) ∷ earlier) in
-    omega arith

@@ -59,7 +59,7 @@ pub sound_copy : (memory : ℕ) (r : Regions) (buffers copy : List Buffer) → f
 sound_copy memory r buffers copy none same = subst (IsSound memory r) (sym same) (sound memory r buffers none)
 
 -- The item of buffer number is two after the regions.
-item_of_buffer : (r : Regions) (buffers : List Buffer) (number : ℕ) → number < length buffers → item_at (items_of r buffers) (number + 2) ≡ buffer_item (buffer_at buffers number)
+pub item_of_buffer : (r : Regions) (buffers : List Buffer) (number : ℕ) → number < length buffers → item_at (items_of r buffers) (number + 2) ≡ buffer_item (buffer_at buffers number)
 unfolding buffer_at
 item_of_buffer r buffers number inside =
     ap (λ k. item_at (items_of r buffers) k) (let e : number + 2 ≡ suc (suc number) = omega arith in e)

@@ -10,6 +10,7 @@ use Rattle.job_format.specs.File.{IsWellFormed, IsFileOf}
 use Rattle.job_format.specs.Faults.{format_questions}
 use Rattle.job_format.specs.Reading.{file_at}
 use Rattle.job_format.proofs.Laws.{read_again}
+use Rattle.job_format.proofs.Nones.{both_pass}
 use Rattle.bin_list.specs.Rules.{bin_questions}
 use Rattle.bin_list.specs.Packets.{passed}
 use Rattle.bin_list.specs.Seen.{seen_before}
@@ -118,34 +119,31 @@ layout_none seed across down count range =
     (lists_fit (length (bin_of across down count)) (length (records_of count)) (render_room (frame_of across down) (has_bin (file_of seed across down count) 0))
     (omega arith) (omega arith) (room_is seed across down count range))
 
-both : {F : Type 0} (front rest : List (Question F)) → first_of front ≡ None → first_of rest ≡ None → first_of (front ++ rest) ≡ None
-both front rest one two = passes front rest one ∙ two
-
 lists_none : (seed across down count : ℕ) → IsInRange across down count → first_of (lists_stages (file_of seed across down count) 0) ≡ None
 unfolding lists_stages
 lists_none seed across down count range =
     let f = file_of seed across down count in
-    both (bin_stage f 0) (records_stage f 0 ++ surfaces_stage f 0) (bin_none seed across down count range)
-    (both (records_stage f 0) (surfaces_stage f 0) (records_none seed across down count (few_in range)) (surfaces_none seed across down count range))
+    both_pass (bin_stage f 0) (records_stage f 0 ++ surfaces_stage f 0) (bin_none seed across down count range)
+    (both_pass (records_stage f 0) (surfaces_stage f 0) (records_none seed across down count (few_in range)) (surfaces_none seed across down count range))
 
 job_none : (seed across down count : ℕ) → IsInRange across down count → first_of (job_stages (file_of seed across down count) 0) ≡ None
 unfolding job_stages
 job_none seed across down count range =
     let f = file_of seed across down count in
-    both (handles_stage f 0) (lists_stages f 0 ++ layout_stage f 0) (handles_none seed across down count)
-    (both (lists_stages f 0) (layout_stage f 0) (lists_none seed across down count range) (layout_none seed across down count range))
+    both_pass (handles_stage f 0) (lists_stages f 0 ++ layout_stage f 0) (handles_none seed across down count)
+    (both_pass (lists_stages f 0) (layout_stage f 0) (lists_none seed across down count range) (layout_none seed across down count range))
 
 jobs_none : (seed across down count : ℕ) → IsInRange across down count → first_of (each (job_stages (file_of seed across down count)) 0 (length (file_of seed across down count).jobs)) ≡ None
 unfolding each file_of
 jobs_none seed across down count range =
-    both (job_stages (file_of seed across down count) 0) [] (job_none seed across down count range) refl
+    both_pass (job_stages (file_of seed across down count) 0) [] (job_none seed across down count range) refl
 
 file_none : (seed across down count : ℕ) → IsInRange across down count → first_of (file_stages (file_of seed across down count)) ≡ None
 unfolding file_stages
 file_none seed across down count range =
     let f = file_of seed across down count in
-    both (table_stage f) (shaders_stage f ++ each (job_stages f) 0 (length f.jobs)) (table_none seed across down count (tiles_in across down count range))
-    (both (shaders_stage f) (each (job_stages f) 0 (length f.jobs)) (shaders_none seed across down count) (jobs_none seed across down count range))
+    both_pass (table_stage f) (shaders_stage f ++ each (job_stages f) 0 (length f.jobs)) (table_none seed across down count (tiles_in across down count range))
+    (both_pass (shaders_stage f) (each (job_stages f) 0 (length f.jobs)) (shaders_none seed across down count) (jobs_none seed across down count range))
 
 formed : (seed across down count : ℕ) → IsInRange across down count → IsWellFormed (file_of seed across down count)
 unfolding file_of
@@ -174,7 +172,7 @@ pub example_accepted : (number : ℕ) (bytes : List ℕ) → IsFileOf bytes (exa
 unfolding refusal_of file_questions
 example_accepted number bytes is =
     let again = read_again bytes (example number) is in
-    both (answered format_refused (format_questions bytes)) (file_stages (file_at bytes)) (answered_none format_refused (format_questions bytes) again.0)
+    both_pass (answered format_refused (format_questions bytes)) (file_stages (file_at bytes)) (answered_none format_refused (format_questions bytes) again.0)
     (ap (λ f. first_of (file_stages f)) again.1 ∙ (example_faultless number).none)
 
 pub never_refused : (number : ℕ) (bytes : List ℕ) (refusal : Refusal) → IsFileOf bytes (example number) → first_of (file_questions bytes) ≡ Some refusal → ⊥

@@ -13,6 +13,7 @@ use Rattle.buffer_table.specs.Handles.{is_plain}
 use Rattle.job_format.specs.File.{IsWellFormed, FitsShader}
 use Rattle.job_format.specs.Model.{FileModel}
 use Rattle.qpu_isa.specs.Shader.{ShaderModel, IsSoundShader}
+use Rattle.shader_records.specs.Inputs.{shader_in}
 use Rattle.job_check.specs.Shaders.{words_in, content_of, shader_for, shader_of, shaders_up_to, shaders_of, AreShadersIn}
 
 pub words_none : (bytes : List ℕ) → words_in bytes 0 ≡ []
@@ -45,7 +46,8 @@ content_is items contents f b x same below read =
 pub as_many : (f : FileModel) → IsWellFormed f → length f.contents ≡ length f.buffers
 as_many f h = sym (length-map f.contents length) ∙ ap length h.contents ∙ length-map f.buffers (λ b. b.content)
 
-content_long : (f : FileModel) (b : ℕ) → IsWellFormed f → b < length f.buffers → length (get_or f.contents b []) ≡ (get_or f.buffers b past_end).content
+pub content_long : (f : FileModel) (b : ℕ) → IsWellFormed f → b < length f.buffers → length (content_of f b) ≡ (buffer_at f.buffers b).content
+unfolding content_of buffer_at
 content_long f b h below =
     let inside : b < length f.contents = omega (arith, as_many f h, below) in
     sym (get_or-map length f.contents b [] 0 inside) ∙ ap (λ l. get_or l b 0) h.contents ∙ get_or-map (λ x. x.content) f.buffers b past_end 0 below
@@ -75,21 +77,27 @@ sound_at (x ∷ xs) zero shader all is = subst (λ o. IfSome o IsSoundShader) is
 sound_at (x ∷ xs) (suc n) shader all is = sound_at xs n shader all.1 is
 
 -- there is a shader in a Code buffer alone
-is_code : (kind : Kind) (content : List ℕ) → is_plain kind ≡ not (is_some (shader_for kind content))
+pub is_code : (kind : Kind) (content : List ℕ) → is_plain kind ≡ not (is_some (shader_for kind content))
 is_code Plain content = refl
 is_code Code content = refl
 
+pub shader_at : (f : FileModel) (number : ℕ) → number < length f.buffers → shader_in (shaders_of f) number ≡ shader_for (buffer_at f.buffers number).kind (content_of f number)
+unfolding shaders_up_to shader_of
+shader_at f number inside = get_or-map-range_with_len (shader_of f) 0 (length f.buffers) number number None inside (zero-add number)
+
+pub shader_count : (f : FileModel) → length (shaders_of f) ≡ length f.buffers
+unfolding shaders_up_to
+shader_count f = length-map-range_with_len (shader_of f) 0 (length f.buffers)
+
 -- What is kept of all shaders is what the layers above ask for.
 pub are_shaders : (f : FileModel) (shaders : List (Option ShaderModel)) → shaders ≡ shaders_of f → AllSound shaders → AreShadersIn f shaders
-unfolding shaders_up_to shader_of
 are_shaders f shaders told sound =
     record {
       told = told;
       sound = record {
-        count = ap length told ∙ length-map-range_with_len (shader_of f) 0 (length f.buffers);
+        count = ap length told ∙ shader_count f;
         code = λ n below.
-            let here : get_or shaders n None ≡ shader_of f n = ap (λ l. get_or l n None) told ∙ get_or-map-range_with_len (shader_of f) 0 (length f.buffers) n n None below (zero-add n) in
-            is_code (buffer_at f.buffers n).kind (content_of f n) ∙ sym (ap (λ o. not (is_some o)) here);
+            is_code (buffer_at f.buffers n).kind (content_of f n) ∙ sym (ap (λ shaders. not (is_some (shader_in shaders n))) told ∙ ap (λ o. not (is_some o)) (shader_at f n below));
         sound = λ n shader is. sound_at shaders n shader sound is;
       };
     }

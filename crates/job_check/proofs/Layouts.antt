@@ -1,16 +1,19 @@
 -- The layout of a job: its numbers, and what fits where.
-use Rattle.std.proofs.Common.{◌≡◌, ℕ, ◌+◌, ◌<◌, ◌≤◌, Bool, length, refl, sym, subst, arith, lit≤}
+use Rattle.std.proofs.Common.{◌≡◌, ℕ, ◌+◌, ◌<◌, ◌≤◌, Bool, List, length, Option, refl, sym, subst, arith, lit≤}
 use Rattle.field_words.specs.Words.{rounded_up}
 use Rattle.field_words.proofs.Numbers.{rounded}
+use Rattle.buffer_table.specs.Table.{TableModel}
 use Rattle.buffer_table.specs.Sound.{IsSound}
 use Rattle.job_format.specs.declared.file.Frame.{Frame}
 use Rattle.job_format.specs.File.{IsJobWellFormed}
-use Rattle.job_format.specs.Model.{FileModel}
+use Rattle.job_format.specs.Model.{FileModel, JobModel}
+use Rattle.qpu_isa.specs.Shader.{ShaderModel}
 use Rattle.relocation.specs.declared.layout.Layout.{Layout}
 use Rattle.relocation.specs.Layout.{records_start, uniforms_start, render_start, lists_end, StandApart}
 use Rattle.render_list.specs.Frame.{IsTileSet}
 use Rattle.render_list.specs.Length.{render_length}
 use Rattle.job_check.specs.Jobs.{job_of, slot_of, has_bin, has_tiles, render_room, layout_of}
+use Rattle.job_check.specs.Context.{InView, IsContext}
 use Rattle.job_check.specs.Emit.{InOrder}
 
 -- a set of tiles has its length as room
@@ -76,6 +79,18 @@ layout_low f j sound one inside small =
     let near = rounded (length (job_of f j).bin) 16 (lit≤ tt) in
     let next = rounded (rounded_up (length (job_of f j).bin) 16 + length (job_of f j).records) 16 (lit≤ tt) in
     (limits.0, omega (arith, near.near, small.bin), omega (arith, near.near, next.near, small.bin, small.records), omega (arith, limits.2, one, inside))
+
+-- so of the layout that the check keeps of a job in view
+pub record IsLow (layout : Layout) : Type 0 where
+  pub place : layout.place ≤ 67108864
+  pub records : layout.records ≤ 67108864
+  pub uniforms : layout.uniforms ≤ 67108864
+  pub slot : layout.slot ≤ 67108864
+
+pub kept_low : (v : InView) (job : JobModel) (table : TableModel) (shaders : List (Option ShaderModel)) (handles : List ℕ) (layout : Layout) → IsContext v job table shaders handles layout → IsLow layout
+kept_low v job table shaders handles layout h =
+    let low = layout_low v.file v.number h.sound h.well_formed.one_job h.inside (subst IsJobWellFormed h.job_is h.limits) in
+    subst IsLow (sym h.layout_is) (record { place = low.0; records = low.1; uniforms = low.2; slot = low.3 })
 
 -- all lists together have some 11 MiB at most
 rounds_near : (n : ℕ) → rounded_up n 16 < n + 16

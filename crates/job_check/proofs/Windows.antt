@@ -4,6 +4,7 @@ use Rattle.std.proofs.lemmas.List.{places, same_lists}
 use Rattle.field_words.specs.Writes.{Part, placed, with_bytes}
 use Rattle.field_words.proofs.Writes.{length-with_bytes}
 use Rattle.phys_mem.specs.Window.{window_of, with_window}
+use Rattle.phys_mem.proofs.Parts.{window_long}
 use Rattle.job_check.specs.Emit.{PartsFit, moved}
 
 -- A text written into a window is that text written into the memory.
@@ -30,9 +31,6 @@ written_hidden : (m : List ℕ) (place at : ℕ) (text inside : List ℕ) → pl
     → with_window m place inside ≡ with_window (with_bytes m (place + at) text) place inside
 written_hidden m place at text inside fits room = same_lists _ _ (grind (arith, places)) (λ k d h. grind (arith, places))
 
-pub length_window : (m : List ℕ) (place len : ℕ) → place + len ≤ length m → length (window_of m place len) ≡ len
-length_window m place len fits = grind (arith, places)
-
 -- Parts put into a window are parts put into the memory.
 pub window_placed : (m : List ℕ) (place len : ℕ) (parts : List Part) → place + len ≤ length m → PartsFit len parts
     → with_window m place (placed (window_of m place len) parts) ≡ placed m (moved place parts)
@@ -42,7 +40,7 @@ window_placed m place len (part ∷ parts) fits fit =
     let same : length after ≡ length m = length-with_bytes m (place + part.place) part.bytes (omega (arith, fits, fit.0)) in
     let room : place + len ≤ length after = omega (arith, fits, same) in
     let inside : List ℕ = placed (window_of after place len) parts in
-    let wide = length_window after place len room in
+    let wide = window_long after place len room in
     let long : length inside ≡ len = length_placed (window_of after place len) parts (subst (λ n. PartsFit n parts) (sym wide) fit.1) ∙ wide in
     ap (λ w. with_window m place (placed w parts)) (written_shows m place len part.place part.bytes fits fit.0)
     ∙ written_hidden m place part.place part.bytes inside (omega (arith, long, fits)) (omega (arith, long, fit.0))

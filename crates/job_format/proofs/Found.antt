@@ -3,7 +3,6 @@ use Rattle.std.proofs.Common.{◌≡◌, ℕ, zero, suc, ◌+◌, ◌*◌, ◌�
 use Rattle.std.specs.List.{flat_map}
 use Rattle.std.proofs.lemmas.List.{append-nil, length-take-le}
 use Rattle.std.proofs.lemmas.List.FromFn.{length-map-range_with_len}
-use Rattle.std.proofs.lemmas.Grind.{flat_map-append}
 use Rattle.field_words.specs.Words.{IsBytes, u32_at}
 use Rattle.field_words.specs.Pieces.{IsPiece, joined}
 use Rattle.field_words.proofs.Pieces.{join_two}
@@ -14,6 +13,7 @@ use Rattle.job_format.specs.Offsets.{entry_offset, job_offset, content_size, con
 use Rattle.job_format.specs.Reading.{cut, regions_at, entry_at, frame_at, words_at, buffers_at, contents_at, job_at, file_at}
 use Rattle.job_format.proofs.Entries.{buffer_piece}
 use Rattle.job_format.proofs.Heads.{HeaderReads, JobReads, header_piece, job_piece}
+use Rattle.job_format.proofs.Items.{flat_map_last}
 use Rattle.job_format.proofs.Listed.{words_none, words_more, buffers_none, buffers_more, contents_none, contents_more}
 use Rattle.job_format.proofs.Passing.{Passes}
 use Rattle.job_format.proofs.Standing.{content_offset_first, content_offset_step}
@@ -40,9 +40,6 @@ same_piece : (bytes : List ℕ) (at m n : ℕ) (one two : List ℕ) → m ≡ n 
 same_piece bytes at m n one two long text piece = subst (λ k. IsPiece bytes at k two) long (subst (λ t. IsPiece bytes at m t) text piece)
 
 -- One more item at the end of a list of texts.
-flat_map_last : {A : Type 0} (text : A → List ℕ) (xs : List A) (x : A) → flat_map text (xs ++ x ∷ []) ≡ flat_map text xs ++ text x
-flat_map_last text xs x = flat_map-append text xs (x ∷ []) ∙ ap (λ last. flat_map text xs ++ last) (append-nil (text x))
-
 joined_last : (xs : List (List ℕ)) (x : List ℕ) → joined (xs ++ x ∷ []) ≡ joined xs ++ x
 joined_last [] x = append-nil x
 joined_last (y ∷ ys) x = ap (λ rest. y ++ rest) (joined_last ys x) ∙ sym (append_assoc y (joined ys) x)

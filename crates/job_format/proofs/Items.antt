@@ -28,7 +28,7 @@ pushed : {A : Type 0} (P : A → Type 0) (xs : List A) (x : A) → AllByRecursio
 pushed P [] x all one = (one, tt)
 pushed P (y ∷ ys) x all one = (all.0, pushed P ys x all.1 one)
 
-flat_map_last : {A : Type 0} (text : A → List ℕ) (xs : List A) (x : A) → flat_map text (xs ++ x ∷ []) ≡ flat_map text xs ++ text x
+pub flat_map_last : {A : Type 0} (text : A → List ℕ) (xs : List A) (x : A) → flat_map text (xs ++ x ∷ []) ≡ flat_map text xs ++ text x
 flat_map_last text xs x = flat_map-append text xs (x ∷ []) ∙ ap (λ last. flat_map text xs ++ last) (append-nil (text x))
 
 -- the text and the fact of the items so far, at one more

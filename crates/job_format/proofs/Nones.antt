@@ -1,16 +1,14 @@
 -- Where the bytes are a file, no rule of the format stands.
-use Rattle.std.proofs.Common.{◌≡◌, ℕ, zero, suc, ◌+◌, ◌<◌, ◌≤◌, false, ◌==◌, List, ◌++◌, length, map, None, refl, sym, subst, arith, ◌∙◌, inl, inr}
+use Rattle.std.proofs.Common.{◌≡◌, ℕ, zero, suc, ◌+◌, ◌<◌, ◌≤◌, List, ◌++◌, length, map, None, refl, subst, arith, ◌∙◌, inl, inr}
 use Rattle.std.specs.List.{AllByRecursion, range_with_len}
 use Rattle.std.proofs.lemmas.Bool.{le-ltb}
 use Rattle.std.proofs.Math.Nat.{eq-or-lt_of_le}
 use Rattle.field_words.specs.Words.{u32_at}
 use Rattle.field_words.specs.Questions.{Question, first_of, each}
 use Rattle.field_words.proofs.Questions.{passes, stands_none}
-use Rattle.buffer_table.specs.declared.buffer.Kind.TheVariants.{Plain}
 use Rattle.job_format.specs.Faults.{header_questions, entry_questions, buffer_questions, job_questions, content_questions, parts_questions, body_questions, format_questions}
 use Rattle.job_format.specs.Offsets.{entry_offset, job_offset, bin_offset, records_offset, uniforms_offset, end_offset}
-use Rattle.job_format.specs.Reading.{kind_of, entry_at, buffers_at, job_at, file_at}
-use Rattle.job_format.proofs.Found.{length_cut, handles_in}
+use Rattle.job_format.proofs.Found.{handles_in}
 use Rattle.job_format.proofs.Passing.{HeaderPasses, EntryPasses, JobPasses, Passes}
 use Rattle.job_format.proofs.Standing.{content_ends}
 
@@ -23,7 +21,7 @@ each_passes questions i (suc n) none =
     ∙ each_passes questions (i + 1) n (λ k from to. none k (omega arith) (omega arith))
 
 -- none of a front and none of a rest
-both_pass : {F : Type 0} (front rest : List (Question F)) → first_of front ≡ None → first_of rest ≡ None → first_of (front ++ rest) ≡ None
+pub both_pass : {F : Type 0} (front rest : List (Question F)) → first_of front ≡ None → first_of rest ≡ None → first_of (front ++ rest) ≡ None
 both_pass front rest none_front none_rest = passes front rest none_front ∙ none_rest
 
 header_none : (bytes : List ℕ) → HeaderPasses bytes → first_of (header_questions bytes) ≡ None

@@ -3,9 +3,10 @@
 //! A `Source` gives bytes and a `Sink` takes them, a piece at a time, and either may fail. A
 //! failure is no value that travels on: it raises a count that the source or sink keeps, so that a
 //! caller's contract can say "this answer comes only where the count rose". `read_all` and
-//! `write_all` are the two loops over them. Four of the kinds keep their bytes in memory and say
-//! exactly what each call does; the two adapters over std's `Read` and `Write` are the edge to the
-//! outside, and say nothing about content.
+//! `write_all` are the two loops over them. Two of the kinds keep their bytes in memory, one gives them
+//! without a failure and one takes them without keeping any, and they say exactly what each call does. The
+//! two adapters over std's `Read` and `Write` are the edge to the outside: they tell the bytes that their
+//! reader or writer tells.
 #![tactic(auto)]
 
 mod adapters;

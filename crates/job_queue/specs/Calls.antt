@@ -1,5 +1,5 @@
 -- The lines of a script, and the calls that they are.
-use Rattle.std.specs.Prelude.{ℕ, ◌==◌, ◌||◌, ◌&&◌, Bool, true, false, bytes_eq, codes, List, [], ◌∷◌, Option, Some, None, if◌then◌else◌}
+use Rattle.std.specs.Prelude.{ℕ, is_some, ◌==◌, ◌||◌, ◌&&◌, Bool, true, bytes_eq, codes, List, [], ◌∷◌, Option, Some, None, if◌then◌else◌}
 use Rattle.script.specs.Lines.{before, behind, first_malformed, onto_line}
 use Rattle.script.specs.Number.{number_within}
 use Rattle.job_queue.specs.declared.call.Call.{Call}
@@ -12,10 +12,6 @@ last_number = 4294967295
 unfoldable pub parts_of : List ℕ → List (List ℕ)
 parts_of [] = [] ∷ []
 parts_of (byte ∷ bytes) = if byte == 44 then [] ∷ parts_of bytes else onto_line byte (parts_of bytes)
-
-abbrev pub is_some : {A : Type 0} → Option A → Bool
-is_some None = false
-is_some (Some x) = true
 
 unfoldable pub are_all_numbers : List (List ℕ) → Bool
 are_all_numbers [] = true

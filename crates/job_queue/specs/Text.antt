@@ -1,9 +1,9 @@
 -- What a script is answered: a line for each of its calls.
-use Rattle.std.specs.Prelude.{◌≡◌, ℕ, List, [], ◌∷◌, ◌++◌, codes, Option, Some, None, Result, Ok, Err}
+use Rattle.std.specs.Prelude.{ℕ, List, [], ◌++◌, codes, Option, Some, None, Result, Ok, Err}
 use Rattle.std.specs.Fmt.{decimal}
 use Rattle.field_words.specs.declared.stop.Stop.{Stop}
-use Rattle.field_words.specs.declared.stop.Stop.TheVariants.{Fault, NoMemory}
 use Rattle.script.specs.Lines.{lines_of}
+use Rattle.script.specs.Replies.{replies_from, IsScriptFault as IsFaultOf}
 use Rattle.job_queue.specs.declared.queue.QueueFault.{QueueFault}
 use Rattle.job_queue.specs.declared.queue.QueueFault.TheVariants.{Unknown, Full, Binning, NoJob, Waits, NotBinning, NotBinned}
 use Rattle.job_queue.specs.declared.call.Call.{Call}
@@ -20,46 +20,36 @@ refused_line (Waits writer) = codes "refused Q5 " ++ (decimal writer ++ codes "\
 refused_line NotBinning = codes "refused Q6\n"
 refused_line NotBinned = codes "refused Q7\n"
 
-unfoldable pub job_line : Result ℕ QueueFault → List ℕ
-job_line (Ok job) = codes "job " ++ (decimal job ++ codes "\n")
-job_line (Err fault) = refused_line fault
+-- this word and the job's number, or the refusal
+unfoldable pub answer_line : List ℕ → Result ℕ QueueFault → List ℕ
+answer_line word (Ok job) = word ++ (codes " " ++ (decimal job ++ codes "\n"))
+answer_line word (Err fault) = refused_line fault
 
-unfoldable pub start_line : Result ℕ QueueFault → List ℕ
-start_line (Ok job) = codes "start " ++ (decimal job ++ codes "\n")
-start_line (Err fault) = refused_line fault
+-- the line that answers a call, whose line says more of it; a line may be no call
+unfoldable pub call_reply : Past → List ℕ → Option Call → List ℕ
+call_reply past line None = []
+call_reply past line (Some Submit) = answer_line (codes "job") (submit_answer past (buffers_of (reads_word line)) (buffers_of (writes_word line)))
+call_reply past line (Some Start) = answer_line (codes "start") (start_answer past)
+call_reply past line (Some Bin) = answer_line (codes "binned") (bin_answer past)
+call_reply past line (Some Render) = answer_line (codes "rendered") (render_answer past)
 
-unfoldable pub binned_line : Result ℕ QueueFault → List ℕ
-binned_line (Ok job) = codes "binned " ++ (decimal job ++ codes "\n")
-binned_line (Err fault) = refused_line fault
+unfoldable pub after_call : Past → List ℕ → Option Call → Past
+after_call past line None = past
+after_call past line (Some Submit) = after_submit past (buffers_of (reads_word line)) (buffers_of (writes_word line))
+after_call past line (Some Start) = after_start past
+after_call past line (Some Bin) = after_bin past
+after_call past line (Some Render) = after_render past
 
-unfoldable pub rendered_line : Result ℕ QueueFault → List ℕ
-rendered_line (Ok job) = codes "rendered " ++ (decimal job ++ codes "\n")
-rendered_line (Err fault) = refused_line fault
+abbrev pub line_reply : Past → List ℕ → List ℕ
+line_reply past line = call_reply past line (call_of line)
 
--- the line that answers a line, which may be no call
-unfoldable pub line_reply : Past → List ℕ → Option Call → List ℕ
-line_reply past line None = []
-line_reply past line (Some Submit) = job_line (submit_answer past (buffers_of (reads_word line)) (buffers_of (writes_word line)))
-line_reply past line (Some Start) = start_line (start_answer past)
-line_reply past line (Some Bin) = binned_line (bin_answer past)
-line_reply past line (Some Render) = rendered_line (render_answer past)
-
-unfoldable pub after_line : Past → List ℕ → Option Call → Past
-after_line past line None = past
-after_line past line (Some Submit) = after_submit past (buffers_of (reads_word line)) (buffers_of (writes_word line))
-after_line past line (Some Start) = after_start past
-after_line past line (Some Bin) = after_bin past
-after_line past line (Some Render) = after_render past
-
-unfoldable pub lines_from : Past → List (List ℕ) → List ℕ
-lines_from past [] = []
-lines_from past (line ∷ lines) = line_reply past line (call_of line) ++ lines_from (after_line past line (call_of line)) lines
+abbrev pub after_line : Past → List ℕ → Past
+after_line past line = after_call past line (call_of line)
 
 -- the answer to a script on so many buffers
 unfoldable pub replies : ℕ → List ℕ → List ℕ
-replies buffers text = lines_from (none_yet buffers) (lines_of text)
+replies buffers text = replies_from line_reply after_line (none_yet buffers) (lines_of text)
 
 -- a fault names the first malformed line; want of memory says nothing
 abbrev pub IsScriptFault : List ℕ → Stop ℕ → Type 0
-IsScriptFault text (Fault line) = fault_line text ≡ Some line
-IsScriptFault text NoMemory = Unit {0}
+IsScriptFault text stop = IsFaultOf (fault_line text) stop

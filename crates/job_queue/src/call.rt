@@ -1,7 +1,7 @@
 //! The calls of a script.
-ghost use Rattle.std.specs.Prelude.{◌≡◌, ◌++◌, IfOk};
+ghost use Rattle.std.specs.Prelude.{◌≡◌, ◌++◌, is_some, IfOk};
 ghost use Rattle.script.specs.Number.{number_within};
-ghost use Rattle.job_queue.specs.Calls.{is_some, last_number, are_numbers as numbers_told, are_buffers as buffers_told, buffers_of, call_of, is_submit as submit_told};
+ghost use Rattle.job_queue.specs.Calls.{last_number, are_numbers as numbers_told, are_buffers as buffers_told, buffers_of, call_of, is_submit as submit_told};
 
 use script::{cut_at, read_number};
 use std::alloc::AllocError;
@@ -20,10 +20,7 @@ const LAST_NUMBER: u64 = 4_294_967_295;
 fn is_number(word: &[u8]) -> bool
     ensures { result ≡ is_some (number_within last_number word.now) }
 {
-    match read_number(word, LAST_NUMBER) {
-        Some(_) => true,
-        None => false,
-    }
+    read_number(word, LAST_NUMBER).is_some()
 }
 
 // Whether it is numbers parted by commas.

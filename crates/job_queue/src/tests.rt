@@ -82,7 +82,6 @@ fn the_queue_is_full_at_4096_jobs(rt: HostRuntime) -> Result<(), Fail> {
 
 #[test]
 fn the_first_malformed_line_is_named(rt: HostRuntime) -> Result<(), Fail> {
-    assert_eq!(rt; answer(&rt, 0, b"")?.as_str(), "");
     assert_eq!(rt; answer(&rt, 0, b"submit - -")?.as_str(), "job 1\n");
     assert_eq!(rt; answer(&rt, 0, b"start\nstart \nx")?.as_str(), "line 2");
     assert_eq!(rt; answer(&rt, 0, b"submit 1, -")?.as_str(), "line 1");

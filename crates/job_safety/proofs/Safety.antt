@@ -1,8 +1,8 @@
 -- A file in which no rule stands is safe.
-use Rattle.std.proofs.Common.{◌≡◌, ℕ, List, [], ◌∷◌, ◌++◌, Some, None, refl}
-use Rattle.std.specs.Prelude.{true, false}
+use Rattle.std.proofs.Common.{◌≡◌, ℕ, List, None}
 use Rattle.field_words.specs.Words.{IsBytes}
-use Rattle.field_words.specs.Questions.{Question, Ask, first_of, answered}
+use Rattle.field_words.specs.Questions.{first_of, answered}
+use Rattle.field_words.proofs.Nones.{front_none, rest_none, none_answered}
 use Rattle.job_format.specs.File.{IsFileOf}
 use Rattle.job_format.specs.Faults.{format_questions}
 use Rattle.job_format.specs.Reading.{file_at}
@@ -15,24 +15,12 @@ use Rattle.accepted_law.proofs.Joining.{files_safe_law}
 use Rattle.job_safety.specs.Safe.{AreSafe, AreSame}
 use Rattle.job_safety.specs.Files.{IsSafeFile, BytesSafe}
 
--- where none of two lists of rules stands, none of either does
-both_none : {F : Type 0} → (front rest : List (Question F)) → first_of (front ++ rest) ≡ None → (first_of front ≡ None) × (first_of rest ≡ None)
-both_none [] rest none = (refl, none)
-both_none (Ask true answer ∷ later) rest none = let wrong : Some answer ≡ None = none in cc
-both_none (Ask false answer ∷ later) rest none = both_none later rest none
-
-answered_none_of : {F G : Type 0} (change : F → G) → (questions : List (Question F)) → first_of (answered change questions) ≡ None → first_of questions ≡ None
-unfolding answered
-answered_none_of change [] none = refl
-answered_none_of change (Ask true answer ∷ later) none = let wrong : Some (change answer) ≡ None = none in cc
-answered_none_of change (Ask false answer ∷ later) none = answered_none_of change later none
-
 -- the rules of the format, and those of the file
 parts_none : (bytes : List ℕ) → first_of (all_questions bytes) ≡ None → (first_of (format_questions bytes) ≡ None) × (first_of (file_stages (file_at bytes)) ≡ None)
 unfolding all_questions
 parts_none bytes none =
-    let both = both_none (answered format_refused (format_questions bytes)) (file_stages (file_at bytes)) none in
-    (answered_none_of format_refused (format_questions bytes) both.0, both.1)
+    let format = answered format_refused (format_questions bytes) in
+    (none_answered format_refused (format_questions bytes) (front_none format (file_stages (file_at bytes)) none), rest_none format (file_stages (file_at bytes)) none)
 
 file_is_safe : (bytes : List ℕ) → IsFileOf bytes (file_at bytes) → first_of (all_questions bytes) ≡ None → IsSafeFile (file_at bytes)
 file_is_safe bytes is none =

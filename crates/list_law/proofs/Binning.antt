@@ -1,7 +1,8 @@
 -- One step of the binner keeps all that stands.
-use Rattle.std.proofs.Common.{◌≡◌, ◌≢◌, ◌≤◌, ◌<◌, ◌⊎◌, inl, inr, ℕ, ◌+◌, ◌*◌, ◌==◌, ◌||◌, ◌&&◌, Bool, true, false, List, [], ◌∷◌, ◌++◌, length, slice_index, Option, Some, None, IfSome, if◌then◌else◌, refl, sym, ◌∙◌, ap, subst, arith}
+use Rattle.std.proofs.Common.{◌≡◌, ◌≢◌, ◌≤◌, ◌<◌, ◌⊎◌, inl, inr, ℕ, ◌+◌, ◌*◌, ◌==◌, ◌||◌, Bool, true, false, List, [], ◌∷◌, ◌++◌, length, slice_index, Option, Some, None, IfSome, if◌then◌else◌, refl, sym, ◌∙◌, ap, subst, arith}
 use Rattle.std.specs.Prelude.{nat_lt, option_map, unwrap_or}
 use Rattle.std.proofs.lemmas.Grind.{common_steps}
+use Rattle.std.proofs.lemmas.Bool.{and_parts}
 use Rattle.std.proofs.lemmas.Bool.Decides.{nat_tests}
 use Rattle.std.proofs.lemmas.List.{length-replicate}
 use Rattle.std.proofs.Math.Nat.{mod-lt}
@@ -39,9 +40,10 @@ use Rattle.list_machine.specs.Start.{start_plan, can_start}
 use Rattle.list_machine.specs.Binner.{config_of, configured, with_word, started, clear_plan, begin_plan, work_of, drawn, draw_plan, halted, is_unknown, packet_plan, read_plan, one_done, fetched_with, not_due, started_with, chosen_tile, tile_plan, item_plan, work_plan, binner_by, binner_plan, item_may, work_may, binner_may, binner_ready}
 use Rattle.list_law.specs.Binning.{grid_of, passed_of, Allocates, DrawsSo, OnWay, WorkFine, LogFine, IsOnly, NotYet, Only}
 use Rattle.list_law.specs.Lists.{ListsFine, TurnedFine}
-use Rattle.list_law.proofs.Safe.{read_safe, write_safe, keeps_if}
+use Rattle.machine_plan.proofs.Safe.{read_safe}
+use Rattle.list_law.proofs.Safe.{write_safe, keeps_if}
 use Rattle.list_law.proofs.Fetching.{AnyEnd, fetch_keeps, start_fine}
-use Rattle.list_law.proofs.Bytes.{bytes_front, bytes_behind, byte_front, front_inside, behind_inside, behind_ends}
+use Rattle.list_law.proofs.Bytes.{none_left, bytes_front, bytes_behind, byte_front, front_inside, behind_inside, behind_ends}
 use Rattle.list_law.proofs.Logs.{same, not_same, put_keeps}
 
 -- The same with another binner.
@@ -284,9 +286,6 @@ packet_keeps who r K O c f L s packet m allocates fine tame way =
     (λ no_flush. rest))))))))
 
 -- The binner reads its next packet.
-none_left : (place end : ℕ) → place + 0 ≡ end → place < end → ⊥
-none_left place end ends below = omega (arith, ends, below)
-
 read_step : (who : Who) (r : Rights) (K : List ℕ → Type 0) (O : Launch → Type 0) (c : Config) (f : Frame) (s : Lists) (m : List ℕ) (rest : List (List ℕ))
     → Allocates r c → K m → ListsFine r K O c f s → s.binner.place < s.binner.end
     → s.binner.place + length (joined rest) ≡ s.binner.end → Walks (grid_of c) (DrawsSo r K O) (passed_of s.binner.kept) rest
@@ -307,10 +306,6 @@ read_step who r K O c f s m (packet ∷ packets) allocates here fine below ends 
     (λ after is. way_behind r K O c place s.binner.end s.binner.kept after packet packets ends walks.1 stands reads is))
 
 -- A primitive in work.
-first_true : (a b : Bool) → (a && b) ≡ true → a ≡ true
-first_true true b h = refl
-first_true false b h = h
-
 ready_item : (due more start item : Bool) → due ≡ false → more ≡ false → (if due then start else (if more then true else item)) ≡ true → item ≡ true
 ready_item true more start item off all ready = absurd cc
 ready_item false true start item off all ready = absurd cc
@@ -337,7 +332,7 @@ item_keeps who r K O c f L s w words m (Some one) allocates fine work (Only e) r
     let here : Q c = λ may.
     keeps_if who L (IsSafeIn r) P m (tile == tiles_of c) (Done (with_work s None)) (put_plan s c w tile (spot_of tile s.items))
     (λ on. work_set r K O c f s None fine tt)
-    (λ off. put_keeps who r K O c L P s w tile m allocates fine.log work (tile_below c words off) (first_true (has_room c s.blocks) (nat_lt (length s.items) most_items) may)
+    (λ off. put_keeps who r K O c L P s w tile m allocates fine.log work (tile_below c words off) (and_parts (has_room c s.blocks) (nat_lt (length s.items) most_items) may).0
     (λ k place log. (log_set r K O c f s s.blocks (s.items ++ item_of w tile place ∷ []) fine log, log_set r K O c f s (s.blocks + 1) (s.items ++ item_of w tile place ∷ []) fine log))) in
     subst Q is here ready
 

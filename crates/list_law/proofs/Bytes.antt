@@ -1,5 +1,5 @@
 -- The bytes of a packet in memory, and those behind it.
-use Rattle.std.proofs.Common.{◌≡◌, ◌≤◌, ℕ, suc, ◌+◌, List, [], ◌∷◌, ◌++◌, length, slice_index, refl, ◌∙◌, ap, arith}
+use Rattle.std.proofs.Common.{◌≡◌, ◌≤◌, ◌<◌, ℕ, suc, ◌+◌, List, [], ◌∷◌, ◌++◌, length, slice_index, refl, ◌∙◌, ap, arith}
 use Rattle.std.proofs.lemmas.List.{length-append}
 use Rattle.machine_plan.specs.Memory.{bytes_at}
 use Rattle.machine_plan.specs.Regions.{Interval, Inside}
@@ -46,3 +46,6 @@ pub behind_ends : (p end : ℕ) (front rest : List ℕ) → p + length (front ++
 behind_ends p end front rest ends =
     let long : length (front ++ rest) ≡ length front + length rest = length-append front rest in
     omega (arith, long, ends)
+
+pub none_left : (place end : ℕ) → place + 0 ≡ end → place < end → ⊥
+none_left place end ends below = omega (arith, ends, below)

@@ -6,6 +6,7 @@ use Rattle.std.proofs.lemmas.Bool.Decides.{nat_tests}
 use Rattle.field_words.specs.Words.{u32_at}
 use Rattle.emitted_facts.specs.Facts.{IsAttributeIn, IsIndexedPrimitive, IsArrayPrimitive, IsPrimitive}
 use Rattle.emitted_facts.specs.Records.{attribute_count, is_extended, record_size, address_word, shape_word, extension_word, attribute_size, attribute_stride, is_single, code_word, stream_word}
+use Rattle.emitted_facts.proofs.Records.{entry_in, extension_in, header_in}
 use Rattle.machine_plan.specs.declared.launch.Launch.{Launch}
 use Rattle.machine_plan.specs.Memory.{bytes_at}
 use Rattle.machine_plan.specs.Regions.{Interval, Inside}
@@ -21,44 +22,17 @@ use Rattle.list_law.specs.Emitted.{words_in, RecordStands, NamedInside, IsStateO
 use Rattle.list_law.proofs.Logs.{same, not_same}
 use Rattle.list_law.proofs.Words.{byte_read, word_read, low_byte, next_byte, low_bit}
 
-few_attributes : (word : ℕ) → attribute_count word ≤ 8
-unfolding attribute_count
-few_attributes word = grind (arith, common_steps, nat_tests)
-
-same_count : (state word : ℕ) → IsStateOf state word → attribute_count state ≡ attribute_count word
+pub same_count : (state word : ℕ) → IsStateOf state word → attribute_count state ≡ attribute_count word
 unfolding attribute_count
 same_count state word is =
     let e : state % 8 ≡ word % 8 = omega (arith, is) in
     ap (λ n. if n == 0 then 8 else n) e
 
-same_extended : (state word : ℕ) → IsStateOf state word → is_extended state ≡ is_extended word
+pub same_extended : (state word : ℕ) → IsStateOf state word → is_extended state ≡ is_extended word
 unfolding is_extended
 same_extended state word is =
     let e : state / 8 % 2 ≡ word / 8 % 2 = omega (arith, is) in
     ap (λ n. n == 1) e
-
-size_by : (b : Bool) (n t : ℕ) → n ≤ 8 → t < n → 36 + 8 * t + 8 ≤ (if b then 100 + 4 * n else 36 + 8 * n)
-size_by true n t few below = omega (arith, few, below)
-size_by false n t few below = omega (arith, below)
-
--- an attribute and its extension lie in the record, and so does the record's header
-entry_in : (word t : ℕ) → t < attribute_count word → 36 + 8 * t + 8 ≤ record_size word
-unfolding record_size
-entry_in word t below = size_by (is_extended word) (attribute_count word) t (few_attributes word) below
-
-extension_in : (word t : ℕ) → is_extended word ≡ true → t < attribute_count word → 100 + 4 * t + 4 ≤ record_size word
-unfolding record_size
-extension_in word t on below =
-    let e : (if is_extended word then 100 + 4 * attribute_count word else 36 + 8 * attribute_count word) ≡ 100 + 4 * attribute_count word = ap (λ b. if b then 100 + 4 * attribute_count word else 36 + 8 * attribute_count word) on in
-    omega (arith, e, below)
-
-header_by : (b : Bool) (n : ℕ) → 36 ≤ (if b then 100 + 4 * n else 36 + 8 * n)
-header_by true n = omega arith
-header_by false n = omega arith
-
-header_in : (word : ℕ) → 36 ≤ record_size word
-unfolding record_size
-header_in word = header_by (is_extended word) (attribute_count word)
 
 -- What is read of an attribute is what its words say.
 address_is : (m : List ℕ) (word t : ℕ) → u32_at (attribute_at m word t) 0 ≡ words_in m word (address_word t)

@@ -19,7 +19,8 @@ use Rattle.list_machine.specs.declared.state.Program.TheVariants.{Fragment, Vert
 use Rattle.list_machine.specs.Fetch.{index_size, index_in, index_plan, draws_nothing, record_place, attribute_place, extension_place, data_size, data_place, data_plan, extended_plan, attribute_plan, attributes_plan, indexed_plan, fetch_plan}
 use Rattle.list_machine.specs.Start.{code_offset, can_start, launch_plan, start_as, start_plan}
 use Rattle.list_law.specs.Uses.{Fetches, launched, threaded_by, Programs}
-use Rattle.list_law.proofs.Safe.{read_safe, keeps_if}
+use Rattle.machine_plan.proofs.Safe.{read_safe}
+use Rattle.list_law.proofs.Safe.{keeps_if}
 
 -- any end will do
 abbrev pub AnyEnd : {R : Type 0} → List ℕ → R → Type 0

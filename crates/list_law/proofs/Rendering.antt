@@ -49,9 +49,10 @@ use Rattle.list_law.specs.May.{MayWrite}
 use Rattle.list_law.specs.Binning.{ItemFine}
 use Rattle.list_law.specs.Rendering.{StoresSurface, LoadsSurface, IsTileList, MayDo, SetsOnly, AllSet, load_packet, view_of, NoMatter, RenderWay, PartsMeet}
 use Rattle.list_law.specs.Lists.{ListsFine, TurnedFine}
-use Rattle.list_law.proofs.Safe.{read_safe, write_safe, keeps_if}
+use Rattle.machine_plan.proofs.Safe.{read_safe}
+use Rattle.list_law.proofs.Safe.{write_safe, keeps_if}
 use Rattle.list_law.proofs.Fetching.{AnyEnd, fetch_keeps, start_fine}
-use Rattle.list_law.proofs.Bytes.{bytes_front, bytes_behind, byte_front, front_inside, behind_inside, behind_ends}
+use Rattle.list_law.proofs.Bytes.{none_left, bytes_front, bytes_behind, byte_front, front_inside, behind_inside, behind_ends}
 use Rattle.list_law.proofs.Logs.{not_same}
 use Rattle.list_law.proofs.Surfaces.{store_fine, load_fine}
 
@@ -305,9 +306,6 @@ act_keeps who r K O c f L s words m (TileCoordinates x y) rest fine outside rais
     (still r K O c f (with_renderer s renderer) (render_set r K O c f s renderer fine.waited fine way fine.passed))
 
 -- The renderer reads its next packet.
-none_left : (place end : ℕ) → place + 0 ≡ end → place < end → ⊥
-none_left place end ends below = omega (arith, ends, below)
-
 waits : (s : Lists) (packet : Packet) → may_pass s (slice_index (packet_text packet) 0) ≡ true → packet ≡ WaitOnSemaphore → s.semaphore ≢ 0
 unfolding may_pass packet_text
 waits s packet passes is none =

@@ -1,14 +1,11 @@
 -- Safe accesses, and what is kept along a choice.
 use Rattle.std.proofs.Common.{◌≡◌, ℕ, Bool, true, false, List, if◌then◌else◌, refl}
 use Rattle.field_words.specs.declared.access.Access.{Access}
-use Rattle.field_words.specs.declared.access.Way.TheVariants.{Read, Write}
+use Rattle.field_words.specs.declared.access.Way.TheVariants.{Write}
 use Rattle.machine_plan.specs.declared.who.Who.{Who}
 use Rattle.machine_plan.specs.Plan.{Plan, Keeps, access}
-use Rattle.machine_plan.specs.Regions.{Inside, Rights, IsSafeIn}
+use Rattle.machine_plan.specs.Regions.{Rights, IsSafeIn}
 use Rattle.list_law.specs.May.{MayWrite}
-
-pub read_safe : (r : Rights) (who : Who) (p n : ℕ) → Inside r.region p n → IsSafeIn r (access who Read p n)
-read_safe r who p n inside = record { tame = λ e. cc; inside = inside; writes = λ e. absurd cc }
 
 pub write_safe : (r : Rights) (who : Who) (p n : ℕ) → MayWrite r p n → IsSafeIn r (access who Write p n)
 write_safe r who p n may = record { tame = λ e. cc; inside = may.region; writes = λ e. may.writable }

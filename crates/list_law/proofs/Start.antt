@@ -1,5 +1,6 @@
 -- All stands at the start.
-use Rattle.std.proofs.Common.{◌≡◌, inl, ℕ, zero, suc, ◌+◌, Bool, true, false, ◌&&◌, List, [], ◌∷◌, ◌++◌, length, Option, Some, None, if◌then◌else◌, bit_or, refl, arith}
+use Rattle.std.proofs.Common.{inl, ℕ, zero, suc, ◌+◌, Bool, true, false, ◌&&◌, List, [], ◌∷◌, ◌++◌, length, Option, Some, None, if◌then◌else◌, bit_or, refl, arith}
+use Rattle.std.proofs.lemmas.Bool.{false≢true}
 use Rattle.field_words.specs.Pieces.{joined}
 use Rattle.job_format.specs.declared.file.Frame.{Frame as JobFrame}
 use Rattle.packets.specs.declared.packet.Packet.{Packet}
@@ -19,9 +20,6 @@ use Rattle.list_law.specs.Rendering.{NoMatter, SetsOnly, AllSet}
 use Rattle.list_law.specs.Lists.{ListsFine}
 use Rattle.list_law.specs.Start.{frame_of, BinnerBegins, RendererBegins}
 
-never : false ≡ true → ⊥
-never e = cc
-
 -- nothing is in a tile's list
 empty_fits : (c : Config) → FitsIn c (record { count = 0; last = 0 })
 empty_fits c = record { from = λ some. absurd (omega (arith, some)); upto = λ some. absurd (omega (arith, some)) }
@@ -37,8 +35,8 @@ lists_begin r K O c f bin_place render_place packets slots bin render = record {
   log = record { items = tt; spots = λ tile. empty_fits c };
   renderer = record { rest = slots; ends = refl; walks = render.walks; fit = render.fit; sets = render.sets; stands = render.stands; reads = render.reads; frame = tt; inside = tt };
   counted = inl refl;
-  passed = λ e. absurd (never e);
-  closed = λ e. absurd (never e);
+  passed = λ e. absurd (false≢true e);
+  closed = λ e. absurd (false≢true e);
 }
 
 -- Where lists walk by one condition, they walk by a weaker one.

@@ -1,5 +1,5 @@
 -- Code that carried out the binner's step.
-use Rattle.std.proofs.Common.{◌≡◌, ◌≤◌, ℕ, zero, suc, ◌*◌, nat_lt, List, [], ◌∷◌, ◌++◌, length, slice_index, Bool, true, false, if◌then◌else◌, Option, Some, None, refl, sym, ◌∙◌, ap, subst, arith}
+use Rattle.std.proofs.Common.{◌≡◌, ◌≤◌, ℕ, ◌*◌, nat_lt, List, [], ◌∷◌, ◌++◌, length, slice_index, Bool, true, false, if◌then◌else◌, Option, Some, None, refl, sym, ◌∙◌, ap, subst, arith}
 use Rattle.std.specs.Prelude.{option_map}
 use Rattle.std.proofs.lemmas.Bool.Decides.{nat_tests}
 use Rattle.field_words.specs.declared.access.Access.{Access}
@@ -23,6 +23,7 @@ use Rattle.list_machine.specs.Start.{start_plan}
 use Rattle.list_machine.specs.Blocks.{tiles_of, zeros}
 use Rattle.list_machine.specs.Binner.{started, clear_plan, packet_plan, read_plan, fetched_with, started_with, one_done, not_due, item_plan, work_plan, binner_plan, binner_by}
 use Rattle.list_machine.proofs.Putting.{length-zeros}
+use Rattle.list_machine.proofs.Steps.{first_byte}
 
 -- the states were cleared
 pub clear_shows : (who : Who) (s after : Lists) (c : Config) (tiles : ℕ) (m k : List ℕ) (before listed : List Access) → tiles ≡ tiles_of c → listed ≡ before ++ access who Write c.states (48 * tiles) ∷ [] → k ≡ stored m c.states (zeros (48 * tiles)) → after ≡ started s
@@ -35,11 +36,6 @@ clear_shows who s after c tiles m k before listed tiles_are listed_is k_is after
       memory_is = k_is ∙ ap (λ n. stored m c.states (zeros (48 * n))) tiles_are;
       result_is = ap Some after_is;
     }
-
-first_byte : (m : List ℕ) (p n : ℕ) → 1 ≤ n → slice_index (bytes_at m p n) 0 ≡ slice_index m p
-unfolding bytes_at
-first_byte m p zero some = absurd (omega (arith, some))
-first_byte m p (suc n) some = refl
 
 -- the packet that was read has its opcode's length
 pub packet_whole : (m packet : List ℕ) (p len : ℕ) → 1 ≤ len → packet ≡ bytes_at m p len → len ≡ bin_taken (slice_index m p) → length packet ≡ bin_taken (slice_index packet 0)

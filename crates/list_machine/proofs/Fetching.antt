@@ -12,7 +12,7 @@ use Rattle.machine_plan.specs.World.{followed}
 use Rattle.machine_plan.proofs.Reading.{IsLeft, left_first, left_done, shows_read}
 use Rattle.list_machine.specs.declared.state.Primitive.{Primitive}
 use Rattle.list_machine.specs.Fetch.{index_size, index_in, index_plan, attribute_place, extension_place, data_plan, extended_plan, attribute_plan, attributes_plan, indexed_plan, fetch_plan}
-use Rattle.list_machine.proofs.Joining.{left_followed, shows_followed}
+use Rattle.machine_plan.proofs.Joining.{left_followed, shows_followed}
 
 pub data_limit : (address index stride : ℕ) → address < 2 ^ 32 → index < 2 ^ 32 → stride < 2 ^ 32 → address + index * stride < 2 ^ 64
 data_limit address index stride low few near =

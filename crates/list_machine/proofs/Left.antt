@@ -1,25 +1,16 @@
 -- The loops over the parts of a load or store.
-use Rattle.std.proofs.Common.{◌≡◌, ◌≤◌, ◌<◌, ℕ, zero, suc, ◌+◌, ◌-◌, ◌*◌, List, [], ◌∷◌, ◌++◌, length, Some, ◌∙◌, ap, subst, append_assoc, arith}
+use Rattle.std.proofs.Common.{◌≡◌, ◌≤◌, ◌<◌, ℕ, zero, suc, ◌+◌, ◌-◌, ◌*◌, List, [], ◌∷◌, ◌++◌, length, Some, ◌∙◌, ap, subst, arith}
 use Rattle.field_words.specs.declared.access.Access.{Access}
 use Rattle.field_words.specs.declared.access.Way.TheVariants.{Read, Write}
 use Rattle.machine_plan.specs.declared.who.Who.{Who}
 use Rattle.machine_plan.specs.Memory.{stored}
 use Rattle.machine_plan.specs.Plan.{Plan, Done, Reads, Writes, Outcome, Shows, access, carried}
+use Rattle.machine_plan.proofs.Joining.{left_write}
 use Rattle.machine_plan.proofs.Reading.{IsLeft, left_first, left_read, left_done}
 use Rattle.list_machine.specs.declared.surface.Cover.{Cover}
 use Rattle.list_machine.specs.Store.{chosen}
 use Rattle.list_machine.specs.Cover.{part_place, parts_written, parts_read}
 use Rattle.list_machine.proofs.Storing.{chosen_size}
-
-pub left_write : {R : Type 0} (who : Who) (place : ℕ) (bytes : List ℕ) (next : Plan R) (m : List ℕ) (whole : Outcome R) (before now : List Access)
-    → IsLeft whole (carried who (Writes place bytes next) m) before now → IsLeft whole (carried who next (stored m place bytes)) before (now ++ access who Write place (length bytes) ∷ [])
-left_write {R = R} who place bytes next m whole before now left =
-    let rest : Outcome R = carried who next (stored m place bytes) in
-    record {
-      accesses = append_assoc now (access who Write place (length bytes) ∷ []) rest.accesses ∙ left.accesses;
-      memory = left.memory;
-      result = left.result;
-    }
 
 -- what is left to do of a store from part i on
 abbrev pub WritesLeft : {R : Type 0} → Who → Cover → List ℕ → R → List ℕ → List ℕ → List Access → List Access → ℕ → ℕ → Type 0

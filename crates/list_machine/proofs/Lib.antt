@@ -1,5 +1,4 @@
 pub mod Nearness
-pub mod Joining
 pub mod Fetching
 pub mod Putting
 pub mod Binning

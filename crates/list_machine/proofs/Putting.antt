@@ -15,7 +15,7 @@ use Rattle.list_machine.specs.declared.state.Work.{Work}
 use Rattle.list_machine.specs.Lists.{Lists, most_items, AreNear, with_item, with_block}
 use Rattle.list_machine.specs.Blocks.{spotted, one_more, spot_in, spot_of, no_spot, further_offset, has_room, block_place, is_full, next_place, link_place, item_of, zeros, put_here, put_plan}
 use Rattle.list_machine.specs.Binner.{item_may}
-use Rattle.list_machine.proofs.Joining.{shows_wrote}
+use Rattle.machine_plan.proofs.Joining.{shows_wrote}
 
 pub tiles_limit : (x y : ℕ) → x < 256 → y < 256 → x * y ≤ 65025
 tiles_limit x y across down =

@@ -143,6 +143,7 @@ impl Machine {
         ensures done { IsTrue (enabled self.old unit) → result ≡ Stepped.Done }
         ensures refused { enabled self.old unit ≡ false → result ≡ Stepped.NotEnabled }
         ensures same { result ≡ Stepped.NotEnabled → self.new ≡ self.old }
+        ensures emptied { result ≡ Stepped.NotEnabled → accesses.new.items ≡ [] }
         ensures moved { result ≡ Stepped.Done → Moves (step self.old (record { unit = unit; words = words.now })) accesses.new.items self.new }
     {
         accesses.clear();

@@ -6,6 +6,7 @@ use crate::machine::{Machine, Stepped};
 use arrayvec::ArrayVec;
 use field_words::{Access, Actor, NoMemory, Way};
 use phys_mem::PhysMem;
+use qpu_machine::Thread;
 use std::alloc::Global;
 
 // A job with a renderer list of this length at this place, and no binner list.
@@ -285,5 +286,73 @@ fn jobs_share_a_processor(rt: HostRuntime) -> Result<(), NoMemory> {
         )
     );
     assert!(rt; !machine.enabled(Actor::Qpu(1)));
+    Ok(())
+}
+
+// Words of which 82 to 177 are this number and those behind it.
+fn words_from(first: u32) -> [u32; 178] {
+    let mut words = [0; 178];
+    for i in 0..96 {
+        words[82 + i] = first.wrapping_add(i as u32);
+    }
+    words
+}
+
+// r0 to r5 of the thread are words 82 to 177, 16 each.
+fn holds(thread: &Option<Thread>, words: &[u32; 178]) -> bool {
+    let Some(thread) = thread else {
+        return false;
+    };
+    for k in 0..6 {
+        let row = &thread.acc[k];
+        if row[..] != words[82 + 16 * k..98 + 16 * k] {
+            return false;
+        }
+    }
+    true
+}
+
+// The same threads, each with words of its own in its first step: those are what its r0 to r5 hold then, also where another job's
+// thread ran on the processor before.
+#[test]
+fn a_fresh_thread_takes_its_own_words(rt: HostRuntime) -> Result<(), NoMemory> {
+    let code = code_of(&[SWITCH, NOTHING, NOTHING, NOTHING]);
+    let mut machine = started(rt.alloc(), &code, 0, &[JOB, JOB])?;
+    let mut accesses = ArrayVec::new();
+    let unit = Actor::Qpu(0);
+    let first = words_from(1000);
+    assert!(rt; machine.step(unit, &first, &mut accesses) == Stepped::Done);
+    assert!(rt; goes(&mut machine, unit, 2) && machine.job_of(unit) == 1);
+    let second = words_from(5000);
+    assert!(rt; machine.step(unit, &second, &mut accesses) == Stepped::Done);
+    let qpu = machine.qpus.first();
+    assert!(rt; qpu.is_some_and(|qpu| holds(&qpu.first, &first)));
+    assert!(rt; qpu.is_some_and(|qpu| holds(&qpu.other, &second)));
+    Ok(())
+}
+
+// r1 is loaded with 4, and r1 plus a uniform becomes the uniforms' address.
+const LOAD: u64 = 0xe002_0867_0000_0004;
+
+const POINT: u64 = 0x1002_0a27_0c82_7380;
+
+// An instruction that takes a uniform, and does nothing with it.
+const TAKE: u64 = 0x1000_09e7_0082_7000;
+
+// A uniform right after an instruction that sets their address is wild, and ends the thread.
+#[test]
+fn uniform_after_an_address_is_wild(rt: HostRuntime) -> Result<(), NoMemory> {
+    let code = code_of(&[LOAD, POINT, TAKE, NOTHING]);
+    let mut machine = started(rt.alloc(), &code, 0x300, &[JOB])?;
+    let unit = Actor::Qpu(0);
+    let read = access(Way::Read, 0x200, 8, unit, 0);
+    assert!(rt; lists(&mut machine, unit, &[], &[read]));
+    let read = access(Way::Read, 0x208, 8, unit, 0);
+    let uniform = access(Way::Read, 0x300, 4, unit, 0);
+    assert!(rt; lists(&mut machine, unit, &[], &[read, uniform]));
+    let read = access(Way::Read, 0x210, 8, unit, 0);
+    let wild = access(Way::Wild, 0, 0, unit, 0);
+    assert!(rt; lists(&mut machine, unit, &[], &[read, wild]));
+    assert!(rt; machine.finished());
     Ok(())
 }

@@ -10,12 +10,16 @@ use Rattle.qpu_law.specs.Home.{Home}
 use Rattle.qpu_law.specs.Thread.{IsHome}
 use Rattle.machine_law.specs.Begins.{IsFixed, FixedStays, HomesStay}
 
--- a part of what no job may write stays
+-- a part of what no job may write
+pub fixed_inside : (rights : List Rights) (place size q n : ℕ) → IsFixed rights place size → place ≤ q → q + n ≤ place + size → IsFixed rights q n
+fixed_inside rights place size q n fixed from upto i below =
+    let there : place + (q - place + i) ≡ q + i = omega (arith, from) in
+    subst (λ p. IsOutside rights p) there (fixed (q - place + i) (omega (arith, from, upto, below)))
+
+-- it stays
 pub fixed_part : (rights : List Rights) (first m : List ℕ) (place size q n : ℕ) → IsFixed rights place size → IsKept rights first m → place ≤ q → q + n ≤ place + size → bytes_at m q n ≡ bytes_at first q n
 fixed_part rights first m place size q n fixed kept from upto =
-    bytes_same m first q q n (λ i below.
-    let there : place + (q - place + i) ≡ q + i = omega (arith, from) in
-    kept.same (q + i) (subst (λ p. IsOutside rights p) there (fixed (q - place + i) (omega (arith, from, upto, below)))))
+    bytes_same m first q q n (λ i below. kept.same (q + i) (fixed_inside rights place size q n fixed from upto i below))
 
 pub fixed_stays_law : FixedStays
 fixed_stays_law rights first m place size fixed kept = fixed_part rights first m place size place size fixed kept (omega arith) (omega arith)

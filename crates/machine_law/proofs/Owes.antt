@@ -1,5 +1,6 @@
 -- All units of the machine owe what makes runs safe, from what each owes for one job.
 use Rattle.std.proofs.Common.{◌≡◌, ℕ, Bool, true, false, IsTrue, if◌then◌else◌, List, Option, Some, None, refl, arith}
+use Rattle.std.proofs.lemmas.Bool.{false≢true}
 use Rattle.std.specs.Prelude.{IfSome, nat_lt}
 use Rattle.field_words.specs.declared.access.Actor.{Actor}
 use Rattle.field_words.specs.declared.access.Actor.TheVariants.{Binner as TheBinner, Renderer as TheRenderer, Qpu as TheQpu, Tmu as TheTmu}
@@ -49,9 +50,6 @@ glances_weaker : {R : Type 0} (L K : ℕ → ℕ → Type 0) → ((p n : ℕ) �
 glances_weaker L K weaker (Now r) m looks = tt
 glances_weaker L K weaker (At p n next) m looks = (weaker p n looks.0, glances_weaker L K weaker (next (bytes_at m p n)) m looks.1)
 
-never : false ≡ true → ⊥
-never e = cc
-
 -- what a list unit came to
 launch_fine : (rights : List Rights) (K : List ℕ → Type 0) (f : Facts) → UnitLaws rights K f → (j : ℕ) (launch : Option Launch) (qpus : List Qpu) → IfSome launch (f.OfLaunch j) → Every (QpuFine f) qpus → Every (QpuFine f) (with_launch j launch qpus)
 launch_fine rights K f laws j None qpus fine all = all
@@ -68,12 +66,12 @@ qpu_fine f u k q fine known = record { jobs = fine.jobs; qpus = put_fine (QpuFin
 
 -- a list unit that isn't held is ready
 not_held : (held : Bool) (glance : Glance Bool) (m : List ℕ) → IsTrue (glanced (if held then Now false else glance) m) → glanced glance m ≡ true
-not_held true glance m on = absurd (never on)
+not_held true glance m on = absurd (false≢true on)
 not_held false glance m on = on
 
 binner_owes : (rights : List Rights) (all : List Interval) (K : List ℕ → Type 0) (f : Facts) → UnitLaws rights K f → Covers rights all → (u : Units) (found : Option (Picked Lists)) (words m : List ℕ)
     → K m → UnitsFine f u → IfSome found (PickedFine f.OfJob) → IsTrue (glanced (binner_may u found) m) → AllKeep rights all f (binner_turn u found words).who (binner_turn u found words).plan m
-binner_owes rights all K f laws covers u None words m here fine known may = absurd (never may)
+binner_owes rights all K f laws covers u None words m here fine known may = absurd (false≢true may)
 binner_owes rights all K f laws covers u (Some b) words m here fine known may =
     let free : Free = free_in u.qpus in
     lifts rights all f covers (binner_of b.number) (with_lists u b.number) (ListsTurned f b.number) (λ turned one. lists_fine rights K f laws u b.number turned fine one) (binner_plan b.item free words) m
@@ -81,7 +79,7 @@ binner_owes rights all K f laws covers u (Some b) words m here fine known may =
 
 renderer_owes : (rights : List Rights) (all : List Interval) (K : List ℕ → Type 0) (f : Facts) → UnitLaws rights K f → Covers rights all → (u : Units) (found : Option (Picked Lists)) (words m : List ℕ)
     → K m → UnitsFine f u → IfSome found (PickedFine f.OfJob) → IsTrue (glanced (renderer_may found) m) → AllKeep rights all f (renderer_turn u found words).who (renderer_turn u found words).plan m
-renderer_owes rights all K f laws covers u None words m here fine known may = absurd (never may)
+renderer_owes rights all K f laws covers u None words m here fine known may = absurd (false≢true may)
 renderer_owes rights all K f laws covers u (Some r) words m here fine known may =
     let free : Free = free_in u.qpus in
     lifts rights all f covers (renderer_of r.number) (with_lists u r.number) (ListsTurned f r.number) (λ turned one. lists_fine rights K f laws u r.number turned fine one) (renderer_plan r.item free words) m
@@ -91,7 +89,7 @@ renderer_owes rights all K f laws covers u (Some r) words m here fine known may 
 slot_owes : (rights : List Rights) (all : List Interval) (K : List ℕ → Type 0) (f : Facts) → UnitLaws rights K f → Covers rights all → (u : Units) (k : ℕ) (q : Qpu) (slot : Option Thread) (words m : List ℕ)
     → K m → UnitsFine f u → QpuFine f q → SlotFine f slot → IsTrue (glanced (ready_by slot q) m)
     → AllKeep rights all f (record { unit = TheQpu k; job = job_of_thread slot }) (mapped (with_qpu u k) (plan_by slot q words)) m
-slot_owes rights all K f laws covers u k q None words m here fine known thread may = absurd (never may)
+slot_owes rights all K f laws covers u k q None words m here fine known thread may = absurd (false≢true may)
 slot_owes rights all K f laws covers u k q (Some t) words m here fine known thread may =
     let who : Who = record { unit = TheQpu k; job = t.job } in
     let one : Rights = rights_of rights t.job in
@@ -105,7 +103,7 @@ slot_owes rights all K f laws covers u k q (Some t) words m here fine known thre
 
 qpu_owes : (rights : List Rights) (all : List Interval) (K : List ℕ → Type 0) (f : Facts) → UnitLaws rights K f → Covers rights all → (u : Units) (k : ℕ) (found : Option Qpu) (words m : List ℕ)
     → K m → UnitsFine f u → IfSome found (QpuFine f) → IsTrue (glanced (qpu_may found) m) → AllKeep rights all f (qpu_turn u k found words).who (qpu_turn u k found words).plan m
-qpu_owes rights all K f laws covers u k None words m here fine known may = absurd (never may)
+qpu_owes rights all K f laws covers u k None words m here fine known may = absurd (false≢true may)
 qpu_owes rights all K f laws covers u k (Some q) words m here fine known may = slot_owes rights all K f laws covers u k q (active_of q) words m here fine known (active_fine f q known) may
 
 -- a TMU by its oldest request
@@ -126,7 +124,7 @@ request_owes rights all K f laws covers u k n q (Some request) words m here fine
 
 tmu_owes : (rights : List Rights) (all : List Interval) (K : List ℕ → Type 0) (f : Facts) → UnitLaws rights K f → Covers rights all → (u : Units) (k n : ℕ) (found : Option Qpu) (words m : List ℕ)
     → K m → UnitsFine f u → IfSome found (QpuFine f) → IsTrue (glanced (tmu_may found n) m) → AllKeep rights all f (tmu_turn u k n found words).who (tmu_turn u k n found words).plan m
-tmu_owes rights all K f laws covers u k n None words m here fine known may = absurd (never may)
+tmu_owes rights all K f laws covers u k n None words m here fine known may = absurd (false≢true may)
 tmu_owes rights all K f laws covers u k n (Some q) words m here fine known may =
     request_owes rights all K f laws covers u k n q (oldest (queue_of q n)) words m here fine known (oldest_fine f (queue_of q n) (queue_of_fine f q n known))
 

@@ -4,3 +4,4 @@ pub mod Runs
 pub mod Safe
 pub mod Worlds
 pub mod Reading
+pub mod Joining

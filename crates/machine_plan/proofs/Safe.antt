@@ -1,6 +1,9 @@
 -- What safe accesses leave alone.
 use Rattle.std.proofs.Common.{◌≡◌, ℕ, zero, suc, inl, inr, List, [], ◌∷◌, ◌++◌, sym, subst, arith}
 use Rattle.field_words.specs.declared.access.Access.{Access}
+use Rattle.field_words.specs.declared.access.Way.TheVariants.{Read}
+use Rattle.machine_plan.specs.declared.who.Who.{Who}
+use Rattle.machine_plan.specs.Plan.{access}
 use Rattle.machine_plan.specs.Regions.{Interval, Inside, Every, Rights, rights_of, joined, IsIn, IsSafeAccess, IsSafeIn, IsOutside, Misses}
 use Rattle.machine_plan.specs.World.{Covers}
 use Rattle.machine_plan.proofs.Memory.{inside_part}
@@ -37,3 +40,7 @@ safe_of jobs one a are safe = record {
   inside = subst (λ r. IsIn r.region a) (sym are) safe.inside;
   writes = λ way. subst (λ r. IsIn r.writable a) (sym are) (safe.writes way);
 }
+
+-- a read inside the region is safe
+pub read_safe : (r : Rights) (who : Who) (p n : ℕ) → Inside r.region p n → IsSafeIn r (access who Read p n)
+read_safe r who p n inside = record { tame = λ e. cc; inside = inside; writes = λ e. absurd cc }

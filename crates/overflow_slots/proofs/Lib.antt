@@ -1,4 +1,3 @@
 pub mod Desks
 pub mod Laws
-pub mod Lines
 pub mod Searches

@@ -1,7 +1,6 @@
 -- The lines of a script, and the calls that they are.
-use Rattle.std.specs.Prelude.{ℕ, ◌≤◌, ◌<◌, Bool, true, false, codes, List, [], ◌∷◌, Option, Some, None, if◌then◌else◌}
-use Rattle.std.specs.Prelude.{bytes_eq}
-use Rattle.script.specs.Lines.{before, behind, lines_of, first_malformed}
+use Rattle.std.specs.Prelude.{ℕ, is_some, ◌≤◌, ◌<◌, Bool, bytes_eq, codes, List, Option, Some, None, if◌then◌else◌}
+use Rattle.script.specs.Lines.{before, behind, first_malformed}
 use Rattle.script.specs.Number.{number_within}
 use Rattle.overflow_slots.specs.declared.call.Call.{Call}
 use Rattle.overflow_slots.specs.declared.call.Call.TheVariants.{Begin, Take, Overflow, End}
@@ -38,28 +37,12 @@ call_named name words =
 unfoldable pub call_of : List ℕ → Option Call
 call_of line = call_named (before 32 line) (behind 32 line)
 
-abbrev pub is_some : Option Call → Bool
-is_some None = false
-is_some (Some call) = true
-
 unfoldable pub is_formed : List ℕ → Bool
 is_formed line = is_some (call_of line)
-
-abbrev pub onto_calls : Option Call → List Call → List Call
-onto_calls None calls = calls
-onto_calls (Some call) calls = call ∷ calls
-
--- the calls of lines, those that are none left out
-unfoldable pub calls_in : List (List ℕ) → List Call
-calls_in [] = []
-calls_in (line ∷ lines) = onto_calls (call_of line) (calls_in lines)
 
 -- the number of a script's first line that is no call
 unfoldable pub fault_line : List ℕ → Option ℕ
 fault_line text = first_malformed is_formed text
-
-unfoldable pub calls_of : List ℕ → List Call
-calls_of text = calls_in (lines_of text)
 
 -- the numbers of a call are in their ranges
 abbrev pub IsInRange : Call → Type 0

@@ -1,6 +1,5 @@
 -- What a list of calls does, in lists and sets: each running job has a list of slots, and a list of the blocks that it was given.
-use Rattle.std.specs.Prelude.{◌≡◌, ◌≤◌, ◌<◌, ◌⊎◌, ℕ, ◌+◌, ◌*◌, ◌==◌, Bool, true, false, not, ◌||◌, nat_le, List, [], ◌∷◌, Option, Some, None, Result, Ok, Err, if◌then◌else◌}
-use Rattle.std.specs.List.{list_all}
+use Rattle.std.specs.Prelude.{ℕ, ◌+◌, ◌*◌, ◌==◌, Bool, true, false, not, ◌||◌, nat_le, List, [], ◌∷◌, Option, Some, None, Result, Ok, Err, if◌then◌else◌}
 use Rattle.field_words.specs.Sizes.{slot_size}
 use Rattle.field_words.specs.Words.{rounded_up}
 use Rattle.tile_memory.specs.Slots.{alloc_offset, slot_fits}

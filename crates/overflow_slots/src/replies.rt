@@ -1,45 +1,17 @@
 //! Scripts of calls, and their answers.
 ghost use Rattle.std.specs.Prelude.{◌≡◌, ◌≤◌, ◌<◌, ◌^◌, ◌++◌, length, IfOk, IfErr, None, string_bytes};
-ghost use Rattle.overflow_slots.specs.Calls.{call_of, fault_line, is_formed as formed, IsInRange};
+ghost use Rattle.overflow_slots.specs.Calls.{fault_line, is_formed as formed, IsInRange};
 ghost use Rattle.overflow_slots.specs.Desk.{Agrees};
 ghost use Rattle.overflow_slots.specs.SlotRun.{Run, after};
 ghost use Rattle.overflow_slots.specs.Laws.{StaysOrdered};
-ghost use Rattle.overflow_slots.specs.Text.{refused_line, slot_line, block_line, free_line, line_of, line_reply, after_line, replies, IsScriptFault};
+ghost use Rattle.overflow_slots.specs.Text.{refused_line, number_line, block_line, line_of, line_reply, after_line, replies, IsScriptFault};
 
 use super::call::{Call, read_call};
 use super::pool::{Block, Pool};
 use field_words::Stop;
-use script::next_line;
+use script::{Clerk, answer};
 use std::alloc::{AllocError, Global};
 use std::fmt::Write;
-
-#[tactic(auto, unfolding(crate::specs::Calls::is_formed))]
-fn is_formed(line: &[u8]) -> bool
-    ensures { result ≡ formed line.now }
-{
-    match read_call(line) {
-        Some(_) => true,
-        None => false,
-    }
-}
-
-// The number of the first line that is no call.
-fn first_malformed(text: &[u8]) -> Option<u32>
-    requires { length text.now < 2 ^ 32 }
-    ensures { result ≡ fault_line text.now }
-{
-    let mut rest = text;
-    let mut line: u64 = 1;
-    while !rest.is_empty() {
-        let cut = next_line(rest);
-        if !is_formed(cut.first) {
-            return Some(line as u32);
-        }
-        line += 1;
-        rest = cut.rest;
-    }
-    None
-}
 
 #[tactic(auto, unfolding(crate::specs::Text::refused_line))]
 fn put_refused(out: &mut String, refusal: u8) -> Result<(), AllocError>
@@ -48,12 +20,13 @@ fn put_refused(out: &mut String, refusal: u8) -> Result<(), AllocError>
     write!(out, "refused O{refusal}\n")
 }
 
-#[tactic(auto, unfolding(crate::specs::Text::slot_line))]
-fn put_slot(out: &mut String, answer: Result<u32, u8>) -> Result<(), AllocError>
-    ensures { IfOk result (λ _. string_bytes out.new ≡ string_bytes out.old ++ slot_line answer) }
+// This word and a number, or the refusal.
+#[tactic(auto, unfolding(crate::specs::Text::number_line))]
+fn put_number(out: &mut String, word: &str, answer: Result<u32, u8>) -> Result<(), AllocError>
+    ensures { IfOk result (λ _. string_bytes out.new ≡ string_bytes out.old ++ number_line word.now answer) }
 {
     match answer {
-        Ok(slot) => write!(out, "slot {slot}\n"),
+        Ok(number) => write!(out, "{word} {number}\n"),
         Err(refusal) => put_refused(out, refusal),
     }
 }
@@ -72,16 +45,6 @@ fn put_block(out: &mut String, answer: Result<Block, u8>) -> Result<(), AllocErr
     }
 }
 
-#[tactic(auto, unfolding(crate::specs::Text::free_line))]
-fn put_free(out: &mut String, answer: Result<u32, u8>) -> Result<(), AllocError>
-    ensures { IfOk result (λ _. string_bytes out.new ≡ string_bytes out.old ++ free_line answer) }
-{
-    match answer {
-        Ok(count) => write!(out, "free {count}\n"),
-        Err(refusal) => put_refused(out, refusal),
-    }
-}
-
 // Makes a call, and puts the line that answers it.
 #[tactic(auto, unfolding(crate::specs::Text::line_of))]
 fn put_answer(out: &mut String, pool: &mut Pool, call: Call) -> Result<(), AllocError>
@@ -90,21 +53,39 @@ fn put_answer(out: &mut String, pool: &mut Pool, call: Call) -> Result<(), Alloc
     ensures kept { (run : Run) → Agrees run pool.old → Agrees (after run call) pool.new }
 {
     match call {
-        Call::Begin { job, tiles } => put_slot(out, pool.begin(job, tiles)),
+        Call::Begin { job, tiles } => put_number(out, "slot", pool.begin(job, tiles)),
         Call::Take { job } => put_block(out, pool.take(job)),
-        Call::Overflow { job } => put_slot(out, pool.overflow(job)),
-        Call::End { job } => put_free(out, pool.end(job)),
+        Call::Overflow { job } => put_number(out, "slot", pool.overflow(job)),
+        Call::End { job } => put_number(out, "free", pool.end(job)),
     }
 }
 
-// The same for a line, which may be no call.
-fn put_line(out: &mut String, pool: &mut Pool, line: &[u8]) -> Result<(), AllocError>
-    ensures line { (run : Run) → Agrees run pool.old → IfOk result (λ _. string_bytes out.new ≡ string_bytes out.old ++ line_reply run (call_of line.now)) }
-    ensures kept { (run : Run) → Agrees run pool.old → IfOk result (λ _. Agrees (after_line run (call_of line.now)) pool.new) }
-{
-    match read_call(line) {
-        Some(call) => put_answer(out, pool, call),
-        None => Ok(()),
+impl Clerk for Pool {
+    ghost Past = { Run };
+
+    ghost Stands = { λ _ run pool. Agrees run pool };
+
+    ghost formed = { formed };
+
+    ghost reply = { line_reply };
+
+    ghost after = { after_line };
+
+    #[tactic(auto, unfolding(crate::specs::Calls::is_formed))]
+    fn is_formed(line: &[u8]) -> bool {
+        read_call(line).is_some()
+    }
+
+    fn put_reply(
+        &mut self,
+        _alloc: Global,
+        out: &mut String,
+        line: &[u8],
+    ) -> Result<(), AllocError> {
+        match read_call(line) {
+            Some(call) => put_answer(out, self, call),
+            None => Ok(()),
+        }
     }
 }
 
@@ -113,6 +94,7 @@ fn put_line(out: &mut String, pool: &mut Pool, line: &[u8]) -> Result<(), AllocE
 ///
 /// A script's lines end at line feeds, and the last one may lack it. A line is `begin <job> <tiles>`, `take <job>`,
 /// `overflow <job>` or `end <job>`, with one space before each number. Jobs are below 32, and tiles up to 65,025.
+#[tactic(auto, unfolding(crate::specs::Calls::fault_line, crate::specs::Text::replies))]
 pub fn script(alloc: Global, slots: u32, text: &[u8]) -> Result<Vec<u8>, Stop<u32>>
     requires some { 1 ≤ slots }
     requires few { slots ≤ 32 }
@@ -120,18 +102,8 @@ pub fn script(alloc: Global, slots: u32, text: &[u8]) -> Result<Vec<u8>, Stop<u3
     ensures answers { IfOk result (λ bytes. (fault_line text.now ≡ None) × (bytes.items ≡ replies slots text.now)) }
     ensures fault { IfErr result (IsScriptFault text.now) }
 {
-    if let Some(line) = first_malformed(text) {
-        return Err(Stop::Fault(line));
-    }
     let mut pool = Pool::new(slots);
-    let mut out = String::new(alloc);
-    let mut rest = text;
-    while !rest.is_empty() {
-        let cut = next_line(rest);
-        put_line(&mut out, &mut pool, cut.first)?;
-        rest = cut.rest;
-    }
-    Ok(out.into_bytes())
+    answer(alloc, &mut pool, text)
 }
 
 /// A law: after any list of calls no slot belongs to two jobs; each block that a running job was given lies in a slot of that job,

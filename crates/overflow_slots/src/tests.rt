@@ -42,8 +42,6 @@ fn a_full_slot_is_followed_by_another(rt: HostRuntime) -> Result<(), Fail> {
 
 #[test]
 fn the_first_malformed_line_is_named(rt: HostRuntime) -> Result<(), Fail> {
-    assert_eq!(rt; answer(&rt, 1, b"")?.as_str(), "");
-    assert_eq!(rt; answer(&rt, 1, b"\n")?.as_str(), "line 1");
     assert_eq!(rt; answer(&rt, 1, b"end 1\nend 32\nend")?.as_str(), "line 2");
     assert_eq!(rt;
         answer(&rt, 1, b"begin 0 65025\nbegin 0 65026")?.as_str(),

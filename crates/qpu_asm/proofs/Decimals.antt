@@ -5,7 +5,7 @@ use Rattle.std.proofs.lemmas.Bool.{and_from, and_parts}
 use Rattle.std.proofs.lemmas.Fmt.{decimal_by_steps, decimal_digit}
 use Rattle.std.specs.Str.{all_ascii_digits}
 use Rattle.std.specs.Char.{is_ascii_digit}
-use Rattle.qpu_asm.specs.Items.{number_after, number_of, is_number}
+use Rattle.script.specs.Number.{number_after, number_of, is_number}
 
 digit_test : (n : ℕ) → n < 10 → is_ascii_digit (48 + n) ≡ true
 digit_test n small = grind (arith, nat_tests)

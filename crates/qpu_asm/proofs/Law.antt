@@ -12,7 +12,7 @@ use Rattle.qpu_isa.specs.Word.{sig_of}
 use Rattle.qpu_isa.specs.Fields.{joined, width_of, values_of}
 use Rattle.qpu_isa.proofs.Fields.{joined-values_of}
 use Rattle.qpu_isa.proofs.Words.{above-sig}
-use Rattle.qpu_asm.specs.Table.{Named, Row, Kind, widths_of, fallbacks_of, nop_kind, alu_kind, load_imm_kind, branch_kind, alu_rows, load_imm_rows, branch_rows}
+use Rattle.qpu_asm.specs.Table.{Named, Row, Kind, widths_of, fallbacks_of, nop_kind, alu_kind, load_imm_kind, branch_kind, alu_rows}
 use Rattle.qpu_asm.specs.Lines.{Cut, Coded, is_full, words_of, lines_of, read_line, line_of, is_comment, ends_label, without_blank_rest}
 use Rattle.qpu_asm.specs.Items.{Spots, Read, Good, cut_at, find_named, or_number, read_number, read_plain, read_value, is_row, has_row, skip_to, item_reads, reads_of, kinds_of, values_in, kind_code, kind_named, code_of, option_code}
 use Rattle.qpu_asm.specs.Assembly.{read_lines, faults_from, words_from, faults_at, line_kinds, line_words, AsmFaults, AsmWords, spots_of}
@@ -406,35 +406,30 @@ fits_alu word small load branch = record {
   known = refl;
 }
 
+-- a kind that its signal tells, whose rows take the bits below it
+fits_signal : (word : ℕ) (kind : Kind) → word < 2 ^ 64 → (sig_of word == kind.above) ≡ true → width_of (widths_of kind.rows) ≡ 60
+    → list_all (λ row. row.below == 2 ^ row.width) kind.rows ≡ true → are_read kind.rows ≡ true → apart kind.rows ≡ true → is_word kind.opcode ≡ true → is_full kind.opcode ≡ true
+    → (is_comment kind.opcode ≡ false) × (ends_label kind.opcode ≡ false) → kind_named kind.opcode ≡ Some kind → Fits word kind
+fits_signal word kind small signal width limits read away opcode full plain known = record {
+  read = read;
+  away = away;
+  below = below_widths kind.rows word limits;
+  back =
+      let top : word / 2 ^ width_of (widths_of kind.rows) ≡ kind.above = ap (λ n. word / 2 ^ n) width ∙ above-sig word small ∙ eqb-true (sig_of word) kind.above signal in
+      ap (λ n. joined n (widths_of kind.rows) (values_of (widths_of kind.rows) word)) (sym top) ∙ joined-values_of (widths_of kind.rows) word;
+  opcode = opcode;
+  full = full;
+  plain = plain;
+  known = known;
+}
+
 fits_load : (word : ℕ) → word < 2 ^ 64 → (sig_of word == 14) ≡ true → Fits word load_imm_kind
 unfolding are_read is_read is_named apart width_of is_word starts_other option_is find_named is_full is_comment ends_label kind_named is_row
-fits_load word small load = record {
-  read = refl;
-  away = refl;
-  below = below_widths load_imm_rows word refl;
-  back =
-      ap (λ n. joined n (widths_of load_imm_rows) (values_of (widths_of load_imm_rows) word)) (sym (above-sig word small ∙ eqb-true (sig_of word) 14 load))
-      ∙ joined-values_of (widths_of load_imm_rows) word;
-  opcode = refl;
-  full = refl;
-  plain = (refl, refl);
-  known = refl;
-}
+fits_load word small load = fits_signal word load_imm_kind small load refl refl refl refl refl refl (refl, refl) refl
 
 fits_branch : (word : ℕ) → word < 2 ^ 64 → (sig_of word == 15) ≡ true → Fits word branch_kind
 unfolding are_read is_read is_named apart width_of is_word starts_other option_is find_named is_full is_comment ends_label kind_named is_row
-fits_branch word small branch = record {
-  read = refl;
-  away = refl;
-  below = below_widths branch_rows word refl;
-  back =
-      ap (λ n. joined n (widths_of branch_rows) (values_of (widths_of branch_rows) word)) (sym (above-sig word small ∙ eqb-true (sig_of word) 15 branch))
-      ∙ joined-values_of (widths_of branch_rows) word;
-  opcode = refl;
-  full = refl;
-  plain = (refl, refl);
-  known = refl;
-}
+fits_branch word small branch = fits_signal word branch_kind small branch refl refl refl refl refl refl (refl, refl) refl
 
 fits_by : (word : ℕ) → word < 2 ^ 64 → (nop load branch : Bool) → (word == nop_kind.above) ≡ nop → (sig_of word == 14) ≡ load → (sig_of word == 15) ≡ branch
     → Fits word (if nop then nop_kind else (if load then load_imm_kind else (if branch then branch_kind else alu_kind)))

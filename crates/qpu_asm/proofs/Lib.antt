@@ -1,6 +1,5 @@
 pub mod Cuts
 pub mod Bytes
-pub mod Numbers
 pub mod Words
 pub mod Rows
 pub mod Printing

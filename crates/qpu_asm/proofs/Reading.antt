@@ -7,7 +7,8 @@ use Rattle.qpu_isa.specs.Fields.{joined, width_of}
 use Rattle.qpu_asm.specs.declared.label.Spot.{Spot}
 use Rattle.qpu_asm.specs.Table.{Row, Named, Kind, widths_of, fallbacks_of, nop_kind, alu_kind, load_imm_kind, branch_kind}
 use Rattle.qpu_asm.specs.Lines.{Cut, is_name}
-use Rattle.qpu_asm.specs.Items.{Read, Good, Bad, Spots, kinds_of, values_in, read_value, read_plain, or_number, read_number, number_of, is_number, find_named, read_target, distance, distance_to, is_row, has_row, skip_to, named_reads, reads_of, item_reads, cut_at, kind_code, kind_named}
+use Rattle.script.specs.Number.{number_of, is_number}
+use Rattle.qpu_asm.specs.Items.{Read, Good, Bad, Spots, kinds_of, values_in, read_value, read_plain, or_number, read_number, find_named, read_target, distance, distance_to, is_row, has_row, skip_to, named_reads, reads_of, item_reads, cut_at, kind_code, kind_named}
 use Rattle.qpu_asm.specs.Partial.{GoesOn, IsOpen, IsCodeOf, IsLeastKind, least_with, least_in, least_kind, either_least, is_ready, are_ready}
 use Rattle.qpu_asm.specs.declared.table.Row as code
 use Rattle.qpu_asm.specs.Seen.{read_seen, row_seen, rows_seen}
@@ -252,6 +253,24 @@ code_from spots index items kind fault word rows (Err k) on closed =
 pub open_first : (word : ℕ) (rest later : List code.Row) (row : code.Row) → rest ≡ row ∷ later → IsOpen word (rows_seen rest)
     → IsOpen word (row_seen row ∷ rows_seen later)
 open_first word rest later row is o = subst (λ rows. IsOpen word (rows_seen rows)) is o
+
+-- a default is put below the word
+pub default_room : (word : ℕ) (rest later : List code.Row) (row : code.Row) → rest ≡ row ∷ later → IsOpen word (rows_seen rest) → (word + 1) * 2 ^ row.width ≤ 2 ^ 64
+default_room word rest later row is o = open_room word (row_seen row) (rows_seen later) (open_first word rest later row is o)
+
+pub default_facts : (word : ℕ) (rest later : List code.Row) (row : code.Row) → rest ≡ row ∷ later → IsOpen word (rows_seen rest) → RowFacts (row_seen row)
+default_facts word rest later row is o = open_facts word (row_seen row) (rows_seen later) (open_first word rest later row is o)
+
+pub default_narrow : (word : ℕ) (rest later : List code.Row) (row : code.Row) → rest ≡ row ∷ later → IsOpen word (rows_seen rest) → row.width ≤ 32
+default_narrow word rest later row is o = (default_facts word rest later row is o).high
+
+pub default_small : (word : ℕ) (rest later : List code.Row) (row : code.Row) → rest ≡ row ∷ later → IsOpen word (rows_seen rest) → row.fallback < 2 ^ row.width
+default_small word rest later row is o = (default_facts word rest later row is o).fallback
+
+pub default_open : (word : ℕ) (rest later : List code.Row) (row : code.Row) → rest ≡ row ∷ later → IsOpen word (rows_seen rest)
+    → IsOpen (word * 2 ^ row.width + row.fallback) (rows_seen later)
+default_open word rest later row is o =
+    open_step word (row_seen row) (rows_seen later) row.fallback (open_first word rest later row is o) (default_small word rest later row is o)
 
 pub defaults_first : (word : ℕ) (rest later : List code.Row) (row : code.Row) → rest ≡ row ∷ later
     → joined (word * 2 ^ row.width + row.fallback) (widths_of (rows_seen later)) (fallbacks_of (rows_seen later))

@@ -1,10 +1,11 @@
 -- What the items of an instruction say: for each of its fields a value, or the kind of a fault.
-use Rattle.std.specs.Prelude.{ℕ, ◌+◌, ◌-◌, ◌*◌, ◌%◌, ◌^◌, ◌==◌, Bool, false, ◌&&◌, ◌||◌, not, nat_lt, List, [], ◌∷◌, map, codes, if◌then◌else◌}
+use Rattle.std.specs.Prelude.{ℕ, ◌+◌, ◌-◌, ◌*◌, ◌%◌, ◌^◌, ◌==◌, Bool, ◌&&◌, ◌||◌, nat_lt, List, [], ◌∷◌, map, codes, if◌then◌else◌}
 use Rattle.std.specs.List.{list_any}
-use Rattle.std.specs.Str.{all_ascii_digits, bytes_eq}
+use Rattle.std.specs.Str.{bytes_eq}
 use Rattle.std.specs.declared.option.Option.{Option}
 use Rattle.std.specs.declared.option.Option.TheVariants.{None, Some}
 use Rattle.qpu_isa.specs.Fields.{joined}
+use Rattle.script.specs.Number.{is_number, number_of}
 use Rattle.qpu_asm.specs.declared.label.Spot.{Spot}
 use Rattle.qpu_asm.specs.Table.{Named, Row, Kind, fallbacks_of, widths_of, nop_kind, alu_kind, load_imm_kind, branch_kind}
 use Rattle.qpu_asm.specs.Lines.{Cut, is_name}
@@ -26,20 +27,6 @@ before_cut byte (Some cut) = Some (record { first = byte ∷ cut.first; rest = c
 unfoldable pub cut_at : ℕ → List ℕ → Option Cut
 cut_at at [] = None
 cut_at at (byte ∷ bytes) = if byte == at then Some (record { first = []; rest = bytes }) else before_cut byte (cut_at at bytes)
-
--- the number that decimal digits write
-unfoldable pub number_after : ℕ → List ℕ → ℕ
-number_after number [] = number
-number_after number (digit ∷ digits) = number_after (10 * number + (digit - 48)) digits
-
-abbrev pub number_of : List ℕ → ℕ
-number_of digits = number_after 0 digits
-
--- a number is written without sign and leading zero
-unfoldable pub is_number : List ℕ → Bool
-is_number [] = false
-is_number (digit ∷ []) = all_ascii_digits (digit ∷ [])
-is_number (digit ∷ next ∷ digits) = not (digit == 48) && all_ascii_digits (digit ∷ next ∷ digits)
 
 unfoldable pub read_number : ℕ → List ℕ → Read
 read_number below text =

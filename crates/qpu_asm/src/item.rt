@@ -10,8 +10,9 @@ ghost use Rattle.qpu_asm.specs.Seen.{named_seen, row_seen, rows_seen, kind_seen,
 use crate::fault::{BAD_OPERAND, OUT_OF_RANGE, UNKNOWN_LABEL, UNKNOWN_WORD};
 use crate::label::{Labels, find_spot};
 use crate::lines::{Cut, cut_at, next_word};
-use crate::names::{is_name, is_number, number};
+use crate::names::is_name;
 use crate::table::{Kind, Named, Row, alu, branch, load_imm, nop};
+use script::{is_number, number_up_to};
 
 /// An instruction whose items have been read in part: the word's fields so far, the rows that may still come, and the
 /// least kind of a fault so far.
@@ -78,6 +79,7 @@ fn close(partial: Partial) -> Result<u64, u8>
     }
 }
 
+#[tactic(auto, using(crate::proofs::Reading::default_narrow))]
 fn with_defaults(word: u64, rows: &[Row]) -> u64
     requires { IsOpen word (rows_seen rows.now) }
     ensures { result ≡ joined word (widths_of (rows_seen rows.now)) (fallbacks_of (rows_seen rows.now)) }
@@ -159,6 +161,7 @@ fn kind_of_name(name: &[u8], all: &[Row]) -> u8
     if has_row(name, all) { 2 } else { 1 }
 }
 
+#[tactic(auto, using(crate::proofs::Reading::default_narrow))]
 fn skip_to<'a>(labels: &Labels<'a>, index: u32, partial: Partial, cut: Cut<'a>) -> Partial
     requires still { IsOpen partial.word (rows_seen partial.rows.now) }
     requires has { row_among cut.first.now (rows_seen partial.rows.now) ≡ true }
@@ -306,9 +309,9 @@ fn read_number(text: &[u8], below: u64) -> Result<u64, u8>
     if !is_number(text) {
         return Err(BAD_OPERAND);
     }
-    let value = number(text, below);
-    if value < below {
-        Ok(value)
+    let value = number_up_to(text, u128::from(below));
+    if value < u128::from(below) {
+        Ok(value as u64)
     } else {
         Err(OUT_OF_RANGE)
     }

@@ -1,6 +1,6 @@
 -- Where a thread comes to a target, its count is an address word's, or no more uniforms are taken.
 use Rattle.std.proofs.Common.{◌≡◌, ◌<◌, ◌≤◌, inl, inr, ◌⊎◌, ℕ, zero, suc, ◌+◌, ◌-◌, Bool, true, false, ◌&&◌, not, List, length, refl, sym, ap, subst, arith, ◌∙◌, nat_lt, nat_le, ◌==◌}
-use Rattle.std.proofs.lemmas.Bool.{cases_Bool, cases_eq, and_from, and_right, lt-ltb, false_from_ne_true, true≢false, or_from, leb-true}
+use Rattle.std.proofs.lemmas.Bool.{cases_Bool, cases_eq, and_from, and_right, lt-ltb, false_from_ne_true, true≢false, or_from, leb-true, and_parts, not_from_false}
 use Rattle.qpu_isa.specs.Terms.{is_backward, is_address_write}
 use Rattle.shader_flow.specs.Bounded.{some_in, is_back}
 use Rattle.shader_flow.specs.Flow.{word, checked_of, is_target}
@@ -13,15 +13,15 @@ use Rattle.uniform_stream.specs.Rules.{s19}
 use Rattle.uniform_stream.specs.Stream.{writes_address, is_known, is_restart, is_open, leaves_open}
 use Rattle.uniform_stream.proofs.Restarts.{known_not, known_on}
 use Rattle.shader_check.proofs.Clean.{clean}
-use Rattle.shader_check.proofs.SoundInfo.{address_takes}
+use Rattle.shader_check.proofs.SoundInfo.{address_takes, address_write_at}
 use Rattle.qpu_law.specs.Home.{HasNoFault}
 use Rattle.qpu_law.specs.Stream.{IsAddressCount, TakesNone, GoesForward}
 use Rattle.qpu_law.proofs.Rules.{fine_at}
-use Rattle.qpu_law.proofs.Going.{behind, both, not_of}
+use Rattle.qpu_law.proofs.Going.{behind}
 
 pub takes_checked : (code : List ℕ) (n : ℕ) → takes code n ≡ true → n < checked_of code
 unfolding takes
-takes_checked code n taken = let less : nat_lt n (checked_of code) ≡ true = (both (nat_lt n (checked_of code)) (takes_with (word code n) (pending_of code 0 n) (pending_of code 1 n)) taken).0 in grind (arith, less)
+takes_checked code n taken = let less : nat_lt n (checked_of code) ≡ true = (and_parts (nat_lt n (checked_of code)) (takes_with (word code n) (pending_of code 0 n) (pending_of code 1 n)) taken).0 in grind (arith, less)
 
 none_past : (code : List ℕ) (n : ℕ) → checked_of code ≤ n → takes code n ≡ false
 none_past code n past = false_from_ne_true (takes code n) (λ taken. let no : ⊥ = omega (arith, takes_checked code n taken, past) in no)
@@ -39,12 +39,8 @@ lost_writes code n none unknown taken =
     let rule = behind (takes code n) (not (is_address_write (word code n)) && not (is_known code n)) taken (fine_at code none n inside).no19 in
     and_from (nat_lt n (checked_of code)) (is_address_write (word code n)) (lt-ltb n (checked_of code) inside) (by (is_address_write (word code n)) (is_known code n) unknown rule)
 
-pub writes_checked : (code : List ℕ) (n : ℕ) → writes_address code n ≡ true → (n < checked_of code) × (is_address_write (word code n) ≡ true)
-unfolding writes_address
-writes_checked code n writes = let parts = both (nat_lt n (checked_of code)) (is_address_write (word code n)) writes in let less : nat_lt n (checked_of code) ≡ true = parts.0 in (grind (arith, less), parts.1)
-
 pub writes_takes : (code : List ℕ) (n : ℕ) → HasNoFault code → writes_address code n ≡ true → takes code n ≡ true
-writes_takes code n none writes = let parts = writes_checked code n writes in address_takes code n (clean code none n parts.0) parts.0 parts.1
+writes_takes code n none writes = let parts = address_write_at code n writes in address_takes code n (clean code none n parts.0) parts.0 parts.1
 
 pub none_writes : (code : List ℕ) (n : ℕ) → HasNoFault code → takes code n ≡ false → writes_address code n ≡ false
 none_writes code n none taken = false_from_ne_true (writes_address code n) (λ writes. true≢false (sym (writes_takes code n none writes) ∙ taken))
@@ -97,7 +93,7 @@ unfolding is_open leaves_open
 opened_by code b none inside back later =
     some_below_here (checked_of code) b (λ k. is_backward (word code k) && not (some_in (k + 4) (checked_of code) (writes_address code))) inside
     (and_from (is_backward (word code b)) (not (some_in (b + 4) (checked_of code) (writes_address code))) back
-    (not_of (some_in (b + 4) (checked_of code) (writes_address code))
+    (not_from_false (some_in (b + 4) (checked_of code) (writes_address code))
     (some_in_none (b + 4) (checked_of code) (writes_address code) (λ k from to. none_writes code k none (later k from)))))
 
 pub last_word : (code : List ℕ) (n b : ℕ) → HasNoFault code → n < checked_of code → b < checked_of code → is_backward (word code b) ≡ true → TakesNone code n → n ≤ b + 4 → IsAddressCount code (count_of code n)
@@ -111,7 +107,7 @@ found_in : (from to : ℕ) (p : ℕ → Bool) → some_in from to p ≡ true →
 unfolding some_in
 found_in from to p some =
     let found = some_below_found to (λ k. nat_le from k && p k) some in
-    let parts = both (nat_le from found.0) (p found.0) found.2 in
+    let parts = and_parts (nat_le from found.0) (p found.0) found.2 in
     (found.0, leb-true from found.0 parts.0, found.1, parts.1)
 
 -- nothing from there on, and no way back

@@ -9,13 +9,12 @@ use Rattle.uniform_stream.specs.Stream.{writes_address, is_open, address_words_o
 use Rattle.shader_check.specs.Info.{is_sample, sample_of, samples_of}
 use Rattle.shader_check.proofs.Listed.{Member}
 use Rattle.shader_check.proofs.Members.{member_left, member_right}
-use Rattle.shader_check.proofs.SoundInfo.{asks_parts}
+use Rattle.shader_check.proofs.SoundInfo.{address_write_at, asks_parts}
 use Rattle.qpu_isa.specs.Shader.{no_sample}
 use Rattle.emitted_facts.specs.Facts.{IsSampleIn}
 use Rattle.qpu_law.specs.Asks.{IsOneOf}
 use Rattle.qpu_law.specs.Stream.{IsAddressCount}
 use Rattle.qpu_law.specs.Emitted.{StreamsServe}
-use Rattle.qpu_law.proofs.Counts.{writes_checked}
 
 -- where a member stands
 record StandsAt {X : Type 0} (xs : List X) (d x : X) : Type 0 where
@@ -57,7 +56,7 @@ address_member code k (inl one) =
     let list = map (count_of code) (indexes (checked_of code) (writes_address code)) in
     member_left list (if is_open code then count_of code (length code) ∷ [] else []) k
     (subst (λ c. Member c list) one.is
-    (member_map (count_of code) (indexes (checked_of code) (writes_address code)) one.by (member_index (checked_of code) one.by (writes_address code) (writes_checked code one.by one.writes).0 one.writes)))
+    (member_map (count_of code) (indexes (checked_of code) (writes_address code)) one.by (member_index (checked_of code) one.by (writes_address code) (address_write_at code one.by one.writes).0 one.writes)))
 address_member code k (inr last) =
     member_right (map (count_of code) (indexes (checked_of code) (writes_address code))) (if is_open code then count_of code (length code) ∷ [] else []) k
     (subst (λ b. Member k (if b then count_of code (length code) ∷ [] else [])) (sym last.opened) (inl last.is))

@@ -1,7 +1,7 @@
 -- Where a thread goes, and what its marks say then.
 use Rattle.std.proofs.Common.{◌≡◌, ◌≢◌, ◌<◌, ◌≤◌, inl, inr, ◌⊎◌, ℕ, zero, suc, ◌+◌, ◌-◌, ◌*◌, ◌/◌, ◌%◌, ◌^◌, Bool, true, false, ◌&&◌, ◌||◌, ◌==◌, not, List, [], ◌∷◌, length, Option, Some, None, refl, sym, ap, subst, arith, ◌∙◌, nat_lt, nat_le, if◌then◌else◌}
 use Rattle.std.specs.Prelude.{unwrap_or}
-use Rattle.std.proofs.lemmas.Bool.{and_from, le-leb, or_left, or_right, or_cases, cases_Bool, eqb-true, false_from_ne_true, true≢false}
+use Rattle.std.proofs.lemmas.Bool.{and_from, le-leb, or_left, or_right, or_cases, cases_Bool, eqb-true, false_from_ne_true, true≢false, not-false, not_from_false, and_parts}
 use Rattle.std.proofs.lemmas.Grind.{common_steps}
 use Rattle.qpu_isa.specs.Word.{imm_of, cond_of, relative_of, register_of}
 use Rattle.qpu_isa.specs.Terms.{is_branch, is_switch, is_end, is_address_write, target_of}
@@ -100,26 +100,18 @@ slot_quiet code none b j b_in is after near =
       address = before (is_address_write (word code j)) (in_slots code j) slots fine.no17;
     }
 
-true_of : (b : Bool) → not b ≡ false → b ≡ true
-true_of true is = refl
-true_of false is = absurd cc
-
-pub not_of : (b : Bool) → b ≡ false → not b ≡ true
-not_of true is = absurd cc
-not_of false is = refl
-
 -- A branch of a checked shader is sound.
 pub branch_sound : (code : List ℕ) (b : ℕ) → IsFineAt code b → is_branch (word code b) ≡ true → is_sound_branch code b ≡ true
 unfolding s5 s6 s7 s8 is_sound_branch
 branch_sound code b fine is =
     let w = word code b in
-    let relative : relative_of w ≡ true = true_of (relative_of w) (behind (is_branch w) (not (relative_of w)) is fine.no6) in
+    let relative : relative_of w ≡ true = not-false (relative_of w) (behind (is_branch w) (not (relative_of w)) is fine.no6) in
     let own : register_of w ≡ false = behind (is_branch w) (register_of w) is fine.no5 in
-    let whole : (imm_of w % 8 == 0) ≡ true = true_of (imm_of w % 8 == 0) (behind (is_branch w) (not (imm_of w % 8 == 0)) is fine.no7) in
+    let whole : (imm_of w % 8 == 0) ≡ true = not-false (imm_of w % 8 == 0) (behind (is_branch w) (not (imm_of w % 8 == 0)) is fine.no7) in
     let inside : leads_outside code b ≡ false = behind (imm_of w % 8 == 0) (leads_outside code b) whole (behind (is_branch w) (imm_of w % 8 == 0 && leads_outside code b) is fine.no8) in
     and_from (is_branch w && (relative_of w && not (register_of w))) (imm_of w % 8 == 0 && not (leads_outside code b))
-    (and_from (is_branch w) (relative_of w && not (register_of w)) is (and_from (relative_of w) (not (register_of w)) relative (not_of (register_of w) own)))
-    (and_from (imm_of w % 8 == 0) (not (leads_outside code b)) whole (not_of (leads_outside code b) inside))
+    (and_from (is_branch w) (relative_of w && not (register_of w)) is (and_from (relative_of w) (not (register_of w)) relative (not_from_false (register_of w) own)))
+    (and_from (imm_of w % 8 == 0) (not (leads_outside code b)) whole (not_from_false (leads_outside code b) inside))
 
 -- What a sound branch says.
 pub record IsSound (code : List ℕ) (b : ℕ) : Type 0 where
@@ -127,17 +119,13 @@ pub record IsSound (code : List ℕ) (b : ℕ) : Type 0 where
   pub whole : imm_of (word code b) % 8 ≡ 0
   pub inside : target_of (word code b) b ≤ end_of code
 
-pub both : (a b : Bool) → (a && b) ≡ true → (a ≡ true) × (b ≡ true)
-both true b is = (refl, is)
-both false b is = absurd cc
-
 pub sound_says : (code : List ℕ) (b : ℕ) → is_sound_branch code b ≡ true → IsSound code b
 unfolding is_sound_branch leads_outside
 sound_says code b is =
     let w = word code b in
-    let halves = both (is_branch w && (relative_of w && not (register_of w))) (imm_of w % 8 == 0 && not (nat_lt (end_of code) (target_of w b))) is in
-    let first = both (is_branch w) (relative_of w && not (register_of w)) halves.0 in
-    let second = both (imm_of w % 8 == 0) (not (nat_lt (end_of code) (target_of w b))) halves.1 in
+    let halves = and_parts (is_branch w && (relative_of w && not (register_of w))) (imm_of w % 8 == 0 && not (nat_lt (end_of code) (target_of w b))) is in
+    let first = and_parts (is_branch w) (relative_of w && not (register_of w)) halves.0 in
+    let second = and_parts (imm_of w % 8 == 0) (not (nat_lt (end_of code) (target_of w b))) halves.1 in
     record {
       branch = first.0;
       whole = eqb-true (imm_of w % 8) 0 second.0;
@@ -151,7 +139,7 @@ target_inside code none i is =
     let found = some_below_found (end_of code) (λ b. makes_target code b i) is in
     let b = found.0 in
     let b_in : b < checked_of code = omega (arith, checked_is code none, found.1) in
-    let parts = both (is_sound_branch code b) (i == b + 4 || i == target_of (word code b) b) found.2 in
+    let parts = and_parts (is_sound_branch code b) (i == b + 4 || i == target_of (word code b) b) found.2 in
     let sound = sound_says code b parts.0 in
     elim (or_cases (i == b + 4) (i == target_of (word code b) b) parts.1) [
       | inl on ↦ (let e : i ≡ b + 4 = eqb-true i (b + 4) on in omega (arith, e, branch_room code b (fine_at code none b b_in) sound.branch))

@@ -2,7 +2,7 @@
 use Rattle.std.proofs.Common.{◌≡◌, ◌≢◌, ◌<◌, inl, inr, ◌⊎◌, ℕ, ◌+◌, ◌*◌, ◌%◌, ◌^◌, Bool, true, false, ◌&&◌, ◌||◌, Some, List, length, refl, sym, ap, subst, arith, ◌∙◌, nat_lt, if◌then◌else◌}
 use Rattle.std.specs.Prelude.{slice_index}
 use Rattle.std.specs.Int.{from_le_bytes, w64}
-use Rattle.std.proofs.lemmas.Bool.{and_from, lt-ltb, true≢false}
+use Rattle.std.proofs.lemmas.Bool.{and_from, lt-ltb, true≢false, and_parts}
 use Rattle.field_words.specs.Words.{u32_at}
 use Rattle.qpu_isa.specs.declared.inst.Reg.{Reg}
 use Rattle.qpu_isa.specs.Word.{add_a_of}
@@ -31,10 +31,10 @@ use Rattle.qpu_law.specs.Stream.{uniform_at, AreSetups}
 use Rattle.qpu_law.specs.Facts.{FactsHold}
 use Rattle.qpu_law.specs.Thread.{IsHome, IsThread, HasSamples, Stands, Left, ThreadsKeep}
 use Rattle.qpu_law.proofs.Frames.{fate_is, is_went}
-use Rattle.qpu_law.proofs.Going.{both, ends, stays_in_code_law}
+use Rattle.qpu_law.proofs.Going.{ends, stays_in_code_law}
 use Rattle.qpu_law.proofs.Keeping.{carried_operand, immediate_found, facts_on, facts_jump}
 use Rattle.qpu_law.proofs.Pointer.{IsPast, uniform_is, exact_at, added_at, pointer_goes}
-use Rattle.qpu_law.proofs.Reading.{read_safe}
+use Rattle.machine_plan.proofs.Safe.{read_safe}
 use Rattle.qpu_law.proofs.Rules.{checked_is, in_checked}
 use Rattle.qpu_law.proofs.Setups.{are_pending, setups_on, setups_jump}
 use Rattle.qpu_law.proofs.Sums.{sum_lane}
@@ -53,9 +53,9 @@ unfolding is_exact_address_write first_register
 exact_sum code n is =
     let w = word code n in
     let test : Reg → Bool = λ reg. is_immediate code n reg (4 * (count_of code n + 1)) in
-    let halves = both (is_add_with_uniform w && has_quiet_signal w) (adds_address w && passes (first_register w) test) is in
-    let found = passed (first_register w) test (both (adds_address w) (passes (first_register w) test) halves.1).1 in
-    (found.0, record { sum = (both (is_add_with_uniform w) (has_quiet_signal w) halves.0).0; first = found.1; value = found.2 })
+    let halves = and_parts (is_add_with_uniform w && has_quiet_signal w) (adds_address w && passes (first_register w) test) is in
+    let found = passed (first_register w) test (and_parts (adds_address w) (passes (first_register w) test) halves.1).1 in
+    (found.0, record { sum = (and_parts (is_add_with_uniform w) (has_quiet_signal w) halves.0).0; first = found.1; value = found.2 })
 
 whole_sum : (v u stream count most : ℕ) → v ≡ 4 * (count + 1) → u ≡ stream → count < most → stream + 4 * most < 2 ^ 32
     → (v % 2 ^ 32 + u % 2 ^ 32) % 2 ^ 32 % 2 ^ 32 ≡ stream + 4 * (count + 1)

@@ -1,7 +1,7 @@
 -- Facts on registers, from one instruction to the next.
 use Rattle.std.proofs.Common.{◌≡◌, ◌≢◌, ◌<◌, ◌≤◌, inl, inr, ℕ, ◌+◌, ◌-◌, Bool, true, false, ◌&&◌, ◌||◌, ◌==◌, not, Option, Some, None, List, refl, sym, ap, subst, arith, ◌∙◌, nat_le, if◌then◌else◌}
 use Rattle.std.specs.Prelude.{slice_index}
-use Rattle.std.proofs.lemmas.Bool.{cases_eq, and_from, true≢false, eqb-true, le-leb, leb-true, false_from_ne_true, not_from_false}
+use Rattle.std.proofs.lemmas.Bool.{cases_eq, and_from, true≢false, eqb-true, le-leb, leb-true, false_from_ne_true, not_from_false, and_parts, not-true}
 use Rattle.std.proofs.lemmas.Bool.Decides.{nat_tests}
 use Rattle.qpu_isa.specs.declared.inst.Reg.{Reg}
 use Rattle.qpu_isa.specs.Word.{add_a_of, cond_add_of}
@@ -24,14 +24,9 @@ use Rattle.qpu_machine.specs.Writes.{fate_of, switches}
 use Rattle.qpu_law.specs.Home.{Home, IsAt, readied, done}
 use Rattle.qpu_law.specs.Stream.{uniform_at}
 use Rattle.qpu_law.specs.Facts.{row_of, HasRows, IsMade, Tells, FactsHold}
-use Rattle.qpu_law.proofs.Going.{both}
 use Rattle.qpu_law.proofs.Values.{register_same, register_set, fresh_is}
 use Rattle.qpu_law.proofs.Operands.{untargeted, last_unnamed, operand_is, selects_known, ready_row}
 use Rattle.qpu_law.proofs.Sums.{load_lane, max_lane, min_lane}
-
-false_of : (b : Bool) → not b ≡ true → b ≡ false
-false_of true is = absurd (true≢false (sym is))
-false_of false is = refl
 
 pub made_of : (code : List ℕ) (j n : ℕ) (reg : Reg) → IsCarrier code j n reg → IsMade code j n reg
 made_of code j n reg one = let parts = carried_parts code j n reg one.carried in record { before = one.below; set_there = parts.0; still = parts.1 }
@@ -66,16 +61,16 @@ not_negative_by code n reg is = is_max_found code n reg (carrier_of code n reg) 
 alone_plain : (w : ℕ) (reg : Reg) → sets_alone w reg ≡ true → is_add_packed w ≡ false
 unfolding sets_alone
 alone_plain w reg is =
-    false_of (is_add_packed w) (both (cond_add_of w == 1) (not (is_add_packed w)) (both (add_names_reg w reg && not (mul_names_reg w reg)) (cond_add_of w == 1 && not (is_add_packed w)) is).1).1
+    not-true (is_add_packed w) (and_parts (cond_add_of w == 1) (not (is_add_packed w)) (and_parts (add_names_reg w reg && not (mul_names_reg w reg)) (cond_add_of w == 1 && not (is_add_packed w)) is).1).1
 
 clamp_parts : (code : List ℕ) (n : ℕ) → makes_clamp code n ≡ true
     → (is_min_with_uniform (word code n) ≡ true) × ((reg : Reg) × (first_register (word code n) ≡ Some reg) × (is_not_negative code n reg ≡ true))
 unfolding makes_clamp
 clamp_parts code n is =
-    let halves = both (is_min_with_uniform (word code n)) (passes (first_register (word code n)) (is_not_negative code n)) is in
+    let halves = and_parts (is_min_with_uniform (word code n)) (passes (first_register (word code n)) (is_not_negative code n)) is in
     (halves.0, passed (first_register (word code n)) (is_not_negative code n) halves.1)
 
-first_is : (w : ℕ) (reg : Reg) → first_register w ≡ Some reg → operand_register w (add_a_of w) ≡ Some reg
+pub first_is : (w : ℕ) (reg : Reg) → first_register w ≡ Some reg → operand_register w (add_a_of w) ≡ Some reg
 unfolding first_register
 first_is w reg is = is
 
@@ -105,41 +100,41 @@ between_less code j n none =
     some_below_none n (λ s. is_switch (word code s) && (nat_le j (s + 2) && nat_le (s + 3) n))
     (λ s below. false_from_ne_true (is_switch (word code s) && (nat_le j (s + 2) && nat_le (s + 3) n))
     (λ is.
-    let one = both (is_switch (word code s)) (nat_le j (s + 2) && nat_le (s + 3) n) is in
-    let two = both (nat_le j (s + 2)) (nat_le (s + 3) n) one.1 in
+    let one = and_parts (is_switch (word code s)) (nat_le j (s + 2) && nat_le (s + 3) n) is in
+    let two = and_parts (nat_le j (s + 2)) (nat_le (s + 3) n) one.1 in
     let less = leb-true (s + 3) n two.1 in
     let there : (is_switch (word code s) && (nat_le j (s + 2) && nat_le (s + 3) (n + 1))) ≡ true =
     and_from (is_switch (word code s)) (nat_le j (s + 2) && nat_le (s + 3) (n + 1)) one.0 (and_from (nat_le j (s + 2)) (nat_le (s + 3) (n + 1)) two.0 (le-leb (s + 3) (n + 1) (omega (arith, less)))) in
     true≢false (sym there ∙ some_below_not (n + 1) s (λ k. is_switch (word code k) && (nat_le j (k + 2) && nat_le (k + 3) (n + 1))) none (omega (arith, below)))))
 
 acc_less : (acc a b : Bool) → (a ≡ false → b ≡ false) → not (acc && a) ≡ true → not (acc && b) ≡ true
-acc_less true a b less is = not_from_false b (less (false_of a is))
+acc_less true a b less is = not_from_false b (less (not-true a is))
 acc_less false a b less is = refl
 
 stays_less : (code : List ℕ) (j n : ℕ) (reg : Reg) → stays code j (n + 1) reg ≡ true → stays code j n reg ≡ true
 unfolding stays
 stays_less code j n reg is =
     let name : ℕ → Bool = λ k. names (word code k) reg in
-    let one = both (not (some_in (j + 1) (n + 1) name)) (not (some_in (j + 1) (n + 1 + 1) (is_target code)) && not (is_accumulator reg && switches_between code j (n + 1))) is in
-    let two = both (not (some_in (j + 1) (n + 1 + 1) (is_target code))) (not (is_accumulator reg && switches_between code j (n + 1))) one.1 in
+    let one = and_parts (not (some_in (j + 1) (n + 1) name)) (not (some_in (j + 1) (n + 1 + 1) (is_target code)) && not (is_accumulator reg && switches_between code j (n + 1))) is in
+    let two = and_parts (not (some_in (j + 1) (n + 1 + 1) (is_target code))) (not (is_accumulator reg && switches_between code j (n + 1))) one.1 in
     and_from (not (some_in (j + 1) n name)) (not (some_in (j + 1) (n + 1) (is_target code)) && not (is_accumulator reg && switches_between code j n))
     (not_from_false (some_in (j + 1) n name)
-    (some_in_none (j + 1) n name (λ k from to. some_in_not (j + 1) (n + 1) k name (false_of (some_in (j + 1) (n + 1) name) one.0) from (omega (arith, to)))))
+    (some_in_none (j + 1) n name (λ k from to. some_in_not (j + 1) (n + 1) k name (not-true (some_in (j + 1) (n + 1) name) one.0) from (omega (arith, to)))))
     (and_from (not (some_in (j + 1) (n + 1) (is_target code))) (not (is_accumulator reg && switches_between code j n))
     (not_from_false (some_in (j + 1) (n + 1) (is_target code))
-    (some_in_none (j + 1) (n + 1) (is_target code) (λ k from to. some_in_not (j + 1) (n + 1 + 1) k (is_target code) (false_of (some_in (j + 1) (n + 1 + 1) (is_target code)) two.0) from (omega (arith, to)))))
+    (some_in_none (j + 1) (n + 1) (is_target code) (λ k from to. some_in_not (j + 1) (n + 1 + 1) k (is_target code) (not-true (some_in (j + 1) (n + 1 + 1) (is_target code)) two.0) from (omega (arith, to)))))
     (acc_less (is_accumulator reg) (switches_between code j (n + 1)) (switches_between code j n) (between_less code j n) two.1))
 
 -- An accumulator with a fact isn't one of a thread that switches.
 acc_between : (acc a : Bool) → acc ≡ true → not (acc && a) ≡ true → a ≡ false
-acc_between true a is none = false_of a none
+acc_between true a is none = not-true a none
 acc_between false a is none = absurd (true≢false (sym is))
 
 none_between : (code : List ℕ) (j n : ℕ) (reg : Reg) → stays code j n reg ≡ true → is_accumulator reg ≡ true → switches_between code j n ≡ false
 unfolding stays
 none_between code j n reg is acc =
-    let one = both (not (some_in (j + 1) n (λ k. names (word code k) reg))) (not (some_in (j + 1) (n + 1) (is_target code)) && not (is_accumulator reg && switches_between code j n)) is in
-    let two = both (not (some_in (j + 1) (n + 1) (is_target code))) (not (is_accumulator reg && switches_between code j n)) one.1 in
+    let one = and_parts (not (some_in (j + 1) n (λ k. names (word code k) reg))) (not (some_in (j + 1) (n + 1) (is_target code)) && not (is_accumulator reg && switches_between code j n)) is in
+    let two = and_parts (not (some_in (j + 1) (n + 1) (is_target code))) (not (is_accumulator reg && switches_between code j n)) one.1 in
     acc_between (is_accumulator reg) (switches_between code j n) acc two.1
 
 switch_between : (code : List ℕ) (j n : ℕ) → 2 ≤ n → j ≤ n → is_switch (word code (n - 2)) ≡ true → switches_between code j (n + 1) ≡ true

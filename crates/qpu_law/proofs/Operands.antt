@@ -1,7 +1,7 @@
 -- What an instruction computes with, where a fact stands for its register.
 use Rattle.std.proofs.Common.{◌≡◌, ◌≢◌, ◌<◌, ◌≤◌, inl, inr, ℕ, ◌+◌, ◌-◌, Bool, true, false, ◌&&◌, ◌==◌, not, Option, Some, None, List, [], refl, sym, ap, subst, arith, ◌∙◌, nat_lt, if◌then◌else◌}
 use Rattle.std.specs.Prelude.{slice_index_or}
-use Rattle.std.proofs.lemmas.Bool.{cases_Bool, true≢false, eqb-true, ltb-true}
+use Rattle.std.proofs.lemmas.Bool.{cases_Bool, true≢false, eqb-true, ltb-true, and_parts, not-true}
 use Rattle.std.proofs.lemmas.Bool.Decides.{nat_tests}
 use Rattle.qpu_isa.specs.declared.inst.Reg.{Reg}
 use Rattle.qpu_isa.specs.declared.inst.Reg.TheVariants.{A, B, Acc}
@@ -19,19 +19,14 @@ use Rattle.qpu_machine.specs.Row.{filled, chosen_row, chosen_rows}
 use Rattle.qpu_machine.specs.Writes.{awake}
 use Rattle.qpu_law.specs.Home.{Home, IsAt, readied}
 use Rattle.qpu_law.specs.Facts.{row_of, IsMade}
-use Rattle.qpu_law.proofs.Going.{both}
-
-false_of : (b : Bool) → not b ≡ true → b ≡ false
-false_of true is = absurd (true≢false (sym is))
-false_of false is = refl
 
 -- no target stands between
 pub untargeted : (code : List ℕ) (j n : ℕ) (reg : Reg) → IsMade code j n reg → (k : ℕ) → j < k → k ≤ n → is_target code k ≡ false
 unfolding stays
 untargeted code j n reg made k after upto =
-    let parts = both (not (some_in (j + 1) n (λ i. names (word code i) reg))) (not (some_in (j + 1) (n + 1) (is_target code)) && not (is_accumulator reg && switches_between code j n)) made.still in
-    let second = both (not (some_in (j + 1) (n + 1) (is_target code))) (not (is_accumulator reg && switches_between code j n)) parts.1 in
-    some_in_not (j + 1) (n + 1) k (is_target code) (false_of (some_in (j + 1) (n + 1) (is_target code)) second.0) (omega (arith, after)) (omega (arith, upto))
+    let parts = and_parts (not (some_in (j + 1) n (λ i. names (word code i) reg))) (not (some_in (j + 1) (n + 1) (is_target code)) && not (is_accumulator reg && switches_between code j n)) made.still in
+    let second = and_parts (not (some_in (j + 1) (n + 1) (is_target code))) (not (is_accumulator reg && switches_between code j n)) parts.1 in
+    some_in_not (j + 1) (n + 1) k (is_target code) (not-true (some_in (j + 1) (n + 1) (is_target code)) second.0) (omega (arith, after)) (omega (arith, upto))
 
 -- the last executed instruction doesn't name it, unless it made it
 pub last_unnamed : (h : Home) (j n : ℕ) (reg : Reg) (t : Thread) → IsAt h n t → IsMade h.code j n reg → n ≢ j + 1 → names t.last1.word reg ≡ false
@@ -87,12 +82,12 @@ by_tests : (w sel : ℕ) (reg : Reg) (c a b : Bool) → nat_lt sel 4 ≡ c → (
     → (if c then Some (Acc sel) else (if a then Some (A (raddr_a_of w)) else (if b then Some (B (raddr_b_of w)) else None))) ≡ Some reg → Selects w sel reg
 by_tests w sel reg true a b low is_a is_b is = subst (λ r. Selects w sel r) (some_same (Acc sel) reg is) (OfAcc (ltb-true sel 4 low))
 by_tests w sel reg false true b low is_a is_b is =
-    let parts = both (sel == 6) (nat_lt (raddr_a_of w) 32) is_a in
+    let parts = and_parts (sel == 6) (nat_lt (raddr_a_of w) 32) is_a in
     subst (λ r. Selects w sel r) (some_same (A (raddr_a_of w)) reg is) (OfA (eqb-true sel 6 parts.0) (ltb-true (raddr_a_of w) 32 parts.1))
 by_tests w sel reg false false true low is_a is_b is =
-    let parts = both (sel == 7) (nat_lt (raddr_b_of w) 32 && not (has_small w)) is_b in
-    let second = both (nat_lt (raddr_b_of w) 32) (not (has_small w)) parts.1 in
-    subst (λ r. Selects w sel r) (some_same (B (raddr_b_of w)) reg is) (OfB (eqb-true sel 7 parts.0) (ltb-true (raddr_b_of w) 32 second.0) (false_of (has_small w) second.1))
+    let parts = and_parts (sel == 7) (nat_lt (raddr_b_of w) 32 && not (has_small w)) is_b in
+    let second = and_parts (nat_lt (raddr_b_of w) 32) (not (has_small w)) parts.1 in
+    subst (λ r. Selects w sel r) (some_same (B (raddr_b_of w)) reg is) (OfB (eqb-true sel 7 parts.0) (ltb-true (raddr_b_of w) 32 second.0) (not-true (has_small w) second.1))
 by_tests w sel reg false false false low is_a is_b is = absurd cc
 
 selects_by : (w sel : ℕ) (reg : Reg) → rest_of w sel ≡ Some reg → Selects w sel reg

@@ -1,7 +1,7 @@
 -- Where a thread's uniform pointer stands.
 use Rattle.std.proofs.Common.{◌≡◌, ◌<◌, ◌≤◌, inl, inr, ◌⊎◌, ℕ, ◌+◌, ◌-◌, ◌*◌, ◌/◌, ◌%◌, ◌^◌, Bool, true, false, ◌&&◌, ◌==◌, not, List, length, Some, None, refl, sym, ap, subst, arith, ◌∙◌, nat_le, if◌then◌else◌}
 use Rattle.std.specs.Prelude.{slice_index}
-use Rattle.std.proofs.lemmas.Bool.{cases_Bool, true≢false, eqb-true, false_from_ne_true, leb-false}
+use Rattle.std.proofs.lemmas.Bool.{cases_Bool, true≢false, eqb-true, false_from_ne_true, leb-false, and_parts, not-true, not-false}
 use Rattle.field_words.specs.Sizes.{most_words}
 use Rattle.qpu_isa.specs.Word.{ws_of, waddr_add_of, waddr_mul_of, cond_add_of, cond_mul_of, imm_of}
 use Rattle.qpu_isa.specs.Terms.{is_branch, is_backward, target_of, add_names, mul_names, names_on_a, names_on_b, is_address_write, is_relative_address_write, is_add_packed}
@@ -14,7 +14,7 @@ use Rattle.uniform_stream.specs.Stream.{is_known, uniforms_of, writes_address}
 use Rattle.uniform_stream.proofs.Restarts.{known_not}
 use Rattle.shader_check.specs.Rules.{s16, is_exact_address_write, adds_address}
 use Rattle.shader_check.proofs.Clean.{clean}
-use Rattle.shader_check.proofs.SoundInfo.{IsAddressWord, Written, Open, address_takes, address_below, count_total, total_le}
+use Rattle.shader_check.proofs.SoundInfo.{IsAddressWord, Written, Open, address_write_at, address_takes, address_below, count_total, total_le}
 use Rattle.qpu_machine.specs.declared.state.Mark.{Mark}
 use Rattle.qpu_machine.specs.declared.state.Thread.{Thread}
 use Rattle.qpu_machine.specs.Operands.{add_row, mul_row}
@@ -23,9 +23,9 @@ use Rattle.qpu_machine.specs.Writes.{pointer_after, add_address, mul_address}
 use Rattle.qpu_law.specs.Home.{Home, HasNoFault, Lands, readied, done}
 use Rattle.qpu_law.specs.Stream.{uniform_at, IsAddressCount, HoldsAddresses, IsStreamLow, TakesNone, GoesForward, IsRight, IsLost, IsOver, PointerIs}
 use Rattle.qpu_law.proofs.Rules.{fine_at}
-use Rattle.qpu_law.proofs.Going.{behind, both, makes_on}
+use Rattle.qpu_law.proofs.Going.{behind, makes_on}
 use Rattle.qpu_law.proofs.Frames.{is_went, uniforms_are}
-use Rattle.qpu_law.proofs.Counts.{lost_writes, writes_checked, unknown_next, takes_checked, last_word, next_word}
+use Rattle.qpu_law.proofs.Counts.{lost_writes, unknown_next, takes_checked, last_word, next_word}
 
 -- What the thread would fetch there is the uniform that its instruction takes.
 pub record Fetches (h : Home) (n pointer : ℕ) : Type 0 where
@@ -35,7 +35,7 @@ pub record Fetches (h : Home) (n pointer : ℕ) : Type 0 where
   pub same : slice_index h.words at ≡ uniform_at h n
 
 address_word : (code : List ℕ) (k : ℕ) → IsAddressCount code k → IsAddressWord code k
-address_word code k (inl one) = let parts = writes_checked code one.by one.writes in Written one.by parts.0 parts.1 one.is
+address_word code k (inl one) = let parts = address_write_at code one.by one.writes in Written one.by parts.0 parts.1 one.is
 address_word code k (inr last) = Open last.opened last.is
 
 pub uniform_is : (h : Home) (n : ℕ) (t : Thread) → HasNoFault h.code → HoldsAddresses h → PointerIs h n t → takes h.code n ≡ true → Fetches h n t.uniforms
@@ -100,26 +100,18 @@ pub record IsAdded (w : ℕ) : Type 0 where
   pub always : cond_add_of w ≡ 1
   pub plain : is_add_packed w ≡ false
 
-false_of : (b : Bool) → not b ≡ true → b ≡ false
-false_of true is = absurd (true≢false (sym is))
-false_of false is = refl
-
 exact_added : (w : ℕ) → adds_address w ≡ true → IsAdded w
 unfolding adds_address
 exact_added w adds =
-    let halves = both (not (ws_of w) && add_names w 40) (cond_add_of w == 1 && not (is_add_packed w)) adds in
-    let first = both (not (ws_of w)) (add_names w 40) halves.0 in
-    let second = both (cond_add_of w == 1) (not (is_add_packed w)) halves.1 in
-    record { side = false_of (ws_of w) first.0; names = first.1; always = eqb-true (cond_add_of w) 1 second.0; plain = false_of (is_add_packed w) second.1 }
-
-not_not_true : (b : Bool) → not b ≡ false → b ≡ true
-not_not_true true is = refl
-not_not_true false is = absurd (true≢false is)
+    let halves = and_parts (not (ws_of w) && add_names w 40) (cond_add_of w == 1 && not (is_add_packed w)) adds in
+    let first = and_parts (not (ws_of w)) (add_names w 40) halves.0 in
+    let second = and_parts (cond_add_of w == 1) (not (is_add_packed w)) halves.1 in
+    record { side = not-true (ws_of w) first.0; names = first.1; always = eqb-true (cond_add_of w) 1 second.0; plain = not-true (is_add_packed w) second.1 }
 
 pub exact_at : (code : List ℕ) (n : ℕ) → HasNoFault code → n < checked_of code → is_address_write (word code n) ≡ true → is_exact_address_write code n ≡ true
 unfolding s16
 exact_at code n none inside is =
-    not_not_true (is_exact_address_write code n) (behind (is_address_write (word code n)) (not (is_exact_address_write code n)) is (fine_at code none n inside).no16)
+    not-false (is_exact_address_write code n) (behind (is_address_write (word code n)) (not (is_exact_address_write code n)) is (fine_at code none n inside).no16)
 
 named_address : (branch : Bool) (address : ℕ) → (not branch && address == 40) ≡ true → ((if branch then 39 else address) == 40) ≡ true
 named_address true address is = absurd (true≢false (sym is))
@@ -162,7 +154,7 @@ pointer_sets code n u p words t none inside added =
 
 pub added_at : (code : List ℕ) (n : ℕ) → HasNoFault code → n < checked_of code → is_address_write (word code n) ≡ true → IsAdded (word code n)
 unfolding is_exact_address_write
-added_at code n none inside is = exact_added (word code n) (both (adds_address (word code n)) _ (both _ _ (exact_at code n none inside is)).1).0
+added_at code n none inside is = exact_added (word code n) (and_parts (adds_address (word code n)) _ (and_parts _ _ (exact_at code n none inside is)).1).0
 
 -- what the pointer is when the instruction has taken its uniform
 pub record IsPast (h : Home) (n p : ℕ) (t : Thread) : Type 0 where
@@ -186,7 +178,7 @@ over_on h n u p words t over =
 
 no_write : (code : List ℕ) (n : ℕ) → is_address_write (word code n) ≡ false → writes_address code n ≡ false
 unfolding writes_address
-no_write code n other = false_from_ne_true (writes_address code n) (λ writes. true≢false (sym (writes_checked code n writes).1 ∙ other))
+no_write code n other = false_from_ne_true (writes_address code n) (λ writes. true≢false (sym (address_write_at code n writes).1 ∙ other))
 
 -- not over
 abbrev pub IsSettled : Home → ℕ → ℕ → Type 0

@@ -1,13 +1,12 @@
 -- What a TMU reads for a request that is fine.
-use Rattle.std.proofs.Common.{◌≡◌, ◌≢◌, ◌≤◌, ◌<◌, ℕ, zero, suc, ◌+◌, ◌-◌, ◌*◌, ◌%◌, ◌^◌, ◌&&◌, ◌||◌, ◌==◌, Bool, true, false, if◌then◌else◌, List, [], ◌∷◌, ◌++◌, Option, Some, None, inl, inr, refl, sym, ap, subst, arith, ◌∙◌, nat_lt}
+use Rattle.std.proofs.Common.{◌≡◌, ◌≤◌, ◌<◌, ℕ, zero, suc, ◌+◌, ◌-◌, ◌*◌, ◌%◌, ◌^◌, ◌&&◌, ◌||◌, ◌==◌, Bool, true, false, if◌then◌else◌, List, [], ◌∷◌, ◌++◌, Option, Some, None, inl, inr, refl, sym, ap, subst, arith, ◌∙◌, nat_lt}
 use Rattle.std.specs.Prelude.{slice_index}
 use Rattle.std.proofs.lemmas.Bool.{or_from}
 use Rattle.std.proofs.lemmas.Grind.{common_steps}
 use Rattle.field_words.specs.Questions.{first_of}
 use Rattle.field_words.proofs.Questions.{none_stands}
 use Rattle.field_words.specs.declared.access.Access.{Access}
-use Rattle.field_words.specs.declared.access.Way.{Way}
-use Rattle.field_words.specs.declared.access.Way.TheVariants.{Read, Write, Wild}
+use Rattle.field_words.specs.declared.access.Way.TheVariants.{Read}
 use Rattle.field_words.specs.Words.{u32_at}
 use Rattle.texture_layouts.specs.declared.surface.Tiling.{Tiling}
 use Rattle.texture_layouts.specs.declared.surface.Tiling.TheVariants.{Raster, T, Lt}
@@ -24,6 +23,7 @@ use Rattle.machine_plan.specs.Choice.{word_at}
 use Rattle.machine_plan.specs.Memory.{bytes_at}
 use Rattle.machine_plan.specs.Plan.{Plan, Wilds, access, Keeps}
 use Rattle.machine_plan.specs.Regions.{Every, Interval, LiesIn, Inside, Rights, IsSafeIn}
+use Rattle.machine_plan.proofs.Safe.{read_safe}
 use Rattle.machine_plan.proofs.Worlds.{keeps_mapped}
 use Rattle.qpu_machine.specs.declared.state.Ask.{Ask}
 use Rattle.qpu_machine.specs.declared.state.Ask.TheVariants.{Direct, Texture}
@@ -226,16 +226,6 @@ ask_keeps within (Texture four) fine who words m L G usable =
 pub asks_stay_in_law : AsksStayIn
 asks_stay_in_law within ask fine who words m =
     ask_keeps within ask fine who words m (λ place len. ⊥) (IsReadIn within) (λ q n inside. record { way = refl; inside = inside })
-
-read_tame : (way : Way) → way ≡ Read → way ≢ Wild
-read_tame way is wild = cc
-
-read_only : (way : Way) → way ≡ Read → way ≡ Write → ⊥
-read_only way is write = cc
-
--- a read inside the region is safe
-pub read_safe : (rights : Rights) (who : Who) (q n : ℕ) → Inside rights.region q n → IsSafeIn rights (access who Read q n)
-read_safe rights who q n inside = record { tame = read_tame Read refl; inside = inside; writes = λ is. absurd (read_only Read refl is) }
 
 pub one_inside : (region : List Interval) (place size q n : ℕ) → IsOneOf region place size → LiesIn q n (record { place = place; size = size }) → Inside region q n
 one_inside [] place size q n none lies = absurd none

@@ -1,12 +1,12 @@
 -- What no rule's standing says of a checked instruction.
-use Rattle.std.proofs.Common.{◌≡◌, ◌<◌, ◌≤◌, ℕ, ◌+◌, false, List, length, sym, ap, arith, ◌∙◌}
-use Rattle.field_words.specs.Questions.{first_of, each, answered}
+use Rattle.std.proofs.Common.{◌≡◌, ◌<◌, ◌≤◌, ℕ, ◌+◌, false, List, length, arith}
+use Rattle.field_words.specs.Questions.{each, answered}
 use Rattle.field_words.proofs.Questions.{none_stands}
 use Rattle.shader_flow.specs.Flow.{end_of, checked_of}
 use Rattle.shader_flow.specs.Rules.{s3, s4, s5, s6, s7, s8, s9, s10, s11, s12, s13, s27}
 use Rattle.uniform_stream.specs.Rules.{s14, s15, s17, s18, s19, s20, s21, s22, s23, s25}
 use Rattle.shader_check.specs.Rules.{s2, s16, s24, s26, index_questions, questions_at, fault_at, whole_questions, shader_questions}
-use Rattle.shader_check.proofs.Clean.{none_front, none_rest, none_answered, none_each}
+use Rattle.field_words.proofs.Nones.{front_none, rest_none, each_none, none_answered}
 use Rattle.qpu_law.specs.Home.{HasNoFault}
 
 -- no rule stands at the instruction
@@ -39,9 +39,8 @@ pub record IsFineAt (code : List ℕ) (i : ℕ) : Type 0 where
 pub fine_at : (code : List ℕ) → HasNoFault code → (i : ℕ) → i < checked_of code → IsFineAt code i
 unfolding shader_questions questions_at index_questions
 fine_at code none i inside =
-    let all = none_front (each (questions_at code) 0 (checked_of code)) (answered (fault_at (length code)) (whole_questions code)) none in
-    let e : 0 + i ≡ i = omega arith in
-    let here = sym (ap (λ m. first_of (questions_at code m)) e) ∙ none_each (questions_at code) (checked_of code) 0 all i inside in
+    let all = front_none (each (questions_at code) 0 (checked_of code)) (answered (fault_at (length code)) (whole_questions code)) none in
+    let here = each_none (questions_at code) 0 (checked_of code) i all (omega arith) (omega (arith, inside)) in
     let r3 = none_stands (index_questions code i) (none_answered (fault_at i) (index_questions code i) here) in
     let r8 = r3.1.1.1.1.1 in
     let r13 = r8.1.1.1.1.1 in
@@ -82,7 +81,7 @@ pub record IsFineWhole (code : List ℕ) : Type 0 where
 pub fine_whole : (code : List ℕ) → HasNoFault code → IsFineWhole code
 unfolding shader_questions whole_questions
 fine_whole code none =
-    let rest = none_rest (each (questions_at code) 0 (checked_of code)) (answered (fault_at (length code)) (whole_questions code)) none in
+    let rest = rest_none (each (questions_at code) 0 (checked_of code)) (answered (fault_at (length code)) (whole_questions code)) none in
     let rules = none_stands (whole_questions code) (none_answered (fault_at (length code)) (whole_questions code) rest) in
     record { no2 = rules.1.0; no26 = rules.1.1.0 }
 

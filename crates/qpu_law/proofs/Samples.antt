@@ -2,11 +2,11 @@
 use Rattle.std.proofs.Common.{◌≡◌, ◌<◌, ◌≤◌, inl, inr, ℕ, zero, suc, ◌+◌, ◌-◌, ◌%◌, ◌^◌, Bool, true, false, ◌&&◌, ◌||◌, ◌==◌, not, Option, Some, None, List, [], ◌∷◌, ◌++◌, map, length, refl, sym, ap, subst, arith, ◌∙◌, nat_lt, if◌then◌else◌}
 use Rattle.std.specs.Prelude.{slice_index, slice_get, unwrap_or}
 use Rattle.std.proofs.lemmas.List.{map-append}
-use Rattle.std.proofs.lemmas.Bool.{and_from, and_right, or_from, or_cases, or_left, or_right, or_parts, lt-ltb, true≢false}
+use Rattle.std.proofs.lemmas.Bool.{and_from, and_right, or_from, or_cases, or_left, or_right, or_parts, lt-ltb, true≢false, and_parts, not-true}
 use Rattle.field_words.specs.Questions.{first_of}
 use Rattle.qpu_isa.specs.declared.inst.Reg.{Reg}
 use Rattle.qpu_isa.specs.Word.{add_a_of, add_b_of, op_add_of}
-use Rattle.qpu_isa.specs.Terms.{writes_s, s_address, names_address, add_names, mul_names, is_add_with_uniform, is_add_packed, first_register, has_small, is_load_imm, is_alu, is_uniform_operand, operand_register, passes}
+use Rattle.qpu_isa.specs.Terms.{writes_s, s_address, names_address, add_names, mul_names, is_add_with_uniform, is_add_packed, first_register, has_small, is_load_imm, is_alu, is_uniform_operand, passes}
 use Rattle.qpu_isa.specs.Setups.{is_direct, adds_direct, muls_direct}
 use Rattle.shader_flow.specs.Flow.{word, checked_of}
 use Rattle.shader_flow.specs.Pending.{count_of, pending_of, takes}
@@ -36,8 +36,7 @@ use Rattle.qpu_law.specs.Stream.{uniform_at, held_words}
 use Rattle.qpu_law.specs.Thread.{IsHome, IsThread, HasSamples}
 use Rattle.qpu_law.specs.Samples.{AsksAreFine}
 use Rattle.qpu_law.proofs.Frames.{asked_is}
-use Rattle.qpu_law.proofs.Going.{both}
-use Rattle.qpu_law.proofs.Keeping.{carried_operand}
+use Rattle.qpu_law.proofs.Keeping.{carried_operand, first_is}
 use Rattle.qpu_law.proofs.Rules.{fine_at, in_checked}
 use Rattle.qpu_law.proofs.Setups.{are_pending}
 use Rattle.qpu_law.proofs.Sums.{sum_lane, alu_loads_not}
@@ -97,26 +96,18 @@ record IsClampedWrite (code : List ℕ) (n : ℕ) : Type 0 where
   first : first_register (word code n) ≡ Some reg
   clamped : is_clamped code n reg ≡ true
 
-false_of : (b : Bool) → not b ≡ true → b ≡ false
-false_of true is = absurd (true≢false (sym is))
-false_of false is = refl
-
 clamped_write : (code : List ℕ) (n : ℕ) → is_clamped_write code n ≡ true → IsClampedWrite code n
 unfolding is_clamped_write
 clamped_write code n is =
     let w = word code n in
-    let halves = both (is_add_with_uniform w && (not (has_small w) && not (is_add_packed w))) (passes (first_register w) (is_clamped code n)) is in
-    let front = both (is_add_with_uniform w) (not (has_small w) && not (is_add_packed w)) halves.0 in
+    let halves = and_parts (is_add_with_uniform w && (not (has_small w) && not (is_add_packed w))) (passes (first_register w) (is_clamped code n)) is in
+    let front = and_parts (is_add_with_uniform w) (not (has_small w) && not (is_add_packed w)) halves.0 in
     let found = passed (first_register w) (is_clamped code n) halves.1 in
-    record { sum = front.0; plain = false_of (is_add_packed w) (both (not (has_small w)) (not (is_add_packed w)) front.1).1; reg = found.0; first = found.1; clamped = found.2 }
+    record { sum = front.0; plain = not-true (is_add_packed w) (and_parts (not (has_small w)) (not (is_add_packed w)) front.1).1; reg = found.0; first = found.1; clamped = found.2 }
 
 sum_alu : (w : ℕ) → is_add_with_uniform w ≡ true → is_alu w ≡ true
 unfolding is_add_with_uniform
-sum_alu w is = (both (is_alu w) (op_add_of w == 12) (both (is_alu w && op_add_of w == 12) (is_uniform_operand w (add_b_of w)) is).0).0
-
-first_operand : (w : ℕ) (reg : Reg) → first_register w ≡ Some reg → operand_register w (add_a_of w) ≡ Some reg
-unfolding first_register
-first_operand w reg is = is
+sum_alu w is = (and_parts (is_alu w) (op_add_of w == 12) (and_parts (is_alu w && op_add_of w == 12) (is_uniform_operand w (add_b_of w)) is).0).0
 
 direct_words : (h : Home) (n j : ℕ) → is_direct_sample h.code n ≡ true → clamp_parts h.code n ≡ j ∷ [] → (parts_word h n 0 ≡ uniform_at h n) × (parts_word h n 1 ≡ uniform_at h j)
 unfolding parts_word sample_parts
@@ -149,7 +140,7 @@ direct_fine h buffers region m n u p words t home has is taken sample direct cla
     let within : Interval = record { place = s.place; size = s.size } in
     let each : (e : ℕ) → e < 16 → IsWordIn within (slice_index (add_row (readied p words t) w u words) e) =
     λ e below.
-    (let told = carried_operand h found.0 n u p words t (add_a_of w) parts.reg is.at is.facts carries.0 (first_operand w parts.reg parts.first) e below in
+    (let told = carried_operand h found.0 n u p words t (add_a_of w) parts.reg is.at is.facts carries.0 (first_is w parts.reg parts.first) e below in
     address_in (slice_index (operand (readied p words t) w (add_a_of w) u words) e) u s.source s.place (uniform_at h found.0) s.size (told.clamped carries.1) u_is
     (omega (arith, room, bound)) (has.low s.place s.size s.named) (has.page s.place s.size s.named)
     (slice_index (add_row (readied p words t) w u words) e) (sum_lane (readied p words t) w u words e below parts.plain parts.sum)) in

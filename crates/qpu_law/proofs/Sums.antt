@@ -1,7 +1,7 @@
 -- What the add unit comes to, where a rule looks at it.
 use Rattle.std.proofs.Common.{◌≡◌, ◌<◌, ◌≤◌, inl, inr, ◌⊎◌, ℕ, ◌+◌, ◌%◌, ◌^◌, Bool, true, false, ◌&&◌, ◌||◌, ◌==◌, not, Some, None, List, refl, sym, ap, subst, arith, ◌∙◌, if◌then◌else◌}
 use Rattle.std.specs.Prelude.{slice_index, unwrap_or}
-use Rattle.std.proofs.lemmas.Bool.{or_cases, true≢false, eqb-true}
+use Rattle.std.proofs.lemmas.Bool.{or_cases, true≢false, eqb-true, and_parts}
 use Rattle.std.proofs.lemmas.Bool.Decides.{nat_tests}
 use Rattle.std.proofs.lemmas.List.{get_or-replicate}
 use Rattle.qpu_isa.specs.Word.{raddr_a_of, raddr_b_of, add_a_of, add_b_of, op_add_of, imm_of, mode_of}
@@ -12,7 +12,6 @@ use Rattle.machine_plan.specs.Choice.{word_at}
 use Rattle.qpu_machine.specs.declared.state.Thread.{Thread}
 use Rattle.qpu_machine.specs.Operands.{read_a, read_b, small_row, operand, immediate_row, sums, add_row}
 use Rattle.qpu_machine.specs.Row.{filled, chosen_row}
-use Rattle.qpu_law.proofs.Going.{both}
 use Rattle.qpu_law.proofs.Values.{lane_at}
 
 pub filled_at : (x e : ℕ) → e < 16 → slice_index (filled x) e ≡ x
@@ -26,22 +25,22 @@ uniform_a false address u free later plain is = absurd (true≢false (sym plain)
 
 uniform_b : (small : Bool) (address : ℕ) (u : ℕ) (other later : List ℕ) → (address == 32 && not small) ≡ true
     → (if small then other else (if address == 32 then filled u else later)) ≡ filled u
-uniform_b true address u other later is = absurd (let h = (both (address == 32) false is).1 in true≢false (sym h))
-uniform_b false address u other later is = ap (λ b. if b then filled u else later) (both (address == 32) true is).0
+uniform_b true address u other later is = absurd (let h = (and_parts (address == 32) false is).1 in true≢false (sym h))
+uniform_b false address u other later is = ap (λ b. if b then filled u else later) (and_parts (address == 32) true is).0
 
 pub uniform_operand : (t : Thread) (w sel u : ℕ) (words : List ℕ) → is_uniform_operand w sel ≡ true → operand t w sel u words ≡ filled u
 unfolding is_uniform_operand operand read_a read_b
 uniform_operand t w sel u words is =
-    let parts = both (is_plain w sel) ((sel == 6 && raddr_a_of w == 32) || (sel == 7 && (raddr_b_of w == 32 && not (has_small w)))) is in
+    let parts = and_parts (is_plain w sel) ((sel == 6 && raddr_a_of w == 32) || (sel == 7 && (raddr_b_of w == 32 && not (has_small w)))) is in
     elim (or_cases (sel == 6 && raddr_a_of w == 32) (sel == 7 && (raddr_b_of w == 32 && not (has_small w))) parts.1) [
       | inl a ↦
-          (let six : sel ≡ 6 = eqb-true sel 6 (both (sel == 6) (raddr_a_of w == 32) a).0 in
+          (let six : sel ≡ 6 = eqb-true sel 6 (and_parts (sel == 6) (raddr_a_of w == 32) a).0 in
           ap (λ s. operand t w s u words) six
-          ∙ uniform_a (is_plain w 6) (raddr_a_of w) u (chosen_row words 33) _ (subst (λ s. is_plain w s ≡ true) six parts.0) (both (sel == 6) (raddr_a_of w == 32) a).1)
+          ∙ uniform_a (is_plain w 6) (raddr_a_of w) u (chosen_row words 33) _ (subst (λ s. is_plain w s ≡ true) six parts.0) (and_parts (sel == 6) (raddr_a_of w == 32) a).1)
       | inr b ↦
-          (let seven : sel ≡ 7 = eqb-true sel 7 (both (sel == 7) (raddr_b_of w == 32 && not (has_small w)) b).0 in
+          (let seven : sel ≡ 7 = eqb-true sel 7 (and_parts (sel == 7) (raddr_b_of w == 32 && not (has_small w)) b).0 in
           ap (λ s. operand t w s u words) seven
-          ∙ uniform_b (has_small w) (raddr_b_of w) u (small_row (raddr_b_of w) words) _ (both (sel == 7) (raddr_b_of w == 32 && not (has_small w)) b).1)
+          ∙ uniform_b (has_small w) (raddr_b_of w) u (small_row (raddr_b_of w) words) _ (and_parts (sel == 7) (raddr_b_of w == 32 && not (has_small w)) b).1)
     ]
 
 -- an operation's lane
@@ -79,8 +78,8 @@ pub sum_lane : (t : Thread) (w u : ℕ) (words : List ℕ) (e : ℕ) → e < 16 
     → slice_index (add_row t w u words) e ≡ (slice_index (operand t w (add_a_of w) u words) e % 2 ^ 32 + u % 2 ^ 32) % 2 ^ 32
 unfolding is_add_with_uniform
 sum_lane t w u words e below plain is =
-    let halves = both (is_alu w && op_add_of w == 12) (is_uniform_operand w (add_b_of w)) is in
-    let first = both (is_alu w) (op_add_of w == 12) halves.0 in
+    let halves = and_parts (is_alu w && op_add_of w == 12) (is_uniform_operand w (add_b_of w)) is in
+    let first = and_parts (is_alu w) (op_add_of w == 12) halves.0 in
     let x = slice_index (operand t w (add_a_of w) u words) e % 2 ^ 32 in
     let y = slice_index (operand t w (add_b_of w) u words) e % 2 ^ 32 in
     let y_is : slice_index (operand t w (add_b_of w) u words) e ≡ u = ap (λ r. slice_index r e) (uniform_operand t w (add_b_of w) u words halves.1) ∙ filled_at u e below in
@@ -93,8 +92,8 @@ pub min_lane : (t : Thread) (w u : ℕ) (words : List ℕ) (e : ℕ) → e < 16 
     → slice_index (operand t w (add_a_of w) u words) e < 2 ^ 31 → slice_index (add_row t w u words) e ≤ u
 unfolding is_min_with_uniform
 min_lane t w u words e below plain is low =
-    let halves = both (is_alu w && op_add_of w == 18) (is_uniform_operand w (add_b_of w)) is in
-    let first = both (is_alu w) (op_add_of w == 18) halves.0 in
+    let halves = and_parts (is_alu w && op_add_of w == 18) (is_uniform_operand w (add_b_of w)) is in
+    let first = and_parts (is_alu w) (op_add_of w == 18) halves.0 in
     let x = slice_index (operand t w (add_a_of w) u words) e % 2 ^ 32 in
     let y = slice_index (operand t w (add_b_of w) u words) e % 2 ^ 32 in
     let y_is : slice_index (operand t w (add_b_of w) u words) e ≡ u = ap (λ r. slice_index r e) (uniform_operand t w (add_b_of w) u words halves.1) ∙ filled_at u e below in
@@ -123,9 +122,9 @@ pub max_lane : (t : Thread) (w u : ℕ) (words : List ℕ) (e : ℕ) → e < 16 
     → slice_index (add_row t w u words) e < 2 ^ 31
 unfolding is_max_with_zero
 max_lane t w u words e below plain is =
-    let halves = both (has_small w && op_add_of w == 19) (raddr_b_of w == 0 && (add_a_of w == 7 || add_b_of w == 7)) is in
-    let first = both (has_small w) (op_add_of w == 19) halves.0 in
-    let second = both (raddr_b_of w == 0) (add_a_of w == 7 || add_b_of w == 7) halves.1 in
+    let halves = and_parts (has_small w && op_add_of w == 19) (raddr_b_of w == 0 && (add_a_of w == 7 || add_b_of w == 7)) is in
+    let first = and_parts (has_small w) (op_add_of w == 19) halves.0 in
+    let second = and_parts (raddr_b_of w == 0) (add_a_of w == 7 || add_b_of w == 7) halves.1 in
     let zero_is : raddr_b_of w ≡ 0 = eqb-true (raddr_b_of w) 0 second.0 in
     let x = slice_index (operand t w (add_a_of w) u words) e % 2 ^ 32 in
     let y = slice_index (operand t w (add_b_of w) u words) e % 2 ^ 32 in

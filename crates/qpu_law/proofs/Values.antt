@@ -1,7 +1,8 @@
 -- What a register holds after an instruction.
 use Rattle.std.proofs.Common.{◌≡◌, ◌≢◌, ◌<◌, inl, inr, ℕ, ◌+◌, ◌-◌, Bool, true, false, ◌&&◌, ◌||◌, ◌==◌, not, Option, List, [], length, refl, sym, ap, arith, ◌∙◌, nat_lt, nat_le, if◌then◌else◌}
 use Rattle.std.specs.Prelude.{slice_index, slice_index_or, slice_set}
-use Rattle.std.proofs.lemmas.Bool.{cases_Bool, and_from, or_parts, true≢false, eqb-true, eqb-false, lt-ltb, le-leb, agree_below_at}
+use Rattle.std.proofs.Math.Bool.{not-not}
+use Rattle.std.proofs.lemmas.Bool.{cases_Bool, and_from, or_parts, eqb-true, eqb-false, lt-ltb, le-leb, agree_below_at, and_parts, not-true}
 use Rattle.std.proofs.lemmas.Grind.{common_steps}
 use Rattle.std.proofs.lemmas.Bool.Decides.{nat_tests}
 use Rattle.std.proofs.lemmas.List.{length-set, get_or-set_same, get_or-set_other}
@@ -117,10 +118,6 @@ mul_same : (w k : ℕ) → k ≢ 39 → (mul_address w == k) ≡ mul_names w k
 unfolding mul_address mul_names
 mul_same w k other = named_same (is_branch w) (waddr_mul_of w) k other
 
-twice : (b : Bool) → not (not b) ≡ b
-twice true = refl
-twice false = refl
-
 below_apart : (k : ℕ) → k < 36 → k ≢ 39
 below_apart k low is = omega (arith, low, is)
 
@@ -142,7 +139,7 @@ add_leaves w value words t (A k) low none =
     file_other (not (ws_of w)) (add_address w) k (mask_of (cond_add_of w) words 0) value t.a (ap (λ b. not (ws_of w) && b) (add_same w k (below_apart k (omega (arith, low)))) ∙ none)
 add_leaves w value words t (B k) low none =
     file_other (not (not (ws_of w))) (add_address w) k (mask_of (cond_add_of w) words 0) value t.b
-    (ap (λ b. b && (add_address w == k)) (twice (ws_of w)) ∙ (ap (λ b. ws_of w && b) (add_same w k (below_apart k (omega (arith, low)))) ∙ none))
+    (ap (λ b. b && (add_address w == k)) (not-not (ws_of w)) ∙ (ap (λ b. ws_of w && b) (add_same w k (below_apart k (omega (arith, low)))) ∙ none))
 add_leaves w value words t (Acc k) low none =
     acc_other (add_address w) k (mask_of (cond_add_of w) words 0) value words t.acc (add_same w (32 + k) (below_apart (32 + k) (omega (arith, low))) ∙ none) low
 
@@ -165,14 +162,6 @@ register_same w u p words t reg known none =
     ∙ (mul_leaves w (mul_row (readied p words t) w u words) words (summed w u p words t) reg known parts.1
     ∙ add_leaves w (add_row (readied p words t) w u words) words (readied p words t) reg known parts.0)
 
-both : (a b : Bool) → (a && b) ≡ true → (a ≡ true) × (b ≡ true)
-both true b is = (refl, is)
-both false b is = absurd (true≢false (sym is))
-
-false_of : (b : Bool) → not b ≡ true → b ≡ false
-false_of true is = absurd (true≢false (sym is))
-false_of false is = refl
-
 full_mask : (cond : ℕ) (words : List ℕ) → cond ≡ 1 → mask_of cond words 0 ≡ 65535
 unfolding mask_of
 full_mask cond words is = ap (λ c. mask_of c words 0) is
@@ -184,11 +173,11 @@ add_sets : (w : ℕ) (value words : List ℕ) (t : Thread) (reg : Reg) → IsReg
     → row_of (added w value words t) reg ≡ merged (mask_of (cond_add_of w) words 0) (row_of t reg) value
 unfolding added written_at add_names_reg
 add_sets w value words t (A k) low rows named =
-    let parts = both (not (ws_of w)) (add_names w k) named in
+    let parts = and_parts (not (ws_of w)) (add_names w k) named in
     file_set (not (ws_of w)) (add_address w) k (mask_of (cond_add_of w) words 0) value t.a parts.0 (address_is w k (below_apart k (omega (arith, low))) parts.1) low rows.a
 add_sets w value words t (B k) low rows named =
-    let parts = both (ws_of w) (add_names w k) named in
-    file_set (not (not (ws_of w))) (add_address w) k (mask_of (cond_add_of w) words 0) value t.b (twice (ws_of w) ∙ parts.0) (address_is w k (below_apart k (omega (arith, low))) parts.1) low rows.b
+    let parts = and_parts (ws_of w) (add_names w k) named in
+    file_set (not (not (ws_of w))) (add_address w) k (mask_of (cond_add_of w) words 0) value t.b (not-not (ws_of w) ∙ parts.0) (address_is w k (below_apart k (omega (arith, low))) parts.1) low rows.b
 add_sets w value words t (Acc k) low rows named =
     acc_set (add_address w) k (mask_of (cond_add_of w) words 0) value words t.acc (address_is w (32 + k) (below_apart (32 + k) (omega (arith, low))) named) low rows.acc
 
@@ -209,10 +198,10 @@ pub register_set : (w u p : ℕ) (words : List ℕ) (t : Thread) (reg : Reg) →
     → (e : ℕ) → e < 16 → slice_index (row_of (done w u p words t).thread reg) e ≡ slice_index (add_row (readied p words t) w u words) e
 unfolding sets_alone
 register_set w u p words t reg known rows alone e below =
-    let halves = both (add_names_reg w reg && not (mul_names_reg w reg)) (cond_add_of w == 1 && not (is_add_packed w)) alone in
-    let first = both (add_names_reg w reg) (not (mul_names_reg w reg)) halves.0 in
-    let second = both (cond_add_of w == 1) (not (is_add_packed w)) halves.1 in
-    let none : mul_names_reg w reg ≡ false = false_of (mul_names_reg w reg) first.1 in
+    let halves = and_parts (add_names_reg w reg && not (mul_names_reg w reg)) (cond_add_of w == 1 && not (is_add_packed w)) alone in
+    let first = and_parts (add_names_reg w reg) (not (mul_names_reg w reg)) halves.0 in
+    let second = and_parts (cond_add_of w == 1) (not (is_add_packed w)) halves.1 in
+    let none : mul_names_reg w reg ≡ false = not-true (mul_names_reg w reg) first.1 in
     let sum = add_row (readied p words t) w u words in
     let row : row_of (done w u p words t).thread reg ≡ merged 65535 (row_of (readied p words t) reg) sum =
     written_row w u p words t reg known

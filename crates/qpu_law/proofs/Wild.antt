@@ -1,6 +1,6 @@
 -- No instruction of a checked shader is wild.
 use Rattle.std.proofs.Common.{◌≡◌, ◌<◌, ℕ, ◌+◌, Bool, true, false, ◌&&◌, ◌||◌, not, List, length, refl, sym, ap, ◌∙◌, nat_le, nat_lt}
-use Rattle.std.proofs.lemmas.Bool.{or_from, or_parts, lt-ltb}
+use Rattle.std.proofs.lemmas.Bool.{or_from, or_parts, lt-ltb, not_from_true}
 use Rattle.qpu_isa.specs.Word.{relative_of, register_of}
 use Rattle.qpu_isa.specs.Terms.{is_branch, is_switch, is_address_write, is_relative_address_write, names_forbidden, has_two_tmu_writes, has_conditional_tmu_write, writes_tmu, reads_upper, names_upper}
 use Rattle.qpu_isa.specs.Setups.{takes_with}
@@ -15,12 +15,8 @@ use Rattle.qpu_machine.specs.declared.state.Thread.{Thread}
 use Rattle.qpu_machine.specs.Wild as wild
 use Rattle.qpu_law.specs.Home.{Home, HasNoFault, IsAt, ArePending, NeverWild}
 use Rattle.qpu_law.proofs.Rules.{IsFineAt, fine_at, fine_whole, in_checked}
+use Rattle.qpu_law.proofs.Going.{behind}
 use Rattle.qpu_law.proofs.Marks.{no_slots, no_switch, no_address}
-
--- where the front test is true, what stands behind it is false
-behind : (a b : Bool) → a ≡ true → (a && b) ≡ false → b ≡ false
-behind true b is none = none
-behind false b is none = absurd cc
 
 -- the instruction is tame where its front test fails, or what stands behind it does
 front : (a b : Bool) → (a ≡ true → b ≡ false) → (a && b) ≡ false
@@ -52,10 +48,6 @@ switch_threads : (code : List ℕ) (n : ℕ) → n < checked_of code → is_swit
 unfolding is_threaded
 switch_threads code n inside is = some_below_here (checked_of code) n (λ k. is_switch (word code k)) inside is
 
-not_not : (b : Bool) → b ≡ true → not b ≡ false
-not_not true is = refl
-not_not false is = absurd cc
-
 switch_tame : (h : Home) (n : ℕ) (t : Thread) → n < checked_of h.code → IsFineAt h.code n → IsAt h n t → wild.is_switch_wild t (word h.code n) ≡ false
 unfolding s11 s13 wild.is_switch_wild
 switch_tame h n t inside fine at =
@@ -67,7 +59,7 @@ switch_tame h n t inside fine at =
     (or_from (wild.after_switch t) (wild.in_slots t)
     (no_switch h n t at (behind (is_switch w) (after_switch h.code n) is fine.no11))
     (no_slots h n t at parts.0))
-    (not_not t.threaded (at.threaded ∙ switch_threads h.code n inside is)))
+    (not_from_true t.threaded (at.threaded ∙ switch_threads h.code n inside is)))
 
 setup_tame : (h : Home) (n : ℕ) (t : Thread) → IsFineAt h.code n → ArePending h.code n t → wild.is_setup_wild t (word h.code n) ≡ false
 unfolding s22 is_full wild.is_setup_wild

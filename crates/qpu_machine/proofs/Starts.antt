@@ -2,6 +2,7 @@
 use Rattle.std.proofs.Common.{◌≡◌, ◌≢◌, ◌≤◌, ◌<◌, ℕ, suc, ◌+◌, ◌-◌, ◌==◌, ◌&&◌, eqb, Bool, true, false, if◌then◌else◌, ◌⊎◌, inl, inr, List, [], ◌∷◌, drop, length, slice_index_or, slice_set, Option, None, Some, refl, sym, ◌∙◌, ap, subst, arith, drop-cons, ◌^◌}
 use Rattle.std.proofs.lemmas.Grind.{common_steps}
 use Rattle.std.proofs.lemmas.List.{get_or-set_same, get_or-set_other, length-set}
+use Rattle.std.proofs.lemmas.Bool.{and_parts}
 use Rattle.std.proofs.lemmas.Bool.Decides.{eqb_tells}
 use Rattle.machine_plan.specs.declared.launch.Launch.{Launch}
 use Rattle.machine_plan.specs.declared.launch.Slot.{Slot}
@@ -77,13 +78,8 @@ finds threaded n (q ∷ qpus) =
     (finds_by threaded q qpus n (takes_first threaded q) (takes_other threaded q) refl refl (finds threaded (n + 1) qpus))
 
 -- a slot that takes a program has no requests
-both : (a b : Bool) → (a && b) ≡ true → (a ≡ true) × (b ≡ true)
-both true true e = (refl, refl)
-both true false e = absurd cc
-both false b e = absurd cc
-
 none_queued : (a b : ℕ) → ((a == 0) && (b == 0)) ≡ true → (a ≡ 0) × (b ≡ 0)
-none_queued a b e = let h = both (a == 0) (b == 0) e in (grind (arith, common_steps, h.0), grind (arith, common_steps, h.1))
+none_queued a b e = let h = and_parts (a == 0) (b == 0) e in (grind (arith, common_steps, h.0), grind (arith, common_steps, h.1))
 
 started_few : (second : Bool) (q : Qpu) (job : ℕ) (launch : Launch) → has_none second q ≡ true → IsFew second (Some (thread_of job launch)) q.queue0.items q.queue1.items
 unfolding thread_of
@@ -98,18 +94,18 @@ started_near job launch code = omega (arith, code)
 pub in_slot_bounded : (threaded second : Bool) (q : Qpu) (job : ℕ) (launch : Launch) → launch.code < 2 ^ 32 → IsBounded q → (if second then takes_other threaded q else takes_first threaded q) ≡ true → IsBounded (in_slot second q (thread_of job launch))
 unfolding takes_first takes_other in_first in_other
 in_slot_bounded threaded true q job launch code h takes =
-    let part = both _ _ (both _ _ takes).1 in
+    let part = and_parts _ _ (and_parts _ _ takes).1 in
     record {
       first_near = h.first_near;
       other_near = started_near job launch code;
       first_few = h.first_few;
-      other_few = started_few true q job launch (both _ _ part.0).1;
+      other_few = started_few true q job launch (and_parts _ _ part.0).1;
     }
 in_slot_bounded threaded false q job launch code h takes =
     record {
       first_near = started_near job launch code;
       other_near = h.other_near;
-      first_few = started_few false q job launch (both _ _ (both _ _ takes).0).1;
+      first_few = started_few false q job launch (and_parts _ _ (and_parts _ _ takes).0).1;
       other_few = h.other_few;
     }
 

@@ -1,5 +1,5 @@
 //! One instruction of a thread.
-ghost use Rattle.std.specs.Prelude.{◌≡◌, ◌<◌, ◌≤◌, ◌+◌, ◌++◌, ◌∷◌, [], ◌^◌, true, false, length, option_map, IfSome};
+ghost use Rattle.std.specs.Prelude.{◌≡◌, ◌<◌, ◌≤◌, ◌+◌, ◌++◌, ◌∷◌, [], ◌^◌, true, false, length, option_map, IfSome, None};
 ghost use Rattle.std.specs.Int.{from_le_bytes, w64};
 ghost use Rattle.field_words.specs.Words.{u32_at};
 ghost use Rattle.field_words.specs.declared.access.Way.TheVariants.{Read};
@@ -80,7 +80,7 @@ fn take_uniform(
     LittleEndian::read_u32(&bytes)
 }
 
-// Does what an instruction says. `None` comes exactly where it is wild.
+// Does what an instruction says. `None` comes exactly where it is wild; then the thread is as it was.
 #[tactic(auto, using(crate::proofs::Tame::room0, crate::proofs::Tame::room1, crate::proofs::Frames::awake_keeps, crate::proofs::Frames::past_keeps))]
 fn obey(
     thread: &mut Thread,
@@ -94,6 +94,7 @@ fn obey(
     requires room { array_vec_len accesses.old < 270 }
     ensures near { IfSome result (λ leaves. (is_wild thread.old word ≡ false) × (thread.new.place ≤ thread.old.place + 2 ^ 33)) }
     ensures shows { Shows (carried who (word_plan thread.old word words.now) memory.now) accesses.old.items accesses.new.items memory.now (option_map (turn_of thread.new) result) }
+    ensures same { result ≡ None → thread.new ≡ thread.old }
 {
     if is_wild(thread, word) {
         list_access(who, Way::Wild, 0, 0, accesses);
@@ -131,6 +132,7 @@ pub fn step_thread(
     requires room { array_vec_len accesses.old ≤ 260 }
     ensures near { IfSome result (λ leaves. thread.new.place ≤ 2 ^ 34) }
     ensures shows { Shows (carried who (thread_plan thread.old words.now) memory.now) accesses.old.items accesses.new.items memory.now (option_map (turn_of thread.new) result) }
+    ensures same { result ≡ None → thread.new ≡ thread.old }
 {
     let _size = memory.len();
     let bytes = read_bytes(memory, thread.place, 8);

@@ -1,7 +1,7 @@
 -- What holds of a surface and a frame without faults.
-use Rattle.std.proofs.Common.{◌≡◌, ℕ, zero, suc, ◌+◌, ◌*◌, ◌<◌, ◌≤◌, Bool, true, false, ◌||◌, nat_lt, List, [], ◌∷◌, ◌++◌, Option, Some, None, is_some, if◌then◌else◌, refl, sym, ap, arith, ◌∙◌, lit<}
-use Rattle.field_words.specs.Questions.{Question, Ask, first_of, each}
-use Rattle.field_words.proofs.Questions.{passes, none_stands}
+use Rattle.std.proofs.Common.{◌≡◌, ℕ, zero, suc, ◌+◌, ◌*◌, ◌<◌, ◌≤◌, Bool, true, false, ◌||◌, nat_lt, List, [], ◌∷◌, ◌++◌, Option, Some, None, is_some, if◌then◌else◌, refl, ap, arith, ◌∙◌, lit<}
+use Rattle.field_words.specs.Questions.{Question, first_of, each}
+use Rattle.field_words.proofs.Questions.{none_stands}
 use Rattle.field_words.proofs.Nones.{front_none, rest_none, each_none}
 use Rattle.buffer_table.specs.Table.{TableModel, buffer_at}
 use Rattle.buffer_table.specs.Handles.{data_of}
@@ -35,7 +35,7 @@ is_checked frame table handles k present none =
     let n = none_stands (shape_questions k (surface_at frame k) table handles ++ size_questions frame k (surface_at frame k) (buffer_size table handles (surface_at frame k))) (asked frame table handles k present none) in
     record { named = n.1.1.0; plain = n.1.1.1.1.1.1.0; full = n.1.1.1.1.1.1.1.1.0 }
 
-size_named : (table : TableModel) (handles : List ℕ) (surface : Surface) (number : ℕ) → data_of table handles surface.hindex ≡ Some number
+pub size_named : (table : TableModel) (handles : List ℕ) (surface : Surface) (number : ℕ) → data_of table handles surface.hindex ≡ Some number
     → buffer_size table handles surface ≡ (buffer_at table.buffers number).size
 unfolding buffer_size
 size_named table handles surface number named = ap (size_in table) named

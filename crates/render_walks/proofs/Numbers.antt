@@ -41,7 +41,7 @@ fit_where : (test : Bool) (packet : Packet) → Fits packet → SlotFits (packet
 fit_where true packet fits = fits
 fit_where false packet fits = tt
 
-small_where : (test : Bool) (n : ℕ) → number_where test n ≤ n
+pub small_where : (test : Bool) (n : ℕ) → number_where test n ≤ n
 small_where true n = omega arith
 small_where false n = omega arith
 

@@ -1,6 +1,6 @@
 -- A renderer list walks, tile by tile.
 use Rattle.std.proofs.Common.{◌≡◌, ℕ, zero, suc, ◌+◌, ◌<◌, ◌≤◌, Bool, true, false, ◌&&◌, ◌==◌, not, List, [], ◌∷◌, ◌++◌, Option, Some, None, is_some, if◌then◌else◌, refl, sym, ap, subst, arith, ◌∙◌, bit_or, eq-eqb}
-use Rattle.std.proofs.lemmas.Bool.{false≢true}
+use Rattle.std.proofs.lemmas.Bool.{false≢true, and_parts}
 use Rattle.job_format.specs.declared.file.Frame.{Frame}
 use Rattle.packets.specs.declared.packet.Packet.{Packet}
 use Rattle.packets.specs.declared.packet.Packet.TheVariants.{WaitOnSemaphore, BranchToSubList, StoreTileColor, StoreTileColorAndEnd, LoadFullResolution, StoreTileBuffer, LoadTileBuffer, ClearColors, TileCoordinates}
@@ -214,10 +214,6 @@ never_both true true is_b both = false≢true both
 never_both false b is_b both = false≢true both
 never_both true false is_b both = false≢true is_b
 
-left_of : (a b : Bool) → (a && b) ≡ true → a ≡ true
-left_of true b both = refl
-left_of false b both = both
-
 first_is_first : (frame : Frame) → is_first_tile frame frame.min_x frame.min_y ≡ true
 unfolding is_first_tile
 first_is_first frame = ap (λ b. b && (frame.min_y == frame.min_y)) (eq-eqb frame.min_x frame.min_x refl) ∙ eq-eqb frame.min_y frame.min_y refl
@@ -229,7 +225,7 @@ row_walks : (Fine : Packet → ℕ → ℕ → Type 0) (frame : Frame) (places :
 row_walks Fine frame places grid slot y set owes above below k between =
     walks_span Fine (IsBetween (is_some grid)) (tile_slots frame places grid slot y) frame.min_x (tiles_across frame)
     (λ x right left j here. tile_walks Fine frame places grid slot y x (owes.tiles x y right (omega (arith, left, set.across)) above below) j
-    (between_any (is_some grid) (is_some grid && not (is_first_tile frame x y)) j (left_of (is_some grid) (not (is_first_tile frame x y))) here))
+    (between_any (is_some grid) (is_some grid && not (is_first_tile frame x y)) j (λ on. (and_parts (is_some grid) (not (is_first_tile frame x y)) on).0) here))
     k between
 
 -- The first row begins with nothing waited for.
@@ -243,7 +239,7 @@ first_row_walks Fine frame places grid slot set owes k between =
     (λ j here. tile_walks Fine frame places grid slot frame.min_y frame.min_x (owes.tiles frame.min_x frame.min_y (omega arith) set.across (omega arith) set.down) j
     (between_any false (is_some grid && not first) j (λ both. absurd (never_both (is_some grid) first (first_is_first frame) both)) here))
     (λ x right left j here. tile_walks Fine frame places grid slot frame.min_y x (owes.tiles x frame.min_y (omega (arith, right)) (omega (arith, left, set.across)) (omega arith) set.down) j
-    (between_any (is_some grid) (is_some grid && not (is_first_tile frame x frame.min_y)) j (left_of (is_some grid) (not (is_first_tile frame x frame.min_y))) here))
+    (between_any (is_some grid) (is_some grid && not (is_first_tile frame x frame.min_y)) j (λ on. (and_parts (is_some grid) (not (is_first_tile frame x frame.min_y)) on).0) here))
     k between
 
 all_walk : (Fine : Packet → ℕ → ℕ → Type 0) (frame : Frame) (places : List (Option ℕ)) (grid : Option (ℕ × ℕ)) (slot : ℕ) → IsTileSet frame

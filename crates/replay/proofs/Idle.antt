@@ -1,6 +1,7 @@
 -- A machine that is finished has no unit that may step.
-use Rattle.std.proofs.Common.{◌≡◌, ◌≤◌, ℕ, zero, suc, Bool, true, false, ◌&&◌, List, [], ◌∷◌, length, None, Some, IfSome, refl, sym, ap, ◌∙◌, arith}
+use Rattle.std.proofs.Common.{◌≡◌, ℕ, zero, suc, Bool, true, false, ◌&&◌, List, [], ◌∷◌, length, None, Some, IfSome, refl, sym, ap, ◌∙◌, arith}
 use Rattle.std.proofs.Math.Dec.{eqb-suc-zero}
+use Rattle.std.proofs.lemmas.Bool.{and_parts}
 use Rattle.std.proofs.lemmas.Bool.Decides.{nat_tests}
 use Rattle.std.specs.Prelude.{Option, is_none, is_some, ◌==◌, nat_lt, if◌then◌else◌, filter}
 use Rattle.std.specs.List.{list_all, range_with_len}
@@ -16,14 +17,6 @@ use Rattle.machine.specs.State.{State, Units, Picked, item_at, binner_job, rende
 use Rattle.machine.specs.Step.{binner_may, renderer_may, qpu_may, tmu_may, enabled, finished, ready}
 use Rattle.replay.specs.Units.{unit_count, unit_at, enabled_units}
 
-front : (a b : Bool) → (a && b) ≡ true → a ≡ true
-front true b h = refl
-front false b h = absurd (cc)
-
-back : (a b : Bool) → (a && b) ≡ true → b ≡ true
-back true b h = h
-back false b h = absurd (cc)
-
 binner_rests : (u : Units) (m : List ℕ) (job : Option (Picked Lists)) → is_none job ≡ true → glanced (binner_may u job) m ≡ false
 binner_rests u m None h = refl
 binner_rests u m (Some job) h = absurd (cc)
@@ -34,8 +27,8 @@ renderer_rests m (Some job) h = absurd (cc)
 
 idle_at : (qpus : List Qpu) (k : ℕ) → list_all is_idle qpus ≡ true → IfSome (item_at qpus k) (λ q. is_idle q ≡ true)
 idle_at [] k h = tt
-idle_at (q ∷ qpus) zero h = front (is_idle q) (list_all is_idle qpus) h
-idle_at (q ∷ qpus) (suc k) h = idle_at qpus k (back (is_idle q) (list_all is_idle qpus) h)
+idle_at (q ∷ qpus) zero h = (and_parts (is_idle q) (list_all is_idle qpus) h).0
+idle_at (q ∷ qpus) (suc k) h = idle_at qpus k (and_parts (is_idle q) (list_all is_idle qpus) h).1
 
 -- neither of two threads that aren't there is ready
 neither : (q : Qpu) (m : List ℕ) (second : Bool) (first other : Option Thread) → is_none first ≡ true → is_none other ≡ true → glanced (ready_by (if second then other else first) q) m ≡ false
@@ -47,8 +40,8 @@ neither q m second (Some t) other f o = absurd (cc)
 qpu_rests : (m : List ℕ) (q : Option Qpu) → IfSome q (λ one. is_idle one ≡ true) → glanced (qpu_may q) m ≡ false
 qpu_rests m None h = refl
 qpu_rests m (Some q) h =
-    let threads = front (is_none q.first && is_none q.other) (length q.queue0.items == 0 && length q.queue1.items == 0) h in
-    neither q m q.second q.first q.other (front (is_none q.first) (is_none q.other) threads) (back (is_none q.first) (is_none q.other) threads)
+    let threads = (and_parts (is_none q.first && is_none q.other) (length q.queue0.items == 0 && length q.queue1.items == 0) h).0 in
+    neither q m q.second q.first q.other (and_parts (is_none q.first) (is_none q.other) threads).0 (and_parts (is_none q.first) (is_none q.other) threads).1
 
 no_oldest : (queue : List Request) → (length queue == 0) ≡ true → is_some (oldest queue) ≡ false
 no_oldest [] h = refl
@@ -57,11 +50,11 @@ no_oldest (one ∷ queue) h = absurd (let more : (length (one ∷ queue) == 0) �
 tmu_rests : (m : List ℕ) (n : ℕ) (q : Option Qpu) → IfSome q (λ one. is_idle one ≡ true) → glanced (tmu_may q n) m ≡ false
 tmu_rests m n None h = refl
 tmu_rests m zero (Some q) h =
-    let queues = back (is_none q.first && is_none q.other) (length q.queue0.items == 0 && length q.queue1.items == 0) h in
-    no_oldest q.queue0.items (front (length q.queue0.items == 0) (length q.queue1.items == 0) queues)
+    let queues = (and_parts (is_none q.first && is_none q.other) (length q.queue0.items == 0 && length q.queue1.items == 0) h).1 in
+    no_oldest q.queue0.items (and_parts (length q.queue0.items == 0) (length q.queue1.items == 0) queues).0
 tmu_rests m (suc zero) (Some q) h =
-    let queues = back (is_none q.first && is_none q.other) (length q.queue0.items == 0 && length q.queue1.items == 0) h in
-    no_oldest q.queue1.items (back (length q.queue0.items == 0) (length q.queue1.items == 0) queues)
+    let queues = (and_parts (is_none q.first && is_none q.other) (length q.queue0.items == 0 && length q.queue1.items == 0) h).1 in
+    no_oldest q.queue1.items (and_parts (length q.queue0.items == 0) (length q.queue1.items == 0) queues).1
 tmu_rests m (suc (suc n)) (Some q) h =
     let past : nat_lt (suc (suc n)) 2 ≡ false = grind (arith, nat_tests) in
     ap (λ below. glanced (if below then tmu_ready q (suc (suc n)) else Now false) m) past
@@ -69,15 +62,15 @@ tmu_rests m (suc (suc n)) (Some q) h =
 pub all_rest : (s : State) (unit : Actor) → finished s ≡ true → enabled s unit ≡ false
 unfolding finished enabled ready
 all_rest s TheBinner h =
-    let jobs = front (is_none (binner_job s.units) && is_none (renderer_job s.units)) (list_all is_idle s.units.qpus) h in
-    binner_rests s.units s.memory (binner_job s.units) (front (is_none (binner_job s.units)) (is_none (renderer_job s.units)) jobs)
+    let jobs = (and_parts (is_none (binner_job s.units) && is_none (renderer_job s.units)) (list_all is_idle s.units.qpus) h).0 in
+    binner_rests s.units s.memory (binner_job s.units) (and_parts (is_none (binner_job s.units)) (is_none (renderer_job s.units)) jobs).0
 all_rest s TheRenderer h =
-    let jobs = front (is_none (binner_job s.units) && is_none (renderer_job s.units)) (list_all is_idle s.units.qpus) h in
-    renderer_rests s.memory (renderer_job s.units) (back (is_none (binner_job s.units)) (is_none (renderer_job s.units)) jobs)
+    let jobs = (and_parts (is_none (binner_job s.units) && is_none (renderer_job s.units)) (list_all is_idle s.units.qpus) h).0 in
+    renderer_rests s.memory (renderer_job s.units) (and_parts (is_none (binner_job s.units)) (is_none (renderer_job s.units)) jobs).1
 all_rest s (TheQpu k) h =
-    qpu_rests s.memory (item_at s.units.qpus k) (idle_at s.units.qpus k (back (is_none (binner_job s.units) && is_none (renderer_job s.units)) (list_all is_idle s.units.qpus) h))
+    qpu_rests s.memory (item_at s.units.qpus k) (idle_at s.units.qpus k (and_parts (is_none (binner_job s.units) && is_none (renderer_job s.units)) (list_all is_idle s.units.qpus) h).1)
 all_rest s (TheTmu k n) h =
-    tmu_rests s.memory n (item_at s.units.qpus k) (idle_at s.units.qpus k (back (is_none (binner_job s.units) && is_none (renderer_job s.units)) (list_all is_idle s.units.qpus) h))
+    tmu_rests s.memory n (item_at s.units.qpus k) (idle_at s.units.qpus k (and_parts (is_none (binner_job s.units) && is_none (renderer_job s.units)) (list_all is_idle s.units.qpus) h).1)
 
 -- so one that has a unit that may step isn't finished
 none_in : (p : ℕ → Bool) (ns : List ℕ) → ((n : ℕ) → p n ≡ false) → filter p ns ≡ []

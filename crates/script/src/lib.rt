@@ -3,8 +3,10 @@
 
 mod lines;
 mod number;
+mod replies;
 #[cfg(test)]
 mod tests;
 
 pub use lines::{Cut, cut_at, next_line};
-pub use number::read_number;
+pub use number::{is_number, number_up_to, read_number};
+pub use replies::{Clerk, answer};

@@ -15,8 +15,9 @@ fn are_digits(word: &[u8]) -> bool
     true
 }
 
+/// Whether the word is a number: decimal digits without sign and leading zero, `0` being itself. It takes no memory.
 #[tactic(auto, unfolding(crate::specs::Number::is_number))]
-fn is_number(word: &[u8]) -> bool
+pub fn is_number(word: &[u8]) -> bool
     ensures { result ≡ number_test word.now }
 {
     match word {
@@ -26,8 +27,8 @@ fn is_number(word: &[u8]) -> bool
     }
 }
 
-// The number that digits write, or `limit` where it is larger.
-fn number(digits: &[u8], limit: u128) -> u128
+/// The number that digits write, or `limit` where it is larger. It takes no memory.
+pub fn number_up_to(digits: &[u8], limit: u128) -> u128
     requires digits { all_ascii_digits digits.now ≡ true }
     requires small { limit ≤ 2 ^ 64 }
     ensures { result ≡ min (number_of digits.now) limit }
@@ -39,8 +40,8 @@ fn number(digits: &[u8], limit: u128) -> u128
     number
 }
 
-/// The number that the word is: decimal digits without sign and leading zero, `0` being itself. `None` comes exactly where the
-/// word is no such number, or one over `most`. It takes no memory.
+/// The number that the word is, if it is one (`is_number`). `None` comes exactly where it is none, or one over `most`. It takes no
+/// memory.
 #[tactic(auto, unfolding(crate::specs::Number::number_within), using(crate::proofs::Digits::number_digits))]
 pub fn read_number(word: &[u8], most: u64) -> Option<u64>
     ensures number { result ≡ number_within most word.now }
@@ -49,7 +50,7 @@ pub fn read_number(word: &[u8], most: u64) -> Option<u64>
     if !is_number(word) {
         return None;
     }
-    let number = number(word, u128::from(most) + 1);
+    let number = number_up_to(word, u128::from(most) + 1);
     if number <= u128::from(most) {
         Some(number as u64)
     } else {

@@ -3,11 +3,8 @@ use Rattle.std.proofs.Common.{◌≡◌, ℕ, ◌+◌, ◌*◌, ◌%◌, ◌<◌
 use Rattle.field_words.specs.Words.{rounded_up}
 use Rattle.field_words.proofs.Numbers.{rounded}
 use Rattle.emitted_facts.specs.Records.{attribute_count, is_extended, record_size}
+use Rattle.emitted_facts.proofs.Records.{count_limits, attributes_in}
 use Rattle.shader_records.specs.Sources.{handles_size, source_size, emitted_size}
-
-pub count_limits : (state : ℕ) → (1 ≤ attribute_count state) × (attribute_count state ≤ 8)
-unfolding attribute_count
-count_limits state = (grind arith, grind arith)
 
 pub handles_are : (state : ℕ) → handles_size state ≡ 12 + 4 * attribute_count state
 unfolding handles_size
@@ -17,10 +14,6 @@ pub source_is : (state : ℕ) → source_size state ≡ handles_size state + rec
 unfolding source_size
 source_is state = refl
 
-record_from : (b : Bool) (count : ℕ) → count ≤ 8 → 36 + 8 * count ≤ (if b then 100 + 4 * count else 36 + 8 * count)
-record_from true count few = omega arith
-record_from false count few = omega arith
-
 record_words : (b : Bool) (count : ℕ) → (if b then 100 + 4 * count else 36 + 8 * count) % 4 ≡ 0
 record_words true count = omega arith
 record_words false count = omega arith
@@ -28,10 +21,6 @@ record_words false count = omega arith
 -- the handle of attribute t, and its two words
 pub handle_in : (state t : ℕ) → t < attribute_count state → 12 + 4 * t + 4 ≤ handles_size state
 handle_in state t below = let e = handles_are state in omega (arith, e)
-
-pub attributes_in : (state : ℕ) → 36 + 8 * attribute_count state ≤ record_size state
-unfolding record_size
-attributes_in state = record_from (is_extended state) (attribute_count state) (count_limits state).1
 
 pub attribute_in : (state t : ℕ) → t < attribute_count state → handles_size state + (36 + 8 * t) + 8 ≤ source_size state
 attribute_in state t below = let e = source_is state in let a = attributes_in state in omega (arith, e, a)

@@ -1,39 +1,26 @@
 -- An emitted record is what whoever runs it counts on.
-use Rattle.std.proofs.Common.{◌≡◌, ℕ, zero, suc, ◌+◌, ◌*◌, ◌/◌, ◌%◌, ◌-◌, ◌==◌, ◌<◌, ◌≤◌, Bool, true, false, not, ◌&&◌, nat_lt, nat_le, length, Option, Some, None, is_some, slice_index, if◌then◌else◌, refl, sym, ap, subst, arith, ◌∙◌}
+use Rattle.std.proofs.Common.{◌≡◌, ℕ, zero, suc, ◌+◌, ◌*◌, ◌/◌, ◌%◌, ◌-◌, ◌==◌, ◌<◌, ◌≤◌, Bool, true, false, not, ◌&&◌, nat_lt, nat_le, Option, Some, None, is_some, if◌then◌else◌, refl, sym, ap, subst, arith, ◌∙◌}
 use Rattle.std.proofs.Math.Nat.{mul-le-mul_left}
-use Rattle.std.proofs.lemmas.Bool.{ltb-false, ltb-true}
+use Rattle.std.proofs.lemmas.Bool.{ltb-false}
 use Rattle.field_words.specs.Words.{u32_at}
 use Rattle.field_words.specs.Questions.{first_of}
-use Rattle.buffer_table.specs.Table.{buffer_at}
-use Rattle.buffer_table.specs.Handles.{is_plain, code_of}
+use Rattle.buffer_table.specs.Handles.{is_plain}
+use Rattle.buffer_table.proofs.Named.{code_is}
 use Rattle.qpu_isa.specs.Shader.{ShaderModel, IsSoundShader}
 use Rattle.emitted_facts.specs.Records.{attribute_count, record_size, is_extended, attribute_size, attribute_stride, is_single, address_word, shape_word, extension_word}
 use Rattle.emitted_facts.specs.Facts.{IsStream, IsUse, IsAttributeIn, IsRecord}
+use Rattle.emitted_facts.proofs.Records.{count_limits, attributes_in, extended_from, header_in, same_size, same_stride}
 use Rattle.shader_records.specs.Inputs.{InputModel, AreInputs, shader_in}
 use Rattle.shader_records.specs.Named.{IsDataIn, IsCodeIn}
 use Rattle.shader_records.specs.Sources.{code_number, attribute_number, shader_behind, shader_used, is_threaded, taken_before, record_word, place_in, size_in}
 use Rattle.shader_records.specs.Rules.{disagrees, has_vertex_past, record_questions, use_questions}
 use Rattle.shader_records.specs.Emission.{shader_word, attribute_word, emitted_word, stream_place, stream_word_of, HasStreams}
 use Rattle.shader_records.proofs.Fine.{IsCodeFine, code_fine, flags_fine, attribute_fine, address_fine}
-use Rattle.shader_records.proofs.Inside.{count_limits, attributes_in}
 use Rattle.shader_records.proofs.StreamFacts.{named_data, emitted_stream_is, same_stream}
 
 some_of : {X : Type 0} (o : Option X) → not (is_some o) ≡ false → (x : X) × (o ≡ Some x)
 some_of None none = absurd (cc)
 some_of (Some x) some = (x, refl)
-
-both : (a b : Bool) → (a && b) ≡ true → (a ≡ true) × (b ≡ true)
-both true true stands = (refl, refl)
-both true false stands = cc
-both false b stands = cc
-
-chosen : (b : Bool) (x number : ℕ) → (if b then Some x else None) ≡ Some number → (b ≡ true) × (x ≡ number)
-chosen true x number some = (refl, cc)
-chosen false x number some = cc
-
-not_true : (b : Bool) → not b ≡ true → b ≡ false
-not_true true stands = cc
-not_true false stands = refl
 
 -- A handle that names a Code buffer.
 pub record IsKnownCode (input : InputModel) (at s : ℕ) : Type 0 where
@@ -44,26 +31,12 @@ pub record IsKnownCode (input : InputModel) (at s : ℕ) : Type 0 where
   pub used : shader_used input at s ≡ Some shader
   pub sound : IsSoundShader shader
 
-code_is : (input : InputModel) (handle number : ℕ) → AreInputs input → code_of input.table input.handles handle ≡ Some number
-    → (number < length input.table.buffers) × (is_plain (buffer_at input.table.buffers number).kind ≡ false)
-unfolding code_of
-code_is input handle number sound named =
-    let index : ℕ = slice_index input.handles handle in
-    let found =
-    chosen ((nat_lt handle (length input.handles) && nat_lt index (length input.table.buffers)) && not (is_plain (buffer_at input.table.buffers index).kind)) index number named in
-    let parts = both (nat_lt handle (length input.handles) && nat_lt index (length input.table.buffers)) (not (is_plain (buffer_at input.table.buffers index).kind)) found.0 in
-    let inside = both (nat_lt handle (length input.handles)) (nat_lt index (length input.table.buffers)) parts.0 in
-    let below : index < length input.table.buffers = ltb-true index (length input.table.buffers) inside.1 in (
-      subst (λ n. n < length input.table.buffers) found.1 below,
-      ap (λ n. is_plain (buffer_at input.table.buffers n).kind) (sym found.1) ∙ not_true (is_plain (buffer_at input.table.buffers index).kind) parts.1,
-    )
-
 pub known_code : (input : InputModel) (at s : ℕ) → AreInputs input → IsCodeFine input at s → IsKnownCode input at s
 unfolding code_number shader_used
 known_code input at s sound fine =
     let code = some_of (code_number input at s) fine.named in
-    let kind = code_is input (u32_at input.records (at + 4 * s)) code.0 sound code.1 in
-    let known : not (is_some (shader_in input.shaders code.0)) ≡ false = sym (sound.shaders.code code.0 kind.0) ∙ kind.1 in
+    let of = code_is input.table input.handles (u32_at input.records (at + 4 * s)) code.0 code.1 in
+    let known : not (is_some (shader_in input.shaders code.0)) ≡ false = sym (sound.shaders.code code.0 of.inside) ∙ ap is_plain of.kind_is in
     let shader = some_of (shader_in input.shaders code.0) known in
     record {
       number = code.0;
@@ -84,10 +57,10 @@ first_nine i below = grind (arith, below)
 others : (j : ℕ) → nat_lt (9 + j) 9 ≡ false
 others j = grind arith
 
-emitted_shader : (input : InputModel) (at state : ℕ) (streams : ℕ → ℕ) (i : ℕ) → i < 9 → emitted_word input at state streams i ≡ shader_word input at state streams i
+pub emitted_shader : (input : InputModel) (at state : ℕ) (streams : ℕ → ℕ) (i : ℕ) → i < 9 → emitted_word input at state streams i ≡ shader_word input at state streams i
 unfolding emitted_word
 emitted_shader input at state streams i below =
-    let inside = attributes_in state in
+    let inside = header_in state in
     ap (λ b. if b then 0 else (if nat_lt i 9 then shader_word input at state streams i else attribute_word input at state (i - 9))) (not_past state i (omega (arith, inside, below)))
     ∙ ap (λ b. if b then shader_word input at state streams i else attribute_word input at state (i - 9)) (first_nine i below)
 
@@ -135,10 +108,6 @@ shape_emitted input at state streams t below =
     ∙ unmoved input at state streams (2 * t + 1) (omega (arith, inside, below)) (odd_word (attribute_count state) (2 * t + 1) (omega arith))
     ∙ ap (record_word input at state) (sym e)
 
-pub extended_from : (state : ℕ) → is_extended state ≡ true → record_size state ≡ 100 + 4 * attribute_count state
-unfolding record_size
-extended_from state extended = ap (λ b. if b then 100 + 4 * attribute_count state else 36 + 8 * attribute_count state) extended
-
 extension_emitted : (input : InputModel) (at state : ℕ) (streams : ℕ → ℕ) (t : ℕ) → t < attribute_count state → is_extended state ≡ true
     → emitted_word input at state streams (extension_word t) ≡ record_word input at state (extension_word t)
 extension_emitted input at state streams t below extended =
@@ -151,23 +120,13 @@ extension_emitted input at state streams t below extended =
 
 size_emitted : (input : InputModel) (at state : ℕ) (streams : ℕ → ℕ) (t : ℕ) → t < attribute_count state
     → attribute_size (emitted_word input at state streams) t ≡ attribute_size (record_word input at state) t
-unfolding attribute_size
-size_emitted input at state streams t below = ap (λ w. w % 256 + 1) (shape_emitted input at state streams t below)
-
-pub high_bits : (b : Bool) (x y : ℕ) → (b ≡ true → x ≡ y) → (if b then 256 * (x / 256) else 0) ≡ (if b then 256 * (y / 256) else 0)
-high_bits true x y same = ap (λ w. 256 * (w / 256)) (same refl)
-high_bits false x y same = refl
+size_emitted input at state streams t below = same_size (emitted_word input at state streams) (record_word input at state) t (shape_emitted input at state streams t below)
 
 stride_emitted : (input : InputModel) (at state : ℕ) (streams : ℕ → ℕ) (t : ℕ) → t < attribute_count state
     → attribute_stride state (emitted_word input at state streams) t ≡ attribute_stride state (record_word input at state) t
-unfolding attribute_stride
 stride_emitted input at state streams t below =
-    let low = shape_emitted input at state streams t below in
-    let high =
-    high_bits (is_extended state) (emitted_word input at state streams (extension_word t)) (record_word input at state (extension_word t))
-    (λ extended. extension_emitted input at state streams t below extended) in
-    ap (λ w. w / 256 % 256 + (if is_extended state then 256 * (emitted_word input at state streams (extension_word t) / 256) else 0)) low
-    ∙ ap (λ h. record_word input at state (shape_word t) / 256 % 256 + h) high
+    same_stride state (emitted_word input at state streams) (record_word input at state) t (shape_emitted input at state streams t below)
+    (λ extended. extension_emitted input at state streams t below extended)
 
 later_false : (a b : Bool) → a ≡ true → (a && b) ≡ false → b ≡ false
 later_false true b stands none = none
@@ -236,7 +195,7 @@ use_is input at from first s code stream memory known code_is stream_is none sta
       refl,
     )
 
-agree : (single threaded : Bool) → disagrees single threaded ≡ false → single ≡ not threaded
+pub agree : (single threaded : Bool) → disagrees single threaded ≡ false → single ≡ not threaded
 unfolding disagrees
 agree true true fine = cc
 agree true false fine = refl

@@ -1,18 +1,19 @@
 -- A memory that has what was emitted has the records of all states.
-use Rattle.std.proofs.Common.{not, ◌≡◌, ℕ, ◌+◌, ◌*◌, ◌/◌, ◌%◌, ◌==◌, ◌^◌, ◌<◌, true, List, length, None, if◌then◌else◌, refl, sym, ap, subst, arith, ◌∙◌}
+use Rattle.std.proofs.Common.{not, ◌≡◌, ℕ, ◌+◌, ◌*◌, ◌%◌, ◌==◌, ◌^◌, ◌<◌, List, length, None, refl, sym, ap, subst, arith, ◌∙◌}
 use Rattle.field_words.specs.Words.{u32_at}
 use Rattle.field_words.specs.Questions.{first_of}
 use Rattle.qpu_isa.specs.Shader.{ShaderModel}
-use Rattle.emitted_facts.specs.Records.{attribute_count, record_size, is_extended, attribute_size, attribute_stride, is_single, address_word, shape_word, extension_word}
-use Rattle.emitted_facts.specs.Facts.{IsStream, IsUse, IsAttributeIn, IsRecord}
+use Rattle.emitted_facts.specs.Records.{record_size, is_single, address_word, shape_word, extension_word}
+use Rattle.emitted_facts.specs.Facts.{IsStream, IsUse, IsRecord}
+use Rattle.emitted_facts.proofs.Records.{entry_in, extension_in, header_in, same_attribute}
 use Rattle.shader_records.specs.Inputs.{InputModel, AreInputs}
 use Rattle.shader_records.specs.Named.{IsDataIn, IsCodeIn, AreInMemory, IsEmittedIn}
 use Rattle.shader_records.specs.Sources.{state_at, record_source, record_offset, uniform_source, stream_offset}
 use Rattle.shader_records.specs.Rules.{all_questions}
 use Rattle.shader_records.specs.Emission.{emitted_word, stream_place}
 use Rattle.shader_records.proofs.Fine.{state_fine}
-use Rattle.shader_records.proofs.Inside.{attributes_in, emitted_in}
-use Rattle.shader_records.proofs.RecordFacts.{extended_from, high_bits, emitted_record_is}
+use Rattle.shader_records.proofs.Inside.{emitted_in}
+use Rattle.shader_records.proofs.RecordFacts.{emitted_record_is}
 use Rattle.shader_records.proofs.MemoryFacts.{streams_in_memory, record_in_memory}
 
 same_use : (IsNamed : ℕ → ℕ → Type 0) (IsShader : ℕ → ShaderModel → Type 0) (memory : ℕ → ℕ) (code code2 stream stream2 : ℕ) → code ≡ code2 → stream ≡ stream2
@@ -26,39 +27,12 @@ same_use IsNamed IsShader memory code code2 stream stream2 same same2 is = (
   refl,
 )
 
-same_size : (one two : ℕ → ℕ) (t : ℕ) → one (shape_word t) ≡ two (shape_word t) → attribute_size one t ≡ attribute_size two t
-unfolding attribute_size
-same_size one two t same = ap (λ w. w % 256 + 1) same
-
-same_stride : (state : ℕ) (one two : ℕ → ℕ) (t : ℕ) → one (shape_word t) ≡ two (shape_word t)
-    → (is_extended state ≡ true → one (extension_word t) ≡ two (extension_word t)) → attribute_stride state one t ≡ attribute_stride state two t
-unfolding attribute_stride
-same_stride state one two t same extension =
-    ap (λ w. w / 256 % 256 + (if is_extended state then 256 * (one (extension_word t) / 256) else 0)) same
-    ∙ ap (λ h. two (shape_word t) / 256 % 256 + h) (high_bits (is_extended state) (one (extension_word t)) (two (extension_word t)) extension)
-
-same_attribute : (IsNamed : ℕ → ℕ → Type 0) (state most : ℕ) (one two : ℕ → ℕ) (t : ℕ) → t < attribute_count state → ((i : ℕ) → 4 * i < record_size state → one i ≡ two i)
-    → IsAttributeIn IsNamed state two most t → IsAttributeIn IsNamed state one most t
-same_attribute IsNamed state most one two t below same is =
-    let inside = attributes_in state in
-    let address = same (address_word t) (omega (arith, inside, below)) in
-    let shape = same (shape_word t) (omega (arith, inside, below)) in
-    let bytes = same_size one two t shape in
-    let stride = same_stride state one two t shape (λ extended. let size = extended_from state extended in same (extension_word t) (omega (arith, size, below))) in
-    record {
-      place = is.place;
-      size = is.size;
-      named = is.named;
-      from = let f = is.from in omega (arith, f, address);
-      upto = λ index upto. let ends = is.upto index upto in let product = ap (λ s. s * index) stride in omega (arith, ends, address, bytes, product);
-    }
-
 -- A record is one wherever its words are.
 same_record : (IsNamed : ℕ → ℕ → Type 0) (IsShader : ℕ → ShaderModel → Type 0) (state most : ℕ) (one two memory : ℕ → ℕ)
     → ((i : ℕ) → 4 * i < record_size state → one i ≡ two i) → IsRecord IsNamed IsShader state most two memory → IsRecord IsNamed IsShader state most one memory
 unfolding is_single
 same_record IsNamed IsShader state most one two memory same is =
-    let inside = attributes_in state in
+    let inside = header_in state in
     let word : (i : ℕ) → i < 9 → one i ≡ two i = λ i below. same i (omega (arith, inside, below)) in
     let use0 = same_use IsNamed IsShader memory (one 1) (two 1) (one 2) (two 2) (word 1 (omega arith)) (word 2 (omega arith)) is.fragment in
     let use1 = same_use IsNamed IsShader memory (one 4) (two 4) (one 5) (two 5) (word 4 (omega arith)) (word 5 (omega arith)) is.vertex in
@@ -70,7 +44,10 @@ same_record IsNamed IsShader state most one two memory same is =
       single = ap (λ w. w % 2 == 1) (word 0 (omega arith)) ∙ is.single ∙ ap (λ s. not s.threaded) (sym use0.1);
       vertex_single = ap (λ s. s.threaded) use1.1 ∙ is.vertex_single;
       coordinate_single = ap (λ s. s.threaded) use2.1 ∙ is.coordinate_single;
-      attributes = λ t below. same_attribute IsNamed state most one two t below same (is.attributes t below);
+      attributes = λ t below.
+          let entry = entry_in state t below in
+          same_attribute IsNamed state most one two t (same (address_word t) (omega (arith, entry))) (same (shape_word t) (omega (arith, entry)))
+          (λ extended. let more = extension_in state t extended below in same (extension_word t) (omega (arith, more))) (is.attributes t below);
     }
 
 pub records_in_memory : (input : InputModel) (records first : ℕ) (memory : List ℕ) (k : ℕ) → AreInputs input → AreInMemory input

@@ -1,7 +1,8 @@
 -- No rule stands for the job.
-use Rattle.std.proofs.Common.{◌≡◌, List, [], ◌∷◌, ◌++◌, Some, None, refl, ap, ◌∙◌}
-use Rattle.field_words.specs.Questions.{Question, first_of, each, answered}
-use Rattle.field_words.proofs.Questions.{passes, answered_none}
+use Rattle.std.proofs.Common.{◌≡◌, [], ◌∷◌, ◌++◌, Some, None, refl, ap, ◌∙◌}
+use Rattle.field_words.specs.Questions.{first_of, each, answered}
+use Rattle.field_words.proofs.Questions.{answered_none}
+use Rattle.job_format.proofs.Nones.{both_pass}
 use Rattle.buffer_table.specs.Table.{buffer_at}
 use Rattle.shader_records.specs.Rules.{all_questions}
 use Rattle.job_check.specs.Faults.{table_stage, shader_stage, shader_refused, shaders_stage, handles_stage, bin_stage, record_refused, records_stage, surfaces_stage, layout_stage, lists_stages, job_stages, file_stages}
@@ -15,17 +16,14 @@ use Rattle.textured_job.proofs.Lists.{bin_there, bin_none, states_are}
 use Rattle.textured_job.proofs.Records.{input, records_asked}
 use Rattle.textured_job.proofs.Surfaces.{surfaces_none, layout_none}
 
-both : {F : Type 0} (front rest : List (Question F)) → first_of front ≡ None → first_of rest ≡ None → first_of (front ++ rest) ≡ None
-both front rest one two = passes front rest one ∙ two
-
 shaders_none : first_of (shaders_stage textured) ≡ None
 unfolding textured shaders_stage shader_stage each answered content_of buffer_at
 shaders_none =
     let fragment = answered (shader_refused textured 0) (code_questions (code_bytes fragment_words)) in
     let vertex = answered (shader_refused textured 1) (code_questions (code_bytes vertex_words)) in
-    both fragment (vertex ++ [])
+    both_pass fragment (vertex ++ [])
     (answered_none (shader_refused textured 0) (code_questions (code_bytes fragment_words)) fragment_no_fault)
-    (both vertex []
+    (both_pass vertex []
     (answered_none (shader_refused textured 1) (code_questions (code_bytes vertex_words)) vertex_no_fault)
     refl)
 
@@ -52,21 +50,21 @@ records_none =
 lists_none : first_of (lists_stages textured 0) ≡ None
 unfolding lists_stages
 lists_none =
-    both (bin_stage textured 0) (records_stage textured 0 ++ surfaces_stage textured 0) bin_none
-    (both (records_stage textured 0) (surfaces_stage textured 0) records_none surfaces_none)
+    both_pass (bin_stage textured 0) (records_stage textured 0 ++ surfaces_stage textured 0) bin_none
+    (both_pass (records_stage textured 0) (surfaces_stage textured 0) records_none surfaces_none)
 
 job_none : first_of (job_stages textured 0) ≡ None
 unfolding job_stages
 job_none =
-    both (handles_stage textured 0) (lists_stages textured 0 ++ layout_stage textured 0) handles_none
-    (both (lists_stages textured 0) (layout_stage textured 0) lists_none layout_none)
+    both_pass (handles_stage textured 0) (lists_stages textured 0 ++ layout_stage textured 0) handles_none
+    (both_pass (lists_stages textured 0) (layout_stage textured 0) lists_none layout_none)
 
 jobs_none : first_of (each (job_stages textured) 0 1) ≡ None
 unfolding each
-jobs_none = both (job_stages textured 0) [] job_none refl
+jobs_none = both_pass (job_stages textured 0) [] job_none refl
 
 pub file_none : first_of (file_stages textured) ≡ None
 unfolding file_stages textured
 file_none =
-    both (table_stage textured) (shaders_stage textured ++ each (job_stages textured) 0 1) table_none
-    (both (shaders_stage textured) (each (job_stages textured) 0 1) shaders_none jobs_none)
+    both_pass (table_stage textured) (shaders_stage textured ++ each (job_stages textured) 0 1) table_none
+    (both_pass (shaders_stage textured) (each (job_stages textured) 0 1) shaders_none jobs_none)

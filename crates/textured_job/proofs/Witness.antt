@@ -1,6 +1,7 @@
 -- The job's bytes are accepted, and have all that the law speaks of.
-use Rattle.std.proofs.Common.{◌≡◌, ◌<◌, ℕ, zero, suc, Bool, true, false, List, [], ◌∷◌, length, None, refl, sym, ap, subst, arith, ◌∙◌, lit<}
+use Rattle.std.proofs.Common.{◌≡◌, ◌<◌, ℕ, zero, suc, Bool, true, List, [], ◌∷◌, length, None, refl, sym, ap, subst, arith, ◌∙◌, lit<}
 use Rattle.std.specs.Prelude.{nat_lt, ◌&&◌, slice_index}
+use Rattle.std.proofs.lemmas.Bool.{and_parts}
 use Rattle.std.proofs.lemmas.Bool.Decides.{nat_tests}
 use Rattle.field_words.specs.Questions.{first_of, answered}
 use Rattle.field_words.specs.Words.{IsBytes}
@@ -24,10 +25,6 @@ abbrev all_small : List ℕ → Bool
 all_small [] = true
 all_small (x ∷ xs) = nat_lt x 256 && all_small xs
 
-two_true : (a b : Bool) → (a && b) ≡ true → (a ≡ true) × (b ≡ true)
-two_true true b all = (refl, all)
-two_true false b all = cc
-
 is_small : (x : ℕ) → nat_lt x 256 ≡ true → x < 256
 is_small x small = grind (arith, nat_tests, small)
 
@@ -38,7 +35,7 @@ bytes_cons x xs small rest (suc i) = rest i
 bytes_of : (xs : List ℕ) → all_small xs ≡ true → IsBytes xs
 bytes_of [] all = λ i. lit< tt
 bytes_of (x ∷ xs) all =
-    let both = two_true (nat_lt x 256) (all_small xs) all in
+    let both = and_parts (nat_lt x 256) (all_small xs) all in
     bytes_cons x xs (is_small x both.0) (bytes_of xs both.1)
 
 text_bytes : IsBytes textured_bytes

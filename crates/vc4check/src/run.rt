@@ -69,6 +69,7 @@ pub fn run<S: Source, K: Sink>(
     // What `gen` answers, which is never a refusal.
     ensures made { (number : ℕ) → task_of (texts words.now.items) ≡ Some (Make number) → result < 2 →
         IsAnswered (IsExampleAnswer number) result (K.held sink.old) (K.held sink.new) }
+    ensures made_status { (number : ℕ) → task_of (texts words.now.items) ≡ Some (Make number) → ((result ≡ 0) ⊎ ((result ≡ 4) ⊎ (result ≡ 5))) }
     ensures made_cut { (number : ℕ) → task_of (texts words.now.items) ≡ Some (Make number) → result ≡ 4 →
         IsCut (IsExampleAnswer number) (K.held sink.old) (K.held sink.new) }
 

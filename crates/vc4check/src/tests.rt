@@ -288,7 +288,7 @@ fn turns_text_into_words_and_back(rt: HostRuntime) -> Result<(), Fail> {
     Ok(())
 }
 
-// The examples of four numbers. The source has a byte, which none of them reads.
+// The examples of two numbers. The source has a byte, which none of them reads.
 #[test]
 fn makes_examples(rt: HostRuntime) -> Result<(), Fail> {
     let alloc = rt.alloc();

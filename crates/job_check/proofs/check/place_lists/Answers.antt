@@ -9,7 +9,8 @@ use Rattle.job_check.specs.Faults.{lists_stages, layout_stage}
 use Rattle.job_check.specs.Emit.{list_parts}
 use Rattle.job_check.proofs.Order.{layout_fits}
 use Rattle.job_check.proofs.Views.{placed_lists, window_fits}
-use Rattle.job_check.proofs.Windows.{length_window, length_with_window}
+use Rattle.phys_mem.proofs.Parts.{window_long}
+use Rattle.job_check.proofs.Windows.{length_with_window}
 use Rattle.job_check.proofs.check.place_lists.Goals as goal
 
 pub window-requires : goal.window-requires
@@ -24,7 +25,7 @@ write_lists-requires c =
     let h = subst (λ (w : InView). IsContext w (job_view x.job.now) x.table.now (shaders_view x.shaders.now.items) x.handles x.layout) c.job.view_is c.job.invariant in
     let fits = window_fits c.args.job.now (job_view x.job.now) x.table.now (shaders_view x.shaders.now.items) x.handles x.layout h (c.if-not-fits.ensures.0 refl) in
     let room : x.layout.place + x.layout.end ≤ length c.args.memory.now = omega (arith, fits, c.requires) in
-    omega (arith, ap (λ l. l.end) h.layout_is, ap length c.window.ensures.value, length_window c.args.memory.now x.layout.place x.layout.end room)
+    omega (arith, ap (λ l. l.end) h.layout_is, ap length c.window.ensures.value, window_long c.args.memory.now x.layout.place x.layout.end room)
 
 pub returns-in-Ok : goal.returns-in-Ok
 returns-in-Ok c =
@@ -41,7 +42,7 @@ returns-in-Ok c =
       put =
           ap (with_window c.args.memory.now x.layout.place) (c.in-Ok.ensures.written ∙ ap (λ w. placed w (list_parts v.file v.number)) c.window.ensures.value)
           ∙ placed_lists v x.layout h.layout_is c.args.memory.now room c.in-Ok.ensures.fit;
-      long = length_with_window c.args.memory.now x.layout.place c.write_lists.new.out (omega (arith, room, c.write_lists.auto.out, ap length c.window.ensures.value, length_window c.args.memory.now x.layout.place x.layout.end room));
+      long = length_with_window c.args.memory.now x.layout.place c.write_lists.new.out (omega (arith, room, c.write_lists.auto.out, ap length c.window.ensures.value, window_long c.args.memory.now x.layout.place x.layout.end room));
       fits = omega (arith, ap (λ l. l.end) h.layout_is, (c.if-not-fits.ensures.0 refl));
     }
 

@@ -1,22 +1,8 @@
-use Rattle.std.proofs.Common.{◌≡◌, ◌≤◌, length, refl, sym, ◌∙◌, arith}
-use Rattle.std.proofs.lemmas.Bool.Decides.{nat_tests}
-use Rattle.std.proofs.Common.{string_bytes}
-use Rattle.overflow_slots.proofs.Lines.{answered_none, answered_more, answered_all}
+use Rattle.overflow_slots.specs.Calls.{fault_line}
+use Rattle.overflow_slots.specs.SlotRun.{start}
+use Rattle.overflow_slots.specs.Text.{replies}
 use Rattle.overflow_slots.proofs.replies.script.Goals as goal
 
-pub loop-rest-init : goal.loop-rest-init
-loop-rest-init c = answered_none c.args.slots c.args.text.now (string_bytes c.new-out.result) c.new-pool.result c.new-out.ensures.bytes c.new-pool.ensures
-
-pub loop-rest-preserved : goal.loop-rest-preserved
-loop-rest-preserved c =
-    let done = c.loop-rest.invariant in
-    answered_more c.args.slots c.args.text.now (string_bytes c.loop-rest.out) (string_bytes c.put_line.new.out) c.loop-rest.rest.now c.next_line-cut.result.rest.now
-    c.next_line-cut.result.first.now c.loop-rest.pool c.put_line.new.pool done c.next_line-cut.ensures.lines
-    (c.in_ok-put_line.ensures.line done.run done.agrees) (c.in_ok-put_line.ensures.kept done.run done.agrees)
-
 pub returns-clause-answers : goal.returns-clause-answers
-returns-clause-answers c =
-    let none : length c.loop-rest.rest.now ≤ 0 = grind (arith, nat_tests, c.is_empty.ensures, c.loop-rest-test.false) in (
-      sym c.first_malformed.ensures ∙ c.in_default.is,
-      rw c.into_bytes.ensures.value (answered_all c.args.slots c.args.text.now (string_bytes c.loop-rest.out) c.loop-rest.rest.now c.loop-rest.pool none c.loop-rest.invariant),
-    )
+unfolding fault_line replies
+returns-clause-answers c = c.answer.ensures.answers (start c.args.slots) c.new-pool.ensures

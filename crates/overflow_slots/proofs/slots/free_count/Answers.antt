@@ -1,4 +1,4 @@
-use Rattle.std.proofs.Common.{ℕ, Bool, ◌==◌, ◌∙◌, refl, sym, ap, ◌+◌, arith, get_or, eq-eqb, ne_eqb}
+use Rattle.std.proofs.Common.{ℕ, Bool, ◌==◌, ◌∙◌, refl, ap, ◌+◌, arith, get_or, eq-eqb, ne_eqb}
 use Rattle.overflow_slots.specs.Search.{count_where}
 use Rattle.overflow_slots.proofs.Searches.{count_yes, count_no}
 use Rattle.overflow_slots.proofs.slots.free_count.Goals.{then-owners-slot-eq0, else-owners-slot-eq0}

@@ -1,6 +1,6 @@
 use Rattle.std.proofs.Common.{sym, ◌∙◌}
-use Rattle.qpu_asm.proofs.Bytes.{number_digits}
+use Rattle.script.proofs.Digits.{number_digits}
 use Rattle.qpu_asm.proofs.item.read_number.Goals as goal
 
-pub number-value-requires-clause-digits : goal.number-value-requires-clause-digits
-number-value-requires-clause-digits c = number_digits c.args.text.now (sym c.is_number.ensures ∙ c.if-not-is_number.false)
+pub number_up_to-value-requires-clause-digits : goal.number_up_to-value-requires-clause-digits
+number_up_to-value-requires-clause-digits c = number_digits c.args.text.now (sym c.is_number.ensures ∙ c.if-not-is_number.false)

@@ -2,20 +2,17 @@ use Rattle.std.proofs.Common.{sym, ◌∙◌}
 use Rattle.qpu_asm.specs.Items.{read_value}
 use Rattle.qpu_asm.specs.Seen.{row_seen, rows_seen, spots_in, cut_of}
 use Rattle.qpu_asm.proofs.Rows.{row_below}
-use Rattle.qpu_asm.proofs.Reading.{open_first, open_room, open_step, open_facts, skip_more, skip_reaches, has_more, has_not, goes_trans, value_small}
+use Rattle.qpu_asm.proofs.Reading.{default_room, default_facts, default_small, default_open, skip_more, skip_reaches, has_more, has_not, goes_trans, value_small}
 use Rattle.qpu_asm.proofs.item.skip_to.Goals as goal
 
 pub read_value-requires : goal.read_value-requires
 read_value-requires c =
-    row_below (row_seen c.in-Some.row.now)
-    (open_facts c.loop-row.word (row_seen c.in-Some.row.now) (rows_seen c.in-Some.later.now)
-    (open_first c.loop-row.word c.loop-row.rest.now c.in-Some.later.now c.in-Some.row.now c.in-Some.ensures.cases.0 c.loop-row.invariant.still))
+    row_below (row_seen c.in-Some.row.now) (default_facts c.loop-row.word c.loop-row.rest.now c.in-Some.later.now c.in-Some.row.now c.in-Some.ensures.cases.0 c.loop-row.invariant.still)
 
 pub put_read-requires-clause-small : goal.put_read-requires-clause-small
 put_read-requires-clause-small c =
     value_small (spots_in c.args.labels.now) c.args.index (cut_of c.args.cut) (row_seen c.in-Some.row.now) c.read_value.result
-    (open_facts c.loop-row.word (row_seen c.in-Some.row.now) (rows_seen c.in-Some.later.now)
-    (open_first c.loop-row.word c.loop-row.rest.now c.in-Some.later.now c.in-Some.row.now c.in-Some.ensures.cases.0 c.loop-row.invariant.still))
+    (default_facts c.loop-row.word c.loop-row.rest.now c.in-Some.later.now c.in-Some.row.now c.in-Some.ensures.cases.0 c.loop-row.invariant.still)
     (sym c.is_row.ensures ∙ c.if-is_row.true) c.read_value.ensures
 
 pub returns-then-is_row-clause-on : goal.returns-then-is_row-clause-on
@@ -28,30 +25,19 @@ returns-then-is_row-clause-on c later =
     rw c.put_read.ensures.rows (goes_trans read (c.put_read.ensures.on (later (rows_seen others))))
 
 pub append-word-requires-clause-room : goal.append-word-requires-clause-room
-append-word-requires-clause-room c =
-    open_room c.loop-row.word (row_seen c.in-Some.row.now) (rows_seen c.in-Some.later.now)
-    (open_first c.loop-row.word c.loop-row.rest.now c.in-Some.later.now c.in-Some.row.now c.in-Some.ensures.cases.0 c.loop-row.invariant.still)
-
-pub append-word-requires-clause-narrow : goal.append-word-requires-clause-narrow
-append-word-requires-clause-narrow c =
-    (open_facts c.loop-row.word (row_seen c.in-Some.row.now) (rows_seen c.in-Some.later.now)
-    (open_first c.loop-row.word c.loop-row.rest.now c.in-Some.later.now c.in-Some.row.now c.in-Some.ensures.cases.0 c.loop-row.invariant.still)).high
+append-word-requires-clause-room c = default_room c.loop-row.word c.loop-row.rest.now c.in-Some.later.now c.in-Some.row.now c.in-Some.ensures.cases.0 c.loop-row.invariant.still
 
 pub append-word-requires-clause-small : goal.append-word-requires-clause-small
-append-word-requires-clause-small c =
-    (open_facts c.loop-row.word (row_seen c.in-Some.row.now) (rows_seen c.in-Some.later.now)
-    (open_first c.loop-row.word c.loop-row.rest.now c.in-Some.later.now c.in-Some.row.now c.in-Some.ensures.cases.0 c.loop-row.invariant.still)).fallback
+append-word-requires-clause-small c = default_small c.loop-row.word c.loop-row.rest.now c.in-Some.later.now c.in-Some.row.now c.in-Some.ensures.cases.0 c.loop-row.invariant.still
 
 pub loop-row-preserved : goal.loop-row-preserved
 loop-row-preserved c =
     let row = c.in-Some.row.now in
     let others = c.in-Some.later.now in
     let first = c.in-Some.ensures.cases.0 in
-    let still = open_first c.loop-row.word c.loop-row.rest.now others row first c.loop-row.invariant.still in
     let other = sym c.is_row.ensures ∙ c.if-is_row.false in
     rw c.append-word.ensures (record {
-      still = open_step c.loop-row.word (row_seen row) (rows_seen others) row.fallback still
-          (open_facts c.loop-row.word (row_seen row) (rows_seen others) still).fallback;
+      still = default_open c.loop-row.word c.loop-row.rest.now others row first c.loop-row.invariant.still;
       has = has_more c.args.cut.first.now c.loop-row.rest.now others row first other c.loop-row.invariant.has;
       on = λ later. skip_more c.loop-row.word c.args.cut.first.now (read_value (spots_in c.args.labels.now) c.args.index (cut_of c.args.cut)) later
           c.loop-row.rest.now others row first other (c.loop-row.invariant.on later);

@@ -1,7 +1,6 @@
 use Rattle.std.proofs.Common.{◌≡◌, length, None, sym, ap, subst, arith, ◌∙◌}
 use Rattle.field_words.specs.Writes.{with_bytes}
 use Rattle.field_words.specs.Questions.{first_of}
-use Rattle.job_format.specs.File.{IsJobWellFormed}
 use Rattle.job_format.specs.Model.{job_view}
 use Rattle.shader_records.specs.Inputs.{shaders_view}
 use Rattle.job_check.specs.Context.{InView, IsContext}
@@ -9,33 +8,27 @@ use Rattle.bin_list.specs.Emitted.{bin_text}
 use Rattle.bin_list.specs.Info.{IsInfo}
 use Rattle.bin_list.specs.Rules.{bin_questions}
 use Rattle.job_check.specs.Jobs.{layout_of}
-use Rattle.job_check.proofs.Layouts.{layout_low, layout_apart}
+use Rattle.job_check.proofs.Layouts.{kept_low, layout_apart}
 use Rattle.job_check.proofs.Views.{bin_none, bin_text_is, bin_told}
 use Rattle.job_check.proofs.context.Context.bin.Goals as goal
 
 pub check_bin-requires-clause-place_limit : goal.check_bin-requires-clause-place_limit
 check_bin-requires-clause-place_limit c =
-    let v = c.args.self.now in
     let x = c.self.inside in
-    let h = subst (λ (w : InView). IsContext w (job_view x.job.now) x.table.now (shaders_view x.shaders.now.items) x.handles x.layout) c.self.view_is c.self.invariant in
-    let low = layout_low v.file v.number h.sound h.well_formed.one_job h.inside (subst IsJobWellFormed h.job_is h.limits) in
-    omega (arith, low.0, ap (λ l. l.place) h.layout_is)
+    let low = kept_low _ (job_view x.job.now) x.table.now (shaders_view x.shaders.now.items) x.handles x.layout c.self.invariant in
+    omega (arith, low.place)
 
 pub check_bin-requires-clause-records_limit : goal.check_bin-requires-clause-records_limit
 check_bin-requires-clause-records_limit c =
-    let v = c.args.self.now in
     let x = c.self.inside in
-    let h = subst (λ (w : InView). IsContext w (job_view x.job.now) x.table.now (shaders_view x.shaders.now.items) x.handles x.layout) c.self.view_is c.self.invariant in
-    let low = layout_low v.file v.number h.sound h.well_formed.one_job h.inside (subst IsJobWellFormed h.job_is h.limits) in
-    omega (arith, low.1, ap (λ l. l.records) h.layout_is)
+    let low = kept_low _ (job_view x.job.now) x.table.now (shaders_view x.shaders.now.items) x.handles x.layout c.self.invariant in
+    omega (arith, low.records)
 
 pub check_bin-requires-clause-slot_limit : goal.check_bin-requires-clause-slot_limit
 check_bin-requires-clause-slot_limit c =
-    let v = c.args.self.now in
     let x = c.self.inside in
-    let h = subst (λ (w : InView). IsContext w (job_view x.job.now) x.table.now (shaders_view x.shaders.now.items) x.handles x.layout) c.self.view_is c.self.invariant in
-    let low = layout_low v.file v.number h.sound h.well_formed.one_job h.inside (subst IsJobWellFormed h.job_is h.limits) in
-    omega (arith, low.3, ap (λ l. l.slot) h.layout_is)
+    let low = kept_low _ (job_view x.job.now) x.table.now (shaders_view x.shaders.now.items) x.handles x.layout c.self.invariant in
+    omega (arith, low.slot)
 
 pub check_bin-requires-clause-room : goal.check_bin-requires-clause-room
 check_bin-requires-clause-room c =

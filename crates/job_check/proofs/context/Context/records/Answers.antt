@@ -2,7 +2,6 @@ use Rattle.std.proofs.Common.{◌≡◌, length, Some, None, sym, ap, subst, ari
 use Rattle.field_words.specs.Writes.{with_bytes}
 use Rattle.field_words.specs.Questions.{first_of}
 use Rattle.buffer_table.specs.Table.{TableModel}
-use Rattle.job_format.specs.File.{IsJobWellFormed}
 use Rattle.job_format.specs.Model.{job_view}
 use Rattle.relocation.specs.declared.layout.Layout.{Layout}
 use Rattle.shader_records.specs.Inputs.{InputModel, AreShadersOf, shaders_view, input_of}
@@ -12,7 +11,7 @@ use Rattle.shader_records.specs.Emitted.{streams_place, IsEmitted}
 use Rattle.job_check.specs.Jobs.{layout_of, input_for, records_of}
 use Rattle.job_check.specs.Faults.{record_refused}
 use Rattle.job_check.specs.Context.{InView, IsContext}
-use Rattle.job_check.proofs.Layouts.{layout_low, layout_apart}
+use Rattle.job_check.proofs.Layouts.{kept_low, layout_apart}
 use Rattle.job_check.proofs.Views.{input_is, records_none, records_some, records_are, streams_are, records_within, streams_within}
 use Rattle.job_check.proofs.context.Context.records.Goals as goal
 
@@ -26,19 +25,15 @@ check_records-requires-clause-shaders c =
 
 pub check_records-requires-clause-place_limit : goal.check_records-requires-clause-place_limit
 check_records-requires-clause-place_limit c =
-    let v = c.args.self.now in
     let x = c.self.inside in
-    let h = subst (λ (w : InView). IsContext w (job_view x.job.now) x.table.now (shaders_view x.shaders.now.items) x.handles x.layout) c.self.view_is c.self.invariant in
-    let low = layout_low v.file v.number h.sound h.well_formed.one_job h.inside (subst IsJobWellFormed h.job_is h.limits) in
-    omega (arith, low.0, ap (λ l. l.place) h.layout_is)
+    let low = kept_low _ (job_view x.job.now) x.table.now (shaders_view x.shaders.now.items) x.handles x.layout c.self.invariant in
+    omega (arith, low.place)
 
 pub check_records-requires-clause-limit : goal.check_records-requires-clause-limit
 check_records-requires-clause-limit c =
-    let v = c.args.self.now in
     let x = c.self.inside in
-    let h = subst (λ (w : InView). IsContext w (job_view x.job.now) x.table.now (shaders_view x.shaders.now.items) x.handles x.layout) c.self.view_is c.self.invariant in
-    let low = layout_low v.file v.number h.sound h.well_formed.one_job h.inside (subst IsJobWellFormed h.job_is h.limits) in
-    omega (arith, low.2, ap (λ l. l.uniforms) h.layout_is)
+    let low = kept_low _ (job_view x.job.now) x.table.now (shaders_view x.shaders.now.items) x.handles x.layout c.self.invariant in
+    omega (arith, low.uniforms)
 
 pub check_records-requires-clause-order : goal.check_records-requires-clause-order
 check_records-requires-clause-order c =

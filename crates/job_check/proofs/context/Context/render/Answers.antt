@@ -1,22 +1,19 @@
 use Rattle.std.proofs.Common.{ap, subst, arith, ◌∙◌}
 use Rattle.field_words.specs.Writes.{with_bytes}
 use Rattle.render_list.specs.Text.{render_text}
-use Rattle.job_format.specs.File.{IsJobWellFormed}
 use Rattle.job_format.specs.Model.{job_view}
 use Rattle.shader_records.specs.Inputs.{shaders_view}
 use Rattle.job_check.specs.Context.{InView, IsContext}
 use Rattle.job_check.specs.Jobs.{layout_of}
-use Rattle.job_check.proofs.Layouts.{layout_low}
+use Rattle.job_check.proofs.Layouts.{kept_low}
 use Rattle.job_check.proofs.Views.{render_ends, list_is, list_length}
 use Rattle.job_check.proofs.context.Context.render.Goals as goal
 
 pub build-requires-clause-slot : goal.build-requires-clause-slot
-build-requires-clause-slot c = λ some.
-    let v = c.args.self.now in
+build-requires-clause-slot c =
     let x = c.self.inside in
-    let h = subst (λ (w : InView). IsContext w (job_view x.job.now) x.table.now (shaders_view x.shaders.now.items) x.handles x.layout) c.self.view_is c.self.invariant in
-    let low = layout_low v.file v.number h.sound h.well_formed.one_job h.inside (subst IsJobWellFormed h.job_is h.limits) in
-    omega (arith, low.3, ap (λ l. l.slot) h.layout_is)
+    let low = kept_low _ (job_view x.job.now) x.table.now (shaders_view x.shaders.now.items) x.handles x.layout c.self.invariant in
+    λ some. omega (arith, low.slot)
 
 pub build-requires-clause-room : goal.build-requires-clause-room
 build-requires-clause-room c =

@@ -1,7 +1,7 @@
 use Rattle.std.proofs.Common.{sym, arith, ◌∙◌}
 use Rattle.script.proofs.Digits.{digits_after}
 use Rattle.script.proofs.Digits.{number_step, number_end}
-use Rattle.script.proofs.number.number.Goals as goal
+use Rattle.script.proofs.number.number_up_to.Goals as goal
 
 pub loop-digit-preserved : goal.loop-digit-preserved
 loop-digit-preserved c =

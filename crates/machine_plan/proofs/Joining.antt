@@ -74,3 +74,13 @@ shows_wrote {R = R} who place bytes next m k before listed after memory result l
       memory_is = g.memory_is;
       result_is = g.result_is;
     }
+
+pub left_write : {R : Type 0} (who : Who) (place : ℕ) (bytes : List ℕ) (next : Plan R) (m : List ℕ) (whole : Outcome R) (before now : List Access)
+    → IsLeft whole (carried who (Writes place bytes next) m) before now → IsLeft whole (carried who next (stored m place bytes)) before (now ++ access who Write place (length bytes) ∷ [])
+left_write {R = R} who place bytes next m whole before now left =
+    let rest : Outcome R = carried who next (stored m place bytes) in
+    record {
+      accesses = append_assoc now (access who Write place (length bytes) ∷ []) rest.accesses ∙ left.accesses;
+      memory = left.memory;
+      result = left.result;
+    }

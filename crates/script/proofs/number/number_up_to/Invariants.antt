@@ -1,7 +1,7 @@
 use Rattle.std.proofs.Common.{◌≡◌, ◌≤◌, true, min, drop}
 use Rattle.std.specs.Str.{all_ascii_digits}
 use Rattle.script.specs.Number.{number_after}
-use Rattle.script.proofs.number.number.Given as goal
+use Rattle.script.proofs.number.number_up_to.Given as goal
 
 abbrev pub invariant-loop-digit : goal.invariant-loop-digit
 invariant-loop-digit l = record {

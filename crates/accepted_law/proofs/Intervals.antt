@@ -1,0 +1,70 @@
+-- Intervals of lists, and those of the buffers that handles name.
+use Rattle.std.proofs.Common.{◌≡◌, ◌⊎◌, inl, inr, ℕ, zero, suc, ◌<◌, List, [], ◌∷◌, ◌++◌, Option, Some, None, refl, sym, ap, arith, ◌∙◌}
+use Rattle.std.proofs.lemmas.Bool.{cases_lt}
+use Rattle.buffer_table.specs.declared.buffer.Buffer.{Buffer}
+use Rattle.buffer_table.specs.Table.{buffer_at}
+use Rattle.machine_plan.specs.Regions.{Interval}
+use Rattle.qpu_law.specs.Asks.{IsOneOf}
+use Rattle.accepted_law.specs.Holdings.{buffer_interval, interval_where, named_buffers}
+
+-- one of the intervals of two lists
+pub one_left : (front rest : List Interval) (place size : ℕ) → IsOneOf front place size → IsOneOf (front ++ rest) place size
+one_left [] rest place size one = absurd one
+one_left (first ∷ front) rest place size (inl is) = inl is
+one_left (first ∷ front) rest place size (inr other) = inr (one_left front rest place size other)
+
+pub one_right : (front rest : List Interval) (place size : ℕ) → IsOneOf rest place size → IsOneOf (front ++ rest) place size
+one_right [] rest place size one = one
+one_right (first ∷ front) rest place size one = inr (one_right front rest place size one)
+
+pub both_lists : (front rest : List Interval) (place size : ℕ) → IsOneOf (front ++ rest) place size → IsOneOf front place size ⊎ IsOneOf rest place size
+both_lists [] rest place size one = inr one
+both_lists (first ∷ front) rest place size (inl is) = inl (inl is)
+both_lists (first ∷ front) rest place size (inr other) =
+    elim (both_lists front rest place size other) [ inl here ↦ inl (inr here) | inr there ↦ inr there ]
+
+-- The buffer that a handle names is among those of all handles, and each of those is named by one.
+where_some : (buffers : List Buffer) (found : Option ℕ) (number : ℕ) → found ≡ Some number
+    → IsOneOf (interval_where buffers found) (buffer_at buffers number).place (buffer_at buffers number).size
+where_some buffers None number is = absurd (cc)
+where_some buffers (Some n) number is =
+    let same : n ≡ number = cc in
+    inl (ap (buffer_interval buffers) same)
+
+pub named_there : (names : ℕ → Option ℕ) (buffers : List Buffer) (n handle number : ℕ) → handle < n → names handle ≡ Some number
+    → IsOneOf (named_buffers names buffers n) (buffer_at buffers number).place (buffer_at buffers number).size
+unfolding named_buffers
+named_there names buffers zero handle number below is = absurd (omega (arith, below))
+named_there names buffers (suc n) handle number below is =
+    let place = (buffer_at buffers number).place in
+    let size = (buffer_at buffers number).size in
+    elim (cases_lt handle n) [
+      | inl before ↦ one_left (named_buffers names buffers n) (interval_where buffers (names n)) place size (named_there names buffers n handle number before is)
+      | inr past ↦
+          (let same : handle ≡ n = omega (arith, below, past) in
+          one_right (named_buffers names buffers n) (interval_where buffers (names n)) place size
+          (where_some buffers (names n) number (sym (ap names same) ∙ is)))
+    ]
+
+pub record IsNamedBy (names : ℕ → Option ℕ) (buffers : List Buffer) (place size : ℕ) : Type 0 where
+  pub handle : ℕ
+  pub number : ℕ
+  pub named : names handle ≡ Some number
+  pub place_is : place ≡ (buffer_at buffers number).place
+  pub size_is : size ≡ (buffer_at buffers number).size
+
+where_named : (names : ℕ → Option ℕ) (buffers : List Buffer) (handle : ℕ) (found : Option ℕ) (place size : ℕ) → names handle ≡ found
+    → IsOneOf (interval_where buffers found) place size → IsNamedBy names buffers place size
+where_named names buffers handle None place size is one = absurd one
+where_named names buffers handle (Some number) place size is (inl same) =
+    record { handle = handle; number = number; named = is; place_is = sym (ap (λ i. i.place) same); size_is = sym (ap (λ i. i.size) same) }
+where_named names buffers handle (Some number) place size is (inr none) = absurd none
+
+pub named_by : (names : ℕ → Option ℕ) (buffers : List Buffer) (n place size : ℕ) → IsOneOf (named_buffers names buffers n) place size → IsNamedBy names buffers place size
+unfolding named_buffers
+named_by names buffers zero place size one = absurd one
+named_by names buffers (suc n) place size one =
+    elim (both_lists (named_buffers names buffers n) (interval_where buffers (names n)) place size one) [
+      | inl before ↦ named_by names buffers n place size before
+      | inr here ↦ where_named names buffers n (names n) place size refl here
+    ]

@@ -1,9 +1,0 @@
-use Rattle.std.proofs.Common.{string_bytes, length}
-use Rattle.overflow_slots.proofs.Lines.{Answered}
-use Rattle.overflow_slots.proofs.replies.script.Given as goal
-
-abbrev pub invariant-loop-rest : goal.invariant-loop-rest
-invariant-loop-rest l = Answered l.fn.slots l.fn.text (string_bytes l.out) l.rest l.pool
-
-abbrev pub decreases-loop-rest : goal.decreases-loop-rest
-decreases-loop-rest l = length l.rest

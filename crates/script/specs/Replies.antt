@@ -1,0 +1,14 @@
+-- What the lines of a script are answered, by whoever answers them one after the other.
+use Rattle.std.specs.Prelude.{◌≡◌, ℕ, List, [], ◌∷◌, ◌++◌, Option, Some}
+use Rattle.field_words.specs.declared.stop.Stop.{Stop}
+use Rattle.field_words.specs.declared.stop.Stop.TheVariants.{Fault, NoMemory}
+
+-- Each line is answered by what the lines before it left, which is a value of any type: `reply` is its answer, `after` what it leaves.
+unfoldable pub replies_from : {P : Type 0} → (P → List ℕ → List ℕ) → (P → List ℕ → P) → P → List (List ℕ) → List ℕ
+replies_from reply after past [] = []
+replies_from reply after past (line ∷ lines) = reply past line ++ replies_from reply after (after past line) lines
+
+-- a fault names the first malformed line; want of memory says nothing
+abbrev pub IsScriptFault : Option ℕ → Stop ℕ → Type 0
+IsScriptFault found (Fault line) = found ≡ Some line
+IsScriptFault found NoMemory = Unit {0}
