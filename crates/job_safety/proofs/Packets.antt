@@ -1,12 +1,12 @@
 -- A list unit at a packet that is none, or that doesn't lie in its job's region, is not safe.
-use Rattle.std.proofs.Common.{◌≡◌, ◌<◌, ◌⊎◌, inl, inr, ℕ, zero, suc, ◌==◌, Bool, true, false, List, [], slice_index, Some, None, refl, sym, ap, subst, ◌∙◌, arith}
+use Rattle.std.proofs.Common.{◌≡◌, ◌⊎◌, inl, inr, ℕ, Bool, true, false, List, [], slice_index, Some, None, refl, sym, ap, subst, ◌∙◌}
 use Rattle.std.specs.Prelude.{Option, if◌then◌else◌}
-use Rattle.std.proofs.lemmas.Bool.Decides.{nat_tests}
 use Rattle.field_words.specs.declared.access.Actor.TheVariants.{Binner as TheBinner, Renderer as TheRenderer}
 use Rattle.packets.specs.declared.packet.Packet.{Packet}
 use Rattle.packets.specs.Length.{bin_length, bin_taken, render_taken}
 use Rattle.packets.specs.Opcode.{buffer_handles}
 use Rattle.packets.specs.Packet.{decoded}
+use Rattle.bin_list.proofs.Walk.{taken_some}
 use Rattle.machine_plan.specs.declared.launch.Free.{Free}
 use Rattle.machine_plan.specs.declared.who.Who.{Who}
 use Rattle.machine_plan.specs.Memory.{bytes_at}
@@ -16,6 +16,7 @@ use Rattle.machine_plan.specs.World.{Safe, mapped}
 use Rattle.list_machine.specs.Binner.{is_unknown, packet_plan as bin_packet_plan, read_plan, binner_plan, binner_by}
 use Rattle.list_machine.specs.Lists.{Lists, quiet, past, binner_of, renderer_of}
 use Rattle.list_machine.specs.Renderer.{beyond, acted, packet_plan as render_packet_plan, plan_in, renderer_plan}
+use Rattle.list_machine.proofs.Steps.{first_byte}
 use Rattle.qpu_machine.specs.Qpu.{free_in}
 use Rattle.machine.specs.State.{Units}
 use Rattle.machine.specs.Step.{Event, with_lists, ready, turn, enabled}
@@ -73,18 +74,9 @@ stray_render_law jobs m u j lists at stray safe =
     let len : ℕ = render_taken (slice_index m lists.renderer.place) in
     acted_stray jobs (renderer_of j) m (beyond lists len) (decoded (bytes_at m lists.renderer.place len)) stray (render_step jobs m u j lists at safe).1
 
--- a byte that begins no packet is a packet by itself
-some_taken : (n : ℕ) → 0 < (if n == 0 then 1 else n)
-some_taken n = grind (arith, nat_tests)
-
-first_byte : (m : List ℕ) (place len : ℕ) → 0 < len → slice_index (bytes_at m place len) 0 ≡ slice_index m place
-unfolding bytes_at
-first_byte m place zero some = absurd (omega (arith, some))
-first_byte m place (suc len) some = refl
-
+-- a byte that begins no packet
 opcode_is : (m : List ℕ) (place : ℕ) → slice_index (bytes_at m place (bin_taken (slice_index m place))) 0 ≡ slice_index m place
-unfolding bin_taken
-opcode_is m place = first_byte m place (bin_taken (slice_index m place)) (some_taken (bin_length (slice_index m place)))
+opcode_is m place = first_byte m place (bin_taken (slice_index m place)) (taken_some (slice_index m place))
 
 is_own : (opcode : ℕ) → opcode ≡ buffer_handles → is_unknown opcode ≡ true
 unfolding is_unknown bin_length
