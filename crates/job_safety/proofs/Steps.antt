@@ -1,11 +1,10 @@
--- A step that reaches outside is not safe.
+-- A step of a processor or a texture unit that reaches outside is not safe.
 use Rattle.std.proofs.Common.{◌≡◌, ◌<◌, ℕ, zero, suc, ◌-◌, ◌%◌, Bool, IsTrue, true, false, List, [], ◌∷◌, ◌++◌, length, Some, None, refl, ap, subst, ◌∙◌, arith}
 use Rattle.std.specs.Prelude.{Option, IfSome, nat_lt, slice_index, if◌then◌else◌}
 use Rattle.std.proofs.lemmas.Bool.Decides.{nat_tests}
 use Rattle.field_words.specs.Words.{u32_at}
 use Rattle.field_words.specs.declared.access.Access.{Access}
-use Rattle.field_words.specs.declared.access.Actor.TheVariants.{Binner as TheBinner, Qpu as TheQpu, Tmu as TheTmu}
-use Rattle.machine_plan.specs.declared.launch.Free.{Free}
+use Rattle.field_words.specs.declared.access.Actor.TheVariants.{Qpu as TheQpu, Tmu as TheTmu}
 use Rattle.machine_plan.specs.declared.who.Who.{Who}
 use Rattle.machine_plan.specs.Glance.{glanced}
 use Rattle.machine_plan.specs.Memory.{bytes_at}
@@ -15,20 +14,18 @@ use Rattle.machine_plan.specs.Runs.{reached}
 use Rattle.machine_plan.specs.World.{Safe, mapped}
 use Rattle.machine_plan.proofs.Runs.{every-front}
 use Rattle.machine_plan.proofs.Worlds.{carried_mapped}
-use Rattle.list_machine.specs.Binner.{read_plan, binner_plan, binner_by}
-use Rattle.list_machine.specs.Lists.{Lists, quiet, binner_of}
 use Rattle.qpu_machine.specs.declared.state.Request.{Request}
 use Rattle.qpu_machine.specs.declared.state.Thread.{Thread}
-use Rattle.qpu_machine.specs.Qpu.{free_in, went, plan_by, served, serving}
+use Rattle.qpu_machine.specs.Qpu.{went, plan_by, served, serving}
 use Rattle.qpu_machine.specs.Request.{direct_plan, chosen_place, chosen_length, read_at, texture_reads, is_undefined, texture_plan, ask_plan}
 use Rattle.qpu_machine.specs.Step.{thread_plan}
 use Rattle.texture_layouts.specs.Setup.{TextureModel, texture_of}
 use Rattle.machine.specs.State.{Units, State}
-use Rattle.machine.specs.Step.{Event, with_lists, with_qpu, ready, turn, step, enabled}
-use Rattle.job_safety.specs.Strength.{IsPast, IsAtPacket, ListsPastAreUnsafe, IsActive, CodePastIsUnsafe, IsOldest, DirectReadsPastAreUnsafe, IsChosenPast, TexturesPastAreUnsafe}
+use Rattle.machine.specs.Step.{Event, with_qpu, ready, turn, step, enabled}
+use Rattle.job_safety.specs.Strength.{IsPast, IsActive, CodePastIsUnsafe, IsOldest, DirectReadsPastAreUnsafe, IsChosenPast, TexturesPastAreUnsafe}
 
 -- each access of the first step of a safe machine is safe
-first_step : (jobs : List Rights) (m : List ℕ) (u : Units) (e : Event) → IsTrue (glanced (ready u e) m) → Safe ready turn jobs m u
+pub first_step : (jobs : List Rights) (m : List ℕ) (u : Units) (e : Event) → IsTrue (glanced (ready u e) m) → Safe ready turn jobs m u
     → Every (IsSafeAccess jobs) (carried (turn u e).who (turn u e).plan m).accesses
 first_step jobs m u e may safe =
     let start : State = record { memory = m; units = u } in
@@ -37,28 +34,8 @@ first_step jobs m u e may safe =
     every-front (IsSafeAccess jobs) (step start e).accesses [] all.accesses
 
 -- the accesses of a plan with its result handed on
-mapped_accesses : {R T : Type 0} (put : R → T) (who : Who) (plan : Plan R) (m : List ℕ) → (carried who (mapped put plan) m).accesses ≡ (carried who plan m).accesses
+pub mapped_accesses : {R T : Type 0} (put : R → T) (who : Who) (plan : Plan R) (m : List ℕ) → (carried who (mapped put plan) m).accesses ≡ (carried who plan m).accesses
 mapped_accesses put who plan m = ap (λ o. o.accesses) (carried_mapped put who plan m)
-
--- the binner at a packet
-at_packet : (lists : Lists) (free : Free) (words : List ℕ) → lists.binner.work ≡ None → binner_plan lists free words ≡ mapped quiet (read_plan lists)
-unfolding binner_plan
-at_packet lists free words idle = ap (λ work. binner_by lists work free words) idle
-
-packet_step : (jobs : List Rights) (m : List ℕ) (u : Units) (j : ℕ) (lists : Lists) → IsAtPacket m u j lists → Safe ready turn jobs m u
-    → Every (IsSafeAccess jobs) (carried (binner_of j) (read_plan lists) m).accesses
-unfolding turn ready enabled
-packet_step jobs m u j lists at safe =
-    let e : Event = record { unit = TheBinner; words = [] } in
-    let is : (carried (turn u e).who (turn u e).plan m).accesses ≡ (carried (binner_of j) (read_plan lists) m).accesses =
-    rw at.job_is (mapped_accesses (with_lists u j) (binner_of j) (binner_plan lists (free_in u.qpus) []) m
-    ∙ ap (λ plan. (carried (binner_of j) plan m).accesses) (at_packet lists (free_in u.qpus) [] at.idle)
-    ∙ mapped_accesses quiet (binner_of j) (read_plan lists) m) in
-    subst (Every (IsSafeAccess jobs)) is (first_step jobs m u e at.may safe)
-
-pub lists_past_law : ListsPastAreUnsafe
-unfolding read_plan
-lists_past_law jobs m u j lists at past safe = past (packet_step jobs m u j lists at safe).0.inside
 
 -- the active thread of a processor
 thread_step : (jobs : List Rights) (m : List ℕ) (u : Units) (k : ℕ) (thread : Thread) → IsActive m u k thread → Safe ready turn jobs m u

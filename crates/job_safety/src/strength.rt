@@ -1,16 +1,20 @@
 //! What safety refuses, so that to be safe says something.
-ghost use Rattle.job_safety.specs.Strength.{StrayPacketsAreUnsafe, ListsPastAreUnsafe, CodePastIsUnsafe, DirectReadsPastAreUnsafe, TexturesPastAreUnsafe};
+ghost use Rattle.job_safety.specs.Strength.{StrayBinPacketsAreUnsafe, StrayRenderPacketsAreUnsafe, StrayStartsAreUnsafe, BinListsPastAreUnsafe, RenderListsPastAreUnsafe, CodePastIsUnsafe, DirectReadsPastAreUnsafe, TexturesPastAreUnsafe};
 
-/// The law that safety refuses wild steps: where a renderer list is a byte that is no packet, the
-/// job isn't safe, whatever it may reach.
+/// A list with what is no packet is not safe, whatever the memory and whatever its job may reach: from each state in which the binner
+/// is to read a byte that begins no packet of a binner list, or the renderer bytes that are no packet of a renderer list. So it is
+/// from the start, where the first job's list begins so.
 pub fn stray_packets_are_unsafe()
-    ensures { StrayPacketsAreUnsafe }
+    ensures bin { StrayBinPacketsAreUnsafe }
+    ensures render { StrayRenderPacketsAreUnsafe }
+    ensures start { StrayStartsAreUnsafe }
 {}
 
-/// A binner list that leaves its job's region is not safe: from each state in which the binner is to read a packet that doesn't lie
-/// in the region.
+/// A list that leaves its job's region is not safe: from each state in which the binner or the renderer is to read a packet that
+/// doesn't lie in the region.
 pub fn lists_past_are_unsafe()
-    ensures { ListsPastAreUnsafe }
+    ensures bin { BinListsPastAreUnsafe }
+    ensures render { RenderListsPastAreUnsafe }
 {}
 
 /// A shader that leaves its job's region is not safe: from each state in which a processor is to execute an instruction that doesn't
