@@ -30,28 +30,28 @@ record_stays rights first m region word fixed kept stands = record {
 }
 
 -- a program of the record, which may be started
-launch_stays : (rights : List Rights) (first : List ℕ) (j : ℕ) (launch : Launch) → LaunchBegins rights first j launch → LaunchFine rights first j launch
-launch_stays rights first j launch begins = record {
+launch_stays : (rights : List Rights) (plains : ℕ → List Interval) (first : List ℕ) (j : ℕ) (launch : Launch) → LaunchBegins rights plains first j launch → LaunchFine rights plains first j launch
+launch_stays rights plains first j launch begins = record {
   home = begins.home;
   buffers = begins.buffers;
-  fine = homes_stay_law rights first j begins.home begins.buffers begins.begins;
+  fine = homes_stay_law rights plains first j begins.home begins.buffers begins.begins;
   code = begins.code;
   uniforms = begins.uniforms;
   threaded = begins.threaded;
 }
 
-program_stays : (rights : List Rights) (first m : List ℕ) (j word : ℕ) (threaded there : Bool) (s : ℕ) → threaded ≡ there → words_in m word (code_word s) ≡ words_in first word (code_word s) → words_in m word (stream_word s) ≡ words_in first word (stream_word s)
-    → LaunchBegins rights first j (program_in first word there s) → LaunchFine rights first j (program_in m word threaded s)
-program_stays rights first m j word threaded there s same code stream begins =
+program_stays : (rights : List Rights) (plains : ℕ → List Interval) (first m : List ℕ) (j word : ℕ) (threaded there : Bool) (s : ℕ) → threaded ≡ there → words_in m word (code_word s) ≡ words_in first word (code_word s) → words_in m word (stream_word s) ≡ words_in first word (stream_word s)
+    → LaunchBegins rights plains first j (program_in first word there s) → LaunchFine rights plains first j (program_in m word threaded s)
+program_stays rights plains first m j word threaded there s same code stream begins =
     let is : program_in m word threaded s ≡ program_in first word there s = λ i. record { threaded = same i; code = code i; uniforms = stream i } in
-    subst (LaunchFine rights first j) (sym is) (launch_stays rights first j (program_in first word there s) begins)
+    subst (LaunchFine rights plains first j) (sym is) (launch_stays rights plains first j (program_in first word there s) begins)
 
 single_stays : (v w : ℕ → ℕ) → v 0 ≡ w 0 → not (is_single v) ≡ not (is_single w)
 unfolding is_single
 single_stays v w is = ap (λ n. not (n % 2 == 1)) is
 
-fetches_stay : (rights : List Rights) (first m : List ℕ) (j word : ℕ) (packet : List ℕ) → DrawBegins rights first j word packet → IsKept rights first m → Fetches (rights_of rights j).region m word (primitive_of packet)
-fetches_stay rights first m j word packet begins kept =
+fetches_stay : (rights : List Rights) (plains : ℕ → List Interval) (first m : List ℕ) (j word : ℕ) (packet : List ℕ) → DrawBegins rights plains first j word packet → IsKept rights first m → Fetches (rights_of rights j).region m word (primitive_of packet)
+fetches_stay rights plains first m j word packet begins kept =
     let region = (rights_of rights j).region in
     let state = begins.state in
     let counts = same_count state word begins.is_state in
@@ -64,19 +64,19 @@ fetches_stay rights first m j word packet begins kept =
     (begins.attributes t below))
     begins.kind begins.primitive
 
-programs_stay : (rights : List Rights) (first m : List ℕ) (j word : ℕ) (packet : List ℕ) → DrawBegins rights first j word packet → IsKept rights first m → Programs (rights_of rights j).region (LaunchFine rights first j) m word
-programs_stay rights first m j word packet begins kept =
+programs_stay : (rights : List Rights) (plains : ℕ → List Interval) (first m : List ℕ) (j word : ℕ) (packet : List ℕ) → DrawBegins rights plains first j word packet → IsKept rights first m → Programs (rights_of rights j).region (LaunchFine rights plains first j) m word
+programs_stay rights plains first m j word packet begins kept =
     let region = (rights_of rights j).region in
     let room = header_in word in
     let stays : (i : ℕ) → i < 9 → words_in m word i ≡ words_in first word i = λ i below. word_stays rights first m word i begins.record_fixed kept (omega (arith, room, below)) in
     let single : not (is_single (words_in m word)) ≡ not (is_single (words_in first word)) = single_stays (words_in m word) (words_in first word) (stays 0 (omega arith)) in
-    emitted_programs region (LaunchFine rights first j) m word (record_stays rights first m region word begins.record_fixed kept begins.record_stands)
-    (program_stays rights first m j word (not (is_single (words_in m word))) (not (is_single (words_in first word))) 0 single (stays 1 (omega arith)) (stays 2 (omega arith)) begins.fragment)
-    (program_stays rights first m j word false false 1 refl (stays 4 (omega arith)) (stays 5 (omega arith)) begins.vertex)
-    (program_stays rights first m j word false false 2 refl (stays 7 (omega arith)) (stays 8 (omega arith)) begins.coordinate)
+    emitted_programs region (LaunchFine rights plains first j) m word (record_stays rights first m region word begins.record_fixed kept begins.record_stands)
+    (program_stays rights plains first m j word (not (is_single (words_in m word))) (not (is_single (words_in first word))) 0 single (stays 1 (omega arith)) (stays 2 (omega arith)) begins.fragment)
+    (program_stays rights plains first m j word false false 1 refl (stays 4 (omega arith)) (stays 5 (omega arith)) begins.vertex)
+    (program_stays rights plains first m j word false false 2 refl (stays 7 (omega arith)) (stays 8 (omega arith)) begins.coordinate)
 
 pub draws_stay_law : DrawsStay
-draws_stay_law rights first j word packet begins = record {
-  fetches = λ m kept. fetches_stay rights first m j word packet begins kept;
-  programs = λ m kept. programs_stay rights first m j word packet begins kept;
+draws_stay_law rights plains first j word packet begins = record {
+  fetches = λ m kept. fetches_stay rights plains first m j word packet begins kept;
+  programs = λ m kept. programs_stay rights plains first m j word packet begins kept;
 }

@@ -40,7 +40,7 @@ home_stays rights first m one home code stands kept stream = record {
 }
 
 pub homes_stay_law : HomesStay
-homes_stay_law rights first j home buffers begins = record {
+homes_stay_law rights plains first j home buffers begins = record {
   stands = λ m kept.
       home_stays rights first m (rights_of rights j) home begins.code begins.stands kept
       (λ k below. fixed_part rights first m home.stream (4 * uniforms_of home.code) (home.stream + 4 * k) 4 begins.stream kept (omega arith) (omega (arith, below)));

@@ -26,7 +26,7 @@ use Rattle.machine.specs.declared.job.Start.{Start}
 use Rattle.machine.specs.State.{units_start}
 use Rattle.machine.specs.Step.{ready, turn}
 use Rattle.machine_law.specs.Units.{EachAt}
-use Rattle.machine_law.specs.Jobs.{LaunchFine, HomeFine}
+use Rattle.machine_law.specs.Jobs.{ArePlain, LaunchFine, HomeFine}
 
 -- no job may write any of the n bytes from a place on
 abbrev pub IsFixed : List Rights → ℕ → ℕ → Type 0
@@ -39,19 +39,19 @@ pub record TextBegins (rights : List Rights) (first : List ℕ) (j place : ℕ) 
   pub fixed : IsFixed rights place (length text)
 
 -- A shader and its stream are a home in the first memory, which no job may write. Each sample of the shader reads in one of these
--- buffers, which the region of job j has.
-pub record HomeBegins (rights : List Rights) (first : List ℕ) (j : ℕ) (home : Home) (buffers : List Interval) : Type 0 where
+-- buffers, which are Plain buffers of job j.
+pub record HomeBegins (rights : List Rights) (plains : ℕ → List Interval) (first : List ℕ) (j : ℕ) (home : Home) (buffers : List Interval) : Type 0 where
   pub stands : IsHome first (rights_of rights j).region home
   pub code : IsFixed rights home.place (8 * length home.code)
   pub stream : IsFixed rights home.stream (4 * uniforms_of home.code)
   pub samples : HasSamples buffers home
-  pub named : (place size : ℕ) → IsOneOf buffers place size → IsOneOf (rights_of rights j).region place size
+  pub named : (place size : ℕ) → IsOneOf buffers place size → IsOneOf (plains j) place size
 
 -- Job j may start the program from the first memory on: it is a home's there.
-pub record LaunchBegins (rights : List Rights) (first : List ℕ) (j : ℕ) (launch : Launch) : Type 0 where
+pub record LaunchBegins (rights : List Rights) (plains : ℕ → List Interval) (first : List ℕ) (j : ℕ) (launch : Launch) : Type 0 where
   pub home : Home
   pub buffers : List Interval
-  pub begins : HomeBegins rights first j home buffers
+  pub begins : HomeBegins rights plains first j home buffers
   pub code : launch.code ≡ home.place
   pub uniforms : launch.uniforms ≡ home.stream
   pub threaded : launch.threaded ≡ is_threaded home.code
@@ -59,27 +59,27 @@ pub record LaunchBegins (rights : List Rights) (first : List ℕ) (j : ℕ) (lau
 -- The packet draws a primitive that was emitted for job j, under the record of a state word that was emitted for it, which stands
 -- in the first memory and which no job may write. Its data and its indexes lie in the job's region, and the three programs may be
 -- started.
-pub record DrawBegins (rights : List Rights) (first : List ℕ) (j word : ℕ) (packet : List ℕ) : Type 0 where
+pub record DrawBegins (rights : List Rights) (plains : ℕ → List Interval) (first : List ℕ) (j word : ℕ) (packet : List ℕ) : Type 0 where
   pub state : ℕ
   pub most : ℕ
   pub is_state : IsStateOf state word
   pub record_stands : RecordStands (rights_of rights j).region first word
   pub record_fixed : IsFixed rights (record_place word) (record_size word)
   pub attributes : (t : ℕ) → t < attribute_count state → IsAttributeIn (Inside (rights_of rights j).region) state (words_in first word) most t
-  pub fragment : LaunchBegins rights first j (program_in first word (not (is_single (words_in first word))) 0)
-  pub vertex : LaunchBegins rights first j (program_in first word false 1)
-  pub coordinate : LaunchBegins rights first j (program_in first word false 2)
+  pub fragment : LaunchBegins rights plains first j (program_in first word (not (is_single (words_in first word))) 0)
+  pub vertex : LaunchBegins rights plains first j (program_in first word false 1)
+  pub coordinate : LaunchBegins rights plains first j (program_in first word false 2)
   pub kind : (slice_index packet 0 ≡ 32) ⊎ (slice_index packet 0 ≡ 33)
   pub primitive : IsPrimitive (Inside (rights_of rights j).region) packet most
 
 -- Job j begins with a binner list and a renderer list that walk under one configuration and one frame, and may write the memory of
 -- its tile lists.
-pub record JobBegins (rights : List Rights) (first : List ℕ) (j : ℕ) (start : Start) : Type 0 where
+pub record JobBegins (rights : List Rights) (plains : ℕ → List Interval) (first : List ℕ) (j : ℕ) (start : Start) : Type 0 where
   pub config : Config
   pub frame : Frame
   pub allocates : Allocates (rights_of rights j) config
   pub packets : List (List ℕ)
-  pub bin_walks : Walks (grid_of config) (DrawBegins rights first j) nothing_kept packets
+  pub bin_walks : Walks (grid_of config) (DrawBegins rights plains first j) nothing_kept packets
   pub bin_text : TextBegins rights first j start.bin_place (joined_bytes packets)
   pub bin_len : start.bin_len ≡ length (joined_bytes packets)
   pub slots : List (Option Packet)
@@ -97,16 +97,16 @@ FixedStays =
 
 abbrev pub HomesStay : Type 0
 HomesStay =
-    (rights : List Rights) (first : List ℕ) (j : ℕ) (home : Home) (buffers : List Interval) → HomeBegins rights first j home buffers → HomeFine rights first j home buffers
+    (rights : List Rights) (plains : ℕ → List Interval) (first : List ℕ) (j : ℕ) (home : Home) (buffers : List Interval) → HomeBegins rights plains first j home buffers → HomeFine rights plains first j home buffers
 
 -- So a primitive may be drawn in each memory where nothing changed but what jobs may write.
 abbrev pub DrawsStay : Type 0
 DrawsStay =
-    (rights : List Rights) (first : List ℕ) (j word : ℕ) (packet : List ℕ) → DrawBegins rights first j word packet
-    → DrawsSo (rights_of rights j) (IsKept rights first) (LaunchFine rights first j) word packet
+    (rights : List Rights) (plains : ℕ → List Interval) (first : List ℕ) (j word : ℕ) (packet : List ℕ) → DrawBegins rights plains first j word packet
+    → DrawsSo (rights_of rights j) (IsKept rights first) (LaunchFine rights plains first j) word packet
 
 -- From what each job begins with, every run of the machine is safe and depends on nothing else.
 abbrev pub JobsSafe : Type 0
 JobsSafe =
-    (rights : List Rights) (first : List ℕ) (starts : List Start) → EachAt (JobBegins rights first) 0 starts
+    (rights : List Rights) (plains : ℕ → List Interval) (first : List ℕ) (starts : List Start) → ArePlain rights plains → EachAt (JobBegins rights plains first) 0 starts
     → Safe ready turn rights first (units_start starts) × Same ready turn rights (joined rights) first (units_start starts)
