@@ -45,7 +45,7 @@ job_begins rights plains first j start begins =
       lists = subst (λ n. ListsFine r K O begins.config begins.frame (lists_start start.bin_place start.bin_len start.render_place n)) (sym begins.render_len) binned;
     }
 
-each_begins : (rights : List Rights) (plains : ℕ → List Interval) (first : List ℕ) (n : ℕ) (starts : List Start) → EachAt (JobBegins rights plains first) n starts → EachAt (λ j start. JobFine rights plains first j (job_start start)) n starts
+pub each_begins : (rights : List Rights) (plains : ℕ → List Interval) (first : List ℕ) (n : ℕ) (starts : List Start) → EachAt (JobBegins rights plains first) n starts → EachAt (λ j start. JobFine rights plains first j (job_start start)) n starts
 each_begins rights plains first n [] all = tt
 each_begins rights plains first n (start ∷ starts) all = (job_begins rights plains first n start all.0, each_begins rights plains first (n + 1) starts all.1)
 

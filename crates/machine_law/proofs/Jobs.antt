@@ -158,7 +158,9 @@ idle_fine : (f : Facts) (n : ℕ) → Every (QpuFine f) (replicate n idle_qpu)
 idle_fine f zero = tt
 idle_fine f (suc n) = (record { first = tt; other = tt; rests = tt; queue0 = tt; queue1 = tt }, idle_fine f n)
 
+pub start_fine : (rights : List Rights) (plains : ℕ → List Interval) (first : List ℕ) (starts : List Start) → EachAt (λ j start. JobFine rights plains first j (job_start start)) 0 starts → AreFine rights plains first (units_start starts)
+start_fine rights plains first starts all = record { jobs = each_start (JobFine rights plains first) 0 starts all; qpus = idle_fine (facts_of rights plains first) 12 }
+
 pub start_safe_law : StartSafe
 start_safe_law rights plains first starts plain all =
-    machine_safe_law rights plains (joined rights) first (units_start starts) plain (joined_covers rights)
-    (record { jobs = each_start (JobFine rights plains first) 0 starts all; qpus = idle_fine (facts_of rights plains first) 12 })
+    machine_safe_law rights plains (joined rights) first (units_start starts) plain (joined_covers rights) (start_fine rights plains first starts all)

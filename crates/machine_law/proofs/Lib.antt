@@ -5,3 +5,4 @@ pub mod Jobs
 pub mod Fixed
 pub mod Draws
 pub mod Begins
+pub mod Textures

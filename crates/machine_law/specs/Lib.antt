@@ -2,3 +2,4 @@ pub mod Units
 pub mod Jobs
 pub mod Laws
 pub mod Begins
+pub mod Textures

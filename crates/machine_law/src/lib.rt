@@ -7,6 +7,7 @@
 
 ghost use Rattle.machine_law.specs.Laws.{UnitsOwe, MachineSafe, StartSafe};
 ghost use Rattle.machine_law.specs.Begins.{DrawsStay, FixedStays, HomesStay, JobsSafe};
+ghost use Rattle.machine_law.specs.Textures.{TextureUnitsReadInOne};
 
 /// Each unit of the machine keeps all that is known, in each memory where nothing changed but what the jobs may write.
 pub fn units_owe()
@@ -42,4 +43,10 @@ pub fn draws_stay()
 /// walk, which no job may write.
 pub fn jobs_safe()
     ensures { JobsSafe }
+{}
+
+/// In each state to which a run of such jobs comes, a step of a texture unit reads inside one Plain buffer of the job for which it
+/// steps, whatever words answer it.
+pub fn texture_units_read_in_one()
+    ensures { TextureUnitsReadInOne }
 {}
