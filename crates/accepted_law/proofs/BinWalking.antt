@@ -17,7 +17,7 @@ use Rattle.job_check.specs.Jobs.{job_of, has_bin, layout_of, states_in, bin_list
 use Rattle.job_check.proofs.Layouts.{layout_low}
 use Rattle.list_law.specs.Binning.{grid_of}
 use Rattle.machine_law.specs.Begins.{DrawBegins}
-use Rattle.accepted_law.specs.Holdings.{file_rights, across_of, down_of, config_for}
+use Rattle.accepted_law.specs.Holdings.{plain_of, file_rights, across_of, down_of, config_for}
 use Rattle.accepted_law.specs.Settled.{Grounds}
 use Rattle.accepted_law.specs.Parts.{RecordsLaunch, BinWalks, BinsWalk}
 use Rattle.accepted_law.proofs.Holding.{bin_is}
@@ -69,7 +69,7 @@ walked f m grounds has =
     (λ number below. buffer_low f.mem_size f.regions f.buffers grounds.settled.sound number) (grounds.settled.bin has)
 
 drawn_begins : (f : FileModel) (m : List ℕ) → RecordsLaunch → Grounds f m → has_bin f 0 ≡ true
-    → Follows (IsDrawn (table_of f) (job_of f 0).handles (layout_of f 0) (states_of (packets (job_of f 0).bin))) (DrawBegins (file_rights f) m 0)
+    → Follows (IsDrawn (table_of f) (job_of f 0).handles (layout_of f 0) (states_of (packets (job_of f 0).bin))) (DrawBegins (file_rights f) (plain_of f) m 0)
 unfolding states_in
 drawn_begins f m launch grounds has word packet drawn kind = draws_begin_law launch f m word packet grounds has drawn kind
 
@@ -78,7 +78,7 @@ some_walk f m launch grounds has =
     let bin : List ℕ = (job_of f 0).bin in
     let list : List (List ℕ) = emission (given_of bin (job_of f 0).declared (table_of f) (job_of f 0).handles) (layout_of f 0) [] (packets bin) in
     let it = walked f m grounds has in
-    let R : ℕ → List ℕ → Type 0 = DrawBegins (file_rights f) m 0 in
+    let R : ℕ → List ℕ → Type 0 = DrawBegins (file_rights f) (plain_of f) m 0 in
     let walks = walks_so (config_of (layout_of f 0) (across_of f 0) (down_of f 0)) (IsDrawn (table_of f) (job_of f 0).handles (layout_of f 0) (states_of (packets bin))) R (drawn_begins f m launch grounds has) nothing_kept list it.walks in
     record {
       packets = list;

@@ -153,7 +153,7 @@ home_samples f m handle number stream grounds started =
       words = λ k. words_fit m stream (uniforms_of (words_of (content_of f number))) k grounds.holds.bytes;
     }
 
-pub home_begins : (f : FileModel) (m : List ℕ) (handle number stream : ℕ) → Grounds f m → IsStarted f m handle number stream → HomeBegins (file_rights f) m 0 (home_of f m number stream) (plain_of f 0)
+pub home_begins : (f : FileModel) (m : List ℕ) (handle number stream : ℕ) → Grounds f m → IsStarted f m handle number stream → HomeBegins (file_rights f) (plain_of f) m 0 (home_of f m number stream) (plain_of f 0)
 unfolding home_of
 home_begins f m handle number stream grounds started =
     let place : ℕ = (buffer_at f.buffers number).place in
@@ -168,5 +168,5 @@ home_begins f m handle number stream grounds started =
       code = fixed_inside (file_rights f) place (buffer_at f.buffers number).size place (8 * length code) (grounds.code_fixed handle number started.named) (omega arith) (omega (arith, words, inside));
       stream = fixed_inside (file_rights f) uniforms (length (streams_of f 0)) stream (4 * uniforms_of code) (grounds.lists_fixed uniforms (length (streams_of f 0)) (uniforms_list f)) started.from started.upto;
       samples = home_samples f m handle number stream grounds started;
-      named = grounds.data_reads;
+      named = λ place size one. one;
     }

@@ -1,15 +1,28 @@
 -- From the parts to the whole.
-use Rattle.std.proofs.Common.{ℕ, List, length, ap, subst, ◌∙◌}
+use Rattle.std.proofs.Common.{◌≡◌, ℕ, zero, suc, ◌+◌, List, [], length, ap, subst, ◌∙◌, arith}
+use Rattle.std.proofs.lemmas.List.{get_or_past}
 use Rattle.render_list.specs.Text.{render_slots}
-use Rattle.job_check.specs.Jobs.{job_of, grid_of, slot_of, places_in}
+use Rattle.job_format.specs.Model.{FileModel}
+use Rattle.job_check.specs.Jobs.{no_job, job_of, grid_of, slot_of, places_in}
+use Rattle.job_check.specs.Shaders.{table_of}
 use Rattle.job_check.specs.Emit.{memory_of}
+use Rattle.buffer_table.specs.Handles.{data_of}
+use Rattle.machine_plan.specs.Regions.{Interval}
+use Rattle.qpu_law.specs.Asks.{IsOneOf}
 use Rattle.machine_law.specs.Begins.{TextBegins}
+use Rattle.machine_law.specs.Jobs.{ArePlain}
+use Rattle.machine_law.specs.Textures.{ReadInOne}
+use Rattle.machine_law.proofs.Textures.{texture_units_read_law}
+use Rattle.machine.specs.Step.{job_of as job_of_unit, step}
+use Rattle.field_words.specs.declared.access.Access.{Access}
+use Rattle.field_words.specs.declared.access.Actor.TheVariants.{Tmu as TheTmu}
 use Rattle.machine_law.proofs.Begins.{jobs_safe_law}
-use Rattle.accepted_law.specs.Holdings.{file_rights, file_starts, config_for, frame_for}
+use Rattle.accepted_law.specs.Holdings.{named_buffers, plain_of, file_rights, file_starts, config_for, frame_for}
 use Rattle.accepted_law.specs.Settled.{Grounds}
 use Rattle.accepted_law.specs.Parts.{BinWalks, RenderWalks, FilesBegin}
 use Rattle.accepted_law.specs.Texts.{start_of}
 use Rattle.accepted_law.specs.Whole.{FilesSafe}
+use Rattle.accepted_law.specs.Textures.{TextureUnitsReadPlainBuffers}
 use Rattle.accepted_law.proofs.Settling.{files_settle_law}
 use Rattle.accepted_law.proofs.Grounds.{files_ground_law}
 use Rattle.accepted_law.proofs.Allocating.{files_allocate_law}
@@ -18,6 +31,18 @@ use Rattle.accepted_law.proofs.BinWalking.{bins_walk_law}
 use Rattle.accepted_law.proofs.RenderWalking.{renders_walk_law}
 use Rattle.accepted_law.proofs.ListTexts.{bin_texts_begin_law, render_texts_begin_law}
 
+-- A file of one job names no buffer for another.
+plain_past : (f : FileModel) (j : ℕ) → length f.jobs ≡ 1 → plain_of f (suc j) ≡ []
+unfolding plain_of named_buffers job_of
+plain_past f j one = ap (λ job. named_buffers (data_of (table_of f) job.handles) f.buffers (length job.handles)) (get_or_past f.jobs (suc j) no_job (omega (arith, one)))
+
+-- Each Plain buffer of a job is an interval of its region.
+plain_there : (f : FileModel) (m : List ℕ) → Grounds f m → ArePlain (file_rights f) (plain_of f)
+plain_there f m grounds zero place size named = grounds.data_reads place size named
+plain_there f m grounds (suc j) place size named =
+    let none : IsOneOf [] place size = subst (λ plain. IsOneOf plain place size) (plain_past f j grounds.settled.well_formed.one_job) named in
+    absurd none
+
 pub files_begin_law : FilesBegin
 files_begin_law f well fits none =
     let m : List ℕ = memory_of f in
@@ -25,22 +50,39 @@ files_begin_law f well fits none =
     let bin : BinWalks f m = bins_walk_law records_launch_law f m grounds in
     let render : RenderWalks f = renders_walk_law f m grounds in
     let bin_begins = bin_texts_begin_law f m grounds in
-    let render_begins = render_texts_begin_law f m grounds in
-    record {
-      config = config_for f 0;
-      frame = frame_for f 0;
-      allocates = files_allocate_law f grounds;
-      packets = bin.packets;
-      bin_walks = bin.walks;
-      bin_text = subst (TextBegins (file_rights f) m 0 (start_of f).bin_place) bin.text bin_begins.0;
-      bin_len = bin_begins.1 ∙ ap length bin.text;
-      slots = render_slots (job_of f 0).frame (places_in f 0) (grid_of f 0) (slot_of f 0);
-      render_walks = render.walks;
-      render_fits = render.fits;
-      render_sets = render.sets;
-      render_text = subst (TextBegins (file_rights f) m 0 (start_of f).render_place) render.text render_begins.0;
-      render_len = render_begins.1 ∙ ap length render.text;
-    }
+    let render_begins = render_texts_begin_law f m grounds in (
+      plain_there f m grounds,
+      record {
+        config = config_for f 0;
+        frame = frame_for f 0;
+        allocates = files_allocate_law f grounds;
+        packets = bin.packets;
+        bin_walks = bin.walks;
+        bin_text = subst (TextBegins (file_rights f) m 0 (start_of f).bin_place) bin.text bin_begins.0;
+        bin_len = bin_begins.1 ∙ ap length bin.text;
+        slots = render_slots (job_of f 0).frame (places_in f 0) (grid_of f 0) (slot_of f 0);
+        render_walks = render.walks;
+        render_fits = render.fits;
+        render_sets = render.sets;
+        render_text = subst (TextBegins (file_rights f) m 0 (start_of f).render_place) render.text render_begins.0;
+        render_len = render_begins.1 ∙ ap length render.text;
+      },
+    )
+
+-- So what reads in a Plain buffer of some job reads in one of the first job's.
+first_alone : (f : FileModel) → length f.jobs ≡ 1 → (j : ℕ) (found : List Access) → ReadInOne (plain_of f j) found → ReadInOne (plain_of f 0) found
+first_alone f one zero found reads = reads
+first_alone f one (suc j) found reads =
+    let none : IsOneOf [] reads.place reads.size = subst (λ plain. IsOneOf plain reads.place reads.size) (plain_past f j one) reads.named in
+    absurd none
 
 pub files_safe_law : FilesSafe
-files_safe_law f well fits none = jobs_safe_law (file_rights f) (memory_of f) (file_starts f) (files_begin_law f well fits none, tt)
+files_safe_law f well fits none =
+    let begins = files_begin_law f well fits none in
+    jobs_safe_law (file_rights f) (plain_of f) (memory_of f) (file_starts f) begins.0 (begins.1, tt)
+
+pub textures_read_law : TextureUnitsReadPlainBuffers
+textures_read_law f well fits none events found t run k n words on =
+    let begins = files_begin_law f well fits none in
+    let reads = texture_units_read_law (file_rights f) (plain_of f) (memory_of f) (file_starts f) begins.0 (begins.1, tt) events found t run k n words on in
+    first_alone f well.one_job (job_of_unit t (TheTmu k n)) (step t (record { unit = TheTmu k n; words = words })).accesses reads

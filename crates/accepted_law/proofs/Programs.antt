@@ -215,7 +215,7 @@ threaded_is f number = refl
 launch_begins : (f : FileModel) (m : List ℕ) (k s word : ℕ) (threaded : Bool) → Grounds f m → has_bin f 0 ≡ true → k < length (input_for f 0).states → s < 3
     → record_place word ≡ (layout_of f 0).place + (layout_of f 0).records + record_offset (input_for f 0) k
     → threaded ≡ switches (shader_used (input_for f 0) (record_source (input_for f 0) k) s)
-    → LaunchBegins (file_rights f) m 0 (program_in m word threaded s)
+    → LaunchBegins (file_rights f) (plain_of f) m 0 (program_in m word threaded s)
 unfolding home_of
 launch_begins f m k s word threaded grounds some below small there agrees =
     let program = program_at f m k s grounds some below small in

@@ -4,3 +4,4 @@ pub mod Parts
 pub mod Texts
 pub mod Whole
 pub mod Held
+pub mod Textures

@@ -22,7 +22,8 @@ use Rattle.list_law.specs.Binning.{grid_of as config_grid, Allocates}
 use Rattle.list_law.specs.Emitted.{words_in, program_in}
 use Rattle.list_law.specs.Rendering.{MayDo, NoMatter, AllSet}
 use Rattle.machine_law.specs.Begins.{LaunchBegins, DrawBegins, JobBegins}
-use Rattle.accepted_law.specs.Holdings.{job_rights, file_rights, config_for, frame_for, start_by}
+use Rattle.machine_law.specs.Jobs.{ArePlain}
+use Rattle.accepted_law.specs.Holdings.{plain_of, job_rights, file_rights, config_for, frame_for, start_by}
 use Rattle.accepted_law.specs.Settled.{Settled, Grounds}
 
 -- From the file: where no rule stands, all this is known of it, and of the memory that it is emitted as.
@@ -38,9 +39,9 @@ FilesAllocate = (f : FileModel) → Grounds f (memory_of f) → Allocates (job_r
 
 -- A word whose record is that of state k: its three programs may be started from the first memory on.
 pub record RecordLaunches (f : FileModel) (m : List ℕ) (word : ℕ) : Type 0 where
-  pub fragment : LaunchBegins (file_rights f) m 0 (program_in m word (not (is_single (words_in m word))) 0)
-  pub vertex : LaunchBegins (file_rights f) m 0 (program_in m word false 1)
-  pub coordinate : LaunchBegins (file_rights f) m 0 (program_in m word false 2)
+  pub fragment : LaunchBegins (file_rights f) (plain_of f) m 0 (program_in m word (not (is_single (words_in m word))) 0)
+  pub vertex : LaunchBegins (file_rights f) (plain_of f) m 0 (program_in m word false 1)
+  pub coordinate : LaunchBegins (file_rights f) (plain_of f) m 0 (program_in m word false 2)
 
 abbrev pub RecordsLaunch : Type 0
 RecordsLaunch =
@@ -54,13 +55,13 @@ DrawsBegin =
     (f : FileModel) (m : List ℕ) (word : ℕ) (packet : List ℕ) → Grounds f m → has_bin f 0 ≡ true
     → IsDrawn (table_of f) (job_of f 0).handles (layout_of f 0) (states_in f 0) word packet
     → (opcode packet ≡ indexed_primitive_list) ⊎ (opcode packet ≡ array_primitive_list)
-    → DrawBegins (file_rights f) m 0 word packet
+    → DrawBegins (file_rights f) (plain_of f) m 0 word packet
 
 -- and the list walks.
 pub record BinWalks (f : FileModel) (m : List ℕ) : Type 0 where
   pub packets : List (List ℕ)
   pub text : bin_list_of f 0 ≡ joined packets
-  pub walks : Walks (config_grid (config_for f 0)) (DrawBegins (file_rights f) m 0) nothing_kept packets
+  pub walks : Walks (config_grid (config_for f 0)) (DrawBegins (file_rights f) (plain_of f) m 0) nothing_kept packets
 
 abbrev pub BinsWalk : Type 0
 BinsWalk = (f : FileModel) (m : List ℕ) → Grounds f m → BinWalks f m
@@ -75,8 +76,9 @@ pub record RenderWalks (f : FileModel) : Type 0 where
 abbrev pub RendersWalk : Type 0
 RendersWalk = (f : FileModel) (m : List ℕ) → Grounds f m → RenderWalks f
 
--- The whole: what an accepted file begins with is what the laws of the machine's units ask of a job.
+-- The whole: what an accepted file begins with is what the laws of the machine's units ask of a job, and of its Plain buffers.
 abbrev pub FilesBegin : Type 0
 FilesBegin =
     (f : FileModel) → IsWellFormed f → Fits f → first_of (file_stages f) ≡ None
-    → JobBegins (file_rights f) (memory_of f) 0 (start_by (layout_of f 0) (lengths_of f 0))
+    → ArePlain (file_rights f) (plain_of f)
+    × JobBegins (file_rights f) (plain_of f) (memory_of f) 0 (start_by (layout_of f 0) (lengths_of f 0))

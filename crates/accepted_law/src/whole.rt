@@ -1,5 +1,6 @@
 //! From the parts to the whole: what the job of an accepted file begins with, and so every run of the machine.
 ghost use Rattle.accepted_law.specs.Parts.{FilesBegin};
+ghost use Rattle.accepted_law.specs.Textures.{TextureUnitsReadPlainBuffers};
 ghost use Rattle.accepted_law.specs.Whole.{FilesSafe};
 
 /// Every accepted file begins as the laws of the machine's units ask: its two lists walk, and what they draw, load and store may be
@@ -13,4 +14,10 @@ pub fn files_begin()
 /// its tile slot. And bytes outside have no effect.
 pub fn accepted_files_are_safe()
     ensures { FilesSafe }
+{}
+
+/// In each state to which such a run comes, a step of a texture unit reads inside one Plain buffer that a handle of the job names,
+/// whatever words answer it: it reads no list, no code and no tile memory.
+pub fn texture_units_read_plain_buffers()
+    ensures { TextureUnitsReadPlainBuffers }
 {}
