@@ -1,5 +1,5 @@
 -- The homes of a record's three programs.
-use Rattle.std.proofs.Common.{◌≡◌, ◌≤◌, ◌<◌, ℕ, ◌+◌, ◌-◌, ◌*◌, ◌/◌, List, length, slice_index, Some, refl, sym, arith, inl, inr, zero-add, ◌∙◌}
+use Rattle.std.proofs.Common.{◌≡◌, ◌≤◌, ◌<◌, ℕ, ◌+◌, ◌*◌, ◌/◌, List, length, slice_index, Some, refl, sym, arith, inl, inr, zero-add, ◌∙◌}
 use Rattle.std.proofs.lemmas.List.FromFn.{get_or-map-range_with_len}
 use Rattle.field_words.specs.Words.{u32_at, u64_at}
 use Rattle.buffer_table.specs.declared.buffer.Kind.TheVariants.{Code}

@@ -1,5 +1,5 @@
 -- From the parts to the whole.
-use Rattle.std.proofs.Common.{◌≡◌, ℕ, zero, suc, ◌+◌, List, [], length, ap, subst, ◌∙◌, arith}
+use Rattle.std.proofs.Common.{◌≡◌, ℕ, zero, suc, List, [], length, ap, subst, ◌∙◌, arith}
 use Rattle.std.proofs.lemmas.List.{get_or_past}
 use Rattle.render_list.specs.Text.{render_slots}
 use Rattle.job_format.specs.Model.{FileModel}
@@ -7,7 +7,6 @@ use Rattle.job_check.specs.Jobs.{no_job, job_of, grid_of, slot_of, places_in}
 use Rattle.job_check.specs.Shaders.{table_of}
 use Rattle.job_check.specs.Emit.{memory_of}
 use Rattle.buffer_table.specs.Handles.{data_of}
-use Rattle.machine_plan.specs.Regions.{Interval}
 use Rattle.qpu_law.specs.Asks.{IsOneOf}
 use Rattle.machine_law.specs.Begins.{TextBegins}
 use Rattle.machine_law.specs.Jobs.{ArePlain}

@@ -16,8 +16,8 @@ pub fn accepted_files_are_safe()
     ensures { FilesSafe }
 {}
 
-/// In each state to which such a run comes, a step of a texture unit reads inside one Plain buffer that a handle of the job names,
-/// whatever words answer it: it reads no list, no code and no tile memory.
+/// In each state to which such a run comes, a step of a texture unit does nothing to memory but read inside one Plain buffer that a
+/// handle of the job names, whichever unit it is and whatever words answer it.
 pub fn texture_units_read_plain_buffers()
     ensures { TextureUnitsReadPlainBuffers }
 {}
