@@ -28,7 +28,7 @@ at_bin_packet : (lists : Lists) (free : Free) (words : List ℕ) → lists.binne
 unfolding binner_plan
 at_bin_packet lists free words idle = ap (λ work. binner_by lists work free words) idle
 
-bin_step : (jobs : List Rights) (m : List ℕ) (u : Units) (j : ℕ) (lists : Lists) → IsAtBinPacket m u j lists → Safe ready turn jobs m u
+pub bin_step : (jobs : List Rights) (m : List ℕ) (u : Units) (j : ℕ) (lists : Lists) → IsAtBinPacket m u j lists → Safe ready turn jobs m u
     → Every (IsSafeAccess jobs) (carried (binner_of j) (read_plan lists) m).accesses
 unfolding turn ready enabled
 bin_step jobs m u j lists at safe =
@@ -48,7 +48,7 @@ at_render_packet : (lists : Lists) (free : Free) (words : List ℕ) → lists.re
 unfolding renderer_plan
 at_render_packet lists free words outside = ap (λ inside. plan_in lists free words inside) outside
 
-render_step : (jobs : List Rights) (m : List ℕ) (u : Units) (j : ℕ) (lists : Lists) → IsAtRenderPacket m u j lists → Safe ready turn jobs m u
+pub render_step : (jobs : List Rights) (m : List ℕ) (u : Units) (j : ℕ) (lists : Lists) → IsAtRenderPacket m u j lists → Safe ready turn jobs m u
     → Every (IsSafeAccess jobs) (carried (renderer_of j) (render_packet_plan lists []) m).accesses
 unfolding turn ready enabled
 render_step jobs m u j lists at safe =
@@ -75,7 +75,7 @@ stray_render_law jobs m u j lists at stray safe =
     acted_stray jobs (renderer_of j) m (beyond lists len) (decoded (bytes_at m lists.renderer.place len)) stray (render_step jobs m u j lists at safe).1
 
 -- a byte that begins no packet
-opcode_is : (m : List ℕ) (place : ℕ) → slice_index (bytes_at m place (bin_taken (slice_index m place))) 0 ≡ slice_index m place
+pub opcode_is : (m : List ℕ) (place : ℕ) → slice_index (bytes_at m place (bin_taken (slice_index m place))) 0 ≡ slice_index m place
 opcode_is m place = first_byte m place (bin_taken (slice_index m place)) (taken_some (slice_index m place))
 
 is_own : (opcode : ℕ) → opcode ≡ buffer_handles → is_unknown opcode ≡ true

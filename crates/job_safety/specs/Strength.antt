@@ -1,14 +1,25 @@
 -- What safety refuses. Where a list unit is to read a packet that is none, or the next step of a unit reads outside its job's region, the
--- machine isn't safe from there, whatever the memory, the state of the units and the rights.
-use Rattle.std.specs.Prelude.{◌≡◌, ◌<◌, ◌⊎◌, ℕ, ◌-◌, ◌%◌, IsTrue, List, ◌∷◌, length, slice_index, IfSome, Some, None}
+-- machine isn't safe from there, whatever the memory, the state of the units and the rights. Nor is it where the next step of a unit
+-- writes outside what its job may write.
+use Rattle.std.specs.Prelude.{◌≡◌, ◌≤◌, ◌<◌, ◌⊎◌, ℕ, ◌-◌, ◌*◌, ◌%◌, Bool, true, false, IsTrue, List, ◌∷◌, length, slice_index, Option, IfSome, Some, None}
 use Rattle.field_words.specs.declared.access.Actor.TheVariants.{Binner as TheBinner, Renderer as TheRenderer, Qpu as TheQpu}
+use Rattle.packets.specs.declared.packet.Packet.{Packet}
+use Rattle.packets.specs.declared.packet.Packet.TheVariants.{StoreTileColor, StoreTileColorAndEnd, StoreFullResolution, StoreTileBuffer}
 use Rattle.packets.specs.Length.{bin_length, bin_taken, render_taken}
-use Rattle.packets.specs.Opcode.{buffer_handles}
+use Rattle.packets.specs.Opcode.{start_tile_binning, buffer_handles}
 use Rattle.packets.specs.Packet.{decoded}
 use Rattle.machine_plan.specs.Memory.{bytes_at}
 use Rattle.machine_plan.specs.Regions.{Inside, Rights, rights_of}
 use Rattle.machine_plan.specs.World.{Safe}
+use Rattle.list_machine.specs.declared.state.Config.{Config}
+use Rattle.list_machine.specs.declared.state.Frame.{Frame}
+use Rattle.list_machine.specs.declared.state.Work.{Work}
+use Rattle.list_machine.specs.declared.surface.Cover.{Cover}
+use Rattle.list_machine.specs.Binner.{chosen_tile}
+use Rattle.list_machine.specs.Blocks.{tiles_of, block_place, spot_of, is_full, next_place, link_place}
+use Rattle.list_machine.specs.Cover.{general_style, frame_style, cover_for, part_count, part_place}
 use Rattle.list_machine.specs.Lists.{Lists}
+use Rattle.list_machine.specs.Surfaces.{aligned, names_none, whole_size}
 use Rattle.qpu_machine.specs.declared.state.Ask.TheVariants.{Direct, Texture}
 use Rattle.qpu_machine.specs.declared.state.Qpu.{Qpu}
 use Rattle.qpu_machine.specs.declared.state.Request.{Request}
@@ -121,4 +132,85 @@ TexturesPastAreUnsafe =
     (jobs : List Rights) (m : List ℕ) (u : Units) (k unit : ℕ) (request : Request) → IsOldest u k unit request
     → (four : List ℕ) → request.ask ≡ Texture four
     → (words : List ℕ) → IsChosenPast jobs request.job (texture_of (slice_index four 0) (slice_index four 1) (slice_index four 2) (slice_index four 3)) words
+    → Safe ready turn jobs m u → ⊥
+
+-- bytes outside what a job may write: no interval of that has all of them
+abbrev pub IsUnwritable : List Rights → ℕ → ℕ → ℕ → Type 0
+IsUnwritable jobs j place len = Inside (rights_of jobs j).writable place len → ⊥
+
+-- The binner may step, and is to read the packet that starts binning, for job j; this config is kept.
+pub record IsAtBinning (m : List ℕ) (u : Units) (j : ℕ) (lists : Lists) (config : Config) : Type 0 where
+  pub at : IsAtBinPacket m u j lists
+  pub opcode_is : slice_index m lists.binner.place ≡ start_tile_binning
+  pub config_is : lists.binner.kept.config ≡ Some config
+
+-- The states of the tiles outside: their 48 bytes a tile don't lie in what the job may write.
+abbrev pub StatesPastAreUnsafe : Type 0
+StatesPastAreUnsafe =
+    (jobs : List Rights) (m : List ℕ) (u : Units) (j : ℕ) (lists : Lists) (config : Config) → IsAtBinning m u j lists config
+    → IsUnwritable jobs j config.states (48 * tiles_of config)
+    → Safe ready turn jobs m u → ⊥
+
+-- The binner may step, and is to put an item of its primitive on a tile of this config, for job j: all vertices are fetched, and no
+-- program is due for them.
+pub record IsAtItem (m : List ℕ) (u : Units) (j : ℕ) (lists : Lists) (config : Config) : Type 0 where
+  pub job_is : binner_job u ≡ Some (record { number = j; item = lists })
+  pub may : IsTrue (enabled (record { memory = m; units = u }) TheBinner)
+  pub work : Work
+  pub work_is : lists.binner.work ≡ Some work
+  pub none_due : work.due ≡ false
+  pub fetched : work.primitive.length ≤ work.done
+  pub config_is : lists.binner.kept.config ≡ Some config
+
+-- To put an item on this tile writes 16 bytes here: where the tile's block is full, at the place of its link and at the beginning of a
+-- further block, and else at the tile's next place.
+abbrev pub PutsBy : Bool → Lists → Config → ℕ → ℕ → Type 0
+PutsBy true lists config tile place = (place ≡ link_place (spot_of tile lists.items)) ⊎ (place ≡ block_place config lists.blocks)
+PutsBy false lists config tile place = place ≡ next_place config tile (spot_of tile lists.items)
+
+abbrev pub Puts : Lists → Config → ℕ → ℕ → Type 0
+Puts lists config tile place = PutsBy (is_full (spot_of tile lists.items)) lists config tile place
+
+-- An item outside: on the tile that some choice words choose, it or the link before it doesn't lie in what the job may write.
+abbrev pub ItemsPastAreUnsafe : Type 0
+ItemsPastAreUnsafe =
+    (jobs : List Rights) (m : List ℕ) (u : Units) (j : ℕ) (lists : Lists) (config : Config) → IsAtItem m u j lists config
+    → (words : List ℕ) → chosen_tile config words < tiles_of config
+    → (place : ℕ) → Puts lists config (chosen_tile config words) place → IsUnwritable jobs j place 16
+    → Safe ready turn jobs m u → ⊥
+
+-- The renderer may step, and is to read this packet at its place, for job j.
+pub record IsAtPacket (m : List ℕ) (u : Units) (j : ℕ) (lists : Lists) (packet : Packet) : Type 0 where
+  pub at : IsAtRenderPacket m u j lists
+  pub packet_is : decoded (bytes_at m lists.renderer.place (render_taken (slice_index m lists.renderer.place))) ≡ Some packet
+
+-- these bytes are one part of what a store by bits covers
+pub record IsPart (cover : Option Cover) (place len : ℕ) : Type 0 where
+  pub whole : Cover
+  pub cover_is : cover ≡ Some whole
+  pub number : ℕ
+  pub number_is : number < part_count whole
+  pub place_is : place ≡ part_place whole number
+  pub len_is : len ≡ whole.size
+
+-- A store of tile (x, y) by the frame's bits writes these bytes.
+abbrev pub StoresFrame : Option Frame → ℕ → ℕ → ℕ → ℕ → Type 0
+StoresFrame None x y place len = ⊥
+StoresFrame (Some frame) x y place len = IsPart (cover_for (frame_style frame.bits) (Some frame) frame.address x y) place len
+
+-- The store that this packet asks for writes these bytes: a part of the renderer's tile in the surface that the frame's bits name, or
+-- general ones, or the tile in full resolution.
+abbrev pub Stores : Lists → Packet → ℕ → ℕ → Type 0
+Stores lists StoreTileColor place len = StoresFrame lists.renderer.frame lists.renderer.x lists.renderer.y place len
+Stores lists StoreTileColorAndEnd place len = StoresFrame lists.renderer.frame lists.renderer.x lists.renderer.y place len
+Stores lists (StoreFullResolution address) place len = (place ≡ aligned address) × (len ≡ whole_size)
+Stores lists (StoreTileBuffer bits address) place len =
+    (names_none bits ≡ false) × IsPart (cover_for (general_style bits) lists.renderer.frame (aligned address) lists.renderer.x lists.renderer.y) place len
+Stores lists other place len = ⊥
+
+-- A store of a tile outside: some part of it doesn't lie in what the job may write.
+abbrev pub StoresPastAreUnsafe : Type 0
+StoresPastAreUnsafe =
+    (jobs : List Rights) (m : List ℕ) (u : Units) (j : ℕ) (lists : Lists) (packet : Packet) → IsAtPacket m u j lists packet
+    → (place len : ℕ) → Stores lists packet place len → IsUnwritable jobs j place len
     → Safe ready turn jobs m u → ⊥

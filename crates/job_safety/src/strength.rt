@@ -1,5 +1,5 @@
 //! What safety refuses, so that to be safe says something.
-ghost use Rattle.job_safety.specs.Strength.{StrayBinPacketsAreUnsafe, StrayRenderPacketsAreUnsafe, StrayStartsAreUnsafe, BinListsPastAreUnsafe, RenderListsPastAreUnsafe, CodePastIsUnsafe, DirectReadsPastAreUnsafe, TexturesPastAreUnsafe};
+ghost use Rattle.job_safety.specs.Strength.{StrayBinPacketsAreUnsafe, StrayRenderPacketsAreUnsafe, StrayStartsAreUnsafe, BinListsPastAreUnsafe, RenderListsPastAreUnsafe, CodePastIsUnsafe, DirectReadsPastAreUnsafe, TexturesPastAreUnsafe, StatesPastAreUnsafe, ItemsPastAreUnsafe, StoresPastAreUnsafe};
 
 /// A list with what is no packet is not safe, whatever the memory and whatever its job may reach: from each state in which the binner
 /// is to read a byte that begins no packet of a binner list, or the renderer bytes that are no packet of a renderer list. So it is
@@ -33,4 +33,13 @@ pub fn direct_reads_past_are_unsafe()
 /// is read for one pixel of one level of one face begins below 0 or doesn't lie in the region.
 pub fn textures_past_are_unsafe()
     ensures { TexturesPastAreUnsafe }
+{}
+
+/// A write outside what its job may write is not safe, whichever of the machine's writes it is: from each state in which the binner is
+/// to start binning, and the states of the tiles don't lie there; in which it is to put an item on a tile, and the item or the link
+/// before it doesn't; or in which the renderer is to read the packet of a store, and some part of the tile doesn't.
+pub fn writes_past_are_unsafe()
+    ensures states { StatesPastAreUnsafe }
+    ensures items { ItemsPastAreUnsafe }
+    ensures stores { StoresPastAreUnsafe }
 {}
