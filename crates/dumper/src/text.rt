@@ -174,7 +174,9 @@ pub fn put_rows(memory: &PhysMem, row: u32, piece: &mut [u8]) -> Filled
     ensures text { take result.len piece.new ≡ rows_text memory.now (16 * row) (result.row - row) }
     ensures within { result.len ≤ length piece.new }
     ensures inside { result.row ≤ length memory.now / 16 }
+    ensures on { row ≤ result.row }
     ensures more { row < length memory.now / 16 → row < result.row }
+    ensures full { result.row < length memory.now / 16 → length piece.new < result.len + row_size }
     ensures long { length piece.new ≡ length piece.old }
 {
     let rows = memory.len() / 16;

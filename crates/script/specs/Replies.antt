@@ -12,3 +12,8 @@ replies_from reply after past (line ∷ lines) = reply past line ++ replies_from
 abbrev pub IsScriptFault : Option ℕ → Stop ℕ → Type 0
 IsScriptFault found (Fault line) = found ≡ Some line
 IsScriptFault found NoMemory = Unit {0}
+
+-- a fault leaves whoever answers as it was
+abbrev pub KeepsAtFault : {C : Type 0} → C → C → Stop ℕ → Type 0
+KeepsAtFault old new (Fault line) = new ≡ old
+KeepsAtFault old new NoMemory = Unit {0}

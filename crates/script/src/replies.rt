@@ -1,7 +1,7 @@
 //! Scripts, and their answers line by line.
 ghost use Rattle.std.specs.Prelude.{◌≡◌, ◌<◌, ◌^◌, ◌+◌, ◌++◌, ℕ, List, Bool, length, IfOk, IfErr, None, string_bytes};
 ghost use Rattle.script.specs.Lines.{lines_of, first_malformed as malformed};
-ghost use Rattle.script.specs.Replies.{replies_from, IsScriptFault};
+ghost use Rattle.script.specs.Replies.{KeepsAtFault, replies_from, IsScriptFault};
 
 use super::lines::next_line;
 use field_words::Stop;
@@ -62,6 +62,7 @@ pub fn answer<C: Clerk>(alloc: Global, clerk: &mut C, text: &[u8]) -> Result<Vec
     requires length { length text.now < 2 ^ 32 }
     ensures answers { (past : C.Past) → C.Stands 0 past clerk.old → IfOk result (λ bytes. (malformed C.formed text.now ≡ None) × (bytes.items ≡ replies_from C.reply C.after past (lines_of text.now))) }
     ensures fault { IfErr result (IsScriptFault (malformed C.formed text.now)) }
+    ensures same { IfErr result (KeepsAtFault clerk.old clerk.new) }
 {
     if let Some(line) = first_malformed::<C>(text) {
         return Err(Stop::Fault(line));
