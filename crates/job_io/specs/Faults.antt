@@ -15,6 +15,6 @@ abbrev pub Rose : ℕ → ℕ → Type 0
 Rose before now = counted before ≤ now
 
 -- A source or a sink came from one state to another by calls of which the last failed and no other did: at the state before the
--- last call no fault was counted, and that call left the bytes as they were. So nothing was asked for after a failure.
+-- last call no fault was counted, and that call left the bytes as they were. So no byte passed after a failure.
 abbrev pub LastCallFailed : {X : Type 0} → (X → Option (List ℕ)) → (X → ℕ) → X → X → Type 0
 LastCallFailed {X} bytes faults old new = (last : X) × (faults last ≡ faults old) × KeepsOrHides (bytes last) (bytes new) × Rose (faults last) (faults new)
