@@ -109,7 +109,7 @@ fn check_one(
     }
 }
 
-/// The rules of the jobs, and the memory with their lists.
+/// The rules of the jobs, and the memory with their lists. A well-formed file has one job, number 0.
 fn check_jobs(
     alloc: Global,
     file: &JobFile,

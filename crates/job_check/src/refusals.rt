@@ -48,7 +48,7 @@ fn item_offset(item: u32) -> u64
     }
 }
 
-/// A memory rule that fails.
+/// A memory rule that stands.
 pub fn table_refusal(fault: &TableFault) -> Refusal
     ensures { result ≡ table_refused fault.now }
 {
@@ -91,7 +91,7 @@ fn content_offset(file: &JobFile, b: usize) -> u64
     job_offset(file, file.jobs.len()) + content_before(&file.buffers, b)
 }
 
-/// A rule on the shader in buffer `b` that fails.
+/// A rule on the shader in buffer `b` that stands.
 #[tactic(auto, unfolding(crate::specs::Offsets::shader_offset))]
 pub fn shader_refusal(file: &JobFile, b: usize, fault: &ShaderFault) -> Refusal
     requires well_formed { IsWellFormed (file_view file.now) }
@@ -242,7 +242,7 @@ fn surface_offset(entry: u64, item: u8) -> u64
     }
 }
 
-/// A rule on the frame and its surfaces that fails.
+/// A rule on the frame and its surfaces that stands.
 pub fn surface_refusal(file: &JobFile, number: usize, fault: &RenderFault) -> Refusal
     requires well_formed { IsWellFormed (file_view file.now) }
     requires inside { number < length file.now.jobs.items }

@@ -18,7 +18,7 @@ use byteorder::{ByteOrder, LittleEndian};
 use field_words::Stop;
 use job_format::{JobFile, Refusal};
 use qpu_isa::ShaderInfo;
-use shader_check::{ShaderFault, check_code};
+use shader_check::{S1_NO_WORDS, ShaderFault, check_code};
 use std::alloc::{AllocError, Global};
 
 /// Word k of the bytes.
@@ -54,7 +54,7 @@ fn shader_in(alloc: Global, bytes: &[u8]) -> Result<ShaderInfo, Stop<ShaderFault
 {
     if bytes.len() % 8 != 0 {
         return Err(Stop::Fault(ShaderFault {
-            number: 1,
+            number: S1_NO_WORDS,
             index: 0,
         }));
     }

@@ -1,10 +1,11 @@
 //! The check of a job file from its bytes on.
 ghost use Rattle.std.specs.Prelude.{◌≡◌, length, IfOk, IsOk};
-ghost use Rattle.field_words.specs.Questions.{Answers};
+ghost use Rattle.field_words.specs.Questions.{Answers, NeverHidesFault, answered};
+ghost use Rattle.job_format.specs.Faults.{format_questions};
 ghost use Rattle.job_format.specs.Reading.{file_at};
 ghost use Rattle.job_format.specs.File.{IsFileOf};
 ghost use Rattle.job_check.specs.Emit.{IsEmitted, IsPlaced};
-ghost use Rattle.job_check.specs.Whole.{all_questions, format_stopped};
+ghost use Rattle.job_check.specs.Whole.{all_questions, format_refused, format_stopped};
 
 use super::check::{Checked, check_job};
 use field_words::{NoMemory, Stop};
@@ -30,10 +31,12 @@ fn format_refusal(stop: Stop<FormatFault>) -> Stop<Refusal>
 /// The first rule that stands for these bytes, or the memory of the job that they hold.
 ///
 /// # Errors
-/// The first rule that stands, by its letter, its number and its place in the bytes; or want of memory.
+/// The first rule that stands, by its letter, its number and its place in the bytes; or want of memory, which never hides a rule of the
+/// format.
 #[tactic(auto, unfolding(crate::specs::Whole::all_questions))]
 pub fn check_bytes(alloc: Global, bytes: &[u8]) -> Result<Checked, Stop<Refusal>>
     ensures answers { Answers (all_questions bytes.now) (λ checked. IsEmitted (file_at bytes.now) checked.memory checked.layout checked.lengths) result }
+    ensures format { NeverHidesFault (answered format_refused (format_questions bytes.now)) result }
     ensures placed { IfOk result (λ checked. IsPlaced checked.memory checked.layout) }
     ensures sized { IfOk result (λ checked. length checked.memory ≡ (file_at bytes.now).mem_size) }
     ensures spelled { IsOk result → IsFileOf bytes.now (file_at bytes.now) }

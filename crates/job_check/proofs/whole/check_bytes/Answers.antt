@@ -1,5 +1,5 @@
-use Rattle.std.proofs.Common.{ℕ, List, sym, subst}
-use Rattle.field_words.specs.Questions.{Answers, Refuses, answered}
+use Rattle.std.proofs.Common.{ℕ, List, Err, sym, subst}
+use Rattle.field_words.specs.Questions.{Answers, Refuses, NeverHidesFault, answered}
 use Rattle.field_words.specs.declared.stop.Stop.{Stop}
 use Rattle.field_words.specs.declared.stop.Stop.TheVariants.{Fault, NoMemory}
 use Rattle.job_format.specs.declared.rule.FormatFault.{FormatFault}
@@ -11,6 +11,8 @@ use Rattle.job_check.specs.declared.check.Checked.{Checked}
 use Rattle.job_check.specs.Faults.{file_stages}
 use Rattle.job_check.specs.Emit.{IsEmitted}
 use Rattle.job_check.specs.Whole.{all_questions, format_refused, format_stopped}
+use Rattle.job_format.specs.declared.file.JobFile.{JobFile}
+use Rattle.job_check.proofs.Wants.{never_hidden}
 use Rattle.job_check.proofs.whole.check_bytes.Goals as goal
 
 pub returns-in-Ok-clause-answers : goal.returns-in-Ok-clause-answers
@@ -32,3 +34,20 @@ stopped bytes NoMemory refuses = tt
 pub returns-in-Err-clause-answers : goal.returns-in-Err-clause-answers
 returns-in-Err-clause-answers c =
     subst (λ stop. Refuses (all_questions c.args.bytes.now) stop) (sym c.format_refusal.ensures) (stopped c.args.bytes.now c.in-Err.stop c.in-Err.ensures.read)
+
+-- Want of memory hides no fault of the format.
+pub returns-in-Ok-clause-format : goal.returns-in-Ok-clause-format
+returns-in-Ok-clause-format c =
+    let format = format_questions c.args.bytes.now in
+    never_hidden (answered format_refused format) c.check_job.result (answered_none format_refused format c.in-Ok.ensures.read.0)
+
+not_hidden : (bytes : List ℕ) (stop : Stop FormatFault) → NeverHidesFault {X = JobFile} (format_questions bytes) (Err stop)
+    → NeverHidesFault {X = Checked} (answered format_refused (format_questions bytes)) (Err (format_stopped stop))
+not_hidden bytes (Fault fault) hides = tt
+not_hidden bytes NoMemory hides = answered_none format_refused (format_questions bytes) hides
+
+pub returns-in-Err-clause-format : goal.returns-in-Err-clause-format
+returns-in-Err-clause-format c =
+    let bytes = c.args.bytes.now in
+    subst (λ stop. NeverHidesFault {X = Checked} (answered format_refused (format_questions bytes)) (Err stop)) (sym c.format_refusal.ensures)
+    (not_hidden bytes c.in-Err.stop c.in-Err.ensures.memory)
