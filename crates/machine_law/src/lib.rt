@@ -14,7 +14,8 @@ pub fn units_owe()
     ensures { UnitsOwe }
 {}
 
-/// Where all is known of what the units keep, every run is safe, and bytes outside the jobs' regions have no effect.
+/// Where all is known of what the units keep, every run is safe, and bytes outside the jobs' regions have no effect, over each memory
+/// where nothing differs from the first but what the jobs may write.
 pub fn machine_safe()
     ensures { MachineSafe }
 {}
@@ -40,7 +41,7 @@ pub fn draws_stay()
 {}
 
 /// Every run of the machine is safe, and bytes outside the jobs' regions have no effect, where each job begins with two lists that
-/// walk, which no job may write.
+/// walk, which no job may write: from the first memory, and whatever else the memory holds where the jobs may write.
 pub fn jobs_safe()
     ensures { JobsSafe }
 {}
