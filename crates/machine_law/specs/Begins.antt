@@ -111,3 +111,16 @@ abbrev pub JobsSafe : Type 0
 JobsSafe =
     (rights : List Rights) (plains : ℕ → List Interval) (first m : List ℕ) (starts : List Start) → ArePlain rights plains → IsKept rights first m → EachAt (JobBegins rights plains first) 0 starts
     → Safe ready turn rights m (units_start starts) × Same ready turn rights (joined rights) m (units_start starts)
+
+-- As long as the first memory, with every byte as there that some job may reach and none may write: lists, code and streams. All other
+-- bytes may differ.
+pub record HasReadOnly (rights : List Rights) (first m : List ℕ) : Type 0 where
+  pub long : length m ≡ length first
+  pub same : (p : ℕ) → Inside (joined rights) p 1 → IsOutside rights p → slice_index m p ≡ slice_index first p
+
+-- So it is over each memory that has these bytes, whatever else it holds.
+abbrev pub JobsSafeAnywhere : Type 0
+JobsSafeAnywhere =
+    (rights : List Rights) (plains : ℕ → List Interval) (first m : List ℕ) (starts : List Start) → ArePlain rights plains → HasReadOnly rights first m
+    → EachAt (JobBegins rights plains first) 0 starts
+    → Safe ready turn rights m (units_start starts) × Same ready turn rights (joined rights) m (units_start starts)
