@@ -1,14 +1,17 @@
 -- From the parts to the whole.
-use Rattle.std.proofs.Common.{◌≡◌, ℕ, zero, suc, List, [], length, ap, subst, ◌∙◌, arith}
+use Rattle.std.proofs.Common.{◌≡◌, ℕ, zero, suc, List, [], length, refl, sym, ap, subst, ◌∙◌, arith}
 use Rattle.std.proofs.lemmas.List.{get_or_past}
 use Rattle.render_list.specs.Text.{render_slots}
 use Rattle.job_format.specs.Model.{FileModel}
 use Rattle.job_check.specs.Jobs.{no_job, job_of, grid_of, slot_of, places_in}
 use Rattle.job_check.specs.Shaders.{table_of}
 use Rattle.job_check.specs.Emit.{memory_of}
+use Rattle.buffer_table.specs.declared.buffer.Buffer.{Buffer}
+use Rattle.buffer_table.specs.Table.{buffer_at}
 use Rattle.buffer_table.specs.Handles.{data_of}
 use Rattle.qpu_law.specs.Asks.{IsOneOf}
-use Rattle.machine_law.specs.Begins.{TextBegins}
+use Rattle.machine_plan.specs.Regions.{Rights}
+use Rattle.machine_law.specs.Begins.{IsFixed, TextBegins}
 use Rattle.machine_law.specs.Jobs.{ArePlain}
 use Rattle.machine_law.specs.Textures.{ReadInOne}
 use Rattle.machine_law.proofs.Textures.{texture_units_read_law}
@@ -20,7 +23,8 @@ use Rattle.accepted_law.specs.Holdings.{named_buffers, plain_of, file_rights, fi
 use Rattle.accepted_law.specs.Settled.{Grounds}
 use Rattle.accepted_law.specs.Parts.{BinWalks, RenderWalks, FilesBegin}
 use Rattle.accepted_law.specs.Texts.{start_of}
-use Rattle.accepted_law.specs.Whole.{FilesSafe}
+use Rattle.accepted_law.specs.Held.{ListsAndCodeAreFixed}
+use Rattle.accepted_law.specs.Whole.{FilesSafe, FilesSafeWhatever}
 use Rattle.accepted_law.specs.Textures.{TextureUnitsReadPlainBuffers}
 use Rattle.accepted_law.proofs.Settling.{files_settle_law}
 use Rattle.accepted_law.proofs.Grounds.{files_ground_law}
@@ -75,13 +79,31 @@ first_alone f one (suc j) found reads =
     let none : IsOneOf [] reads.place reads.size = subst (λ plain. IsOneOf plain reads.place reads.size) (plain_past f j one) reads.named in
     absurd none
 
-pub files_safe_law : FilesSafe
-files_safe_law f well fits none =
+pub files_safe_whatever_law : FilesSafeWhatever
+files_safe_whatever_law f well fits none m kept =
     let begins = files_begin_law f well fits none in
-    jobs_safe_law (file_rights f) (plain_of f) (memory_of f) (file_starts f) begins.0 (begins.1, tt)
+    jobs_safe_law (file_rights f) (plain_of f) (memory_of f) m (file_starts f) begins.0 kept (begins.1, tt)
+
+-- the emitted memory is one of these
+pub files_safe_law : FilesSafe
+files_safe_law f well fits none = files_safe_whatever_law f well fits none (memory_of f) (record { long = refl; same = λ p out. refl })
+
+fixed_there : (rights : List Rights) (place size at n : ℕ) → place ≡ at → size ≡ n → IsFixed rights at n → IsFixed rights place size
+fixed_there rights place size at n place_is size_is fixed =
+    subst (λ p. IsFixed rights p size) (sym place_is) (subst (λ s. IsFixed rights at s) (sym size_is) fixed)
+
+pub lists_and_code_fixed_law : ListsAndCodeAreFixed
+lists_and_code_fixed_law f well fits none =
+    let grounds : Grounds f (memory_of f) = files_ground_law f (files_settle_law f well fits none) in
+    record {
+      lists = λ place size one. grounds.lists_fixed place size one;
+      code = λ place size code.
+          let at : Buffer = buffer_at f.buffers code.number in
+          fixed_there (file_rights f) place size at.place at.size code.place_is code.size_is (grounds.code_fixed code.handle code.number code.named);
+    }
 
 pub textures_read_law : TextureUnitsReadPlainBuffers
-textures_read_law f well fits none events found t run k n words on =
+textures_read_law f well fits none m kept events found t run k n words on =
     let begins = files_begin_law f well fits none in
-    let reads = texture_units_read_law (file_rights f) (plain_of f) (memory_of f) (file_starts f) begins.0 (begins.1, tt) events found t run k n words on in
+    let reads = texture_units_read_law (file_rights f) (plain_of f) (memory_of f) m (file_starts f) begins.0 kept (begins.1, tt) events found t run k n words on in
     first_alone f well.one_job (job_of_unit t (TheTmu k n)) (step t (record { unit = TheTmu k n; words = words })).accesses reads

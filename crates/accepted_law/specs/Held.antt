@@ -1,14 +1,18 @@
--- From above: a job may reach nothing but what it holds.
-use Rattle.std.specs.Prelude.{◌≡◌, ◌⊎◌, ℕ, Some}
+-- From above: a job may reach nothing but what it holds, and it may write neither its lists nor its code.
+use Rattle.std.specs.Prelude.{◌≡◌, ◌⊎◌, ℕ, None, Some}
 use Rattle.field_words.specs.Sizes.{slot_size}
+use Rattle.field_words.specs.Questions.{first_of}
 use Rattle.buffer_table.specs.Table.{buffer_at}
 use Rattle.buffer_table.specs.Handles.{code_of}
 use Rattle.shader_records.specs.Named.{IsDataIn}
+use Rattle.job_format.specs.File.{IsWellFormed, Fits}
 use Rattle.job_format.specs.Model.{FileModel}
 use Rattle.job_check.specs.Shaders.{table_of}
 use Rattle.job_check.specs.Jobs.{job_of, slot_of}
+use Rattle.job_check.specs.Faults.{file_stages}
 use Rattle.qpu_law.specs.Asks.{IsOneOf}
-use Rattle.accepted_law.specs.Holdings.{lists_of, job_rights}
+use Rattle.machine_law.specs.Begins.{IsFixed}
+use Rattle.accepted_law.specs.Holdings.{lists_of, job_rights, file_rights}
 
 -- the job's tile slot
 pub record IsSlot (f : FileModel) (place size : ℕ) : Type 0 where
@@ -38,3 +42,12 @@ pub record AreHeld (f : FileModel) : Type 0 where
 
 abbrev pub RightsAreHeld : Type 0
 RightsAreHeld = (f : FileModel) → AreHeld f
+
+-- What the job may write shares no byte with its four emitted lists, nor with a Code buffer that a handle of it names.
+pub record AreFixed (f : FileModel) : Type 0 where
+  pub lists : (place size : ℕ) → IsOneOf (lists_of f 0) place size → IsFixed (file_rights f) place size
+  pub code : (place size : ℕ) → IsNamedCode f place size → IsFixed (file_rights f) place size
+
+-- So it is where no rule stands.
+abbrev pub ListsAndCodeAreFixed : Type 0
+ListsAndCodeAreFixed = (f : FileModel) → IsWellFormed f → Fits f → first_of (file_stages f) ≡ None → AreFixed f

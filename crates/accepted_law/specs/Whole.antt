@@ -1,7 +1,7 @@
 -- The whole: from the parts to what the job of an accepted file begins with, and so to every run of the machine.
-use Rattle.std.specs.Prelude.{◌≡◌, None}
+use Rattle.std.specs.Prelude.{◌≡◌, ℕ, List, None}
 use Rattle.field_words.specs.Questions.{first_of}
-use Rattle.machine_plan.specs.Regions.{joined}
+use Rattle.machine_plan.specs.Regions.{IsKept, joined}
 use Rattle.machine_plan.specs.World.{Safe, Same}
 use Rattle.machine.specs.State.{units_start}
 use Rattle.machine.specs.Step.{ready, turn}
@@ -17,3 +17,12 @@ FilesSafe =
     (f : FileModel) → IsWellFormed f → Fits f → first_of (file_stages f) ≡ None
     → Safe ready turn (file_rights f) (memory_of f) (units_start (file_starts f))
     × Same ready turn (file_rights f) (joined (file_rights f)) (memory_of f) (units_start (file_starts f))
+
+-- So it is whatever the job's tile slot and its Plain buffers hold: from each memory of that length in which every byte outside what
+-- the job may write is as emitted.
+abbrev pub FilesSafeWhatever : Type 0
+FilesSafeWhatever =
+    (f : FileModel) → IsWellFormed f → Fits f → first_of (file_stages f) ≡ None
+    → (m : List ℕ) → IsKept (file_rights f) (memory_of f) m
+    → Safe ready turn (file_rights f) m (units_start (file_starts f))
+    × Same ready turn (file_rights f) (joined (file_rights f)) m (units_start (file_starts f))

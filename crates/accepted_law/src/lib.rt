@@ -13,5 +13,5 @@ pub use bins::{bins_walk, draws_begin};
 pub use memory::{bin_texts_begin, files_allocate, files_ground, files_settle, render_texts_begin};
 pub use records::records_launch;
 pub use renders::renders_walk;
-pub use rights::rights_are_held;
+pub use rights::{lists_and_code_are_fixed, rights_are_held};
 pub use whole::{accepted_files_are_safe, files_begin, texture_units_read_plain_buffers};

@@ -1,8 +1,14 @@
 //! What a job of a file may reach, from above.
-ghost use Rattle.accepted_law.specs.Held.{RightsAreHeld};
+ghost use Rattle.accepted_law.specs.Held.{RightsAreHeld, ListsAndCodeAreFixed};
 
 /// A job may reach nothing but what it holds: its tile slot, the Plain and the Code buffers that its handles name, and its four emitted
 /// lists. It may write nothing but its slot and those Plain buffers.
 pub fn rights_are_held()
     ensures { RightsAreHeld }
+{}
+
+/// In a file in which no rule stands, what the job may write shares no byte with its four emitted lists, nor with a Code buffer that a
+/// handle of it names.
+pub fn lists_and_code_are_fixed()
+    ensures { ListsAndCodeAreFixed }
 {}

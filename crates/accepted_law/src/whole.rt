@@ -1,7 +1,7 @@
 //! From the parts to the whole: what the job of an accepted file begins with, and so every run of the machine.
 ghost use Rattle.accepted_law.specs.Parts.{FilesBegin};
 ghost use Rattle.accepted_law.specs.Textures.{TextureUnitsReadPlainBuffers};
-ghost use Rattle.accepted_law.specs.Whole.{FilesSafe};
+ghost use Rattle.accepted_law.specs.Whole.{FilesSafe, FilesSafeWhatever};
 
 /// Every accepted file begins as the laws of the machine's units ask: its two lists walk, and what they draw, load and store may be
 /// drawn, loaded and stored.
@@ -11,12 +11,14 @@ pub fn files_begin()
 
 /// From the memory of an accepted file every run of the machine is safe: whichever unit steps next and whatever words answer, no
 /// access is wild, each lies in the job's own buffers, lists, code or tile slot, and each write in a Plain buffer of the job or in
-/// its tile slot. And bytes outside have no effect.
+/// its tile slot. And bytes outside have no effect. So it is from every memory of that length that differs from it only in what the
+/// job may write: whatever the Plain buffers and the tile slot hold.
 pub fn accepted_files_are_safe()
-    ensures { FilesSafe }
+    ensures emitted { FilesSafe }
+    ensures whatever { FilesSafeWhatever }
 {}
 
-/// In each state to which such a run comes, a step of a texture unit does nothing to memory but read inside one Plain buffer that a
+/// In each state to which a run from such a memory comes, a step of a texture unit does nothing to memory but read inside one Plain buffer that a
 /// handle of the job names, whichever unit it is and whatever words answer it.
 pub fn texture_units_read_plain_buffers()
     ensures { TextureUnitsReadPlainBuffers }

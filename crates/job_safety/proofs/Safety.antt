@@ -4,6 +4,7 @@ use Rattle.field_words.specs.Words.{IsBytes}
 use Rattle.field_words.specs.Questions.{first_of, answered}
 use Rattle.field_words.proofs.Nones.{front_none, rest_none, none_answered}
 use Rattle.job_format.specs.File.{IsFileOf}
+use Rattle.job_format.specs.Model.{FileModel}
 use Rattle.job_format.specs.Faults.{format_questions}
 use Rattle.job_format.specs.Reading.{file_at}
 use Rattle.job_format.proofs.Laws.{none_file}
@@ -11,7 +12,7 @@ use Rattle.job_check.specs.Emit.{memory_of}
 use Rattle.job_check.specs.Faults.{file_stages}
 use Rattle.job_check.specs.Whole.{format_refused, all_questions, refusal_of}
 use Rattle.accepted_law.specs.Holdings.{file_rights, file_starts}
-use Rattle.accepted_law.proofs.Joining.{files_safe_law}
+use Rattle.accepted_law.proofs.Joining.{files_safe_law, files_safe_whatever_law, lists_and_code_fixed_law}
 use Rattle.job_safety.specs.Safe.{AreSafe, AreSame}
 use Rattle.job_safety.specs.Files.{IsSafeFile, BytesSafe}
 
@@ -22,10 +23,17 @@ parts_none bytes none =
     let format = answered format_refused (format_questions bytes) in
     (none_answered format_refused (format_questions bytes) (front_none format (file_stages (file_at bytes)) none), rest_none format (file_stages (file_at bytes)) none)
 
-file_is_safe : (bytes : List ℕ) → IsFileOf bytes (file_at bytes) → first_of (all_questions bytes) ≡ None → IsSafeFile (file_at bytes)
+pub file_is_safe : (bytes : List ℕ) → IsFileOf bytes (file_at bytes) → first_of (all_questions bytes) ≡ None → IsSafeFile (file_at bytes)
 file_is_safe bytes is none =
-    let both = files_safe_law (file_at bytes) is.well_formed is.fits (parts_none bytes none).1 in
-    record { safe = both.0; same = both.1 }
+    let f : FileModel = file_at bytes in
+    let stages = (parts_none bytes none).1 in
+    let both = files_safe_law f is.well_formed is.fits stages in
+    record {
+      safe = both.0;
+      same = both.1;
+      whatever = λ m kept. files_safe_whatever_law f is.well_formed is.fits stages m kept;
+      fixed = lists_and_code_fixed_law f is.well_formed is.fits stages;
+    }
 
 -- bytes of which no rule stands are a file's
 pub bytes_spell : (bytes : List ℕ) → IsBytes bytes → first_of (all_questions bytes) ≡ None → IsFileOf bytes (file_at bytes)

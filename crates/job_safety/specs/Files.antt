@@ -5,14 +5,26 @@ use Rattle.job_format.specs.Model.{FileModel}
 use Rattle.job_format.specs.Reading.{file_at}
 use Rattle.job_check.specs.Emit.{memory_of}
 use Rattle.job_check.specs.Whole.{refusal_of}
+use Rattle.machine_plan.specs.Regions.{IsKept}
+use Rattle.accepted_law.specs.Held.{AreFixed}
 use Rattle.accepted_law.specs.Holdings.{file_rights, file_starts}
 use Rattle.job_safety.specs.Safe.{AreSafe, AreSame}
 
+-- From each memory of the emitted one's length in which every byte outside what the job may write is as emitted, so whatever its tile
+-- slot and its Plain buffers hold, every run of the machine is safe, and bytes outside what the job may reach have no effect.
+abbrev pub IsSafeWhatever : FileModel → Type 0
+IsSafeWhatever f =
+    (m : List ℕ) → IsKept (file_rights f) (memory_of f) m
+    → AreSafe (file_rights f) m (file_starts f) × AreSame (file_rights f) m (file_starts f)
+
 -- From the memory that the file is emitted as, with its job's rights and from the beginnings of its lists, every run of the machine
--- is safe, and bytes outside what the job may reach have no effect.
+-- is safe, and bytes outside what the job may reach have no effect. So it is whatever that memory holds where the job may write, and
+-- that has no byte of the job's lists and code.
 pub record IsSafeFile (f : FileModel) : Type 0 where
   pub safe : AreSafe (file_rights f) (memory_of f) (file_starts f)
   pub same : AreSame (file_rights f) (memory_of f) (file_starts f)
+  pub whatever : IsSafeWhatever f
+  pub fixed : AreFixed f
 
 -- So it is of the file that any bytes hold of which no rule stands.
 abbrev pub BytesSafe : Type 0

@@ -50,4 +50,4 @@ each_begins rights plains first n [] all = tt
 each_begins rights plains first n (start ∷ starts) all = (job_begins rights plains first n start all.0, each_begins rights plains first (n + 1) starts all.1)
 
 pub jobs_safe_law : JobsSafe
-jobs_safe_law rights plains first starts plain all = start_safe_law rights plains first starts plain (each_begins rights plains first 0 starts all)
+jobs_safe_law rights plains first m starts plain kept all = start_safe_law rights plains first m starts plain kept (each_begins rights plains first 0 starts all)

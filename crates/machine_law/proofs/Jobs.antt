@@ -1,10 +1,11 @@
 -- The units' laws of one job, as the machine's units owe them.
-use Rattle.std.proofs.Common.{◌≡◌, ◌<◌, ℕ, zero, suc, ◌+◌, true, List, [], ◌∷◌, map, replicate, Option, sym, subst, arith}
+use Rattle.std.proofs.Common.{◌≡◌, ◌<◌, ℕ, zero, suc, ◌+◌, true, List, [], ◌∷◌, map, replicate, Option, sym, ◌∙◌, subst, arith}
 use Rattle.machine_plan.specs.declared.launch.Free.{Free}
 use Rattle.machine_plan.specs.declared.launch.Launch.{Launch}
 use Rattle.machine_plan.specs.declared.who.Who.{Who}
 use Rattle.machine_plan.specs.Glance.{glanced, GlancesIn}
 use Rattle.machine_plan.specs.Regions.{Interval, Inside, Every, Rights, rights_of, IsSafeIn, IsKept, joined}
+use Rattle.machine_plan.specs.World.{Owes, Covers}
 use Rattle.machine_plan.proofs.Plans.{keeps_weaker}
 use Rattle.machine_plan.proofs.Safe.{joined_covers}
 use Rattle.machine_plan.proofs.Worlds.{safe_law, same_law}
@@ -143,11 +144,28 @@ unit_laws rights plains first plain = record {
 pub units_owe_law : UnitsOwe
 units_owe_law rights plains all first plain covers = units_owe rights all first (facts_of rights plains first) (unit_laws rights plains first plain) covers
 
-pub machine_safe_law : MachineSafe
-machine_safe_law rights plains all first u plain covers fine =
+-- What is kept of a memory is kept of the first, where that memory differs from it in nothing but what jobs may write.
+kept_further : (rights : List Rights) (first m k : List ℕ) → IsKept rights first m → IsKept rights m k → IsKept rights first k
+kept_further rights first m k before after = record {
+  long = after.long ∙ before.long;
+  same = λ p out. after.same p out ∙ before.same p out;
+}
+
+-- So the units owe the same over that memory, by what is known of the first.
+owe_over : (rights : List Rights) (plains : ℕ → List Interval) (all : List Interval) (first m : List ℕ) → ArePlain rights plains → Covers rights all → IsKept rights first m
+    → Owes ready turn rights all m (AreFine rights plains first)
+owe_over rights plains all first m plain covers before =
     let owes = units_owe_law rights plains all first plain covers in
+    record {
+      looks = λ u k e known after. owes.looks u k e known (kept_further rights first m k before after);
+      keeps = λ u k e known after on. owes.keeps u k e known (kept_further rights first m k before after) on;
+    }
+
+pub machine_safe_law : MachineSafe
+machine_safe_law rights plains all first m u plain covers kept fine =
+    let owes = owe_over rights plains all first m plain covers kept in
     let I : Units → Type 0 = AreFine rights plains first in
-    (safe_law ready turn rights all first I u owes fine, same_law ready turn rights all first I u owes covers fine)
+    (safe_law ready turn rights all m I u owes fine, same_law ready turn rights all m I u owes covers fine)
 
 -- at the start
 each_start : (P : ℕ → Lists → Type 0) (n : ℕ) (starts : List Start) → EachAt (λ j start. P j (job_start start)) n starts → EachAt P n (map job_start starts)
@@ -162,5 +180,5 @@ pub start_fine : (rights : List Rights) (plains : ℕ → List Interval) (first 
 start_fine rights plains first starts all = record { jobs = each_start (JobFine rights plains first) 0 starts all; qpus = idle_fine (facts_of rights plains first) 12 }
 
 pub start_safe_law : StartSafe
-start_safe_law rights plains first starts plain all =
-    machine_safe_law rights plains (joined rights) first (units_start starts) plain (joined_covers rights) (start_fine rights plains first starts all)
+start_safe_law rights plains first m starts plain kept all =
+    machine_safe_law rights plains (joined rights) first m (units_start starts) plain (joined_covers rights) kept (start_fine rights plains first starts all)

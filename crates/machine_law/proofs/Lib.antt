@@ -5,4 +5,5 @@ pub mod Jobs
 pub mod Fixed
 pub mod Draws
 pub mod Begins
+pub mod Anywhere
 pub mod Textures

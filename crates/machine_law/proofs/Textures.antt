@@ -104,13 +104,13 @@ unfolding turn enabled job_of
 textures_read rights plains first s known k n words on =
     tmu_reads rights plains first s.units k n (item_at s.units.qpus k) words s.memory (item_fine (QpuFine (facts_of rights plains first)) s.units.qpus k known.units.qpus) on
 
-start_known : (rights : List Rights) (plains : ℕ → List Interval) (first : List ℕ) (starts : List Start) → EachAt (JobBegins rights plains first) 0 starts → Known rights plains first (start_of first starts)
-start_known rights plains first starts all = record {
+start_known : (rights : List Rights) (plains : ℕ → List Interval) (first m : List ℕ) (starts : List Start) → IsKept rights first m → EachAt (JobBegins rights plains first) 0 starts → Known rights plains first (start_of m starts)
+start_known rights plains first m starts before all = record {
   units = start_fine rights plains first starts (each_begins rights plains first 0 starts all);
-  kept = record { long = refl; same = λ p out. refl };
+  kept = before;
 }
 
 pub texture_units_read_law : TextureUnitsReadInOne
-texture_units_read_law rights plains first starts plain all events found t run =
-    let ran = run_keeps may step (Known rights plains first) (IsSafeAccess rights) (step_known rights plains first plain) events (start_of first starts) (start_known rights plains first starts all) run.allowed in
+texture_units_read_law rights plains first m starts plain before all events found t run =
+    let ran = run_keeps may step (Known rights plains first) (IsSafeAccess rights) (step_known rights plains first plain) events (start_of m starts) (start_known rights plains first m starts before all) run.allowed in
     textures_read rights plains first t (subst (Known rights plains first) (sym run.last) ran.0)

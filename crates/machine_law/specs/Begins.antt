@@ -105,8 +105,22 @@ DrawsStay =
     (rights : List Rights) (plains : ℕ → List Interval) (first : List ℕ) (j word : ℕ) (packet : List ℕ) → DrawBegins rights plains first j word packet
     → DrawsSo (rights_of rights j) (IsKept rights first) (LaunchFine rights plains first j) word packet
 
--- From what each job begins with, every run of the machine is safe and depends on nothing else.
+-- From what each job begins with, every run of the machine is safe and depends on nothing else: over the first memory, and over each
+-- other one where nothing differs from it but what jobs may write.
 abbrev pub JobsSafe : Type 0
 JobsSafe =
-    (rights : List Rights) (plains : ℕ → List Interval) (first : List ℕ) (starts : List Start) → ArePlain rights plains → EachAt (JobBegins rights plains first) 0 starts
-    → Safe ready turn rights first (units_start starts) × Same ready turn rights (joined rights) first (units_start starts)
+    (rights : List Rights) (plains : ℕ → List Interval) (first m : List ℕ) (starts : List Start) → ArePlain rights plains → IsKept rights first m → EachAt (JobBegins rights plains first) 0 starts
+    → Safe ready turn rights m (units_start starts) × Same ready turn rights (joined rights) m (units_start starts)
+
+-- As long as the first memory, with every byte as there that some job may reach and none may write: lists, code and streams. All other
+-- bytes may differ.
+pub record HasReadOnly (rights : List Rights) (first m : List ℕ) : Type 0 where
+  pub long : length m ≡ length first
+  pub same : (p : ℕ) → Inside (joined rights) p 1 → IsOutside rights p → slice_index m p ≡ slice_index first p
+
+-- So it is over each memory that has these bytes, whatever else it holds.
+abbrev pub JobsSafeAnywhere : Type 0
+JobsSafeAnywhere =
+    (rights : List Rights) (plains : ℕ → List Interval) (first m : List ℕ) (starts : List Start) → ArePlain rights plains → HasReadOnly rights first m
+    → EachAt (JobBegins rights plains first) 0 starts
+    → Safe ready turn rights m (units_start starts) × Same ready turn rights (joined rights) m (units_start starts)

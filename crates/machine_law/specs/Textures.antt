@@ -2,7 +2,7 @@
 use Rattle.std.specs.Prelude.{ℕ, IsTrue, List}
 use Rattle.field_words.specs.declared.access.Access.{Access}
 use Rattle.field_words.specs.declared.access.Actor.TheVariants.{Tmu as TheTmu}
-use Rattle.machine_plan.specs.Regions.{Every, Interval, Rights}
+use Rattle.machine_plan.specs.Regions.{Every, Interval, Rights, IsKept}
 use Rattle.qpu_law.specs.Asks.{IsOneOf, IsReadIn}
 use Rattle.machine.specs.declared.job.Start.{Start}
 use Rattle.machine.specs.State.{State, start_of}
@@ -25,8 +25,9 @@ TexturesReadIn plains s =
     (k n : ℕ) (words : List ℕ) → IsTrue (enabled s (TheTmu k n))
     → ReadInOne (plains (job_of s (TheTmu k n))) (step s (record { unit = TheTmu k n; words = words })).accesses
 
--- From what each job begins with, it is so in each state to which a run comes.
+-- From what each job begins with, it is so in each state to which a run comes, over each memory where nothing differs from the first
+-- but what jobs may write.
 abbrev pub TextureUnitsReadInOne : Type 0
 TextureUnitsReadInOne =
-    (rights : List Rights) (plains : ℕ → List Interval) (first : List ℕ) (starts : List Start) → ArePlain rights plains → EachAt (JobBegins rights plains first) 0 starts
-    → (events : List Event) (found : List Access) (t : State) → IsRun (start_of first starts) events found t → TexturesReadIn plains t
+    (rights : List Rights) (plains : ℕ → List Interval) (first m : List ℕ) (starts : List Start) → ArePlain rights plains → IsKept rights first m → EachAt (JobBegins rights plains first) 0 starts
+    → (events : List Event) (found : List Access) (t : State) → IsRun (start_of m starts) events found t → TexturesReadIn plains t

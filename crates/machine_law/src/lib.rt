@@ -6,7 +6,7 @@
 #![tactic(auto)]
 
 ghost use Rattle.machine_law.specs.Laws.{UnitsOwe, MachineSafe, StartSafe};
-ghost use Rattle.machine_law.specs.Begins.{DrawsStay, FixedStays, HomesStay, JobsSafe};
+ghost use Rattle.machine_law.specs.Begins.{DrawsStay, FixedStays, HomesStay, JobsSafe, JobsSafeAnywhere};
 ghost use Rattle.machine_law.specs.Textures.{TextureUnitsReadInOne};
 
 /// Each unit of the machine keeps all that is known, in each memory where nothing changed but what the jobs may write.
@@ -14,7 +14,8 @@ pub fn units_owe()
     ensures { UnitsOwe }
 {}
 
-/// Where all is known of what the units keep, every run is safe, and bytes outside the jobs' regions have no effect.
+/// Where all is known of what the units keep, every run is safe, and bytes outside the jobs' regions have no effect, over each memory
+/// where nothing differs from the first but what the jobs may write.
 pub fn machine_safe()
     ensures { MachineSafe }
 {}
@@ -40,9 +41,14 @@ pub fn draws_stay()
 {}
 
 /// Every run of the machine is safe, and bytes outside the jobs' regions have no effect, where each job begins with two lists that
-/// walk, which no job may write.
+/// walk, which no job may write: from the first memory, and whatever else the memory holds where the jobs may write.
 pub fn jobs_safe()
     ensures { JobsSafe }
+{}
+
+/// So it is over every memory of that length that has what the jobs may reach and not write as the first one, whatever else it holds.
+pub fn jobs_safe_anywhere()
+    ensures { JobsSafeAnywhere }
 {}
 
 /// In each state to which a run of such jobs comes, a step of a texture unit reads inside one Plain buffer of the job for which it

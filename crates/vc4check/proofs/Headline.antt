@@ -6,7 +6,8 @@ use Rattle.job_format.specs.declared.rule.Refusal.{Refusal}
 use Rattle.job_format.specs.File.{IsFileOf}
 use Rattle.job_format.specs.Reading.{file_at}
 use Rattle.job_check.specs.Whole.{refusal_of}
-use Rattle.job_safety.proofs.Safety.{bytes_spell, accepted_is_safe, accepted_is_same}
+use Rattle.job_safety.specs.Files.{IsSafeFile}
+use Rattle.job_safety.proofs.Safety.{bytes_spell, file_is_safe}
 use Rattle.vc4check.specs.declared.command.Command.{Command}
 use Rattle.vc4check.specs.declared.command.Command.TheVariants.{Check}
 use Rattle.vc4check.specs.Answer.{image_of, IsVerdict, IsAnswer}
@@ -15,7 +16,17 @@ use Rattle.vc4check.specs.Run.{IsAnswered}
 
 may_run : (bytes : List ℕ) → IsFileOf bytes (file_at bytes) → refusal_of bytes ≡ None → MayRun bytes
 unfolding refusal_of
-may_run bytes is none = record { none = none; spells = is; safe = accepted_is_safe bytes is none; same = accepted_is_same bytes is none }
+may_run bytes is none =
+    let file : IsSafeFile (file_at bytes) = file_is_safe bytes is none in
+    record {
+      none = none;
+      spells = is;
+      safe = file.safe;
+      same = file.same;
+      whatever_it_holds = file.whatever;
+      lists_fixed = file.fixed.lists;
+      code_fixed = file.fixed.code;
+    }
 
 pub accepted_may_run : AcceptedMayRun
 unfolding refusal_of

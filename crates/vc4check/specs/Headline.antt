@@ -1,5 +1,5 @@
--- What `check` promises of a job that it accepts, in one place: from just the memory that it prints, every run of the machine is safe,
--- and bytes outside what the job may reach have no effect.
+-- What `check` promises of a job that it accepts, in one place: from just the memory that it prints, and from every other that differs
+-- from it only in what the job may write, every run of the machine is safe, and bytes outside what the job may reach have no effect.
 --
 -- `refusal_of` (job_check, specs/Whole) is the first rule of the list of all rules that stands of the bytes. `file_at` (job_format,
 -- specs/Reading) is the file that they hold, and `IsFileOf` (specs/File) says that they are its text. `memory_of`, `layout_of` and
@@ -7,7 +7,10 @@
 -- `accepted_text` (dumper, specs/Text) prints these three. `file_rights` (accepted_law, specs/Holdings) is what its job may reach: the
 -- buffers that its handles name, its four emitted lists and its tile slot; and what it may write: the slot and the Plain buffers among
 -- them. `file_starts` (the same) is where its two lists begin. `AreSafe` and `AreSame` (job_safety, specs/Safe) speak of every run of
--- the machine (machine, specs/Step), by whichever unit steps next and whatever words answer what the hardware leaves open.
+-- the machine (machine, specs/Step), by whichever unit steps next and whatever words answer what the hardware leaves open. `IsKept`
+-- (machine_plan, specs/Regions): of the same length, and each byte outside what the job may write is the same. `IsFixed` (machine_law,
+-- specs/Begins): no job may write any of these bytes. `lists_of` (accepted_law, specs/Holdings) has the four emitted lists, and
+-- `IsNamedCode` (specs/Held) is a Code buffer that a handle of the job names.
 use Rattle.std.specs.Prelude.{◌≡◌, ℕ, List, Option, None}
 use Rattle.std.specs.Io.KnownBytes.{Appends}
 use Rattle.field_words.specs.Words.{IsBytes}
@@ -17,16 +20,26 @@ use Rattle.job_check.specs.Emit.{memory_of, lengths_of}
 use Rattle.job_check.specs.Jobs.{layout_of}
 use Rattle.job_check.specs.Whole.{refusal_of}
 use Rattle.dumper.specs.Text.{accepted_text}
-use Rattle.accepted_law.specs.Holdings.{file_rights, file_starts}
+use Rattle.machine_plan.specs.Regions.{IsKept}
+use Rattle.qpu_law.specs.Asks.{IsOneOf}
+use Rattle.machine_law.specs.Begins.{IsFixed}
+use Rattle.accepted_law.specs.Held.{IsNamedCode}
+use Rattle.accepted_law.specs.Holdings.{lists_of, file_rights, file_starts}
 use Rattle.job_safety.specs.Safe.{AreSafe, AreSame}
 
 -- No rule stands of the bytes, they are one file's, and from the memory that it is emitted as every run of the machine is safe, and
--- does the same over each memory that agrees with it on what the job may reach.
+-- does the same over each memory that agrees with it on what the job may reach. So it is whatever the job's tile slot and its Plain
+-- buffers hold when it begins: from each memory of that length in which every byte outside what the job may write is as emitted. And
+-- what it may write shares no byte with its lists and its code.
 pub record MayRun (bytes : List ℕ) : Type 0 where
   pub none : refusal_of bytes ≡ None
   pub spells : IsFileOf bytes (file_at bytes)
   pub safe : AreSafe (file_rights (file_at bytes)) (memory_of (file_at bytes)) (file_starts (file_at bytes))
   pub same : AreSame (file_rights (file_at bytes)) (memory_of (file_at bytes)) (file_starts (file_at bytes))
+  pub whatever_it_holds : (m : List ℕ) → IsKept (file_rights (file_at bytes)) (memory_of (file_at bytes)) m
+      → AreSafe (file_rights (file_at bytes)) m (file_starts (file_at bytes)) × AreSame (file_rights (file_at bytes)) m (file_starts (file_at bytes))
+  pub lists_fixed : (place size : ℕ) → IsOneOf (lists_of (file_at bytes) 0) place size → IsFixed (file_rights (file_at bytes)) place size
+  pub code_fixed : (place size : ℕ) → IsNamedCode (file_at bytes) place size → IsFixed (file_rights (file_at bytes)) place size
 
 -- The sink got just that memory, with where the lists lie in it and how long they are; and the job may run.
 pub record IsSafelyAccepted (bytes : List ℕ) (before now : Option (List ℕ)) : Type 0 where
