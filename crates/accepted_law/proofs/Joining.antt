@@ -132,7 +132,7 @@ lists_and_code_fixed_law f well fits none =
     }
 
 pub textures_read_law : TextureUnitsReadPlainBuffers
-textures_read_law f well fits none m kept events found t run k n words on =
+textures_read_law f well fits none m agree events found t run k n words on =
     let begins = files_begin_law f well fits none in
-    let reads = texture_units_read_law (file_rights f) (plain_of f) (memory_of f) m (file_starts f) begins.0 kept (begins.1, tt) events found t run k n words on in
+    let reads = texture_units_read_law (file_rights f) (plain_of f) (memory_of f) m (file_starts f) begins.0 (has_read_only f m agree) (begins.1, tt) events found t run k n words on in
     first_alone f well.one_job (job_of_unit t (TheTmu k n)) (step t (record { unit = TheTmu k n; words = words })).accesses reads
