@@ -1,5 +1,5 @@
 -- From the parts to the whole.
-use Rattle.std.proofs.Common.{◌≡◌, ℕ, zero, suc, List, [], length, refl, sym, ap, subst, ◌∙◌, arith}
+use Rattle.std.proofs.Common.{◌≡◌, ◌⊎◌, inl, inr, ℕ, zero, suc, List, [], ◌∷◌, ◌++◌, length, refl, sym, ap, subst, ◌∙◌, arith}
 use Rattle.std.proofs.lemmas.List.{get_or_past}
 use Rattle.render_list.specs.Text.{render_slots}
 use Rattle.job_format.specs.Model.{FileModel}
@@ -10,8 +10,8 @@ use Rattle.buffer_table.specs.declared.buffer.Buffer.{Buffer}
 use Rattle.buffer_table.specs.Table.{buffer_at}
 use Rattle.buffer_table.specs.Handles.{data_of}
 use Rattle.qpu_law.specs.Asks.{IsOneOf}
-use Rattle.machine_plan.specs.Regions.{Rights}
-use Rattle.machine_law.specs.Begins.{IsFixed, TextBegins}
+use Rattle.machine_plan.specs.Regions.{Interval, Inside, Rights, IsOutside, Agree, joined}
+use Rattle.machine_law.specs.Begins.{IsFixed, TextBegins, HasReadOnly}
 use Rattle.machine_law.specs.Jobs.{ArePlain}
 use Rattle.machine_law.specs.Textures.{ReadInOne}
 use Rattle.machine_law.proofs.Textures.{texture_units_read_law}
@@ -19,12 +19,13 @@ use Rattle.machine.specs.Step.{job_of as job_of_unit, step}
 use Rattle.field_words.specs.declared.access.Access.{Access}
 use Rattle.field_words.specs.declared.access.Actor.TheVariants.{Tmu as TheTmu}
 use Rattle.machine_law.proofs.Begins.{jobs_safe_law}
-use Rattle.accepted_law.specs.Holdings.{named_buffers, plain_of, file_rights, file_starts, config_for, frame_for}
+use Rattle.machine_law.proofs.Anywhere.{jobs_safe_anywhere_law}
+use Rattle.accepted_law.specs.Holdings.{named_buffers, plain_of, codes_of, lists_of, slot_in, job_rights, file_rights, file_starts, config_for, frame_for}
 use Rattle.accepted_law.specs.Settled.{Grounds}
 use Rattle.accepted_law.specs.Parts.{BinWalks, RenderWalks, FilesBegin}
 use Rattle.accepted_law.specs.Texts.{start_of}
 use Rattle.accepted_law.specs.Held.{ListsAndCodeAreFixed}
-use Rattle.accepted_law.specs.Whole.{FilesSafe, FilesSafeWhatever}
+use Rattle.accepted_law.specs.Whole.{FilesSafe, FilesSafeWhatever, FilesSafeAnywhere}
 use Rattle.accepted_law.specs.Textures.{TextureUnitsReadPlainBuffers}
 use Rattle.accepted_law.proofs.Settling.{files_settle_law}
 use Rattle.accepted_law.proofs.Grounds.{files_ground_law}
@@ -88,6 +89,34 @@ files_safe_whatever_law f well fits none m kept =
 pub files_safe_law : FilesSafe
 files_safe_law f well fits none = files_safe_whatever_law f well fits none (memory_of f) (record { long = refl; same = λ p out. refl })
 
+-- what lies in two lists of intervals joined lies in the first or in the others
+inside_either : (rs qs : List Interval) (p n : ℕ) → Inside (rs ++ qs) p n → Inside rs p n ⊎ Inside qs p n
+inside_either [] qs p n lies = inr lies
+inside_either (one ∷ others) qs p n (inl here) = inl (inl here)
+inside_either (one ∷ others) qs p n (inr lies) = elim (inside_either others qs p n lies) [ inl there ↦ inl (inr there) | inr back ↦ inr back ]
+
+-- What the job may reach and not write lies in its lists and its code.
+lists_or_code : (f : FileModel) (p : ℕ) → Inside (joined (file_rights f)) p 1 → IsOutside (file_rights f) p → Inside (lists_of f 0 ++ codes_of f 0) p 1
+lists_or_code f p lies out =
+    elim (inside_either (job_rights f 0).region [] p 1 lies) [
+      | inl reached ↦ elim (inside_either (slot_in f 0 ∷ plain_of f 0) (lists_of f 0 ++ codes_of f 0) p 1 reached) [
+        | inl written ↦ absurd (out 0 written)
+        | inr read ↦ read
+      ]
+      | inr none ↦ absurd none
+    ]
+
+has_read_only : (f : FileModel) (m : List ℕ) → Agree (lists_of f 0 ++ codes_of f 0) (memory_of f) m → HasReadOnly (file_rights f) (memory_of f) m
+has_read_only f m agree = record {
+  long = sym agree.long;
+  same = λ p lies out. sym (agree.same p (lists_or_code f p lies out));
+}
+
+pub files_safe_anywhere_law : FilesSafeAnywhere
+files_safe_anywhere_law f well fits none m agree =
+    let begins = files_begin_law f well fits none in
+    jobs_safe_anywhere_law (file_rights f) (plain_of f) (memory_of f) m (file_starts f) begins.0 (has_read_only f m agree) (begins.1, tt)
+
 fixed_there : (rights : List Rights) (place size at n : ℕ) → place ≡ at → size ≡ n → IsFixed rights at n → IsFixed rights place size
 fixed_there rights place size at n place_is size_is fixed =
     subst (λ p. IsFixed rights p size) (sym place_is) (subst (λ s. IsFixed rights at s) (sym size_is) fixed)
@@ -103,7 +132,7 @@ lists_and_code_fixed_law f well fits none =
     }
 
 pub textures_read_law : TextureUnitsReadPlainBuffers
-textures_read_law f well fits none m kept events found t run k n words on =
+textures_read_law f well fits none m agree events found t run k n words on =
     let begins = files_begin_law f well fits none in
-    let reads = texture_units_read_law (file_rights f) (plain_of f) (memory_of f) m (file_starts f) begins.0 kept (begins.1, tt) events found t run k n words on in
+    let reads = texture_units_read_law (file_rights f) (plain_of f) (memory_of f) m (file_starts f) begins.0 (has_read_only f m agree) (begins.1, tt) events found t run k n words on in
     first_alone f well.one_job (job_of_unit t (TheTmu k n)) (step t (record { unit = TheTmu k n; words = words })).accesses reads

@@ -8,7 +8,8 @@ ghost use Rattle.job_safety.specs.Files.{BytesSafe};
 /// the same events and accesses, and leaves the same bytes there.
 ///
 /// All this is so from each memory that differs from the emitted one only in what the job may write, whatever its Plain buffers and its
-/// tile slot hold; and what it may write has no byte of its lists and its code.
+/// tile slot hold; and from each of that length that has the job's lists and its code, whatever else it holds. What the job may write
+/// has no byte of its lists and its code.
 pub fn accepted_bytes_are_safe()
     ensures { BytesSafe }
 {}

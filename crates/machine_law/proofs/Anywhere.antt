@@ -149,7 +149,7 @@ twin rights first m k has after =
       };
     }
 
-owe_anywhere : (rights : List Rights) (plains : ℕ → List Interval) (first m : List ℕ) → ArePlain rights plains → HasReadOnly rights first m → Owes ready turn rights (joined rights) m (AreFine rights plains first)
+pub owe_anywhere : (rights : List Rights) (plains : ℕ → List Interval) (first m : List ℕ) → ArePlain rights plains → HasReadOnly rights first m → Owes ready turn rights (joined rights) m (AreFine rights plains first)
 owe_anywhere rights plains first m plain has =
     let all = joined rights in
     let owes = units_owe_law rights plains all first plain (joined_covers rights) in

@@ -13,7 +13,7 @@ use Rattle.machine_plan.specs.Regions.{Every, Interval, Inside, Rights, IsSafeAc
 use Rattle.machine_plan.specs.World.{mapped}
 use Rattle.machine_plan.proofs.Plans.{kept, length-carried, keeps_accesses}
 use Rattle.machine_plan.proofs.Runs.{run_keeps}
-use Rattle.machine_plan.proofs.Safe.{all_safe_miss, joined_covers}
+use Rattle.machine_plan.proofs.Safe.{all_safe_miss}
 use Rattle.machine_plan.proofs.Worlds.{keeps_mapped}
 use Rattle.qpu_machine.specs.declared.state.Qpu.{Qpu}
 use Rattle.qpu_machine.specs.declared.state.Request.{Request}
@@ -27,17 +27,18 @@ use Rattle.machine.specs.Step.{Event, with_qpu, tmu_may, tmu_turn, tmu_job, enab
 use Rattle.machine_law.specs.Units.{AskOf, QpuFine, EachAt}
 use Rattle.machine_law.specs.Jobs.{ArePlain, facts_of}
 use Rattle.machine_law.specs.Laws.{AreFine}
-use Rattle.machine_law.specs.Begins.{JobBegins}
+use Rattle.machine_law.specs.Begins.{JobBegins, HasReadOnly}
 use Rattle.machine_law.specs.Textures.{ReadInOne, TexturesReadIn, TextureUnitsReadInOne}
 use Rattle.machine_law.proofs.Places.{item_fine}
 use Rattle.machine_law.proofs.Processors.{oldest_fine, queue_of_fine}
-use Rattle.machine_law.proofs.Jobs.{units_owe_law, start_fine}
+use Rattle.machine_law.proofs.Jobs.{start_fine}
 use Rattle.machine_law.proofs.Begins.{each_begins}
+use Rattle.machine_law.proofs.Anywhere.{owe_anywhere}
 
--- what is known in a state to which a run comes
-record Known (rights : List Rights) (plains : ℕ → List Interval) (first : List ℕ) (s : State) : Type 0 where
+-- what is known in a state to which a run over the memory m comes
+record Known (rights : List Rights) (plains : ℕ → List Interval) (first m : List ℕ) (s : State) : Type 0 where
   pub units : AreFine rights plains first s.units
-  pub kept : IsKept rights first s.memory
+  pub kept : IsKept rights m s.memory
 
 -- where no access is wild, what is kept at a plan's end holds of the result
 result_known : {R : Type 0} (who : Who) (L : ℕ → ℕ → Type 0) (G : Access → Type 0) (P : R → Type 0) → (G (access who Wild 0 0) → ⊥) → (plan : Plan R) (m : List ℕ) (wild : R) → Keeps who L G (λ k r. P r) plan m
@@ -51,13 +52,13 @@ result_known who L G P tame (Writes p bs next) m wild h = result_known who L G P
 never_safe : (rights : List Rights) (who : Who) → IsSafeAccess rights (access who Wild 0 0) → ⊥
 never_safe rights who safe = safe.tame refl
 
-step_known : (rights : List Rights) (plains : ℕ → List Interval) (first : List ℕ) → ArePlain rights plains → (s : State) (e : Event) → Known rights plains first s → IsTrue (may s e)
-    → Known rights plains first (step s e).state × Every (IsSafeAccess rights) (step s e).accesses
-step_known rights plains first plain s e known on =
+step_known : (rights : List Rights) (plains : ℕ → List Interval) (first m : List ℕ) → ArePlain rights plains → HasReadOnly rights first m → (s : State) (e : Event) → Known rights plains first m s → IsTrue (may s e)
+    → Known rights plains first m (step s e).state × Every (IsSafeAccess rights) (step s e).accesses
+step_known rights plains first m plain has s e known on =
     let t = turn s.units e in
     let L = Inside (joined rights) in
     let G = IsSafeAccess rights in
-    let keeps = (units_owe_law rights plains (joined rights) first plain (joined_covers rights)).keeps s.units s.memory e known.units known.kept on in
+    let keeps = (owe_anywhere rights plains first m plain has).keeps s.units s.memory e known.units known.kept on in
     let safe : Every G (carried t.who t.plan s.memory).accesses = keeps_accesses t.who L G (λ k next. AreFine rights plains first next) t.plan s.memory keeps in (
       record {
         units = result_known t.who L G (AreFine rights plains first) (never_safe rights t.who) t.plan s.memory t.wild keeps;
@@ -99,18 +100,18 @@ tmu_reads rights plains first u k n (Some q) words m known on =
     let f = facts_of rights plains first in
     request_reads rights plains first u k n q (oldest (queue_of q n)) words m (oldest_fine f (queue_of q n) (queue_of_fine f q n known)) (there_on (nat_lt n 2) (tmu_ready q n) m on)
 
-textures_read : (rights : List Rights) (plains : ℕ → List Interval) (first : List ℕ) (s : State) → Known rights plains first s → TexturesReadIn plains s
+textures_read : (rights : List Rights) (plains : ℕ → List Interval) (first m : List ℕ) (s : State) → Known rights plains first m s → TexturesReadIn plains s
 unfolding turn enabled job_of
-textures_read rights plains first s known k n words on =
+textures_read rights plains first m s known k n words on =
     tmu_reads rights plains first s.units k n (item_at s.units.qpus k) words s.memory (item_fine (QpuFine (facts_of rights plains first)) s.units.qpus k known.units.qpus) on
 
-start_known : (rights : List Rights) (plains : ℕ → List Interval) (first m : List ℕ) (starts : List Start) → IsKept rights first m → EachAt (JobBegins rights plains first) 0 starts → Known rights plains first (start_of m starts)
-start_known rights plains first m starts before all = record {
+start_known : (rights : List Rights) (plains : ℕ → List Interval) (first m : List ℕ) (starts : List Start) → EachAt (JobBegins rights plains first) 0 starts → Known rights plains first m (start_of m starts)
+start_known rights plains first m starts all = record {
   units = start_fine rights plains first starts (each_begins rights plains first 0 starts all);
-  kept = before;
+  kept = record { long = refl; same = λ p out. refl };
 }
 
 pub texture_units_read_law : TextureUnitsReadInOne
-texture_units_read_law rights plains first m starts plain before all events found t run =
-    let ran = run_keeps may step (Known rights plains first) (IsSafeAccess rights) (step_known rights plains first plain) events (start_of m starts) (start_known rights plains first m starts before all) run.allowed in
-    textures_read rights plains first t (subst (Known rights plains first) (sym run.last) ran.0)
+texture_units_read_law rights plains first m starts plain has all events found t run =
+    let ran = run_keeps may step (Known rights plains first m) (IsSafeAccess rights) (step_known rights plains first m plain has) events (start_of m starts) (start_known rights plains first m starts all) run.allowed in
+    textures_read rights plains first m t (subst (Known rights plains first m) (sym run.last) ran.0)

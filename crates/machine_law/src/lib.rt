@@ -51,7 +51,7 @@ pub fn jobs_safe_anywhere()
     ensures { JobsSafeAnywhere }
 {}
 
-/// In each state to which a run of such jobs comes, a step of a texture unit reads inside one Plain buffer of the job for which it
+/// In each state to which a run of such jobs comes over such a memory, a step of a texture unit reads inside one Plain buffer of the job for which it
 /// steps, whatever words answer it.
 pub fn texture_units_read_in_one()
     ensures { TextureUnitsReadInOne }

@@ -24,6 +24,7 @@ may_run bytes is none =
       safe = file.safe;
       same = file.same;
       whatever_it_holds = file.whatever;
+      anywhere = file.anywhere;
       lists_fixed = file.fixed.lists;
       code_fixed = file.fixed.code;
     }
