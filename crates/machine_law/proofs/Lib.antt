@@ -7,3 +7,4 @@ pub mod Draws
 pub mod Begins
 pub mod Anywhere
 pub mod Textures
+pub mod Others

@@ -36,7 +36,7 @@ use Rattle.machine_law.proofs.Begins.{each_begins}
 use Rattle.machine_law.proofs.Anywhere.{owe_anywhere}
 
 -- what is known in a state to which a run over the memory m comes
-record Known (rights : List Rights) (plains : ℕ → List Interval) (first m : List ℕ) (s : State) : Type 0 where
+pub record Known (rights : List Rights) (plains : ℕ → List Interval) (first m : List ℕ) (s : State) : Type 0 where
   pub units : AreFine rights plains first s.units
   pub kept : IsKept rights m s.memory
 
@@ -52,7 +52,7 @@ result_known who L G P tame (Writes p bs next) m wild h = result_known who L G P
 never_safe : (rights : List Rights) (who : Who) → IsSafeAccess rights (access who Wild 0 0) → ⊥
 never_safe rights who safe = safe.tame refl
 
-step_known : (rights : List Rights) (plains : ℕ → List Interval) (first m : List ℕ) → ArePlain rights plains → HasReadOnly rights first m → (s : State) (e : Event) → Known rights plains first m s → IsTrue (may s e)
+pub step_known : (rights : List Rights) (plains : ℕ → List Interval) (first m : List ℕ) → ArePlain rights plains → HasReadOnly rights first m → (s : State) (e : Event) → Known rights plains first m s → IsTrue (may s e)
     → Known rights plains first m (step s e).state × Every (IsSafeAccess rights) (step s e).accesses
 step_known rights plains first m plain has s e known on =
     let t = turn s.units e in
@@ -105,7 +105,7 @@ unfolding turn enabled job_of
 textures_read rights plains first m s known k n words on =
     tmu_reads rights plains first s.units k n (item_at s.units.qpus k) words s.memory (item_fine (QpuFine (facts_of rights plains first)) s.units.qpus k known.units.qpus) on
 
-start_known : (rights : List Rights) (plains : ℕ → List Interval) (first m : List ℕ) (starts : List Start) → EachAt (JobBegins rights plains first) 0 starts → Known rights plains first m (start_of m starts)
+pub start_known : (rights : List Rights) (plains : ℕ → List Interval) (first m : List ℕ) (starts : List Start) → EachAt (JobBegins rights plains first) 0 starts → Known rights plains first m (start_of m starts)
 start_known rights plains first m starts all = record {
   units = start_fine rights plains first starts (each_begins rights plains first 0 starts all);
   kept = record { long = refl; same = λ p out. refl };

@@ -8,6 +8,7 @@
 ghost use Rattle.machine_law.specs.Laws.{UnitsOwe, MachineSafe, StartSafe};
 ghost use Rattle.machine_law.specs.Begins.{DrawsStay, FixedStays, HomesStay, JobsSafe, JobsSafeAnywhere};
 ghost use Rattle.machine_law.specs.Textures.{TextureUnitsReadInOne};
+ghost use Rattle.machine_law.specs.Others.{JobsSafeWithOthers, RunsAreOthersRuns};
 
 /// Each unit of the machine keeps all that is known, in each memory where nothing changed but what the jobs may write.
 pub fn units_owe()
@@ -55,4 +56,15 @@ pub fn jobs_safe_anywhere()
 /// steps, whatever words answer it.
 pub fn texture_units_read_in_one()
     ensures { TextureUnitsReadInOne }
+{}
+
+/// Every run of such jobs over such a memory is safe also where others write while the jobs run: between the steps, anyone may change
+/// the bytes that some job may write, to anything.
+pub fn jobs_safe_with_others()
+    ensures { JobsSafeWithOthers }
+{}
+
+/// Each run of the machine is one of these, in which nobody else writes.
+pub fn runs_are_others_runs()
+    ensures { RunsAreOthersRuns }
 {}
