@@ -20,12 +20,14 @@ use Rattle.field_words.specs.declared.access.Access.{Access}
 use Rattle.field_words.specs.declared.access.Actor.TheVariants.{Tmu as TheTmu}
 use Rattle.machine_law.proofs.Begins.{jobs_safe_law}
 use Rattle.machine_law.proofs.Anywhere.{jobs_safe_anywhere_law}
+use Rattle.machine_law.proofs.Others.{jobs_safe_with_others_law}
 use Rattle.accepted_law.specs.Holdings.{named_buffers, plain_of, codes_of, lists_of, slot_in, job_rights, file_rights, file_starts, config_for, frame_for}
 use Rattle.accepted_law.specs.Settled.{Grounds}
 use Rattle.accepted_law.specs.Parts.{BinWalks, RenderWalks, FilesBegin}
 use Rattle.accepted_law.specs.Texts.{start_of}
 use Rattle.accepted_law.specs.Held.{ListsAndCodeAreFixed}
 use Rattle.accepted_law.specs.Whole.{FilesSafe, FilesSafeWhatever, FilesSafeAnywhere}
+use Rattle.accepted_law.specs.Others.{FilesSafeWithOthers}
 use Rattle.accepted_law.specs.Textures.{TextureUnitsReadPlainBuffers}
 use Rattle.accepted_law.proofs.Settling.{files_settle_law}
 use Rattle.accepted_law.proofs.Grounds.{files_ground_law}
@@ -116,6 +118,11 @@ pub files_safe_anywhere_law : FilesSafeAnywhere
 files_safe_anywhere_law f well fits none m agree =
     let begins = files_begin_law f well fits none in
     jobs_safe_anywhere_law (file_rights f) (plain_of f) (memory_of f) m (file_starts f) begins.0 (has_read_only f m agree) (begins.1, tt)
+
+pub files_safe_with_others_law : FilesSafeWithOthers
+files_safe_with_others_law f well fits none m agree =
+    let begins = files_begin_law f well fits none in
+    jobs_safe_with_others_law (file_rights f) (plain_of f) (memory_of f) m (file_starts f) begins.0 (has_read_only f m agree) (begins.1, tt)
 
 fixed_there : (rights : List Rights) (place size at n : ℕ) → place ≡ at → size ≡ n → IsFixed rights at n → IsFixed rights place size
 fixed_there rights place size at n place_is size_is fixed =

@@ -5,3 +5,4 @@ pub mod Texts
 pub mod Whole
 pub mod Held
 pub mod Textures
+pub mod Others

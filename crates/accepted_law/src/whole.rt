@@ -2,6 +2,7 @@
 ghost use Rattle.accepted_law.specs.Parts.{FilesBegin};
 ghost use Rattle.accepted_law.specs.Textures.{TextureUnitsReadPlainBuffers};
 ghost use Rattle.accepted_law.specs.Whole.{FilesSafe, FilesSafeWhatever, FilesSafeAnywhere};
+ghost use Rattle.accepted_law.specs.Others.{FilesSafeWithOthers};
 
 /// Every accepted file begins as the laws of the machine's units ask: its two lists walk, and what they draw, load and store may be
 /// drawn, loaded and stored.
@@ -13,11 +14,13 @@ pub fn files_begin()
 /// access is wild, each lies in the job's own buffers, lists, code or tile slot, and each write in a Plain buffer of the job or in
 /// its tile slot. And bytes outside have no effect. So it is from every memory of that length that differs from it only in what the
 /// job may write: whatever the Plain buffers and the tile slot hold. And so it is from every memory of that length that has the job's
-/// emitted lists and its code as that one, whatever all its other bytes are.
+/// emitted lists and its code as that one, whatever all its other bytes are. From each of these it is safe also
+/// while others write: between the steps, anyone may change what the job may write, to anything.
 pub fn accepted_files_are_safe()
     ensures emitted { FilesSafe }
     ensures whatever { FilesSafeWhatever }
     ensures anywhere { FilesSafeAnywhere }
+    ensures others { FilesSafeWithOthers }
 {}
 
 /// In each state to which a run from such a memory comes, a step of a texture unit does nothing to memory but read inside one Plain buffer that a
