@@ -12,7 +12,7 @@ use Rattle.job_check.specs.Emit.{memory_of}
 use Rattle.job_check.specs.Faults.{file_stages}
 use Rattle.job_check.specs.Whole.{format_refused, all_questions, refusal_of}
 use Rattle.accepted_law.specs.Holdings.{file_rights, file_starts}
-use Rattle.accepted_law.proofs.Joining.{files_safe_law, files_safe_whatever_law, files_safe_anywhere_law, lists_and_code_fixed_law}
+use Rattle.accepted_law.proofs.Joining.{files_safe_law, files_safe_whatever_law, files_safe_anywhere_law, files_safe_with_others_law, lists_and_code_fixed_law}
 use Rattle.job_safety.specs.Safe.{AreSafe, AreSame}
 use Rattle.job_safety.specs.Files.{IsSafeFile, BytesSafe}
 
@@ -33,6 +33,7 @@ file_is_safe bytes is none =
       same = both.1;
       whatever = λ m kept. files_safe_whatever_law f is.well_formed is.fits stages m kept;
       anywhere = λ m agree. files_safe_anywhere_law f is.well_formed is.fits stages m agree;
+      others = λ m agree. files_safe_with_others_law f is.well_formed is.fits stages m agree;
       fixed = lists_and_code_fixed_law f is.well_formed is.fits stages;
     }
 

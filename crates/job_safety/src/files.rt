@@ -8,8 +8,9 @@ ghost use Rattle.job_safety.specs.Files.{BytesSafe};
 /// the same events and accesses, and leaves the same bytes there.
 ///
 /// All this is so from each memory that differs from the emitted one only in what the job may write, whatever its Plain buffers and its
-/// tile slot hold; and from each of that length that has the job's lists and its code, whatever else it holds. What the job may write
-/// has no byte of its lists and its code.
+/// tile slot hold; and from each of that length that has the job's lists and its code, whatever else it holds. From each of these it is
+/// safe also while others write: between the steps, anyone may change what the job may write, to anything. What the job may write has no
+/// byte of its lists and its code.
 pub fn accepted_bytes_are_safe()
     ensures { BytesSafe }
 {}
