@@ -25,6 +25,7 @@ may_run bytes is none =
       same = file.same;
       whatever_it_holds = file.whatever;
       anywhere = file.anywhere;
+      while_others_write = file.others;
       lists_fixed = file.fixed.lists;
       code_fixed = file.fixed.code;
     }
