@@ -2,22 +2,16 @@
 use Rattle.std.proofs.Common.{◌≡◌, ◌≤◌, ℕ, ◌*◌, nat_lt, List, [], ◌∷◌, ◌++◌, length, slice_index, Bool, true, false, if◌then◌else◌, Option, Some, None, refl, sym, ◌∙◌, ap, subst, arith}
 use Rattle.std.specs.Prelude.{option_map}
 use Rattle.std.proofs.lemmas.Bool.Decides.{nat_tests}
-use Rattle.field_words.specs.declared.access.Access.{Access}
-use Rattle.field_words.specs.declared.access.Way.TheVariants.{Read, Write}
+use Rattle.machine_plan.specs.Turn.{if_tame}
 use Rattle.packets.specs.Length.{bin_taken}
-use Rattle.machine_plan.specs.declared.launch.Free.{Free}
-use Rattle.machine_plan.specs.declared.launch.Launch.{Launch}
-use Rattle.machine_plan.specs.declared.who.Who.{Who}
 use Rattle.machine_plan.specs.Memory.{bytes_at, stored}
 use Rattle.machine_plan.specs.Plan.{Plan, Reads, Shows, access, carried}
 use Rattle.machine_plan.specs.World.{mapped}
 use Rattle.machine_plan.proofs.Memory.{length-bytes_at}
 use Rattle.machine_plan.proofs.Reading.{shows_read}
 use Rattle.machine_plan.proofs.Worlds.{shows_mapped}
-use Rattle.list_machine.specs.declared.state.Config.{Config}
-use Rattle.list_machine.specs.declared.state.Program.TheVariants.{Coordinate}
-use Rattle.list_machine.specs.declared.state.Work.{Work}
-use Rattle.list_machine.specs.Lists.{Lists, Turned, if_tame, quiet, turned_to, with_work, past}
+use Rattle.list_machine.specs.State.{Access, Config, Coordinate, Free, Launch, Read, Who, Work, Write}
+use Rattle.list_machine.specs.Lists.{Lists, Turned, quiet, turned_to, with_work, past}
 use Rattle.list_machine.specs.Fetch.{fetch_plan}
 use Rattle.list_machine.specs.Start.{start_plan}
 use Rattle.list_machine.specs.Blocks.{tiles_of, zeros}

@@ -2,15 +2,12 @@
 use Rattle.std.proofs.Common.{◌≡◌, ◌≤◌, ◌<◌, ℕ, suc, ◌+◌, ◌-◌, ◌*◌, ◌%◌, ◌^◌, List, Some, Bool, true, false, if◌then◌else◌, ◌++◌, ◌∷◌, [], refl, sym, ◌∙◌, ap, subst, arith}
 use Rattle.std.proofs.Math.Nat.{mul-le-mul}
 use Rattle.emitted_facts.specs.Records.{attribute_count, is_extended}
-use Rattle.field_words.specs.declared.access.Access.{Access}
-use Rattle.machine_plan.specs.declared.who.Who.{Who}
-use Rattle.field_words.specs.declared.access.Way.TheVariants.{Read}
 use Rattle.field_words.specs.Words.{u32_at}
 use Rattle.machine_plan.specs.Memory.{bytes_at}
 use Rattle.machine_plan.specs.Plan.{Plan, Done, Reads, Outcome, Shows, access, carried}
 use Rattle.machine_plan.specs.World.{followed}
 use Rattle.machine_plan.proofs.Reading.{IsLeft, left_first, left_done, shows_read}
-use Rattle.list_machine.specs.declared.state.Primitive.{Primitive}
+use Rattle.list_machine.specs.State.{Access, Primitive, Read, Who}
 use Rattle.list_machine.specs.Fetch.{index_size, index_in, index_plan, attribute_place, extension_place, data_plan, extended_plan, attribute_plan, attributes_plan, indexed_plan, fetch_plan}
 use Rattle.machine_plan.proofs.Joining.{left_followed, shows_followed}
 

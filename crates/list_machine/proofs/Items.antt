@@ -3,19 +3,12 @@ use Rattle.std.proofs.Common.{◌≡◌, ◌≢◌, ◌≤◌, ◌<◌, ℕ, suc
 use Rattle.std.proofs.lemmas.Grind.{common_steps}
 use Rattle.std.proofs.lemmas.Bool.Decides.{nat_tests}
 use Rattle.std.specs.Prelude.{option_map}
-use Rattle.field_words.specs.declared.access.Access.{Access}
-use Rattle.machine_plan.specs.declared.who.Who.{Who}
-use Rattle.machine_plan.specs.declared.launch.Free.{Free}
-use Rattle.machine_plan.specs.declared.launch.Launch.{Launch}
 use Rattle.machine_plan.specs.Choice.{word_at}
 use Rattle.machine_plan.specs.Glance.{glanced}
 use Rattle.machine_plan.specs.Plan.{Plan, Done, Shows, carried}
 use Rattle.machine_plan.specs.World.{mapped}
 use Rattle.machine_plan.proofs.Worlds.{shows_mapped}
-use Rattle.list_machine.specs.declared.state.Found.{Found}
-use Rattle.list_machine.specs.declared.state.Item.{Item}
-use Rattle.list_machine.specs.declared.state.Program.{Program}
-use Rattle.list_machine.specs.declared.state.SubList.{SubList}
+use Rattle.list_machine.specs.State.{Access, Found, Free, Item, Launch, Program, SubList, Who}
 use Rattle.list_machine.specs.Lists.{Lists, turned_to, quiet}
 use Rattle.list_machine.specs.Fetch.{fetch_plan}
 use Rattle.list_machine.specs.Start.{start_plan}

@@ -1,23 +1,15 @@
 -- What is kept along a step of the renderer.
 use Rattle.std.proofs.Common.{◌≡◌, ◌≤◌, ◌<◌, ℕ, zero, suc, ◌+◌, ◌*◌, List, slice_index, Option, Some, None, sym, subst, arith}
-use Rattle.field_words.specs.declared.access.Access.{Access}
-use Rattle.field_words.specs.declared.access.Way.TheVariants.{Read, Write}
 use Rattle.packets.specs.declared.packet.Packet.{Packet}
 use Rattle.packets.specs.Length.{render_taken}
 use Rattle.packets.specs.Packet.{decoded}
-use Rattle.machine_plan.specs.declared.who.Who.{Who}
-use Rattle.machine_plan.specs.declared.launch.Free.{Free}
 use Rattle.machine_plan.specs.Memory.{bytes_at, stored}
 use Rattle.machine_plan.specs.Plan.{Done, Keeps, access}
 use Rattle.machine_plan.proofs.Worlds.{keeps_mapped}
-use Rattle.list_machine.specs.declared.state.Frame.{Frame}
-use Rattle.list_machine.specs.declared.state.SubList.{SubList}
-use Rattle.list_machine.specs.declared.surface.Cover.{Cover}
-use Rattle.list_machine.specs.declared.surface.Style.{Style}
+use Rattle.list_machine.specs.State.{Access, Cover, Free, Read, SubList, Who, Write}
 use Rattle.list_machine.specs.Lists.{Lists, Turned, quiet}
 use Rattle.list_machine.specs.Store.{chosen}
-use Rattle.list_machine.specs.Cover.{frame_style, cover_in, cover_by, part_count, part_place, parts_written, parts_read}
-use Rattle.list_machine.specs.Surfaces.{cover_written, frame_written}
+use Rattle.list_machine.specs.Cover.{part_place, parts_written, parts_read}
 use Rattle.list_machine.specs.Renderer.{beyond, act, acted, packet_plan, plan_in, renderer_plan}
 use Rattle.list_machine.proofs.Storing.{chosen_size}
 
@@ -59,14 +51,3 @@ pub read_keep : (who : Who) (L : ℕ → ℕ → Type 0) (G : Access → Type 0)
 unfolding parts_read
 read_keep who L G P c s i zero m good ends = ends
 read_keep who L G P c s i (suc n) m good ends = (good i (omega arith) (omega arith), read_keep who L G P c s (suc i) n m (λ k low high. good k (omega arith) (omega arith)) ends)
-
--- a store of the frame
-pub frame_keeps : (who : Who) (L : ℕ → ℕ → Type 0) (G : Access → Type 0) (P : List ℕ → Lists → Type 0) (frame : Frame) (x y : ℕ) (style : Style) (words : List ℕ) (s : Lists) (m : List ℕ) →
-    frame_style frame.bits ≡ Some style →
-    ((k : ℕ) → k < part_count (cover_in style.tiling style.cpp frame frame.address x y) → G (access who Write (part_place (cover_in style.tiling style.cpp frame frame.address x y) k) (cover_in style.tiling style.cpp frame frame.address x y).size)) →
-    ((k : List ℕ) → P k s) → Keeps who L G P (frame_written (Some frame) x y words (Done s)) m
-unfolding frame_written cover_written
-frame_keeps who L G P frame x y style words s m style_is good ends =
-    let c : Cover = cover_in style.tiling style.cpp frame frame.address x y in
-    let Q : Option Style → Type 0 = λ one. Keeps who L G P (cover_written (cover_by one frame frame.address x y) words (Done s)) m in
-    subst Q (sym style_is) (written_keep who L G P c words s 0 (part_count c) m (λ k low high. good k (omega arith)) ends)

@@ -1,13 +1,10 @@
 -- The loops over the parts of a load or store.
 use Rattle.std.proofs.Common.{◌≡◌, ◌≤◌, ◌<◌, ℕ, zero, suc, ◌+◌, ◌-◌, ◌*◌, List, [], ◌∷◌, ◌++◌, length, Some, ◌∙◌, ap, subst, arith}
-use Rattle.field_words.specs.declared.access.Access.{Access}
-use Rattle.field_words.specs.declared.access.Way.TheVariants.{Read, Write}
-use Rattle.machine_plan.specs.declared.who.Who.{Who}
 use Rattle.machine_plan.specs.Memory.{stored}
 use Rattle.machine_plan.specs.Plan.{Plan, Done, Reads, Writes, Outcome, Shows, access, carried}
 use Rattle.machine_plan.proofs.Joining.{left_write}
-use Rattle.machine_plan.proofs.Reading.{IsLeft, left_first, left_read, left_done}
-use Rattle.list_machine.specs.declared.surface.Cover.{Cover}
+use Rattle.machine_plan.proofs.Reading.{IsLeft, left_read, left_done}
+use Rattle.list_machine.specs.State.{Access, Cover, Read, Who, Write}
 use Rattle.list_machine.specs.Store.{chosen}
 use Rattle.list_machine.specs.Cover.{part_place, parts_written, parts_read}
 use Rattle.list_machine.proofs.Storing.{chosen_size}
@@ -15,12 +12,6 @@ use Rattle.list_machine.proofs.Storing.{chosen_size}
 -- what is left to do of a store from part i on
 abbrev pub WritesLeft : {R : Type 0} → Who → Cover → List ℕ → R → List ℕ → List ℕ → List Access → List Access → ℕ → ℕ → Type 0
 WritesLeft who c words r first m before now n i = IsLeft (carried who (parts_written c words 0 n (Done r)) first) (carried who (parts_written c words i (n - i) (Done r)) m) before now
-
-pub writes_begin : {R : Type 0} (who : Who) (c : Cover) (words : List ℕ) (r : R) (m : List ℕ) (before : List Access) (n : ℕ) → WritesLeft who c words r m m before before n 0
-writes_begin {R = R} who c words r m before n =
-    let whole : Outcome R = carried who (parts_written c words 0 n (Done r)) m in
-    let all : n ≡ n - 0 = omega arith in
-    subst (λ k. IsLeft whole (carried who (parts_written c words 0 k (Done r)) m) before before) all (left_first whole before)
 
 written_more : {R : Type 0} (c : Cover) (words : List ℕ) (next : Plan R) (n i : ℕ) → i < n → parts_written c words i (n - i) next ≡ Writes (part_place c i) (chosen words (i * c.size) c.size) (parts_written c words (i + 1) (n - (i + 1)) next)
 unfolding parts_written
@@ -52,12 +43,6 @@ writes_end {R = R} who c words r first m before now n i over left =
 -- what is left to do of a load from part i on
 abbrev pub ReadsLeft : {R : Type 0} → Who → Cover → R → List ℕ → List Access → List Access → ℕ → ℕ → Type 0
 ReadsLeft who c r m before now n i = IsLeft (carried who (parts_read c 0 n (Done r)) m) (carried who (parts_read c i (n - i) (Done r)) m) before now
-
-pub reads_begin : {R : Type 0} (who : Who) (c : Cover) (r : R) (m : List ℕ) (before : List Access) (n : ℕ) → ReadsLeft who c r m before before n 0
-reads_begin {R = R} who c r m before n =
-    let whole : Outcome R = carried who (parts_read c 0 n (Done r)) m in
-    let all : n ≡ n - 0 = omega arith in
-    subst (λ k. IsLeft whole (carried who (parts_read c 0 k (Done r)) m) before before) all (left_first whole before)
 
 read_more : {R : Type 0} (c : Cover) (next : Plan R) (n i : ℕ) → i < n → parts_read c i (n - i) next ≡ Reads (part_place c i) c.size (λ bytes. parts_read c (i + 1) (n - (i + 1)) next)
 unfolding parts_read

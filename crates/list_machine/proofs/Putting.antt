@@ -3,15 +3,9 @@ use Rattle.std.proofs.Common.{◌≡◌, ◌≤◌, ◌<◌, ℕ, zero, suc, ◌
 use Rattle.std.proofs.Math.Nat.{mul-le-mul}
 use Rattle.std.proofs.lemmas.Bool.Decides.{nat_tests}
 use Rattle.std.proofs.lemmas.Grind.{common_steps}
-use Rattle.field_words.specs.declared.access.Access.{Access}
-use Rattle.field_words.specs.declared.access.Way.TheVariants.{Write}
-use Rattle.machine_plan.specs.declared.who.Who.{Who}
 use Rattle.machine_plan.specs.Memory.{stored}
 use Rattle.machine_plan.specs.Plan.{Writes, Shows, access, carried}
-use Rattle.list_machine.specs.declared.state.Config.{Config}
-use Rattle.list_machine.specs.declared.state.Item.{Item}
-use Rattle.list_machine.specs.declared.state.Spot.{Spot}
-use Rattle.list_machine.specs.declared.state.Work.{Work}
+use Rattle.list_machine.specs.State.{Access, Config, Item, Spot, Who, Work, Write}
 use Rattle.list_machine.specs.Lists.{Lists, most_items, AreNear, with_item, with_block}
 use Rattle.list_machine.specs.Blocks.{spotted, one_more, spot_in, spot_of, no_spot, further_offset, has_room, block_place, is_full, next_place, link_place, item_of, zeros, put_here, put_plan}
 use Rattle.list_machine.specs.Binner.{item_may}

@@ -3,8 +3,7 @@ use Rattle.std.proofs.Common.{◌≡◌, ◌≤◌, ◌<◌, ℕ, zero, suc, ◌
 use Rattle.std.proofs.lemmas.Bool.Decides.{nat_tests}
 use Rattle.std.proofs.lemmas.List.{length-replicate}
 use Rattle.std.proofs.lemmas.Grind.{common_steps}
-use Rattle.list_machine.specs.declared.state.Item.{Item}
-use Rattle.list_machine.specs.declared.state.Spot.{Spot}
+use Rattle.list_machine.specs.State.{Item, Spot}
 use Rattle.list_machine.specs.Blocks.{spotted, one_more, spot_in, spot_of, no_spot}
 use Rattle.list_machine.specs.Spots.{most_tiles, AreSpotsOf}
 

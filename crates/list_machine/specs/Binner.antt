@@ -3,16 +3,11 @@ use Rattle.std.specs.Prelude.{ℕ, ◌+◌, ◌*◌, ◌/◌, ◌%◌, ◌==◌,
 use Rattle.field_words.specs.Words.{u32_at}
 use Rattle.packets.specs.Length.{bin_length, bin_taken}
 use Rattle.packets.specs.Opcode.{halt, flush, start_tile_binning, increment_semaphore, indexed_primitive_list, array_primitive_list, gl_shader_state, tile_binning_mode, buffer_handles}
-use Rattle.machine_plan.specs.declared.launch.Free.{Free}
-use Rattle.machine_plan.specs.declared.launch.Launch.{Launch}
 use Rattle.machine_plan.specs.Choice.{word_at}
 use Rattle.machine_plan.specs.Glance.{Glance, Now}
 use Rattle.machine_plan.specs.Plan.{Plan, Done, Wilds, Reads, Looks, Writes}
 use Rattle.machine_plan.specs.World.{mapped}
-use Rattle.list_machine.specs.declared.state.Config.{Config}
-use Rattle.list_machine.specs.declared.state.Primitive.{Primitive}
-use Rattle.list_machine.specs.declared.state.Program.TheVariants.{Coordinate}
-use Rattle.list_machine.specs.declared.state.Work.{Work}
+use Rattle.list_machine.specs.State.{Config, Coordinate, Free, Launch, Primitive, Work}
 use Rattle.list_machine.specs.Lists.{Lists, Turned, turned_to, quiet, with_kept, with_work, with_place, past, incremented, flushed, most_items}
 use Rattle.list_machine.specs.Fetch.{fetch_plan}
 use Rattle.list_machine.specs.Start.{can_start, start_plan}

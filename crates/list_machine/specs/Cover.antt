@@ -7,9 +7,8 @@ use Rattle.texture_layouts.specs.declared.surface.Tiling.TheVariants.{Raster, T,
 use Rattle.texture_layouts.specs.Surface.{IsPixelSize, microtile_width_of, microtile_height_of}
 use Rattle.texture_layouts.specs.Place.{raster_place, microtile_place_of}
 use Rattle.machine_plan.specs.Plan.{Plan, Reads, Writes}
-use Rattle.list_machine.specs.declared.state.Frame.{Frame}
 use Rattle.list_machine.specs.declared.surface.Style.{Style}
-use Rattle.list_machine.specs.declared.surface.Cover.{Cover}
+use Rattle.list_machine.specs.State.{Cover, Frame}
 use Rattle.list_machine.specs.Store.{tile_side, covered, chosen}
 
 -- The tiling of this number in bits; there is none of number 3.

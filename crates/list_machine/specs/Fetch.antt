@@ -4,7 +4,7 @@ use Rattle.field_words.specs.Words.{u16_at, u32_at}
 use Rattle.emitted_facts.specs.Records.{attribute_count, is_extended}
 use Rattle.machine_plan.specs.Plan.{Plan, Done, Reads}
 use Rattle.machine_plan.specs.World.{followed}
-use Rattle.list_machine.specs.declared.state.Primitive.{Primitive}
+use Rattle.list_machine.specs.State.{Primitive}
 
 -- the bytes of an index
 unfoldable pub index_size : Primitive → ℕ

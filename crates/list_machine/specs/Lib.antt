@@ -1,3 +1,4 @@
+pub mod State
 pub mod Lists
 pub mod Fetch
 pub mod Start

@@ -1,13 +1,7 @@
 -- What the list units of one job keep, and what a step of one of them comes to.
-use Rattle.std.specs.Prelude.{ℕ, Bool, false, true, ◌+◌, ◌*◌, ◌-◌, ◌^◌, ◌<◌, ◌≤◌, List, [], ◌∷◌, ◌++◌, length, Option, None, Some, if◌then◌else◌}
+use Rattle.std.specs.Prelude.{ℕ, Bool, false, true, ◌+◌, ◌*◌, ◌-◌, ◌^◌, ◌<◌, ◌≤◌, List, [], ◌∷◌, ◌++◌, length, Option, None, if◌then◌else◌}
 use Rattle.field_words.specs.declared.access.Actor.TheVariants.{Binner as TheBinner, Renderer as TheRenderer}
-use Rattle.machine_plan.specs.declared.launch.Launch.{Launch}
-use Rattle.machine_plan.specs.declared.who.Who.{Who}
-use Rattle.list_machine.specs.declared.state.Binner.{Binner}
-use Rattle.list_machine.specs.declared.state.Item.{Item}
-use Rattle.list_machine.specs.declared.state.Kept.{Kept}
-use Rattle.list_machine.specs.declared.state.Renderer.{Renderer}
-use Rattle.list_machine.specs.declared.state.Work.{Work}
+use Rattle.list_machine.specs.State.{Binner, Item, Kept, Launch, Renderer, Who, Work}
 
 -- What the list units of one job keep: its binner and its renderer; how often the semaphore is still
 -- to be raised, and the semaphore; whether its tile lists are closed; how many further blocks of their
@@ -30,10 +24,6 @@ pub record Turned : Type 0 where
 abbrev pub turned_to : Lists → Option Launch → Turned
 turned_to lists launch = record { lists = lists; launch = launch }
 
--- the result of a step that may be wild
-abbrev pub if_tame : {R : Type 0} → Bool → R → Option R
-if_tame tame r = if tame then Some r else None
-
 -- a step that starts no program
 abbrev pub quiet : Lists → Turned
 quiet lists = turned_to lists None
@@ -45,22 +35,12 @@ binner_of job = record { unit = TheBinner; job = job }
 abbrev pub renderer_of : ℕ → Who
 renderer_of job = record { unit = TheRenderer; job = job }
 
--- nothing is kept before the first packet
-abbrev pub nothing_kept : Kept
-nothing_kept = record { config = None; started = false; word = None }
-
--- a binner and a renderer at the beginning of their lists
-abbrev pub binner_start : ℕ → ℕ → Binner
-binner_start place len = record { place = place; end = place + len; kept = nothing_kept; work = None }
-
-abbrev pub renderer_start : ℕ → ℕ → Renderer
-renderer_start place len = record { place = place; end = place + len; frame = None; x = 0; y = 0; waiting = None; inside = None }
-
--- the list units of a job at its start: all else is empty or zero
+-- the list units of a job at its start: both stand at the beginnings of their lists, and all else is
+-- empty or zero
 abbrev pub lists_start : (bin_place bin_len render_place render_len : ℕ) → Lists
 lists_start bin_place bin_len render_place render_len = record {
-  binner = binner_start bin_place bin_len;
-  renderer = renderer_start render_place render_len;
+  binner = record { place = bin_place; end = bin_place + bin_len; kept = record { config = None; started = false; word = None }; work = None };
+  renderer = record { place = render_place; end = render_place + render_len; frame = None; x = 0; y = 0; waiting = None; inside = None };
   pending = 0;
   semaphore = 0;
   closed = false;
@@ -75,24 +55,15 @@ with_binner s binner = record s { binner = binner }
 abbrev pub with_renderer : Lists → Renderer → Lists
 with_renderer s renderer = record s { renderer = renderer }
 
-abbrev pub kept_by : Binner → Kept → Binner
-kept_by b kept = record b { kept = kept }
-
 abbrev pub with_kept : Lists → Kept → Lists
-with_kept s kept = with_binner s (kept_by s.binner kept)
-
-abbrev pub worked_by : Binner → Option Work → Binner
-worked_by b work = record b { work = work }
+with_kept s kept = with_binner s (record (s.binner) { kept = kept })
 
 abbrev pub with_work : Lists → Option Work → Lists
-with_work s work = with_binner s (worked_by s.binner work)
-
-abbrev pub moved_to : Binner → ℕ → Binner
-moved_to b place = record b { place = place }
+with_work s work = with_binner s (record (s.binner) { work = work })
 
 -- the binner stands at this place
 abbrev pub with_place : Lists → ℕ → Lists
-with_place s place = with_binner s (moved_to s.binner place)
+with_place s place = with_binner s (record (s.binner) { place = place })
 
 -- the binner has gone past a packet of this length
 abbrev pub past : Lists → ℕ → Lists
@@ -119,17 +90,11 @@ with_block s = record s { blocks = s.blocks + 1 }
 
 -- A wild step ends its unit's work: the unit goes to its list's end. The binner drops its primitive,
 -- the renderer the load that waits and the tile list that it is in.
-abbrev pub ended_binner : Binner → Binner
-ended_binner b = record b { place = b.end; work = None }
-
 abbrev pub binner_ended : Lists → Lists
-binner_ended s = with_binner s (ended_binner s.binner)
-
-abbrev pub ended_renderer : Renderer → Renderer
-ended_renderer r = record r { place = r.end; waiting = None; inside = None }
+binner_ended s = with_binner s (record (s.binner) { place = s.binner.end; work = None })
 
 abbrev pub renderer_ended : Lists → Lists
-renderer_ended s = with_renderer s (ended_renderer s.renderer)
+renderer_ended s = with_renderer s (record (s.renderer) { place = s.renderer.end; waiting = None; inside = None })
 
 -- the most items that a job's tile lists have together
 abbrev pub most_items : ℕ

@@ -5,20 +5,11 @@ use Rattle.packets.specs.declared.packet.Packet.TheVariants.{WaitOnSemaphore, Br
 use Rattle.packets.specs.Length.{render_taken}
 use Rattle.packets.specs.Opcode.{wait_on_semaphore}
 use Rattle.packets.specs.Packet.{decoded}
-use Rattle.machine_plan.specs.declared.launch.Free.{Free}
 use Rattle.machine_plan.specs.Choice.{word_at}
 use Rattle.machine_plan.specs.Glance.{Glance, Now, At}
 use Rattle.machine_plan.specs.Plan.{Plan, Done, Wilds, Reads, Looks}
 use Rattle.machine_plan.specs.World.{mapped}
-use Rattle.list_machine.specs.declared.state.Config.{Config}
-use Rattle.list_machine.specs.declared.state.Found.{Found}
-use Rattle.list_machine.specs.declared.state.Frame.{Frame}
-use Rattle.list_machine.specs.declared.state.Item.{Item}
-use Rattle.list_machine.specs.declared.state.Load.{Load}
-use Rattle.list_machine.specs.declared.state.Load.TheVariants.{Full, General}
-use Rattle.list_machine.specs.declared.state.Program.{Program}
-use Rattle.list_machine.specs.declared.state.Program.TheVariants.{Fragment, Vertex}
-use Rattle.list_machine.specs.declared.state.SubList.{SubList}
+use Rattle.list_machine.specs.State.{Config, Found, Fragment, Frame, Free, Full, General, Item, Load, Program, SubList, Vertex}
 use Rattle.list_machine.specs.Lists.{Lists, Turned, turned_to, quiet, with_renderer, with_taken}
 use Rattle.list_machine.specs.Fetch.{fetch_plan}
 use Rattle.list_machine.specs.Start.{start_plan}

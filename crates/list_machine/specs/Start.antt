@@ -1,11 +1,8 @@
 -- How a list unit starts a program.
 use Rattle.std.specs.Prelude.{ℕ, ◌+◌, ◌%◌, ◌==◌, Bool, false, is_some, if◌then◌else◌, List, slice_index, Option, Some, None}
 use Rattle.field_words.specs.Words.{u32_at}
-use Rattle.machine_plan.specs.declared.launch.Free.{Free}
-use Rattle.machine_plan.specs.declared.launch.Launch.{Launch}
 use Rattle.machine_plan.specs.Plan.{Plan, Done, Reads, Looks}
-use Rattle.list_machine.specs.declared.state.Program.{Program}
-use Rattle.list_machine.specs.declared.state.Program.TheVariants.{Fragment, Vertex, Coordinate}
+use Rattle.list_machine.specs.State.{Coordinate, Fragment, Free, Launch, Program, Vertex}
 use Rattle.list_machine.specs.Fetch.{record_place}
 
 -- where a record holds the place of a program's code; that of its uniforms comes behind it

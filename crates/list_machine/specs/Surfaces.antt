@@ -2,10 +2,7 @@
 use Rattle.std.specs.Prelude.{ℕ, Bool, ◌==◌, ◌-◌, ◌%◌, if◌then◌else◌, List, Option, Some, None}
 use Rattle.field_words.specs.Words.{bits_of}
 use Rattle.machine_plan.specs.Plan.{Plan, Wilds, Reads, Writes}
-use Rattle.list_machine.specs.declared.state.Frame.{Frame}
-use Rattle.list_machine.specs.declared.state.Load.{Load}
-use Rattle.list_machine.specs.declared.state.Load.TheVariants.{Full, General}
-use Rattle.list_machine.specs.declared.surface.Cover.{Cover}
+use Rattle.list_machine.specs.State.{Cover, Frame, Full, General, Load}
 use Rattle.list_machine.specs.Store.{chosen}
 use Rattle.list_machine.specs.Cover.{general_style, frame_style, cover_for, part_count, parts_written, parts_read}
 

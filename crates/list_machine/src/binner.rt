@@ -4,25 +4,24 @@ ghost use Rattle.arrayvec.specs.ArrayVec.{array_vec_len};
 ghost use Rattle.packets.specs.Length.{bin_length, bin_taken};
 ghost use Rattle.packets.specs.Opcode.{tile_binning_mode, gl_shader_state, indexed_primitive_list, array_primitive_list};
 ghost use Rattle.machine_plan.specs.Glance.{Now};
-ghost use Rattle.machine_plan.specs.Plan.{Shows, carried};
+ghost use Rattle.machine_plan.specs.Turn.{Carries, CarriesOver, if_tame};
 ghost use Rattle.machine_plan.specs.World.{mapped};
-ghost use Rattle.list_machine.specs.Lists.{binner_of, if_tame, turned_to, quiet, binner_ended, with_work, most_items};
+ghost use Rattle.list_machine.specs.Lists.{binner_of, turned_to, quiet, binner_ended, with_work, most_items};
 ghost use Rattle.list_machine.specs.Blocks.{has_room};
 ghost use Rattle.list_machine.specs.Fetch.{fetch_plan};
 ghost use Rattle.list_machine.specs.Start.{start_plan};
-ghost use Rattle.list_machine.specs.declared.state.Program.TheVariants.{Coordinate};
+ghost use Rattle.list_machine.specs.State.{Coordinate};
 ghost use Rattle.list_machine.specs.Binner.{config_of, configured, with_word, started, clear_plan, begin_plan, primitive_of, work_of, drawn, draw_plan, halted, is_unknown, packet_plan, read_plan, is_due, one_done, fetched_with, not_due, started_with, chosen_tile, tile_plan, item_plan, work_plan, binner_by, binner_plan, item_may, work_may, binner_may, binner_ready, has_binner_work};
 
 use crate::blocks::{has_room, tiles_of, write_zeros};
 use crate::fetch::fetch_vertex;
 use crate::job_lists::{JobLists, MOST_ITEMS};
-use crate::reads::read_listed;
+use crate::reads::{end_wild, read_listed};
 use crate::start::{can_start, start_program};
 use crate::state::{Config, Kept, Primitive, Program, Work};
-use arrayvec::ArrayVec;
 use byteorder::{ByteOrder, LittleEndian};
-use field_words::{Access, Actor, Way};
-use machine_plan::{Free, Launch, Who, byte_at, choice_word, list_access};
+use field_words::Actor;
+use machine_plan::{Accesses, Free, Launch, Who, byte_at, choice_word};
 use packets::opcode::{
     ARRAY_PRIMITIVE_LIST, BUFFER_HANDLES, FLUSH, GL_SHADER_STATE, HALT, INCREMENT_SEMAPHORE,
     INDEXED_PRIMITIVE_LIST, START_TILE_BINNING, TILE_BINNING_MODE,
@@ -186,10 +185,10 @@ impl JobLists {
         config: &Config,
         who: Who,
         memory: &mut PhysMem,
-        accesses: &mut ArrayVec<Access, 272>,
+        accesses: &mut Accesses,
     )
         requires { array_vec_len accesses.old < 272 }
-        ensures shows { Shows (carried who (clear_plan self.old config.now) memory.old) accesses.old.items accesses.new.items memory.new (Some self.new) }
+        ensures shows { Carries who (clear_plan self.old config.now) memory.old memory.new accesses.old accesses.new (Some self.new) }
         ensures len { array_vec_len accesses.new ≡ array_vec_len accesses.old + 1 }
     {
         write_zeros(
@@ -204,21 +203,13 @@ impl JobLists {
 
     // Opcode 6 clears the tiles' states and starts binning. False comes exactly where no config is kept;
     // then it is wild.
-    fn begin(
-        &mut self,
-        who: Who,
-        memory: &mut PhysMem,
-        accesses: &mut ArrayVec<Access, 272>,
-    ) -> bool
+    fn begin(&mut self, who: Who, memory: &mut PhysMem, accesses: &mut Accesses) -> bool
         requires { array_vec_len accesses.old < 272 }
-        ensures shows { Shows (carried who (begin_plan self.old self.old.binner.kept.config) memory.old) accesses.old.items accesses.new.items memory.new (if_tame result self.new) }
+        ensures shows { Carries who (begin_plan self.old self.old.binner.kept.config) memory.old memory.new accesses.old accesses.new (if_tame result self.new) }
         ensures wild { result ≡ false → self.new ≡ self.old }
     {
         match self.binner().kept.config {
-            None => {
-                list_access(who, Way::Wild, 0, 0, accesses);
-                false
-            }
+            None => end_wild(who, accesses),
             Some(config) => {
                 self.clear_states(&config, who, memory, accesses);
                 true
@@ -229,17 +220,11 @@ impl JobLists {
     // Opcodes 32 and 33 bring a primitive into work. False comes exactly where no state word is kept or
     // binning isn't started; then it is wild.
     #[tactic(auto, unfolding(crate::specs::Binner::draw_plan, crate::specs::Binner::work_of))]
-    fn draw(
-        &mut self,
-        packet: &[u8],
-        who: Who,
-        memory: &PhysMem,
-        accesses: &mut ArrayVec<Access, 272>,
-    ) -> bool
+    fn draw(&mut self, packet: &[u8], who: Who, memory: &PhysMem, accesses: &mut Accesses) -> bool
         requires draws { (slice_index packet.now 0 ≡ indexed_primitive_list) ⊎ (slice_index packet.now 0 ≡ array_primitive_list) }
         requires length { length packet.now ≡ bin_taken (slice_index packet.now 0) }
         requires room { array_vec_len accesses.old < 272 }
-        ensures shows { Shows (carried who (draw_plan self.old packet.now) memory.now) accesses.old.items accesses.new.items memory.now (if_tame result self.new) }
+        ensures shows { CarriesOver who (draw_plan self.old packet.now) memory.now accesses.old accesses.new (if_tame result self.new) }
         ensures wild { result ≡ false → self.new ≡ self.old }
     {
         let kept = self.binner().kept;
@@ -253,10 +238,7 @@ impl JobLists {
                 }));
                 true
             }
-            _ => {
-                list_access(who, Way::Wild, 0, 0, accesses);
-                false
-            }
+            _ => end_wild(who, accesses),
         }
     }
 
@@ -267,19 +249,18 @@ impl JobLists {
         packet: &[u8],
         who: Who,
         memory: &mut PhysMem,
-        accesses: &mut ArrayVec<Access, 272>,
+        accesses: &mut Accesses,
     ) -> bool
         requires length { length packet.now ≡ bin_taken (slice_index packet.now 0) }
         requires place { self.old.pending + self.old.semaphore < self.old.binner.place }
         requires end { self.old.pending + self.old.semaphore < self.old.binner.end }
         requires room { array_vec_len accesses.old < 271 }
-        ensures shows { Shows (carried who (packet_plan self.old packet.now) memory.old) accesses.old.items accesses.new.items memory.new (if_tame result self.new) }
+        ensures shows { Carries who (packet_plan self.old packet.now) memory.old memory.new accesses.old accesses.new (if_tame result self.new) }
         ensures wild { result ≡ false → self.new ≡ self.old }
     {
         let opcode = packet[0];
         if is_unknown(opcode) {
-            list_access(who, Way::Wild, 0, 0, accesses);
-            return false;
+            return end_wild(who, accesses);
         }
         match opcode {
             HALT => self.halt(),
@@ -298,15 +279,10 @@ impl JobLists {
 
     // Reads the packet at the binner's place, goes past it and does what it says. False comes exactly where
     // that is wild; then the binner's work ends.
-    fn step_packet(
-        &mut self,
-        who: Who,
-        memory: &mut PhysMem,
-        accesses: &mut ArrayVec<Access, 272>,
-    ) -> bool
+    fn step_packet(&mut self, who: Who, memory: &mut PhysMem, accesses: &mut Accesses) -> bool
         requires below { self.old.binner.place < self.old.binner.end }
         requires room { array_vec_len accesses.old < 270 }
-        ensures shows { Shows (carried who (read_plan self.old) memory.old) accesses.old.items accesses.new.items memory.new (if_tame result self.new) }
+        ensures shows { Carries who (read_plan self.old) memory.old memory.new accesses.old accesses.new (if_tame result self.new) }
         ensures wild { result ≡ false → self.new ≡ binner_ended self.old }
     {
         let place = self.binner().place;
@@ -327,10 +303,10 @@ impl JobLists {
         free: &Free,
         who: Who,
         memory: &PhysMem,
-        accesses: &mut ArrayVec<Access, 272>,
+        accesses: &mut Accesses,
     ) -> Option<Launch>
         requires { array_vec_len accesses.old < 240 }
-        ensures shows { Shows (carried who (mapped (started_with self.old work.now) (start_plan Coordinate free.now work.now.word)) memory.now) accesses.old.items accesses.new.items memory.now (Some (turned_to self.new result)) }
+        ensures shows { CarriesOver who (mapped (started_with self.old work.now) (start_plan Coordinate free.now work.now.word)) memory.now accesses.old accesses.new (Some (turned_to self.new result)) }
     {
         let launch = start_program(Program::Coordinate, free, work.word, who, memory, accesses);
         self.set_work(Some(not_due(work)));
@@ -338,16 +314,10 @@ impl JobLists {
     }
 
     // The next vertex is fetched.
-    fn fetch_next(
-        &mut self,
-        work: &Work,
-        who: Who,
-        memory: &PhysMem,
-        accesses: &mut ArrayVec<Access, 272>,
-    )
+    fn fetch_next(&mut self, work: &Work, who: Who, memory: &PhysMem, accesses: &mut Accesses)
         requires more { work.now.done < work.now.primitive.length }
         requires room { array_vec_len accesses.old < 240 }
-        ensures shows { Shows (carried who (mapped (fetched_with self.old work.now) (fetch_plan work.now.primitive work.now.word work.now.done)) memory.now) accesses.old.items accesses.new.items memory.now (Some (quiet self.new)) }
+        ensures shows { CarriesOver who (mapped (fetched_with self.old work.now) (fetch_plan work.now.primitive work.now.word work.now.done)) memory.now accesses.old accesses.new (Some (quiet self.new)) }
     {
         fetch_vertex(&work.primitive, work.word, work.done, who, memory, accesses);
         self.set_work(Some(one_done(work)));
@@ -362,12 +332,12 @@ impl JobLists {
         words: &[u32],
         who: Who,
         memory: &mut PhysMem,
-        accesses: &mut ArrayVec<Access, 272>,
+        accesses: &mut Accesses,
     )
         requires few { length self.old.items < most_items }
         requires blocks { self.old.blocks < 2 ^ 25 }
         requires room { array_vec_len accesses.old < 240 }
-        ensures shows { Shows (carried who (tile_plan self.old config.now work.now (chosen_tile config.now words.now)) memory.old) accesses.old.items accesses.new.items memory.new (Some self.new) }
+        ensures shows { Carries who (tile_plan self.old config.now work.now (chosen_tile config.now words.now)) memory.old memory.new accesses.old accesses.new (Some self.new) }
     {
         let tile = chosen_tile(config, words);
         if tile == tiles_of(config) {
@@ -385,11 +355,11 @@ impl JobLists {
         words: &[u32],
         who: Who,
         memory: &mut PhysMem,
-        accesses: &mut ArrayVec<Access, 272>,
+        accesses: &mut Accesses,
     )
         requires may { item_may self.old self.old.binner.kept.config ≡ true }
         requires room { array_vec_len accesses.old < 240 }
-        ensures shows { Shows (carried who (item_plan self.old self.old.binner.kept.config work.now words.now) memory.old) accesses.old.items accesses.new.items memory.new (Some self.new) }
+        ensures shows { Carries who (item_plan self.old self.old.binner.kept.config work.now words.now) memory.old memory.new accesses.old accesses.new (Some self.new) }
     {
         match self.binner().kept.config {
             None => {}
@@ -406,11 +376,11 @@ impl JobLists {
         words: &[u32],
         who: Who,
         memory: &mut PhysMem,
-        accesses: &mut ArrayVec<Access, 272>,
+        accesses: &mut Accesses,
     ) -> Option<Launch>
         requires may { work_may self.old work.now free.now ≡ true }
         requires room { array_vec_len accesses.old < 240 }
-        ensures shows { Shows (carried who (work_plan self.old work.now free.now words.now) memory.old) accesses.old.items accesses.new.items memory.new (Some (turned_to self.new result)) }
+        ensures shows { Carries who (work_plan self.old work.now free.now words.now) memory.old memory.new accesses.old accesses.new (Some (turned_to self.new result)) }
     {
         if work.due {
             self.start_due(work, free, who, memory, accesses)
@@ -480,11 +450,11 @@ impl JobLists {
         free: &Free,
         words: &[u32],
         memory: &mut PhysMem,
-        accesses: &mut ArrayVec<Access, 272>,
+        accesses: &mut Accesses,
     ) -> Option<Option<Launch>>
         requires ready { binner_ready self.old free.now ≡ Now true }
         requires room { array_vec_len accesses.old < 240 }
-        ensures shows { Shows (carried (binner_of job) (binner_plan self.old free.now words.now) memory.old) accesses.old.items accesses.new.items memory.new (option_map (turned_to self.new) result) }
+        ensures shows { Carries (binner_of job) (binner_plan self.old free.now words.now) memory.old memory.new accesses.old accesses.new (option_map (turned_to self.new) result) }
         ensures wild { result ≡ None → self.new ≡ binner_ended self.old }
     {
         let who = Who {

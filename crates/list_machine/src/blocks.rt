@@ -1,17 +1,17 @@
 //! The blocks of memory in which tile lists lie.
 ghost use Rattle.std.specs.Prelude.{◌≡◌, ◌≤◌, ◌<◌, ◌+◌, ◌*◌, ◌^◌, ◌++◌, ◌∷◌, [], ◌⊎◌, true, length, Some};
 ghost use Rattle.arrayvec.specs.ArrayVec.{array_vec_len};
-ghost use Rattle.field_words.specs.declared.access.Way.TheVariants.{Write};
+ghost use Rattle.machine_plan.specs.Turn.{Carries};
+ghost use Rattle.list_machine.specs.State.{Write};
 ghost use Rattle.machine_plan.specs.Memory.{stored};
-ghost use Rattle.machine_plan.specs.Plan.{Shows, access, carried};
+ghost use Rattle.machine_plan.specs.Plan.{access};
 ghost use Rattle.list_machine.specs.Lists.{most_items};
 ghost use Rattle.list_machine.specs.Blocks.{tiles_of, further_offset, block_place, has_room, one_more, spot_of, is_full, next_place, link_place, item_of, zeros, put_here, put_plan};
 
 use crate::job_lists::JobLists;
 use crate::state::{Config, Item, Spot, Work};
-use arrayvec::ArrayVec;
-use field_words::{Access, Way, round_up};
-use machine_plan::{Who, list_access, put_byte};
+use field_words::{Way, round_up};
+use machine_plan::{Accesses, Who, list_access, put_byte};
 use phys_mem::PhysMem;
 
 /// How many tiles a config has.
@@ -82,7 +82,7 @@ pub(crate) fn write_zeros(
     len: u32,
     who: Who,
     memory: &mut PhysMem,
-    accesses: &mut ArrayVec<Access, 272>,
+    accesses: &mut Accesses,
 )
     requires near { place < 2 ^ 62 }
     requires room { array_vec_len accesses.old < 272 }
@@ -105,13 +105,13 @@ impl JobLists {
         place: u64,
         who: Who,
         memory: &mut PhysMem,
-        accesses: &mut ArrayVec<Access, 272>,
+        accesses: &mut Accesses,
     )
         requires tile { tile ≤ 65025 }
         requires few { length self.old.items < most_items }
         requires near { place ≤ 2 ^ 34 + 16 * length self.old.items }
         requires room { array_vec_len accesses.old < 272 }
-        ensures shows { Shows (carried who (put_here self.old work.now tile place) memory.old) accesses.old.items accesses.new.items memory.new (Some self.new) }
+        ensures shows { Carries who (put_here self.old work.now tile place) memory.old memory.new accesses.old accesses.new (Some self.new) }
         ensures len { array_vec_len accesses.new ≡ array_vec_len accesses.old + 1 }
     {
         write_zeros(place, 16, who, memory, accesses);
@@ -132,13 +132,13 @@ impl JobLists {
         tile: u32,
         who: Who,
         memory: &mut PhysMem,
-        accesses: &mut ArrayVec<Access, 272>,
+        accesses: &mut Accesses,
     )
         requires tile { tile ≤ 65025 }
         requires few { length self.old.items < most_items }
         requires blocks { self.old.blocks < 2 ^ 25 }
         requires room { array_vec_len accesses.old < 270 }
-        ensures shows { Shows (carried who (put_plan self.old config.now work.now tile (spot_of tile self.old.items)) memory.old) accesses.old.items accesses.new.items memory.new (Some self.new) }
+        ensures shows { Carries who (put_plan self.old config.now work.now tile (spot_of tile self.old.items)) memory.old memory.new accesses.old accesses.new (Some self.new) }
         ensures len { array_vec_len accesses.new ≤ array_vec_len accesses.old + 2 }
     {
         let spot = self.spot(tile);

@@ -2,7 +2,6 @@
 ghost use Rattle.std.specs.Prelude.{◌≡◌, ◌+◌, ◌*◌, ◌≤◌, ◌<◌, ◌^◌, IfSome};
 ghost use Rattle.std.specs.Int.{div_ceil};
 ghost use Rattle.texture_layouts.specs.Surface.{IsPixelSize};
-ghost use Rattle.list_machine.specs.declared.surface.Cover.{Cover};
 ghost use Rattle.list_machine.specs.Store.{tile_side, covered};
 ghost use Rattle.list_machine.specs.Cover.{tiling_named, general_pixel, frame_pixel, styled, general_style, frame_style, raster_cover, tiled_cover, cover_in, cover_by, cover_for, part_count, part_offset, part_place, IsShort, IsSmall};
 

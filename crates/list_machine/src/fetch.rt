@@ -2,15 +2,14 @@
 ghost use Rattle.std.specs.Prelude.{◌≡◌, ◌≤◌, ◌<◌, ◌+◌, ◌*◌, ◌^◌, true, length, Some};
 ghost use Rattle.arrayvec.specs.ArrayVec.{array_vec_len};
 ghost use Rattle.emitted_facts.specs.Records.{attribute_count, is_extended};
-ghost use Rattle.machine_plan.specs.Plan.{Shows, carried};
+ghost use Rattle.machine_plan.specs.Turn.{CarriesOver};
 ghost use Rattle.list_machine.specs.Fetch.{index_size, index_in, index_plan, draws_nothing, record_place, attribute_place, extension_place, data_size, stride_of, data_place, data_plan, extended_plan, attribute_plan, attributes_plan, indexed_plan, fetch_plan};
 
 use crate::reads::{read_listed, read_word};
 use crate::state::Primitive;
-use arrayvec::ArrayVec;
 use byteorder::{ByteOrder, LittleEndian};
-use field_words::{Access, Way};
-use machine_plan::{Who, list_access};
+use field_words::Way;
+use machine_plan::{Accesses, Who, list_access};
 use phys_mem::PhysMem;
 
 // The bytes of an index.
@@ -41,11 +40,11 @@ fn read_index(
     k: u32,
     who: Who,
     memory: &PhysMem,
-    accesses: &mut ArrayVec<Access, 272>,
+    accesses: &mut Accesses,
 ) -> u32
     requires indexed { primitive.now.indexed ≡ true }
     requires room { array_vec_len accesses.old < 240 }
-    ensures shows { Shows (carried who (index_plan primitive.now k) memory.now) accesses.old.items accesses.new.items memory.now (Some result) }
+    ensures shows { CarriesOver who (index_plan primitive.now k) memory.now accesses.old accesses.new (Some result) }
     ensures len { array_vec_len accesses.new ≡ array_vec_len accesses.old + 1 }
 {
     let size = index_size(primitive);
@@ -61,10 +60,10 @@ fn index_of(
     k: u32,
     who: Who,
     memory: &PhysMem,
-    accesses: &mut ArrayVec<Access, 272>,
+    accesses: &mut Accesses,
 ) -> u32
     requires { array_vec_len accesses.old < 240 }
-    ensures shows { Shows (carried who (index_plan primitive.now k) memory.now) accesses.old.items accesses.new.items memory.now (Some result) }
+    ensures shows { CarriesOver who (index_plan primitive.now k) memory.now accesses.old accesses.new (Some result) }
     ensures len { array_vec_len accesses.new ≤ array_vec_len accesses.old + 1 }
 {
     if primitive.indexed {
@@ -155,11 +154,11 @@ fn fetch_data(
     index: u32,
     who: Who,
     memory: &PhysMem,
-    accesses: &mut ArrayVec<Access, 272>,
+    accesses: &mut Accesses,
 )
     requires length { length attribute.now ≡ 8 }
     requires room { array_vec_len accesses.old < 272 }
-    ensures shows { Shows (carried who (data_plan attribute.now extension index) memory.now) accesses.old.items accesses.new.items memory.now (Some index) }
+    ensures shows { CarriesOver who (data_plan attribute.now extension index) memory.now accesses.old accesses.new (Some index) }
     ensures len { array_vec_len accesses.new ≡ array_vec_len accesses.old + 1 }
 {
     let place = data_place(attribute, extension, index);
@@ -174,12 +173,12 @@ fn fetch_extended(
     attribute: &[u8],
     who: Who,
     memory: &PhysMem,
-    accesses: &mut ArrayVec<Access, 272>,
+    accesses: &mut Accesses,
 )
     requires number { t < 8 }
     requires length { length attribute.now ≡ 8 }
     requires room { array_vec_len accesses.old ≤ 270 }
-    ensures shows { Shows (carried who (extended_plan word index t attribute.now) memory.now) accesses.old.items accesses.new.items memory.now (Some index) }
+    ensures shows { CarriesOver who (extended_plan word index t attribute.now) memory.now accesses.old accesses.new (Some index) }
     ensures len { array_vec_len accesses.new ≤ array_vec_len accesses.old + 2 }
 {
     if is_extended(word) {
@@ -197,11 +196,11 @@ fn fetch_attribute(
     t: u32,
     who: Who,
     memory: &PhysMem,
-    accesses: &mut ArrayVec<Access, 272>,
+    accesses: &mut Accesses,
 )
     requires number { t < 8 }
     requires room { array_vec_len accesses.old < 269 }
-    ensures shows { Shows (carried who (attribute_plan word index t) memory.now) accesses.old.items accesses.new.items memory.now (Some index) }
+    ensures shows { CarriesOver who (attribute_plan word index t) memory.now accesses.old accesses.new (Some index) }
     ensures len { array_vec_len accesses.new ≤ array_vec_len accesses.old + 3 }
 {
     let attribute = read_listed(attribute_place(word, t), 8, who, memory, accesses);
@@ -210,15 +209,9 @@ fn fetch_attribute(
 
 // Fetches all attributes of a vertex.
 #[tactic(auto, using(crate::proofs::Fetching::attributes_begin, crate::proofs::Fetching::attributes_more, crate::proofs::Fetching::attributes_end))]
-fn fetch_attributes(
-    word: u32,
-    index: u32,
-    who: Who,
-    memory: &PhysMem,
-    accesses: &mut ArrayVec<Access, 272>,
-)
+fn fetch_attributes(word: u32, index: u32, who: Who, memory: &PhysMem, accesses: &mut Accesses)
     requires { array_vec_len accesses.old < 241 }
-    ensures shows { Shows (carried who (attributes_plan word 0 (attribute_count word) index) memory.now) accesses.old.items accesses.new.items memory.now (Some index) }
+    ensures shows { CarriesOver who (attributes_plan word 0 (attribute_count word) index) memory.now accesses.old accesses.new (Some index) }
     ensures len { array_vec_len accesses.new ≤ array_vec_len accesses.old + 24 }
 {
     for t in 0..attribute_count(word) {
@@ -234,10 +227,10 @@ fn fetch_indexed(
     index: u32,
     who: Who,
     memory: &PhysMem,
-    accesses: &mut ArrayVec<Access, 272>,
+    accesses: &mut Accesses,
 )
     requires { array_vec_len accesses.old < 241 }
-    ensures shows { Shows (carried who (indexed_plan primitive.now word index) memory.now) accesses.old.items accesses.new.items memory.now (Some index) }
+    ensures shows { CarriesOver who (indexed_plan primitive.now word index) memory.now accesses.old accesses.new (Some index) }
     ensures len { array_vec_len accesses.new ≤ array_vec_len accesses.old + 24 }
 {
     if !draws_nothing(primitive, index) {
@@ -254,10 +247,10 @@ pub(crate) fn fetch_vertex(
     k: u32,
     who: Who,
     memory: &PhysMem,
-    accesses: &mut ArrayVec<Access, 272>,
+    accesses: &mut Accesses,
 ) -> u32
     requires { array_vec_len accesses.old < 240 }
-    ensures shows { Shows (carried who (fetch_plan primitive.now word k) memory.now) accesses.old.items accesses.new.items memory.now (Some result) }
+    ensures shows { CarriesOver who (fetch_plan primitive.now word k) memory.now accesses.old accesses.new (Some result) }
     ensures len { array_vec_len accesses.new ≤ array_vec_len accesses.old + 25 }
 {
     let index = index_of(primitive, k, who, memory, accesses);

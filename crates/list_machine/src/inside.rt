@@ -1,8 +1,8 @@
 //! The renderer's step in a tile's list, and its whole step.
-ghost use Rattle.std.specs.Prelude.{◌≡◌, ◌+◌, ◌≤◌, ◌<◌, ◌^◌, ℕ, List, drop, length, true, false, Some, None, IfSome, option_map, if◌then◌else◌};
+ghost use Rattle.std.specs.Prelude.{◌≡◌, ◌+◌, ◌≤◌, ◌<◌, ◌^◌, drop, length, true, false, Some, None, IfSome, option_map};
 ghost use Rattle.arrayvec.specs.ArrayVec.{array_vec_len};
 ghost use Rattle.machine_plan.specs.Glance.{glanced};
-ghost use Rattle.machine_plan.specs.Plan.{Shows, carried};
+ghost use Rattle.machine_plan.specs.Turn.{Carries, CarriesOver, if_tame};
 ghost use Rattle.list_machine.specs.Lists.{Lists, Turned, turned_to, quiet, renderer_of, renderer_ended, most_items};
 ghost use Rattle.list_machine.specs.Renderer.{first_of_tile, item_at, at_item, vertex_plan, program_plan, choice_plan, found_plan, plan_in, renderer_plan, renderer_ready, has_renderer_work};
 
@@ -10,9 +10,8 @@ use crate::fetch::fetch_vertex;
 use crate::job_lists::JobLists;
 use crate::start::start_program;
 use crate::state::{Found, Item, Program, SubList};
-use arrayvec::ArrayVec;
-use field_words::{Access, Actor, Way};
-use machine_plan::{Free, Launch, Who, choice_word, list_access};
+use field_words::{Actor, Way};
+use machine_plan::{Accesses, Free, Launch, Who, choice_word, list_access};
 use phys_mem::PhysMem;
 
 /// The first item of a tile, from item `at` on.
@@ -32,15 +31,9 @@ fn find_item(items: &[Item], sub: SubList) -> Option<Found>
 
 /// Fetches a vertex of an item, which choice word 1 chooses.
 #[tactic(auto, unfolding(crate::specs::Renderer::vertex_plan))]
-fn fetch_item(
-    item: &Item,
-    words: &[u32],
-    who: Who,
-    memory: &PhysMem,
-    accesses: &mut ArrayVec<Access, 272>,
-)
+fn fetch_item(item: &Item, words: &[u32], who: Who, memory: &PhysMem, accesses: &mut Accesses)
     requires { array_vec_len accesses.old ≤ 8 }
-    ensures { (s : Lists) → Shows (carried who (vertex_plan s item.now words.now) memory.now) accesses.old.items accesses.new.items memory.now (Some (quiet s)) }
+    ensures { (s : Lists) → CarriesOver who (vertex_plan s item.now words.now) memory.now accesses.old accesses.new (Some (quiet s)) }
 {
     let length = item.primitive.length;
     if length != 0 {
@@ -57,10 +50,10 @@ fn start_item(
     free: &Free,
     who: Who,
     memory: &PhysMem,
-    accesses: &mut ArrayVec<Access, 272>,
+    accesses: &mut Accesses,
 ) -> Option<Launch>
     requires { array_vec_len accesses.old ≤ 8 }
-    ensures { (s : Lists) → Shows (carried who (program_plan s program free.now item.now) memory.now) accesses.old.items accesses.new.items memory.now (Some (turned_to s result)) }
+    ensures { (s : Lists) → CarriesOver who (program_plan s program free.now item.now) memory.now accesses.old accesses.new (Some (turned_to s result)) }
 {
     start_program(program, free, item.word, who, memory, accesses)
 }
@@ -83,11 +76,11 @@ impl JobLists {
         words: &[u32],
         who: Who,
         memory: &PhysMem,
-        accesses: &mut ArrayVec<Access, 272>,
+        accesses: &mut Accesses,
     ) -> Option<Launch>
         requires near { found.now.number < most_items }
         requires room { array_vec_len accesses.old ≤ 8 }
-        ensures { Shows (carried who (choice_plan self.old free.now words.now sub found.now) memory.now) accesses.old.items accesses.new.items memory.now (Some (turned_to self.new result)) }
+        ensures { CarriesOver who (choice_plan self.old free.now words.now sub found.now) memory.now accesses.old accesses.new (Some (turned_to self.new result)) }
     {
         let choice = choice_word(words, 0) % 4;
         if choice == 3 {
@@ -115,11 +108,11 @@ impl JobLists {
         words: &[u32],
         who: Who,
         memory: &PhysMem,
-        accesses: &mut ArrayVec<Access, 272>,
+        accesses: &mut Accesses,
     ) -> Option<Launch>
         requires near { IfSome found (λ one. one.number < most_items) }
         requires room { array_vec_len accesses.old ≤ 4 }
-        ensures { Shows (carried who (found_plan self.old free.now words.now sub found) memory.now) accesses.old.items accesses.new.items memory.now (Some (turned_to self.new result)) }
+        ensures { CarriesOver who (found_plan self.old free.now words.now sub found) memory.now accesses.old accesses.new (Some (turned_to self.new result)) }
     {
         match found {
             None => {
@@ -141,10 +134,10 @@ impl JobLists {
         words: &[u32],
         who: Who,
         memory: &PhysMem,
-        accesses: &mut ArrayVec<Access, 272>,
+        accesses: &mut Accesses,
     ) -> Option<Launch>
         requires { array_vec_len accesses.old ≤ 4 }
-        ensures { Shows (carried who (plan_in self.old free.now words.now (Some sub)) memory.now) accesses.old.items accesses.new.items memory.now (Some (turned_to self.new result)) }
+        ensures { CarriesOver who (plan_in self.old free.now words.now (Some sub)) memory.now accesses.old accesses.new (Some (turned_to self.new result)) }
     {
         let found = find_item(self.items(), sub);
         self.take_found(sub, found, free, words, who, memory, accesses)
@@ -157,11 +150,11 @@ impl JobLists {
         words: &[u32],
         who: Who,
         memory: &mut PhysMem,
-        accesses: &mut ArrayVec<Access, 272>,
+        accesses: &mut Accesses,
     ) -> bool
         requires below { self.old.renderer.place < self.old.renderer.end }
         requires room { array_vec_len accesses.old ≤ 4 }
-        ensures shows { Shows (carried who (plan_in self.old free.now words.now None) memory.old) accesses.old.items accesses.new.items memory.new (if result then Some (quiet self.new) else None) }
+        ensures shows { Carries who (plan_in self.old free.now words.now None) memory.old memory.new accesses.old accesses.new (if_tame result (quiet self.new)) }
         ensures wild { result ≡ false → self.new ≡ renderer_ended self.old }
     {
         self.take_packet(words, who, memory, accesses)
@@ -188,11 +181,11 @@ impl JobLists {
         free: &Free,
         words: &[u32],
         memory: &mut PhysMem,
-        accesses: &mut ArrayVec<Access, 272>,
+        accesses: &mut Accesses,
     ) -> Option<Option<Launch>>
         requires ready { glanced (renderer_ready self.old) memory.old ≡ true }
         requires room { array_vec_len accesses.old ≤ 4 }
-        ensures shows { Shows (carried (renderer_of job) (renderer_plan self.old free.now words.now) memory.old) accesses.old.items accesses.new.items memory.new (option_map (turned_to self.new) result) }
+        ensures shows { Carries (renderer_of job) (renderer_plan self.old free.now words.now) memory.old memory.new accesses.old accesses.new (option_map (turned_to self.new) result) }
         ensures wild { result ≡ None → self.new ≡ renderer_ended self.old }
     {
         let who = Who {

@@ -1,9 +1,10 @@
 //! What the list units of one job keep, as a whole.
 ghost use Rattle.std.specs.Prelude.{◌≡◌, ◌≤◌, ◌<◌, ◌+◌, ◌*◌, ◌^◌, ◌++◌, ◌∷◌, [], length, IfOk};
-ghost use Rattle.list_machine.specs.Lists.{lists_start, with_binner, with_renderer, with_kept, with_work, with_place, past, incremented, flushed, with_taken, with_item, with_block, binner_ended, most_items, AreNear};
+ghost use Rattle.list_machine.specs.Lists.{lists_start, with_kept, with_work, with_place, past, incremented, flushed, with_taken, with_item, with_block, binner_ended, renderer_ended, most_items, AreNear};
+ghost use Rattle.list_machine.specs.Renderer.{beyond, with_frame, with_load, at_tile, with_inside};
 ghost use Rattle.list_machine.specs.Blocks.{spot_of};
 
-use crate::state::{Binner, Item, Kept, Renderer, Spot, Work};
+use crate::state::{Binner, Frame, Item, Kept, Load, Renderer, Spot, SubList, Work};
 use field_words::NoMemory;
 use std::alloc::Global;
 use std::marker::Model;
@@ -150,13 +151,52 @@ impl JobLists {
         self.items.as_slice()
     }
 
-    /// Changes the renderer.
-    pub(crate) fn set_renderer(&mut self, renderer: Renderer)
-        requires end { renderer.end < 2 ^ 33 }
-        requires place { renderer.place ≤ renderer.end + 16 }
-        ensures { self.new ≡ with_renderer self.old renderer }
+    /// The renderer goes past a packet.
+    pub(crate) fn go_past(&mut self, len: u32)
+        requires below { self.old.renderer.place < self.old.renderer.end }
+        requires few { len ≤ 16 }
+        ensures { self.new ≡ beyond self.old len }
     {
-        self.renderer = renderer;
+        self.renderer.place += len as u64;
+    }
+
+    /// Keeps the frame.
+    pub(crate) fn keep_frame(&mut self, frame: Frame)
+        ensures { self.new ≡ with_frame self.old frame }
+    {
+        self.renderer.frame = Some(frame);
+    }
+
+    /// Keeps a load as waiting.
+    pub(crate) fn keep_load(&mut self, load: Load)
+        ensures { self.new ≡ with_load self.old load }
+    {
+        self.renderer.waiting = Some(load);
+    }
+
+    /// Keeps the tile's number; no load waits then.
+    pub(crate) fn keep_tile(&mut self, x: u8, y: u8)
+        ensures { self.new ≡ at_tile self.old x y }
+    {
+        self.renderer.x = x;
+        self.renderer.y = y;
+        self.renderer.waiting = None;
+    }
+
+    /// Goes into a tile's list, or out of it.
+    pub(crate) fn go_inside(&mut self, inside: Option<SubList>)
+        ensures { self.new ≡ with_inside self.old inside }
+    {
+        self.renderer.inside = inside;
+    }
+
+    /// Ends the renderer's work.
+    pub(crate) fn end_renderer(&mut self)
+        ensures { self.new ≡ renderer_ended self.old }
+    {
+        self.renderer.place = self.renderer.end;
+        self.renderer.waiting = None;
+        self.renderer.inside = None;
     }
 
     /// Changes what the binner keeps from packet to packet.

@@ -1,19 +1,20 @@
 //! The accesses of loads and stores.
-ghost use Rattle.std.specs.Prelude.{◌≡◌, ◌+◌, ◌*◌, ◌≤◌, ◌<◌, ◌^◌, ℕ, List, Some, None, if◌then◌else◌, IfSome};
+ghost use Rattle.std.specs.Prelude.{◌≡◌, ◌+◌, ◌*◌, ◌≤◌, ◌<◌, ◌^◌, Some, IfSome};
 ghost use Rattle.arrayvec.specs.ArrayVec.{array_vec_len};
 ghost use Rattle.machine_plan.specs.Memory.{stored};
-ghost use Rattle.machine_plan.specs.Plan.{Shows, carried, Done};
+ghost use Rattle.machine_plan.specs.Plan.{Done};
+ghost use Rattle.machine_plan.specs.Turn.{Carries, CarriesAnywhere, if_tame};
 ghost use Rattle.list_machine.specs.Store.{chosen_byte, chosen};
 ghost use Rattle.list_machine.specs.Cover.{IsSmall, part_count, part_place, parts_written, parts_read};
 ghost use Rattle.list_machine.specs.Surfaces.{aligned, names_none, whole_written, whole_read, cover_written, cover_read, general_written, general_read, frame_written, load_read, waiting_read};
 ghost use Rattle.list_machine.specs.Lists.{Lists};
 
 use crate::cover::{cover_for, frame_style, general_style, part_count, part_place};
+use crate::reads::end_wild;
 use crate::state::Load;
 use crate::surface::{Cover, Tile};
-use arrayvec::ArrayVec;
-use field_words::{Access, Way, field};
-use machine_plan::{Who, choice_word, list_access, put_byte};
+use field_words::{Way, field};
+use machine_plan::{Accesses, Who, choice_word, list_access, put_byte};
 use phys_mem::PhysMem;
 
 /// The bytes of a tile in full resolution.
@@ -63,11 +64,11 @@ fn write_parts(
     words: &[u32],
     who: Who,
     memory: &mut PhysMem,
-    accesses: &mut ArrayVec<Access, 272>,
+    accesses: &mut Accesses,
 )
     requires small { IsSmall cover.now }
     requires room { array_vec_len accesses.old ≤ 8 }
-    ensures { (r : Lists) → Shows (carried who (parts_written cover.now words.now 0 (part_count cover.now) (Done r)) memory.old) accesses.old.items accesses.new.items memory.new (Some r) }
+    ensures { (r : Lists) → Carries who (parts_written cover.now words.now 0 (part_count cover.now) (Done r)) memory.old memory.new accesses.old accesses.new (Some r) }
 {
     for i in 0..part_count(cover) {
         let place = part_place(cover, i);
@@ -77,10 +78,10 @@ fn write_parts(
 }
 
 /// Lists a read of each part.
-fn read_parts(cover: &Cover, who: Who, accesses: &mut ArrayVec<Access, 272>)
+fn read_parts(cover: &Cover, who: Who, accesses: &mut Accesses)
     requires small { IsSmall cover.now }
     requires room { array_vec_len accesses.old ≤ 8 }
-    ensures { (m : List ℕ) (r : Lists) → Shows (carried who (parts_read cover.now 0 (part_count cover.now) (Done r)) m) accesses.old.items accesses.new.items m (Some r) }
+    ensures { (r : Lists) → CarriesAnywhere who (parts_read cover.now 0 (part_count cover.now) (Done r)) accesses.old accesses.new (Some r) }
 {
     for i in 0..part_count(cover) {
         list_access(who, Way::Read, part_place(cover, i), cover.size, accesses);
@@ -94,40 +95,34 @@ fn write_cover(
     words: &[u32],
     who: Who,
     memory: &mut PhysMem,
-    accesses: &mut ArrayVec<Access, 272>,
+    accesses: &mut Accesses,
 ) -> bool
     requires small { IfSome cover IsSmall }
     requires room { array_vec_len accesses.old ≤ 8 }
-    ensures { (r : Lists) → Shows (carried who (cover_written cover words.now (Done r)) memory.old) accesses.old.items accesses.new.items memory.new (if result then Some r else None) }
+    ensures { (r : Lists) → Carries who (cover_written cover words.now (Done r)) memory.old memory.new accesses.old accesses.new (if_tame result r) }
 {
     match cover {
         Some(cover) => {
             write_parts(&cover, words, who, memory, accesses);
             true
         }
-        None => {
-            list_access(who, Way::Wild, 0, 0, accesses);
-            false
-        }
+        None => end_wild(who, accesses),
     }
 }
 
 /// Reads all parts of a cover. False comes exactly where there is none, which is wild.
 #[tactic(auto, unfolding(crate::specs::Surfaces::cover_read))]
-fn read_cover(cover: Option<Cover>, who: Who, accesses: &mut ArrayVec<Access, 272>) -> bool
+fn read_cover(cover: Option<Cover>, who: Who, accesses: &mut Accesses) -> bool
     requires small { IfSome cover IsSmall }
     requires room { array_vec_len accesses.old ≤ 8 }
-    ensures { (m : List ℕ) (r : Lists) → Shows (carried who (cover_read cover (Done r)) m) accesses.old.items accesses.new.items m (if result then Some r else None) }
+    ensures { (r : Lists) → CarriesAnywhere who (cover_read cover (Done r)) accesses.old accesses.new (if_tame result r) }
 {
     match cover {
         Some(cover) => {
             read_parts(&cover, who, accesses);
             true
         }
-        None => {
-            list_access(who, Way::Wild, 0, 0, accesses);
-            false
-        }
+        None => end_wild(who, accesses),
     }
 }
 
@@ -156,10 +151,10 @@ pub(crate) fn store_general(
     words: &[u32],
     who: Who,
     memory: &mut PhysMem,
-    accesses: &mut ArrayVec<Access, 272>,
+    accesses: &mut Accesses,
 ) -> bool
     requires { array_vec_len accesses.old ≤ 8 }
-    ensures { (r : Lists) → Shows (carried who (general_written bits address tile.frame tile.x tile.y words.now (Done r)) memory.old) accesses.old.items accesses.new.items memory.new (if result then Some r else None) }
+    ensures { (r : Lists) → Carries who (general_written bits address tile.frame tile.x tile.y words.now (Done r)) memory.old memory.new accesses.old accesses.new (if_tame result r) }
 {
     if names_none(bits) {
         return true;
@@ -171,15 +166,9 @@ pub(crate) fn store_general(
 
 /// Loads tile (x, y) by general bits. False comes exactly where that is wild.
 #[tactic(auto, unfolding(crate::specs::Surfaces::general_read))]
-fn load_general(
-    bits: u16,
-    address: u32,
-    tile: Tile,
-    who: Who,
-    accesses: &mut ArrayVec<Access, 272>,
-) -> bool
+fn load_general(bits: u16, address: u32, tile: Tile, who: Who, accesses: &mut Accesses) -> bool
     requires { array_vec_len accesses.old ≤ 8 }
-    ensures { (m : List ℕ) (r : Lists) → Shows (carried who (general_read bits address tile.frame tile.x tile.y (Done r)) m) accesses.old.items accesses.new.items m (if result then Some r else None) }
+    ensures { (r : Lists) → CarriesAnywhere who (general_read bits address tile.frame tile.x tile.y (Done r)) accesses.old accesses.new (if_tame result r) }
 {
     if names_none(bits) {
         return true;
@@ -196,16 +185,13 @@ pub(crate) fn store_frame(
     words: &[u32],
     who: Who,
     memory: &mut PhysMem,
-    accesses: &mut ArrayVec<Access, 272>,
+    accesses: &mut Accesses,
 ) -> bool
     requires { array_vec_len accesses.old ≤ 8 }
-    ensures { (r : Lists) → Shows (carried who (frame_written tile.frame tile.x tile.y words.now (Done r)) memory.old) accesses.old.items accesses.new.items memory.new (if result then Some r else None) }
+    ensures { (r : Lists) → Carries who (frame_written tile.frame tile.x tile.y words.now (Done r)) memory.old memory.new accesses.old accesses.new (if_tame result r) }
 {
     match tile.frame {
-        None => {
-            list_access(who, Way::Wild, 0, 0, accesses);
-            false
-        }
+        None => end_wild(who, accesses),
         Some(frame) => {
             let style = frame_style(frame.bits);
             let cover = cover_for(style, Some(frame), frame.address, tile.x, tile.y);
@@ -221,10 +207,10 @@ pub(crate) fn store_whole(
     words: &[u32],
     who: Who,
     memory: &mut PhysMem,
-    accesses: &mut ArrayVec<Access, 272>,
+    accesses: &mut Accesses,
 )
     requires { array_vec_len accesses.old ≤ 8 }
-    ensures { (r : Lists) → Shows (carried who (whole_written address words.now (Done r)) memory.old) accesses.old.items accesses.new.items memory.new (Some r) }
+    ensures { (r : Lists) → Carries who (whole_written address words.now (Done r)) memory.old memory.new accesses.old accesses.new (Some r) }
 {
     let place = aligned(address) as u64;
     store_chosen(memory, place, words, 0, WHOLE_SIZE);
@@ -233,9 +219,9 @@ pub(crate) fn store_whole(
 
 /// Loads a tile in full resolution.
 #[tactic(auto, unfolding(crate::specs::Surfaces::whole_read))]
-fn load_whole(address: u32, who: Who, accesses: &mut ArrayVec<Access, 272>)
+fn load_whole(address: u32, who: Who, accesses: &mut Accesses)
     requires { array_vec_len accesses.old ≤ 8 }
-    ensures { (m : List ℕ) (r : Lists) → Shows (carried who (whole_read address (Done r)) m) accesses.old.items accesses.new.items m (Some r) }
+    ensures { (r : Lists) → CarriesAnywhere who (whole_read address (Done r)) accesses.old accesses.new (Some r) }
 {
     list_access(
         who,
@@ -247,9 +233,9 @@ fn load_whole(address: u32, who: Who, accesses: &mut ArrayVec<Access, 272>)
 }
 
 /// Does a load at tile (x, y). False comes exactly where that is wild.
-fn load(load: Load, tile: Tile, who: Who, accesses: &mut ArrayVec<Access, 272>) -> bool
+fn load(load: Load, tile: Tile, who: Who, accesses: &mut Accesses) -> bool
     requires { array_vec_len accesses.old ≤ 8 }
-    ensures { (m : List ℕ) (r : Lists) → Shows (carried who (load_read load tile.frame tile.x tile.y (Done r)) m) accesses.old.items accesses.new.items m (if result then Some r else None) }
+    ensures { (r : Lists) → CarriesAnywhere who (load_read load tile.frame tile.x tile.y (Done r)) accesses.old accesses.new (if_tame result r) }
 {
     match load {
         Load::Full(address) => {
@@ -265,10 +251,10 @@ pub(crate) fn load_waiting(
     waiting: Option<Load>,
     tile: Tile,
     who: Who,
-    accesses: &mut ArrayVec<Access, 272>,
+    accesses: &mut Accesses,
 ) -> bool
     requires { array_vec_len accesses.old ≤ 8 }
-    ensures { (m : List ℕ) (r : Lists) → Shows (carried who (waiting_read waiting tile.frame tile.x tile.y (Done r)) m) accesses.old.items accesses.new.items m (if result then Some r else None) }
+    ensures { (r : Lists) → CarriesAnywhere who (waiting_read waiting tile.frame tile.x tile.y (Done r)) accesses.old accesses.new (if_tame result r) }
 {
     match waiting {
         None => true,

@@ -1,15 +1,15 @@
-//! Reads of memory that are listed.
-ghost use Rattle.std.specs.Prelude.{◌≡◌, ◌≤◌, ◌<◌, ◌+◌, ◌^◌, ◌++◌, ◌∷◌, []};
+//! Reads of memory that are listed, and the end of a step that is wild.
+ghost use Rattle.std.specs.Prelude.{◌≡◌, false, ◌≤◌, ◌<◌, ◌+◌, ◌^◌, ◌++◌, ◌∷◌, []};
 ghost use Rattle.arrayvec.specs.ArrayVec.{array_vec_len};
 ghost use Rattle.field_words.specs.Words.{u32_at};
-ghost use Rattle.field_words.specs.declared.access.Way.TheVariants.{Read};
+ghost use Rattle.list_machine.specs.State.{Read, Wild};
 ghost use Rattle.machine_plan.specs.Memory.{bytes_at};
 ghost use Rattle.machine_plan.specs.Plan.{access};
 
 use arrayvec::ArrayVec;
 use byteorder::{ByteOrder, LittleEndian};
-use field_words::{Access, Way};
-use machine_plan::{Who, list_access, read_bytes};
+use field_words::Way;
+use machine_plan::{Accesses, Who, list_access, read_bytes};
 use phys_mem::PhysMem;
 
 /// Reads the `len` bytes from `place` on, and lists the read.
@@ -18,7 +18,7 @@ pub(crate) fn read_listed(
     len: u32,
     who: Who,
     memory: &PhysMem,
-    accesses: &mut ArrayVec<Access, 272>,
+    accesses: &mut Accesses,
 ) -> ArrayVec<u8, 16>
     requires few { len ≤ 16 }
     requires near { place < 2 ^ 63 }
@@ -34,12 +34,7 @@ pub(crate) fn read_listed(
 
 /// Reads the word at `place`, and lists the read.
 #[tactic(auto, unfolding(field_words::specs::Words::u32_at))]
-pub(crate) fn read_word(
-    place: u64,
-    who: Who,
-    memory: &PhysMem,
-    accesses: &mut ArrayVec<Access, 272>,
-) -> u32
+pub(crate) fn read_word(place: u64, who: Who, memory: &PhysMem, accesses: &mut Accesses) -> u32
     requires near { place < 2 ^ 63 }
     requires room { array_vec_len accesses.old < 272 }
     ensures value { result ≡ u32_at (bytes_at memory.now place 4) 0 }
@@ -48,4 +43,14 @@ pub(crate) fn read_word(
 {
     let bytes = read_listed(place, 4, who, memory, accesses);
     LittleEndian::read_u32(&bytes)
+}
+
+/// Lists that the step is wild. It is false, as the result of such a step.
+pub(crate) fn end_wild(who: Who, accesses: &mut Accesses) -> bool
+    requires { array_vec_len accesses.old < 272 }
+    ensures items { accesses.new.items ≡ accesses.old.items ++ access who Wild 0 0 ∷ [] }
+    ensures wild { result ≡ false }
+{
+    list_access(who, Way::Wild, 0, 0, accesses);
+    false
 }

@@ -1,24 +1,20 @@
 //! The renderer's step outside of tile lists: it reads a packet and does what it says.
-ghost use Rattle.std.specs.Prelude.{◌≡◌, ◌+◌, ◌≤◌, ◌<◌, ◌^◌, ℕ, List, length, slice_index, true, false, Some, None, if◌then◌else◌};
+ghost use Rattle.std.specs.Prelude.{◌≡◌, ◌+◌, ◌≤◌, ◌<◌, ◌^◌, length, slice_index, true, false};
 ghost use Rattle.arrayvec.specs.ArrayVec.{array_vec_len};
 ghost use Rattle.packets.specs.Length.{render_taken};
 ghost use Rattle.packets.specs.Packet.{decoded};
 ghost use Rattle.machine_plan.specs.Glance.{glanced};
-ghost use Rattle.machine_plan.specs.Plan.{Shows, carried};
-ghost use Rattle.list_machine.specs.declared.state.Load.{Load};
-ghost use Rattle.list_machine.specs.declared.state.Frame.{Frame};
-ghost use Rattle.list_machine.specs.Lists.{with_renderer, ended_renderer, renderer_ended};
-ghost use Rattle.list_machine.specs.Renderer.{beyond, with_frame, with_load, at_tile, with_inside, wait_plan, tile_named, enter_plan, tile_by, branch_plan, tile_plan, act, acted, packet_plan, may_pass, renderer_ready};
+ghost use Rattle.machine_plan.specs.Turn.{Carries, CarriesAnywhere, if_tame};
+ghost use Rattle.list_machine.specs.Lists.{renderer_ended};
+ghost use Rattle.list_machine.specs.Renderer.{wait_plan, tile_named, enter_plan, tile_by, branch_plan, tile_plan, act, acted, packet_plan, may_pass, renderer_ready};
 
 use crate::blocks::tiles_of;
 use crate::job_lists::JobLists;
 use crate::parts::{load_waiting, store_frame, store_general, store_whole};
-use crate::reads::read_listed;
-use crate::state::{Config, Frame, Load, Renderer, SubList};
+use crate::reads::{end_wild, read_listed};
+use crate::state::{Config, Frame, Load, SubList};
 use crate::surface::Tile;
-use arrayvec::ArrayVec;
-use field_words::{Access, Way};
-use machine_plan::{Who, byte_at, list_access};
+use machine_plan::{Accesses, Who, byte_at};
 use packets::opcode::WAIT_ON_SEMAPHORE;
 use packets::{Packet, decode, render_taken};
 use phys_mem::PhysMem;
@@ -60,79 +56,10 @@ impl JobLists {
         }
     }
 
-    /// The renderer goes past a packet.
-    fn go_past(&mut self, len: u32)
-        requires below { self.old.renderer.place < self.old.renderer.end }
-        requires few { len ≤ 16 }
-        ensures { self.new ≡ beyond self.old len }
-    {
-        let kept = self.renderer();
-        self.set_renderer(Renderer {
-            place: kept.place + len as u64,
-            ..kept
-        });
-    }
-
-    /// Keeps the frame.
-    fn keep_frame(&mut self, frame: Frame)
-        ensures { self.new ≡ with_frame self.old frame }
-    {
-        let kept = self.renderer();
-        self.set_renderer(Renderer {
-            frame: Some(frame),
-            ..kept
-        });
-    }
-
-    /// Keeps a load as waiting.
-    fn keep_load(&mut self, load: Load)
-        ensures { self.new ≡ with_load self.old load }
-    {
-        let kept = self.renderer();
-        self.set_renderer(Renderer {
-            waiting: Some(load),
-            ..kept
-        });
-    }
-
-    /// Keeps the tile's number; no load waits then.
-    fn keep_tile(&mut self, x: u8, y: u8)
-        ensures { self.new ≡ at_tile self.old x y }
-    {
-        let kept = self.renderer();
-        self.set_renderer(Renderer {
-            x,
-            y,
-            waiting: None,
-            ..kept
-        });
-    }
-
-    /// Goes into a tile's list, or out of it.
-    pub(crate) fn go_inside(&mut self, inside: Option<SubList>)
-        ensures { self.new ≡ with_inside self.old inside }
-    {
-        let kept = self.renderer();
-        self.set_renderer(Renderer { inside, ..kept });
-    }
-
-    /// Ends the work of the renderer as it was before a step.
-    fn end_renderer(&mut self, kept: Renderer)
-        requires { kept.end < 2 ^ 33 }
-        ensures { self.new ≡ with_renderer self.old (ended_renderer kept) }
-    {
-        self.set_renderer(Renderer {
-            place: kept.end,
-            waiting: None,
-            inside: None,
-            ..kept
-        });
-    }
-
     /// Keeps a load as waiting. False comes exactly where that is wild, since another one waits.
-    fn wait_with(&mut self, load: Load, who: Who, accesses: &mut ArrayVec<Access, 272>) -> bool
+    fn wait_with(&mut self, load: Load, who: Who, accesses: &mut Accesses) -> bool
         requires { array_vec_len accesses.old ≤ 8 }
-        ensures shows { (m : List ℕ) → Shows (carried who (wait_plan self.old self.old.renderer.waiting load) m) accesses.old.items accesses.new.items m (if result then Some self.new else None) }
+        ensures shows { CarriesAnywhere who (wait_plan self.old self.old.renderer.waiting load) accesses.old accesses.new (if_tame result self.new) }
         ensures same { result ≡ false → self.new ≡ self.old }
     {
         match self.renderer().waiting {
@@ -140,17 +67,14 @@ impl JobLists {
                 self.keep_load(load);
                 true
             }
-            Some(_) => {
-                list_access(who, Way::Wild, 0, 0, accesses);
-                false
-            }
+            Some(_) => end_wild(who, accesses),
         }
     }
 
     /// Goes into the list of this tile. False comes exactly where there is none, which is wild.
-    fn enter(&mut self, tile: Option<u32>, who: Who, accesses: &mut ArrayVec<Access, 272>) -> bool
+    fn enter(&mut self, tile: Option<u32>, who: Who, accesses: &mut Accesses) -> bool
         requires { array_vec_len accesses.old ≤ 8 }
-        ensures shows { (m : List ℕ) → Shows (carried who (enter_plan self.old tile) m) accesses.old.items accesses.new.items m (if result then Some self.new else None) }
+        ensures shows { CarriesAnywhere who (enter_plan self.old tile) accesses.old accesses.new (if_tame result self.new) }
         ensures same { result ≡ false → self.new ≡ self.old }
     {
         match tile {
@@ -158,10 +82,7 @@ impl JobLists {
                 self.go_inside(Some(SubList { tile, at: 0 }));
                 true
             }
-            None => {
-                list_access(who, Way::Wild, 0, 0, accesses);
-                false
-            }
+            None => end_wild(who, accesses),
         }
     }
 
@@ -178,14 +99,13 @@ impl JobLists {
     /// Goes into the tile list at this address. False comes exactly where that is wild: the lists aren't
     /// closed, or none begins there.
     #[tactic(auto, unfolding(crate::specs::Renderer::branch_plan))]
-    fn branch(&mut self, address: u32, who: Who, accesses: &mut ArrayVec<Access, 272>) -> bool
+    fn branch(&mut self, address: u32, who: Who, accesses: &mut Accesses) -> bool
         requires { array_vec_len accesses.old ≤ 8 }
-        ensures shows { (m : List ℕ) → Shows (carried who (branch_plan self.old address) m) accesses.old.items accesses.new.items m (if result then Some self.new else None) }
+        ensures shows { CarriesAnywhere who (branch_plan self.old address) accesses.old accesses.new (if_tame result self.new) }
         ensures same { result ≡ false → self.new ≡ self.old }
     {
         if !self.is_closed() {
-            list_access(who, Way::Wild, 0, 0, accesses);
-            return false;
+            return end_wild(who, accesses);
         }
         let tile = self.tile_at(address);
         self.enter(tile, who, accesses)
@@ -207,9 +127,9 @@ impl JobLists {
 
     /// Names the tile, and does the load that waits there. False comes exactly where that is wild.
     #[tactic(auto, unfolding(crate::specs::Renderer::tile_plan))]
-    fn name_tile(&mut self, x: u8, y: u8, who: Who, accesses: &mut ArrayVec<Access, 272>) -> bool
+    fn name_tile(&mut self, x: u8, y: u8, who: Who, accesses: &mut Accesses) -> bool
         requires { array_vec_len accesses.old ≤ 8 }
-        ensures shows { (m : List ℕ) → Shows (carried who (tile_plan self.old x y) m) accesses.old.items accesses.new.items m (if result then Some self.new else None) }
+        ensures shows { CarriesAnywhere who (tile_plan self.old x y) accesses.old accesses.new (if_tame result self.new) }
         ensures same { result ≡ false → self.new ≡ self.old }
     {
         let kept = self.renderer();
@@ -232,10 +152,10 @@ impl JobLists {
         words: &[u32],
         who: Who,
         memory: &mut PhysMem,
-        accesses: &mut ArrayVec<Access, 272>,
+        accesses: &mut Accesses,
     ) -> bool
         requires { array_vec_len accesses.old ≤ 8 }
-        ensures shows { Shows (carried who (act self.old words.now packet) memory.old) accesses.old.items accesses.new.items memory.new (if result then Some self.new else None) }
+        ensures shows { Carries who (act self.old words.now packet) memory.old memory.new accesses.old accesses.new (if_tame result self.new) }
         ensures same { result ≡ false → self.new ≡ self.old }
     {
         let tile = self.tile();
@@ -287,41 +207,17 @@ impl JobLists {
         words: &[u32],
         who: Who,
         memory: &mut PhysMem,
-        accesses: &mut ArrayVec<Access, 272>,
+        accesses: &mut Accesses,
     ) -> bool
         requires length { length bytes.now ≡ render_taken (slice_index bytes.now 0) }
         requires room { array_vec_len accesses.old ≤ 8 }
-        ensures shows { Shows (carried who (acted self.old words.now (decoded bytes.now)) memory.old) accesses.old.items accesses.new.items memory.new (if result then Some self.new else None) }
+        ensures shows { Carries who (acted self.old words.now (decoded bytes.now)) memory.old memory.new accesses.old accesses.new (if_tame result self.new) }
         ensures same { result ≡ false → self.new ≡ self.old }
     {
         match decode(bytes) {
-            None => {
-                list_access(who, Way::Wild, 0, 0, accesses);
-                false
-            }
+            None => end_wild(who, accesses),
             Some(packet) => self.act(packet, words, who, memory, accesses),
         }
-    }
-
-    /// Reads the packet at the renderer's place, goes past it and does what it says. False comes exactly
-    /// where that is wild; then nothing but the renderer's place has changed.
-    fn pass_packet(
-        &mut self,
-        words: &[u32],
-        who: Who,
-        memory: &mut PhysMem,
-        accesses: &mut ArrayVec<Access, 272>,
-    ) -> bool
-        requires below { self.old.renderer.place < self.old.renderer.end }
-        requires room { array_vec_len accesses.old ≤ 4 }
-        ensures shows { Shows (carried who (packet_plan self.old words.now) memory.old) accesses.old.items accesses.new.items memory.new (if result then Some self.new else None) }
-        ensures same { result ≡ false → with_renderer self.new self.old.renderer ≡ self.old }
-    {
-        let place = self.renderer().place;
-        let len = render_taken(byte_at(memory, place));
-        let bytes = read_listed(place, len, who, memory, accesses);
-        self.go_past(len);
-        self.act_on(&bytes, words, who, memory, accesses)
     }
 
     /// Reads the packet at the renderer's place, goes past it and does what it says. False comes exactly
@@ -331,18 +227,21 @@ impl JobLists {
         words: &[u32],
         who: Who,
         memory: &mut PhysMem,
-        accesses: &mut ArrayVec<Access, 272>,
+        accesses: &mut Accesses,
     ) -> bool
         requires below { self.old.renderer.place < self.old.renderer.end }
         requires room { array_vec_len accesses.old ≤ 4 }
-        ensures shows { Shows (carried who (packet_plan self.old words.now) memory.old) accesses.old.items accesses.new.items memory.new (if result then Some self.new else None) }
+        ensures shows { Carries who (packet_plan self.old words.now) memory.old memory.new accesses.old accesses.new (if_tame result self.new) }
         ensures wild { result ≡ false → self.new ≡ renderer_ended self.old }
     {
-        let kept = self.renderer();
-        if self.pass_packet(words, who, memory, accesses) {
+        let place = self.renderer().place;
+        let len = render_taken(byte_at(memory, place));
+        let bytes = read_listed(place, len, who, memory, accesses);
+        self.go_past(len);
+        if self.act_on(&bytes, words, who, memory, accesses) {
             return true;
         }
-        self.end_renderer(kept);
+        self.end_renderer();
         false
     }
 }

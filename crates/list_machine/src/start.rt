@@ -1,15 +1,13 @@
 //! How a list unit starts a program.
 ghost use Rattle.std.specs.Prelude.{◌≡◌, ◌≤◌, ◌<◌, ◌+◌, length, Some};
 ghost use Rattle.arrayvec.specs.ArrayVec.{array_vec_len};
-ghost use Rattle.machine_plan.specs.Plan.{Shows, carried};
+ghost use Rattle.machine_plan.specs.Turn.{CarriesOver};
 ghost use Rattle.list_machine.specs.Start.{code_offset, can_start, launch_plan, start_as, is_threaded, start_plan};
 
 use crate::fetch::record_place;
 use crate::reads::{read_listed, read_word};
 use crate::state::Program;
-use arrayvec::ArrayVec;
-use field_words::Access;
-use machine_plan::{Free, Launch, Who, read_bytes};
+use machine_plan::{Accesses, Free, Launch, Who, read_bytes};
 use phys_mem::PhysMem;
 
 // Where a record holds the place of a program's code.
@@ -43,10 +41,10 @@ fn read_launch(
     word: u32,
     who: Who,
     memory: &PhysMem,
-    accesses: &mut ArrayVec<Access, 272>,
+    accesses: &mut Accesses,
 ) -> Launch
     requires { array_vec_len accesses.old < 260 }
-    ensures shows { Shows (carried who (launch_plan program threaded word) memory.now) accesses.old.items accesses.new.items memory.now (Some (Some result)) }
+    ensures shows { CarriesOver who (launch_plan program threaded word) memory.now accesses.old accesses.new (Some (Some result)) }
     ensures len { array_vec_len accesses.new ≡ array_vec_len accesses.old + 3 }
 {
     let base = record_place(word);
@@ -70,10 +68,10 @@ fn start_as(
     word: u32,
     who: Who,
     memory: &PhysMem,
-    accesses: &mut ArrayVec<Access, 272>,
+    accesses: &mut Accesses,
 ) -> Option<Launch>
     requires { array_vec_len accesses.old < 260 }
-    ensures shows { Shows (carried who (start_as program threaded free.now word) memory.now) accesses.old.items accesses.new.items memory.now (Some result) }
+    ensures shows { CarriesOver who (start_as program threaded free.now word) memory.now accesses.old accesses.new (Some result) }
     ensures len { array_vec_len accesses.new ≤ array_vec_len accesses.old + 3 }
 {
     if !can_start(threaded, free) {
@@ -100,10 +98,10 @@ pub(crate) fn start_program(
     word: u32,
     who: Who,
     memory: &PhysMem,
-    accesses: &mut ArrayVec<Access, 272>,
+    accesses: &mut Accesses,
 ) -> Option<Launch>
     requires { array_vec_len accesses.old < 260 }
-    ensures shows { Shows (carried who (start_plan program free.now word) memory.now) accesses.old.items accesses.new.items memory.now (Some result) }
+    ensures shows { CarriesOver who (start_plan program free.now word) memory.now accesses.old accesses.new (Some result) }
     ensures len { array_vec_len accesses.new ≤ array_vec_len accesses.old + 3 }
 {
     match program {

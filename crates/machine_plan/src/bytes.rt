@@ -4,6 +4,7 @@ ghost use Rattle.arrayvec.specs.ArrayVec.{array_vec_len};
 ghost use Rattle.machine_plan.specs.Memory.{bytes_at};
 ghost use Rattle.machine_plan.specs.Plan.{access};
 
+use crate::accesses::Accesses;
 use crate::who::Who;
 use arrayvec::ArrayVec;
 use field_words::{Access, Way};
@@ -46,7 +47,7 @@ pub fn put_byte(memory: &mut PhysMem, place: u64, byte: u8)
 }
 
 /// Lists an access behind those already listed.
-pub fn list_access(who: Who, way: Way, place: u64, len: u32, accesses: &mut ArrayVec<Access, 272>)
+pub fn list_access(who: Who, way: Way, place: u64, len: u32, accesses: &mut Accesses)
     requires { array_vec_len accesses.old < 272 }
     ensures items { accesses.new.items ≡ accesses.old.items ++ access who way place len ∷ [] }
     ensures len { array_vec_len accesses.new ≡ array_vec_len accesses.old + 1 }

@@ -5,11 +5,13 @@
 //! read and write memory as the machine sees it, where a place outside reads as zero.
 #![tactic(auto)]
 
+mod accesses;
 mod bytes;
 mod choice;
 mod launch;
 mod who;
 
+pub use accesses::Accesses;
 pub use bytes::{byte_at, list_access, put_byte, read_bytes};
 pub use choice::choice_word;
 pub use launch::{Free, Launch, Slot};

@@ -13,4 +13,4 @@ loop-i-preserved c = record {
 }
 
 pub returns : goal.returns
-returns c = λ m r. reads_end c.args.who c.args.cover.now r m c.args.accesses.now.items c.loop-i.accesses.items (part_count c.args.cover.now) c.loop-i.i (omega arith) (c.loop-i.invariant.left m r)
+returns c = λ r m. reads_end c.args.who c.args.cover.now r m c.args.accesses.now.items c.loop-i.accesses.items (part_count c.args.cover.now) c.loop-i.i (omega arith) (c.loop-i.invariant.left m r)

@@ -1,6 +1,7 @@
 -- A packet, with no primitive in work.
 use Rattle.std.proofs.Common.{◌∙◌, ap, sym}
-use Rattle.list_machine.specs.Lists.{binner_of, if_tame, quiet}
+use Rattle.machine_plan.specs.Turn.{if_tame}
+use Rattle.list_machine.specs.Lists.{binner_of, quiet}
 use Rattle.list_machine.proofs.Binning.{packet_shows}
 use Rattle.list_machine.proofs.job_lists.JobLists.step_binner.Goals as goal
 
