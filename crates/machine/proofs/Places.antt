@@ -1,31 +1,11 @@
 -- Items of lists by their numbers: the code's calls, and the definitions.
-use Rattle.std.proofs.Common.{◌≡◌, ◌≤◌, ◌<◌, ℕ, zero, suc, ◌+◌, Bool, true, false, IsTrue, if◌then◌else◌, List, [], ◌∷◌, length, slice_index_or, slice_set, Option, None, Some, refl, sym, ◌∙◌, ap, subst, arith}
+use Rattle.std.proofs.Common.{◌≡◌, ◌≤◌, ◌<◌, ℕ, suc, ◌+◌, Bool, true, false, if◌then◌else◌, List, [], ◌∷◌, length, slice_index_or, Option, None, Some, refl, sym, ◌∙◌, ap, arith}
 use Rattle.std.specs.Prelude.{option_map, position, nat_lt, IfSome}
 use Rattle.std.proofs.lemmas.List.Quantifiers.{position-Some}
 use Rattle.std.specs.List.{position_or_len}
 use Rattle.std.proofs.lemmas.Grind.{common_steps}
-use Rattle.machine_plan.specs.Glance.{Glance, Now, glanced}
 use Rattle.list_machine.specs.Lists.{Lists}
-use Rattle.qpu_machine.specs.declared.state.Qpu.{Qpu}
-use Rattle.qpu_machine.specs.Qpu.{idle_qpu}
-use Rattle.qpu_machine.specs.Bounds.{IsBounded, AreBounded}
-use Rattle.machine.specs.State.{Picked, first_where, item_at, put_at, picked_in, no_job}
-use Rattle.machine.specs.Step.{qpu_may, tmu_may}
-
-pub item_there : {X : Type 0} (xs : List X) (k : ℕ) (d : X) → k < length xs → item_at xs k ≡ Some (slice_index_or xs k d)
-item_there [] k d below = absurd (omega (arith, below))
-item_there (x ∷ xs) zero d below = refl
-item_there (x ∷ xs) (suc k) d below = item_there xs k d (omega (arith, below))
-
-pub item_past : {X : Type 0} (xs : List X) (k : ℕ) → length xs ≤ k → item_at xs k ≡ None
-item_past [] k over = refl
-item_past (x ∷ xs) zero over = absurd (omega (arith, over))
-item_past (x ∷ xs) (suc k) over = item_past xs k (omega (arith, over))
-
-pub put_is : {X : Type 0} (xs : List X) (k : ℕ) (new : X) → put_at xs k new ≡ slice_set xs k new
-put_is [] k new = refl
-put_is (x ∷ xs) zero new = refl
-put_is (x ∷ xs) (suc k) new = ap (λ rest. x ∷ rest) (put_is xs k new)
+use Rattle.machine.specs.State.{Picked, first_where, picked_in, no_job}
 
 -- what is found at place k, where the list is numbered from n on
 abbrev pub found_from : List Lists → ℕ → ℕ → Picked Lists

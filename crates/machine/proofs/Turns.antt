@@ -1,8 +1,10 @@
 -- Code that carried out a unit's plan took the machine's turn, unit by unit.
 use Rattle.std.proofs.Common.{◌≡◌, ◌<◌, ◌≤◌, ℕ, zero, suc, Bool, true, false, IsTrue, if◌then◌else◌, List, [], ◌∷◌, length, slice_index_or, slice_set, Option, Some, None, refl, sym, ◌∙◌, ap, subst, arith}
-use Rattle.std.specs.Prelude.{option_map, unwrap_or, nat_lt, is_some}
+use Rattle.std.specs.Prelude.{option_map, unwrap_or}
 use Rattle.std.proofs.lemmas.List.{length-set}
+use Rattle.std.proofs.lemmas.Option.{slice_get_read}
 use Rattle.field_words.specs.declared.access.Access.{Access}
+use Rattle.field_words.specs.declared.access.Actor.{Actor}
 use Rattle.field_words.specs.declared.access.Actor.TheVariants.{Qpu as TheQpu, Tmu as TheTmu}
 use Rattle.machine_plan.specs.declared.launch.Free.{Free}
 use Rattle.machine_plan.specs.declared.launch.Launch.{Launch}
@@ -10,19 +12,18 @@ use Rattle.machine_plan.specs.declared.who.Who.{Who}
 use Rattle.machine_plan.specs.Glance.{glanced, Now}
 use Rattle.std.proofs.lemmas.Grind.{common_steps}
 use Rattle.machine_plan.specs.Plan.{Plan, Shows, carried}
+use Rattle.machine_plan.specs.Turn.{if_tame}
 use Rattle.machine_plan.specs.World.{Moves, Turn, turned, mapped}
 use Rattle.machine_plan.specs.Runs.{Moved}
 use Rattle.machine_plan.proofs.Worlds.{unit_done}
-use Rattle.list_machine.specs.Lists.{Lists, Turned, turned_to, quiet, binner_of, renderer_of, binner_ended, renderer_ended}
-use Rattle.list_machine.specs.Binner.{binner_ready, binner_plan}
-use Rattle.list_machine.specs.Renderer.{renderer_plan}
+use Rattle.list_machine.specs.Lists.{Lists, Turned, turned_to, quiet}
+use Rattle.list_machine.specs.Binner.{binner_ready}
 use Rattle.qpu_machine.specs.declared.state.Qpu.{Qpu}
-use Rattle.qpu_machine.specs.Qpu.{active_of, job_of_thread, qpu_ready, qpu_plan, qpu_stopped, queue_of, oldest, job_of_request, tmu_plan, dropped, free_in, idle_qpu}
-use Rattle.qpu_machine.specs.Bounds.{IsBounded, AreBounded}
-use Rattle.machine.specs.State.{Units, State, item_at, put_at, job_at, picked_in, AreWhole}
-use Rattle.machine.specs.Step.{qpu_may, tmu_may, with_launch, with_lists, with_qpu, binner_turn, renderer_turn, qpu_turn, tmu_turn}
+use Rattle.qpu_machine.specs.Qpu.{active_of, job_of_thread, qpu_plan, qpu_stopped, queue_of, oldest, job_of_request, tmu_plan, dropped, free_in, idle_qpu}
+use Rattle.qpu_machine.specs.Bounds.{IsBounded}
+use Rattle.machine.specs.State.{Units, State, item_at, put_at, job_at, AreWhole}
+use Rattle.machine.specs.Step.{qpu_may, tmu_may, with_launch, with_lists, with_qpu, qpu_turn, tmu_turn}
 use Rattle.qpu_machine.proofs.Starts.{inside_any, set_bounded}
-use Rattle.machine.proofs.Places.{item_there, put_is}
 
 -- a unit that may step is there
 pub qpu_there : (qpus : List Qpu) (k : ℕ) (m : List ℕ) → IsTrue (glanced (qpu_may (item_at qpus k)) m) → k < length qpus
@@ -51,49 +52,40 @@ tmu_here s was k n q is may here =
     here ∙ inside_any s.units.qpus k q (tmu_below s was k n is may)
 
 -- what a processor's step leaves, wild or not
-qpu_after : (u : Units) (k : ℕ) (next wild : Qpu) (done : Bool) → (done ≡ false → next ≡ wild) → with_qpu u k next ≡ unwrap_or (option_map (with_qpu u k) (if done then Some next else None)) (with_qpu u k wild)
+qpu_after : (u : Units) (k : ℕ) (next wild : Qpu) (done : Bool) → (done ≡ false → next ≡ wild) → with_qpu u k next ≡ unwrap_or (option_map (with_qpu u k) (if_tame done next)) (with_qpu u k wild)
 qpu_after u k next wild true h = refl
 qpu_after u k next wild false h = ap (with_qpu u k) (h refl)
 
--- the turn of the processor k
-abbrev pub PutQpu : State → ℕ → Qpu → List ℕ → State
-PutQpu s k q memory = record { memory = memory; units = record { jobs = s.units.jobs; qpus = slice_set s.units.qpus k q } }
+-- the state with this at processor k
+abbrev pub PutQpu : State → ℕ → Qpu → State
+PutQpu s k q = record { memory = s.memory; units = with_qpu s.units k q }
 
-put_qpu : (s : State) (k : ℕ) (q : Qpu) (memory : List ℕ) → PutQpu s k q memory ≡ record { memory = memory; units = with_qpu s.units k q }
-put_qpu s k q memory = ap (λ qpus. record { memory = memory; units = record { jobs = s.units.jobs; qpus = qpus } }) (sym (put_is s.units.qpus k q))
+-- the turn of processor k, or of one of its TMUs
+processor_done : (s was : State) → s ≡ was → (k job own : ℕ) (unit : Actor) (plan : Plan Qpu) (turn : Units → Turn Units) (next wild : Qpu) (done : Bool) (before listed : List Access) → before ≡ [] → job ≡ own
+    → turn s.units ≡ record { who = record { unit = unit; job = own }; plan = mapped (with_qpu s.units k) plan; wild = with_qpu s.units k wild }
+    → Shows (carried (record { unit = unit; job = job }) plan s.memory) before listed s.memory (if_tame done next) → (done ≡ false → next ≡ wild) → Moves (turned was (turn was.units)) listed (PutQpu s k next)
+processor_done s was is k job own unit plan turn next wild done before listed empty job_is turn_is shows stops =
+    let shown : Shows (carried (record { unit = unit; job = own }) plan s.memory) [] listed s.memory (if_tame done next) =
+    subst (λ j. Shows (carried (record { unit = unit; job = j }) plan s.memory) [] listed s.memory (if_tame done next)) job_is
+    (subst (λ b. Shows (carried (record { unit = unit; job = job }) plan s.memory) b listed s.memory (if_tame done next)) empty shows) in
+    let moves = unit_done s (record { unit = unit; job = own }) plan (with_qpu s.units k) (with_qpu s.units k wild) listed s.memory (if_tame done next) shown in
+    subst (λ (w : State). Moves (turned w (turn w.units)) listed (PutQpu s k next)) is
+    (subst (λ (t : Turn Units). Moves (turned s t) listed (PutQpu s k next)) (sym turn_is)
+    (record { accesses_are = moves.accesses_are; state_is = ap (λ u. record { memory = s.memory; units = u }) (qpu_after s.units k next wild done stops) ∙ moves.state_is }))
 
-unit_took : (s : State) (who : Who) (plan : Plan Qpu) (k : ℕ) (next wild : Qpu) (done : Bool) (listed : List Access) → Shows (carried who plan s.memory) [] listed s.memory (if done then Some next else None) → (done ≡ false → next ≡ wild)
-    → Moves (turned s (record { who = who; plan = mapped (with_qpu s.units k) plan; wild = with_qpu s.units k wild })) listed (PutQpu s k next s.memory)
-unit_took s who plan k next wild done listed shows stops =
-    let moves = unit_done s who plan (with_qpu s.units k) (with_qpu s.units k wild) listed s.memory (if done then Some next else None) shows in
-    record {
-      accesses_are = moves.accesses_are;
-      state_is = put_qpu s k next s.memory ∙ (ap (λ u. record { memory = s.memory; units = u }) (qpu_after s.units k next wild done stops) ∙ moves.state_is);
-    }
+pub qpu_done : (s was : State) → s ≡ was → (k job : ℕ) (words : List ℕ) (q next : Qpu) (done : Bool) (before listed : List Access) → before ≡ [] → k < length s.units.qpus → q ≡ slice_index_or s.units.qpus k q → job ≡ job_of_thread (active_of q)
+    → Shows (carried (record { unit = TheQpu k; job = job }) (qpu_plan q words) s.memory) before listed s.memory (if_tame done next) → (done ≡ false → next ≡ qpu_stopped q)
+    → Moves (turned was (qpu_turn was.units k (item_at was.units.qpus k) words)) listed (PutQpu s k next)
+qpu_done s was is k job words q next done before listed empty below here job_is shows stops =
+    processor_done s was is k job (job_of_thread (active_of q)) (TheQpu k) (qpu_plan q words) (λ u. qpu_turn u k (item_at u.qpus k) words) next (qpu_stopped q) done before listed empty job_is
+    (ap (λ found. qpu_turn s.units k found words) (slice_get_read s.units.qpus (length s.units.qpus) k q refl below here)) shows stops
 
-pub qpu_done : (s was : State) → s ≡ was → (k job : ℕ) (words : List ℕ) (q next : Qpu) (done : Bool) (before listed : List Access) → before ≡ [] → k < length s.units.qpus → q ≡ slice_index_or s.units.qpus k idle_qpu → job ≡ job_of_thread (active_of q)
-    → Shows (carried (record { unit = TheQpu k; job = job }) (qpu_plan q words) s.memory) before listed s.memory (if done then Some next else None) → (done ≡ false → next ≡ qpu_stopped q)
-    → Moves (turned was (qpu_turn was.units k (item_at was.units.qpus k) words)) listed (PutQpu s k next s.memory)
-qpu_done s was is k job words q next done before listed empty below q_is job_is shows stops =
-    let here : item_at s.units.qpus k ≡ Some q = item_there s.units.qpus k idle_qpu below ∙ ap Some (sym q_is) in
-    let shown : Shows (carried (record { unit = TheQpu k; job = job_of_thread (active_of q) }) (qpu_plan q words) s.memory) [] listed s.memory (if done then Some next else None) =
-    subst (λ j. Shows (carried (record { unit = TheQpu k; job = j }) (qpu_plan q words) s.memory) [] listed s.memory (if done then Some next else None)) job_is
-    (subst (λ b. Shows (carried (record { unit = TheQpu k; job = job }) (qpu_plan q words) s.memory) b listed s.memory (if done then Some next else None)) empty shows) in
-    subst (λ w. Moves (turned w (qpu_turn w.units k (item_at w.units.qpus k) words)) listed (PutQpu s k next s.memory)) is
-    (subst (λ found. Moves (turned s (qpu_turn s.units k found words)) listed (PutQpu s k next s.memory)) (sym here)
-    (unit_took s (record { unit = TheQpu k; job = job_of_thread (active_of q) }) (qpu_plan q words) k next (qpu_stopped q) done listed shown stops))
-
-pub tmu_done : (s was : State) → s ≡ was → (k n job : ℕ) (words : List ℕ) (q next : Qpu) (done : Bool) (before listed : List Access) → before ≡ [] → k < length s.units.qpus → q ≡ slice_index_or s.units.qpus k idle_qpu → job ≡ job_of_request (oldest (queue_of q n))
-    → Shows (carried (record { unit = TheTmu k n; job = job }) (tmu_plan q n words) s.memory) before listed s.memory (if done then Some next else None) → (done ≡ false → next ≡ dropped q n)
-    → Moves (turned was (tmu_turn was.units k n (item_at was.units.qpus k) words)) listed (PutQpu s k next s.memory)
-tmu_done s was is k n job words q next done before listed empty below q_is job_is shows stops =
-    let here : item_at s.units.qpus k ≡ Some q = item_there s.units.qpus k idle_qpu below ∙ ap Some (sym q_is) in
-    let shown : Shows (carried (record { unit = TheTmu k n; job = job_of_request (oldest (queue_of q n)) }) (tmu_plan q n words) s.memory) [] listed s.memory (if done then Some next else None) =
-    subst (λ j. Shows (carried (record { unit = TheTmu k n; job = j }) (tmu_plan q n words) s.memory) [] listed s.memory (if done then Some next else None)) job_is
-    (subst (λ b. Shows (carried (record { unit = TheTmu k n; job = job }) (tmu_plan q n words) s.memory) b listed s.memory (if done then Some next else None)) empty shows) in
-    subst (λ w. Moves (turned w (tmu_turn w.units k n (item_at w.units.qpus k) words)) listed (PutQpu s k next s.memory)) is
-    (subst (λ found. Moves (turned s (tmu_turn s.units k n found words)) listed (PutQpu s k next s.memory)) (sym here)
-    (unit_took s (record { unit = TheTmu k n; job = job_of_request (oldest (queue_of q n)) }) (tmu_plan q n words) k next (dropped q n) done listed shown stops))
+pub tmu_done : (s was : State) → s ≡ was → (k n job : ℕ) (words : List ℕ) (q next : Qpu) (done : Bool) (before listed : List Access) → before ≡ [] → k < length s.units.qpus → q ≡ slice_index_or s.units.qpus k q → job ≡ job_of_request (oldest (queue_of q n))
+    → Shows (carried (record { unit = TheTmu k n; job = job }) (tmu_plan q n words) s.memory) before listed s.memory (if_tame done next) → (done ≡ false → next ≡ dropped q n)
+    → Moves (turned was (tmu_turn was.units k n (item_at was.units.qpus k) words)) listed (PutQpu s k next)
+tmu_done s was is k n job words q next done before listed empty below here job_is shows stops =
+    processor_done s was is k job (job_of_request (oldest (queue_of q n))) (TheTmu k n) (tmu_plan q n words) (λ u. tmu_turn u k n (item_at u.qpus k) words) next (dropped q n) done before listed empty job_is
+    (ap (λ found. tmu_turn s.units k n found words) (slice_get_read s.units.qpus (length s.units.qpus) k q refl below here)) shows stops
 
 -- the processors stay bounded
 pub whole_with : (jobs : List Lists) (qpus : List Qpu) (k : ℕ) (q : Qpu) → AreWhole jobs qpus → IsBounded q → AreWhole jobs (slice_set qpus k q)
@@ -104,43 +96,34 @@ abbrev pub PutLists : State → ℕ → Lists → Option (Option Launch) → Lis
 PutLists s j next started memory = record { memory = memory; units = record { jobs = slice_set s.units.jobs j next; qpus = with_launch j (unwrap_or started None) s.units.qpus } }
 
 lists_after : (u : Units) (j : ℕ) (next ended : Lists) (started : Option (Option Launch)) → (started ≡ None → next ≡ ended)
-    → record { jobs = slice_set u.jobs j next; qpus = with_launch j (unwrap_or started None) u.qpus } ≡ unwrap_or (option_map (with_lists u j) (option_map (turned_to next) started)) (with_lists u j (quiet ended))
-lists_after u j next ended None h = ap (λ jobs. record { jobs = jobs; qpus = u.qpus }) (sym (put_is u.jobs j next) ∙ ap (put_at u.jobs j) (h refl))
-lists_after u j next ended (Some launch) h = ap (λ jobs. record { jobs = jobs; qpus = with_launch j launch u.qpus }) (sym (put_is u.jobs j next))
+    → record { jobs = put_at u.jobs j next; qpus = with_launch j (unwrap_or started None) u.qpus } ≡ unwrap_or (option_map (with_lists u j) (option_map (turned_to next) started)) (with_lists u j (quiet ended))
+lists_after u j next ended None h = ap (λ one. record { jobs = put_at u.jobs j one; qpus = u.qpus }) (h refl)
+lists_after u j next ended (Some launch) h = refl
 
-lists_took : (s : State) (who : Who) (plan : Plan Turned) (j : ℕ) (next ended : Lists) (started : Option (Option Launch)) (listed : List Access) (memory : List ℕ)
-    → Shows (carried who plan s.memory) [] listed memory (option_map (turned_to next) started) → (started ≡ None → next ≡ ended)
-    → Moves (turned s (record { who = who; plan = mapped (with_lists s.units j) plan; wild = with_lists s.units j (quiet ended) })) listed (PutLists s j next started memory)
-lists_took s who plan j next ended started listed memory shows stops =
-    let moves = unit_done s who plan (with_lists s.units j) (with_lists s.units j (quiet ended)) listed memory (option_map (turned_to next) started) shows in
-    record {
+-- the turn of a list unit for job j
+abbrev pub lists_turn : Who → (Lists → Free → List ℕ → Plan Turned) → (Lists → Lists) → Units → ℕ → List ℕ → Turn Units
+lists_turn who plan ended u j words = record {
+  who = who;
+  plan = mapped (with_lists u j) (plan (job_at u.jobs j) (free_in u.qpus) words);
+  wild = with_lists u j (quiet (ended (job_at u.jobs j)));
+}
+
+pub lists_done : (who : Who) (plan : Lists → Free → List ℕ → Plan Turned) (ended : Lists → Lists) (s was : State) → s ≡ was → (j : ℕ) (words : List ℕ) (old next : Lists) (free : Free) (started : Option (Option Launch)) (before listed : List Access) (memory : List ℕ)
+    → before ≡ [] → old ≡ job_at s.units.jobs j → free ≡ free_in s.units.qpus → Shows (carried who (plan old free words) s.memory) before listed memory (option_map (turned_to next) started) → (started ≡ None → next ≡ ended old)
+    → Moves (turned was (lists_turn who plan ended was.units j words)) listed (PutLists s j next started memory)
+lists_done who plan ended s was is j words old next free started before listed memory empty old_is free_is shows stops =
+    let here = job_at s.units.jobs j in
+    let result = option_map (turned_to next) started in
+    let shown : Shows (carried who (plan here (free_in s.units.qpus) words) s.memory) [] listed memory result =
+    subst (λ b. Shows (carried who (plan here (free_in s.units.qpus) words) s.memory) b listed memory result) empty
+    (subst (λ f. Shows (carried who (plan here f words) s.memory) before listed memory result) free_is
+    (subst (λ l. Shows (carried who (plan l free words) s.memory) before listed memory result) old_is shows)) in
+    let moves = unit_done s who (plan here (free_in s.units.qpus) words) (with_lists s.units j) (with_lists s.units j (quiet (ended here))) listed memory result shown in
+    subst (λ (w : State). Moves (turned w (lists_turn who plan ended w.units j words)) listed (PutLists s j next started memory)) is
+    (record {
       accesses_are = moves.accesses_are;
-      state_is = ap (λ u. record { memory = memory; units = u }) (lists_after s.units j next ended started stops) ∙ moves.state_is;
-    }
-
-pub binner_done : (s was : State) → s ≡ was → (j : ℕ) (words : List ℕ) (old next : Lists) (free : Free) (started : Option (Option Launch)) (before listed : List Access) (memory : List ℕ) → before ≡ [] → old ≡ job_at s.units.jobs j → free ≡ free_in s.units.qpus
-    → Shows (carried (binner_of j) (binner_plan old free words) s.memory) before listed memory (option_map (turned_to next) started) → (started ≡ None → next ≡ binner_ended old)
-    → Moves (turned was (binner_turn was.units (Some (picked_in was.units.jobs j)) words)) listed (PutLists s j next started memory)
-binner_done s was is j words old next free started before listed memory empty old_is free_is shows stops =
-    let here = job_at s.units.jobs j in
-    let shown : Shows (carried (binner_of j) (binner_plan here (free_in s.units.qpus) words) s.memory) [] listed memory (option_map (turned_to next) started) =
-    subst (λ b. Shows (carried (binner_of j) (binner_plan here (free_in s.units.qpus) words) s.memory) b listed memory (option_map (turned_to next) started)) empty
-    (subst (λ f. Shows (carried (binner_of j) (binner_plan here f words) s.memory) before listed memory (option_map (turned_to next) started)) free_is
-    (subst (λ l. Shows (carried (binner_of j) (binner_plan l free words) s.memory) before listed memory (option_map (turned_to next) started)) old_is shows)) in
-    subst (λ (w : State). Moves (turned w (binner_turn w.units (Some (picked_in w.units.jobs j)) words)) listed (PutLists s j next started memory)) is
-    (lists_took s (binner_of j) (binner_plan here (free_in s.units.qpus) words) j next (binner_ended here) started listed memory shown (λ none. stops none ∙ ap binner_ended old_is))
-
-pub renderer_done : (s was : State) → s ≡ was → (j : ℕ) (words : List ℕ) (old next : Lists) (free : Free) (started : Option (Option Launch)) (before listed : List Access) (memory : List ℕ) → before ≡ [] → old ≡ job_at s.units.jobs j → free ≡ free_in s.units.qpus
-    → Shows (carried (renderer_of j) (renderer_plan old free words) s.memory) before listed memory (option_map (turned_to next) started) → (started ≡ None → next ≡ renderer_ended old)
-    → Moves (turned was (renderer_turn was.units (Some (picked_in was.units.jobs j)) words)) listed (PutLists s j next started memory)
-renderer_done s was is j words old next free started before listed memory empty old_is free_is shows stops =
-    let here = job_at s.units.jobs j in
-    let shown : Shows (carried (renderer_of j) (renderer_plan here (free_in s.units.qpus) words) s.memory) [] listed memory (option_map (turned_to next) started) =
-    subst (λ b. Shows (carried (renderer_of j) (renderer_plan here (free_in s.units.qpus) words) s.memory) b listed memory (option_map (turned_to next) started)) empty
-    (subst (λ f. Shows (carried (renderer_of j) (renderer_plan here f words) s.memory) before listed memory (option_map (turned_to next) started)) free_is
-    (subst (λ l. Shows (carried (renderer_of j) (renderer_plan l free words) s.memory) before listed memory (option_map (turned_to next) started)) old_is shows)) in
-    subst (λ (w : State). Moves (turned w (renderer_turn w.units (Some (picked_in w.units.jobs j)) words)) listed (PutLists s j next started memory)) is
-    (lists_took s (renderer_of j) (renderer_plan here (free_in s.units.qpus) words) j next (renderer_ended here) started listed memory shown (λ none. stops none ∙ ap renderer_ended old_is))
+      state_is = ap (λ u. record { memory = memory; units = u }) (lists_after s.units j next (ended here) started (λ none. stops none ∙ ap ended old_is)) ∙ moves.state_is;
+    })
 
 -- a binner that may step is ready as it is
 pub binner_now : (s : Lists) (free : Free) (m : List ℕ) → IsTrue (glanced (binner_ready s free) m) → binner_ready s free ≡ Now true

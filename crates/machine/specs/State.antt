@@ -1,5 +1,6 @@
 -- The machine's state: memory, what the list units keep for each job, and the shader processors.
-use Rattle.std.specs.Prelude.{◌≡◌, ◌≤◌, ◌<◌, ℕ, zero, suc, ◌+◌, Bool, if◌then◌else◌, List, [], ◌∷◌, length, map, replicate, slice_index_or, Option, None, Some}
+use Rattle.std.specs.Prelude.{◌≡◌, ◌≤◌, ◌<◌, ℕ, ◌+◌, Bool, if◌then◌else◌, List, [], ◌∷◌, length, map, replicate, slice_index_or, Option, None, Some}
+pub use Rattle.std.specs.Prelude.{slice_get as item_at, slice_set as put_at}
 use Rattle.machine_plan.specs.World.{World}
 use Rattle.list_machine.specs.Binner.{has_binner_work}
 use Rattle.list_machine.specs.Lists.{Lists, lists_start}
@@ -39,17 +40,6 @@ pub record Picked (X : Type 0) : Type 0 where
 abbrev pub first_where : {X : Type 0} → (X → Bool) → ℕ → List X → Option (Picked X)
 first_where p n [] = None
 first_where p n (x ∷ xs) = if p x then Some (record { number = n; item = x }) else first_where p (n + 1) xs
-
-abbrev pub item_at : {X : Type 0} → List X → ℕ → Option X
-item_at [] n = None
-item_at (x ∷ xs) zero = Some x
-item_at (x ∷ xs) (suc n) = item_at xs n
-
--- the list with another item there; past its end it stays as it is
-abbrev pub put_at : {X : Type 0} → List X → ℕ → X → List X
-put_at [] n new = []
-put_at (x ∷ xs) zero new = new ∷ xs
-put_at (x ∷ xs) (suc n) new = x ∷ put_at xs n new
 
 -- The binner's job is the least one with work left for the binner, the renderer's the least one with
 -- work left for the renderer.

@@ -10,9 +10,7 @@ ghost use Rattle.machine.specs.State.{binner_job, renderer_job, picked_in, job_a
 ghost use Rattle.machine.specs.Step.{with_launch, is_ahead, binner_may, renderer_may, binner_turn, renderer_turn};
 
 use crate::machine::Machine;
-use arrayvec::ArrayVec;
-use field_words::Access;
-use machine_plan::Launch;
+use machine_plan::{Accesses, Launch};
 use qpu_machine::{Qpu, free_in, start_in};
 
 /// The program that a list unit starts, if it does, begins for this job.
@@ -63,7 +61,7 @@ impl Machine {
     }
 
     /// The binner's turn, for its job; without one it does nothing.
-    pub(crate) fn take_binner_turn(&mut self, words: &[u32], accesses: &mut ArrayVec<Access, 272>)
+    pub(crate) fn take_binner_turn(&mut self, words: &[u32], accesses: &mut Accesses)
         requires empty { accesses.old.items ≡ [] }
         requires may { IsTrue (glanced (binner_may self.old.units (binner_job self.old.units)) self.old.memory) }
         ensures { Moves (turned self.old (binner_turn self.old.units (binner_job self.old.units) words.now)) accesses.new.items self.new }
@@ -74,7 +72,7 @@ impl Machine {
     }
 
     // One step of the binner for this job.
-    fn bin(&mut self, job: usize, words: &[u32], accesses: &mut ArrayVec<Access, 272>)
+    fn bin(&mut self, job: usize, words: &[u32], accesses: &mut Accesses)
         requires empty { accesses.old.items ≡ [] }
         requires within { job < length self.old.units.jobs }
         requires ready { IsTrue (glanced (binner_ready (job_at self.old.units.jobs job) (free_in self.old.units.qpus)) self.old.memory) }
@@ -92,7 +90,7 @@ impl Machine {
     }
 
     /// The renderer's turn, for its job; without one it does nothing.
-    pub(crate) fn take_renderer_turn(&mut self, words: &[u32], accesses: &mut ArrayVec<Access, 272>)
+    pub(crate) fn take_renderer_turn(&mut self, words: &[u32], accesses: &mut Accesses)
         requires empty { accesses.old.items ≡ [] }
         requires may { IsTrue (glanced (renderer_may (renderer_job self.old.units)) self.old.memory) }
         ensures { Moves (turned self.old (renderer_turn self.old.units (renderer_job self.old.units) words.now)) accesses.new.items self.new }
@@ -103,7 +101,7 @@ impl Machine {
     }
 
     // One step of the renderer for this job.
-    fn render(&mut self, job: usize, words: &[u32], accesses: &mut ArrayVec<Access, 272>)
+    fn render(&mut self, job: usize, words: &[u32], accesses: &mut Accesses)
         requires empty { accesses.old.items ≡ [] }
         requires within { job < length self.old.units.jobs }
         requires ready { IsTrue (glanced (renderer_ready (job_at self.old.units.jobs job)) self.old.memory) }

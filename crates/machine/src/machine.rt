@@ -7,9 +7,9 @@ ghost use Rattle.machine.specs.Step.{enabled, finished, job_of, step};
 ghost use Rattle.machine.specs.State.{start_of, binner_job, renderer_job, picked_in};
 
 use crate::job::{Start, all_started, idle_qpus};
-use arrayvec::ArrayVec;
-use field_words::{Access, Actor, NoMemory};
+use field_words::{Actor, NoMemory};
 use list_machine::JobLists;
+use machine_plan::Accesses;
 use phys_mem::PhysMem;
 use qpu_machine::Qpu;
 use std::alloc::Global;
@@ -134,12 +134,7 @@ impl Machine {
     ///
     /// `NotEnabled` comes exactly where the unit is not enabled, and then nothing else has changed. A step takes no memory.
     #[tactic(auto, unfolding(crate::specs::Step::enabled))]
-    pub fn step(
-        &mut self,
-        unit: Actor,
-        words: &[u32],
-        accesses: &mut ArrayVec<Access, 272>,
-    ) -> Stepped
+    pub fn step(&mut self, unit: Actor, words: &[u32], accesses: &mut Accesses) -> Stepped
         ensures done { IsTrue (enabled self.old unit) → result ≡ Stepped.Done }
         ensures refused { enabled self.old unit ≡ false → result ≡ Stepped.NotEnabled }
         ensures same { result ≡ Stepped.NotEnabled → self.new ≡ self.old }
@@ -156,7 +151,7 @@ impl Machine {
 
     // This unit's turn, which may step.
     #[tactic(auto, unfolding(crate::specs::Step::enabled, crate::specs::Step::turn))]
-    fn take_turn(&mut self, unit: Actor, words: &[u32], accesses: &mut ArrayVec<Access, 272>)
+    fn take_turn(&mut self, unit: Actor, words: &[u32], accesses: &mut Accesses)
         requires empty { accesses.old.items ≡ [] }
         requires may { IsTrue (enabled self.old unit) }
         ensures { Moves (step self.old (record { unit = unit; words = words.now })) accesses.new.items self.new }

@@ -8,9 +8,8 @@ ghost use Rattle.machine.specs.State.{item_at};
 ghost use Rattle.machine.specs.Step.{qpu_may, tmu_may, qpu_turn, tmu_turn, qpu_job, tmu_job};
 
 use crate::machine::Machine;
-use arrayvec::ArrayVec;
-use field_words::{Access, Actor};
-use machine_plan::Who;
+use field_words::Actor;
+use machine_plan::{Accesses, Who};
 use qpu_machine::{is_qpu_idle, is_qpu_ready, is_tmu_ready, qpu_job, step_qpu, step_tmu, tmu_job};
 
 impl Machine {
@@ -62,12 +61,7 @@ impl Machine {
     }
 
     /// The turn of processor `k`, which may step.
-    pub(crate) fn take_qpu_turn(
-        &mut self,
-        k: u8,
-        words: &[u32],
-        accesses: &mut ArrayVec<Access, 272>,
-    )
+    pub(crate) fn take_qpu_turn(&mut self, k: u8, words: &[u32], accesses: &mut Accesses)
         requires empty { accesses.old.items ≡ [] }
         requires may { IsTrue (glanced (qpu_may (item_at self.old.units.qpus k)) self.old.memory) }
         ensures { Moves (turned self.old (qpu_turn self.old.units k (item_at self.old.units.qpus k) words.now)) accesses.new.items self.new }
@@ -86,13 +80,7 @@ impl Machine {
     }
 
     /// The turn of TMU `n` of processor `k`, which may step.
-    pub(crate) fn take_tmu_turn(
-        &mut self,
-        k: u8,
-        n: u8,
-        words: &[u32],
-        accesses: &mut ArrayVec<Access, 272>,
-    )
+    pub(crate) fn take_tmu_turn(&mut self, k: u8, n: u8, words: &[u32], accesses: &mut Accesses)
         requires empty { accesses.old.items ≡ [] }
         requires may { IsTrue (glanced (tmu_may (item_at self.old.units.qpus k) n) self.old.memory) }
         ensures { Moves (turned self.old (tmu_turn self.old.units k n (item_at self.old.units.qpus k) words.now)) accesses.new.items self.new }

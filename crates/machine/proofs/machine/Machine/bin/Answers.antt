@@ -1,11 +1,11 @@
 -- The binner's step is its turn.
-use Rattle.std.proofs.Common.{refl, ◌≡◌, ◌<◌, ◌∙◌, sym, subst, ap, IsTrue, length, true}
-use Rattle.machine_plan.specs.Glance.{glanced, Now}
-use Rattle.list_machine.specs.Lists.{Lists}
-use Rattle.list_machine.specs.Binner.{binner_ready}
+use Rattle.std.proofs.Common.{refl, ◌≡◌, ◌<◌, ◌∙◌, sym, subst, ap, IsTrue, length}
+use Rattle.machine_plan.specs.Glance.{glanced}
+use Rattle.list_machine.specs.Lists.{binner_of, binner_ended}
+use Rattle.list_machine.specs.Binner.{binner_ready, binner_plan}
 use Rattle.qpu_machine.specs.Qpu.{free_in}
 use Rattle.machine.specs.State.{State, job_at}
-use Rattle.machine.proofs.Turns.{binner_now, job_here, binner_done, with_qpus}
+use Rattle.machine.proofs.Turns.{binner_now, job_here, lists_done, with_qpus}
 use Rattle.machine.proofs.machine.Machine.bin.Goals as goal
 
 pub step_binner-started-requires-clause-ready : goal.step_binner-started-requires-clause-ready
@@ -27,5 +27,5 @@ returns c =
     let free = c.free_in-free.ensures ∙ ap free_in c.as_slice.ensures.value in
     with_qpus s c.args.job c.step_binner-started.new.self c.step_binner-started.result c.unwrap_or.result c.step_binner-started.new.memory c.self.inside.qpus.items c.begin.new.qpus.items _ c.step_binner-started.new.accesses.items
     c.begin.ensures.value refl c.unwrap_or.ensures
-    (binner_done s c.args.self.now c.self.view_is c.args.job c.args.words.now c.index_mut.result.now c.step_binner-started.new.self c.free_in-free.result c.step_binner-started.result c.args.accesses.now.items c.step_binner-started.new.accesses.items c.step_binner-started.new.memory
+    (lists_done (binner_of c.args.job) binner_plan binner_ended s c.args.self.now c.self.view_is c.args.job c.args.words.now c.index_mut.result.now c.step_binner-started.new.self c.free_in-free.result c.step_binner-started.result c.args.accesses.now.items c.step_binner-started.new.accesses.items c.step_binner-started.new.memory
     c.requires.empty here free c.step_binner-started.ensures.shows c.step_binner-started.ensures.wild)

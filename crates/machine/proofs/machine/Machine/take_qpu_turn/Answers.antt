@@ -20,4 +20,4 @@ returns c =
     let first = qpu_here s c.args.self.now c.args.k c.index.result.now c.self.view_is c.requires.may c.index.ensures in
     let second = qpu_here s c.args.self.now c.args.k c.index_mut.result.now c.self.view_is c.requires.may c.index_mut.ensures.value in
     qpu_done s c.args.self.now c.self.view_is c.args.k c.qpu_job.result c.args.words.now c.index_mut.result.now c.step_qpu.new.qpu c.step_qpu.result c.args.accesses.now.items c.step_qpu.new.accesses.items c.requires.empty
-    (qpu_below s c.args.self.now c.args.k c.self.view_is c.requires.may) second (c.qpu_job.ensures ∙ ap (λ q. job_of_thread (active_of q)) (first ∙ sym second)) c.step_qpu.ensures.shows c.step_qpu.ensures.wild
+    (qpu_below s c.args.self.now c.args.k c.self.view_is c.requires.may) c.index_mut.ensures.value (c.qpu_job.ensures ∙ ap (λ q. job_of_thread (active_of q)) (first ∙ sym second)) c.step_qpu.ensures.shows c.step_qpu.ensures.wild

@@ -20,4 +20,4 @@ returns c =
     let first = tmu_here s c.args.self.now c.args.k c.args.n c.index.result.now c.self.view_is c.requires.may c.index.ensures in
     let second = tmu_here s c.args.self.now c.args.k c.args.n c.index_mut.result.now c.self.view_is c.requires.may c.index_mut.ensures.value in
     tmu_done s c.args.self.now c.self.view_is c.args.k c.args.n c.tmu_job.result c.args.words.now c.index_mut.result.now c.step_tmu.new.qpu c.step_tmu.result c.args.accesses.now.items c.step_tmu.new.accesses.items c.requires.empty
-    (tmu_below s c.args.self.now c.args.k c.args.n c.self.view_is c.requires.may) second (c.tmu_job.ensures ∙ ap (λ q. job_of_request (oldest (queue_of q c.args.n))) (first ∙ sym second)) c.step_tmu.ensures.shows c.step_tmu.ensures.wild
+    (tmu_below s c.args.self.now c.args.k c.args.n c.self.view_is c.requires.may) c.index_mut.ensures.value (c.tmu_job.ensures ∙ ap (λ q. job_of_request (oldest (queue_of q c.args.n))) (first ∙ sym second)) c.step_tmu.ensures.shows c.step_tmu.ensures.wild
