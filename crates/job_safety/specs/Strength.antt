@@ -17,7 +17,8 @@ use Rattle.list_machine.specs.declared.state.Work.{Work}
 use Rattle.list_machine.specs.declared.surface.Cover.{Cover}
 use Rattle.list_machine.specs.Binner.{chosen_tile}
 use Rattle.list_machine.specs.Blocks.{tiles_of, block_place, spot_of, is_full, next_place, link_place}
-use Rattle.list_machine.specs.Cover.{general_style, frame_style, cover_for, part_count, part_place}
+use Rattle.texture_layouts.specs.Format.{general_style, frame_style}
+use Rattle.list_machine.specs.Cover.{cover_for, part_count, part_place}
 use Rattle.list_machine.specs.Lists.{Lists}
 use Rattle.list_machine.specs.Surfaces.{aligned, names_none, whole_size}
 use Rattle.qpu_machine.specs.declared.state.Ask.TheVariants.{Direct, Texture}

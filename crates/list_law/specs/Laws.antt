@@ -10,7 +10,7 @@ use Rattle.list_machine.specs.declared.state.Config.{Config}
 use Rattle.list_machine.specs.declared.state.Frame.{Frame}
 use Rattle.list_machine.specs.declared.state.Primitive.{Primitive}
 use Rattle.list_machine.specs.declared.state.Program.{Program}
-use Rattle.list_machine.specs.declared.surface.Style.{Style}
+use Rattle.texture_layouts.specs.declared.format.Style.{Style}
 use Rattle.list_machine.specs.Lists.{Lists}
 use Rattle.list_machine.specs.Fetch.{fetch_plan}
 use Rattle.list_machine.specs.Start.{start_plan}

@@ -19,7 +19,7 @@ pub use state::{
     Binner, Config, Found, Frame, Item, Kept, Load, Primitive, Program, Renderer, Spot, SubList,
     Work,
 };
-pub use surface::{Cover, Style, Tile};
+pub use surface::{Cover, Tile};
 
 #[cfg(test)]
 mod binner_tests;
