@@ -25,7 +25,9 @@ use Rattle.bin_list.specs.Emitted.{index_text, state_text, config_text, packet_t
 use Rattle.bin_list.proofs.Facts.{onto_none, packet_none, start_fine, config_fine}
 use Rattle.std.proofs.lemmas.List.{places}
 use Rattle.bin_list.proofs.Walk.{front_some, taken_some}
-use Rattle.bin_walks.specs.Walks.{Config, config_in, Kept, kept_after, Drawing, Tame, Walks}
+use Rattle.packets.specs.declared.config.Config.{Config}
+use Rattle.packets.specs.Config.{config_in}
+use Rattle.bin_walks.specs.Walks.{Kept, kept_after, Drawing, Tame, Walks}
 use Rattle.bin_walks.specs.Emission.{emission, config_of}
 use Rattle.bin_walks.specs.Draws.{IsStateAt, IsDrawn}
 use Rattle.bin_walks.proofs.Fine.{cut_fine, taken_is, flush_fine, indexed_fine, array_fine, config_first}
