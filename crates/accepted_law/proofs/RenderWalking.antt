@@ -20,7 +20,7 @@ use Rattle.job_check.specs.Shaders.{table_of}
 use Rattle.job_check.specs.Jobs.{job_of, has_bin, grid_of, slot_of, places_in, render_list_of}
 use Rattle.qpu_law.specs.Asks.{IsOneOf}
 use Rattle.qpu_law.proofs.Reading.{one_inside}
-use Rattle.list_machine.specs.declared.state.Config.{Config}
+use Rattle.packets.specs.declared.config.Config.{Config}
 use Rattle.list_law.specs.May.{MayWrite}
 use Rattle.list_law.specs.Rendering.{MayDo, NoMatter, AllSet}
 use Rattle.list_law.specs.Start.{frame_of}

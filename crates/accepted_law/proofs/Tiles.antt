@@ -16,7 +16,7 @@ use Rattle.render_list.specs.Surfaces.{surface_tiling, surface_pixel, surface_st
 use Rattle.render_list.specs.Text.{number_where, packet_where, idle_store, color_place, color_bits, load_packet, load_slot, wait_slot, list_place, list_slot, full_store, full_store_slot, zs_store, zs_store_slot, color_store, color_store_slot, is_there, more_after_multisample_color, more_after_multisample_zs, some_before_zs, some_before_color, load_slots, list_slots, write_slots, tile_slots}
 use Rattle.render_walks.specs.Walks.{IsSlotFine, AreFine}
 use Rattle.render_walks.proofs.Numbers.{small_where}
-use Rattle.list_machine.specs.declared.state.Config.{Config}
+use Rattle.packets.specs.declared.config.Config.{Config}
 use Rattle.list_machine.specs.declared.state.Frame.{Frame}
 use Rattle.list_machine.specs.Blocks.{tiles_of}
 use Rattle.list_machine.specs.Surfaces.{aligned, names_none, whole_size}

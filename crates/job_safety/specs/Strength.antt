@@ -11,7 +11,7 @@ use Rattle.packets.specs.Packet.{decoded}
 use Rattle.machine_plan.specs.Memory.{bytes_at}
 use Rattle.machine_plan.specs.Regions.{Inside, Rights, rights_of}
 use Rattle.machine_plan.specs.World.{Safe}
-use Rattle.list_machine.specs.declared.state.Config.{Config}
+use Rattle.packets.specs.declared.config.Config.{Config}
 use Rattle.list_machine.specs.declared.state.Frame.{Frame}
 use Rattle.list_machine.specs.declared.state.Work.{Work}
 use Rattle.list_machine.specs.declared.surface.Cover.{Cover}

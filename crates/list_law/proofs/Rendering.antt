@@ -23,7 +23,7 @@ use Rattle.machine_plan.proofs.Memory.{inside_part}
 use Rattle.machine_plan.proofs.Plans.{keeps_weaker}
 use Rattle.machine_plan.proofs.Worlds.{keeps_mapped}
 use Rattle.render_walks.specs.Walks.{View, pass, IsDoneAt, Tame, WalksTo, AllFit}
-use Rattle.list_machine.specs.declared.state.Config.{Config}
+use Rattle.packets.specs.declared.config.Config.{Config}
 use Rattle.list_machine.specs.declared.state.Found.{Found}
 use Rattle.list_machine.specs.declared.state.Frame.{Frame}
 use Rattle.list_machine.specs.declared.state.Item.{Item}

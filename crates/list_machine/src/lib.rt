@@ -16,7 +16,7 @@ mod surface;
 
 pub use job_lists::{JobLists, MOST_ITEMS};
 pub use state::{
-    Binner, Config, Found, Frame, Item, Kept, Load, Primitive, Program, Renderer, Spot, SubList,
+    Binner, Found, Frame, Item, Kept, Load, Primitive, Program, Renderer, Spot, SubList,
     Work,
 };
 pub use surface::{Cover, Tile};
