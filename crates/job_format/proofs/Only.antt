@@ -2,6 +2,7 @@
 use Rattle.std.proofs.Common.{◌≡◌, ℕ, zero, suc, ◌+◌, ◌*◌, ◌%◌, ◌<◌, ◌≤◌, ◌^◌, Bool, true, false, List, [], ◌∷◌, ◌++◌, length, map, drop, get_or, refl, sym, ap, subst, arith, ◌∙◌, append_assoc}
 use Rattle.std.specs.List.{flat_map, AllByRecursion, range_with_len}
 use Rattle.std.proofs.lemmas.List.{append-nil}
+use Rattle.field_words.specs.Sizes.{most_list, most_code}
 use Rattle.field_words.specs.Words.{u32_at}
 use Rattle.field_words.specs.Pieces.{IsPiece, joined}
 use Rattle.field_words.proofs.Numbers.{u32_of_piece}
@@ -10,7 +11,7 @@ use Rattle.buffer_table.specs.declared.buffer.Kind.TheVariants.{Plain, Code}
 use Rattle.buffer_table.specs.declared.buffer.Buffer.{Buffer}
 use Rattle.job_format.specs.Model.{JobModel, FileModel}
 use Rattle.job_format.specs.Text.{flag, word, kind_number, header_text, buffer_text, job_text, parts_text, file_text}
-use Rattle.job_format.specs.Offsets.{entry_offset, job_offset, content_size, content_offset, handles_offset, bin_offset, records_offset, uniforms_offset, end_offset}
+use Rattle.job_format.specs.Offsets.{most_states, entry_offset, job_offset, content_size, content_offset, handles_offset, bin_offset, records_offset, uniforms_offset, end_offset}
 use Rattle.job_format.specs.Reading.{cut, regions_at, entry_at, words_at, buffers_at, contents_at, job_at, file_at}
 use Rattle.job_format.specs.File.{BufferFits, JobFits, FitsShader, IsJobWellFormed, IsFileOf}
 use Rattle.job_format.proofs.Entries.{buffer_back}
@@ -60,7 +61,7 @@ kind_small : (k : Kind) → kind_number k ≤ 1
 kind_small Plain = omega arith
 kind_small Code = omega arith
 
-code_size : (k : Kind) (size : ℕ) → FitsShader k size → kind_number k ≡ 1 → size ≤ 65536
+code_size : (k : Kind) (size : ℕ) → FitsShader k size → kind_number k ≡ 1 → size ≤ most_code
 code_size Plain size fits is_code = absurd (omega (arith, is_code))
 code_size Code size fits is_code = fits
 
@@ -73,7 +74,7 @@ entries_pass bytes k (b ∷ bs) read code zero below =
     let passes : EntryPasses bytes (entry_offset k) = record {
       size = r.size;
       kind = subst (λ n. n ≤ 1) (sym r.kind) small;
-      code = λ is_code. subst (λ n. n ≤ 65536) (sym r.content) (code_size b.kind b.content code.0 (sym r.kind ∙ is_code));
+      code = λ is_code. subst (λ n. n ≤ most_code) (sym r.content) (code_size b.kind b.content code.0 (sym r.kind ∙ is_code));
     } in
     subst (λ m. EntryPasses bytes (entry_offset m)) (omega arith) passes
 entries_pass bytes k (b ∷ bs) read code (suc i) below =
@@ -170,11 +171,7 @@ text_is f = refl
 
 sizes_fit : (j : JobModel) → IsJobWellFormed j → SizesFit j
 sizes_fit j w =
-    let handles = w.handles in
-    let bin = w.bin in
-    let records = w.records in
-    let uniforms = w.uniforms in
-    record { handles = omega arith; bin = omega arith; records = omega arith; uniforms = omega arith }
+    record { handles = omega (arith, w.handles); bin = omega (arith, w.bin); records = omega (arith, w.records); uniforms = omega (arith, w.uniforms) }
 
 -- what the whole file's bytes say
 record FileReads (bytes : List ℕ) (f : FileModel) (j : JobModel) : Type 0 where
@@ -240,10 +237,10 @@ reads_pass bytes f j is well r =
         size = r.job_inside;
         flags = subst (λ n. n ≤ 1) (sym g.flags) (flag_small j.frame.clear);
         handles = subst (λ n. n ≤ 64) (sym g.handles) well.handles;
-        bin = subst (λ n. n ≤ 1048576) (sym g.bin) well.bin;
-        records = subst (λ n. n ≤ 1048576) (sym g.records) well.records;
-        declared = subst (λ n. n ≤ 65536) (sym g.declared) well.declared;
-        uniforms = subst (λ n. n ≤ 1048576) (sym g.uniforms) well.uniforms;
+        bin = subst (λ n. n ≤ most_list) (sym g.bin) well.bin;
+        records = subst (λ n. n ≤ most_list) (sym g.records) well.records;
+        declared = subst (λ n. n ≤ most_states) (sym g.declared) well.declared;
+        uniforms = subst (λ n. n ≤ most_list) (sym g.uniforms) well.uniforms;
         whole_words = subst (λ n. n % 4 ≡ 0) (sym g.uniforms) well.whole_words;
         first = g.frame.first;
         second = g.frame.second;

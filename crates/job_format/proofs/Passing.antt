@@ -1,12 +1,13 @@
 -- What each part of a file has where no rule of the format stands.
 use Rattle.std.proofs.Common.{◌≡◌, ℕ, ◌+◌, ◌%◌, ◌<◌, ◌≤◌, List, ◌++◌, length, None, get_or, arith}
+use Rattle.field_words.specs.Sizes.{most_list, most_code}
 use Rattle.field_words.specs.Words.{u32_at}
 use Rattle.field_words.specs.Questions.{Question, first_of, each}
 use Rattle.field_words.proofs.Questions.{none_stands}
 use Rattle.field_words.proofs.Nones.{front_none, rest_none, each_none}
 use Rattle.job_format.specs.Faults.{magic, header_questions, entry_questions, buffer_questions, job_questions, content_questions, parts_questions, body_questions, format_questions}
 use Rattle.job_format.specs.declared.rule.FormatFault.{FormatFault}
-use Rattle.job_format.specs.Offsets.{entry_offset, job_offset, end_offset}
+use Rattle.job_format.specs.Offsets.{most_states, entry_offset, job_offset, end_offset}
 use Rattle.job_format.specs.Whole.{HasParts}
 
 -- the header's facts
@@ -21,17 +22,17 @@ pub record HeaderPasses (bytes : List ℕ) : Type 0 where
 pub record EntryPasses (bytes : List ℕ) (at : ℕ) : Type 0 where
   pub size : at + 20 ≤ length bytes
   pub kind : u32_at bytes (at + 12) ≤ 1
-  pub code : u32_at bytes (at + 12) ≡ 1 → u32_at bytes (at + 16) ≤ 65536
+  pub code : u32_at bytes (at + 12) ≡ 1 → u32_at bytes (at + 16) ≤ most_code
 
 -- the job's entry
 pub record JobPasses (bytes : List ℕ) (at : ℕ) : Type 0 where
   pub size : at + 124 ≤ length bytes
   pub flags : u32_at bytes (at + 4) ≤ 1
   pub handles : u32_at bytes (at + 8) ≤ 64
-  pub bin : u32_at bytes (at + 12) ≤ 1048576
-  pub records : u32_at bytes (at + 16) ≤ 1048576
-  pub declared : u32_at bytes (at + 20) ≤ 65536
-  pub uniforms : u32_at bytes (at + 24) ≤ 1048576
+  pub bin : u32_at bytes (at + 12) ≤ most_list
+  pub records : u32_at bytes (at + 16) ≤ most_list
+  pub declared : u32_at bytes (at + 20) ≤ most_states
+  pub uniforms : u32_at bytes (at + 24) ≤ most_list
   pub whole_words : u32_at bytes (at + 24) % 4 ≡ 0
   pub first : get_or bytes (at + 121) 0 ≡ 0
   pub second : get_or bytes (at + 122) 0 ≡ 0
