@@ -73,8 +73,11 @@ item_questions memory items k =
     ∷ (Ask (nat_lt (item_at items k).size (item_at items k).content) (fault TooMuchContent (k + 1)) ∷ [])))
 
 -- all rules, in the order of refusal
+abbrev pub items_questions : ℕ → List Item → List (Question TableFault)
+items_questions memory items = each (item_questions memory items) 0 (length items)
+
 unfoldable pub all_questions : ℕ → List Item → List (Question TableFault)
-all_questions memory items = memory_questions memory ++ each (item_questions memory items) 0 (length items)
+all_questions memory items = memory_questions memory ++ items_questions memory items
 
 -- all rules of the memory table of a file
 abbrev pub table_questions : ℕ → Regions → List Buffer → List (Question TableFault)

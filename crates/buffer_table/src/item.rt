@@ -2,7 +2,7 @@
 ghost use Rattle.std.specs.Prelude.{◌≡◌, ◌+◌, ◌<◌, ◌≤◌, ◌↔◌, IsTrue, Some, length, take};
 ghost use Rattle.std.specs.List.{list_any};
 ghost use Rattle.field_words.specs.Questions.{first_of, each};
-ghost use Rattle.buffer_table.specs.Table.{lists_item, tile_item, buffer_item, shares, ShareByte, is_off_page, item_questions, memory_questions, table_questions, items_of, item_at, fault};
+ghost use Rattle.buffer_table.specs.Table.{lists_item, tile_item, buffer_item, shares, ShareByte, is_off_page, item_questions, items_questions, memory_questions, table_questions, items_of, item_at, fault};
 
 use crate::buffer::{Buffer, Regions, TableFault, TableRule};
 use field_words::{MOST_MEMORY, PAGE_SIZE, SLOT_SIZE};
@@ -141,7 +141,7 @@ fn item_fault(mem_size: u32, regions: &Regions, buffers: &[Buffer], k: usize) ->
 /// The first of M2 to M5, item by item.
 fn items_fault(mem_size: u32, regions: &Regions, buffers: &[Buffer]) -> Option<TableFault>
     requires few { length buffers.now ≤ 1024 }
-    ensures { result ≡ first_of (each (item_questions mem_size (items_of regions.now buffers.now)) 0 (length (items_of regions.now buffers.now))) }
+    ensures { result ≡ first_of (items_questions mem_size (items_of regions.now buffers.now)) }
 {
     for k in 0..buffers.len() + 2 {
         if let Some(fault) = item_fault(mem_size, regions, buffers, k) {

@@ -79,13 +79,15 @@ parts_questions bytes =
     ∷ (Ask (nat_lt (length bytes) (end_offset bytes)) (fault EndsEarly (uniforms_offset bytes))
     ∷ (Ask (nat_lt (end_offset bytes) (length bytes)) (fault BytesFollow (end_offset bytes)) ∷ []))))
 
--- all rules of the format: those after the header, and the whole
+-- what is asked after the buffers' entries, and after the job's entry; and all after the header
+abbrev pub rest_questions : List ℕ → List (Question FormatFault)
+rest_questions bytes = each (content_questions bytes) 0 (buffer_count bytes) ++ parts_questions bytes
+
+abbrev pub job_and_rest_questions : List ℕ → List (Question FormatFault)
+job_and_rest_questions bytes = job_questions bytes (job_offset bytes) ++ rest_questions bytes
+
 abbrev pub body_questions : List ℕ → List (Question FormatFault)
-body_questions bytes =
-    each (buffer_questions bytes) 0 (buffer_count bytes)
-    ++ (job_questions bytes (job_offset bytes)
-    ++ (each (content_questions bytes) 0 (buffer_count bytes)
-    ++ parts_questions bytes))
+body_questions bytes = each (buffer_questions bytes) 0 (buffer_count bytes) ++ job_and_rest_questions bytes
 
 -- All rules of the format.
 unfoldable pub format_questions : List ℕ → List (Question FormatFault)
