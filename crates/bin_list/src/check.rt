@@ -6,12 +6,13 @@ ghost use Rattle.field_words.specs.Writes.{with_bytes};
 ghost use Rattle.buffer_table.specs.Handles.{AreNumbersOf};
 ghost use Rattle.bin_list.specs.Packets.{passed};
 ghost use Rattle.bin_list.specs.Seen.{seen_before};
-ghost use Rattle.bin_list.specs.Rules.{asked, fault, end_questions, given_of, bin_questions};
+ghost use Rattle.bin_list.specs.Faults.{fault, place_then_number};
+ghost use Rattle.bin_list.specs.Rules.{asked, end_questions, given_of, bin_questions};
 ghost use Rattle.bin_list.specs.Fine.{IsLow};
 ghost use Rattle.bin_list.specs.Emitted.{texts, bin_text};
 ghost use Rattle.bin_list.specs.Info.{IsInfo, IsInfoOf, IsRead, MeetsState};
 ghost use Rattle.bin_list.specs.Told.{IsSoundInfo};
-ghost use Rattle.bin_list.specs.Least.{IsLeastFault};
+ghost use Rattle.field_words.specs.Least.{IsLeast};
 ghost use Rattle.packets.specs.Writing.{written};
 
 use crate::cut::split_front;
@@ -63,9 +64,9 @@ fn read_packets(
             rest = behind;
             continue;
         }
-        if let Some(number) = packet_fault(given, &seen, packet) {
+        if let Some(rule) = packet_fault(given, &seen, packet) {
             return Err(Stop::Fault(ListFault {
-                number,
+                number: rule.number(),
                 at: seen.at,
             }));
         }
@@ -93,9 +94,11 @@ fn finish(
     ensures memory { result ≡ Err OutOfMemory → 1 ≤ (seen_before (passed list.now)).states }
 {
     let Read { seen, end, states } = read;
-    if let Some(number) = end_fault(&seen) {
-        let at = list.len() as u32;
-        return Err(Stop::Fault(ListFault { number, at }));
+    if let Some(rule) = end_fault(&seen) {
+        return Err(Stop::Fault(ListFault {
+            number: rule.number(),
+            at: list.len() as u32,
+        }));
     }
     let states = states.finish()?;
     Ok(BinInfo {
@@ -128,7 +131,7 @@ pub fn check_bin(
     requires slot_limit { layout.now.slot ≤ 67108864 }
     requires room { layout.now.bin + length list.now ≤ length out.old }
     ensures answers { Answers (bin_questions list.now declared table.now handles.now) (λ info. IsInfo list.now declared table.now handles.now layout.now info) result }
-    ensures least { (found : ListFault) → result ≡ Err (Fault found) → IsLeastFault (bin_questions list.now declared table.now handles.now) found }
+    ensures least { (found : ListFault) → result ≡ Err (Fault found) → IsLeast place_then_number (bin_questions list.now declared table.now handles.now) found }
     ensures sound { IfOk result (λ info. IsSoundInfo declared info) }
     ensures put { OnOk result (out.new ≡ with_bytes out.old layout.now.bin (bin_text list.now declared table.now handles.now layout.now)) }
     ensures fits { OnOk result (length (bin_text list.now declared table.now handles.now layout.now) ≤ length list.now) }

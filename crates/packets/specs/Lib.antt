@@ -1,4 +1,6 @@
+pub mod Config
 pub mod Length
 pub mod Opcode
 pub mod Packet
+pub mod StateWord
 pub mod Writing
