@@ -3,12 +3,10 @@ use Rattle.std.proofs.Common.{◌≡◌, ◌≤◌, ◌<◌, ℕ, suc, ◌+◌, 
 use Rattle.std.proofs.lemmas.List.{take_more_set}
 use Rattle.std.proofs.lemmas.Grind.{common_steps}
 use Rattle.field_words.specs.Words.{u32_at}
-use Rattle.field_words.specs.declared.access.Access.{Access}
-use Rattle.field_words.specs.declared.access.Way.TheVariants.{Read, Wild}
-use Rattle.machine_plan.specs.declared.who.Who.{Who}
+use Rattle.qpu_machine.specs.State.{Access, Read, Who, Wild}
 use Rattle.machine_plan.specs.Memory.{bytes_at}
 use Rattle.machine_plan.specs.Plan.{Plan, Done, Wilds, Reads, Outcome, Shows, access, carried}
-use Rattle.machine_plan.proofs.Reading.{IsLeft, left_first, left_read, left_done, left_wild}
+use Rattle.machine_plan.proofs.Reading.{IsLeft, left_read, left_done, left_wild}
 use Rattle.texture_layouts.specs.Setup.{TextureModel, texture_of}
 use Rattle.qpu_machine.specs.Request.{direct_plan, chosen_place, chosen_length, read_at, texture_reads, is_undefined, texture_plan}
 
@@ -20,9 +18,6 @@ drop_more : (row : List ℕ) (e : ℕ) → e < length row → drop e row ≡ sli
 drop_more row e below =
     let one : suc e ≡ e + 1 = omega arith in
     drop-cons row e 0 below ∙ ap (λ k. slice_index row e ∷ drop k row) one
-
-pub direct_begin : (who : Who) (row found m : List ℕ) (before : List Access) → DirectLeft who row found m before before 0
-direct_begin who row found m before = left_first (carried who (direct_plan row []) m) before
 
 pub direct_more : (who : Who) (row found m : List ℕ) (before now listed : List Access) (e word : ℕ) → e < 16 → length row ≡ 16 → length found ≡ 16
     → word ≡ u32_at (bytes_at m (slice_index row e - slice_index row e % 4) 4) 0 → listed ≡ now ++ access who Read (slice_index row e - slice_index row e % 4) 4 ∷ []
@@ -69,9 +64,6 @@ unfolding texture_reads
 reads_more t words i below =
     let left : 128 - i ≡ suc (128 - (i + 1)) = omega (arith, below) in
     ap (λ n. texture_reads t words i n) left
-
-pub texture_begin : (who : Who) (t : TextureModel) (words m : List ℕ) (before : List Access) → TextureLeft who t words m before before 0
-texture_begin who t words m before = left_first (carried who (texture_reads t words 0 128) m) before
 
 abbrev pub LeftOf : Who → TextureModel → List ℕ → List ℕ → List Access → List Access → Plan (Option (List ℕ)) → Type 0
 LeftOf who t words m before now plan = IsLeft (carried who (texture_reads t words 0 128) m) (carried who plan m) before now

@@ -1,7 +1,6 @@
 -- What the units' writes leave alone.
 use Rattle.std.proofs.Common.{◌≡◌, ℕ, List, refl}
-use Rattle.qpu_machine.specs.declared.state.Thread.{Thread}
-use Rattle.qpu_machine.specs.declared.state.Fate.{Fate}
+use Rattle.qpu_machine.specs.State.{Fate, Thread}
 use Rattle.qpu_machine.specs.Writes.{written_at, added, multiplied, written, stored, loaded, awake, past_uniform, rested}
 
 -- the writes of the two units touch neither place nor setup words

@@ -3,22 +3,15 @@ use Rattle.std.proofs.Common.{◌≡◌, ◌≤◌, ◌<◌, ℕ, suc, ◌+◌, 
 use Rattle.std.specs.Prelude.{option_map, is_some}
 use Rattle.std.specs.Int.{from_le_bytes, w64}
 use Rattle.std.proofs.lemmas.Grind.{common_steps}
+use Rattle.arrayvec.specs.ArrayVec.{ArrayVec}
 use Rattle.field_words.specs.Words.{u32_at}
-use Rattle.field_words.specs.declared.access.Access.{Access}
-use Rattle.machine_plan.specs.declared.who.Who.{Who}
 use Rattle.machine_plan.specs.Memory.{bytes_at}
-use Rattle.machine_plan.specs.Plan.{Shows, carried}
+use Rattle.machine_plan.specs.Plan.{carried}
+use Rattle.machine_plan.specs.Turn.{CarriesOver, if_tame}
 use Rattle.machine_plan.specs.Glance.{glanced}
 use Rattle.machine_plan.proofs.Worlds.{shows_mapped}
 use Rattle.qpu_isa.specs.Terms.{writes_s}
-use Rattle.qpu_machine.specs.declared.state.Ask.{Ask}
-use Rattle.qpu_machine.specs.declared.state.Asked.{Asked}
-use Rattle.qpu_machine.specs.declared.state.Fate.{Fate}
-use Rattle.qpu_machine.specs.declared.state.Fate.TheVariants.{GoesOn, Switches, Ends}
-use Rattle.qpu_machine.specs.declared.state.Leaves.{Leaves}
-use Rattle.qpu_machine.specs.declared.state.Qpu.{Qpu}
-use Rattle.qpu_machine.specs.declared.state.Request.{Request}
-use Rattle.qpu_machine.specs.declared.state.Thread.{Thread}
+use Rattle.qpu_machine.specs.State.{Access, Ask, Asked, Ends, Fate, GoesOn, Leaves, Qpu, Request, Switches, Thread, Who}
 use Rattle.qpu_machine.specs.Operands.{add_row, mul_row}
 use Rattle.qpu_machine.specs.Writes.{awake, past_uniform, written_at, added, multiplied, written, stored, loaded, went_on, worked, rested, results_after, asked, ask_of, loads}
 use Rattle.qpu_machine.specs.Wild.{takes_one, is_wild}
@@ -210,10 +203,6 @@ active_few : (q : Qpu) (second : Bool) → IsBounded q → IsFew second (active_
 active_few q true h = h.other_few
 active_few q false h = h.first_few
 
-active_near : (q : Qpu) (second : Bool) → IsBounded q → IsNear (active_of (record q { second = second }))
-active_near q true h = h.other_near
-active_near q false h = h.first_near
-
 rest_few : (q : Qpu) (second : Bool) → IsBounded q → IsFew (not second) (resting_of (record q { second = second })) q.queue0.items q.queue1.items
 rest_few q true h = h.first_few
 rest_few q false h = h.other_few
@@ -223,17 +212,17 @@ both_all true requests = let h = queued_all requests in omega (arith, h)
 both_all false requests = queued_all requests
 
 -- a step of the thread t
-pub record Stepped (who : Who) (words m : List ℕ) (before listed : List Access) (q after : Qpu) (job : ℕ) (left : Option Leaves) : Type 0 where
+pub record Stepped (who : Who) (words m : List ℕ) (before listed : ArrayVec Access) (q after : Qpu) (job : ℕ) (left : Option Leaves) : Type 0 where
   pub t : Thread
   pub next : Thread
   pub active : active_of q ≡ Some t
   pub ready : IsTrue (glanced (thread_ready t (queued q.second q.queue0.items) (queued q.second q.queue1.items)) m)
   pub job_is : job ≡ t.job
   pub after_is : after ≡ with_active q (Some next)
-  pub shows : Shows (carried who (thread_plan t words) m) before listed m (option_map (turn_of next) left)
+  pub shows : CarriesOver who (thread_plan t words) m before listed (option_map (turn_of next) left)
   pub near : IfSome left (λ leaves. next.place ≤ 2 ^ 34)
 
-by_slot : (who : Who) (words m : List ℕ) (before listed : List Access) (q after : Qpu) (job : ℕ) (left : Option Leaves) (slot : Option Thread) → active_of q ≡ slot → IsTrue (glanced (ready_by slot q) m)
+by_slot : (who : Who) (words m : List ℕ) (before listed : ArrayVec Access) (q after : Qpu) (job : ℕ) (left : Option Leaves) (slot : Option Thread) → active_of q ≡ slot → IsTrue (glanced (ready_by slot q) m)
     → job ≡ job_of_thread slot → after ≡ with_active q (active_of after) → IfSome slot (SlotSteps who words m before listed (active_of after) left) → Stepped who words m before listed q after job left
 by_slot who words m before listed q after job left None active ready job_is kept steps = absurd cc
 by_slot who words m before listed q after job left (Some t) active ready job_is kept steps = record {
@@ -247,11 +236,11 @@ by_slot who words m before listed q after job left (Some t) active ready job_is 
   near = steps.near;
 }
 
-pub stepped : (who : Who) (words m : List ℕ) (before listed : List Access) (q after : Qpu) (job : ℕ) (left : Option Leaves) → IsTrue (glanced (qpu_ready q) m)
+pub stepped : (who : Who) (words m : List ℕ) (before listed : ArrayVec Access) (q after : Qpu) (job : ℕ) (left : Option Leaves) → IsTrue (glanced (qpu_ready q) m)
     → job ≡ job_of_thread (active_of q) → after ≡ with_active q (active_of after) → IfSome (active_of q) (SlotSteps who words m before listed (active_of after) left) → Stepped who words m before listed q after job left
 stepped who words m before listed q after job left ready job_is kept steps = by_slot who words m before listed q after job left (active_of q) refl ready job_is kept steps
 
-left_limits : (who : Who) (words m : List ℕ) (before listed : List Access) (q after : Qpu) (job : ℕ) (left : Option Leaves) (h : Stepped who words m before listed q after job left)
+left_limits : (who : Who) (words m : List ℕ) (before listed : ArrayVec Access) (q after : Qpu) (job : ℕ) (left : Option Leaves) (h : Stepped who words m before listed q after job left)
     → IfSome left (λ leaves. Limits h.t (queued q.second q.queue0.items) (queued q.second q.queue1.items) (turn_of h.next leaves))
 left_limits who words m before listed q after job None h = tt
 left_limits who words m before listed q after job (Some leaves) h =
@@ -268,31 +257,25 @@ weaker_asked : {P Q : Asked → Type 0} (asked : Option Asked) → ((one : Asked
 weaker_asked None f h = tt
 weaker_asked (Some one) f h = f one h
 
-asks_room0 : (q : Qpu) (t : Thread) (turn : ThreadTurn) → IsBounded q → Limits t (queued q.second q.queue0.items) (queued q.second q.queue1.items) turn → IfSome turn.leaves.asked (λ one. one.tmu ≡ 0 → length q.queue0.items < 16)
-asks_room0 q t turn h limits =
-    weaker_asked turn.leaves.asked (λ one free is. room_in q.second q.queue0.items (finished0 (resting_of q)) (length t.results0.items) (rest_few q q.second h).tmu0 (free is)) limits.asked0
+asks_room : (tmu : ℕ) (second : Bool) (requests : List Request) (other own : ℕ) (asked : Option Asked) → queued (not second) requests + other ≤ 8 → IfSome asked (λ one. one.tmu ≡ tmu → queued second requests + own < 8)
+    → IfSome asked (λ one. one.tmu ≡ tmu → length requests < 16)
+asks_room tmu second requests other own asked few free = weaker_asked asked (λ one h is. room_in second requests other own few (h is)) free
 
-asks_room1 : (q : Qpu) (t : Thread) (turn : ThreadTurn) → IsBounded q → Limits t (queued q.second q.queue0.items) (queued q.second q.queue1.items) turn → IfSome turn.leaves.asked (λ one. one.tmu ≡ 1 → length q.queue1.items < 16)
-asks_room1 q t turn h limits =
-    weaker_asked turn.leaves.asked (λ one free is. room_in q.second q.queue1.items (finished1 (resting_of q)) (length t.results1.items) (rest_few q q.second h).tmu1 (free is)) limits.asked1
+-- both queues of a processor have room for what was asked
+abbrev pub HasRoom : Option Leaves → Qpu → Type 0
+HasRoom left q = IfSome (asked_by left) (λ one. one.tmu ≡ 0 → length q.queue0.items < 16) × IfSome (asked_by left) (λ one. one.tmu ≡ 1 → length q.queue1.items < 16)
 
-left_room0 : (who : Who) (words m : List ℕ) (before listed : List Access) (q after : Qpu) (job : ℕ) (left : Option Leaves) → IsBounded q → (h : Stepped who words m before listed q after job left)
-    → IfSome left (λ leaves. Limits h.t (queued q.second q.queue0.items) (queued q.second q.queue1.items) (turn_of h.next leaves)) → IfSome (asked_by left) (λ one. one.tmu ≡ 0 → length q.queue0.items < 16)
-left_room0 who words m before listed q after job None bounded h limits = tt
-left_room0 who words m before listed q after job (Some leaves) bounded h limits = asks_room0 q h.t (turn_of h.next leaves) bounded limits
+left_room : (who : Who) (words m : List ℕ) (before listed : ArrayVec Access) (q after : Qpu) (job : ℕ) (left : Option Leaves) → IsBounded q → (h : Stepped who words m before listed q after job left)
+    → IfSome left (λ leaves. Limits h.t (queued q.second q.queue0.items) (queued q.second q.queue1.items) (turn_of h.next leaves)) → HasRoom left q
+left_room who words m before listed q after job None bounded h limits = (tt, tt)
+left_room who words m before listed q after job (Some leaves) bounded h limits =
+    let few = rest_few q q.second bounded in (
+      asks_room 0 q.second q.queue0.items (finished0 (resting_of q)) (length h.t.results0.items) leaves.asked few.tmu0 limits.asked0,
+      asks_room 1 q.second q.queue1.items (finished1 (resting_of q)) (length h.t.results1.items) leaves.asked few.tmu1 limits.asked1,
+    )
 
-left_room1 : (who : Who) (words m : List ℕ) (before listed : List Access) (q after : Qpu) (job : ℕ) (left : Option Leaves) → IsBounded q → (h : Stepped who words m before listed q after job left)
-    → IfSome left (λ leaves. Limits h.t (queued q.second q.queue0.items) (queued q.second q.queue1.items) (turn_of h.next leaves)) → IfSome (asked_by left) (λ one. one.tmu ≡ 1 → length q.queue1.items < 16)
-left_room1 who words m before listed q after job None bounded h limits = tt
-left_room1 who words m before listed q after job (Some leaves) bounded h limits = asks_room1 q h.t (turn_of h.next leaves) bounded limits
-
-pub settle_room0 : (who : Who) (words m : List ℕ) (before listed : List Access) (q after : Qpu) (job : ℕ) (left : Option Leaves) → IsBounded q → Stepped who words m before listed q after job left → IfSome (asked_by left) (λ one. one.tmu ≡ 0 → length after.queue0.items < 16)
-settle_room0 who words m before listed q after job left bounded h =
-    subst (λ (a : Qpu). IfSome (asked_by left) (λ one. one.tmu ≡ 0 → length a.queue0.items < 16)) (sym h.after_is) (left_room0 who words m before listed q after job left bounded h (left_limits who words m before listed q after job left h))
-
-pub settle_room1 : (who : Who) (words m : List ℕ) (before listed : List Access) (q after : Qpu) (job : ℕ) (left : Option Leaves) → IsBounded q → Stepped who words m before listed q after job left → IfSome (asked_by left) (λ one. one.tmu ≡ 1 → length after.queue1.items < 16)
-settle_room1 who words m before listed q after job left bounded h =
-    subst (λ (a : Qpu). IfSome (asked_by left) (λ one. one.tmu ≡ 1 → length a.queue1.items < 16)) (sym h.after_is) (left_room1 who words m before listed q after job left bounded h (left_limits who words m before listed q after job left h))
+pub settle_room : (who : Who) (words m : List ℕ) (before listed : ArrayVec Access) (q after : Qpu) (job : ℕ) (left : Option Leaves) → IsBounded q → Stepped who words m before listed q after job left → HasRoom left after
+settle_room who words m before listed q after job left bounded h = subst (HasRoom left) (sym h.after_is) (left_room who words m before listed q after job left bounded h (left_limits who words m before listed q after job left h))
 
 -- the processor after the step is bounded
 kept_few : (second : Bool) (job : ℕ) (t next : Thread) (queue0 queue1 : List Request) (leaves : Leaves) → IsFew second (Some t) queue0 queue1 → Limits t (queued second queue0) (queued second queue1) (turn_of next leaves)
@@ -324,7 +307,7 @@ settled_with : (q : Qpu) (slot : Option Thread) (job : ℕ) (left : Option Leave
 unfolding settled_by
 settled_with q slot job left = ap (λ s. settled (with_active q slot) job (left_slot left s) (gives_way_by left) (asked_by left)) (active_is q q.second slot)
 
-left_bounded : (who : Who) (words m : List ℕ) (before listed : List Access) (q after : Qpu) (job : ℕ) (left : Option Leaves) → IsBounded q → (h : Stepped who words m before listed q after job left)
+left_bounded : (who : Who) (words m : List ℕ) (before listed : ArrayVec Access) (q after : Qpu) (job : ℕ) (left : Option Leaves) → IsBounded q → (h : Stepped who words m before listed q after job left)
     → IfSome left (λ leaves. Limits h.t (queued q.second q.queue0.items) (queued q.second q.queue1.items) (turn_of h.next leaves))
     → IsBounded (settled (with_active q (Some h.next)) job (left_slot left (Some h.next)) (gives_way_by left) (asked_by left))
 left_bounded who words m before listed q after job None bounded h limits =
@@ -333,7 +316,7 @@ left_bounded who words m before listed q after job (Some leaves) bounded h limit
     settled_bounded q q.second (Some h.next) job (kept_by leaves.fate (Some h.next)) (gives_way leaves.fate) leaves.asked bounded (fate_near leaves.fate h.next h.near)
     (fate_few leaves.fate q.second h.next (queue_with 0 q.second job leaves.asked q.queue0.items) (queue_with 1 q.second job leaves.asked q.queue1.items) (kept_few q.second job h.t h.next q.queue0.items q.queue1.items leaves (few_of q h.t bounded h.active) limits))
 
-pub settle_bounded : (who : Who) (words m : List ℕ) (before listed : List Access) (q after next : Qpu) (job : ℕ) (left : Option Leaves) → IsBounded q → Stepped who words m before listed q after job left → next ≡ settled_by after job left → IsBounded next
+pub settle_bounded : (who : Who) (words m : List ℕ) (before listed : ArrayVec Access) (q after next : Qpu) (job : ℕ) (left : Option Leaves) → IsBounded q → Stepped who words m before listed q after job left → next ≡ settled_by after job left → IsBounded next
 settle_bounded who words m before listed q after next job left bounded h next_is =
     subst IsBounded (sym (next_is ∙ (ap (λ a. settled_by a job left) h.after_is ∙ settled_with q (Some h.next) job left)))
     (left_bounded who words m before listed q after job left bounded h (left_limits who words m before listed q after job left h))
@@ -357,23 +340,23 @@ went_is q t next job leaves job_is =
     ∙ (ap (λ own. settled q job own (gives_way leaves.fate) leaves.asked) (kept_left leaves.fate next)
     ∙ ap (λ j. settled q j (left_by leaves.fate next) (gives_way leaves.fate) leaves.asked) job_is)
 
-settle_is : (who : Who) (words m : List ℕ) (before listed : List Access) (q after next : Qpu) (job : ℕ) (left : Option Leaves) → (h : Stepped who words m before listed q after job left) → next ≡ settled_by after job left
+settle_is : (who : Who) (words m : List ℕ) (before listed : ArrayVec Access) (q after next : Qpu) (job : ℕ) (left : Option Leaves) → (h : Stepped who words m before listed q after job left) → next ≡ settled_by after job left
     → next ≡ settled (with_active q (Some h.next)) job (left_slot left (Some h.next)) (gives_way_by left) (asked_by left)
 settle_is who words m before listed q after next job left h next_is = next_is ∙ (ap (λ a. settled_by a job left) h.after_is ∙ settled_with q (Some h.next) job left)
 
 result_is : (q last : Qpu) (t next : Thread) (job : ℕ) (left : Option Leaves) → job ≡ t.job → last ≡ settled (with_active q (Some next)) job (left_slot left (Some next)) (gives_way_by left) (asked_by left)
-    → option_map (went q t) (option_map (turn_of next) left) ≡ (if is_some left then Some last else None)
+    → option_map (went q t) (option_map (turn_of next) left) ≡ if_tame (is_some left) last
 result_is q last t next job None job_is is = refl
 result_is q last t next job (Some leaves) job_is is = ap Some (sym (is ∙ went_is q t next job leaves job_is))
 
-pub settle_shows : (who : Who) (words m : List ℕ) (before listed : List Access) (q after next : Qpu) (job : ℕ) (left : Option Leaves) → Stepped who words m before listed q after job left → next ≡ settled_by after job left
-    → Shows (carried who (qpu_plan q words) m) before listed m (if is_some left then Some next else None)
+pub settle_shows : (who : Who) (words m : List ℕ) (before listed : ArrayVec Access) (q after next : Qpu) (job : ℕ) (left : Option Leaves) → Stepped who words m before listed q after job left → next ≡ settled_by after job left
+    → CarriesOver who (qpu_plan q words) m before listed (if_tame (is_some left) next)
 settle_shows who words m before listed q after next job left h next_is =
-    let shown : Shows (carried who (plan_by (Some h.t) q words) m) before listed m (option_map (went q h.t) (option_map (turn_of h.next) left)) =
-    shows_mapped (went q h.t) who (thread_plan h.t words) m before listed m (option_map (turn_of h.next) left) h.shows in
+    let shown : CarriesOver who (plan_by (Some h.t) q words) m before listed (option_map (went q h.t) (option_map (turn_of h.next) left)) =
+    shows_mapped (went q h.t) who (thread_plan h.t words) m before.items listed.items m (option_map (turn_of h.next) left) h.shows in
     let same = result_is q next h.t h.next job left h.job_is (settle_is who words m before listed q after next job left h next_is) in
-    subst (λ slot. Shows (carried who (plan_by slot q words) m) before listed m (if is_some left then Some next else None)) (sym h.active)
-    (subst (λ r. Shows (carried who (plan_by (Some h.t) q words) m) before listed m r) same shown)
+    subst (λ slot. CarriesOver who (plan_by slot q words) m before listed (if_tame (is_some left) next)) (sym h.active)
+    (subst (λ r. CarriesOver who (plan_by (Some h.t) q words) m before listed r) same shown)
 
 stopped_is : (q : Qpu) (t next : Thread) (job : ℕ) → job ≡ t.job → settled (with_active q (Some next)) job None true None ≡ stopped q t
 stopped_is q t next job job_is = slot_gone q q.second (Some next) job None true None ∙ ap (λ j. settled q j None true None) job_is
@@ -382,6 +365,6 @@ wild_left : (q next : Qpu) (t thread : Thread) (job : ℕ) (left : Option Leaves
 wild_left q next t thread job None job_is is none = is ∙ stopped_is q t thread job job_is
 wild_left q next t thread job (Some leaves) job_is is none = absurd cc
 
-pub settle_wild : (who : Who) (words m : List ℕ) (before listed : List Access) (q after next : Qpu) (job : ℕ) (left : Option Leaves) → Stepped who words m before listed q after job left → next ≡ settled_by after job left → is_some left ≡ false → next ≡ qpu_stopped q
+pub settle_wild : (who : Who) (words m : List ℕ) (before listed : ArrayVec Access) (q after next : Qpu) (job : ℕ) (left : Option Leaves) → Stepped who words m before listed q after job left → next ≡ settled_by after job left → is_some left ≡ false → next ≡ qpu_stopped q
 settle_wild who words m before listed q after next job left h next_is none =
     subst (λ slot. next ≡ stopped_by slot q) (sym h.active) (wild_left q next h.t h.next job left h.job_is (settle_is who words m before listed q after next job left h next_is) none)

@@ -2,13 +2,10 @@
 use Rattle.std.proofs.Common.{◌≡◌, ℕ, List, [], ◌∷◌, ◌++◌, Bool, true, false, if◌then◌else◌, Some, None, Option, refl, sym, ◌∙◌, ap, subst, append-nil}
 use Rattle.std.specs.Int.{from_le_bytes, w64}
 use Rattle.field_words.specs.Words.{u32_at}
-use Rattle.field_words.specs.declared.access.Access.{Access}
-use Rattle.field_words.specs.declared.access.Way.TheVariants.{Read, Wild}
-use Rattle.machine_plan.specs.declared.who.Who.{Who}
 use Rattle.machine_plan.specs.Memory.{bytes_at}
 use Rattle.machine_plan.specs.Plan.{Plan, Done, Wilds, Reads, Shows, access, carried}
 use Rattle.machine_plan.proofs.Reading.{shows_read}
-use Rattle.qpu_machine.specs.declared.state.Thread.{Thread}
+use Rattle.qpu_machine.specs.State.{Access, Read, Thread, Who, Wild}
 use Rattle.qpu_machine.specs.Writes.{awake, past_uniform}
 use Rattle.qpu_machine.specs.Wild.{takes_one, is_wild}
 use Rattle.qpu_machine.specs.Step.{ThreadTurn, executed, word_plan, thread_plan}

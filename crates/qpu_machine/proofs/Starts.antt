@@ -1,13 +1,10 @@
 -- Where a program starts.
-use Rattle.std.proofs.Common.{◌≡◌, ◌≢◌, ◌≤◌, ◌<◌, ℕ, suc, ◌+◌, ◌-◌, ◌==◌, ◌&&◌, eqb, Bool, true, false, if◌then◌else◌, ◌⊎◌, inl, inr, List, [], ◌∷◌, drop, length, slice_index_or, slice_set, Option, None, Some, refl, sym, ◌∙◌, ap, subst, arith, drop-cons, ◌^◌}
+use Rattle.std.proofs.Common.{◌≡◌, ◌≢◌, ◌≤◌, ◌<◌, ℕ, suc, ◌+◌, ◌-◌, ◌==◌, ◌&&◌, eqb, Bool, true, false, if◌then◌else◌, ◌⊎◌, inl, inr, List, [], ◌∷◌, length, slice_index_or, slice_set, Option, None, Some, refl, sym, ◌∙◌, ap, subst, arith, ◌^◌}
 use Rattle.std.proofs.lemmas.Grind.{common_steps}
 use Rattle.std.proofs.lemmas.List.{get_or-set_same, get_or-set_other, length-set}
 use Rattle.std.proofs.lemmas.Bool.{and_parts}
 use Rattle.std.proofs.lemmas.Bool.Decides.{eqb_tells}
-use Rattle.machine_plan.specs.declared.launch.Launch.{Launch}
-use Rattle.machine_plan.specs.declared.launch.Slot.{Slot}
-use Rattle.qpu_machine.specs.declared.state.Qpu.{Qpu}
-use Rattle.qpu_machine.specs.declared.state.Thread.{Thread}
+use Rattle.qpu_machine.specs.State.{Launch, Qpu, Slot, Thread}
 use Rattle.qpu_machine.specs.Start.{thread_of}
 use Rattle.qpu_machine.specs.Qpu.{queued, has_none, takes_first, takes_other, in_first, in_other, in_slot, started_in, launched, slot_from, idle_qpu}
 use Rattle.qpu_machine.specs.Bounds.{IsNear, IsFew, IsBounded, AreBounded}
@@ -15,18 +12,6 @@ use Rattle.qpu_machine.specs.Bounds.{IsNear, IsFew, IsBounded, AreBounded}
 -- the search goes on past a processor that takes nothing
 abbrev pub slot_by : Bool → Bool → ℕ → Option Slot → Option Slot
 slot_by first other n rest = if first then Some (record { qpu = n; second = false }) else (if other then Some (record { qpu = n; second = true }) else rest)
-
-pub search_here : (threaded : Bool) (qpus : List Qpu) (i : ℕ) (q : Qpu) (first other : Bool) → i < length qpus → q ≡ slice_index_or qpus i q → takes_first threaded q ≡ first → takes_other threaded q ≡ other
-    → slot_from threaded i (drop i qpus) ≡ slot_by first other i (slot_from threaded (i + 1) (drop (i + 1) qpus))
-search_here threaded qpus i q first other below is first_is other_is =
-    let one : suc i ≡ i + 1 = omega arith in
-    let here : drop i qpus ≡ q ∷ drop (i + 1) qpus = drop-cons qpus i q below ∙ (ap (λ x. x ∷ drop (suc i) qpus) (sym is) ∙ ap (λ k. q ∷ drop k qpus) one) in
-    ap (slot_from threaded i) here ∙ (ap (λ b. slot_by b (takes_other threaded q) i (slot_from threaded (i + 1) (drop (i + 1) qpus))) first_is ∙ ap (λ b. slot_by first b i (slot_from threaded (i + 1) (drop (i + 1) qpus))) other_is)
-
-pub search_over : (threaded : Bool) (qpus : List Qpu) (i : ℕ) → length qpus ≤ i → slot_from threaded i (drop i qpus) ≡ None
-search_over threaded qpus i over =
-    let none : drop i qpus ≡ [] = grind (arith, common_steps, over) in
-    ap (slot_from threaded i) none
 
 -- the slot that is found is below the end, its processor takes the program there, and the program starts there
 pub record Found (threaded : Bool) (qpus : List Qpu) (at : ℕ) (second : Bool) : Type 0 where

@@ -1,12 +1,8 @@
 -- What a processor's numbers keep to, so that its queues have room.
 use Rattle.std.specs.Prelude.{◌≡◌, ◌≤◌, ◌<◌, ℕ, ◌+◌, ◌^◌, Bool, false, true, List, length, slice_index_or, Option, None, Some, IfSome, option_map}
-use Rattle.field_words.specs.declared.access.Access.{Access}
-use Rattle.machine_plan.specs.declared.who.Who.{Who}
-use Rattle.machine_plan.specs.Plan.{Shows, carried}
-use Rattle.qpu_machine.specs.declared.state.Leaves.{Leaves}
-use Rattle.qpu_machine.specs.declared.state.Qpu.{Qpu}
-use Rattle.qpu_machine.specs.declared.state.Request.{Request}
-use Rattle.qpu_machine.specs.declared.state.Thread.{Thread}
+use Rattle.arrayvec.specs.ArrayVec.{ArrayVec}
+use Rattle.machine_plan.specs.Turn.{CarriesOver}
+use Rattle.qpu_machine.specs.State.{Access, Leaves, Qpu, Request, Thread, Who}
 use Rattle.qpu_machine.specs.Qpu.{queued, idle_qpu}
 use Rattle.qpu_machine.specs.Step.{thread_plan, turn_of}
 
@@ -38,8 +34,8 @@ abbrev pub AreBounded : List Qpu → Type 0
 AreBounded qpus = (k : ℕ) → k < length qpus → IsBounded (slice_index_or qpus k idle_qpu)
 
 -- what an instruction of the thread in this slot has come to: the thread, and what it leaves
-pub record SlotSteps (who : Who) (words m : List ℕ) (before listed : List Access) (slot : Option Thread) (result : Option Leaves) (t : Thread) : Type 0 where
+pub record SlotSteps (who : Who) (words m : List ℕ) (before listed : ArrayVec Access) (slot : Option Thread) (result : Option Leaves) (t : Thread) : Type 0 where
   pub next : Thread
   pub is : slot ≡ Some next
-  pub shows : Shows (carried who (thread_plan t words) m) before listed m (option_map (turn_of next) result)
+  pub shows : CarriesOver who (thread_plan t words) m before listed (option_map (turn_of next) result)
   pub near : IfSome result (λ leaves. next.place ≤ 2 ^ 34)

@@ -1,3 +1,4 @@
+pub mod State
 pub mod Row
 pub mod Operands
 pub mod Writes

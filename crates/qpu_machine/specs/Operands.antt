@@ -5,7 +5,7 @@ use Rattle.qpu_isa.specs.Word.{raddr_a_of, raddr_b_of, add_a_of, add_b_of, mul_a
 use Rattle.qpu_isa.specs.Terms.{is_plain, has_small, is_load_imm, is_add_packed, is_mul_packed, names}
 use Rattle.qpu_alu.specs.Operation.{add_result_of, mul_result_of}
 use Rattle.machine_plan.specs.Choice.{word_at}
-use Rattle.qpu_machine.specs.declared.state.Thread.{Thread}
+use Rattle.qpu_machine.specs.State.{Thread}
 use Rattle.qpu_machine.specs.Row.{lanes, filled, chosen_row}
 
 -- The read of file A: a register, unless the thread's instruction directly before named it; the

@@ -2,19 +2,10 @@
 -- and where a program can start.
 use Rattle.std.specs.Prelude.{ℕ, ◌+◌, ◌==◌, ◌&&◌, ◌||◌, not, Bool, true, false, if◌then◌else◌, List, [], ◌∷◌, ◌++◌, drop, length, Option, None, Some, is_some, is_none, option_map}
 use Rattle.std.specs.List.{count_by}
-use Rattle.machine_plan.specs.declared.launch.Free.{Free}
-use Rattle.machine_plan.specs.declared.launch.Launch.{Launch}
-use Rattle.machine_plan.specs.declared.launch.Slot.{Slot}
 use Rattle.machine_plan.specs.Glance.{Glance, Now}
 use Rattle.machine_plan.specs.Plan.{Plan, Done}
 use Rattle.machine_plan.specs.World.{mapped}
-use Rattle.qpu_machine.specs.declared.state.Asked.{Asked}
-use Rattle.qpu_machine.specs.declared.state.Fate.{Fate}
-use Rattle.qpu_machine.specs.declared.state.Fate.TheVariants.{GoesOn, Switches, Ends}
-use Rattle.qpu_machine.specs.declared.state.Leaves.{Leaves}
-use Rattle.qpu_machine.specs.declared.state.Qpu.{Qpu}
-use Rattle.qpu_machine.specs.declared.state.Request.{Request}
-use Rattle.qpu_machine.specs.declared.state.Thread.{Thread}
+use Rattle.qpu_machine.specs.State.{Asked, Ends, Fate, Free, GoesOn, Launch, Leaves, Qpu, Request, Slot, Switches, Thread}
 use Rattle.qpu_machine.specs.Request.{ask_plan}
 use Rattle.qpu_machine.specs.Start.{thread_of}
 use Rattle.qpu_machine.specs.Step.{ThreadTurn, thread_plan, thread_ready}

@@ -7,8 +7,7 @@ use Rattle.texture_layouts.specs.Fits.{has_two_strides, lacks_stride, is_unliste
 use Rattle.machine_plan.specs.Choice.{word_at}
 use Rattle.machine_plan.specs.Plan.{Plan, Done, Wilds, Reads}
 use Rattle.machine_plan.specs.World.{mapped}
-use Rattle.qpu_machine.specs.declared.state.Ask.{Ask}
-use Rattle.qpu_machine.specs.declared.state.Ask.TheVariants.{Direct, Texture}
+use Rattle.qpu_machine.specs.State.{Ask, Direct, Texture}
 
 -- A direct request reads for each element the word at its address without the low two bits, and they
 -- are its result, behind those that were found before.

@@ -1,8 +1,6 @@
 -- A thread that has just been started.
 use Rattle.std.specs.Prelude.{ℕ, ◌+◌, ◌*◌, ◌^◌, true, [], None, replicate}
-use Rattle.machine_plan.specs.declared.launch.Launch.{Launch}
-use Rattle.qpu_machine.specs.declared.state.Mark.{Mark}
-use Rattle.qpu_machine.specs.declared.state.Thread.{Thread}
+use Rattle.qpu_machine.specs.State.{Launch, Mark, Thread}
 use Rattle.qpu_machine.specs.Row.{filled}
 
 -- Before a program's first instruction stand instructions that do nothing: signal 1, and both units

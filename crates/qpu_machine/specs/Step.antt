@@ -5,8 +5,7 @@ use Rattle.field_words.specs.Words.{u32_at}
 use Rattle.qpu_isa.specs.Terms.{writes_s}
 use Rattle.machine_plan.specs.Plan.{Plan, Done, Wilds, Reads}
 use Rattle.machine_plan.specs.Glance.{Glance, Now, At}
-use Rattle.qpu_machine.specs.declared.state.Thread.{Thread}
-use Rattle.qpu_machine.specs.declared.state.Leaves.{Leaves}
+use Rattle.qpu_machine.specs.State.{Leaves, Thread}
 use Rattle.qpu_machine.specs.Operands.{add_row, mul_row}
 use Rattle.qpu_machine.specs.Writes.{awake, past_uniform, worked, fate_of, rested, asked, loads}
 use Rattle.qpu_machine.specs.Wild.{takes_one, is_wild}

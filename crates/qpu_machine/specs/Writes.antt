@@ -4,12 +4,7 @@ use Rattle.qpu_isa.specs.Word.{sig_of, ws_of, waddr_add_of, waddr_mul_of, cond_a
 use Rattle.qpu_isa.specs.Terms.{is_branch, is_switch, is_end, add_names, writes_s, s_address}
 use Rattle.qpu_isa.specs.Setups.{kept}
 use Rattle.machine_plan.specs.Choice.{word_at}
-use Rattle.qpu_machine.specs.declared.state.Thread.{Thread}
-use Rattle.qpu_machine.specs.declared.state.Ask.{Ask}
-use Rattle.qpu_machine.specs.declared.state.Ask.TheVariants.{Direct, Texture}
-use Rattle.qpu_machine.specs.declared.state.Asked.{Asked}
-use Rattle.qpu_machine.specs.declared.state.Fate.{Fate}
-use Rattle.qpu_machine.specs.declared.state.Fate.TheVariants.{GoesOn, Switches, Ends}
+use Rattle.qpu_machine.specs.State.{Ask, Asked, Direct, Ends, Fate, GoesOn, Switches, Texture, Thread}
 use Rattle.qpu_machine.specs.Row.{chosen_row, chosen_rows, has_lane, merged, mask_of}
 
 -- A fresh thread first takes r0 to r5 from the choice words.

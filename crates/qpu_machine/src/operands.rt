@@ -1,7 +1,5 @@
 //! What the two units compute with, and what they come to.
-ghost use Rattle.std.specs.Prelude.{◌≡◌, ◌+◌, ◌≤◌, ◌<◌, ◌^◌, ◌%◌, slice_index, unwrap_or};
-ghost use Rattle.machine_plan.specs.Choice.{word_at};
-ghost use Rattle.qpu_alu.specs.Operation.{add_result_of, mul_result_of};
+ghost use Rattle.std.specs.Prelude.{◌≡◌, ◌≤◌, ◌<◌};
 ghost use Rattle.qpu_isa.specs.Word.{op_add_of, op_mul_of};
 ghost use Rattle.qpu_machine.specs.Operands.{read_a, small_row, read_b, operand, immediate_row, sums, add_row, is_rotated, products, mul_row};
 
@@ -102,18 +100,6 @@ fn immediate_row(word: u64, words: &[u32], from: u64) -> Row
     chosen_row(words, from)
 }
 
-// The add unit's result in element `e`.
-fn sum(op: u8, x: &Row, y: &Row, words: &[u32], e: u32) -> u32
-    requires operation { op < 32 }
-    requires element { e < 16 }
-    ensures { result ≡ unwrap_or (add_result_of op (slice_index x.now e % 2 ^ 32) (slice_index y.now e % 2 ^ 32)) (word_at words.now (1 + e)) }
-{
-    match add_result(op, x[e as usize], y[e as usize]) {
-        Some(value) => value,
-        None => choice_word(words, 1 + e as u64),
-    }
-}
-
 // The add unit's results by element.
 #[tactic(auto, using(crate::proofs::Fronts::front_more), unfolding(crate::specs::Operands::sums))]
 fn sums(op: u8, x: &Row, y: &Row, words: &[u32]) -> Row
@@ -122,7 +108,7 @@ fn sums(op: u8, x: &Row, y: &Row, words: &[u32]) -> Row
 {
     let mut row = [0; 16];
     for e in 0..16 {
-        row[e] = sum(op, x, y, words, e as u32);
+        row[e] = add_result(op, x[e], y[e]).unwrap_or(choice_word(words, 1 + e as u64));
     }
     row
 }
@@ -151,18 +137,6 @@ fn is_rotated(word: u64) -> bool
     has_small(word) && 48 <= raddr_b(word)
 }
 
-// The multiply unit's result in element `e`.
-fn product(op: u8, x: &Row, y: &Row, words: &[u32], e: u32) -> u32
-    requires operation { op < 8 }
-    requires element { e < 16 }
-    ensures { result ≡ unwrap_or (mul_result_of op (slice_index x.now e % 2 ^ 32) (slice_index y.now e % 2 ^ 32)) (word_at words.now (17 + e)) }
-{
-    match mul_result(op, x[e as usize], y[e as usize]) {
-        Some(value) => value,
-        None => choice_word(words, 17 + e as u64),
-    }
-}
-
 // The multiply unit's results by element.
 #[tactic(auto, using(crate::proofs::Fronts::front_more), unfolding(crate::specs::Operands::products))]
 fn products(op: u8, x: &Row, y: &Row, words: &[u32]) -> Row
@@ -171,7 +145,7 @@ fn products(op: u8, x: &Row, y: &Row, words: &[u32]) -> Row
 {
     let mut row = [0; 16];
     for e in 0..16 {
-        row[e] = product(op, x, y, words, e as u32);
+        row[e] = mul_result(op, x[e], y[e]).unwrap_or(choice_word(words, 17 + e as u64));
     }
     row
 }

@@ -1,26 +1,26 @@
 //! What a texture and memory unit (TMU) does with a request.
-ghost use Rattle.std.specs.Prelude.{◌≡◌, ◌<◌, ◌≤◌, ◌+◌, ◌++◌, ◌∷◌, [], ◌^◌, true, false, Some, None, slice_index, if◌then◌else◌};
+ghost use Rattle.std.specs.Prelude.{◌≡◌, ◌<◌, ◌≤◌, ◌+◌, ◌++◌, ◌∷◌, [], ◌^◌, true, false, Some, None, slice_index};
 ghost use Rattle.arrayvec.specs.ArrayVec.{array_vec_len};
 ghost use Rattle.field_words.specs.Words.{u32_at};
-ghost use Rattle.field_words.specs.declared.access.Way.TheVariants.{Read};
+ghost use Rattle.machine_plan.specs.Turn.{CarriesOver, if_tame};
+ghost use Rattle.qpu_machine.specs.State.{Read};
 ghost use Rattle.machine_plan.specs.Memory.{bytes_at};
-ghost use Rattle.machine_plan.specs.Plan.{Shows, access, carried};
+ghost use Rattle.machine_plan.specs.Plan.{access};
 ghost use Rattle.texture_layouts.specs.Fits.{is_unlisted};
 ghost use Rattle.texture_layouts.specs.Setup.{texture_of};
-ghost use Rattle.qpu_machine.specs.Request.{direct_plan, texture_reads, is_undefined, texture_plan, ask_plan};
+ghost use Rattle.qpu_machine.specs.Request.{direct_plan, texture_reads, is_undefined, ask_plan};
 
 use crate::state::{Ask, Row};
 use crate::texels::{chosen_length, chosen_place};
-use arrayvec::ArrayVec;
 use byteorder::{ByteOrder, LittleEndian};
-use field_words::{Access, Way};
-use machine_plan::{Who, list_access, read_bytes};
+use field_words::Way;
+use machine_plan::{Accesses, Who, list_access, read_bytes};
 use phys_mem::PhysMem;
 use texture_layouts::{Texture, has_child_image, has_two_strides, lacks_stride};
 
 // Reads the word at this place.
 #[tactic(auto, unfolding(field_words::specs::Words::u32_at))]
-fn read_word(place: u32, who: Who, memory: &PhysMem, accesses: &mut ArrayVec<Access, 272>) -> u32
+fn read_word(place: u32, who: Who, memory: &PhysMem, accesses: &mut Accesses) -> u32
     requires { array_vec_len accesses.old < 270 }
     ensures value { result ≡ u32_at (bytes_at memory.now place 4) 0 }
     ensures items { accesses.new.items ≡ accesses.old.items ++ access who Read place 4 ∷ [] }
@@ -32,9 +32,9 @@ fn read_word(place: u32, who: Who, memory: &PhysMem, accesses: &mut ArrayVec<Acc
 }
 
 // The words at these addresses, without their low two bits.
-fn read_words(row: &Row, who: Who, memory: &PhysMem, accesses: &mut ArrayVec<Access, 272>) -> Row
+fn read_words(row: &Row, who: Who, memory: &PhysMem, accesses: &mut Accesses) -> Row
     requires { array_vec_len accesses.old ≤ 100 }
-    ensures { Shows (carried who (direct_plan row.now []) memory.now) accesses.old.items accesses.new.items memory.now (Some result) }
+    ensures { CarriesOver who (direct_plan row.now []) memory.now accesses.old accesses.new (Some result) }
 {
     let mut found = [0; 16];
     for e in 0..16 {
@@ -49,11 +49,11 @@ fn list_texels(
     words: &[u32],
     who: Who,
     memory: &PhysMem,
-    accesses: &mut ArrayVec<Access, 272>,
+    accesses: &mut Accesses,
 ) -> bool
     requires room { array_vec_len accesses.old ≤ 100 }
     requires listed { is_unlisted texture.now ≡ false }
-    ensures { Shows (carried who (texture_reads texture.now words.now 0 128) memory.now) accesses.old.items accesses.new.items memory.now (if result then Some None else None) }
+    ensures { CarriesOver who (texture_reads texture.now words.now 0 128) memory.now accesses.old accesses.new (if_tame result None) }
 {
     for m in 0..128 {
         match chosen_place(texture, words, m) {
@@ -87,10 +87,10 @@ fn serve_texture(
     words: &[u32],
     who: Who,
     memory: &PhysMem,
-    accesses: &mut ArrayVec<Access, 272>,
+    accesses: &mut Accesses,
 ) -> bool
     requires { array_vec_len accesses.old ≤ 100 }
-    ensures { Shows (carried who (texture_plan (slice_index four.now 0) (slice_index four.now 1) (slice_index four.now 2) (slice_index four.now 3) words.now) memory.now) accesses.old.items accesses.new.items memory.now (if result then Some None else None) }
+    ensures { CarriesOver who (ask_plan (Ask.Texture four.now) words.now) memory.now accesses.old accesses.new (if_tame result None) }
 {
     let texture = Texture::of(four);
     if is_undefined(four, &texture) {
@@ -108,10 +108,10 @@ pub fn serve(
     words: &[u32],
     who: Who,
     memory: &PhysMem,
-    accesses: &mut ArrayVec<Access, 272>,
+    accesses: &mut Accesses,
 ) -> Option<Option<Row>>
     requires { array_vec_len accesses.old ≤ 100 }
-    ensures { Shows (carried who (ask_plan ask.now words.now) memory.now) accesses.old.items accesses.new.items memory.now result }
+    ensures { CarriesOver who (ask_plan ask.now words.now) memory.now accesses.old accesses.new result }
 {
     match ask {
         Ask::Direct(row) => Some(Some(read_words(row, who, memory, accesses))),

@@ -1,15 +1,14 @@
 //! The step of a processor's texture and memory unit (TMU).
-ghost use Rattle.std.specs.Prelude.{◌≡◌, ◌≢◌, ◌<◌, ◌≤◌, IsTrue, false, Some, None, is_some, option_map, drop, if◌then◌else◌};
+ghost use Rattle.std.specs.Prelude.{◌≡◌, ◌≢◌, ◌<◌, ◌≤◌, IsTrue, false, Some, is_some, option_map, drop};
 ghost use Rattle.arrayvec.specs.ArrayVec.{array_vec_len};
-ghost use Rattle.machine_plan.specs.Plan.{Shows, carried};
+ghost use Rattle.machine_plan.specs.Turn.{CarriesOver, if_tame};
 ghost use Rattle.qpu_machine.specs.Qpu.{queue_of, oldest, job_of_request, slot_of, tmu_plan, dropped, with_result, given};
 ghost use Rattle.qpu_machine.specs.Bounds.{IsBounded, finished0, finished1};
 
 use crate::request::serve;
 use crate::state::{Qpu, Request, Row, Thread};
 use arrayvec::ArrayVec;
-use field_words::Access;
-use machine_plan::Who;
+use machine_plan::{Accesses, Who};
 use phys_mem::PhysMem;
 
 /// Whether TMU `tmu` of the processor has a request, and so may step.
@@ -108,13 +107,13 @@ pub fn step_tmu(
     words: &[u32],
     who: Who,
     memory: &PhysMem,
-    accesses: &mut ArrayVec<Access, 272>,
+    accesses: &mut Accesses,
 ) -> bool
     requires ready { IsTrue (is_some (oldest (queue_of qpu.old tmu))) }
     requires bounded { IsBounded qpu.old }
     requires room { array_vec_len accesses.old ≤ 100 }
     ensures bounded { IsBounded qpu.new }
-    ensures shows { Shows (carried who (tmu_plan qpu.old tmu words.now) memory.now) accesses.old.items accesses.new.items memory.now (if result then Some qpu.new else None) }
+    ensures shows { CarriesOver who (tmu_plan qpu.old tmu words.now) memory.now accesses.old accesses.new (if_tame result qpu.new) }
     ensures wild { result ≡ false → qpu.new ≡ dropped qpu.old tmu }
 {
     let request = drop_oldest(tmu, qpu);

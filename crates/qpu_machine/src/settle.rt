@@ -1,16 +1,15 @@
 //! The step of a processor.
-ghost use Rattle.std.specs.Prelude.{◌≡◌, ◌<◌, ◌≤◌, ◌^◌, IsTrue, true, false, Some, None, IfSome, is_some, if◌then◌else◌};
+ghost use Rattle.std.specs.Prelude.{◌≡◌, ◌<◌, ◌≤◌, ◌^◌, IsTrue, true, false, IfSome, is_some};
 ghost use Rattle.arrayvec.specs.ArrayVec.{array_vec_len};
 ghost use Rattle.machine_plan.specs.Glance.{glanced};
-ghost use Rattle.machine_plan.specs.Plan.{Shows, carried};
+ghost use Rattle.machine_plan.specs.Turn.{CarriesOver, if_tame};
 ghost use Rattle.qpu_machine.specs.Qpu.{active_of, job_of_thread, resting_of, qpu_ready, qpu_plan, qpu_stopped, woken_slot, queue_with, with_active, left_slot, gives_way_by, asked_by, settled, settled_by};
 ghost use Rattle.qpu_machine.specs.Bounds.{IsNear, IsBounded, SlotSteps};
 
 use crate::state::{Asked, Fate, Leaves, Qpu, Request, Thread};
 use crate::step::step_thread;
 use arrayvec::ArrayVec;
-use field_words::Access;
-use machine_plan::Who;
+use machine_plan::{Accesses, Who};
 use phys_mem::PhysMem;
 
 // One instruction of the thread in this slot. `None` comes where it is wild, or where no thread is there.
@@ -19,11 +18,11 @@ fn step_slot(
     words: &[u32],
     who: Who,
     memory: &PhysMem,
-    accesses: &mut ArrayVec<Access, 272>,
+    accesses: &mut Accesses,
 ) -> Option<Leaves>
     requires near { IsNear slot.old }
     requires room { array_vec_len accesses.old ≤ 260 }
-    ensures { IfSome slot.old (SlotSteps who words.now memory.now accesses.old.items accesses.new.items slot.new result) }
+    ensures { IfSome slot.old (SlotSteps who words.now memory.now accesses.old accesses.new slot.new result) }
 {
     match slot {
         None => None,
@@ -129,12 +128,12 @@ fn step_active(
     words: &[u32],
     who: Who,
     memory: &PhysMem,
-    accesses: &mut ArrayVec<Access, 272>,
+    accesses: &mut Accesses,
 ) -> Option<Leaves>
     requires near { IsNear (active_of qpu.old) }
     requires room { array_vec_len accesses.old ≤ 260 }
     ensures kept { qpu.new ≡ with_active qpu.old (active_of qpu.new) }
-    ensures steps { IfSome (active_of qpu.old) (SlotSteps who words.now memory.now accesses.old.items accesses.new.items (active_of qpu.new) result) }
+    ensures steps { IfSome (active_of qpu.old) (SlotSteps who words.now memory.now accesses.old accesses.new (active_of qpu.new) result) }
 {
     if qpu.second {
         return step_slot(&mut qpu.other, words, who, memory, accesses);
@@ -163,13 +162,13 @@ pub fn step_qpu(
     words: &[u32],
     who: Who,
     memory: &PhysMem,
-    accesses: &mut ArrayVec<Access, 272>,
+    accesses: &mut Accesses,
 ) -> bool
     requires ready { IsTrue (glanced (qpu_ready qpu.old) memory.now) }
     requires bounded { IsBounded qpu.old }
     requires room { array_vec_len accesses.old ≤ 260 }
     ensures bounded { IsBounded qpu.new }
-    ensures shows { Shows (carried who (qpu_plan qpu.old words.now) memory.now) accesses.old.items accesses.new.items memory.now (if result then Some qpu.new else None) }
+    ensures shows { CarriesOver who (qpu_plan qpu.old words.now) memory.now accesses.old accesses.new (if_tame result qpu.new) }
     ensures wild { result ≡ false → qpu.new ≡ qpu_stopped qpu.old }
 {
     let job = qpu_job(qpu);

@@ -2,10 +2,11 @@
 ghost use Rattle.std.specs.Prelude.{◌≡◌, ◌<◌, ◌≤◌, ◌+◌, ◌++◌, ◌∷◌, [], ◌^◌, true, false, length, option_map, IfSome, None};
 ghost use Rattle.std.specs.Int.{from_le_bytes, w64};
 ghost use Rattle.field_words.specs.Words.{u32_at};
-ghost use Rattle.field_words.specs.declared.access.Way.TheVariants.{Read};
+ghost use Rattle.machine_plan.specs.Turn.{CarriesOver};
+ghost use Rattle.qpu_machine.specs.State.{Read};
 ghost use Rattle.machine_plan.specs.Memory.{bytes_at};
 ghost use Rattle.arrayvec.specs.ArrayVec.{array_vec_len};
-ghost use Rattle.machine_plan.specs.Plan.{Shows, access, carried};
+ghost use Rattle.machine_plan.specs.Plan.{access};
 ghost use Rattle.machine_plan.specs.Glance.{glanced};
 ghost use Rattle.qpu_isa.specs.Terms.{writes_tmu};
 ghost use Rattle.qpu_machine.specs.Wild.{is_wild};
@@ -16,10 +17,9 @@ use crate::effects::{asked, fate_of, loads, pass_uniform, rest, wake, work};
 use crate::operands::{add_row, mul_row};
 use crate::state::{Leaves, Row, Thread};
 use crate::wild::{is_wild, takes_one};
-use arrayvec::ArrayVec;
 use byteorder::{ByteOrder, LittleEndian};
-use field_words::{Access, Way};
-use machine_plan::{Who, list_access, read_bytes};
+use field_words::Way;
+use machine_plan::{Accesses, Who, list_access, read_bytes};
 use phys_mem::PhysMem;
 use qpu_isa::writes::writes_s;
 
@@ -62,12 +62,7 @@ fn execute(word: u64, uniform: u32, words: &[u32], thread: &mut Thread) -> Leave
 
 // Takes the uniform at the thread's pointer.
 #[tactic(auto, unfolding(field_words::specs::Words::u32_at))]
-fn take_uniform(
-    thread: &mut Thread,
-    who: Who,
-    memory: &PhysMem,
-    accesses: &mut ArrayVec<Access, 272>,
-) -> u32
+fn take_uniform(thread: &mut Thread, who: Who, memory: &PhysMem, accesses: &mut Accesses) -> u32
     requires { array_vec_len accesses.old < 270 }
     ensures thread { thread.new ≡ past_uniform thread.old }
     ensures value { result ≡ u32_at (bytes_at memory.now thread.old.uniforms 4) 0 }
@@ -88,12 +83,12 @@ fn obey(
     words: &[u32],
     who: Who,
     memory: &PhysMem,
-    accesses: &mut ArrayVec<Access, 272>,
+    accesses: &mut Accesses,
 ) -> Option<Leaves>
     requires place { thread.old.place < 2 ^ 62 }
     requires room { array_vec_len accesses.old < 270 }
     ensures near { IfSome result (λ leaves. (is_wild thread.old word ≡ false) × (thread.new.place ≤ thread.old.place + 2 ^ 33)) }
-    ensures shows { Shows (carried who (word_plan thread.old word words.now) memory.now) accesses.old.items accesses.new.items memory.now (option_map (turn_of thread.new) result) }
+    ensures shows { CarriesOver who (word_plan thread.old word words.now) memory.now accesses.old accesses.new (option_map (turn_of thread.new) result) }
     ensures same { result ≡ None → thread.new ≡ thread.old }
 {
     if is_wild(thread, word) {
@@ -126,12 +121,12 @@ pub fn step_thread(
     words: &[u32],
     who: Who,
     memory: &PhysMem,
-    accesses: &mut ArrayVec<Access, 272>,
+    accesses: &mut Accesses,
 ) -> Option<Leaves>
     requires place { thread.old.place < 2 ^ 62 }
     requires room { array_vec_len accesses.old ≤ 260 }
     ensures near { IfSome result (λ leaves. thread.new.place ≤ 2 ^ 34) }
-    ensures shows { Shows (carried who (thread_plan thread.old words.now) memory.now) accesses.old.items accesses.new.items memory.now (option_map (turn_of thread.new) result) }
+    ensures shows { CarriesOver who (thread_plan thread.old words.now) memory.now accesses.old accesses.new (option_map (turn_of thread.new) result) }
     ensures same { result ≡ None → thread.new ≡ thread.old }
 {
     let _size = memory.len();

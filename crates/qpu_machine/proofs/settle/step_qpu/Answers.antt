@@ -1,33 +1,33 @@
 -- A step of the active thread, and what becomes of its processor.
-use Rattle.std.proofs.Common.{◌∙◌, sym, subst, Some, None, if◌then◌else◌}
-use Rattle.machine_plan.specs.Plan.{Shows, carried}
+use Rattle.std.proofs.Common.{◌∙◌, sym, subst}
+use Rattle.machine_plan.specs.Turn.{CarriesOver, if_tame}
 use Rattle.qpu_machine.specs.Qpu.{qpu_plan}
-use Rattle.qpu_machine.proofs.Settling.{Stepped, stepped, settle_room0, settle_room1, settle_bounded, settle_shows, settle_wild}
+use Rattle.qpu_machine.proofs.Settling.{Stepped, stepped, settle_room, settle_bounded, settle_shows, settle_wild}
 use Rattle.qpu_machine.proofs.settle.step_qpu.Goals as goal
 
-steps : (c : goal.After-settle-arg-1) → Stepped c.args.who c.args.words.now c.args.memory.now c.args.accesses.now.items c.step_active-left.new.accesses.items c.args.qpu.now c.step_active-left.new.qpu c.qpu_job-job.result c.step_active-left.result
+steps : (c : goal.After-settle-arg-1) → Stepped c.args.who c.args.words.now c.args.memory.now c.args.accesses.now c.step_active-left.new.accesses c.args.qpu.now c.step_active-left.new.qpu c.qpu_job-job.result c.step_active-left.result
 steps c =
-    stepped c.args.who c.args.words.now c.args.memory.now c.args.accesses.now.items c.step_active-left.new.accesses.items c.args.qpu.now c.step_active-left.new.qpu c.qpu_job-job.result c.step_active-left.result
+    stepped c.args.who c.args.words.now c.args.memory.now c.args.accesses.now c.step_active-left.new.accesses c.args.qpu.now c.step_active-left.new.qpu c.qpu_job-job.result c.step_active-left.result
     c.requires.ready c.qpu_job-job.ensures c.step_active-left.ensures.kept c.step_active-left.ensures.steps
 
-after : (c : goal.After-is_some) → Stepped c.args.who c.args.words.now c.args.memory.now c.args.accesses.now.items c.step_active-left.new.accesses.items c.args.qpu.now c.step_active-left.new.qpu c.qpu_job-job.result c.step_active-left.result
+after : (c : goal.After-is_some) → Stepped c.args.who c.args.words.now c.args.memory.now c.args.accesses.now c.step_active-left.new.accesses c.args.qpu.now c.step_active-left.new.qpu c.qpu_job-job.result c.step_active-left.result
 after c =
-    stepped c.args.who c.args.words.now c.args.memory.now c.args.accesses.now.items c.step_active-left.new.accesses.items c.args.qpu.now c.step_active-left.new.qpu c.qpu_job-job.result c.step_active-left.result
+    stepped c.args.who c.args.words.now c.args.memory.now c.args.accesses.now c.step_active-left.new.accesses c.args.qpu.now c.step_active-left.new.qpu c.qpu_job-job.result c.step_active-left.result
     c.requires.ready c.qpu_job-job.ensures c.step_active-left.ensures.kept c.step_active-left.ensures.steps
 
 pub settle-requires-clause-room0 : goal.settle-requires-clause-room0
-settle-requires-clause-room0 c = settle_room0 c.args.who c.args.words.now c.args.memory.now c.args.accesses.now.items _ c.args.qpu.now _ _ _ c.requires.bounded (steps c)
+settle-requires-clause-room0 c = (settle_room c.args.who c.args.words.now c.args.memory.now c.args.accesses.now _ c.args.qpu.now _ _ _ c.requires.bounded (steps c)).0
 
 pub settle-requires-clause-room1 : goal.settle-requires-clause-room1
-settle-requires-clause-room1 c = settle_room1 c.args.who c.args.words.now c.args.memory.now c.args.accesses.now.items _ c.args.qpu.now _ _ _ c.requires.bounded (steps c)
+settle-requires-clause-room1 c = (settle_room c.args.who c.args.words.now c.args.memory.now c.args.accesses.now _ c.args.qpu.now _ _ _ c.requires.bounded (steps c)).1
 
 pub returns-clause-bounded : goal.returns-clause-bounded
-returns-clause-bounded c = settle_bounded c.args.who c.args.words.now c.args.memory.now c.args.accesses.now.items _ c.args.qpu.now _ _ _ _ c.requires.bounded (after c) c.settle.ensures
+returns-clause-bounded c = settle_bounded c.args.who c.args.words.now c.args.memory.now c.args.accesses.now _ c.args.qpu.now _ _ _ _ c.requires.bounded (after c) c.settle.ensures
 
 pub returns-clause-shows : goal.returns-clause-shows
 returns-clause-shows c =
-    subst (λ some. Shows (carried c.args.who (qpu_plan c.args.qpu.now c.args.words.now) c.args.memory.now) c.args.accesses.now.items c.step_active-left.new.accesses.items c.args.memory.now (if some then Some c.settle.new.qpu else None)) (sym c.is_some.ensures)
-    (settle_shows c.args.who c.args.words.now c.args.memory.now c.args.accesses.now.items _ c.args.qpu.now _ _ _ _ (after c) c.settle.ensures)
+    subst (λ some. CarriesOver c.args.who (qpu_plan c.args.qpu.now c.args.words.now) c.args.memory.now c.args.accesses.now c.step_active-left.new.accesses (if_tame some c.settle.new.qpu)) (sym c.is_some.ensures)
+    (settle_shows c.args.who c.args.words.now c.args.memory.now c.args.accesses.now _ c.args.qpu.now _ _ _ _ (after c) c.settle.ensures)
 
 pub returns-clause-wild : goal.returns-clause-wild
-returns-clause-wild c = λ none. settle_wild c.args.who c.args.words.now c.args.memory.now c.args.accesses.now.items _ c.args.qpu.now _ _ _ _ (after c) c.settle.ensures (sym c.is_some.ensures ∙ none)
+returns-clause-wild c = λ none. settle_wild c.args.who c.args.words.now c.args.memory.now c.args.accesses.now _ c.args.qpu.now _ _ _ _ (after c) c.settle.ensures (sym c.is_some.ensures ∙ none)
