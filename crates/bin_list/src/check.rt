@@ -11,8 +11,8 @@ ghost use Rattle.bin_list.specs.Fine.{IsLow};
 ghost use Rattle.bin_list.specs.Emitted.{texts, bin_text};
 ghost use Rattle.bin_list.specs.Info.{IsInfo, IsInfoOf, IsRead, MeetsState};
 ghost use Rattle.bin_list.specs.Told.{IsSoundInfo};
-ghost use Rattle.bin_list.specs.Least.{IsLeastFault};
-ghost use Rattle.packets.specs.Writing.{written};
+ghost use Rattle.field_words.specs.Least.{NamesLeast};
+ghost use Rattle.bin_list.specs.Least.{IsUpTo};
 
 use crate::cut::split_front;
 use crate::emit::{put, put_packet};
@@ -48,7 +48,7 @@ fn read_packets(
     requires low { IsLow layout.now }
     requires room { layout.now.bin + length list.now ≤ length out.old }
     ensures answers { Answers (asked given.now (passed list.now)) (λ read. IsRead given.now layout.now list.now read) result }
-    ensures put { OnOk result (out.new ≡ written out.old layout.now.bin (texts given.now layout.now (passed list.now))) }
+    ensures put { OnOk result (out.new ≡ with_bytes out.old layout.now.bin (texts given.now layout.now (passed list.now))) }
     ensures memory { result ≡ Err OutOfMemory → MeetsState given.now list.now }
 {
     let mut states = States::new(alloc);
@@ -128,7 +128,7 @@ pub fn check_bin(
     requires slot_limit { layout.now.slot ≤ 67108864 }
     requires room { layout.now.bin + length list.now ≤ length out.old }
     ensures answers { Answers (bin_questions list.now declared table.now handles.now) (λ info. IsInfo list.now declared table.now handles.now layout.now info) result }
-    ensures least { (found : ListFault) → result ≡ Err (Fault found) → IsLeastFault (bin_questions list.now declared table.now handles.now) found }
+    ensures least { NamesLeast IsUpTo (bin_questions list.now declared table.now handles.now) result }
     ensures sound { IfOk result (λ info. IsSoundInfo declared info) }
     ensures put { OnOk result (out.new ≡ with_bytes out.old layout.now.bin (bin_text list.now declared table.now handles.now layout.now)) }
     ensures fits { OnOk result (length (bin_text list.now declared table.now handles.now layout.now) ≤ length list.now) }

@@ -1,4 +1,3 @@
 pub mod Length
 pub mod Opcode
 pub mod Packet
-pub mod Writing

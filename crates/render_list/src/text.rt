@@ -2,7 +2,6 @@
 ghost use Rattle.std.specs.Prelude.{◌≡◌, ◌≤◌, ◌<◌, ◌+◌, ◌∷◌, [], length, IsSome, is_some, Some};
 ghost use Rattle.field_words.specs.Writes.{with_bytes};
 ghost use Rattle.packets.specs.Packet.{slots_text};
-ghost use Rattle.packets.specs.Writing.{written};
 ghost use Rattle.render_list.specs.Frame.{TileFits, IsSetupFor};
 ghost use Rattle.render_list.specs.Length.{render_length};
 ghost use Rattle.render_list.specs.Text.{head_packet, clear_slots, front_slots, tile_slots, row_slots, all_tile_slots, render_slots, render_text};
@@ -26,7 +25,7 @@ fn put_tile(
     requires fits { TileFits frame.now setup.now.places tile.x tile.y }
     requires slot { IsSome tiles → slot ≤ 67108864 }
     requires room { at + length (slots_text (tile_slots frame.now setup.now.places tiles slot tile.y tile.x)) ≤ length out.old }
-    ensures text { out.new ≡ written out.old at (slots_text (tile_slots frame.now setup.now.places tiles slot tile.y tile.x)) }
+    ensures text { out.new ≡ with_bytes out.old at (slots_text (tile_slots frame.now setup.now.places tiles slot tile.y tile.x)) }
     ensures end { result ≡ at + length (slots_text (tile_slots frame.now setup.now.places tiles slot tile.y tile.x)) }
 {
     put_present(out, at, &tile_slots(frame, setup, tiles, slot, tile))
@@ -46,7 +45,7 @@ fn put_row(
     requires row { y ≤ frame.now.max_y }
     requires slot { IsSome tiles → slot ≤ 67108864 }
     requires room { at + length (slots_text (row_slots frame.now setup.now.places tiles slot y)) ≤ length out.old }
-    ensures text { out.new ≡ written out.old at (slots_text (row_slots frame.now setup.now.places tiles slot y)) }
+    ensures text { out.new ≡ with_bytes out.old at (slots_text (row_slots frame.now setup.now.places tiles slot y)) }
     ensures end { result ≡ at + length (slots_text (row_slots frame.now setup.now.places tiles slot y)) }
 {
     let mut here = at;
@@ -68,7 +67,7 @@ fn put_tiles(
     requires setup { IsSetupFor frame.now setup.now.places }
     requires slot { IsSome tiles → slot ≤ 67108864 }
     requires room { at + length (slots_text (all_tile_slots frame.now setup.now.places tiles slot)) ≤ length out.old }
-    ensures text { out.new ≡ written out.old at (slots_text (all_tile_slots frame.now setup.now.places tiles slot)) }
+    ensures text { out.new ≡ with_bytes out.old at (slots_text (all_tile_slots frame.now setup.now.places tiles slot)) }
     ensures end { result ≡ at + length (slots_text (all_tile_slots frame.now setup.now.places tiles slot)) }
 {
     let mut here = at;
@@ -82,7 +81,7 @@ fn put_tiles(
 #[tactic(auto, unfolding(crate::specs::Text::front_slots))]
 fn put_front(out: &mut [u8], at: usize, frame: &Frame, setup: &Setup) -> usize
     requires room { at + length (slots_text (front_slots frame.now setup.now.places)) ≤ length out.old }
-    ensures text { out.new ≡ written out.old at (slots_text (front_slots frame.now setup.now.places)) }
+    ensures text { out.new ≡ with_bytes out.old at (slots_text (front_slots frame.now setup.now.places)) }
     ensures end { result ≡ at + length (slots_text (front_slots frame.now setup.now.places)) }
 {
     let [values, coordinates, nothing] = clear_slots(frame);
@@ -91,7 +90,7 @@ fn put_front(out: &mut [u8], at: usize, frame: &Frame, setup: &Setup) -> usize
 }
 
 /// The whole list.
-#[tactic(auto, using(crate::proofs::Rows::render_parts, crate::proofs::Rows::length_parts, packets::proofs::Writing::written_append))]
+#[tactic(auto, using(crate::proofs::Rows::render_parts, crate::proofs::Rows::length_parts, field_words::proofs::Writes::with_two))]
 fn put_list(
     out: &mut [u8],
     at: usize,
@@ -103,7 +102,7 @@ fn put_list(
     requires setup { IsSetupFor frame.now setup.now.places }
     requires slot { IsSome tiles → slot ≤ 67108864 }
     requires room { at + length (render_text frame.now setup.now.places tiles slot) ≤ length out.old }
-    ensures text { out.new ≡ written out.old at (render_text frame.now setup.now.places tiles slot) }
+    ensures text { out.new ≡ with_bytes out.old at (render_text frame.now setup.now.places tiles slot) }
     ensures end { result ≡ at + length (render_text frame.now setup.now.places tiles slot) }
 {
     let at = put_front(out, at, frame, setup);
@@ -114,7 +113,7 @@ fn put_list(
 /// changes no other byte. `tiles` is the binner's grid, across and down, where there is a binner list;
 /// the list then waits for the binner at its first tile, and runs at each tile the list that the binner
 /// made of it.
-#[tactic(auto, unfolding(packets::specs::Writing::written), using(crate::proofs::Length::render_fits))]
+#[tactic(auto, using(crate::proofs::Length::render_fits))]
 pub fn build(frame: &Frame, setup: &Setup, tiles: Option<(u8, u8)>, layout: &Layout, out: &mut [u8])
     requires setup { IsSetupFor frame.now setup.now.places }
     requires slot { IsSome tiles → layout.now.slot ≤ 67108864 }

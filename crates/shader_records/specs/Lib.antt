@@ -1,7 +1,6 @@
 pub mod Emission
 pub mod Emitted
 pub mod Examples
-pub mod Going
 pub mod Inputs
 pub mod Named
 pub mod Rules

@@ -1,11 +1,10 @@
 //! The rules of the uniforms that shaders take.
 ghost use Rattle.std.specs.Prelude.{◌≡◌, ℕ, ◌+◌, ◌*◌, ◌<◌, ◌≤◌, ◌^◌, length, Some, None, IfSome, MatchOption};
-ghost use Rattle.field_words.specs.Questions.{first_of, each};
+ghost use Rattle.field_words.specs.Questions.{GoesOn, first_of, each};
 ghost use Rattle.qpu_isa.specs.Shader.{shader_view, sample_at, position, first_position, IsSoundShader, IsSoundSample};
 ghost use Rattle.emitted_facts.specs.Facts.{setup};
 ghost use Rattle.shader_records.specs.Sources.{shader_used, taken_by, sample_number, source_word, size_in};
 ghost use Rattle.shader_records.specs.Rules.{uniform_fault, sample_fault as sample_fault_of, setup_questions, first_word_at, sample_questions, use_questions};
-ghost use Rattle.shader_records.specs.Going.{GoesOn};
 
 use crate::fault::RecordFault;
 use crate::inputs::Inputs;

@@ -1,7 +1,7 @@
 //! The rules of textures, U2 to U9.
 ghost use Rattle.std.specs.Prelude.{◌≡◌, OnOk, false, slice_index};
-ghost use Rattle.field_words.specs.Questions.{first_of};
-ghost use Rattle.texture_layouts.specs.Fits.{has_two_strides, lacks_stride, is_unlisted, has_face_past, has_level_below, has_child_image, texture_questions, direct_questions, AnswersFirst, AnswersLeast, IsInBuffer};
+ghost use Rattle.field_words.specs.Questions.{first_of, GoesOn};
+ghost use Rattle.texture_layouts.specs.Fits.{has_two_strides, lacks_stride, is_unlisted, has_face_past, has_level_below, has_child_image, texture_questions, direct_questions, AnswersLeast, IsInBuffer};
 ghost use Rattle.texture_layouts.specs.Fetch.{AreFetchesIn};
 ghost use Rattle.texture_layouts.specs.Setup.{texture_of};
 
@@ -107,7 +107,7 @@ fn texture_fault(words: &[u32; 4], size: u32) -> Option<u8>
 ///
 /// After `Ok` each level of each face lies in the buffer, and so does whatever is fetched for a pixel.
 pub fn texture_fits(p: [u32; 4], size: u32) -> Result<(), u8>
-    ensures first { AnswersFirst (texture_questions (slice_index p 0) (slice_index p 1) (slice_index p 2) (slice_index p 3) size) result }
+    ensures first { GoesOn (texture_questions (slice_index p 0) (slice_index p 1) (slice_index p 2) (slice_index p 3) size) (λ _. Unit {0}) result }
     ensures least { AnswersLeast (texture_questions (slice_index p 0) (slice_index p 1) (slice_index p 2) (slice_index p 3) size) result }
     ensures inside { OnOk result (IsInBuffer (texture_of (slice_index p 0) (slice_index p 1) (slice_index p 2) (slice_index p 3)) size) }
     ensures fetches { OnOk result (AreFetchesIn (texture_of (slice_index p 0) (slice_index p 1) (slice_index p 2) (slice_index p 3)) size) }
@@ -136,7 +136,7 @@ fn direct_fault(base: u32, bound: u32, size: u32) -> Option<u8>
 /// word of 4 bytes at a time. The fault is the number of the first of U2 and U3 that stands, which
 /// is the least number of those that stand.
 pub fn direct_fits(base: u32, bound: u32, size: u32) -> Result<(), u8>
-    ensures first { AnswersFirst (direct_questions base bound size) result }
+    ensures first { GoesOn (direct_questions base bound size) (λ _. Unit {0}) result }
     ensures least { AnswersLeast (direct_questions base bound size) result }
 {
     match direct_fault(base, bound, size) {

@@ -1,6 +1,6 @@
 use Rattle.std.proofs.Common.{◌+◌, length, arith, ap, sym, ◌∙◌, refl, inl}
 use Rattle.field_words.specs.Questions.{first_of}
-use Rattle.packets.specs.Writing.{written}
+use Rattle.field_words.specs.Writes.{with_bytes}
 use Rattle.bin_list.specs.Rules.{packet_questions}
 use Rattle.bin_list.proofs.Plain.{plain_none, plain_text, plain_seen, plain_states}
 use Rattle.bin_list.proofs.Walk.{begins, stops_at, goes_on, meets, through, some_left, none_left, packet_some, less_left, place_fits, room_fits}
@@ -53,7 +53,7 @@ loop-rest-preserved-then-is_plain c =
     packet c.split_front.ensures.packet (plain_none given seen packet plain)
     c.past-seen.result (c.past-seen.ensures.value ∙ plain_seen seen packet plain) c.past-seen.ensures.bounded
     c.put-end.result c.put-end.new.out
-    (c.put-end.ensures.text ∙ ap (written c.loop-rest.out c.loop-rest.end) (sym text))
+    (c.put-end.ensures.text ∙ ap (with_bytes c.loop-rest.out c.loop-rest.end) (sym text))
     (c.put-end.ensures.end ∙ ap (λ t. c.loop-rest.end + length t) (sym text))
     (omega (arith, ap length text))
     c.loop-rest.states.done.items c.loop-rest.states.current (plain_states c.loop-rest.states.done.items c.loop-rest.states.current packet plain) (λ is. inl is)
