@@ -6,13 +6,13 @@ ghost use Rattle.field_words.specs.Writes.{with_bytes};
 ghost use Rattle.buffer_table.specs.Handles.{AreNumbersOf};
 ghost use Rattle.bin_list.specs.Packets.{passed};
 ghost use Rattle.bin_list.specs.Seen.{seen_before};
-ghost use Rattle.bin_list.specs.Rules.{asked, fault, end_questions, given_of, bin_questions};
+ghost use Rattle.bin_list.specs.Faults.{fault, IsUpTo};
+ghost use Rattle.bin_list.specs.Rules.{asked, end_questions, given_of, bin_questions};
 ghost use Rattle.bin_list.specs.Fine.{IsLow};
 ghost use Rattle.bin_list.specs.Emitted.{texts, bin_text};
 ghost use Rattle.bin_list.specs.Info.{IsInfo, IsInfoOf, IsRead, MeetsState};
 ghost use Rattle.bin_list.specs.Told.{IsSoundInfo};
 ghost use Rattle.field_words.specs.Least.{NamesLeast};
-ghost use Rattle.bin_list.specs.Least.{IsUpTo};
 
 use crate::cut::split_front;
 use crate::emit::{put, put_packet};
@@ -63,9 +63,9 @@ fn read_packets(
             rest = behind;
             continue;
         }
-        if let Some(number) = packet_fault(given, &seen, packet) {
+        if let Some(rule) = packet_fault(given, &seen, packet) {
             return Err(Stop::Fault(ListFault {
-                number,
+                number: rule.number(),
                 at: seen.at,
             }));
         }
@@ -93,9 +93,11 @@ fn finish(
     ensures memory { result ≡ Err OutOfMemory → 1 ≤ (seen_before (passed list.now)).states }
 {
     let Read { seen, end, states } = read;
-    if let Some(number) = end_fault(&seen) {
-        let at = list.len() as u32;
-        return Err(Stop::Fault(ListFault { number, at }));
+    if let Some(rule) = end_fault(&seen) {
+        return Err(Stop::Fault(ListFault {
+            number: rule.number(),
+            at: list.len() as u32,
+        }));
     }
     let states = states.finish()?;
     Ok(BinInfo {

@@ -13,7 +13,8 @@ use Rattle.bin_list.specs.declared.seen.Seen.{Seen}
 use Rattle.bin_list.specs.Packets.{opcode}
 use Rattle.bin_list.specs.Rules.{index_size}
 use Rattle.bin_list.specs.Emitted.{state_text, config_text}
-use Rattle.bin_walks.specs.Walks.{Config, config_in}
+use Rattle.packets.specs.declared.config.Config.{Config}
+use Rattle.packets.specs.Config.{config_in}
 use Rattle.bin_walks.specs.Emission.{config_of}
 
 -- a number that was written reads as itself

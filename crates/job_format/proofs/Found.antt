@@ -123,7 +123,10 @@ job_reads bytes p =
       records = sym (length_cut bytes (records_offset bytes) (u32_at bytes (at + 16)) (omega arith));
       declared = refl;
       uniforms = sym (length_cut bytes (uniforms_offset bytes) (u32_at bytes (at + 24)) (omega arith));
-      frame = record { value = refl; first = p.job.first; second = p.job.second; third = p.job.third };
+      frame = refl;
+      first = p.job.first;
+      second = p.job.second;
+      third = p.job.third;
     }
 
 header_reads : (bytes : List ℕ) → Passes bytes → HeaderReads bytes (file_at bytes)

@@ -16,10 +16,9 @@ use Rattle.std.specs.declared.cmp.Ordering.TheVariants.{Less, Equal, Greater}
 use Rattle.qpu_asm.specs.declared.label.Spot.{Spot}
 use Rattle.qpu_asm.specs.declared.label.Mark.{Mark}
 use Rattle.qpu_asm.specs.Lines.{Line, Blank, Label, BadLabel, Coded}
-use Rattle.qpu_asm.specs.Assembly.{is_label, either_spot, is_before, IsFirstBelow, AreFirstBelow}
-use Rattle.qpu_asm.specs.Marks.{spot_cmp, mark_cmp, IsNotLater, AreRanked, IsMarked, AreMarked, AreAbove, AddsLine, BoundsRepeats, IsStart}
+use Rattle.qpu_asm.specs.Assembly.{either_spot, is_before}
+use Rattle.qpu_asm.specs.Marks.{spot_cmp, mark_cmp, IsNotLater, IsFirstBelow, AreFirstBelow, AreRanked, IsMarked, AreMarked, AreAbove, AddsLine, BoundsRepeats, IsStart}
 use Rattle.qpu_asm.specs.Seen.{spots_in}
-use Rattle.qpu_asm.proofs.Assembling.{either_none}
 use Rattle.qpu_asm.proofs.Bytes.{bytes_same, bytes_itself}
 
 -- the order of marks
@@ -196,15 +195,6 @@ line_added marks mark = record {
       (All-weaker (λ m. m.spot.line < mark.spot.line) (λ m. m.spot.line < mark.spot.line + 1) (λ m low. omega (arith, low)) marks above) (omega arith);
   kept = λ other at. Contains-append_left marks (mark ∷ []) other at;
   marked = (mark, refl, refl, Contains-push marks mark);
-}
-
-pub nothing_added : (marks : List Mark) (line : Line) (spot : Spot) → ((name : List ℕ) → is_label name line ≡ false) → IsMarked marks spot.line line → AddsLine marks marks line spot
-nothing_added marks line spot none marked = record {
-  spots = λ name. sym (ap (λ b. either_spot (spots_in marks name) (if b then Some spot else None)) (none name) ∙ either_none (spots_in marks name));
-  ranked = λ above ranked. ranked;
-  above = λ above. All-weaker (λ m. m.spot.line < spot.line) (λ m. m.spot.line < spot.line + 1) (λ m low. omega (arith, low)) marks above;
-  kept = λ mark at. at;
-  marked = marked;
 }
 
 -- marks of all label lines

@@ -7,7 +7,8 @@ use Rattle.std.specs.declared.option.Option.TheVariants.{None, Some}
 use Rattle.qpu_asm.specs.declared.label.Spot.{Spot}
 use Rattle.qpu_asm.specs.declared.label.Mark.{Mark}
 use Rattle.qpu_asm.specs.Lines.{Line, Blank, Label, BadLabel, Coded}
-use Rattle.qpu_asm.specs.Assembly.{is_label, either_spot}
+use Rattle.qpu_asm.specs.Items.{Spots}
+use Rattle.qpu_asm.specs.Assembly.{is_label, either_spot, is_before}
 use Rattle.qpu_asm.specs.Seen.{spots_in}
 
 -- the order of marks: by name, by line, by index
@@ -40,6 +41,17 @@ AreMarked marks line (first ∷ lines) = IsMarked marks line first × AreMarked 
 -- all marks are of lines above this one
 abbrev pub AreAbove : ℕ → List Mark → Type 0
 AreAbove line marks = All (λ mark. mark.spot.line < line) marks
+
+-- a line below the bound does not repeat a label
+abbrev pub IsFirstBelow : ℕ → Spots → ℕ → Line → Type 0
+IsFirstBelow bound spots line Blank = Unit {0}
+IsFirstBelow bound spots line (Label name) = line < bound → is_before line (spots name) ≡ false
+IsFirstBelow bound spots line BadLabel = Unit {0}
+IsFirstBelow bound spots line (Coded opcode items) = Unit {0}
+
+unfoldable pub AreFirstBelow : ℕ → Spots → ℕ → List Line → Type 0
+AreFirstBelow bound spots line [] = Unit {0}
+AreFirstBelow bound spots line (first ∷ lines) = IsFirstBelow bound spots line first × AreFirstBelow bound spots (line + 1) lines
 
 -- what one line adds to the marks of the lines above it
 pub record AddsLine (old new : List Mark) (line : Line) (spot : Spot) : Type 0 where

@@ -2,12 +2,13 @@
 ghost use Rattle.std.specs.Prelude.{◌≡◌, ◌<◌, ◌≤◌, ◌+◌, ◌^◌, List, ℕ, length, min, IfOk, OnOk, IsSorted, Some, None, bytes_eq, if◌then◌else◌};
 ghost use Rattle.std.specs.Cmp.Lexicographic.{slice_cmp};
 ghost use Rattle.std.specs.Ordering.{nat_cmp, is_lt};
-ghost use Rattle.qpu_asm.specs.Assembly.{spots_of, read_lines, size_of, AreFirstBelow};
+ghost use Rattle.qpu_asm.specs.Assembly.{spots_of, read_lines, size_of};
 ghost use Rattle.qpu_asm.specs.Lines.{Label};
-ghost use Rattle.qpu_asm.specs.Marks.{mark_cmp, AreRanked, AreMarked, AddsLine, BoundsRepeats, IsStart};
+ghost use Rattle.qpu_asm.specs.Marks.{mark_cmp, AreRanked, AreMarked, AreFirstBelow, AddsLine, BoundsRepeats, IsStart};
 ghost use Rattle.qpu_asm.specs.Seen.{line_seen, spots_in};
 
-use crate::lines::{Line, next_line, read_line};
+use crate::lines::{Line, read_line};
+use script::next_line;
 use std::alloc::{AllocError, Global};
 use std::marker::Model;
 

@@ -166,20 +166,13 @@ size_writes frame places x y =
 -- The same by the frame, whose surfaces the places are.
 loads_of : (frame : Frame) (places : List (Option ℕ)) (x y : ℕ) → ArePlacesOf frame places
     → slots_size (load_slots frame places x y) ≡ loads_size frame (is_present (surface_at frame 0)) (is_present (surface_at frame 2))
-loads_of frame places x y agree =
-    size_loads frame places x y
-    ∙ ap (λ b. loads_size frame b (is_some (place_at places 2))) (agree 0 (lit< tt))
-    ∙ ap (λ b. loads_size frame (is_present (surface_at frame 0)) b) (agree 2 (lit< tt))
+loads_of frame places x y agree = rw (sym (agree 0 (lit< tt)), sym (agree 2 (lit< tt))) (size_loads frame places x y)
 
 writes_of : (frame : Frame) (places : List (Option ℕ)) (x y : ℕ) → ArePlacesOf frame places
     → slots_size (write_slots frame places x y)
     ≡ writes_size (is_present (surface_at frame 4)) (is_present (surface_at frame 5)) (is_present (surface_at frame 3)) (is_present (surface_at frame 1))
 writes_of frame places x y agree =
-    size_writes frame places x y
-    ∙ ap (λ b. writes_size b (is_some (place_at places 5)) (is_some (place_at places 3)) (is_some (place_at places 1))) (agree 4 (lit< tt))
-    ∙ ap (λ b. writes_size (is_present (surface_at frame 4)) b (is_some (place_at places 3)) (is_some (place_at places 1))) (agree 5 (lit< tt))
-    ∙ ap (λ b. writes_size (is_present (surface_at frame 4)) (is_present (surface_at frame 5)) b (is_some (place_at places 1))) (agree 3 (lit< tt))
-    ∙ ap (λ b. writes_size (is_present (surface_at frame 4)) (is_present (surface_at frame 5)) (is_present (surface_at frame 3)) b) (agree 1 (lit< tt))
+    rw (sym (agree 4 (lit< tt)), sym (agree 5 (lit< tt)), sym (agree 3 (lit< tt)), sym (agree 1 (lit< tt))) (size_writes frame places x y)
 
 length_two : (front rest : List (Option Packet)) → length (slots_text (front ++ rest)) ≡ length (slots_text front) + length (slots_text rest)
 length_two front rest = ap length (slots_append front rest) ∙ length-append (slots_text front) (slots_text rest)

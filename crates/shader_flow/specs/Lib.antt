@@ -1,5 +1,5 @@
 pub mod Bounded
 pub mod Flow
-pub mod Kinds
 pub mod Pending
 pub mod Rules
+pub mod Site

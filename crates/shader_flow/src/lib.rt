@@ -7,6 +7,7 @@
 
 mod marks;
 mod rules;
+mod site;
 mod state;
 
 pub use marks::{checked, flow, is_marked};
@@ -15,4 +16,5 @@ pub use rules::{
     S8_BRANCH_OUTSIDE, S9_SLOTS_PAST_END, S10_BRANCH_WRITES, S11_SWITCH_AFTER_SWITCH,
     S12_BRANCH_AFTER_SWITCH, S13_SWITCH_MISPLACED, S27_LOAD_MODE, flow_fault, is_in_slots,
 };
+pub use site::Site;
 pub use state::Flow;

@@ -5,7 +5,8 @@ use Rattle.field_words.specs.Questions.{Ask, first_of, each, answered}
 use Rattle.field_words.proofs.Questions.{none_stands}
 use Rattle.field_words.proofs.Nones.{front_none, rest_none, each_none, none_answered}
 use Rattle.qpu_isa.specs.Shader.{ShaderModel, sample_at}
-use Rattle.emitted_facts.specs.Records.{attribute_count, attribute_size, attribute_stride, is_single, address_word}
+use Rattle.emitted_facts.specs.Records.{attribute_size, attribute_stride, is_single, address_word}
+use Rattle.packets.specs.StateWord.{attribute_count}
 use Rattle.shader_records.specs.Inputs.{InputModel}
 use Rattle.shader_records.specs.Sources.{state_at, source_size, record_source, uniform_source, code_number, attribute_number, shader_used, is_threaded, taken_before, record_word, sample_number, source_word, size_in}
 use Rattle.shader_records.specs.Rules.{uniform_fault, sample_fault, cut_questions, code_questions, handle_questions, disagrees, fixed_questions, is_attribute_past, has_vertex_past, attribute_questions, names_questions, body_questions, record_questions, setup_questions, first_word_at, sample_questions, use_questions, shader_questions, state_questions, all_questions}

@@ -5,7 +5,8 @@ use Rattle.field_words.proofs.WordBytes.{length_words, with_two, with_nothing}
 use Rattle.field_words.specs.Questions.{first_of}
 use Rattle.qpu_isa.specs.Shader.{ShaderModel}
 use Rattle.shader_records.specs.Inputs.{InputModel}
-use Rattle.shader_records.specs.Sources.{state_at, source_size, emitted_size, record_source, record_offset, uniform_source, stream_offset, shader_used, taken_by, given_by, taken_before, given_before}
+use Rattle.shader_records.specs.Sources.{state_at, source_size, record_source, record_offset, uniform_source, stream_offset, shader_used, taken_by, given_by, taken_before, given_before}
+use Rattle.packets.specs.StateWord.{record_room}
 use Rattle.shader_records.specs.Rules.{use_questions, all_questions}
 use Rattle.shader_records.specs.Emission.{emitted_word, stream_place, record_text, records_text, stream_word_of, stream_text, streams_text, uniforms_text}
 use Rattle.shader_records.proofs.Fine.{source_inside, use_inside, state_fine}
@@ -19,10 +20,10 @@ put_behind window at n front rest out out2 stands long puts fits =
     puts ∙ ap (λ o. with_bytes o (at + n) rest) stands ∙ ap (λ k. with_bytes (with_bytes window at front) (at + k) rest) (sym long)
     ∙ sym (with_two window at front rest (omega (arith, total, long, fits)))
 
-pub length_record : (input : InputModel) (at state first : ℕ) → length (record_text input at state first) ≡ emitted_size state
+pub length_record : (input : InputModel) (at state first : ℕ) → length (record_text input at state first) ≡ record_room state
 unfolding record_text
 length_record input at state first =
-    let e = length_words (emitted_word input at state (stream_place input at first)) (emitted_size state / 4) in
+    let e = length_words (emitted_word input at state (stream_place input at first)) (record_room state / 4) in
     let whole = (emitted_in state).2 in
     omega (arith, e, whole)
 
@@ -145,7 +146,7 @@ no_uniforms window base input first fits = sym (with_nothing window base fits)
 pub record IsStateInside (input : InputModel) (k : ℕ) : Type 0 where
   pub handles : record_source input k + 12 ≤ length input.records
   pub source : record_source input k + source_size (state_at input k).word ≤ length input.records
-  pub emitted : record_offset input k + emitted_size (state_at input k).word ≤ length input.records
+  pub emitted : record_offset input k + record_room (state_at input k).word ≤ length input.records
   pub taken : uniform_source input k + taken_before input (record_source input k) 3 ≤ length input.uniforms
   pub given : stream_offset input k + given_before input (record_source input k) 3 ≤ length input.uniforms
 

@@ -7,7 +7,8 @@ use Rattle.job_format.specs.declared.rule.Stage.TheVariants.{A, U}
 use Rattle.qpu_isa.specs.declared.inst.Sample.{Sample}
 use Rattle.texture_layouts.specs.Fits.{texture_questions, direct_questions}
 use Rattle.qpu_isa.specs.Shader.{ShaderModel, sample_at, first_position}
-use Rattle.emitted_facts.specs.Records.{attribute_count, attribute_size, attribute_stride, is_single, address_word}
+use Rattle.emitted_facts.specs.Records.{attribute_size, attribute_stride, is_single, address_word}
+use Rattle.packets.specs.StateWord.{attribute_count}
 use Rattle.emitted_facts.specs.Facts.{setup}
 use Rattle.shader_records.specs.declared.fault.RecordFault.{RecordFault}
 use Rattle.shader_records.specs.Inputs.{InputModel}

@@ -2,15 +2,17 @@
 ghost use Rattle.std.specs.Prelude.{◌≡◌, None, ◌+◌, ◌<◌, ◌≤◌, ◌^◌, length};
 ghost use Rattle.field_words.specs.Questions.{first_of};
 ghost use Rattle.field_words.specs.Writes.{with_bytes};
-ghost use Rattle.shader_records.specs.Sources.{state_at, emitted_size, record_offset, stream_offset, given_before};
+ghost use Rattle.shader_records.specs.Sources.{state_at, record_offset, stream_offset, given_before};
+ghost use Rattle.packets.specs.StateWord.{record_room};
 ghost use Rattle.shader_records.specs.Rules.{all_questions};
 ghost use Rattle.shader_records.specs.Emission.{emitted_records, emitted_uniforms};
 
 use crate::faults::source_of;
 use crate::inputs::Inputs;
 use crate::record_text::{given_before, put_record};
-use crate::sizes::{emitted_size, source_size};
+use crate::sizes::source_size;
 use crate::stream_text::put_streams;
+use packets::record_room;
 
 /// Emits all records from `base` on; their streams stand from the place `first` on. Gives the bytes.
 pub(crate) fn put_records(inputs: &Inputs, first: u32, out: &mut [u8], base: usize) -> usize
@@ -31,7 +33,7 @@ pub(crate) fn put_records(inputs: &Inputs, first: u32, out: &mut [u8], base: usi
         put_record(inputs, source, first + given as u32, out, base + done);
         given += given_before(inputs, at, 3);
         at += source_size(source.state);
-        done += emitted_size(source.state);
+        done += record_room(source.state) as usize;
     }
     done
 }

@@ -1,14 +1,16 @@
 //! The rules of one record.
 ghost use Rattle.std.specs.Prelude.{◌≡◌, ◌++◌, true, ◌+◌, ◌*◌, ◌<◌, ◌≤◌, ◌^◌, length, IfNone};
 ghost use Rattle.field_words.specs.Questions.{first_of, each};
-ghost use Rattle.emitted_facts.specs.Records.{attribute_count, attribute_size, attribute_stride, is_extended, is_single};
+ghost use Rattle.emitted_facts.specs.Records.{attribute_size, attribute_stride, is_single};
+ghost use Rattle.packets.specs.StateWord.{attribute_count, is_extended};
 ghost use Rattle.shader_records.specs.Sources.{handles_size, source_size, record_word};
 ghost use Rattle.shader_records.specs.Rules.{record_fault as fault_of, cut_questions, code_questions, handle_questions, fixed_questions, attribute_questions, names_questions, body_questions, record_questions, disagrees};
 
 use crate::fault::RecordFault;
 use crate::inputs::Inputs;
-use crate::sizes::{attribute_count, handles_size, is_extended, source_size};
+use crate::sizes::{handles_size, source_size};
 use job_format::Stage;
+use packets::{attribute_count, is_extended};
 
 /// The source of a record: where it begins in the job's records, the state's word, and the greatest
 /// index that the state's primitives draw.
@@ -116,7 +118,7 @@ fn names_fault(inputs: &Inputs, source: Source) -> Option<RecordFault>
 {
     match codes_fault(inputs, source.at) {
         Some(fault) => Some(fault),
-        None => handles_fault(inputs, source.at, attribute_count(source.state)),
+        None => handles_fault(inputs, source.at, attribute_count(source.state) as usize),
     }
 }
 
@@ -214,7 +216,7 @@ fn attributes_fault(inputs: &Inputs, source: Source, count: usize) -> Option<Rec
 }
 
 /// The rules in the record itself.
-#[tactic(auto, unfolding(crate::specs::Rules::body_questions, crate::specs::Sources::handles_size, crate::specs::Sources::source_size, emitted_facts::specs::Records::record_size), using(field_words::proofs::Questions::passes, field_words::proofs::Questions::stops))]
+#[tactic(auto, unfolding(crate::specs::Rules::body_questions, crate::specs::Sources::handles_size, crate::specs::Sources::source_size, packets::specs::StateWord::record_size), using(field_words::proofs::Questions::passes, field_words::proofs::Questions::stops))]
 fn body_fault(inputs: &Inputs, source: Source) -> Option<RecordFault>
     requires few { length inputs.now.records ≤ 1048576 }
     requires inside { source.at + source_size source.state ≤ length inputs.now.records }
@@ -222,7 +224,7 @@ fn body_fault(inputs: &Inputs, source: Source) -> Option<RecordFault>
 {
     match fixed_fault(inputs, source) {
         Some(fault) => Some(fault),
-        None => attributes_fault(inputs, source, attribute_count(source.state)),
+        None => attributes_fault(inputs, source, attribute_count(source.state) as usize),
     }
 }
 

@@ -1,16 +1,17 @@
-use Rattle.std.proofs.Common.{[], Ok, Err, Result, OnOk, refl}
-use Rattle.field_words.specs.Questions.{answered}
-use Rattle.field_words.proofs.Least.{names_least}
-use Rattle.bin_list.specs.Least.{IsUpTo}
-use Rattle.bin_list.proofs.Least.{order, rises_list}
+use Rattle.std.proofs.Common.{ℕ, ◌≡◌, List, [], Ok, Err, Result, OnOk, length, subst, refl}
+use Rattle.field_words.specs.Questions.{Answers, answered}
 use Rattle.field_words.specs.declared.stop.Stop.{Stop}
+use Rattle.field_words.specs.declared.stop.Stop.TheVariants.{Fault, NoMemory}
 use Rattle.field_words.proofs.Questions.{answers_later, refuses_front}
 use Rattle.bin_list.specs.declared.fault.ListFault.{ListFault}
 use Rattle.bin_list.specs.declared.info.BinInfo.{BinInfo}
+use Rattle.bin_list.specs.Faults.{fault, IsUpTo}
 use Rattle.bin_list.specs.Packets.{passed}
 use Rattle.bin_list.specs.Seen.{seen_before}
-use Rattle.bin_list.specs.Rules.{fault, asked, end_questions, questions_of, given_of}
+use Rattle.bin_list.specs.Rules.{GivenModel, asked, end_questions, questions_of, given_of}
 use Rattle.bin_list.specs.Info.{IsInfo}
+use Rattle.field_words.proofs.Least.{names_least}
+use Rattle.bin_list.proofs.Least.{order, rises_list}
 use Rattle.bin_list.proofs.check.check_bin.Goals as goal
 
 on_ok : (P : Type 0) (result : Result BinInfo (Stop ListFault)) → P → OnOk result P
@@ -26,6 +27,16 @@ returns-in-Ok-clause-answers c =
     answers_later (asked given (passed list)) (answered (fault given.size) (end_questions (seen_before (passed list)))) P c.finish.result
     c.in-Ok.ensures.answers.0 c.finish.ensures.answers
 
+pub returns-in-Ok-clause-least : goal.returns-in-Ok-clause-least
+unfolding questions_of
+returns-in-Ok-clause-least c =
+    let list = c.args.list.now in
+    let given = given_of list c.args.declared c.args.table.now c.args.handles.now in
+    let P : BinInfo → Type 0 = λ info. IsInfo list c.args.declared c.args.table.now c.args.handles.now c.args.layout.now info in
+    names_least IsUpTo _ _ (questions_of given (passed list)) P c.finish.result order (rises_list given list refl)
+    (answers_later (asked given (passed list)) (answered (fault given.size) (end_questions (seen_before (passed list)))) P c.finish.result
+    c.in-Ok.ensures.answers.0 c.finish.ensures.answers)
+
 pub returns-in-Ok-clause-put : goal.returns-in-Ok-clause-put
 returns-in-Ok-clause-put c = on_ok _ c.finish.result c.in-Ok.ensures.put
 
@@ -40,16 +51,6 @@ returns-in-Err-clause-answers c =
     let list = c.args.list.now in
     let given = given_of list c.args.declared c.args.table.now c.args.handles.now in
     refuses_front (asked given (passed list)) (answered (fault given.size) (end_questions (seen_before (passed list)))) c.in-Err.stop c.in-Err.ensures.answers
-
-pub returns-in-Ok-clause-least : goal.returns-in-Ok-clause-least
-unfolding questions_of
-returns-in-Ok-clause-least c =
-    let list = c.args.list.now in
-    let given = given_of list c.args.declared c.args.table.now c.args.handles.now in
-    let P : BinInfo → Type 0 = λ info. IsInfo list c.args.declared c.args.table.now c.args.handles.now c.args.layout.now info in
-    names_least IsUpTo _ _ (questions_of given (passed list)) P c.finish.result order (rises_list given list refl)
-    (answers_later (asked given (passed list)) (answered (fault given.size) (end_questions (seen_before (passed list)))) P c.finish.result
-    c.in-Ok.ensures.answers.0 c.finish.ensures.answers)
 
 pub returns-in-Err-clause-least : goal.returns-in-Err-clause-least
 unfolding questions_of

@@ -1,6 +1,6 @@
 use Rattle.std.proofs.Common.{subst, ap, ◌∙◌}
-use Rattle.qpu_asm.specs.Assembly.{spots_of, read_lines, AreFirstBelow}
-use Rattle.qpu_asm.specs.Marks.{BoundsRepeats}
+use Rattle.qpu_asm.specs.Assembly.{spots_of, read_lines}
+use Rattle.qpu_asm.specs.Marks.{AreFirstBelow, BoundsRepeats}
 use Rattle.qpu_asm.specs.Seen.{spots_in}
 use Rattle.qpu_asm.proofs.Assembling.{same_everywhere}
 use Rattle.qpu_asm.proofs.Sorting.{far, sorted_spots, marked_sorted, firsts_below}
