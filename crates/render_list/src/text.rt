@@ -4,7 +4,7 @@ ghost use Rattle.field_words.specs.Writes.{with_bytes};
 ghost use Rattle.packets.specs.Packet.{slots_text};
 ghost use Rattle.render_list.specs.Frame.{TileFits, IsSetupFor};
 ghost use Rattle.render_list.specs.Length.{render_length};
-ghost use Rattle.render_list.specs.Text.{head_packet, clear_slots, front_slots, tile_slots, row_slots, all_tile_slots, render_slots, render_text};
+ghost use Rattle.render_list.specs.Text.{head_packet, clear_slots, front_slots, tile_slots, row_slots, all_tile_slots, render_slots, render_text, HasRoom, Puts};
 
 use crate::setup::Setup;
 use crate::slots::{Tile, clear_slots, head_packet, tile_slots};
@@ -24,9 +24,8 @@ fn put_tile(
 ) -> usize
     requires fits { TileFits frame.now setup.now.places tile.x tile.y }
     requires slot { IsSome tiles → slot ≤ 67108864 }
-    requires room { at + length (slots_text (tile_slots frame.now setup.now.places tiles slot tile.y tile.x)) ≤ length out.old }
-    ensures text { out.new ≡ with_bytes out.old at (slots_text (tile_slots frame.now setup.now.places tiles slot tile.y tile.x)) }
-    ensures end { result ≡ at + length (slots_text (tile_slots frame.now setup.now.places tiles slot tile.y tile.x)) }
+    requires room { HasRoom out.old at (tile_slots frame.now setup.now.places tiles slot tile.y tile.x) }
+    ensures { Puts (tile_slots frame.now setup.now.places tiles slot tile.y tile.x) out.old at out.new result }
 {
     put_present(out, at, &tile_slots(frame, setup, tiles, slot, tile))
 }
@@ -44,9 +43,8 @@ fn put_row(
     requires setup { IsSetupFor frame.now setup.now.places }
     requires row { y ≤ frame.now.max_y }
     requires slot { IsSome tiles → slot ≤ 67108864 }
-    requires room { at + length (slots_text (row_slots frame.now setup.now.places tiles slot y)) ≤ length out.old }
-    ensures text { out.new ≡ with_bytes out.old at (slots_text (row_slots frame.now setup.now.places tiles slot y)) }
-    ensures end { result ≡ at + length (slots_text (row_slots frame.now setup.now.places tiles slot y)) }
+    requires room { HasRoom out.old at (row_slots frame.now setup.now.places tiles slot y) }
+    ensures { Puts (row_slots frame.now setup.now.places tiles slot y) out.old at out.new result }
 {
     let mut here = at;
     for x in frame.min_x..=frame.max_x {
@@ -66,9 +64,8 @@ fn put_tiles(
 ) -> usize
     requires setup { IsSetupFor frame.now setup.now.places }
     requires slot { IsSome tiles → slot ≤ 67108864 }
-    requires room { at + length (slots_text (all_tile_slots frame.now setup.now.places tiles slot)) ≤ length out.old }
-    ensures text { out.new ≡ with_bytes out.old at (slots_text (all_tile_slots frame.now setup.now.places tiles slot)) }
-    ensures end { result ≡ at + length (slots_text (all_tile_slots frame.now setup.now.places tiles slot)) }
+    requires room { HasRoom out.old at (all_tile_slots frame.now setup.now.places tiles slot) }
+    ensures { Puts (all_tile_slots frame.now setup.now.places tiles slot) out.old at out.new result }
 {
     let mut here = at;
     for y in frame.min_y..=frame.max_y {
@@ -80,9 +77,8 @@ fn put_tiles(
 /// The head, and the packets that clear.
 #[tactic(auto, unfolding(crate::specs::Text::front_slots))]
 fn put_front(out: &mut [u8], at: usize, frame: &Frame, setup: &Setup) -> usize
-    requires room { at + length (slots_text (front_slots frame.now setup.now.places)) ≤ length out.old }
-    ensures text { out.new ≡ with_bytes out.old at (slots_text (front_slots frame.now setup.now.places)) }
-    ensures end { result ≡ at + length (slots_text (front_slots frame.now setup.now.places)) }
+    requires { HasRoom out.old at (front_slots frame.now setup.now.places) }
+    ensures { Puts (front_slots frame.now setup.now.places) out.old at out.new result }
 {
     let [values, coordinates, nothing] = clear_slots(frame);
     let head = Some(head_packet(frame, setup));
@@ -101,9 +97,8 @@ fn put_list(
 ) -> usize
     requires setup { IsSetupFor frame.now setup.now.places }
     requires slot { IsSome tiles → slot ≤ 67108864 }
-    requires room { at + length (render_text frame.now setup.now.places tiles slot) ≤ length out.old }
-    ensures text { out.new ≡ with_bytes out.old at (render_text frame.now setup.now.places tiles slot) }
-    ensures end { result ≡ at + length (render_text frame.now setup.now.places tiles slot) }
+    requires room { HasRoom out.old at (render_slots frame.now setup.now.places tiles slot) }
+    ensures { Puts (render_slots frame.now setup.now.places tiles slot) out.old at out.new result }
 {
     let at = put_front(out, at, frame, setup);
     put_tiles(out, at, frame, setup, tiles, slot)
@@ -113,7 +108,7 @@ fn put_list(
 /// changes no other byte. `tiles` is the binner's grid, across and down, where there is a binner list;
 /// the list then waits for the binner at its first tile, and runs at each tile the list that the binner
 /// made of it.
-#[tactic(auto, using(crate::proofs::Length::render_fits))]
+#[tactic(auto, unfolding(crate::specs::Text::render_text), using(crate::proofs::Length::render_fits))]
 pub fn build(frame: &Frame, setup: &Setup, tiles: Option<(u8, u8)>, layout: &Layout, out: &mut [u8])
     requires setup { IsSetupFor frame.now setup.now.places }
     requires slot { IsSome tiles → layout.now.slot ≤ 67108864 }
