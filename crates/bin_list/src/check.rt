@@ -88,7 +88,8 @@ fn finish(
     requires short { length list.now ≤ 1048576 }
     requires fine { first_of (asked given.now (passed list.now)) ≡ None }
     requires read { IsRead given.now layout.now list.now read }
-    ensures answers { Answers (answered (fault given.now.size) (end_questions (seen_before (passed list.now)))) (λ info. IsInfoOf given.now layout.now list.now info) result }
+    ensures answers { Answers (answered (fault given.now.size) (end_questions (seen_before (passed list.now))))
+        (λ info. IsInfoOf given.now layout.now list.now info) result }
     ensures sound { IfOk result (λ info. IsSoundInfo given.now.declared info) }
     ensures memory { result ≡ Err OutOfMemory → 1 ≤ (seen_before (passed list.now)).states }
 {
@@ -129,10 +130,12 @@ pub fn check_bin(
     requires records_limit { layout.now.records ≤ 67108864 }
     requires slot_limit { layout.now.slot ≤ 67108864 }
     requires room { layout.now.bin + length list.now ≤ length out.old }
-    ensures answers { Answers (bin_questions list.now declared table.now handles.now) (λ info. IsInfo list.now declared table.now handles.now layout.now info) result }
+    ensures answers { Answers (bin_questions list.now declared table.now handles.now)
+        (λ info. IsInfo list.now declared table.now handles.now layout.now info) result }
     ensures least { NamesLeast IsUpTo (bin_questions list.now declared table.now handles.now) result }
     ensures sound { IfOk result (λ info. IsSoundInfo declared info) }
-    ensures put { OnOk result (out.new ≡ with_bytes out.old layout.now.bin (bin_text list.now declared table.now handles.now layout.now)) }
+    ensures put { OnOk result (out.new ≡ with_bytes out.old layout.now.bin
+        (bin_text list.now declared table.now handles.now layout.now)) }
     ensures fits { OnOk result (length (bin_text list.now declared table.now handles.now layout.now) ≤ length list.now) }
     ensures long { length out.new ≡ length out.old }
     ensures memory { result ≡ Err OutOfMemory → MeetsState (given_of list.now declared table.now handles.now) list.now }
