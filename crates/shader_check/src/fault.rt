@@ -17,7 +17,7 @@ use uniform_stream::{
 /// A rule that a shader breaks: its number, 1 to 27, and the index of the instruction where it stands. Rules on the whole
 /// shader stand at the number of words.
 #[derive(Clone, Copy, Debug, PartialEq, Eq, Error)]
-#[error("rule S{number} refuses the shader at instruction {index}: {sentence}", sentence = self.sentence())]
+#[error("S{number} at instruction {index}: {sentence}", sentence = self.sentence())]
 pub struct ShaderFault {
     pub number: u8,
     pub index: u32,
