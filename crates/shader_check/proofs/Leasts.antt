@@ -4,7 +4,7 @@ use Rattle.std.proofs.lemmas.Bool.{and_parts, leb-true, true≢false}
 use Rattle.field_words.specs.declared.stop.Stop.{Stop}
 use Rattle.field_words.specs.declared.stop.Stop.TheVariants.{Fault, NoMemory}
 use Rattle.field_words.specs.Questions.{Question, Ask, first_of, each, answered, Refuses}
-use Rattle.field_words.proofs.Questions.{passes, stops, each_step, refuses_front, answered_none, answered_some}
+use Rattle.field_words.proofs.Questions.{passes, stops, each_step}
 use Rattle.shader_flow.specs.Flow.{checked_of}
 use Rattle.shader_flow.proofs.Ends.{checked_of-le}
 use Rattle.shader_check.specs.declared.fault.ShaderFault.{ShaderFault}
@@ -176,22 +176,3 @@ least_fault code f some = record { stands = first_stands (shader_questions code)
 pub least_stop : (code : List ℕ) (stop : Stop ShaderFault) → Refuses (shader_questions code) stop → IsLeastStop code stop
 least_stop code (Fault f) refuses = least_fault code f refuses
 least_stop code NoMemory refuses = tt
-
--- the rules at all instructions come first
-pub walk_refuses : (code : List ℕ) (stop : Stop ShaderFault) → Refuses (each (questions_at code) 0 (checked_of code)) stop → Refuses (shader_questions code) stop
-unfolding shader_questions
-walk_refuses code stop refuses = refuses_front (each (questions_at code) 0 (checked_of code)) (answered (fault_at (length code)) (whole_questions code)) stop refuses
-
-pub whole_none : (code : List ℕ) → first_of (each (questions_at code) 0 (checked_of code)) ≡ None → first_of (whole_questions code) ≡ None
-    → first_of (shader_questions code) ≡ None
-unfolding shader_questions
-whole_none code none rest =
-    passes (each (questions_at code) 0 (checked_of code)) (answered (fault_at (length code)) (whole_questions code)) none
-    ∙ answered_none (fault_at (length code)) (whole_questions code) rest
-
-pub whole_some : (code : List ℕ) (number : ℕ) → first_of (each (questions_at code) 0 (checked_of code)) ≡ None → first_of (whole_questions code) ≡ Some number
-    → first_of (shader_questions code) ≡ Some (fault_at (length code) number)
-unfolding shader_questions
-whole_some code number none some =
-    passes (each (questions_at code) 0 (checked_of code)) (answered (fault_at (length code)) (whole_questions code)) none
-    ∙ answered_some (fault_at (length code)) (whole_questions code) number some

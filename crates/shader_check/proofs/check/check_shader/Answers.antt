@@ -1,28 +1,47 @@
-use Rattle.std.proofs.Common.{sym}
-use Rattle.shader_check.specs.Rules.{fault_at}
+use Rattle.std.proofs.Common.{length, sym, ◌∙◌}
+use Rattle.field_words.specs.Questions.{each, answered}
+use Rattle.field_words.proofs.Questions.{passes, refuses_front, answered_none, answered_some}
+use Rattle.shader_flow.specs.Flow.{checked_of}
+use Rattle.shader_check.specs.Rules.{questions_at, fault_at, whole_questions, shader_questions}
 use Rattle.shader_check.proofs.SoundInfo.{info_sound}
 use Rattle.shader_check.proofs.Indexed.{sound_shader}
-use Rattle.shader_check.proofs.Leasts.{least_fault, least_stop, walk_refuses, whole_none, whole_some}
+use Rattle.shader_check.proofs.Leasts.{least_fault, least_stop}
 use Rattle.shader_check.proofs.check.check_shader.Goals as goal
 
 pub returns-in-Err-clause-answers : goal.returns-in-Err-clause-answers
-returns-in-Err-clause-answers g c = walk_refuses c.args.code.now c.in-Err.stop c.in-Err.ensures.answers
-
-pub returns-in-Err-clause-least : goal.returns-in-Err-clause-least
-returns-in-Err-clause-least g c = least_stop c.args.code.now c.in-Err.stop (walk_refuses c.args.code.now c.in-Err.stop c.in-Err.ensures.answers)
+unfolding shader_questions
+returns-in-Err-clause-answers g c =
+    refuses_front (each (questions_at c.args.code.now) 0 (checked_of c.args.code.now)) (answered (fault_at (length c.args.code.now)) (whole_questions c.args.code.now))
+    c.in-Err.stop c.in-Err.ensures.answers
 
 pub returns-in-Some-clause-answers : goal.returns-in-Some-clause-answers
-unfolding fault_at
-returns-in-Some-clause-answers g c = whole_some c.args.code.now c.in-Some.number c.in-Ok.ensures.answers.0 (sym c.in-Some.ensures)
+unfolding shader_questions fault_at
+returns-in-Some-clause-answers g c =
+    passes (each (questions_at c.args.code.now) 0 (checked_of c.args.code.now)) (answered (fault_at (length c.args.code.now)) (whole_questions c.args.code.now))
+    c.in-Ok.ensures.answers.0
+    ∙ answered_some (fault_at (length c.args.code.now)) (whole_questions c.args.code.now) c.in-Some.number (sym c.in-Some.ensures)
+
+pub returns-in-Err-clause-least : goal.returns-in-Err-clause-least
+unfolding shader_questions
+returns-in-Err-clause-least g c =
+    least_stop c.args.code.now c.in-Err.stop
+    (refuses_front (each (questions_at c.args.code.now) 0 (checked_of c.args.code.now)) (answered (fault_at (length c.args.code.now)) (whole_questions c.args.code.now))
+    c.in-Err.stop c.in-Err.ensures.answers)
 
 pub returns-in-Some-clause-least : goal.returns-in-Some-clause-least
-unfolding fault_at
+unfolding shader_questions fault_at
 returns-in-Some-clause-least g c =
-    least_fault c.args.code.now _ (whole_some c.args.code.now c.in-Some.number c.in-Ok.ensures.answers.0 (sym c.in-Some.ensures))
+    least_fault c.args.code.now _
+    (passes (each (questions_at c.args.code.now) 0 (checked_of c.args.code.now)) (answered (fault_at (length c.args.code.now)) (whole_questions c.args.code.now))
+    c.in-Ok.ensures.answers.0
+    ∙ answered_some (fault_at (length c.args.code.now)) (whole_questions c.args.code.now) c.in-Some.number (sym c.in-Some.ensures))
 
 pub returns-clause-answers : goal.returns-clause-answers
+unfolding shader_questions
 returns-clause-answers g c = (
-  whole_none c.args.code.now c.in-Ok.ensures.answers.0 (sym c.in_default.ensures),
+  passes (each (questions_at c.args.code.now) 0 (checked_of c.args.code.now)) (answered (fault_at (length c.args.code.now)) (whole_questions c.args.code.now))
+      c.in-Ok.ensures.answers.0
+      ∙ answered_none (fault_at (length c.args.code.now)) (whole_questions c.args.code.now) (sym c.in_default.ensures),
   record {
     uniforms_are = c.uniforms-uniforms.ensures;
     samples_are = c.in-Ok.ensures.answers.1;
@@ -32,6 +51,9 @@ returns-clause-answers g c = (
 )
 
 pub returns-clause-sound : goal.returns-clause-sound
+unfolding shader_questions
 returns-clause-sound g c =
-    let none = whole_none c.args.code.now c.in-Ok.ensures.answers.0 (sym c.in_default.ensures) in
+    let none = passes (each (questions_at c.args.code.now) 0 (checked_of c.args.code.now)) (answered (fault_at (length c.args.code.now)) (whole_questions c.args.code.now))
+    c.in-Ok.ensures.answers.0
+    ∙ answered_none (fault_at (length c.args.code.now)) (whole_questions c.args.code.now) (sym c.in_default.ensures) in
     sound_shader _ _ _ _ (info_sound c.args.code.now _ _ _ none c.uniforms-uniforms.ensures c.in-Ok.ensures.answers.1 c.in_ok-stream.ensures.address_words_are)
