@@ -16,15 +16,10 @@ use qpu_isa::Reg;
 use qpu_isa::operands::{first_register, is_add_with_uniform};
 use qpu_isa::word::{cond_add, has_small, sig, ws};
 use qpu_isa::writes::{add_names, adds_direct, is_add_packed, is_address_write, muls_direct};
-use shader_flow::{Flow, flow_fault};
+use shader_flow::{Flow, ShaderRule, flow_fault};
 use std::marker::Model;
 use std::sync::ledger::Ledger;
 use uniform_stream::{Stream, stream_fault, writes_registers};
-
-/// S16: the uniforms' address is set to what is no known word of the stream.
-pub const S16_INEXACT_ADDRESS: u8 = 16;
-/// S24: a direct read's address isn't clamped.
-pub const S24_UNCLAMPED_READ: u8 = 24;
 
 // A signal under which the sum is what the add unit writes.
 #[tactic(auto, unfolding(crate::specs::Rules::has_quiet_signal))]
@@ -187,10 +182,10 @@ fn fact_fault<L: Ledger>(here: &Here, steps: &mut Steps<L>) -> Option<u8>
         return None;
     }
     if breaks_s16(&here.known, steps) {
-        return Some(S16_INEXACT_ADDRESS);
+        return Some(ShaderRule::InexactAddress.number());
     }
     if breaks_s24(here, steps) {
-        return Some(S24_UNCLAMPED_READ);
+        return Some(ShaderRule::UnclampedRead.number());
     }
     None
 }
