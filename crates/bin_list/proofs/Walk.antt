@@ -22,8 +22,8 @@ use Rattle.bin_list.specs.States.{states_of}
 use Rattle.bin_list.specs.Collected.{all_states}
 use Rattle.bin_list.specs.Emitted.{packet_text, texts}
 use Rattle.bin_list.specs.Info.{IsRead, MeetsState}
-use Rattle.packets.specs.Writing.{written}
-use Rattle.packets.proofs.Writing.{written_append, written_nothing, length_written}
+use Rattle.field_words.specs.Writes.{with_bytes}
+use Rattle.field_words.proofs.Writes.{length-with_bytes, with_nothing, with_two}
 
 -- A packet takes a byte at least.
 one_or : (b : Bool) (n : ℕ) → (n == 0) ≡ b → 1 ≤ (if b then 1 else n)
@@ -108,7 +108,7 @@ pub record IsUnderway (given : GivenModel) (layout : Layout) (list window rest :
   pub fine : first_of (asked given earlier) ≡ None
   pub bounded : IsBounded seen
   pub inside : seen.at + length rest ≤ length list
-  pub bytes : out ≡ written window layout.bin (texts given layout earlier)
+  pub bytes : out ≡ with_bytes window layout.bin (texts given layout earlier)
   pub end_is : end ≡ layout.bin + length (texts given layout earlier)
   pub near : length (texts given layout earlier) ≤ seen.at
   pub room : length out ≡ length window
@@ -132,7 +132,7 @@ begins {layout} {list} {window} {current} room nothing first none_done none =
       fine = refl;
       bounded = subst IsBounded (sym nothing) (record { states = omega arith; records = omega arith });
       inside = omega (arith, ap (λ s. s.at) nothing);
-      bytes = sym (written_nothing window layout.bin (omega arith));
+      bytes = sym (with_nothing window layout.bin (omega arith));
       end_is = omega arith;
       near = omega arith;
       room = refl;
@@ -197,7 +197,7 @@ pub goes_on : {given : GivenModel} {layout : Layout} {list window rest : List �
     → {packet : List ℕ} → packet ≡ front_packet rest
     → first_of (packet_questions given seen packet) ≡ None
     → {seen2 : Seen} → seen2 ≡ seen_after seen packet → IsBounded seen2
-    → {end2 : ℕ} {out2 : List ℕ} → out2 ≡ written out end (packet_text given layout seen packet) → end2 ≡ end + length (packet_text given layout seen packet)
+    → {end2 : ℕ} {out2 : List ℕ} → out2 ≡ with_bytes out end (packet_text given layout seen packet) → end2 ≡ end + length (packet_text given layout seen packet)
     → length (packet_text given layout seen packet) ≤ length packet
     → {done2 : List State} {current2 : Option State} → ((later : List (List ℕ)) → all_states done2 current2 later ≡ all_states done current (packet ∷ later))
     → (IsSome current2 → IsSome current ⊎ (opcode packet ≡ gl_shader_state))
@@ -231,13 +231,13 @@ goes_on {given} {layout} {list} {window} {rest} {seen} {end} {out} {done} {curre
       inside = omega (arith, at2, long, left, split, under.inside);
       bytes =
           puts
-          ∙ ap (λ o. written o end (packet_text given layout seen packet)) under.bytes
-          ∙ ap (λ e. written (written window layout.bin front) e (packet_text given layout seen packet)) under.end_is
-          ∙ ap (written (written window layout.bin front) (layout.bin + length front)) text_is
-          ∙ sym (written_append window layout.bin front text fits);
+          ∙ ap (λ o. with_bytes o end (packet_text given layout seen packet)) under.bytes
+          ∙ ap (λ e. with_bytes (with_bytes window layout.bin front) e (packet_text given layout seen packet)) under.end_is
+          ∙ ap (with_bytes (with_bytes window layout.bin front) (layout.bin + length front)) text_is
+          ∙ sym (with_two window layout.bin front text fits);
       end_is = omega (arith, moves, same, total, under.end_is);
       near = omega (arith, at2, same, short, total, under.near);
-      room = ap length puts ∙ length_written out end (packet_text given layout seen packet) (omega (arith, same, total, fits, under.end_is, under.room)) ∙ under.room;
+      room = ap length puts ∙ length-with_bytes out end (packet_text given layout seen packet) (omega (arith, same, total, fits, under.end_is, under.room)) ∙ under.room;
       states =
           ap (λ r. all_states done2 current2 (cut n r)) rest2_is
           ∙ states (cut n (behind rest))
@@ -263,7 +263,7 @@ meets {rest} {seen} under some =
 -- Nothing is left: no rule stands, and the whole was read and written.
 pub through : {given : GivenModel} {layout : Layout} {list window rest out : List ℕ} (read : Read)
     → IsUnderway given layout list window rest read.seen read.end out read.states.done.items read.states.current → length rest ≡ 0
-    → (first_of (asked given (passed list)) ≡ None) × IsRead given layout list read × (out ≡ written window layout.bin (texts given layout (passed list)))
+    → (first_of (asked given (passed list)) ≡ None) × IsRead given layout list read × (out ≡ with_bytes window layout.bin (texts given layout (passed list)))
 through {given} {layout} {list} {window} read under none =
     let empty : cut under.fuel _ ≡ [] = cut_nothing under.fuel _ none in
     let all : under.earlier ≡ passed list = sym (ap (onto under.earlier) empty) ∙ under.whole in
@@ -276,5 +276,5 @@ through {given} {layout} {list} {window} read under none =
         states = sym (ap (all_states read.states.done.items read.states.current) empty) ∙ under.states;
         begun = under.begun;
       },
-      under.bytes ∙ ap (λ e. written window layout.bin (texts given layout e)) all,
+      under.bytes ∙ ap (λ e. with_bytes window layout.bin (texts given layout e)) all,
     )

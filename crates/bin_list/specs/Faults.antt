@@ -1,5 +1,6 @@
 -- The rules of a binner list by number, and the order of faults.
-use Rattle.std.specs.Prelude.{ℕ, ◌+◌, ◌*◌}
+use Rattle.std.specs.Prelude.{ℕ}
+use Rattle.field_words.specs.Least.{NotAfter}
 use Rattle.bin_list.specs.declared.fault.ListFault.{ListFault}
 use Rattle.bin_list.specs.declared.rule.BinRule.{BinRule}
 use Rattle.bin_list.specs.declared.rule.BinRule.TheVariants.{UnknownOpcode, CutOff, FlushNotLast, SecondStart, StartWithoutConfig, IncrementNotLast, PrimitiveWithoutState, PrimitiveWithoutStart, NoIndexBuffer, IndexesOutside, IndexOverflow, UndeclaredState, StateBits, SecondConfig, NoTiles, ConfigFlags, TooManyTiles, NoStart, NoEnd}
@@ -28,6 +29,6 @@ number_of NoEnd = 19
 abbrev pub fault : ℕ → BinRule → ListFault
 fault at rule = record { number = number_of rule; at = at }
 
--- the rank of a fault: by place, and then by number
-abbrev pub place_then_number : ListFault → ℕ
-place_then_number fault = 256 * fault.at + fault.number
+-- the order of faults: by place, and at a place by number
+abbrev pub IsUpTo : ListFault → ListFault → Type 0
+IsUpTo one other = NotAfter (one.at, one.number) (other.at, other.number)

@@ -2,7 +2,7 @@
 use Rattle.std.specs.Prelude.{◌≡◌, ℕ, ◌+◌, ◌*◌, ◌%◌, ◌≤◌, ◌<◌, min, max, Bool, not, ◌||◌, nat_lt, ◌==◌, List, [], ◌∷◌, ◌++◌, length, map, take, slice_index_or, Some}
 use Rattle.std.specs.List.{list_any}
 use Rattle.field_words.specs.Questions.{Question, Ask, first_of, each}
-use Rattle.field_words.specs.Least.{IsLeast}
+use Rattle.field_words.specs.Least.{IsLeast, NotAfter}
 use Rattle.field_words.specs.Sizes.{page_size, slot_size, most_memory}
 use Rattle.buffer_table.specs.declared.buffer.Kind.TheVariants.{Plain, Code}
 use Rattle.buffer_table.specs.declared.buffer.Buffer.{Buffer}
@@ -84,13 +84,13 @@ abbrev pub table_questions : ℕ → Regions → List Buffer → List (Question 
 table_questions memory r buffers = all_questions memory (items_of r buffers)
 
 -- faults in the order of refusal: by item, and at an item by number
-abbrev pub fault_rank : TableFault → ℕ
-fault_rank fault = 8 * fault.item + fault.number
+abbrev pub IsUpTo : TableFault → TableFault → Type 0
+IsUpTo one other = NotAfter (one.item, one.number) (other.item, other.number)
 
 -- The first rule of a table that stands is the least of all that do.
 abbrev pub FirstIsLeast : Type 0
 FirstIsLeast = (memory : ℕ) (r : Regions) (buffers : List Buffer) (fault : TableFault) → first_of (table_questions memory r buffers) ≡ Some fault
-    → IsLeast fault_rank (table_questions memory r buffers) fault
+    → IsLeast IsUpTo (table_questions memory r buffers) fault
 
 -- the entry of a buffer; past the end an entry of no bytes that is no Plain buffer
 abbrev pub past_end : Buffer

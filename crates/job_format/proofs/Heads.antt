@@ -6,7 +6,8 @@ use Rattle.field_words.specs.Pieces.{IsPiece}
 use Rattle.job_format.specs.declared.file.Surface.{Surface}
 use Rattle.job_format.specs.declared.file.Frame.{Frame}
 use Rattle.job_format.specs.Model.{JobModel, FileModel}
-use Rattle.job_format.specs.Text.{half, word, flag, header_text, job_text, frame_text, surface_text}
+use Rattle.field_words.specs.WordBytes.{half, word}
+use Rattle.job_format.specs.Text.{flag, header_text, job_text, frame_text, surface_text}
 use Rattle.job_format.specs.File.{SurfaceFits, FrameFits, JobFits, Fits}
 use Rattle.job_format.specs.Faults.{magic}
 use Rattle.job_format.specs.Reading.{surface_at, frame_at}

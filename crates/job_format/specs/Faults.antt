@@ -92,8 +92,3 @@ body_questions bytes = each (buffer_questions bytes) 0 (buffer_count bytes) ++ j
 -- All rules of the format.
 unfoldable pub format_questions : List ℕ → List (Question FormatFault)
 format_questions bytes = header_questions bytes ++ body_questions bytes
-
--- Ok comes only where no rule stands, with P of what it holds; Err is the first that stands.
-abbrev pub Tells : {X F : Type 0} → List (Question F) → (X → Type 0) → Result X F → Type 0
-Tells questions P (Ok made) = (first_of questions ≡ None) × P made
-Tells questions P (Err fault) = first_of questions ≡ Some fault

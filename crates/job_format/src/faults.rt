@@ -1,8 +1,8 @@
 //! The rules of the format.
 ghost use Rattle.std.specs.Prelude.{◌≡◌, ◌+◌, ◌*◌, ◌++◌, ◌<◌, ◌≤◌, length, Some, IfNone};
 ghost use Rattle.field_words.specs.Words.{u32_at};
-ghost use Rattle.field_words.specs.Questions.{first_of, each};
-ghost use Rattle.job_format.specs.Faults.{header_questions, entry_questions, buffer_questions, job_questions, content_questions, parts_questions, rest_questions, job_and_rest_questions, body_questions, format_questions, Tells, fault};
+ghost use Rattle.field_words.specs.Questions.{GoesOn, first_of, each};
+ghost use Rattle.job_format.specs.Faults.{header_questions, entry_questions, buffer_questions, job_questions, content_questions, parts_questions, rest_questions, job_and_rest_questions, body_questions, format_questions, fault};
 ghost use Rattle.job_format.specs.Whole.{HasHeader};
 ghost use Rattle.job_format.specs.Offsets.{header_size, entry_size, job_size, most_buffers, buffer_count, entry_offset, job_offset, content_size, content_offset, handles_offset};
 
@@ -157,7 +157,7 @@ fn content_fault(bytes: &[u8], b: usize, at: usize) -> Result<usize, FormatFault
     requires entry { entry_offset b + entry_size ≤ length bytes.now }
     requires here { at ≡ content_offset bytes.now b }
     requires before { at ≤ length bytes.now }
-    ensures { Tells (content_questions bytes.now b)
+    ensures { GoesOn (content_questions bytes.now b)
         (λ end. (end ≡ content_offset bytes.now (b + 1)) × (end ≤ length bytes.now)) result }
 {
     let size = content_size(bytes, b);
@@ -171,7 +171,7 @@ fn content_fault(bytes: &[u8], b: usize, at: usize) -> Result<usize, FormatFault
 fn contents_fault(bytes: &[u8], count: usize) -> Result<usize, FormatFault>
     requires header { HasHeader bytes.now count }
     requires before { entry_offset count + job_size ≤ length bytes.now }
-    ensures { Tells (each (content_questions bytes.now) 0 count)
+    ensures { GoesOn (each (content_questions bytes.now) 0 count)
         (λ end. (end ≡ handles_offset bytes.now) × (end ≤ length bytes.now)) result }
 {
     let mut at = entry_offset(count) + JOB_SIZE;

@@ -3,4 +3,3 @@ pub mod Length
 pub mod Opcode
 pub mod Packet
 pub mod StateWord
-pub mod Writing

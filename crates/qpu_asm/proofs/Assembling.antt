@@ -1,13 +1,12 @@
 -- A text line by line: its labels, faults and words.
-use Rattle.std.proofs.Common.{◌≡◌, ℕ, ◌+◌, ◌≤◌, Bool, true, false, List, [], ◌∷◌, length, map, refl, sym, ◌∙◌, ap, subst, arith, Option, None, Some, Ok, if◌then◌else◌}
+use Rattle.std.proofs.Common.{◌≡◌, ℕ, ◌+◌, ◌≤◌, List, [], ◌∷◌, ◌++◌, length, map, refl, sym, ◌∙◌, ap, subst, arith, Ok, append_assoc, append-nil}
 use Rattle.field_words.specs.declared.stop.Stop.{Stop}
 use Rattle.field_words.specs.declared.stop.Stop.TheVariants as stop
 use Rattle.script.specs.Lines.{lines_of}
-use Rattle.qpu_asm.specs.declared.label.Spot.{Spot}
 use Rattle.qpu_asm.specs.declared.fault.AsmFault.{AsmFault}
 use Rattle.qpu_asm.specs.Lines.{Line, Blank, Label, BadLabel, Coded, read_line}
 use Rattle.qpu_asm.specs.Items.{Spots}
-use Rattle.qpu_asm.specs.Assembly.{size_of, is_label, either_spot, spot_from, read_lines, spots_of, line_words, lines_words, Assembled, IsFaultOf}
+use Rattle.qpu_asm.specs.Assembly.{LabelSpot, size_of, label_on, labels_from, read_lines, spots_of, line_words, lines_words, Assembled, IsFaultOf}
 use Rattle.qpu_asm.specs.Marks.{IsFirstBelow, AreFirstBelow}
 
 pub same_everywhere : {A B : Type 0} (f g : A → B) → ((x : A) → f x ≡ g x) → f ≡ g
@@ -25,30 +24,15 @@ lines_none [] none = refl
 lines_none (byte ∷ bytes) none = absurd (omega arith)
 
 -- labels
-pub either_none : (spot : Option Spot) → either_spot spot None ≡ spot
-either_none None = refl
-either_none (Some spot) = refl
+pub labels_step : (old new : List LabelSpot) (lines later : List Line) (first : Line) (line index size : ℕ) → lines ≡ first ∷ later → size ≡ size_of first
+    → new ≡ old ++ label_on line index first → new ++ labels_from (line + 1) (index + size) later ≡ old ++ labels_from line index lines
+unfolding labels_from
+labels_step old new lines later first line index size is sized added =
+    rw (is, sized, added) (append_assoc old (label_on line index first) (labels_from (line + 1) (index + size_of first) later))
 
-either_step : (old : Option Spot) (here : Bool) (spot : Spot) (later : Option Spot)
-    → either_spot (either_spot old (if here then Some spot else None)) later ≡ either_spot old (if here then Some spot else later)
-either_step None true spot later = refl
-either_step None false spot later = refl
-either_step (Some other) here spot later = refl
-
-pub labels_step : (old new : Option Spot) (name : List ℕ) (lines later : List Line) (first : Line) (line index size : ℕ) → lines ≡ first ∷ later → size ≡ size_of first
-    → new ≡ either_spot old (if is_label name first then Some (record { line = line; index = index }) else None)
-    → either_spot new (spot_from later (line + 1) (index + size) name) ≡ either_spot old (spot_from lines line index name)
-unfolding spot_from
-labels_step old new name lines later first line index size is sized added =
-    rw (is, sized, added) (either_step old (is_label name first) _ (spot_from later (line + 1) (index + size_of first) name))
-
-pub labels_end : (spot : Option Spot) (text name : List ℕ) (line index : ℕ) → length text ≤ 0 → either_spot spot (spot_from (read_lines text) line index name) ≡ spot
-unfolding spot_from
-labels_end spot text name line index none = rw (lines_none text none) (either_none spot)
-
-pub labels_begin : (text name : List ℕ) (spot : Option Spot) → spot ≡ None → either_spot spot (spot_from (read_lines text) 1 0 name) ≡ spots_of text name
-unfolding spots_of
-labels_begin text name spot none = rw none refl
+pub labels_end : (labels : List LabelSpot) (text : List ℕ) (line index : ℕ) → length text ≤ 0 → labels ++ labels_from line index (read_lines text) ≡ labels
+unfolding labels_from
+labels_end labels text line index none = rw (lines_none text none) (append-nil labels)
 
 pub size_low : (line : Line) → size_of line ≤ 1
 size_low Blank = omega arith

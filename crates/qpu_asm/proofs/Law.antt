@@ -24,7 +24,7 @@ use Rattle.qpu_asm.proofs.Bytes.{bytes_itself, bytes_same}
 use Rattle.qpu_asm.proofs.Words.{kept_full}
 use Rattle.qpu_asm.proofs.Rows.{kind_cases}
 use Rattle.qpu_asm.proofs.Assembling.{words_end}
-use Rattle.qpu_asm.proofs.Decimals.{written, decimal_number}
+use Rattle.qpu_asm.proofs.Decimals.{decimal_digits, decimal_value, decimal_number}
 
 -- without such a byte
 lacks : ℕ → List ℕ → Bool
@@ -119,8 +119,7 @@ no_name all (one ∷ others) text test number =
 read_back_number : (below n : ℕ) → n < 2 ^ 64 → n < below → read_number below (decimal n) ≡ Ok n
 unfolding read_number
 read_back_number below n small under =
-    let w = written n small in
-    rw (decimal_number n small, w.value, lt-ltb n below under) refl
+    rw (decimal_number n small, decimal_value n small, lt-ltb n below under) refl
 
 record ReadFacts (row : Row) : Type 0 where
   word : is_word row.name ≡ true
@@ -141,9 +140,9 @@ text_back : (row : Row) (value : ℕ) → ReadFacts row → value < row.below �
 unfolding is_word
 text_back row value facts under None back =
     let small : value < 2 ^ 64 = omega (arith, facts.below) in
-    let w = written value small in (
+    let all = decimal_digits value small in (
       ap (or_number row.below (decimal value)) (no_name row.named row.named (decimal value) facts.named (decimal_number value small)) ∙ read_back_number row.below value small under,
-      and_from (lacks 32 (decimal value)) (lacks 10 (decimal value)) (digits_lack 32 (decimal value) (omega arith) w.all) (digits_lack 10 (decimal value) (omega arith) w.all),
+      and_from (lacks 32 (decimal value)) (lacks 10 (decimal value)) (digits_lack 32 (decimal value) (omega arith) all) (digits_lack 10 (decimal value) (omega arith) all),
     )
 text_back row value facts under (Some name) back = (ap (or_number row.below name) back.0, back.1)
 

@@ -22,22 +22,26 @@ size_of (Label name) = 0
 size_of BadLabel = 0
 size_of (Coded opcode items) = 1
 
-abbrev pub is_label : List ℕ → Line → Bool
-is_label name Blank = false
-is_label name (Label other) = bytes_eq other name
-is_label name BadLabel = false
-is_label name (Coded opcode items) = false
+-- a label, and where it stands
+pub record LabelSpot : Type 0 where
+  pub name : List ℕ
+  pub spot : Spot
 
-abbrev pub either_spot : Option Spot → Option Spot → Option Spot
-either_spot None other = other
-either_spot (Some spot) other = Some spot
+-- what a line with this number, and this index of the next instruction, defines
+abbrev pub label_on : ℕ → ℕ → Line → List LabelSpot
+label_on line index Blank = []
+label_on line index (Label name) = record { name = name; spot = record { line = line; index = index } } ∷ []
+label_on line index BadLabel = []
+label_on line index (Coded opcode items) = []
 
--- the first label of that name among lines that begin with this line and index: its line, and the index of the next instruction
-unfoldable pub spot_from : List Line → ℕ → ℕ → Spots
-spot_from [] line index name = None
-spot_from (first ∷ lines) line index name =
-    if is_label name first then Some (record { line = line; index = index })
-    else spot_from lines (line + 1) (index + size_of first) name
+unfoldable pub labels_from : ℕ → ℕ → List Line → List LabelSpot
+labels_from line index [] = []
+labels_from line index (first ∷ lines) = label_on line index first ++ labels_from (line + 1) (index + size_of first) lines
+
+-- where the first label of that name stands
+unfoldable pub spot_among : List LabelSpot → Spots
+spot_among [] name = None
+spot_among (label ∷ labels) name = if bytes_eq label.name name then Some label.spot else spot_among labels name
 
 -- the label was defined before this line
 abbrev pub is_before : ℕ → Option Spot → Bool
@@ -72,8 +76,11 @@ unfoldable pub read_lines : List ℕ → List Line
 read_lines text = map read_line (lines_of text)
 
 -- lines count from 1, instructions from 0
-unfoldable pub spots_of : List ℕ → Spots
-spots_of text = spot_from (read_lines text) 1 0
+unfoldable pub labels_of : List ℕ → List LabelSpot
+labels_of text = labels_from 1 0 (read_lines text)
+
+abbrev pub spots_of : List ℕ → Spots
+spots_of text = spot_among (labels_of text)
 
 -- A text's words, or its fault: the first line that has one, and the least kind there.
 unfoldable pub Assembled : List ℕ → Result (List ℕ) AsmFault

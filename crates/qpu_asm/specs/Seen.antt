@@ -7,6 +7,7 @@ use Rattle.qpu_asm.specs.declared.lines.Line.TheVariants as line
 use Rattle.qpu_asm.specs.declared.label.Mark.{Mark}
 use Rattle.qpu_asm.specs.Lines as lines
 use Rattle.qpu_asm.specs.Items.{Spots}
+use Rattle.qpu_asm.specs.Assembly.{LabelSpot, spot_among}
 use Rattle.qpu_asm.specs.declared.table.Named.{Named}
 use Rattle.qpu_asm.specs.declared.table.Row.{Row}
 use Rattle.qpu_asm.specs.declared.table.Kind.{Kind}
@@ -38,7 +39,9 @@ line_seen (line.Label name) = lines.Label name.now
 line_seen line.BadLabel = lines.BadLabel
 line_seen (line.Coded cut) = lines.Coded cut.first.now (lines.words_of cut.rest.now)
 
--- the place of the first mark with that name
-unfoldable pub spots_in : List Mark → Spots
-spots_in [] name = None
-spots_in (mark ∷ marks) name = if bytes_eq mark.name.now name then Some mark.spot else spots_in marks name
+-- the labels of marks, and where the first one of a name stands
+abbrev pub mark_seen : Mark → LabelSpot
+mark_seen mark = record { name = mark.name.now; spot = mark.spot }
+
+abbrev pub spots_in : List Mark → Spots
+spots_in marks = spot_among (map mark_seen marks)

@@ -6,37 +6,13 @@ ghost use Rattle.qpu_isa.specs.Terms.{is_branch, is_switch};
 ghost use Rattle.shader_flow.specs.Flow.{word, in_slots, after_switch, leads_outside, is_sound_branch, IsFlow};
 ghost use Rattle.shader_flow.specs.Rules.{s3, s4, s5, s6, s7, s8, s9, s10, s11, s12, s13, s27, branch_questions, switch_questions, flow_questions};
 
+use crate::rule::ShaderRule;
 use crate::site::Site;
 use crate::state::Flow;
 use qpu_isa::word::{
     imm, is_branch, is_load_imm, is_switch, mode, register, relative, sig, target, waddr_add,
     waddr_mul,
 };
-
-/// S3: a signal that no shader may use.
-pub const S3_SIGNAL: u8 = 3;
-/// S4: a branch stands in the slots of a branch.
-pub const S4_BRANCH_IN_SLOTS: u8 = 4;
-/// S5: a branch takes its target from a register.
-pub const S5_BRANCH_BY_REGISTER: u8 = 5;
-/// S6: a branch leads to an absolute place.
-pub const S6_BRANCH_ABSOLUTE: u8 = 6;
-/// S7: a branch leads into the middle of an instruction.
-pub const S7_BRANCH_UNALIGNED: u8 = 7;
-/// S8: a branch leads to before the first instruction or past the program end.
-pub const S8_BRANCH_OUTSIDE: u8 = 8;
-/// S9: a branch's slots go past the program end.
-pub const S9_SLOTS_PAST_END: u8 = 9;
-/// S10: a branch also writes.
-pub const S10_BRANCH_WRITES: u8 = 10;
-/// S11: a switch stands one or two after a switch.
-pub const S11_SWITCH_AFTER_SWITCH: u8 = 11;
-/// S12: a branch stands one or two after a switch.
-pub const S12_BRANCH_AFTER_SWITCH: u8 = 12;
-/// S13: a switch stands in a branch's slots or acts after the program end.
-pub const S13_SWITCH_MISPLACED: u8 = 13;
-/// S27: a load immediate has a mode that does not exist.
-pub const S27_LOAD_MODE: u8 = 27;
 
 // A branch stands `distance` before.
 #[tactic(auto, unfolding(crate::specs::Bounded::is_back))]
@@ -195,28 +171,28 @@ fn branch_fault(site: &Site) -> Option<u8>
     ensures { result ≡ first_of (branch_questions site.now.code site.now.at) }
 {
     if breaks_s4(site) {
-        return Some(S4_BRANCH_IN_SLOTS);
+        return Some(ShaderRule::BranchInSlots.number());
     }
     if breaks_s5(site) {
-        return Some(S5_BRANCH_BY_REGISTER);
+        return Some(ShaderRule::BranchByRegister.number());
     }
     if breaks_s6(site) {
-        return Some(S6_BRANCH_ABSOLUTE);
+        return Some(ShaderRule::BranchAbsolute.number());
     }
     if breaks_s7(site) {
-        return Some(S7_BRANCH_UNALIGNED);
+        return Some(ShaderRule::BranchUnaligned.number());
     }
     if breaks_s8(site) {
-        return Some(S8_BRANCH_OUTSIDE);
+        return Some(ShaderRule::BranchOutside.number());
     }
     if breaks_s9(site) {
-        return Some(S9_SLOTS_PAST_END);
+        return Some(ShaderRule::SlotsPastEnd.number());
     }
     if breaks_s10(site) {
-        return Some(S10_BRANCH_WRITES);
+        return Some(ShaderRule::BranchWrites.number());
     }
     if breaks_s12(site) {
-        return Some(S12_BRANCH_AFTER_SWITCH);
+        return Some(ShaderRule::BranchAfterSwitch.number());
     }
     None
 }
@@ -227,10 +203,10 @@ fn switch_fault(site: &Site) -> Option<u8>
     ensures { result ≡ first_of (switch_questions site.now.code site.now.at) }
 {
     if breaks_s11(site) {
-        return Some(S11_SWITCH_AFTER_SWITCH);
+        return Some(ShaderRule::SwitchAfterSwitch.number());
     }
     if breaks_s13(site) {
-        return Some(S13_SWITCH_MISPLACED);
+        return Some(ShaderRule::SwitchMisplaced.number());
     }
     None
 }
@@ -240,7 +216,7 @@ fn site_fault(site: &Site) -> Option<u8>
     ensures { result ≡ first_of (flow_questions site.now.code site.now.at) }
 {
     if breaks_s3(site) {
-        return Some(S3_SIGNAL);
+        return Some(ShaderRule::Signal.number());
     }
     if is_branch(site.word()) {
         return branch_fault(site);
@@ -249,7 +225,7 @@ fn site_fault(site: &Site) -> Option<u8>
         return switch_fault(site);
     }
     if breaks_s27(site) {
-        return Some(S27_LOAD_MODE);
+        return Some(ShaderRule::LoadMode.number());
     }
     None
 }

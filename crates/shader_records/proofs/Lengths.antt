@@ -1,7 +1,7 @@
 -- How long what is emitted is.
 use Rattle.std.proofs.Common.{◌≡◌, ℕ, zero, suc, ◌+◌, ◌/◌, ◌<◌, ◌≤◌, List, ◌++◌, length, Option, Some, None, refl, sym, ap, arith, ◌∙◌, length-append}
-use Rattle.field_words.specs.WordBytes.{laid}
-use Rattle.field_words.proofs.WordBytes.{length_words, laid_append, laid_nothing}
+use Rattle.field_words.specs.Writes.{with_bytes}
+use Rattle.field_words.proofs.WordBytes.{length_words, with_two, with_nothing}
 use Rattle.field_words.specs.Questions.{first_of}
 use Rattle.qpu_isa.specs.Shader.{ShaderModel}
 use Rattle.shader_records.specs.Inputs.{InputModel}
@@ -13,12 +13,12 @@ use Rattle.shader_records.proofs.Fine.{source_inside, use_inside, state_fine}
 use Rattle.shader_records.proofs.Inside.{fixed_in, emitted_in}
 
 -- A text put behind another.
-pub put_behind : (window : List ℕ) (at n : ℕ) (front rest out out2 : List ℕ) → out ≡ laid window at front → length front ≡ n → out2 ≡ laid out (at + n) rest
-    → at + n + length rest ≤ length window → out2 ≡ laid window at (front ++ rest)
+pub put_behind : (window : List ℕ) (at n : ℕ) (front rest out out2 : List ℕ) → out ≡ with_bytes window at front → length front ≡ n → out2 ≡ with_bytes out (at + n) rest
+    → at + n + length rest ≤ length window → out2 ≡ with_bytes window at (front ++ rest)
 put_behind window at n front rest out out2 stands long puts fits =
     let total : length (front ++ rest) ≡ length front + length rest = length-append front rest in
-    puts ∙ ap (λ o. laid o (at + n) rest) stands ∙ ap (λ k. laid (laid window at front) (at + k) rest) (sym long)
-    ∙ sym (laid_append window at front rest (omega (arith, total, long, fits)))
+    puts ∙ ap (λ o. with_bytes o (at + n) rest) stands ∙ ap (λ k. with_bytes (with_bytes window at front) (at + k) rest) (sym long)
+    ∙ sym (with_two window at front rest (omega (arith, total, long, fits)))
 
 pub length_record : (input : InputModel) (at state first : ℕ) → length (record_text input at state first) ≡ record_room state
 unfolding record_text
@@ -130,17 +130,17 @@ uniform_end input (suc k) none upto =
     uses_end input (record_source input k) (uniform_source input k) 3 (uniform_end input k none (omega arith)) fine.of_use (omega arith)
 
 -- no text yet
-pub no_streams : (window : List ℕ) (base : ℕ) (input : InputModel) (at from first : ℕ) → base ≤ length window → window ≡ laid window base (streams_text input at from first 0)
+pub no_streams : (window : List ℕ) (base : ℕ) (input : InputModel) (at from first : ℕ) → base ≤ length window → window ≡ with_bytes window base (streams_text input at from first 0)
 unfolding streams_text
-no_streams window base input at from first fits = sym (laid_nothing window base fits)
+no_streams window base input at from first fits = sym (with_nothing window base fits)
 
-pub no_records : (window : List ℕ) (base : ℕ) (input : InputModel) (first : ℕ) → base ≤ length window → window ≡ laid window base (records_text input first 0)
+pub no_records : (window : List ℕ) (base : ℕ) (input : InputModel) (first : ℕ) → base ≤ length window → window ≡ with_bytes window base (records_text input first 0)
 unfolding records_text
-no_records window base input first fits = sym (laid_nothing window base fits)
+no_records window base input first fits = sym (with_nothing window base fits)
 
-pub no_uniforms : (window : List ℕ) (base : ℕ) (input : InputModel) (first : ℕ) → base ≤ length window → window ≡ laid window base (uniforms_text input first 0)
+pub no_uniforms : (window : List ℕ) (base : ℕ) (input : InputModel) (first : ℕ) → base ≤ length window → window ≡ with_bytes window base (uniforms_text input first 0)
 unfolding uniforms_text
-no_uniforms window base input first fits = sym (laid_nothing window base fits)
+no_uniforms window base input first fits = sym (with_nothing window base fits)
 
 -- All that a state takes and gives lies inside, where no rule stands.
 pub record IsStateInside (input : InputModel) (k : ℕ) : Type 0 where

@@ -1,7 +1,7 @@
 //! Emission of all records, and of all streams.
 ghost use Rattle.std.specs.Prelude.{◌≡◌, None, ◌+◌, ◌<◌, ◌≤◌, ◌^◌, length};
 ghost use Rattle.field_words.specs.Questions.{first_of};
-ghost use Rattle.field_words.specs.WordBytes.{laid};
+ghost use Rattle.field_words.specs.Writes.{with_bytes};
 ghost use Rattle.shader_records.specs.Sources.{state_at, record_offset, stream_offset, given_before};
 ghost use Rattle.packets.specs.StateWord.{record_room};
 ghost use Rattle.shader_records.specs.Rules.{all_questions};
@@ -22,7 +22,7 @@ pub(crate) fn put_records(inputs: &Inputs, first: u32, out: &mut [u8], base: usi
     requires base { base ≤ 67108864 }
     requires places { first + length inputs.now.uniforms < 2 ^ 32 }
     requires room { base + length inputs.now.records ≤ length out.old }
-    ensures text { out.new ≡ laid out.old base (emitted_records inputs.now first) }
+    ensures text { out.new ≡ with_bytes out.old base (emitted_records inputs.now first) }
     ensures length { result ≡ record_offset inputs.now (length inputs.now.states) }
 {
     let mut at = 0;
@@ -46,7 +46,7 @@ pub(crate) fn put_uniforms(inputs: &Inputs, first: u32, out: &mut [u8], base: us
     requires base { base ≤ 67108864 }
     requires places { first + length inputs.now.uniforms < 2 ^ 32 }
     requires room { base + length inputs.now.uniforms ≤ length out.old }
-    ensures text { out.new ≡ laid out.old base (emitted_uniforms inputs.now first) }
+    ensures text { out.new ≡ with_bytes out.old base (emitted_uniforms inputs.now first) }
     ensures length { result ≡ stream_offset inputs.now (length inputs.now.states) }
 {
     let mut at = 0;

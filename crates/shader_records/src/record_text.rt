@@ -1,7 +1,7 @@
 //! Emission of one record.
 ghost use Rattle.std.specs.Prelude.{◌≡◌, ℕ, None, ◌+◌, ◌*◌, ◌/◌, ◌-◌, ◌<◌, ◌≤◌, ◌^◌, length, slice_index};
 ghost use Rattle.field_words.specs.Questions.{first_of};
-ghost use Rattle.field_words.specs.WordBytes.{laid};
+ghost use Rattle.field_words.specs.Writes.{with_bytes};
 ghost use Rattle.emitted_facts.specs.Records.{address_word};
 ghost use Rattle.packets.specs.StateWord.{attribute_count, record_size, record_room};
 ghost use Rattle.shader_records.specs.Sources.{handles_size, source_size, shader_used, given_by, given_before, record_word, attribute_number, place_in};
@@ -145,13 +145,13 @@ fn emitted_word(inputs: &Inputs, source: Source, first: u32, streams: &[u32; 3],
 }
 
 /// Emits a record at `base`, with zeros up to a multiple of 16. Its streams stand from `first` on.
-#[tactic(auto, unfolding(crate::specs::Emission::record_text), using(field_words::proofs::WordBytes::laid_none, crate::proofs::Fine::source_inside, crate::proofs::Inside::fixed_in))]
+#[tactic(auto, unfolding(crate::specs::Emission::record_text), using(field_words::proofs::WordBytes::no_words, crate::proofs::Fine::source_inside, crate::proofs::Inside::fixed_in))]
 pub(crate) fn put_record(inputs: &Inputs, source: Source, first: u32, out: &mut [u8], base: usize)
     requires few { length inputs.now.records ≤ 1048576 }
     requires fine { first_of (record_questions inputs.now source.at source.state source.max_index) ≡ None }
     requires streams { first + given_before inputs.now source.at 3 < 2 ^ 32 }
     requires room { base + record_room source.state ≤ length out.old }
-    ensures { out.new ≡ laid out.old base (record_text inputs.now source.at source.state first) }
+    ensures { out.new ≡ with_bytes out.old base (record_text inputs.now source.at source.state first) }
 {
     let streams = streams_of(inputs, source.at, first);
     for i in 0..record_room(source.state) as usize / 4 {

@@ -1,7 +1,8 @@
 -- The rules of textures, U2 to U9, over four set-up words and the bytes of the buffer.
-use Rattle.std.specs.Prelude.{◌≡◌, ◌≤◌, ◌<◌, ℕ, ◌+◌, ◌==◌, ◌&&◌, ◌||◌, nat_lt, nat_le, Bool, true, List, [], ◌∷◌, Contains, Option, Some, None, Result, Ok, Err, slice_index}
+use Rattle.std.specs.Prelude.{◌≤◌, ◌<◌, ℕ, ◌+◌, ◌==◌, ◌&&◌, ◌||◌, nat_lt, nat_le, Bool, List, [], ◌∷◌, Option, Some, None, Result, Ok, Err, slice_index}
 use Rattle.std.specs.List.{list_any, range_with_len}
-use Rattle.field_words.specs.Questions.{Question, Ask, first_of}
+use Rattle.field_words.specs.Questions.{Question, Ask}
+use Rattle.field_words.specs.Least.{Stands, IsLeast}
 use Rattle.texture_layouts.specs.declared.rule.TextureRule.{TextureRule}
 use Rattle.texture_layouts.specs.declared.rule.TextureRule.TheVariants.{BaseOutside, BoundOutside, TwoStrides, NoStride, UnlistedType, FaceOutside, LevelBelow, ChildImage}
 use Rattle.texture_layouts.specs.Surface.{IsPixelSize}
@@ -69,24 +70,10 @@ unfoldable pub direct_questions : ℕ → ℕ → ℕ → List (Question ℕ)
 direct_questions base bound size =
     Ask (nat_lt size (base + 4)) (number_of BaseOutside) ∷ (Ask (nat_lt size (base + bound + 4)) (number_of BoundOutside) ∷ [])
 
--- Ok comes exactly where no rule stands, and a fault is the number of the first that does.
-abbrev pub AnswersFirst : {T : Type 0} → List (Question ℕ) → Result T ℕ → Type 0
-AnswersFirst questions (Ok _) = first_of questions ≡ None
-AnswersFirst questions (Err number) = first_of questions ≡ Some number
-
--- The same as a sentence about the set of rules that stand: it has this number, whatever other
--- rules stand.
-abbrev pub Stands : List (Question ℕ) → ℕ → Type 0
-Stands questions number = Contains questions (Ask true number)
-
-pub record IsLeastRule (questions : List (Question ℕ)) (number : ℕ) : Type 0 where
-  pub stands : Stands questions number
-  pub least : (other : ℕ) → Stands questions other → number ≤ other
-
--- Ok comes exactly where the set is empty, and a fault is its least number.
+-- Ok comes exactly where no rule stands, and a fault is the least number of those that do.
 abbrev pub AnswersLeast : {T : Type 0} → List (Question ℕ) → Result T ℕ → Type 0
 AnswersLeast questions (Ok _) = (number : ℕ) → ¬ Stands questions number
-AnswersLeast questions (Err number) = IsLeastRule questions number
+AnswersLeast questions (Err number) = IsLeast (λ n m. n ≤ m) questions number
 
 -- A texture that breaks none of U4 to U9 lies in its buffer: each level of each face, level 0 among
 -- them, begins not below the buffer and ends in it.

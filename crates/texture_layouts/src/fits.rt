@@ -1,7 +1,7 @@
 //! The rules of textures, U2 to U9.
 ghost use Rattle.std.specs.Prelude.{◌≡◌, OnOk, false, slice_index};
-ghost use Rattle.field_words.specs.Questions.{first_of};
-ghost use Rattle.texture_layouts.specs.Fits.{has_two_strides, lacks_stride, is_unlisted, has_face_past, has_level_below, has_child_image, numbered, texture_rules, direct_questions, AnswersFirst, AnswersLeast, IsInBuffer};
+ghost use Rattle.field_words.specs.Questions.{GoesOn, first_of};
+ghost use Rattle.texture_layouts.specs.Fits.{has_two_strides, lacks_stride, is_unlisted, has_face_past, has_level_below, has_child_image, numbered, texture_rules, direct_questions, AnswersLeast, IsInBuffer};
 ghost use Rattle.texture_layouts.specs.Fetch.{AreFetchesIn};
 ghost use Rattle.texture_layouts.specs.Setup.{texture_in};
 
@@ -84,7 +84,7 @@ pub fn texture_fault(words: &[u32; 4], size: u32) -> Option<TextureRule>
 ///
 /// After `Ok` each level of each face lies in the buffer, and so does whatever is fetched for a pixel.
 pub fn texture_fits(p: [u32; 4], size: u32) -> Result<(), u8>
-    ensures first { AnswersFirst (texture_rules p size) result }
+    ensures first { GoesOn (texture_rules p size) (λ _. Unit {0}) result }
     ensures least { AnswersLeast (texture_rules p size) result }
     ensures inside { OnOk result (IsInBuffer (texture_in p) size) }
     ensures fetches { OnOk result (AreFetchesIn (texture_in p) size) }
@@ -113,7 +113,7 @@ pub fn direct_fault(base: u32, bound: u32, size: u32) -> Option<TextureRule>
 /// word of 4 bytes at a time. The fault is the number of the first of U2 and U3 that stands, which
 /// is the least number of those that stand.
 pub fn direct_fits(base: u32, bound: u32, size: u32) -> Result<(), u8>
-    ensures first { AnswersFirst (direct_questions base bound size) result }
+    ensures first { GoesOn (direct_questions base bound size) (λ _. Unit {0}) result }
     ensures least { AnswersLeast (direct_questions base bound size) result }
 {
     match direct_fault(base, bound, size) {

@@ -5,7 +5,7 @@ use Rattle.std.proofs.lemmas.Bool.Decides.{nat_tests}
 use Rattle.qpu_isa.specs.Word.{ws_of, waddr_add_of, waddr_mul_of, cond_add_of, cond_mul_of}
 use Rattle.qpu_isa.specs.Terms.{is_branch, add_names, mul_names, names_address, names_on_a, names_on_b, is_address_write, is_relative_address_write, names_forbidden, is_tmu_address, s_address, add_writes_tmu, mul_writes_tmu, writes_tmu, tmu_writes, writes_s, add_is_tmu, mul_is_tmu, has_two_tmu_writes, has_conditional_tmu_write, reads_uniform_of}
 use Rattle.qpu_isa.specs.Setups.{adds_direct, muls_direct, adds_setup, muls_setup, has_setup, takes_with}
-use Rattle.shader_flow.specs.Flow.{word, checked_of, in_slots}
+use Rattle.shader_flow.specs.Flow.{word, checked_of}
 use Rattle.shader_flow.specs.Pending.{pending_of, count_of, takes}
 use Rattle.shader_flow.proofs.Counts.{pending_past, pending_kept, count_next}
 use Rattle.uniform_stream.specs.Quiet.{is_register_address, writes_registers}

@@ -14,29 +14,8 @@ use qpu_isa::writes::{
     has_conditional_tmu_write, has_setup, has_two_tmu_writes, is_address_write,
     is_relative_address_write, names_forbidden, reads_uniform, writes_tmu,
 };
-use shader_flow::{Flow, Site, is_in_slots};
+use shader_flow::{Flow, ShaderRule, Site, is_in_slots};
 use std::marker::Model;
-
-/// S14: a register is written that reaches other units.
-pub const S14_FORBIDDEN_REGISTER: u8 = 14;
-/// S15: the uniforms' address is set relative to another element.
-pub const S15_RELATIVE_ADDRESS: u8 = 15;
-/// S17: the uniforms' address is set in a branch's slots.
-pub const S17_ADDRESS_IN_SLOTS: u8 = 17;
-/// S18: a uniform is taken before a new address is in force.
-pub const S18_UNIFORM_TOO_EARLY: u8 = 18;
-/// S19: a uniform is taken where the position in the stream isn't known.
-pub const S19_POSITION_UNKNOWN: u8 = 19;
-/// S20: both units write a TMU.
-pub const S20_TWO_TMU_WRITES: u8 = 20;
-/// S21: a TMU is written under a condition.
-pub const S21_CONDITIONAL_TMU_WRITE: u8 = 21;
-/// S22: a TMU write finds four set-up words.
-pub const S22_TMU_FULL: u8 = 22;
-/// S23: a set-up write stands in an instruction that reads a uniform.
-pub const S23_UNIFORM_TAKEN_TWICE: u8 = 23;
-/// S25: a branch leads to where a TMU keeps set-up words.
-pub const S25_TARGET_AMID_SETUP: u8 = 25;
 
 /// What the rules ask of an instruction: the setup words that the TMUs keep before it, whether it takes a uniform, whether the
 /// stream's position is known there, and whether it is a target.
@@ -174,13 +153,13 @@ fn quiet_fault(asked: &Asked) -> Option<u8>
     ensures { result ≡ first_of (quiet_questions asked.now.code asked.now.at) }
 {
     if breaks_s18(asked) {
-        return Some(S18_UNIFORM_TOO_EARLY);
+        return Some(ShaderRule::UniformTooEarly.number());
     }
     if breaks_s19(asked) {
-        return Some(S19_POSITION_UNKNOWN);
+        return Some(ShaderRule::PositionUnknown.number());
     }
     if breaks_s25(asked) {
-        return Some(S25_TARGET_AMID_SETUP);
+        return Some(ShaderRule::TargetAmidSetup.number());
     }
     None
 }
@@ -191,34 +170,34 @@ fn loud_fault(asked: &Asked) -> Option<u8>
     ensures { result ≡ first_of (stream_questions asked.now.code asked.now.at) }
 {
     if breaks_s14(&asked.site) {
-        return Some(S14_FORBIDDEN_REGISTER);
+        return Some(ShaderRule::ForbiddenRegister.number());
     }
     if breaks_s15(&asked.site) {
-        return Some(S15_RELATIVE_ADDRESS);
+        return Some(ShaderRule::RelativeAddress.number());
     }
     if breaks_s17(&asked.site) {
-        return Some(S17_ADDRESS_IN_SLOTS);
+        return Some(ShaderRule::AddressInSlots.number());
     }
     if breaks_s18(asked) {
-        return Some(S18_UNIFORM_TOO_EARLY);
+        return Some(ShaderRule::UniformTooEarly.number());
     }
     if breaks_s19(asked) {
-        return Some(S19_POSITION_UNKNOWN);
+        return Some(ShaderRule::PositionUnknown.number());
     }
     if breaks_s20(&asked.site) {
-        return Some(S20_TWO_TMU_WRITES);
+        return Some(ShaderRule::TwoUnitsWrite.number());
     }
     if breaks_s21(&asked.site) {
-        return Some(S21_CONDITIONAL_TMU_WRITE);
+        return Some(ShaderRule::ConditionalWrite.number());
     }
     if breaks_s22(asked) {
-        return Some(S22_TMU_FULL);
+        return Some(ShaderRule::FullUnit.number());
     }
     if breaks_s23(asked) {
-        return Some(S23_UNIFORM_TAKEN_TWICE);
+        return Some(ShaderRule::UniformTakenTwice.number());
     }
     if breaks_s25(asked) {
-        return Some(S25_TARGET_AMID_SETUP);
+        return Some(ShaderRule::TargetAmidSetup.number());
     }
     None
 }

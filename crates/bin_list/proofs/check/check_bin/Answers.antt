@@ -1,27 +1,18 @@
 use Rattle.std.proofs.Common.{ℕ, ◌≡◌, List, [], Ok, Err, Result, OnOk, length, subst, refl}
-use Rattle.field_words.specs.Least.{IsLeast}
 use Rattle.field_words.specs.Questions.{Answers, answered}
 use Rattle.field_words.specs.declared.stop.Stop.{Stop}
 use Rattle.field_words.specs.declared.stop.Stop.TheVariants.{Fault, NoMemory}
 use Rattle.field_words.proofs.Questions.{answers_later, refuses_front}
-use Rattle.packets.specs.Writing.{written}
 use Rattle.bin_list.specs.declared.fault.ListFault.{ListFault}
 use Rattle.bin_list.specs.declared.info.BinInfo.{BinInfo}
-use Rattle.bin_list.specs.Faults.{fault, place_then_number}
+use Rattle.bin_list.specs.Faults.{fault, IsUpTo}
 use Rattle.bin_list.specs.Packets.{passed}
 use Rattle.bin_list.specs.Seen.{seen_before}
 use Rattle.bin_list.specs.Rules.{GivenModel, asked, end_questions, questions_of, given_of}
 use Rattle.bin_list.specs.Info.{IsInfo}
-use Rattle.bin_list.proofs.Least.{least_fault}
+use Rattle.field_words.proofs.Least.{names_least}
+use Rattle.bin_list.proofs.Least.{order, rises_list}
 use Rattle.bin_list.proofs.check.check_bin.Goals as goal
-
-refused : (given : GivenModel) (list : List ℕ) → given.size ≡ length list → (P : BinInfo → Type 0) (result : Result BinInfo (Stop ListFault))
-    → Answers (questions_of given (passed list)) P result → (found : ListFault) → result ≡ Err (Fault found)
-    → IsLeast place_then_number (questions_of given (passed list)) found
-refused given list size P (Ok info) answers found is = absurd (cc)
-refused given list size P (Err NoMemory) answers found is = absurd (cc)
-refused given list size P (Err (Fault f)) answers found is =
-    let e : f ≡ found = cc in subst (IsLeast place_then_number (questions_of given (passed list))) e (least_fault given list f size answers)
 
 on_ok : (P : Type 0) (result : Result BinInfo (Stop ListFault)) → P → OnOk result P
 on_ok P (Ok info) holds = holds
@@ -42,12 +33,11 @@ returns-in-Ok-clause-least c =
     let list = c.args.list.now in
     let given = given_of list c.args.declared c.args.table.now c.args.handles.now in
     let P : BinInfo → Type 0 = λ info. IsInfo list c.args.declared c.args.table.now c.args.handles.now c.args.layout.now info in
-    refused given list refl P c.finish.result
+    names_least IsUpTo _ _ (questions_of given (passed list)) P c.finish.result order (rises_list given list refl)
     (answers_later (asked given (passed list)) (answered (fault given.size) (end_questions (seen_before (passed list)))) P c.finish.result
     c.in-Ok.ensures.answers.0 c.finish.ensures.answers)
 
 pub returns-in-Ok-clause-put : goal.returns-in-Ok-clause-put
-unfolding written
 returns-in-Ok-clause-put c = on_ok _ c.finish.result c.in-Ok.ensures.put
 
 pub returns-in-Ok-clause-memory : goal.returns-in-Ok-clause-memory
@@ -67,5 +57,5 @@ unfolding questions_of
 returns-in-Err-clause-least c =
     let list = c.args.list.now in
     let given = given_of list c.args.declared c.args.table.now c.args.handles.now in
-    refused given list refl (λ info. Unit {0}) (Err c.in-Err.stop)
+    names_least {X = BinInfo} IsUpTo _ _ (questions_of given (passed list)) (λ info. Unit {0}) (Err c.in-Err.stop) order (rises_list given list refl)
     (refuses_front (asked given (passed list)) (answered (fault given.size) (end_questions (seen_before (passed list)))) c.in-Err.stop c.in-Err.ensures.answers)

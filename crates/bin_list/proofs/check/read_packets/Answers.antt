@@ -1,6 +1,6 @@
 use Rattle.std.proofs.Common.{◌+◌, length, Some, arith, ap, sym, ◌∙◌, refl, inl}
 use Rattle.field_words.specs.Questions.{first_of}
-use Rattle.packets.specs.Writing.{written}
+use Rattle.field_words.specs.Writes.{with_bytes}
 use Rattle.bin_list.specs.declared.check.Read.{Read}
 use Rattle.bin_list.specs.Rules.{packet_questions}
 use Rattle.bin_list.proofs.Plain.{plain_none, plain_text, plain_seen, plain_states}
@@ -28,7 +28,7 @@ loop-rest-preserved-then-is_plain c =
     let some = some_left c.loop-rest.rest.now (sym c.is_empty.ensures ∙ c.loop-rest-test.true) in
     goes_on c.loop-rest.invariant some c.requires.room c.split_front.ensures.packet (plain_none given seen packet plain)
     (c.past-seen.ensures.value ∙ plain_seen seen packet plain) c.past-seen.ensures.bounded
-    (c.put-end.ensures.text ∙ ap (written c.loop-rest.out c.loop-rest.end) (sym text))
+    (c.put-end.ensures.text ∙ ap (with_bytes c.loop-rest.out c.loop-rest.end) (sym text))
     (c.put-end.ensures.end ∙ ap (λ t. c.loop-rest.end + length t) (sym text)) (omega (arith, ap length text))
     (plain_states c.loop-rest.states.done.items c.loop-rest.states.current packet plain) (λ is. inl is) c.split_front.ensures.rest
 

@@ -1,4 +1,4 @@
-use Rattle.std.proofs.Common.{◌≡◌, ℕ, true, false, sym, ap, refl, arith, ◌∙◌}
+use Rattle.std.proofs.Common.{◌≡◌, ℕ, true, false, Some, sym, ap, refl, arith, ◌∙◌}
 use Rattle.std.proofs.lemmas.Bool.Decides.{nat_tests}
 use Rattle.qpu_isa.specs.Terms.{is_branch, is_switch, is_load_imm}
 use Rattle.shader_flow.specs.Rules.{s4, s5, s6, s7, s8, s9, s10, s11, s12, s13, s27, branch_questions, switch_questions, flow_questions}
@@ -14,7 +14,7 @@ switch_alone word is = grind (arith, nat_tests)
 
 pub returns-then-breaks_s3 : goal.returns-then-breaks_s3
 unfolding flow_questions
-returns-then-breaks_s3 c = let is = sym c.breaks_s3.ensures ∙ c.if-breaks_s3.true in rw is refl
+returns-then-breaks_s3 c = let is = sym c.breaks_s3.ensures ∙ c.if-breaks_s3.true in rw is (ap Some c.number.ensures)
 
 pub returns-then-is_branch : goal.returns-then-is_branch
 unfolding flow_questions branch_questions s11 s13 s27
@@ -38,7 +38,7 @@ returns-then-breaks_s27 c =
     let no_branch = sym (c.is_branch.ensures ∙ ap is_branch c.word.ensures) ∙ c.if-is_branch.false in
     let no_switch = sym (c.is_switch.ensures ∙ ap is_switch c.word-2.ensures) ∙ c.if-is_switch.false in
     let is = sym c.breaks_s27.ensures ∙ c.if-breaks_s27.true in
-    rw (no_s3, no_branch, no_switch, is) refl
+    rw (no_s3, no_branch, no_switch, is) (ap Some c.number-then-breaks_s27.ensures)
 
 pub returns : goal.returns
 unfolding flow_questions s4 s5 s6 s7 s8 s9 s10 s11 s12 s13

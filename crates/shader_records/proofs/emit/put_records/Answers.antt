@@ -1,6 +1,6 @@
 -- One record more stands.
 use Rattle.std.proofs.Common.{◌+◌, sym, ap, ◌∙◌, arith}
-use Rattle.field_words.specs.WordBytes.{laid}
+use Rattle.field_words.specs.Writes.{with_bytes}
 use Rattle.field_words.specs.Questions.{first_of}
 use Rattle.shader_records.specs.Sources.{state_at, source_size, record_source, stream_offset, given_before}
 use Rattle.packets.specs.StateWord.{record_room}
@@ -92,9 +92,9 @@ loop-k-preserved c =
     record {
       text =
           put_behind c.args.out.now c.args.base c.loop-k.done (records_text input first k) rest c.loop-k.out c.put_record.new.out c.loop-k.invariant.text
-          (length_records input first k ∙ sym c.loop-k.invariant.done) (c.put_record.ensures ∙ ap (λ t. laid c.loop-k.out (c.args.base + c.loop-k.done) t) same)
+          (length_records input first k ∙ sym c.loop-k.invariant.done) (c.put_record.ensures ∙ ap (λ t. with_bytes c.loop-k.out (c.args.base + c.loop-k.done) t) same)
           (omega (arith, long, inside.emitted, c.loop-k.invariant.done, c.requires.room))
-          ∙ ap (λ t. laid c.args.out.now c.args.base t) (sym (records_more input first k));
+          ∙ ap (λ t. with_bytes c.args.out.now c.args.base t) (sym (records_more input first k));
       at = omega (arith, c.loop-k.invariant.at, c.source_size-at.ensures.value, record_next input k, ap (λ s. source_size s.state) source);
       given = omega (arith, c.loop-k.invariant.given, taken, streams_next input k);
       done = omega (arith, c.loop-k.invariant.done, c.record_room.ensures.value, offset_next input k, ap (λ s. record_room s.state) source);
