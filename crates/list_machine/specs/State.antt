@@ -5,7 +5,7 @@ pub use Rattle.machine_plan.specs.declared.launch.Free.{Free}
 pub use Rattle.machine_plan.specs.declared.launch.Launch.{Launch}
 pub use Rattle.machine_plan.specs.declared.who.Who.{Who}
 pub use Rattle.list_machine.specs.declared.state.Binner.{Binner}
-pub use Rattle.list_machine.specs.declared.state.Config.{Config}
+pub use Rattle.packets.specs.declared.config.Config.{Config}
 pub use Rattle.list_machine.specs.declared.state.Found.{Found}
 pub use Rattle.list_machine.specs.declared.state.Frame.{Frame}
 pub use Rattle.list_machine.specs.declared.state.Item.{Item}

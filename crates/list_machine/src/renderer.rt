@@ -12,11 +12,11 @@ use crate::blocks::tiles_of;
 use crate::job_lists::JobLists;
 use crate::parts::{load_waiting, store_frame, store_general, store_whole};
 use crate::reads::{end_wild, read_listed};
-use crate::state::{Config, Frame, Load, SubList};
+use crate::state::{Frame, Load, SubList};
 use crate::surface::Tile;
 use machine_plan::{Accesses, Who, byte_at};
 use packets::opcode::WAIT_ON_SEMAPHORE;
-use packets::{Packet, decode, render_taken};
+use packets::{Config, Packet, decode, render_taken};
 use phys_mem::PhysMem;
 
 /// The tile whose list begins at this address.

@@ -1,58 +1,24 @@
 -- A number that was written in decimal is read back.
-use Rattle.std.proofs.Common.{◌≡◌, ◌≢◌, ℕ, zero, suc, ◌+◌, ◌*◌, ◌-◌, ◌/◌, ◌%◌, ◌^◌, ◌≤◌, ◌<◌, true, not, ◌==◌, List, [], ◌∷◌, ◌++◌, length, get_or, refl, sym, ◌∙◌, ap, arith, ne_eqb, decimal, length-append}
-use Rattle.std.proofs.lemmas.Bool.Decides.{nat_tests}
-use Rattle.std.proofs.lemmas.Bool.{and_from, and_parts}
-use Rattle.std.proofs.lemmas.Fmt.{decimal_by_steps, decimal_digit}
+use Rattle.std.proofs.Common.{◌≡◌, ◌≢◌, ℕ, zero, suc, ◌+◌, ◌*◌, ◌-◌, ◌^◌, ◌<◌, true, not, ◌==◌, List, [], ◌∷◌, length, get_or, refl, ap, arith, ne_eqb, decimal}
+use Rattle.std.proofs.lemmas.Bool.{and_from}
+use Rattle.std.proofs.lemmas.Fmt.{decimal_nonempty, first_decimal, digits_decimal, digits_value-decimal, decimal_digit}
+use Rattle.std.proofs.lemmas.Str.Parse.{IsNumeralModel, numerals_by_fold, tells_all_ascii_digits}
 use Rattle.std.specs.Str.{all_ascii_digits}
-use Rattle.std.specs.Char.{is_ascii_digit}
 use Rattle.script.specs.Number.{number_after, number_of, is_number}
 
-digit_test : (n : ℕ) → n < 10 → is_ascii_digit (48 + n) ≡ true
-digit_test n small = grind (arith, nat_tests)
-
-digits_append : (digits : List ℕ) (digit : ℕ) → all_ascii_digits digits ≡ true → is_ascii_digit digit ≡ true → all_ascii_digits (digits ++ digit ∷ []) ≡ true
-digits_append [] digit all here = and_from (is_ascii_digit digit) true here refl
-digits_append (first ∷ digits) digit all here =
-    let parts = and_parts (is_ascii_digit first) (all_ascii_digits digits) all in
-    and_from (is_ascii_digit first) (all_ascii_digits (digits ++ digit ∷ [])) parts.0 (digits_append digits digit parts.1 here)
-
-number_append : (number : ℕ) (digits : List ℕ) (digit : ℕ) → number_after number (digits ++ digit ∷ []) ≡ 10 * number_after number digits + (digit - 48)
+numbers_fold : (n c : ℕ) (cs : List ℕ) → number_after n (c ∷ cs) ≡ number_after (n * 10 + (c - 48)) cs
 unfolding number_after
-number_append number [] digit = refl
-number_append number (first ∷ digits) digit = number_append (10 * number + (first - 48)) digits digit
+numbers_fold n c cs = let same : 10 * n + (c - 48) ≡ n * 10 + (c - 48) = omega arith in ap (λ m. number_after m cs) same
 
-first_append : (digits : List ℕ) (digit : ℕ) → 0 < length digits → get_or (digits ++ digit ∷ []) 0 0 ≡ get_or digits 0 0
-first_append [] digit full = absurd (omega arith)
-first_append (first ∷ digits) digit full = refl
-
-pub record Writes (n : ℕ) (digits : List ℕ) : Type 0 where
-  pub all : all_ascii_digits digits ≡ true
-  pub value : number_of digits ≡ n
-  pub full : 0 < length digits
-  pub first : 0 < n → get_or digits 0 0 ≢ 48
-
-written_digit : (n : ℕ) → n < 10 → Writes n ((48 + n) ∷ [])
+numeral : IsNumeralModel (λ ds. all_ascii_digits ds ≡ true) (number_after 0)
 unfolding number_after
-written_digit n small = record {
-  all = and_from (is_ascii_digit (48 + n)) true (digit_test n small) refl;
-  value = omega arith;
-  full = omega arith;
-  first = λ some is. omega (arith, is);
-}
+numeral = numerals_by_fold (λ ds. all_ascii_digits ds ≡ true) tells_all_ascii_digits number_after (record { empty = λ n. refl; more = λ n c cs k. numbers_fold n c cs })
 
-written_more : (n : ℕ) (digits : List ℕ) → 10 ≤ n → Writes (n / 10) digits → Writes n (digits ++ ((48 + n % 10) ∷ []))
-written_more n digits big w = record {
-  all = digits_append digits (48 + n % 10) w.all (digit_test (n % 10) (omega arith));
-  value =
-      let e = number_append 0 digits (48 + n % 10) in
-      let v : number_after 0 digits ≡ n / 10 = w.value in
-      omega (arith, e, v);
-  full = omega (arith, length-append digits ((48 + n % 10) ∷ []), w.full);
-  first = λ some is. w.first (omega arith) (sym (first_append digits (48 + n % 10) w.full) ∙ is);
-}
+pub decimal_digits : (n : ℕ) → n < 2 ^ 64 → all_ascii_digits (decimal n) ≡ true
+decimal_digits n small = digits_decimal numeral n small
 
-pub written : (n : ℕ) → n < 2 ^ 64 → Writes n (decimal n)
-written n small = decimal_by_steps Writes written_digit written_more n small
+pub decimal_value : (n : ℕ) → n < 2 ^ 64 → number_of (decimal n) ≡ n
+decimal_value n small = digits_value-decimal numeral n small
 
 number_from : (digits : List ℕ) → all_ascii_digits digits ≡ true → 0 < length digits → get_or digits 0 0 ≢ 48 → is_number digits ≡ true
 unfolding is_number
@@ -65,4 +31,5 @@ pub decimal_number : (n : ℕ) → n < 2 ^ 64 → is_number (decimal n) ≡ true
 unfolding is_number
 decimal_number zero small = ap is_number (decimal_digit 0 (omega arith))
 decimal_number (suc n) small =
-    let w = written (suc n) small in number_from (decimal (suc n)) w.all w.full (w.first (omega arith))
+    let lead = first_decimal (suc n) (omega arith) small in
+    number_from (decimal (suc n)) (decimal_digits (suc n) small) (decimal_nonempty (suc n) small) (λ is. omega (arith, lead, is))

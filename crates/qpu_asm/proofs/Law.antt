@@ -1,56 +1,55 @@
 -- Assembling what was printed gives the same words.
-use Rattle.std.proofs.Common.{◌≡◌, ◌≢◌, ℕ, suc, ◌+◌, ◌/◌, ◌%◌, ◌^◌, ◌≤◌, ◌<◌, Bool, true, false, not, ◌==◌, ◌&&◌, ◌||◌, nat_le, List, [], ◌∷◌, ◌++◌, length, map, get_or, refl, sym, ◌∙◌, ap, subst, arith, ne_eqb, eqb-true, leb-true, lt-ltb, drop, filter, mod-lt, pow_pos, decimal, Option, None, Some, bytes_eq, if◌then◌else◌, All, append_assoc, append-nil}
-use Rattle.std.specs.List.{list_all, list_any, slice_split}
+use Rattle.std.proofs.Common.{◌≡◌, ℕ, suc, inl, inr, ◌+◌, ◌*◌, ◌/◌, ◌%◌, ◌^◌, ◌≤◌, ◌<◌, Bool, true, false, not, ◌==◌, ◌&&◌, nat_le, List, [], ◌∷◌, ◌++◌, length, map, get_or, refl, sym, ◌∙◌, ap, subst, arith, eqb-true, leb-true, lt-ltb, drop, filter, mod-lt, pow_pos, decimal, Option, None, Some, Ok, IfSome, bytes_eq, if◌then◌else◌, All, append_assoc, append-nil, length-append}
+use Rattle.std.specs.List.{list_all, slice_split}
 use Rattle.std.specs.Char.{is_ascii_digit}
 use Rattle.std.specs.Str.{all_ascii_digits}
-use Rattle.std.proofs.lemmas.Bool.{and_parts, and_from, not-true, false≢true, or_right, eqb-false}
+use Rattle.std.proofs.lemmas.Bool.{and_parts, and_from, not-true, false≢true, cases_Bool, eqb-false}
 use Rattle.std.proofs.lemmas.Bool.Decides.{nat_tests}
+use Rattle.std.proofs.lemmas.List.Folds.{list_all-append}
 use Rattle.std.proofs.lemmas.List.Sums.{AllPass-from_list_all}
 use Rattle.std.proofs.lemmas.List.Splits.{slice_split_at, slice_split_none}
 use Rattle.std.proofs.Math.Nat.{div-eq_of_lt}
+use Rattle.script.specs.Lines.{before, behind, lines_of}
+use Rattle.script.specs.Number.{is_number}
 use Rattle.qpu_isa.specs.Word.{sig_of}
 use Rattle.qpu_isa.specs.Fields.{joined, width_of, values_of}
 use Rattle.qpu_isa.proofs.Fields.{joined-values_of}
 use Rattle.qpu_isa.proofs.Words.{above-sig}
-use Rattle.qpu_asm.specs.Table.{Named, Row, Kind, widths_of, fallbacks_of, nop_kind, alu_kind, load_imm_kind, branch_kind, alu_rows}
-use Rattle.qpu_asm.specs.Lines.{Cut, Coded, is_full, words_of, lines_of, read_line, line_of, is_comment, ends_label, without_blank_rest}
-use Rattle.qpu_asm.specs.Items.{Spots, Read, Good, cut_at, find_named, or_number, read_number, read_plain, read_value, is_row, has_row, skip_to, item_reads, reads_of, kinds_of, values_in, kind_code, kind_named, code_of, option_code}
-use Rattle.qpu_asm.specs.Assembly.{read_lines, faults_from, words_from, faults_at, line_kinds, line_words, AsmFaults, AsmWords, spots_of}
+use Rattle.qpu_asm.specs.Table.{Named, Row, Kind, widths_of, nop_kind, alu_kind, load_imm_kind, branch_kind, alu_rows}
+use Rattle.qpu_asm.specs.Lines.{Coded, is_full, words_of, read_line, line_of, is_comment, ends_label}
+use Rattle.qpu_asm.specs.Items.{Spots, Partial, find_named, or_number, read_number, read_plain, read_value, is_row, has_row, skip_to, read_named, read_item, read_items, closed_word, kind_code, kind_named, code_of, option_code}
+use Rattle.qpu_asm.specs.Assembly.{read_lines, lines_words, line_words, with_word, if_words, Assembled, spots_of}
 use Rattle.qpu_asm.specs.Printed.{name_of, or_decimal, value_text, item_text, item_texts, kind_of, spaced, kind_text, line_text, AsmText, PrintedReturns}
-use Rattle.qpu_asm.proofs.Bytes.{bytes_itself}
-use Rattle.qpu_asm.proofs.Words.{blank_rest_after}
-use Rattle.qpu_asm.proofs.Cuts.{slice_split-cut}
-use Rattle.qpu_asm.proofs.Reading.{kinds_good, values_good, skip_here, skip_other, named_here}
-use Rattle.qpu_asm.proofs.Assembling.{faults_end, lines_none}
-use Rattle.qpu_asm.proofs.Decimals.{written, decimal_number}
+use Rattle.qpu_asm.proofs.Bytes.{bytes_itself, bytes_same}
+use Rattle.qpu_asm.proofs.Words.{kept_full}
+use Rattle.qpu_asm.proofs.Rows.{kind_cases}
+use Rattle.qpu_asm.proofs.Assembling.{words_end}
+use Rattle.qpu_asm.proofs.Decimals.{decimal_digits, decimal_value, decimal_number}
+
+-- without such a byte
+lacks : ℕ → List ℕ → Bool
+lacks at bytes = list_all (λ b. not (b == at)) bytes
 
 -- a word: no space, no line feed
 is_word : List ℕ → Bool
-is_word bytes = list_all (λ b. not (b == 32) && not (b == 10)) bytes
+is_word bytes = lacks 32 bytes && lacks 10 bytes
 
 option_is : Option ℕ → ℕ → Bool
 option_is None value = false
 option_is (Some other) value = other == value
 
-starts_other : List ℕ → Bool
-starts_other [] = true
-starts_other (byte ∷ bytes) = not (is_ascii_digit byte)
-
--- each name of a value is a word that begins with no digit, and is read as the value
+-- each name of a value is a word and no number, and is read as the value
 is_named : List Named → Named → Bool
-is_named all named = (is_word named.name && starts_other named.name) && option_is (find_named all named.name) named.value
+is_named all named = is_word named.name && (not (is_number named.name) && option_is (find_named all named.name) named.value)
 
 -- what is printed of a row is read back
 is_read : Row → Bool
-is_read row = (is_word row.name && list_all (λ b. not (b == 61)) row.name) && (nat_le row.below (2 ^ 32) && list_all (is_named row.named) row.named)
+is_read row = (is_word row.name && lacks 61 row.name) && (nat_le row.below (2 ^ 32) && list_all (is_named row.named) row.named)
 
-are_read : List Row → Bool
-are_read rows = list_all is_read rows
-
--- no row takes a later row's name
-apart : List Row → Bool
-apart [] = true
-apart (row ∷ rows) = list_all (λ later. not (is_row later.name row)) rows && apart rows
+-- no row takes a later row's name, which a later one has
+are_apart : List Row → Bool
+are_apart [] = true
+are_apart (row ∷ rows) = list_all (λ later. not (is_row later.name row) && has_row later.name rows) rows && are_apart rows
 
 AreBelow : List Row → List ℕ → Type 0
 AreBelow [] [] = Unit {0}
@@ -58,301 +57,221 @@ AreBelow [] (value ∷ values) = ⊥
 AreBelow (row ∷ rows) [] = ⊥
 AreBelow (row ∷ rows) (value ∷ values) = (value < row.below) × AreBelow rows values
 
-none_some : (value : ℕ) → ◌≡◌ {A = Option ℕ} None (Some value) → ⊥
-none_some value is = cc
+lacks_append : (at : ℕ) (xs ys : List ℕ) → lacks at xs ≡ true → lacks at ys ≡ true → lacks at (xs ++ ys) ≡ true
+unfolding lacks
+lacks_append at xs ys a b = list_all-append (λ c. not (c == at)) xs ys ∙ and_from (lacks at xs) (lacks at ys) a b
 
-some_name : {a b : List ℕ} → ◌≡◌ {A = Option (List ℕ)} (Some a) (Some b) → a ≡ b
-some_name is = cc
+word_append : (xs ys : List ℕ) → is_word xs ≡ true → is_word ys ≡ true → is_word (xs ++ ys) ≡ true
+unfolding is_word
+word_append xs ys a b =
+    let x = and_parts (lacks 32 xs) (lacks 10 xs) a in
+    let y = and_parts (lacks 32 ys) (lacks 10 ys) b in
+    and_from (lacks 32 (xs ++ ys)) (lacks 10 (xs ++ ys)) (lacks_append 32 xs ys x.0 y.0) (lacks_append 10 xs ys x.1 y.1)
 
-none_name : {a : List ℕ} → ◌≡◌ {A = Option (List ℕ)} None (Some a) → ⊥
-none_name is = cc
+digit_other : (at digit : ℕ) → at < 48 → is_ascii_digit digit ≡ true → not (digit == at) ≡ true
+digit_other at digit low is = grind (arith, nat_tests)
+
+digits_lack : (at : ℕ) (digits : List ℕ) → at < 48 → all_ascii_digits digits ≡ true → lacks at digits ≡ true
+unfolding lacks
+digits_lack at [] low all = refl
+digits_lack at (digit ∷ digits) low all =
+    let parts = and_parts (is_ascii_digit digit) (all_ascii_digits digits) all in
+    and_from (not (digit == at)) (lacks at digits) (digit_other at digit low parts.0) (digits_lack at digits low parts.1)
+
+-- a value that is read back as written
+abbrev IsRead : List Named → ℕ → List ℕ → Type 0
+IsRead all value name = (find_named all name ≡ Some value) × (is_word name ≡ true)
 
 option_is_some : (found : Option ℕ) (value : ℕ) → option_is found value ≡ true → found ≡ Some value
 unfolding option_is
 option_is_some None value is = absurd (false≢true is)
 option_is_some (Some other) value is = ap Some (eqb-true other value is)
 
--- a value's name is read as the value
-name_back_by : (all others : List Named) (named : Named) (value : ℕ) (name : List ℕ) (same : Bool) → (named.value == value) ≡ same → is_named all named ≡ true
-    → (if same then Some named.name else name_of others value) ≡ Some name → (name_of others value ≡ Some name → find_named all name ≡ Some value)
-    → find_named all name ≡ Some value
+name_by : (all : List Named) (one : Named) (value : ℕ) (later : Option (List ℕ)) (same : Bool) → (one.value == value) ≡ same → is_named all one ≡ true
+    → IfSome later (IsRead all value) → IfSome (if same then Some one.name else later) (IsRead all value)
 unfolding is_named
-name_back_by all others named value name true at test is later =
-    let parts = and_parts (is_word named.name && starts_other named.name) (option_is (find_named all named.name) named.value) test in
-    let found : find_named all named.name ≡ Some named.value = option_is_some (find_named all named.name) named.value parts.1 in
-    ap (find_named all) (sym (some_name is)) ∙ (found ∙ ap Some (eqb-true named.value value at))
-name_back_by all others named value name false at test is later = later is
+name_by all one value later true at test rest =
+    let parts = and_parts (is_word one.name) (not (is_number one.name) && option_is (find_named all one.name) one.value) test in
+    let found = and_parts (not (is_number one.name)) (option_is (find_named all one.name) one.value) parts.1 in
+    (option_is_some (find_named all one.name) one.value found.1 ∙ ap Some (eqb-true one.value value at), parts.0)
+name_by all one value later false at test rest = rest
 
-name_back : (all named : List Named) (value : ℕ) (name : List ℕ) → list_all (is_named all) named ≡ true → name_of named value ≡ Some name → find_named all name ≡ Some value
+name_back : (all named : List Named) (value : ℕ) → list_all (is_named all) named ≡ true → IfSome (name_of named value) (IsRead all value)
 unfolding name_of
-name_back all [] value name test is = absurd (none_name is)
-name_back all (first ∷ others) value name test is =
-    let parts = and_parts (is_named all first) (list_all (is_named all) others) test in
-    name_back_by all others first value name (first.value == value) refl parts.0 is (λ h. name_back all others value name parts.1 h)
+name_back all [] value test = tt
+name_back all (one ∷ others) value test =
+    let parts = and_parts (is_named all one) (list_all (is_named all) others) test in
+    name_by all one value (name_of others value) (one.value == value) refl parts.0 (name_back all others value parts.1)
 
--- a text that begins with a digit is no name
-other_name : (name : List ℕ) (digit : ℕ) (digits : List ℕ) → starts_other name ≡ true → is_ascii_digit digit ≡ true → bytes_eq name (digit ∷ digits) ≡ false
-unfolding starts_other
-other_name [] digit digits other here = refl
-other_name (byte ∷ bytes) digit digits other here =
-    let apart_bytes : byte ≢ digit = λ same. false≢true (sym (not-true (is_ascii_digit byte) other) ∙ (ap is_ascii_digit same ∙ here)) in
-    ap (λ b. b && bytes_eq bytes digits) (ne_eqb byte digit apart_bytes)
-
-no_name : (all named : List Named) (digit : ℕ) (digits : List ℕ) → list_all (is_named all) named ≡ true → is_ascii_digit digit ≡ true → find_named named (digit ∷ digits) ≡ None
+-- a number is no name
+no_name : (all named : List Named) (text : List ℕ) → list_all (is_named all) named ≡ true → is_number text ≡ true → find_named named text ≡ None
 unfolding find_named is_named
-no_name all [] digit digits test here = refl
-no_name all (first ∷ others) digit digits test here =
-    let parts = and_parts (is_named all first) (list_all (is_named all) others) test in
-    let names = and_parts (is_word first.name && starts_other first.name) (option_is (find_named all first.name) first.value) parts.0 in
-    let starts = and_parts (is_word first.name) (starts_other first.name) names.0 in
-    rw (other_name first.name digit digits starts.1 here) (no_name all others digit digits parts.1 here)
+no_name all [] text test number = refl
+no_name all (one ∷ others) text test number =
+    let parts = and_parts (is_named all one) (list_all (is_named all) others) test in
+    let names = and_parts (is_word one.name) (not (is_number one.name) && option_is (find_named all one.name) one.value) parts.0 in
+    let other = not-true (is_number one.name) (and_parts (not (is_number one.name)) (option_is (find_named all one.name) one.value) names.1).0 in
+    elim (cases_Bool (bytes_eq one.name text)) [
+      | inl same ↦ absurd (false≢true (sym other ∙ (ap is_number (bytes_same one.name text same) ∙ number)))
+      | inr apart ↦ rw apart (no_name all others text parts.1 number)
+    ]
 
-no_name_digits : (named : List Named) (text : List ℕ) → list_all (is_named named) named ≡ true → all_ascii_digits text ≡ true → 0 < length text → find_named named text ≡ None
-no_name_digits named [] test all full = absurd (omega arith)
-no_name_digits named (digit ∷ digits) test all full =
-    no_name named named digit digits test (and_parts (is_ascii_digit digit) (all_ascii_digits digits) all).0
-
-read_back_number : (below n : ℕ) → n < 2 ^ 64 → n < below → read_number below (decimal n) ≡ Good n
+read_back_number : (below n : ℕ) → n < 2 ^ 64 → n < below → read_number below (decimal n) ≡ Ok n
 unfolding read_number
 read_back_number below n small under =
-    let w = written n small in
-    rw (decimal_number n small, w.value, lt-ltb n below under) refl
+    rw (decimal_number n small, decimal_value n small, lt-ltb n below under) refl
 
 record ReadFacts (row : Row) : Type 0 where
   word : is_word row.name ≡ true
-  equals : list_all (λ b. not (b == 61)) row.name ≡ true
+  equals : lacks 61 row.name ≡ true
   below : row.below ≤ 2 ^ 32
   named : list_all (is_named row.named) row.named ≡ true
 
 read_facts : (row : Row) → is_read row ≡ true → ReadFacts row
 unfolding is_read
 read_facts row test =
-    let parts = and_parts (is_word row.name && list_all (λ b. not (b == 61)) row.name) (nat_le row.below (2 ^ 32) && list_all (is_named row.named) row.named) test in
-    let names = and_parts (is_word row.name) (list_all (λ b. not (b == 61)) row.name) parts.0 in
+    let parts = and_parts (is_word row.name && lacks 61 row.name) (nat_le row.below (2 ^ 32) && list_all (is_named row.named) row.named) test in
+    let names = and_parts (is_word row.name) (lacks 61 row.name) parts.0 in
     let values = and_parts (nat_le row.below (2 ^ 32)) (list_all (is_named row.named) row.named) parts.1 in
     record { word = names.0; equals = names.1; below = leb-true row.below (2 ^ 32) values.0; named = values.1 }
 
-plain_back_by : (row : Row) (value : ℕ) → ReadFacts row → value < row.below → (name : Option (List ℕ)) → name_of row.named value ≡ name
-    → or_number row.below (or_decimal value name) (find_named row.named (or_decimal value name)) ≡ Good value
-plain_back_by row value facts under None at =
+text_back : (row : Row) (value : ℕ) → ReadFacts row → value < row.below → (name : Option (List ℕ)) → IfSome name (IsRead row.named value)
+    → (or_number row.below (or_decimal value name) (find_named row.named (or_decimal value name)) ≡ Ok value) × (is_word (or_decimal value name) ≡ true)
+unfolding is_word
+text_back row value facts under None back =
     let small : value < 2 ^ 64 = omega (arith, facts.below) in
-    let w = written value small in
-    ap (or_number row.below (decimal value)) (no_name_digits row.named (decimal value) facts.named w.all w.full) ∙ read_back_number row.below value small under
-plain_back_by row value facts under (Some name) at =
-    ap (or_number row.below name) (name_back row.named row.named value name facts.named at)
+    let all = decimal_digits value small in (
+      ap (or_number row.below (decimal value)) (no_name row.named row.named (decimal value) facts.named (decimal_number value small)) ∙ read_back_number row.below value small under,
+      and_from (lacks 32 (decimal value)) (lacks 10 (decimal value)) (digits_lack 32 (decimal value) (omega arith) all) (digits_lack 10 (decimal value) (omega arith) all),
+    )
+text_back row value facts under (Some name) back = (ap (or_number row.below name) back.0, back.1)
 
-value_back : (spots : Spots) (index : ℕ) (row : Row) (value : ℕ) → ReadFacts row → value < row.below
-    → read_value spots index (record { first = row.name; rest = value_text row value }) row ≡ Good value
-unfolding read_value read_plain value_text
-value_back spots index row value facts under = rw (bytes_itself row.name) (plain_back_by row value facts under (name_of row.named value) refl)
+value_back : (row : Row) (value : ℕ) → ReadFacts row → value < row.below → (read_plain row (value_text row value) ≡ Ok value) × (is_word (value_text row value) ≡ true)
+unfolding read_plain value_text
+value_back row value facts under = text_back row value facts under (name_of row.named value) (name_back row.named row.named value facts.named)
 
 -- an item is cut at its `=`
-cut_name : (name text : List ℕ) → list_all (λ b. not (b == 61)) name ≡ true → cut_at 61 (name ++ 61 ∷ text) ≡ Some (record { first = name; rest = text })
-unfolding cut_at
-cut_name [] text test = refl
+cut_name : (name text : List ℕ) → lacks 61 name ≡ true → (before 61 (name ++ 61 ∷ text) ≡ name) × (behind 61 (name ++ 61 ∷ text) ≡ text)
+unfolding before behind lacks
+cut_name [] text test = (refl, refl)
 cut_name (byte ∷ bytes) text test =
-    let parts = and_parts (not (byte == 61)) (list_all (λ b. not (b == 61)) bytes) test in
-    rw (not-true (byte == 61) parts.0, cut_name bytes text parts.1) refl
+    let parts = and_parts (not (byte == 61)) (lacks 61 bytes) test in
+    let rest = cut_name bytes text parts.1 in
+    rw (not-true (byte == 61) parts.0) (ap (λ b. byte ∷ b) rest.0, rest.1)
+
+item_cut : (spots : Spots) (index : ℕ) (all : List Row) (partial : Partial) (row : Row) (value : ℕ) → ReadFacts row
+    → read_item spots index all partial (item_text row value) ≡ read_named spots index all partial row.name (value_text row value)
+unfolding read_item item_text
+item_cut spots index all partial row value facts =
+    let cut = cut_name row.name (value_text row value) facts.equals in
+    let longer : length row.name < length (row.name ++ 61 ∷ value_text row value) = omega (arith, length-append row.name (61 ∷ value_text row value)) in
+    rw (cut.0, cut.1, lt-ltb _ _ longer) refl
 
 row_itself : (row : Row) → is_row row.name row ≡ true
 unfolding is_row
-row_itself row = ap (λ b. b || (row.takes_label && bytes_eq (116 ∷ 111 ∷ []) row.name)) (bytes_itself row.name)
+row_itself row = rw (bytes_itself row.name) refl
 
-passes_here : (test : Row → Bool) (skipped rows : List Row) (row : Row) → list_all test (skipped ++ row ∷ rows) ≡ true → test row ≡ true
-passes_here test [] rows row all = (and_parts (test row) (list_all test rows) all).0
-passes_here test (first ∷ skipped) rows row all = passes_here test skipped rows row (and_parts (test first) (list_all test (skipped ++ row ∷ rows)) all).1
+-- a row's own item
+item_read : (spots : Spots) (index : ℕ) (all rows : List Row) (row : Row) (word value : ℕ) → ReadFacts row → value < row.below
+    → read_item spots index all (record { word = word; rows = row ∷ rows; fault = None }) (item_text row value)
+    ≡ record { word = word * 2 ^ row.width + value; rows = rows; fault = None }
+unfolding read_named has_row skip_to read_value
+item_read spots index all rows row word value facts under =
+    item_cut spots index all _ row value facts ∙ rw (row_itself row, bytes_itself row.name, (value_back row value facts under).0) refl
 
--- rows that are skipped on the way to a later one
-apart_parts : (skipped rows : List Row) (row : Row) → apart (skipped ++ row ∷ rows) ≡ true
-    → (list_all (λ before. not (is_row row.name before)) skipped ≡ true) × (apart rows ≡ true)
-unfolding apart
-apart_parts [] rows row test = (refl, (and_parts (list_all (λ later. not (is_row later.name row)) rows) (apart rows) test).1)
-apart_parts (first ∷ skipped) rows row test =
-    let parts = and_parts (list_all (λ later. not (is_row later.name first)) (skipped ++ row ∷ rows)) (apart (skipped ++ row ∷ rows)) test in
-    let more = apart_parts skipped rows row parts.1 in (
-      and_from (not (is_row row.name first)) (list_all (λ before. not (is_row row.name before)) skipped)
-          (passes_here (λ later. not (is_row later.name first)) skipped rows row parts.0) more.0,
-      more.1,
-    )
+-- an item of a later row
+item_passes : (spots : Spots) (index : ℕ) (all rows : List Row) (row later : Row) (word value : ℕ) → ReadFacts later
+    → is_row later.name row ≡ false → has_row later.name rows ≡ true
+    → read_item spots index all (record { word = word; rows = row ∷ rows; fault = None }) (item_text later value)
+    ≡ read_item spots index all (record { word = word * 2 ^ row.width + row.fallback; rows = rows; fault = None }) (item_text later value)
+unfolding read_named has_row skip_to
+item_passes spots index all rows row later word value facts other there =
+    item_cut spots index all _ later value facts ∙ (rw (other, there) refl ∙ sym (item_cut spots index all _ later value facts))
 
-skip_over : (read : Row → Read) (later : List Row → List Read) (skipped rows : List Row) (row : Row)
-    → list_all (λ before. not (is_row row.name before)) skipped ≡ true
-    → skip_to row.name read later (skipped ++ row ∷ rows) ≡ map Good (fallbacks_of skipped) ++ (read row ∷ later rows)
-skip_over read later [] rows row test = skip_here row.name read later row rows (row_itself row)
-skip_over read later (first ∷ skipped) rows row test =
-    let parts = and_parts (not (is_row row.name first)) (list_all (λ before. not (is_row row.name before)) skipped) test in
-    skip_other row.name read later first (skipped ++ row ∷ rows) (not-true (is_row row.name first) parts.0)
-    ∙ ap (λ reads. Good first.fallback ∷ reads) (skip_over read later skipped rows row parts.1)
+-- a row that no item names has its default
+default_read : (spots : Spots) (index : ℕ) (all rows later : List Row) (row : Row) (word : ℕ) (values : List ℕ) → list_all is_read later ≡ true
+    → list_all (λ r. not (is_row r.name row) && has_row r.name rows) later ≡ true
+    → closed_word (read_items spots index all (record { word = word; rows = row ∷ rows; fault = None }) (item_texts later values))
+    ≡ closed_word (read_items spots index all (record { word = word * 2 ^ row.width + row.fallback; rows = rows; fault = None }) (item_texts later values))
+unfolding read_items item_texts closed_word joined
+default_read spots index all rows [] row word values test away = refl
+default_read spots index all rows (r ∷ later) row word [] test away = refl
+default_read spots index all rows (r ∷ later) row word (value ∷ values) test away =
+    let parts = and_parts (is_read r) (list_all is_read later) test in
+    let names = and_parts (not (is_row r.name row) && has_row r.name rows) (list_all (λ q. not (is_row q.name row) && has_row q.name rows) later) away in
+    let here = and_parts (not (is_row r.name row)) (has_row r.name rows) names.0 in
+    elim (cases_Bool (value == r.fallback)) [
+      | inl same ↦ rw same (default_read spots index all rows later row word values parts.1 names.1)
+      | inr other ↦ rw other (ap (λ p. closed_word (read_items spots index all p (item_texts later values)))
+          (item_passes spots index all rows row r word value (read_facts r parts.0) (not-true (is_row r.name row) here.0) here.1))
+    ]
 
-has_there : (skipped rows : List Row) (row : Row) → has_row row.name (skipped ++ row ∷ rows) ≡ true
-unfolding has_row
-has_there [] rows row = ap (λ b. b || list_any (is_row row.name) rows) (row_itself row)
-has_there (first ∷ skipped) rows row = or_right (is_row row.name first) (list_any (is_row row.name) (skipped ++ row ∷ rows)) (has_there skipped rows row)
-
-goods_append : (skipped : List Row) (row : Row) (reads : List Read)
-    → map Good (fallbacks_of (skipped ++ row ∷ [])) ++ reads ≡ map Good (fallbacks_of skipped) ++ (Good row.fallback ∷ reads)
-goods_append [] row reads = refl
-goods_append (first ∷ skipped) row reads = ap (λ rs. Good first.fallback ∷ rs) (goods_append skipped row reads)
-
-goods_end : (skipped : List Row) → map Good (fallbacks_of (skipped ++ [])) ≡ map Good (fallbacks_of skipped) ++ []
-goods_end [] = refl
-goods_end (first ∷ skipped) = ap (λ rs. Good first.fallback ∷ rs) (goods_end skipped)
-
-rows_assoc : (skipped rows : List Row) (row : Row) → (skipped ++ row ∷ []) ++ rows ≡ skipped ++ row ∷ rows
-rows_assoc [] rows row = refl
-rows_assoc (first ∷ skipped) rows row = ap (λ rs. first ∷ rs) (rows_assoc skipped rows row)
-
--- the items that were printed of some rows, read against these rows and others before them
-reads_step : (spots : Spots) (index : ℕ) (all rows skipped : List Row) (row : Row) (value : ℕ) (values : List ℕ) (same : Bool) → (value == row.fallback) ≡ same
-    → apart (skipped ++ row ∷ rows) ≡ true → ReadFacts row → value < row.below
-    → ((before : List Row) → apart (before ++ rows) ≡ true
-    → reads_of spots index all (item_texts rows values) (before ++ rows) ≡ map Good (fallbacks_of before) ++ map Good values)
-    → reads_of spots index all (if same then item_texts rows values else item_text row value ∷ item_texts rows values) (skipped ++ row ∷ rows)
-    ≡ map Good (fallbacks_of skipped) ++ (Good value ∷ map Good values)
-unfolding reads_of item_text item_reads
-reads_step spots index all rows skipped row value values true at test facts under later =
-    ap (reads_of spots index all (item_texts rows values)) (sym (rows_assoc skipped rows row))
-    ∙ (later (skipped ++ row ∷ []) (ap apart (rows_assoc skipped rows row) ∙ test)
-    ∙ (goods_append skipped row (map Good values)
-    ∙ ap (λ v. map Good (fallbacks_of skipped) ++ (Good v ∷ map Good values)) (sym (eqb-true value row.fallback at))))
-reads_step spots index all rows skipped row value values false at test facts under later =
-    let parts = apart_parts skipped rows row test in
-    let cut : Cut = record { first = row.name; rest = value_text row value } in
-    let after = λ (left : List Row). reads_of spots index all (item_texts rows values) left in
-    ap (item_reads spots index all after (skipped ++ row ∷ rows)) (cut_name row.name (value_text row value) facts.equals)
-    ∙ (named_here spots index all after (skipped ++ row ∷ rows) cut (has_there skipped rows row)
-    ∙ (skip_over (read_value spots index cut) after skipped rows row parts.0
-    ∙ (ap (λ r. map Good (fallbacks_of skipped) ++ (r ∷ after rows)) (value_back spots index row value facts under)
-    ∙ ap (λ rs. map Good (fallbacks_of skipped) ++ (Good value ∷ rs)) (later [] parts.1))))
-
-reads : (spots : Spots) (index : ℕ) (all rows : List Row) (values : List ℕ) (skipped : List Row) → are_read rows ≡ true → AreBelow rows values → apart (skipped ++ rows) ≡ true
-    → reads_of spots index all (item_texts rows values) (skipped ++ rows) ≡ map Good (fallbacks_of skipped) ++ map Good values
-unfolding reads_of item_texts AreBelow are_read
-reads spots index all [] [] skipped test under away = goods_end skipped
-reads spots index all [] (value ∷ values) skipped test under away = absurd under
-reads spots index all (row ∷ rows) [] skipped test under away = absurd under
-reads spots index all (row ∷ rows) (value ∷ values) skipped test under away =
+reads : (spots : Spots) (index : ℕ) (all rows : List Row) (word : ℕ) (values : List ℕ) → list_all is_read rows ≡ true → AreBelow rows values → are_apart rows ≡ true
+    → closed_word (read_items spots index all (record { word = word; rows = rows; fault = None }) (item_texts rows values)) ≡ Ok (joined word (widths_of rows) values)
+unfolding read_items item_texts closed_word joined are_apart AreBelow
+reads spots index all [] word [] test under away = refl
+reads spots index all [] word (value ∷ values) test under away = absurd under
+reads spots index all (row ∷ rows) word [] test under away = absurd under
+reads spots index all (row ∷ rows) word (value ∷ values) test under away =
     let parts = and_parts (is_read row) (list_all is_read rows) test in
-    reads_step spots index all rows skipped row value values (value == row.fallback) refl away (read_facts row parts.0) under.0
-    (λ before h. reads spots index all rows values before parts.1 under.1 h)
+    let names = and_parts (list_all (λ later. not (is_row later.name row) && has_row later.name rows) rows) (are_apart rows) away in
+    elim (cases_Bool (value == row.fallback)) [
+      | inl same ↦ rw same (default_read spots index all rows rows row word values parts.1 names.0
+          ∙ (reads spots index all rows (word * 2 ^ row.width + row.fallback) values parts.1 under.1 names.1
+          ∙ ap (λ v. Ok (joined (word * 2 ^ row.width + v) (widths_of rows) values)) (sym (eqb-true value row.fallback same))))
+      | inr other ↦ rw other (ap (λ p. closed_word (read_items spots index all p (item_texts rows values))) (item_read spots index all rows row word value (read_facts row parts.0) under.0)
+          ∙ reads spots index all rows (word * 2 ^ row.width + value) values parts.1 under.1 names.1)
+    ]
 
 -- words and lines of printed text
-parted : (at : ℕ) (bytes : List ℕ) → list_all (λ b. not (b == at)) bytes ≡ true → All (λ b. (b == at) ≡ false) bytes
+parted : (at : ℕ) (bytes : List ℕ) → lacks at bytes ≡ true → All (λ b. (b == at) ≡ false) bytes
+unfolding lacks
 parted at bytes test k d inside = not-true (get_or bytes k d == at) (AllPass-from_list_all (λ b. not (b == at)) bytes test k d inside)
 
-spaceless : (bytes : List ℕ) → is_word bytes ≡ true → list_all (λ b. not (b == 32)) bytes ≡ true
-unfolding is_word
-spaceless [] test = refl
-spaceless (byte ∷ bytes) test =
-    let parts = and_parts (not (byte == 32) && not (byte == 10)) (list_all (λ b. not (b == 32) && not (b == 10)) bytes) test in
-    let both = and_parts (not (byte == 32)) (not (byte == 10)) parts.0 in
-    and_from (not (byte == 32)) (list_all (λ b. not (b == 32)) bytes) both.0 (spaceless bytes parts.1)
-
-lineless : (bytes : List ℕ) → is_word bytes ≡ true → list_all (λ b. not (b == 10)) bytes ≡ true
-unfolding is_word
-lineless [] test = refl
-lineless (byte ∷ bytes) test =
-    let parts = and_parts (not (byte == 32) && not (byte == 10)) (list_all (λ b. not (b == 32) && not (b == 10)) bytes) test in
-    let both = and_parts (not (byte == 32)) (not (byte == 10)) parts.0 in
-    and_from (not (byte == 10)) (list_all (λ b. not (b == 10)) bytes) both.1 (lineless bytes parts.1)
-
--- full words
 AreWords : List (List ℕ) → Type 0
 AreWords [] = Unit {0}
 AreWords (word ∷ words) = (is_word word ≡ true) × (is_full word ≡ true) × AreWords words
 
-kept_full : (word : List ℕ) (words : List (List ℕ)) → is_full word ≡ true → filter is_full (word ∷ words) ≡ word ∷ filter is_full words
-kept_full word words full = rw full refl
-
 words_spaced : (word : List ℕ) (items : List (List ℕ)) → is_word word ≡ true → is_full word ≡ true → AreWords items → words_of (word ++ spaced items) ≡ word ∷ items
-unfolding words_of spaced AreWords
+unfolding words_of spaced AreWords is_word
 words_spaced word [] plain full rest =
-    ap (λ line. filter is_full (slice_split (λ b. b == 32) line)) (append-nil word)
-    ∙ (ap (filter is_full) (slice_split_none (λ b. b == 32) word (parted 32 word (spaceless word plain)))
-    ∙ kept_full word [] full)
+    let lone = parted 32 word (and_parts (lacks 32 word) (lacks 10 word) plain).0 in
+    rw (append-nil word, slice_split_none (λ b. b == 32) word lone) (kept_full word [] full)
 words_spaced word (item ∷ items) plain full rest =
-    ap (filter is_full) (slice_split_at (λ b. b == 32) word 32 (item ++ spaced items) (parted 32 word (spaceless word plain)) refl)
+    let lone = parted 32 word (and_parts (lacks 32 word) (lacks 10 word) plain).0 in
+    ap (filter is_full) (slice_split_at (λ b. b == 32) word 32 (item ++ spaced items) lone refl)
     ∙ (kept_full word (slice_split (λ b. b == 32) (item ++ spaced items)) full
     ∙ ap (λ words. word ∷ words) (words_spaced item items rest.0 rest.1 rest.2))
 
-line_first_of : (line text : List ℕ) → list_all (λ b. not (b == 10)) line ≡ true → lines_of (line ++ 10 ∷ text) ≡ line ∷ lines_of text
-unfolding lines_of
-line_first_of line text test =
-    ap without_blank_rest (slice_split_at (λ b. b == 10) line 10 text (parted 10 line test) refl)
-    ∙ (ap (λ rest. without_blank_rest (line ∷ rest)) (slice_split-cut 10 text)
-    ∙ (blank_rest_after line text (cut_at 10 text)
-    ∙ ap (λ rest. line ∷ without_blank_rest rest) (sym (slice_split-cut 10 text))))
-
--- the printed parts are words
-digit_apart : (digit : ℕ) → is_ascii_digit digit ≡ true → (not (digit == 32) && not (digit == 10)) ≡ true
-digit_apart digit is = grind (arith, nat_tests)
-
-name_word_by : (first name : List ℕ) (later : Option (List ℕ)) (same : Bool) → is_word first ≡ true → (later ≡ Some name → is_word name ≡ true)
-    → (if same then Some first else later) ≡ Some name → is_word name ≡ true
-name_word_by first name later true plain rest is = ap is_word (sym (some_name is)) ∙ plain
-name_word_by first name later false plain rest is = rest is
-
-digits_word : (digits : List ℕ) → all_ascii_digits digits ≡ true → is_word digits ≡ true
-unfolding is_word
-digits_word [] all = refl
-digits_word (digit ∷ digits) all =
-    let parts = and_parts (is_ascii_digit digit) (all_ascii_digits digits) all in
-    and_from (not (digit == 32) && not (digit == 10)) (list_all (λ b. not (b == 32) && not (b == 10)) digits) (digit_apart digit parts.0) (digits_word digits parts.1)
-
-name_word : (all named : List Named) (value : ℕ) (name : List ℕ) → list_all (is_named all) named ≡ true → name_of named value ≡ Some name → is_word name ≡ true
-unfolding name_of is_named
-name_word all [] value name test is = absurd (none_name is)
-name_word all (first ∷ others) value name test is =
-    let parts = and_parts (is_named all first) (list_all (is_named all) others) test in
-    let names = and_parts (is_word first.name && starts_other first.name) (option_is (find_named all first.name) first.value) parts.0 in
-    let starts = and_parts (is_word first.name) (starts_other first.name) names.0 in
-    name_word_by first.name name (name_of others value) (first.value == value) starts.0 (λ h. name_word all others value name parts.1 h) is
-
-value_word_by : (row : Row) (value : ℕ) → ReadFacts row → value < row.below → (name : Option (List ℕ)) → name_of row.named value ≡ name → is_word (or_decimal value name) ≡ true
-value_word_by row value facts under None at =
-    let small : value < 2 ^ 64 = omega (arith, facts.below) in
-    digits_word (decimal value) (written value small).all
-value_word_by row value facts under (Some name) at = name_word row.named row.named value name facts.named at
-
-word_append : (xs ys : List ℕ) → is_word xs ≡ true → is_word ys ≡ true → is_word (xs ++ ys) ≡ true
-unfolding is_word
-word_append [] ys a b = b
-word_append (x ∷ xs) ys a b =
-    let parts = and_parts (not (x == 32) && not (x == 10)) (list_all (λ c. not (c == 32) && not (c == 10)) xs) a in
-    and_from (not (x == 32) && not (x == 10)) (list_all (λ c. not (c == 32) && not (c == 10)) (xs ++ ys)) parts.0 (word_append xs ys parts.1 b)
+line_first_of : (line text : List ℕ) → lacks 10 line ≡ true → lines_of (line ++ 10 ∷ text) ≡ line ∷ lines_of text
+unfolding lines_of lacks
+line_first_of [] text test = refl
+line_first_of (byte ∷ bytes) text test =
+    let parts = and_parts (not (byte == 10)) (lacks 10 bytes) test in
+    rw (not-true (byte == 10) parts.0, line_first_of bytes text parts.1) refl
 
 full_append : (xs ys : List ℕ) (y : ℕ) → is_full (xs ++ y ∷ ys) ≡ true
 unfolding is_full
 full_append [] ys y = refl
 full_append (x ∷ xs) ys y = refl
 
-item_word : (row : Row) (value : ℕ) → ReadFacts row → value < row.below → is_word (item_text row value) ≡ true
-unfolding item_text value_text is_word
-item_word row value facts under =
-    word_append row.name (61 ∷ value_text row value) facts.word (value_word_by row value facts under (name_of row.named value) refl)
-
-items_words_by : (row : Row) (value : ℕ) (items : List (List ℕ)) (same : Bool) → is_word (item_text row value) ≡ true → is_full (item_text row value) ≡ true → AreWords items
-    → AreWords (if same then items else item_text row value ∷ items)
-unfolding AreWords
-items_words_by row value items true plain full rest = rest
-items_words_by row value items false plain full rest = (plain, full, rest)
-
-items_words : (rows : List Row) (values : List ℕ) → are_read rows ≡ true → AreBelow rows values → AreWords (item_texts rows values)
-unfolding item_texts AreBelow are_read AreWords item_text
+items_words : (rows : List Row) (values : List ℕ) → list_all is_read rows ≡ true → AreBelow rows values → AreWords (item_texts rows values)
+unfolding item_texts AreBelow AreWords item_text is_word lacks
 items_words [] values test under = tt
 items_words (row ∷ rows) [] test under = absurd under
 items_words (row ∷ rows) (value ∷ values) test under =
     let parts = and_parts (is_read row) (list_all is_read rows) test in
-    items_words_by row value (item_texts rows values) (value == row.fallback) (item_word row value (read_facts row parts.0) under.0)
-    (full_append row.name (value_text row value) 61) (items_words rows values parts.1 under.1)
+    let facts = read_facts row parts.0 in
+    let later = items_words rows values parts.1 under.1 in
+    elim (cases_Bool (value == row.fallback)) [
+      | inl same ↦ rw same later
+      | inr other ↦ rw other (word_append row.name (61 ∷ value_text row value) facts.word (value_back row value facts under.0).1, full_append row.name (value_text row value) 61, later)
+    ]
 
-spaced_lineless : (word : List ℕ) (items : List (List ℕ)) → list_all (λ b. not (b == 10)) word ≡ true → AreWords items → list_all (λ b. not (b == 10)) (word ++ spaced items) ≡ true
-unfolding spaced AreWords
-spaced_lineless [] [] test rest = refl
-spaced_lineless [] (item ∷ items) test rest = spaced_lineless item items (lineless item rest.0) rest.2
-spaced_lineless (byte ∷ bytes) items test rest =
-    let parts = and_parts (not (byte == 10)) (list_all (λ b. not (b == 10)) bytes) test in
-    and_from (not (byte == 10)) (list_all (λ b. not (b == 10)) (bytes ++ spaced items)) parts.0 (spaced_lineless bytes items parts.1 rest)
+spaced_lineless : (items : List (List ℕ)) → AreWords items → lacks 10 (spaced items) ≡ true
+unfolding spaced AreWords lacks is_word
+spaced_lineless [] rest = refl
+spaced_lineless (item ∷ items) rest = lacks_append 10 item (spaced items) (and_parts (lacks 32 item) (lacks 10 item) rest.0).1 (spaced_lineless items rest.2)
 
 -- the fields of a word are below what the rows say
 below_widths : (rows : List Row) (word : ℕ) → list_all (λ row. row.below == 2 ^ row.width) rows ≡ true → AreBelow rows (values_of (widths_of rows) word)
@@ -365,78 +284,47 @@ below_widths (row ∷ rows) word test =
       below_widths rows word parts.1,
     )
 
--- each word's kind: its items are read, below their limits, and joined give the word
-record Fits (word : ℕ) (kind : Kind) : Type 0 where
-  read : are_read kind.rows ≡ true
-  away : apart kind.rows ≡ true
-  below : AreBelow kind.rows (values_of (widths_of kind.rows) word)
-  back : joined kind.above (widths_of kind.rows) (values_of (widths_of kind.rows) word) ≡ word
+-- a kind's table: its opcode is a word, and its items are read back
+record IsReadable (kind : Kind) : Type 0 where
+  read : list_all is_read kind.rows ≡ true
+  away : are_apart kind.rows ≡ true
   opcode : is_word kind.opcode ≡ true
   full : is_full kind.opcode ≡ true
-  plain : (is_comment kind.opcode ≡ false) × (ends_label kind.opcode ≡ false)
+  comment : is_comment kind.opcode ≡ false
+  label : ends_label kind.opcode ≡ false
   known : kind_named kind.opcode ≡ Some kind
 
-fits_nop : (word : ℕ) → word ≡ nop_kind.above → Fits word nop_kind
-unfolding are_read apart AreBelow joined values_of is_word is_full is_comment ends_label kind_named
-fits_nop word is = record {
-  read = refl;
-  away = refl;
-  below = tt;
-  back = sym is;
-  opcode = refl;
-  full = refl;
-  plain = (refl, refl);
-  known = refl;
+readable : (word : ℕ) → IsReadable (kind_of word)
+unfolding kind_of is_read is_named are_apart is_word lacks option_is find_named is_number is_row has_row is_full is_comment ends_label kind_named
+readable word = kind_cases IsReadable _ _ _
+    (record { read = refl; away = refl; opcode = refl; full = refl; comment = refl; label = refl; known = refl })
+    (record { read = refl; away = refl; opcode = refl; full = refl; comment = refl; label = refl; known = refl })
+    (record { read = refl; away = refl; opcode = refl; full = refl; comment = refl; label = refl; known = refl })
+    (record { read = refl; away = refl; opcode = refl; full = refl; comment = refl; label = refl; known = refl })
+
+-- a word's fields are below their limits, and joined give the word
+record Fits (word : ℕ) (kind : Kind) : Type 0 where
+  below : AreBelow kind.rows (values_of (widths_of kind.rows) word)
+  back : joined kind.above (widths_of kind.rows) (values_of (widths_of kind.rows) word) ≡ word
+
+fits_below : (word : ℕ) (kind : Kind) → AreBelow kind.rows (values_of (widths_of kind.rows) word) → word / 2 ^ width_of (widths_of kind.rows) ≡ kind.above → Fits word kind
+fits_below word kind below top = record {
+  below = below;
+  back = rw (← top) (joined-values_of (widths_of kind.rows) word);
 }
 
 alu_signal : (word : ℕ) → (sig_of word == 14) ≡ false → (sig_of word == 15) ≡ false → word / 2 ^ 60 % 2 ^ 4 < 14
 unfolding sig_of
 alu_signal word load branch = omega (arith, eqb-false _ _ load, eqb-false _ _ branch)
 
-fits_alu : (word : ℕ) → word < 2 ^ 64 → (sig_of word == 14) ≡ false → (sig_of word == 15) ≡ false → Fits word alu_kind
-unfolding are_read is_read is_named apart AreBelow values_of width_of is_word starts_other option_is find_named is_full is_comment ends_label kind_named is_row sig_of
-fits_alu word small load branch = record {
-  read = refl;
-  away = refl;
-  below = (alu_signal word load branch, below_widths (drop 1 alu_rows) word refl);
-  back = ap (λ n. joined n (widths_of alu_rows) (values_of (widths_of alu_rows) word)) (sym (div-eq_of_lt small)) ∙ joined-values_of (widths_of alu_rows) word;
-  opcode = refl;
-  full = refl;
-  plain = (refl, refl);
-  known = refl;
-}
-
--- a kind that its signal tells, whose rows take the bits below it
-fits_signal : (word : ℕ) (kind : Kind) → word < 2 ^ 64 → (sig_of word == kind.above) ≡ true → width_of (widths_of kind.rows) ≡ 60
-    → list_all (λ row. row.below == 2 ^ row.width) kind.rows ≡ true → are_read kind.rows ≡ true → apart kind.rows ≡ true → is_word kind.opcode ≡ true → is_full kind.opcode ≡ true
-    → (is_comment kind.opcode ≡ false) × (ends_label kind.opcode ≡ false) → kind_named kind.opcode ≡ Some kind → Fits word kind
-fits_signal word kind small signal width limits read away opcode full plain known = record {
-  read = read;
-  away = away;
-  below = below_widths kind.rows word limits;
-  back =
-      let top : word / 2 ^ width_of (widths_of kind.rows) ≡ kind.above = ap (λ n. word / 2 ^ n) width ∙ above-sig word small ∙ eqb-true (sig_of word) kind.above signal in
-      ap (λ n. joined n (widths_of kind.rows) (values_of (widths_of kind.rows) word)) (sym top) ∙ joined-values_of (widths_of kind.rows) word;
-  opcode = opcode;
-  full = full;
-  plain = plain;
-  known = known;
-}
-
-fits_load : (word : ℕ) → word < 2 ^ 64 → (sig_of word == 14) ≡ true → Fits word load_imm_kind
-unfolding are_read is_read is_named apart width_of is_word starts_other option_is find_named is_full is_comment ends_label kind_named is_row
-fits_load word small load = fits_signal word load_imm_kind small load refl refl refl refl refl refl (refl, refl) refl
-
-fits_branch : (word : ℕ) → word < 2 ^ 64 → (sig_of word == 15) ≡ true → Fits word branch_kind
-unfolding are_read is_read is_named apart width_of is_word starts_other option_is find_named is_full is_comment ends_label kind_named is_row
-fits_branch word small branch = fits_signal word branch_kind small branch refl refl refl refl refl refl (refl, refl) refl
-
 fits_by : (word : ℕ) → word < 2 ^ 64 → (nop load branch : Bool) → (word == nop_kind.above) ≡ nop → (sig_of word == 14) ≡ load → (sig_of word == 15) ≡ branch
     → Fits word (if nop then nop_kind else (if load then load_imm_kind else (if branch then branch_kind else alu_kind)))
-fits_by word small true load branch a b c = fits_nop word (eqb-true word nop_kind.above a)
-fits_by word small false true branch a b c = fits_load word small b
-fits_by word small false false true a b c = fits_branch word small c
-fits_by word small false false false a b c = fits_alu word small b c
+unfolding AreBelow joined values_of width_of
+fits_by word small true load branch a b c = record { below = tt; back = sym (eqb-true word nop_kind.above a) }
+fits_by word small false true branch a b c = fits_below word load_imm_kind (below_widths load_imm_kind.rows word refl) (above-sig word small ∙ eqb-true (sig_of word) 14 b)
+fits_by word small false false true a b c = fits_below word branch_kind (below_widths branch_kind.rows word refl) (above-sig word small ∙ eqb-true (sig_of word) 15 c)
+fits_by word small false false false a b c =
+    fits_below word alu_kind (alu_signal word b c, below_widths (drop 1 alu_rows) word refl) (div-eq_of_lt small)
 
 fits : (word : ℕ) → word < 2 ^ 64 → Fits word (kind_of word)
 unfolding kind_of
@@ -446,54 +334,40 @@ items_of : ℕ → Kind → List (List ℕ)
 items_of word kind = item_texts kind.rows (values_of (widths_of kind.rows) word)
 
 -- a printed line is read as its instruction
-line_read : (word : ℕ) (kind : Kind) → Fits word kind → read_line (kind_text word kind) ≡ Coded kind.opcode (items_of word kind)
+line_read : (word : ℕ) (kind : Kind) → IsReadable kind → Fits word kind → read_line (kind_text word kind) ≡ Coded kind.opcode (items_of word kind)
 unfolding read_line line_of kind_text items_of
-line_read word kind f =
-    ap line_of (words_spaced kind.opcode (item_texts kind.rows (values_of (widths_of kind.rows) word)) f.opcode f.full (items_words kind.rows (values_of (widths_of kind.rows) word) f.read f.below))
-    ∙ rw (f.plain.0, f.plain.1) refl
+line_read word kind r f =
+    rw (words_spaced kind.opcode (items_of word kind) r.opcode r.full (items_words kind.rows (values_of (widths_of kind.rows) word) r.read f.below), r.comment, r.label) refl
 
-code_read : (spots : Spots) (index word : ℕ) (kind : Kind) → Fits word kind → code_of spots index kind.opcode (items_of word kind) ≡ record { kinds = []; word = word }
+code_read : (spots : Spots) (index word : ℕ) (kind : Kind) → IsReadable kind → Fits word kind → code_of spots index kind.opcode (items_of word kind) ≡ Ok word
 unfolding code_of kind_code items_of
-code_read spots index word kind f =
-    let values : List ℕ = values_of (widths_of kind.rows) word in
-    let e : reads_of spots index kind.rows (item_texts kind.rows values) kind.rows ≡ map Good values = reads spots index kind.rows kind.rows values [] f.read f.below f.away in
-    ap (option_code spots index (item_texts kind.rows values)) f.known
-    ∙ (ap (λ rs. record { kinds = kinds_of rs; word = joined kind.above (widths_of kind.rows) (values_in rs) }) e
-    ∙ (ap (λ ks. record { kinds = ks; word = joined kind.above (widths_of kind.rows) (values_in (map Good values)) }) (kinds_good values)
-    ∙ (ap (λ vs. record { kinds = []; word = joined kind.above (widths_of kind.rows) vs }) (values_good values)
-    ∙ ap (λ n. record { kinds = []; word = n }) f.back)))
+code_read spots index word kind r f =
+    ap (option_code spots index (items_of word kind)) r.known
+    ∙ (reads spots index kind.rows kind.rows kind.above (values_of (widths_of kind.rows) word) r.read f.below r.away ∙ ap Ok f.back)
 
 lines_step : (word : ℕ) (text : List ℕ) → word < 2 ^ 64 → read_lines (line_text word ++ text) ≡ Coded (kind_of word).opcode (items_of word (kind_of word)) ∷ read_lines text
-unfolding read_lines line_text kind_text items_of
+unfolding read_lines line_text kind_text items_of is_word
 lines_step word text small =
     let kind : Kind = kind_of word in
+    let r : IsReadable kind = readable word in
     let f : Fits word kind = fits word small in
     let line : List ℕ = kind_text word kind in
+    let whole = lacks_append 10 kind.opcode (spaced (items_of word kind)) (and_parts (lacks 32 kind.opcode) (lacks 10 kind.opcode) r.opcode).1
+    (spaced_lineless (items_of word kind) (items_words kind.rows (values_of (widths_of kind.rows) word) r.read f.below)) in
     ap (λ t. map read_line (lines_of t)) (append_assoc line (10 ∷ []) text)
-    ∙ (ap (map read_line) (line_first_of line text
-    (spaced_lineless kind.opcode (item_texts kind.rows (values_of (widths_of kind.rows) word)) (lineless kind.opcode f.opcode)
-    (items_words kind.rows (values_of (widths_of kind.rows) word) f.read f.below)))
-    ∙ ap (λ l. l ∷ map read_line (lines_of text)) (line_read word kind f))
+    ∙ (ap (map read_line) (line_first_of line text whole) ∙ ap (λ l. l ∷ map read_line (lines_of text)) (line_read word kind r f))
 
-all_faults : (spots : Spots) (words : List ℕ) (line index : ℕ) → All (λ word. word < 2 ^ 64) words → faults_from spots (read_lines (AsmText words)) line index ≡ []
-unfolding AsmText faults_from line_kinds
-all_faults spots [] line index small = faults_end spots [] line index (omega arith)
-all_faults spots (word ∷ words) line index small =
+all_words : (spots : Spots) (words : List ℕ) (line : ℕ) (before : List ℕ) → All (λ word. word < 2 ^ 64) words
+    → lines_words spots line (read_lines (AsmText words)) before ≡ Ok (before ++ words)
+unfolding AsmText lines_words line_words
+all_words spots [] line before small = words_end spots [] line before (omega arith) ∙ ap Ok (sym (append-nil before))
+all_words spots (word ∷ words) line before small =
     let here : word < 2 ^ 64 = small 0 0 (omega arith) in
-    ap (λ ls. faults_from spots ls line index) (lines_step word (AsmText words) here)
-    ∙ (ap (λ code. faults_at line code.kinds ++ faults_from spots (read_lines (AsmText words)) (line + 1) (index + 1)) (code_read spots index word (kind_of word) (fits word here))
-    ∙ all_faults spots words (line + 1) (index + 1) (λ k d h. small (suc k) d (omega arith)))
-
-all_words : (spots : Spots) (words : List ℕ) (index : ℕ) → All (λ word. word < 2 ^ 64) words → words_from spots (read_lines (AsmText words)) index ≡ words
-unfolding AsmText words_from line_words
-all_words spots [] index small = ap (λ ls. words_from spots ls index) (lines_none [] (omega arith))
-all_words spots (word ∷ words) index small =
-    let here : word < 2 ^ 64 = small 0 0 (omega arith) in
-    ap (λ ls. words_from spots ls index) (lines_step word (AsmText words) here)
-    ∙ (ap (λ code. code.word ∷ words_from spots (read_lines (AsmText words)) (index + 1)) (code_read spots index word (kind_of word) (fits word here))
-    ∙ ap (λ ws. word ∷ ws) (all_words spots words (index + 1) (λ k d h. small (suc k) d (omega arith))))
+    ap (λ ls. lines_words spots line ls before) (lines_step word (AsmText words) here)
+    ∙ (ap (λ code. if_words (with_word line before code) (λ more. lines_words spots (line + 1) (read_lines (AsmText words)) more))
+    (code_read spots (length before) word (kind_of word) (readable word) (fits word here))
+    ∙ (all_words spots words (line + 1) (before ++ word ∷ []) (λ k d h. small (suc k) d (omega arith)) ∙ ap Ok (append_assoc before (word ∷ []) words)))
 
 pub each_returns : PrintedReturns
-unfolding AsmFaults AsmWords
-each_returns words small =
-    (all_faults (spots_of (AsmText words)) words 1 0 small, all_words (spots_of (AsmText words)) words 0 small)
+unfolding Assembled
+each_returns words small = all_words (spots_of (AsmText words)) words 1 [] small

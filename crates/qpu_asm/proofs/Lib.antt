@@ -1,4 +1,3 @@
-pub mod Cuts
 pub mod Bytes
 pub mod Words
 pub mod Rows
@@ -6,7 +5,6 @@ pub mod Printing
 pub mod Reading
 pub mod Assembling
 pub mod Sorting
-pub mod Firsts
 pub mod Decimals
 pub mod Law
 pub mod Order

@@ -1,12 +1,12 @@
 -- Rows one after another.
-use Rattle.std.proofs.Common.{◌≡◌, ◌≢◌, ℕ, ◌+◌, ◌/◌, ◌%◌, ◌^◌, ◌≤◌, ◌<◌, Bool, true, false, ◌==◌, ◌&&◌, ◌||◌, not, nat_lt, nat_le, List, [], ◌∷◌, ◌++◌, length, refl, sym, ◌∙◌, ap, arith, ne_eqb, eq-eqb, ltb-true, leb-true, if◌then◌else◌, lit≤, le_trans, pow_mono}
+use Rattle.std.proofs.Common.{◌≡◌, ℕ, ◌+◌, ◌/◌, ◌%◌, ◌^◌, ◌≤◌, ◌<◌, Bool, true, false, ◌==◌, ◌&&◌, ◌||◌, not, nat_lt, nat_le, List, [], ◌∷◌, ◌++◌, length, refl, sym, ◌∙◌, ap, arith, ltb-true, leb-true, if◌then◌else◌, lit≤, le_trans, pow_mono}
 use Rattle.std.specs.List.{list_all}
 use Rattle.std.proofs.lemmas.Bool.{and_parts}
 use Rattle.qpu_isa.specs.Fields.{width_of, values_of}
 use Rattle.qpu_asm.specs.declared.table.Row.{Row}
 use Rattle.qpu_asm.specs.Table as table
 use Rattle.qpu_asm.specs.Table.{widths_of, alu_kind, load_imm_kind, branch_kind, nop_kind}
-use Rattle.qpu_asm.specs.Partial.{is_ready, are_ready}
+use Rattle.qpu_asm.specs.Items.{is_ready, are_ready}
 use Rattle.qpu_asm.specs.Printed.{item_texts, item_text, spaced, kind_of}
 use Rattle.qpu_asm.specs.Seen.{row_seen, rows_seen}
 
@@ -66,26 +66,16 @@ ready_first rest later row is ready =
 abbrev pub text_left : List Row → ℕ → List ℕ
 text_left rows word = spaced (item_texts (rows_seen rows) (values_of (widths_of (rows_seen rows)) word))
 
-text_first : (row : Row) (later : List Row) (word value : ℕ) (same : Bool)
-    → (word / 2 ^ width_of (widths_of (rows_seen later)) % 2 ^ row.width ≡ value) → (value == row.fallback) ≡ same
-    → text_left (row ∷ later) word ≡ (if same then text_left later word else 32 ∷ (item_text (row_seen row) value ++ text_left later word))
-unfolding item_texts values_of spaced
-text_first row later word value true field is = rw (field, is) refl
-text_first row later word value false field is = rw (field, is) refl
+text_by : (same : Bool) (item : List ℕ) (items : List (List ℕ)) → spaced (if same then items else item ∷ items) ≡ (if same then [] else 32 ∷ item) ++ spaced items
+unfolding spaced
+text_by true item items = refl
+text_by false item items = refl
 
-pub text_kept : (rest later : List Row) (row : Row) (word low : ℕ) → rest ≡ row ∷ later
-    → low ≡ width_of (widths_of (rows_seen later)) → word / 2 ^ low % 2 ^ row.width ≡ row.fallback
-    → text_left rest word ≡ text_left later word
-text_kept rest later row word low is at same =
-    ap (λ rows. text_left rows word) is
-    ∙ text_first row later word row.fallback true (rw (sym at) same) (eq-eqb row.fallback row.fallback refl)
-
-pub text_put : (rest later : List Row) (row : Row) (word low value : ℕ) → rest ≡ row ∷ later
-    → low ≡ width_of (widths_of (rows_seen later)) → value ≡ word / 2 ^ low % 2 ^ row.width → value ≢ row.fallback
-    → text_left rest word ≡ 32 ∷ (item_text (row_seen row) value ++ text_left later word)
-text_put rest later row word low value is at field other =
-    ap (λ rows. text_left rows word) is
-    ∙ text_first row later word value false (rw (sym at) (sym field)) (ne_eqb value row.fallback other)
+pub text_first : (rest later : List Row) (row : Row) (word low value : ℕ) → rest ≡ row ∷ later
+    → low ≡ width_of (widths_of (rows_seen later)) → value ≡ word / 2 ^ low % 2 ^ row.width
+    → text_left rest word ≡ (if value == row.fallback then [] else 32 ∷ item_text (row_seen row) value) ++ text_left later word
+unfolding item_texts values_of
+text_first rest later row word low value is at field = rw (is, field, at) (text_by _ _ _)
 
 pub text_none : (rest : List Row) (word : ℕ) → length rest ≡ 0 → text_left rest word ≡ []
 unfolding item_texts spaced

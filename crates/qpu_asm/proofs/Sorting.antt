@@ -1,5 +1,5 @@
 -- What is found among sorted marks is the first label of that name in the text.
-use Rattle.std.proofs.Common.{◌≡◌, ℕ, zero, suc, ◌+◌, ◌-◌, ◌<◌, ◌≤◌, inl, inr, ◌⊎◌, Bool, true, false, List, [], ◌∷◌, ◌++◌, length, get_or, refl, sym, ◌∙◌, ap, subst, arith, nat_lt, min, Option, None, Some, if◌then◌else◌, All, Contains, bytes_eq}
+use Rattle.std.proofs.Common.{◌≡◌, ℕ, zero, suc, ◌+◌, ◌-◌, ◌<◌, ◌≤◌, inl, inr, ◌⊎◌, Bool, true, false, List, [], ◌∷◌, ◌++◌, length, map, get_or, refl, sym, ◌∙◌, ap, subst, arith, nat_lt, min, Option, None, Some, if◌then◌else◌, All, Contains, bytes_eq}
 use Rattle.std.proofs.lemmas.Bool.{cases_Bool, cases_lt, false≢true, true≢false, ltb-true}
 use Rattle.std.proofs.lemmas.Bool.Decides.{nat_tests}
 use Rattle.std.proofs.lemmas.Cmp.{then_total, on_total, nat_cmp_total, nat_list_cmp_total, tied_itself}
@@ -7,7 +7,7 @@ use Rattle.std.proofs.lemmas.List.{get_or_read}
 use Rattle.std.proofs.lemmas.List.Elements.{All-cons, All-push, All-weaker, All-contains, Contains-append_left, Contains-push}
 use Rattle.std.proofs.lemmas.List.Sorted.{sorted_far, ranks_by, All-permutation, Contains-permutation}
 use Rattle.std.proofs.lemmas.Map.Text.{is_eq-slice_cmp}
-use Rattle.std.specs.Cmp.{IsTotalOrder}
+use Rattle.std.specs.Cmp.{IsTotalOrder, IsStrictWeakOrder}
 use Rattle.std.specs.Cmp.Lexicographic.{slice_cmp}
 use Rattle.std.specs.List.Sorted.{IsSorted, IsPermutation, IsPartitionedBy}
 use Rattle.std.specs.Ordering.{nat_cmp, ordering_then, ordering_reverse, is_lt, is_eq}
@@ -16,10 +16,10 @@ use Rattle.std.specs.declared.cmp.Ordering.TheVariants.{Less, Equal, Greater}
 use Rattle.qpu_asm.specs.declared.label.Spot.{Spot}
 use Rattle.qpu_asm.specs.declared.label.Mark.{Mark}
 use Rattle.qpu_asm.specs.Lines.{Line, Blank, Label, BadLabel, Coded}
-use Rattle.qpu_asm.specs.Assembly.{is_label, either_spot, is_before, IsFirstBelow, AreFirstBelow}
-use Rattle.qpu_asm.specs.Marks.{spot_cmp, mark_cmp, IsNotLater, AreRanked, IsMarked, AreMarked, AreAbove, AddsLine, BoundsRepeats, IsStart}
-use Rattle.qpu_asm.specs.Seen.{spots_in}
-use Rattle.qpu_asm.proofs.Assembling.{either_none}
+use Rattle.qpu_asm.specs.Assembly.{is_before, labels_from, spot_among}
+use Rattle.qpu_asm.specs.Marks.{spot_cmp, mark_cmp, IsNotLater, AreFirstBelow, BoundsRepeats, IsStart}
+use Rattle.qpu_asm.specs.Seen.{mark_seen, spots_in}
+use Rattle.qpu_asm.proofs.Assembling.{same_everywhere}
 use Rattle.qpu_asm.proofs.Bytes.{bytes_same, bytes_itself}
 
 -- the order of marks
@@ -56,17 +56,20 @@ spot_not x y same not-lt =
     later_numbers x.spot.line x.spot.index y.spot.line y.spot.index
     (sym (ap (λ o. is_lt (ordering_then o (spot_cmp x.spot y.spot))) (alike x y same)) ∙ not-lt)
 
-not_both : (o p : Ordering) → o ≡ ordering_reverse p → is_lt o ≡ false → is_lt p ≡ false → is_eq o ≡ true
-not_both Less p is not-lt not-gt = absurd (true≢false not-lt)
-not_both Equal p is not-lt not-gt = refl
-not_both Greater Less is not-lt not-gt = absurd (true≢false not-gt)
-not_both Greater Equal is not-lt not-gt = absurd (cc)
-not_both Greater Greater is not-lt not-gt = absurd (cc)
+not_both : (o : Ordering) → is_lt o ≡ false → is_lt (ordering_reverse o) ≡ false → is_eq o ≡ true
+not_both Less not-lt not-gt = absurd (true≢false not-lt)
+not_both Equal not-lt not-gt = refl
+not_both Greater not-lt not-gt = absurd (true≢false not-gt)
 
 pub same_names : (a b : List ℕ) → is_lt (slice_cmp nat_cmp a b) ≡ false → is_lt (slice_cmp nat_cmp b a) ≡ false → a ≡ b
 same_names a b not-lt not-gt =
     bytes_same a b (sym (is_eq-slice_cmp a b)
-    ∙ not_both (slice_cmp nat_cmp a b) (slice_cmp nat_cmp b a) (IsTotalOrder.antisymm nat_list_cmp_total a b) not-lt not-gt)
+    ∙ not_both (slice_cmp nat_cmp a b) not-lt (ap is_lt (sym (IsTotalOrder.antisymm nat_list_cmp_total b a)) ∙ not-gt))
+
+-- of the marks of one name, one that comes earlier in the list is not later in the text
+unfoldable pub AreRanked : List Mark → Type 0
+AreRanked [] = Unit {0}
+AreRanked (mark ∷ marks) = All (λ other. mark.name.now ≡ other.name.now → IsNotLater mark.spot other.spot) marks × AreRanked marks
 
 -- the mark of a name that comes first in the text
 pub record IsLeastMark (marks : List Mark) (name : List ℕ) (mark : Mark) : Type 0 where
@@ -126,7 +129,7 @@ not_later_itself spot = inr (refl, omega arith)
 
 -- in ranked marks the first of a name is the least
 pub found_first : (marks : List Mark) (name : List ℕ) → AreRanked marks → IsFound marks name (spots_in marks name)
-unfolding AreRanked spots_in
+unfolding AreRanked spot_among
 found_first [] name ranked = λ k d inside. absurd (omega (arith, inside))
 found_first (mark ∷ marks) name ranked =
     elim (cases_Bool (bytes_eq mark.name.now name)) [
@@ -166,72 +169,41 @@ sorted_spots marks sorted name moved ranked up =
     (found_permuted marks sorted name (spots_in marks name) moved (found_first marks name ranked))
 
 -- one mark more
-pub spots_pushed : (marks : List Mark) (mark : Mark) (name : List ℕ)
-    → spots_in (marks ++ mark ∷ []) name ≡ either_spot (spots_in marks name) (if bytes_eq mark.name.now name then Some mark.spot else None)
-unfolding spots_in
-spots_pushed [] mark name = refl
-spots_pushed (first ∷ marks) mark name =
-    elim (cases_Bool (bytes_eq first.name.now name)) [
-      | inl same ↦
-          ap (λ b. if b then Some first.spot else spots_in (marks ++ mark ∷ []) name) same
-          ∙ sym (ap (λ b. either_spot (if b then Some first.spot else spots_in marks name) (if bytes_eq mark.name.now name then Some mark.spot else None)) same)
-      | inr apart ↦
-          ap (λ b. if b then Some first.spot else spots_in (marks ++ mark ∷ []) name) apart ∙ (spots_pushed marks mark name
-          ∙ sym (ap (λ b. either_spot (if b then Some first.spot else spots_in marks name) (if bytes_eq mark.name.now name then Some mark.spot else None)) apart))
-    ]
+pub seen_push : (marks : List Mark) (mark : Mark) → map mark_seen (marks ++ mark ∷ []) ≡ map mark_seen marks ++ mark_seen mark ∷ []
+seen_push [] mark = refl
+seen_push (first ∷ marks) mark = ap (λ labels. mark_seen first ∷ labels) (seen_push marks mark)
 
-ranked_pushed : (marks : List Mark) (mark : Mark) → AreAbove mark.spot.line marks → AreRanked marks → AreRanked (marks ++ mark ∷ [])
-unfolding AreRanked
-ranked_pushed [] mark above ranked = (λ k d inside. absurd (omega (arith, inside)), tt)
-ranked_pushed (first ∷ marks) mark above ranked = (
-  All-push (λ other. first.name.now ≡ other.name.now → IsNotLater first.spot other.spot) marks mark ranked.0 (λ same. inl (above zero first (omega arith))),
-  ranked_pushed marks mark (λ k d inside. above (suc k) d (omega (arith, inside))) ranked.1,
-)
+-- marks of lines from here on
+abbrev IsRankedFrom : ℕ → List Mark → Type 0
+IsRankedFrom line marks = AreRanked marks × All (λ m. line ≤ m.spot.line) marks
 
-pub line_added : (marks : List Mark) (mark : Mark) → AddsLine marks (marks ++ mark ∷ []) (Label mark.name.now) mark.spot
-line_added marks mark = record {
-  spots = spots_pushed marks mark;
-  ranked = ranked_pushed marks mark;
-  above = λ above. All-push (λ m. m.spot.line < mark.spot.line + 1) marks mark
-      (All-weaker (λ m. m.spot.line < mark.spot.line) (λ m. m.spot.line < mark.spot.line + 1) (λ m low. omega (arith, low)) marks above) (omega arith);
-  kept = λ other at. Contains-append_left marks (mark ∷ []) other at;
-  marked = (mark, refl, refl, Contains-push marks mark);
-}
+ranked_later : (line : ℕ) (marks : List Mark) → IsRankedFrom (line + 1) marks → IsRankedFrom line marks
+ranked_later line marks ranked =
+    (ranked.0, All-weaker (λ m. line + 1 ≤ m.spot.line) (λ m. line ≤ m.spot.line) (λ m low. omega (arith, low)) marks ranked.1)
 
-pub nothing_added : (marks : List Mark) (line : Line) (spot : Spot) → ((name : List ℕ) → is_label name line ≡ false) → IsMarked marks spot.line line → AddsLine marks marks line spot
-nothing_added marks line spot none marked = record {
-  spots = λ name. sym (ap (λ b. either_spot (spots_in marks name) (if b then Some spot else None)) (none name) ∙ either_none (spots_in marks name));
-  ranked = λ above ranked. ranked;
-  above = λ above. All-weaker (λ m. m.spot.line < spot.line) (λ m. m.spot.line < spot.line + 1) (λ m low. omega (arith, low)) marks above;
-  kept = λ mark at. at;
-  marked = marked;
-}
+pub ranked_from : (line index : ℕ) (lines : List Line) (marks : List Mark) → map mark_seen marks ≡ labels_from line index lines → IsRankedFrom line marks
+unfolding labels_from AreRanked
+ranked_from line index [] [] is = (tt, λ k d inside. absurd (omega (arith, inside)))
+ranked_from line index [] (mark ∷ marks) is = absurd (cc)
+ranked_from line index (Blank ∷ lines) marks is = ranked_later line marks (ranked_from (line + 1) (index + 0) lines marks is)
+ranked_from line index (BadLabel ∷ lines) marks is = ranked_later line marks (ranked_from (line + 1) (index + 0) lines marks is)
+ranked_from line index (Coded opcode items ∷ lines) marks is = ranked_later line marks (ranked_from (line + 1) (index + 1) lines marks is)
+ranked_from line index (Label name ∷ lines) [] is = absurd (cc)
+ranked_from line index (Label name ∷ lines) (mark ∷ marks) is =
+    let head : mark_seen mark ≡ record { name = name; spot = record { line = line; index = index } } = cc in
+    let tail : map mark_seen marks ≡ labels_from (line + 1) (index + 0) lines = cc in
+    let here : mark.spot.line ≡ line = ap (λ label. label.spot.line) head in
+    let rest = ranked_from (line + 1) (index + 0) lines marks tail in (
+      (All-weaker (λ m. line + 1 ≤ m.spot.line) (λ m. mark.name.now ≡ m.name.now → IsNotLater mark.spot m.spot) (λ m low same. inl (omega (arith, low, here))) marks rest.1, rest.0),
+      All-cons (λ m. line ≤ m.spot.line) mark marks (omega (arith, here)) (ranked_later line marks rest).1,
+    )
 
--- marks of all label lines
-marked_among : (marks others : List Mark) (line : ℕ) (first : Line) → ((mark : Mark) → Contains marks mark → Contains others mark)
-    → IsMarked marks line first → IsMarked others line first
-marked_among marks others line Blank holds is = tt
-marked_among marks others line (Label name) holds (mark, named, at, there) = (mark, named, at, holds mark there)
-marked_among marks others line BadLabel holds is = tt
-marked_among marks others line (Coded opcode items) holds is = tt
-
-pub marked_more : (marks others : List Mark) (line : ℕ) (lines later : List Line) (first : Line) → lines ≡ first ∷ later
-    → ((mark : Mark) → Contains marks mark → Contains others mark) → IsMarked marks line first → AreMarked others (line + 1) later → AreMarked others line lines
-unfolding AreMarked
-marked_more marks others line lines later first is holds here more =
-    subst (AreMarked others line) (sym is) (marked_among marks others line first holds here, more)
-
-pub marked_end : (marks : List Mark) (line : ℕ) (lines : List Line) → lines ≡ [] → AreMarked marks line lines
-unfolding AreMarked
-marked_end marks line lines none = subst (AreMarked marks line) (sym none) tt
-
-pub marked_sorted : (marks others : List Mark) (line : ℕ) (lines : List Line) → IsPermutation marks others → AreMarked marks line lines → AreMarked others line lines
-unfolding AreMarked
-marked_sorted marks others line [] moved is = tt
-marked_sorted marks others line (first ∷ lines) moved is = (
-  marked_among marks others line first (λ mark there. Contains-permutation marks others mark moved there) is.0,
-  marked_sorted marks others (line + 1) lines moved is.1,
-)
+-- what is found among the sorted marks of lines is what the lines define
+pub sorted_labels : (marks sorted : List Mark) (lines : List Line) → map mark_seen marks ≡ labels_from 1 0 lines → IsPermutation marks sorted → IsSorted mark_cmp sorted
+    → spots_in sorted ≡ spot_among (labels_from 1 0 lines)
+sorted_labels marks sorted lines is moved up =
+    same_everywhere (spots_in sorted) (spot_among (labels_from 1 0 lines))
+    (λ name. sorted_spots marks sorted name moved (ranked_from 1 0 lines marks is).0 up ∙ ap (λ labels. spot_among labels name) is)
 
 -- a mark below the bound is the first of its name
 after_it : (marks : List Mark) (bound line i j k : ℕ) (early late : Mark) → FarSorted marks → BoundsRepeats marks bound
@@ -280,20 +252,22 @@ not_before marks bound line name late (Some spot) sorted bounds named at-line th
       | inr first ↦ first
     ]
 
-first_marked : (marks : List Mark) (bound line : ℕ) (first : Line) → FarSorted marks → BoundsRepeats marks bound
-    → IsMarked marks line first → IsFirstBelow bound (spots_in marks) line first
-first_marked marks bound line Blank sorted bounds is = tt
-first_marked marks bound line (Label name) sorted bounds (mark, named, at, there) = λ low.
-    not_before marks bound line name mark (spots_in marks name) sorted bounds named at there low (found_first marks name (ranked_sorted marks sorted))
-first_marked marks bound line BadLabel sorted bounds is = tt
-first_marked marks bound line (Coded opcode items) sorted bounds is = tt
-
-pub firsts_below : (marks : List Mark) (bound line : ℕ) (lines : List Line) → FarSorted marks → BoundsRepeats marks bound
-    → AreMarked marks line lines → AreFirstBelow bound (spots_in marks) line lines
-unfolding AreMarked AreFirstBelow
-firsts_below marks bound line [] sorted bounds is = tt
-firsts_below marks bound line (first ∷ lines) sorted bounds is =
-    (first_marked marks bound line first sorted bounds is.0, firsts_below marks bound (line + 1) lines sorted bounds is.1)
+pub firsts_below : (sorted : List Mark) (bound : ℕ) → FarSorted sorted → BoundsRepeats sorted bound → (line index : ℕ) (lines : List Line) (marks : List Mark)
+    → map mark_seen marks ≡ labels_from line index lines → ((mark : Mark) → Contains marks mark → Contains sorted mark) → AreFirstBelow bound (spots_in sorted) line lines
+unfolding labels_from AreFirstBelow
+firsts_below sorted bound up bounds line index [] marks is holds = tt
+firsts_below sorted bound up bounds line index (Blank ∷ lines) marks is holds = (tt, firsts_below sorted bound up bounds (line + 1) (index + 0) lines marks is holds)
+firsts_below sorted bound up bounds line index (BadLabel ∷ lines) marks is holds = (tt, firsts_below sorted bound up bounds (line + 1) (index + 0) lines marks is holds)
+firsts_below sorted bound up bounds line index (Coded opcode items ∷ lines) marks is holds =
+    (tt, firsts_below sorted bound up bounds (line + 1) (index + 1) lines marks is holds)
+firsts_below sorted bound up bounds line index (Label name ∷ lines) [] is holds = absurd (cc)
+firsts_below sorted bound up bounds line index (Label name ∷ lines) (mark ∷ marks) is holds =
+    let head : mark_seen mark ≡ record { name = name; spot = record { line = line; index = index } } = cc in
+    let tail : map mark_seen marks ≡ labels_from (line + 1) (index + 0) lines = cc in (
+      λ low. not_before sorted bound line name mark (spots_in sorted name) up bounds (ap (λ label. label.name) head) (ap (λ label. label.spot.line) head)
+          (holds mark (zero, omega arith, refl)) low (found_first sorted name (ranked_sorted sorted up)),
+      firsts_below sorted bound up bounds (line + 1) (index + 0) lines marks tail (λ m there. holds m (suc there.0, omega (arith, there.1), there.2)),
+    )
 
 -- where a search among sorted marks ends
 lesser_other : (marks : List Mark) (name : List ℕ) (at k : ℕ) (d : Mark) → IsStart marks name at → k < at → (get_or marks k d).name.now ≡ name → ⊥
@@ -393,23 +367,14 @@ bound_more marks at old new d some inside is below k e k-below same =
     ]
 
 -- marks of lesser names come first
-less_is : (o : Ordering) → is_lt o ≡ true → o ≡ Less
-less_is Less is = refl
-less_is Equal is = absurd (false≢true is)
-less_is Greater is = absurd (false≢true is)
-
-lesser_by : (first second name : List ℕ) (o : Ordering) → slice_cmp nat_cmp first second ≡ o → is_lt (slice_cmp nat_cmp second first) ≡ false
-    → slice_cmp nat_cmp second name ≡ Less → slice_cmp nat_cmp first name ≡ Less
-lesser_by first second name Less is not-lt lesser = IsTotalOrder.trans nat_list_cmp_total first second name is lesser
-lesser_by first second name Equal is not-lt lesser = IsTotalOrder.congr nat_list_cmp_total first second name is ∙ lesser
-lesser_by first second name Greater is not-lt lesser =
-    absurd (true≢false (sym (ap is_lt (IsTotalOrder.antisymm nat_list_cmp_total second first ∙ ap ordering_reverse is)) ∙ not-lt))
-
-name_lesser : (first second name : List ℕ) → is_lt (slice_cmp nat_cmp second first) ≡ false → is_lt (slice_cmp nat_cmp second name) ≡ true → is_lt (slice_cmp nat_cmp first name) ≡ true
-name_lesser first second name not-lt lesser =
-    ap is_lt (lesser_by first second name (slice_cmp nat_cmp first second) refl not-lt (less_is (slice_cmp nat_cmp second name) lesser))
+names_ordered : IsStrictWeakOrder (λ a b. is_lt (slice_cmp nat_cmp a b))
+names_ordered = ranks_by nat_list_cmp_total (λ n. n)
 
 pub names_part : (marks : List Mark) (name : List ℕ) → IsSorted mark_cmp marks → IsPartitionedBy (λ m. is_lt (slice_cmp nat_cmp m.name.now name)) marks
 names_part marks name up i j d below inside lesser =
-    name_lesser (get_or marks i d).name.now (get_or marks j d).name.now name
-    (name_not (get_or marks j d) (get_or marks i d) (far marks up i j d below inside)) lesser
+    let early = (get_or marks i d).name.now in
+    let late = (get_or marks j d).name.now in
+    elim (cases_Bool (is_lt (slice_cmp nat_cmp early name))) [
+      | inl below-name ↦ below-name
+      | inr not-below ↦ absurd (true≢false (sym lesser ∙ names_ordered.chain late early name (name_not (get_or marks j d) (get_or marks i d) (far marks up i j d below inside)) not-below))
+    ]

@@ -1,17 +1,19 @@
--- The assembler's text: its faults, and its words where it has none.
-use Rattle.std.specs.Prelude.{ℕ, ◌+◌, ◌≡◌, ◌<◌, ◌≤◌, ◌⊎◌, Bool, false, nat_lt, List, [], ◌∷◌, ◌++◌, map, All, Contains, if◌then◌else◌}
+-- The assembler's text: its words, or its first fault.
+use Rattle.std.specs.Prelude.{ℕ, ◌+◌, ◌≡◌, Bool, false, nat_lt, List, [], ◌∷◌, ◌++◌, length, map, if◌then◌else◌}
 use Rattle.std.specs.Str.{bytes_eq}
 use Rattle.std.specs.declared.option.Option.{Option}
 use Rattle.std.specs.declared.option.Option.TheVariants.{None, Some}
-use Rattle.qpu_asm.specs.declared.label.Spot.{Spot}
-use Rattle.qpu_asm.specs.declared.fault.AsmFault.{AsmFault}
-use Rattle.qpu_asm.specs.Lines.{Line, Blank, Label, BadLabel, Coded, lines_of, read_line}
 use Rattle.std.specs.declared.result.Result.{Result}
 use Rattle.std.specs.declared.result.Result.TheVariants.{Ok, Err}
 use Rattle.field_words.specs.declared.stop.Stop.{Stop}
 use Rattle.field_words.specs.declared.stop.Stop.TheVariants as stop
-use Rattle.qpu_asm.specs.Items.{Spots, code_of}
-use Rattle.qpu_asm.specs.Partial.{IsLeastKind}
+use Rattle.script.specs.Lines.{lines_of}
+use Rattle.qpu_asm.specs.declared.label.Spot.{Spot}
+use Rattle.qpu_asm.specs.declared.fault.AsmFault.{AsmFault}
+use Rattle.qpu_asm.specs.declared.fault.Mistake.{Mistake}
+use Rattle.qpu_asm.specs.declared.fault.Mistake.TheVariants.{UnknownWord, LabelTwice}
+use Rattle.qpu_asm.specs.Lines.{Line, Blank, Label, BadLabel, Coded, read_line}
+use Rattle.qpu_asm.specs.Items.{Spots, mistake_number, code_of}
 
 -- an instruction's line takes one index
 abbrev pub size_of : Line → ℕ
@@ -20,95 +22,70 @@ size_of (Label name) = 0
 size_of BadLabel = 0
 size_of (Coded opcode items) = 1
 
-abbrev pub is_label : List ℕ → Line → Bool
-is_label name Blank = false
-is_label name (Label other) = bytes_eq other name
-is_label name BadLabel = false
-is_label name (Coded opcode items) = false
+-- a label, and where it stands
+pub record LabelSpot : Type 0 where
+  pub name : List ℕ
+  pub spot : Spot
 
-abbrev pub either_spot : Option Spot → Option Spot → Option Spot
-either_spot None other = other
-either_spot (Some spot) other = Some spot
+-- what a line with this number, and this index of the next instruction, defines
+abbrev pub label_on : ℕ → ℕ → Line → List LabelSpot
+label_on line index Blank = []
+label_on line index (Label name) = record { name = name; spot = record { line = line; index = index } } ∷ []
+label_on line index BadLabel = []
+label_on line index (Coded opcode items) = []
 
--- the first label of that name among lines that begin with this line and index: its line, and the index of the next instruction
-unfoldable pub spot_from : List Line → ℕ → ℕ → Spots
-spot_from [] line index name = None
-spot_from (first ∷ lines) line index name =
-    if is_label name first then Some (record { line = line; index = index })
-    else spot_from lines (line + 1) (index + size_of first) name
+unfoldable pub labels_from : ℕ → ℕ → List Line → List LabelSpot
+labels_from line index [] = []
+labels_from line index (first ∷ lines) = label_on line index first ++ labels_from (line + 1) (index + size_of first) lines
+
+-- where the first label of that name stands
+unfoldable pub spot_among : List LabelSpot → Spots
+spot_among [] name = None
+spot_among (label ∷ labels) name = if bytes_eq label.name name then Some label.spot else spot_among labels name
 
 -- the label was defined before this line
 abbrev pub is_before : ℕ → Option Spot → Bool
 is_before line None = false
 is_before line (Some spot) = nat_lt spot.line line
 
--- a line below the bound does not repeat a label
-abbrev pub IsFirstBelow : ℕ → Spots → ℕ → Line → Type 0
-IsFirstBelow bound spots line Blank = Unit {0}
-IsFirstBelow bound spots line (Label name) = line < bound → is_before line (spots name) ≡ false
-IsFirstBelow bound spots line BadLabel = Unit {0}
-IsFirstBelow bound spots line (Coded opcode items) = Unit {0}
+abbrev pub fault_on : ℕ → Mistake → AsmFault
+fault_on line mistake = record { line = line; kind = mistake_number mistake }
 
-unfoldable pub AreFirstBelow : ℕ → Spots → ℕ → List Line → Type 0
-AreFirstBelow bound spots line [] = Unit {0}
-AreFirstBelow bound spots line (first ∷ lines) = IsFirstBelow bound spots line first × AreFirstBelow bound spots (line + 1) lines
+abbrev pub with_word : ℕ → List ℕ → Result ℕ Mistake → Result (List ℕ) AsmFault
+with_word line words (Ok word) = Ok (words ++ word ∷ [])
+with_word line words (Err mistake) = Err (fault_on line mistake)
 
--- the kinds of the faults of one line
-unfoldable pub line_kinds : Spots → ℕ → ℕ → Line → List ℕ
-line_kinds spots line index Blank = []
-line_kinds spots line index (Label name) = if is_before line (spots name) then 5 ∷ [] else []
-line_kinds spots line index BadLabel = 1 ∷ []
-line_kinds spots line index (Coded opcode items) = (code_of spots index opcode items).kinds
+-- the words with that of a line, or the least of the line's faults
+unfoldable pub line_words : Spots → ℕ → List ℕ → Line → Result (List ℕ) AsmFault
+line_words spots line words Blank = Ok words
+line_words spots line words (Label name) = if is_before line (spots name) then Err (fault_on line LabelTwice) else Ok words
+line_words spots line words BadLabel = Err (fault_on line UnknownWord)
+line_words spots line words (Coded opcode items) = with_word line words (code_of spots (length words) opcode items)
 
-unfoldable pub line_words : Spots → ℕ → Line → List ℕ
-line_words spots index Blank = []
-line_words spots index (Label name) = []
-line_words spots index BadLabel = []
-line_words spots index (Coded opcode items) = (code_of spots index opcode items).word ∷ []
+abbrev pub if_words : Result (List ℕ) AsmFault → (List ℕ → Result (List ℕ) AsmFault) → Result (List ℕ) AsmFault
+if_words (Ok words) later = later words
+if_words (Err fault) later = Err fault
 
-abbrev pub faults_at : ℕ → List ℕ → List AsmFault
-faults_at line kinds = map (λ kind. record { line = line; kind = kind }) kinds
-
-unfoldable pub faults_from : Spots → List Line → ℕ → ℕ → List AsmFault
-faults_from spots [] line index = []
-faults_from spots (first ∷ lines) line index =
-    faults_at line (line_kinds spots line index first) ++ faults_from spots lines (line + 1) (index + size_of first)
-
-unfoldable pub words_from : Spots → List Line → ℕ → List ℕ
-words_from spots [] index = []
-words_from spots (first ∷ lines) index = line_words spots index first ++ words_from spots lines (index + size_of first)
+-- the words with those of lines, or the fault of the first line that has one
+unfoldable pub lines_words : Spots → ℕ → List Line → List ℕ → Result (List ℕ) AsmFault
+lines_words spots line [] words = Ok words
+lines_words spots line (first ∷ lines) words =
+    if_words (line_words spots line words first) (λ more. lines_words spots (line + 1) lines more)
 
 unfoldable pub read_lines : List ℕ → List Line
 read_lines text = map read_line (lines_of text)
 
 -- lines count from 1, instructions from 0
-unfoldable pub spots_of : List ℕ → Spots
-spots_of text = spot_from (read_lines text) 1 0
+unfoldable pub labels_of : List ℕ → List LabelSpot
+labels_of text = labels_from 1 0 (read_lines text)
 
-unfoldable pub AsmFaults : List ℕ → List AsmFault
-AsmFaults text = faults_from (spots_of text) (read_lines text) 1 0
+abbrev pub spots_of : List ℕ → Spots
+spots_of text = spot_among (labels_of text)
 
-unfoldable pub AsmWords : List ℕ → List ℕ
-AsmWords text = words_from (spots_of text) (read_lines text) 0
+-- A text's words, or its fault: the first line that has one, and the least kind there.
+unfoldable pub Assembled : List ℕ → Result (List ℕ) AsmFault
+Assembled text = lines_words (spots_of text) 1 (read_lines text) []
 
--- by line, then by kind
-abbrev pub IsNotAfter : AsmFault → AsmFault → Type 0
-IsNotAfter fault other = (fault.line < other.line) ⊎ ((fault.line ≡ other.line) × (fault.kind ≤ other.kind))
-
-pub record IsLeastFault (faults : List AsmFault) (fault : AsmFault) : Type 0 where
-  pub stands : Contains faults fault
-  pub least : All (IsNotAfter fault) faults
-
-abbrev pub IsFaultOf : List AsmFault → Stop AsmFault → Type 0
-IsFaultOf faults (stop.Fault fault) = IsLeastFault faults fault
-IsFaultOf faults stop.NoMemory = Unit {0}
-
--- what is told of one line
-abbrev pub IsFaultOn : ℕ → List ℕ → Stop AsmFault → Type 0
-IsFaultOn line kinds (stop.Fault fault) = (fault.line ≡ line) × IsLeastKind kinds fault.kind
-IsFaultOn line kinds stop.NoMemory = Unit {0}
-
-abbrev pub IsLineCode : List ℕ → List ℕ → Result (Option ℕ) ℕ → Type 0
-IsLineCode kinds words (Ok None) = (kinds ≡ []) × (words ≡ [])
-IsLineCode kinds words (Ok (Some word)) = (kinds ≡ []) × (words ≡ word ∷ [])
-IsLineCode kinds words (Err kind) = IsLeastKind kinds kind
+abbrev pub IsFaultOf : Result (List ℕ) AsmFault → Stop AsmFault → Type 0
+IsFaultOf assembled (stop.Fault fault) = assembled ≡ Err fault
+IsFaultOf assembled stop.NoMemory = Unit {0}

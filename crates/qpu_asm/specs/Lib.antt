@@ -3,6 +3,5 @@ pub mod Table
 pub mod Seen
 pub mod Lines
 pub mod Items
-pub mod Partial
 pub mod Assembly
 pub mod Printed

@@ -1,7 +1,5 @@
 -- Lines and words of a text.
 use Rattle.std.specs.Prelude.{ℕ, ◌-◌, ◌==◌, Bool, true, false, ◌&&◌, ◌||◌, List, [], ◌∷◌, filter, length, take, slice_index, if◌then◌else◌}
-use Rattle.std.specs.declared.option.Option.{Option}
-use Rattle.std.specs.declared.option.Option.TheVariants.{None, Some}
 use Rattle.std.specs.List.{slice_split, list_all}
 use Rattle.std.specs.Char.{is_ascii_alphabetic, is_ascii_digit}
 
@@ -9,29 +7,9 @@ unfoldable pub is_full : List ℕ → Bool
 is_full [] = false
 is_full (byte ∷ bytes) = true
 
--- a blank rest after the last line feed is no line
-unfoldable pub without_blank_rest : List (List ℕ) → List (List ℕ)
-without_blank_rest [] = []
-without_blank_rest (line ∷ []) = if is_full line then line ∷ [] else []
-without_blank_rest (line ∷ next ∷ lines) = line ∷ without_blank_rest (next ∷ lines)
-
--- lines end at line feeds; the last one may lack it
-unfoldable pub lines_of : List ℕ → List (List ℕ)
-lines_of text = without_blank_rest (slice_split (λ byte. byte == 10) text)
-
 -- words are parted by spaces
 unfoldable pub words_of : List ℕ → List (List ℕ)
 words_of line = filter is_full (slice_split (λ byte. byte == 32) line)
-
--- a list in two parts, cut at the first such byte, which is in neither
-pub record Cut : Type 0 where
-  pub first : List ℕ
-  pub rest : List ℕ
-
--- where no such byte is, all is the first part
-abbrev pub part_by : Option Cut → List ℕ → Cut
-part_by None bytes = record { first = bytes; rest = [] }
-part_by (Some cut) bytes = cut
 
 -- a name is a letter, and then letters, digits or `_`
 unfoldable pub is_name_byte : ℕ → Bool

@@ -2,11 +2,12 @@
 use Rattle.std.specs.Prelude.{ℕ, ◌≡◌, ◌<◌, ◌^◌, ◌==◌, List, [], ◌∷◌, ◌++◌, decimal, All, if◌then◌else◌}
 use Rattle.std.specs.declared.option.Option.{Option}
 use Rattle.std.specs.declared.option.Option.TheVariants.{None, Some}
+use Rattle.std.specs.declared.result.Result.TheVariants.{Ok}
 use Rattle.qpu_isa.specs.Word.{sig_of}
 use Rattle.qpu_isa.specs.Inst.{alu_of, load_imm_of, branch_of}
 use Rattle.qpu_isa.specs.Fields.{values_of, alu_values, load_imm_values, branch_values}
 use Rattle.qpu_asm.specs.Table.{Named, Row, Kind, widths_of, nop_word, nop_kind, alu_kind, load_imm_kind, branch_kind}
-use Rattle.qpu_asm.specs.Assembly.{AsmFaults, AsmWords}
+use Rattle.qpu_asm.specs.Assembly.{Assembled}
 
 unfoldable pub name_of : List Named → ℕ → Option (List ℕ)
 name_of [] value = None
@@ -53,7 +54,7 @@ AsmText (word ∷ words) = line_text word ++ AsmText words
 -- Assembling what was printed gives the same words.
 abbrev pub PrintedReturns : Type 0
 PrintedReturns =
-    (words : List ℕ) → All (λ word. word < 2 ^ 64) words → (AsmFaults (AsmText words) ≡ []) × (AsmWords (AsmText words) ≡ words)
+    (words : List ℕ) → All (λ word. word < 2 ^ 64) words → Assembled (AsmText words) ≡ Ok words
 
 -- What a row prints is the instruction's field of its place: the rows of a kind stand for the fields of its struct, in order. And
 -- `nop` stands for the word of an ALU instruction without items.

@@ -1,16 +1,13 @@
 -- The code's tables as the definitions' tables.
-use Rattle.std.specs.Prelude.{ℕ, List, [], ◌∷◌, map, if◌then◌else◌}
+use Rattle.std.specs.Prelude.{List, [], ◌∷◌, map, if◌then◌else◌}
 use Rattle.std.specs.Str.{bytes_eq}
-use Rattle.std.specs.declared.option.Option.{Option}
 use Rattle.std.specs.declared.option.Option.TheVariants.{None, Some}
-use Rattle.std.specs.declared.result.Result.{Result}
-use Rattle.std.specs.declared.result.Result.TheVariants.{Ok, Err}
-use Rattle.qpu_asm.specs.declared.lines.Cut.{Cut}
 use Rattle.qpu_asm.specs.declared.lines.Line.{Line}
 use Rattle.qpu_asm.specs.declared.lines.Line.TheVariants as line
 use Rattle.qpu_asm.specs.declared.label.Mark.{Mark}
 use Rattle.qpu_asm.specs.Lines as lines
-use Rattle.qpu_asm.specs.Items.{Spots, Read, Good, Bad}
+use Rattle.qpu_asm.specs.Items.{Spots}
+use Rattle.qpu_asm.specs.Assembly.{LabelSpot, spot_among}
 use Rattle.qpu_asm.specs.declared.table.Named.{Named}
 use Rattle.qpu_asm.specs.declared.table.Row.{Row}
 use Rattle.qpu_asm.specs.declared.table.Kind.{Kind}
@@ -35,26 +32,16 @@ rows_seen rows = map row_seen rows
 abbrev pub kind_seen : Kind → table.Kind
 kind_seen kind = record { opcode = kind.opcode.now; above = kind.above; rows = rows_seen kind.rows.now }
 
--- a list that was cut, and a line with its items in words
-abbrev pub cut_of : Cut → lines.Cut
-cut_of cut = record { first = cut.first.now; rest = cut.rest.now }
-
-abbrev pub cut_seen : Option Cut → Option lines.Cut
-cut_seen None = None
-cut_seen (Some cut) = Some (cut_of cut)
-
+-- a line with its items in words
 abbrev pub line_seen : Line → lines.Line
 line_seen line.Blank = lines.Blank
 line_seen (line.Label name) = lines.Label name.now
 line_seen line.BadLabel = lines.BadLabel
 line_seen (line.Coded cut) = lines.Coded cut.first.now (lines.words_of cut.rest.now)
 
--- a value, or the kind of a fault
-abbrev pub read_seen : Result ℕ ℕ → Read
-read_seen (Ok value) = Good value
-read_seen (Err kind) = Bad kind
+-- the labels of marks, and where the first one of a name stands
+abbrev pub mark_seen : Mark → LabelSpot
+mark_seen mark = record { name = mark.name.now; spot = mark.spot }
 
--- the place of the first mark with that name
-unfoldable pub spots_in : List Mark → Spots
-spots_in [] name = None
-spots_in (mark ∷ marks) name = if bytes_eq mark.name.now name then Some mark.spot else spots_in marks name
+abbrev pub spots_in : List Mark → Spots
+spots_in marks = spot_among (map mark_seen marks)

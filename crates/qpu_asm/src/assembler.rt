@@ -1,22 +1,25 @@
 //! A text as words.
-ghost use Rattle.std.specs.Prelude.{◌≡◌, ◌<◌, ◌+◌, ◌^◌, ◌++◌, List, ℕ, [], length, IfOk, IfErr, MatchResult, vec_len};
-ghost use Rattle.qpu_asm.specs.Assembly.{AsmFaults, AsmWords, line_kinds, line_words, is_before, IsFaultOf, IsFaultOn, IsLineCode, IsFirstBelow};
+ghost use Rattle.std.specs.Prelude.{◌≡◌, ◌<◌, ◌≤◌, ◌+◌, ◌^◌, Ok, length, IfOk, IfErr, vec_len};
+ghost use Rattle.field_words.specs.declared.stop.Stop.TheVariants.{Fault};
+ghost use Rattle.qpu_asm.specs.Assembly.{Assembled, line_words, is_before, IsFaultOf, fault_on as fault_by};
+ghost use Rattle.qpu_asm.specs.Marks.{IsFirstBelow};
 ghost use Rattle.qpu_asm.specs.Lines.{Label};
 ghost use Rattle.qpu_asm.specs.Seen.{line_seen, spots_in};
 
-use crate::fault::{AsmFault, LABEL_TWICE, UNKNOWN_WORD};
+use crate::fault::{AsmFault, Mistake};
 use crate::item::read_code;
 use crate::label::{Found, find_labels, find_spot};
-use crate::lines::{Line, next_line, read_line};
+use crate::lines::{Line, read_line};
 use field_words::Stop;
+use script::next_line;
 use std::alloc::Global;
 
 /// Assembles a text of lines into the words of its instructions. The fault is the first one: the least line that has one, and
 /// the least kind there. A label may stand before or after its use, so all labels are found first.
 pub fn assemble(alloc: Global, text: &[u8]) -> Result<Vec<u64>, Stop<AsmFault>>
     requires { length text.now < 2 ^ 32 }
-    ensures words { IfOk result (λ words. (AsmFaults text.now ≡ []) × (words.items ≡ AsmWords text.now)) }
-    ensures fault { IfErr result (IsFaultOf (AsmFaults text.now)) }
+    ensures words { IfOk result (λ words. Assembled text.now ≡ Ok words.items) }
+    ensures fault { IfErr result (IsFaultOf (Assembled text.now)) }
 {
     let found = find_labels(alloc, text)?;
     let mut words = Vec::new(alloc);
@@ -31,6 +34,8 @@ pub fn assemble(alloc: Global, text: &[u8]) -> Result<Vec<u64>, Stop<AsmFault>>
     Ok(words)
 }
 
+// Puts the word of an instruction's line to those of the lines above it.
+#[tactic(auto, unfolding(crate::specs::Assembly::line_words))]
 fn put_line<'a>(
     words: &mut Vec<u64>,
     found: &Found<'a>,
@@ -39,42 +44,35 @@ fn put_line<'a>(
 ) -> Result<(), Stop<AsmFault>>
     requires room { vec_len words.old < 2 ^ 32 }
     requires first { IsFirstBelow found.now.first_below (spots_in found.now.labels) number (line_seen line) }
-    ensures { MatchResult result (λ _. (line_kinds (spots_in found.now.labels) number (length words.old.items) (line_seen line.entry) ≡ []) × (words.new.items ≡ words.old.items ++ line_words (spots_in found.now.labels) (length words.old.items) (line_seen line.entry))) (IsFaultOn number (line_kinds (spots_in found.now.labels) number (length words.old.items) (line_seen line.entry))) }
+    ensures words { IfOk result (λ _. line_words (spots_in found.now.labels) number words.old.items (line_seen line.entry) ≡ Ok words.new.items) }
+    ensures fault { IfErr result (IsFaultOf (line_words (spots_in found.now.labels) number words.old.items (line_seen line.entry))) }
+    ensures more { IfOk result (λ _. vec_len words.new ≤ vec_len words.old + 1) }
 {
-    match line_code(found, line, number, words.len() as u32) {
-        Ok(Some(word)) => {
-            words.push(word)?;
+    match line {
+        Line::Blank => Ok(()),
+        Line::Label(name) => if stands_before(found, name, number) {
+            Err(fault_on(number, Mistake::LabelTwice))
+        } else {
             Ok(())
-        }
-        Ok(None) => Ok(()),
-        Err(kind) => Err(Stop::Fault(AsmFault { line: number, kind })),
+        },
+        Line::BadLabel => Err(fault_on(number, Mistake::UnknownWord)),
+        Line::Coded(code) => match read_code(&found.labels, words.len() as u32, code) {
+            Ok(word) => {
+                words.push(word)?;
+                Ok(())
+            }
+            Err(mistake) => Err(fault_on(number, mistake)),
+        },
     }
 }
 
-// The word of a line, if it is an instruction's, or the least kind of its faults.
-#[tactic(auto, unfolding(crate::specs::Assembly::line_kinds, crate::specs::Assembly::line_words))]
-fn line_code<'a>(
-    found: &Found<'a>,
-    line: Line<'a>,
-    number: u32,
-    index: u32,
-) -> Result<Option<u64>, u8>
-    requires { IsFirstBelow found.now.first_below (spots_in found.now.labels) number (line_seen line) }
-    ensures { IsLineCode (line_kinds (spots_in found.now.labels) number index (line_seen line.entry)) (line_words (spots_in found.now.labels) index (line_seen line.entry)) result }
+fn fault_on(line: u32, mistake: Mistake) -> Stop<AsmFault>
+    ensures { result ≡ Fault (fault_by line mistake) }
 {
-    match line {
-        Line::Blank => Ok(None),
-        Line::Label(name) => if stands_before(found, name, number) {
-            Err(LABEL_TWICE)
-        } else {
-            Ok(None)
-        },
-        Line::BadLabel => Err(UNKNOWN_WORD),
-        Line::Coded(code) => match read_code(&found.labels, index, code) {
-            Ok(word) => Ok(Some(word)),
-            Err(kind) => Err(kind),
-        },
-    }
+    Stop::Fault(AsmFault {
+        line,
+        kind: mistake.number(),
+    })
 }
 
 fn stands_before<'a>(found: &Found<'a>, name: &'a [u8], line: u32) -> bool

@@ -1,8 +1,8 @@
 //! Words as text.
-ghost use Rattle.std.specs.Prelude.{◌≡◌, ◌≤◌, ◌<◌, ◌+◌, ◌/◌, ◌%◌, ◌^◌, ◌∷◌, ◌++◌, [], true, map, MatchOption, OnOk, IfOk};
+ghost use Rattle.std.specs.Prelude.{◌≡◌, ◌≤◌, ◌<◌, ◌+◌, ◌/◌, ◌%◌, ◌^◌, ◌==◌, ◌∷◌, ◌++◌, [], true, map, MatchOption, OnOk, IfOk, if◌then◌else◌};
 ghost use Rattle.qpu_isa.specs.Fields.{width_of, values_of};
 ghost use Rattle.qpu_asm.specs.Table.{widths_of};
-ghost use Rattle.qpu_asm.specs.Partial.{are_ready, is_ready};
+ghost use Rattle.qpu_asm.specs.Items.{are_ready};
 ghost use Rattle.qpu_asm.specs.Printed.{name_of as name_in, value_text, item_text, item_texts, spaced, kind_of as kind_by, kind_text, line_text, AsmText, PrintedReturns, FieldsInOrder};
 ghost use Rattle.qpu_asm.specs.Seen.{named_seen, row_seen, rows_seen, kind_seen};
 
@@ -86,13 +86,20 @@ fn put_items(out: &mut Vec<u8>, rows: &[Row], width: u32, word: u64) -> Result<(
     let mut low = width;
     while let Some((row, later)) = rest.split_first() {
         low -= row.width;
-        let value = field_at(word, low, row.width);
-        if value != row.fallback {
-            put_item(out, row, value)?;
-        }
+        put_field(out, row, field_at(word, low, row.width))?;
         rest = later;
     }
     Ok(())
+}
+
+// An item, where its value isn't the default.
+fn put_field(out: &mut Vec<u8>, row: &Row, value: u64) -> Result<(), AllocError>
+    ensures { OnOk result (out.new.items ≡ out.old.items ++ (if value == row.now.fallback then [] else 32 ∷ item_text (row_seen row.now) value)) }
+{
+    if value == row.fallback {
+        return Ok(());
+    }
+    put_item(out, row, value)
 }
 
 #[tactic(auto, unfolding(crate::specs::Printed::item_text))]

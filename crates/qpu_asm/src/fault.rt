@@ -1,17 +1,58 @@
 //! What a text is refused for.
+ghost use Rattle.std.specs.Prelude.{◌≡◌};
+ghost use Rattle.qpu_asm.specs.Items.{mistake_number};
 
 use thiserror::Error;
 
-/// The first word or an item's name is unknown, an item lacks `=`, `nop` has items, or a label's line is malformed.
-pub const UNKNOWN_WORD: u8 = 1;
-/// A value is no number or name, an item is repeated or out of order, or `imm` and `to` stand together.
-pub const BAD_OPERAND: u8 = 2;
-/// A number is over its field.
-pub const OUT_OF_RANGE: u8 = 3;
-/// `to` names no label of the text.
-pub const UNKNOWN_LABEL: u8 = 4;
-/// A label was defined on an earlier line.
-pub const LABEL_TWICE: u8 = 5;
+/// What is wrong on a line.
+#[derive(Clone, Copy, Debug, PartialEq, Eq)]
+pub enum Mistake {
+    /// The first word or an item's name is unknown, an item lacks `=`, `nop` has items, or a label's line is malformed.
+    UnknownWord,
+    /// A value is no number or name, an item is repeated or out of order, or `imm` and `to` stand together.
+    BadOperand,
+    /// A number is over its field.
+    OutOfRange,
+    /// `to` names no label of the text.
+    UnknownLabel,
+    /// A label was defined on an earlier line.
+    LabelTwice,
+}
+
+impl Mistake {
+    /// The kind's number.
+    pub fn number(self) -> u8
+        ensures { result ≡ mistake_number self }
+    {
+        match self {
+            Mistake::UnknownWord => 1,
+            Mistake::BadOperand => 2,
+            Mistake::OutOfRange => 3,
+            Mistake::UnknownLabel => 4,
+            Mistake::LabelTwice => 5,
+        }
+    }
+
+    /// The kind as a sentence.
+    pub fn sentence(self) -> &'static str {
+        match self {
+            Mistake::UnknownWord => "a word or an item's name is unknown",
+            Mistake::BadOperand =>
+                "a value is no number or name, or an item is repeated or out of order",
+            Mistake::OutOfRange => "a number is over its field",
+            Mistake::UnknownLabel => "a label isn't defined",
+            Mistake::LabelTwice => "a label is defined twice",
+        }
+    }
+}
+
+const MISTAKES: [Mistake; 5] = [
+    Mistake::UnknownWord,
+    Mistake::BadOperand,
+    Mistake::OutOfRange,
+    Mistake::UnknownLabel,
+    Mistake::LabelTwice,
+];
 
 /// The first fault of an assembler's text: the least line that has one, counted from 1, and the least kind there.
 #[derive(Clone, Copy, Debug, PartialEq, Eq, Error)]
@@ -24,13 +65,11 @@ pub struct AsmFault {
 impl AsmFault {
     /// The kind as a sentence.
     pub fn sentence(&self) -> &'static str {
-        match self.kind {
-            UNKNOWN_WORD => "a word or an item's name is unknown",
-            BAD_OPERAND => "a value is no number or name, or an item is repeated or out of order",
-            OUT_OF_RANGE => "a number is over its field",
-            UNKNOWN_LABEL => "a label isn't defined",
-            LABEL_TWICE => "a label is defined twice",
-            _ => "no kind has this number",
+        for mistake in MISTAKES {
+            if mistake.number() == self.kind {
+                return mistake.sentence();
+            }
         }
+        "no kind has this number"
     }
 }

@@ -1,36 +1,49 @@
 //! The items of an instruction, and their values.
-ghost use Rattle.std.specs.Prelude.{◌≡◌, ◌≤◌, ◌<◌, ◌*◌, ◌+◌, ◌^◌, ◌∷◌, List, ℕ, true, map, MatchOption, MatchResult, IfOk, Some, None, if◌then◌else◌};
+ghost use Rattle.std.specs.Prelude.{◌≡◌, ◌≤◌, ◌<◌, ◌*◌, ◌+◌, ◌^◌, ◌∷◌, true, map, MatchOption, IfOk, Some, None, if◌then◌else◌};
 ghost use Rattle.qpu_isa.specs.Fields.{joined};
-ghost use Rattle.qpu_asm.specs.Table.{widths_of, fallbacks_of, Row as RowSeen};
-ghost use Rattle.qpu_asm.specs.Items.{Read, find_named, read_number as number_read, read_plain as plain_read, distance as distance_by, read_target as target_read, read_value as value_read, is_row as row_test, has_row as row_among, skip_to as skipped, named_reads, item_reads, cut_at as cut, kind_code, kind_named as kind_by, code_of};
+ghost use Rattle.qpu_asm.specs.Table.{widths_of, fallbacks_of};
+ghost use Rattle.qpu_asm.specs.Items.{least_of as least_by, find_named, read_number as number_read, read_plain as plain_read, distance as distance_by, read_target as target_read, read_value as value_read, is_row as row_test, has_row as row_among, with_fault as faulted, with_value as valued, skip_to as skipped, read_named as named_read, read_item as item_read, closed_word as word_by, kind_code, kind_named as kind_by, code_of, is_ready, IsOpen};
+ghost use Rattle.qpu_asm.specs.declared.fault.Mistake.TheVariants.{BadOperand, UnknownWord};
 ghost use Rattle.qpu_asm.specs.Lines.{words_of};
-ghost use Rattle.qpu_asm.specs.Partial.{GoesOn, IsOpen, IsCodeOf, least_in};
-ghost use Rattle.qpu_asm.specs.Seen.{named_seen, row_seen, rows_seen, kind_seen, cut_of, read_seen, spots_in};
+ghost use Rattle.qpu_asm.specs.Seen.{named_seen, row_seen, rows_seen, kind_seen, spots_in};
 
-use crate::fault::{BAD_OPERAND, OUT_OF_RANGE, UNKNOWN_LABEL, UNKNOWN_WORD};
+use crate::fault::Mistake;
 use crate::label::{Labels, find_spot};
-use crate::lines::{Cut, cut_at, next_word};
+use crate::lines::next_word;
 use crate::names::is_name;
 use crate::table::{Kind, Named, Row, alu, branch, load_imm, nop};
-use script::{is_number, number_up_to};
+use script::{Cut, cut_at, is_number, number_up_to};
+use std::marker::Model;
 
 /// An instruction whose items have been read in part: the word's fields so far, the rows that may still come, and the
-/// least kind of a fault so far.
-#[derive(Clone, Copy)]
+/// least fault so far.
+#[derive(Drop)]
 pub struct Partial {
-    pub word: u64,
-    pub rows: &'static [Row],
-    pub fault: Option<u8>,
+    word: u64,
+    rows: &'static [Row],
+    fault: Option<Mistake>,
 }
 
-/// The word of an instruction, or the least kind of its faults.
+impl Model for Partial {
+    ghost use Rattle.qpu_asm.specs.Items.{Partial, IsOpen};
+
+    ghost Value = { Partial };
+
+    ghost use Rattle.qpu_asm.specs.Seen.{rows_seen};
+
+    ghost view = { λ p. record { word = p.word; rows = rows_seen p.rows.now; fault = p.fault } };
+
+    ghost invariant = { λ p. IsOpen p.word (rows_seen p.rows.now) };
+}
+
+/// The word of an instruction, or the least of its faults.
 #[tactic(auto, unfolding(crate::specs::Items::code_of))]
-pub fn read_code<'a>(labels: &Labels<'a>, index: u32, code: Cut<'a>) -> Result<u64, u8>
-    ensures { IsCodeOf (code_of (spots_in labels.now) index code.entry.first.now (words_of code.entry.rest.now)) result }
+pub fn read_code<'a>(labels: &Labels<'a>, index: u32, code: Cut<'a>) -> Result<u64, Mistake>
+    ensures { result ≡ code_of (spots_in labels.now) index code.entry.first.now (words_of code.entry.rest.now) }
 {
     match kind_named(code.first) {
         Some(kind) => read_items(labels, index, kind, code.rest),
-        None => Err(UNKNOWN_WORD),
+        None => Err(Mistake::UnknownWord),
     }
 }
 
@@ -51,9 +64,14 @@ fn kind_named(word: &[u8]) -> Option<Kind>
     }
 }
 
-fn read_items<'a>(labels: &Labels<'a>, index: u32, kind: Kind, items: &'a [u8]) -> Result<u64, u8>
+fn read_items<'a>(
+    labels: &Labels<'a>,
+    index: u32,
+    kind: Kind,
+    items: &'a [u8],
+) -> Result<u64, Mistake>
     requires { IsOpen kind.above (rows_seen kind.rows.now) }
-    ensures { IsCodeOf (kind_code (spots_in labels.now) index (words_of items.now) (kind_seen kind)) result }
+    ensures { result ≡ kind_code (spots_in labels.now) index (words_of items.now) (kind_seen kind) }
 {
     let mut rest = items;
     let mut partial = Partial {
@@ -65,16 +83,16 @@ fn read_items<'a>(labels: &Labels<'a>, index: u32, kind: Kind, items: &'a [u8]) 
         partial = put_item(labels, index, kind.rows, partial, cut.first);
         rest = cut.rest;
     }
-    close(partial)
+    closed_word(partial)
 }
 
 // The rows that are left have their defaults.
-fn close(partial: Partial) -> Result<u64, u8>
-    requires { IsOpen partial.word (rows_seen partial.rows.now) }
-    ensures { MatchResult result (λ word. (partial.fault ≡ None) × (word ≡ joined partial.word (widths_of (rows_seen partial.rows.now)) (fallbacks_of (rows_seen partial.rows.now)))) (λ kind. partial.fault ≡ Some kind) }
+#[tactic(auto, unfolding(crate::specs::Items::closed_word))]
+fn closed_word(partial: Partial) -> Result<u64, Mistake>
+    ensures { result ≡ word_by partial }
 {
     match partial.fault {
-        Some(kind) => Err(kind),
+        Some(mistake) => Err(mistake),
         None => Ok(with_defaults(partial.word, partial.rows)),
     }
 }
@@ -103,6 +121,7 @@ fn append(word: u64, width: u32, value: u64) -> u64
     word * (1 << width) + value
 }
 
+#[tactic(auto, unfolding(crate::specs::Items::read_item))]
 fn put_item<'a>(
     labels: &Labels<'a>,
     index: u32,
@@ -110,33 +129,41 @@ fn put_item<'a>(
     partial: Partial,
     item: &'a [u8],
 ) -> Partial
-    requires { IsOpen partial.word (rows_seen partial.rows.now) }
-    ensures still { IsOpen result.word (rows_seen result.rows.now) }
-    ensures on { (later : List RowSeen → List Read) → GoesOn partial.fault partial.word (widths_of (rows_seen partial.rows.now)) (item_reads (spots_in labels.now) index (rows_seen all.now) later (rows_seen partial.rows.now) (cut 61 item.now)) result.fault result.word (widths_of (rows_seen result.rows.now)) (later (rows_seen result.rows.now)) }
+    ensures { result ≡ item_read (spots_in labels.now) index (rows_seen all.now) partial item.now }
 {
-    match cut_at(item, b'=') {
-        Some(cut) => put_named(labels, index, all, partial, cut),
-        None => with_fault(partial, 1),
+    let cut = cut_at(item, b'=');
+    if cut.first.len() < item.len() {
+        put_named(labels, index, all, partial, cut)
+    } else {
+        with_fault(partial, Mistake::UnknownWord)
     }
 }
 
 // Another fault, where nothing of the word goes on.
-fn with_fault(partial: Partial, kind: u8) -> Partial
-    ensures word { result.word ≡ partial.word }
-    ensures rows { result.rows.now ≡ partial.rows.now }
-    ensures fault { result.fault ≡ Some (least_in kind partial.fault) }
+fn with_fault(partial: Partial, mistake: Mistake) -> Partial
+    ensures { result ≡ faulted mistake partial }
 {
-    let least = match partial.fault {
-        Some(other) => kind.min(other),
-        None => kind,
-    };
     Partial {
         word: partial.word,
         rows: partial.rows,
-        fault: Some(least),
+        fault: Some(least_of(mistake, partial.fault)),
     }
 }
 
+fn least_of(mistake: Mistake, fault: Option<Mistake>) -> Mistake
+    ensures { result ≡ least_by mistake fault }
+{
+    match fault {
+        Some(other) => if mistake.number() <= other.number() {
+            mistake
+        } else {
+            other
+        },
+        None => mistake,
+    }
+}
+
+#[tactic(auto, unfolding(crate::specs::Items::read_named))]
 fn put_named<'a>(
     labels: &Labels<'a>,
     index: u32,
@@ -144,41 +171,49 @@ fn put_named<'a>(
     partial: Partial,
     cut: Cut<'a>,
 ) -> Partial
-    requires { IsOpen partial.word (rows_seen partial.rows.now) }
-    ensures still { IsOpen result.word (rows_seen result.rows.now) }
-    ensures on { (later : List RowSeen → List Read) → GoesOn partial.fault partial.word (widths_of (rows_seen partial.rows.now)) (named_reads (spots_in labels.now) index (rows_seen all.now) later (rows_seen partial.rows.now) (cut_of cut.entry)) result.fault result.word (widths_of (rows_seen result.rows.now)) (later (rows_seen result.rows.now)) }
+    ensures { result ≡ named_read (spots_in labels.now) index (rows_seen all.now) partial cut.entry.first.now cut.entry.rest.now }
 {
     if has_row(cut.first, partial.rows) {
-        return skip_to(labels, index, partial, cut);
+        return skip_to(
+            labels,
+            index,
+            partial.fault,
+            partial.word,
+            partial.rows,
+            cut,
+        );
     }
-    with_fault(partial, kind_of_name(cut.first, all))
+    with_fault(partial, mistake_of(cut.first, all))
 }
 
 // A name that the kind of instruction has is repeated or out of order; another is unknown.
-fn kind_of_name(name: &[u8], all: &[Row]) -> u8
-    ensures { result ≡ (if row_among name.now (rows_seen all.now) then 2 else 1) }
+fn mistake_of(name: &[u8], all: &[Row]) -> Mistake
+    ensures { result ≡ (if row_among name.now (rows_seen all.now) then BadOperand else UnknownWord) }
 {
-    if has_row(name, all) { 2 } else { 1 }
+    if has_row(name, all) {
+        Mistake::BadOperand
+    } else {
+        Mistake::UnknownWord
+    }
 }
 
 #[tactic(auto, using(crate::proofs::Reading::default_narrow))]
-fn skip_to<'a>(labels: &Labels<'a>, index: u32, partial: Partial, cut: Cut<'a>) -> Partial
-    requires still { IsOpen partial.word (rows_seen partial.rows.now) }
-    requires has { row_among cut.first.now (rows_seen partial.rows.now) ≡ true }
-    ensures still { IsOpen result.word (rows_seen result.rows.now) }
-    ensures on { (later : List RowSeen → List Read) → GoesOn partial.fault partial.word (widths_of (rows_seen partial.rows.now)) (skipped cut.entry.first.now (value_read (spots_in labels.now) index (cut_of cut.entry)) later (rows_seen partial.rows.now)) result.fault result.word (widths_of (rows_seen result.rows.now)) (later (rows_seen result.rows.now)) }
+fn skip_to<'a>(
+    labels: &Labels<'a>,
+    index: u32,
+    fault: Option<Mistake>,
+    word: u64,
+    rows: &'static [Row],
+    cut: Cut<'a>,
+) -> Partial
+    requires { IsOpen word (rows_seen rows.now) }
+    ensures { result ≡ skipped cut.entry.first.now (value_read (spots_in labels.now) index cut.entry.first.now cut.entry.rest.now) fault word (rows_seen rows.now) }
 {
-    let mut rest = partial.rows;
-    let mut word = partial.word;
+    let mut rest = rows;
+    let mut word = word;
     while let Some((row, later)) = rest.split_first() {
         if is_row(cut.first, row) {
-            return put_read(
-                partial.fault,
-                word,
-                row,
-                later,
-                read_value(labels, index, cut, row),
-            );
+            return with_value(fault, word, row, later, read_value(labels, index, cut, row));
         }
         word = append(word, row.width, row.fallback);
         rest = later;
@@ -186,38 +221,49 @@ fn skip_to<'a>(labels: &Labels<'a>, index: u32, partial: Partial, cut: Cut<'a>) 
     Partial {
         word,
         rows: rest,
-        fault: partial.fault,
+        fault,
     }
 }
 
-// The row's value, or its fault; with a fault the word is not used any more.
-fn put_read(
-    fault: Option<u8>,
+// The row's value, or its fault and the default.
+fn with_value(
+    fault: Option<Mistake>,
     word: u64,
     row: &Row,
     later: &'static [Row],
-    read: Result<u64, u8>,
+    read: Result<u64, Mistake>,
 ) -> Partial
     requires still { IsOpen word (row_seen row.now ∷ rows_seen later.now) }
     requires small { IfOk read (λ value. value < 2 ^ row.now.width) }
-    ensures still { IsOpen result.word (rows_seen result.rows.now) }
-    ensures rows { result.rows.now ≡ later.now }
-    ensures on { (reads : List Read) → GoesOn fault word (row.now.width ∷ widths_of (rows_seen later.now)) (read_seen read ∷ reads) result.fault result.word (widths_of (rows_seen later.now)) reads }
+    ensures { result ≡ valued (row_seen row.now) (record { word = word; rows = rows_seen later.now; fault = fault }) read }
 {
     match read {
-        Ok(value) => Partial {
-            word: append(word, row.width, value),
-            rows: later,
-            fault,
-        },
-        Err(kind) => with_fault(
-            Partial {
-                word: append(word, row.width, 0),
-                rows: later,
-                fault,
-            },
-            kind,
+        Ok(value) => with_field(fault, word, row, later, value),
+        Err(mistake) => with_field(
+            Some(least_of(mistake, fault)),
+            word,
+            row,
+            later,
+            row.fallback,
         ),
+    }
+}
+
+fn with_field(
+    fault: Option<Mistake>,
+    word: u64,
+    row: &Row,
+    later: &'static [Row],
+    value: u64,
+) -> Partial
+    requires still { IsOpen word (row_seen row.now ∷ rows_seen later.now) }
+    requires small { value < 2 ^ row.now.width }
+    ensures { result ≡ record { word = word * 2 ^ row.now.width + value; rows = rows_seen later.now; fault = fault } }
+{
+    Partial {
+        word: append(word, row.width, value),
+        rows: later,
+        fault,
     }
 }
 
@@ -243,9 +289,9 @@ fn is_row(name: &[u8], row: &Row) -> bool
 }
 
 #[tactic(auto, unfolding(crate::specs::Items::read_value))]
-fn read_value<'a>(labels: &Labels<'a>, index: u32, cut: Cut<'a>, row: &Row) -> Result<u64, u8>
+fn read_value<'a>(labels: &Labels<'a>, index: u32, cut: Cut<'a>, row: &Row) -> Result<u64, Mistake>
     requires { row.now.below ≤ 2 ^ 32 }
-    ensures { read_seen result ≡ value_read (spots_in labels.now) index (cut_of cut.entry) (row_seen row.now) }
+    ensures { result ≡ value_read (spots_in labels.now) index cut.entry.first.now cut.entry.rest.now (row_seen row.now) }
 {
     if row.name == cut.first {
         read_plain(row, cut.rest)
@@ -255,15 +301,15 @@ fn read_value<'a>(labels: &Labels<'a>, index: u32, cut: Cut<'a>, row: &Row) -> R
 }
 
 #[tactic(auto, unfolding(crate::specs::Items::read_target))]
-fn read_target<'a>(labels: &Labels<'a>, index: u32, text: &'a [u8]) -> Result<u64, u8>
-    ensures { read_seen result ≡ target_read (spots_in labels.now) index text.now }
+fn read_target<'a>(labels: &Labels<'a>, index: u32, text: &'a [u8]) -> Result<u64, Mistake>
+    ensures { result ≡ target_read (spots_in labels.now) index text.now }
 {
     if !is_name(text) {
-        return Err(BAD_OPERAND);
+        return Err(Mistake::BadOperand);
     }
     match find_spot(labels, text) {
         Some(spot) => Ok(distance(index, spot.index)),
-        None => Err(UNKNOWN_LABEL),
+        None => Err(Mistake::UnknownLabel),
     }
 }
 
@@ -277,9 +323,9 @@ fn distance(index: u32, target: u32) -> u64
 }
 
 #[tactic(auto, unfolding(crate::specs::Items::read_plain))]
-fn read_plain(row: &Row, text: &[u8]) -> Result<u64, u8>
+fn read_plain(row: &Row, text: &[u8]) -> Result<u64, Mistake>
     requires { row.now.below ≤ 2 ^ 32 }
-    ensures { read_seen result ≡ plain_read (row_seen row.now) text.now }
+    ensures { result ≡ plain_read (row_seen row.now) text.now }
 {
     match named_value(row.named, text) {
         Some(value) => Ok(value),
@@ -302,17 +348,17 @@ fn named_value(named: &[Named], text: &[u8]) -> Option<u64>
 }
 
 #[tactic(auto, unfolding(crate::specs::Items::read_number))]
-fn read_number(text: &[u8], below: u64) -> Result<u64, u8>
+fn read_number(text: &[u8], below: u64) -> Result<u64, Mistake>
     requires { below ≤ 2 ^ 32 }
-    ensures { read_seen result ≡ number_read below text.now }
+    ensures { result ≡ number_read below text.now }
 {
     if !is_number(text) {
-        return Err(BAD_OPERAND);
+        return Err(Mistake::BadOperand);
     }
     let value = number_up_to(text, u128::from(below));
     if value < u128::from(below) {
         Ok(value as u64)
     } else {
-        Err(OUT_OF_RANGE)
+        Err(Mistake::OutOfRange)
     }
 }

@@ -1,13 +1,13 @@
 //! The labels of a text: a mark for each line that defines one, sorted by name.
-ghost use Rattle.std.specs.Prelude.{◌≡◌, ◌<◌, ◌≤◌, ◌+◌, ◌^◌, List, ℕ, length, min, IfOk, OnOk, IsSorted, Some, None, bytes_eq, if◌then◌else◌};
+ghost use Rattle.std.specs.Prelude.{◌≡◌, ◌<◌, ◌≤◌, ◌^◌, ◌++◌, length, map, min, IfOk, OnOk, IsSorted, Some, None, bytes_eq, if◌then◌else◌};
 ghost use Rattle.std.specs.Cmp.Lexicographic.{slice_cmp};
 ghost use Rattle.std.specs.Ordering.{nat_cmp, is_lt};
-ghost use Rattle.qpu_asm.specs.Assembly.{spots_of, read_lines, size_of, AreFirstBelow};
-ghost use Rattle.qpu_asm.specs.Lines.{Label};
-ghost use Rattle.qpu_asm.specs.Marks.{mark_cmp, AreRanked, AreMarked, AddsLine, BoundsRepeats, IsStart};
-ghost use Rattle.qpu_asm.specs.Seen.{line_seen, spots_in};
+ghost use Rattle.qpu_asm.specs.Assembly.{spots_of, labels_of, label_on, read_lines, size_of};
+ghost use Rattle.qpu_asm.specs.Marks.{mark_cmp, AreFirstBelow, BoundsRepeats, IsStart};
+ghost use Rattle.qpu_asm.specs.Seen.{line_seen, mark_seen, spots_in};
 
-use crate::lines::{Line, next_line, read_line};
+use crate::lines::{Line, read_line};
+use script::next_line;
 use std::alloc::{AllocError, Global};
 use std::marker::Model;
 
@@ -82,9 +82,7 @@ fn colons(text: &[u8]) -> usize
 // The marks of a text, line after line.
 fn marks_of(alloc: Global, text: &[u8]) -> Result<Vec<Mark<'_>>, AllocError>
     requires { length text.now < 2 ^ 32 }
-    ensures spots { IfOk result (λ marks. spots_in marks.items ≡ spots_of text.now) }
-    ensures ranked { IfOk result (λ marks. AreRanked marks.items) }
-    ensures marked { IfOk result (λ marks. AreMarked marks.items 1 (read_lines text.now)) }
+    ensures { IfOk result (λ marks. map mark_seen marks.items ≡ labels_of text.now) }
 {
     let mut marks = Vec::with_capacity(alloc, colons(text))?;
     let mut rest = text;
@@ -119,20 +117,17 @@ fn size(line: Line<'_>) -> u64
 }
 
 // Puts a label's line to the marks of the lines above it.
+#[tactic(auto, using(crate::proofs::Sorting::seen_push))]
 fn add_line<'a>(marks: &mut Vec<Mark<'a>>, line: Line<'a>, spot: Spot) -> Result<(), AllocError>
-    ensures { OnOk result (AddsLine marks.old.items marks.new.items (line_seen line.entry) spot) }
+    ensures { OnOk result (map mark_seen marks.new.items ≡ map mark_seen marks.old.items ++ label_on spot.line spot.index (line_seen line.entry)) }
 {
     match line {
-        Line::Label(name) => add_label(marks, name, spot),
-        _ => Ok(()),
+        Line::Label(name) => {
+            marks.push(Mark { name, spot })?;
+            Ok(())
+        }
+        Line::Blank | Line::BadLabel | Line::Coded(_) => Ok(()),
     }
-}
-
-fn add_label<'a>(marks: &mut Vec<Mark<'a>>, name: &'a [u8], spot: Spot) -> Result<(), AllocError>
-    ensures { OnOk result (AddsLine marks.old.items marks.new.items (Label name.now) spot) }
-{
-    marks.push(Mark { name, spot })?;
-    Ok(())
 }
 
 // Two marks have one name.

@@ -15,7 +15,7 @@ mod table;
 
 pub use assembler::assemble;
 pub use disassembler::{disassemble, fields_in_order, printed_returns};
-pub use fault::{AsmFault, BAD_OPERAND, LABEL_TWICE, OUT_OF_RANGE, UNKNOWN_LABEL, UNKNOWN_WORD};
+pub use fault::{AsmFault, Mistake};
 
 #[cfg(test)]
 mod tests;

@@ -1,17 +1,10 @@
 //! Lines and words of a text.
 ghost use Rattle.std.specs.Prelude.{◌≡◌, ◌<◌, ◌≤◌, ◌+◌, ◌∷◌, [], length, MatchOption, IfSome, IsTrue, slice_index, ◌≢◌};
-ghost use Rattle.qpu_asm.specs.Lines.{lines_of, words_of, label_line, line_of, is_alone, part_by, is_comment as comment_test, ends_label as label_test, read_line as line_read};
-ghost use Rattle.qpu_asm.specs.Items.{cut_at as cut};
-ghost use Rattle.qpu_asm.specs.Seen.{cut_of, cut_seen, line_seen};
+ghost use Rattle.qpu_asm.specs.Lines.{words_of, label_line, line_of, is_alone, is_comment as comment_test, ends_label as label_test, read_line as line_read};
+ghost use Rattle.qpu_asm.specs.Seen.{line_seen};
 
 use crate::names::is_name;
-
-/// A list in two parts.
-#[derive(Clone, Copy)]
-pub struct Cut<'a> {
-    pub first: &'a [u8],
-    pub rest: &'a [u8],
-}
+use script::{Cut, cut_at};
 
 /// What a line is. An instruction's items are still in one piece.
 #[derive(Clone, Copy)]
@@ -20,46 +13,6 @@ pub enum Line<'a> {
     Label(&'a [u8]),
     BadLabel,
     Coded(Cut<'a>),
-}
-
-/// The parts before and after the first such byte, where there is one.
-pub fn cut_at(bytes: &[u8], byte: u8) -> Option<Cut<'_>>
-    ensures cut { cut_seen result ≡ cut byte bytes.now }
-    ensures shorter { IfSome result (λ parts. length parts.rest.now < length bytes.now) }
-{
-    for (at, other) in bytes.iter().enumerate() {
-        if *other == byte {
-            return Some(Cut {
-                first: &bytes[..at],
-                rest: &bytes[at + 1..],
-            });
-        }
-    }
-    None
-}
-
-// The parts before and after the first such byte, or all and nothing.
-fn first_part(bytes: &[u8], byte: u8) -> Cut<'_>
-    requires { 0 < length bytes.now }
-    ensures part { cut_of result ≡ part_by (cut byte bytes.now) bytes.now }
-    ensures shorter { length result.rest.now < length bytes.now }
-{
-    match cut_at(bytes, byte) {
-        Some(cut) => cut,
-        None => Cut {
-            first: bytes,
-            rest: &[],
-        },
-    }
-}
-
-/// The first line of a text that isn't empty, and the lines after it.
-pub fn next_line(text: &[u8]) -> Cut<'_>
-    requires { 0 < length text.now }
-    ensures lines { lines_of text.now ≡ result.first.now ∷ lines_of result.rest.now }
-    ensures shorter { length result.rest.now < length text.now }
-{
-    first_part(text, b'\n')
 }
 
 /// The first word of a line, and what comes after it, where there is a word.
@@ -71,7 +24,7 @@ pub fn next_word(line: &[u8]) -> Option<Cut<'_>>
     if line.is_empty() {
         None
     } else {
-        Some(first_part(line, b' '))
+        Some(cut_at(line, b' '))
     }
 }
 

@@ -1,11 +1,11 @@
 -- What `asm` and `disasm` answer to all of their input.
-use Rattle.std.specs.Prelude.{◌≡◌, ◌≢◌, ◌⊎◌, ℕ, ◌%◌, List, [], ◌++◌, codes, length}
+use Rattle.std.specs.Prelude.{◌≡◌, ◌≢◌, ◌⊎◌, ℕ, ◌%◌, List, ◌++◌, Ok, Err, codes, length}
 use Rattle.std.specs.List.{flat_map}
 use Rattle.std.specs.Fmt.{decimal}
 use Rattle.std.specs.Int.{to_le_bytes, w64}
 use Rattle.job_check.specs.Shaders.{words_of}
 use Rattle.qpu_asm.specs.declared.fault.AsmFault.{AsmFault}
-use Rattle.qpu_asm.specs.Assembly.{AsmFaults, AsmWords, IsLeastFault}
+use Rattle.qpu_asm.specs.Assembly.{Assembled}
 use Rattle.qpu_asm.specs.Printed.{AsmText}
 
 -- words as bytes, 8 each, the lowest first
@@ -23,8 +23,8 @@ length_text n = codes "length " ++ (decimal n ++ codes "\n")
 -- A text without faults is answered with its words, any other with its first fault.
 abbrev pub IsAsmAnswer : List ℕ → ℕ → List ℕ → Type 0
 IsAsmAnswer text status out =
-    ((AsmFaults text ≡ []) × (status ≡ 0) × (out ≡ bytes_of (AsmWords text)))
-    ⊎ ((fault : AsmFault) × IsLeastFault (AsmFaults text) fault × (status ≡ 1) × (out ≡ fault_text fault))
+    ((words : List ℕ) × (Assembled text ≡ Ok words) × (status ≡ 0) × (out ≡ bytes_of words))
+    ⊎ ((fault : AsmFault) × (Assembled text ≡ Err fault) × (status ≡ 1) × (out ≡ fault_text fault))
 
 -- Whole words are answered with their text, any other length by naming it.
 abbrev pub IsDisasmAnswer : List ℕ → ℕ → List ℕ → Type 0

@@ -1,7 +1,7 @@
 use Rattle.std.proofs.Common.{◌≡◌, ◌≤◌, ◌++◌, length, true}
 use Rattle.qpu_isa.specs.Fields.{width_of, values_of}
 use Rattle.qpu_asm.specs.Table.{widths_of}
-use Rattle.qpu_asm.specs.Partial.{are_ready}
+use Rattle.qpu_asm.specs.Items.{are_ready}
 use Rattle.qpu_asm.specs.Printed.{spaced, item_texts}
 use Rattle.qpu_asm.specs.Seen.{rows_seen}
 use Rattle.qpu_asm.proofs.disassembler.put_items.Given as goal

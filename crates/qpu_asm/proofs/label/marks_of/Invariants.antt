@@ -1,18 +1,13 @@
-use Rattle.std.proofs.Common.{◌≡◌, ◌≤◌, ◌+◌, List, ℕ, length, Contains}
-use Rattle.qpu_asm.specs.declared.label.Mark.{Mark}
-use Rattle.qpu_asm.specs.Assembly.{spot_from, read_lines, spots_of, either_spot}
-use Rattle.qpu_asm.specs.Marks.{AreRanked, AreAbove, AreMarked}
-use Rattle.qpu_asm.specs.Seen.{spots_in}
+use Rattle.std.proofs.Common.{◌≡◌, ◌≤◌, ◌+◌, ◌++◌, length, map}
+use Rattle.qpu_asm.specs.Assembly.{labels_from, labels_of, read_lines}
+use Rattle.qpu_asm.specs.Seen.{mark_seen}
 use Rattle.qpu_asm.proofs.label.marks_of.Given as goal
 
 abbrev pub invariant-loop-rest : goal.invariant-loop-rest
 invariant-loop-rest l = record {
   lines : l.line + length l.rest ≤ length l.fn.text + 1;
   indexes : l.index + 1 ≤ l.line;
-  spots : (name : List ℕ) → either_spot (spots_in l.marks.items name) (spot_from (read_lines l.rest) l.line l.index name) ≡ spots_of l.fn.text name;
-  ranked : AreRanked l.marks.items;
-  above : AreAbove l.line l.marks.items;
-  marked : (all : List Mark) → ((mark : Mark) → Contains l.marks.items mark → Contains all mark) → AreMarked all l.line (read_lines l.rest) → AreMarked all 1 (read_lines l.fn.text);
+  same : map mark_seen l.marks.items ++ labels_from l.line l.index (read_lines l.rest) ≡ labels_of l.fn.text;
 }
 
 abbrev pub decreases-loop-rest : goal.decreases-loop-rest

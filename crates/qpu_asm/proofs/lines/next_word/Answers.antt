@@ -1,6 +1,5 @@
-use Rattle.std.proofs.Common.{sym, ◌∙◌, arith, ◌<◌, length}
+use Rattle.std.proofs.Common.{sym, ◌∙◌, arith}
 use Rattle.std.proofs.lemmas.Bool.Decides.{nat_tests}
-use Rattle.qpu_asm.specs.Seen.{cut_of}
 use Rattle.qpu_asm.proofs.Words.{word_first, words_empty}
 use Rattle.qpu_asm.proofs.lines.next_word.Goals as goal
 
@@ -11,6 +10,6 @@ returns-then-is_empty-clause-words c =
 
 pub returns-else-is_empty-clause-words : goal.returns-else-is_empty-clause-words
 returns-else-is_empty-clause-words c =
-    let some : 0 < length c.without_spaces-line.result.now = grind (arith, nat_tests, c.is_empty.ensures, c.if-is_empty.false) in
     sym c.without_spaces-line.ensures.words
-    ∙ word_first c.without_spaces-line.result.now (cut_of c.first_part.result) some c.without_spaces-line.ensures.first c.first_part.ensures.part
+    ∙ word_first c.without_spaces-line.result.now _ _ (grind (arith, nat_tests, c.is_empty.ensures, c.if-is_empty.false)) c.without_spaces-line.ensures.first
+    c.cut_at.ensures.first c.cut_at.ensures.rest
