@@ -9,7 +9,8 @@ use Rattle.field_words.proofs.Nones.{front_none, rest_none, none_answered}
 use Rattle.tile_memory.specs.Slots.{alloc_offset, slot_fits}
 use Rattle.bin_list.specs.Packets.{packets, passed}
 use Rattle.bin_list.specs.Seen.{seen_before}
-use Rattle.bin_list.specs.Rules.{GivenModel, given_of, asked, fault, end_questions, questions_of, bin_questions}
+use Rattle.bin_list.specs.Rules.{GivenModel, given_of, asked, end_questions, questions_of, bin_questions}
+use Rattle.bin_list.specs.Faults.{fault}
 use Rattle.bin_list.proofs.Facts.{has_grid, configured}
 use Rattle.bin_list.proofs.Sound.{started}
 use Rattle.job_format.specs.Model.{FileModel}

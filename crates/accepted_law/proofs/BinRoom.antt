@@ -12,7 +12,8 @@ use Rattle.packets.specs.Length.{bin_length}
 use Rattle.bin_list.specs.declared.seen.Seen.{Seen}
 use Rattle.bin_list.specs.Packets.{opcode, packets, cut, onto, passed}
 use Rattle.bin_list.specs.Seen.{place, seen_before}
-use Rattle.bin_list.specs.Rules.{GivenModel, index_buffer, packet_questions, asked, fault}
+use Rattle.bin_list.specs.Rules.{GivenModel, index_buffer, packet_questions, asked}
+use Rattle.bin_list.specs.Faults.{fault}
 use Rattle.bin_list.specs.Emitted.{index_text, state_text, config_text, packet_text, texts}
 use Rattle.bin_list.proofs.Least.{cut_place}
 use Rattle.bin_walks.proofs.Fine.{cut_fine}

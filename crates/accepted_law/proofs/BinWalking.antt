@@ -6,7 +6,8 @@ use Rattle.bin_list.specs.Rules.{given_of}
 use Rattle.bin_list.specs.Emitted.{bin_text}
 use Rattle.bin_list.specs.Fine.{IsLow}
 use Rattle.bin_list.specs.States.{states_of}
-use Rattle.bin_walks.specs.Walks.{Config, Kept, nothing_kept, kept_after, Drawing, Tame, Walks}
+use Rattle.bin_walks.specs.Walks.{Kept, nothing_kept, kept_after, Drawing, Tame, Walks}
+use Rattle.packets.specs.declared.config.Config.{Config}
 use Rattle.bin_walks.specs.Emission.{emission, config_of}
 use Rattle.bin_walks.specs.Draws.{IsDrawn}
 use Rattle.bin_walks.specs.Law.{IsWalked}
@@ -15,7 +16,6 @@ use Rattle.job_format.specs.Model.{FileModel}
 use Rattle.job_check.specs.Shaders.{table_of}
 use Rattle.job_check.specs.Jobs.{job_of, has_bin, layout_of, states_in, bin_list_of}
 use Rattle.job_check.proofs.Layouts.{layout_low}
-use Rattle.list_law.specs.Binning.{grid_of}
 use Rattle.machine_law.specs.Begins.{DrawBegins}
 use Rattle.accepted_law.specs.Holdings.{plain_of, file_rights, across_of, down_of, config_for}
 use Rattle.accepted_law.specs.Settled.{Grounds}
@@ -49,7 +49,7 @@ walks_so config R Q follows kept [] walks = tt
 walks_so config R Q follows kept (packet ∷ list) walks = (tame_so config R Q follows kept packet walks.0, walks_so config R Q follows (kept_after kept packet) list walks.1)
 
 -- The job's one configuration is that of the emitted list.
-grid_is : (f : FileModel) → config_of (layout_of f 0) (across_of f 0) (down_of f 0) ≡ grid_of (config_for f 0)
+grid_is : (f : FileModel) → config_of (layout_of f 0) (across_of f 0) (down_of f 0) ≡ config_for f 0
 unfolding layout_of config_for
 grid_is f = refl
 

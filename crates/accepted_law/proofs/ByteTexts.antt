@@ -21,7 +21,8 @@ use Rattle.bin_list.specs.Rules.{GivenModel, index_buffer}
 use Rattle.bin_list.specs.Emitted.{index_text, state_text, config_text, packet_text, texts}
 use Rattle.qpu_isa.specs.Shader.{ShaderModel}
 use Rattle.shader_records.specs.Inputs.{InputModel}
-use Rattle.shader_records.specs.Sources.{state_at, emitted_size, record_source, uniform_source, stream_offset, shader_used, taken_before, given_before}
+use Rattle.shader_records.specs.Sources.{state_at, record_source, uniform_source, stream_offset, shader_used, taken_before, given_before}
+use Rattle.packets.specs.StateWord.{record_room}
 use Rattle.shader_records.specs.Emission.{emitted_word, stream_place, record_text, records_text, stream_word_of, stream_text, streams_text, uniforms_text}
 use Rattle.render_walks.specs.Walks.{AllFit}
 
@@ -162,7 +163,7 @@ byte_of_latest o at (packet ∷ earlier) each = byte_if (opcode packet == o) pac
 -- Records and streams are words.
 bytes_record : (input : InputModel) (at state first : ℕ) → IsBytes (record_text input at state first)
 unfolding record_text
-bytes_record input at state first = bytes_words (emitted_word input at state (stream_place input at first)) (emitted_size state / 4)
+bytes_record input at state first = bytes_words (emitted_word input at state (stream_place input at first)) (record_room state / 4)
 
 pub bytes_records : (input : InputModel) (first k : ℕ) → IsBytes (records_text input first k)
 unfolding records_text

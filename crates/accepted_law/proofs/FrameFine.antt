@@ -49,9 +49,9 @@ pub setup_of : (frame : Frame) (grid : Option (ℕ × ℕ)) (table : TableModel)
 setup_of frame grid table handles low none =
     let at : ℕ → Option ℕ = λ k. place_in table handles (surface_at frame k) in
     let each : (k : ℕ) → k < 6 → first_of (surface_questions frame table handles k) ≡ None = none_at frame grid table handles none in
+    let fits : (k : ℕ) → k < 6 → FitsAt frame k (at k) frame.max_x frame.max_y = λ k below. fits_in frame table handles k low (each k below) in
     is_setup frame table handles (at 0) (at 1) (at 2) (at 3) (at 4) (at 5) refl refl refl refl refl refl (set_of frame grid table handles none) each
-    (fits_in frame table handles 0 low (each 0 (lit< tt))) (fits_in frame table handles 2 low (each 2 (lit< tt)))
-    (fits_in frame table handles 4 low (each 4 (lit< tt))) (fits_in frame table handles 5 low (each 5 (lit< tt)))
+    (fits 0 (lit< tt)) (fits 1 (lit< tt)) (fits 2 (lit< tt)) (fits 3 (lit< tt)) (fits 4 (lit< tt)) (fits 5 (lit< tt))
 
 -- Each place is a number of four bytes.
 small_named : (frame : Frame) (table : TableModel) (handles : List ℕ) (k : ℕ) (found : Option ℕ) (place : ℕ) → AreLow table → is_present (surface_at frame k) ≡ true

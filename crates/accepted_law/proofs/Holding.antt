@@ -10,7 +10,8 @@ use Rattle.buffer_table.specs.Table.{buffer_at}
 use Rattle.machine_plan.specs.Memory.{bytes_at}
 use Rattle.bin_list.specs.Packets.{passed}
 use Rattle.bin_list.specs.Seen.{seen_before}
-use Rattle.bin_list.specs.Rules.{given_of, asked, fault, end_questions, questions_of, bin_questions}
+use Rattle.bin_list.specs.Rules.{given_of, asked, end_questions, questions_of, bin_questions}
+use Rattle.bin_list.specs.Faults.{fault}
 use Rattle.bin_list.specs.Emitted.{bin_text}
 use Rattle.shader_records.specs.Emitted.{streams_place}
 use Rattle.render_list.specs.Text.{render_slots, render_text}

@@ -16,7 +16,8 @@ use Rattle.shader_flow.specs.Flow.{is_threaded}
 use Rattle.uniform_stream.specs.Stream.{uniforms_of}
 use Rattle.shader_records.specs.Inputs.{InputModel, shader_in}
 use Rattle.shader_records.specs.Named.{IsDataIn}
-use Rattle.shader_records.specs.Sources.{state_at, emitted_size, record_source, record_offset, uniform_source, stream_offset, code_number, shader_used, is_threaded as switches, given_by, given_before, taken_before, record_word, place_in}
+use Rattle.shader_records.specs.Sources.{state_at, record_source, record_offset, uniform_source, stream_offset, code_number, shader_used, is_threaded as switches, given_by, given_before, taken_before, record_word, place_in}
+use Rattle.packets.specs.StateWord.{record_room}
 use Rattle.shader_records.specs.Rules.{use_questions}
 use Rattle.shader_records.specs.Emission.{shader_word, stream_place, stream_word_of}
 use Rattle.shader_records.specs.Emitted.{streams_place}
@@ -40,7 +41,7 @@ use Rattle.accepted_law.proofs.Uses.{inputs_are, inputs_low, streams_low, emitte
 use Rattle.accepted_law.proofs.Homes.{home_of, IsStarted, home_begins}
 
 -- Words of the record that name its shaders.
-small_word : (state i : ℕ) → i < 9 → 4 * i < emitted_size state
+small_word : (state i : ℕ) → i < 9 → 4 * i < record_room state
 small_word state i below =
     let header = header_in state in
     let whole = (emitted_in state).0 in

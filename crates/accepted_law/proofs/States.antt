@@ -4,15 +4,14 @@ use Rattle.std.proofs.Math.Seq.{drop-cons}
 use Rattle.std.proofs.lemmas.Bool.{cases_lt}
 use Rattle.field_words.specs.Words.{u32_at}
 use Rattle.emitted_facts.specs.Facts.{IsAttributeIn, IsRecord}
-use Rattle.emitted_facts.specs.Records.{attribute_count, is_extended, record_size}
+use Rattle.packets.specs.StateWord.{attribute_count, is_extended, record_size, record_room}
 use Rattle.buffer_table.specs.Sound.{IsSound}
 use Rattle.bin_list.specs.declared.state.State.{State}
-use Rattle.bin_list.specs.Seen.{attributes as listed_count, is_extended as is_listed_extended, record_size as listed_size, record_room}
 use Rattle.bin_walks.specs.Draws.{IsStateAt}
 use Rattle.relocation.specs.declared.layout.Layout.{Layout}
 use Rattle.shader_records.specs.Inputs.{InputModel}
 use Rattle.shader_records.specs.Named.{IsDataIn, IsCodeIn}
-use Rattle.shader_records.specs.Sources.{no_state, state_at, emitted_size, record_offset}
+use Rattle.shader_records.specs.Sources.{no_state, state_at, record_offset}
 use Rattle.shader_records.specs.Emitted.{streams_place}
 use Rattle.shader_records.proofs.Inside.{emitted_in}
 use Rattle.shader_records.proofs.Lengths.{length_records}
@@ -42,11 +41,6 @@ pub record StateFound (input : InputModel) (layout : Layout) (word : ℕ) (state
   pub points : word ≡ layout.place + layout.records + record_offset input number + (state_at input number).word % 16
   pub same : state ≡ state_at input number
 
--- a record takes the same room in the list's words and in those of the records
-same_room : (word : ℕ) → record_room word ≡ emitted_size word
-unfolding record_room emitted_size listed_size record_size listed_count attribute_count is_listed_extended is_extended
-same_room word = refl
-
 some_left : (states : List State) (i : ℕ) (first : State) (later : List State) → first ∷ later ≡ drop i states → i < length states
 some_left states i first later cut = let long : suc (length later) ≡ length states - i = ap length cut ∙ length-drop i states in omega (arith, long)
 
@@ -69,7 +63,7 @@ found_from input layout word state i at (first ∷ later) rest offset (inr other
     let below = some_left input.states i first later rest in
     let cut : first ∷ later ≡ state_at input i ∷ drop (suc i) input.states = rest ∙ drop-cons input.states i no_state below in
     let one : first ≡ state_at input i = ap (λ states. get_or states 0 no_state) cut in
-    let room : record_room first.word ≡ emitted_size (state_at input i).word = ap (λ s. record_room s.word) one ∙ same_room (state_at input i).word in
+    let room : record_room first.word ≡ record_room (state_at input i).word = ap (λ s. record_room s.word) one in
     found_from input layout word state (suc i) (at + record_room first.word) later (ap (drop 1) cut) (λ j. offset j + room j) other
 
 pub state_found : (input : InputModel) (layout : Layout) (word : ℕ) (state : State) → IsStateAt layout 0 input.states word state → StateFound input layout word state
@@ -82,13 +76,13 @@ unfolding record_offset
 offset_whole input zero = refl
 offset_whole input (suc k) = let before = offset_whole input k in let size = (emitted_in (state_at input k).word).2 in omega (arith, before, size)
 
-record_ends : (input : InputModel) (n k : ℕ) → k < n → record_offset input k + emitted_size (state_at input k).word ≤ record_offset input n
+record_ends : (input : InputModel) (n k : ℕ) → k < n → record_offset input k + record_room (state_at input k).word ≤ record_offset input n
 unfolding record_offset
 record_ends input zero k below = absurd (omega (arith, below))
 record_ends input (suc n) k below =
     elim (cases_lt k n) [
       | inl earlier ↦ let before = record_ends input n k earlier in omega (arith, before)
-      | inr past ↦ let same : n ≡ k = omega arith in subst (λ i. record_offset input k + emitted_size (state_at input k).word ≤ record_offset input i + emitted_size (state_at input i).word) (sym same) (omega arith)
+      | inr past ↦ let same : n ≡ k = omega arith in subst (λ i. record_offset input k + record_room (state_at input k).word ≤ record_offset input i + record_room (state_at input i).word) (sym same) (omega arith)
     ]
 
 -- where the record of state k stands
@@ -112,7 +106,7 @@ pub state_of : (word base n : ℕ) → base % 16 ≡ 0 → word ≡ base + n % 1
 state_of word base n whole points = omega (arith, whole, points)
 
 -- the record of state k ends in the emitted records
-record_room_in : (f : FileModel) (k : ℕ) → has_bin f 0 ≡ true → k < length (input_for f 0).states → record_offset (input_for f 0) k + emitted_size (state_at (input_for f 0) k).word ≤ length (records_of f 0)
+record_room_in : (f : FileModel) (k : ℕ) → has_bin f 0 ≡ true → k < length (input_for f 0).states → record_offset (input_for f 0) k + record_room (state_at (input_for f 0) k).word ≤ length (records_of f 0)
 record_room_in f k has below =
     let long : length (records_of f 0) ≡ record_offset (input_for f 0) (length (input_for f 0).states) =
     ap length (sym (records_are f 0 has)) ∙ length_records (input_for f 0) (streams_place (layout_of f 0)) (length (input_for f 0).states) in
@@ -162,7 +156,7 @@ unfolding place_for input_for
 record_fact f m k grounds has below =
     records_in_memory (input_for f 0) ((layout_of f 0).place + (layout_of f 0).records) (streams_place (layout_of f 0)) m k (inputs_are f grounds.settled) (inputs_low f grounds.settled) (grounds.settled.records has) below (streams_low f grounds.settled) (emitted_stand f m grounds has)
 
--- Data that the job's handles name lie in its region, and so do attributes.
+-- Data that the job's handles name lie in its region, and so do attribute_count.
 pub data_inside : (f : FileModel) (m : List ℕ) → Grounds f m → (place size : ℕ) → IsDataIn (table_of f) (job_of f 0).handles place size → Inside (job_rights f 0).region place size
 data_inside f m grounds place size named =
     one_inside (job_rights f 0).region place size place size (grounds.data_reads place size (grounds.named_data place size named)) (record { from = omega arith; upto = omega arith })

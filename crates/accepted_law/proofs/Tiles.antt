@@ -1,5 +1,5 @@
 -- Each packet of a tile may be done, where each surface lies in its buffer and the tile is one of the binner's grid.
-use Rattle.std.proofs.Common.{◌≡◌, ◌≤◌, ◌<◌, inl, inr, ℕ, ◌+◌, ◌*◌, ◌%◌, ◌==◌, ◌&&◌, not, Bool, true, false, List, Option, Some, None, if◌then◌else◌, refl, sym, ap, subst, arith, bit_or, lit<}
+use Rattle.std.proofs.Common.{◌≡◌, ◌≤◌, ◌<◌, inl, inr, ℕ, ◌+◌, ◌*◌, ◌%◌, ◌==◌, ◌&&◌, not, Bool, true, false, List, Option, Some, None, if◌then◌else◌, refl, sym, ap, subst, arith, ◌∙◌, bit_or, lit<}
 use Rattle.std.proofs.Math.Nat.{mul-le-mul_right}
 use Rattle.std.specs.Int.Bits.{or_zero_r}
 use Rattle.job_format.specs.declared.file.Frame.{Frame as JobFrame}
@@ -7,25 +7,23 @@ use Rattle.job_format.specs.declared.file.Surface.{Surface}
 use Rattle.packets.specs.declared.packet.Packet.{Packet}
 use Rattle.packets.specs.declared.packet.Packet.TheVariants.{WaitOnSemaphore, StoreTileColor, StoreTileColorAndEnd, LoadFullResolution, LoadTileBuffer, TileCoordinates}
 use Rattle.field_words.specs.Words.{bits_of}
-use Rattle.texture_layouts.specs.declared.surface.Tiling.{Tiling}
-use Rattle.texture_layouts.specs.Surface.{size_for}
+use Rattle.texture_layouts.specs.declared.format.Style.{Style}
+use Rattle.texture_layouts.specs.Format.{general_tiling, general_pixel, frame_tiling, frame_pixel, styled, frame_style, general_style}
 use Rattle.tile_memory.specs.Slots.{alloc_offset}
 use Rattle.machine_plan.specs.Regions.{Rights, Inside}
 use Rattle.render_list.specs.Frame.{place_at, surface_at, is_full, full_place, is_first_tile, is_last_tile}
-use Rattle.render_list.specs.Surfaces.{tiling_number, tiling_named, write_pixel, general_pixel, pixel_size_of}
+use Rattle.render_list.specs.Surfaces.{surface_tiling, surface_pixel, surface_style}
 use Rattle.render_list.specs.Text.{number_where, packet_where, idle_store, color_place, color_bits, load_packet, load_slot, wait_slot, list_place, list_slot, full_store, full_store_slot, zs_store, zs_store_slot, color_store, color_store_slot, is_there, more_after_multisample_color, more_after_multisample_zs, some_before_zs, some_before_color, load_slots, list_slots, write_slots, tile_slots}
 use Rattle.render_walks.specs.Walks.{IsSlotFine, AreFine}
 use Rattle.render_walks.proofs.Numbers.{small_where}
-use Rattle.list_machine.specs.declared.state.Config.{Config}
+use Rattle.packets.specs.declared.config.Config.{Config}
 use Rattle.list_machine.specs.declared.state.Frame.{Frame}
-use Rattle.list_machine.specs.declared.surface.Style.{Style}
 use Rattle.list_machine.specs.Blocks.{tiles_of}
-use Rattle.list_machine.specs.Cover.{frame_style, general_style}
 use Rattle.list_machine.specs.Surfaces.{aligned, names_none, whole_size}
 use Rattle.list_law.specs.May.{MayWrite}
 use Rattle.list_law.specs.Rendering.{StoresSurface, LoadsSurface, MayDo}
 use Rattle.list_law.specs.Start.{frame_of}
-use Rattle.accepted_law.proofs.Frames.{IsPlainAt, IsSurfaceAt, AreSurfacesAt, IsStyle, aligned_or, aligned_same, style_kept, frame_style_is, general_style_is}
+use Rattle.accepted_law.proofs.Frames.{IsPlainAt, IsSurfaceAt, AreSurfacesAt, aligned_or, aligned_same, style_kept}
 
 -- The machine's frame, by the place of the surface that colour is written to.
 abbrev pub head : JobFrame → Option ℕ → Frame
@@ -42,34 +40,20 @@ abbrev pub HasGridFor : Config → JobFrame → ℕ → Option (ℕ × ℕ) → 
 HasGridFor c frame slot None = Unit {0}
 HasGridFor c frame slot (Some grid) = IsGridFor c frame slot grid
 
--- A place where a surface of a listed style has room.
-stores : (r : Rights) (f : Frame) (found : Option Style) (tiling : Tiling) (cpp base : ℕ) → IsStyle found tiling cpp → MayWrite r base (size_for tiling f.width f.height cpp) → StoresSurface r found f base
-stores r f found tiling cpp base style writes = record { style_is = record { tiling = tiling; cpp = cpp }; styled = style.is; pixel = style.short; writes = writes }
+-- A surface whose style is listed may be stored and loaded at its place.
+stores : (r : Rights) (frame : JobFrame) (color : Option ℕ) (k : ℕ) (surface : Surface) (base : ℕ) (found : Option Style)
+    → surface_style k surface ≡ found → IsPlainAt r frame k surface base → StoresSurface r found (head frame color) base
+stores r frame color k surface base found is plain = record { style_is = plain.style; styled = sym is ∙ plain.is; pixel = plain.short; writes = plain.writes }
 
-loads : (r : Rights) (f : Frame) (found : Option Style) (tiling : Tiling) (cpp base : ℕ) → IsStyle found tiling cpp → MayWrite r base (size_for tiling f.width f.height cpp) → LoadsSurface r found f base
-loads r f found tiling cpp base style writes = record { style_is = record { tiling = tiling; cpp = cpp }; styled = style.is; pixel = style.short; reads = writes.region }
+loads : (r : Rights) (frame : JobFrame) (color : Option ℕ) (k : ℕ) (surface : Surface) (base : ℕ) (found : Option Style)
+    → surface_style k surface ≡ found → IsPlainAt r frame k surface base → LoadsSurface r found (head frame color) base
+loads r frame color k surface base found is plain = record { style_is = plain.style; styled = sym is ∙ plain.is; pixel = plain.short; reads = plain.writes.region }
 
 -- All surfaces but the one that colour is written to have general bits.
-record HasGeneral (k : ℕ) (surface : Surface) : Type 0 where
-  tiling : tiling_number k surface ≡ bits_of surface.bits 5 4
-  pixel : pixel_size_of k surface ≡ general_pixel (bits_of surface.bits 2 0) (bits_of surface.bits 9 8)
-
-has_general : (k : ℕ) (surface : Surface) → (k == 1) ≡ false → HasGeneral k surface
-unfolding tiling_number pixel_size_of
-has_general k surface other = record {
-  tiling = ap (λ b. if b then bits_of surface.bits 7 6 else bits_of surface.bits 5 4) other;
-  pixel = ap (λ b. if b then write_pixel (bits_of surface.bits 3 2) else general_pixel (bits_of surface.bits 2 0) (bits_of surface.bits 9 8)) other;
-}
-
-general_at : (r : Rights) (frame : JobFrame) (k : ℕ) (surface : Surface) (base : ℕ) → (k == 1) ≡ false → IsPlainAt r frame k surface base
-    → IsStyle (general_style surface.bits) (tiling_named (tiling_number k surface)) (pixel_size_of k surface)
-general_at r frame k surface base other plain =
-    let found : Option Style = general_style surface.bits in
-    let is : HasGeneral k surface = has_general k surface other in
-    let listed : IsStyle found (tiling_named (bits_of surface.bits 5 4)) (general_pixel (bits_of surface.bits 2 0) (bits_of surface.bits 9 8)) =
-    general_style_is surface.bits (subst (λ n. (n == 3) ≡ false) is.tiling plain.tiling) (subst (λ n. (n == 0) ≡ false) is.pixel plain.pixel) in
-    subst (λ n. IsStyle found (tiling_named n) (pixel_size_of k surface)) (sym is.tiling)
-    (subst (λ n. IsStyle found (tiling_named (bits_of surface.bits 5 4)) n) (sym is.pixel) listed)
+general_at : (k : ℕ) (surface : Surface) → (k == 1) ≡ false → surface_style k surface ≡ general_style surface.bits
+unfolding surface_tiling surface_pixel
+general_at k surface other =
+    ap (λ b. styled (if b then frame_tiling surface.bits else general_tiling surface.bits) (if b then frame_pixel surface.bits else general_pixel surface.bits)) other
 
 -- A tile of a surface in full resolution begins at a multiple of 16.
 full_whole : (frame : JobFrame) (base x y : ℕ) → base % 16 ≡ 0 → full_place frame base x y % 16 ≡ 0
@@ -92,7 +76,7 @@ load_by r c frame color k left_out base x y false is other small right down here
     let surface : Surface = surface_at frame k in
     let plain : IsPlainAt r frame k surface base = here.plain is in
     inr (subst (LoadsSurface r (general_style surface.bits) (head frame color)) (sym (aligned_same base here.whole))
-    (loads r (head frame color) (general_style surface.bits) (tiling_named (tiling_number k surface)) (pixel_size_of k surface) base (general_at r frame k surface base other plain) plain.writes))
+    (loads r frame color k surface base (general_style surface.bits) (general_at k surface other) plain))
 
 fine_load : (r : Rights) (c : Config) (frame : JobFrame) (color : Option ℕ) (k left_out : ℕ) (place : Option ℕ) (x y : ℕ) → (k == 1) ≡ false → left_out < 16
     → x ≤ frame.max_x → y ≤ frame.max_y → ((base : ℕ) → place ≡ Some base → IsSurfaceAt r frame k base)
@@ -152,7 +136,7 @@ fine_zs r c frame color (Some base) more x y surfaces =
     let low : ℕ = number_where (not more && is_last_tile frame x y) 8 in
     let few : low < 16 = omega (arith, small_where (not more && is_last_tile frame x y) 8) in
     let stored : StoresSurface r (general_style surface.bits) (head frame color) base =
-    stores r (head frame color) (general_style surface.bits) (tiling_named (tiling_number 3 surface)) (pixel_size_of 3 surface) base (general_at r frame 3 surface base refl plain) plain.writes in
+    stores r frame color 3 surface base (general_style surface.bits) (general_at 3 surface refl) plain in
     inr (subst (λ s. StoresSurface r s (head frame color) (aligned (bit_or base low))) (sym (zs_style more surface.bits))
     (subst (StoresSurface r (general_style surface.bits) (head frame color)) (sym (aligned_or base low here.whole few)) stored))
 
@@ -163,13 +147,13 @@ color_by r c f false x y stored = stored
 
 fine_color : (r : Rights) (c : Config) (frame : JobFrame) (color : Option ℕ) (x y : ℕ) → ((base : ℕ) → color ≡ Some base → IsSurfaceAt r frame 1 base)
     → IsSlotFine (MayDo r c (head frame color)) x y (color_store_slot frame color x y)
-unfolding color_store is_full tiling_number pixel_size_of
+unfolding color_store is_full surface_tiling surface_pixel
 fine_color r c frame None x y surfaces = tt
 fine_color r c frame (Some base) x y surfaces =
     let surface : Surface = surface_at frame 1 in
     let plain : IsPlainAt r frame 1 surface base = (surfaces base refl).plain refl in
     color_by r c (head frame (Some base)) (is_last_tile frame x y) x y
-    (stores r (head frame (Some base)) (frame_style surface.bits) (tiling_named (bits_of surface.bits 7 6)) (write_pixel (bits_of surface.bits 3 2)) base (frame_style_is surface.bits plain.tiling plain.pixel) plain.writes)
+    (stores r frame (Some base) 1 surface base (frame_style surface.bits) refl plain)
 
 -- a general store that stores nothing names no buffer
 pub names_none_at : (bits : ℕ) → (bits_of bits 2 0 == 0) ≡ true → names_none bits ≡ true

@@ -14,7 +14,7 @@ use Rattle.job_check.specs.Shaders.{table_of}
 use Rattle.job_check.specs.Jobs.{job_of, slot_of, layout_of, places_in}
 use Rattle.job_check.specs.Emit.{lengths_of}
 use Rattle.machine_plan.specs.Regions.{Interval, Rights}
-use Rattle.list_machine.specs.declared.state.Config.{Config}
+use Rattle.packets.specs.declared.config.Config.{Config}
 use Rattle.list_machine.specs.declared.state.Frame.{Frame}
 use Rattle.list_law.specs.Start.{frame_of}
 use Rattle.machine.specs.declared.job.Start.{Start}

@@ -18,7 +18,7 @@ use Rattle.job_check.specs.Jobs.{job_of, has_bin, grid_of, slot_of, places_in, i
 use Rattle.job_check.specs.Emit.{memory_of, lengths_of}
 use Rattle.job_check.specs.Faults.{file_stages}
 use Rattle.list_machine.specs.Fetch.{record_place}
-use Rattle.list_law.specs.Binning.{grid_of as config_grid, Allocates}
+use Rattle.list_law.specs.Binning.{Allocates}
 use Rattle.list_law.specs.Emitted.{words_in, program_in}
 use Rattle.list_law.specs.Rendering.{MayDo, NoMatter, AllSet}
 use Rattle.machine_law.specs.Begins.{LaunchBegins, DrawBegins, JobBegins}
@@ -61,7 +61,7 @@ DrawsBegin =
 pub record BinWalks (f : FileModel) (m : List ℕ) : Type 0 where
   pub packets : List (List ℕ)
   pub text : bin_list_of f 0 ≡ joined packets
-  pub walks : Walks (config_grid (config_for f 0)) (DrawBegins (file_rights f) (plain_of f) m 0) nothing_kept packets
+  pub walks : Walks (config_for f 0) (DrawBegins (file_rights f) (plain_of f) m 0) nothing_kept packets
 
 abbrev pub BinsWalk : Type 0
 BinsWalk = (f : FileModel) (m : List ℕ) → Grounds f m → BinWalks f m

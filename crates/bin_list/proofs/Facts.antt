@@ -13,7 +13,8 @@ use Rattle.bin_list.specs.declared.seen.Seen.{Seen}
 use Rattle.bin_list.specs.declared.state.State.{State}
 use Rattle.bin_list.specs.Packets.{opcode, onto}
 use Rattle.bin_list.specs.Seen.{latest, is_there, byte_of, states_in, seen_before}
-use Rattle.bin_list.specs.Rules.{GivenModel, cut_questions, kind_questions, start_questions, state_questions, config_questions, packet_questions, fault, asked}
+use Rattle.bin_list.specs.Faults.{fault}
+use Rattle.bin_list.specs.Rules.{GivenModel, cut_questions, kind_questions, start_questions, state_questions, config_questions, packet_questions, asked}
 use Rattle.bin_list.specs.States.{greatest, state, states_of}
 
 -- Where no rule of the list stands, none of a front of it does.

@@ -1,13 +1,12 @@
 -- Packets that are only copied.
 use Rattle.std.proofs.Common.{◌≡◌, ℕ, false, List, [], ◌∷◌, ◌++◌, Option, Some, None, length, sym, ap, arith, ◌∙◌}
-use Rattle.std.specs.Prelude.{◌==◌, nat_lt}
-use Rattle.std.proofs.lemmas.Bool.{ne_eqb}
+use Rattle.std.specs.Prelude.{nat_lt}
 use Rattle.std.proofs.Math.Nat.{zero-max}
 use Rattle.field_words.specs.Questions.{Question, first_of}
 use Rattle.field_words.proofs.Questions.{passes}
 use Rattle.relocation.specs.declared.layout.Layout.{Layout}
-use Rattle.packets.specs.Opcode.{flush, start_tile_binning, increment_semaphore, indexed_primitive_list, array_primitive_list, gl_shader_state, tile_binning_mode, buffer_handles}
 use Rattle.packets.specs.Length.{bin_length}
+use Rattle.bin_list.specs.declared.rule.BinRule.{BinRule}
 use Rattle.bin_list.specs.declared.seen.Seen.{Seen}
 use Rattle.bin_list.specs.declared.state.State.{State}
 use Rattle.bin_list.specs.Packets.{opcode}
@@ -21,24 +20,16 @@ use Rattle.bin_list.specs.Emitted.{packet_text}
 plain_kind : (given : GivenModel) (seen : Seen) (p : List ℕ) → IsPlain p → kind_questions given seen p ≡ []
 unfolding kind_questions
 plain_kind given seen p plain =
-    let a : (opcode p == flush) ≡ false = ne_eqb (opcode p) flush plain.no_flush in
-    let b : (opcode p == start_tile_binning) ≡ false = ne_eqb (opcode p) start_tile_binning plain.no_start in
-    let d : (opcode p == increment_semaphore) ≡ false = ne_eqb (opcode p) increment_semaphore plain.no_increment in
-    let e : (opcode p == indexed_primitive_list) ≡ false = ne_eqb (opcode p) indexed_primitive_list plain.no_indexes in
-    let f : (opcode p == array_primitive_list) ≡ false = ne_eqb (opcode p) array_primitive_list plain.no_array in
-    let g : (opcode p == gl_shader_state) ≡ false = ne_eqb (opcode p) gl_shader_state plain.no_state in
-    let h : (opcode p == tile_binning_mode) ≡ false = ne_eqb (opcode p) tile_binning_mode plain.no_config in
-    simp (a, b, d, e, f, g, h)
+    simp (plain.no_flush, plain.no_start, plain.no_increment, plain.no_indexes, plain.no_array, plain.no_state, plain.no_config)
 
 plain_cut : (p : List ℕ) → IsPlain p → first_of (cut_questions p) ≡ None
 unfolding cut_questions
 plain_cut p plain =
-    let a : (bin_length (opcode p) == 0) ≡ false = ne_eqb (bin_length (opcode p)) 0 plain.known in
     let whole = plain.whole in
     let b : nat_lt (length p) (bin_length (opcode p)) ≡ false = grind arith in
-    simp (a, b)
+    simp (plain.known, b)
 
-end_empty : (questions : List (Question ℕ)) → first_of questions ≡ None → first_of (questions ++ []) ≡ None
+end_empty : (questions : List (Question BinRule)) → first_of questions ≡ None → first_of (questions ++ []) ≡ None
 end_empty questions none = passes questions [] none
 
 pub plain_none : (given : GivenModel) (seen : Seen) (p : List ℕ) → IsPlain p → first_of (packet_questions given seen p) ≡ None
@@ -49,36 +40,19 @@ plain_none given seen p plain =
 
 pub plain_text : (given : GivenModel) (layout : Layout) (seen : Seen) (p : List ℕ) → IsPlain p → packet_text given layout seen p ≡ p
 unfolding packet_text
-plain_text given layout seen p plain =
-    let a : (opcode p == buffer_handles) ≡ false = ne_eqb (opcode p) buffer_handles plain.no_handles in
-    let e : (opcode p == indexed_primitive_list) ≡ false = ne_eqb (opcode p) indexed_primitive_list plain.no_indexes in
-    let g : (opcode p == gl_shader_state) ≡ false = ne_eqb (opcode p) gl_shader_state plain.no_state in
-    let h : (opcode p == tile_binning_mode) ≡ false = ne_eqb (opcode p) tile_binning_mode plain.no_config in
-    simp (a, e, g, h)
+plain_text given layout seen p plain = simp (plain.no_handles, plain.no_indexes, plain.no_state, plain.no_config)
 
 pub plain_seen : (seen : Seen) (p : List ℕ) → IsPlain p → seen_past seen p ≡ seen_after seen p
 unfolding seen_past seen_after
-plain_seen seen p plain =
-    let a : (opcode p == buffer_handles) ≡ false = ne_eqb (opcode p) buffer_handles plain.no_handles in
-    let b : (opcode p == start_tile_binning) ≡ false = ne_eqb (opcode p) start_tile_binning plain.no_start in
-    let g : (opcode p == gl_shader_state) ≡ false = ne_eqb (opcode p) gl_shader_state plain.no_state in
-    let h : (opcode p == tile_binning_mode) ≡ false = ne_eqb (opcode p) tile_binning_mode plain.no_config in
-    simp (a, b, g, h)
+plain_seen seen p plain = simp (plain.no_handles, plain.no_start, plain.no_state, plain.no_config)
 
 draws_nothing : (p : List ℕ) → IsPlain p → draws_to p ≡ 0
 unfolding draws_to
-draws_nothing p plain =
-    let e : (opcode p == indexed_primitive_list) ≡ false = ne_eqb (opcode p) indexed_primitive_list plain.no_indexes in
-    let f : (opcode p == array_primitive_list) ≡ false = ne_eqb (opcode p) array_primitive_list plain.no_array in
-    simp (e, f)
+draws_nothing p plain = simp (plain.no_indexes, plain.no_array)
 
 to_come : (current : Option State) (p : List ℕ) (later : List (List ℕ)) → IsPlain p → states_to_come current (p ∷ later) ≡ states_to_come current later
-to_come None p later plain =
-    let g : (opcode p == gl_shader_state) ≡ false = ne_eqb (opcode p) gl_shader_state plain.no_state in
-    simp g
-to_come (Some s) p later plain =
-    let g : (opcode p == gl_shader_state) ≡ false = ne_eqb (opcode p) gl_shader_state plain.no_state in
-    simp (g, draws_nothing p plain, zero-max)
+to_come None p later plain = simp (plain.no_state)
+to_come (Some s) p later plain = simp (plain.no_state, draws_nothing p plain, zero-max)
 
 pub plain_states : (done : List State) (current : Option State) (p : List ℕ) → IsPlain p → (later : List (List ℕ)) → all_states done current later ≡ all_states done current (p ∷ later)
 plain_states done current p plain later = ap (λ ss. done ++ ss) (sym (to_come current p later plain))

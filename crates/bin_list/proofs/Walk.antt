@@ -13,14 +13,17 @@ use Rattle.bin_list.specs.declared.seen.Seen.{Seen}
 use Rattle.bin_list.specs.declared.state.State.{State}
 use Rattle.bin_list.specs.Packets.{opcode, front_packet, behind, cut, packets, onto, passed}
 use Rattle.bin_list.specs.Seen.{is_there, byte_of, word_of, place, states_in, seen_before, seen_after}
-use Rattle.bin_list.specs.Rules.{GivenModel, packet_questions, fault, asked}
+use Rattle.bin_list.specs.declared.check.Read.{Read}
+use Rattle.bin_list.specs.declared.rule.BinRule.{BinRule}
+use Rattle.bin_list.specs.Faults.{fault}
+use Rattle.bin_list.specs.Rules.{GivenModel, packet_questions, asked}
 use Rattle.bin_list.specs.Fine.{IsBounded}
 use Rattle.bin_list.specs.States.{states_of}
 use Rattle.bin_list.specs.Collected.{all_states}
 use Rattle.bin_list.specs.Emitted.{packet_text, texts}
-use Rattle.bin_list.specs.Info.{MeetsState}
-use Rattle.packets.specs.Writing.{written}
-use Rattle.packets.proofs.Writing.{written_append, written_nothing, length_written}
+use Rattle.bin_list.specs.Info.{IsRead, MeetsState}
+use Rattle.field_words.specs.Writes.{with_bytes}
+use Rattle.field_words.proofs.Writes.{length-with_bytes, with_nothing, with_two}
 
 -- A packet takes a byte at least.
 one_or : (b : Bool) (n : ℕ) → (n == 0) ≡ b → 1 ≤ (if b then 1 else n)
@@ -53,14 +56,6 @@ take_some n bytes some long = grind (arith, places)
 pub front_some : (bytes : List ℕ) → 1 ≤ length bytes → 1 ≤ length (front_packet bytes)
 unfolding front_packet
 front_some bytes some = take_some (bin_taken (opcode bytes)) bytes (taken_some (opcode bytes)) some
-
--- the packet that the loop takes from the bytes that are left
-pub packet_some : (rest packet : List ℕ) → (length rest == 0) ≡ false → packet ≡ front_packet rest → 1 ≤ length packet
-packet_some rest packet test is = let some = front_some rest (some_left rest test) in omega (arith, some, ap length is)
-
-pub less_left : (rest packet later : List ℕ) → (length rest == 0) ≡ false → packet ≡ front_packet rest → later ≡ behind rest → length later < length rest
-less_left rest packet later test is behind_is =
-    let some = front_some rest (some_left rest test) in omega (arith, some, front_behind rest, ap length behind_is)
 
 -- One packet is cut.
 pub record IsCut (n : ℕ) (fuel : ℕ) (rest : List ℕ) : Type 0 where
@@ -113,7 +108,7 @@ pub record IsUnderway (given : GivenModel) (layout : Layout) (list window rest :
   pub fine : first_of (asked given earlier) ≡ None
   pub bounded : IsBounded seen
   pub inside : seen.at + length rest ≤ length list
-  pub bytes : out ≡ written window layout.bin (texts given layout earlier)
+  pub bytes : out ≡ with_bytes window layout.bin (texts given layout earlier)
   pub end_is : end ≡ layout.bin + length (texts given layout earlier)
   pub near : length (texts given layout earlier) ≤ seen.at
   pub room : length out ≡ length window
@@ -123,11 +118,11 @@ pub record IsUnderway (given : GivenModel) (layout : Layout) (list window rest :
 none_some : IsSome {T = State} None → ⊥
 none_some some = cc
 
-pub begins : (given : GivenModel) (layout : Layout) (list window : List ℕ) (seen : Seen) (end : ℕ) (done : List State) (current : Option State)
+pub begins : {given : GivenModel} {layout : Layout} {list window : List ℕ} {seen : Seen} {end : ℕ} {done : List State} {current : Option State}
     → layout.bin + length list ≤ length window → seen ≡ seen_before [] → end ≡ layout.bin → done ≡ [] → current ≡ None
     → IsUnderway given layout list window list seen end window done current
 unfolding packets passed seen_before
-begins given layout list window seen end done current room nothing first none_done none =
+begins {layout} {list} {window} {current} room nothing first none_done none =
     record {
       earlier = [];
       fuel = length list;
@@ -137,7 +132,7 @@ begins given layout list window seen end done current room nothing first none_do
       fine = refl;
       bounded = subst IsBounded (sym nothing) (record { states = omega arith; records = omega arith });
       inside = omega (arith, ap (λ s. s.at) nothing);
-      bytes = sym (written_nothing window layout.bin (omega arith));
+      bytes = sym (with_nothing window layout.bin (omega arith));
       end_is = omega arith;
       near = omega arith;
       room = refl;
@@ -146,14 +141,14 @@ begins given layout list window seen end done current room nothing first none_do
     }
 
 -- the rules of the packet at the front, by what was seen
-here_asked : (given : GivenModel) (earlier : List (List ℕ)) (seen : Seen) (p : List ℕ) (number : ℕ) → seen ≡ seen_before earlier
-    → first_of (packet_questions given seen p) ≡ Some number → first_of (asked given earlier) ≡ None → first_of (asked given (p ∷ earlier)) ≡ Some (fault seen.at number)
+here_asked : (given : GivenModel) (earlier : List (List ℕ)) (seen : Seen) (p : List ℕ) (rule : BinRule) → seen ≡ seen_before earlier
+    → first_of (packet_questions given seen p) ≡ Some rule → first_of (asked given earlier) ≡ None → first_of (asked given (p ∷ earlier)) ≡ Some (fault seen.at rule)
 unfolding seen_before
-here_asked given earlier seen p number is some fine =
+here_asked given earlier seen p rule is some fine =
     let at : seen.at ≡ place earlier = ap (λ s. s.at) is in
     passes (asked given earlier) (answered (fault (place earlier)) (packet_questions given (seen_before earlier) p)) fine
-    ∙ answered_some (fault (place earlier)) (packet_questions given (seen_before earlier) p) number (subst (λ s. first_of (packet_questions given s p) ≡ Some number) is some)
-    ∙ ap (λ n. Some (fault n number)) (sym at)
+    ∙ answered_some (fault (place earlier)) (packet_questions given (seen_before earlier) p) rule (subst (λ s. first_of (packet_questions given s p) ≡ Some rule) is some)
+    ∙ ap (λ n. Some (fault n rule)) (sym at)
 
 here_fine : (given : GivenModel) (earlier : List (List ℕ)) (seen : Seen) (p : List ℕ) → seen ≡ seen_before earlier
     → first_of (packet_questions given seen p) ≡ None → first_of (asked given earlier) ≡ None → first_of (asked given (p ∷ earlier)) ≡ None
@@ -161,29 +156,22 @@ here_fine given earlier seen p is none fine =
     passes (asked given earlier) (answered (fault (place earlier)) (packet_questions given (seen_before earlier) p)) fine
     ∙ answered_none (fault (place earlier)) (packet_questions given (seen_before earlier) p) (subst (λ s. first_of (packet_questions given s p) ≡ None) is none)
 
--- the packet at the front fits the list, and the window
-pub place_fits : (given : GivenModel) (layout : Layout) (list window rest : List ℕ) (seen : Seen) (end : ℕ) (out : List ℕ) (done : List State) (current : Option State)
-    → IsUnderway given layout list window rest seen end out done current → (packet : List ℕ) → packet ≡ front_packet rest
-    → seen.at + length packet ≤ length list
-place_fits given layout list window rest seen end out done current under packet is =
-    omega (arith, under.inside, front_behind rest, ap length is)
-
-pub room_fits : (given : GivenModel) (layout : Layout) (list window rest : List ℕ) (seen : Seen) (end : ℕ) (out : List ℕ) (done : List State) (current : Option State)
+-- the packet at the front fits the window
+pub room_fits : {given : GivenModel} {layout : Layout} {list window rest : List ℕ} {seen : Seen} {end : ℕ} {out : List ℕ} {done : List State} {current : Option State}
     → IsUnderway given layout list window rest seen end out done current → layout.bin + length list ≤ length window
-    → (packet : List ℕ) → packet ≡ front_packet rest → end + length packet ≤ length out
-room_fits given layout list window rest seen end out done current under room packet is =
-    omega (arith, under.end_is, under.near, under.inside, under.room, front_behind rest, ap length is, room)
+    → (packet behind : List ℕ) → length packet + length behind ≤ length rest → end + length packet ≤ length out
+room_fits under room packet behind fits = omega (arith, under.end_is, under.near, under.inside, under.room, room)
 
 -- A rule that stands at the packet at the front is the first of all.
-pub stops_at : (given : GivenModel) (layout : Layout) (list window rest : List ℕ) (seen : Seen) (end : ℕ) (out : List ℕ) (done : List State) (current : Option State)
+pub stops_at : {given : GivenModel} {layout : Layout} {list window rest : List ℕ} {seen : Seen} {end : ℕ} {out : List ℕ} {done : List State} {current : Option State}
     → IsUnderway given layout list window rest seen end out done current → 1 ≤ length rest
-    → (number : ℕ) → first_of (packet_questions given seen (front_packet rest)) ≡ Some number
-    → first_of (asked given (passed list)) ≡ Some (fault seen.at number)
-stops_at given layout list window rest seen end out done current under some number stands =
+    → (rule : BinRule) → first_of (packet_questions given seen (front_packet rest)) ≡ Some rule
+    → first_of (asked given (passed list)) ≡ Some (fault seen.at rule)
+stops_at {given} {list = list} {rest} {seen} under some rule stands =
     let step = cut_step under.fuel rest some under.enough in
-    let here = here_asked given under.earlier seen (front_packet rest) number under.seen_is stands under.fine in
+    let here = here_asked given under.earlier seen (front_packet rest) rule under.seen_is stands under.fine in
     ap (λ l. first_of (asked given l)) (sym under.whole ∙ ap (onto under.earlier) step.1.is)
-    ∙ asked_onto given (front_packet rest ∷ under.earlier) (cut step.0 (behind rest)) (fault seen.at number) here
+    ∙ asked_onto given (front_packet rest ∷ under.earlier) (cut step.0 (behind rest)) (fault seen.at rule) here
 
 -- A state packet adds one to the states, and no packet takes one away.
 states_grow : (b : Bool) (n : ℕ) → n ≤ (if b then n + 1 else n)
@@ -203,19 +191,19 @@ unfolding seen_after
 place_after seen p = refl
 
 -- The packet at the front is written.
-pub goes_on : (given : GivenModel) (layout : Layout) (list window rest : List ℕ) (seen : Seen) (end : ℕ) (out : List ℕ) (done : List State) (current : Option State)
+pub goes_on : {given : GivenModel} {layout : Layout} {list window rest : List ℕ} {seen : Seen} {end : ℕ} {out : List ℕ} {done : List State} {current : Option State}
     → IsUnderway given layout list window rest seen end out done current → 1 ≤ length rest
     → layout.bin + length list ≤ length window
-    → (packet : List ℕ) → packet ≡ front_packet rest
+    → {packet : List ℕ} → packet ≡ front_packet rest
     → first_of (packet_questions given seen packet) ≡ None
-    → (seen2 : Seen) → seen2 ≡ seen_after seen packet → IsBounded seen2
-    → (end2 : ℕ) (out2 : List ℕ) → out2 ≡ written out end (packet_text given layout seen packet) → end2 ≡ end + length (packet_text given layout seen packet)
+    → {seen2 : Seen} → seen2 ≡ seen_after seen packet → IsBounded seen2
+    → {end2 : ℕ} {out2 : List ℕ} → out2 ≡ with_bytes out end (packet_text given layout seen packet) → end2 ≡ end + length (packet_text given layout seen packet)
     → length (packet_text given layout seen packet) ≤ length packet
-    → (done2 : List State) (current2 : Option State) → ((later : List (List ℕ)) → all_states done2 current2 later ≡ all_states done current (packet ∷ later))
+    → {done2 : List State} {current2 : Option State} → ((later : List (List ℕ)) → all_states done2 current2 later ≡ all_states done current (packet ∷ later))
     → (IsSome current2 → IsSome current ⊎ (opcode packet ≡ gl_shader_state))
-    → (rest2 : List ℕ) → rest2 ≡ behind rest
+    → {rest2 : List ℕ} → rest2 ≡ behind rest
     → IsUnderway given layout list window rest2 seen2 end2 out2 done2 current2
-goes_on given layout list window rest seen end out done current under some room packet packet_is none seen2 seen2_is bounded end2 out2 puts moves short done2 current2 states begun rest2 rest2_is =
+goes_on {given} {layout} {list} {window} {rest} {seen} {end} {out} {done} {current} under some room {packet} packet_is none {seen2} seen2_is bounded {end2} {out2} puts moves short {done2} {current2} states begun {rest2} rest2_is =
     let earlier = under.earlier in
     let step = cut_step under.fuel rest some under.enough in
     let n = step.0 in
@@ -243,13 +231,13 @@ goes_on given layout list window rest seen end out done current under some room 
       inside = omega (arith, at2, long, left, split, under.inside);
       bytes =
           puts
-          ∙ ap (λ o. written o end (packet_text given layout seen packet)) under.bytes
-          ∙ ap (λ e. written (written window layout.bin front) e (packet_text given layout seen packet)) under.end_is
-          ∙ ap (written (written window layout.bin front) (layout.bin + length front)) text_is
-          ∙ sym (written_append window layout.bin front text fits);
+          ∙ ap (λ o. with_bytes o end (packet_text given layout seen packet)) under.bytes
+          ∙ ap (λ e. with_bytes (with_bytes window layout.bin front) e (packet_text given layout seen packet)) under.end_is
+          ∙ ap (with_bytes (with_bytes window layout.bin front) (layout.bin + length front)) text_is
+          ∙ sym (with_two window layout.bin front text fits);
       end_is = omega (arith, moves, same, total, under.end_is);
       near = omega (arith, at2, same, short, total, under.near);
-      room = ap length puts ∙ length_written out end (packet_text given layout seen packet) (omega (arith, same, total, fits, under.end_is, under.room)) ∙ under.room;
+      room = ap length puts ∙ length-with_bytes out end (packet_text given layout seen packet) (omega (arith, same, total, fits, under.end_is, under.room)) ∙ under.room;
       states =
           ap (λ r. all_states done2 current2 (cut n r)) rest2_is
           ∙ states (cut n (behind rest))
@@ -264,37 +252,29 @@ goes_on given layout list window rest seen end out done current under some room 
     }
 
 -- Where a state is in view, one was passed, and no rule stands up to it.
-pub meets : (given : GivenModel) (layout : Layout) (list window rest : List ℕ) (seen : Seen) (end : ℕ) (out : List ℕ) (done : List State) (current : Option State)
+pub meets : {given : GivenModel} {layout : Layout} {list window rest : List ℕ} {seen : Seen} {end : ℕ} {out : List ℕ} {done : List State} {current : Option State}
     → IsUnderway given layout list window rest seen end out done current → IsSome current → MeetsState given list
 unfolding seen_before
-meets given layout list window rest seen end out done current under some =
+meets {rest} {seen} under some =
     let one : 1 ≤ seen.states = under.begun some in
     let is : seen.states ≡ states_in under.earlier = ap (λ s. s.states) under.seen_is in
     record { earlier = under.earlier; later = cut under.fuel rest; whole = under.whole; fine = under.fine; some = omega (arith, one, is) }
 
--- Nothing is left.
-pub record IsThrough (given : GivenModel) (layout : Layout) (list window : List ℕ) (seen : Seen) (end : ℕ) (out : List ℕ) (done : List State) (current : Option State) : Type 0 where
-  pub seen_is : seen ≡ seen_before (passed list)
-  pub fine : first_of (asked given (passed list)) ≡ None
-  pub bytes : out ≡ written window layout.bin (texts given layout (passed list))
-  pub end_is : end ≡ layout.bin + length (texts given layout (passed list))
-  pub near : length (texts given layout (passed list)) ≤ length list
-  pub states : all_states done current [] ≡ states_of (packets list)
-  pub begun : IsSome current → 1 ≤ seen.states
-
-pub through : (given : GivenModel) (layout : Layout) (list window rest : List ℕ) (seen : Seen) (end : ℕ) (out : List ℕ) (done : List State) (current : Option State)
-    → IsUnderway given layout list window rest seen end out done current → length rest ≡ 0
-    → IsThrough given layout list window seen end out done current
-through given layout list window rest seen end out done current under none =
-    let empty : cut under.fuel rest ≡ [] = cut_nothing under.fuel rest none in
+-- Nothing is left: no rule stands, and the whole was read and written.
+pub through : {given : GivenModel} {layout : Layout} {list window rest out : List ℕ} (read : Read)
+    → IsUnderway given layout list window rest read.seen read.end out read.states.done.items read.states.current → length rest ≡ 0
+    → (first_of (asked given (passed list)) ≡ None) × IsRead given layout list read × (out ≡ with_bytes window layout.bin (texts given layout (passed list)))
+through {given} {layout} {list} {window} read under none =
+    let empty : cut under.fuel _ ≡ [] = cut_nothing under.fuel _ none in
     let all : under.earlier ≡ passed list = sym (ap (onto under.earlier) empty) ∙ under.whole in
-    let near : length (texts given layout under.earlier) ≤ length list = omega (arith, under.near, under.inside) in
-    record {
-      seen_is = under.seen_is ∙ ap seen_before all;
-      fine = ap (λ e. first_of (asked given e)) (sym all) ∙ under.fine;
-      bytes = under.bytes ∙ ap (λ e. written window layout.bin (texts given layout e)) all;
-      end_is = under.end_is ∙ ap (λ e. layout.bin + length (texts given layout e)) all;
-      near = subst (λ e. length (texts given layout e) ≤ length list) all near;
-      states = sym (ap (all_states done current) empty) ∙ under.states;
-      begun = under.begun;
-    }
+    let near : length (texts given layout under.earlier) ≤ length list = omega (arith, under.near, under.inside) in (
+      ap (λ e. first_of (asked given e)) (sym all) ∙ under.fine,
+      record {
+        seen = under.seen_is ∙ ap seen_before all;
+        end = under.end_is ∙ ap (λ e. layout.bin + length (texts given layout e)) all;
+        near = subst (λ e. length (texts given layout e) ≤ length list) all near;
+        states = sym (ap (all_states read.states.done.items read.states.current) empty) ∙ under.states;
+        begun = under.begun;
+      },
+      under.bytes ∙ ap (λ e. with_bytes window layout.bin (texts given layout e)) all,
+    )

@@ -1,5 +1,5 @@
 -- What a packet without faults promises to its emission.
-use Rattle.std.specs.Prelude.{◌≡◌, ◌≢◌, ◌≤◌, ℕ, ◌+◌, ◌*◌, ◌<◌, ◌^◌, List, length, slice_index}
+use Rattle.std.specs.Prelude.{◌≡◌, ◌≤◌, ℕ, ◌+◌, ◌*◌, ◌<◌, ◌^◌, ◌==◌, false, List, length, slice_index}
 use Rattle.field_words.specs.Words.{u32_at}
 use Rattle.buffer_table.specs.Handles.{IsData}
 use Rattle.packets.specs.Opcode.{flush, start_tile_binning, increment_semaphore, indexed_primitive_list, array_primitive_list, gl_shader_state, tile_binning_mode, buffer_handles}
@@ -21,16 +21,16 @@ pub record IsFine (given : GivenModel) (seen : Seen) (packet : List ℕ) : Type 
 
 -- a whole packet of a kind that has no rules of its own, tells nothing to later packets, and is copied
 pub record IsPlain (packet : List ℕ) : Type 0 where
-  pub known : bin_length (opcode packet) ≢ 0
+  pub known : (bin_length (opcode packet) == 0) ≡ false
   pub whole : bin_length (opcode packet) ≤ length packet
-  pub no_flush : opcode packet ≢ flush
-  pub no_start : opcode packet ≢ start_tile_binning
-  pub no_increment : opcode packet ≢ increment_semaphore
-  pub no_indexes : opcode packet ≢ indexed_primitive_list
-  pub no_array : opcode packet ≢ array_primitive_list
-  pub no_state : opcode packet ≢ gl_shader_state
-  pub no_config : opcode packet ≢ tile_binning_mode
-  pub no_handles : opcode packet ≢ buffer_handles
+  pub no_flush : (opcode packet == flush) ≡ false
+  pub no_start : (opcode packet == start_tile_binning) ≡ false
+  pub no_increment : (opcode packet == increment_semaphore) ≡ false
+  pub no_indexes : (opcode packet == indexed_primitive_list) ≡ false
+  pub no_array : (opcode packet == array_primitive_list) ≡ false
+  pub no_state : (opcode packet == gl_shader_state) ≡ false
+  pub no_config : (opcode packet == tile_binning_mode) ≡ false
+  pub no_handles : (opcode packet == buffer_handles) ≡ false
 
 -- there are no more states than bytes before, and their records take 144 bytes at most
 pub record IsBounded (seen : Seen) : Type 0 where

@@ -1,8 +1,8 @@
 pub mod Collected
 pub mod Emitted
+pub mod Faults
 pub mod Fine
 pub mod Info
-pub mod Least
 pub mod Packets
 pub mod Rules
 pub mod Seen

@@ -10,7 +10,10 @@ use Rattle.packets.specs.Opcode.{flush, start_tile_binning, increment_semaphore,
 use Rattle.packets.specs.Length.{bin_length}
 use Rattle.tile_memory.specs.Slots.{slot_fits}
 use Rattle.bin_list.specs.declared.fault.ListFault.{ListFault}
+use Rattle.bin_list.specs.declared.rule.BinRule.{BinRule}
+use Rattle.bin_list.specs.declared.rule.BinRule.TheVariants.{UnknownOpcode, CutOff, FlushNotLast, SecondStart, StartWithoutConfig, IncrementNotLast, PrimitiveWithoutState, PrimitiveWithoutStart, NoIndexBuffer, IndexesOutside, IndexOverflow, UndeclaredState, StateBits, SecondConfig, NoTiles, ConfigFlags, TooManyTiles, NoStart, NoEnd}
 use Rattle.bin_list.specs.declared.seen.Seen.{Seen}
+use Rattle.bin_list.specs.Faults.{fault}
 use Rattle.bin_list.specs.Packets.{opcode, passed}
 use Rattle.bin_list.specs.Seen.{place, seen_before}
 
@@ -24,28 +27,28 @@ pub record GivenModel : Type 0 where
 
 -- B1: no packet has this opcode
 -- B2: the packet goes past the list's end
-unfoldable pub cut_questions : List ℕ → List (Question ℕ)
+unfoldable pub cut_questions : List ℕ → List (Question BinRule)
 cut_questions packet =
-    Ask (bin_length (opcode packet) == 0) 1
-    ∷ (Ask (nat_lt (length packet) (bin_length (opcode packet))) 2 ∷ [])
+    Ask (bin_length (opcode packet) == 0) UnknownOpcode
+    ∷ (Ask (nat_lt (length packet) (bin_length (opcode packet))) CutOff ∷ [])
 
 -- B3: a flush isn't the list's last byte
-unfoldable pub flush_questions : GivenModel → Seen → List (Question ℕ)
-flush_questions given seen = Ask (not (seen.at + 1 == given.size)) 3 ∷ []
+unfoldable pub flush_questions : GivenModel → Seen → List (Question BinRule)
+flush_questions given seen = Ask (not (seen.at + 1 == given.size)) FlushNotLast ∷ []
 
 -- B4: a start follows a start
 -- B5: it has no configuration before it
-unfoldable pub start_questions : Seen → List (Question ℕ)
-start_questions seen = Ask seen.started 4 ∷ (Ask (not seen.configured) 5 ∷ [])
+unfoldable pub start_questions : Seen → List (Question BinRule)
+start_questions seen = Ask seen.started SecondStart ∷ (Ask (not seen.configured) StartWithoutConfig ∷ [])
 
 -- B6: an increment of the semaphore isn't the list's last byte but one
-unfoldable pub increment_questions : GivenModel → Seen → List (Question ℕ)
-increment_questions given seen = Ask (not (seen.at + 2 == given.size)) 6 ∷ []
+unfoldable pub increment_questions : GivenModel → Seen → List (Question BinRule)
+increment_questions given seen = Ask (not (seen.at + 2 == given.size)) IncrementNotLast ∷ []
 
 -- B7: a primitive has no shader state before it
 -- B8: it has no start before it
-unfoldable pub primitive_questions : Seen → List (Question ℕ)
-primitive_questions seen = Ask (seen.states == 0) 7 ∷ (Ask (not seen.started) 8 ∷ [])
+unfoldable pub primitive_questions : Seen → List (Question BinRule)
+primitive_questions seen = Ask (seen.states == 0) PrimitiveWithoutState ∷ (Ask (not seen.started) PrimitiveWithoutStart ∷ [])
 
 -- the buffer that the indexes come from
 unfoldable pub index_buffer : GivenModel → Seen → Buffer
@@ -61,34 +64,34 @@ indexes_end packet = u32_at packet 6 + u32_at packet 2 * index_size packet
 
 -- B9: the index buffer's handle names no Plain buffer
 -- B10: the indexes end past the buffer
-unfoldable pub index_questions : GivenModel → Seen → List ℕ → List (Question ℕ)
+unfoldable pub index_questions : GivenModel → Seen → List ℕ → List (Question BinRule)
 index_questions given seen packet =
-    Ask (not (is_some (data_of given.table given.handles seen.index_handle))) 9
-    ∷ (Ask (nat_lt (index_buffer given seen).size (indexes_end packet)) 10 ∷ [])
+    Ask (not (is_some (data_of given.table given.handles seen.index_handle))) NoIndexBuffer
+    ∷ (Ask (nat_lt (index_buffer given seen).size (indexes_end packet)) IndexesOutside ∷ [])
 
 -- B11: the first index and the number of vertices add up to 2^32 or more
-unfoldable pub array_questions : List ℕ → List (Question ℕ)
-array_questions packet = Ask (nat_le (2 ^ 32) (u32_at packet 6 + u32_at packet 2)) 11 ∷ []
+unfoldable pub array_questions : List ℕ → List (Question BinRule)
+array_questions packet = Ask (nat_le (2 ^ 32) (u32_at packet 6 + u32_at packet 2)) IndexOverflow ∷ []
 
 -- B12: there are more shader states than declared, this one counted
 -- B13: the word has a bit above bit 3
-unfoldable pub state_questions : GivenModel → Seen → List ℕ → List (Question ℕ)
+unfoldable pub state_questions : GivenModel → Seen → List ℕ → List (Question BinRule)
 state_questions given seen packet =
-    Ask (nat_le given.declared seen.states) 12 ∷ (Ask (nat_le 16 (u32_at packet 1)) 13 ∷ [])
+    Ask (nat_le given.declared seen.states) UndeclaredState ∷ (Ask (nat_le 16 (u32_at packet 1)) StateBits ∷ [])
 
 -- B14: a configuration follows a configuration
 -- B15: there are no tiles across or down
 -- B16: bit 7 or bit 1 of the flags is set
 -- B17: a tile slot has no room for so many tiles
-unfoldable pub config_questions : Seen → List ℕ → List (Question ℕ)
+unfoldable pub config_questions : Seen → List ℕ → List (Question BinRule)
 config_questions seen packet =
-    Ask seen.configured 14
-    ∷ (Ask (slice_index packet 13 == 0 || slice_index packet 14 == 0) 15
-    ∷ (Ask (not (bit_and (slice_index packet 15) 130 == 0)) 16
-    ∷ (Ask (not (slot_fits (slice_index packet 13 * slice_index packet 14))) 17 ∷ [])))
+    Ask seen.configured SecondConfig
+    ∷ (Ask (slice_index packet 13 == 0 || slice_index packet 14 == 0) NoTiles
+    ∷ (Ask (not (bit_and (slice_index packet 15) 130 == 0)) ConfigFlags
+    ∷ (Ask (not (slot_fits (slice_index packet 13 * slice_index packet 14))) TooManyTiles ∷ [])))
 
 -- the rules of a packet's kind
-unfoldable pub kind_questions : GivenModel → Seen → List ℕ → List (Question ℕ)
+unfoldable pub kind_questions : GivenModel → Seen → List ℕ → List (Question BinRule)
 kind_questions given seen packet =
     if opcode packet == flush then flush_questions given seen
     else (if opcode packet == start_tile_binning then start_questions seen
@@ -99,18 +102,15 @@ kind_questions given seen packet =
     else (if opcode packet == tile_binning_mode then config_questions seen packet
     else []))))))
 
-unfoldable pub packet_questions : GivenModel → Seen → List ℕ → List (Question ℕ)
+unfoldable pub packet_questions : GivenModel → Seen → List ℕ → List (Question BinRule)
 packet_questions given seen packet = cut_questions packet ++ kind_questions given seen packet
 
 -- B18: the list has no start
 -- B19: its last two bytes aren't an increment of the semaphore and a flush
-unfoldable pub end_questions : Seen → List (Question ℕ)
+unfoldable pub end_questions : Seen → List (Question BinRule)
 end_questions seen =
-    Ask (not seen.started) 18
-    ∷ (Ask (not (seen.before_last == increment_semaphore && seen.last == flush)) 19 ∷ [])
-
-abbrev pub fault : ℕ → ℕ → ListFault
-fault at number = record { number = number; at = at }
+    Ask (not seen.started) NoStart
+    ∷ (Ask (not (seen.before_last == increment_semaphore && seen.last == flush)) NoEnd ∷ [])
 
 -- the rules of each of these packets, which come the nearest first
 abbrev pub asked : GivenModel → List (List ℕ) → List (Question ListFault)

@@ -1,7 +1,8 @@
 -- What stands before a packet. The packets before it come as a list, the nearest first, so that "the last packet of a
 -- kind before this one" is the first of that list.
-use Rattle.std.specs.Prelude.{ℕ, ◌+◌, ◌*◌, ◌/◌, ◌%◌, Bool, true, false, ◌==◌, List, [], ◌∷◌, length, slice_index, Option, Some, None, if◌then◌else◌}
-use Rattle.field_words.specs.Words.{u32_at, rounded_up}
+use Rattle.std.specs.Prelude.{ℕ, ◌+◌, Bool, true, false, ◌==◌, List, [], ◌∷◌, length, slice_index, Option, Some, None, if◌then◌else◌}
+use Rattle.field_words.specs.Words.{u32_at}
+use Rattle.packets.specs.StateWord.{record_room}
 use Rattle.packets.specs.Opcode.{start_tile_binning, gl_shader_state, tile_binning_mode, buffer_handles}
 use Rattle.bin_list.specs.declared.seen.Seen.{Seen}
 use Rattle.bin_list.specs.Packets.{opcode}
@@ -42,20 +43,6 @@ place (packet ∷ earlier) = place earlier + length packet
 abbrev pub states_in : List (List ℕ) → ℕ
 states_in [] = 0
 states_in (packet ∷ earlier) = if opcode packet == gl_shader_state then states_in earlier + 1 else states_in earlier
-
--- A shader state's word: how many attributes its record has, and how many bytes the record takes. Records are
--- emitted one after another, each filled to a multiple of 16.
-unfoldable pub attributes : (word : ℕ) → ℕ
-attributes word = if word % 8 == 0 then 8 else word % 8
-
-unfoldable pub is_extended : (word : ℕ) → Bool
-is_extended word = word / 8 % 2 == 1
-
-unfoldable pub record_size : (word : ℕ) → ℕ
-record_size word = if is_extended word then 100 + 4 * attributes word else 36 + 8 * attributes word
-
-unfoldable pub record_room : (word : ℕ) → ℕ
-record_room word = rounded_up (record_size word) 16
 
 -- where the next shader state's record is emitted, counted from the first record
 abbrev pub records_in : List (List ℕ) → ℕ

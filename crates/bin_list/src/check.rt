@@ -6,13 +6,13 @@ ghost use Rattle.field_words.specs.Writes.{with_bytes};
 ghost use Rattle.buffer_table.specs.Handles.{AreNumbersOf};
 ghost use Rattle.bin_list.specs.Packets.{passed};
 ghost use Rattle.bin_list.specs.Seen.{seen_before};
-ghost use Rattle.bin_list.specs.Rules.{asked, fault, end_questions, given_of, bin_questions};
+ghost use Rattle.bin_list.specs.Faults.{fault, IsUpTo};
+ghost use Rattle.bin_list.specs.Rules.{asked, end_questions, given_of, bin_questions};
 ghost use Rattle.bin_list.specs.Fine.{IsLow};
 ghost use Rattle.bin_list.specs.Emitted.{texts, bin_text};
 ghost use Rattle.bin_list.specs.Info.{IsInfo, IsInfoOf, IsRead, MeetsState};
 ghost use Rattle.bin_list.specs.Told.{IsSoundInfo};
-ghost use Rattle.bin_list.specs.Least.{IsLeastFault};
-ghost use Rattle.packets.specs.Writing.{written};
+ghost use Rattle.field_words.specs.Least.{NamesLeast};
 
 use crate::cut::split_front;
 use crate::emit::{put, put_packet};
@@ -48,7 +48,7 @@ fn read_packets(
     requires low { IsLow layout.now }
     requires room { layout.now.bin + length list.now ≤ length out.old }
     ensures answers { Answers (asked given.now (passed list.now)) (λ read. IsRead given.now layout.now list.now read) result }
-    ensures put { OnOk result (out.new ≡ written out.old layout.now.bin (texts given.now layout.now (passed list.now))) }
+    ensures put { OnOk result (out.new ≡ with_bytes out.old layout.now.bin (texts given.now layout.now (passed list.now))) }
     ensures memory { result ≡ Err OutOfMemory → MeetsState given.now list.now }
 {
     let mut states = States::new(alloc);
@@ -63,9 +63,9 @@ fn read_packets(
             rest = behind;
             continue;
         }
-        if let Some(number) = packet_fault(given, &seen, packet) {
+        if let Some(rule) = packet_fault(given, &seen, packet) {
             return Err(Stop::Fault(ListFault {
-                number,
+                number: rule.number(),
                 at: seen.at,
             }));
         }
@@ -88,14 +88,17 @@ fn finish(
     requires short { length list.now ≤ 1048576 }
     requires fine { first_of (asked given.now (passed list.now)) ≡ None }
     requires read { IsRead given.now layout.now list.now read }
-    ensures answers { Answers (answered (fault given.now.size) (end_questions (seen_before (passed list.now)))) (λ info. IsInfoOf given.now layout.now list.now info) result }
+    ensures answers { Answers (answered (fault given.now.size) (end_questions (seen_before (passed list.now))))
+        (λ info. IsInfoOf given.now layout.now list.now info) result }
     ensures sound { IfOk result (λ info. IsSoundInfo given.now.declared info) }
     ensures memory { result ≡ Err OutOfMemory → 1 ≤ (seen_before (passed list.now)).states }
 {
     let Read { seen, end, states } = read;
-    if let Some(number) = end_fault(&seen) {
-        let at = list.len() as u32;
-        return Err(Stop::Fault(ListFault { number, at }));
+    if let Some(rule) = end_fault(&seen) {
+        return Err(Stop::Fault(ListFault {
+            number: rule.number(),
+            at: list.len() as u32,
+        }));
     }
     let states = states.finish()?;
     Ok(BinInfo {
@@ -127,10 +130,12 @@ pub fn check_bin(
     requires records_limit { layout.now.records ≤ 67108864 }
     requires slot_limit { layout.now.slot ≤ 67108864 }
     requires room { layout.now.bin + length list.now ≤ length out.old }
-    ensures answers { Answers (bin_questions list.now declared table.now handles.now) (λ info. IsInfo list.now declared table.now handles.now layout.now info) result }
-    ensures least { (found : ListFault) → result ≡ Err (Fault found) → IsLeastFault (bin_questions list.now declared table.now handles.now) found }
+    ensures answers { Answers (bin_questions list.now declared table.now handles.now)
+        (λ info. IsInfo list.now declared table.now handles.now layout.now info) result }
+    ensures least { NamesLeast IsUpTo (bin_questions list.now declared table.now handles.now) result }
     ensures sound { IfOk result (λ info. IsSoundInfo declared info) }
-    ensures put { OnOk result (out.new ≡ with_bytes out.old layout.now.bin (bin_text list.now declared table.now handles.now layout.now)) }
+    ensures put { OnOk result (out.new ≡ with_bytes out.old layout.now.bin
+        (bin_text list.now declared table.now handles.now layout.now)) }
     ensures fits { OnOk result (length (bin_text list.now declared table.now handles.now layout.now) ≤ length list.now) }
     ensures long { length out.new ≡ length out.old }
     ensures memory { result ≡ Err OutOfMemory → MeetsState (given_of list.now declared table.now handles.now) list.now }

@@ -33,10 +33,9 @@ pub(crate) fn word_at(packet: &[u8], at: usize) -> u32
     LittleEndian::read_u32(&packet[at..])
 }
 
-/// The packet at the front of the bytes, and the bytes behind it that are still read: none behind a halt.
 #[tactic(auto, unfolding(crate::specs::Packets::front_packet, crate::specs::Packets::behind, packets::specs::Length::bin_taken, packets::specs::Length::bin_length), using(crate::proofs::Cutting::drop_min, crate::proofs::Cutting::take_min))]
 #[inline]
-pub(crate) fn split_front(bytes: &[u8]) -> (&[u8], &[u8])
+fn cut_front(bytes: &[u8]) -> (&[u8], &[u8])
     requires { 1 ≤ length bytes.now }
     ensures packet { result.0.now ≡ front_packet bytes.now }
     ensures rest { result.1.now ≡ behind bytes.now }
@@ -51,4 +50,16 @@ pub(crate) fn split_front(bytes: &[u8]) -> (&[u8], &[u8])
         return (packet, &rest[..0]);
     }
     (packet, rest)
+}
+
+/// The packet at the front of the bytes, and the bytes behind it that are still read: none behind a halt.
+#[inline]
+pub(crate) fn split_front(bytes: &[u8]) -> (&[u8], &[u8])
+    requires { 1 ≤ length bytes.now }
+    ensures packet { result.0.now ≡ front_packet bytes.now }
+    ensures rest { result.1.now ≡ behind bytes.now }
+    ensures some { 1 ≤ length result.0.now }
+    ensures fits { length result.0.now + length result.1.now ≤ length bytes.now }
+{
+    cut_front(bytes)
 }

@@ -6,7 +6,7 @@ ghost use Rattle.tile_memory.specs.Slots.{alloc_offset};
 ghost use Rattle.bin_list.specs.Rules.{index_buffer};
 ghost use Rattle.bin_list.specs.Fine.{IsFine, IsLow};
 ghost use Rattle.bin_list.specs.Emitted.{index_text, state_text, config_text, packet_text};
-ghost use Rattle.packets.specs.Writing.{written};
+ghost use Rattle.field_words.specs.Writes.{with_bytes};
 
 use crate::cut::{byte_at, opcode, word_at};
 use crate::given::Given;
@@ -19,10 +19,10 @@ use tile_memory::alloc_offset;
 
 /// Puts bytes at a place of the window, and gives the place behind them.
 #[inline]
-#[tactic(auto, unfolding(packets::specs::Writing::written), using(crate::proofs::Inside::one_byte))]
+#[tactic(auto, using(crate::proofs::Inside::one_byte))]
 pub(crate) fn put(out: &mut [u8], at: usize, bytes: &[u8]) -> usize
     requires room { at + length bytes.now ≤ length out.old }
-    ensures text { out.new ≡ written out.old at bytes.now }
+    ensures text { out.new ≡ with_bytes out.old at bytes.now }
     ensures end { result ≡ at + length bytes.now }
 {
     if bytes.len() == 1 {
@@ -35,13 +35,13 @@ pub(crate) fn put(out: &mut [u8], at: usize, bytes: &[u8]) -> usize
 }
 
 /// An indexed primitive, with the address of its indexes in memory.
-#[tactic(auto, unfolding(crate::specs::Emitted::index_text), using(crate::proofs::Inside::written_inside))]
+#[tactic(auto, unfolding(crate::specs::Emitted::index_text), using(field_words::proofs::Writes::with_inner))]
 fn put_indexed(given: &Given, seen: &Seen, packet: &[u8], out: &mut [u8], at: usize) -> usize
     requires whole { 14 ≤ length packet.now }
     requires buffer { IsData given.now.table given.now.handles seen.now.index_handle }
     requires indexes { u32_at packet.now 6 ≤ (index_buffer given.now seen.now).size }
     requires room { at + length packet.now ≤ length out.old }
-    ensures text { out.new ≡ written out.old at (index_text given.now seen.now packet.now) }
+    ensures text { out.new ≡ with_bytes out.old at (index_text given.now seen.now packet.now) }
     ensures end { result ≡ at + length (index_text given.now seen.now packet.now) }
     ensures long { length (index_text given.now seen.now packet.now) ≤ length packet.now }
 {
@@ -60,7 +60,7 @@ fn put_state(layout: &Layout, seen: &Seen, packet: &[u8], out: &mut [u8], at: us
     requires records { seen.now.records ≤ 150994944 }
     requires whole { 5 ≤ length packet.now }
     requires room { at + length packet.now ≤ length out.old }
-    ensures text { out.new ≡ written out.old at (state_text layout.now seen.now packet.now) }
+    ensures text { out.new ≡ with_bytes out.old at (state_text layout.now seen.now packet.now) }
     ensures end { result ≡ at + length (state_text layout.now seen.now packet.now) }
     ensures long { length (state_text layout.now seen.now packet.now) ≤ length packet.now }
 {
@@ -69,16 +69,14 @@ fn put_state(layout: &Layout, seen: &Seen, packet: &[u8], out: &mut [u8], at: us
     put(out, at, &[GL_SHADER_STATE, w0, w1, w2, w3])
 }
 
-/// A configuration, which names the parts of the job's tile slot.
+// The bytes of a configuration, which names the parts of the job's tile slot.
 #[tactic(auto, unfolding(crate::specs::Emitted::config_text))]
-fn put_config(layout: &Layout, packet: &[u8], out: &mut [u8], at: usize) -> usize
+fn config_bytes(layout: &Layout, packet: &[u8]) -> [u8; 16]
     requires low { IsLow layout.now }
     requires whole { 16 ≤ length packet.now }
     requires grid { alloc_offset (slice_index packet.now 13 * slice_index packet.now 14) ≤ 524288 }
-    requires room { at + length packet.now ≤ length out.old }
-    ensures text { out.new ≡ written out.old at (config_text layout.now packet.now) }
-    ensures end { result ≡ at + length (config_text layout.now packet.now) }
-    ensures long { length (config_text layout.now packet.now) ≤ length packet.now }
+    ensures text { result ≡ config_text layout.now packet.now }
+    ensures long { length (config_text layout.now packet.now) ≡ 16 }
 {
     let across = byte_at(packet, 13);
     let down = byte_at(packet, 14);
@@ -87,32 +85,41 @@ fn put_config(layout: &Layout, packet: &[u8], out: &mut [u8], at: usize) -> usiz
     let [n0, n1, n2, n3] = (SLOT_SIZE - start).to_le_bytes();
     let [s0, s1, s2, s3] = layout.slot.to_le_bytes();
     let flags = byte_at(packet, 15) % 2 + 0x44;
-    put(
-        out,
-        at,
-        &[
-            TILE_BINNING_MODE,
-            a0,
-            a1,
-            a2,
-            a3,
-            n0,
-            n1,
-            n2,
-            n3,
-            s0,
-            s1,
-            s2,
-            s3,
-            across,
-            down,
-            flags,
-        ],
-    )
+    [
+        TILE_BINNING_MODE,
+        a0,
+        a1,
+        a2,
+        a3,
+        n0,
+        n1,
+        n2,
+        n3,
+        s0,
+        s1,
+        s2,
+        s3,
+        across,
+        down,
+        flags,
+    ]
+}
+
+/// A configuration, which names the parts of the job's tile slot.
+fn put_config(layout: &Layout, packet: &[u8], out: &mut [u8], at: usize) -> usize
+    requires low { IsLow layout.now }
+    requires whole { 16 ≤ length packet.now }
+    requires grid { alloc_offset (slice_index packet.now 13 * slice_index packet.now 14) ≤ 524288 }
+    requires room { at + length packet.now ≤ length out.old }
+    ensures text { out.new ≡ with_bytes out.old at (config_text layout.now packet.now) }
+    ensures end { result ≡ at + length (config_text layout.now packet.now) }
+    ensures long { length (config_text layout.now packet.now) ≤ length packet.now }
+{
+    put(out, at, &config_bytes(layout, packet))
 }
 
 /// Writes what a packet is emitted as, and gives the place behind it.
-#[tactic(auto, unfolding(crate::specs::Emitted::packet_text, packets::specs::Length::bin_length), using(packets::proofs::Writing::written_nothing))]
+#[tactic(auto, unfolding(crate::specs::Emitted::packet_text, packets::specs::Length::bin_length), using(field_words::proofs::Writes::with_nothing))]
 pub(crate) fn put_packet(
     given: &Given,
     layout: &Layout,
@@ -126,7 +133,7 @@ pub(crate) fn put_packet(
     requires low { IsLow layout.now }
     requires records { seen.now.records ≤ 150994944 }
     requires room { at + length packet.now ≤ length out.old }
-    ensures text { out.new ≡ written out.old at (packet_text given.now layout.now seen.now packet.now) }
+    ensures text { out.new ≡ with_bytes out.old at (packet_text given.now layout.now seen.now packet.now) }
     ensures end { result ≡ at + length (packet_text given.now layout.now seen.now packet.now) }
     ensures long { length (packet_text given.now layout.now seen.now packet.now) ≤ length packet.now }
 {

@@ -11,13 +11,8 @@ ghost use Rattle.bin_list.specs.Fine.{IsFine, IsPlain};
 ghost use Rattle.bin_list.specs.Rules.{cut_questions, flush_questions, start_questions, increment_questions, primitive_questions, index_buffer, index_size, indexes_end, index_questions, array_questions, state_questions, config_questions, kind_questions, packet_questions, end_questions};
 
 use crate::cut::{byte_at, opcode, word_at};
-use crate::fault::{
-    CONFIG_FLAGS, CUT_OFF, FLUSH_NOT_LAST, INCREMENT_NOT_LAST, INDEX_BUFFER, INDEX_OVERFLOW,
-    INDEXES_OUTSIDE, NO_END, NO_START, NO_TILES, PRIMITIVE_WITHOUT_START, PRIMITIVE_WITHOUT_STATE,
-    SECOND_CONFIG, SECOND_START, START_WITHOUT_CONFIG, STATE_BITS, TOO_MANY_TILES,
-    UNDECLARED_STATE, UNKNOWN_OPCODE,
-};
 use crate::given::Given;
+use crate::rule::BinRule;
 use crate::seen::Seen;
 use buffer_table::{Buffer, use_data};
 use packets::bin_length;
@@ -29,67 +24,67 @@ use tile_memory::slot_fits;
 
 /// B1 and B2. The packet is whole where neither stands.
 #[tactic(auto, unfolding(crate::specs::Rules::cut_questions))]
-fn cut_fault(packet: &[u8]) -> Option<u8>
+fn cut_fault(packet: &[u8]) -> Option<BinRule>
     requires { 1 ≤ length packet.now }
     ensures first { result ≡ first_of (cut_questions packet.now) }
     ensures whole { IfNone result (bin_length (opcode packet.now) ≤ length packet.now) }
 {
     let length = bin_length(opcode(packet)) as usize;
     if length == 0 {
-        return Some(UNKNOWN_OPCODE);
+        return Some(BinRule::UnknownOpcode);
     }
     if packet.len() < length {
-        return Some(CUT_OFF);
+        return Some(BinRule::CutOff);
     }
     None
 }
 
 /// B3.
 #[tactic(auto, unfolding(crate::specs::Rules::flush_questions))]
-fn flush_fault(given: &Given, seen: &Seen) -> Option<u8>
+fn flush_fault(given: &Given, seen: &Seen) -> Option<BinRule>
     ensures { result ≡ first_of (flush_questions given.now seen.now) }
 {
     if seen.at as usize + 1 != given.size {
-        return Some(FLUSH_NOT_LAST);
+        return Some(BinRule::FlushNotLast);
     }
     None
 }
 
 /// B4 and B5.
 #[tactic(auto, unfolding(crate::specs::Rules::start_questions))]
-fn start_fault(seen: &Seen) -> Option<u8>
+fn start_fault(seen: &Seen) -> Option<BinRule>
     ensures { result ≡ first_of (start_questions seen.now) }
 {
     if seen.started {
-        return Some(SECOND_START);
+        return Some(BinRule::SecondStart);
     }
     if !seen.configured {
-        return Some(START_WITHOUT_CONFIG);
+        return Some(BinRule::StartWithoutConfig);
     }
     None
 }
 
 /// B6.
 #[tactic(auto, unfolding(crate::specs::Rules::increment_questions))]
-fn increment_fault(given: &Given, seen: &Seen) -> Option<u8>
+fn increment_fault(given: &Given, seen: &Seen) -> Option<BinRule>
     ensures { result ≡ first_of (increment_questions given.now seen.now) }
 {
     if seen.at as usize + 2 != given.size {
-        return Some(INCREMENT_NOT_LAST);
+        return Some(BinRule::IncrementNotLast);
     }
     None
 }
 
 /// B7 and B8.
 #[tactic(auto, unfolding(crate::specs::Rules::primitive_questions))]
-fn primitive_fault(seen: &Seen) -> Option<u8>
+fn primitive_fault(seen: &Seen) -> Option<BinRule>
     ensures { result ≡ first_of (primitive_questions seen.now) }
 {
     if seen.states == 0 {
-        return Some(PRIMITIVE_WITHOUT_STATE);
+        return Some(BinRule::PrimitiveWithoutState);
     }
     if !seen.started {
-        return Some(PRIMITIVE_WITHOUT_START);
+        return Some(BinRule::PrimitiveWithoutStart);
     }
     None
 }
@@ -127,52 +122,52 @@ fn indexes_end(packet: &[u8]) -> u64
 
 /// B9 and B10. Where neither stands, the indexes begin inside a Plain buffer.
 #[tactic(auto, unfolding(crate::specs::Rules::index_questions))]
-fn index_fault(given: &Given, seen: &Seen, packet: &[u8]) -> Option<u8>
+fn index_fault(given: &Given, seen: &Seen, packet: &[u8]) -> Option<BinRule>
     requires { 14 ≤ length packet.now }
     ensures first { result ≡ first_of (index_questions given.now seen.now packet.now) }
     ensures buffer { IfNone result (IsData given.now.table given.now.handles seen.now.index_handle) }
     ensures indexes { IfNone result (u32_at packet.now 6 ≤ (index_buffer given.now seen.now).size) }
 {
     let Some(buffer) = index_buffer(given, seen) else {
-        return Some(INDEX_BUFFER);
+        return Some(BinRule::NoIndexBuffer);
     };
     if indexes_end(packet) > u64::from(buffer.size) {
-        return Some(INDEXES_OUTSIDE);
+        return Some(BinRule::IndexesOutside);
     }
     None
 }
 
 /// B11.
 #[tactic(auto, unfolding(crate::specs::Rules::array_questions))]
-fn array_fault(packet: &[u8]) -> Option<u8>
+fn array_fault(packet: &[u8]) -> Option<BinRule>
     requires { 10 ≤ length packet.now }
     ensures first { result ≡ first_of (array_questions packet.now) }
     ensures fits { IfNone result (u32_at packet.now 6 + u32_at packet.now 2 < 2 ^ 32) }
 {
     if u64::from(word_at(packet, 6)) + u64::from(word_at(packet, 2)) >= 1 << 32 {
-        return Some(INDEX_OVERFLOW);
+        return Some(BinRule::IndexOverflow);
     }
     None
 }
 
 /// B12 and B13.
 #[tactic(auto, unfolding(crate::specs::Rules::state_questions))]
-fn state_fault(given: &Given, seen: &Seen, packet: &[u8]) -> Option<u8>
+fn state_fault(given: &Given, seen: &Seen, packet: &[u8]) -> Option<BinRule>
     requires { 5 ≤ length packet.now }
     ensures { result ≡ first_of (state_questions given.now seen.now packet.now) }
 {
     if seen.states >= given.declared {
-        return Some(UNDECLARED_STATE);
+        return Some(BinRule::UndeclaredState);
     }
     if word_at(packet, 1) >= 16 {
-        return Some(STATE_BITS);
+        return Some(BinRule::StateBits);
     }
     None
 }
 
 /// B14 to B17.
 #[tactic(auto, unfolding(crate::specs::Rules::config_questions))]
-fn config_fault(seen: &Seen, packet: &[u8]) -> Option<u8>
+fn config_fault(seen: &Seen, packet: &[u8]) -> Option<BinRule>
     requires { 16 ≤ length packet.now }
     ensures first { result ≡ first_of (config_questions seen.now packet.now) }
     ensures grid { IfNone result (alloc_offset (slice_index packet.now 13 * slice_index packet.now 14) ≤ 524288) }
@@ -180,50 +175,50 @@ fn config_fault(seen: &Seen, packet: &[u8]) -> Option<u8>
     let across = byte_at(packet, 13);
     let down = byte_at(packet, 14);
     if seen.configured {
-        return Some(SECOND_CONFIG);
+        return Some(BinRule::SecondConfig);
     }
     if across == 0 || down == 0 {
-        return Some(NO_TILES);
+        return Some(BinRule::NoTiles);
     }
     if byte_at(packet, 15) & 0x82 != 0 {
-        return Some(CONFIG_FLAGS);
+        return Some(BinRule::ConfigFlags);
     }
     if !slot_fits(u32::from(across) * u32::from(down)) {
-        return Some(TOO_MANY_TILES);
+        return Some(BinRule::TooManyTiles);
     }
     None
 }
 
 /// The rules of an indexed primitive.
 #[tactic(auto, using(field_words::proofs::Questions::passes, field_words::proofs::Questions::stops))]
-fn indexed_primitive_fault(given: &Given, seen: &Seen, packet: &[u8]) -> Option<u8>
+fn indexed_primitive_fault(given: &Given, seen: &Seen, packet: &[u8]) -> Option<BinRule>
     requires { 14 ≤ length packet.now }
     ensures first { result ≡ first_of (primitive_questions seen.now ++ index_questions given.now seen.now packet.now) }
     ensures buffer { IfNone result (IsData given.now.table given.now.handles seen.now.index_handle) }
     ensures indexes { IfNone result (u32_at packet.now 6 ≤ (index_buffer given.now seen.now).size) }
 {
     match primitive_fault(seen) {
-        Some(number) => Some(number),
+        Some(rule) => Some(rule),
         None => index_fault(given, seen, packet),
     }
 }
 
 /// The rules of an array primitive.
 #[tactic(auto, using(field_words::proofs::Questions::passes, field_words::proofs::Questions::stops))]
-fn array_primitive_fault(seen: &Seen, packet: &[u8]) -> Option<u8>
+fn array_primitive_fault(seen: &Seen, packet: &[u8]) -> Option<BinRule>
     requires { 10 ≤ length packet.now }
     ensures first { result ≡ first_of (primitive_questions seen.now ++ array_questions packet.now) }
     ensures fits { IfNone result (u32_at packet.now 6 + u32_at packet.now 2 < 2 ^ 32) }
 {
     match primitive_fault(seen) {
-        Some(number) => Some(number),
+        Some(rule) => Some(rule),
         None => array_fault(packet),
     }
 }
 
 /// The rules of a whole packet's kind.
 #[tactic(auto, unfolding(crate::specs::Rules::kind_questions, packets::specs::Length::bin_length))]
-fn kind_fault(given: &Given, seen: &Seen, packet: &[u8]) -> Option<u8>
+fn kind_fault(given: &Given, seen: &Seen, packet: &[u8]) -> Option<BinRule>
     requires some { 1 ≤ length packet.now }
     requires whole { bin_length (opcode packet.now) ≤ length packet.now }
     ensures first { result ≡ first_of (kind_questions given.now seen.now packet.now) }
@@ -241,15 +236,15 @@ fn kind_fault(given: &Given, seen: &Seen, packet: &[u8]) -> Option<u8>
     }
 }
 
-/// The number of the first rule that stands at this packet.
+/// The first rule that stands at this packet.
 #[tactic(auto, unfolding(crate::specs::Rules::packet_questions), using(field_words::proofs::Questions::passes, field_words::proofs::Questions::stops))]
-pub(crate) fn packet_fault(given: &Given, seen: &Seen, packet: &[u8]) -> Option<u8>
+pub(crate) fn packet_fault(given: &Given, seen: &Seen, packet: &[u8]) -> Option<BinRule>
     requires { 1 ≤ length packet.now }
     ensures first { result ≡ first_of (packet_questions given.now seen.now packet.now) }
     ensures fine { IfNone result (IsFine given.now seen.now packet.now) }
 {
     match cut_fault(packet) {
-        Some(number) => Some(number),
+        Some(rule) => Some(rule),
         None => kind_fault(given, seen, packet),
     }
 }
@@ -275,14 +270,14 @@ pub(crate) fn is_plain(packet: &[u8]) -> bool
 
 /// B18 and B19.
 #[tactic(auto, unfolding(crate::specs::Rules::end_questions))]
-pub(crate) fn end_fault(seen: &Seen) -> Option<u8>
+pub(crate) fn end_fault(seen: &Seen) -> Option<BinRule>
     ensures { result ≡ first_of (end_questions seen.now) }
 {
     if !seen.started {
-        return Some(NO_START);
+        return Some(BinRule::NoStart);
     }
     if !(seen.before_last == INCREMENT_SEMAPHORE && seen.last == FLUSH) {
-        return Some(NO_END);
+        return Some(BinRule::NoEnd);
     }
     None
 }

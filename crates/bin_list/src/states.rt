@@ -90,7 +90,8 @@ impl States {
         requires some { 1 ≤ length packet.now }
         requires whole { bin_length (opcode packet.now) ≤ length packet.now }
         requires fits { opcode packet.now ≡ array_primitive_list → u32_at packet.now 6 + u32_at packet.now 2 < 2 ^ 32 }
-        ensures states { OnOk result ((later : List (List ℕ)) → all_states self.new.done.items self.new.current later ≡ all_states self.old.done.items self.old.current (packet.now ∷ later)) }
+        ensures states { OnOk result ((later : List (List ℕ)) → all_states self.new.done.items self.new.current later
+            ≡ all_states self.old.done.items self.old.current (packet.now ∷ later)) }
         ensures begun { IsSome self.new.current → IsSome self.old.current ⊎ (opcode packet.now ≡ gl_shader_state) }
         ensures memory { OnErr result (IsSome self.old.current) }
     {

@@ -326,7 +326,7 @@ fn a_fault_reads_as_a_sentence(rt: HostRuntime) -> Result<(), Fail> {
     let fault = ListFault { number: 3, at: 32 };
     assert_eq!(rt;
         fault.to_string(rt.alloc())?.as_str(),
-        "binner list, byte 32: a flush isn't the list's last byte (B3)"
+        "B3 at byte 32 of the binner list: a flush isn't the list's last byte"
     );
     Ok(())
 }

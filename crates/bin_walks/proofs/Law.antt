@@ -9,7 +9,8 @@ use Rattle.packets.specs.Opcode.{flush, increment_semaphore}
 use Rattle.bin_list.specs.declared.seen.Seen.{Seen}
 use Rattle.bin_list.specs.Packets.{packets, passed, onto, cut}
 use Rattle.bin_list.specs.Seen.{seen_before}
-use Rattle.bin_list.specs.Rules.{given_of, asked, fault, end_questions, questions_of}
+use Rattle.bin_list.specs.Rules.{given_of, asked, end_questions, questions_of}
+use Rattle.bin_list.specs.Faults.{fault}
 use Rattle.bin_list.specs.States.{states_of}
 use Rattle.bin_list.proofs.Facts.{configured}
 use Rattle.bin_list.proofs.Least.{cut_place}

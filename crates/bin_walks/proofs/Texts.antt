@@ -13,7 +13,8 @@ use Rattle.bin_list.specs.declared.seen.Seen.{Seen}
 use Rattle.bin_list.specs.Packets.{opcode}
 use Rattle.bin_list.specs.Rules.{index_size}
 use Rattle.bin_list.specs.Emitted.{state_text, config_text}
-use Rattle.bin_walks.specs.Walks.{Config, config_in}
+use Rattle.packets.specs.declared.config.Config.{Config}
+use Rattle.packets.specs.Config.{config_in}
 use Rattle.bin_walks.specs.Emission.{config_of}
 
 -- a number that was written reads as itself
@@ -78,9 +79,9 @@ unfolding config_text
 config_long layout p = refl
 
 same_config : (a b s t c d x y : ℕ) → a ≡ b → s ≡ t → c ≡ d
-    → (let one : Config = record { alloc = a; size = s; state = c; across = x; down = y } in let two : Config = record { alloc = b; size = t; state = d; across = x; down = y } in one ≡ two)
+    → (let one : Config = record { address = a; size = s; states = c; tiles_x = x; tiles_y = y } in let two : Config = record { address = b; size = t; states = d; tiles_x = x; tiles_y = y } in one ≡ two)
 same_config a b s t c d x y e f g =
-    let make : ℕ → ℕ → ℕ → Config = λ u v w. record { alloc = u; size = v; state = w; across = x; down = y } in
+    let make : ℕ → ℕ → ℕ → Config = λ u v w. record { address = u; size = v; states = w; tiles_x = x; tiles_y = y } in
     ap (λ u. make u s c) e ∙ ap (λ v. make b v c) f ∙ ap (λ w. make b t w) g
 
 pub config_read : (layout : Layout) (p : List ℕ) → layout.slot ≤ 67108864 → alloc_offset (slice_index p 13 * slice_index p 14) ≤ 524288

@@ -16,7 +16,8 @@ use Rattle.tile_memory.specs.Slots.{alloc_offset, slot_fits}
 use Rattle.bin_list.specs.declared.seen.Seen.{Seen}
 use Rattle.bin_list.specs.declared.state.State.{State}
 use Rattle.bin_list.specs.Packets.{opcode, front_packet, behind, cut, onto}
-use Rattle.bin_list.specs.Seen.{latest, is_there, byte_of, last_opcode, place, states_in, records_in, attributes, is_extended, record_size, record_room, seen_before}
+use Rattle.bin_list.specs.Seen.{latest, is_there, byte_of, last_opcode, place, states_in, records_in, seen_before}
+use Rattle.packets.specs.StateWord.{attribute_count, is_extended, record_size, record_room}
 use Rattle.bin_list.specs.Rules.{GivenModel, index_buffer, index_size, packet_questions, asked}
 use Rattle.bin_list.specs.Fine.{IsLow}
 use Rattle.bin_list.specs.States.{draws_to, greatest, state, states_of}
@@ -24,7 +25,9 @@ use Rattle.bin_list.specs.Emitted.{index_text, state_text, config_text, packet_t
 use Rattle.bin_list.proofs.Facts.{onto_none, packet_none, start_fine, config_fine}
 use Rattle.std.proofs.lemmas.List.{places}
 use Rattle.bin_list.proofs.Walk.{front_some, taken_some}
-use Rattle.bin_walks.specs.Walks.{Config, config_in, Kept, kept_after, Drawing, Tame, Walks}
+use Rattle.packets.specs.declared.config.Config.{Config}
+use Rattle.packets.specs.Config.{config_in}
+use Rattle.bin_walks.specs.Walks.{Kept, kept_after, Drawing, Tame, Walks}
 use Rattle.bin_walks.specs.Emission.{emission, config_of}
 use Rattle.bin_walks.specs.Draws.{IsStateAt, IsDrawn}
 use Rattle.bin_walks.proofs.Fine.{cut_fine, taken_is, flush_fine, indexed_fine, array_fine, config_first}
@@ -76,10 +79,10 @@ size_most true a most = omega arith
 size_most false a most = omega arith
 
 room_most : (word : ℕ) → record_room word ≤ 147
-unfolding record_room record_size attributes
+unfolding record_room record_size attribute_count
 room_most word =
-    let a : attributes word ≤ 8 = attributes_most (word % 8 == 0) word in
-    let s : record_size word ≤ 132 = size_most (is_extended word) (attributes word) a in
+    let a : attribute_count word ≤ 8 = attributes_most (word % 8 == 0) word in
+    let s : record_size word ≤ 132 = size_most (is_extended word) (attribute_count word) a in
     let r = rounded (record_size word) 16 (omega arith) in
     let near = r.near in
     omega arith

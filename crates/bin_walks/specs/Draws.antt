@@ -7,7 +7,7 @@ use Rattle.relocation.specs.declared.layout.Layout.{Layout}
 use Rattle.packets.specs.Opcode.{indexed_primitive_list, array_primitive_list}
 use Rattle.bin_list.specs.declared.state.State.{State}
 use Rattle.bin_list.specs.Packets.{opcode}
-use Rattle.bin_list.specs.Seen.{record_room}
+use Rattle.packets.specs.StateWord.{record_room}
 use Rattle.bin_list.specs.Rules.{index_size}
 use Rattle.bin_list.specs.States.{draws_to}
 

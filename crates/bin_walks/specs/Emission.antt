@@ -7,7 +7,7 @@ use Rattle.bin_list.specs.Packets.{opcode}
 use Rattle.bin_list.specs.Seen.{seen_before}
 use Rattle.bin_list.specs.Rules.{GivenModel}
 use Rattle.bin_list.specs.Emitted.{packet_text}
-use Rattle.bin_walks.specs.Walks.{Config}
+use Rattle.packets.specs.declared.config.Config.{Config}
 
 -- what these packets are emitted as, behind those before them, which come the nearest first; buffer handles are dropped
 abbrev pub emission : GivenModel → Layout → List (List ℕ) → List (List ℕ) → List (List ℕ)
@@ -19,9 +19,9 @@ emission given layout earlier (packet ∷ later) =
 -- the configuration of a grid in the job's tile slot
 abbrev pub config_of : Layout → (across down : ℕ) → Config
 config_of layout across down = record {
-  alloc = layout.slot + alloc_offset (across * down);
+  address = layout.slot + alloc_offset (across * down);
   size = 524288 - alloc_offset (across * down);
-  state = layout.slot;
-  across = across;
-  down = down;
+  states = layout.slot;
+  tiles_x = across;
+  tiles_y = down;
 }

@@ -1,26 +1,11 @@
 -- A list of packets that the binner may read, one after the other.
-use Rattle.std.specs.Prelude.{◌≡◌, ◌≢◌, ℕ, Bool, true, false, ◌==◌, List, [], ◌∷◌, length, slice_index, Option, Some, None, if◌then◌else◌}
+use Rattle.std.specs.Prelude.{◌≡◌, ◌≢◌, ℕ, Bool, true, false, ◌==◌, List, [], ◌∷◌, length, Option, Some, None, if◌then◌else◌}
 use Rattle.field_words.specs.Words.{u32_at}
 use Rattle.packets.specs.Opcode.{halt, flush, start_tile_binning, indexed_primitive_list, array_primitive_list, gl_shader_state, tile_binning_mode, buffer_handles}
 use Rattle.packets.specs.Length.{bin_length}
+use Rattle.packets.specs.declared.config.Config.{Config}
+use Rattle.packets.specs.Config.{config_in}
 use Rattle.bin_list.specs.Packets.{opcode}
-
--- what a configuration tells: the memory of the tile lists and its size, that of the tile states, and the grid
-pub record Config : Type 0 where
-  pub alloc : ℕ
-  pub size : ℕ
-  pub state : ℕ
-  pub across : ℕ
-  pub down : ℕ
-
-unfoldable pub config_in : List ℕ → Config
-config_in packet = record {
-  alloc = u32_at packet 1;
-  size = u32_at packet 5;
-  state = u32_at packet 9;
-  across = slice_index packet 13;
-  down = slice_index packet 14;
-}
 
 -- what the binner keeps of the packets that it went past
 pub record Kept : Type 0 where

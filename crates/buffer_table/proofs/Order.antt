@@ -1,40 +1,33 @@
 -- The rules of a memory table are asked by item, and at an item by number.
-use Rattle.std.proofs.Common.{◌≡◌, ℕ, ◌+◌, ◌*◌, List, length, Some, arith}
+use Rattle.std.proofs.Common.{◌≡◌, ℕ, ◌+◌, List, length, Some, inl, inr, refl, arith}
 use Rattle.field_words.specs.Questions.{first_of, each}
-use Rattle.field_words.specs.Least.{Ascends, IsLeast}
-use Rattle.field_words.proofs.Least.{IsWithin, least, ascends_append, ascends_each}
+use Rattle.field_words.specs.Least.{IsLeast}
+use Rattle.field_words.proofs.Least.{IsOrder, Rises, pairs, least, rises_append, rises_each}
 use Rattle.buffer_table.specs.declared.buffer.Buffer.{Buffer}
 use Rattle.buffer_table.specs.declared.buffer.Regions.{Regions}
 use Rattle.buffer_table.specs.declared.buffer.TableFault.{TableFault}
+use Rattle.buffer_table.specs.declared.buffer.TableRule.TheVariants.{MemorySize}
 use Rattle.buffer_table.specs.declared.item.Item.{Item}
-use Rattle.buffer_table.specs.Table.{items_of, fault_rank, memory_questions, item_questions, all_questions, table_questions}
+use Rattle.buffer_table.specs.Table.{items_of, fault, IsUpTo, memory_questions, item_questions, all_questions, table_questions}
 
--- the ranks of item k of the list lie from here to the same of k + 1
-abbrev bound : ℕ → ℕ
-bound k = 8 * (k + 1)
+order : IsOrder IsUpTo
+order = pairs (λ (f : TableFault). (f.item, f.number))
 
-item_within : (memory : ℕ) (items : List Item) (k : ℕ) → IsWithin fault_rank (bound (k + 1)) (item_questions memory items k)
+-- the rules of item k of the list, before those of the next
+item_rises : (memory : ℕ) (items : List Item) (k : ℕ) → Rises IsUpTo (fault MemorySize (k + 1)) (item_questions memory items k) (fault MemorySize (k + 1 + 1))
 unfolding item_questions
-item_within memory items k = ((omega arith), ((omega arith), ((omega arith), ((omega arith), tt))))
+item_rises memory items k = (inr (refl, omega arith), (inr (refl, omega arith), (inr (refl, omega arith), (inr (refl, omega arith), inl (omega arith)))))
 
-item_ascends : (memory : ℕ) (items : List Item) (k : ℕ) → Ascends fault_rank (bound k) (item_questions memory items k)
-unfolding item_questions
-item_ascends memory items k = ((omega arith), ((omega arith), ((omega arith), ((omega arith), tt))))
-
-memory_within : (memory : ℕ) → IsWithin fault_rank (bound 0) (memory_questions memory)
+memory_rises : (memory : ℕ) → Rises IsUpTo (fault MemorySize 0) (memory_questions memory) (fault MemorySize 1)
 unfolding memory_questions
-memory_within memory = ((omega arith), tt)
+memory_rises memory = (inr (refl, omega arith), inl (omega arith))
 
-memory_ascends : (memory : ℕ) → Ascends fault_rank 0 (memory_questions memory)
-unfolding memory_questions
-memory_ascends memory = ((omega arith), tt)
-
-ascends : (memory : ℕ) (items : List Item) → Ascends fault_rank 0 (all_questions memory items)
+all_rise : (memory : ℕ) (items : List Item) → Rises IsUpTo (fault MemorySize 0) (all_questions memory items) (fault MemorySize (0 + length items + 1))
 unfolding all_questions
-ascends memory items =
-    ascends_append fault_rank 0 (bound 0) (memory_questions memory) (each (item_questions memory items) 0 (length items)) (omega arith) (memory_within memory) (memory_ascends memory)
-    (ascends_each fault_rank (item_questions memory items) bound (λ k. omega arith) (item_within memory items) (item_ascends memory items) 0 (length items))
+all_rise memory items =
+    rises_append IsUpTo (fault MemorySize 0) (fault MemorySize 1) _ (memory_questions memory) (each (item_questions memory items) 0 (length items)) order (memory_rises memory)
+    (rises_each IsUpTo (item_questions memory items) (λ k. fault MemorySize (k + 1)) order (item_rises memory items) 0 (length items))
 
-pub least_fault : (memory : ℕ) (r : Regions) (buffers : List Buffer) (fault : TableFault) → first_of (table_questions memory r buffers) ≡ Some fault
-    → IsLeast fault_rank (table_questions memory r buffers) fault
-least_fault memory r buffers fault some = least fault_rank 0 (table_questions memory r buffers) fault (ascends memory (items_of r buffers)) some
+pub least_fault : (memory : ℕ) (r : Regions) (buffers : List Buffer) (f : TableFault) → first_of (table_questions memory r buffers) ≡ Some f
+    → IsLeast IsUpTo (table_questions memory r buffers) f
+least_fault memory r buffers f some = least IsUpTo (fault MemorySize 0) _ (table_questions memory r buffers) f order (all_rise memory (items_of r buffers)) some

@@ -1,3 +1,4 @@
 pub mod Handles
+pub mod Rules
 pub mod Sound
 pub mod Table

@@ -2,13 +2,16 @@
 use Rattle.std.specs.Prelude.{◌≡◌, ℕ, ◌+◌, ◌*◌, ◌%◌, ◌≤◌, ◌<◌, min, max, Bool, not, ◌||◌, nat_lt, ◌==◌, List, [], ◌∷◌, ◌++◌, length, map, take, slice_index_or, Some}
 use Rattle.std.specs.List.{list_any}
 use Rattle.field_words.specs.Questions.{Question, Ask, first_of, each}
-use Rattle.field_words.specs.Least.{IsLeast}
+use Rattle.field_words.specs.Least.{IsLeast, NotAfter}
 use Rattle.field_words.specs.Sizes.{page_size, slot_size, most_memory}
 use Rattle.buffer_table.specs.declared.buffer.Kind.TheVariants.{Plain, Code}
 use Rattle.buffer_table.specs.declared.buffer.Buffer.{Buffer}
 use Rattle.buffer_table.specs.declared.buffer.Regions.{Regions}
 use Rattle.buffer_table.specs.declared.buffer.TableFault.{TableFault}
+use Rattle.buffer_table.specs.declared.buffer.TableRule.{TableRule}
+use Rattle.buffer_table.specs.declared.buffer.TableRule.TheVariants.{MemorySize, OffPage, OutsideMemory, SharedByte, TooMuchContent}
 use Rattle.buffer_table.specs.declared.item.Item.{Item}
+use Rattle.buffer_table.specs.Rules.{rule_number}
 
 -- what contracts see of a Table
 pub record TableModel : Type 0 where
@@ -16,9 +19,9 @@ pub record TableModel : Type 0 where
   pub regions : Regions
   pub buffers : List Buffer
 
--- a fault of rule M number at an item
-abbrev pub fault : ℕ → ℕ → TableFault
-fault number item = record { number = number; item = item }
+-- a fault by a rule at an item
+abbrev pub fault : TableRule → ℕ → TableFault
+fault rule item = record { number = rule_number rule; item = item }
 
 -- The items after the memory: the lists' region, the tile region, the buffers in order.
 abbrev pub lists_item : Regions → Item
@@ -55,7 +58,7 @@ is_off_page x = not (x.place % page_size == 0) || (not (x.size % page_size == 0)
 
 -- M1: the memory's size is 0, no multiple of a page or over 64 MiB
 unfoldable pub memory_questions : ℕ → List (Question TableFault)
-memory_questions memory = Ask (memory == 0 || (not (memory % page_size == 0) || nat_lt most_memory memory)) (fault 1 0) ∷ []
+memory_questions memory = Ask (memory == 0 || (not (memory % page_size == 0) || nat_lt most_memory memory)) (fault MemorySize 0) ∷ []
 
 -- M2: a place or size is no multiple of a page, or the size is 0
 -- M3: the end is past the memory
@@ -64,27 +67,30 @@ memory_questions memory = Ask (memory == 0 || (not (memory % page_size == 0) || 
 -- Item k of the list is item k + 1 of a fault, since the memory is item 0.
 unfoldable pub item_questions : ℕ → List Item → ℕ → List (Question TableFault)
 item_questions memory items k =
-    Ask (is_off_page (item_at items k)) (fault 2 (k + 1))
-    ∷ (Ask (nat_lt memory ((item_at items k).place + (item_at items k).size)) (fault 3 (k + 1))
-    ∷ (Ask (list_any (shares (item_at items k)) (take k items)) (fault 4 (k + 1))
-    ∷ (Ask (nat_lt (item_at items k).size (item_at items k).content) (fault 5 (k + 1)) ∷ [])))
+    Ask (is_off_page (item_at items k)) (fault OffPage (k + 1))
+    ∷ (Ask (nat_lt memory ((item_at items k).place + (item_at items k).size)) (fault OutsideMemory (k + 1))
+    ∷ (Ask (list_any (shares (item_at items k)) (take k items)) (fault SharedByte (k + 1))
+    ∷ (Ask (nat_lt (item_at items k).size (item_at items k).content) (fault TooMuchContent (k + 1)) ∷ [])))
 
 -- all rules, in the order of refusal
+abbrev pub items_questions : ℕ → List Item → List (Question TableFault)
+items_questions memory items = each (item_questions memory items) 0 (length items)
+
 unfoldable pub all_questions : ℕ → List Item → List (Question TableFault)
-all_questions memory items = memory_questions memory ++ each (item_questions memory items) 0 (length items)
+all_questions memory items = memory_questions memory ++ items_questions memory items
 
 -- all rules of the memory table of a file
 abbrev pub table_questions : ℕ → Regions → List Buffer → List (Question TableFault)
 table_questions memory r buffers = all_questions memory (items_of r buffers)
 
 -- faults in the order of refusal: by item, and at an item by number
-abbrev pub fault_rank : TableFault → ℕ
-fault_rank fault = 8 * fault.item + fault.number
+abbrev pub IsUpTo : TableFault → TableFault → Type 0
+IsUpTo one other = NotAfter (one.item, one.number) (other.item, other.number)
 
 -- The first rule of a table that stands is the least of all that do.
 abbrev pub FirstIsLeast : Type 0
 FirstIsLeast = (memory : ℕ) (r : Regions) (buffers : List Buffer) (fault : TableFault) → first_of (table_questions memory r buffers) ≡ Some fault
-    → IsLeast fault_rank (table_questions memory r buffers) fault
+    → IsLeast IsUpTo (table_questions memory r buffers) fault
 
 -- the entry of a buffer; past the end an entry of no bytes that is no Plain buffer
 abbrev pub past_end : Buffer

@@ -1,5 +1,7 @@
 //! The items of a job's memory as its file names them: buffers and the two regions; and the rules
 //! that they keep.
+ghost use Rattle.std.specs.Prelude.{◌≡◌};
+ghost use Rattle.buffer_table.specs.Rules.{rule_number, handle_rule_number};
 
 use thiserror::Error;
 
@@ -34,25 +36,76 @@ pub struct Regions {
     pub tile_slots: u32,
 }
 
-/// M1: the memory's size is 0, no multiple of a page, or over 64 MiB.
-pub const BAD_MEMORY: u8 = 1;
+/// The rules of the memory table, in the order in which they are asked.
+#[derive(Clone, Copy, Debug, PartialEq, Eq)]
+pub enum TableRule {
+    /// The memory's size is 0, no multiple of a page, or over 64 MiB.
+    MemorySize,
+    /// A place or size is no multiple of a page, or the size is 0.
+    OffPage,
+    /// The item ends past the memory.
+    OutsideMemory,
+    /// A byte of the item lies in an earlier item other than the memory.
+    SharedByte,
+    /// More content is given than the item has bytes.
+    TooMuchContent,
+}
 
-/// M2: a place or size is no multiple of a page, or the size is 0.
-pub const OFF_PAGE: u8 = 2;
+impl TableRule {
+    /// The rule's number, after the letter M.
+    pub fn number(self) -> u8
+        ensures { result ≡ rule_number self }
+    {
+        match self {
+            TableRule::MemorySize => 1,
+            TableRule::OffPage => 2,
+            TableRule::OutsideMemory => 3,
+            TableRule::SharedByte => 4,
+            TableRule::TooMuchContent => 5,
+        }
+    }
 
-/// M3: the item ends past the memory.
-pub const OUTSIDE_MEMORY: u8 = 3;
+    /// What the rule says.
+    pub fn sentence(self) -> &'static str {
+        match self {
+            TableRule::MemorySize => "the memory's size is 0, no multiple of 4,096, or over 64 MiB",
+            TableRule::OffPage => "a place or size is no multiple of 4,096, or the size is 0",
+            TableRule::OutsideMemory => "it ends past the memory",
+            TableRule::SharedByte => "a byte of it lies in an earlier item",
+            TableRule::TooMuchContent => "more content is given than it has bytes",
+        }
+    }
+}
 
-/// M4: a byte of the item lies in an earlier item other than the memory.
-pub const SHARED_BYTE: u8 = 4;
+/// The rule of a job's handles.
+#[derive(Clone, Copy, Debug, PartialEq, Eq)]
+pub enum HandleRule {
+    /// The handle is no buffer's number, or names a buffer of another client.
+    ForeignBuffer,
+}
 
-/// M5: more content is given than the item has bytes.
-pub const TOO_MUCH_CONTENT: u8 = 5;
+impl HandleRule {
+    /// The rule's number, after the letter H.
+    pub fn number(self) -> u8
+        ensures { result ≡ handle_rule_number self }
+    {
+        match self {
+            HandleRule::ForeignBuffer => 1,
+        }
+    }
+
+    /// What the rule says.
+    pub fn sentence(self) -> &'static str {
+        match self {
+            HandleRule::ForeignBuffer => "it names no buffer of the job's client",
+        }
+    }
+}
 
 /// The first memory rule that stands: M`number` at `item`. Items are 0 the memory, 1 the lists'
 /// region, 2 the tile region, and 3 + b buffer b.
 #[derive(Clone, Copy, Debug, PartialEq, Eq, Error)]
-#[error("rule M{number} stands at item {item} of the memory table: {}", self.sentence())]
+#[error("M{number} at item {item} of the memory table: {}", self.sentence())]
 pub struct TableFault {
     pub number: u8,
     pub item: u32,
@@ -62,11 +115,11 @@ impl TableFault {
     /// What the rule of this number says.
     pub fn sentence(&self) -> &'static str {
         match self.number {
-            BAD_MEMORY => "the memory's size is 0, no multiple of 4,096, or over 64 MiB",
-            OFF_PAGE => "a place or size is no multiple of 4,096, or the size is 0",
-            OUTSIDE_MEMORY => "it ends past the memory",
-            SHARED_BYTE => "a byte of it lies in an earlier item",
-            TOO_MUCH_CONTENT => "more content is given than it has bytes",
+            1 => TableRule::MemorySize.sentence(),
+            2 => TableRule::OffPage.sentence(),
+            3 => TableRule::OutsideMemory.sentence(),
+            4 => TableRule::SharedByte.sentence(),
+            5 => TableRule::TooMuchContent.sentence(),
             _ => "there is no rule of this number",
         }
     }

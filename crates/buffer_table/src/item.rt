@@ -2,12 +2,9 @@
 ghost use Rattle.std.specs.Prelude.{◌≡◌, ◌+◌, ◌<◌, ◌≤◌, ◌↔◌, IsTrue, Some, length, take};
 ghost use Rattle.std.specs.List.{list_any};
 ghost use Rattle.field_words.specs.Questions.{first_of, each};
-ghost use Rattle.buffer_table.specs.Table.{lists_item, tile_item, buffer_item, shares, ShareByte, is_off_page, item_questions, memory_questions, table_questions, items_of, item_at};
+ghost use Rattle.buffer_table.specs.Table.{lists_item, tile_item, buffer_item, shares, ShareByte, is_off_page, item_questions, items_questions, memory_questions, table_questions, items_of, item_at, fault};
 
-use crate::buffer::{
-    BAD_MEMORY, Buffer, OFF_PAGE, OUTSIDE_MEMORY, Regions, SHARED_BYTE, TOO_MUCH_CONTENT,
-    TableFault,
-};
+use crate::buffer::{Buffer, Regions, TableFault, TableRule};
 use field_words::{MOST_MEMORY, PAGE_SIZE, SLOT_SIZE};
 
 /// `size` bytes of the memory from `place` on, of which the file gives the first `content`.
@@ -90,7 +87,7 @@ fn memory_fault(mem_size: u32) -> Option<TableFault>
     ensures { result ≡ first_of (memory_questions mem_size) }
 {
     if mem_size == 0 || u64::from(mem_size) % PAGE != 0 || mem_size > MOST_MEMORY {
-        return fault(BAD_MEMORY, 0);
+        return fault(TableRule::MemorySize, 0);
     }
     None
 }
@@ -108,10 +105,13 @@ fn is_shared(regions: &Regions, buffers: &[Buffer], k: usize, x: &Item) -> bool
     false
 }
 
-fn fault(number: u8, item: u32) -> Option<TableFault>
-    ensures { result ≡ Some (record { number = number; item = item }) }
+fn fault(rule: TableRule, item: u32) -> Option<TableFault>
+    ensures { result ≡ Some (fault rule item) }
 {
-    Some(TableFault { number, item })
+    Some(TableFault {
+        number: rule.number(),
+        item,
+    })
 }
 
 /// M2 to M5 of item `k` of the list, which is item `k + 1` of a fault.
@@ -124,16 +124,16 @@ fn item_fault(mem_size: u32, regions: &Regions, buffers: &[Buffer], k: usize) ->
     let x = item_at(regions, buffers, k);
     let item = k as u32 + 1;
     if is_off_page(&x) {
-        return fault(OFF_PAGE, item);
+        return fault(TableRule::OffPage, item);
     }
     if u128::from(x.place) + u128::from(x.size) > u128::from(mem_size) {
-        return fault(OUTSIDE_MEMORY, item);
+        return fault(TableRule::OutsideMemory, item);
     }
     if is_shared(regions, buffers, k, &x) {
-        return fault(SHARED_BYTE, item);
+        return fault(TableRule::SharedByte, item);
     }
     if x.content > x.size {
-        return fault(TOO_MUCH_CONTENT, item);
+        return fault(TableRule::TooMuchContent, item);
     }
     None
 }
@@ -141,7 +141,7 @@ fn item_fault(mem_size: u32, regions: &Regions, buffers: &[Buffer], k: usize) ->
 /// The first of M2 to M5, item by item.
 fn items_fault(mem_size: u32, regions: &Regions, buffers: &[Buffer]) -> Option<TableFault>
     requires few { length buffers.now ≤ 1024 }
-    ensures { result ≡ first_of (each (item_questions mem_size (items_of regions.now buffers.now)) 0 (length (items_of regions.now buffers.now))) }
+    ensures { result ≡ first_of (items_questions mem_size (items_of regions.now buffers.now)) }
 {
     for k in 0..buffers.len() + 2 {
         if let Some(fault) = item_fault(mem_size, regions, buffers, k) {

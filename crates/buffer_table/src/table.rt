@@ -40,7 +40,8 @@ impl Table {
         buffers: &Vec<Buffer>,
     ) -> Result<Table, Stop<TableFault>>
         requires few { length buffers.now.items ≤ 1024 }
-        ensures made { Answers (table_questions mem_size regions buffers.now.items) (λ t. t ≡ record { memory = mem_size; regions = regions; buffers = buffers.now.items }) result }
+        ensures made { Answers (table_questions mem_size regions buffers.now.items)
+            (λ t. t ≡ record { memory = mem_size; regions = regions; buffers = buffers.now.items }) result }
         ensures first { NamesFirst (table_questions mem_size regions buffers.now.items) result }
         ensures memory { NeverHidesFault (table_questions mem_size regions buffers.now.items) result }
         ensures sound { IfOk result (λ t. IsSound t.memory t.regions t.buffers) }

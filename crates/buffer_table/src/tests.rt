@@ -52,32 +52,32 @@ fn the_first_memory_rule_that_stands(rt: HostRuntime) -> Result<(), Fail> {
             MEMORY,
             REGIONS,
             [BUFFER, at(0x82000), at(0x83000)],
-            Some((OUTSIDE_MEMORY, 4)),
+            Some((3, 4)),
         ),
         (0x84000, REGIONS, [BUFFER, at(0x82000), at(0x83000)], None),
         (
             0x84000,
             REGIONS,
             [BUFFER, at(0x82000), BUFFER],
-            Some((SHARED_BYTE, 5)),
+            Some((4, 5)),
         ),
         (
             0x84000,
             REGIONS,
             [BUFFER, BUFFER, at(0x82000)],
-            Some((SHARED_BYTE, 4)),
+            Some((4, 4)),
         ),
         (
             0x84000,
             REGIONS,
             [at(0x80000), BUFFER, at(0x82000)],
-            Some((SHARED_BYTE, 3)),
+            Some((4, 3)),
         ),
         (
             0x84000,
             REGIONS,
             [BUFFER, at(0x82800), at(0x83000)],
-            Some((OFF_PAGE, 4)),
+            Some((2, 4)),
         ),
         (
             0x84000,
@@ -90,21 +90,16 @@ fn the_first_memory_rule_that_stands(rt: HostRuntime) -> Result<(), Fail> {
                     ..at(0x83000)
                 },
             ],
-            Some((TOO_MUCH_CONTENT, 5)),
+            Some((5, 5)),
         ),
         (
             0x84000,
             REGIONS,
             [Buffer { size: 0, ..BUFFER }, at(0x82000), at(0x83000)],
-            Some((OFF_PAGE, 3)),
+            Some((2, 3)),
         ),
-        (0, REGIONS, [BUFFER, BUFFER, BUFFER], Some((BAD_MEMORY, 0))),
-        (
-            0x4001000,
-            REGIONS,
-            [BUFFER, BUFFER, BUFFER],
-            Some((BAD_MEMORY, 0)),
-        ),
+        (0, REGIONS, [BUFFER, BUFFER, BUFFER], Some((1, 0))),
+        (0x4001000, REGIONS, [BUFFER, BUFFER, BUFFER], Some((1, 0))),
         (
             0x84000,
             Regions {
@@ -112,7 +107,7 @@ fn the_first_memory_rule_that_stands(rt: HostRuntime) -> Result<(), Fail> {
                 ..REGIONS
             },
             [BUFFER, BUFFER, BUFFER],
-            Some((OFF_PAGE, 1)),
+            Some((2, 1)),
         ),
         (
             0x84000,
@@ -121,7 +116,7 @@ fn the_first_memory_rule_that_stands(rt: HostRuntime) -> Result<(), Fail> {
                 ..REGIONS
             },
             [BUFFER, BUFFER, BUFFER],
-            Some((OFF_PAGE, 2)),
+            Some((2, 2)),
         ),
         (
             0x84000,
@@ -130,7 +125,7 @@ fn the_first_memory_rule_that_stands(rt: HostRuntime) -> Result<(), Fail> {
                 ..REGIONS
             },
             [BUFFER, BUFFER, BUFFER],
-            Some((OUTSIDE_MEMORY, 2)),
+            Some((3, 2)),
         ),
         (
             0x84000,
@@ -139,7 +134,7 @@ fn the_first_memory_rule_that_stands(rt: HostRuntime) -> Result<(), Fail> {
                 ..REGIONS
             },
             [BUFFER, BUFFER, BUFFER],
-            Some((SHARED_BYTE, 2)),
+            Some((4, 2)),
         ),
     ] {
         assert_eq!(rt; fault_of(alloc, memory, regions, buffers)?, want);

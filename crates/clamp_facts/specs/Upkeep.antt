@@ -6,9 +6,11 @@ use Rattle.field_words.specs.Sizes.{most_words}
 use Rattle.qpu_isa.specs.declared.inst.Reg.{Reg}
 use Rattle.qpu_isa.specs.declared.inst.Reg.TheVariants.{A, B, Acc}
 use Rattle.qpu_isa.specs.Word.{ws_of, waddr_add_of, waddr_mul_of}
-use Rattle.qpu_isa.specs.Terms.{is_branch, names, add_names_reg}
+use Rattle.qpu_isa.specs.Terms.{is_branch, names, sets_alone, add_names_reg}
 use Rattle.qpu_isa.specs.Told.{IsRegister}
 use Rattle.shader_flow.specs.Flow.{word}
+use Rattle.shader_flow.specs.Pending.{count_of}
+use Rattle.clamp_facts.specs.declared.fact.Fact.{Fact}
 use Rattle.clamp_facts.specs.declared.fact.Fact.TheVariants.{Nothing}
 use Rattle.clamp_facts.specs.declared.fact.Entry.{Entry}
 use Rattle.clamp_facts.specs.Facts.{sets, maker_of, made, carries}
@@ -26,6 +28,16 @@ pub record IsTableOf (code : List ℕ) (makers : Reg → Option ℕ) (table : Ta
   pub b_size : length table.b ≡ 32
   pub acc_size : length table.acc ≡ 4
   pub each : (reg : Reg) → IsRegister reg → Keeps code (makers reg) (entry_of table reg)
+
+-- what is known at an instruction: the uniforms taken before it, and the table kept up to it
+pub record IsKnownAt (code : List ℕ) (at count : ℕ) (table : Table) : Type 0 where
+  pub inside : at < length code
+  pub taken : count ≡ count_of code at
+  pub kept : IsTableOf code (maker_of code at) table
+
+-- the fact that is put to a register that the instruction at `at` names by its add unit
+abbrev pub fact_put : List ℕ → ℕ → Reg → Fact
+fact_put code at reg = if sets_alone (word code at) reg then made code at else Nothing
 
 -- the register that a write address names on a side
 unfoldable pub register_at : (on_a : Bool) → ℕ → Option Reg

@@ -1,15 +1,15 @@
 //! Keeping the table on the way up a shader.
-ghost use Rattle.std.specs.Prelude.{◌≡◌, ◌<◌, ◌≤◌, ◌+◌, length, IfSome, if◌then◌else◌};
-ghost use Rattle.qpu_isa.specs.Terms.{is_switch, sets_alone};
+ghost use Rattle.std.specs.Prelude.{◌≡◌, ◌<◌, ◌≤◌, ◌+◌, length, IfSome};
+ghost use Rattle.qpu_isa.specs.Terms.{is_switch};
 ghost use Rattle.qpu_isa.specs.Told.{IsRegister};
-ghost use Rattle.clamp_facts.specs.declared.fact.Fact.TheVariants.{Nothing};
 ghost use Rattle.shader_flow.specs.Bounded.{is_back};
 ghost use Rattle.shader_flow.specs.Flow.{word, checked_of, IsFlow};
 ghost use Rattle.shader_flow.specs.Pending.{count_of};
-ghost use Rattle.clamp_facts.specs.Facts.{maker_of, fact_at, makes_clamp, made};
-ghost use Rattle.clamp_facts.specs.Upkeep.{IsTableOf, register_at, add_register, mul_register, maker_added, maker_written};
+ghost use Rattle.clamp_facts.specs.Facts.{maker_of, makes_clamp, made};
+ghost use Rattle.clamp_facts.specs.Upkeep.{IsTableOf, fact_put, register_at, add_register, mul_register, maker_added, maker_written};
 
 use crate::fact::Fact;
+use crate::known::Known;
 use crate::table::FactTable;
 use field_words::Steps;
 use qpu_isa::Reg;
@@ -19,65 +19,39 @@ use qpu_isa::writes::sets_alone;
 use shader_flow::{Flow, is_marked};
 use std::sync::ledger::Ledger;
 
-/// What is known of the register in the instruction at `at`, to which the table has been kept.
-pub fn look<L: Ledger>(
-    code: &[u64],
-    at: u32,
-    reg: Reg,
-    table: &FactTable,
-    steps: &mut Steps<L>,
-) -> Fact
-    requires inside { at < length code.now }
-    requires register { IsRegister reg }
-    requires kept { IsTableOf code.now (maker_of code.now at) table.now }
-    ensures value { result ≡ fact_at code.now at reg }
-    ensures steps { steps.new ≡ steps.old + 1 }
-{
-    table.get(reg, at, steps)
-}
-
-// The instruction at `at` is the minimum of a register that isn't negative and a uniform.
+// The instruction is the minimum of a register that isn't negative and a uniform.
 #[tactic(auto, unfolding(crate::specs::Facts::makes_clamp))]
-fn is_clamp<L: Ledger>(code: &[u64], at: u32, table: &FactTable, steps: &mut Steps<L>) -> bool
-    requires inside { at < length code.now }
-    requires kept { IsTableOf code.now (maker_of code.now at) table.now }
-    ensures value { result ≡ makes_clamp code.now at }
+fn is_clamp<L: Ledger>(known: &Known, steps: &mut Steps<L>) -> bool
+    ensures value { result ≡ makes_clamp known.now.code known.now.at }
     ensures steps { steps.new ≤ steps.old + 1 }
 {
-    let word = code[at as usize];
-    if !is_min_with_uniform(word) {
+    if !is_min_with_uniform(known.word()) {
         return false;
     }
-    match first_register(word) {
-        Some(reg) => look(code, at, reg, table, steps).is_from_zero(),
+    match first_register(known.word()) {
+        Some(reg) => known.look(reg, steps).is_from_zero(),
         None => false,
     }
 }
 
-// The fact that the instruction at `at` makes of the register that it sets, where `count` uniforms are taken before it.
+// The fact that the instruction makes of the register that it sets.
 #[tactic(auto, unfolding(crate::specs::Facts::made))]
-fn fact_made<L: Ledger>(
-    code: &[u64],
-    at: u32,
-    count: u32,
-    table: &FactTable,
-    steps: &mut Steps<L>,
-) -> Fact
-    requires inside { at < length code.now }
-    requires taken { count ≡ count_of code.now at }
-    requires kept { IsTableOf code.now (maker_of code.now at) table.now }
-    ensures value { result ≡ made code.now at }
+fn fact_made<L: Ledger>(known: &Known, steps: &mut Steps<L>) -> Fact
+    ensures value { result ≡ made known.now.code known.now.at }
     ensures steps { steps.new ≤ steps.old + 1 }
 {
-    let word = code[at as usize];
+    let word = known.word();
     if let Some(value) = loaded_value(word) {
         return Fact::Immediate(value);
     }
     if is_max_with_zero(word) {
         return Fact::NotNegative;
     }
-    if is_clamp(code, at, table, steps) {
-        return Fact::Clamped { k: count, at };
+    if is_clamp(known, steps) {
+        return Fact::Clamped {
+            k: known.count,
+            at: known.at,
+        };
     }
     Fact::Nothing
 }
@@ -125,24 +99,14 @@ fn mul_register(word: u64) -> Option<Reg>
     register_at(ws(word), waddr_mul(word))
 }
 
-// The fact that the instruction at `at` makes of the register, where it sets the whole of it.
-fn fact_set<L: Ledger>(
-    code: &[u64],
-    at: u32,
-    count: u32,
-    reg: Reg,
-    table: &FactTable,
-    steps: &mut Steps<L>,
-) -> Fact
-    requires inside { at < length code.now }
-    requires taken { count ≡ count_of code.now at }
+// The fact that the instruction makes of the register, where it sets the whole of it.
+fn fact_set<L: Ledger>(known: &Known, reg: Reg, steps: &mut Steps<L>) -> Fact
     requires register { IsRegister reg }
-    requires kept { IsTableOf code.now (maker_of code.now at) table.now }
-    ensures value { result ≡ (if sets_alone (word code.now at) reg then made code.now at else Nothing) }
+    ensures value { result ≡ fact_put known.now.code known.now.at reg }
     ensures steps { steps.new ≤ steps.old + 1 }
 {
-    if sets_alone(code[at as usize], reg) {
-        return fact_made(code, at, count, table, steps);
+    if sets_alone(known.word(), reg) {
+        return fact_made(known, steps);
     }
     Fact::Nothing
 }
@@ -163,7 +127,13 @@ fn learn_add<L: Ledger>(
     ensures steps { steps.new ≤ steps.old + 2 }
 {
     if let Some(reg) = add_register(code[at as usize]) {
-        let fact = fact_set(code, at, count, reg, table, steps);
+        let known = Known {
+            code,
+            at,
+            count,
+            table: &*table,
+        };
+        let fact = fact_set(&known, reg, steps);
         table.put(reg, fact, at, steps);
     }
 }

@@ -9,7 +9,8 @@ use Rattle.field_words.specs.Words.{u32_at}
 use Rattle.qpu_isa.specs.declared.inst.Sample.{Sample}
 use Rattle.texture_layouts.specs.Fits.{texture_questions}
 use Rattle.qpu_isa.specs.Shader.{ShaderModel, sample_at, position, address_at}
-use Rattle.emitted_facts.specs.Records.{attribute_count, attribute_size, attribute_stride, is_single, address_word}
+use Rattle.emitted_facts.specs.Records.{attribute_size, attribute_stride, is_single, address_word}
+use Rattle.packets.specs.StateWord.{attribute_count}
 
 -- the word at a position, 0 where there is none
 abbrev pub word_or_zero : (ℕ → ℕ) → Option ℕ → ℕ

@@ -1,4 +1,4 @@
--- The words of a shader record, and what the state word in a binner list says of it.
+-- The words of a shader record.
 --
 -- Word 0 has the flags, of which bit 0 says that the fragment shader is single-threaded. Words 1, 4 and 7
 -- are the places of the fragment, vertex and coordinate shader's code, words 2, 5 and 8 those of their
@@ -6,18 +6,7 @@
 -- size less one in the first byte and the low byte of its stride in the second. An extended record has
 -- a word 25 + t more for each attribute, of which bits 31:8 are bits 31:8 of the stride.
 use Rattle.std.specs.Prelude.{ℕ, ◌+◌, ◌*◌, ◌/◌, ◌%◌, ◌==◌, Bool, if◌then◌else◌}
-
--- the state word's low three bits are the number of attributes, 0 for eight
-unfoldable pub attribute_count : ℕ → ℕ
-attribute_count state = if state % 8 == 0 then 8 else state % 8
-
--- its bit 3 says that the record is extended
-unfoldable pub is_extended : ℕ → Bool
-is_extended state = state / 8 % 2 == 1
-
--- the bytes of a record
-unfoldable pub record_size : ℕ → ℕ
-record_size state = if is_extended state then 100 + 4 * attribute_count state else 36 + 8 * attribute_count state
+use Rattle.packets.specs.StateWord.{is_extended}
 
 -- The shaders by number: 0 fragment, 1 vertex, 2 coordinate. The words of their code and streams.
 abbrev pub code_word : ℕ → ℕ

@@ -10,7 +10,8 @@ use Rattle.packets.specs.Length.{bin_length, bin_taken}
 use Rattle.tile_memory.specs.Slots.{alloc_offset, slot_fits}
 use Rattle.bin_list.specs.declared.seen.Seen.{Seen}
 use Rattle.bin_list.specs.Packets.{packets, passed}
-use Rattle.bin_list.specs.Seen.{attributes, is_extended, record_size, record_room, seen_before, seen_after}
+use Rattle.bin_list.specs.Seen.{seen_before, seen_after}
+use Rattle.packets.specs.StateWord.{attribute_count, is_extended, record_size, record_room}
 use Rattle.bin_list.specs.States.{draws_to, greatest, states_of}
 use Rattle.bin_list.specs.Rules.{GivenModel, cut_questions, flush_questions, start_questions, increment_questions, primitive_questions, array_questions, state_questions, config_questions, kind_questions, packet_questions, end_questions, bin_questions}
 use Rattle.job_check.specs.Jobs.{grid_from}
@@ -98,7 +99,7 @@ end_none across down at states records = refl
 -- n states from number j on pass, and then the end does
 states_pass : (given : GivenModel) (across down at last before_last j records n : ℕ) → j + n ≤ given.declared → given.declared ≤ 17476 → at + 15 * n + 2 ≡ given.size
     → Pass given (seen_in across down at last before_last j records) (states_from j n)
-unfolding seen_after u32_at attributes is_extended record_size record_room rounded_up
+unfolding seen_after u32_at attribute_count is_extended record_size record_room rounded_up
 states_pass given across down at last before_last j records zero inside few size = (
   increment_none given across down at last before_last j records (is_same (at + 2) given.size (omega arith)),
   (

@@ -11,7 +11,8 @@ use Rattle.packets.specs.Length.{bin_taken}
 use Rattle.bin_list.specs.declared.seen.Seen.{Seen}
 use Rattle.bin_list.specs.Packets.{opcode, front_packet, behind, cut, packets, onto, passed}
 use Rattle.bin_list.specs.Seen.{place, seen_before, seen_after}
-use Rattle.bin_list.specs.Rules.{GivenModel, packet_questions, end_questions, fault, asked, questions_of}
+use Rattle.bin_list.specs.Rules.{GivenModel, packet_questions, end_questions, asked, questions_of}
+use Rattle.bin_list.specs.Faults.{fault}
 use Rattle.bin_list.proofs.Walk.{cut_step, cut_nothing, taken_some, seen_step}
 
 -- a packet of its opcode's length, after which the list goes on

@@ -9,7 +9,8 @@ use Rattle.field_words.specs.Questions.{first_of, each}
 use Rattle.field_words.proofs.Questions.{passes}
 use Rattle.buffer_table.specs.Table.{buffer_at}
 use Rattle.buffer_table.specs.Handles.{data_of, code_of}
-use Rattle.emitted_facts.specs.Records.{attribute_count, is_extended, record_size, attribute_size, attribute_stride, is_single}
+use Rattle.emitted_facts.specs.Records.{attribute_size, attribute_stride, is_single}
+use Rattle.packets.specs.StateWord.{attribute_count, is_extended, record_size}
 use Rattle.bin_list.specs.States.{state}
 use Rattle.shader_records.specs.Inputs.{InputModel}
 use Rattle.shader_records.specs.Sources.{no_state, state_at, handles_size, source_size, record_source, code_number, attribute_number, shader_used, taken_before, uniform_source, record_word}

@@ -6,9 +6,10 @@ use Rattle.field_words.specs.Questions.{first_of, each}
 use Rattle.field_words.proofs.Numbers.{rounded}
 use Rattle.buffer_table.specs.Table.{buffer_at}
 use Rattle.buffer_table.specs.Handles.{data_of}
+use Rattle.texture_layouts.specs.Format.{frame_tiling, frame_pixel}
 use Rattle.texture_layouts.specs.Surface.{microtile_width_of, microtile_height_of}
 use Rattle.render_list.specs.Frame.{is_present, is_multisample, tile_side, is_full}
-use Rattle.render_list.specs.Surfaces.{is_reversed, is_outside_grid, is_outside_frame, frame_questions, has_unknown_flag, has_unknown_bit, is_unnamed, tiling_number, has_unlisted_tiling, pixel_size_of, has_unlisted_format, is_unaligned, buffer_size, plain_end, is_too_large, is_full_with_bits, is_too_large_full, shape_questions, size_questions, surface_questions, is_written, whole_questions, surface_faults}
+use Rattle.render_list.specs.Surfaces.{is_reversed, is_outside_grid, is_outside_frame, frame_questions, has_unknown_flag, has_unknown_bit, is_unnamed, surface_tiling, has_unlisted_tiling, surface_pixel, has_unlisted_format, is_unaligned, buffer_size, plain_end, is_too_large, is_full_with_bits, is_too_large_full, shape_questions, size_questions, surface_questions, is_written, whole_questions, surface_faults}
 use Rattle.example_job.specs.Example.{frame_of}
 use Rattle.example_law.specs.Laws.{IsInRange}
 use Rattle.example_law.proofs.Numbers.{is_over, is_under}
@@ -61,7 +62,7 @@ frame_facts across down count range =
 
 frame_none : (across down : ℕ) → IsFrame across down
     → first_of (surface_faults (frame_of across down) (Some (across, down)) (table_for (across * down)) (0 ∷ 1 ∷ 2 ∷ [])) ≡ None
-unfolding each data_of buffer_at microtile_width_of microtile_height_of is_present is_multisample tile_side is_full is_reversed is_outside_grid is_outside_frame frame_questions has_unknown_flag has_unknown_bit is_unnamed tiling_number has_unlisted_tiling pixel_size_of has_unlisted_format is_unaligned buffer_size plain_end is_too_large is_full_with_bits is_too_large_full shape_questions size_questions surface_questions is_written whole_questions surface_faults
+unfolding each data_of buffer_at microtile_width_of microtile_height_of is_present is_multisample tile_side is_full is_reversed is_outside_grid is_outside_frame frame_questions has_unknown_flag has_unknown_bit is_unnamed surface_tiling frame_tiling has_unlisted_tiling surface_pixel frame_pixel has_unlisted_format is_unaligned buffer_size plain_end is_too_large is_full_with_bits is_too_large_full shape_questions size_questions surface_questions is_written whole_questions surface_faults
 frame_none across down f =
     rw (f.across_order, f.down_order, f.across_grid, f.down_grid, f.width, f.height, f.wide, f.high, f.room) refl
 

@@ -1,59 +1,91 @@
--- In a list in the order of rank, the first rule that stands is the least that does.
-use Rattle.std.proofs.Common.{◌≡◌, ◌≤◌, inl, inr, ℕ, zero, suc, ◌+◌, true, false, List, [], ◌∷◌, ◌++◌, Some, refl, subst, arith}
-use Rattle.field_words.specs.Questions.{Question, Ask, first_of, each}
-use Rattle.field_words.specs.Least.{Stands, Ascends, IsLeast}
+-- In a list whose answers rise, the first rule that stands is the least that does.
+use Rattle.std.proofs.Common.{◌≡◌, ◌≤◌, inl, inr, ℕ, zero, suc, ◌+◌, true, false, List, [], ◌∷◌, ◌++◌, Some, None, Result, Ok, Err, refl, subst, arith}
+use Rattle.field_words.specs.declared.stop.Stop.{Stop}
+use Rattle.field_words.specs.declared.stop.Stop.TheVariants.{Fault, NoMemory}
+use Rattle.field_words.specs.Questions.{Question, Ask, first_of, each, answered, Answers}
+use Rattle.field_words.specs.Least.{Stands, NotAfter, IsLeast, NamesLeast}
 
-above : {F : Type 0} (rank : F → ℕ) (from : ℕ) (questions : List (Question F)) (answer : F) → Ascends rank from questions → Stands questions answer → from ≤ rank answer
-above rank from [] answer ascends none = absurd none
-above rank from (Ask stands first ∷ later) answer ascends (inl here) = subst (λ a. from ≤ rank a) here.1 ascends.0
-above rank from (Ask stands first ∷ later) answer ascends (inr rest) =
-    let up = above rank (rank first) later answer ascends.1 rest in
-    let low = ascends.0 in
-    omega arith
+pub record IsOrder {F : Type 0} (IsUpTo : F → F → Type 0) : Type 0 where
+  pub same : (a : F) → IsUpTo a a
+  pub on : (a b c : F) → IsUpTo a b → IsUpTo b c → IsUpTo a c
 
-first_stands : {F : Type 0} (questions : List (Question F)) (answer : F) → first_of questions ≡ Some answer → Stands questions answer
+pub numbers : IsOrder (λ n m. n ≤ m)
+numbers = record { same = λ a. omega arith; on = λ a b c one two. omega arith }
+
+-- by the pair of numbers that each answer has
+pub pairs : {F : Type 0} (rank : F → ℕ × ℕ) → IsOrder (λ a b. NotAfter (rank a) (rank b))
+pairs rank = record { same = λ a. grind arith; on = λ a b c one two. grind arith }
+
+-- from one answer to another none is before the one that is asked before it
+abbrev pub Rises : {F : Type 0} → (F → F → Type 0) → F → List (Question F) → F → Type 0
+Rises IsUpTo from [] upto = IsUpTo from upto
+Rises IsUpTo from (Ask stands answer ∷ later) upto = IsUpTo from answer × Rises IsUpTo answer later upto
+
+pub wider : {F : Type 0} (R : F → F → Type 0) (low from upto high : F) (questions : List (Question F)) → IsOrder R → R low from → Rises R from questions upto → R upto high
+    → Rises R low questions high
+wider R low from upto high [] order below rises up = order.on low upto high (order.on low from upto below rises) up
+wider R low from upto high (Ask stands answer ∷ later) order below rises up =
+    (order.on low from answer below rises.0, wider R answer answer upto high later order (order.same answer) rises.1 up)
+
+above : {F : Type 0} (R : F → F → Type 0) (from upto : F) (questions : List (Question F)) (answer : F) → IsOrder R → Rises R from questions upto
+    → Stands questions answer → R from answer
+above R from upto [] answer order rises none = absurd none
+above R from upto (Ask stands first ∷ later) answer order rises (inl here) = subst (λ a. R from a) here.1 rises.0
+above R from upto (Ask stands first ∷ later) answer order rises (inr rest) =
+    order.on from first answer rises.0 (above R first upto later answer order rises.1 rest)
+
+pub first_stands : {F : Type 0} (questions : List (Question F)) (answer : F) → first_of questions ≡ Some answer → Stands questions answer
 first_stands [] answer some = cc
 first_stands (Ask true first ∷ later) answer some = let e : first ≡ answer = cc in inl (refl, e)
 first_stands (Ask false first ∷ later) answer some = inr (first_stands later answer some)
 
-is_below : {F : Type 0} (rank : F → ℕ) (from : ℕ) (questions : List (Question F)) (answer : F) → Ascends rank from questions → first_of questions ≡ Some answer
-    → (other : F) → Stands questions other → rank answer ≤ rank other
-is_below rank from [] answer ascends some other stands = absurd stands
-is_below rank from (Ask true first ∷ later) answer ascends some other (inl here) =
+pub nothing_stands : {F : Type 0} (questions : List (Question F)) (answer : F) → first_of questions ≡ None → Stands questions answer → ⊥
+nothing_stands [] answer none stands = stands
+nothing_stands (Ask true first ∷ later) answer none stands = cc
+nothing_stands (Ask false first ∷ later) answer none (inl here) = let wrong : false ≡ true = here.0 in cc
+nothing_stands (Ask false first ∷ later) answer none (inr rest) = nothing_stands later answer none rest
+
+first_below : {F : Type 0} (R : F → F → Type 0) (from upto : F) (questions : List (Question F)) (answer : F) → IsOrder R → Rises R from questions upto
+    → first_of questions ≡ Some answer → (other : F) → Stands questions other → R answer other
+first_below R from upto [] answer order rises some other stands = absurd stands
+first_below R from upto (Ask true first ∷ later) answer order rises some other stands =
     let e : first ≡ answer = cc in
-    subst (λ a. rank a ≤ rank other) e (subst (λ a. rank first ≤ rank a) here.1 (omega arith))
-is_below rank from (Ask true first ∷ later) answer ascends some other (inr rest) =
-    let e : first ≡ answer = cc in
-    subst (λ a. rank a ≤ rank other) e (above rank (rank first) later other ascends.1 rest)
-is_below rank from (Ask false first ∷ later) answer ascends some other (inl here) = let wrong : false ≡ true = here.0 in cc
-is_below rank from (Ask false first ∷ later) answer ascends some other (inr rest) = is_below rank (rank first) later answer ascends.1 some other rest
+    subst (λ a. R a other) e (above R first upto (Ask true first ∷ later) other order (order.same first, rises.1) stands)
+first_below R from upto (Ask false first ∷ later) answer order rises some other (inl here) = let wrong : false ≡ true = here.0 in cc
+first_below R from upto (Ask false first ∷ later) answer order rises some other (inr rest) = first_below R first upto later answer order rises.1 some other rest
 
-pub least : {F : Type 0} (rank : F → ℕ) (from : ℕ) (questions : List (Question F)) (answer : F) → Ascends rank from questions → first_of questions ≡ Some answer → IsLeast rank questions answer
-least rank from questions answer ascends some =
-    record { stands = first_stands questions answer some; least = λ other stands. is_below rank from questions answer ascends some other stands }
+-- The first of a list that rises is its least.
+pub least : {F : Type 0} (R : F → F → Type 0) (from upto : F) (questions : List (Question F)) (answer : F) → IsOrder R → Rises R from questions upto
+    → first_of questions ≡ Some answer → IsLeast R questions answer
+least R from upto questions answer order rises some =
+    record { stands = first_stands questions answer some; least = first_below R from upto questions answer order rises some }
 
--- no rank of the list is above a bound
-abbrev pub IsWithin : {F : Type 0} → (F → ℕ) → ℕ → List (Question F) → Type 0
-IsWithin rank most [] = Unit {0}
-IsWithin rank most (Ask stands answer ∷ later) = (rank answer ≤ most) × IsWithin rank most later
+pub names_least : {X F : Type 0} (R : F → F → Type 0) (from upto : F) (questions : List (Question F)) (P : X → Type 0) (result : Result X (Stop F)) → IsOrder R
+    → Rises R from questions upto → Answers questions P result → NamesLeast R questions result
+names_least R from upto questions P (Ok made) order rises answers = tt
+names_least R from upto questions P (Err (Fault f)) order rises answers = least R from upto questions f order rises answers
+names_least R from upto questions P (Err NoMemory) order rises answers = tt
 
-lower : {F : Type 0} (rank : F → ℕ) (low from : ℕ) (questions : List (Question F)) → low ≤ from → Ascends rank from questions → Ascends rank low questions
-lower rank low from [] below ascends = tt
-lower rank low from (Ask stands answer ∷ later) below ascends = let up = ascends.0 in ((omega arith), ascends.1)
+-- A front, and a rest that rises from where it ends.
+pub rises_append : {F : Type 0} (R : F → F → Type 0) (from mid upto : F) (front rest : List (Question F)) → IsOrder R → Rises R from front mid → Rises R mid rest upto
+    → Rises R from (front ++ rest) upto
+rises_append R from mid upto [] rest order one two = wider R from mid upto upto rest order one two (order.same upto)
+rises_append R from mid upto (Ask stands answer ∷ front) rest order one two = (one.0, rises_append R answer mid upto front rest order one.1 two)
 
--- A front whose ranks are at most those of the rest, and the rest.
-pub ascends_append : {F : Type 0} (rank : F → ℕ) (from mid : ℕ) (front rest : List (Question F)) → from ≤ mid → IsWithin rank mid front → Ascends rank from front → Ascends rank mid rest
-    → Ascends rank from (front ++ rest)
-ascends_append rank from mid [] rest low within ascends up = lower rank from mid rest low up
-ascends_append rank from mid (Ask stands answer ∷ front) rest low within ascends up =
-    (ascends.0, ascends_append rank (rank answer) mid front rest within.0 within.1 ascends.1 up)
-
--- Items whose ranks lie between bounds that rise.
-pub ascends_each : {F : Type 0} (rank : F → ℕ) (questions : ℕ → List (Question F)) (bound : ℕ → ℕ)
-    → ((k : ℕ) → bound k ≤ bound (k + 1)) → ((k : ℕ) → IsWithin rank (bound (k + 1)) (questions k)) → ((k : ℕ) → Ascends rank (bound k) (questions k))
-    → (i n : ℕ) → Ascends rank (bound i) (each questions i n)
+-- Items that rise from bound to bound.
+pub rises_each : {F : Type 0} (R : F → F → Type 0) (questions : ℕ → List (Question F)) (bound : ℕ → F) → IsOrder R
+    → ((k : ℕ) → Rises R (bound k) (questions k) (bound (k + 1))) → (i n : ℕ) → Rises R (bound i) (each questions i n) (bound (i + n))
 unfolding each
-ascends_each rank questions bound rises within ascends i zero = tt
-ascends_each rank questions bound rises within ascends i (suc n) =
-    ascends_append rank (bound i) (bound (i + 1)) (questions i) (each questions (i + 1) n) (rises i) (within i) (ascends i)
-    (ascends_each rank questions bound rises within ascends (i + 1) n)
+rises_each R questions bound order rises i zero = subst (λ k. R (bound i) (bound k)) (let e : i ≡ i + 0 = omega arith in e) (order.same (bound i))
+rises_each R questions bound order rises i (suc n) =
+    subst (λ k. Rises R (bound i) (each questions i (suc n)) (bound k)) (let e : i + 1 + n ≡ i + suc n = omega arith in e)
+    (rises_append R (bound i) (bound (i + 1)) (bound (i + 1 + n)) (questions i) (each questions (i + 1) n) order (rises i)
+    (rises_each R questions bound order rises (i + 1) n))
+
+-- The same rules with other answers, in an order that the change keeps.
+pub rises_answered : {F G : Type 0} (R : F → F → Type 0) (S : G → G → Type 0) (change : F → G) → ((a b : F) → R a b → S (change a) (change b))
+    → (from upto : F) (questions : List (Question F)) → Rises R from questions upto → Rises S (change from) (answered change questions) (change upto)
+unfolding answered
+rises_answered R S change keeps from upto [] rises = keeps from upto rises
+rises_answered R S change keeps from upto (Ask stands answer ∷ later) rises =
+    (keeps from answer rises.0, rises_answered R S change keeps answer upto later rises.1)

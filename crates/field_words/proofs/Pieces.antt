@@ -1,8 +1,8 @@
 -- A text made of pieces: from the pieces to the text, and back.
-use Rattle.std.proofs.Common.{◌≡◌, ℕ, ◌+◌, ◌≤◌, List, [], ◌∷◌, ◌++◌, length, take, drop, refl, sym, ap, subst, arith, ◌∙◌, length-append, length-drop}
+use Rattle.std.proofs.Common.{◌≡◌, ℕ, ◌+◌, ◌≤◌, List, ◌++◌, length, take, drop, sym, ap, arith, ◌∙◌, length-append, length-drop}
 use Rattle.std.proofs.lemmas.List.{places, length-take-le}
-use Rattle.std.proofs.Math.Seq.{drop-append_seam, take-append_seam, take-add, take-length}
-use Rattle.field_words.specs.Pieces.{IsPiece, joined, ArePieces}
+use Rattle.std.proofs.Math.Seq.{drop-append_seam, take-append_seam, take-add}
+use Rattle.field_words.specs.Pieces.{IsPiece}
 
 -- Dropping twice is dropping the sum.
 pub drop_drop : (m n : ℕ) (xs : List ℕ) → drop n (drop m xs) ≡ drop (m + n) xs
@@ -21,14 +21,6 @@ join_two bytes at m n one two first second =
           ∙ ap (λ rest. one ++ take n rest) (drop_drop at m bytes)
           ∙ ap (λ rest. one ++ rest) second.same;
     }
-
--- The pieces of a text joined are one piece.
-pub join : (bytes : List ℕ) (at : ℕ) (texts : List (List ℕ)) → ArePieces bytes at texts → IsPiece bytes at (length (joined texts)) (joined texts)
-join bytes at [] inside = record { size = refl; inside = omega arith; same = refl }
-join bytes at (text ∷ texts) pieces =
-    let rest = join bytes (at + length text) texts pieces.1 in
-    subst (λ n. IsPiece bytes at n (text ++ joined texts)) (sym (length-append text (joined texts)))
-    (join_two bytes at (length text) (length (joined texts)) text (joined texts) pieces.0 rest)
 
 -- The front and the rest of two lists that are joined.
 pub front_of : (m : ℕ) (one two : List ℕ) → length one ≡ m → take m (one ++ two) ≡ one
@@ -65,20 +57,3 @@ rest_piece bytes at m n one two long piece =
           ∙ sym (rest_of m (take m (drop at bytes)) (take n (drop m (drop at bytes))) (length-take-le m (drop at bytes) room))
           ∙ ap (drop m) cut ∙ rest_of m one two long;
     }
-
--- One piece made of many texts is that many pieces.
-pub split : (bytes : List ℕ) (at : ℕ) (texts : List (List ℕ)) → IsPiece bytes at (length (joined texts)) (joined texts) → ArePieces bytes at texts
-split bytes at [] piece = let inside = piece.inside in omega arith
-split bytes at (text ∷ texts) piece =
-    let two : IsPiece bytes at (length text + length (joined texts)) (text ++ joined texts) =
-    subst (λ n. IsPiece bytes at n (text ++ joined texts)) (length-append text (joined texts)) piece in (
-      front_piece bytes at (length text) (length (joined texts)) text (joined texts) refl two,
-      split bytes (at + length text) texts (rest_piece bytes at (length text) (length (joined texts)) text (joined texts) refl two),
-    )
-
--- A text that stands from the first byte to the last is the whole list.
-pub whole : (bytes : List ℕ) (text : List ℕ) → IsPiece bytes 0 (length bytes) text → bytes ≡ text
-whole bytes text piece = sym (take-length bytes) ∙ piece.same
-
-pub is_whole : (bytes : List ℕ) (text : List ℕ) → bytes ≡ text → IsPiece bytes 0 (length bytes) text
-is_whole bytes text same = record { size = ap length (sym same); inside = omega arith; same = take-length bytes ∙ same }

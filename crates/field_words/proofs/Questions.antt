@@ -1,6 +1,6 @@
 -- Laws on rules that are asked in an order.
 use Rattle.std.proofs.Common.{◌≡◌, ℕ, zero, suc, ◌+◌, ◌-◌, ◌<◌, ◌≤◌, true, false, List, [], ◌∷◌, ◌++◌, Some, None, Result, Ok, Err, refl, sym, ap, arith, ◌∙◌}
-use Rattle.field_words.specs.Questions.{Question, Ask, first_of, NoneStands, IsFirst, each, answered, Refuses, Answers, NamesFirst, NeverHidesFault}
+use Rattle.field_words.specs.Questions.{Question, Ask, first_of, NoneStands, IsFirst, each, answered, Refuses, Answers, NamesFirst}
 use Rattle.field_words.specs.declared.stop.Stop.{Stop}
 use Rattle.field_words.specs.declared.stop.Stop.TheVariants.{Fault, NoMemory}
 
@@ -28,7 +28,7 @@ stands_none (Ask true answer ∷ later) none = cc
 stands_none (Ask false answer ∷ later) none = stands_none later none.1
 
 -- The answer of the first question that stands is the first that stands, as a sentence about the
--- whole list, and the other way round.
+-- whole list.
 pub first_is : {F : Type 0} → (questions : List (Question F)) (f : F) → first_of questions ≡ Some f → IsFirst questions f
 first_is [] f some = cc
 first_is {F} (Ask true answer ∷ later) f some =
@@ -42,10 +42,6 @@ first_is (Ask false answer ∷ rest) f some =
       here = ap (λ l. Ask false answer ∷ l) found.here;
       before = (refl, found.before);
     }
-
-pub is_first : {F : Type 0} → (questions : List (Question F)) (f : F) → IsFirst questions f → first_of questions ≡ Some f
-is_first questions f found =
-    ap first_of found.here ∙ passes found.earlier (Ask true f ∷ found.later) (stands_none found.earlier found.before)
 
 -- The answer changes with the change of the answers.
 pub answered_none : {F G : Type 0} (change : F → G) → (questions : List (Question F)) → first_of questions ≡ None → first_of (answered change questions) ≡ None
@@ -102,19 +98,8 @@ pub refuses_front : {F : Type 0} (front rest : List (Question F)) → (stop : St
 refuses_front front rest (Fault f) refuses = stops front rest f refuses
 refuses_front front rest NoMemory refuses = tt
 
--- A refusal by rules is a refusal by the same rules under other answers.
-pub refuses_answered : {F G : Type 0} (change : F → G) (questions : List (Question F)) (f : F) → first_of questions ≡ Some f
-    → Refuses (answered change questions) (Fault (change f))
-refuses_answered change questions f some = answered_some change questions f some
-
 -- What answers the first that stands names it, as a sentence about the whole list.
 pub names_first : {X F : Type 0} (questions : List (Question F)) (P : X → Type 0) → (result : Result X (Stop F)) → Answers questions P result → NamesFirst questions result
 names_first questions P (Ok made) answers = tt
 names_first questions P (Err (Fault f)) answers = first_is questions f answers
 names_first questions P (Err NoMemory) answers = tt
-
--- A front without faults, and a rest of which none is hidden.
-pub hides_later : {X F : Type 0} (front rest : List (Question F)) → (result : Result X (Stop F)) → first_of front ≡ None → NeverHidesFault rest result → NeverHidesFault (front ++ rest) result
-hides_later front rest (Ok made) none later = tt
-hides_later front rest (Err (Fault f)) none later = tt
-hides_later front rest (Err NoMemory) none later = passes front rest none ∙ later

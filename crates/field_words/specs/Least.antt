@@ -1,18 +1,25 @@
--- Rules that are asked in the order of a number that each answer has: its rank.
-use Rattle.std.specs.Prelude.{◌≡◌, ◌≤◌, ◌⊎◌, ℕ, true, List, [], ◌∷◌}
+-- The first rule that stands, as a sentence about the set of all that stand: it is the least in an order of the answers.
+use Rattle.std.specs.Prelude.{◌≡◌, ◌<◌, ◌≤◌, ◌⊎◌, ℕ, true, List, [], ◌∷◌, Result, Ok, Err}
 use Rattle.field_words.specs.Questions.{Question, Ask}
+use Rattle.field_words.specs.declared.stop.Stop.{Stop}
+use Rattle.field_words.specs.declared.stop.Stop.TheVariants.{Fault, NoMemory}
 
 -- a rule of the list stands, with this answer
 abbrev pub Stands : {F : Type 0} → List (Question F) → F → Type 0
 Stands [] answer = ⊥
 Stands (Ask stands first ∷ later) answer = ((stands ≡ true) × (first ≡ answer)) ⊎ Stands later answer
 
--- no rank is below the one before it, and the first isn't below `from`
-abbrev pub Ascends : {F : Type 0} → (F → ℕ) → ℕ → List (Question F) → Type 0
-Ascends rank from [] = Unit {0}
-Ascends rank from (Ask stands answer ∷ later) = (from ≤ rank answer) × Ascends rank (rank answer) later
+-- one pair of numbers is not after another: by the first number, and where those are the same by the second
+abbrev pub NotAfter : ℕ × ℕ → ℕ × ℕ → Type 0
+NotAfter one other = (one.0 < other.0) ⊎ ((one.0 ≡ other.0) × (one.1 ≤ other.1))
 
--- A rule stands with this answer, and every rule that stands has at least its rank.
-pub record IsLeast {F : Type 0} (rank : F → ℕ) (questions : List (Question F)) (answer : F) : Type 0 where
+-- A rule stands with this answer, and the answer of every rule that stands is at or after it.
+pub record IsLeast {F : Type 0} (IsUpTo : F → F → Type 0) (questions : List (Question F)) (answer : F) : Type 0 where
   pub stands : Stands questions answer
-  pub least : (other : F) → Stands questions other → rank answer ≤ rank other
+  pub least : (other : F) → Stands questions other → IsUpTo answer other
+
+-- A fault that is answered is the least that stands.
+abbrev pub NamesLeast : {X F : Type 0} → (F → F → Type 0) → List (Question F) → Result X (Stop F) → Type 0
+NamesLeast IsUpTo questions (Ok made) = Unit {0}
+NamesLeast IsUpTo questions (Err (Fault answer)) = IsLeast IsUpTo questions answer
+NamesLeast IsUpTo questions (Err NoMemory) = Unit {0}

@@ -11,8 +11,3 @@ pub record IsPiece (bytes : List ℕ) (at n : ℕ) (text : List ℕ) : Type 0 wh
 abbrev pub joined : List (List ℕ) → List ℕ
 joined [] = []
 joined (text ∷ texts) = text ++ joined texts
-
--- from a place on the texts stand one after the other
-abbrev pub ArePieces : List ℕ → ℕ → List (List ℕ) → Type 0
-ArePieces bytes at [] = at ≤ length bytes
-ArePieces bytes at (text ∷ texts) = IsPiece bytes at (length text) text × ArePieces bytes (at + length text) texts

@@ -35,12 +35,17 @@ unfoldable pub answered : {F G : Type 0} → (F → G) → List (Question F) →
 answered change [] = []
 answered change (Ask stands answer ∷ later) = Ask stands (change answer) ∷ answered change later
 
+-- Ok comes only where no rule stands, with P of what was made; what Err holds is the first that stands
+abbrev pub GoesOn : {X F : Type 0} → List (Question F) → (X → Type 0) → Result X F → Type 0
+GoesOn questions P (Ok made) = (first_of questions ≡ None) × P made
+GoesOn questions P (Err answer) = first_of questions ≡ Some answer
+
 -- a fault is the first that stands; want of memory says nothing
 abbrev pub Refuses : {F : Type 0} → List (Question F) → Stop F → Type 0
 Refuses questions (Fault answer) = first_of questions ≡ Some answer
 Refuses questions NoMemory = Unit {0}
 
--- Ok comes only where no rule stands, with P of what was made; a fault is the first that stands
+-- the same as GoesOn of a call that memory may fail
 abbrev pub Answers : {X F : Type 0} → List (Question F) → (X → Type 0) → Result X (Stop F) → Type 0
 Answers questions P (Ok made) = (first_of questions ≡ None) × P made
 Answers questions P (Err stop) = Refuses questions stop

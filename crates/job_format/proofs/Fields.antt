@@ -1,5 +1,5 @@
 -- Fields that stand one after the other: from what is read to the text, and back.
-use Rattle.std.proofs.Common.{◌≡◌, ℕ, ◌+◌, ◌<◌, ◌≤◌, ◌^◌, List, [], ◌∷◌, ◌++◌, length, take, drop, get_or, refl, sym, ap, subst, arith, ◌∙◌, add_assoc, add-zero, length-drop, get_or-drop}
+use Rattle.std.proofs.Common.{◌≡◌, ℕ, ◌+◌, ◌<◌, ◌≤◌, ◌^◌, List, [], ◌∷◌, ◌++◌, length, take, drop, get_or, refl, sym, ap, subst, arith, ◌∙◌, add_assoc, add-zero, length-append, length-drop, get_or-drop}
 use Rattle.std.specs.Int.{to_le_bytes, w16, w32}
 use Rattle.field_words.specs.Words.{IsBytes, u16_at, u32_at}
 use Rattle.field_words.specs.Pieces.{IsPiece}
@@ -92,6 +92,10 @@ read_of bytes at (Byte v) fits piece =
     let inside : at + 1 ≤ length bytes = piece.inside in
     let some : 1 ≤ length (drop at bytes) = rw length-drop (omega arith) in
     sym (first_after bytes at) ∙ ap (λ xs. get_or xs 0 0) (sym (one_of (drop at bytes) some) ∙ same)
+
+pub text_long : (fs : List Field) → length (text_of_all fs) ≡ widths fs
+text_long [] = refl
+text_long (f ∷ fs) = length-append (text_of f) (text_of_all fs) ∙ ap (λ n. n + length (text_of_all fs)) (width_is f) ∙ ap (λ n. width f + n) (text_long fs)
 
 -- The text is what is read.
 pub read_back : (bytes : List ℕ) (at k : ℕ) (fs : List Field) → AllFit fs → IsPiece bytes (at + k) (widths fs) (text_of_all fs) → AreRead bytes at k fs

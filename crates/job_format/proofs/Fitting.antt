@@ -1,6 +1,7 @@
 -- A file that is read from bytes has numbers that fit, and is well formed where no rule stands.
 use Rattle.std.proofs.Common.{◌≡◌, ℕ, zero, suc, ◌+◌, ◌*◌, ◌%◌, ◌<◌, ◌≤◌, ◌^◌, List, ◌∷◌, length, map, drop, refl, sym, ap, subst, arith, ◌∙◌}
 use Rattle.std.specs.List.{AllByRecursion, range_with_len}
+use Rattle.field_words.specs.Sizes.{most_list, most_code}
 use Rattle.field_words.specs.Words.{IsBytes, u32_at}
 use Rattle.field_words.proofs.Numbers.{u16_fits, u32_fits, front_bytes, rest_bytes}
 use Rattle.job_format.specs.Offsets.{entry_offset, job_offset, content_size, content_offset, handles_offset, bin_offset, records_offset, uniforms_offset, end_offset}
@@ -84,7 +85,7 @@ file_fits bytes fits = record {
   jobs = (job_fits bytes fits, tt);
 }
 
-fits_shader : (kind size : ℕ) → kind ≤ 1 → (kind ≡ 1 → size ≤ 65536) → FitsShader (kind_of kind) size
+fits_shader : (kind size : ℕ) → kind ≤ 1 → (kind ≡ 1 → size ≤ most_code) → FitsShader (kind_of kind) size
 fits_shader zero size small limit = tt
 fits_shader (suc zero) size small limit = limit refl
 fits_shader (suc (suc n)) size small limit = absurd (omega (arith, small))
@@ -100,10 +101,10 @@ job_well_formed bytes p =
     let uniforms : length (cut bytes (uniforms_offset bytes) (u32_at bytes (at + 24))) ≡ u32_at bytes (at + 24) = length_cut bytes (uniforms_offset bytes) (u32_at bytes (at + 24)) (omega arith) in
     record {
       handles = subst (λ n. n ≤ 64) (sym handles) p.job.handles;
-      bin = subst (λ n. n ≤ 1048576) (sym bin) p.job.bin;
-      records = subst (λ n. n ≤ 1048576) (sym records) p.job.records;
+      bin = subst (λ n. n ≤ most_list) (sym bin) p.job.bin;
+      records = subst (λ n. n ≤ most_list) (sym records) p.job.records;
       declared = p.job.declared;
-      uniforms = subst (λ n. n ≤ 1048576) (sym uniforms) p.job.uniforms;
+      uniforms = subst (λ n. n ≤ most_list) (sym uniforms) p.job.uniforms;
       whole_words = subst (λ n. n % 4 ≡ 0) (sym uniforms) p.job.whole_words;
     }
 

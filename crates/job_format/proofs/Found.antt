@@ -8,7 +8,8 @@ use Rattle.field_words.specs.Pieces.{IsPiece, joined}
 use Rattle.field_words.proofs.Pieces.{join_two}
 use Rattle.field_words.proofs.Numbers.{u32_piece}
 use Rattle.job_format.specs.Model.{JobModel, FileModel}
-use Rattle.job_format.specs.Text.{flag, word, header_text, buffer_text, job_text, parts_text, file_text}
+use Rattle.field_words.specs.WordBytes.{word}
+use Rattle.job_format.specs.Text.{flag, header_text, buffer_text, job_text, parts_text, file_text}
 use Rattle.job_format.specs.Offsets.{entry_offset, job_offset, content_size, content_offset, handles_offset, bin_offset, records_offset, uniforms_offset, end_offset}
 use Rattle.job_format.specs.Reading.{cut, regions_at, entry_at, frame_at, words_at, buffers_at, contents_at, job_at, file_at}
 use Rattle.job_format.proofs.Entries.{buffer_piece}
@@ -122,7 +123,10 @@ job_reads bytes p =
       records = sym (length_cut bytes (records_offset bytes) (u32_at bytes (at + 16)) (omega arith));
       declared = refl;
       uniforms = sym (length_cut bytes (uniforms_offset bytes) (u32_at bytes (at + 24)) (omega arith));
-      frame = record { value = refl; first = p.job.first; second = p.job.second; third = p.job.third };
+      frame = refl;
+      first = p.job.first;
+      second = p.job.second;
+      third = p.job.third;
     }
 
 header_reads : (bytes : List ℕ) → Passes bytes → HeaderReads bytes (file_at bytes)

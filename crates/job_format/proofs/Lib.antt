@@ -2,7 +2,6 @@ pub mod Entries
 pub mod Fields
 pub mod Fitting
 pub mod Found
-pub mod Frames
 pub mod Heads
 pub mod Items
 pub mod Laws

@@ -1,8 +1,6 @@
 -- Where the bytes are a file, no rule of the format stands.
-use Rattle.std.proofs.Common.{◌≡◌, ℕ, zero, suc, ◌+◌, ◌<◌, ◌≤◌, List, ◌++◌, length, map, None, refl, subst, arith, ◌∙◌, inl, inr}
-use Rattle.std.specs.List.{AllByRecursion, range_with_len}
+use Rattle.std.proofs.Common.{◌≡◌, ℕ, zero, suc, ◌+◌, ◌<◌, ◌≤◌, List, ◌++◌, length, None, refl, arith, ◌∙◌}
 use Rattle.std.proofs.lemmas.Bool.{le-ltb}
-use Rattle.std.proofs.Math.Nat.{eq-or-lt_of_le}
 use Rattle.field_words.specs.Words.{u32_at}
 use Rattle.field_words.specs.Questions.{Question, first_of, each}
 use Rattle.field_words.proofs.Questions.{passes, stands_none}
@@ -21,43 +19,42 @@ each_passes questions i (suc n) none =
     ∙ each_passes questions (i + 1) n (λ k from to. none k (omega arith) (omega arith))
 
 -- none of a front and none of a rest
-pub both_pass : {F : Type 0} (front rest : List (Question F)) → first_of front ≡ None → first_of rest ≡ None → first_of (front ++ rest) ≡ None
+both_pass : {F : Type 0} (front rest : List (Question F)) → first_of front ≡ None → first_of rest ≡ None → first_of (front ++ rest) ≡ None
 both_pass front rest none_front none_rest = passes front rest none_front ∙ none_rest
 
 header_none : (bytes : List ℕ) → HeaderPasses bytes → first_of (header_questions bytes) ≡ None
 unfolding header_questions
 header_none bytes p =
-    let size = p.size in
-    let letters = p.letters in
-    let version = p.version in
-    let buffers = p.buffers in
-    let jobs = p.jobs in
     stands_none (header_questions bytes)
-    (grind (arith, size), (grind (arith, letters), (grind (arith, version), (grind (arith, buffers), (grind (arith, jobs), tt)))))
+    (grind (arith, p.size), (grind (arith, p.letters), (grind (arith, p.version), (grind (arith, p.buffers), (grind (arith, p.jobs), tt)))))
 
 entry_none : (bytes : List ℕ) (at : ℕ) → EntryPasses bytes at → first_of (entry_questions bytes at) ≡ None
 unfolding entry_questions
 entry_none bytes at p =
-    let size = p.size in
-    let kind = p.kind in
-    stands_none (entry_questions bytes at) (grind (arith, size), (grind (arith, kind), (grind (arith, p.code), tt)))
+    stands_none (entry_questions bytes at) (grind (arith, p.size), (grind (arith, p.kind), (grind (arith, p.code), tt)))
 
 job_none : (bytes : List ℕ) (at : ℕ) → JobPasses bytes at → first_of (job_questions bytes at) ≡ None
 unfolding job_questions
 job_none bytes at p =
-    let size = p.size in
-    let flags = p.flags in
-    let handles = p.handles in
-    let bin = p.bin in
-    let records = p.records in
-    let declared = p.declared in
-    let uniforms = p.uniforms in
-    let words = p.whole_words in
-    let first = p.first in
-    let second = p.second in
-    let third = p.third in
-    stands_none (job_questions bytes at)
-    (grind (arith, size), (grind (arith, flags), (grind (arith, handles), (grind (arith, bin), (grind (arith, records), (grind (arith, declared), (grind (arith, uniforms), (grind (arith, words), (grind (arith, first), (grind (arith, second), (grind (arith, third), tt)))))))))))
+    stands_none (job_questions bytes at) (
+      grind (arith, p.size),
+      (
+        grind (arith, p.flags),
+        (
+          grind (arith, p.handles),
+          (
+            grind (arith, p.bin),
+            (
+              grind (arith, p.records),
+              (
+                grind (arith, p.declared),
+                (grind (arith, p.uniforms), (grind (arith, p.whole_words), (grind (arith, p.first), (grind (arith, p.second), (grind (arith, p.third), tt))))),
+              ),
+            ),
+          ),
+        ),
+      ),
+    )
 
 parts_none : (bytes : List ℕ) → end_offset bytes ≡ length bytes → first_of (parts_questions bytes) ≡ None
 unfolding parts_questions end_offset uniforms_offset records_offset bin_offset
@@ -78,9 +75,3 @@ format_none bytes p =
     (both_pass (each (buffer_questions bytes) 0 n) _ entries
     (both_pass (job_questions bytes (job_offset bytes)) _ (job_none bytes (job_offset bytes) p.job)
     (both_pass (each (content_questions bytes) 0 n) (parts_questions bytes) contents (parts_none bytes p.end))))
-
--- an item's fact, of all items of a range
-in_all : {A : Type 0} (P : A → Type 0) (f : ℕ → A) (a n : ℕ) → AllByRecursion P (map f (range_with_len a n)) → (k : ℕ) → a ≤ k → k < a + n → P (f k)
-in_all P f a zero all k from to = absurd (omega (arith, from, to))
-in_all P f a (suc n) all k from to =
-    elim (eq-or-lt_of_le from) [ inl same ↦ subst (λ i. P (f i)) same all.0 | inr above ↦ in_all P f (a + 1) n all.1 k (omega arith) (omega arith) ]

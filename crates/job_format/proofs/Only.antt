@@ -2,6 +2,7 @@
 use Rattle.std.proofs.Common.{◌≡◌, ℕ, zero, suc, ◌+◌, ◌*◌, ◌%◌, ◌<◌, ◌≤◌, ◌^◌, Bool, true, false, List, [], ◌∷◌, ◌++◌, length, map, drop, get_or, refl, sym, ap, subst, arith, ◌∙◌, append_assoc}
 use Rattle.std.specs.List.{flat_map, AllByRecursion, range_with_len}
 use Rattle.std.proofs.lemmas.List.{append-nil}
+use Rattle.field_words.specs.Sizes.{most_list, most_code}
 use Rattle.field_words.specs.Words.{u32_at}
 use Rattle.field_words.specs.Pieces.{IsPiece, joined}
 use Rattle.field_words.proofs.Numbers.{u32_of_piece}
@@ -9,13 +10,13 @@ use Rattle.buffer_table.specs.declared.buffer.Kind.{Kind}
 use Rattle.buffer_table.specs.declared.buffer.Kind.TheVariants.{Plain, Code}
 use Rattle.buffer_table.specs.declared.buffer.Buffer.{Buffer}
 use Rattle.job_format.specs.Model.{JobModel, FileModel}
-use Rattle.job_format.specs.Text.{flag, word, kind_number, header_text, buffer_text, job_text, parts_text, file_text}
-use Rattle.job_format.specs.Offsets.{entry_offset, job_offset, content_size, content_offset, handles_offset, bin_offset, records_offset, uniforms_offset, end_offset}
+use Rattle.field_words.specs.WordBytes.{word}
+use Rattle.job_format.specs.Text.{flag, kind_number, header_text, buffer_text, job_text, parts_text, file_text}
+use Rattle.job_format.specs.Offsets.{most_states, entry_offset, job_offset, content_size, content_offset, handles_offset, bin_offset, records_offset, uniforms_offset, end_offset}
 use Rattle.job_format.specs.Reading.{cut, regions_at, entry_at, words_at, buffers_at, contents_at, job_at, file_at}
 use Rattle.job_format.specs.File.{BufferFits, JobFits, FitsShader, IsJobWellFormed, IsFileOf}
 use Rattle.job_format.proofs.Entries.{buffer_back}
-use Rattle.job_format.proofs.Frames.{frame_long}
-use Rattle.job_format.proofs.Heads.{HeaderReads, JobReads, SizesFit, header_back, job_back}
+use Rattle.job_format.proofs.Heads.{HeaderReads, JobReads, SizesFit, header_back, job_back, job_long}
 use Rattle.job_format.proofs.Passing.{Passes, EntryPasses}
 use Rattle.job_format.proofs.Standing.{content_offset_first, content_offset_step}
 use Rattle.job_format.proofs.Tails.{IsTail, tail_front, tail_rest, end_of_tail, whole_tail}
@@ -60,7 +61,7 @@ kind_small : (k : Kind) → kind_number k ≤ 1
 kind_small Plain = omega arith
 kind_small Code = omega arith
 
-code_size : (k : Kind) (size : ℕ) → FitsShader k size → kind_number k ≡ 1 → size ≤ 65536
+code_size : (k : Kind) (size : ℕ) → FitsShader k size → kind_number k ≡ 1 → size ≤ most_code
 code_size Plain size fits is_code = absurd (omega (arith, is_code))
 code_size Code size fits is_code = fits
 
@@ -73,7 +74,7 @@ entries_pass bytes k (b ∷ bs) read code zero below =
     let passes : EntryPasses bytes (entry_offset k) = record {
       size = r.size;
       kind = subst (λ n. n ≤ 1) (sym r.kind) small;
-      code = λ is_code. subst (λ n. n ≤ 65536) (sym r.content) (code_size b.kind b.content code.0 (sym r.kind ∙ is_code));
+      code = λ is_code. subst (λ n. n ≤ most_code) (sym r.content) (code_size b.kind b.content code.0 (sym r.kind ∙ is_code));
     } in
     subst (λ m. EntryPasses bytes (entry_offset m)) (omega arith) passes
 entries_pass bytes k (b ∷ bs) read code (suc i) below =
@@ -115,10 +116,6 @@ header_long : (f : FileModel) → length (header_text f) ≡ 36
 unfolding header_text
 header_long f = refl
 
-job_long : (j : JobModel) → JobFits j → length (job_text j) ≡ 124
-unfolding job_text
-job_long j fits = let long = frame_long j.frame fits.frame in omega arith
-
 -- What the bytes after the contents say.
 record PartsRead (bytes : List ℕ) (j : JobModel) : Type 0 where
   handles : words_at bytes (handles_offset bytes) (u32_at bytes (job_offset bytes + 8)) ≡ j.handles
@@ -153,7 +150,7 @@ parts_back bytes j fits r tail =
 
 job_is : (bytes : List ℕ) (j : JobModel) → JobReads bytes (job_offset bytes) j → PartsRead bytes j → job_at bytes ≡ j
 unfolding job_at
-job_is bytes j r p = rw (r.client, p.handles, p.bin, p.records, r.declared, p.uniforms, r.frame.value) refl
+job_is bytes j r p = rw (r.client, p.handles, p.bin, p.records, r.declared, p.uniforms, r.frame) refl
 
 -- the one job
 one_job : (js : List JobModel) → length js ≡ 1 → (j : JobModel) × (js ≡ j ∷ [])
@@ -170,11 +167,7 @@ text_is f = refl
 
 sizes_fit : (j : JobModel) → IsJobWellFormed j → SizesFit j
 sizes_fit j w =
-    let handles = w.handles in
-    let bin = w.bin in
-    let records = w.records in
-    let uniforms = w.uniforms in
-    record { handles = omega arith; bin = omega arith; records = omega arith; uniforms = omega arith }
+    record { handles = omega (arith, w.handles); bin = omega (arith, w.bin); records = omega (arith, w.records); uniforms = omega (arith, w.uniforms) }
 
 -- what the whole file's bytes say
 record FileReads (bytes : List ℕ) (f : FileModel) (j : JobModel) : Type 0 where
@@ -204,10 +197,10 @@ file_reads bytes f j is one fits well =
     let t36 = tail_rest bytes 0 36 36 (header_text f) (flat_map buffer_text f.buffers ++ (job_text j ++ (contents ++ parts))) (header_long f) refl t0 in
     let e = entries_back bytes 0 f.buffers (job_text j ++ (contents ++ parts)) is.fits.buffers t36 in
     let t_job : IsTail bytes (job_offset bytes) (job_text j ++ (contents ++ parts)) = subst (λ p. IsTail bytes p (job_text j ++ (contents ++ parts))) (omega arith) e.1 in
-    let job_piece = tail_front bytes (job_offset bytes) 124 (job_text j) (contents ++ parts) (job_long j fits) t_job in
+    let job_piece = tail_front bytes (job_offset bytes) 124 (job_text j) (contents ++ parts) (job_long j fits.frame) t_job in
     let job = job_back bytes (job_offset bytes) j fits (sizes_fit j well) job_piece in
     let t_contents : IsTail bytes (content_offset bytes 0) (contents ++ parts) =
-    tail_rest bytes (job_offset bytes) 124 (content_offset bytes 0) (job_text j) (contents ++ parts) (job_long j fits) (content_offset_first bytes) t_job in
+    tail_rest bytes (job_offset bytes) 124 (content_offset bytes 0) (job_text j) (contents ++ parts) (job_long j fits.frame) (content_offset_first bytes) t_job in
     let c = contents_back bytes 0 f.buffers f.contents parts e.0 w.contents t_contents in
     let t_parts : IsTail bytes (handles_offset bytes) parts =
     subst (λ n. IsTail bytes (content_offset bytes n) parts) (omega arith) c.1 in
@@ -240,14 +233,14 @@ reads_pass bytes f j is well r =
         size = r.job_inside;
         flags = subst (λ n. n ≤ 1) (sym g.flags) (flag_small j.frame.clear);
         handles = subst (λ n. n ≤ 64) (sym g.handles) well.handles;
-        bin = subst (λ n. n ≤ 1048576) (sym g.bin) well.bin;
-        records = subst (λ n. n ≤ 1048576) (sym g.records) well.records;
-        declared = subst (λ n. n ≤ 65536) (sym g.declared) well.declared;
-        uniforms = subst (λ n. n ≤ 1048576) (sym g.uniforms) well.uniforms;
+        bin = subst (λ n. n ≤ most_list) (sym g.bin) well.bin;
+        records = subst (λ n. n ≤ most_list) (sym g.records) well.records;
+        declared = subst (λ n. n ≤ most_states) (sym g.declared) well.declared;
+        uniforms = subst (λ n. n ≤ most_list) (sym g.uniforms) well.uniforms;
         whole_words = subst (λ n. n % 4 ≡ 0) (sym g.uniforms) well.whole_words;
-        first = g.frame.first;
-        second = g.frame.second;
-        third = g.frame.third;
+        first = g.first;
+        second = g.second;
+        third = g.third;
       };
       end = r.parts.end;
     }

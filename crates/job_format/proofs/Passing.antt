@@ -1,12 +1,13 @@
 -- What each part of a file has where no rule of the format stands.
-use Rattle.std.proofs.Common.{◌≡◌, ℕ, ◌+◌, ◌%◌, ◌<◌, ◌≤◌, List, ◌++◌, length, None, get_or, arith}
+use Rattle.std.proofs.Common.{◌≡◌, ℕ, ◌+◌, ◌%◌, ◌<◌, ◌≤◌, List, length, None, get_or, arith}
+use Rattle.field_words.specs.Sizes.{most_list, most_code}
 use Rattle.field_words.specs.Words.{u32_at}
 use Rattle.field_words.specs.Questions.{Question, first_of, each}
 use Rattle.field_words.proofs.Questions.{none_stands}
 use Rattle.field_words.proofs.Nones.{front_none, rest_none, each_none}
-use Rattle.job_format.specs.Faults.{magic, header_questions, entry_questions, buffer_questions, job_questions, content_questions, parts_questions, body_questions, format_questions}
+use Rattle.job_format.specs.Faults.{magic, header_questions, entry_questions, buffer_questions, job_questions, content_questions, parts_questions, rest_questions, job_and_rest_questions, body_questions, format_questions}
 use Rattle.job_format.specs.declared.rule.FormatFault.{FormatFault}
-use Rattle.job_format.specs.Offsets.{entry_offset, job_offset, end_offset}
+use Rattle.job_format.specs.Offsets.{most_states, entry_offset, job_offset, end_offset}
 use Rattle.job_format.specs.Whole.{HasParts}
 
 -- the header's facts
@@ -21,17 +22,17 @@ pub record HeaderPasses (bytes : List ℕ) : Type 0 where
 pub record EntryPasses (bytes : List ℕ) (at : ℕ) : Type 0 where
   pub size : at + 20 ≤ length bytes
   pub kind : u32_at bytes (at + 12) ≤ 1
-  pub code : u32_at bytes (at + 12) ≡ 1 → u32_at bytes (at + 16) ≤ 65536
+  pub code : u32_at bytes (at + 12) ≡ 1 → u32_at bytes (at + 16) ≤ most_code
 
 -- the job's entry
 pub record JobPasses (bytes : List ℕ) (at : ℕ) : Type 0 where
   pub size : at + 124 ≤ length bytes
   pub flags : u32_at bytes (at + 4) ≤ 1
   pub handles : u32_at bytes (at + 8) ≤ 64
-  pub bin : u32_at bytes (at + 12) ≤ 1048576
-  pub records : u32_at bytes (at + 16) ≤ 1048576
-  pub declared : u32_at bytes (at + 20) ≤ 65536
-  pub uniforms : u32_at bytes (at + 24) ≤ 1048576
+  pub bin : u32_at bytes (at + 12) ≤ most_list
+  pub records : u32_at bytes (at + 16) ≤ most_list
+  pub declared : u32_at bytes (at + 20) ≤ most_states
+  pub uniforms : u32_at bytes (at + 24) ≤ most_list
   pub whole_words : u32_at bytes (at + 24) % 4 ≡ 0
   pub first : get_or bytes (at + 121) 0 ≡ 0
   pub second : get_or bytes (at + 122) 0 ≡ 0
@@ -85,12 +86,6 @@ pub record Passes (bytes : List ℕ) : Type 0 where
   pub job : JobPasses bytes (job_offset bytes)
   pub end : end_offset bytes ≡ length bytes
 
-abbrev contents_and_parts : List ℕ → List (Question FormatFault)
-contents_and_parts bytes = each (content_questions bytes) 0 (u32_at bytes 28) ++ parts_questions bytes
-
-abbrev after_entries : List ℕ → List (Question FormatFault)
-after_entries bytes = job_questions bytes (job_offset bytes) ++ contents_and_parts bytes
-
 end_passes : (bytes : List ℕ) → first_of (parts_questions bytes) ≡ None → end_offset bytes ≡ length bytes
 unfolding parts_questions
 end_passes bytes none =
@@ -105,15 +100,15 @@ passes_all bytes none =
     let count : ℕ = u32_at bytes 28 in
     let entries : List (Question FormatFault) = each (buffer_questions bytes) 0 count in
     let body : first_of (body_questions bytes) ≡ None = rest_none (header_questions bytes) (body_questions bytes) none in
-    let after : first_of (after_entries bytes) ≡ None = rest_none entries (after_entries bytes) body in
-    let last : first_of (contents_and_parts bytes) ≡ None = rest_none (job_questions bytes (job_offset bytes)) (contents_and_parts bytes) after in
+    let after : first_of (job_and_rest_questions bytes) ≡ None = rest_none entries (job_and_rest_questions bytes) body in
+    let last : first_of (rest_questions bytes) ≡ None = rest_none (job_questions bytes (job_offset bytes)) (rest_questions bytes) after in
     let parts : first_of (parts_questions bytes) ≡ None = rest_none (each (content_questions bytes) 0 count) (parts_questions bytes) last in
     record {
       header = header_passes bytes (front_none (header_questions bytes) (body_questions bytes) none);
       entry = λ b below.
           entry_passes bytes (entry_offset b)
-          (each_none (buffer_questions bytes) 0 count b (front_none entries (after_entries bytes) body) (omega arith) (omega (arith, below)));
-      job = job_passes bytes (job_offset bytes) (front_none (job_questions bytes (job_offset bytes)) (contents_and_parts bytes) after);
+          (each_none (buffer_questions bytes) 0 count b (front_none entries (job_and_rest_questions bytes) body) (omega arith) (omega (arith, below)));
+      job = job_passes bytes (job_offset bytes) (front_none (job_questions bytes (job_offset bytes)) (rest_questions bytes) after);
       end = end_passes bytes parts;
     }
 

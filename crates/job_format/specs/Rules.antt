@@ -1,9 +1,18 @@
--- How a rule is printed: its letter, and its number in decimal.
+-- The rules of the format by number, and how a rule is printed: its letter, and its number in decimal.
 use Rattle.std.specs.Prelude.{ℕ, List, ◌++◌, codes}
 use Rattle.std.specs.Fmt.{decimal}
+use Rattle.job_format.specs.declared.rule.FormatRule.{FormatRule}
+use Rattle.job_format.specs.declared.rule.FormatRule.TheVariants.{NotAJobFile, EndsEarly, BytesFollow, OverLimit, WithoutMeaning}
 use Rattle.job_format.specs.declared.rule.Stage.{Stage}
 use Rattle.job_format.specs.declared.rule.Stage.TheVariants.{F, M, S, H, B, A, U, G, X}
 use Rattle.job_format.specs.declared.rule.Rule.{Rule}
+
+abbrev pub format_rule_number : FormatRule → ℕ
+format_rule_number NotAJobFile = 1
+format_rule_number EndsEarly = 2
+format_rule_number BytesFollow = 3
+format_rule_number OverLimit = 4
+format_rule_number WithoutMeaning = 5
 
 abbrev pub letter : Stage → List ℕ
 letter F = codes "F"

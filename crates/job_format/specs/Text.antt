@@ -4,19 +4,13 @@ use Rattle.std.specs.Prelude.{ℕ, Bool, true, false, List, [], ◌∷◌, ◌++
 use Rattle.std.specs.List.{flat_map}
 use Rattle.std.specs.Int.{w16, w32, to_le_bytes}
 use Rattle.field_words.specs.Pieces.{joined}
+use Rattle.field_words.specs.WordBytes.{half, word}
 use Rattle.buffer_table.specs.declared.buffer.Kind.{Kind}
 use Rattle.buffer_table.specs.declared.buffer.Kind.TheVariants.{Plain, Code}
 use Rattle.buffer_table.specs.declared.buffer.Buffer.{Buffer}
 use Rattle.job_format.specs.declared.file.Surface.{Surface}
 use Rattle.job_format.specs.declared.file.Frame.{Frame}
 use Rattle.job_format.specs.Model.{JobModel, FileModel}
-
--- a number of two or of four bytes
-abbrev pub half : ℕ → List ℕ
-half n = to_le_bytes w16 n
-
-abbrev pub word : ℕ → List ℕ
-word n = to_le_bytes w32 n
 
 -- 36 bytes: the magic, the version, the memory's size, the two regions, the counts
 unfoldable pub header_text : FileModel → List ℕ

@@ -1,27 +1,31 @@
 //! The rules of the format.
 ghost use Rattle.std.specs.Prelude.{◌≡◌, ◌+◌, ◌*◌, ◌++◌, ◌<◌, ◌≤◌, length, Some, IfNone};
 ghost use Rattle.field_words.specs.Words.{u32_at};
-ghost use Rattle.field_words.specs.Questions.{first_of, each};
-ghost use Rattle.job_format.specs.Faults.{header_questions, entry_questions, buffer_questions, job_questions, content_questions, parts_questions, body_questions, format_questions, Tells};
+ghost use Rattle.field_words.specs.Questions.{GoesOn, first_of, each};
+ghost use Rattle.job_format.specs.Faults.{header_questions, entry_questions, buffer_questions, job_questions, content_questions, parts_questions, rest_questions, job_and_rest_questions, body_questions, format_questions, fault};
 ghost use Rattle.job_format.specs.Whole.{HasHeader};
 ghost use Rattle.job_format.specs.Offsets.{header_size, entry_size, job_size, most_buffers, buffer_count, entry_offset, job_offset, content_size, content_offset, handles_offset};
 
-use crate::rule::{
-    BYTES_FOLLOW, ENDS_EARLY, FormatFault, NOT_A_JOB_FILE, OVER_LIMIT, WITHOUT_MEANING,
-};
+use crate::rule::{FormatFault, FormatRule};
 use crate::sizes::{
     ENTRY_SIZE, HEADER_SIZE, JOB_SIZE, MAGIC, MOST_BUFFERS, MOST_HANDLES, MOST_STATES, entry_offset,
 };
 use crate::words::word;
 use field_words::{MOST_CODE, MOST_LIST};
 
-fn fault(number: u8, offset: usize) -> Option<FormatFault>
-    ensures { result ≡ Some (record { number = number; offset = offset }) }
+fn fault_of(rule: FormatRule, offset: usize) -> FormatFault
+    ensures { result ≡ fault rule offset }
 {
-    Some(FormatFault {
-        number,
+    FormatFault {
+        number: rule.number(),
         offset: offset as u64,
-    })
+    }
+}
+
+fn fault(rule: FormatRule, offset: usize) -> Option<FormatFault>
+    ensures { result ≡ Some (fault rule offset) }
+{
+    Some(fault_of(rule, offset))
 }
 
 /// The header: F2, F1 and F4.
@@ -32,19 +36,19 @@ fn header_fault(bytes: &[u8]) -> Option<FormatFault>
     ensures few { IfNone result (buffer_count bytes.now ≤ most_buffers) }
 {
     if bytes.len() < HEADER_SIZE {
-        return fault(ENDS_EARLY, 0);
+        return fault(FormatRule::EndsEarly, 0);
     }
     if word(bytes, 0) != MAGIC {
-        return fault(NOT_A_JOB_FILE, 0);
+        return fault(FormatRule::NotAJobFile, 0);
     }
     if word(bytes, 4) != 1 {
-        return fault(NOT_A_JOB_FILE, 4);
+        return fault(FormatRule::NotAJobFile, 4);
     }
     if word(bytes, 28) > MOST_BUFFERS {
-        return fault(OVER_LIMIT, 28);
+        return fault(FormatRule::OverLimit, 28);
     }
     if word(bytes, 32) != 1 {
-        return fault(OVER_LIMIT, 32);
+        return fault(FormatRule::OverLimit, 32);
     }
     None
 }
@@ -57,14 +61,14 @@ fn entry_fault(bytes: &[u8], at: usize) -> Option<FormatFault>
     ensures inside { IfNone result (at + entry_size ≤ length bytes.now) }
 {
     if bytes.len() - at < ENTRY_SIZE {
-        return fault(ENDS_EARLY, at);
+        return fault(FormatRule::EndsEarly, at);
     }
     let kind = word(bytes, at + 12);
     if kind > 1 {
-        return fault(WITHOUT_MEANING, at + 12);
+        return fault(FormatRule::WithoutMeaning, at + 12);
     }
     if kind == 1 && word(bytes, at + 16) > MOST_CODE {
-        return fault(OVER_LIMIT, at + 16);
+        return fault(FormatRule::OverLimit, at + 16);
     }
     None
 }
@@ -77,37 +81,37 @@ fn job_fault(bytes: &[u8], at: usize) -> Option<FormatFault>
     ensures inside { IfNone result (at + job_size ≤ length bytes.now) }
 {
     if bytes.len() - at < JOB_SIZE {
-        return fault(ENDS_EARLY, at);
+        return fault(FormatRule::EndsEarly, at);
     }
     if word(bytes, at + 4) > 1 {
-        return fault(WITHOUT_MEANING, at + 4);
+        return fault(FormatRule::WithoutMeaning, at + 4);
     }
     if word(bytes, at + 8) > MOST_HANDLES {
-        return fault(OVER_LIMIT, at + 8);
+        return fault(FormatRule::OverLimit, at + 8);
     }
     if word(bytes, at + 12) > MOST_LIST {
-        return fault(OVER_LIMIT, at + 12);
+        return fault(FormatRule::OverLimit, at + 12);
     }
     if word(bytes, at + 16) > MOST_LIST {
-        return fault(OVER_LIMIT, at + 16);
+        return fault(FormatRule::OverLimit, at + 16);
     }
     if word(bytes, at + 20) > MOST_STATES {
-        return fault(OVER_LIMIT, at + 20);
+        return fault(FormatRule::OverLimit, at + 20);
     }
     if word(bytes, at + 24) > MOST_LIST {
-        return fault(OVER_LIMIT, at + 24);
+        return fault(FormatRule::OverLimit, at + 24);
     }
     if word(bytes, at + 24) % 4 != 0 {
-        return fault(WITHOUT_MEANING, at + 24);
+        return fault(FormatRule::WithoutMeaning, at + 24);
     }
     if bytes[at + 121] != 0 {
-        return fault(WITHOUT_MEANING, at + 121);
+        return fault(FormatRule::WithoutMeaning, at + 121);
     }
     if bytes[at + 122] != 0 {
-        return fault(WITHOUT_MEANING, at + 122);
+        return fault(FormatRule::WithoutMeaning, at + 122);
     }
     if bytes[at + 123] != 0 {
-        return fault(WITHOUT_MEANING, at + 123);
+        return fault(FormatRule::WithoutMeaning, at + 123);
     }
     None
 }
@@ -153,14 +157,12 @@ fn content_fault(bytes: &[u8], b: usize, at: usize) -> Result<usize, FormatFault
     requires entry { entry_offset b + entry_size ≤ length bytes.now }
     requires here { at ≡ content_offset bytes.now b }
     requires before { at ≤ length bytes.now }
-    ensures { Tells (content_questions bytes.now b) (λ end. (end ≡ content_offset bytes.now (b + 1)) × (end ≤ length bytes.now)) result }
+    ensures { GoesOn (content_questions bytes.now b)
+        (λ end. (end ≡ content_offset bytes.now (b + 1)) × (end ≤ length bytes.now)) result }
 {
     let size = content_size(bytes, b);
     if bytes.len() - at < size {
-        return Err(FormatFault {
-            number: ENDS_EARLY,
-            offset: at as u64,
-        });
+        return Err(fault_of(FormatRule::EndsEarly, at));
     }
     Ok(at + size)
 }
@@ -169,7 +171,8 @@ fn content_fault(bytes: &[u8], b: usize, at: usize) -> Result<usize, FormatFault
 fn contents_fault(bytes: &[u8], count: usize) -> Result<usize, FormatFault>
     requires header { HasHeader bytes.now count }
     requires before { entry_offset count + job_size ≤ length bytes.now }
-    ensures { Tells (each (content_questions bytes.now) 0 count) (λ end. (end ≡ handles_offset bytes.now) × (end ≤ length bytes.now)) result }
+    ensures { GoesOn (each (content_questions bytes.now) 0 count)
+        (λ end. (end ≡ handles_offset bytes.now) × (end ≤ length bytes.now)) result }
 {
     let mut at = entry_offset(count) + JOB_SIZE;
     for b in 0..count {
@@ -193,26 +196,26 @@ fn parts_fault(bytes: &[u8], job: usize, at: usize) -> Option<FormatFault>
 {
     let handles = 4 * word(bytes, job + 8) as usize;
     if bytes.len() - at < handles {
-        return fault(ENDS_EARLY, at);
+        return fault(FormatRule::EndsEarly, at);
     }
     let at = at + handles;
     let bin = word(bytes, job + 12) as usize;
     if bytes.len() - at < bin {
-        return fault(ENDS_EARLY, at);
+        return fault(FormatRule::EndsEarly, at);
     }
     let at = at + bin;
     let records = word(bytes, job + 16) as usize;
     if bytes.len() - at < records {
-        return fault(ENDS_EARLY, at);
+        return fault(FormatRule::EndsEarly, at);
     }
     let at = at + records;
     let uniforms = word(bytes, job + 24) as usize;
     if bytes.len() - at < uniforms {
-        return fault(ENDS_EARLY, at);
+        return fault(FormatRule::EndsEarly, at);
     }
     let end = at + uniforms;
     if end < bytes.len() {
-        return fault(BYTES_FOLLOW, end);
+        return fault(FormatRule::BytesFollow, end);
     }
     None
 }
@@ -222,7 +225,7 @@ fn parts_fault(bytes: &[u8], job: usize, at: usize) -> Option<FormatFault>
 fn rest_fault(bytes: &[u8], count: usize) -> Option<FormatFault>
     requires header { HasHeader bytes.now count }
     requires before { entry_offset count + job_size ≤ length bytes.now }
-    ensures { result ≡ first_of (each (content_questions bytes.now) 0 (buffer_count bytes.now) ++ parts_questions bytes.now) }
+    ensures { result ≡ first_of (rest_questions bytes.now) }
 {
     match contents_fault(bytes, count) {
         Err(fault) => Some(fault),
@@ -235,7 +238,7 @@ fn rest_fault(bytes: &[u8], count: usize) -> Option<FormatFault>
 fn job_and_rest_fault(bytes: &[u8], count: usize) -> Option<FormatFault>
     requires header { HasHeader bytes.now count }
     requires before { entry_offset count ≤ length bytes.now }
-    ensures { result ≡ first_of (job_questions bytes.now (job_offset bytes.now) ++ (each (content_questions bytes.now) 0 (buffer_count bytes.now) ++ parts_questions bytes.now)) }
+    ensures { result ≡ first_of (job_and_rest_questions bytes.now) }
 {
     match job_fault(bytes, entry_offset(count)) {
         Some(fault) => Some(fault),

@@ -11,10 +11,7 @@ mod writing;
 
 pub use file::{Frame, Job, JobFile, Surface};
 pub use reading::read_job;
-pub use rule::{
-    BYTES_FOLLOW, ENDS_EARLY, FormatFault, NOT_A_JOB_FILE, OVER_LIMIT, Refusal, Rule, Stage,
-    WITHOUT_MEANING,
-};
+pub use rule::{FormatFault, FormatRule, Refusal, Rule, Stage};
 pub use sizes::{ENTRY_SIZE, HEADER_SIZE, JOB_SIZE, MOST_BUFFERS, MOST_HANDLES, MOST_STATES};
 pub use writing::{one_file_a_text, write_job};
 

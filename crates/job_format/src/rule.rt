@@ -1,6 +1,6 @@
 //! The rules by which a file is refused, as the program prints them.
-ghost use Rattle.std.specs.Prelude.{Some};
-ghost use Rattle.job_format.specs.Rules.{letter, rule_text};
+ghost use Rattle.std.specs.Prelude.{◌≡◌, Some};
+ghost use Rattle.job_format.specs.Rules.{letter, rule_text, format_rule_number};
 
 use std::fmt;
 use thiserror::Error;
@@ -30,30 +30,56 @@ pub struct Rule {
 /// Why a file was refused: the first rule that stands, and the offset in the file of what it is
 /// about.
 #[derive(Clone, Copy, Debug, PartialEq, Eq, Error)]
-#[error("rule {rule} stands at byte {offset} of the job file")]
+#[error("{rule} at byte {offset} of the job file")]
 pub struct Refusal {
     pub rule: Rule,
     pub offset: u64,
 }
 
-/// F1: the first four bytes aren't `VC4J`, or the version isn't 1.
-pub const NOT_A_JOB_FILE: u8 = 1;
+/// The rules of the format.
+#[derive(Clone, Copy, Debug, PartialEq, Eq)]
+pub enum FormatRule {
+    /// The first four bytes aren't `VC4J`, or the version isn't 1.
+    NotAJobFile,
+    /// The file ends before the part's end.
+    EndsEarly,
+    /// Bytes follow the last part.
+    BytesFollow,
+    /// A number is over its limit.
+    OverLimit,
+    /// A field holds what has no meaning.
+    WithoutMeaning,
+}
 
-/// F2: the file ends before the part's end.
-pub const ENDS_EARLY: u8 = 2;
+impl FormatRule {
+    /// The rule's number, after the letter F.
+    pub fn number(self) -> u8
+        ensures { result ≡ format_rule_number self }
+    {
+        match self {
+            FormatRule::NotAJobFile => 1,
+            FormatRule::EndsEarly => 2,
+            FormatRule::BytesFollow => 3,
+            FormatRule::OverLimit => 4,
+            FormatRule::WithoutMeaning => 5,
+        }
+    }
 
-/// F3: bytes follow the last part.
-pub const BYTES_FOLLOW: u8 = 3;
-
-/// F4: a number is over its limit.
-pub const OVER_LIMIT: u8 = 4;
-
-/// F5: a field holds what has no meaning.
-pub const WITHOUT_MEANING: u8 = 5;
+    /// What the rule says.
+    pub fn sentence(self) -> &'static str {
+        match self {
+            FormatRule::NotAJobFile => "the letters VC4J or the version 1 are missing",
+            FormatRule::EndsEarly => "the file ends before the part's end",
+            FormatRule::BytesFollow => "bytes follow the last part",
+            FormatRule::OverLimit => "the number is over its limit",
+            FormatRule::WithoutMeaning => "the field holds what has no meaning",
+        }
+    }
+}
 
 /// The first format rule that stands: F`number` at `offset` in the file.
 #[derive(Clone, Copy, Debug, PartialEq, Eq, Error)]
-#[error("rule F{number} stands at byte {offset} of the job file: {}", self.sentence())]
+#[error("F{number} at byte {offset} of the job file: {}", self.sentence())]
 pub struct FormatFault {
     pub number: u8,
     pub offset: u64,
@@ -63,11 +89,11 @@ impl FormatFault {
     /// What the rule of this number says.
     pub fn sentence(&self) -> &'static str {
         match self.number {
-            NOT_A_JOB_FILE => "the letters VC4J or the version 1 are missing",
-            ENDS_EARLY => "the file ends before the part's end",
-            BYTES_FOLLOW => "bytes follow the last part",
-            OVER_LIMIT => "the number is over its limit",
-            WITHOUT_MEANING => "the field holds what has no meaning",
+            1 => FormatRule::NotAJobFile.sentence(),
+            2 => FormatRule::EndsEarly.sentence(),
+            3 => FormatRule::BytesFollow.sentence(),
+            4 => FormatRule::OverLimit.sentence(),
+            5 => FormatRule::WithoutMeaning.sentence(),
             _ => "there is no rule of this number",
         }
     }

@@ -63,14 +63,11 @@ fn a_file_that_ends_early_or_late_is_refused_at_the_part(rt: HostRuntime) -> Res
         (180, 180),
         (183, 180),
     ] {
-        assert_eq!(rt;
-            fault_of(alloc, &SMALLEST[..len]),
-            Some((ENDS_EARLY, offset))
-        );
+        assert_eq!(rt; fault_of(alloc, &SMALLEST[..len]), Some((2, offset)));
     }
     let mut longer = SMALLEST.to_vec(alloc)?;
     longer.push(0)?;
-    assert_eq!(rt; fault_of(alloc, &longer), Some((BYTES_FOLLOW, 184)));
+    assert_eq!(rt; fault_of(alloc, &longer), Some((3, 184)));
     Ok(())
 }
 
@@ -78,23 +75,23 @@ fn a_file_that_ends_early_or_late_is_refused_at_the_part(rt: HostRuntime) -> Res
 fn one_changed_byte_is_refused_at_its_field(rt: HostRuntime) -> Result<(), Fail> {
     let alloc = rt.alloc();
     for (at, byte, rule, offset) in [
-        (0, 0, NOT_A_JOB_FILE, 0),
-        (4, 2, NOT_A_JOB_FILE, 4),
-        (28, 65, OVER_LIMIT, 28),
-        (32, 2, OVER_LIMIT, 32),
-        (48, 2, WITHOUT_MEANING, 48),
-        (52, 1, ENDS_EARLY, 181),
-        (60, 2, WITHOUT_MEANING, 60),
-        (64, 65, OVER_LIMIT, 64),
-        (71, 1, OVER_LIMIT, 68),
-        (75, 1, OVER_LIMIT, 72),
-        (79, 1, OVER_LIMIT, 76),
-        (83, 1, OVER_LIMIT, 80),
-        (80, 2, WITHOUT_MEANING, 80),
-        (177, 1, WITHOUT_MEANING, 177),
-        (178, 1, WITHOUT_MEANING, 178),
-        (179, 1, WITHOUT_MEANING, 179),
-        (68, 1, ENDS_EARLY, 184),
+        (0, 0, 1, 0),
+        (4, 2, 1, 4),
+        (28, 65, 4, 28),
+        (32, 2, 4, 32),
+        (48, 2, 5, 48),
+        (52, 1, 2, 181),
+        (60, 2, 5, 60),
+        (64, 65, 4, 64),
+        (71, 1, 4, 68),
+        (75, 1, 4, 72),
+        (79, 1, 4, 76),
+        (83, 1, 4, 80),
+        (80, 2, 5, 80),
+        (177, 1, 5, 177),
+        (178, 1, 5, 178),
+        (179, 1, 5, 179),
+        (68, 1, 2, 184),
     ] {
         let bytes = changed(alloc, at, byte)?;
         assert_eq!(rt; fault_of(alloc, &bytes), Some((rule, offset)));

@@ -15,13 +15,14 @@ use Rattle.machine_plan.specs.Memory.{bytes_at, stored}
 use Rattle.machine_plan.specs.Plan.{Plan, Writes, carried}
 use Rattle.machine_plan.specs.Regions.{Every, Inside, Rights, rights_of, IsSafeAccess}
 use Rattle.machine_plan.specs.World.{Safe, mapped}
-use Rattle.list_machine.specs.declared.state.Config.{Config}
+use Rattle.packets.specs.declared.config.Config.{Config}
 use Rattle.list_machine.specs.declared.state.Frame.{Frame}
 use Rattle.list_machine.specs.declared.state.Work.{Work}
 use Rattle.list_machine.specs.declared.surface.Cover.{Cover}
 use Rattle.list_machine.specs.Binner.{is_unknown, begin_plan, clear_plan, packet_plan as bin_packet_plan, read_plan, chosen_tile, tile_plan, work_plan, binner_plan}
 use Rattle.list_machine.specs.Blocks.{tiles_of, block_place, spot_of, is_full, next_place, link_place, zeros, put_here, put_plan}
-use Rattle.list_machine.specs.Cover.{general_style, cover_for, part_count, part_place, parts_written}
+use Rattle.texture_layouts.specs.Format.{general_style}
+use Rattle.list_machine.specs.Cover.{cover_for, part_count, part_place, parts_written}
 use Rattle.list_machine.specs.Lists.{Lists, quiet, past, binner_of, renderer_of, with_block}
 use Rattle.list_machine.specs.Renderer.{beyond, act, acted, packet_plan as render_packet_plan}
 use Rattle.list_machine.specs.Store.{chosen}

@@ -11,13 +11,14 @@ use Rattle.packets.specs.Packet.{decoded}
 use Rattle.machine_plan.specs.Memory.{bytes_at}
 use Rattle.machine_plan.specs.Regions.{Inside, Rights, rights_of}
 use Rattle.machine_plan.specs.World.{Safe}
-use Rattle.list_machine.specs.declared.state.Config.{Config}
+use Rattle.packets.specs.declared.config.Config.{Config}
 use Rattle.list_machine.specs.declared.state.Frame.{Frame}
 use Rattle.list_machine.specs.declared.state.Work.{Work}
 use Rattle.list_machine.specs.declared.surface.Cover.{Cover}
 use Rattle.list_machine.specs.Binner.{chosen_tile}
 use Rattle.list_machine.specs.Blocks.{tiles_of, block_place, spot_of, is_full, next_place, link_place}
-use Rattle.list_machine.specs.Cover.{general_style, frame_style, cover_for, part_count, part_place}
+use Rattle.texture_layouts.specs.Format.{general_style, frame_style}
+use Rattle.list_machine.specs.Cover.{cover_for, part_count, part_place}
 use Rattle.list_machine.specs.Lists.{Lists}
 use Rattle.list_machine.specs.Surfaces.{aligned, names_none, whole_size}
 use Rattle.qpu_machine.specs.declared.state.Ask.TheVariants.{Direct, Texture}

@@ -1,6 +1,6 @@
 -- One step of the binner keeps all that stands.
 use Rattle.std.proofs.Common.{◌≡◌, ◌≢◌, ◌≤◌, ◌<◌, ◌⊎◌, inl, inr, ℕ, ◌+◌, ◌*◌, ◌==◌, ◌||◌, Bool, true, false, List, [], ◌∷◌, ◌++◌, length, slice_index, Option, Some, None, IfSome, if◌then◌else◌, refl, sym, ◌∙◌, ap, subst, arith}
-use Rattle.std.specs.Prelude.{nat_lt, option_map, unwrap_or}
+use Rattle.std.specs.Prelude.{nat_lt}
 use Rattle.std.proofs.lemmas.Grind.{common_steps}
 use Rattle.std.proofs.lemmas.Bool.{and_parts}
 use Rattle.std.proofs.lemmas.Bool.Decides.{nat_tests}
@@ -25,9 +25,10 @@ use Rattle.machine_plan.proofs.Memory.{inside_part}
 use Rattle.machine_plan.proofs.Plans.{keeps_weaker}
 use Rattle.machine_plan.proofs.Worlds.{keeps_mapped}
 use Rattle.bin_list.specs.Packets.{opcode}
-use Rattle.bin_walks.specs.Walks.{Config as Grid, Kept as Passed, config_in, kept_after, Drawing, Tame, Walks}
+use Rattle.bin_walks.specs.Walks.{Kept as Passed, kept_after, Drawing, Tame, Walks}
 use Rattle.list_machine.specs.declared.state.Binner.{Binner}
-use Rattle.list_machine.specs.declared.state.Config.{Config}
+use Rattle.packets.specs.declared.config.Config.{Config}
+use Rattle.packets.specs.Config.{config_in}
 use Rattle.list_machine.specs.declared.state.Frame.{Frame}
 use Rattle.list_machine.specs.declared.state.Item.{Item}
 use Rattle.list_machine.specs.declared.state.Kept.{Kept}
@@ -37,8 +38,8 @@ use Rattle.list_machine.specs.Lists.{Lists, Turned, quiet, with_binner, with_kep
 use Rattle.list_machine.specs.Blocks.{tiles_of, has_room, spot_of, item_of, zeros, put_plan}
 use Rattle.list_machine.specs.Fetch.{fetch_plan}
 use Rattle.list_machine.specs.Start.{start_plan, can_start}
-use Rattle.list_machine.specs.Binner.{config_of, configured, with_word, started, clear_plan, begin_plan, work_of, drawn, draw_plan, halted, is_unknown, packet_plan, read_plan, one_done, fetched_with, not_due, started_with, chosen_tile, tile_plan, item_plan, work_plan, binner_by, binner_plan, item_may, work_may, binner_may, binner_ready}
-use Rattle.list_law.specs.Binning.{grid_of, passed_of, Allocates, DrawsSo, OnWay, WorkFine, LogFine, IsOnly, NotYet, Only}
+use Rattle.list_machine.specs.Binner.{configured, with_word, started, clear_plan, begin_plan, work_of, drawn, draw_plan, halted, is_unknown, packet_plan, read_plan, one_done, fetched_with, not_due, started_with, chosen_tile, tile_plan, item_plan, work_plan, binner_by, binner_plan, item_may, work_may, binner_may, binner_ready}
+use Rattle.list_law.specs.Binning.{passed_of, Allocates, DrawsSo, OnWay, WorkFine, LogFine, IsOnly, NotYet, Only}
 use Rattle.list_law.specs.Lists.{ListsFine, TurnedFine}
 use Rattle.machine_plan.proofs.Safe.{read_safe}
 use Rattle.list_law.proofs.Safe.{write_safe, keeps_if}
@@ -126,18 +127,6 @@ passed_is kept packet configures states starts a b d = λ i. passed_by kept pack
 other : (o k n : ℕ) → o ≡ k → (k == n) ≡ false → (o == n) ≡ false
 other o k n is differs = ap (λ x. x == n) is ∙ differs
 
--- a configuration in the words of those who emit lists is that configuration
-abbrev grid_back : Grid → Config
-grid_back g = record { address = g.alloc; size = g.size; states = g.state; tiles_x = g.across; tiles_y = g.down }
-
-only_by : (config : Option Config) (c : Config) → option_map grid_of config ≡ Some (grid_of c) → config ≡ Some c
-only_by None c e = absurd cc
-only_by (Some one) c e = ap Some (ap grid_back (ap (λ o. unwrap_or o (grid_of c)) e))
-
-config_is : (packet : List ℕ) (c : Config) → config_in packet ≡ grid_of c → config_of packet ≡ c
-unfolding config_in config_of
-config_is packet c e = ap grid_back e
-
 -- The packet is read, and what it says is done.
 read_keeps : (who : Who) (L : ℕ → ℕ → Type 0) (G : Access → Type 0) (P : List ℕ → Lists → Type 0) (s : Lists) (m : List ℕ) (len : ℕ) (packet : List ℕ)
     → bin_taken (slice_index m s.binner.place) ≡ len → bytes_at m s.binner.place len ≡ packet → L s.binner.place 1 → G (access who Read s.binner.place len)
@@ -162,13 +151,13 @@ is_known o known no_handles = grind (arith, common_steps, nat_tests, known, no_h
 
 -- where the binner stands behind a packet, with what it keeps then
 way_behind : (r : Rights) (K : List ℕ → Type 0) (O : Launch → Type 0) (c : Config) (place end : ℕ) (kept after : Kept) (packet : List ℕ) (packets : List (List ℕ))
-    → place + length (packet ++ joined packets) ≡ end → Walks (grid_of c) (DrawsSo r K O) (kept_after (passed_of kept) packet) packets
+    → place + length (packet ++ joined packets) ≡ end → Walks c (DrawsSo r K O) (kept_after (passed_of kept) packet) packets
     → ((m : List ℕ) → K m → bytes_at m place (length (packet ++ joined packets)) ≡ packet ++ joined packets) → Inside r.region place (length (packet ++ joined packets))
     → kept_after (passed_of kept) packet ≡ passed_of after → OnWay r K O c (place + length packet) end after
 way_behind r K O c place end kept after packet packets ends walks stands reads is = record {
   rest = packets;
   ends = behind_ends place end packet (joined packets) ends;
-  walks = subst (λ (passed : Passed). Walks (grid_of c) (DrawsSo r K O) passed packets) is walks;
+  walks = subst (λ (passed : Passed). Walks c (DrawsSo r K O) passed packets) is walks;
   stands = λ m here. bytes_behind m place packet (joined packets) (stands m here);
   reads = behind_inside r.region place packet (joined packets) reads;
 }
@@ -234,13 +223,13 @@ clash true on off = cc
 clash false on off = cc
 
 passed_config : (kept : Kept) (packet : List ℕ) → kept_after (passed_of kept) packet ≡ passed_by (passed_of kept) packet true false false
-    → kept_after (passed_of kept) packet ≡ passed_of (record kept { config = Some (config_of packet) })
-unfolding config_in config_of
+    → kept_after (passed_of kept) packet ≡ passed_of (record kept { config = Some (config_in packet) })
+unfolding config_in
 passed_config kept packet e = e
 
 -- What a packet of the list says is done safely, and all stands again.
 packet_keeps : (who : Who) (r : Rights) (K : List ℕ → Type 0) (O : Launch → Type 0) (c : Config) (f : Frame) (L : ℕ → ℕ → Type 0) (s : Lists) (packet m : List ℕ)
-    → Allocates r c → ListsFine r K O c f s → Tame (grid_of c) (DrawsSo r K O) (passed_of s.binner.kept) packet
+    → Allocates r c → ListsFine r K O c f s → Tame c (DrawsSo r K O) (passed_of s.binner.kept) packet
     → ((after : Kept) → kept_after (passed_of s.binner.kept) packet ≡ passed_of after → OnWay r K O c (s.binner.place + length packet) s.binner.end after)
     → Keeps who L (IsSafeIn r) (λ k next. ListsFine r K O c f next) (packet_plan (past s (length packet)) packet) m
 unfolding packet_plan configured with_word started
@@ -257,14 +246,14 @@ packet_keeps who r K O c f L s packet m allocates fine tame way =
     (λ no_halt. keeps_if who L G P m (o == tile_binning_mode) (Done (configured after packet)) (plan_start after packet)
     (λ on.
     let is : o ≡ tile_binning_mode = same o tile_binning_mode on in
-    let now : config_of packet ≡ c = config_is packet c (tame.configures is) in
-    gone (record kept { config = Some (config_of packet) })
+    let now : config_in packet ≡ c = tame.configures is in
+    gone (record kept { config = Some (config_in packet) })
     (passed_config kept packet (passed_is (passed_of kept) packet true false false on (other o tile_binning_mode gl_shader_state is refl) (other o tile_binning_mode start_tile_binning is refl)))
     (Only (ap Some now)) (λ closed. ap Some now))
     (λ no_config. keeps_if who L G P m (o == start_tile_binning) (begin_plan after kept.config) (plan_word after packet)
     (λ on.
     let is : o ≡ start_tile_binning = same o start_tile_binning on in
-    clear_keeps who r L P c after kept.config m allocates (only_by kept.config c (tame.starts is))
+    clear_keeps who r L P c after kept.config m allocates (tame.starts is)
     (λ k. gone (record kept { started = true })
     (passed_is (passed_of kept) packet false false true no_config (other o start_tile_binning gl_shader_state is refl) on)
     fine.configs fine.closed))
@@ -282,19 +271,19 @@ packet_keeps who r K O c f L s packet m allocates fine tame way =
     (λ no_draw. keeps_if who L G P m (o == increment_semaphore) (Done (incremented after)) (plan_flush after packet)
     (λ on. raised r K O c f after rest)
     (λ no_raise. keeps_if who L G P m (o == flush) (Done (flushed after)) (Done after)
-    (λ on. shut r K O c f after rest (only_by kept.config c (tame.closes (same o flush on))))
+    (λ on. shut r K O c f after rest (tame.closes (same o flush on)))
     (λ no_flush. rest))))))))
 
 -- The binner reads its next packet.
 read_step : (who : Who) (r : Rights) (K : List ℕ → Type 0) (O : Launch → Type 0) (c : Config) (f : Frame) (s : Lists) (m : List ℕ) (rest : List (List ℕ))
     → Allocates r c → K m → ListsFine r K O c f s → s.binner.place < s.binner.end
-    → s.binner.place + length (joined rest) ≡ s.binner.end → Walks (grid_of c) (DrawsSo r K O) (passed_of s.binner.kept) rest
+    → s.binner.place + length (joined rest) ≡ s.binner.end → Walks c (DrawsSo r K O) (passed_of s.binner.kept) rest
     → ((n : List ℕ) → K n → bytes_at n s.binner.place (length (joined rest)) ≡ joined rest) → Inside r.region s.binner.place (length (joined rest))
     → Keeps who (Inside r.region) (IsSafeIn r) (λ k next. ListsFine r K O c f next) (read_plan s) m
 read_step who r K O c f s m [] allocates here fine below ends walks stands reads = absurd (none_left s.binner.place s.binner.end ends below)
 read_step who r K O c f s m (packet ∷ packets) allocates here fine below ends walks stands reads =
     let place = s.binner.place in
-    let tame : Tame (grid_of c) (DrawsSo r K O) (passed_of s.binner.kept) packet = walks.0 in
+    let tame : Tame c (DrawsSo r K O) (passed_of s.binner.kept) packet = walks.0 in
     let bytes : bytes_at m place (length packet) ≡ packet = bytes_front m place packet (joined packets) (stands m here) in
     let some : 1 ≤ length packet = omega (arith, tame.whole, tame.known) in
     let first : slice_index m place ≡ opcode packet = byte_front m place packet some bytes in

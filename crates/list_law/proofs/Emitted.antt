@@ -5,7 +5,8 @@ use Rattle.std.proofs.lemmas.Grind.{common_steps}
 use Rattle.std.proofs.lemmas.Bool.Decides.{nat_tests}
 use Rattle.field_words.specs.Words.{u32_at}
 use Rattle.emitted_facts.specs.Facts.{IsAttributeIn, IsIndexedPrimitive, IsArrayPrimitive, IsPrimitive}
-use Rattle.emitted_facts.specs.Records.{attribute_count, is_extended, record_size, address_word, shape_word, extension_word, attribute_size, attribute_stride, is_single, code_word, stream_word}
+use Rattle.emitted_facts.specs.Records.{address_word, shape_word, extension_word, attribute_size, attribute_stride, is_single, code_word, stream_word}
+use Rattle.packets.specs.StateWord.{attribute_count, is_extended, record_size}
 use Rattle.emitted_facts.proofs.Records.{entry_in, extension_in, header_in}
 use Rattle.machine_plan.specs.declared.launch.Launch.{Launch}
 use Rattle.machine_plan.specs.Memory.{bytes_at}

@@ -11,7 +11,7 @@ use Rattle.machine_plan.specs.Plan.{Writes, Keeps, access}
 use Rattle.machine_plan.specs.Regions.{Rights, IsSafeIn}
 use Rattle.machine_plan.proofs.Memory.{inside_part}
 use Rattle.machine_plan.proofs.Runs.{every-append}
-use Rattle.list_machine.specs.declared.state.Config.{Config}
+use Rattle.packets.specs.declared.config.Config.{Config}
 use Rattle.list_machine.specs.declared.state.Item.{Item}
 use Rattle.list_machine.specs.declared.state.Spot.{Spot}
 use Rattle.list_machine.specs.declared.state.Work.{Work}

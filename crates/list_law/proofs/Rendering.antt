@@ -23,7 +23,7 @@ use Rattle.machine_plan.proofs.Memory.{inside_part}
 use Rattle.machine_plan.proofs.Plans.{keeps_weaker}
 use Rattle.machine_plan.proofs.Worlds.{keeps_mapped}
 use Rattle.render_walks.specs.Walks.{View, pass, IsDoneAt, Tame, WalksTo, AllFit}
-use Rattle.list_machine.specs.declared.state.Config.{Config}
+use Rattle.packets.specs.declared.config.Config.{Config}
 use Rattle.list_machine.specs.declared.state.Found.{Found}
 use Rattle.list_machine.specs.declared.state.Frame.{Frame}
 use Rattle.list_machine.specs.declared.state.Item.{Item}
@@ -39,7 +39,8 @@ use Rattle.list_machine.specs.Blocks.{tiles_of}
 use Rattle.list_machine.specs.Fetch.{fetch_plan}
 use Rattle.list_machine.specs.Start.{start_plan}
 use Rattle.list_machine.specs.Store.{chosen}
-use Rattle.list_machine.specs.Cover.{general_style, frame_style, cover_for, part_count, part_place}
+use Rattle.texture_layouts.specs.Format.{general_style, frame_style}
+use Rattle.list_machine.specs.Cover.{cover_for, part_count, part_place}
 use Rattle.list_machine.specs.Surfaces.{cover_written, cover_read, aligned, names_none, general_written, general_read, frame_written, whole_size, whole_written, whole_read, waiting_read}
 use Rattle.list_machine.specs.Renderer.{beyond, with_load, at_tile, with_inside, wait_plan, tile_named, enter_plan, tile_by, branch_plan, tile_plan, act, first_of_tile, item_at, at_item, fetched, vertex_plan, program_plan, choice_plan, found_plan, plan_in, renderer_plan, may_pass, ready_in, renderer_ready}
 use Rattle.list_machine.proofs.Storing.{chosen_size}

@@ -8,11 +8,11 @@ use Rattle.packets.specs.declared.packet.Packet.TheVariants.{WaitOnSemaphore, Br
 use Rattle.packets.specs.Packet.{slots_text}
 use Rattle.machine_plan.specs.declared.launch.Launch.{Launch}
 use Rattle.machine_plan.specs.Regions.{Rights}
-use Rattle.bin_walks.specs.Walks.{Config as Grid, Kept as Passed, kept_after, Drawing, Tame, Walks}
+use Rattle.bin_walks.specs.Walks.{Kept as Passed, kept_after, Drawing, Tame, Walks}
 use Rattle.render_list.specs.Frame.{place_at, surface_at, is_full, full_place, is_first_tile, is_last_tile, tiles_across, tiles_down}
 use Rattle.render_list.specs.Text.{packet_where, idle_store, head_packet, clear_packet, clear_slots, front_slots, load_packet, load_slot, wait_slot, list_slot, full_store, full_store_slot, zs_store, zs_store_slot, color_store, color_store_slot, is_there, more_after_multisample_color, more_after_multisample_zs, some_before_zs, some_before_color, load_slots, list_slots, write_slots, tile_slots, span_slots, row_slots, all_tile_slots, render_slots}
 use Rattle.render_walks.specs.Walks.{View, pass, IsDoneAt, Tame as Harmless, WalksTo}
-use Rattle.list_machine.specs.declared.state.Config.{Config}
+use Rattle.packets.specs.declared.config.Config.{Config}
 use Rattle.list_machine.specs.declared.state.Frame.{Frame}
 use Rattle.list_machine.specs.Lists.{lists_start}
 use Rattle.list_law.specs.Binning.{FitsIn, NotYet}
@@ -43,7 +43,7 @@ lists_begin r K O c f bin_place render_place packets slots bin render = record {
 drawing_weaker : (R Q : ℕ → List ℕ → Type 0) → ((word : ℕ) (packet : List ℕ) → R word packet → Q word packet) → (kept : Passed) (packet : List ℕ) → Drawing R kept packet → Drawing Q kept packet
 drawing_weaker R Q weaker kept packet d = record { word = d.word; kept_word = d.kept_word; started = d.started; allowed = weaker d.word packet d.allowed }
 
-pub walks_weaker : (c : Grid) (R Q : ℕ → List ℕ → Type 0) → ((word : ℕ) (packet : List ℕ) → R word packet → Q word packet) → (kept : Passed) (packets : List (List ℕ)) → Walks c R kept packets → Walks c Q kept packets
+pub walks_weaker : (c : Config) (R Q : ℕ → List ℕ → Type 0) → ((word : ℕ) (packet : List ℕ) → R word packet → Q word packet) → (kept : Passed) (packets : List (List ℕ)) → Walks c R kept packets → Walks c Q kept packets
 walks_weaker c R Q weaker kept [] walks = tt
 walks_weaker c R Q weaker kept (packet ∷ packets) walks =
     let tame : Tame c R kept packet = walks.0 in (

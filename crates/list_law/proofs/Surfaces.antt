@@ -13,10 +13,11 @@ use Rattle.texture_layouts.proofs.Places.{width_some, height_some, across_parts,
 use Rattle.machine_plan.specs.Regions.{Inside, Rights}
 use Rattle.machine_plan.proofs.Memory.{inside_part}
 use Rattle.list_machine.specs.declared.state.Frame.{Frame}
-use Rattle.list_machine.specs.declared.surface.Style.{Style}
+use Rattle.texture_layouts.specs.declared.format.Style.{Style}
 use Rattle.list_machine.specs.Store.{tile_side, covered}
-use Rattle.list_machine.specs.Cover.{IsShort, raster_cover, tiled_cover, cover_in, cover_by, cover_for, part_count, part_offset, part_place}
-use Rattle.list_machine.proofs.Covering.{short_pixel}
+use Rattle.texture_layouts.specs.Format.{IsShort}
+use Rattle.list_machine.specs.Cover.{raster_cover, tiled_cover, cover_in, cover_by, cover_for, part_count, part_offset, part_place}
+use Rattle.texture_layouts.proofs.Styles.{short_pixel}
 use Rattle.list_law.specs.May.{MayWrite}
 use Rattle.list_law.specs.Rendering.{surface_size, StoresSurface, LoadsSurface, PartsMeet}
 use Rattle.list_law.proofs.Logs.{not_same}

@@ -2,13 +2,13 @@
 --
 -- The job has one configuration c. The rest of the binner's list is said as packets that walk, by the definitions of those
 -- who emit it.
-use Rattle.std.specs.Prelude.{◌≡◌, ◌≤◌, ◌<◌, ℕ, ◌+◌, ◌*◌, ◌-◌, ◌%◌, List, length, Option, Some, None, option_map}
+use Rattle.std.specs.Prelude.{◌≡◌, ◌≤◌, ◌<◌, ℕ, ◌+◌, ◌*◌, ◌-◌, ◌%◌, List, length, Option, Some, None}
 use Rattle.field_words.specs.Pieces.{joined}
 use Rattle.machine_plan.specs.declared.launch.Launch.{Launch}
 use Rattle.machine_plan.specs.Memory.{bytes_at}
 use Rattle.machine_plan.specs.Regions.{Inside, Rights, Every}
-use Rattle.bin_walks.specs.Walks.{Walks, Config as Grid, Kept as Passed}
-use Rattle.list_machine.specs.declared.state.Config.{Config}
+use Rattle.bin_walks.specs.Walks.{Walks, Kept as Passed}
+use Rattle.packets.specs.declared.config.Config.{Config}
 use Rattle.list_machine.specs.declared.state.Item.{Item}
 use Rattle.list_machine.specs.declared.state.Kept.{Kept}
 use Rattle.list_machine.specs.declared.state.Spot.{Spot}
@@ -18,12 +18,9 @@ use Rattle.list_machine.specs.Blocks.{tiles_of, spot_of}
 use Rattle.list_law.specs.May.{MayWrite}
 use Rattle.list_law.specs.Uses.{MayUse}
 
--- the same of a configuration, and of what the binner keeps, in the words of those who emit lists
-abbrev pub grid_of : Config → Grid
-grid_of c = record { alloc = c.address; size = c.size; state = c.states; across = c.tiles_x; down = c.tiles_y }
-
+-- what the binner keeps, in the words of those who emit lists
 abbrev pub passed_of : Kept → Passed
-passed_of kept = record { config = option_map grid_of kept.config; word = kept.word; started = kept.started }
+passed_of kept = record { config = kept.config; word = kept.word; started = kept.started }
 
 -- the memory of the tiles' states and that of the tile lists are the job's to write, and each tile's first block has room
 pub record Allocates (r : Rights) (c : Config) : Type 0 where
@@ -40,7 +37,7 @@ DrawsSo r K O word packet = MayUse r K O word (primitive_of packet)
 pub record OnWay (r : Rights) (K : List ℕ → Type 0) (O : Launch → Type 0) (c : Config) (place end : ℕ) (kept : Kept) : Type 0 where
   pub rest : List (List ℕ)
   pub ends : place + length (joined rest) ≡ end
-  pub walks : Walks (grid_of c) (DrawsSo r K O) (passed_of kept) rest
+  pub walks : Walks c (DrawsSo r K O) (passed_of kept) rest
   pub stands : (m : List ℕ) → K m → bytes_at m place (length (joined rest)) ≡ joined rest
   pub reads : Inside r.region place (length (joined rest))
 

@@ -2,7 +2,8 @@
 use Rattle.std.specs.Prelude.{◌≡◌, ◌<◌, ◌⊎◌, ℕ, ◌+◌, ◌*◌, ◌%◌, Bool, false, not, IsTrue, List, slice_index}
 use Rattle.field_words.specs.Words.{u32_at}
 use Rattle.emitted_facts.specs.Facts.{IsAttributeIn, IsPrimitive}
-use Rattle.emitted_facts.specs.Records.{attribute_count, record_size, is_single, code_word, stream_word}
+use Rattle.emitted_facts.specs.Records.{is_single, code_word, stream_word}
+use Rattle.packets.specs.StateWord.{attribute_count, record_size}
 use Rattle.machine_plan.specs.declared.launch.Launch.{Launch}
 use Rattle.machine_plan.specs.Regions.{Interval, Inside}
 use Rattle.list_machine.specs.Binner.{primitive_of}

@@ -6,11 +6,11 @@ use Rattle.machine_plan.specs.declared.launch.Launch.{Launch}
 use Rattle.machine_plan.specs.Glance.{glanced, GlancesIn}
 use Rattle.machine_plan.specs.Plan.{Keeps}
 use Rattle.machine_plan.specs.Regions.{Inside, Rights, IsSafeIn, IsKept}
-use Rattle.list_machine.specs.declared.state.Config.{Config}
+use Rattle.packets.specs.declared.config.Config.{Config}
 use Rattle.list_machine.specs.declared.state.Frame.{Frame}
 use Rattle.list_machine.specs.declared.state.Primitive.{Primitive}
 use Rattle.list_machine.specs.declared.state.Program.{Program}
-use Rattle.list_machine.specs.declared.surface.Style.{Style}
+use Rattle.texture_layouts.specs.declared.format.Style.{Style}
 use Rattle.list_machine.specs.Lists.{Lists}
 use Rattle.list_machine.specs.Fetch.{fetch_plan}
 use Rattle.list_machine.specs.Start.{start_plan}

@@ -10,15 +10,16 @@ use Rattle.machine_plan.specs.Memory.{bytes_at}
 use Rattle.machine_plan.specs.Regions.{Inside, Rights}
 use Rattle.texture_layouts.specs.Surface.{size_for}
 use Rattle.render_walks.specs.Walks.{View, WalksTo, AllFit}
-use Rattle.list_machine.specs.declared.state.Config.{Config}
+use Rattle.packets.specs.declared.config.Config.{Config}
 use Rattle.list_machine.specs.declared.state.Frame.{Frame}
 use Rattle.list_machine.specs.declared.state.Load.{Load}
 use Rattle.list_machine.specs.declared.state.Load.TheVariants.{Full, General}
 use Rattle.list_machine.specs.declared.state.Renderer.{Renderer}
-use Rattle.list_machine.specs.declared.surface.Style.{Style}
+use Rattle.texture_layouts.specs.declared.format.Style.{Style}
 use Rattle.list_machine.specs.Blocks.{tiles_of}
 use Rattle.list_machine.specs.declared.surface.Cover.{Cover}
-use Rattle.list_machine.specs.Cover.{IsShort, frame_style, general_style, part_count, part_place}
+use Rattle.texture_layouts.specs.Format.{IsShort, frame_style, general_style}
+use Rattle.list_machine.specs.Cover.{part_count, part_place}
 use Rattle.list_machine.specs.Surfaces.{aligned, names_none, whole_size}
 use Rattle.list_law.specs.May.{MayWrite}
 

@@ -11,10 +11,10 @@ use Rattle.bin_walks.specs.Walks.{nothing_kept, Walks}
 use Rattle.render_list.specs.Frame.{place_at}
 use Rattle.render_list.specs.Text.{color_place, color_bits, render_slots}
 use Rattle.render_walks.specs.Walks.{at_start, WalksTo, AllFit}
-use Rattle.list_machine.specs.declared.state.Config.{Config}
+use Rattle.packets.specs.declared.config.Config.{Config}
 use Rattle.list_machine.specs.declared.state.Frame.{Frame}
 use Rattle.list_machine.specs.Lists.{lists_start}
-use Rattle.list_law.specs.Binning.{grid_of, DrawsSo}
+use Rattle.list_law.specs.Binning.{DrawsSo}
 use Rattle.list_law.specs.Rendering.{MayDo, NoMatter, AllSet}
 use Rattle.list_law.specs.Lists.{ListsFine}
 use Rattle.list_law.specs.Laws.{Passes}
@@ -25,7 +25,7 @@ frame_of frame places = record { address = color_place (place_at places 1); widt
 
 -- A binner list of these packets that stands at a place in each memory of K, lies in the region and walks.
 pub record BinnerBegins (r : Rights) (K : List ℕ → Type 0) (O : Launch → Type 0) (c : Config) (place : ℕ) (packets : List (List ℕ)) : Type 0 where
-  pub walks : Walks (grid_of c) (DrawsSo r K O) nothing_kept packets
+  pub walks : Walks c (DrawsSo r K O) nothing_kept packets
   pub stands : (m : List ℕ) → K m → bytes_at m place (length (joined packets)) ≡ joined packets
   pub reads : Inside r.region place (length (joined packets))
 

@@ -3,7 +3,7 @@
 -- K says which memories runs can come to, and O which programs may be started.
 use Rattle.std.specs.Prelude.{◌≡◌, ◌≤◌, ◌<◌, ℕ, ◌+◌, ◌*◌, ◌%◌, ◌^◌, Bool, true, false, List, if◌then◌else◌}
 use Rattle.field_words.specs.Words.{u32_at}
-use Rattle.emitted_facts.specs.Records.{attribute_count, is_extended}
+use Rattle.packets.specs.StateWord.{attribute_count, is_extended}
 use Rattle.machine_plan.specs.declared.launch.Launch.{Launch}
 use Rattle.machine_plan.specs.Memory.{bytes_at}
 use Rattle.machine_plan.specs.Regions.{Interval, Inside, Rights}

@@ -14,7 +14,7 @@ use Rattle.machine_plan.specs.World.{mapped}
 use Rattle.machine_plan.proofs.Memory.{length-bytes_at}
 use Rattle.machine_plan.proofs.Reading.{shows_read}
 use Rattle.machine_plan.proofs.Worlds.{shows_mapped}
-use Rattle.list_machine.specs.declared.state.Config.{Config}
+use Rattle.packets.specs.declared.config.Config.{Config}
 use Rattle.list_machine.specs.declared.state.Program.TheVariants.{Coordinate}
 use Rattle.list_machine.specs.declared.state.Work.{Work}
 use Rattle.list_machine.specs.Lists.{Lists, Turned, if_tame, quiet, turned_to, with_work, past}

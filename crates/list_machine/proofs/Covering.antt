@@ -2,8 +2,8 @@
 use Rattle.std.proofs.Common.{◌≡◌, ◌≤◌, ◌<◌, ℕ, ◌+◌, ◌*◌, ◌/◌, ◌%◌, ◌^◌, inl, inr, arith}
 use Rattle.std.proofs.Math.Nat.{mul-le-mul, div-le_self, div-add-mod, le_refl}
 use Rattle.std.specs.Int.{div_ceil}
-use Rattle.texture_layouts.specs.Surface.{IsPixelSize, microtile_width_of, microtile_height_of}
-use Rattle.list_machine.specs.Cover.{IsShort}
+use Rattle.texture_layouts.specs.Surface.{microtile_width_of, microtile_height_of}
+use Rattle.texture_layouts.specs.Format.{IsShort}
 
 pub wide_unit : (cpp : ℕ) → IsShort cpp → 4 ≤ microtile_width_of cpp
 unfolding microtile_width_of
@@ -32,7 +32,3 @@ begins x side unit low few =
 
 pub few_parts : (across down : ℕ) → across ≤ 16 → down ≤ 16 → across * down ≤ 256
 few_parts across down wide high = mul-le-mul wide high
-
-pub short_pixel : (cpp : ℕ) → IsShort cpp → IsPixelSize cpp
-short_pixel cpp (inl e) = inr (inl e)
-short_pixel cpp (inr e) = inr (inr (inl e))

@@ -1,7 +1,7 @@
 -- Laws on the fetch of a vertex.
 use Rattle.std.proofs.Common.{◌≡◌, ◌≤◌, ◌<◌, ℕ, suc, ◌+◌, ◌-◌, ◌*◌, ◌%◌, ◌^◌, List, Some, Bool, true, false, if◌then◌else◌, ◌++◌, ◌∷◌, [], refl, sym, ◌∙◌, ap, subst, arith}
 use Rattle.std.proofs.Math.Nat.{mul-le-mul}
-use Rattle.emitted_facts.specs.Records.{attribute_count, is_extended}
+use Rattle.packets.specs.StateWord.{attribute_count, is_extended}
 use Rattle.field_words.specs.declared.access.Access.{Access}
 use Rattle.machine_plan.specs.declared.who.Who.{Who}
 use Rattle.field_words.specs.declared.access.Way.TheVariants.{Read}

@@ -13,10 +13,11 @@ use Rattle.machine_plan.proofs.Worlds.{keeps_mapped}
 use Rattle.list_machine.specs.declared.state.Frame.{Frame}
 use Rattle.list_machine.specs.declared.state.SubList.{SubList}
 use Rattle.list_machine.specs.declared.surface.Cover.{Cover}
-use Rattle.list_machine.specs.declared.surface.Style.{Style}
+use Rattle.texture_layouts.specs.declared.format.Style.{Style}
 use Rattle.list_machine.specs.Lists.{Lists, Turned, quiet}
 use Rattle.list_machine.specs.Store.{chosen}
-use Rattle.list_machine.specs.Cover.{frame_style, cover_in, cover_by, part_count, part_place, parts_written, parts_read}
+use Rattle.texture_layouts.specs.Format.{frame_style}
+use Rattle.list_machine.specs.Cover.{cover_in, cover_by, part_count, part_place, parts_written, parts_read}
 use Rattle.list_machine.specs.Surfaces.{cover_written, frame_written}
 use Rattle.list_machine.specs.Renderer.{beyond, act, acted, packet_plan, plan_in, renderer_plan}
 use Rattle.list_machine.proofs.Storing.{chosen_size}

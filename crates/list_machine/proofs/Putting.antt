@@ -8,7 +8,7 @@ use Rattle.field_words.specs.declared.access.Way.TheVariants.{Write}
 use Rattle.machine_plan.specs.declared.who.Who.{Who}
 use Rattle.machine_plan.specs.Memory.{stored}
 use Rattle.machine_plan.specs.Plan.{Writes, Shows, access, carried}
-use Rattle.list_machine.specs.declared.state.Config.{Config}
+use Rattle.packets.specs.declared.config.Config.{Config}
 use Rattle.list_machine.specs.declared.state.Item.{Item}
 use Rattle.list_machine.specs.declared.state.Spot.{Spot}
 use Rattle.list_machine.specs.declared.state.Work.{Work}

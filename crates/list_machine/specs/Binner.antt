@@ -2,6 +2,7 @@
 use Rattle.std.specs.Prelude.{ℕ, ◌+◌, ◌*◌, ◌/◌, ◌%◌, ◌==◌, ◌||◌, ◌&&◌, nat_lt, not, Bool, true, false, is_some, if◌then◌else◌, List, length, slice_index, Option, Some, None}
 use Rattle.field_words.specs.Words.{u32_at}
 use Rattle.packets.specs.Length.{bin_length, bin_taken}
+use Rattle.packets.specs.Config.{config_in}
 use Rattle.packets.specs.Opcode.{halt, flush, start_tile_binning, increment_semaphore, indexed_primitive_list, array_primitive_list, gl_shader_state, tile_binning_mode, buffer_handles}
 use Rattle.machine_plan.specs.declared.launch.Free.{Free}
 use Rattle.machine_plan.specs.declared.launch.Launch.{Launch}
@@ -9,7 +10,7 @@ use Rattle.machine_plan.specs.Choice.{word_at}
 use Rattle.machine_plan.specs.Glance.{Glance, Now}
 use Rattle.machine_plan.specs.Plan.{Plan, Done, Wilds, Reads, Looks, Writes}
 use Rattle.machine_plan.specs.World.{mapped}
-use Rattle.list_machine.specs.declared.state.Config.{Config}
+use Rattle.packets.specs.declared.config.Config.{Config}
 use Rattle.list_machine.specs.declared.state.Primitive.{Primitive}
 use Rattle.list_machine.specs.declared.state.Program.TheVariants.{Coordinate}
 use Rattle.list_machine.specs.declared.state.Work.{Work}
@@ -18,18 +19,9 @@ use Rattle.list_machine.specs.Fetch.{fetch_plan}
 use Rattle.list_machine.specs.Start.{can_start, start_plan}
 use Rattle.list_machine.specs.Blocks.{tiles_of, has_room, spot_of, zeros, put_plan}
 
--- 112 keeps the allocation's address and size, the address of the states, and the tiles across and down
-unfoldable pub config_of : List ℕ → Config
-config_of packet = record {
-  address = u32_at packet 1;
-  size = u32_at packet 5;
-  states = u32_at packet 9;
-  tiles_x = slice_index packet 13;
-  tiles_y = slice_index packet 14;
-}
-
+-- 112 sets the configuration
 unfoldable pub configured : Lists → List ℕ → Lists
-configured s packet = with_kept s (record (s.binner.kept) { config = Some (config_of packet) })
+configured s packet = with_kept s (record (s.binner.kept) { config = Some (config_in packet) })
 
 -- 64 keeps the state word
 unfoldable pub with_word : Lists → List ℕ → Lists

@@ -6,7 +6,7 @@
 use Rattle.std.specs.Prelude.{ℕ, ◌+◌, ◌*◌, ◌%◌, ◌==◌, nat_le, Bool, if◌then◌else◌, List, [], ◌∷◌, replicate}
 use Rattle.field_words.specs.Words.{rounded_up}
 use Rattle.machine_plan.specs.Plan.{Plan, Done, Writes}
-use Rattle.list_machine.specs.declared.state.Config.{Config}
+use Rattle.packets.specs.declared.config.Config.{Config}
 use Rattle.list_machine.specs.declared.state.Item.{Item}
 use Rattle.list_machine.specs.declared.state.Spot.{Spot}
 use Rattle.list_machine.specs.declared.state.Work.{Work}

@@ -1,48 +1,15 @@
 -- What a load or store by bits covers of a surface, and the accesses that it does.
-use Rattle.std.specs.Prelude.{◌≡◌, ◌≤◌, ◌⊎◌, ℕ, zero, suc, ◌+◌, ◌*◌, ◌/◌, ◌%◌, ◌^◌, ◌==◌, ◌&&◌, if◌then◌else◌, List, Option, Some, None}
+use Rattle.std.specs.Prelude.{◌≤◌, ℕ, zero, suc, ◌+◌, ◌*◌, ◌/◌, ◌%◌, ◌^◌, ◌==◌, if◌then◌else◌, List, Option, Some, None}
 use Rattle.std.specs.Int.{div_ceil}
-use Rattle.field_words.specs.Words.{bits_of}
 use Rattle.texture_layouts.specs.declared.surface.Tiling.{Tiling}
 use Rattle.texture_layouts.specs.declared.surface.Tiling.TheVariants.{Raster, T, Lt}
+use Rattle.texture_layouts.specs.declared.format.Style.{Style}
 use Rattle.texture_layouts.specs.Surface.{IsPixelSize, microtile_width_of, microtile_height_of}
 use Rattle.texture_layouts.specs.Place.{raster_place, microtile_place_of}
 use Rattle.machine_plan.specs.Plan.{Plan, Reads, Writes}
 use Rattle.list_machine.specs.declared.state.Frame.{Frame}
-use Rattle.list_machine.specs.declared.surface.Style.{Style}
 use Rattle.list_machine.specs.declared.surface.Cover.{Cover}
 use Rattle.list_machine.specs.Store.{tile_side, covered, chosen}
-
--- The tiling of this number in bits; there is none of number 3.
-abbrev pub tiling_named : ℕ → Option Tiling
-tiling_named n = if n == 0 then Some Raster else (if n == 1 then Some T else (if n == 2 then Some Lt else None))
-
--- The bytes of a pixel by general bits. Buffer 1 is colour, with four bytes in format 0 and two in
--- formats 1 and 2; buffer 2 is depth and stencil, with four in format 0. There are no others.
-abbrev pub general_pixel : ℕ → ℕ → Option ℕ
-general_pixel buffer format =
-    if buffer == 1 then (if format == 0 then Some 4 else (if format == 3 then None else Some 2))
-    else (if buffer == 2 && format == 0 then Some 4 else None)
-
--- The bytes of a pixel by the frame's bits: four in format 1, two in formats 0 and 2.
-abbrev pub frame_pixel : ℕ → Option ℕ
-frame_pixel format = if format == 1 then Some 4 else (if format == 3 then None else Some 2)
-
-abbrev pub styled_with : Tiling → Option ℕ → Option Style
-styled_with tiling None = None
-styled_with tiling (Some cpp) = Some (record { tiling = tiling; cpp = cpp })
-
-abbrev pub styled : Option Tiling → Option ℕ → Option Style
-styled None cpp = None
-styled (Some tiling) cpp = styled_with tiling cpp
-
--- How pixels lie by the bits of a general load or store: buffer 2:0, tiling 5:4, format 9:8. None
--- where there is no such tiling, buffer or format.
-unfoldable pub general_style : ℕ → Option Style
-general_style bits = styled (tiling_named (bits_of bits 5 4)) (general_pixel (bits_of bits 2 0) (bits_of bits 9 8))
-
--- How they lie by the frame's bits: format 3:2, tiling 7:6.
-unfoldable pub frame_style : ℕ → Option Style
-frame_style bits = styled (tiling_named (bits_of bits 7 6)) (frame_pixel (bits_of bits 3 2))
 
 -- In raster a part is a covered row: its covered pixels, side by side. Without one there are no parts.
 unfoldable pub raster_cover : ℕ → Frame → ℕ → ℕ → ℕ → Cover
@@ -120,10 +87,6 @@ parts_written c words i (suc n) next =
 unfoldable pub parts_read : {R : Type 0} → Cover → ℕ → ℕ → Plan R → Plan R
 parts_read c i zero next = next
 parts_read c i (suc n) next = Reads (part_place c i) c.size (λ bytes. parts_read c (suc i) n next)
-
--- the pixels of a surface take two bytes or four
-abbrev pub IsShort : ℕ → Type 0
-IsShort cpp = (cpp ≡ 2) ⊎ (cpp ≡ 4)
 
 -- every cover is this small
 pub record IsSmall (c : Cover) : Type 0 where

@@ -1,7 +1,7 @@
 -- How a vertex of a primitive is fetched: its index, and then its data, attribute by attribute.
 use Rattle.std.specs.Prelude.{ℕ, zero, suc, ◌+◌, ◌*◌, ◌-◌, ◌/◌, ◌%◌, ◌^◌, ◌&&◌, nat_lt, Bool, if◌then◌else◌, List, slice_index}
 use Rattle.field_words.specs.Words.{u16_at, u32_at}
-use Rattle.emitted_facts.specs.Records.{attribute_count, is_extended}
+use Rattle.packets.specs.StateWord.{attribute_count, is_extended}
 use Rattle.machine_plan.specs.Plan.{Plan, Done, Reads}
 use Rattle.machine_plan.specs.World.{followed}
 use Rattle.list_machine.specs.declared.state.Primitive.{Primitive}

@@ -10,7 +10,7 @@ use Rattle.machine_plan.specs.Choice.{word_at}
 use Rattle.machine_plan.specs.Glance.{Glance, Now, At}
 use Rattle.machine_plan.specs.Plan.{Plan, Done, Wilds, Reads, Looks}
 use Rattle.machine_plan.specs.World.{mapped}
-use Rattle.list_machine.specs.declared.state.Config.{Config}
+use Rattle.packets.specs.declared.config.Config.{Config}
 use Rattle.list_machine.specs.declared.state.Found.{Found}
 use Rattle.list_machine.specs.declared.state.Frame.{Frame}
 use Rattle.list_machine.specs.declared.state.Item.{Item}

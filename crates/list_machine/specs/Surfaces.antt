@@ -7,7 +7,8 @@ use Rattle.list_machine.specs.declared.state.Load.{Load}
 use Rattle.list_machine.specs.declared.state.Load.TheVariants.{Full, General}
 use Rattle.list_machine.specs.declared.surface.Cover.{Cover}
 use Rattle.list_machine.specs.Store.{chosen}
-use Rattle.list_machine.specs.Cover.{general_style, frame_style, cover_for, part_count, parts_written, parts_read}
+use Rattle.texture_layouts.specs.Format.{general_style, frame_style}
+use Rattle.list_machine.specs.Cover.{cover_for, part_count, parts_written, parts_read}
 
 -- all parts of a cover are written, or read; without a cover that is wild
 unfoldable pub cover_written : {R : Type 0} → Option Cover → List ℕ → Plan R → Plan R

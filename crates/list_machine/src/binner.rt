@@ -11,14 +11,14 @@ ghost use Rattle.list_machine.specs.Blocks.{has_room};
 ghost use Rattle.list_machine.specs.Fetch.{fetch_plan};
 ghost use Rattle.list_machine.specs.Start.{start_plan};
 ghost use Rattle.list_machine.specs.declared.state.Program.TheVariants.{Coordinate};
-ghost use Rattle.list_machine.specs.Binner.{config_of, configured, with_word, started, clear_plan, begin_plan, primitive_of, work_of, drawn, draw_plan, halted, is_unknown, packet_plan, read_plan, is_due, one_done, fetched_with, not_due, started_with, chosen_tile, tile_plan, item_plan, work_plan, binner_by, binner_plan, item_may, work_may, binner_may, binner_ready, has_binner_work};
+ghost use Rattle.list_machine.specs.Binner.{configured, with_word, started, clear_plan, begin_plan, primitive_of, work_of, drawn, draw_plan, halted, is_unknown, packet_plan, read_plan, is_due, one_done, fetched_with, not_due, started_with, chosen_tile, tile_plan, item_plan, work_plan, binner_by, binner_plan, item_may, work_may, binner_may, binner_ready, has_binner_work};
 
 use crate::blocks::{has_room, tiles_of, write_zeros};
 use crate::fetch::fetch_vertex;
 use crate::job_lists::{JobLists, MOST_ITEMS};
 use crate::reads::read_listed;
 use crate::start::{can_start, start_program};
-use crate::state::{Config, Kept, Primitive, Program, Work};
+use crate::state::{Kept, Primitive, Program, Work};
 use arrayvec::ArrayVec;
 use byteorder::{ByteOrder, LittleEndian};
 use field_words::{Access, Actor, Way};
@@ -27,23 +27,8 @@ use packets::opcode::{
     ARRAY_PRIMITIVE_LIST, BUFFER_HANDLES, FLUSH, GL_SHADER_STATE, HALT, INCREMENT_SEMAPHORE,
     INDEXED_PRIMITIVE_LIST, START_TILE_BINNING, TILE_BINNING_MODE,
 };
-use packets::{bin_length, bin_taken};
+use packets::{Config, bin_length, bin_taken, config_in};
 use phys_mem::PhysMem;
-
-// What opcode 112 sets.
-#[tactic(auto, unfolding(crate::specs::Binner::config_of, field_words::specs::Words::u32_at))]
-fn config_of(packet: &[u8]) -> Config
-    requires { length packet.now ≡ 16 }
-    ensures { result ≡ config_of packet.now }
-{
-    Config {
-        address: LittleEndian::read_u32(&packet[1..]),
-        size: LittleEndian::read_u32(&packet[5..]),
-        states: LittleEndian::read_u32(&packet[9..]),
-        tiles_x: packet[13],
-        tiles_y: packet[14],
-    }
-}
 
 // An indexed primitive.
 #[tactic(auto, unfolding(crate::specs::Binner::primitive_of, field_words::specs::Words::u32_at))]
@@ -150,7 +135,7 @@ impl JobLists {
     {
         let kept = self.binner().kept;
         self.set_kept(Kept {
-            config: Some(config_of(packet)),
+            config: Some(config_in(packet)),
             ..kept
         });
     }

@@ -8,7 +8,8 @@ ghost use Rattle.list_machine.specs.Lists.{most_items};
 ghost use Rattle.list_machine.specs.Blocks.{tiles_of, further_offset, block_place, has_room, one_more, spot_of, is_full, next_place, link_place, item_of, zeros, put_here, put_plan};
 
 use crate::job_lists::JobLists;
-use crate::state::{Config, Item, Spot, Work};
+use crate::state::{Item, Spot, Work};
+use packets::Config;
 use arrayvec::ArrayVec;
 use field_words::{Access, Way, round_up};
 use machine_plan::{Who, list_access, put_byte};

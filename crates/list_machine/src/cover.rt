@@ -1,93 +1,16 @@
 //! What a load or store by bits covers of a surface.
 ghost use Rattle.std.specs.Prelude.{◌≡◌, ◌+◌, ◌*◌, ◌≤◌, ◌<◌, ◌^◌, IfSome};
 ghost use Rattle.std.specs.Int.{div_ceil};
+ghost use Rattle.texture_layouts.specs.Format.{IsShort};
 ghost use Rattle.texture_layouts.specs.Surface.{IsPixelSize};
 ghost use Rattle.list_machine.specs.declared.surface.Cover.{Cover};
 ghost use Rattle.list_machine.specs.Store.{tile_side, covered};
-ghost use Rattle.list_machine.specs.Cover.{tiling_named, general_pixel, frame_pixel, styled, general_style, frame_style, raster_cover, tiled_cover, cover_in, cover_by, cover_for, part_count, part_offset, part_place, IsShort, IsSmall};
+ghost use Rattle.list_machine.specs.Cover.{raster_cover, tiled_cover, cover_in, cover_by, cover_for, part_count, part_offset, part_place, IsSmall};
 
 use crate::state::Frame;
-use crate::surface::{Cover, Style};
+use crate::surface::Cover;
 use field_words::field;
-use texture_layouts::{Tiling, microtile_height, microtile_place, microtile_width, pixel_place};
-
-/// The tiling of this number; there is none of number 3.
-fn tiling_named(number: u64) -> Option<Tiling>
-    ensures { result ≡ tiling_named number }
-{
-    match number {
-        0 => Some(Tiling::Raster),
-        1 => Some(Tiling::T),
-        2 => Some(Tiling::Lt),
-        _ => None,
-    }
-}
-
-/// The bytes of a pixel by the buffer and the format of general bits.
-fn general_pixel(buffer: u64, format: u64) -> Option<u32>
-    ensures value { result ≡ general_pixel buffer format }
-    ensures pixel { IfSome result IsShort }
-{
-    if buffer == 1 {
-        match format {
-            0 => Some(4),
-            3 => None,
-            _ => Some(2),
-        }
-    } else if buffer == 2 && format == 0 {
-        Some(4)
-    } else {
-        None
-    }
-}
-
-/// The bytes of a pixel by the format of the frame's bits.
-fn frame_pixel(format: u64) -> Option<u32>
-    ensures value { result ≡ frame_pixel format }
-    ensures pixel { IfSome result IsShort }
-{
-    match format {
-        1 => Some(4),
-        3 => None,
-        _ => Some(2),
-    }
-}
-
-/// A style of this tiling and pixel, where there are both.
-fn styled(tiling: Option<Tiling>, pixel: Option<u32>) -> Option<Style>
-    requires { IfSome pixel IsShort }
-    ensures value { result ≡ styled tiling pixel }
-    ensures pixel { IfSome result (λ style. IsShort style.cpp) }
-{
-    Some(Style {
-        tiling: tiling?,
-        cpp: pixel?,
-    })
-}
-
-/// How pixels lie by the bits of a general load or store.
-#[tactic(auto, unfolding(crate::specs::Cover::general_style))]
-pub(crate) fn general_style(bits: u16) -> Option<Style>
-    ensures value { result ≡ general_style bits }
-    ensures pixel { IfSome result (λ style. IsShort style.cpp) }
-{
-    let word = bits as u64;
-    let pixel = general_pixel(field(word, 2, 0), field(word, 9, 8));
-    styled(tiling_named(field(word, 5, 4)), pixel)
-}
-
-/// How pixels lie by the frame's bits.
-#[tactic(auto, unfolding(crate::specs::Cover::frame_style))]
-pub(crate) fn frame_style(bits: u16) -> Option<Style>
-    ensures value { result ≡ frame_style bits }
-    ensures pixel { IfSome result (λ style. IsShort style.cpp) }
-{
-    let word = bits as u64;
-    styled(
-        tiling_named(field(word, 7, 6)),
-        frame_pixel(field(word, 3, 2)),
-    )
-}
+use texture_layouts::{Style, Tiling, microtile_height, microtile_place, microtile_width, pixel_place};
 
 /// The tile's side in pixels.
 #[tactic(auto, unfolding(crate::specs::Store::tile_side))]

@@ -1,7 +1,7 @@
 //! How a vertex of a primitive is fetched.
 ghost use Rattle.std.specs.Prelude.{◌≡◌, ◌≤◌, ◌<◌, ◌+◌, ◌*◌, ◌^◌, true, length, Some};
 ghost use Rattle.arrayvec.specs.ArrayVec.{array_vec_len};
-ghost use Rattle.emitted_facts.specs.Records.{attribute_count, is_extended};
+ghost use Rattle.packets.specs.StateWord.{attribute_count, is_extended};
 ghost use Rattle.machine_plan.specs.Plan.{Shows, carried};
 ghost use Rattle.list_machine.specs.Fetch.{index_size, index_in, index_plan, draws_nothing, record_place, attribute_place, extension_place, data_size, stride_of, data_place, data_plan, extended_plan, attribute_plan, attributes_plan, indexed_plan, fetch_plan};
 
@@ -92,7 +92,7 @@ pub(crate) fn record_place(word: u32) -> u64
 }
 
 // How many attributes a state word names.
-#[tactic(auto, unfolding(emitted_facts::specs::Records::attribute_count))]
+#[tactic(auto, unfolding(packets::specs::StateWord::attribute_count))]
 fn attribute_count(word: u32) -> u32
     ensures value { result ≡ attribute_count word }
     ensures few { result ≤ 8 }
@@ -101,7 +101,7 @@ fn attribute_count(word: u32) -> u32
 }
 
 // Whether a state word's record is extended.
-#[tactic(auto, unfolding(emitted_facts::specs::Records::is_extended))]
+#[tactic(auto, unfolding(packets::specs::StateWord::is_extended))]
 fn is_extended(word: u32) -> bool
     ensures { result ≡ is_extended word }
 {

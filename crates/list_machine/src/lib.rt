@@ -16,10 +16,10 @@ mod surface;
 
 pub use job_lists::{JobLists, MOST_ITEMS};
 pub use state::{
-    Binner, Config, Found, Frame, Item, Kept, Load, Primitive, Program, Renderer, Spot, SubList,
+    Binner, Found, Frame, Item, Kept, Load, Primitive, Program, Renderer, Spot, SubList,
     Work,
 };
-pub use surface::{Cover, Style, Tile};
+pub use surface::{Cover, Tile};
 
 #[cfg(test)]
 mod binner_tests;

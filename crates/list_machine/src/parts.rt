@@ -8,13 +8,14 @@ ghost use Rattle.list_machine.specs.Cover.{IsSmall, part_count, part_place, part
 ghost use Rattle.list_machine.specs.Surfaces.{aligned, names_none, whole_written, whole_read, cover_written, cover_read, general_written, general_read, frame_written, load_read, waiting_read};
 ghost use Rattle.list_machine.specs.Lists.{Lists};
 
-use crate::cover::{cover_for, frame_style, general_style, part_count, part_place};
+use crate::cover::{cover_for, part_count, part_place};
 use crate::state::Load;
 use crate::surface::{Cover, Tile};
 use arrayvec::ArrayVec;
 use field_words::{Access, Way, field};
 use machine_plan::{Who, choice_word, list_access, put_byte};
 use phys_mem::PhysMem;
+use texture_layouts::{frame_style, general_style};
 
 /// The bytes of a tile in full resolution.
 const WHOLE_SIZE: u32 = 16384;

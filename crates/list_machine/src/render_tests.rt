@@ -2,7 +2,8 @@
 ghost use Rattle.std.specs.Prelude.{◌≤◌};
 
 use crate::job_lists::{JobLists, MOST_ITEMS};
-use crate::state::{Config, Item, Kept, Primitive};
+use crate::state::{Item, Kept, Primitive};
+use packets::Config;
 use arrayvec::ArrayVec;
 use field_words::{NoMemory, Way};
 use machine_plan::{Free, Launch, Slot};

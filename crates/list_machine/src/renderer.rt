@@ -14,13 +14,13 @@ use crate::blocks::tiles_of;
 use crate::job_lists::JobLists;
 use crate::parts::{load_waiting, store_frame, store_general, store_whole};
 use crate::reads::read_listed;
-use crate::state::{Config, Frame, Load, Renderer, SubList};
+use crate::state::{Frame, Load, Renderer, SubList};
 use crate::surface::Tile;
 use arrayvec::ArrayVec;
 use field_words::{Access, Way};
 use machine_plan::{Who, byte_at, list_access};
 use packets::opcode::WAIT_ON_SEMAPHORE;
-use packets::{Packet, decode, render_taken};
+use packets::{Config, Packet, decode, render_taken};
 use phys_mem::PhysMem;
 
 /// The tile whose list begins at this address.

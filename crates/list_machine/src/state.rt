@@ -1,5 +1,7 @@
 //! What the list units keep, in parts.
 
+use packets::Config;
+
 /// What opcode 113 sets: the place, size and bits of the frame that opcodes 24 and 25 store.
 /// Bit 0 of `bits` makes tiles 32 pixels wide and high in place of 64; bits 3:2 are the format and
 /// bits 7:6 the tiling.
@@ -9,17 +11,6 @@ pub struct Frame {
     pub width: u16,
     pub height: u16,
     pub bits: u16,
-}
-
-/// What opcode 112 sets: the place and size of the memory for tile lists, the place of the tiles'
-/// states, and how many tiles there are across and down.
-#[derive(Clone, Copy, Debug, PartialEq, Eq)]
-pub struct Config {
-    pub address: u32,
-    pub size: u32,
-    pub states: u32,
-    pub tiles_x: u8,
-    pub tiles_y: u8,
 }
 
 /// A primitive: how many vertices it has and where their indexes come from. Of an indexed one `address`

@@ -1,13 +1,6 @@
-//! How the pixels of a surface lie, and what part of it a load or store covers.
+//! What part of a surface a load or store covers.
 use crate::state::Frame;
 use texture_layouts::Tiling;
-
-/// In which tiling a surface's pixels lie, and how many bytes each of them takes.
-#[derive(Clone, Copy, Debug, PartialEq, Eq)]
-pub struct Style {
-    pub tiling: Tiling,
-    pub cpp: u32,
-}
 
 /// What a load or store of one tile covers: parts of `size` bytes each, `across` of them side by side
 /// and `down` such rows. A part is a microtile, or in raster the covered pixels of one row.

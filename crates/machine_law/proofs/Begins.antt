@@ -6,7 +6,7 @@ use Rattle.machine_plan.specs.Memory.{bytes_at}
 use Rattle.machine_plan.specs.Regions.{Interval, Rights, rights_of, IsKept}
 use Rattle.list_machine.specs.Lists.{lists_start}
 use Rattle.bin_walks.specs.Walks.{nothing_kept}
-use Rattle.list_law.specs.Binning.{grid_of, DrawsSo}
+use Rattle.list_law.specs.Binning.{DrawsSo}
 use Rattle.list_law.specs.Lists.{ListsFine}
 use Rattle.list_law.proofs.Start.{lists_begin, walks_weaker}
 use Rattle.machine.specs.declared.job.Start.{Start}
@@ -28,7 +28,7 @@ job_begins rights plains first j start begins =
     let O = LaunchFine rights plains first j in
     let all : ListsFine r K O begins.config begins.frame (lists_start start.bin_place (length (joined_bytes begins.packets)) start.render_place (length (slots_text begins.slots))) =
     lists_begin r K O begins.config begins.frame start.bin_place start.render_place begins.packets begins.slots
-    (record { walks = walks_weaker (grid_of begins.config) (DrawBegins rights plains first j) (DrawsSo r K O) (λ word packet draws. draws_stay_law rights plains first j word packet draws) nothing_kept begins.packets begins.bin_walks; stands = text_stays rights first j start.bin_place (joined_bytes begins.packets) begins.bin_text; reads = begins.bin_text.reads })
+    (record { walks = walks_weaker begins.config (DrawBegins rights plains first j) (DrawsSo r K O) (λ word packet draws. draws_stay_law rights plains first j word packet draws) nothing_kept begins.packets begins.bin_walks; stands = text_stays rights first j start.bin_place (joined_bytes begins.packets) begins.bin_text; reads = begins.bin_text.reads })
     (record {
       walks = begins.render_walks;
       fit = begins.render_fits;

@@ -1,7 +1,8 @@
 -- A primitive that may be drawn from the first memory on may be drawn in every run.
 use Rattle.std.proofs.Common.{◌≡◌, ◌≤◌, ◌<◌, ℕ, ◌+◌, ◌*◌, ◌%◌, ◌==◌, not, Bool, false, List, refl, sym, ◌∙◌, ap, subst, arith}
 use Rattle.field_words.specs.Words.{u32_at}
-use Rattle.emitted_facts.specs.Records.{record_size, address_word, shape_word, extension_word, is_single, code_word, stream_word}
+use Rattle.emitted_facts.specs.Records.{address_word, shape_word, extension_word, is_single, code_word, stream_word}
+use Rattle.packets.specs.StateWord.{record_size}
 use Rattle.emitted_facts.proofs.Records.{entry_in, extension_in, header_in, same_attribute}
 use Rattle.machine_plan.specs.declared.launch.Launch.{Launch}
 use Rattle.machine_plan.specs.Memory.{bytes_at}

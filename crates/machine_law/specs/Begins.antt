@@ -4,18 +4,19 @@ use Rattle.field_words.specs.Pieces.{joined as joined_bytes}
 use Rattle.packets.specs.declared.packet.Packet.{Packet}
 use Rattle.packets.specs.Packet.{slots_text}
 use Rattle.emitted_facts.specs.Facts.{IsAttributeIn, IsPrimitive}
-use Rattle.emitted_facts.specs.Records.{attribute_count, record_size, is_single}
+use Rattle.emitted_facts.specs.Records.{is_single}
+use Rattle.packets.specs.StateWord.{attribute_count, record_size}
 use Rattle.machine_plan.specs.declared.launch.Launch.{Launch}
 use Rattle.machine_plan.specs.Memory.{bytes_at}
 use Rattle.machine_plan.specs.Regions.{Interval, Inside, Rights, rights_of, IsKept, IsOutside, joined}
 use Rattle.machine_plan.specs.World.{Safe, Same}
 use Rattle.shader_flow.specs.Flow.{is_threaded}
 use Rattle.uniform_stream.specs.Stream.{uniforms_of}
-use Rattle.list_machine.specs.declared.state.Config.{Config}
+use Rattle.packets.specs.declared.config.Config.{Config}
 use Rattle.list_machine.specs.declared.state.Frame.{Frame}
 use Rattle.bin_walks.specs.Walks.{nothing_kept, Walks}
 use Rattle.render_walks.specs.Walks.{at_start, WalksTo, AllFit}
-use Rattle.list_law.specs.Binning.{grid_of, DrawsSo, Allocates}
+use Rattle.list_law.specs.Binning.{DrawsSo, Allocates}
 use Rattle.list_machine.specs.Fetch.{record_place}
 use Rattle.list_law.specs.Emitted.{words_in, RecordStands, IsStateOf, program_in}
 use Rattle.list_law.specs.Rendering.{MayDo, NoMatter, AllSet}
@@ -79,7 +80,7 @@ pub record JobBegins (rights : List Rights) (plains : ℕ → List Interval) (fi
   pub frame : Frame
   pub allocates : Allocates (rights_of rights j) config
   pub packets : List (List ℕ)
-  pub bin_walks : Walks (grid_of config) (DrawBegins rights plains first j) nothing_kept packets
+  pub bin_walks : Walks config (DrawBegins rights plains first j) nothing_kept packets
   pub bin_text : TextBegins rights first j start.bin_place (joined_bytes packets)
   pub bin_len : start.bin_len ≡ length (joined_bytes packets)
   pub slots : List (Option Packet)

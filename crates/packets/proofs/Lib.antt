@@ -1,4 +1,3 @@
-pub mod Writing
 pub mod Underway
 pub mod Slots
 pub mod Laws

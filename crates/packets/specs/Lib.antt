@@ -1,4 +1,5 @@
+pub mod Config
 pub mod Length
 pub mod Opcode
 pub mod Packet
-pub mod Writing
+pub mod StateWord

@@ -1,8 +1,9 @@
 //! Writing packets into a window.
 ghost use Rattle.std.specs.Prelude.{◌≡◌, ◌≤◌, ◌+◌, [], ◌∷◌, ◌++◌, length};
 ghost use Rattle.packets.specs.Opcode.{tile_rendering_mode, clear_colors};
-ghost use Rattle.packets.specs.Packet.{half, word, packet_text, slots_text};
-ghost use Rattle.packets.specs.Writing.{written};
+ghost use Rattle.field_words.specs.WordBytes.{half, word};
+ghost use Rattle.field_words.specs.Writes.{with_bytes};
+ghost use Rattle.packets.specs.Packet.{packet_text, slots_text};
 
 use crate::opcode::{
     BRANCH_TO_SUB_LIST, CLEAR_COLORS, LOAD_FULL_RESOLUTION, LOAD_TILE_BUFFER,
@@ -12,10 +13,9 @@ use crate::opcode::{
 use crate::packet::Packet;
 
 /// Puts bytes at a place of the window, and gives the place behind them.
-#[tactic(auto, unfolding(crate::specs::Writing::written))]
 fn put(out: &mut [u8], at: usize, bytes: &[u8]) -> usize
     requires room { at + length bytes.now ≤ length out.old }
-    ensures text { out.new ≡ written out.old at bytes.now }
+    ensures text { out.new ≡ with_bytes out.old at bytes.now }
     ensures end { result ≡ at + length bytes.now }
 {
     let end = at + bytes.len();
@@ -26,7 +26,7 @@ fn put(out: &mut [u8], at: usize, bytes: &[u8]) -> usize
 /// An opcode with a number of four bytes.
 fn put_word(out: &mut [u8], at: usize, opcode: u8, address: u32) -> usize
     requires room { at + 5 ≤ length out.old }
-    ensures text { out.new ≡ written out.old at (opcode ∷ word address) }
+    ensures text { out.new ≡ with_bytes out.old at (opcode ∷ word address) }
     ensures end { result ≡ at + 5 }
 {
     let [a0, a1, a2, a3] = address.to_le_bytes();
@@ -36,7 +36,7 @@ fn put_word(out: &mut [u8], at: usize, opcode: u8, address: u32) -> usize
 /// An opcode with a number of two bytes and one of four.
 fn put_half_word(out: &mut [u8], at: usize, opcode: u8, bits: u16, address: u32) -> usize
     requires room { at + 7 ≤ length out.old }
-    ensures text { out.new ≡ written out.old at (opcode ∷ (half bits ++ word address)) }
+    ensures text { out.new ≡ with_bytes out.old at (opcode ∷ (half bits ++ word address)) }
     ensures end { result ≡ at + 7 }
 {
     let [b0, b1] = bits.to_le_bytes();
@@ -54,7 +54,7 @@ fn put_rendering_mode(
     bits: u16,
 ) -> usize
     requires room { at + 11 ≤ length out.old }
-    ensures text { out.new ≡ written out.old at (tile_rendering_mode ∷ (word address ++ (half width ++ (half height ++ half bits)))) }
+    ensures text { out.new ≡ with_bytes out.old at (tile_rendering_mode ∷ (word address ++ (half width ++ (half height ++ half bits)))) }
     ensures end { result ≡ at + 11 }
 {
     let [a0, a1, a2, a3] = address.to_le_bytes();
@@ -78,7 +78,7 @@ fn put_clear_colors(
     stencil: u8,
 ) -> usize
     requires room { at + 14 ≤ length out.old }
-    ensures text { out.new ≡ written out.old at (clear_colors ∷ (word first ++ (word second ++ (word z ++ (stencil ∷ []))))) }
+    ensures text { out.new ≡ with_bytes out.old at (clear_colors ∷ (word first ++ (word second ++ (word z ++ (stencil ∷ []))))) }
     ensures end { result ≡ at + 14 }
 {
     let [f0, f1, f2, f3] = first.to_le_bytes();
@@ -110,7 +110,7 @@ fn put_clear_colors(
 #[tactic(auto, unfolding(crate::specs::Packet::packet_text))]
 pub fn put_packet(out: &mut [u8], at: usize, packet: Packet) -> usize
     requires room { at + length (packet_text packet) ≤ length out.old }
-    ensures text { out.new ≡ written out.old at (packet_text packet) }
+    ensures text { out.new ≡ with_bytes out.old at (packet_text packet) }
     ensures end { result ≡ at + length (packet_text packet) }
 {
     match packet {
@@ -145,10 +145,10 @@ pub fn put_packet(out: &mut [u8], at: usize, packet: Packet) -> usize
 }
 
 /// Puts the packet, where there is one, and gives the place behind it.
-#[tactic(auto, using(crate::proofs::Writing::written_nothing))]
+#[tactic(auto, using(field_words::proofs::Writes::with_nothing))]
 fn put_slot(out: &mut [u8], at: usize, slot: Option<Packet>) -> usize
     requires room { at + length (slots_text (slot ∷ [])) ≤ length out.old }
-    ensures text { out.new ≡ written out.old at (slots_text (slot ∷ [])) }
+    ensures text { out.new ≡ with_bytes out.old at (slots_text (slot ∷ [])) }
     ensures end { result ≡ at + length (slots_text (slot ∷ [])) }
 {
     match slot {
@@ -160,7 +160,7 @@ fn put_slot(out: &mut [u8], at: usize, slot: Option<Packet>) -> usize
 /// Puts the packets that are there, one after the other, and gives the place behind them.
 pub fn put_present(out: &mut [u8], at: usize, slots: &[Option<Packet>]) -> usize
     requires room { at + length (slots_text slots.now) ≤ length out.old }
-    ensures text { out.new ≡ written out.old at (slots_text slots.now) }
+    ensures text { out.new ≡ with_bytes out.old at (slots_text slots.now) }
     ensures end { result ≡ at + length (slots_text slots.now) }
 {
     let mut here = at;

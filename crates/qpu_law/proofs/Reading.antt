@@ -8,13 +8,11 @@ use Rattle.field_words.proofs.Questions.{none_stands}
 use Rattle.field_words.specs.declared.access.Access.{Access}
 use Rattle.field_words.specs.declared.access.Way.TheVariants.{Read}
 use Rattle.field_words.specs.Words.{u32_at}
-use Rattle.texture_layouts.specs.declared.surface.Tiling.{Tiling}
-use Rattle.texture_layouts.specs.declared.surface.Tiling.TheVariants.{Raster, T, Lt}
 use Rattle.field_words.specs.Words.{bits_of}
 use Rattle.texture_layouts.specs.Level.{level_side_of}
 use Rattle.texture_layouts.specs.Setup.{TextureModel, texture_of, is_cube_word, kind_of, cube_stride_of, type_of, pixels_of, side_of, faces_of, face_place, level_width_of, level_height_of, tiling_at, size_at, size_below}
 use Rattle.texture_layouts.specs.Fits.{has_two_strides, lacks_stride, is_unlisted, has_child_image, texture_questions}
-use Rattle.texture_layouts.specs.Fetch.{fetch_offset_of, fetch_size_of, fetch_reach, AreFetchesIn}
+use Rattle.texture_layouts.specs.Fetch.{fetch_size_of, fetch_reach, place_from, fetch_place_of, AreFetchesIn}
 use Rattle.texture_layouts.proofs.Inside.{in_buffer}
 use Rattle.texture_layouts.proofs.Fetches.{fetches_in}
 use Rattle.texture_layouts.proofs.Moved.{texture_moved}
@@ -27,7 +25,7 @@ use Rattle.machine_plan.proofs.Safe.{read_safe}
 use Rattle.machine_plan.proofs.Worlds.{keeps_mapped}
 use Rattle.qpu_machine.specs.declared.state.Ask.{Ask}
 use Rattle.qpu_machine.specs.declared.state.Ask.TheVariants.{Direct, Texture}
-use Rattle.qpu_machine.specs.Request.{direct_plan, ask_plan, offset_in, length_in, offset_at, place_from, place_at, chosen_level, chosen_face, chosen_x, chosen_y, chosen_place, chosen_length, read_at, texture_reads, is_undefined, texture_plan}
+use Rattle.qpu_machine.specs.Request.{direct_plan, ask_plan, chosen_level, chosen_face, chosen_x, chosen_y, chosen_place, chosen_length, read_at, texture_reads, is_undefined, texture_plan}
 use Rattle.qpu_law.specs.Asks.{IsWordIn, IsTextureIn, IsAskIn, IsFineAsk, IsReadIn, IsOneOf, AsksStayIn, FineAsksAreSafe}
 
 -- A direct request reads at each of its addresses.
@@ -39,23 +37,6 @@ unfolding direct_plan
 direct_keeps within [] found fine who m L G usable = refl
 direct_keeps within (address ∷ row) found fine who m L G usable =
     (usable (address - address % 4) 4 fine.0, direct_keeps within row (found ++ (u32_at (bytes_at m (address - address % 4) 4) 0 ∷ [])) fine.1 who m L G usable)
-
--- What is read of a pixel is what is fetched for it.
-offset_same : (tiling : Tiling) (width cpp x y : ℕ) → offset_in tiling width cpp x y ≡ fetch_offset_of tiling width cpp x y
-unfolding fetch_offset_of
-offset_same Raster width cpp x y = refl
-offset_same T width cpp x y = refl
-offset_same Lt width cpp x y = refl
-
-length_same : (tiling : Tiling) (cpp : ℕ) → length_in tiling cpp ≡ fetch_size_of tiling cpp
-unfolding fetch_size_of
-length_same Raster cpp = refl
-length_same T cpp = refl
-length_same Lt cpp = refl
-
-reach_same : (t : TextureModel) (level face x y : ℕ) → face_place t face + offset_at t level x y ≡ fetch_reach t face level x y
-unfolding fetch_reach offset_at
-reach_same t level face x y = ap (λ o. face_place t face + o) (offset_same (tiling_at t level) (level_width_of t level) t.cpp x y)
 
 -- the read of a pixel that doesn't lie below 0 and ends in the interval
 record IsPixelIn (within : Interval) (place : Option ℕ) (len : ℕ) : Type 0 where
@@ -81,26 +62,20 @@ unfolding size_below
 below_moved t place zero = refl
 below_moved t place (suc n) = ap (λ b. b + size_at t (n + 1)) (below_moved t place n)
 
-faces_moved : (t : TextureModel) (place : ℕ) → faces_of (record t { base = t.base + place }) ≡ faces_of t
-unfolding faces_of
-faces_moved t place = refl
-
-read_in : (t : TextureModel) (within : Interval) (level face x y : ℕ) → AreFetchesIn t within.size
+read_in : (t : TextureModel) (within : Interval) (face level x y : ℕ) → AreFetchesIn t within.size
     → face < faces_of t → level ≤ t.levels → x < level_width_of t level → y < level_height_of t level
-    → IsPixelIn within (place_at (record t { base = t.base + within.place }) level face x y) (length_in (tiling_at t level) t.cpp)
-unfolding place_at
-read_in t within level face x y fits face_in level_in x_in y_in =
+    → IsPixelIn within (fetch_place_of (record t { base = t.base + within.place }) face level x y) (fetch_size_of (tiling_at t level) t.cpp)
+unfolding fetch_place_of
+read_in t within face level x y fits face_in level_in x_in y_in =
     let moved = record t { base = t.base + within.place } in
-    let reach : face_place moved face + offset_at moved level x y ≡ fetch_reach t face level x y + within.place =
-    reach_same moved level face x y ∙ moved_reach t within.place level face x y in
-    let below : size_below moved level ≡ size_below t level = below_moved t within.place level in
+    let reach = moved_reach t within.place level face x y in
+    let below = below_moved t within.place level in
     let from = fits.from face level x y face_in level_in x_in y_in in
     let upto = fits.upto face level x y face_in level_in x_in y_in in
-    let len : length_in (tiling_at t level) t.cpp ≡ fetch_size_of (tiling_at t level) t.cpp = length_same (tiling_at t level) t.cpp in
     record {
-      at = face_place moved face + offset_at moved level x y - size_below moved level;
-      is = place_some (face_place moved face + offset_at moved level x y) (size_below moved level) (omega (arith, reach, below, from));
-      inside = record { from = omega (arith, reach, below, from); upto = omega (arith, reach, below, from, upto, len) };
+      at = fetch_reach moved face level x y - size_below moved level;
+      is = place_some (fetch_reach moved face level x y) (size_below moved level) (omega (arith, reach, below, from));
+      inside = record { from = omega (arith, reach, below, from); upto = omega (arith, reach, below, from, upto) };
     }
 
 -- The choice words name a level, a face and a pixel that there are.
@@ -137,7 +112,7 @@ chosen_in : (t : TextureModel) (within : Interval) (words : List ℕ) (m : ℕ) 
 unfolding chosen_place chosen_length chosen_level chosen_face chosen_x chosen_y faces_of
 chosen_in t within words m fits sides =
     let level = word_at words (4 * m) % (t.levels + 1) in
-    read_in t within level (word_at words (4 * m + 1) % faces_of t)
+    read_in t within (word_at words (4 * m + 1) % faces_of t) level
     (word_at words (4 * m + 2) % level_width_of t level) (word_at words (4 * m + 3) % level_height_of t level) fits
     (below_modulo (word_at words (4 * m + 1)) (faces_of t) (faces_some t))
     (let h = below_modulo (word_at words (4 * m)) (t.levels + 1) (omega arith) in omega (arith, h))

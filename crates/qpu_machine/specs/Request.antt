@@ -1,11 +1,8 @@
 -- What a texture and memory unit (TMU) does with a request.
-use Rattle.std.specs.Prelude.{ℕ, zero, suc, ◌+◌, ◌-◌, ◌*◌, ◌/◌, ◌%◌, ◌||◌, nat_lt, Bool, if◌then◌else◌, List, [], ◌∷◌, ◌++◌, Option, Some, None, slice_index}
+use Rattle.std.specs.Prelude.{ℕ, zero, suc, ◌+◌, ◌-◌, ◌*◌, ◌%◌, ◌||◌, Bool, if◌then◌else◌, List, [], ◌∷◌, ◌++◌, Option, Some, None, slice_index}
 use Rattle.field_words.specs.Words.{u32_at}
-use Rattle.texture_layouts.specs.declared.surface.Tiling.{Tiling}
-use Rattle.texture_layouts.specs.declared.surface.Tiling.TheVariants.{Raster, T, Lt}
-use Rattle.texture_layouts.specs.Surface.{microtile_width_of, microtile_height_of}
-use Rattle.texture_layouts.specs.Setup.{TextureModel, texture_of, faces_of, face_place, level_width_of, level_height_of, tiling_at, size_below}
-use Rattle.texture_layouts.specs.Place.{pixel_place_of, microtile_place_of}
+use Rattle.texture_layouts.specs.Setup.{TextureModel, texture_of, faces_of, level_width_of, level_height_of, tiling_at}
+use Rattle.texture_layouts.specs.Fetch.{fetch_place_of, fetch_size_of}
 use Rattle.texture_layouts.specs.Fits.{has_two_strides, lacks_stride, is_unlisted, has_child_image}
 use Rattle.machine_plan.specs.Choice.{word_at}
 use Rattle.machine_plan.specs.Plan.{Plan, Done, Wilds, Reads}
@@ -33,34 +30,12 @@ chosen_x t words m = word_at words (4 * m + 2) % level_width_of t (chosen_level 
 unfoldable pub chosen_y : TextureModel → List ℕ → ℕ → ℕ
 chosen_y t words m = word_at words (4 * m + 3) % level_height_of t (chosen_level t words m)
 
--- where what is read of a pixel lies in its level, and how long that is: the pixel itself in a raster
--- image, else its microtile
-abbrev pub offset_in : Tiling → ℕ → ℕ → ℕ → ℕ → ℕ
-offset_in Raster width cpp x y = pixel_place_of Raster width cpp x y
-offset_in T width cpp x y = microtile_place_of T width cpp (x / microtile_width_of cpp) (y / microtile_height_of cpp)
-offset_in Lt width cpp x y = microtile_place_of Lt width cpp (x / microtile_width_of cpp) (y / microtile_height_of cpp)
-
-abbrev pub length_in : Tiling → ℕ → ℕ
-length_in Raster cpp = cpp
-length_in T cpp = 64
-length_in Lt cpp = 64
-
--- The place of a read, None where it would be below 0. A face's levels lie below the face's own
--- pixels.
-abbrev pub place_from : ℕ → ℕ → Option ℕ
-place_from reach below = if nat_lt reach below then None else Some (reach - below)
-
-unfoldable pub offset_at : TextureModel → ℕ → ℕ → ℕ → ℕ
-offset_at t level x y = offset_in (tiling_at t level) (level_width_of t level) t.cpp x y
-
-unfoldable pub place_at : TextureModel → ℕ → ℕ → ℕ → ℕ → Option ℕ
-place_at t level face x y = place_from (face_place t face + offset_at t level x y) (size_below t level)
-
+-- what is fetched for the pixel
 unfoldable pub chosen_place : TextureModel → List ℕ → ℕ → Option ℕ
-chosen_place t words m = place_at t (chosen_level t words m) (chosen_face t words m) (chosen_x t words m) (chosen_y t words m)
+chosen_place t words m = fetch_place_of t (chosen_face t words m) (chosen_level t words m) (chosen_x t words m) (chosen_y t words m)
 
 unfoldable pub chosen_length : TextureModel → List ℕ → ℕ → ℕ
-chosen_length t words m = length_in (tiling_at t (chosen_level t words m)) t.cpp
+chosen_length t words m = fetch_size_of (tiling_at t (chosen_level t words m)) t.cpp
 
 abbrev pub read_at : {R : Type 0} → Option ℕ → ℕ → Plan R → Plan R
 read_at None len next = Wilds

@@ -7,8 +7,8 @@ use Rattle.buffer_table.specs.Table.{TableModel, buffer_at}
 use Rattle.buffer_table.specs.Handles.{data_of}
 use Rattle.job_format.specs.declared.file.Frame.{Frame}
 use Rattle.job_format.specs.declared.file.Surface.{Surface}
-use Rattle.render_list.specs.Frame.{place_at, surface_at, is_present, is_full, full_tile, full_place, FitsAt, FitsFull, IsTileSet, IsSetupFor}
-use Rattle.render_list.specs.Surfaces.{shape_questions, size_questions, surface_questions, buffer_size, size_in, is_too_large, is_too_large_full, plain_end, full_end, is_unnamed, is_reversed, frame_questions, whole_questions, surface_faults, place_in, place_behind}
+use Rattle.render_list.specs.Frame.{place_at, surface_at, is_present, is_full, full_tile, full_place, FitsAt, IsTileSet, IsSetupFor}
+use Rattle.render_list.specs.Surfaces.{shape_questions, size_questions, surface_questions, buffer_size, size_in, has_unlisted_tiling, has_unlisted_format, is_unaligned, is_too_large, is_full_with_bits, is_too_large_full, surface_style, styled_size, plain_end, full_end, is_unnamed, is_reversed, frame_questions, whole_questions, surface_faults, place_in, place_behind}
 
 if_true : {F : Type 0} → (b : Bool) (questions : List (Question F)) → b ≡ true → first_of (if b then questions else []) ≡ None → first_of questions ≡ None
 if_true true questions stands none = none
@@ -24,7 +24,11 @@ asked frame table handles k present none =
 
 pub record IsChecked (frame : Frame) (k : ℕ) (surface : Surface) (table : TableModel) (handles : List ℕ) : Type 0 where
   pub named : is_unnamed table handles surface ≡ false
+  pub tiling : has_unlisted_tiling k surface ≡ false
+  pub pixel : has_unlisted_format k surface ≡ false
+  pub whole : is_unaligned surface ≡ false
   pub plain : is_too_large frame k surface (buffer_size table handles surface) ≡ false
+  pub bits : is_full_with_bits k surface ≡ false
   pub full : is_too_large_full frame k surface (buffer_size table handles surface) ≡ false
 
 pub is_checked : (frame : Frame) (table : TableModel) (handles : List ℕ) (k : ℕ) → is_present (surface_at frame k) ≡ true
@@ -33,27 +37,35 @@ pub is_checked : (frame : Frame) (table : TableModel) (handles : List ℕ) (k : 
 unfolding shape_questions size_questions
 is_checked frame table handles k present none =
     let n = none_stands (shape_questions k (surface_at frame k) table handles ++ size_questions frame k (surface_at frame k) (buffer_size table handles (surface_at frame k))) (asked frame table handles k present none) in
-    record { named = n.1.1.0; plain = n.1.1.1.1.1.1.0; full = n.1.1.1.1.1.1.1.1.0 }
+    record {
+      named = n.1.1.0;
+      tiling = n.1.1.1.0;
+      pixel = n.1.1.1.1.0;
+      whole = n.1.1.1.1.1.0;
+      plain = n.1.1.1.1.1.1.0;
+      bits = n.1.1.1.1.1.1.1.0;
+      full = n.1.1.1.1.1.1.1.1.0;
+    }
 
 pub size_named : (table : TableModel) (handles : List ℕ) (surface : Surface) (number : ℕ) → data_of table handles surface.hindex ≡ Some number
     → buffer_size table handles surface ≡ (buffer_at table.buffers number).size
 unfolding buffer_size
 size_named table handles surface number named = ap (size_in table) named
 
-full_inside : (frame : Frame) (k : ℕ) (surface : Surface) (size : ℕ) → is_full k surface ≡ true → is_too_large_full frame k surface size ≡ false
+pub full_inside : (frame : Frame) (k : ℕ) (surface : Surface) (size : ℕ) → is_full k surface ≡ true → is_too_large_full frame k surface size ≡ false
     → surface.offset + 16384 * (full_tile frame frame.max_x frame.max_y + 1) ≤ size
 unfolding is_too_large_full full_end
 full_inside frame k surface size full none = grind (arith, full, none)
 
-plain_inside : (frame : Frame) (k : ℕ) (surface : Surface) (size : ℕ) → is_full k surface ≡ false → is_too_large frame k surface size ≡ false
-    → surface.offset ≤ size
+pub plain_inside : (frame : Frame) (k : ℕ) (surface : Surface) (size : ℕ) → is_full k surface ≡ false → is_too_large frame k surface size ≡ false
+    → surface.offset + styled_size frame (surface_style k surface) ≤ size
 unfolding is_too_large plain_end
 plain_inside frame k surface size full none = grind (arith, full, none)
 
-inside_by : (b : Bool) (frame : Frame) (k : ℕ) (surface : Surface) (size : ℕ) → is_full k surface ≡ b → is_too_large frame k surface size ≡ false → is_too_large_full frame k surface size ≡ false
+pub inside_by : (b : Bool) (frame : Frame) (k : ℕ) (surface : Surface) (size : ℕ) → is_full k surface ≡ b → is_too_large frame k surface size ≡ false → is_too_large_full frame k surface size ≡ false
     → surface.offset ≤ size
 inside_by true frame k surface size full plain_none full_none = omega (arith, full_inside frame k surface size full full_none)
-inside_by false frame k surface size full plain_none full_none = plain_inside frame k surface size full plain_none
+inside_by false frame k surface size full plain_none full_none = omega (arith, plain_inside frame k surface size full plain_none)
 
 -- Its offset is inside its buffer.
 pub offset_inside : (frame : Frame) (table : TableModel) (handles : List ℕ) (k number : ℕ) → is_present (surface_at frame k) ≡ true
@@ -116,10 +128,6 @@ below_six P p0 p1 p2 p3 p4 p5 (suc (suc (suc (suc zero)))) below = p4
 below_six P p0 p1 p2 p3 p4 p5 (suc (suc (suc (suc (suc zero))))) below = p5
 below_six P p0 p1 p2 p3 p4 p5 (suc (suc (suc (suc (suc (suc k)))))) below = absurd (omega arith)
 
-always_full : (frame : Frame) (k : ℕ) (place : Option ℕ) (x y : ℕ) → is_full k (surface_at frame k) ≡ true → FitsAt frame k place x y → FitsFull frame place x y
-always_full frame k None x y full fits = tt
-always_full frame k (Some place) x y full fits = fits full
-
 -- So the places are a setup for the frame.
 pub is_setup : (frame : Frame) (table : TableModel) (handles : List ℕ) (r0 r1 r2 r3 r4 r5 : Option ℕ)
     → r0 ≡ place_in table handles (surface_at frame 0) → r1 ≡ place_in table handles (surface_at frame 1)
@@ -127,11 +135,10 @@ pub is_setup : (frame : Frame) (table : TableModel) (handles : List ℕ) (r0 r1 
     → r4 ≡ place_in table handles (surface_at frame 4) → r5 ≡ place_in table handles (surface_at frame 5)
     → IsTileSet frame
     → ((k : ℕ) → k < 6 → first_of (surface_questions frame table handles k) ≡ None)
-    → FitsAt frame 0 r0 frame.max_x frame.max_y → FitsAt frame 2 r2 frame.max_x frame.max_y
-    → FitsAt frame 4 r4 frame.max_x frame.max_y → FitsAt frame 5 r5 frame.max_x frame.max_y
+    → FitsAt frame 0 r0 frame.max_x frame.max_y → FitsAt frame 1 r1 frame.max_x frame.max_y → FitsAt frame 2 r2 frame.max_x frame.max_y
+    → FitsAt frame 3 r3 frame.max_x frame.max_y → FitsAt frame 4 r4 frame.max_x frame.max_y → FitsAt frame 5 r5 frame.max_x frame.max_y
     → IsSetupFor frame (r0 ∷ r1 ∷ r2 ∷ r3 ∷ r4 ∷ r5 ∷ [])
-unfolding is_full
-is_setup frame table handles r0 r1 r2 r3 r4 r5 e0 e1 e2 e3 e4 e5 set none fits0 fits2 fits4 fits5 =
+is_setup frame table handles r0 r1 r2 r3 r4 r5 e0 e1 e2 e3 e4 e5 set none f0 f1 f2 f3 f4 f5 =
     let here : (k : ℕ) → k < 6 → is_some (place_in table handles (surface_at frame k)) ≡ is_present (surface_at frame k) =
     λ k below. place_present (is_present (surface_at frame k)) frame table handles k refl (none k below) in
     record {
@@ -140,10 +147,5 @@ is_setup frame table handles r0 r1 r2 r3 r4 r5 e0 e1 e2 e3 e4 e5 set none fits0 
           below_six (λ k. is_some (place_at (r0 ∷ r1 ∷ r2 ∷ r3 ∷ r4 ∷ r5 ∷ []) k) ≡ is_present (surface_at frame k))
           (ap is_some e0 ∙ here 0 (lit< tt)) (ap is_some e1 ∙ here 1 (lit< tt)) (ap is_some e2 ∙ here 2 (lit< tt))
           (ap is_some e3 ∙ here 3 (lit< tt)) (ap is_some e4 ∙ here 4 (lit< tt)) (ap is_some e5 ∙ here 5 (lit< tt));
-      largest = record {
-        color_read = fits0;
-        zs_read = fits2;
-        multisample_color = always_full frame 4 r4 frame.max_x frame.max_y refl fits4;
-        multisample_zs = always_full frame 5 r5 frame.max_x frame.max_y refl fits5;
-      };
+      largest = below_six (λ k. FitsAt frame k (place_at (r0 ∷ r1 ∷ r2 ∷ r3 ∷ r4 ∷ r5 ∷ []) k) frame.max_x frame.max_y) f0 f1 f2 f3 f4 f5;
     }

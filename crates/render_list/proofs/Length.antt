@@ -6,9 +6,9 @@ use Rattle.packets.specs.declared.packet.Packet.{Packet}
 use Rattle.packets.specs.declared.packet.Packet.TheVariants.{LoadFullResolution, LoadTileBuffer, StoreTileColor, StoreTileColorAndEnd, TileCoordinates, StoreTileBuffer, WaitOnSemaphore}
 use Rattle.packets.specs.Packet.{packet_text, slots_text}
 use Rattle.packets.proofs.Slots.{slots_append}
-use Rattle.render_list.specs.Frame.{place_at, surface_at, is_present, is_full, full_place, is_first_tile, is_last_tile, tiles_across, tiles_down, IsTileSet, ArePlacesOf, IsSetupFor}
+use Rattle.render_list.specs.Frame.{place_at, surface_at, is_full, full_place, is_first_tile, is_last_tile, tiles_across, tiles_down, IsTileSet, ArePlacesOf, IsSetupFor}
 use Rattle.render_list.specs.Text.{number_where, packet_where, idle_store, head_packet, clear_packet, clear_slots, front_slots, load_packet, load_slot, wait_slot, list_slot, full_store, full_store_slot, zs_store, zs_store_slot, color_store, color_store_slot, is_there, some_before_zs, some_before_color, more_after_multisample_zs, more_after_multisample_color, load_slots, list_slots, write_slots, tile_slots, span_slots, row_slots, all_tile_slots, render_text}
-use Rattle.render_list.specs.Length.{load_size, loads_size, write_size, writes_size, tile_size, render_length}
+use Rattle.render_list.specs.Length.{load_size, loads_size, write_size, writes_size, frame_loads, frame_writes, tile_size, render_length}
 use Rattle.render_list.proofs.Rows.{length_parts}
 
 -- How long the packet of a slot is; together they are as long as the text.
@@ -165,21 +165,13 @@ size_writes frame places x y =
 
 -- The same by the frame, whose surfaces the places are.
 loads_of : (frame : Frame) (places : List (Option ℕ)) (x y : ℕ) → ArePlacesOf frame places
-    → slots_size (load_slots frame places x y) ≡ loads_size frame (is_present (surface_at frame 0)) (is_present (surface_at frame 2))
-loads_of frame places x y agree =
-    size_loads frame places x y
-    ∙ ap (λ b. loads_size frame b (is_some (place_at places 2))) (agree 0 (lit< tt))
-    ∙ ap (λ b. loads_size frame (is_present (surface_at frame 0)) b) (agree 2 (lit< tt))
+    → slots_size (load_slots frame places x y) ≡ frame_loads frame
+loads_of frame places x y agree = rw (sym (agree 0 (lit< tt)), sym (agree 2 (lit< tt))) (size_loads frame places x y)
 
 writes_of : (frame : Frame) (places : List (Option ℕ)) (x y : ℕ) → ArePlacesOf frame places
-    → slots_size (write_slots frame places x y)
-    ≡ writes_size (is_present (surface_at frame 4)) (is_present (surface_at frame 5)) (is_present (surface_at frame 3)) (is_present (surface_at frame 1))
+    → slots_size (write_slots frame places x y) ≡ frame_writes frame
 writes_of frame places x y agree =
-    size_writes frame places x y
-    ∙ ap (λ b. writes_size b (is_some (place_at places 5)) (is_some (place_at places 3)) (is_some (place_at places 1))) (agree 4 (lit< tt))
-    ∙ ap (λ b. writes_size (is_present (surface_at frame 4)) b (is_some (place_at places 3)) (is_some (place_at places 1))) (agree 5 (lit< tt))
-    ∙ ap (λ b. writes_size (is_present (surface_at frame 4)) (is_present (surface_at frame 5)) b (is_some (place_at places 1))) (agree 3 (lit< tt))
-    ∙ ap (λ b. writes_size (is_present (surface_at frame 4)) (is_present (surface_at frame 5)) (is_present (surface_at frame 3)) b) (agree 1 (lit< tt))
+    rw (sym (agree 4 (lit< tt)), sym (agree 5 (lit< tt)), sym (agree 3 (lit< tt)), sym (agree 1 (lit< tt))) (size_writes frame places x y)
 
 length_two : (front rest : List (Option Packet)) → length (slots_text (front ++ rest)) ≡ length (slots_text front) + length (slots_text rest)
 length_two front rest = ap length (slots_append front rest) ∙ length-append (slots_text front) (slots_text rest)
@@ -263,7 +255,7 @@ length_tiles frame places grid slot agree set =
 -- The whole.
 pub length_render : (frame : Frame) (places : List (Option ℕ)) (grid : Option (ℕ × ℕ)) (slot : ℕ) → ArePlacesOf frame places → IsTileSet frame
     → length (render_text frame places grid slot) ≡ render_length frame (is_some grid)
-unfolding render_length
+unfolding render_length render_text
 length_render frame places grid slot agree set =
     omega (arith, length_parts frame places grid slot, length_front frame places, length_tiles frame places grid slot agree set)
 

@@ -3,7 +3,7 @@ use Rattle.std.proofs.Common.{ℕ, ◌≤◌, List, Option, Some, None, arith}
 use Rattle.std.proofs.Math.Nat.{mul-le-mul_left}
 use Rattle.std.specs.Int.{div_ceil}
 use Rattle.job_format.specs.declared.file.Frame.{Frame}
-use Rattle.render_list.specs.Frame.{place_at, full_tile, full_place, FitsAt, FitsFull, TileFits, IsSetupFor}
+use Rattle.render_list.specs.Frame.{place_at, full_tile, full_place, FitsAt, TileFits, IsSetupFor}
 
 -- A tile lies no higher than one to the right and below.
 pub full_place_grows : (frame : Frame) (place x y x2 y2 : ℕ) → x ≤ x2 → y ≤ y2 → full_place frame place x y ≤ full_place frame place x2 y2
@@ -14,16 +14,6 @@ fits_at : (frame : Frame) (k : ℕ) (place : Option ℕ) (x y x2 y2 : ℕ) → x
 fits_at frame k None x y x2 y2 right down fits = tt
 fits_at frame k (Some place) x y x2 y2 right down fits = λ full. omega (arith, fits full, full_place_grows frame place x y x2 y2 right down)
 
-fits_full : (frame : Frame) (place : Option ℕ) (x y x2 y2 : ℕ) → x ≤ x2 → y ≤ y2 → FitsFull frame place x2 y2 → FitsFull frame place x y
-fits_full frame None x y x2 y2 right down fits = tt
-fits_full frame (Some place) x y x2 y2 right down fits = omega (arith, fits, full_place_grows frame place x y x2 y2 right down)
-
 -- So each tile of the set lies below 2^32.
 pub tile_fits : (frame : Frame) (places : List (Option ℕ)) (x y : ℕ) → x ≤ frame.max_x → y ≤ frame.max_y → IsSetupFor frame places → TileFits frame places x y
-tile_fits frame places x y right down setup =
-    record {
-      color_read = fits_at frame 0 (place_at places 0) x y frame.max_x frame.max_y right down setup.largest.color_read;
-      zs_read = fits_at frame 2 (place_at places 2) x y frame.max_x frame.max_y right down setup.largest.zs_read;
-      multisample_color = fits_full frame (place_at places 4) x y frame.max_x frame.max_y right down setup.largest.multisample_color;
-      multisample_zs = fits_full frame (place_at places 5) x y frame.max_x frame.max_y right down setup.largest.multisample_zs;
-    }
+tile_fits frame places x y right down setup k below = fits_at frame k (place_at places k) x y frame.max_x frame.max_y right down (setup.largest k below)

@@ -5,7 +5,7 @@ use Rattle.job_format.specs.declared.file.Frame.{Frame}
 use Rattle.packets.specs.declared.packet.Packet.{Packet}
 use Rattle.packets.specs.Packet.{slots_text}
 use Rattle.packets.proofs.Slots.{slots_append}
-use Rattle.render_list.specs.Text.{span_slots, front_slots, all_tile_slots, render_slots, render_text}
+use Rattle.render_list.specs.Text.{span_slots, front_slots, all_tile_slots, render_slots}
 
 -- the first numbers of a row, and the others
 pub span_step : (slots : ℕ → List (Option Packet)) (x end : ℕ) → x < end
@@ -24,11 +24,11 @@ span_end slots x end past =
 
 -- the head with what clears, and the tiles
 pub render_parts : (frame : Frame) (places : List (Option ℕ)) (grid : Option (ℕ × ℕ)) (slot : ℕ)
-    → render_text frame places grid slot ≡ slots_text (front_slots frame places) ++ slots_text (all_tile_slots frame places grid slot)
-unfolding render_text render_slots
+    → slots_text (render_slots frame places grid slot) ≡ slots_text (front_slots frame places) ++ slots_text (all_tile_slots frame places grid slot)
+unfolding render_slots
 render_parts frame places grid slot = slots_append (front_slots frame places) (all_tile_slots frame places grid slot)
 
 pub length_parts : (frame : Frame) (places : List (Option ℕ)) (grid : Option (ℕ × ℕ)) (slot : ℕ)
-    → length (render_text frame places grid slot) ≡ length (slots_text (front_slots frame places)) + length (slots_text (all_tile_slots frame places grid slot))
+    → length (slots_text (render_slots frame places grid slot)) ≡ length (slots_text (front_slots frame places)) + length (slots_text (all_tile_slots frame places grid slot))
 length_parts frame places grid slot =
     ap length (render_parts frame places grid slot) ∙ length-append (slots_text (front_slots frame places)) (slots_text (all_tile_slots frame places grid slot))

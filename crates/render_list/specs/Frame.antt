@@ -84,17 +84,9 @@ abbrev pub FitsAt : Frame → ℕ → Option ℕ → ℕ → ℕ → Type 0
 FitsAt frame k None x y = Unit {0}
 FitsAt frame k (Some place) x y = IsTrue (is_full k (surface_at frame k)) → full_place frame place x y < 2 ^ 32
 
--- the same for a surface that is always in full resolution
-abbrev pub FitsFull : Frame → Option ℕ → ℕ → ℕ → Type 0
-FitsFull frame None x y = Unit {0}
-FitsFull frame (Some place) x y = full_place frame place x y < 2 ^ 32
-
--- so of each surface that may be in full resolution and is no fault
-pub record TileFits (frame : Frame) (places : List (Option ℕ)) (x y : ℕ) : Type 0 where
-  pub color_read : FitsAt frame 0 (place_at places 0) x y
-  pub zs_read : FitsAt frame 2 (place_at places 2) x y
-  pub multisample_color : FitsFull frame (place_at places 4) x y
-  pub multisample_zs : FitsFull frame (place_at places 5) x y
+-- so of each surface
+abbrev pub TileFits : Frame → List (Option ℕ) → ℕ → ℕ → Type 0
+TileFits frame places x y = (k : ℕ) → k < 6 → FitsAt frame k (place_at places k) x y
 
 -- There is a place exactly for each surface that is present.
 abbrev pub ArePlacesOf : Frame → List (Option ℕ) → Type 0

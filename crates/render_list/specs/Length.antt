@@ -25,12 +25,17 @@ writes_size multisample_color multisample_zs zs color =
     + (write_size zs (multisample_color || multisample_zs) 7
     + write_size color ((multisample_color || multisample_zs) || zs) 1))
 
+-- the same by the surfaces that the frame has
+abbrev pub frame_loads : Frame → ℕ
+frame_loads frame = loads_size frame (is_present (surface_at frame 0)) (is_present (surface_at frame 2))
+
+abbrev pub frame_writes : Frame → ℕ
+frame_writes frame =
+    writes_size (is_present (surface_at frame 4)) (is_present (surface_at frame 5)) (is_present (surface_at frame 3)) (is_present (surface_at frame 1))
+
 -- loads, coordinates, with a binner list the branch to the tile's own list, and writes
 unfoldable pub tile_size : Frame → Bool → ℕ
-tile_size frame has_bin =
-    loads_size frame (is_present (surface_at frame 0)) (is_present (surface_at frame 2))
-    + (3 + (number_where has_bin 5
-    + writes_size (is_present (surface_at frame 4)) (is_present (surface_at frame 5)) (is_present (surface_at frame 3)) (is_present (surface_at frame 1))))
+tile_size frame has_bin = frame_loads frame + (3 + (number_where has_bin 5 + frame_writes frame))
 
 -- the head, the clear part and the tiles
 unfoldable pub render_length : Frame → Bool → ℕ

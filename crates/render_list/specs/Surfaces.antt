@@ -2,21 +2,39 @@
 -- then the surfaces, which are items 1 to 6, then the whole, which is item 7; at an item by number.
 use Rattle.std.specs.Prelude.{ℕ, ◌+◌, ◌-◌, ◌*◌, ◌%◌, Bool, false, not, ◌&&◌, ◌||◌, nat_lt, nat_le, ◌==◌, bit_and, List, [], ◌∷◌, ◌++◌, map, Option, Some, None, is_some, if◌then◌else◌}
 use Rattle.std.specs.List.{range_with_len}
-use Rattle.field_words.specs.Words.{bits_of}
 use Rattle.field_words.specs.Questions.{Question, Ask, each}
 use Rattle.buffer_table.specs.Table.{TableModel, buffer_at}
 use Rattle.buffer_table.specs.Handles.{data_of}
 use Rattle.job_format.specs.declared.file.Frame.{Frame}
 use Rattle.job_format.specs.declared.file.Surface.{Surface}
 use Rattle.texture_layouts.specs.declared.surface.Tiling.{Tiling}
-use Rattle.texture_layouts.specs.declared.surface.Tiling.TheVariants.{Raster, T, Lt}
+use Rattle.texture_layouts.specs.declared.format.Style.{Style}
+use Rattle.texture_layouts.specs.Format.{general_tiling, general_pixel, frame_tiling, frame_pixel, styled}
 use Rattle.texture_layouts.specs.Surface.{size_for}
 use Rattle.render_list.specs.declared.fault.RenderFault.{RenderFault}
+use Rattle.render_list.specs.declared.fault.FrameRule.{FrameRule}
+use Rattle.render_list.specs.declared.fault.FrameRule.TheVariants.{Reversed, OutsideGrid, OutsideFrame, UnknownFlag, UnknownBit, Unnamed, UnlistedTiling, UnlistedFormat, Unaligned, TooLarge, FullWithBits, TooLargeFull, NothingWritten}
 use Rattle.render_list.specs.Frame.{color_write, zs_write, multisample_color, multisample_zs, surface_at, is_present, is_full, tile_side, full_tile}
 
--- rule G number at an item
-abbrev pub fault : ℕ → ℕ → RenderFault
-fault number item = record { number = number; item = item }
+-- the number of a rule G
+abbrev pub number_of : FrameRule → ℕ
+number_of Reversed = 1
+number_of OutsideGrid = 2
+number_of OutsideFrame = 3
+number_of UnknownFlag = 4
+number_of UnknownBit = 5
+number_of Unnamed = 6
+number_of UnlistedTiling = 7
+number_of UnlistedFormat = 8
+number_of Unaligned = 9
+number_of TooLarge = 10
+number_of FullWithBits = 11
+number_of TooLargeFull = 12
+number_of NothingWritten = 13
+
+-- the rule at an item
+abbrev pub fault : FrameRule → ℕ → RenderFault
+fault rule item = record { number = number_of rule; item = item }
 
 -- G1: a smallest tile number is over its largest
 unfoldable pub is_reversed : Frame → Bool
@@ -33,9 +51,9 @@ is_outside_frame frame = nat_le frame.width (frame.max_x * tile_side frame) || n
 
 unfoldable pub frame_questions : Frame → Option (ℕ × ℕ) → List (Question RenderFault)
 frame_questions frame grid =
-    Ask (is_reversed frame) (fault 1 0)
-    ∷ (Ask (is_outside_grid frame grid) (fault 2 0)
-    ∷ (Ask (is_outside_frame frame) (fault 3 0) ∷ []))
+    Ask (is_reversed frame) (fault Reversed 0)
+    ∷ (Ask (is_outside_grid frame grid) (fault OutsideGrid 0)
+    ∷ (Ask (is_outside_frame frame) (fault OutsideFrame 0) ∷ []))
 
 -- the surfaces that are loaded or stored by general bits may be in full resolution
 abbrev pub may_be_full : ℕ → Bool
@@ -62,37 +80,23 @@ has_unknown_bit k surface = not (is_full k surface) && not (bit_and surface.bits
 unfoldable pub is_unnamed : TableModel → List ℕ → Surface → Bool
 is_unnamed table handles surface = not (is_some (data_of table handles surface.hindex))
 
-unfoldable pub tiling_number : ℕ → Surface → ℕ
-tiling_number k surface = if k == 1 then bits_of surface.bits 7 6 else bits_of surface.bits 5 4
+-- how its pixels lie, by its bits
+unfoldable pub surface_tiling : ℕ → Surface → Option Tiling
+surface_tiling k surface = if k == 1 then frame_tiling surface.bits else general_tiling surface.bits
+
+unfoldable pub surface_pixel : ℕ → Surface → Option ℕ
+surface_pixel k surface = if k == 1 then frame_pixel surface.bits else general_pixel surface.bits
+
+abbrev pub surface_style : ℕ → Surface → Option Style
+surface_style k surface = styled (surface_tiling k surface) (surface_pixel k surface)
 
 -- G7: a tiling that there isn't
 unfoldable pub has_unlisted_tiling : ℕ → Surface → Bool
-has_unlisted_tiling k surface = not (is_full k surface) && tiling_number k surface == 3
-
-abbrev pub tiling_named : ℕ → Tiling
-tiling_named number = if number == 0 then Raster else (if number == 1 then T else Lt)
-
--- The bytes of a pixel, and 0 where there is no such format. Colour write: 4 with format 1, 2 with 0
--- and 2. The others: a colour buffer (1) takes 4 with format 0, and 2 with 1 and 2; a ZS buffer (2)
--- takes 4 with format 0.
-abbrev pub write_pixel : ℕ → ℕ
-write_pixel format = if format == 1 then 4 else (if nat_le format 2 then 2 else 0)
-
-abbrev pub color_pixel : ℕ → ℕ
-color_pixel format = if format == 0 then 4 else (if nat_le format 2 then 2 else 0)
-
-abbrev pub zs_pixel : ℕ → ℕ
-zs_pixel format = if format == 0 then 4 else 0
-
-abbrev pub general_pixel : ℕ → ℕ → ℕ
-general_pixel buffer format = if buffer == 1 then color_pixel format else (if buffer == 2 then zs_pixel format else 0)
-
-unfoldable pub pixel_size_of : ℕ → Surface → ℕ
-pixel_size_of k surface = if k == 1 then write_pixel (bits_of surface.bits 3 2) else general_pixel (bits_of surface.bits 2 0) (bits_of surface.bits 9 8)
+has_unlisted_tiling k surface = not (is_full k surface) && not (is_some (surface_tiling k surface))
 
 -- G8: a buffer and format that there aren't
 unfoldable pub has_unlisted_format : ℕ → Surface → Bool
-has_unlisted_format k surface = not (is_full k surface) && pixel_size_of k surface == 0
+has_unlisted_format k surface = not (is_full k surface) && not (is_some (surface_pixel k surface))
 
 -- G9: the offset is no multiple of 16
 unfoldable pub is_unaligned : Surface → Bool
@@ -106,9 +110,14 @@ size_in table (Some number) = (buffer_at table.buffers number).size
 unfoldable pub buffer_size : TableModel → List ℕ → Surface → ℕ
 buffer_size table handles surface = size_in table (data_of table handles surface.hindex)
 
+-- how many bytes a surface of the frame takes, of a style that is listed
+abbrev pub styled_size : Frame → Option Style → ℕ
+styled_size frame None = 0
+styled_size frame (Some style) = size_for style.tiling frame.width frame.height style.cpp
+
 -- where the surface ends in its buffer
 unfoldable pub plain_end : Frame → ℕ → Surface → ℕ
-plain_end frame k surface = surface.offset + size_for (tiling_named (tiling_number k surface)) frame.width frame.height (pixel_size_of k surface)
+plain_end frame k surface = surface.offset + styled_size frame (surface_style k surface)
 
 -- G10: the frame is over 4,096 pixels wide or high, or the surface goes past its buffer
 unfoldable pub is_too_large : Frame → ℕ → Surface → ℕ → Bool
@@ -129,18 +138,18 @@ is_too_large_full frame k surface size = is_full k surface && nat_lt size (full_
 -- what is asked of a surface that is present: its flags and bits, and its place in the buffer
 unfoldable pub shape_questions : ℕ → Surface → TableModel → List ℕ → List (Question RenderFault)
 shape_questions k surface table handles =
-    Ask (has_unknown_flag k surface) (fault 4 (k + 1))
-    ∷ (Ask (has_unknown_bit k surface) (fault 5 (k + 1))
-    ∷ (Ask (is_unnamed table handles surface) (fault 6 (k + 1))
-    ∷ (Ask (has_unlisted_tiling k surface) (fault 7 (k + 1))
-    ∷ (Ask (has_unlisted_format k surface) (fault 8 (k + 1))
-    ∷ (Ask (is_unaligned surface) (fault 9 (k + 1)) ∷ [])))))
+    Ask (has_unknown_flag k surface) (fault UnknownFlag (k + 1))
+    ∷ (Ask (has_unknown_bit k surface) (fault UnknownBit (k + 1))
+    ∷ (Ask (is_unnamed table handles surface) (fault Unnamed (k + 1))
+    ∷ (Ask (has_unlisted_tiling k surface) (fault UnlistedTiling (k + 1))
+    ∷ (Ask (has_unlisted_format k surface) (fault UnlistedFormat (k + 1))
+    ∷ (Ask (is_unaligned surface) (fault Unaligned (k + 1)) ∷ [])))))
 
 unfoldable pub size_questions : Frame → ℕ → Surface → ℕ → List (Question RenderFault)
 size_questions frame k surface size =
-    Ask (is_too_large frame k surface size) (fault 10 (k + 1))
-    ∷ (Ask (is_full_with_bits k surface) (fault 11 (k + 1))
-    ∷ (Ask (is_too_large_full frame k surface size) (fault 12 (k + 1)) ∷ []))
+    Ask (is_too_large frame k surface size) (fault TooLarge (k + 1))
+    ∷ (Ask (is_full_with_bits k surface) (fault FullWithBits (k + 1))
+    ∷ (Ask (is_too_large_full frame k surface size) (fault TooLargeFull (k + 1)) ∷ []))
 
 -- an absent surface is asked nothing
 unfoldable pub surface_questions : Frame → TableModel → List ℕ → ℕ → List (Question RenderFault)
@@ -154,7 +163,7 @@ unfoldable pub is_written : Frame → Bool
 is_written frame = is_present (surface_at frame color_write) || (is_present (surface_at frame zs_write) || (is_present (surface_at frame multisample_color) || is_present (surface_at frame multisample_zs)))
 
 unfoldable pub whole_questions : Frame → List (Question RenderFault)
-whole_questions frame = Ask (not (is_written frame)) (fault 13 7) ∷ []
+whole_questions frame = Ask (not (is_written frame)) (fault NothingWritten 7) ∷ []
 
 -- all rules in the order of refusal
 unfoldable pub surface_faults : Frame → Option (ℕ × ℕ) → TableModel → List ℕ → List (Question RenderFault)

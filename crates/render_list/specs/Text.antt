@@ -1,12 +1,13 @@
 -- A renderer list: its packets, and their text, one after the other. The surfaces' places are absolute,
 -- and None where a surface is absent. A packet that stands only sometimes has a slot, which is None
 -- where it doesn't stand, so that each tile has the same fourteen slots.
-use Rattle.std.specs.Prelude.{ℕ, ◌+◌, ◌*◌, ◌%◌, ◌||◌, ◌&&◌, not, Bool, true, false, List, [], ◌∷◌, ◌++◌, Option, Some, None, is_some, if◌then◌else◌, slice_index_or, bit_or}
+use Rattle.std.specs.Prelude.{◌≡◌, ◌≤◌, ℕ, ◌+◌, ◌*◌, ◌%◌, ◌||◌, ◌&&◌, not, Bool, true, false, List, [], ◌∷◌, ◌++◌, Option, Some, None, is_some, if◌then◌else◌, slice_index_or, bit_or, length}
 use Rattle.std.specs.List.{flat_map, range_with_len}
 use Rattle.job_format.specs.declared.file.Frame.{Frame}
 use Rattle.packets.specs.declared.packet.Packet.{Packet}
 use Rattle.packets.specs.declared.packet.Packet.TheVariants.{WaitOnSemaphore, BranchToSubList, StoreTileColor, StoreTileColorAndEnd, StoreFullResolution, LoadFullResolution, StoreTileBuffer, LoadTileBuffer, TileRenderingMode, ClearColors, TileCoordinates}
 use Rattle.packets.specs.Packet.{slots_text}
+use Rattle.field_words.specs.Writes.{with_bytes}
 use Rattle.tile_memory.specs.Slots.{alloc_offset}
 use Rattle.render_list.specs.Frame.{color_read, color_write, zs_read, zs_write, multisample_color, multisample_zs, place_at, surface_at, is_full, full_place, is_first_tile, is_last_tile, tiles_across, tiles_down}
 
@@ -199,3 +200,12 @@ render_slots frame places grid slot = front_slots frame places ++ all_tile_slots
 
 unfoldable pub render_text : Frame → List (Option ℕ) → Option (ℕ × ℕ) → ℕ → List ℕ
 render_text frame places grid slot = slots_text (render_slots frame places grid slot)
+
+-- A window has room for the slots' text at a place; and what writing it there leaves: the window with the text and no other byte changed,
+-- and the place behind it.
+abbrev pub HasRoom : List ℕ → ℕ → List (Option Packet) → Type 0
+HasRoom window at slots = at + length (slots_text slots) ≤ length window
+
+pub record Puts (slots : List (Option Packet)) (before : List ℕ) (at : ℕ) (after : List ℕ) (end : ℕ) : Type 0 where
+  pub text : after ≡ with_bytes before at (slots_text slots)
+  pub end_is : end ≡ at + length (slots_text slots)

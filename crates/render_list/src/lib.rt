@@ -9,7 +9,7 @@ mod slots;
 mod surfaces;
 mod text;
 
-pub use fault::RenderFault;
+pub use fault::{FrameRule, RenderFault};
 pub use setup::Setup;
 pub use size::render_size;
 pub use surfaces::check_surfaces;

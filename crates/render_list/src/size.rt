@@ -2,7 +2,7 @@
 ghost use Rattle.std.specs.Prelude.{◌≡◌, ◌≤◌, ◌<◌, ◌||◌, ◌+◌, ◌*◌, ℕ, List, length, is_some, Option};
 ghost use Rattle.field_words.specs.Sizes.{most_render};
 ghost use Rattle.render_list.specs.Frame.{surface_at, is_present, tiles_across, tiles_down, IsTileSet, ArePlacesOf};
-ghost use Rattle.render_list.specs.Length.{load_size, loads_size, write_size, writes_size, tile_size, render_length};
+ghost use Rattle.render_list.specs.Length.{load_size, write_size, frame_loads, frame_writes, tile_size, render_length};
 ghost use Rattle.render_list.specs.Text.{number_where, render_text};
 
 use crate::frame::{
@@ -38,7 +38,7 @@ fn load_size(frame: &Frame, k: usize) -> u64
 /// The two loads of a tile, with what parts them.
 #[tactic(auto, unfolding(crate::specs::Length::loads_size))]
 fn loads_size(frame: &Frame) -> u64
-    ensures value { result ≡ loads_size frame.now (is_present (surface_at frame.now 0)) (is_present (surface_at frame.now 2)) }
+    ensures value { result ≡ frame_loads frame.now }
     ensures limit { result ≤ 24 }
 {
     let color = has_surface(frame, COLOR_READ);
@@ -62,7 +62,7 @@ fn write_size(present: bool, some_before: bool, packet: u64) -> u64
 /// The writes of a tile.
 #[tactic(auto, unfolding(crate::specs::Length::writes_size))]
 fn writes_size(frame: &Frame) -> u64
-    ensures value { result ≡ writes_size (is_present (surface_at frame.now 4)) (is_present (surface_at frame.now 5)) (is_present (surface_at frame.now 3)) (is_present (surface_at frame.now 1)) }
+    ensures value { result ≡ frame_writes frame.now }
     ensures limit { result ≤ 40 }
 {
     let color = has_surface(frame, MULTISAMPLE_COLOR);

@@ -1,8 +1,8 @@
 //! The packets of a renderer list. One that stands only sometimes has a slot, which is `None` where it
 //! doesn't stand.
-ghost use Rattle.std.specs.Prelude.{◌≡◌, ◌≤◌, ◌<◌, ◌^◌, ◌+◌, ◌*◌, ◌∷◌, [], IsSome};
+ghost use Rattle.std.specs.Prelude.{◌≡◌, ◌⊎◌, ◌≤◌, ◌<◌, ◌^◌, ◌+◌, ◌*◌, ◌∷◌, [], IsSome};
 ghost use Rattle.tile_memory.specs.Slots.{alloc_offset};
-ghost use Rattle.render_list.specs.Frame.{FitsAt, FitsFull, TileFits, full_place};
+ghost use Rattle.render_list.specs.Frame.{FitsAt, TileFits, full_place};
 ghost use Rattle.render_list.specs.Text.{number_where, packet_where, head_packet, clear_packet, clear_slots, load_packet, load_slot, wait_slot, list_place, list_slot, full_store, full_store_slot, zs_store, zs_store_slot, color_store, color_store_slot, is_there, more_after_multisample_zs, more_after_multisample_color, some_before_zs, some_before_color, coordinates_slot, load_slots, list_slots, write_slots, tile_slots};
 
 use crate::frame::{
@@ -219,17 +219,19 @@ fn coordinates_slot(setup: &Setup, k: usize, some_before: bool, tile: Tile) -> O
     )
 }
 
-/// The store of a tile in full resolution, where the surface is present.
-#[tactic(auto, unfolding(crate::specs::Text::full_store))]
+/// The store of a tile of surface `k`, one of those in full resolution, where it is present.
+#[tactic(auto, unfolding(crate::specs::Text::full_store, crate::specs::Frame::is_full))]
 fn full_store_slot(
     frame: &Frame,
+    k: usize,
     place: Option<u32>,
     left_out: u32,
     more: bool,
     tile: Tile,
 ) -> Option<Packet>
+    requires full { (k ≡ 4) ⊎ (k ≡ 5) }
     requires bits { left_out < 4 }
-    requires fits { FitsFull frame.now place tile.x tile.y }
+    requires fits { FitsAt frame.now k place tile.x tile.y }
     ensures { result ≡ full_store_slot frame.now place left_out more tile.x tile.y }
 {
     let place = place?;
@@ -316,10 +318,10 @@ fn write_slots(frame: &Frame, setup: &Setup, tile: Tile) -> [Option<Packet>; 7]
 {
     let color = setup.place_of(MULTISAMPLE_COLOR);
     let more = more_after_multisample_color(setup);
-    let first = full_store_slot(frame, color, WITHOUT_ZS, more, tile);
+    let first = full_store_slot(frame, MULTISAMPLE_COLOR, color, WITHOUT_ZS, more, tile);
     let zs = setup.place_of(MULTISAMPLE_ZS);
     let more = more_after_multisample_zs(setup);
-    let second = full_store_slot(frame, zs, WITHOUT_COLOR, more, tile);
+    let second = full_store_slot(frame, MULTISAMPLE_ZS, zs, WITHOUT_COLOR, more, tile);
     let more = is_there(setup, COLOR_WRITE);
     let third = zs_store_slot(frame, setup.place_of(ZS_WRITE), more, tile);
     [

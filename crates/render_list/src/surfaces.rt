@@ -1,25 +1,22 @@
 //! The rules of a frame and its surfaces.
-ghost use Rattle.std.specs.Prelude.{◌≡◌, ◌<◌, ◌≤◌, ◌⊎◌, ◌+◌, ◌++◌, false, length, ℕ, None, Some, IfNone, IfOk, IfErr, MatchResult};
+ghost use Rattle.std.specs.Prelude.{◌≡◌, ◌<◌, ◌≤◌, ◌+◌, ◌^◌, ◌++◌, ℕ, None, Some, IfSome, IfOk, IfErr, MatchResult};
 ghost use Rattle.field_words.specs.Questions.{first_of, each, IsFirst};
 ghost use Rattle.buffer_table.specs.Handles.{AreNumbersOf};
-ghost use Rattle.texture_layouts.specs.Surface.{IsPixelSize};
+ghost use Rattle.texture_layouts.specs.Format.{IsShort};
 ghost use Rattle.render_list.specs.Frame.{surface_at, is_full, FitsAt, IsTileSet, IsSetupFor};
-ghost use Rattle.render_list.specs.Surfaces.{fault, is_reversed, is_outside_grid, is_outside_frame, frame_questions, has_unknown_flag, has_unknown_bit, is_unnamed, tiling_number, has_unlisted_tiling, tiling_named, pixel_size_of, has_unlisted_format, write_pixel, general_pixel, is_unaligned, buffer_size, plain_end, is_too_large, is_full_with_bits, full_end, is_too_large_full, shape_questions, size_questions, surface_questions, is_written, whole_questions, surface_faults, place_in, places_of};
+ghost use Rattle.render_list.specs.Surfaces.{fault, is_reversed, is_outside_grid, is_outside_frame, frame_questions, has_unknown_flag, has_unknown_bit, is_unnamed, surface_tiling, surface_pixel, has_unlisted_tiling, has_unlisted_format, styled_size, is_unaligned, buffer_size, plain_end, is_too_large, is_full_with_bits, full_end, is_too_large_full, shape_questions, size_questions, surface_questions, is_written, whole_questions, surface_faults, place_in, places_of};
 
-use crate::fault::{
-    FRAME, FULL_WITH_BITS, NOTHING_WRITTEN, OUTSIDE_FRAME, OUTSIDE_GRID, REVERSED, RenderFault,
-    TOO_LARGE, TOO_LARGE_FULL, UNALIGNED, UNKNOWN_BIT, UNKNOWN_FLAG, UNLISTED_FORMAT,
-    UNLISTED_TILING, UNNAMED, WHOLE,
-};
+use crate::fault::{FRAME, FrameRule, RenderFault, WHOLE};
 use crate::frame::{
     COLOR_READ, COLOR_WRITE, FULL_TILE, MULTISAMPLE_COLOR, MULTISAMPLE_ZS, ZS_READ, ZS_WRITE,
     full_tile, is_full, is_present, surface, tile_side,
 };
 use crate::setup::Setup;
 use buffer_table::{Handles, Table, use_data};
-use field_words::field;
 use job_format::{Frame, Surface};
-use texture_layouts::{Tiling, surface_size};
+use texture_layouts::{
+    Style, Tiling, frame_pixel, frame_tiling, general_pixel, general_tiling, styled, surface_size,
+};
 
 /// The most pixels that a frame may have across or down where a surface isn't in full resolution.
 const SIDE_LIMIT: u16 = 4096;
@@ -65,22 +62,13 @@ fn frame_fault(frame: &Frame, tiles: Option<(u8, u8)>) -> Option<RenderFault>
     ensures { result ≡ first_of (frame_questions frame.now tiles) }
 {
     if is_reversed(frame) {
-        return Some(RenderFault {
-            number: REVERSED,
-            item: FRAME,
-        });
+        return Some(RenderFault::of(FrameRule::Reversed, FRAME));
     }
     if is_outside_grid(frame, tiles) {
-        return Some(RenderFault {
-            number: OUTSIDE_GRID,
-            item: FRAME,
-        });
+        return Some(RenderFault::of(FrameRule::OutsideGrid, FRAME));
     }
     if is_outside_frame(frame) {
-        return Some(RenderFault {
-            number: OUTSIDE_FRAME,
-            item: FRAME,
-        });
+        return Some(RenderFault::of(FrameRule::OutsideFrame, FRAME));
     }
     None
 }
@@ -118,15 +106,28 @@ fn is_unnamed(table: &Table, handles: &Handles, surface: &Surface) -> bool
     use_data(table, handles, surface.hindex).is_none()
 }
 
-#[tactic(auto, unfolding(crate::specs::Surfaces::tiling_number))]
-fn tiling_number(k: usize, surface: &Surface) -> u64
-    ensures { result ≡ tiling_number k surface.now }
+/// The tiling by the surface's bits.
+#[tactic(auto, unfolding(crate::specs::Surfaces::surface_tiling))]
+fn surface_tiling(k: usize, surface: &Surface) -> Option<Tiling>
+    ensures { result ≡ surface_tiling k surface.now }
 {
-    let bits = u64::from(surface.bits);
     if k == COLOR_WRITE {
-        field(bits, 7, 6)
+        frame_tiling(surface.bits)
     } else {
-        field(bits, 5, 4)
+        general_tiling(surface.bits)
+    }
+}
+
+/// The bytes of a pixel by the surface's bits.
+#[tactic(auto, unfolding(crate::specs::Surfaces::surface_pixel))]
+fn surface_pixel(k: usize, surface: &Surface) -> Option<u32>
+    ensures value { result ≡ surface_pixel k surface.now }
+    ensures short { IfSome result IsShort }
+{
+    if k == COLOR_WRITE {
+        frame_pixel(surface.bits)
+    } else {
+        general_pixel(surface.bits)
     }
 }
 
@@ -135,53 +136,7 @@ fn tiling_number(k: usize, surface: &Surface) -> u64
 fn has_unlisted_tiling(k: usize, surface: &Surface) -> bool
     ensures { result ≡ has_unlisted_tiling k surface.now }
 {
-    !is_full(k, surface) && tiling_number(k, surface) == 3
-}
-
-fn tiling_named(number: u64) -> Tiling
-    ensures { result ≡ tiling_named number }
-{
-    match number {
-        0 => Tiling::Raster,
-        1 => Tiling::T,
-        _ => Tiling::Lt,
-    }
-}
-
-/// The bytes of a pixel of colour write by its format, and 0 where there is no such format.
-fn write_pixel(format: u64) -> u32
-    ensures { result ≡ write_pixel format }
-{
-    match format {
-        1 => 4,
-        0 | 2 => 2,
-        _ => 0,
-    }
-}
-
-/// The bytes of a pixel of a general surface by its buffer and format, and 0 where there are no such.
-fn general_pixel(buffer: u64, format: u64) -> u32
-    ensures { result ≡ general_pixel buffer format }
-{
-    match (buffer, format) {
-        (1, 0) | (2, 0) => 4,
-        (1, 1) | (1, 2) => 2,
-        _ => 0,
-    }
-}
-
-/// The bytes of a pixel, and 0 where the surface's buffer or format isn't listed.
-#[tactic(auto, unfolding(crate::specs::Surfaces::pixel_size_of))]
-fn pixel_size(k: usize, surface: &Surface) -> u32
-    ensures value { result ≡ pixel_size_of k surface.now }
-    ensures listed { (result ≡ 0) ⊎ IsPixelSize result }
-{
-    let bits = u64::from(surface.bits);
-    if k == COLOR_WRITE {
-        write_pixel(field(bits, 3, 2))
-    } else {
-        general_pixel(field(bits, 2, 0), field(bits, 9, 8))
-    }
+    !is_full(k, surface) && surface_tiling(k, surface).is_none()
 }
 
 /// Whether the buffer and format aren't listed.
@@ -189,7 +144,7 @@ fn pixel_size(k: usize, surface: &Surface) -> u32
 fn has_unlisted_format(k: usize, surface: &Surface) -> bool
     ensures { result ≡ has_unlisted_format k surface.now }
 {
-    !is_full(k, surface) && pixel_size(k, surface) == 0
+    !is_full(k, surface) && surface_pixel(k, surface).is_none()
 }
 
 #[tactic(auto, unfolding(crate::specs::Surfaces::is_unaligned))]
@@ -211,23 +166,36 @@ fn buffer_size(table: &Table, handles: &Handles, surface: &Surface) -> u32
     }
 }
 
+/// How many bytes a surface of the frame takes, of a style that is listed.
+#[tactic(auto, using(texture_layouts::proofs::Styles::short_pixel))]
+fn styled_size(frame: &Frame, style: Option<Style>) -> u64
+    requires { IfSome style (λ s. IsShort s.cpp) }
+    ensures value { result ≡ styled_size frame.now style }
+    ensures limit { result < 2 ^ 36 }
+{
+    match style {
+        None => 0,
+        Some(style) => surface_size(
+            style.tiling,
+            u32::from(frame.width),
+            u32::from(frame.height),
+            style.cpp,
+        ),
+    }
+}
+
 /// Where a surface that isn't in full resolution ends in its buffer.
-#[tactic(auto, unfolding(crate::specs::Surfaces::plain_end), using(crate::proofs::Sizes::pixel_listed))]
+#[tactic(auto, unfolding(crate::specs::Surfaces::plain_end))]
 fn plain_end(frame: &Frame, k: usize, surface: &Surface) -> u64
-    requires listed { has_unlisted_format k surface.now ≡ false }
-    requires plain { is_full k surface.now ≡ false }
     ensures { result ≡ plain_end frame.now k surface.now }
 {
-    let tiling = tiling_named(tiling_number(k, surface));
-    let cpp = pixel_size(k, surface);
-    let size = surface_size(tiling, u32::from(frame.width), u32::from(frame.height), cpp);
-    u64::from(surface.offset) + size
+    let style = styled(surface_tiling(k, surface), surface_pixel(k, surface));
+    u64::from(surface.offset) + styled_size(frame, style)
 }
 
 /// Whether a surface that isn't in full resolution has a side over the limit or goes past its buffer.
 #[tactic(auto, unfolding(crate::specs::Surfaces::is_too_large))]
 fn is_too_large(frame: &Frame, k: usize, surface: &Surface, size: u32) -> bool
-    requires { has_unlisted_format k surface.now ≡ false }
     ensures { result ≡ is_too_large frame.now k surface.now size }
 {
     if is_full(k, surface) {
@@ -264,15 +232,12 @@ fn is_too_large_full(frame: &Frame, k: usize, surface: &Surface, size: u32) -> b
     is_full(k, surface) && full_end(frame, surface) > u64::from(size)
 }
 
-/// Rule G`number` at surface `k`.
-fn at_surface(number: u8, k: usize) -> Option<RenderFault>
+/// A rule at surface `k`.
+fn at_surface(rule: FrameRule, k: usize) -> Option<RenderFault>
     requires { k < 6 }
-    ensures { result ≡ Some (fault number (k + 1)) }
+    ensures { result ≡ Some (fault rule (k + 1)) }
 {
-    Some(RenderFault {
-        number,
-        item: k as u8 + 1,
-    })
+    Some(RenderFault::of(rule, k as u8 + 1))
 }
 
 /// G4 to G9.
@@ -280,26 +245,25 @@ fn at_surface(number: u8, k: usize) -> Option<RenderFault>
 fn shape_fault(k: usize, surface: &Surface, table: &Table, handles: &Handles) -> Option<RenderFault>
     requires surface { k < 6 }
     requires made { AreNumbersOf table.now handles.now }
-    ensures first { result ≡ first_of (shape_questions k surface.now table.now handles.now) }
-    ensures listed { IfNone result (has_unlisted_format k surface.now ≡ false) }
+    ensures { result ≡ first_of (shape_questions k surface.now table.now handles.now) }
 {
     if has_unknown_flag(k, surface) {
-        return at_surface(UNKNOWN_FLAG, k);
+        return at_surface(FrameRule::UnknownFlag, k);
     }
     if has_unknown_bit(k, surface) {
-        return at_surface(UNKNOWN_BIT, k);
+        return at_surface(FrameRule::UnknownBit, k);
     }
     if is_unnamed(table, handles, surface) {
-        return at_surface(UNNAMED, k);
+        return at_surface(FrameRule::Unnamed, k);
     }
     if has_unlisted_tiling(k, surface) {
-        return at_surface(UNLISTED_TILING, k);
+        return at_surface(FrameRule::UnlistedTiling, k);
     }
     if has_unlisted_format(k, surface) {
-        return at_surface(UNLISTED_FORMAT, k);
+        return at_surface(FrameRule::UnlistedFormat, k);
     }
     if is_unaligned(surface) {
-        return at_surface(UNALIGNED, k);
+        return at_surface(FrameRule::Unaligned, k);
     }
     None
 }
@@ -307,18 +271,17 @@ fn shape_fault(k: usize, surface: &Surface, table: &Table, handles: &Handles) ->
 /// G10 to G12.
 #[tactic(auto, unfolding(crate::specs::Surfaces::size_questions))]
 fn size_fault(frame: &Frame, k: usize, surface: &Surface, size: u32) -> Option<RenderFault>
-    requires surface { k < 6 }
-    requires listed { has_unlisted_format k surface.now ≡ false }
+    requires { k < 6 }
     ensures { result ≡ first_of (size_questions frame.now k surface.now size) }
 {
     if is_too_large(frame, k, surface, size) {
-        return at_surface(TOO_LARGE, k);
+        return at_surface(FrameRule::TooLarge, k);
     }
     if is_full_with_bits(k, surface) {
-        return at_surface(FULL_WITH_BITS, k);
+        return at_surface(FrameRule::FullWithBits, k);
     }
     if is_too_large_full(frame, k, surface, size) {
-        return at_surface(TOO_LARGE_FULL, k);
+        return at_surface(FrameRule::TooLargeFull, k);
     }
     None
 }
@@ -372,10 +335,7 @@ fn whole_fault(frame: &Frame) -> Option<RenderFault>
     if is_written(frame) {
         return None;
     }
-    Some(RenderFault {
-        number: NOTHING_WRITTEN,
-        item: WHOLE,
-    })
+    Some(RenderFault::of(FrameRule::NothingWritten, WHOLE))
 }
 
 /// G4 to G13.

@@ -2,10 +2,9 @@
 ghost use Rattle.std.specs.Prelude.{◌≡◌, ◌≤◌, ◌<◌, ◌+◌, ◌∷◌, [], length, IsSome, is_some, Some};
 ghost use Rattle.field_words.specs.Writes.{with_bytes};
 ghost use Rattle.packets.specs.Packet.{slots_text};
-ghost use Rattle.packets.specs.Writing.{written};
 ghost use Rattle.render_list.specs.Frame.{TileFits, IsSetupFor};
 ghost use Rattle.render_list.specs.Length.{render_length};
-ghost use Rattle.render_list.specs.Text.{head_packet, clear_slots, front_slots, tile_slots, row_slots, all_tile_slots, render_slots, render_text};
+ghost use Rattle.render_list.specs.Text.{head_packet, clear_slots, front_slots, tile_slots, row_slots, all_tile_slots, render_slots, render_text, HasRoom, Puts};
 
 use crate::setup::Setup;
 use crate::slots::{Tile, clear_slots, head_packet, tile_slots};
@@ -25,9 +24,8 @@ fn put_tile(
 ) -> usize
     requires fits { TileFits frame.now setup.now.places tile.x tile.y }
     requires slot { IsSome tiles → slot ≤ 67108864 }
-    requires room { at + length (slots_text (tile_slots frame.now setup.now.places tiles slot tile.y tile.x)) ≤ length out.old }
-    ensures text { out.new ≡ written out.old at (slots_text (tile_slots frame.now setup.now.places tiles slot tile.y tile.x)) }
-    ensures end { result ≡ at + length (slots_text (tile_slots frame.now setup.now.places tiles slot tile.y tile.x)) }
+    requires room { HasRoom out.old at (tile_slots frame.now setup.now.places tiles slot tile.y tile.x) }
+    ensures { Puts (tile_slots frame.now setup.now.places tiles slot tile.y tile.x) out.old at out.new result }
 {
     put_present(out, at, &tile_slots(frame, setup, tiles, slot, tile))
 }
@@ -45,9 +43,8 @@ fn put_row(
     requires setup { IsSetupFor frame.now setup.now.places }
     requires row { y ≤ frame.now.max_y }
     requires slot { IsSome tiles → slot ≤ 67108864 }
-    requires room { at + length (slots_text (row_slots frame.now setup.now.places tiles slot y)) ≤ length out.old }
-    ensures text { out.new ≡ written out.old at (slots_text (row_slots frame.now setup.now.places tiles slot y)) }
-    ensures end { result ≡ at + length (slots_text (row_slots frame.now setup.now.places tiles slot y)) }
+    requires room { HasRoom out.old at (row_slots frame.now setup.now.places tiles slot y) }
+    ensures { Puts (row_slots frame.now setup.now.places tiles slot y) out.old at out.new result }
 {
     let mut here = at;
     for x in frame.min_x..=frame.max_x {
@@ -67,9 +64,8 @@ fn put_tiles(
 ) -> usize
     requires setup { IsSetupFor frame.now setup.now.places }
     requires slot { IsSome tiles → slot ≤ 67108864 }
-    requires room { at + length (slots_text (all_tile_slots frame.now setup.now.places tiles slot)) ≤ length out.old }
-    ensures text { out.new ≡ written out.old at (slots_text (all_tile_slots frame.now setup.now.places tiles slot)) }
-    ensures end { result ≡ at + length (slots_text (all_tile_slots frame.now setup.now.places tiles slot)) }
+    requires room { HasRoom out.old at (all_tile_slots frame.now setup.now.places tiles slot) }
+    ensures { Puts (all_tile_slots frame.now setup.now.places tiles slot) out.old at out.new result }
 {
     let mut here = at;
     for y in frame.min_y..=frame.max_y {
@@ -81,9 +77,8 @@ fn put_tiles(
 /// The head, and the packets that clear.
 #[tactic(auto, unfolding(crate::specs::Text::front_slots))]
 fn put_front(out: &mut [u8], at: usize, frame: &Frame, setup: &Setup) -> usize
-    requires room { at + length (slots_text (front_slots frame.now setup.now.places)) ≤ length out.old }
-    ensures text { out.new ≡ written out.old at (slots_text (front_slots frame.now setup.now.places)) }
-    ensures end { result ≡ at + length (slots_text (front_slots frame.now setup.now.places)) }
+    requires { HasRoom out.old at (front_slots frame.now setup.now.places) }
+    ensures { Puts (front_slots frame.now setup.now.places) out.old at out.new result }
 {
     let [values, coordinates, nothing] = clear_slots(frame);
     let head = Some(head_packet(frame, setup));
@@ -91,7 +86,7 @@ fn put_front(out: &mut [u8], at: usize, frame: &Frame, setup: &Setup) -> usize
 }
 
 /// The whole list.
-#[tactic(auto, using(crate::proofs::Rows::render_parts, crate::proofs::Rows::length_parts, packets::proofs::Writing::written_append))]
+#[tactic(auto, using(crate::proofs::Rows::render_parts, crate::proofs::Rows::length_parts, field_words::proofs::Writes::with_two))]
 fn put_list(
     out: &mut [u8],
     at: usize,
@@ -102,9 +97,8 @@ fn put_list(
 ) -> usize
     requires setup { IsSetupFor frame.now setup.now.places }
     requires slot { IsSome tiles → slot ≤ 67108864 }
-    requires room { at + length (render_text frame.now setup.now.places tiles slot) ≤ length out.old }
-    ensures text { out.new ≡ written out.old at (render_text frame.now setup.now.places tiles slot) }
-    ensures end { result ≡ at + length (render_text frame.now setup.now.places tiles slot) }
+    requires room { HasRoom out.old at (render_slots frame.now setup.now.places tiles slot) }
+    ensures { Puts (render_slots frame.now setup.now.places tiles slot) out.old at out.new result }
 {
     let at = put_front(out, at, frame, setup);
     put_tiles(out, at, frame, setup, tiles, slot)
@@ -114,7 +108,7 @@ fn put_list(
 /// changes no other byte. `tiles` is the binner's grid, across and down, where there is a binner list;
 /// the list then waits for the binner at its first tile, and runs at each tile the list that the binner
 /// made of it.
-#[tactic(auto, unfolding(packets::specs::Writing::written), using(crate::proofs::Length::render_fits))]
+#[tactic(auto, unfolding(crate::specs::Text::render_text), using(crate::proofs::Length::render_fits))]
 pub fn build(frame: &Frame, setup: &Setup, tiles: Option<(u8, u8)>, layout: &Layout, out: &mut [u8])
     requires setup { IsSetupFor frame.now setup.now.places }
     requires slot { IsSome tiles → layout.now.slot ≤ 67108864 }

@@ -10,7 +10,7 @@ use Rattle.packets.specs.declared.packet.Packet.{Packet}
 use Rattle.packets.specs.declared.packet.Packet.TheVariants.{WaitOnSemaphore, StoreTileColor, StoreTileColorAndEnd, LoadFullResolution, StoreTileBuffer, LoadTileBuffer, TileCoordinates}
 use Rattle.packets.specs.Packet.{Fits}
 use Rattle.tile_memory.specs.Slots.{alloc_offset}
-use Rattle.render_list.specs.Frame.{place_at, surface_at, no_surface, is_full, full_place, is_first_tile, is_last_tile, tiles_across, tiles_down, FitsAt, FitsFull, TileFits, IsSetupFor}
+use Rattle.render_list.specs.Frame.{place_at, surface_at, no_surface, is_full, full_place, is_first_tile, is_last_tile, tiles_across, tiles_down, FitsAt, TileFits, IsSetupFor}
 use Rattle.render_list.specs.Text.{number_where, packet_where, idle_store, color_place, color_bits, head_packet, clear_packet, clear_slots, front_slots, load_packet, load_slot, wait_slot, list_place, list_slot, full_store, full_store_slot, zs_store, zs_store_slot, color_store, color_store_slot, is_there, more_after_multisample_color, more_after_multisample_zs, some_before_zs, some_before_color, load_slots, list_slots, write_slots, tile_slots, span_slots, row_slots, all_tile_slots, render_slots}
 use Rattle.render_list.proofs.Places.{tile_fits}
 use Rattle.render_walks.specs.Walks.{SlotFits, AllFit, PlacesFit, GridFits}
@@ -73,11 +73,12 @@ fit_list (Some grid) slot x y fits low hx hy =
     omega (arith, limits.0, limits.1, near.near, low)
 
 -- The writes.
-fit_full_store : (frame : Frame) (place : Option ℕ) (left_out : ℕ) (more : Bool) (x y : ℕ) → left_out ≤ 2 → FitsFull frame place x y → SlotFits (full_store_slot frame place left_out more x y)
+fit_full_store : (frame : Frame) (k : ℕ) (place : Option ℕ) (left_out : ℕ) (more : Bool) (x y : ℕ) → left_out ≤ 2 → is_full k (surface_at frame k) ≡ true → FitsAt frame k place x y
+    → SlotFits (full_store_slot frame place left_out more x y)
 unfolding full_store
-fit_full_store frame None left_out more x y small fits = tt
-fit_full_store frame (Some place) left_out more x y small fits =
-    or_of_32 (full_place frame place x y) (left_out + number_where more 4 + number_where (not more && is_last_tile frame x y) 8) fits
+fit_full_store frame k None left_out more x y small full fits = tt
+fit_full_store frame k (Some place) left_out more x y small full fits =
+    or_of_32 (full_place frame place x y) (left_out + number_where more 4 + number_where (not more && is_last_tile frame x y) 8) (fits full)
     (omega (arith, small, small_where more 4, small_where (not more && is_last_tile frame x y) 8))
 
 fit_zs_store : (frame : Frame) (place : Option ℕ) (more : Bool) (x y : ℕ) → FrameFits frame → ((p : ℕ) → place ≡ Some p → p < 2 ^ 32) → SlotFits (zs_store_slot frame place more x y)
@@ -101,52 +102,30 @@ fit_wait : (frame : Frame) (grid : Option (ℕ × ℕ)) (x y : ℕ) → SlotFits
 fit_wait frame None x y = tt
 fit_wait frame (Some grid) x y = fit_where (is_first_tile frame x y) WaitOnSemaphore tt
 
--- A tile.
+-- A tile, slot by slot.
+pair : {A B : Type 0} → A → B → A × B
+pair a b = (a, b)
+
 fit_tile : (frame : Frame) (places : List (Option ℕ)) (grid : Option (ℕ × ℕ)) (slot y x : ℕ) → FrameFits frame → PlacesFit places → GridFits grid → slot ≤ 67108864
     → TileFits frame places x y → x < 256 → y < 256 → AllFit (tile_slots frame places grid slot y x)
-unfolding tile_slots load_slots list_slots write_slots
+unfolding tile_slots load_slots list_slots write_slots is_full
 fit_tile frame places grid slot y x numbers fits grid_fits low tile hx hy =
     let at : Fits (TileCoordinates x y) = (hx, hy) in
-    let both : Bool = is_there places 0 && is_there places 2 in (
-      fit_load frame 0 2 (place_at places 0) x y numbers (omega arith) (fits 0) tile.color_read,
-      (
-        fit_where both (TileCoordinates x y) at,
-        (
-          fit_where both idle_store (lit< tt, lit< tt),
-          (
-            fit_load frame 2 1 (place_at places 2) x y numbers (omega arith) (fits 2) tile.zs_read,
-            (
-              at,
-              (
-                fit_wait frame grid x y,
-                (
-                  fit_list grid slot x y grid_fits low hx hy,
-                  (
-                    fit_full_store frame (place_at places 4) 2 (more_after_multisample_color places) x y (omega arith) tile.multisample_color,
-                    (
-                      fit_where (is_there places 5 && is_there places 4) (TileCoordinates x y) at,
-                      (
-                        fit_full_store frame (place_at places 5) 1 (more_after_multisample_zs places) x y (omega arith) tile.multisample_zs,
-                        (
-                          fit_where (is_there places 3 && some_before_zs places) (TileCoordinates x y) at,
-                          (
-                            fit_zs_store frame (place_at places 3) (is_there places 1) x y numbers (fits 3),
-                            (
-                              fit_where (is_there places 1 && some_before_color places) (TileCoordinates x y) at,
-                              (fit_color frame (place_at places 1) x y, tt),
-                            ),
-                          ),
-                        ),
-                      ),
-                    ),
-                  ),
-                ),
-              ),
-            ),
-          ),
-        ),
-      ),
-    )
+    let both : Bool = is_there places 0 && is_there places 2 in
+    pair (fit_load frame 0 2 (place_at places 0) x y numbers (omega arith) (fits 0) (tile 0 (lit< tt)))
+    (pair (fit_where both (TileCoordinates x y) at)
+    (pair (fit_where both idle_store (lit< tt, lit< tt))
+    (pair (fit_load frame 2 1 (place_at places 2) x y numbers (omega arith) (fits 2) (tile 2 (lit< tt)))
+    (pair at
+    (pair (fit_wait frame grid x y)
+    (pair (fit_list grid slot x y grid_fits low hx hy)
+    (pair (fit_full_store frame 4 (place_at places 4) 2 (more_after_multisample_color places) x y (omega arith) refl (tile 4 (lit< tt)))
+    (pair (fit_where (is_there places 5 && is_there places 4) (TileCoordinates x y) at)
+    (pair (fit_full_store frame 5 (place_at places 5) 1 (more_after_multisample_zs places) x y (omega arith) refl (tile 5 (lit< tt)))
+    (pair (fit_where (is_there places 3 && some_before_zs places) (TileCoordinates x y) at)
+    (pair (fit_zs_store frame (place_at places 3) (is_there places 1) x y numbers (fits 3))
+    (pair (fit_where (is_there places 1 && some_before_color places) (TileCoordinates x y) at)
+    (pair (fit_color frame (place_at places 1) x y) tt)))))))))))))
 
 -- The head and what clears.
 fit_color_place : (color : Option ℕ) → ((p : ℕ) → color ≡ Some p → p < 2 ^ 32) → color_place color < 2 ^ 32
@@ -159,16 +138,12 @@ fit_color_bits frame (Some place) numbers = surface_fits frame.surfaces 1 number
 
 fit_front : (frame : Frame) (places : List (Option ℕ)) → FrameFits frame → PlacesFit places → AllFit (front_slots frame places)
 unfolding front_slots head_packet clear_slots clear_packet
-fit_front frame places numbers fits = (
-  (fit_color_place (place_at places 1) (fits 1), numbers.width, numbers.height, fit_color_bits frame (place_at places 1) numbers),
-  (
-    fit_where frame.clear (clear_packet frame) (color_fits frame.clear_color 0 numbers.clear_color, color_fits frame.clear_color 1 numbers.clear_color, numbers.clear_z, numbers.clear_s),
-    (
-      fit_where frame.clear (TileCoordinates 0 0) (lit< tt, lit< tt),
-      (fit_where frame.clear (StoreTileBuffer 0 0) (lit< tt, lit< tt), tt),
-    ),
-  ),
-)
+fit_front frame places numbers fits =
+    pair (fit_color_place (place_at places 1) (fits 1), numbers.width, numbers.height, fit_color_bits frame (place_at places 1) numbers)
+    (pair (fit_where frame.clear (clear_packet frame)
+    (color_fits frame.clear_color 0 numbers.clear_color, color_fits frame.clear_color 1 numbers.clear_color, numbers.clear_z, numbers.clear_s))
+    (pair (fit_where frame.clear (TileCoordinates 0 0) (lit< tt, lit< tt))
+    (pair (fit_where frame.clear (StoreTileBuffer 0 0) (lit< tt, lit< tt)) tt)))
 
 -- The whole.
 pub render_fits : (frame : Frame) (places : List (Option ℕ)) (grid : Option (ℕ × ℕ)) (slot : ℕ) → FrameFits frame → IsSetupFor frame places → PlacesFit places → GridFits grid → slot ≤ 67108864

@@ -218,38 +218,32 @@ first_is_first : (frame : Frame) → is_first_tile frame frame.min_x frame.min_y
 unfolding is_first_tile
 first_is_first frame = ap (λ b. b && (frame.min_y == frame.min_y)) (eq-eqb frame.min_x frame.min_x refl) ∙ eq-eqb frame.min_y frame.min_y refl
 
--- A row that isn't the first.
+-- A row, whose first tile may be the first of all.
+weaker : (frame : Frame) (grid : Option (ℕ × ℕ)) (x y : ℕ) (k : View) → IsBetween (is_some grid) k
+    → IsBetween (is_some grid && not (is_first_tile frame x y)) k
+weaker frame grid x y k between =
+    between_any (is_some grid) (is_some grid && not (is_first_tile frame x y)) k (λ on. (and_parts (is_some grid) (not (is_first_tile frame x y)) on).0) between
+
 row_walks : (Fine : Packet → ℕ → ℕ → Type 0) (frame : Frame) (places : List (Option ℕ)) (grid : Option (ℕ × ℕ)) (slot y : ℕ) → IsTileSet frame
     → OwesFine Fine frame places grid slot → frame.min_y ≤ y → y ≤ frame.max_y
-    → (k : View) → IsBetween (is_some grid) k → WalksTo Fine (IsBetween (is_some grid)) k (row_slots frame places grid slot y)
+    → (k : View) → IsBetween (is_some grid && not (is_first_tile frame frame.min_x y)) k → WalksTo Fine (IsBetween (is_some grid)) k (row_slots frame places grid slot y)
 row_walks Fine frame places grid slot y set owes above below k between =
-    walks_span Fine (IsBetween (is_some grid)) (tile_slots frame places grid slot y) frame.min_x (tiles_across frame)
-    (λ x right left j here. tile_walks Fine frame places grid slot y x (owes.tiles x y right (omega (arith, left, set.across)) above below) j
-    (between_any (is_some grid) (is_some grid && not (is_first_tile frame x y)) j (λ on. (and_parts (is_some grid) (not (is_first_tile frame x y)) on).0) here))
-    k between
-
--- The first row begins with nothing waited for.
-first_row_walks : (Fine : Packet → ℕ → ℕ → Type 0) (frame : Frame) (places : List (Option ℕ)) (grid : Option (ℕ × ℕ)) (slot : ℕ) → IsTileSet frame
-    → OwesFine Fine frame places grid slot
-    → (k : View) → IsBetween false k → WalksTo Fine (IsBetween (is_some grid)) k (row_slots frame places grid slot frame.min_y)
-first_row_walks Fine frame places grid slot set owes k between =
-    let first = is_first_tile frame frame.min_x frame.min_y in
-    walks_first Fine (IsBetween false) (IsBetween (is_some grid)) (tile_slots frame places grid slot frame.min_y) frame.min_x (tiles_across frame)
+    walks_first Fine (IsBetween (is_some grid && not (is_first_tile frame frame.min_x y))) (IsBetween (is_some grid)) (tile_slots frame places grid slot y) frame.min_x (tiles_across frame)
     (omega (arith, set.across))
-    (λ j here. tile_walks Fine frame places grid slot frame.min_y frame.min_x (owes.tiles frame.min_x frame.min_y (omega arith) set.across (omega arith) set.down) j
-    (between_any false (is_some grid && not first) j (λ both. absurd (never_both (is_some grid) first (first_is_first frame) both)) here))
-    (λ x right left j here. tile_walks Fine frame places grid slot frame.min_y x (owes.tiles x frame.min_y (omega (arith, right)) (omega (arith, left, set.across)) (omega arith) set.down) j
-    (between_any (is_some grid) (is_some grid && not (is_first_tile frame x frame.min_y)) j (λ on. (and_parts (is_some grid) (not (is_first_tile frame x frame.min_y)) on).0) here))
+    (λ j here. tile_walks Fine frame places grid slot y frame.min_x (owes.tiles frame.min_x y (omega arith) set.across above below) j here)
+    (λ x right left j here. tile_walks Fine frame places grid slot y x (owes.tiles x y (omega (arith, right)) (omega (arith, left, set.across)) above below) j (weaker frame grid x y j here))
     k between
 
 all_walk : (Fine : Packet → ℕ → ℕ → Type 0) (frame : Frame) (places : List (Option ℕ)) (grid : Option (ℕ × ℕ)) (slot : ℕ) → IsTileSet frame
     → OwesFine Fine frame places grid slot
     → (k : View) → IsBetween false k → WalksTo Fine (IsBetween (is_some grid)) k (all_tile_slots frame places grid slot)
 all_walk Fine frame places grid slot set owes k between =
+    let first = is_first_tile frame frame.min_x frame.min_y in
     walks_first Fine (IsBetween false) (IsBetween (is_some grid)) (row_slots frame places grid slot) frame.min_y (tiles_down frame)
     (omega (arith, set.down))
-    (first_row_walks Fine frame places grid slot set owes)
-    (λ y below above j here. row_walks Fine frame places grid slot y set owes (omega (arith, below)) (omega (arith, above, set.down)) j here)
+    (λ j here. row_walks Fine frame places grid slot frame.min_y set owes (omega arith) set.down j
+    (between_any false (is_some grid && not first) j (λ both. absurd (never_both (is_some grid) first (first_is_first frame) both)) here))
+    (λ y below above j here. row_walks Fine frame places grid slot y set owes (omega (arith, below)) (omega (arith, above, set.down)) j (weaker frame grid frame.min_x y j here))
     k between
 
 -- The head and what clears.

@@ -9,6 +9,7 @@ use Rattle.qpu_isa.specs.Setups.{is_direct, kept}
 use Rattle.shader_flow.specs.Bounded.{indexes}
 use Rattle.shader_flow.specs.Flow.{word, checked_of, is_threaded}
 use Rattle.shader_flow.specs.Pending.{count_of, pending_of}
+use Rattle.shader_flow.specs.Site.{SiteModel}
 use Rattle.uniform_stream.specs.Stream.{uniforms_of, address_words_of}
 use Rattle.clamp_facts.specs.Facts.{fact_at}
 use Rattle.clamp_facts.specs.Readings.{clamp_in}
@@ -17,6 +18,15 @@ use Rattle.clamp_facts.specs.Readings.{clamp_in}
 unfoldable pub held : List ℕ → ℕ → ℕ → List ℕ
 held code tmu zero = []
 held code tmu (suc i) = if nat_lt i (checked_of code) then kept (word code i) tmu i (held code tmu i) else held code tmu i
+
+-- the uniforms of these
+abbrev pub held_words : List ℕ → ℕ → ℕ → List ℕ
+held_words code tmu i = map (count_of code) (held code tmu i)
+
+-- how many setup words the TMUs keep before an instruction
+pub record ArePending (site : SiteModel) (pending0 pending1 : ℕ) : Type 0 where
+  pub first : pending0 ≡ pending_of site.code 0 site.at
+  pub second : pending1 ≡ pending_of site.code 1 site.at
 
 -- an instruction that writes S of a TMU asks for a sample
 unfoldable pub asks : ℕ → Bool
@@ -27,6 +37,10 @@ is_sample code i = nat_lt i (checked_of code) && asks (word code i)
 
 unfoldable pub sample_tmu : ℕ → ℕ
 sample_tmu word = if writes_s word 0 then 0 else 1
+
+-- the uniforms whose setup words that TMU keeps
+abbrev pub asked_words : List ℕ → ℕ → List ℕ
+asked_words code i = held_words code (sample_tmu (word code i)) i
 
 -- it is direct where that TMU keeps no setup words
 unfoldable pub is_direct_sample : List ℕ → ℕ → Bool
@@ -54,9 +68,12 @@ padded numbers = slice_get numbers 0 ∷ slice_get numbers 1 ∷ slice_get numbe
 unfoldable pub sample_of : List ℕ → ℕ → Sample
 sample_of code i = record { p = padded (map (count_of code) (sample_parts code i)); direct = is_direct_sample code i }
 
--- all samples in program order
+-- the samples of the instructions before one, and all in program order
+abbrev pub samples_before : List ℕ → ℕ → List Sample
+samples_before code i = map (sample_of code) (indexes i (is_sample code))
+
 unfoldable pub samples_of : List ℕ → List Sample
-samples_of code = map (sample_of code) (indexes (checked_of code) (is_sample code))
+samples_of code = samples_before code (checked_of code)
 
 -- what the checker tells of an accepted shader
 pub record IsInfo (code : List ℕ) (info : ShaderInfo) : Type 0 where

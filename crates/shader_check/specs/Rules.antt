@@ -21,12 +21,19 @@ has_quiet_signal word =
 unfoldable pub adds_address : ℕ → Bool
 adds_address word = (not (ws_of word) && add_names word 40) && (cond_add_of word == 1 && not (is_add_packed word))
 
+-- the first operand of the add unit is a register that holds the value, or one for which a clamp holds
+abbrev pub adds_value : List ℕ → ℕ → ℕ → Bool
+adds_value code i value = passes (first_register (word code i)) (λ reg. is_immediate code i reg value)
+
+abbrev pub adds_clamped : List ℕ → ℕ → Bool
+adds_clamped code i = passes (first_register (word code i)) (is_clamped code i)
+
 -- The new address is that of a word of the stream: the uniform taken here, which holds the stream's place, and four bytes for
 -- each word up to the one taken here.
 unfoldable pub is_exact_address_write : List ℕ → ℕ → Bool
 is_exact_address_write code i =
     (is_add_with_uniform (word code i) && has_quiet_signal (word code i))
-    && (adds_address (word code i) && passes (first_register (word code i)) (λ reg. is_immediate code i reg (4 * (count_of code i + 1))))
+    && (adds_address (word code i) && adds_value code i (4 * (count_of code i + 1)))
 
 -- an address write that isn't exact
 unfoldable pub s16 : List ℕ → ℕ → Bool
@@ -43,7 +50,7 @@ direct_by_mul code i = muls_direct (word code i) 0 (pending_of code 0 i) || muls
 unfoldable pub is_clamped_write : List ℕ → ℕ → Bool
 is_clamped_write code i =
     (is_add_with_uniform (word code i) && (not (has_small (word code i)) && not (is_add_packed (word code i))))
-    && passes (first_register (word code i)) (is_clamped code i)
+    && adds_clamped code i
 
 -- a direct write that isn't clamped
 unfoldable pub s24 : List ℕ → ℕ → Bool

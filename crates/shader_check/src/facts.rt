@@ -1,30 +1,25 @@
 //! The rules on facts at one instruction, and the least of all rules there.
 ghost use Rattle.std.specs.Prelude.{◌≡◌, ◌<◌, ◌≤◌, ◌+◌, ◌*◌, ◌==◌, ℕ, true, length};
 ghost use Rattle.field_words.specs.Questions.{first_of};
-ghost use Rattle.qpu_isa.specs.Terms.{is_address_write, first_register, passes};
 ghost use Rattle.qpu_isa.specs.Told.{IsRegister};
 ghost use Rattle.shader_flow.specs.Flow.{word, IsFlow};
-ghost use Rattle.shader_flow.specs.Pending.{pending_of, count_of};
+ghost use Rattle.shader_flow.specs.Pending.{count_of};
 ghost use Rattle.uniform_stream.specs.Stream.{IsStream};
 ghost use Rattle.clamp_facts.specs.Facts.{is_immediate, is_clamped, maker_of};
 ghost use Rattle.clamp_facts.specs.Upkeep.{IsTableOf};
 ghost use Rattle.shader_check.specs.Merge.{lesser};
-ghost use Rattle.shader_check.specs.Rules.{has_quiet_signal, adds_address, is_exact_address_write, s16, direct_by_add, direct_by_mul, is_clamped_write, s24, fact_questions, index_questions};
+ghost use Rattle.shader_check.specs.Rules.{has_quiet_signal, adds_address, adds_value, adds_clamped, is_exact_address_write, s16, direct_by_add, direct_by_mul, is_clamped_write, s24, fact_questions, index_questions};
 
-use clamp_facts::{FactTable, look};
+use clamp_facts::{FactTable, Known};
 use field_words::Steps;
 use qpu_isa::Reg;
 use qpu_isa::operands::{first_register, is_add_with_uniform};
 use qpu_isa::word::{cond_add, has_small, sig, ws};
 use qpu_isa::writes::{add_names, adds_direct, is_add_packed, is_address_write, muls_direct};
-use shader_flow::{Flow, flow_fault};
+use shader_flow::{Flow, ShaderRule, flow_fault};
+use std::marker::Model;
 use std::sync::ledger::Ledger;
 use uniform_stream::{Stream, stream_fault, writes_registers};
-
-/// S16: the uniforms' address is set to what is no known word of the stream.
-pub const S16_INEXACT_ADDRESS: u8 = 16;
-/// S24: a direct read's address isn't clamped.
-pub const S24_UNCLAMPED_READ: u8 = 24;
 
 // A signal under which the sum is what the add unit writes.
 #[tactic(auto, unfolding(crate::specs::Rules::has_quiet_signal))]
@@ -43,209 +38,181 @@ fn adds_address(word: u64) -> bool
     (!ws(word) && add_names(word, 40)) && (cond_add(word) == 1 && !is_add_packed(word))
 }
 
+/// What the rules and the samples are told of an instruction: what is known there, and how many setup words the TMUs keep.
+#[derive(Drop)]
+pub(crate) struct Here<'a> {
+    pub(crate) known: Known<'a>,
+    pub(crate) pending0: u16,
+    pub(crate) pending1: u16,
+}
+
+impl<'a> Model for Here<'a> {
+    ghost use Rattle.shader_flow.specs.Site.{SiteModel};
+    ghost use Rattle.shader_check.specs.Info.{ArePending};
+
+    ghost Value = { SiteModel };
+
+    ghost view = { λ h. h.known };
+
+    ghost invariant = { λ h. ArePending h.known h.pending0 h.pending1 };
+}
+
+impl<'a> Here<'a> {
+    /// Its word.
+    pub(crate) fn word(&self) -> u64
+        ensures { result ≡ word self.now.code self.now.at }
+    {
+        self.known.word()
+    }
+}
+
 // The register holds this value.
 #[tactic(auto, unfolding(clamp_facts::specs::Facts::is_immediate))]
-fn holds_value<L: Ledger>(
-    code: &[u64],
-    at: u32,
-    reg: Reg,
-    value: u32,
-    table: &FactTable,
-    steps: &mut Steps<L>,
-) -> bool
-    requires inside { at < length code.now }
+fn holds_value<L: Ledger>(known: &Known, reg: Reg, value: u32, steps: &mut Steps<L>) -> bool
     requires register { IsRegister reg }
-    requires kept { IsTableOf code.now (maker_of code.now at) table.now }
-    ensures value { result ≡ is_immediate code.now at reg value }
+    ensures value { result ≡ is_immediate known.now.code known.now.at reg value }
     ensures steps { steps.new ≤ steps.old + 1 }
 {
-    look(code, at, reg, table, steps).is_value(value)
+    known.look(reg, steps).is_value(value)
 }
 
 // A clamp holds for the register.
 #[tactic(auto, unfolding(clamp_facts::specs::Facts::is_clamped))]
-fn has_clamp<L: Ledger>(
-    code: &[u64],
-    at: u32,
-    reg: Reg,
-    table: &FactTable,
-    steps: &mut Steps<L>,
-) -> bool
-    requires inside { at < length code.now }
+fn has_clamp<L: Ledger>(known: &Known, reg: Reg, steps: &mut Steps<L>) -> bool
     requires register { IsRegister reg }
-    requires kept { IsTableOf code.now (maker_of code.now at) table.now }
-    ensures value { result ≡ is_clamped code.now at reg }
+    ensures value { result ≡ is_clamped known.now.code known.now.at reg }
     ensures steps { steps.new ≤ steps.old + 1 }
 {
-    look(code, at, reg, table, steps).has_bound()
+    known.look(reg, steps).has_bound()
 }
 
 // The first operand of the add unit is a register that holds this value.
-fn adds_value<L: Ledger>(
-    code: &[u64],
-    at: u32,
-    value: u32,
-    table: &FactTable,
-    steps: &mut Steps<L>,
-) -> bool
-    requires inside { at < length code.now }
-    requires kept { IsTableOf code.now (maker_of code.now at) table.now }
-    ensures value { result ≡ passes (first_register (word code.now at)) (λ reg. is_immediate code.now at reg value) }
+fn adds_value<L: Ledger>(known: &Known, value: u32, steps: &mut Steps<L>) -> bool
+    ensures value { result ≡ adds_value known.now.code known.now.at value }
     ensures steps { steps.new ≤ steps.old + 1 }
 {
-    match first_register(code[at as usize]) {
-        Some(reg) => holds_value(code, at, reg, value, table, steps),
+    match first_register(known.word()) {
+        Some(reg) => holds_value(known, reg, value, steps),
         None => false,
     }
 }
 
 // The first operand of the add unit is a register for which a clamp holds.
-fn adds_clamped<L: Ledger>(code: &[u64], at: u32, table: &FactTable, steps: &mut Steps<L>) -> bool
-    requires inside { at < length code.now }
-    requires kept { IsTableOf code.now (maker_of code.now at) table.now }
-    ensures value { result ≡ passes (first_register (word code.now at)) (is_clamped code.now at) }
+fn adds_clamped<L: Ledger>(known: &Known, steps: &mut Steps<L>) -> bool
+    ensures value { result ≡ adds_clamped known.now.code known.now.at }
     ensures steps { steps.new ≤ steps.old + 1 }
 {
-    match first_register(code[at as usize]) {
-        Some(reg) => has_clamp(code, at, reg, table, steps),
+    match first_register(known.word()) {
+        Some(reg) => has_clamp(known, reg, steps),
         None => false,
     }
 }
 
-// The address write at `at` leads to a word of the stream.
-#[tactic(auto, using(shader_flow::proofs::Counts::count_le), unfolding(crate::specs::Rules::is_exact_address_write))]
-fn is_exact_address_write<L: Ledger>(
-    code: &[u64],
-    at: u32,
-    count: u32,
-    table: &FactTable,
-    steps: &mut Steps<L>,
-) -> bool
-    requires inside { at < length code.now }
-    requires taken { count ≡ count_of code.now at }
-    requires kept { IsTableOf code.now (maker_of code.now at) table.now }
-    ensures value { result ≡ is_exact_address_write code.now at }
+// The place of the word after those that are taken up to here, from the stream's begin on.
+#[tactic(auto, using(shader_flow::proofs::Counts::count_le))]
+fn next_place(known: &Known) -> u32
+    ensures { result ≡ 4 * (count_of known.now.code known.now.at + 1) }
+{
+    4 * (known.count + 1)
+}
+
+// The address write leads to a word of the stream.
+#[tactic(auto, unfolding(crate::specs::Rules::is_exact_address_write))]
+fn is_exact_address_write<L: Ledger>(known: &Known, steps: &mut Steps<L>) -> bool
+    ensures value { result ≡ is_exact_address_write known.now.code known.now.at }
     ensures steps { steps.new ≤ steps.old + 1 }
 {
-    let word = code[at as usize];
+    let word = known.word();
     (is_add_with_uniform(word) && has_quiet_signal(word))
-        && (adds_address(word) && adds_value(code, at, 4 * (count + 1), table, steps))
+        && (adds_address(word) && adds_value(known, next_place(known), steps))
 }
 
 // An address write that isn't exact.
 #[tactic(auto, unfolding(crate::specs::Rules::s16))]
-fn breaks_s16<L: Ledger>(
-    code: &[u64],
-    at: u32,
-    count: u32,
-    table: &FactTable,
-    steps: &mut Steps<L>,
-) -> bool
-    requires inside { at < length code.now }
-    requires taken { count ≡ count_of code.now at }
-    requires kept { IsTableOf code.now (maker_of code.now at) table.now }
-    ensures value { result ≡ s16 code.now at }
+fn breaks_s16<L: Ledger>(known: &Known, steps: &mut Steps<L>) -> bool
+    ensures value { result ≡ s16 known.now.code known.now.at }
     ensures steps { steps.new ≤ steps.old + 1 }
 {
-    is_address_write(code[at as usize]) && !is_exact_address_write(code, at, count, table, steps)
+    is_address_write(known.word()) && !is_exact_address_write(known, steps)
 }
 
 // The add unit's write of S is direct.
 #[tactic(auto, unfolding(crate::specs::Rules::direct_by_add))]
-fn direct_by_add(code: &[u64], at: u32, pending0: u16, pending1: u16) -> bool
-    requires inside { at < length code.now }
-    requires first { pending0 ≡ pending_of code.now 0 at }
-    requires second { pending1 ≡ pending_of code.now 1 at }
-    ensures { result ≡ direct_by_add code.now at }
+fn direct_by_add(here: &Here) -> bool
+    ensures { result ≡ direct_by_add here.now.code here.now.at }
 {
-    let word = code[at as usize];
-    adds_direct(word, 0, pending0) || adds_direct(word, 1, pending1)
+    adds_direct(here.word(), 0, here.pending0) || adds_direct(here.word(), 1, here.pending1)
 }
 
 // The multiply unit's write of S is direct.
 #[tactic(auto, unfolding(crate::specs::Rules::direct_by_mul))]
-fn direct_by_mul(code: &[u64], at: u32, pending0: u16, pending1: u16) -> bool
-    requires inside { at < length code.now }
-    requires first { pending0 ≡ pending_of code.now 0 at }
-    requires second { pending1 ≡ pending_of code.now 1 at }
-    ensures { result ≡ direct_by_mul code.now at }
+fn direct_by_mul(here: &Here) -> bool
+    ensures { result ≡ direct_by_mul here.now.code here.now.at }
 {
-    let word = code[at as usize];
-    muls_direct(word, 0, pending0) || muls_direct(word, 1, pending1)
+    muls_direct(here.word(), 0, here.pending0) || muls_direct(here.word(), 1, here.pending1)
 }
 
 // The instruction adds a clamped register to a uniform.
 #[tactic(auto, unfolding(crate::specs::Rules::is_clamped_write))]
-fn is_clamped_write<L: Ledger>(
-    code: &[u64],
-    at: u32,
-    table: &FactTable,
-    steps: &mut Steps<L>,
-) -> bool
-    requires inside { at < length code.now }
-    requires kept { IsTableOf code.now (maker_of code.now at) table.now }
-    ensures value { result ≡ is_clamped_write code.now at }
+fn is_clamped_write<L: Ledger>(known: &Known, steps: &mut Steps<L>) -> bool
+    ensures value { result ≡ is_clamped_write known.now.code known.now.at }
     ensures steps { steps.new ≤ steps.old + 1 }
 {
-    let word = code[at as usize];
+    let word = known.word();
     (is_add_with_uniform(word) && (!has_small(word) && !is_add_packed(word)))
-        && adds_clamped(code, at, table, steps)
+        && adds_clamped(known, steps)
 }
 
 // A direct write that isn't clamped.
 #[tactic(auto, unfolding(crate::specs::Rules::s24))]
-fn breaks_s24<L: Ledger>(
-    code: &[u64],
-    at: u32,
-    pending0: u16,
-    pending1: u16,
-    table: &FactTable,
-    steps: &mut Steps<L>,
-) -> bool
-    requires inside { at < length code.now }
-    requires first { pending0 ≡ pending_of code.now 0 at }
-    requires second { pending1 ≡ pending_of code.now 1 at }
-    requires kept { IsTableOf code.now (maker_of code.now at) table.now }
-    ensures value { result ≡ s24 code.now at }
+fn breaks_s24<L: Ledger>(here: &Here, steps: &mut Steps<L>) -> bool
+    ensures value { result ≡ s24 here.now.code here.now.at }
     ensures steps { steps.new ≤ steps.old + 1 }
 {
-    (direct_by_add(code, at, pending0, pending1) && !is_clamped_write(code, at, table, steps))
-        || direct_by_mul(code, at, pending0, pending1)
+    (direct_by_add(here) && !is_clamped_write(&here.known, steps)) || direct_by_mul(here)
 }
 
-// The first of the rules on facts that stands.
+// The first of the rules on facts that stands. Where registers alone are written none does.
 #[tactic(auto, unfolding(crate::specs::Rules::fact_questions))]
-fn fact_fault<L: Ledger>(
-    code: &[u64],
+fn fact_fault<L: Ledger>(here: &Here, steps: &mut Steps<L>) -> Option<u8>
+    ensures value { result ≡ first_of (fact_questions here.now.code here.now.at) }
+    ensures steps { steps.new ≤ steps.old + 2 }
+{
+    if writes_registers(here.word()) {
+        return None;
+    }
+    if breaks_s16(&here.known, steps) {
+        return Some(ShaderRule::InexactAddress.number());
+    }
+    if breaks_s24(here, steps) {
+        return Some(ShaderRule::UnclampedRead.number());
+    }
+    None
+}
+
+/// The instruction at `at` with what is known there.
+pub(crate) fn here_at<'a>(
+    code: &'a [u64],
     stream: &Stream,
     at: u32,
-    table: &FactTable,
-    steps: &mut Steps<L>,
-) -> Option<u8>
+    table: &'a FactTable,
+) -> Here<'a>
     requires inside { at < length code.now }
     requires counted { IsStream code.now stream.now }
     requires kept { IsTableOf code.now (maker_of code.now at) table.now }
-    ensures value { result ≡ first_of (fact_questions code.now at) }
-    ensures steps { steps.new ≤ steps.old + 2 }
+    ensures { result ≡ record { code = code.now; at = at } }
 {
     let i = at as usize;
-    if writes_registers(code[i]) {
-        return None;
+    Here {
+        known: Known {
+            code,
+            at,
+            count: stream.counts[i],
+            table,
+        },
+        pending0: stream.pending0[i],
+        pending1: stream.pending1[i],
     }
-    if breaks_s16(code, at, stream.counts[i], table, steps) {
-        return Some(S16_INEXACT_ADDRESS);
-    }
-    if breaks_s24(
-        code,
-        at,
-        stream.pending0[i],
-        stream.pending1[i],
-        table,
-        steps,
-    ) {
-        return Some(S24_UNCLAMPED_READ);
-    }
-    None
 }
 
 // The lesser of two numbers, where both are there.
@@ -277,6 +244,6 @@ pub(crate) fn index_fault<L: Ledger>(
 {
     let flow_number = flow_fault(code, flow, at);
     let stream_number = stream_fault(code, flow, stream, at);
-    let fact_number = fact_fault(code, stream, at, table, steps);
+    let fact_number = fact_fault(&here_at(code, stream, at, table), steps);
     lesser(fact_number, lesser(stream_number, flow_number))
 }

@@ -13,9 +13,9 @@ mod walk;
 mod whole;
 
 pub use check::{check_code, check_shader};
-pub use facts::{S16_INEXACT_ADDRESS, S24_UNCLAMPED_READ};
 pub use fault::ShaderFault;
-pub use whole::{S1_NO_WORDS, S2_NO_END, S26_UPPER_REGISTERS};
+pub use shader_flow::ShaderRule;
+pub use whole::S1_NO_WORDS;
 
 #[cfg(test)]
 mod tests;

@@ -6,7 +6,7 @@ ghost use Rattle.uniform_stream.specs.Stream.{IsStream};
 ghost use Rattle.shader_check.specs.Info.{samples_of};
 ghost use Rattle.shader_check.specs.Rules.{questions_at};
 
-use crate::facts::index_fault;
+use crate::facts::{here_at, index_fault};
 use crate::fault::ShaderFault;
 use crate::samples::{count_samples, note};
 use clamp_facts::{FactTable, learn};
@@ -45,12 +45,9 @@ pub(crate) fn walk<L: Ledger>(
             return Err(Stop::Fault(ShaderFault { number, index }));
         }
         note(
-            code,
-            stream,
-            index,
+            &here_at(code, stream, index, &table),
             &mut kept0,
             &mut kept1,
-            &table,
             &mut samples,
             steps,
         )?;

@@ -5,14 +5,10 @@ ghost use Rattle.shader_flow.specs.Flow.{word, IsFlow};
 ghost use Rattle.shader_check.specs.Rules.{uses_upper, s2, s26, whole_questions};
 
 use qpu_isa::writes::{names_upper, reads_upper};
-use shader_flow::{Flow, checked};
+use shader_flow::{Flow, ShaderRule, checked};
 
-/// S1: the shader has no whole words.
+/// The number of the rule that the shader has no whole words, for whoever cuts a buffer into words.
 pub const S1_NO_WORDS: u8 = 1;
-/// S2: the program end or one of the two instructions after it is missing.
-pub const S2_NO_END: u8 = 2;
-/// S26: a shader that switches threads uses a file register 16 to 31.
-pub const S26_UPPER_REGISTERS: u8 = 26;
 
 // The instruction uses a file register 16 to 31.
 #[tactic(auto, unfolding(crate::specs::Rules::uses_upper))]
@@ -55,13 +51,13 @@ pub(crate) fn whole_fault(code: &[u64], flow: &Flow) -> Option<u8>
     ensures { result ≡ first_of (whole_questions code.now) }
 {
     if code.is_empty() {
-        return Some(S1_NO_WORDS);
+        return Some(ShaderRule::NoWords.number());
     }
     if breaks_s2(code, flow) {
-        return Some(S2_NO_END);
+        return Some(ShaderRule::NoEnd.number());
     }
     if breaks_s26(code, flow) {
-        return Some(S26_UPPER_REGISTERS);
+        return Some(ShaderRule::UpperRegisters.number());
     }
     None
 }

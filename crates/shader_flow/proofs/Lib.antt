@@ -1,4 +1,3 @@
 pub mod Bounded
 pub mod Counts
 pub mod Ends
-pub mod Alone

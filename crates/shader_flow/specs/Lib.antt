@@ -1,5 +1,6 @@
 pub mod Bounded
 pub mod Flow
-pub mod Kinds
 pub mod Pending
+pub mod Rule
 pub mod Rules
+pub mod Site

@@ -54,6 +54,15 @@ s13 code i = is_switch (word code i) && (in_slots code i || nat_lt (end_of code)
 unfoldable pub s27 : List ℕ → ℕ → Bool
 s27 code i = is_load_imm (word code i) && not (mode_of (word code i) == 0 || (mode_of (word code i) == 1 || mode_of (word code i) == 3))
 
+-- the rules on branches, and those on switches
+unfoldable pub branch_questions : List ℕ → ℕ → List (Question ℕ)
+branch_questions code i =
+    Ask (s4 code i) 4 ∷ Ask (s5 code i) 5 ∷ Ask (s6 code i) 6 ∷ Ask (s7 code i) 7 ∷ Ask (s8 code i) 8 ∷ Ask (s9 code i) 9
+    ∷ Ask (s10 code i) 10 ∷ Ask (s12 code i) 12 ∷ []
+
+unfoldable pub switch_questions : List ℕ → ℕ → List (Question ℕ)
+switch_questions code i = Ask (s11 code i) 11 ∷ Ask (s13 code i) 13 ∷ []
+
 -- these rules in the order of their numbers
 unfoldable pub flow_questions : List ℕ → ℕ → List (Question ℕ)
 flow_questions code i =

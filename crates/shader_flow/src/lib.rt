@@ -6,13 +6,13 @@
 #![tactic(auto)]
 
 mod marks;
+mod rule;
 mod rules;
+mod site;
 mod state;
 
 pub use marks::{checked, flow, is_marked};
-pub use rules::{
-    S3_SIGNAL, S4_BRANCH_IN_SLOTS, S5_BRANCH_BY_REGISTER, S6_BRANCH_ABSOLUTE, S7_BRANCH_UNALIGNED,
-    S8_BRANCH_OUTSIDE, S9_SLOTS_PAST_END, S10_BRANCH_WRITES, S11_SWITCH_AFTER_SWITCH,
-    S12_BRANCH_AFTER_SWITCH, S13_SWITCH_MISPLACED, S27_LOAD_MODE, flow_fault, is_in_slots,
-};
+pub use rule::ShaderRule;
+pub use rules::{flow_fault, is_in_slots};
+pub use site::Site;
 pub use state::Flow;

@@ -6,6 +6,7 @@ ghost use Rattle.shader_flow.specs.Bounded.{some_below};
 ghost use Rattle.shader_flow.specs.Flow.{end_of, checked_of, is_threaded, is_target, makes_target, EndsAt, IsFlow};
 
 use crate::rules::is_sound;
+use crate::site::Site;
 use crate::state::Flow;
 use field_words::NoMemory;
 use qpu_isa::word::{is_end, is_switch, target};
@@ -70,16 +71,14 @@ fn mark_branch(targets: &mut [bool], word: u64, at: u32)
     mark(targets, target(word, at) as usize);
 }
 
-// Marks what the instruction at `at` makes a target, where it is a branch that can be followed.
+// Marks what the instruction makes a target, where it is a branch that can be followed.
 #[tactic(auto, unfolding(crate::specs::Flow::makes_target))]
-fn mark_from(targets: &mut [bool], code: &[u64], end: u32, at: usize)
-    requires inside { at < length code.now }
-    requires ends { EndsAt code.now end }
+fn mark_from(targets: &mut [bool], site: &Site)
     ensures size { length targets.new ≡ length targets.old }
-    ensures marks { (i : ℕ) → i < length targets.old → slice_index_or targets.new i false ≡ (slice_index_or targets.old i false || makes_target code.now at i) }
+    ensures marks { (i : ℕ) → i < length targets.old → slice_index_or targets.new i false ≡ (slice_index_or targets.old i false || makes_target site.now.code site.now.at i) }
 {
-    if is_sound(code, end, at) {
-        mark_branch(targets, code[at], at as u32);
+    if is_sound(site) {
+        mark_branch(targets, site.word(), site.at as u32);
     }
 }
 
@@ -92,7 +91,7 @@ fn mark_all(targets: &mut [bool], code: &[u64], end: u32)
     ensures marks { (i : ℕ) → i < length targets.old → slice_index_or targets.new i false ≡ is_target code.now i }
 {
     for at in 0..end as usize {
-        mark_from(targets, code, end, at);
+        mark_from(targets, &Site { code, end, at });
     }
 }
 

@@ -5,10 +5,12 @@ use Rattle.field_words.specs.Questions.{Ask, first_of, each, answered}
 use Rattle.field_words.proofs.Questions.{none_stands}
 use Rattle.field_words.proofs.Nones.{front_none, rest_none, each_none, none_answered}
 use Rattle.qpu_isa.specs.Shader.{ShaderModel, sample_at}
-use Rattle.emitted_facts.specs.Records.{attribute_count, attribute_size, attribute_stride, is_single, address_word}
+use Rattle.emitted_facts.specs.Records.{attribute_size, attribute_stride, is_single, address_word}
+use Rattle.packets.specs.StateWord.{attribute_count}
+use Rattle.shader_records.specs.Faults.{uniform_fault, sample_fault}
 use Rattle.shader_records.specs.Inputs.{InputModel}
 use Rattle.shader_records.specs.Sources.{state_at, source_size, record_source, uniform_source, code_number, attribute_number, shader_used, is_threaded, taken_before, record_word, sample_number, source_word, size_in}
-use Rattle.shader_records.specs.Rules.{uniform_fault, sample_fault, cut_questions, code_questions, handle_questions, disagrees, fixed_questions, is_attribute_past, has_vertex_past, attribute_questions, names_questions, body_questions, record_questions, setup_questions, first_word_at, sample_questions, use_questions, shader_questions, state_questions, all_questions}
+use Rattle.shader_records.specs.Rules.{cut_questions, code_questions, handle_questions, disagrees, fixed_questions, is_attribute_past, has_vertex_past, attribute_questions, names_questions, body_questions, record_questions, setup_questions, first_word_at, sample_questions, use_questions, shader_questions, state_questions, all_questions}
 
 -- Of a record.
 pub source_inside : (input : InputModel) (at state most : ℕ) → first_of (record_questions input at state most) ≡ None → at + source_size state ≤ length input.records
@@ -87,7 +89,7 @@ use_inside input from shader none =
 samples_none : (input : InputModel) (from : ℕ) (shader : ShaderModel) → first_of (use_questions input from (Some shader)) ≡ None
     → first_of (each (sample_questions input from shader) 0 (length shader.samples)) ≡ None
 unfolding use_questions
-samples_none input from shader none = rest_none (Ask (nat_lt (length input.uniforms) (from + 4 * (length shader.samples + shader.uniforms))) (uniform_fault 8 from) ∷ []) (each (sample_questions input from shader) 0 (length shader.samples)) none
+samples_none input from shader none = rest_none (Ask (nat_lt (length input.uniforms) (from + 4 * (length shader.samples + shader.uniforms))) (uniform_fault from) ∷ []) (each (sample_questions input from shader) 0 (length shader.samples)) none
 
 later_none : (input : InputModel) (from : ℕ) (shader : ShaderModel) (i : ℕ) → first_of (sample_questions input from shader i) ≡ None
     → first_of (answered (sample_fault (first_word_at shader from i)) (setup_questions (sample_at shader i) (source_word input from shader) (size_in input.table (sample_number input from i)))) ≡ None

@@ -2,9 +2,9 @@
 use Rattle.std.proofs.Common.{◌≡◌, ℕ, ◌+◌, ◌*◌, ◌%◌, ◌<◌, ◌≤◌, Bool, true, false, if◌then◌else◌, refl, arith}
 use Rattle.field_words.specs.Words.{rounded_up}
 use Rattle.field_words.proofs.Numbers.{rounded}
-use Rattle.emitted_facts.specs.Records.{attribute_count, is_extended, record_size}
+use Rattle.packets.specs.StateWord.{attribute_count, is_extended, record_size, record_room}
 use Rattle.emitted_facts.proofs.Records.{count_limits, attributes_in}
-use Rattle.shader_records.specs.Sources.{handles_size, source_size, emitted_size}
+use Rattle.shader_records.specs.Sources.{handles_size, source_size}
 
 pub handles_are : (state : ℕ) → handles_size state ≡ 12 + 4 * attribute_count state
 unfolding handles_size
@@ -37,8 +37,8 @@ unfolding record_size
 word_in state i below = let e = source_is state in let w = record_words (is_extended state) (attribute_count state) in omega (arith, e, w)
 
 -- What is emitted of a record is a multiple of 16, holds the record, and takes no more bytes than its source.
-pub emitted_in : (state : ℕ) → (record_size state ≤ emitted_size state) × (emitted_size state ≤ source_size state) × (emitted_size state % 16 ≡ 0)
-unfolding emitted_size
+pub emitted_in : (state : ℕ) → (record_size state ≤ record_room state) × (record_room state ≤ source_size state) × (record_room state % 16 ≡ 0)
+unfolding record_room
 emitted_in state =
     let r = rounded (record_size state) 16 (omega arith) in
     let f = fixed_in state in let e = source_is state in

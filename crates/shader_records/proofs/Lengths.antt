@@ -1,28 +1,29 @@
 -- How long what is emitted is.
 use Rattle.std.proofs.Common.{◌≡◌, ℕ, zero, suc, ◌+◌, ◌/◌, ◌<◌, ◌≤◌, List, ◌++◌, length, Option, Some, None, refl, sym, ap, arith, ◌∙◌, length-append}
-use Rattle.field_words.specs.WordBytes.{laid}
-use Rattle.field_words.proofs.WordBytes.{length_words, laid_append, laid_nothing}
+use Rattle.field_words.specs.Writes.{with_bytes}
+use Rattle.field_words.proofs.WordBytes.{length_words, with_two, with_nothing}
 use Rattle.field_words.specs.Questions.{first_of}
 use Rattle.qpu_isa.specs.Shader.{ShaderModel}
 use Rattle.shader_records.specs.Inputs.{InputModel}
-use Rattle.shader_records.specs.Sources.{state_at, source_size, emitted_size, record_source, record_offset, uniform_source, stream_offset, shader_used, taken_by, given_by, taken_before, given_before}
+use Rattle.shader_records.specs.Sources.{state_at, source_size, record_source, record_offset, uniform_source, stream_offset, shader_used, taken_by, given_by, taken_before, given_before}
+use Rattle.packets.specs.StateWord.{record_room}
 use Rattle.shader_records.specs.Rules.{use_questions, all_questions}
 use Rattle.shader_records.specs.Emission.{emitted_word, stream_place, record_text, records_text, stream_word_of, stream_text, streams_text, uniforms_text}
 use Rattle.shader_records.proofs.Fine.{source_inside, use_inside, state_fine}
 use Rattle.shader_records.proofs.Inside.{fixed_in, emitted_in}
 
 -- A text put behind another.
-pub put_behind : (window : List ℕ) (at n : ℕ) (front rest out out2 : List ℕ) → out ≡ laid window at front → length front ≡ n → out2 ≡ laid out (at + n) rest
-    → at + n + length rest ≤ length window → out2 ≡ laid window at (front ++ rest)
+pub put_behind : (window : List ℕ) (at n : ℕ) (front rest out out2 : List ℕ) → out ≡ with_bytes window at front → length front ≡ n → out2 ≡ with_bytes out (at + n) rest
+    → at + n + length rest ≤ length window → out2 ≡ with_bytes window at (front ++ rest)
 put_behind window at n front rest out out2 stands long puts fits =
     let total : length (front ++ rest) ≡ length front + length rest = length-append front rest in
-    puts ∙ ap (λ o. laid o (at + n) rest) stands ∙ ap (λ k. laid (laid window at front) (at + k) rest) (sym long)
-    ∙ sym (laid_append window at front rest (omega (arith, total, long, fits)))
+    puts ∙ ap (λ o. with_bytes o (at + n) rest) stands ∙ ap (λ k. with_bytes (with_bytes window at front) (at + k) rest) (sym long)
+    ∙ sym (with_two window at front rest (omega (arith, total, long, fits)))
 
-pub length_record : (input : InputModel) (at state first : ℕ) → length (record_text input at state first) ≡ emitted_size state
+pub length_record : (input : InputModel) (at state first : ℕ) → length (record_text input at state first) ≡ record_room state
 unfolding record_text
 length_record input at state first =
-    let e = length_words (emitted_word input at state (stream_place input at first)) (emitted_size state / 4) in
+    let e = length_words (emitted_word input at state (stream_place input at first)) (record_room state / 4) in
     let whole = (emitted_in state).2 in
     omega (arith, e, whole)
 
@@ -129,23 +130,23 @@ uniform_end input (suc k) none upto =
     uses_end input (record_source input k) (uniform_source input k) 3 (uniform_end input k none (omega arith)) fine.of_use (omega arith)
 
 -- no text yet
-pub no_streams : (window : List ℕ) (base : ℕ) (input : InputModel) (at from first : ℕ) → base ≤ length window → window ≡ laid window base (streams_text input at from first 0)
+pub no_streams : (window : List ℕ) (base : ℕ) (input : InputModel) (at from first : ℕ) → base ≤ length window → window ≡ with_bytes window base (streams_text input at from first 0)
 unfolding streams_text
-no_streams window base input at from first fits = sym (laid_nothing window base fits)
+no_streams window base input at from first fits = sym (with_nothing window base fits)
 
-pub no_records : (window : List ℕ) (base : ℕ) (input : InputModel) (first : ℕ) → base ≤ length window → window ≡ laid window base (records_text input first 0)
+pub no_records : (window : List ℕ) (base : ℕ) (input : InputModel) (first : ℕ) → base ≤ length window → window ≡ with_bytes window base (records_text input first 0)
 unfolding records_text
-no_records window base input first fits = sym (laid_nothing window base fits)
+no_records window base input first fits = sym (with_nothing window base fits)
 
-pub no_uniforms : (window : List ℕ) (base : ℕ) (input : InputModel) (first : ℕ) → base ≤ length window → window ≡ laid window base (uniforms_text input first 0)
+pub no_uniforms : (window : List ℕ) (base : ℕ) (input : InputModel) (first : ℕ) → base ≤ length window → window ≡ with_bytes window base (uniforms_text input first 0)
 unfolding uniforms_text
-no_uniforms window base input first fits = sym (laid_nothing window base fits)
+no_uniforms window base input first fits = sym (with_nothing window base fits)
 
 -- All that a state takes and gives lies inside, where no rule stands.
 pub record IsStateInside (input : InputModel) (k : ℕ) : Type 0 where
   pub handles : record_source input k + 12 ≤ length input.records
   pub source : record_source input k + source_size (state_at input k).word ≤ length input.records
-  pub emitted : record_offset input k + emitted_size (state_at input k).word ≤ length input.records
+  pub emitted : record_offset input k + record_room (state_at input k).word ≤ length input.records
   pub taken : uniform_source input k + taken_before input (record_source input k) 3 ≤ length input.uniforms
   pub given : stream_offset input k + given_before input (record_source input k) 3 ≤ length input.uniforms
 

@@ -12,7 +12,8 @@ use Rattle.field_words.proofs.WordBytes.{word_piece}
 use Rattle.field_words.proofs.Numbers.{u32_of_piece}
 use Rattle.qpu_isa.specs.Shader.{ShaderModel, IsSoundShader}
 use Rattle.shader_records.specs.Inputs.{InputModel, AreInputs}
-use Rattle.shader_records.specs.Sources.{state_at, emitted_size, record_source, record_offset, uniform_source, stream_offset, code_number, shader_behind, shader_used, taken_before, given_before}
+use Rattle.shader_records.specs.Sources.{state_at, record_source, record_offset, uniform_source, stream_offset, code_number, shader_behind, shader_used, taken_before, given_before}
+use Rattle.packets.specs.StateWord.{record_room}
 use Rattle.shader_records.specs.Emission.{emitted_word, stream_place, record_text, records_text, stream_word_of, stream_text, streams_text, uniforms_text, emitted_records, emitted_uniforms, HasStreams}
 use Rattle.shader_records.specs.Named.{AreInMemory, IsEmittedIn}
 use Rattle.shader_records.specs.Rules.{use_questions, all_questions}
@@ -170,7 +171,7 @@ streams_in_memory input records first memory k inputs fits none below room emitt
 -- Word i of state k's record.
 pub record_in_memory : (input : InputModel) (records first : ℕ) (memory : List ℕ) (k i : ℕ) → AreInMemory input
     → first_of (all_questions input) ≡ None → k < length input.states → first + length input.uniforms < 2 ^ 32
-    → IsEmittedIn input records first memory → 4 * i < emitted_size (state_at input k).word
+    → IsEmittedIn input records first memory → 4 * i < record_room (state_at input k).word
     → u32_at memory (records + record_offset input k + 4 * i)
     ≡ emitted_word input (record_source input k) (state_at input k).word (stream_place input (record_source input k) (first + stream_offset input k)) i
 unfolding record_text stream_place
@@ -182,6 +183,6 @@ record_in_memory input records first memory k i fits none below room emitted ins
     let given = (state_inside input k none below).given in
     let whole = (emitted_in state).2 in
     let piece = piece_in memory (emitted_records input first) (record_text input at state here) records (record_offset input k) emitted.records_are (record_stands input first (length input.states) k below) in
-    word_in_memory memory (records + record_offset input k) (emitted_word input at state (stream_place input at here)) (emitted_size state / 4) i piece (omega (arith, whole, inside))
+    word_in_memory memory (records + record_offset input k) (emitted_word input at state (stream_place input at here)) (record_room state / 4) i piece (omega (arith, whole, inside))
     (word_fits input at state (state_at input k).max_index (stream_place input at here) i fits
     (λ s small. let rises = given_rises input at s small in omega (arith, rises, given, room)) fine.of_record)

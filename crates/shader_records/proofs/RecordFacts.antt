@@ -7,7 +7,8 @@ use Rattle.field_words.specs.Questions.{first_of}
 use Rattle.buffer_table.specs.Handles.{is_plain}
 use Rattle.buffer_table.proofs.Named.{code_is}
 use Rattle.qpu_isa.specs.Shader.{ShaderModel, IsSoundShader}
-use Rattle.emitted_facts.specs.Records.{attribute_count, record_size, is_extended, attribute_size, attribute_stride, is_single, address_word, shape_word, extension_word}
+use Rattle.emitted_facts.specs.Records.{attribute_size, attribute_stride, is_single, address_word, shape_word, extension_word}
+use Rattle.packets.specs.StateWord.{attribute_count, record_size, is_extended}
 use Rattle.emitted_facts.specs.Facts.{IsStream, IsUse, IsAttributeIn, IsRecord}
 use Rattle.emitted_facts.proofs.Records.{count_limits, attributes_in, extended_from, header_in, same_size, same_stride}
 use Rattle.shader_records.specs.Inputs.{InputModel, AreInputs, shader_in}

@@ -3,7 +3,8 @@ use Rattle.std.proofs.Common.{not, ◌≡◌, ℕ, ◌+◌, ◌*◌, ◌%◌, �
 use Rattle.field_words.specs.Words.{u32_at}
 use Rattle.field_words.specs.Questions.{first_of}
 use Rattle.qpu_isa.specs.Shader.{ShaderModel}
-use Rattle.emitted_facts.specs.Records.{record_size, is_single, address_word, shape_word, extension_word}
+use Rattle.emitted_facts.specs.Records.{is_single, address_word, shape_word, extension_word}
+use Rattle.packets.specs.StateWord.{record_size}
 use Rattle.emitted_facts.specs.Facts.{IsStream, IsUse, IsRecord}
 use Rattle.emitted_facts.proofs.Records.{entry_in, extension_in, header_in, same_attribute}
 use Rattle.shader_records.specs.Inputs.{InputModel, AreInputs}

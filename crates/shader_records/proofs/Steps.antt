@@ -2,7 +2,8 @@
 use Rattle.std.proofs.Common.{◌≡◌, ℕ, zero, suc, ◌+◌, refl, ap, arith}
 use Rattle.std.proofs.Common.{◌≤◌, ◌<◌}
 use Rattle.shader_records.specs.Inputs.{InputModel}
-use Rattle.shader_records.specs.Sources.{state_at, source_size, emitted_size, record_source, record_offset, uniform_source, stream_offset, shader_used, taken_by, given_by, taken_before, given_before}
+use Rattle.shader_records.specs.Sources.{state_at, source_size, record_source, record_offset, uniform_source, stream_offset, shader_used, taken_by, given_by, taken_before, given_before}
+use Rattle.packets.specs.StateWord.{record_room}
 
 next : (n : ℕ) → n + 1 ≡ suc n
 next n = omega arith
@@ -19,7 +20,7 @@ pub record_next : (input : InputModel) (k : ℕ) → record_source input (k + 1)
 unfolding record_source
 record_next input k = ap (record_source input) (next k)
 
-pub offset_next : (input : InputModel) (k : ℕ) → record_offset input (k + 1) ≡ record_offset input k + emitted_size (state_at input k).word
+pub offset_next : (input : InputModel) (k : ℕ) → record_offset input (k + 1) ≡ record_offset input k + record_room (state_at input k).word
 unfolding record_offset
 offset_next input k = ap (record_offset input) (next k)
 

@@ -4,7 +4,7 @@ use Rattle.std.proofs.lemmas.Bool.{eqb-true, ltb-true}
 use Rattle.field_words.specs.Questions.{first_of}
 use Rattle.field_words.proofs.Numbers.{u32_fits}
 use Rattle.qpu_isa.specs.Shader.{ShaderModel, sample_at, first_position, IsSoundShader}
-use Rattle.emitted_facts.specs.Records.{attribute_count, record_size}
+use Rattle.packets.specs.StateWord.{attribute_count, record_size}
 use Rattle.shader_records.specs.Inputs.{InputModel}
 use Rattle.shader_records.specs.Named.{AreInMemory}
 use Rattle.shader_records.specs.Sources.{handles_size, code_number, attribute_number, sample_number, record_word, source_word, place_in, size_in}

@@ -2,9 +2,9 @@
 use Rattle.std.specs.Prelude.{◌≡◌, ◌<◌, slice_index, ℕ, zero, suc, ◌+◌, ◌*◌, ◌/◌, ◌-◌, ◌%◌, ◌==◌, Bool, false, ◌&&◌, ◌||◌, nat_lt, nat_le, List, [], ◌++◌, length, Option, Some, None, if◌then◌else◌}
 use Rattle.field_words.specs.WordBytes.{word_bytes}
 use Rattle.qpu_isa.specs.Shader.{ShaderModel, sample_at, first_position, address_at}
-use Rattle.emitted_facts.specs.Records.{attribute_count, record_size}
+use Rattle.packets.specs.StateWord.{attribute_count, record_size, record_room}
 use Rattle.shader_records.specs.Inputs.{InputModel}
-use Rattle.shader_records.specs.Sources.{state_at, emitted_size, record_source, uniform_source, stream_offset, code_number, attribute_number, shader_used, taken_before, given_before, record_word, sample_number, source_word, place_in}
+use Rattle.shader_records.specs.Sources.{state_at, record_source, uniform_source, stream_offset, code_number, attribute_number, shader_used, taken_before, given_before, record_word, sample_number, source_word, place_in}
 
 -- what is added to word k for the samples below n: the place of the buffer of the sample whose first
 -- word it is
@@ -67,7 +67,7 @@ pub record AreStreamsOf (streams : List ℕ) (place : ℕ → ℕ) : Type 0 wher
 
 -- the record whose source begins at `at`
 unfoldable pub record_text : InputModel → ℕ → ℕ → ℕ → List ℕ
-record_text input at state first = word_bytes (emitted_word input at state (stream_place input at first)) (emitted_size state / 4)
+record_text input at state first = word_bytes (emitted_word input at state (stream_place input at first)) (record_room state / 4)
 
 -- the records of the first k states, whose streams stand from a place on
 unfoldable pub records_text : InputModel → ℕ → ℕ → List ℕ

@@ -1,7 +1,7 @@
 pub mod Emission
 pub mod Emitted
 pub mod Examples
-pub mod Going
+pub mod Faults
 pub mod Inputs
 pub mod Named
 pub mod Rules

@@ -1,43 +1,35 @@
 -- The rules of shader records (A) and of the uniforms that their shaders take (A8 and U), in the order
 -- of refusal: state by state; in a state the record and then its shaders' uniforms, shader by shader and
 -- sample by sample. A fault names a place in the job's records or in its uniforms.
-use Rattle.std.specs.Prelude.{ℕ, ◌+◌, ◌*◌, ◌/◌, ◌-◌, ◌==◌, Bool, true, false, not, ◌&&◌, nat_lt, List, [], ◌∷◌, ◌++◌, length, is_some, Option, Some, None, if◌then◌else◌}
+use Rattle.std.specs.Prelude.{ℕ, ◌+◌, ◌*◌, ◌/◌, ◌-◌, ◌==◌, Bool, not, ◌&&◌, nat_lt, List, [], ◌∷◌, ◌++◌, length, is_some, Option, Some, None, if◌then◌else◌}
 use Rattle.field_words.specs.Questions.{Question, Ask, each, answered}
-use Rattle.job_format.specs.declared.rule.Stage.TheVariants.{A, U}
 use Rattle.qpu_isa.specs.declared.inst.Sample.{Sample}
 use Rattle.texture_layouts.specs.Fits.{texture_questions, direct_questions}
 use Rattle.qpu_isa.specs.Shader.{ShaderModel, sample_at, first_position}
-use Rattle.emitted_facts.specs.Records.{attribute_count, attribute_size, attribute_stride, is_single, address_word}
+use Rattle.emitted_facts.specs.Records.{attribute_size, attribute_stride, is_single, address_word}
+use Rattle.packets.specs.StateWord.{attribute_count}
 use Rattle.emitted_facts.specs.Facts.{setup}
 use Rattle.shader_records.specs.declared.fault.RecordFault.{RecordFault}
+use Rattle.shader_records.specs.declared.rule.RecordRule.TheVariants.{HandlesCutOff, RecordCutOff, NoCode, NoData, ThreadsDisagree, ThreadedVertex, CodeWordSet, AttributeOutside, VertexOutside, NoTexture}
+use Rattle.shader_records.specs.Faults.{number_of, record_fault, uniform_fault, sample_fault}
 use Rattle.shader_records.specs.Inputs.{InputModel}
 use Rattle.shader_records.specs.Sources.{state_at, handles_size, source_size, record_source, uniform_source, code_number, attribute_number, shader_used, is_threaded, taken_before, record_word, sample_number, source_word, size_in}
-
--- rule A number at a place in the records, and in the uniforms; rule U number there
-abbrev pub record_fault : ℕ → ℕ → RecordFault
-record_fault number at = record { stage = A; number = number; in_uniforms = false; at = at }
-
-abbrev pub uniform_fault : ℕ → ℕ → RecordFault
-uniform_fault number at = record { stage = A; number = number; in_uniforms = true; at = at }
-
-abbrev pub sample_fault : ℕ → ℕ → RecordFault
-sample_fault at number = record { stage = U; number = number; in_uniforms = true; at = at }
 
 -- A1: the handles are cut off. A2: the record is.
 unfoldable pub cut_questions : InputModel → ℕ → ℕ → List (Question RecordFault)
 cut_questions input at state =
-    Ask (nat_lt (length input.records) (at + handles_size state)) (record_fault 1 at)
-    ∷ (Ask (nat_lt (length input.records) (at + source_size state)) (record_fault 2 (at + handles_size state)) ∷ [])
+    Ask (nat_lt (length input.records) (at + handles_size state)) (record_fault HandlesCutOff at)
+    ∷ (Ask (nat_lt (length input.records) (at + source_size state)) (record_fault RecordCutOff (at + handles_size state)) ∷ [])
 
 -- A3: a code handle names no Code buffer. A6: the vertex or the coordinate shader switches threads.
 unfoldable pub code_questions : InputModel → ℕ → ℕ → List (Question RecordFault)
 code_questions input at s =
-    Ask (not (is_some (code_number input at s))) (record_fault 3 (at + 4 * s))
-    ∷ (Ask (not (s == 0) && is_threaded (shader_used input at s)) (record_fault 6 (at + 4 * s)) ∷ [])
+    Ask (not (is_some (code_number input at s))) (record_fault NoCode (at + 4 * s))
+    ∷ (Ask (not (s == 0) && is_threaded (shader_used input at s)) (record_fault ThreadedVertex (at + 4 * s)) ∷ [])
 
 -- A4: an attribute's handle names no Plain buffer.
 unfoldable pub handle_questions : InputModel → ℕ → ℕ → List (Question RecordFault)
-handle_questions input at t = Ask (not (is_some (attribute_number input at t))) (record_fault 4 (at + (12 + 4 * t))) ∷ []
+handle_questions input at t = Ask (not (is_some (attribute_number input at t))) (record_fault NoData (at + (12 + 4 * t))) ∷ []
 
 -- A5: the fragment shader switches threads and the flags say that it doesn't, or the other way round.
 unfoldable pub disagrees : Bool → Bool → Bool
@@ -46,10 +38,10 @@ disagrees single threaded = if single then threaded else not threaded
 -- A7: a word for a code address isn't 0.
 unfoldable pub fixed_questions : InputModel → ℕ → ℕ → List (Question RecordFault)
 fixed_questions input at state =
-    Ask (disagrees (is_single (record_word input at state)) (is_threaded (shader_used input at 0))) (record_fault 5 (at + handles_size state))
-    ∷ (Ask (not (record_word input at state 1 == 0)) (record_fault 7 (at + handles_size state + 4))
-    ∷ (Ask (not (record_word input at state 4 == 0)) (record_fault 7 (at + handles_size state + 16))
-    ∷ (Ask (not (record_word input at state 7 == 0)) (record_fault 7 (at + handles_size state + 28)) ∷ [])))
+    Ask (disagrees (is_single (record_word input at state)) (is_threaded (shader_used input at 0))) (record_fault ThreadsDisagree (at + handles_size state))
+    ∷ (Ask (not (record_word input at state 1 == 0)) (record_fault CodeWordSet (at + handles_size state + 4))
+    ∷ (Ask (not (record_word input at state 4 == 0)) (record_fault CodeWordSet (at + handles_size state + 16))
+    ∷ (Ask (not (record_word input at state 7 == 0)) (record_fault CodeWordSet (at + handles_size state + 28)) ∷ [])))
 
 -- A9: the first vertex's data end past the buffer. A10: the vertices up to the greatest index do.
 unfoldable pub is_attribute_past : ℕ → ℕ → ℕ → Bool
@@ -61,9 +53,9 @@ has_vertex_past size address bytes stride most = not (stride == 0) && nat_lt ((s
 unfoldable pub attribute_questions : InputModel → ℕ → ℕ → ℕ → ℕ → List (Question RecordFault)
 attribute_questions input at state most t =
     Ask (is_attribute_past (size_in input.table (attribute_number input at t)) (record_word input at state (address_word t)) (attribute_size (record_word input at state) t))
-    (record_fault 9 (at + handles_size state + (36 + 8 * t)))
+    (record_fault AttributeOutside (at + handles_size state + (36 + 8 * t)))
     ∷ (Ask (has_vertex_past (size_in input.table (attribute_number input at t)) (record_word input at state (address_word t)) (attribute_size (record_word input at state) t) (attribute_stride state (record_word input at state) t) most)
-    (record_fault 10 (at + handles_size state + (36 + 8 * t))) ∷ [])
+    (record_fault VertexOutside (at + handles_size state + (36 + 8 * t))) ∷ [])
 
 -- The rules at a record's handles, and those in the record itself.
 unfoldable pub names_questions : InputModel → ℕ → ℕ → List (Question RecordFault)
@@ -90,14 +82,14 @@ first_word_at shader from i = from + 4 * length shader.samples + 4 * first_posit
 
 unfoldable pub sample_questions : InputModel → ℕ → ShaderModel → ℕ → List (Question RecordFault)
 sample_questions input from shader i =
-    Ask (not (is_some (sample_number input from i))) (sample_fault (from + 4 * i) 1)
+    Ask (not (is_some (sample_number input from i))) (sample_fault (from + 4 * i) (number_of NoTexture))
     ∷ answered (sample_fault (first_word_at shader from i)) (setup_questions (sample_at shader i) (source_word input from shader) (size_in input.table (sample_number input from i)))
 
 -- A8: fewer bytes of uniforms are left than a shader takes. Then the rules of its samples.
 unfoldable pub use_questions : InputModel → ℕ → Option ShaderModel → List (Question RecordFault)
 use_questions input from None = []
 use_questions input from (Some shader) =
-    Ask (nat_lt (length input.uniforms) (from + 4 * (length shader.samples + shader.uniforms))) (uniform_fault 8 from)
+    Ask (nat_lt (length input.uniforms) (from + 4 * (length shader.samples + shader.uniforms))) (uniform_fault from)
     ∷ each (sample_questions input from shader) 0 (length shader.samples)
 
 unfoldable pub shader_questions : InputModel → ℕ → ℕ → ℕ → List (Question RecordFault)

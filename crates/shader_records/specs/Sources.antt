@@ -5,11 +5,11 @@
 -- one for each attribute, and then the record. The uniforms that a shader takes are one handle for each
 -- sample, and then the words of its stream. Records and streams are emitted one after the other.
 use Rattle.std.specs.Prelude.{ℕ, zero, suc, ◌+◌, ◌*◌, List, length, Option, Some, None, slice_index_or, Bool, false}
-use Rattle.field_words.specs.Words.{u32_at, rounded_up}
+use Rattle.field_words.specs.Words.{u32_at}
 use Rattle.buffer_table.specs.Table.{TableModel, buffer_at}
 use Rattle.buffer_table.specs.Handles.{data_of, code_of}
 use Rattle.qpu_isa.specs.Shader.{ShaderModel}
-use Rattle.emitted_facts.specs.Records.{attribute_count, record_size}
+use Rattle.packets.specs.StateWord.{attribute_count, record_size, record_room}
 use Rattle.bin_list.specs.declared.state.State.{State}
 use Rattle.shader_records.specs.Inputs.{InputModel, shader_in}
 
@@ -19,15 +19,12 @@ no_state = record { word = 0; max_index = 0 }
 abbrev pub state_at : InputModel → ℕ → State
 state_at input k = slice_index_or input.states k no_state
 
--- the bytes of a record's handles, of its whole source, and of what is emitted of it
+-- the bytes of a record's handles, and of its whole source
 unfoldable pub handles_size : ℕ → ℕ
 handles_size state = 4 * (3 + attribute_count state)
 
 unfoldable pub source_size : ℕ → ℕ
 source_size state = handles_size state + record_size state
-
-unfoldable pub emitted_size : ℕ → ℕ
-emitted_size state = rounded_up (record_size state) 16
 
 -- where the source of state k's record begins, and where its record is emitted
 unfoldable pub record_source : InputModel → ℕ → ℕ
@@ -36,7 +33,7 @@ record_source input (suc k) = record_source input k + source_size (state_at inpu
 
 unfoldable pub record_offset : InputModel → ℕ → ℕ
 record_offset input zero = 0
-record_offset input (suc k) = record_offset input k + emitted_size (state_at input k).word
+record_offset input (suc k) = record_offset input k + record_room (state_at input k).word
 
 -- Of a record whose source begins at a place: the buffer that its handle for shader s (0 fragment, 1 vertex,
 -- 2 coordinate) names, and that for attribute t.

@@ -20,7 +20,7 @@ use relocation::Layout;
 use std::alloc::Global;
 
 /// Emits records and uniforms of which no rule fails, each at its offset in `out`.
-#[tactic(auto, unfolding(field_words::specs::WordBytes::laid), using(crate::proofs::Lengths::length_records, crate::proofs::Lengths::length_uniforms))]
+#[tactic(auto, using(crate::proofs::Lengths::length_records, crate::proofs::Lengths::length_uniforms))]
 fn emit(inputs: &Inputs, layout: &Layout, out: &mut [u8]) -> RecordInfo
     requires few_records { length inputs.now.records ≤ 1048576 }
     requires few { length inputs.now.uniforms ≤ 1048576 }

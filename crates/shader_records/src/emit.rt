@@ -1,16 +1,18 @@
 //! Emission of all records, and of all streams.
 ghost use Rattle.std.specs.Prelude.{◌≡◌, None, ◌+◌, ◌<◌, ◌≤◌, ◌^◌, length};
 ghost use Rattle.field_words.specs.Questions.{first_of};
-ghost use Rattle.field_words.specs.WordBytes.{laid};
-ghost use Rattle.shader_records.specs.Sources.{state_at, emitted_size, record_offset, stream_offset, given_before};
+ghost use Rattle.field_words.specs.Writes.{with_bytes};
+ghost use Rattle.shader_records.specs.Sources.{state_at, record_offset, stream_offset, given_before};
+ghost use Rattle.packets.specs.StateWord.{record_room};
 ghost use Rattle.shader_records.specs.Rules.{all_questions};
 ghost use Rattle.shader_records.specs.Emission.{emitted_records, emitted_uniforms};
 
 use crate::faults::source_of;
 use crate::inputs::Inputs;
 use crate::record_text::{given_before, put_record};
-use crate::sizes::{emitted_size, source_size};
+use crate::sizes::source_size;
 use crate::stream_text::put_streams;
+use packets::record_room;
 
 /// Emits all records from `base` on; their streams stand from the place `first` on. Gives the bytes.
 pub(crate) fn put_records(inputs: &Inputs, first: u32, out: &mut [u8], base: usize) -> usize
@@ -20,7 +22,7 @@ pub(crate) fn put_records(inputs: &Inputs, first: u32, out: &mut [u8], base: usi
     requires base { base ≤ 67108864 }
     requires places { first + length inputs.now.uniforms < 2 ^ 32 }
     requires room { base + length inputs.now.records ≤ length out.old }
-    ensures text { out.new ≡ laid out.old base (emitted_records inputs.now first) }
+    ensures text { out.new ≡ with_bytes out.old base (emitted_records inputs.now first) }
     ensures length { result ≡ record_offset inputs.now (length inputs.now.states) }
 {
     let mut at = 0;
@@ -31,7 +33,7 @@ pub(crate) fn put_records(inputs: &Inputs, first: u32, out: &mut [u8], base: usi
         put_record(inputs, source, first + given as u32, out, base + done);
         given += given_before(inputs, at, 3);
         at += source_size(source.state);
-        done += emitted_size(source.state);
+        done += record_room(source.state) as usize;
     }
     done
 }
@@ -44,7 +46,7 @@ pub(crate) fn put_uniforms(inputs: &Inputs, first: u32, out: &mut [u8], base: us
     requires base { base ≤ 67108864 }
     requires places { first + length inputs.now.uniforms < 2 ^ 32 }
     requires room { base + length inputs.now.uniforms ≤ length out.old }
-    ensures text { out.new ≡ laid out.old base (emitted_uniforms inputs.now first) }
+    ensures text { out.new ≡ with_bytes out.old base (emitted_uniforms inputs.now first) }
     ensures length { result ≡ stream_offset inputs.now (length inputs.now.states) }
 {
     let mut at = 0;

@@ -1,12 +1,13 @@
 //! Why shader records and uniforms are refused.
 
+use crate::rule::{NO_TEXTURE, record_sentence};
 use job_format::Stage;
 use thiserror::Error;
 
-/// The first rule of records and uniforms that fails: its stage (A or U), its number, and the place in
+/// The first rule of records and uniforms that stands: its stage (A or U), its number, and the place in
 /// bytes, counted in the job's uniforms or else in its records.
 #[derive(Clone, Copy, Debug, PartialEq, Eq, Error)]
-#[error("rule {stage}{number} fails at byte {at} of the {}", part_name(.in_uniforms))]
+#[error("{stage}{number} at byte {at} of the {}: {}", self.part(), self.sentence())]
 pub struct RecordFault {
     pub stage: Stage,
     pub number: u8,
@@ -14,11 +15,22 @@ pub struct RecordFault {
     pub at: u32,
 }
 
-/// The part of a job that a fault's place is counted in.
-fn part_name(in_uniforms: &bool) -> &'static str {
-    if *in_uniforms {
-        "uniforms"
-    } else {
-        "shader records"
+impl RecordFault {
+    /// The part of a job that the place is counted in.
+    fn part(&self) -> &'static str {
+        if self.in_uniforms {
+            "uniforms"
+        } else {
+            "shader records"
+        }
+    }
+
+    /// What it means that the rule stands.
+    fn sentence(&self) -> &'static str {
+        match (self.stage, self.number) {
+            (Stage::A, number) => record_sentence(number),
+            (Stage::U, 1) => NO_TEXTURE,
+            _ => "the sample doesn't fit its buffer",
+        }
     }
 }

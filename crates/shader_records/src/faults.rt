@@ -1,9 +1,8 @@
 //! The rules of all states.
 ghost use Rattle.std.specs.Prelude.{◌≡◌, ◌+◌, ◌*◌, ◌<◌, ◌≤◌, length};
-ghost use Rattle.field_words.specs.Questions.{first_of, each};
+ghost use Rattle.field_words.specs.Questions.{GoesOn, first_of, each};
 ghost use Rattle.shader_records.specs.Sources.{state_at, source_size, record_source, uniform_source, taken_before};
 ghost use Rattle.shader_records.specs.Rules.{shader_questions, state_questions, all_questions};
-ghost use Rattle.shader_records.specs.Going.{GoesOn};
 
 use crate::fault::RecordFault;
 use crate::inputs::Inputs;

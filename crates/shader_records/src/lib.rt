@@ -15,6 +15,7 @@ mod inputs;
 mod laws;
 mod record_rules;
 mod record_text;
+mod rule;
 mod sizes;
 mod stream_text;
 mod uniform_rules;
@@ -23,6 +24,7 @@ pub use check::check_records;
 pub use fault::RecordFault;
 pub use info::RecordInfo;
 pub use laws::{records_are_facts, streams_are_facts};
+pub use rule::RecordRule;
 
 #[cfg(test)]
 mod tests;

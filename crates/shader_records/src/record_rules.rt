@@ -1,14 +1,18 @@
 //! The rules of one record.
 ghost use Rattle.std.specs.Prelude.{◌≡◌, ◌++◌, true, ◌+◌, ◌*◌, ◌<◌, ◌≤◌, ◌^◌, length, IfNone};
 ghost use Rattle.field_words.specs.Questions.{first_of, each};
-ghost use Rattle.emitted_facts.specs.Records.{attribute_count, attribute_size, attribute_stride, is_extended, is_single};
+ghost use Rattle.emitted_facts.specs.Records.{attribute_size, attribute_stride, is_single};
+ghost use Rattle.packets.specs.StateWord.{attribute_count, is_extended};
 ghost use Rattle.shader_records.specs.Sources.{handles_size, source_size, record_word};
-ghost use Rattle.shader_records.specs.Rules.{record_fault as fault_of, cut_questions, code_questions, handle_questions, fixed_questions, attribute_questions, names_questions, body_questions, record_questions, disagrees};
+ghost use Rattle.shader_records.specs.Faults.{record_fault as fault_of};
+ghost use Rattle.shader_records.specs.Rules.{cut_questions, code_questions, handle_questions, fixed_questions, attribute_questions, names_questions, body_questions, record_questions, disagrees};
 
 use crate::fault::RecordFault;
 use crate::inputs::Inputs;
-use crate::sizes::{attribute_count, handles_size, is_extended, source_size};
+use crate::rule::RecordRule;
+use crate::sizes::{handles_size, source_size};
 use job_format::Stage;
+use packets::{attribute_count, is_extended};
 
 /// The source of a record: where it begins in the job's records, the state's word, and the greatest
 /// index that the state's primitives draw.
@@ -19,13 +23,13 @@ pub(crate) struct Source {
     pub(crate) max_index: u32,
 }
 
-fn fault(number: u8, at: usize) -> RecordFault
+fn fault(rule: RecordRule, at: usize) -> RecordFault
     requires { at < 2 ^ 32 }
-    ensures { result ≡ fault_of number at }
+    ensures { result ≡ fault_of rule at }
 {
     RecordFault {
         stage: Stage::A,
-        number,
+        number: rule.number(),
         in_uniforms: false,
         at: at as u32,
     }
@@ -41,10 +45,10 @@ fn cut_fault(inputs: &Inputs, source: Source) -> Option<RecordFault>
 {
     let record_at = source.at + handles_size(source.state);
     if inputs.records.len() < record_at {
-        return Some(fault(1, source.at));
+        return Some(fault(RecordRule::HandlesCutOff, source.at));
     }
     if inputs.records.len() < source.at + source_size(source.state) {
-        return Some(fault(2, record_at));
+        return Some(fault(RecordRule::RecordCutOff, record_at));
     }
     None
 }
@@ -57,10 +61,10 @@ fn code_fault(inputs: &Inputs, at: usize, s: usize) -> Option<RecordFault>
     ensures { result ≡ first_of (code_questions inputs.now at s) }
 {
     if inputs.code_number(at, s).is_none() {
-        return Some(fault(3, at + 4 * s));
+        return Some(fault(RecordRule::NoCode, at + 4 * s));
     }
     if s != 0 && inputs.is_threaded(at, s) {
-        return Some(fault(6, at + 4 * s));
+        return Some(fault(RecordRule::ThreadedVertex, at + 4 * s));
     }
     None
 }
@@ -87,7 +91,7 @@ fn handle_fault(inputs: &Inputs, at: usize, t: usize) -> Option<RecordFault>
     ensures { result ≡ first_of (handle_questions inputs.now at t) }
 {
     if inputs.attribute_number(at, t).is_none() {
-        return Some(fault(4, at + (12 + 4 * t)));
+        return Some(fault(RecordRule::NoData, at + (12 + 4 * t)));
     }
     None
 }
@@ -116,7 +120,7 @@ fn names_fault(inputs: &Inputs, source: Source) -> Option<RecordFault>
 {
     match codes_fault(inputs, source.at) {
         Some(fault) => Some(fault),
-        None => handles_fault(inputs, source.at, attribute_count(source.state)),
+        None => handles_fault(inputs, source.at, attribute_count(source.state) as usize),
     }
 }
 
@@ -131,16 +135,16 @@ fn fixed_fault(inputs: &Inputs, source: Source) -> Option<RecordFault>
     let record_at = source.at + handles_size(source.state);
     let single = inputs.record_word(source.at, source.state, 0) % 2 == 1;
     if single == inputs.is_threaded(source.at, 0) {
-        return Some(fault(5, record_at));
+        return Some(fault(RecordRule::ThreadsDisagree, record_at));
     }
     if inputs.record_word(source.at, source.state, 1) != 0 {
-        return Some(fault(7, record_at + 4));
+        return Some(fault(RecordRule::CodeWordSet, record_at + 4));
     }
     if inputs.record_word(source.at, source.state, 4) != 0 {
-        return Some(fault(7, record_at + 16));
+        return Some(fault(RecordRule::CodeWordSet, record_at + 16));
     }
     if inputs.record_word(source.at, source.state, 7) != 0 {
-        return Some(fault(7, record_at + 28));
+        return Some(fault(RecordRule::CodeWordSet, record_at + 28));
     }
     None
 }
@@ -187,11 +191,11 @@ fn attribute_fault(inputs: &Inputs, source: Source, t: usize) -> Option<RecordFa
     let address = u64::from(inputs.record_word(source.at, source.state, 9 + 2 * t));
     let bytes = u64::from(attribute_size(inputs, source, t));
     if size < address + bytes {
-        return Some(fault(9, at));
+        return Some(fault(RecordRule::AttributeOutside, at));
     }
     let stride = u64::from(attribute_stride(inputs, source, t));
     if stride != 0 && (size - address - bytes) / stride < u64::from(source.max_index) {
-        return Some(fault(10, at));
+        return Some(fault(RecordRule::VertexOutside, at));
     }
     None
 }
@@ -214,7 +218,7 @@ fn attributes_fault(inputs: &Inputs, source: Source, count: usize) -> Option<Rec
 }
 
 /// The rules in the record itself.
-#[tactic(auto, unfolding(crate::specs::Rules::body_questions, crate::specs::Sources::handles_size, crate::specs::Sources::source_size, emitted_facts::specs::Records::record_size), using(field_words::proofs::Questions::passes, field_words::proofs::Questions::stops))]
+#[tactic(auto, unfolding(crate::specs::Rules::body_questions, crate::specs::Sources::handles_size, crate::specs::Sources::source_size, packets::specs::StateWord::record_size), using(field_words::proofs::Questions::passes, field_words::proofs::Questions::stops))]
 fn body_fault(inputs: &Inputs, source: Source) -> Option<RecordFault>
     requires few { length inputs.now.records ≤ 1048576 }
     requires inside { source.at + source_size source.state ≤ length inputs.now.records }
@@ -222,7 +226,7 @@ fn body_fault(inputs: &Inputs, source: Source) -> Option<RecordFault>
 {
     match fixed_fault(inputs, source) {
         Some(fault) => Some(fault),
-        None => attributes_fault(inputs, source, attribute_count(source.state)),
+        None => attributes_fault(inputs, source, attribute_count(source.state) as usize),
     }
 }
 

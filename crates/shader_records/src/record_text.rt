@@ -1,16 +1,17 @@
 //! Emission of one record.
 ghost use Rattle.std.specs.Prelude.{◌≡◌, ℕ, None, ◌+◌, ◌*◌, ◌/◌, ◌-◌, ◌<◌, ◌≤◌, ◌^◌, length, slice_index};
 ghost use Rattle.field_words.specs.Questions.{first_of};
-ghost use Rattle.field_words.specs.WordBytes.{laid};
-ghost use Rattle.emitted_facts.specs.Records.{attribute_count, record_size, address_word};
-ghost use Rattle.shader_records.specs.Sources.{handles_size, source_size, emitted_size, shader_used, given_by, given_before, record_word, attribute_number, place_in};
+ghost use Rattle.field_words.specs.Writes.{with_bytes};
+ghost use Rattle.emitted_facts.specs.Records.{address_word};
+ghost use Rattle.packets.specs.StateWord.{attribute_count, record_size, record_room};
+ghost use Rattle.shader_records.specs.Sources.{handles_size, source_size, shader_used, given_by, given_before, record_word, attribute_number, place_in};
 ghost use Rattle.shader_records.specs.Rules.{record_questions};
 ghost use Rattle.shader_records.specs.Emission.{shader_word, attribute_word, emitted_word, stream_place, record_text, AreStreamsOf};
 
 use crate::inputs::{Inputs, relocated};
 use crate::record_rules::Source;
-use crate::sizes::{attribute_count, emitted_size, record_size};
 use field_words::put_u32;
+use packets::{attribute_count, record_room, record_size};
 
 /// The bytes of so many words.
 fn bytes_of(words: u32) -> u64
@@ -117,7 +118,7 @@ fn attribute_word(inputs: &Inputs, source: Source, j: usize) -> u32
     requires fine { first_of (record_questions inputs.now source.at source.state source.max_index) ≡ None }
     ensures { result ≡ attribute_word inputs.now source.at source.state j }
 {
-    if j % 2 == 0 && j < 2 * attribute_count(source.state) {
+    if j % 2 == 0 && j < 2 * attribute_count(source.state) as usize {
         return moved_address(inputs, source, j / 2);
     }
     inputs.record_word(source.at, source.state, 9 + j)
@@ -133,7 +134,7 @@ fn emitted_word(inputs: &Inputs, source: Source, first: u32, streams: &[u32; 3],
     requires streams { AreStreamsOf streams.now (stream_place inputs.now source.at first) }
     ensures { result ≡ emitted_word inputs.now source.at source.state (stream_place inputs.now source.at first) i }
 {
-    if record_size(source.state) <= 4 * i {
+    if record_size(source.state) as usize <= 4 * i {
         return 0;
     }
     if i < 9 {
@@ -144,16 +145,16 @@ fn emitted_word(inputs: &Inputs, source: Source, first: u32, streams: &[u32; 3],
 }
 
 /// Emits a record at `base`, with zeros up to a multiple of 16. Its streams stand from `first` on.
-#[tactic(auto, unfolding(crate::specs::Emission::record_text), using(field_words::proofs::WordBytes::laid_none, crate::proofs::Fine::source_inside, crate::proofs::Inside::fixed_in))]
+#[tactic(auto, unfolding(crate::specs::Emission::record_text), using(field_words::proofs::WordBytes::no_words, crate::proofs::Fine::source_inside, crate::proofs::Inside::fixed_in))]
 pub(crate) fn put_record(inputs: &Inputs, source: Source, first: u32, out: &mut [u8], base: usize)
     requires few { length inputs.now.records ≤ 1048576 }
     requires fine { first_of (record_questions inputs.now source.at source.state source.max_index) ≡ None }
     requires streams { first + given_before inputs.now source.at 3 < 2 ^ 32 }
-    requires room { base + emitted_size source.state ≤ length out.old }
-    ensures { out.new ≡ laid out.old base (record_text inputs.now source.at source.state first) }
+    requires room { base + record_room source.state ≤ length out.old }
+    ensures { out.new ≡ with_bytes out.old base (record_text inputs.now source.at source.state first) }
 {
     let streams = streams_of(inputs, source.at, first);
-    for i in 0..emitted_size(source.state) / 4 {
+    for i in 0..record_room(source.state) as usize / 4 {
         let word = emitted_word(inputs, source, first, &streams, i);
         put_u32(out, base + 4 * i, word);
     }

@@ -1,7 +1,8 @@
 //! Emission of one uniform stream.
 ghost use Rattle.std.specs.Prelude.{◌≡◌, ℕ, Some, None, ◌+◌, ◌*◌, ◌<◌, ◌≤◌, ◌^◌, length};
 ghost use Rattle.field_words.specs.Questions.{first_of};
-ghost use Rattle.field_words.specs.WordBytes.{word_bytes, laid};
+ghost use Rattle.field_words.specs.WordBytes.{word_bytes};
+ghost use Rattle.field_words.specs.Writes.{with_bytes};
 ghost use Rattle.qpu_isa.specs.Shader.{shader_view, sample_at, first_position, address_at, IsSoundShader};
 ghost use Rattle.shader_records.specs.Sources.{sample_number, source_word, place_in, shader_used, taken_by, given_by, taken_before, given_before};
 ghost use Rattle.shader_records.specs.Rules.{use_questions};
@@ -50,7 +51,7 @@ fn address_word(info: &ShaderInfo, j: usize) -> usize
 
 /// Emits at `base` the stream of a shader whose uniforms begin at `from`: the words of its source, each
 /// sample's first moved by its buffer's place, and each address word the stream's own place.
-#[tactic(auto, using(crate::proofs::Fine::use_inside, field_words::proofs::WordBytes::laid_none))]
+#[tactic(auto, using(crate::proofs::Fine::use_inside, field_words::proofs::WordBytes::no_words))]
 fn put_words(
     inputs: &Inputs,
     from: usize,
@@ -63,7 +64,7 @@ fn put_words(
     requires sound { IsSoundShader (shader_view info.now) }
     requires fine { first_of (use_questions inputs.now from (Some (shader_view info.now))) ≡ None }
     requires room { base + 4 * info.now.uniforms ≤ length out.old }
-    ensures { out.new ≡ laid out.old base (word_bytes (stream_word_of inputs.now from (shader_view info.now) stream) info.now.uniforms) }
+    ensures { out.new ≡ with_bytes out.old base (word_bytes (stream_word_of inputs.now from (shader_view info.now) stream) info.now.uniforms) }
 {
     for k in 0..info.uniforms as usize {
         let word = source_word(inputs, from, info, k);
@@ -94,7 +95,7 @@ fn taken_by(inputs: &Inputs, at: usize, s: usize, from: usize) -> usize
 }
 
 /// Emits the stream of shader `s` of a record, of which there may be none.
-#[tactic(auto, unfolding(crate::specs::Emission::stream_text), using(field_words::proofs::WordBytes::laid_nothing))]
+#[tactic(auto, unfolding(crate::specs::Emission::stream_text), using(field_words::proofs::Writes::with_nothing))]
 fn put_stream(
     inputs: &Inputs,
     at: usize,
@@ -109,7 +110,7 @@ fn put_stream(
     requires inside { at + 4 * s + 4 ≤ length inputs.now.records }
     requires fine { first_of (use_questions inputs.now from (shader_used inputs.now at s)) ≡ None }
     requires room { base + given_by (shader_used inputs.now at s) ≤ length out.old }
-    ensures { out.new ≡ laid out.old base (stream_text inputs.now from stream (shader_used inputs.now at s)) }
+    ensures { out.new ≡ with_bytes out.old base (stream_text inputs.now from stream (shader_used inputs.now at s)) }
 {
     if let Some(info) = inputs.shader_used(at, s) {
         put_words(inputs, from, info, stream, out, base);
@@ -141,7 +142,7 @@ pub(crate) fn put_streams(
     requires base { base < 2 ^ 32 }
     requires places { first + given_before inputs.now at 3 < 2 ^ 32 }
     requires room { base + given_before inputs.now at 3 ≤ length out.old }
-    ensures text { out.new ≡ laid out.old base (streams_text inputs.now at from first 3) }
+    ensures text { out.new ≡ with_bytes out.old base (streams_text inputs.now at from first 3) }
     ensures amounts { result ≡ record { taken = taken_before inputs.now at 3; given = given_before inputs.now at 3 } }
 {
     let mut taken = 0;

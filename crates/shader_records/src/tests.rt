@@ -200,7 +200,7 @@ fn rules_and_what_is_emitted(rt: HostRuntime) -> Result<(), Fail> {
             "01000000 02000000 02000000 00000000 01000000 00000000 00000000 11111111 00000000 00000000 22222222 00000000 00000000 10000000 0b0c0304",
             "00000000 00000000 00088000 00000000",
             (false, false),
-            "rule A10 fails at byte 52 of the shader records",
+            "A10 at byte 52 of the shader records: an attribute of the vertex with the greatest index ends past its buffer",
         ),
         // A stride of 0.
         (
@@ -226,7 +226,7 @@ fn rules_and_what_is_emitted(rt: HostRuntime) -> Result<(), Fail> {
             "02000000 02000000 02000000 00000000 00000000 00000000 00000000 00000000 00000000 00000000 00000000 01000000 00000000 00000000 00000000 00000000 00000000 00000000 00000000 00000000 00000000 0f040000 00000000 0f040000 00000000 0f040000 00000000 0f040000 00000000 0f040000 00000000 0f040000 00000000 0f040000 00000000 0f040000 ff010000 ff010000 ff010000 ff010000 ff010000 ff010000 ff010000 ff010000",
             "",
             (false, false),
-            "rule A10 fails at byte 80 of the shader records",
+            "A10 at byte 80 of the shader records: an attribute of the vertex with the greatest index ends past its buffer",
         ),
         // Cut off.
         (
@@ -235,7 +235,7 @@ fn rules_and_what_is_emitted(rt: HostRuntime) -> Result<(), Fail> {
             "01000000 02000000 02000000",
             "00000000 00000000 00088000 00000000",
             (false, false),
-            "rule A1 fails at byte 0 of the shader records",
+            "A1 at byte 0 of the shader records: the handles before the record are cut off",
         ),
         (
             1,
@@ -243,7 +243,7 @@ fn rules_and_what_is_emitted(rt: HostRuntime) -> Result<(), Fail> {
             "01000000 02000000 02000000 00000000 01000000 00000000 00000000 11111111 00000000 00000000 22222222 00000000 00000000",
             "00000000 00000000 00088000 00000000",
             (false, false),
-            "rule A2 fails at byte 16 of the shader records",
+            "A2 at byte 16 of the shader records: the record is cut off",
         ),
         // Handles.
         (
@@ -252,7 +252,7 @@ fn rules_and_what_is_emitted(rt: HostRuntime) -> Result<(), Fail> {
             "00000000 02000000 02000000 00000000 01000000 00000000 00000000 11111111 00000000 00000000 22222222 00000000 00000000 10000000 0b0c0304",
             "00000000 00000000 00088000 00000000",
             (false, false),
-            "rule A3 fails at byte 0 of the shader records",
+            "A3 at byte 0 of the shader records: the handle of a shader's code names no Code buffer",
         ),
         (
             1,
@@ -260,7 +260,7 @@ fn rules_and_what_is_emitted(rt: HostRuntime) -> Result<(), Fail> {
             "01000000 02000000 03000000 00000000 01000000 00000000 00000000 11111111 00000000 00000000 22222222 00000000 00000000 10000000 0b0c0304",
             "00000000 00000000 00088000 00000000",
             (false, false),
-            "rule A3 fails at byte 8 of the shader records",
+            "A3 at byte 8 of the shader records: the handle of a shader's code names no Code buffer",
         ),
         (
             1,
@@ -268,7 +268,7 @@ fn rules_and_what_is_emitted(rt: HostRuntime) -> Result<(), Fail> {
             "01000000 02000000 02000000 01000000 01000000 00000000 00000000 11111111 00000000 00000000 22222222 00000000 00000000 10000000 0b0c0304",
             "00000000 00000000 00088000 00000000",
             (false, false),
-            "rule A4 fails at byte 12 of the shader records",
+            "A4 at byte 12 of the shader records: the handle of an attribute names no Plain buffer",
         ),
         // Threads.
         (
@@ -277,7 +277,7 @@ fn rules_and_what_is_emitted(rt: HostRuntime) -> Result<(), Fail> {
             "01000000 02000000 02000000 00000000 00000000 00000000 00000000 11111111 00000000 00000000 22222222 00000000 00000000 10000000 0b0c0304",
             "00000000 00000000 00088000 00000000",
             (false, false),
-            "rule A5 fails at byte 16 of the shader records",
+            "A5 at byte 16 of the shader records: flags and fragment shader disagree on whether it switches threads",
         ),
         (
             1,
@@ -285,7 +285,7 @@ fn rules_and_what_is_emitted(rt: HostRuntime) -> Result<(), Fail> {
             "01000000 02000000 02000000 00000000 01000000 00000000 00000000 11111111 00000000 00000000 22222222 00000000 00000000 10000000 0b0c0304",
             "00000000 00000000 00088000 00000000",
             (false, true),
-            "rule A6 fails at byte 4 of the shader records",
+            "A6 at byte 4 of the shader records: the vertex or the coordinate shader switches threads",
         ),
         (
             1,
@@ -293,7 +293,7 @@ fn rules_and_what_is_emitted(rt: HostRuntime) -> Result<(), Fail> {
             "02000000 01000000 01000000 00000000 01000000 00000000 00000000 11111111 00000000 00000000 22222222 00000000 00000000 10000000 0b0c0304",
             "00000000 00000000 00088000 00000000",
             (false, true),
-            "rule A5 fails at byte 16 of the shader records",
+            "A5 at byte 16 of the shader records: flags and fragment shader disagree on whether it switches threads",
         ),
         // Words in the record.
         (
@@ -302,7 +302,7 @@ fn rules_and_what_is_emitted(rt: HostRuntime) -> Result<(), Fail> {
             "01000000 02000000 02000000 00000000 01000000 00000000 00000000 11111111 00000000 00000000 22222222 01000000 00000000 10000000 0b0c0304",
             "00000000 00000000 00088000 00000000",
             (false, false),
-            "rule A7 fails at byte 44 of the shader records",
+            "A7 at byte 44 of the shader records: a word for a code address isn't 0",
         ),
         (
             1,
@@ -310,7 +310,7 @@ fn rules_and_what_is_emitted(rt: HostRuntime) -> Result<(), Fail> {
             "01000000 02000000 02000000 00000000 01000000 00000000 00000000 11111111 00000000 00000000 22222222 00000000 00000000 f50f0000 0b0c0304",
             "00000000 00000000 00088000 00000000",
             (false, false),
-            "rule A9 fails at byte 52 of the shader records",
+            "A9 at byte 52 of the shader records: an attribute of the first vertex ends past its buffer",
         ),
         (
             1,
@@ -318,7 +318,7 @@ fn rules_and_what_is_emitted(rt: HostRuntime) -> Result<(), Fail> {
             "01000000 02000000 02000000 00000000 01000000 00000000 00000000 11111111 00000000 00000000 22222222 00000000 00000000 ffffffff 0b0c0304",
             "00000000 00000000 00088000 00000000",
             (false, false),
-            "rule A9 fails at byte 52 of the shader records",
+            "A9 at byte 52 of the shader records: an attribute of the first vertex ends past its buffer",
         ),
         // Uniforms.
         (
@@ -327,7 +327,7 @@ fn rules_and_what_is_emitted(rt: HostRuntime) -> Result<(), Fail> {
             "01000000 02000000 02000000 00000000 01000000 00000000 00000000 11111111 00000000 00000000 22222222 00000000 00000000 10000000 0b0c0304",
             "00000000 00000000 00088000",
             (false, false),
-            "rule A8 fails at byte 0 of the uniforms",
+            "A8 at byte 0 of the uniforms: fewer bytes of uniforms are left than the shader takes",
         ),
         (
             1,
@@ -335,7 +335,7 @@ fn rules_and_what_is_emitted(rt: HostRuntime) -> Result<(), Fail> {
             "01000000 02000000 02000000 00000000 01000000 00000000 00000000 11111111 00000000 00000000 22222222 00000000 00000000 10000000 0b0c0304",
             "01000000 00000000 00088000 00000000",
             (false, false),
-            "rule U1 fails at byte 0 of the uniforms",
+            "U1 at byte 0 of the uniforms: the handle of a sample names no Plain buffer",
         ),
         // A texture of no listed type, with more levels than lie below it and past the buffer.
         (
@@ -344,7 +344,7 @@ fn rules_and_what_is_emitted(rt: HostRuntime) -> Result<(), Fail> {
             "01000000 02000000 02000000 00000000 01000000 00000000 00000000 11111111 00000000 00000000 22222222 00000000 00000000 10000000 0b0c0304",
             "00000000 cff00f00 00088000 00000000",
             (false, false),
-            "rule U6 fails at byte 4 of the uniforms",
+            "U6 at byte 4 of the uniforms: the sample doesn't fit its buffer",
         ),
         (
             1,
@@ -352,7 +352,7 @@ fn rules_and_what_is_emitted(rt: HostRuntime) -> Result<(), Fail> {
             "01000000 02000000 02000000 00000000 01000000 00000000 00000000 11111111 00000000 00000000 22222222 00000000 00000000 10000000 0b0c0304",
             "00000000 00100000 00088000 00000000",
             (false, false),
-            "rule U7 fails at byte 4 of the uniforms",
+            "U7 at byte 4 of the uniforms: the sample doesn't fit its buffer",
         ),
         (
             1,
@@ -360,7 +360,7 @@ fn rules_and_what_is_emitted(rt: HostRuntime) -> Result<(), Fail> {
             "01000000 02000000 02000000 00000000 01000000 00000000 00000000 11111111 00000000 00000000 22222222 00000000 00000000 10000000 0b0c0304",
             "00000000 01000000 00088000 00000000",
             (false, false),
-            "rule U8 fails at byte 4 of the uniforms",
+            "U8 at byte 4 of the uniforms: the sample doesn't fit its buffer",
         ),
         // A direct sample.
         (
@@ -377,7 +377,7 @@ fn rules_and_what_is_emitted(rt: HostRuntime) -> Result<(), Fail> {
             "01000000 02000000 02000000 00000000 01000000 00000000 00000000 11111111 00000000 00000000 22222222 00000000 00000000 10000000 0b0c0304",
             "00000000 00000000 fd0f0000 00000000",
             (true, false),
-            "rule U3 fails at byte 4 of the uniforms",
+            "U3 at byte 4 of the uniforms: the sample doesn't fit its buffer",
         ),
         (
             1,
@@ -385,7 +385,7 @@ fn rules_and_what_is_emitted(rt: HostRuntime) -> Result<(), Fail> {
             "01000000 02000000 02000000 00000000 01000000 00000000 00000000 11111111 00000000 00000000 22222222 00000000 00000000 10000000 0b0c0304",
             "00000000 fd0f0000 00000000 00000000",
             (true, false),
-            "rule U2 fails at byte 4 of the uniforms",
+            "U2 at byte 4 of the uniforms: the sample doesn't fit its buffer",
         ),
     ] {
         let state = State { word, max_index };

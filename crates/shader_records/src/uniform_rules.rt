@@ -1,14 +1,15 @@
 //! The rules of the uniforms that shaders take.
 ghost use Rattle.std.specs.Prelude.{◌≡◌, ℕ, ◌+◌, ◌*◌, ◌<◌, ◌≤◌, ◌^◌, length, Some, None, IfSome, MatchOption};
-ghost use Rattle.field_words.specs.Questions.{first_of, each};
+ghost use Rattle.field_words.specs.Questions.{GoesOn, first_of, each};
 ghost use Rattle.qpu_isa.specs.Shader.{shader_view, sample_at, position, first_position, IsSoundShader, IsSoundSample};
 ghost use Rattle.emitted_facts.specs.Facts.{setup};
 ghost use Rattle.shader_records.specs.Sources.{shader_used, taken_by, sample_number, source_word, size_in};
-ghost use Rattle.shader_records.specs.Rules.{uniform_fault, sample_fault as sample_fault_of, setup_questions, first_word_at, sample_questions, use_questions};
-ghost use Rattle.shader_records.specs.Going.{GoesOn};
+ghost use Rattle.shader_records.specs.Faults.{sample_fault as sample_fault_of};
+ghost use Rattle.shader_records.specs.Rules.{setup_questions, first_word_at, sample_questions, use_questions};
 
 use crate::fault::RecordFault;
 use crate::inputs::Inputs;
+use crate::rule::RecordRule;
 use job_format::Stage;
 use qpu_isa::{Sample, ShaderInfo};
 use texture_layouts::{direct_fits, texture_fits};
@@ -111,7 +112,7 @@ fn sample_fault(inputs: &Inputs, from: usize, info: &ShaderInfo, i: usize) -> Op
 {
     let number = inputs.sample_number(from, i);
     if number.is_none() {
-        return Some(fault(from + 4 * i, 1));
+        return Some(fault(from + 4 * i, RecordRule::NoTexture.number()));
     }
     match setup_fault(inputs, from, info, &sample(info, i), inputs.size_of(number)) {
         Some(rule) => Some(fault(first_word_place(info, from, i), rule)),
@@ -154,7 +155,7 @@ fn shader_fault(inputs: &Inputs, from: usize, info: &ShaderInfo) -> Result<usize
     if (inputs.uniforms.len() as u128) < from as u128 + 4 * words {
         return Err(RecordFault {
             stage: Stage::A,
-            number: 8,
+            number: RecordRule::UniformsCutOff.number(),
             in_uniforms: true,
             at: from as u32,
         });

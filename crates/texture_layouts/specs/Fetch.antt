@@ -1,5 +1,5 @@
 -- What is fetched of a texture for one pixel: its whole microtile, or in raster the pixel alone.
-use Rattle.std.specs.Prelude.{◌≤◌, ◌<◌, ℕ, ◌+◌, ◌-◌, ◌/◌}
+use Rattle.std.specs.Prelude.{◌≤◌, ◌<◌, ℕ, ◌+◌, ◌-◌, ◌/◌, nat_lt, if◌then◌else◌, Option, Some, None}
 use Rattle.texture_layouts.specs.declared.surface.Tiling.{Tiling}
 use Rattle.texture_layouts.specs.declared.surface.Tiling.TheVariants.{Raster, T, Lt}
 use Rattle.texture_layouts.specs.Surface.{microtile_width_of, microtile_height_of}
@@ -22,13 +22,16 @@ fetch_size_of Lt cpp = 64
 unfoldable pub fetch_reach : TextureModel → ℕ → ℕ → ℕ → ℕ → ℕ
 fetch_reach t face level x y = face_place t face + fetch_offset_of (tiling_at t level) (level_width_of t level) t.cpp x y
 
--- the place, where it isn't below 0
-abbrev pub fetch_place_of : TextureModel → ℕ → ℕ → ℕ → ℕ → ℕ
-fetch_place_of t face level x y = fetch_reach t face level x y - size_below t level
+-- a difference, None where it would be below 0
+abbrev pub place_from : ℕ → ℕ → Option ℕ
+place_from reach below = if nat_lt reach below then None else Some (reach - below)
+
+unfoldable pub fetch_place_of : TextureModel → ℕ → ℕ → ℕ → ℕ → Option ℕ
+fetch_place_of t face level x y = place_from (fetch_reach t face level x y) (size_below t level)
 
 -- Each fetch for a pixel of a level of a face lies in the buffer.
 pub record AreFetchesIn (t : TextureModel) (size : ℕ) : Type 0 where
   pub from : (face level x y : ℕ) → face < faces_of t → level ≤ t.levels → x < level_width_of t level → y < level_height_of t level
       → size_below t level ≤ fetch_reach t face level x y
   pub upto : (face level x y : ℕ) → face < faces_of t → level ≤ t.levels → x < level_width_of t level → y < level_height_of t level
-      → fetch_place_of t face level x y + fetch_size_of (tiling_at t level) t.cpp ≤ size
+      → fetch_reach t face level x y - size_below t level + fetch_size_of (tiling_at t level) t.cpp ≤ size

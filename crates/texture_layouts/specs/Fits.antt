@@ -1,9 +1,27 @@
 -- The rules of textures, U2 to U9, over four set-up words and the bytes of the buffer.
-use Rattle.std.specs.Prelude.{◌≡◌, ◌≤◌, ◌<◌, ℕ, ◌+◌, ◌==◌, ◌&&◌, ◌||◌, nat_lt, nat_le, Bool, true, List, [], ◌∷◌, Contains, Some, None, Result, Ok, Err}
+use Rattle.std.specs.Prelude.{◌≤◌, ◌<◌, ℕ, ◌+◌, ◌==◌, ◌&&◌, ◌||◌, nat_lt, nat_le, Bool, List, [], ◌∷◌, Option, Some, None, Result, Ok, Err, slice_index}
 use Rattle.std.specs.List.{list_any, range_with_len}
-use Rattle.field_words.specs.Questions.{Question, Ask, first_of}
+use Rattle.field_words.specs.Questions.{Question, Ask}
+use Rattle.field_words.specs.Least.{Stands, IsLeast}
+use Rattle.texture_layouts.specs.declared.rule.TextureRule.{TextureRule}
+use Rattle.texture_layouts.specs.declared.rule.TextureRule.TheVariants.{BaseOutside, BoundOutside, TwoStrides, NoStride, UnlistedType, FaceOutside, LevelBelow, ChildImage}
 use Rattle.texture_layouts.specs.Surface.{IsPixelSize}
 use Rattle.texture_layouts.specs.Setup.{TextureModel, is_cube_word, kind_of, cube_stride_of, texture_of, faces_of, face_place, size_at, size_below, level_place_of}
+
+-- the number of a rule U
+abbrev pub number_of : TextureRule → ℕ
+number_of BaseOutside = 2
+number_of BoundOutside = 3
+number_of TwoStrides = 4
+number_of NoStride = 5
+number_of UnlistedType = 6
+number_of FaceOutside = 7
+number_of LevelBelow = 8
+number_of ChildImage = 9
+
+abbrev pub numbered : Option TextureRule → Option ℕ
+numbered None = None
+numbered (Some rule) = Some (number_of rule)
 
 -- U4: cube mode, and both words have a cube stride
 unfoldable pub has_two_strides : ℕ → ℕ → ℕ → Bool
@@ -36,35 +54,26 @@ has_child_image p2 p3 = nat_le 2 (kind_of p2) || nat_le 2 (kind_of p3)
 -- U4 to U9, by number, of a texture in a buffer of so many bytes
 unfoldable pub texture_questions : ℕ → ℕ → ℕ → ℕ → ℕ → List (Question ℕ)
 texture_questions p0 p1 p2 p3 size =
-    Ask (has_two_strides p0 p2 p3) 4
-    ∷ (Ask (lacks_stride p0 p2 p3) 5
-    ∷ (Ask (is_unlisted (texture_of p0 p1 p2 p3)) 6
-    ∷ (Ask (has_face_past (texture_of p0 p1 p2 p3) size) 7
-    ∷ (Ask (has_level_below (texture_of p0 p1 p2 p3)) 8 ∷ (Ask (has_child_image p2 p3) 9 ∷ [])))))
+    Ask (has_two_strides p0 p2 p3) (number_of TwoStrides)
+    ∷ (Ask (lacks_stride p0 p2 p3) (number_of NoStride)
+    ∷ (Ask (is_unlisted (texture_of p0 p1 p2 p3)) (number_of UnlistedType)
+    ∷ (Ask (has_face_past (texture_of p0 p1 p2 p3) size) (number_of FaceOutside)
+    ∷ (Ask (has_level_below (texture_of p0 p1 p2 p3)) (number_of LevelBelow) ∷ (Ask (has_child_image p2 p3) (number_of ChildImage) ∷ [])))))
+
+-- the same of the words as a row
+abbrev pub texture_rules : List ℕ → ℕ → List (Question ℕ)
+texture_rules p size = texture_questions (slice_index p 0) (slice_index p 1) (slice_index p 2) (slice_index p 3) size
 
 -- U2 and U3, of a buffer that is read word by word: base plus 4, and base plus bound plus 4, are
 -- past its end
 unfoldable pub direct_questions : ℕ → ℕ → ℕ → List (Question ℕ)
-direct_questions base bound size = Ask (nat_lt size (base + 4)) 2 ∷ (Ask (nat_lt size (base + bound + 4)) 3 ∷ [])
+direct_questions base bound size =
+    Ask (nat_lt size (base + 4)) (number_of BaseOutside) ∷ (Ask (nat_lt size (base + bound + 4)) (number_of BoundOutside) ∷ [])
 
--- Ok comes exactly where no rule stands, and a fault is the number of the first that does.
-abbrev pub AnswersFirst : {T : Type 0} → List (Question ℕ) → Result T ℕ → Type 0
-AnswersFirst questions (Ok _) = first_of questions ≡ None
-AnswersFirst questions (Err number) = first_of questions ≡ Some number
-
--- The same as a sentence about the set of rules that stand: it has this number, whatever other
--- rules stand.
-abbrev pub Stands : List (Question ℕ) → ℕ → Type 0
-Stands questions number = Contains questions (Ask true number)
-
-pub record IsLeastRule (questions : List (Question ℕ)) (number : ℕ) : Type 0 where
-  pub stands : Stands questions number
-  pub least : (other : ℕ) → Stands questions other → number ≤ other
-
--- Ok comes exactly where the set is empty, and a fault is its least number.
+-- Ok comes exactly where no rule stands, and a fault is the least number of those that do.
 abbrev pub AnswersLeast : {T : Type 0} → List (Question ℕ) → Result T ℕ → Type 0
 AnswersLeast questions (Ok _) = (number : ℕ) → ¬ Stands questions number
-AnswersLeast questions (Err number) = IsLeastRule questions number
+AnswersLeast questions (Err number) = IsLeast (λ n m. n ≤ m) questions number
 
 -- A texture that breaks none of U4 to U9 lies in its buffer: each level of each face, level 0 among
 -- them, begins not below the buffer and ends in it.

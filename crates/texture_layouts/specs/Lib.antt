@@ -1,5 +1,6 @@
 pub mod Fetch
 pub mod Fits
+pub mod Format
 pub mod Level
 pub mod Place
 pub mod Setup

@@ -3,7 +3,7 @@
 -- Word 0: base 31:12 in pages of 4,096 bytes, cube mode 9, type 7:4, levels 3:0. Word 1: the type's
 -- bit four 31, height 30:20, width 18:8. Words 2 and 3: kind 31:30 (1 a cube stride, 2 and 3 a child
 -- image), cube stride 29:12 in pages. A word that isn't there is 0.
-use Rattle.std.specs.Prelude.{◌≡◌, ◌≤◌, ◌⊎◌, ℕ, zero, suc, ◌+◌, ◌*◌, ◌-◌, ◌==◌, ◌||◌, Bool, if◌then◌else◌}
+use Rattle.std.specs.Prelude.{◌≡◌, ◌≤◌, ◌⊎◌, ℕ, zero, suc, ◌+◌, ◌*◌, ◌-◌, ◌==◌, ◌||◌, Bool, if◌then◌else◌, List, slice_index}
 use Rattle.std.specs.Int.{div_ceil}
 use Rattle.field_words.specs.Sizes.{page_size}
 use Rattle.field_words.specs.Words.{bits_of}
@@ -81,6 +81,10 @@ texture_of p0 p1 p2 p3 =
       cpp = pixel_bytes_of (type_of p0 p1);
       is_raster = type_of p0 p1 == 16;
     }
+
+-- the same of the words as a row
+abbrev pub texture_in : List ℕ → TextureModel
+texture_in p = texture_of (slice_index p 0) (slice_index p 1) (slice_index p 2) (slice_index p 3)
 
 -- what is true of each texture, since a field of a word has so many bits
 pub record IsTexture (t : TextureModel) : Type 0 where

@@ -38,12 +38,12 @@ fn fetch_size(tiling: Tiling, cpp: u32) -> u32
 impl Texture {
     ghost use Rattle.texture_layouts.specs.Setup.{tiling_at};
     ghost use Rattle.texture_layouts.specs.Fits.{is_unlisted};
-    ghost use Rattle.texture_layouts.specs.Fetch.{fetch_reach};
+    ghost use Rattle.texture_layouts.specs.Fetch.{fetch_reach, fetch_place_of};
 
     /// Where the fetch for a pixel of a level would begin if the level stood where the face's level 0
-    /// does. Less [`size_below`](Texture::size_below) of the level it is the fetch's place.
+    /// does.
     #[tactic(auto, unfolding(crate::specs::Fetch::fetch_reach))]
-    pub fn fetch_reach(&self, face: u32, level: u32, x: u32, y: u32) -> u64
+    fn fetch_reach(&self, face: u32, level: u32, x: u32, y: u32) -> u64
         requires face { face < 6 }
         requires level { level ≤ self.now.levels }
         requires listed { is_unlisted self.now ≡ false }
@@ -53,6 +53,24 @@ impl Texture {
         let tiling = self.level_tiling(level);
         let width = self.level_width(level);
         self.face_place(face) + fetch_offset(tiling, width, self.pixel_bytes(), x, y)
+    }
+
+    /// Where the fetch for a pixel of a level of a face begins. `None` comes exactly where that is below
+    /// 0, since the levels from 1 to this one take more bytes than there are below the pixel's place in
+    /// the face.
+    #[tactic(auto, unfolding(crate::specs::Fetch::fetch_place_of))]
+    pub fn fetch_place(&self, face: u32, level: u32, x: u32, y: u32) -> Option<u64>
+        requires face { face < 6 }
+        requires level { level ≤ self.now.levels }
+        requires listed { is_unlisted self.now ≡ false }
+        ensures { result ≡ fetch_place_of self.now face level x y }
+    {
+        let reach = self.fetch_reach(face, level, x, y);
+        let below = self.size_below(level);
+        if reach < below {
+            return None;
+        }
+        Some(reach - below)
     }
 
     /// The bytes of a fetch of a level: 64 of a microtile, or in raster those of a pixel.

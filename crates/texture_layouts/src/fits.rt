@@ -1,35 +1,12 @@
 //! The rules of textures, U2 to U9.
 ghost use Rattle.std.specs.Prelude.{◌≡◌, OnOk, false, slice_index};
-ghost use Rattle.field_words.specs.Questions.{first_of};
-ghost use Rattle.texture_layouts.specs.Fits.{has_two_strides, lacks_stride, is_unlisted, has_face_past, has_level_below, has_child_image, texture_questions, direct_questions, AnswersFirst, AnswersLeast, IsInBuffer};
+ghost use Rattle.field_words.specs.Questions.{GoesOn, first_of};
+ghost use Rattle.texture_layouts.specs.Fits.{has_two_strides, lacks_stride, is_unlisted, has_face_past, has_level_below, has_child_image, numbered, texture_rules, direct_questions, AnswersLeast, IsInBuffer};
 ghost use Rattle.texture_layouts.specs.Fetch.{AreFetchesIn};
-ghost use Rattle.texture_layouts.specs.Setup.{texture_of};
+ghost use Rattle.texture_layouts.specs.Setup.{texture_in};
 
+use crate::rule::TextureRule;
 use crate::setup::{Texture, cube_stride, is_cube_word, kind};
-
-/// U2: a direct read's base plus 4 is past the buffer's end.
-pub const BASE_OUTSIDE: u8 = 2;
-
-/// U3: a direct read's base plus its bound plus 4 is past the buffer's end.
-pub const BOUND_OUTSIDE: u8 = 3;
-
-/// U4: cube mode, and both the third and the fourth set-up word have a cube stride.
-pub const TWO_STRIDES: u8 = 4;
-
-/// U5: cube mode, and neither word has a cube stride, or it is 0.
-pub const NO_STRIDE: u8 = 5;
-
-/// U6: the type isn't listed.
-pub const UNLISTED_TYPE: u8 = 6;
-
-/// U7: level 0 of some face ends past the buffer.
-pub const FACE_OUTSIDE: u8 = 7;
-
-/// U8: levels 1 and up take more bytes than there are below the base.
-pub const LEVEL_BELOW: u8 = 8;
-
-/// U9: a word has a child image.
-pub const CHILD_IMAGE: u8 = 9;
 
 /// U4: cube mode, and the third and the fourth word both have a cube stride.
 #[tactic(auto, unfolding(crate::specs::Fits::has_two_strides))]
@@ -76,27 +53,27 @@ pub fn has_child_image(words: &[u32; 4]) -> bool
 
 /// The first of U4 to U9 that stands.
 #[tactic(auto, unfolding(crate::specs::Fits::texture_questions))]
-fn texture_fault(words: &[u32; 4], size: u32) -> Option<u8>
-    ensures { result ≡ first_of (texture_questions (slice_index words.now 0) (slice_index words.now 1) (slice_index words.now 2) (slice_index words.now 3) size) }
+pub fn texture_fault(words: &[u32; 4], size: u32) -> Option<TextureRule>
+    ensures { numbered result ≡ first_of (texture_rules words.now size) }
 {
     if has_two_strides(words) {
-        return Some(TWO_STRIDES);
+        return Some(TextureRule::TwoStrides);
     }
     if lacks_stride(words) {
-        return Some(NO_STRIDE);
+        return Some(TextureRule::NoStride);
     }
     let texture = Texture::of(words);
     if texture.is_unlisted() {
-        return Some(UNLISTED_TYPE);
+        return Some(TextureRule::UnlistedType);
     }
     if has_face_past(&texture, size) {
-        return Some(FACE_OUTSIDE);
+        return Some(TextureRule::FaceOutside);
     }
     if has_level_below(&texture) {
-        return Some(LEVEL_BELOW);
+        return Some(TextureRule::LevelBelow);
     }
     if has_child_image(words) {
-        return Some(CHILD_IMAGE);
+        return Some(TextureRule::ChildImage);
     }
     None
 }
@@ -107,27 +84,27 @@ fn texture_fault(words: &[u32; 4], size: u32) -> Option<u8>
 ///
 /// After `Ok` each level of each face lies in the buffer, and so does whatever is fetched for a pixel.
 pub fn texture_fits(p: [u32; 4], size: u32) -> Result<(), u8>
-    ensures first { AnswersFirst (texture_questions (slice_index p 0) (slice_index p 1) (slice_index p 2) (slice_index p 3) size) result }
-    ensures least { AnswersLeast (texture_questions (slice_index p 0) (slice_index p 1) (slice_index p 2) (slice_index p 3) size) result }
-    ensures inside { OnOk result (IsInBuffer (texture_of (slice_index p 0) (slice_index p 1) (slice_index p 2) (slice_index p 3)) size) }
-    ensures fetches { OnOk result (AreFetchesIn (texture_of (slice_index p 0) (slice_index p 1) (slice_index p 2) (slice_index p 3)) size) }
+    ensures first { GoesOn (texture_rules p size) (λ _. Unit {0}) result }
+    ensures least { AnswersLeast (texture_rules p size) result }
+    ensures inside { OnOk result (IsInBuffer (texture_in p) size) }
+    ensures fetches { OnOk result (AreFetchesIn (texture_in p) size) }
 {
     match texture_fault(&p, size) {
         None => Ok(()),
-        Some(number) => Err(number),
+        Some(rule) => Err(rule.number()),
     }
 }
 
 /// The first of U2 and U3 that stands.
 #[tactic(auto, unfolding(crate::specs::Fits::direct_questions))]
-fn direct_fault(base: u32, bound: u32, size: u32) -> Option<u8>
-    ensures { result ≡ first_of (direct_questions base bound size) }
+pub fn direct_fault(base: u32, bound: u32, size: u32) -> Option<TextureRule>
+    ensures { numbered result ≡ first_of (direct_questions base bound size) }
 {
     if u64::from(base) + 4 > u64::from(size) {
-        return Some(BASE_OUTSIDE);
+        return Some(TextureRule::BaseOutside);
     }
     if u64::from(base) + u64::from(bound) + 4 > u64::from(size) {
-        return Some(BOUND_OUTSIDE);
+        return Some(TextureRule::BoundOutside);
     }
     None
 }
@@ -136,11 +113,11 @@ fn direct_fault(base: u32, bound: u32, size: u32) -> Option<u8>
 /// word of 4 bytes at a time. The fault is the number of the first of U2 and U3 that stands, which
 /// is the least number of those that stand.
 pub fn direct_fits(base: u32, bound: u32, size: u32) -> Result<(), u8>
-    ensures first { AnswersFirst (direct_questions base bound size) result }
+    ensures first { GoesOn (direct_questions base bound size) (λ _. Unit {0}) result }
     ensures least { AnswersLeast (direct_questions base bound size) result }
 {
     match direct_fault(base, bound, size) {
         None => Ok(()),
-        Some(number) => Err(number),
+        Some(rule) => Err(rule.number()),
     }
 }

@@ -1,5 +1,5 @@
 //! Textures, as their set-up words describe them.
-ghost use Rattle.std.specs.Prelude.{◌≡◌, ◌<◌, ◌≤◌, ◌+◌, ◌*◌, ◌^◌, ◌⊎◌, true, false, slice_index};
+ghost use Rattle.std.specs.Prelude.{◌≡◌, ◌<◌, ◌≤◌, ◌+◌, ◌*◌, ◌^◌, ◌⊎◌, true, false};
 ghost use Rattle.std.specs.Option.{SomeIff};
 ghost use Rattle.texture_layouts.specs.Surface.{IsPixelSize};
 ghost use Rattle.texture_layouts.specs.Setup.{base_of, is_cube_word, levels_of, type_of, kind_of, stride_of, cube_stride_of, takes_four, takes_two, takes_one, pixel_bytes_of, pixels_of, side_of, faces_of, face_place, level_width_of, level_height_of, tiling_at, size_at, size_below, level_place_of};
@@ -36,13 +36,13 @@ impl Model for Texture {
 }
 
 impl Texture {
-    ghost use Rattle.texture_layouts.specs.Setup.{IsTexture, texture_of};
+    ghost use Rattle.texture_layouts.specs.Setup.{IsTexture, texture_in};
     ghost use Rattle.texture_layouts.specs.Fits.{is_unlisted};
 
     /// The texture that these four set-up words describe. A word that isn't there is 0.
     #[tactic(auto, unfolding(crate::specs::Setup::texture_of))]
     pub fn of(words: &[u32; 4]) -> Texture
-        ensures decoded { result ≡ texture_of (slice_index words.now 0) (slice_index words.now 1) (slice_index words.now 2) (slice_index words.now 3) }
+        ensures decoded { result ≡ texture_in words.now }
         ensures sound { IsTexture result }
     {
         let kind = texture_type(words[0], words[1]);

@@ -125,13 +125,14 @@ fn places_of_levels(rt: HostRuntime) {
     assert_eq!(rt; texture.level_place(0, 1), Some(0xc00));
     assert_eq!(rt; texture.level_place(1, 1), Some(0x1c00));
     assert_eq!(rt; texture.level_place(5, 0), Some(0x6000));
-    assert_eq!(rt; texture.fetch_reach(1, 1, 4, 5), 0x2000 + 64 * 5);
+    assert_eq!(rt; texture.fetch_place(1, 1, 4, 5), Some(0x1c00 + 64 * 5));
     assert_eq!(rt; texture.fetch_size(1), 64);
     assert_eq!(rt; texture.size_below(1), 1024);
     let low = Texture::of(&[0x1, 0x02002000, 0, 0]);
     assert_eq!(rt; low.is_unlisted(), false);
     assert_eq!(rt; low.levels(), 1);
     assert_eq!(rt; low.level_place(0, 1), None);
+    assert_eq!(rt; low.fetch_place(0, 1, 0, 0), None);
 }
 
 // The levels of a 33x33 texture of 4 bytes, of a raster one, and of 33 blocks of ETC1.

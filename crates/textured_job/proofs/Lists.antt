@@ -6,7 +6,8 @@ use Rattle.job_check.specs.Faults.{bin_stage}
 use Rattle.field_words.specs.Questions.{answered, first_of}
 use Rattle.bin_list.specs.Rules.{questions_of, end_questions, packet_questions, cut_questions, kind_questions, flush_questions, start_questions, increment_questions, primitive_questions, index_questions, array_questions, state_questions, config_questions, index_buffer, indexes_end, index_size}
 use Rattle.bin_list.specs.Packets.{passed, packets, front_packet, behind}
-use Rattle.bin_list.specs.Seen.{seen_before, record_room, record_size, is_extended, attributes}
+use Rattle.bin_list.specs.Seen.{seen_before}
+use Rattle.packets.specs.StateWord.{record_room, record_size, is_extended, attribute_count}
 use Rattle.field_words.specs.Words.{u32_at, rounded_up}
 use Rattle.packets.specs.Length.{bin_length, bin_taken}
 use Rattle.buffer_table.specs.Handles.{data_of}
@@ -19,7 +20,7 @@ unfolding has_bin textured job_of
 bin_there = refl
 
 pub bin_none : first_of (bin_stage textured 0) ≡ None
-unfolding bin_stage textured has_bin answered job_of questions_of passed end_questions seen_before packets packet_questions cut_questions kind_questions record_room u32_at front_packet behind bin_length flush_questions start_questions increment_questions primitive_questions index_questions array_questions state_questions config_questions rounded_up record_size bin_taken data_of index_buffer indexes_end slot_fits is_extended attributes buffer_at index_size alloc_offset
+unfolding bin_stage textured has_bin answered job_of questions_of passed end_questions seen_before packets packet_questions cut_questions kind_questions record_room u32_at front_packet behind bin_length flush_questions start_questions increment_questions primitive_questions index_questions array_questions state_questions config_questions rounded_up record_size bin_taken data_of index_buffer indexes_end slot_fits is_extended attribute_count buffer_at index_size alloc_offset
 bin_none = refl
 
 pub states_are : states_in textured 0 ≡ record { word = 1; max_index = 2 } ∷ []
@@ -27,5 +28,5 @@ unfolding states_in textured packets job_of u32_at draws_to front_packet behind 
 states_are = refl
 
 pub grid_is : grid_of textured 0 ≡ Some (1, 1)
-unfolding grid_of textured has_bin seen_before passed job_of packets record_room u32_at rounded_up record_size front_packet behind is_extended attributes bin_taken bin_length
+unfolding grid_of textured has_bin seen_before passed job_of packets record_room u32_at rounded_up record_size front_packet behind is_extended attribute_count bin_taken bin_length
 grid_is = refl

@@ -4,7 +4,8 @@ use Rattle.shader_records.specs.Rules.{all_questions, state_questions, record_qu
 use Rattle.textured_job.specs.Job.{textured, fragment_told, vertex_told, records, uniforms}
 use Rattle.field_words.specs.Questions.{each, answered, first_of}
 use Rattle.shader_records.specs.Sources.{record_source, uniform_source, source_size, taken_before, shader_used, handles_size, code_number, attribute_number, record_word, sample_number, source_word}
-use Rattle.emitted_facts.specs.Records.{attribute_count, record_size, is_single, attribute_size, attribute_stride, is_extended}
+use Rattle.emitted_facts.specs.Records.{is_single, attribute_size, attribute_stride}
+use Rattle.packets.specs.StateWord.{attribute_count, record_size, is_extended}
 use Rattle.buffer_table.specs.Handles.{code_of, data_of}
 use Rattle.field_words.specs.Words.{u32_at, rounded_up}
 use Rattle.buffer_table.specs.Table.{buffer_at}

@@ -1,12 +1,13 @@
 -- No rule stands for the frame and the surface of the job, nor for its layout.
 use Rattle.std.proofs.Common.{◌≡◌, [], ◌∷◌, Some, None, refl, ap, ◌∙◌}
-use Rattle.render_list.specs.Surfaces.{surface_faults, frame_questions, surface_questions, whole_questions, is_reversed, is_outside_grid, is_outside_frame, shape_questions, size_questions, buffer_size, is_written, has_unknown_flag, has_unknown_bit, is_unnamed, has_unlisted_tiling, has_unlisted_format, is_unaligned, is_too_large, is_full_with_bits, is_too_large_full, tiling_number, pixel_size_of, plain_end, full_end}
+use Rattle.render_list.specs.Surfaces.{surface_faults, frame_questions, surface_questions, whole_questions, is_reversed, is_outside_grid, is_outside_frame, shape_questions, size_questions, buffer_size, is_written, has_unknown_flag, has_unknown_bit, is_unnamed, has_unlisted_tiling, has_unlisted_format, is_unaligned, is_too_large, is_full_with_bits, is_too_large_full, surface_tiling, surface_pixel, plain_end, full_end}
 use Rattle.textured_job.specs.Job.{textured, frame}
 use Rattle.field_words.specs.Questions.{each, first_of}
 use Rattle.render_list.specs.Frame.{is_present, tile_side, is_multisample, is_full, full_tile}
 use Rattle.buffer_table.specs.Handles.{data_of}
 use Rattle.buffer_table.specs.Table.{buffer_at}
 use Rattle.field_words.specs.Words.{rounded_up}
+use Rattle.texture_layouts.specs.Format.{frame_tiling, frame_pixel}
 use Rattle.texture_layouts.specs.Surface.{microtile_width_of, microtile_height_of}
 use Rattle.job_check.specs.Faults.{layout_stage, surface_refused, surfaces_stage}
 use Rattle.job_check.specs.Jobs.{layout_of, job_of, render_room, has_bin, has_tiles, grid_of}
@@ -17,7 +18,7 @@ use Rattle.job_check.specs.Shaders.{table_of}
 use Rattle.textured_job.proofs.Lists.{grid_is}
 
 surfaces_asked : first_of (surface_faults frame (Some (1, 1)) (table_of textured) (0 ∷ 1 ∷ 2 ∷ 3 ∷ [])) ≡ None
-unfolding surface_faults textured frame_questions each surface_questions whole_questions is_reversed is_outside_grid is_outside_frame is_present shape_questions size_questions buffer_size is_written tile_side has_unknown_flag has_unknown_bit is_unnamed has_unlisted_tiling has_unlisted_format is_unaligned is_too_large is_full_with_bits is_too_large_full data_of is_multisample is_full tiling_number pixel_size_of plain_end full_end buffer_at full_tile rounded_up microtile_width_of microtile_height_of
+unfolding surface_faults textured frame_questions each surface_questions whole_questions is_reversed is_outside_grid is_outside_frame is_present shape_questions size_questions buffer_size is_written tile_side has_unknown_flag has_unknown_bit is_unnamed has_unlisted_tiling has_unlisted_format is_unaligned is_too_large is_full_with_bits is_too_large_full data_of is_multisample is_full surface_tiling frame_tiling surface_pixel frame_pixel plain_end full_end buffer_at full_tile rounded_up microtile_width_of microtile_height_of
 surfaces_asked = refl
 
 pub surfaces_none : first_of (surfaces_stage textured 0) ≡ None

@@ -5,11 +5,10 @@ use Rattle.std.proofs.lemmas.Bool.Decides.{nat_tests}
 use Rattle.qpu_isa.specs.Word.{ws_of, waddr_add_of, waddr_mul_of, cond_add_of, cond_mul_of}
 use Rattle.qpu_isa.specs.Terms.{is_branch, add_names, mul_names, names_address, names_on_a, names_on_b, is_address_write, is_relative_address_write, names_forbidden, is_tmu_address, s_address, add_writes_tmu, mul_writes_tmu, writes_tmu, tmu_writes, writes_s, add_is_tmu, mul_is_tmu, has_two_tmu_writes, has_conditional_tmu_write, reads_uniform_of}
 use Rattle.qpu_isa.specs.Setups.{adds_direct, muls_direct, adds_setup, muls_setup, has_setup, takes_with}
-use Rattle.shader_flow.specs.Flow.{word, checked_of, in_slots}
+use Rattle.shader_flow.specs.Flow.{word, checked_of}
 use Rattle.shader_flow.specs.Pending.{pending_of, count_of, takes}
 use Rattle.shader_flow.proofs.Counts.{pending_past, pending_kept, count_next}
-use Rattle.uniform_stream.specs.Quiet.{is_register_address, writes_registers, HasQuietWrites}
-use Rattle.uniform_stream.specs.Rules.{s14, s15, s17, s20, s21, is_full, s22, s23}
+use Rattle.uniform_stream.specs.Quiet.{is_register_address, writes_registers}
 
 or_false_both : (a b : Bool) → a ≡ false → b ≡ false → (a || b) ≡ false
 or_false_both a b absent none = ap (λ x. x || b) absent ∙ none
@@ -84,11 +83,11 @@ pub no_address_write : (word : ℕ) → writes_registers word ≡ true → is_ad
 unfolding is_address_write names_on_a
 no_address_write word quiet = either_way (ws_of word) (mul_names word 40) (add_names word 40) (mul_not word 40 quiet no_40) (add_not word 40 quiet no_40)
 
-no_relative_write : (word : ℕ) → writes_registers word ≡ true → is_relative_address_write word ≡ false
+pub no_relative_write : (word : ℕ) → writes_registers word ≡ true → is_relative_address_write word ≡ false
 unfolding is_relative_address_write names_on_b
 no_relative_write word quiet = either_way (ws_of word) (add_names word 40) (mul_names word 40) (add_not word 40 quiet no_40) (mul_not word 40 quiet no_40)
 
-no_forbidden : (word : ℕ) → writes_registers word ≡ true → names_forbidden word ≡ false
+pub no_forbidden : (word : ℕ) → writes_registers word ≡ true → names_forbidden word ≡ false
 unfolding names_forbidden is_register_address
 no_forbidden word quiet =
     or_false_both (names_address word 36 || names_address word 38) (names_address word 47 || (names_address word 50 || names_address word 51))
@@ -130,11 +129,11 @@ no_writes word tmu quiet =
     ap (λ b. (if b then 1 else 0) + (if mul_writes_tmu word tmu then 1 else 0)) (no_add_write word tmu quiet)
     ∙ ap (λ b. 0 + (if b then 1 else 0)) (no_mul_write word tmu quiet)
 
-no_two : (word : ℕ) → writes_registers word ≡ true → has_two_tmu_writes word ≡ false
+pub no_two : (word : ℕ) → writes_registers word ≡ true → has_two_tmu_writes word ≡ false
 unfolding has_two_tmu_writes
 no_two word quiet = and_left (add_is_tmu word) (mul_is_tmu word) (no_add_tmu word quiet)
 
-no_conditional : (word : ℕ) → writes_registers word ≡ true → has_conditional_tmu_write word ≡ false
+pub no_conditional : (word : ℕ) → writes_registers word ≡ true → has_conditional_tmu_write word ≡ false
 unfolding has_conditional_tmu_write
 no_conditional word quiet =
     or_false_both (add_is_tmu word && not (cond_add_of word == 1)) (mul_is_tmu word && not (cond_mul_of word == 1))
@@ -149,7 +148,7 @@ pub no_mul_direct : (word tmu pending : ℕ) → writes_registers word ≡ true 
 unfolding muls_direct
 no_mul_direct word tmu pending quiet = and_left (mul_names word (s_address tmu)) (pending == 0) (mul_not word (s_address tmu) quiet (s_not tmu))
 
-no_setup : (word pending0 pending1 : ℕ) → writes_registers word ≡ true → has_setup word pending0 pending1 ≡ false
+pub no_setup : (word pending0 pending1 : ℕ) → writes_registers word ≡ true → has_setup word pending0 pending1 ≡ false
 unfolding has_setup adds_setup muls_setup
 no_setup word pending0 pending1 quiet =
     or_false_both (adds_setup word 0 pending0 || muls_setup word 0 pending0) (adds_setup word 1 pending1 || muls_setup word 1 pending1)
@@ -159,22 +158,6 @@ no_setup word pending0 pending1 quiet =
     (or_false_both (adds_setup word 1 pending1) (muls_setup word 1 pending1)
     (and_left (add_writes_tmu word 1) (not (adds_direct word 1 pending1)) (no_add_write word 1 quiet))
     (and_left (mul_writes_tmu word 1) (not (muls_direct word 1 pending1)) (no_mul_write word 1 quiet)))
-
--- none of the rules on writes stands
-pub quiet_writes : (code : List ℕ) (i : ℕ) → writes_registers (word code i) ≡ true → HasQuietWrites code i
-unfolding s14 s15 s17 s20 s21 s22 s23 is_full
-quiet_writes code i quiet = record {
-  no_s14 = no_forbidden (word code i) quiet;
-  no_s15 = no_relative_write (word code i) quiet;
-  no_s17 = and_left (is_address_write (word code i)) (in_slots code i) (no_address_write (word code i) quiet);
-  no_s20 = no_two (word code i) quiet;
-  no_s21 = no_conditional (word code i) quiet;
-  no_s22 =
-      or_false_both (writes_tmu (word code i) 0 && nat_le 4 (pending_of code 0 i)) (writes_tmu (word code i) 1 && nat_le 4 (pending_of code 1 i))
-      (and_left (writes_tmu (word code i) 0) (nat_le 4 (pending_of code 0 i)) (no_write (word code i) 0 quiet))
-      (and_left (writes_tmu (word code i) 1) (nat_le 4 (pending_of code 1 i)) (no_write (word code i) 1 quiet));
-  no_s23 = and_left (has_setup (word code i) (pending_of code 0 i) (pending_of code 1 i)) (reads_uniform_of (word code i)) (no_setup (word code i) (pending_of code 0 i) (pending_of code 1 i) quiet);
-}
 
 -- the TMUs keep what they keep
 pub quiet_pending : (code : List ℕ) (tmu i : ℕ) → writes_registers (word code i) ≡ true → pending_of code tmu (i + 1) ≡ pending_of code tmu i

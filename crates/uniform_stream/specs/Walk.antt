@@ -1,10 +1,24 @@
--- How far the walk has come. No part of what the crate claims.
-use Rattle.std.specs.Prelude.{◌≡◌, ◌≤◌, ◌<◌, ℕ, ◌*◌, ◌-◌, true, false, List, map, length, slice_index, slice_index_or}
+-- What is known of an instruction, and how far the walk has come. No part of what the crate claims.
+use Rattle.std.specs.Prelude.{◌≡◌, ◌≤◌, ◌<◌, ℕ, ◌*◌, ◌-◌, Bool, true, false, List, map, length, slice_index, slice_index_or}
 use Rattle.shader_flow.specs.Bounded.{indexes}
 use Rattle.uniform_stream.specs.declared.state.Stream.{Stream}
 use Rattle.uniform_stream.specs.declared.walk.Running.{Running}
-use Rattle.shader_flow.specs.Pending.{count_of, pending_of}
+use Rattle.shader_flow.specs.Flow.{is_target}
+use Rattle.shader_flow.specs.Pending.{count_of, pending_of, takes}
+use Rattle.shader_flow.specs.Site.{SiteModel}
 use Rattle.uniform_stream.specs.Stream.{writes_address, is_known}
+
+-- what the rules are told of an instruction
+pub record IsAskedOf (site : SiteModel) (pending0 pending1 : ℕ) (taker known target : Bool) : Type 0 where
+  pub first : pending0 ≡ pending_of site.code 0 site.at
+  pub second : pending1 ≡ pending_of site.code 1 site.at
+  pub taken : taker ≡ takes site.code site.at
+  pub position : known ≡ is_known site.code site.at
+  pub marked : target ≡ is_target site.code site.at
+
+-- the address words that the instructions before an index take
+abbrev pub words_before : List ℕ → ℕ → List ℕ
+words_before code at = map (count_of code) (indexes at (writes_address code))
 
 -- what the walk carries before the instruction at an index
 pub record IsRunning (code : List ℕ) (at : ℕ) (now : Running) : Type 0 where
@@ -24,7 +38,7 @@ pub record IsFilled (code : List ℕ) (at : ℕ) (stream : Stream) : Type 0 wher
   pub pending0_are : (i : ℕ) → i < at → slice_index stream.pending0.items i ≡ pending_of code 0 i
   pub pending1_size : length stream.pending1.items ≡ at
   pub pending1_are : (i : ℕ) → i < at → slice_index stream.pending1.items i ≡ pending_of code 1 i
-  pub address_words_are : stream.address_words.items ≡ map (count_of code) (indexes at (writes_address code))
+  pub address_words_are : stream.address_words.items ≡ words_before code at
   pub known_size : length stream.known.items ≡ at
   pub known_are : (i : ℕ) → i < at → slice_index_or stream.known.items i false ≡ is_known code i
 

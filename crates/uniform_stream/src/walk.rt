@@ -3,20 +3,19 @@ ghost use Rattle.std.specs.Prelude.{◌≡◌, ◌<◌, ◌≤◌, ◌+◌, ◌*
 ghost use Rattle.field_words.specs.Sizes.{most_words};
 ghost use Rattle.shader_flow.specs.Bounded.{indexes};
 ghost use Rattle.qpu_isa.specs.Terms.{reads_uniform_of};
-ghost use Rattle.shader_flow.specs.Flow.{word, end_of, checked_of, EndsAt, IsFlow};
+ghost use Rattle.shader_flow.specs.Flow.{word, checked_of, EndsAt, IsFlow};
 ghost use Rattle.shader_flow.specs.Pending.{pending_of, count_of};
 ghost use Rattle.uniform_stream.specs.Stream.{writes_address, leaves_open, is_open, IsStream};
 ghost use Rattle.uniform_stream.specs.Quiet.{writes_registers};
-ghost use Rattle.uniform_stream.specs.Walk.{IsRunning, IsFilled, IsAddressEnd};
+ghost use Rattle.uniform_stream.specs.Walk.{IsRunning, IsFilled, IsAddressEnd, words_before};
 
 use crate::position::{known_after, writes_address};
 use crate::quiet::writes_registers;
-use crate::rules::takes_at;
 use crate::state::Stream;
 use field_words::NoMemory;
 use qpu_isa::word::is_backward;
-use qpu_isa::writes::{reads_uniform, tmu_writes, writes_s};
-use shader_flow::{Flow, checked};
+use qpu_isa::writes::{reads_uniform, takes, tmu_writes, writes_s};
+use shader_flow::{Flow, Site, checked};
 use std::alloc::Global;
 
 /// What the walk carries from one instruction to the next: uniforms taken, setup words kept, and whether the position was
@@ -29,168 +28,149 @@ pub struct Running {
     pub known: bool,
 }
 
-// How many setup words the TMU keeps after the instruction at `at`, where it keeps `pending` before.
-fn next_pending(code: &[u64], end: u32, tmu: u8, at: usize, pending: u16) -> u16
-    requires inside { at < length code.now }
-    requires ends { EndsAt code.now end }
+// How many setup words the TMU keeps after the instruction, where it keeps `pending` before.
+fn next_pending(site: &Site, tmu: u8, pending: u16) -> u16
     requires number { tmu < 2 }
-    requires kept { pending ≡ pending_of code.now tmu at }
-    requires bound { pending ≤ 2 * at }
-    ensures value { result ≡ pending_of code.now tmu (at + 1) }
-    ensures bound { result ≤ 2 * (at + 1) }
+    requires kept { pending ≡ pending_of site.now.code tmu site.now.at }
+    requires bound { pending ≤ 2 * site.now.at }
+    ensures value { result ≡ pending_of site.now.code tmu (site.now.at + 1) }
+    ensures bound { result ≤ 2 * (site.now.at + 1) }
 {
-    if at >= checked(code, end) {
+    let _ = &site.at; // below 8,192
+    if !site.is_checked() {
         return pending;
     }
-    if writes_s(code[at], tmu) {
+    if writes_s(site.word(), tmu) {
         return 0;
     }
-    pending + tmu_writes(code[at], tmu)
+    pending + tmu_writes(site.word(), tmu)
 }
 
-// How many uniforms are taken up to the instruction at `at`, where `count` are taken before it.
-fn next_count(code: &[u64], end: u32, at: usize, pending0: u16, pending1: u16, count: u32) -> u32
-    requires inside { at < length code.now }
-    requires ends { EndsAt code.now end }
-    requires first { pending0 ≡ pending_of code.now 0 at }
-    requires second { pending1 ≡ pending_of code.now 1 at }
-    requires taken { count ≡ count_of code.now at }
-    requires bound { count ≤ at }
-    ensures value { result ≡ count_of code.now (at + 1) }
-    ensures bound { result ≤ at + 1 }
+// The instruction is checked and takes a uniform.
+#[tactic(auto, unfolding(shader_flow::specs::Pending::takes))]
+fn takes_here(site: &Site, now: &Running) -> bool
+    requires { IsRunning site.now.code site.now.at now.now }
+    ensures { result ≡ Rattle.shader_flow.specs.Pending.takes site.now.code site.now.at }
 {
-    if takes_at(code, end, at, pending0, pending1) {
-        return count + 1;
+    site.is_checked() && takes(site.word(), now.pending0, now.pending1)
+}
+
+// How many uniforms are taken up to the instruction.
+fn next_count(site: &Site, now: &Running) -> u32
+    requires { IsRunning site.now.code site.now.at now.now }
+    ensures value { result ≡ count_of site.now.code (site.now.at + 1) }
+    ensures bound { result ≤ site.now.at + 1 }
+{
+    let _ = &site.at; // below 8,192
+    if takes_here(site, now) {
+        return now.count + 1;
     }
-    count
+    now.count
 }
 
-// A checked instruction at `at` reads a uniform.
-fn reads_here(code: &[u64], end: u32, at: usize) -> bool
-    requires inside { at < length code.now }
-    requires last { end ≡ end_of code.now }
-    ensures { result ≡ (nat_lt at (checked_of code.now) && reads_uniform_of (word code.now at)) }
+// The instruction is checked and reads a uniform.
+fn reads_here(site: &Site) -> bool
+    ensures { result ≡ (nat_lt site.now.at (checked_of site.now.code) && reads_uniform_of (word site.now.code site.now.at)) }
 {
-    at < checked(code, end) && reads_uniform(code[at])
+    site.is_checked() && reads_uniform(site.word())
 }
 
-// How many uniforms are taken up to an instruction at `at` that writes registers alone, where `count` are taken before it.
-fn quiet_count(code: &[u64], end: u32, at: usize, count: u32) -> u32
-    requires inside { at < length code.now }
-    requires ends { EndsAt code.now end }
-    requires quiet { writes_registers (word code.now at) ≡ true }
-    requires taken { count ≡ count_of code.now at }
-    requires bound { count ≤ at }
-    ensures value { result ≡ count_of code.now (at + 1) }
-    ensures bound { result ≤ at + 1 }
+// How many uniforms are taken up to an instruction that writes registers alone.
+fn quiet_count(site: &Site, now: &Running) -> u32
+    requires quiet { writes_registers (word site.now.code site.now.at) ≡ true }
+    requires before { IsRunning site.now.code site.now.at now.now }
+    ensures value { result ≡ count_of site.now.code (site.now.at + 1) }
+    ensures bound { result ≤ site.now.at + 1 }
 {
-    if reads_here(code, end, at) {
-        return count + 1;
+    let _ = &site.at; // below 8,192
+    if reads_here(site) {
+        return now.count + 1;
     }
-    count
+    now.count
 }
 
-// What is carried past an instruction at `at` that writes registers alone.
+// What is carried past an instruction that writes registers alone.
 #[tactic(auto, using(crate::proofs::QuietWrites::quiet_pending))]
-fn quiet_after(code: &[u64], flow: &Flow, at: usize, now: &Running) -> Running
-    requires inside { at < length code.now }
-    requires made { IsFlow code.now flow.now }
-    requires quiet { writes_registers (word code.now at) ≡ true }
-    requires before { IsRunning code.now at now.now }
-    ensures { IsRunning code.now (at + 1) result }
+fn quiet_after(site: &Site, flow: &Flow, now: &Running) -> Running
+    requires made { IsFlow site.now.code flow.now }
+    requires quiet { writes_registers (word site.now.code site.now.at) ≡ true }
+    requires before { IsRunning site.now.code site.now.at now.now }
+    ensures { IsRunning site.now.code (site.now.at + 1) result }
 {
     Running {
-        count: quiet_count(code, flow.end, at, now.count),
+        count: quiet_count(site, now),
         pending0: now.pending0,
         pending1: now.pending1,
-        known: known_after(code, flow, at, now.known),
+        known: known_after(site, flow, now.known),
     }
 }
 
-// What is carried past the instruction at `at`.
-fn after(code: &[u64], flow: &Flow, at: usize, now: &Running) -> Running
-    requires inside { at < length code.now }
-    requires made { IsFlow code.now flow.now }
-    requires before { IsRunning code.now at now.now }
-    ensures { IsRunning code.now (at + 1) result }
+// What is carried past the instruction.
+fn after(site: &Site, flow: &Flow, now: &Running) -> Running
+    requires made { IsFlow site.now.code flow.now }
+    requires before { IsRunning site.now.code site.now.at now.now }
+    ensures { IsRunning site.now.code (site.now.at + 1) result }
 {
-    if writes_registers(code[at]) {
-        return quiet_after(code, flow, at, now);
+    if writes_registers(site.word()) {
+        return quiet_after(site, flow, now);
     }
-    let end = flow.end;
     Running {
-        count: next_count(code, end, at, now.pending0, now.pending1, now.count),
-        pending0: next_pending(code, end, 0, at, now.pending0),
-        pending1: next_pending(code, end, 1, at, now.pending1),
-        known: known_after(code, flow, at, now.known),
+        count: next_count(site, now),
+        pending0: next_pending(site, 0, now.pending0),
+        pending1: next_pending(site, 1, now.pending1),
+        known: known_after(site, flow, now.known),
     }
 }
 
-// Puts the count to the address words, where the instruction at `at` sets the address.
-fn add_address(
-    code: &[u64],
-    end: u32,
-    at: usize,
-    count: u32,
-    words: &mut Vec<u32>,
-) -> Result<(), NoMemory>
-    requires inside { at < length code.now }
-    requires last { end ≡ end_of code.now }
-    requires taken { count ≡ count_of code.now at }
-    requires before { words.old.items ≡ map (count_of code.now) (indexes at (writes_address code.now)) }
-    ensures { OnOk result (words.new.items ≡ map (count_of code.now) (indexes (at + 1) (writes_address code.now))) }
+// Puts the count to the address words, where the instruction sets the address.
+fn add_address(site: &Site, count: u32, words: &mut Vec<u32>) -> Result<(), NoMemory>
+    requires taken { count ≡ count_of site.now.code site.now.at }
+    requires before { words.old.items ≡ words_before site.now.code site.now.at }
+    ensures { OnOk result (words.new.items ≡ words_before site.now.code (site.now.at + 1)) }
 {
-    if writes_address(code, end, at) {
+    if writes_address(site) {
         words.push(count)?;
     }
     Ok(())
 }
 
-// Fills in the instruction at `at`, and tells what is carried past it.
-fn fill(
-    code: &[u64],
-    flow: &Flow,
-    at: usize,
-    now: &Running,
-    made: &mut Stream,
-) -> Result<Running, NoMemory>
-    requires inside { at < length code.now }
-    requires made { IsFlow code.now flow.now }
-    requires before { IsRunning code.now at now.now }
-    requires filled { IsFilled code.now at made.old }
-    ensures next { IfOk result (IsRunning code.now (at + 1)) }
-    ensures filled { OnOk result (IsFilled code.now (at + 1) made.new) }
+// Fills in the instruction, and tells what is carried past it.
+fn fill(site: &Site, flow: &Flow, now: &Running, made: &mut Stream) -> Result<Running, NoMemory>
+    requires made { IsFlow site.now.code flow.now }
+    requires before { IsRunning site.now.code site.now.at now.now }
+    requires filled { IsFilled site.now.code site.now.at made.old }
+    ensures next { IfOk result (IsRunning site.now.code (site.now.at + 1)) }
+    ensures filled { OnOk result (IsFilled site.now.code (site.now.at + 1) made.new) }
 {
-    let next = after(code, flow, at, now);
+    let next = after(site, flow, now);
     made.counts.push(now.count)?;
     made.pending0.push(now.pending0)?;
     made.pending1.push(now.pending1)?;
     made.known.push(next.known)?;
-    add_address(code, flow.end, at, now.count, &mut made.address_words)?;
+    add_address(site, now.count, &mut made.address_words)?;
     Ok(next)
 }
 
 // The index after the last checked instruction that sets the address, or 0.
 fn address_end(code: &[u64], end: u32) -> usize
-    requires last { end ≡ end_of code.now }
+    requires { EndsAt code.now end }
     ensures { IsAddressEnd code.now (checked_of code.now) result }
 {
     let mut last = 0;
     for at in 0..checked(code, end) {
-        if writes_address(code, end, at) {
+        if writes_address(&Site { code, end, at }) {
             last = at + 1;
         }
     }
     last
 }
 
-// The instruction at `at` is a backward branch, and no write of the address stands after its slots.
-fn leaves_open(code: &[u64], last: usize, at: usize) -> bool
-    requires inside { at < length code.now }
-    requires written { IsAddressEnd code.now (checked_of code.now) last }
-    ensures { result ≡ leaves_open code.now at }
+// The instruction is a backward branch, and no write of the address stands after its slots.
+fn leaves_open(site: &Site, last: usize) -> bool
+    requires { IsAddressEnd site.now.code (checked_of site.now.code) last }
+    ensures { result ≡ leaves_open site.now.code site.now.at }
 {
-    is_backward(code[at]) && last <= at + 4
+    is_backward(site.word()) && last <= site.at + 4
 }
 
 /// Whether some backward branch has no write of the stream's address after its slots, so that the stream needs one word
@@ -202,7 +182,12 @@ pub fn is_open(code: &[u64], flow: &Flow) -> bool
 {
     let last = address_end(code, flow.end);
     for at in 0..checked(code, flow.end) {
-        if leaves_open(code, last, at) {
+        let site = Site {
+            code,
+            end: flow.end,
+            at,
+        };
+        if leaves_open(&site, last) {
             return true;
         }
     }
@@ -261,7 +246,12 @@ pub fn stream(alloc: Global, code: &[u64], flow: &Flow) -> Result<Stream, NoMemo
         known: false,
     };
     for at in 0..code.len() {
-        now = fill(code, flow, at, &now, &mut made)?;
+        let site = Site {
+            code,
+            end: flow.end,
+            at,
+        };
+        now = fill(&site, flow, &now, &mut made)?;
     }
     close(code, flow, &now, &mut made)?;
     Ok(made)

@@ -1,18 +1,17 @@
-use Rattle.std.proofs.Common.{ℕ, ◌≡◌, List, subst, [], Ok, Err, Result, OnOk, refl}
-use Rattle.field_words.specs.Questions.{Question, Answers, answered}
-use Rattle.field_words.specs.declared.stop.Stop.TheVariants.{Fault, NoMemory}
-use Rattle.buffer_table.specs.Table.{TableModel}
-use Rattle.bin_list.specs.Least.{IsLeastFault}
-use Rattle.bin_list.proofs.Least.{least_fault}
+use Rattle.std.proofs.Common.{ℕ, ◌≡◌, List, [], Ok, Err, Result, OnOk, length, subst, refl}
+use Rattle.field_words.specs.Questions.{Answers, answered}
 use Rattle.field_words.specs.declared.stop.Stop.{Stop}
+use Rattle.field_words.specs.declared.stop.Stop.TheVariants.{Fault, NoMemory}
 use Rattle.field_words.proofs.Questions.{answers_later, refuses_front}
-use Rattle.packets.specs.Writing.{written}
 use Rattle.bin_list.specs.declared.fault.ListFault.{ListFault}
 use Rattle.bin_list.specs.declared.info.BinInfo.{BinInfo}
+use Rattle.bin_list.specs.Faults.{fault, IsUpTo}
 use Rattle.bin_list.specs.Packets.{passed}
 use Rattle.bin_list.specs.Seen.{seen_before}
-use Rattle.bin_list.specs.Rules.{fault, asked, end_questions, questions_of, bin_questions, given_of}
+use Rattle.bin_list.specs.Rules.{GivenModel, asked, end_questions, questions_of, given_of}
 use Rattle.bin_list.specs.Info.{IsInfo}
+use Rattle.field_words.proofs.Least.{names_least}
+use Rattle.bin_list.proofs.Least.{order, rises_list}
 use Rattle.bin_list.proofs.check.check_bin.Goals as goal
 
 on_ok : (P : Type 0) (result : Result BinInfo (Stop ListFault)) → P → OnOk result P
@@ -28,8 +27,17 @@ returns-in-Ok-clause-answers c =
     answers_later (asked given (passed list)) (answered (fault given.size) (end_questions (seen_before (passed list)))) P c.finish.result
     c.in-Ok.ensures.answers.0 c.finish.ensures.answers
 
+pub returns-in-Ok-clause-least : goal.returns-in-Ok-clause-least
+unfolding questions_of
+returns-in-Ok-clause-least c =
+    let list = c.args.list.now in
+    let given = given_of list c.args.declared c.args.table.now c.args.handles.now in
+    let P : BinInfo → Type 0 = λ info. IsInfo list c.args.declared c.args.table.now c.args.handles.now c.args.layout.now info in
+    names_least IsUpTo _ _ (questions_of given (passed list)) P c.finish.result order (rises_list given list refl)
+    (answers_later (asked given (passed list)) (answered (fault given.size) (end_questions (seen_before (passed list)))) P c.finish.result
+    c.in-Ok.ensures.answers.0 c.finish.ensures.answers)
+
 pub returns-in-Ok-clause-put : goal.returns-in-Ok-clause-put
-unfolding written
 returns-in-Ok-clause-put c = on_ok _ c.finish.result c.in-Ok.ensures.put
 
 pub returns-in-Ok-clause-memory : goal.returns-in-Ok-clause-memory
@@ -44,35 +52,10 @@ returns-in-Err-clause-answers c =
     let given = given_of list c.args.declared c.args.table.now c.args.handles.now in
     refuses_front (asked given (passed list)) (answered (fault given.size) (end_questions (seen_before (passed list)))) c.in-Err.stop c.in-Err.ensures.answers
 
-refused : (list : List ℕ) (declared : ℕ) (table : TableModel) (handles : List ℕ) (result : Result BinInfo (Stop ListFault))
-    → Answers (bin_questions list declared table handles) (λ info. Unit {0}) result
-    → (found : ListFault) → result ≡ Err (Fault found) → IsLeastFault (bin_questions list declared table handles) found
-refused list declared table handles (Ok info) answers found is = absurd (cc)
-refused list declared table handles (Err NoMemory) answers found is = absurd (cc)
-refused list declared table handles (Err (Fault f)) answers found is =
-    let e : f ≡ found = cc in
-    subst (IsLeastFault (bin_questions list declared table handles)) e (least_fault (given_of list declared table handles) list f refl answers)
-
--- the answers without what was made
-plain : (P : BinInfo → Type 0) (questions : List (Question ListFault)) (result : Result BinInfo (Stop ListFault)) → Answers questions P result → Answers questions (λ info. Unit {0}) result
-plain P questions (Ok info) answers = (answers.0, tt)
-plain P questions (Err stop) answers = answers
-
-pub returns-in-Ok-clause-least : goal.returns-in-Ok-clause-least
-unfolding questions_of
-returns-in-Ok-clause-least c =
-    let list = c.args.list.now in
-    let given = given_of list c.args.declared c.args.table.now c.args.handles.now in
-    let P : BinInfo → Type 0 = λ info. IsInfo list c.args.declared c.args.table.now c.args.handles.now c.args.layout.now info in
-    refused list c.args.declared c.args.table.now c.args.handles.now c.finish.result
-    (plain P (questions_of given (passed list)) c.finish.result
-    (answers_later (asked given (passed list)) (answered (fault given.size) (end_questions (seen_before (passed list)))) P c.finish.result
-    c.in-Ok.ensures.answers.0 c.finish.ensures.answers))
-
 pub returns-in-Err-clause-least : goal.returns-in-Err-clause-least
 unfolding questions_of
 returns-in-Err-clause-least c =
     let list = c.args.list.now in
     let given = given_of list c.args.declared c.args.table.now c.args.handles.now in
-    refused list c.args.declared c.args.table.now c.args.handles.now (Err c.in-Err.stop)
+    names_least {X = BinInfo} IsUpTo _ _ (questions_of given (passed list)) (λ info. Unit {0}) (Err c.in-Err.stop) order (rises_list given list refl)
     (refuses_front (asked given (passed list)) (answered (fault given.size) (end_questions (seen_before (passed list)))) c.in-Err.stop c.in-Err.ensures.answers)

@@ -3,7 +3,8 @@ use Rattle.field_words.specs.Questions.{first_of}
 use Rattle.field_words.proofs.Questions.{answered_none, answered_some}
 use Rattle.bin_list.specs.Packets.{passed}
 use Rattle.bin_list.specs.Seen.{seen_before}
-use Rattle.bin_list.specs.Rules.{fault, end_questions}
+use Rattle.bin_list.specs.Faults.{fault}
+use Rattle.bin_list.specs.Rules.{end_questions}
 use Rattle.bin_list.specs.declared.info.BinInfo.{BinInfo}
 use Rattle.bin_list.proofs.Sound.{sound_info}
 use Rattle.bin_list.proofs.check.finish.Goals as goal
@@ -11,9 +12,9 @@ use Rattle.bin_list.proofs.check.finish.Goals as goal
 pub returns-in-Some-clause-answers : goal.returns-in-Some-clause-answers
 returns-in-Some-clause-answers c =
     let size = c.args.given.now.size in
-    answered_some (fault size) (end_questions (seen_before (passed c.args.list.now))) c.in-Some.number
+    answered_some (fault size) (end_questions (seen_before (passed c.args.list.now))) c.in-Some.rule
     (ap (λ s. first_of (end_questions s)) (sym c.requires.read.seen) ∙ sym c.in-Some.ensures)
-    ∙ ap (λ n. Some (fault n c.in-Some.number)) c.requires.size
+    ∙ ap (λ n. Some (record { number = n; at = c.args.given.now.size })) (sym c.number.ensures) ∙ ap (λ n. Some (record { number = c.number.result; at = n })) c.requires.size
 
 pub returns-clause-answers : goal.returns-clause-answers
 returns-clause-answers c =

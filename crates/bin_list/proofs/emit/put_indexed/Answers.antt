@@ -5,8 +5,7 @@ use Rattle.field_words.specs.Words.{u32_at}
 use Rattle.field_words.specs.Writes.{with_bytes}
 use Rattle.bin_list.specs.Rules.{index_buffer}
 use Rattle.bin_list.specs.Emitted.{index_text}
-use Rattle.packets.specs.Writing.{written}
-use Rattle.bin_list.proofs.Inside.{written_inside}
+use Rattle.field_words.proofs.Writes.{with_inner}
 use Rattle.bin_list.proofs.emit.put_indexed.Goals as goal
 
 pub returns-clause-text : goal.returns-clause-text
@@ -19,5 +18,5 @@ returns-clause-text c =
     ap (λ b. b.place + c.word_at.result) c.in-Some.ensures.exact.1 ∙ ap (λ w. (index_buffer c.args.given.now c.args.seen.now).place + w) c.word_at.ensures in
     c.put_u32.ensures
     ∙ ap (λ w. with_bytes w (at + 6) (to_le_bytes w32 (c.in-Some.buffer.place + c.word_at.result))) c.put-end.ensures.text
-    ∙ ap (λ n. with_bytes (written out at packet) (at + 6) (to_le_bytes w32 n)) address
-    ∙ written_inside out at packet 6 (to_le_bytes w32 ((index_buffer c.args.given.now c.args.seen.now).place + u32_at packet 6)) c.requires.room (omega arith)
+    ∙ ap (λ n. with_bytes (with_bytes out at packet) (at + 6) (to_le_bytes w32 n)) address
+    ∙ with_inner out at packet 6 (to_le_bytes w32 ((index_buffer c.args.given.now c.args.seen.now).place + u32_at packet 6)) c.requires.room (omega arith)

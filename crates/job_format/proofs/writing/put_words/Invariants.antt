@@ -1,7 +1,7 @@
 -- The words so far.
 use Rattle.std.proofs.Common.{◌≡◌, ◌++◌, take}
 use Rattle.std.specs.List.{flat_map}
-use Rattle.job_format.specs.Text.{word}
+use Rattle.field_words.specs.WordBytes.{word}
 use Rattle.job_format.proofs.writing.put_words.Given as goal
 
 abbrev pub invariant-loop-n : goal.invariant-loop-n

@@ -1,6 +1,7 @@
 -- Microtiles of four pixels a side or more are few.
 use Rattle.std.proofs.Common.{arith}
-use Rattle.list_machine.proofs.Covering.{begins, few_parts, short_pixel}
+use Rattle.texture_layouts.proofs.Styles.{short_pixel}
+use Rattle.list_machine.proofs.Covering.{begins, few_parts}
 use Rattle.list_machine.proofs.cover.tiled_cover.Goals as goal
 
 pub returns-clause-small : goal.returns-clause-small

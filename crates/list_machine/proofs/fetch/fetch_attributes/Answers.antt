@@ -1,6 +1,6 @@
 -- One more attribute is fetched.
 use Rattle.std.proofs.Common.{◌<◌, arith}
-use Rattle.emitted_facts.specs.Records.{attribute_count}
+use Rattle.packets.specs.StateWord.{attribute_count}
 use Rattle.list_machine.proofs.Fetching.{attributes_more}
 use Rattle.list_machine.proofs.fetch.fetch_attributes.Goals as goal
 

@@ -9,4 +9,5 @@ returns-clause-setup c =
     c.place-color_read.ensures.value c.place-color_write.ensures.value c.place-zs_read.ensures.value c.place-zs_write.ensures.value
     c.place-multisample_color.ensures.value c.place-multisample_zs.ensures.value
     c.requires.tiles c.requires.sound
-    c.place-color_read.ensures.fits c.place-zs_read.ensures.fits c.place-multisample_color.ensures.fits c.place-multisample_zs.ensures.fits
+    c.place-color_read.ensures.fits c.place-color_write.ensures.fits c.place-zs_read.ensures.fits c.place-zs_write.ensures.fits
+    c.place-multisample_color.ensures.fits c.place-multisample_zs.ensures.fits

@@ -30,7 +30,7 @@ loop-x-preserved c =
     goes_on c.args.out.now c.args.at (slots_text (row_slots frame c.args.setup.now.places c.args.tiles c.args.slot c.args.y)) c.loop-x.out c.loop-x.here
     (slots_text (span_slots tiles x (frame.max_x + 1 - x))) (slots_text (tiles x)) (slots_text (span_slots tiles (x + 1) (frame.max_x + 1 - (x + 1))))
     c.put_tile-here.new.out c.put_tile-here.result c.loop-x.invariant (span_step tiles x (frame.max_x + 1) (omega arith))
-    c.put_tile-here.ensures.text c.put_tile-here.ensures.end
+    c.put_tile-here.ensures.text c.put_tile-here.ensures.end_is
 
 -- after the last tile
 pub returns-2 : goal.returns-2
@@ -43,6 +43,6 @@ returns-2 c =
     let state =
     goes_on c.args.out.now c.args.at row c.loop-x.out c.loop-x.here (slots_text (span_slots tiles x (frame.max_x + 1 - x))) (slots_text (tiles x)) later
     c.put_tile-here.new.out c.put_tile-here.result c.loop-x.invariant (span_step tiles x (frame.max_x + 1) (omega arith))
-    c.put_tile-here.ensures.text c.put_tile-here.ensures.end in
+    c.put_tile-here.ensures.text c.put_tile-here.ensures.end_is in
     let done = ends c.args.out.now c.args.at row c.put_tile-here.new.out c.put_tile-here.result later state (span_end tiles (x + 1) (frame.max_x + 1) (omega arith)) in
-    record { text = done.0; end = done.1 }
+    record { text = done.0; end_is = done.1 }

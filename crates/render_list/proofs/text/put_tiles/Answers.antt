@@ -25,7 +25,7 @@ loop-y-preserved c =
     goes_on c.args.out.now c.args.at (slots_text (all_tile_slots frame c.args.setup.now.places c.args.tiles c.args.slot)) c.loop-y.out c.loop-y.here
     (slots_text (span_slots rows y (frame.max_y + 1 - y))) (slots_text (rows y)) (slots_text (span_slots rows (y + 1) (frame.max_y + 1 - (y + 1))))
     c.put_row-here.new.out c.put_row-here.result c.loop-y.invariant (span_step rows y (frame.max_y + 1) (omega arith))
-    c.put_row-here.ensures.text c.put_row-here.ensures.end
+    c.put_row-here.ensures.text c.put_row-here.ensures.end_is
 
 -- after the last row
 pub returns-2 : goal.returns-2
@@ -38,6 +38,6 @@ returns-2 c =
     let state =
     goes_on c.args.out.now c.args.at all c.loop-y.out c.loop-y.here (slots_text (span_slots rows y (frame.max_y + 1 - y))) (slots_text (rows y)) later
     c.put_row-here.new.out c.put_row-here.result c.loop-y.invariant (span_step rows y (frame.max_y + 1) (omega arith))
-    c.put_row-here.ensures.text c.put_row-here.ensures.end in
+    c.put_row-here.ensures.text c.put_row-here.ensures.end_is in
     let done = ends c.args.out.now c.args.at all c.put_row-here.new.out c.put_row-here.result later state (span_end rows (y + 1) (frame.max_y + 1) (omega arith)) in
-    record { text = done.0; end = done.1 }
+    record { text = done.0; end_is = done.1 }

@@ -1,12 +1,13 @@
-use Rattle.std.proofs.Common.{◌≡◌, ◌≤◌, ◌-◌, map, sym, ap, subst, refl, arith, ◌∙◌}
+use Rattle.std.proofs.Common.{◌≡◌, ◌≤◌, ◌+◌, ◌-◌, sym, ap, subst, refl, arith, ◌∙◌}
 use Rattle.field_words.specs.Questions.{first_of, each}
 use Rattle.field_words.proofs.Questions.{each_on, each_stop, each_end, answered_none, answered_some}
 use Rattle.shader_flow.specs.Bounded.{indexes, last_below}
 use Rattle.shader_flow.specs.Flow.{checked_of}
+use Rattle.shader_flow.specs.Site.{SiteModel}
 use Rattle.clamp_facts.specs.Facts.{maker_of}
 use Rattle.clamp_facts.specs.Upkeep.{IsTableOf}
 use Rattle.clamp_facts.proofs.Entries.{blank_keeps}
-use Rattle.shader_check.specs.Info.{held, samples_of, is_sample, sample_of}
+use Rattle.shader_check.specs.Info.{held, held_words, samples_before, samples_of}
 use Rattle.shader_check.specs.Rules.{questions_at, fault_at, index_questions}
 use Rattle.shader_check.proofs.walk.walk.Goals as goal
 
@@ -37,9 +38,9 @@ loop-at-preserved g c =
       none =
           each_on (questions_at c.args.code.now) c.loop-at.at (checked_of c.args.code.now) (omega (arith, c.loop-at-test.true, c.checked-last.ensures.value)) none
           ∙ c.loop-at.invariant.none;
-      first = c.in_ok-note.ensures.first;
-      second = c.in_ok-note.ensures.second;
-      made = c.in_ok-note.ensures.samples;
+      first = c.in_ok-note.ensures.first ∙ ap (λ (s : SiteModel). held_words s.code 0 (s.at + 1)) c.here_at.ensures;
+      second = c.in_ok-note.ensures.second ∙ ap (λ (s : SiteModel). held_words s.code 1 (s.at + 1)) c.here_at.ensures;
+      made = c.in_ok-note.ensures.samples ∙ ap (λ (s : SiteModel). samples_before s.code (s.at + 1)) c.here_at.ensures;
       table = c.learn.ensures.after;
       steps = omega (arith, c.learn.ensures.steps, c.in_ok-note.ensures.steps, c.in_default.ensures.steps, c.loop-at.invariant.steps);
     }
@@ -50,5 +51,5 @@ returns-clause-answers g c =
     let past : checked_of c.args.code.now ≤ c.loop-at.at = omega (arith, c.loop-at-test.false, c.checked-last.ensures.value) in
     let at-end : c.loop-at.at ≡ checked_of c.args.code.now = omega (arith, past, c.loop-at.auto.at-end, c.checked-last.ensures.value) in (
       sym c.loop-at.invariant.none ∙ each_end (questions_at c.args.code.now) c.loop-at.at (checked_of c.args.code.now) past,
-      c.loop-at.invariant.made ∙ ap (λ n. map (sample_of c.args.code.now) (indexes n (is_sample c.args.code.now))) at-end,
+      c.loop-at.invariant.made ∙ ap (samples_before c.args.code.now) at-end,
     )

@@ -9,8 +9,9 @@ pub loop-at-init : goal.loop-at-init
 unfolding some_below
 loop-at-init c = record { size = refl; marks = λ i below. c.requires.clear i }
 
-pub mark_from-requires-clause-inside : goal.mark_from-requires-clause-inside
-mark_from-requires-clause-inside c = omega (arith, c.loop-at-test.true, c.requires.ends.last, end_of-le c.args.code.now)
+pub invariant_of-mark_from : goal.invariant_of-mark_from
+invariant_of-mark_from c =
+    record { ends = c.requires.ends; inside = omega (arith, c.loop-at-test.true, c.requires.ends.last, end_of-le c.args.code.now) }
 
 pub loop-at-preserved : goal.loop-at-preserved
 loop-at-preserved c = record {

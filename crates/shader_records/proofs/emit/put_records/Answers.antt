@@ -1,8 +1,9 @@
 -- One record more stands.
 use Rattle.std.proofs.Common.{◌+◌, sym, ap, ◌∙◌, arith}
-use Rattle.field_words.specs.WordBytes.{laid}
+use Rattle.field_words.specs.Writes.{with_bytes}
 use Rattle.field_words.specs.Questions.{first_of}
-use Rattle.shader_records.specs.Sources.{state_at, source_size, emitted_size, record_source, stream_offset, given_before}
+use Rattle.shader_records.specs.Sources.{state_at, source_size, record_source, stream_offset, given_before}
+use Rattle.packets.specs.StateWord.{record_room}
 use Rattle.shader_records.specs.Rules.{record_questions}
 use Rattle.shader_records.specs.Emission.{record_text, records_text}
 use Rattle.shader_records.proofs.Fine.{state_fine}
@@ -50,7 +51,7 @@ put_record-requires-clause-streams c =
 pub put_record-requires-clause-room : goal.put_record-requires-clause-room
 put_record-requires-clause-room c =
     let inside = state_inside c.args.inputs.now c.loop-k.k c.requires.fine (omega (arith, c.loop-k-test.true, c.count-k-end.ensures)) in
-    let same = ap (λ s. emitted_size s.state) c.source_of-source.ensures in
+    let same = ap (λ s. record_room s.state) c.source_of-source.ensures in
     omega (arith, inside.emitted, c.loop-k.invariant.done, c.requires.room, c.loop-k.auto.out, same)
 
 pub given_before-given-requires-clause-inside : goal.given_before-given-requires-clause-inside
@@ -71,7 +72,7 @@ overflow_add-at c =
 pub overflow_add-done : goal.overflow_add-done
 overflow_add-done c =
     let inside = state_inside c.args.inputs.now c.loop-k.k c.requires.fine (omega (arith, c.loop-k-test.true, c.count-k-end.ensures)) in
-    omega (arith, inside.emitted, c.loop-k.invariant.done, c.emitted_size-done.ensures.limit, c.requires.few_records)
+    omega (arith, inside.emitted, c.loop-k.invariant.done, c.record_room.ensures.limit, c.requires.few_records)
 
 pub loop-k-preserved : goal.loop-k-preserved
 loop-k-preserved c =
@@ -91,10 +92,10 @@ loop-k-preserved c =
     record {
       text =
           put_behind c.args.out.now c.args.base c.loop-k.done (records_text input first k) rest c.loop-k.out c.put_record.new.out c.loop-k.invariant.text
-          (length_records input first k ∙ sym c.loop-k.invariant.done) (c.put_record.ensures ∙ ap (λ t. laid c.loop-k.out (c.args.base + c.loop-k.done) t) same)
+          (length_records input first k ∙ sym c.loop-k.invariant.done) (c.put_record.ensures ∙ ap (λ t. with_bytes c.loop-k.out (c.args.base + c.loop-k.done) t) same)
           (omega (arith, long, inside.emitted, c.loop-k.invariant.done, c.requires.room))
-          ∙ ap (λ t. laid c.args.out.now c.args.base t) (sym (records_more input first k));
+          ∙ ap (λ t. with_bytes c.args.out.now c.args.base t) (sym (records_more input first k));
       at = omega (arith, c.loop-k.invariant.at, c.source_size-at.ensures.value, record_next input k, ap (λ s. source_size s.state) source);
       given = omega (arith, c.loop-k.invariant.given, taken, streams_next input k);
-      done = omega (arith, c.loop-k.invariant.done, c.emitted_size-done.ensures.value, offset_next input k, ap (λ s. emitted_size s.state) source);
+      done = omega (arith, c.loop-k.invariant.done, c.record_room.ensures.value, offset_next input k, ap (λ s. record_room s.state) source);
     }

@@ -1,6 +1,6 @@
 -- The streams of one state more stand.
 use Rattle.std.proofs.Common.{◌+◌, sym, ap, ◌∙◌, arith}
-use Rattle.field_words.specs.WordBytes.{laid}
+use Rattle.field_words.specs.Writes.{with_bytes}
 use Rattle.field_words.specs.Questions.{first_of}
 use Rattle.shader_records.specs.Sources.{source_size, record_source, uniform_source, stream_offset, shader_used, taken_before, given_before}
 use Rattle.shader_records.specs.Rules.{use_questions}
@@ -99,9 +99,9 @@ loop-k-preserved c =
     record {
       text =
           put_behind c.args.out.now c.args.base c.loop-k.done (uniforms_text input first k) rest c.loop-k.out c.put_streams-amounts.new.out c.loop-k.invariant.text
-          (length_uniforms input first k ∙ sym c.loop-k.invariant.done) (c.put_streams-amounts.ensures.text ∙ ap (λ t. laid c.loop-k.out (c.args.base + c.loop-k.done) t) same)
+          (length_uniforms input first k ∙ sym c.loop-k.invariant.done) (c.put_streams-amounts.ensures.text ∙ ap (λ t. with_bytes c.loop-k.out (c.args.base + c.loop-k.done) t) same)
           (omega (arith, long, inside.given, c.loop-k.invariant.done, c.requires.room))
-          ∙ ap (λ t. laid c.args.out.now c.args.base t) (sym (uniforms_more input first k));
+          ∙ ap (λ t. with_bytes c.args.out.now c.args.base t) (sym (uniforms_more input first k));
       at = omega (arith, c.loop-k.invariant.at, c.source_size-at.ensures.value, record_next input k, ap (λ s. source_size s.word) c.state.ensures);
       from = omega (arith, c.loop-k.invariant.from, taken, uniforms_next input k);
       done = omega (arith, c.loop-k.invariant.done, given, streams_next input k);

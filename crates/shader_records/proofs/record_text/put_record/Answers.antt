@@ -16,4 +16,4 @@ loop-i-preserved c =
     let source = c.args.source in
     put_next c.args.out.now c.args.base (emitted_word c.args.inputs.now source.at source.state (stream_place c.args.inputs.now source.at c.args.first))
     c.loop-i.i c.loop-i.out c.put_u32.new.bytes c.emitted_word-word.result c.loop-i.invariant c.emitted_word-word.ensures c.put_u32.ensures
-    (omega (arith, c.emitted_size-i-end.ensures.value, c.loop-i-test.true, c.requires.room))
+    (omega (arith, c.record_room.ensures.value, c.loop-i-test.true, c.requires.room))

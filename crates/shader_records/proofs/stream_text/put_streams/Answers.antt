@@ -1,6 +1,6 @@
 -- One stream more stands.
 use Rattle.std.proofs.Common.{◌≡◌, ◌+◌, sym, ap, ◌∙◌, arith}
-use Rattle.field_words.specs.WordBytes.{laid}
+use Rattle.field_words.specs.Writes.{with_bytes}
 use Rattle.shader_records.specs.Sources.{shader_used, taken_before, given_before}
 use Rattle.shader_records.specs.Emission.{stream_text, streams_text}
 use Rattle.shader_records.proofs.Steps.{taken_zero, given_zero, taken_next, given_next, given_upto, taken_upto}
@@ -55,9 +55,9 @@ loop-s-preserved c =
     record {
       text =
           put_behind c.args.out.now c.args.base c.loop-s.given (streams_text input at from first s) rest c.loop-s.out c.put_stream.new.out c.loop-s.invariant.text
-          (length_streams input at from first s ∙ sym given) (c.put_stream.ensures ∙ ap (λ t. laid c.loop-s.out (c.args.base + c.loop-s.given) t) same)
+          (length_streams input at from first s ∙ sym given) (c.put_stream.ensures ∙ ap (λ t. with_bytes c.loop-s.out (c.args.base + c.loop-s.given) t) same)
           (omega (arith, given, long, given_upto input at s c.loop-s-test.true, c.requires.room))
-          ∙ ap (λ t. laid c.args.out.now c.args.base t) (sym (streams_more input at from first s));
+          ∙ ap (λ t. with_bytes c.args.out.now c.args.base t) (sym (streams_more input at from first s));
       taken = omega (arith, c.loop-s.invariant.taken, c.taken_by-taken.ensures, taken_next input at s);
       given = omega (arith, given, c.given_by.ensures.value, given_next input at s);
     }

@@ -1,5 +1,5 @@
 use Rattle.std.proofs.Common.{◌≡◌, ◌+◌, ◌*◌, length, sym, ap, ◌∙◌, arith}
-use Rattle.field_words.specs.WordBytes.{laid}
+use Rattle.field_words.specs.Writes.{with_bytes}
 use Rattle.field_words.proofs.WordBytes.{same_words, put_next, put_word}
 use Rattle.std.specs.Int.{to_le_bytes, w32}
 use Rattle.field_words.specs.Writes.{with_bytes}
@@ -32,7 +32,7 @@ loop-j-init c =
     let shader = shader_view c.args.info.now in
     let done : c.loop-i.i ≡ length shader.samples = omega (arith, c.loop-i-test.false, c.loop-i.auto.i-end, c.len-i-end.ensures) in
     c.loop-i.invariant
-    ∙ ap (λ t. laid c.args.out.now c.args.base t)
+    ∙ ap (λ t. with_bytes c.args.out.now c.args.base t)
     (same_words (moved_word c.args.inputs.now c.args.from shader c.loop-i.i) (addressed_word c.args.inputs.now c.args.from shader c.args.stream 0) shader.uniforms
     (λ k below.
     ap (λ n. moved_word c.args.inputs.now c.args.from shader n k) done

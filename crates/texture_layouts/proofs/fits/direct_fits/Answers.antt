@@ -1,9 +1,14 @@
-use Rattle.std.proofs.Common.{sym}
-use Rattle.texture_layouts.proofs.Least.{direct_least, direct_none}
+use Rattle.std.proofs.Common.{◌≤◌, sym, subst}
+use Rattle.field_words.specs.Least.{IsLeast}
+use Rattle.field_words.proofs.Least.{nothing_stands}
+use Rattle.texture_layouts.specs.Fits.{direct_questions}
+use Rattle.texture_layouts.proofs.Least.{direct_least}
 use Rattle.texture_layouts.proofs.fits.direct_fits.Goals as goal
 
 pub returns-in-None-clause-least : goal.returns-in-None-clause-least
-returns-in-None-clause-least c = direct_none c.args.base c.args.bound c.args.size (sym c.in-None.ensures)
+returns-in-None-clause-least c = λ number. nothing_stands _ number (sym c.in-None.ensures)
 
 pub returns-in-Some-clause-least : goal.returns-in-Some-clause-least
-returns-in-Some-clause-least c = direct_least c.args.base c.args.bound c.args.size c.in-Some.number (sym c.in-Some.ensures)
+returns-in-Some-clause-least c =
+    subst (IsLeast (λ n m. n ≤ m) (direct_questions c.args.base c.args.bound c.args.size)) (sym c.number.ensures)
+    (direct_least c.args.base c.args.bound c.args.size _ (sym c.in-Some.ensures))

@@ -9,10 +9,10 @@ pub returns-in_ok-push : goal.returns-in_ok-push
 returns-in_ok-push c =
     c.in_ok-push.ensures.items
     ∙ ap (λ xs. xs ++ (c.args.count ∷ [])) c.requires.before
-    ∙ ap (λ n. map (count_of c.args.code.now) (indexes c.args.at (writes_address c.args.code.now)) ++ (n ∷ [])) c.requires.taken
-    ∙ sym (map_indexes_here (count_of c.args.code.now) c.args.at (writes_address c.args.code.now) (sym c.writes_address.ensures ∙ c.if-writes_address.true))
+    ∙ ap (λ n. map (count_of c.args.site.now.code) (indexes c.args.site.now.at (writes_address c.args.site.now.code)) ++ (n ∷ [])) c.requires.taken
+    ∙ sym (map_indexes_here (count_of c.args.site.now.code) c.args.site.now.at (writes_address c.args.site.now.code) (sym c.writes_address.ensures ∙ c.if-writes_address.true))
 
 pub returns-else-writes_address : goal.returns-else-writes_address
 returns-else-writes_address c =
     c.requires.before
-    ∙ sym (map_indexes_not (count_of c.args.code.now) c.args.at (writes_address c.args.code.now) (sym c.writes_address.ensures ∙ c.if-writes_address.false))
+    ∙ sym (map_indexes_not (count_of c.args.site.now.code) c.args.site.now.at (writes_address c.args.site.now.code) (sym c.writes_address.ensures ∙ c.if-writes_address.false))

@@ -1,13 +1,17 @@
-use Rattle.std.proofs.Common.{sym, arith, ◌∙◌}
+use Rattle.std.proofs.Common.{sym, ap, arith, ◌∙◌}
+use Rattle.shader_flow.specs.Site.{SiteModel}
 use Rattle.shader_flow.proofs.Counts.{count_taken, count_same}
 use Rattle.uniform_stream.proofs.walk.next_count.Goals as goal
 
-pub returns-then-takes_at-clause-value : goal.returns-then-takes_at-clause-value
-returns-then-takes_at-clause-value c =
-    let taken = count_taken c.args.code.now c.args.at (sym c.takes_at.ensures ∙ c.if-takes_at.true) in
-    grind (arith, taken, c.requires.taken)
+pub returns-then-takes_here-clause-value : goal.returns-then-takes_here-clause-value
+returns-then-takes_here-clause-value c =
+    let taken = count_taken c.args.site.now.code c.args.site.now.at (sym c.takes_here.ensures ∙ c.if-takes_here.true) in
+    grind (arith, taken, c.requires.count_is)
+
+pub overflow_add-result : goal.overflow_add-result
+overflow_add-result c = let e = ap (λ (s : SiteModel). s.at) c.site.view_is in omega (arith, e, c.requires.count_bound, c.site.invariant.inside, c.site.invariant.ends.few)
 
 pub returns-clause-value : goal.returns-clause-value
 returns-clause-value c =
-    let same = count_same c.args.code.now c.args.at (sym c.takes_at.ensures ∙ c.if-takes_at.false) in
-    grind (arith, same, c.requires.taken)
+    let same = count_same c.args.site.now.code c.args.site.now.at (sym c.takes_here.ensures ∙ c.if-takes_here.false) in
+    grind (arith, same, c.requires.count_is)

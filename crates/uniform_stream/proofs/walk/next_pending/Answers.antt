@@ -1,17 +1,25 @@
-use Rattle.std.proofs.Common.{sym, arith, ◌∙◌}
+use Rattle.std.proofs.Common.{sym, ap, arith, ◌∙◌}
+use Rattle.std.proofs.lemmas.Bool.{ltb-true, ltb-false}
+use Rattle.shader_flow.specs.Site.{SiteModel}
 use Rattle.shader_flow.proofs.Counts.{pending_past, pending_sent, pending_kept}
 use Rattle.uniform_stream.proofs.walk.next_pending.Goals as goal
 
-pub returns-then-at-checked-clause-value : goal.returns-then-at-checked-clause-value
-returns-then-at-checked-clause-value c =
-    let past = pending_past c.args.code.now c.args.tmu c.args.at (omega (arith, c.if-at-checked.true, c.checked.ensures.value)) in
+pub returns-then-not-is_checked-clause-value : goal.returns-then-not-is_checked-clause-value
+returns-then-not-is_checked-clause-value c =
+    let past = pending_past c.args.site.now.code c.args.tmu c.args.site.now.at (ltb-false _ _ (sym c.is_checked.ensures ∙ c.if-not-is_checked.true)) in
     grind (arith, past, c.requires.kept)
 
 pub returns-then-writes_s-clause-value : goal.returns-then-writes_s-clause-value
 returns-then-writes_s-clause-value c =
-    sym (pending_sent c.args.code.now c.args.tmu c.args.at (omega (arith, c.if-at-checked.false, c.checked.ensures.value)) (sym c.writes_s.ensures ∙ c.if-writes_s.true))
+    let sent = pending_sent c.args.site.now.code c.args.tmu c.args.site.now.at (ltb-true _ _ (sym c.is_checked.ensures ∙ c.if-not-is_checked.false)) in
+    grind (arith, sent, c.writes_s.ensures, c.if-writes_s.true, c.word.ensures)
+
+pub overflow_add-result : goal.overflow_add-result
+overflow_add-result c =
+    let e = ap (λ (s : SiteModel). s.at) c.site.view_is in
+    omega (arith, e, c.requires.bound, c.tmu_writes.ensures.small, c.site.invariant.inside, c.site.invariant.ends.few)
 
 pub returns-clause-value : goal.returns-clause-value
 returns-clause-value c =
-    let kept = pending_kept c.args.code.now c.args.tmu c.args.at (omega (arith, c.if-at-checked.false, c.checked.ensures.value)) (sym c.writes_s.ensures ∙ c.if-writes_s.false) in
-    grind (arith, kept, c.requires.kept, c.tmu_writes.ensures.value)
+    let kept = pending_kept c.args.site.now.code c.args.tmu c.args.site.now.at (ltb-true _ _ (sym c.is_checked.ensures ∙ c.if-not-is_checked.false)) in
+    grind (arith, kept, c.requires.kept, c.writes_s.ensures, c.if-writes_s.false, c.tmu_writes.ensures.value, c.word.ensures, c.word-2.ensures)

@@ -1,0 +1,16 @@
+-- The rules of a memory table, and of a job's handles, by number.
+use Rattle.std.specs.Prelude.{ℕ}
+use Rattle.buffer_table.specs.declared.buffer.HandleRule.{HandleRule}
+use Rattle.buffer_table.specs.declared.buffer.HandleRule.TheVariants.{ForeignBuffer}
+use Rattle.buffer_table.specs.declared.buffer.TableRule.{TableRule}
+use Rattle.buffer_table.specs.declared.buffer.TableRule.TheVariants.{MemorySize, OffPage, OutsideMemory, SharedByte, TooMuchContent}
+
+abbrev pub rule_number : TableRule → ℕ
+rule_number MemorySize = 1
+rule_number OffPage = 2
+rule_number OutsideMemory = 3
+rule_number SharedByte = 4
+rule_number TooMuchContent = 5
+
+abbrev pub handle_rule_number : HandleRule → ℕ
+handle_rule_number ForeignBuffer = 1
