@@ -1,7 +1,6 @@
 pub mod Bytes
 pub mod Words
 pub mod Rows
-pub mod Printing
 pub mod Reading
 pub mod Assembling
 pub mod Sorting

@@ -7,7 +7,7 @@ use Rattle.qpu_asm.specs.declared.table.Row.{Row}
 use Rattle.qpu_asm.specs.Table as table
 use Rattle.qpu_asm.specs.Table.{widths_of, alu_kind, load_imm_kind, branch_kind, nop_kind}
 use Rattle.qpu_asm.specs.Items.{is_ready, are_ready}
-use Rattle.qpu_asm.specs.Printed.{item_texts, item_text, spaced, kind_of}
+use Rattle.qpu_asm.specs.Printed.{item_texts, item_text, spaced, rows_text, kind_of}
 use Rattle.qpu_asm.specs.Seen.{row_seen, rows_seen}
 
 pub none_left : {A : Type 0} (xs : List A) → length xs ≡ 0 → xs ≡ []
@@ -63,9 +63,6 @@ ready_first rest later row is ready =
     (row_facts (row_seen row) parts.0, parts.1)
 
 -- the text of the rows that are left
-abbrev pub text_left : List Row → ℕ → List ℕ
-text_left rows word = spaced (item_texts (rows_seen rows) (values_of (widths_of (rows_seen rows)) word))
-
 text_by : (same : Bool) (item : List ℕ) (items : List (List ℕ)) → spaced (if same then items else item ∷ items) ≡ (if same then [] else 32 ∷ item) ++ spaced items
 unfolding spaced
 text_by true item items = refl
@@ -73,13 +70,13 @@ text_by false item items = refl
 
 pub text_first : (rest later : List Row) (row : Row) (word low value : ℕ) → rest ≡ row ∷ later
     → low ≡ width_of (widths_of (rows_seen later)) → value ≡ word / 2 ^ low % 2 ^ row.width
-    → text_left rest word ≡ (if value == row.fallback then [] else 32 ∷ item_text (row_seen row) value) ++ text_left later word
+    → rows_text (rows_seen rest) word ≡ (if value == row.fallback then [] else 32 ∷ item_text (row_seen row) value) ++ rows_text (rows_seen later) word
 unfolding item_texts values_of
 text_first rest later row word low value is at field = rw (is, field, at) (text_by _ _ _)
 
-pub text_none : (rest : List Row) (word : ℕ) → length rest ≡ 0 → text_left rest word ≡ []
+pub text_none : (rest : List Row) (word : ℕ) → length rest ≡ 0 → rows_text (rows_seen rest) word ≡ []
 unfolding item_texts spaced
-text_none rest word is = ap (λ rows. text_left rows word) (none_left rest is)
+text_none rest word is = ap (λ rows. rows_text (rows_seen rows) word) (none_left rest is)
 
 -- the tables' rows are ready, and fill a word
 pub kind_cases : (P : table.Kind → Type 0) (nop load branch : Bool) → P nop_kind → P load_imm_kind → P branch_kind → P alu_kind

@@ -3,6 +3,7 @@ use Rattle.std.specs.Prelude.{ℕ, ◌≡◌, ◌<◌, ◌^◌, ◌==◌, List, 
 use Rattle.std.specs.declared.option.Option.{Option}
 use Rattle.std.specs.declared.option.Option.TheVariants.{None, Some}
 use Rattle.std.specs.declared.result.Result.TheVariants.{Ok}
+use Rattle.std.specs.List.{flat_map}
 use Rattle.qpu_isa.specs.Word.{sig_of}
 use Rattle.qpu_isa.specs.Inst.{alu_of, load_imm_of, branch_of}
 use Rattle.qpu_isa.specs.Fields.{values_of, alu_values, load_imm_values, branch_values}
@@ -40,16 +41,18 @@ unfoldable pub spaced : List (List ℕ) → List ℕ
 spaced [] = []
 spaced (item ∷ items) = 32 ∷ (item ++ spaced items)
 
+abbrev pub rows_text : List Row → ℕ → List ℕ
+rows_text rows word = spaced (item_texts rows (values_of (widths_of rows) word))
+
 -- the opcode, and each item after a space
 unfoldable pub kind_text : ℕ → Kind → List ℕ
-kind_text word kind = kind.opcode ++ spaced (item_texts kind.rows (values_of (widths_of kind.rows) word))
+kind_text word kind = kind.opcode ++ rows_text kind.rows word
 
 unfoldable pub line_text : ℕ → List ℕ
 line_text word = kind_text word (kind_of word) ++ 10 ∷ []
 
 unfoldable pub AsmText : List ℕ → List ℕ
-AsmText [] = []
-AsmText (word ∷ words) = line_text word ++ AsmText words
+AsmText words = flat_map line_text words
 
 -- Assembling what was printed gives the same words.
 abbrev pub PrintedReturns : Type 0

@@ -1,7 +1,5 @@
 -- The code's tables as the definitions' tables.
-use Rattle.std.specs.Prelude.{List, [], ◌∷◌, map, if◌then◌else◌}
-use Rattle.std.specs.Str.{bytes_eq}
-use Rattle.std.specs.declared.option.Option.TheVariants.{None, Some}
+use Rattle.std.specs.Prelude.{List, map}
 use Rattle.qpu_asm.specs.declared.lines.Line.{Line}
 use Rattle.qpu_asm.specs.declared.lines.Line.TheVariants as line
 use Rattle.qpu_asm.specs.declared.label.Mark.{Mark}

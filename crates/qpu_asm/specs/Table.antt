@@ -1,6 +1,6 @@
 -- The kinds of instructions and their items. The items stand for the fields of a word from the highest bit down, without
 -- gaps, so that a row's width is all that tells its place.
-use Rattle.std.specs.Prelude.{ℕ, ◌^◌, Bool, true, false, List, [], ◌∷◌, map, codes}
+use Rattle.std.specs.Prelude.{ℕ, ◌+◌, ◌^◌, Bool, true, false, List, [], ◌∷◌, ◌++◌, map, codes}
 use Rattle.qpu_isa.specs.Fields.{joined}
 
 -- a value's name
@@ -24,9 +24,6 @@ pub record Kind : Type 0 where
   pub above : ℕ
   pub rows : List Row
 
-abbrev pub calls : List ℕ → ℕ → Named
-calls name value = record { name = name; value = value }
-
 abbrev pub item : List ℕ → ℕ → ℕ → Row
 item name width fallback = record { name = name; width = width; below = 2 ^ width; fallback = fallback; named = []; takes_label = false }
 
@@ -39,60 +36,44 @@ widths_of rows = map (λ row. row.width) rows
 abbrev pub fallbacks_of : List Row → List ℕ
 fallbacks_of rows = map (λ row. row.fallback) rows
 
+-- names of values one after another, from a number on
+abbrev pub numbered : ℕ → List (List ℕ) → List Named
+numbered value [] = []
+numbered value (name ∷ names) = record { name = name; value = value } ∷ numbered (value + 1) names
+
 abbrev pub add_operations : List Named
 add_operations =
-    calls (codes "nop") 0
-    ∷ calls (codes "fadd") 1
-    ∷ calls (codes "fsub") 2
-    ∷ calls (codes "fmin") 3
-    ∷ calls (codes "fmax") 4
-    ∷ calls (codes "fminabs") 5
-    ∷ calls (codes "fmaxabs") 6
-    ∷ calls (codes "ftoi") 7
-    ∷ calls (codes "itof") 8
-    ∷ calls (codes "add") 12
-    ∷ calls (codes "sub") 13
-    ∷ calls (codes "shr") 14
-    ∷ calls (codes "asr") 15
-    ∷ calls (codes "ror") 16
-    ∷ calls (codes "shl") 17
-    ∷ calls (codes "min") 18
-    ∷ calls (codes "max") 19
-    ∷ calls (codes "and") 20
-    ∷ calls (codes "or") 21
-    ∷ calls (codes "xor") 22
-    ∷ calls (codes "not") 23
-    ∷ calls (codes "clz") 24
-    ∷ calls (codes "v8adds") 30
-    ∷ calls (codes "v8subs") 31
-    ∷ []
+    numbered 0 (codes "nop" ∷ codes "fadd" ∷ codes "fsub" ∷ codes "fmin" ∷ codes "fmax" ∷ codes "fminabs" ∷ codes "fmaxabs" ∷ codes "ftoi"
+    ∷ codes "itof" ∷ [])
+    ++ (numbered 12 (codes "add" ∷ codes "sub" ∷ codes "shr" ∷ codes "asr" ∷ codes "ror" ∷ codes "shl" ∷ codes "min" ∷ codes "max" ∷ codes "and"
+    ∷ codes "or" ∷ codes "xor" ∷ codes "not" ∷ codes "clz" ∷ [])
+    ++ numbered 30 (codes "v8adds" ∷ codes "v8subs" ∷ []))
 
 abbrev pub multiply_operations : List Named
 multiply_operations =
-    calls (codes "nop") 0
-    ∷ calls (codes "fmul") 1
-    ∷ calls (codes "mul24") 2
-    ∷ calls (codes "v8muld") 3
-    ∷ calls (codes "v8min") 4
-    ∷ calls (codes "v8max") 5
-    ∷ calls (codes "v8adds") 6
-    ∷ calls (codes "v8subs") 7
-    ∷ []
+    numbered 0 (codes "nop" ∷ codes "fmul" ∷ codes "mul24" ∷ codes "v8muld" ∷ codes "v8min" ∷ codes "v8max" ∷ codes "v8adds" ∷ codes "v8subs" ∷ [])
+
+-- which registers are written
+abbrev pub address_rows : List Row
+address_rows = item (codes "ws") 1 0 ∷ item (codes "wa") 6 39 ∷ item (codes "wm") 6 39 ∷ []
+
+-- how results are packed, on which conditions they are written, and where
+abbrev pub result_rows : List Row
+result_rows =
+    item (codes "pm") 1 0
+    ∷ item (codes "pack") 4 0
+    ∷ item (codes "ca") 3 0
+    ∷ item (codes "cm") 3 0
+    ∷ item (codes "sf") 1 0
+    ∷ address_rows
 
 -- signals 14 and 15 are the other kinds'
 abbrev pub alu_rows : List Row
 alu_rows =
     record { name = codes "sig"; width = 4; below = 14; fallback = 1; named = []; takes_label = false }
     ∷ item (codes "unpack") 3 0
-    ∷ item (codes "pm") 1 0
-    ∷ item (codes "pack") 4 0
-    ∷ item (codes "ca") 3 0
-    ∷ item (codes "cm") 3 0
-    ∷ item (codes "sf") 1 0
-    ∷ item (codes "ws") 1 0
-    ∷ item (codes "wa") 6 39
-    ∷ item (codes "wm") 6 39
-    ∷ operation (codes "om") 3 multiply_operations
+    ∷ result_rows
+    ++ operation (codes "om") 3 multiply_operations
     ∷ operation (codes "oa") 5 add_operations
     ∷ item (codes "ra") 6 39
     ∷ item (codes "rb") 6 39
@@ -103,18 +84,7 @@ alu_rows =
     ∷ []
 
 abbrev pub load_imm_rows : List Row
-load_imm_rows =
-    item (codes "mode") 3 0
-    ∷ item (codes "pm") 1 0
-    ∷ item (codes "pack") 4 0
-    ∷ item (codes "ca") 3 0
-    ∷ item (codes "cm") 3 0
-    ∷ item (codes "sf") 1 0
-    ∷ item (codes "ws") 1 0
-    ∷ item (codes "wa") 6 39
-    ∷ item (codes "wm") 6 39
-    ∷ item (codes "imm") 32 0
-    ∷ []
+load_imm_rows = item (codes "mode") 3 0 ∷ result_rows ++ item (codes "imm") 32 0 ∷ []
 
 -- `to` with a label can stand in place of `imm`
 abbrev pub branch_rows : List Row
@@ -124,10 +94,8 @@ branch_rows =
     ∷ item (codes "rel") 1 1
     ∷ item (codes "reg") 1 0
     ∷ item (codes "ra") 5 0
-    ∷ item (codes "ws") 1 0
-    ∷ item (codes "wa") 6 39
-    ∷ item (codes "wm") 6 39
-    ∷ record { name = codes "imm"; width = 32; below = 2 ^ 32; fallback = 0; named = []; takes_label = true }
+    ∷ address_rows
+    ++ record { name = codes "imm"; width = 32; below = 2 ^ 32; fallback = 0; named = []; takes_label = true }
     ∷ []
 
 abbrev pub alu_kind : Kind

@@ -1,9 +1,9 @@
 //! Words as text.
 ghost use Rattle.std.specs.Prelude.{◌≡◌, ◌≤◌, ◌<◌, ◌+◌, ◌/◌, ◌%◌, ◌^◌, ◌==◌, ◌∷◌, ◌++◌, [], true, map, MatchOption, OnOk, IfOk, if◌then◌else◌};
-ghost use Rattle.qpu_isa.specs.Fields.{width_of, values_of};
+ghost use Rattle.qpu_isa.specs.Fields.{width_of};
 ghost use Rattle.qpu_asm.specs.Table.{widths_of};
 ghost use Rattle.qpu_asm.specs.Items.{are_ready};
-ghost use Rattle.qpu_asm.specs.Printed.{name_of as name_in, value_text, item_text, item_texts, spaced, kind_of as kind_by, kind_text, line_text, AsmText, PrintedReturns, FieldsInOrder};
+ghost use Rattle.qpu_asm.specs.Printed.{name_of as name_in, value_text, item_text, rows_text, kind_of as kind_by, kind_text, line_text, AsmText, PrintedReturns, FieldsInOrder};
 ghost use Rattle.qpu_asm.specs.Seen.{named_seen, row_seen, rows_seen, kind_seen};
 
 use crate::table::{Kind, NOP, Named, Row, alu, branch, load_imm, nop};
@@ -13,6 +13,7 @@ use std::alloc::{AllocError, Global};
 
 /// Writes words as a text that assembles to them: one instruction a line, by its opcode and the items that differ from their
 /// defaults, in order, with a name where a value has one. Want of memory is its only error.
+#[tactic(auto, unfolding(crate::specs::Printed::AsmText))]
 pub fn disassemble(alloc: Global, words: &[u64]) -> Result<Vec<u8>, NoMemory>
     ensures { IfOk result (λ text. text.items ≡ AsmText words.now) }
 {
@@ -80,7 +81,7 @@ fn put_items(out: &mut Vec<u8>, rows: &[Row], width: u32, word: u64) -> Result<(
     requires ready { are_ready (rows_seen rows.now) ≡ true }
     requires width { width ≡ width_of (widths_of (rows_seen rows.now)) }
     requires wide { width ≤ 64 }
-    ensures { OnOk result (out.new.items ≡ out.old.items ++ spaced (item_texts (rows_seen rows.now) (values_of (widths_of (rows_seen rows.now)) word))) }
+    ensures { OnOk result (out.new.items ≡ out.old.items ++ rows_text (rows_seen rows.now) word) }
 {
     let mut rest = rows;
     let mut low = width;

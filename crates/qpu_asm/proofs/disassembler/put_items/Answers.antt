@@ -1,8 +1,9 @@
 use Rattle.std.proofs.Common.{arith, sym, ◌∙◌, ap, ◌++◌, append_assoc, append-nil, ◌≡◌, ◌-◌}
 use Rattle.qpu_isa.specs.Fields.{width_of}
 use Rattle.qpu_asm.specs.Table.{widths_of}
+use Rattle.qpu_asm.specs.Printed.{rows_text}
 use Rattle.qpu_asm.specs.Seen.{rows_seen}
-use Rattle.qpu_asm.proofs.Rows.{width_first, ready_first, text_first, text_none, text_left}
+use Rattle.qpu_asm.proofs.Rows.{width_first, ready_first, text_first, text_none}
 use Rattle.qpu_asm.proofs.disassembler.put_items.Goals as goal
 
 pub overflow_sub-low : goal.overflow_sub-low
@@ -24,8 +25,8 @@ loop-row-preserved c =
       low = at;
       wide = omega arith;
       text =
-          ap (λ out. out ++ text_left c.in-Some.later.now c.args.word) c.in_ok-put_field.ensures
-          ∙ (append_assoc c.loop-row.out.items _ (text_left c.in-Some.later.now c.args.word)
+          ap (λ out. out ++ rows_text (rows_seen c.in-Some.later.now) c.args.word) c.in_ok-put_field.ensures
+          ∙ (append_assoc c.loop-row.out.items _ (rows_text (rows_seen c.in-Some.later.now) c.args.word)
           ∙ (ap (λ text. c.loop-row.out.items ++ text) (sym (text_first _ _ _ c.args.word _ _ first at c.field_at.ensures)) ∙ c.loop-row.invariant.text));
     }
 

@@ -1,8 +1,8 @@
 use Rattle.std.proofs.Common.{◌≡◌, ◌≤◌, ◌++◌, length, true}
-use Rattle.qpu_isa.specs.Fields.{width_of, values_of}
+use Rattle.qpu_isa.specs.Fields.{width_of}
 use Rattle.qpu_asm.specs.Table.{widths_of}
 use Rattle.qpu_asm.specs.Items.{are_ready}
-use Rattle.qpu_asm.specs.Printed.{spaced, item_texts}
+use Rattle.qpu_asm.specs.Printed.{rows_text}
 use Rattle.qpu_asm.specs.Seen.{rows_seen}
 use Rattle.qpu_asm.proofs.disassembler.put_items.Given as goal
 
@@ -11,8 +11,8 @@ invariant-loop-row l = record {
   ready : are_ready (rows_seen l.rest) ≡ true;
   low : l.low ≡ width_of (widths_of (rows_seen l.rest));
   wide : l.low ≤ 64;
-  text : l.out.items ++ spaced (item_texts (rows_seen l.rest) (values_of (widths_of (rows_seen l.rest)) l.word))
-      ≡ l.fn.out.items ++ spaced (item_texts (rows_seen l.fn.rows) (values_of (widths_of (rows_seen l.fn.rows)) l.word));
+  text : l.out.items ++ rows_text (rows_seen l.rest) l.word
+      ≡ l.fn.out.items ++ rows_text (rows_seen l.fn.rows) l.word;
 }
 
 abbrev pub decreases-loop-row : goal.decreases-loop-row
