@@ -1,5 +1,5 @@
 -- Where a shader may go: its end, its checked instructions, and the targets of its branches. A shader is its list of words.
-use Rattle.std.specs.Prelude.{◌≡◌, ◌≤◌, ℕ, suc, ◌+◌, ◌%◌, ◌==◌, Bool, false, not, ◌&&◌, ◌||◌, List, [], ◌∷◌, length, min, nat_lt, slice_index, slice_index_or, if◌then◌else◌}
+use Rattle.std.specs.Prelude.{◌≡◌, ◌≤◌, ◌<◌, ℕ, suc, ◌+◌, ◌%◌, ◌==◌, Bool, false, not, ◌&&◌, ◌||◌, List, [], ◌∷◌, length, min, nat_lt, slice_index, slice_index_or, if◌then◌else◌}
 use Rattle.field_words.specs.Sizes.{most_words}
 use Rattle.qpu_isa.specs.Word.{imm_of, relative_of, register_of}
 use Rattle.qpu_isa.specs.Terms.{is_end, is_branch, is_switch, target_of}
@@ -45,6 +45,10 @@ makes_target code b i = is_sound_branch code b && (i == b + 4 || i == target_of 
 -- execution may come to i otherwise than from the instruction before it, by a branch before the program end
 unfoldable pub is_target : List ℕ → ℕ → Bool
 is_target code i = some_below (end_of code) (λ b. makes_target code b i)
+
+-- the marks are those of before, and one for each index of which the test is true
+abbrev pub AddsMarks : List Bool → List Bool → (ℕ → Bool) → Type 0
+AddsMarks old new test = (i : ℕ) → i < length old → slice_index_or new i false ≡ (slice_index_or old i false || test i)
 
 -- a checked instruction is a switch, so two threads share the processor
 unfoldable pub is_threaded : List ℕ → Bool

@@ -3,7 +3,7 @@ ghost use Rattle.std.specs.Prelude.{◌≡◌, ◌<◌, ◌≤◌, ◌+◌, ◌=
 ghost use Rattle.field_words.specs.Sizes.{most_words};
 ghost use Rattle.qpu_isa.specs.Terms.{target_of};
 ghost use Rattle.shader_flow.specs.Bounded.{some_below};
-ghost use Rattle.shader_flow.specs.Flow.{end_of, checked_of, is_threaded, is_target, makes_target, EndsAt, IsFlow};
+ghost use Rattle.shader_flow.specs.Flow.{end_of, checked_of, is_threaded, is_target, makes_target, AddsMarks, EndsAt, IsFlow};
 
 use crate::rules::is_sound;
 use crate::site::Site;
@@ -54,7 +54,7 @@ fn switches(code: &[u64], end: u32) -> bool
 // Marks the index `at`, where there is one.
 fn mark(targets: &mut [bool], at: usize)
     ensures size { length targets.new ≡ length targets.old }
-    ensures marks { (i : ℕ) → i < length targets.old → slice_index_or targets.new i false ≡ (slice_index_or targets.old i false || i == at) }
+    ensures marks { AddsMarks targets.old targets.new (λ i. i == at) }
 {
     if at < targets.len() {
         targets[at] = true;
@@ -65,7 +65,7 @@ fn mark(targets: &mut [bool], at: usize)
 fn mark_branch(targets: &mut [bool], word: u64, at: u32)
     requires { at < most_words }
     ensures size { length targets.new ≡ length targets.old }
-    ensures marks { (i : ℕ) → i < length targets.old → slice_index_or targets.new i false ≡ (slice_index_or targets.old i false || (i == at + 4 || i == target_of word at)) }
+    ensures marks { AddsMarks targets.old targets.new (λ i. i == at + 4 || i == target_of word at) }
 {
     mark(targets, at as usize + 4);
     mark(targets, target(word, at) as usize);
@@ -75,7 +75,7 @@ fn mark_branch(targets: &mut [bool], word: u64, at: u32)
 #[tactic(auto, unfolding(crate::specs::Flow::makes_target))]
 fn mark_from(targets: &mut [bool], site: &Site)
     ensures size { length targets.new ≡ length targets.old }
-    ensures marks { (i : ℕ) → i < length targets.old → slice_index_or targets.new i false ≡ (slice_index_or targets.old i false || makes_target site.now.code site.now.at i) }
+    ensures marks { AddsMarks targets.old targets.new (makes_target site.now.code site.now.at) }
 {
     if is_sound(site) {
         mark_branch(targets, site.word(), site.at as u32);
