@@ -4,12 +4,12 @@ use Rattle.std.specs.List.{AllByRecursion, range_with_len}
 use Rattle.field_words.specs.Sizes.{most_list, most_code}
 use Rattle.field_words.specs.Words.{IsBytes, u32_at}
 use Rattle.field_words.proofs.Numbers.{u16_fits, u32_fits, front_bytes, rest_bytes}
-use Rattle.job_format.specs.Offsets.{entry_offset, job_offset, content_size, content_offset, handles_offset, bin_offset, records_offset, uniforms_offset, end_offset}
+use Rattle.job_format.specs.Offsets.{most_handles, most_states, entry_offset, job_offset, content_size, content_offset, handles_offset, bin_offset, records_offset, uniforms_offset, end_offset}
 use Rattle.job_format.specs.Reading.{cut, kind_of, regions_at, surface_at, entry_at, frame_at, words_at, buffers_at, contents_at, job_at, file_at}
 use Rattle.job_format.specs.File.{BufferFits, SurfaceFits, FrameFits, JobFits, Fits, FitsShader, IsJobWellFormed, IsWellFormed, IsFileOf}
 use Rattle.job_format.proofs.Passing.{Passes}
 use Rattle.job_format.proofs.Standing.{content_ends}
-use Rattle.job_format.proofs.Found.{length_buffers, length_words, length_cut, handles_in, file_text_found}
+use Rattle.job_format.proofs.Found.{length_buffers, length_cut, handles_in, job_reads, file_text_found}
 
 -- a fact of each item of a range
 all_in : {A : Type 0} (P : A → Type 0) (f : ℕ → A) (a n : ℕ) → ((k : ℕ) → a ≤ k → k < a + n → P (f k)) → AllByRecursion P (map f (range_with_len a n))
@@ -91,21 +91,15 @@ fits_shader (suc zero) size small limit = limit refl
 fits_shader (suc (suc n)) size small limit = absurd (omega (arith, small))
 
 job_well_formed : (bytes : List ℕ) → Passes bytes → IsJobWellFormed (job_at bytes)
-unfolding job_at end_offset uniforms_offset records_offset bin_offset
 job_well_formed bytes p =
-    let at : ℕ = job_offset bytes in
-    let end = p.end in
-    let handles : length (words_at bytes (handles_offset bytes) (u32_at bytes (at + 8))) ≡ u32_at bytes (at + 8) = length_words bytes (handles_offset bytes) (u32_at bytes (at + 8)) in
-    let bin : length (cut bytes (bin_offset bytes) (u32_at bytes (at + 12))) ≡ u32_at bytes (at + 12) = length_cut bytes (bin_offset bytes) (u32_at bytes (at + 12)) (omega arith) in
-    let records : length (cut bytes (records_offset bytes) (u32_at bytes (at + 16))) ≡ u32_at bytes (at + 16) = length_cut bytes (records_offset bytes) (u32_at bytes (at + 16)) (omega arith) in
-    let uniforms : length (cut bytes (uniforms_offset bytes) (u32_at bytes (at + 24))) ≡ u32_at bytes (at + 24) = length_cut bytes (uniforms_offset bytes) (u32_at bytes (at + 24)) (omega arith) in
+    let r = job_reads bytes p in
     record {
-      handles = subst (λ n. n ≤ 64) (sym handles) p.job.handles;
-      bin = subst (λ n. n ≤ most_list) (sym bin) p.job.bin;
-      records = subst (λ n. n ≤ most_list) (sym records) p.job.records;
-      declared = p.job.declared;
-      uniforms = subst (λ n. n ≤ most_list) (sym uniforms) p.job.uniforms;
-      whole_words = subst (λ n. n % 4 ≡ 0) (sym uniforms) p.job.whole_words;
+      handles = subst (λ n. n ≤ most_handles) r.handles p.job.handles;
+      bin = subst (λ n. n ≤ most_list) r.bin p.job.bin;
+      records = subst (λ n. n ≤ most_list) r.records p.job.records;
+      declared = subst (λ n. n ≤ most_states) r.declared p.job.declared;
+      uniforms = subst (λ n. n ≤ most_list) r.uniforms p.job.uniforms;
+      whole_words = subst (λ n. n % 4 ≡ 0) r.uniforms p.job.whole_words;
     }
 
 file_well_formed : (bytes : List ℕ) → Passes bytes → IsWellFormed (file_at bytes)

@@ -110,7 +110,7 @@ number_of_flag zero small = refl
 number_of_flag (suc zero) small = refl
 number_of_flag (suc (suc n)) small = absurd (omega (arith, small))
 
-job_reads : (bytes : List ℕ) → Passes bytes → JobReads bytes (job_offset bytes) (job_at bytes)
+pub job_reads : (bytes : List ℕ) → Passes bytes → JobReads bytes (job_offset bytes) (job_at bytes)
 unfolding job_at frame_at bin_offset records_offset uniforms_offset end_offset
 job_reads bytes p =
     let at : ℕ = job_offset bytes in

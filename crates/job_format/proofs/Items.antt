@@ -12,13 +12,10 @@ all_at P f [] i x all inside met = absurd (omega (arith, inside))
 all_at P f (y ∷ ys) zero x all inside met = subst (λ z. P (f z)) (sym met) all.0
 all_at P f (y ∷ ys) (suc i) x all inside met = all_at P f ys i x all.1 (omega arith) met
 
--- one more text of those that are joined
-pub joined_more : {A : Type 0} (f : A → List ℕ) (xs : List A) (i : ℕ) (x : A) → i < length xs → x ≡ get_or xs i x
-    → joined (map f (take (suc i) xs)) ≡ joined (map f (take i xs)) ++ f x
-joined_more f [] i x inside met = absurd (omega (arith, inside))
-joined_more f (y ∷ ys) zero x inside met = append-nil (f y) ∙ ap f (sym met)
-joined_more f (y ∷ ys) (suc i) x inside met =
-    ap (λ t. f y ++ t) (joined_more f ys i x (omega arith) met) ∙ sym (append_assoc (f y) (joined (map f (take i ys))) (f x))
+-- Texts are joined as they are.
+pub joined_flat : (texts : List (List ℕ)) → flat_map (λ t. t) texts ≡ joined texts
+joined_flat [] = refl
+joined_flat (text ∷ texts) = ap (λ rest. text ++ rest) (joined_flat texts)
 
 -- One more item is taken.
 taken : {A : Type 0} (xs : List A) (i : ℕ) (x : A) → i < length xs → x ≡ get_or xs i x → take (i + 1) xs ≡ take i xs ++ (x ∷ [])
@@ -49,17 +46,6 @@ more_viewed v text P xs i x old before new inside met so_far appended one =
     let one_more : map v (take (i + 1) xs) ≡ map v (take i xs) ++ (v x ∷ []) = ap (map v) (taken xs i x inside met) ∙ map-append v (take i xs) (x ∷ []) in (
       appended ∙ ap (λ t. t ++ text (v x)) so_far.0 ∙ append_assoc old (flat_map text (map v (take i xs))) (text (v x))
           ∙ ap (λ t. old ++ t) (sym (flat_map_last text (map v (take i xs)) (v x)) ∙ ap (flat_map text) (sym one_more)),
-      subst (AllByRecursion P) (sym one_more) (pushed P (map v (take i xs)) (v x) so_far.1 one),
-    )
-
--- the contents are joined as they are
-pub more_joined : {A : Type 0} (v : A → List ℕ) (P : List ℕ → Type 0) (xs : List A) (i : ℕ) (x : A) (old before new : List ℕ) → i < length xs → x ≡ get_or xs i x
-    → (before ≡ old ++ joined (map v (take i xs))) × AllByRecursion P (map v (take i xs)) → new ≡ before ++ v x → P (v x)
-    → (new ≡ old ++ joined (map v (take (i + 1) xs))) × AllByRecursion P (map v (take (i + 1) xs))
-more_joined v P xs i x old before new inside met so_far appended one =
-    let one_more : map v (take (i + 1) xs) ≡ map v (take i xs) ++ (v x ∷ []) = ap (map v) (taken xs i x inside met) ∙ map-append v (take i xs) (x ∷ []) in (
-      appended ∙ ap (λ t. t ++ v x) so_far.0 ∙ append_assoc old (joined (map v (take i xs))) (v x)
-          ∙ ap (λ t. old ++ t) (sym (joined_more v xs i x inside met) ∙ ap (λ n. joined (map v (take n xs))) (sym (add-one i))),
       subst (AllByRecursion P) (sym one_more) (pushed P (map v (take i xs)) (v x) so_far.1 one),
     )
 
