@@ -113,10 +113,10 @@ setup_for : (r : Rights) (frame : JobFrame) (grid : Option (ℕ × ℕ)) (table 
     → AreSurfacesAt r frame (places_of frame table handles) → IsSetupFor frame (places_of frame table handles)
 setup_for r frame grid table handles none surfaces =
     let place : ℕ → Option ℕ = λ k. place_in table handles (surface_at frame k) in
-    let fits : (k : ℕ) → FitsAt frame k (place k) frame.max_x frame.max_y = λ k. fits_by r frame k (place k) (surfaces k) in
     is_setup frame table handles (place 0) (place 1) (place 2) (place 3) (place 4) (place 5) refl refl refl refl refl refl
     (set_of frame grid table handles none) (none_at frame grid table handles none)
-    (fits 0) (fits 1) (fits 2) (fits 3) (fits 4) (fits 5)
+    (fits_by r frame 0 (place 0) (surfaces 0)) (fits_by r frame 1 (place 1) (surfaces 1)) (fits_by r frame 2 (place 2) (surfaces 2))
+    (fits_by r frame 3 (place 3) (surfaces 3)) (fits_by r frame 4 (place 4) (surfaces 4)) (fits_by r frame 5 (place 5) (surfaces 5))
 
 -- Each tile is fine, and so is the store that clears.
 owes_fine : (r : Rights) (c : Config) (frame : JobFrame) (places : List (Option ℕ)) (grid : Option (ℕ × ℕ)) (slot : ℕ) → AreSurfacesAt r frame places → HasGridFor c frame slot grid
