@@ -4,4 +4,5 @@ pub mod Plan
 pub mod Runs
 pub mod Glance
 pub mod World
+pub mod Others
 pub mod Choice
