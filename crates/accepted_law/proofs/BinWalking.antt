@@ -1,52 +1,126 @@
--- The emitted binner list walks.
-use Rattle.std.proofs.Common.{◌≡◌, ◌⊎◌, ℕ, Bool, true, false, List, [], ◌∷◌, if◌then◌else◌, refl, ◌∙◌, ap, subst, arith, inl, inr}
+-- The emitted binner list walks, and each primitive of it may be drawn.
+use Rattle.std.proofs.Common.{◌≡◌, ◌≤◌, ◌<◌, ℕ, ◌+◌, ◌-◌, ◌%◌, ◌==◌, ◌&&◌, nat_lt, Bool, true, false, List, slice_index, length, Some, None, if◌then◌else◌, refl, ◌∙◌, ap, subst, arith, ◌⊎◌, [], ◌∷◌, inl, inr}
+use Rattle.std.proofs.lemmas.Bool.{eqb-true}
+use Rattle.field_words.specs.Words.{u32_at}
 use Rattle.packets.specs.Opcode.{indexed_primitive_list, array_primitive_list}
+use Rattle.buffer_table.specs.Table.{TableModel, buffer_at}
+use Rattle.buffer_table.specs.Handles.{IsData, is_plain, data_of}
+use Rattle.emitted_facts.specs.Facts.{IsIndexedPrimitive, IsPrimitive}
+use Rattle.bin_list.specs.declared.state.State.{State}
 use Rattle.bin_list.specs.Packets.{opcode, packets}
-use Rattle.bin_list.specs.Rules.{given_of}
+use Rattle.bin_list.specs.Rules.{index_size, given_of}
+use Rattle.bin_list.specs.States.{last_index, draws_to, states_of}
 use Rattle.bin_list.specs.Emitted.{bin_text}
 use Rattle.bin_list.specs.Fine.{IsLow}
-use Rattle.bin_list.specs.States.{states_of}
+use Rattle.bin_walks.specs.Draws.{IsStateAt, AreIndexesInside, IsDrawn}
+use Rattle.bin_walks.proofs.Walking.{draws_indexed}
 use Rattle.bin_walks.specs.Walks.{Kept, nothing_kept, kept_after, Drawing, Tame, Walks}
 use Rattle.packets.specs.declared.config.Config.{Config}
 use Rattle.bin_walks.specs.Emission.{emission, config_of}
-use Rattle.bin_walks.specs.Draws.{IsDrawn}
 use Rattle.bin_walks.specs.Law.{IsWalked}
 use Rattle.bin_walks.proofs.Law.{emitted_lists_walk_law}
+use Rattle.shader_records.specs.Named.{IsDataIn}
+use Rattle.shader_records.specs.Sources.{state_at, record_offset}
 use Rattle.job_format.specs.Model.{FileModel}
 use Rattle.job_check.specs.Shaders.{table_of}
-use Rattle.job_check.specs.Jobs.{job_of, has_bin, layout_of, states_in, bin_list_of}
+use Rattle.job_check.specs.Jobs.{job_of, input_for, layout_of, states_in, has_bin, bin_list_of}
 use Rattle.job_check.proofs.Layouts.{layout_low}
+use Rattle.machine_plan.specs.Regions.{Inside}
+use Rattle.list_law.proofs.Start.{Follows, walks_so}
 use Rattle.machine_law.specs.Begins.{DrawBegins}
-use Rattle.accepted_law.specs.Holdings.{plain_of, file_rights, across_of, down_of, config_for}
+use Rattle.accepted_law.specs.Holdings.{job_rights, plain_of, file_rights, across_of, down_of, config_for}
 use Rattle.accepted_law.specs.Settled.{Grounds}
-use Rattle.accepted_law.specs.Parts.{RecordsLaunch, BinWalks, BinsWalk}
+use Rattle.accepted_law.specs.Parts.{DrawsBegin, BinWalks, BinsWalk}
+use Rattle.accepted_law.proofs.States.{StateFound, state_found, place_for, place_whole, place_of, state_of, record_kept, data_inside, attributes_of}
+use Rattle.accepted_law.proofs.Programs.{records_launch_law}
 use Rattle.accepted_law.proofs.Holding.{bin_is}
 use Rattle.accepted_law.proofs.Tables.{buffer_low}
-use Rattle.accepted_law.proofs.Primitives.{draws_begin_law}
 
--- Where lists walk by one condition, they walk by another that follows from it of each packet that draws.
-abbrev Follows : (R Q : ℕ → List ℕ → Type 0) → Type 0
-Follows R Q = (word : ℕ) (packet : List ℕ) → R word packet → (opcode packet ≡ indexed_primitive_list) ⊎ (opcode packet ≡ array_primitive_list) → Q word packet
+-- a Plain buffer that a handle names
+data_named : (table : TableModel) (handles : List ℕ) (handle : ℕ) → IsData table handles handle → data_of table handles handle ≡ Some (slice_index handles handle)
+unfolding data_of
+data_named table handles handle is =
+    let inside : nat_lt handle (length handles) ≡ true = grind (arith, is.0.0) in
+    let known : nat_lt (slice_index handles handle) (length table.buffers) ≡ true = grind (arith, is.0.1) in
+    λ i. if (inside i && known i) && is_plain (is.1 i) then Some (slice_index handles handle) else None
 
-drawing_so : (R Q : ℕ → List ℕ → Type 0) → Follows R Q → (kept : Kept) (packet : List ℕ) → (opcode packet ≡ indexed_primitive_list) ⊎ (opcode packet ≡ array_primitive_list) → Drawing R kept packet → Drawing Q kept packet
-drawing_so R Q follows kept packet kind one = record { word = one.word; kept_word = one.kept_word; started = one.started; allowed = follows one.word packet one.allowed kind }
+data_in : (table : TableModel) (handles : List ℕ) (handle : ℕ) → IsData table handles handle
+    → IsDataIn table handles (buffer_at table.buffers (slice_index handles handle)).place (buffer_at table.buffers (slice_index handles handle)).size
+data_in table handles handle is = record { handle = handle; number = slice_index handles handle; named = data_named table handles handle is; place_is = refl; size_is = refl }
 
-tame_so : (config : Config) (R Q : ℕ → List ℕ → Type 0) → Follows R Q → (kept : Kept) (packet : List ℕ) → Tame config R kept packet → Tame config Q kept packet
-tame_so config R Q follows kept packet tame = record {
-  whole = tame.whole;
-  known = tame.known;
-  no_halt = tame.no_halt;
-  no_handles = tame.no_handles;
-  configures = tame.configures;
-  starts = tame.starts;
-  indexed = λ is. drawing_so R Q follows kept packet (inl is) (tame.indexed is);
-  array = λ is. drawing_so R Q follows kept packet (inr is) (tame.array is);
-  closes = tame.closes;
+draws_array : (packet : List ℕ) → opcode packet ≡ array_primitive_list → draws_to packet ≡ last_index (u32_at packet 6) (u32_at packet 2)
+unfolding draws_to
+draws_array packet is = ap (λ o. if o == indexed_primitive_list then u32_at packet 10 else (if o == array_primitive_list then last_index (u32_at packet 6) (u32_at packet 2) else 0)) is
+
+last_if : (b : Bool) (first count : ℕ) → (count == 0) ≡ b → 0 < count → (if b then 0 else first + count - 1) ≡ first + count - 1
+last_if true first count none some = let zero_is = eqb-true count 0 none in absurd (omega (arith, zero_is, some))
+last_if false first count is some = refl
+
+last_below : (first count most : ℕ) → last_index first count ≤ most → 0 < count → first + count ≤ most + 1
+last_below first count most upto some = let last = last_if (count == 0) first count refl some in omega (arith, last, upto, some)
+
+indexed_inside : (table : TableModel) (handles : List ℕ) (IsNamed : ℕ → ℕ → Type 0) (packet : List ℕ) (most : ℕ) → ((place size : ℕ) → IsDataIn table handles place size → IsNamed place size)
+    → AreIndexesInside table handles packet → u32_at packet 10 ≤ most → IsIndexedPrimitive IsNamed packet most
+unfolding index_size
+indexed_inside table handles IsNamed packet most named indexes greatest =
+    let buffer = buffer_at table.buffers (slice_index handles indexes.handle) in
+    record {
+      place = buffer.place;
+      size = buffer.size;
+      named = named buffer.place buffer.size (data_in table handles indexes.handle indexes.buffer);
+      from = indexes.from;
+      upto = indexes.upto;
+      greatest = greatest;
+    }
+
+primitive_of : (f : FileModel) (m : List ℕ) (word : ℕ) (packet : List ℕ) → Grounds f m → (drawn : IsDrawn (table_of f) (job_of f 0).handles (layout_of f 0) (states_in f 0) word packet)
+    → IsPrimitive (Inside (job_rights f 0).region) packet drawn.state.max_index
+primitive_of f m word packet grounds drawn = record {
+  indexed = λ is. indexed_inside (table_of f) (job_of f 0).handles (Inside (job_rights f 0).region) packet drawn.state.max_index (data_inside f m grounds) (drawn.indexes is)
+      (let draws = draws_indexed packet is in omega (arith, draws, drawn.most));
+  array = λ is. record { greatest = let draws = draws_array packet is in last_below (u32_at packet 6) (u32_at packet 2) drawn.state.max_index (subst (λ n. n ≤ drawn.state.max_index) draws drawn.most) };
 }
 
-walks_so : (config : Config) (R Q : ℕ → List ℕ → Type 0) → Follows R Q → (kept : Kept) (list : List (List ℕ)) → Walks config R kept list → Walks config Q kept list
-walks_so config R Q follows kept [] walks = tt
-walks_so config R Q follows kept (packet ∷ list) walks = (tame_so config R Q follows kept packet walks.0, walks_so config R Q follows (kept_after kept packet) list walks.1)
+found_in : (f : FileModel) (word : ℕ) (state : State) → IsStateAt (layout_of f 0) 0 (states_in f 0) word state → StateFound (input_for f 0) (layout_of f 0) word state
+unfolding input_for
+found_in f word state is = state_found (input_for f 0) (layout_of f 0) word state is
+
+listed : (f : FileModel) (k : ℕ) → k < length (input_for f 0).states → k < length (states_in f 0)
+unfolding input_for
+listed f k below = below
+
+points_there : (f : FileModel) (word : ℕ) (state : State) → (found : StateFound (input_for f 0) (layout_of f 0) word state) → word ≡ place_for f found.number + (state_at (input_for f 0) found.number).word % 16
+unfolding place_for
+points_there f word state found = found.points
+
+place_known : (f : FileModel) (k : ℕ) → place_for f k ≡ (layout_of f 0).place + (layout_of f 0).records + record_offset (input_for f 0) k
+unfolding place_for
+place_known f k = refl
+
+pub draws_begin_law : DrawsBegin
+draws_begin_law f m word packet grounds has drawn kind =
+    let found = found_in f word drawn.state drawn.is_state in
+    let k : ℕ = found.number in
+    let points = points_there f word drawn.state found in
+    let whole = place_whole f k grounds.settled.sound in
+    let n : ℕ = (state_at (input_for f 0) k).word in
+    let place_is = place_of word (place_for f k) n whole points in
+    let state_is = state_of word (place_for f k) n whole points in
+    let kept = record_kept f m k word grounds has found.below place_is state_is in
+    let launches = records_launch_law f m k word grounds has (listed f k found.below) (place_is ∙ place_known f k) in
+    record {
+      state = n;
+      most = (state_at (input_for f 0) k).max_index;
+      is_state = state_is;
+      record_stands = kept.stands;
+      record_fixed = kept.fixed;
+      attributes = attributes_of f m k word grounds has found.below place_is;
+      fragment = launches.fragment;
+      vertex = launches.vertex;
+      coordinate = launches.coordinate;
+      kind = kind;
+      primitive = subst (λ state. IsPrimitive (Inside (job_rights f 0).region) packet state.max_index) found.same (primitive_of f m word packet grounds drawn);
+    }
 
 -- The job's one configuration is that of the emitted list.
 grid_is : (f : FileModel) → config_of (layout_of f 0) (across_of f 0) (down_of f 0) ≡ config_for f 0
@@ -68,18 +142,18 @@ walked f m grounds has =
     emitted_lists_walk_law (job_of f 0).bin (job_of f 0).declared (table_of f) (job_of f 0).handles (layout_of f 0) grounds.settled.limits.bin (low f m grounds)
     (λ number below. buffer_low f.mem_size f.regions f.buffers grounds.settled.sound number) (grounds.settled.bin has)
 
-drawn_begins : (f : FileModel) (m : List ℕ) → RecordsLaunch → Grounds f m → has_bin f 0 ≡ true
+drawn_begins : (f : FileModel) (m : List ℕ) → Grounds f m → has_bin f 0 ≡ true
     → Follows (IsDrawn (table_of f) (job_of f 0).handles (layout_of f 0) (states_of (packets (job_of f 0).bin))) (DrawBegins (file_rights f) (plain_of f) m 0)
 unfolding states_in
-drawn_begins f m launch grounds has word packet drawn kind = draws_begin_law launch f m word packet grounds has drawn kind
+drawn_begins f m grounds has word packet drawn kind = draws_begin_law f m word packet grounds has drawn kind
 
-some_walk : (f : FileModel) (m : List ℕ) → RecordsLaunch → Grounds f m → has_bin f 0 ≡ true → BinWalks f m
-some_walk f m launch grounds has =
+some_walk : (f : FileModel) (m : List ℕ) → Grounds f m → has_bin f 0 ≡ true → BinWalks f m
+some_walk f m grounds has =
     let bin : List ℕ = (job_of f 0).bin in
     let list : List (List ℕ) = emission (given_of bin (job_of f 0).declared (table_of f) (job_of f 0).handles) (layout_of f 0) [] (packets bin) in
     let it = walked f m grounds has in
     let R : ℕ → List ℕ → Type 0 = DrawBegins (file_rights f) (plain_of f) m 0 in
-    let walks = walks_so (config_of (layout_of f 0) (across_of f 0) (down_of f 0)) (IsDrawn (table_of f) (job_of f 0).handles (layout_of f 0) (states_of (packets bin))) R (drawn_begins f m launch grounds has) nothing_kept list it.walks in
+    let walks = walks_so (config_of (layout_of f 0) (across_of f 0) (down_of f 0)) (IsDrawn (table_of f) (job_of f 0).handles (layout_of f 0) (states_of (packets bin))) R (drawn_begins f m grounds has) nothing_kept list it.walks in
     record {
       packets = list;
       text = bin_is f has ∙ it.text;
@@ -89,9 +163,9 @@ some_walk f m launch grounds has =
 none_walks : (f : FileModel) (m : List ℕ) → has_bin f 0 ≡ false → BinWalks f m
 none_walks f m none = record { packets = []; text = nothing_is f none; walks = tt }
 
-walks_by : (f : FileModel) (m : List ℕ) → RecordsLaunch → Grounds f m → (b : Bool) → has_bin f 0 ≡ b → BinWalks f m
-walks_by f m launch grounds true has = some_walk f m launch grounds has
-walks_by f m launch grounds false none = none_walks f m none
+walks_by : (f : FileModel) (m : List ℕ) → Grounds f m → (b : Bool) → has_bin f 0 ≡ b → BinWalks f m
+walks_by f m grounds true has = some_walk f m grounds has
+walks_by f m grounds false none = none_walks f m none
 
-pub bins_walk_law : RecordsLaunch → BinsWalk
-bins_walk_law launch f m grounds = walks_by f m launch grounds (has_bin f 0) refl
+pub bins_walk_law : BinsWalk
+bins_walk_law f m grounds = walks_by f m grounds (has_bin f 0) refl

@@ -29,7 +29,7 @@ use Rattle.accepted_law.proofs.ByteTexts.{bytes_none, bytes_zeros, bytes_placed,
 use Rattle.accepted_law.proofs.Placing.{bytes_are, IsClear, Misses, placed_part, fit_append, contents_parts_fit, content_stands}
 use Rattle.accepted_law.proofs.BinRoom.{list_within}
 use Rattle.accepted_law.proofs.Tables.{buffer_sound, buffers_apart, lists_apart}
-use Rattle.accepted_law.proofs.FrameFine.{frame_setup, frame_fits}
+use Rattle.accepted_law.proofs.RenderWalking.{frame_setup, frame_fits}
 
 -- The emitted lists are no longer than their room.
 rules_of_list : (list : List ℕ) (declared : ℕ) (f : FileModel) (handles : List ℕ) → first_of (bin_questions list declared (table_of f) handles) ≡ None

@@ -25,7 +25,7 @@ use Rattle.qpu_law.specs.Emitted.{Emits}
 use Rattle.qpu_law.proofs.Reading.{one_inside}
 use Rattle.qpu_law.proofs.Emitting.{streams_serve_law}
 use Rattle.machine_law.specs.Begins.{HomeBegins}
-use Rattle.machine_law.proofs.Fixed.{fixed_inside}
+use Rattle.machine_law.proofs.Begins.{fixed_inside}
 use Rattle.accepted_law.specs.Holdings.{plain_of, lists_of, job_rights, file_rights}
 use Rattle.accepted_law.specs.Settled.{Settled, Grounds}
 use Rattle.accepted_law.proofs.Settling.{code_rules}

@@ -1,44 +1,62 @@
 -- From the parts to the whole.
-use Rattle.std.proofs.Common.{◌≡◌, ◌⊎◌, inl, inr, ℕ, zero, suc, List, [], ◌∷◌, ◌++◌, length, refl, sym, ap, subst, ◌∙◌, arith}
+use Rattle.std.proofs.Common.{◌≡◌, inl, inr, ℕ, ◌+◌, List, length, refl, arith, ◌⊎◌, zero, suc, [], ◌∷◌, ◌++◌, sym, ap, subst, ◌∙◌}
 use Rattle.std.proofs.lemmas.List.{get_or_past}
-use Rattle.render_list.specs.Text.{render_slots}
 use Rattle.job_format.specs.Model.{FileModel}
-use Rattle.job_check.specs.Jobs.{no_job, job_of, grid_of, slot_of, places_in}
+use Rattle.job_check.specs.Jobs.{layout_of, bin_list_of, render_list_of, no_job, job_of, grid_of, slot_of, places_in}
+use Rattle.job_check.specs.Emit.{lengths_of, memory_of}
 use Rattle.job_check.specs.Shaders.{table_of}
-use Rattle.job_check.specs.Emit.{memory_of}
+use Rattle.machine_plan.specs.Memory.{bytes_at}
+use Rattle.machine_plan.specs.Regions.{Interval, Inside, Rights, IsOutside, HasReadOnly, Agree, joined}
+use Rattle.qpu_law.specs.Asks.{IsOneOf}
+use Rattle.qpu_law.proofs.Reading.{one_inside}
+use Rattle.machine_law.specs.Begins.{TextBegins, IsFixed}
+use Rattle.machine_law.specs.Jobs.{ArePlain}
+use Rattle.machine_law.proofs.Sound.{jobs_sound_law}
+use Rattle.render_list.specs.Text.{render_slots}
 use Rattle.buffer_table.specs.declared.buffer.Buffer.{Buffer}
 use Rattle.buffer_table.specs.Table.{buffer_at}
 use Rattle.buffer_table.specs.Handles.{data_of}
-use Rattle.qpu_law.specs.Asks.{IsOneOf}
-use Rattle.machine_plan.specs.Regions.{Interval, Inside, Rights, IsOutside, Agree, joined}
-use Rattle.machine_law.specs.Begins.{IsFixed, TextBegins, HasReadOnly}
-use Rattle.machine_law.specs.Jobs.{ArePlain}
-use Rattle.machine_law.specs.Textures.{ReadInOne}
-use Rattle.machine_law.proofs.Textures.{texture_units_read_law}
-use Rattle.machine.specs.Step.{job_of as job_of_unit, step}
-use Rattle.field_words.specs.declared.access.Access.{Access}
-use Rattle.field_words.specs.declared.access.Actor.TheVariants.{Tmu as TheTmu}
-use Rattle.machine_law.proofs.Begins.{jobs_safe_law}
-use Rattle.machine_law.proofs.Anywhere.{jobs_safe_anywhere_law}
-use Rattle.machine_law.proofs.Others.{jobs_safe_with_others_law}
-use Rattle.accepted_law.specs.Holdings.{named_buffers, plain_of, codes_of, lists_of, slot_in, job_rights, file_rights, file_starts, config_for, frame_for}
+use Rattle.accepted_law.specs.Holdings.{lists_of, job_rights, file_rights, start_by, named_buffers, plain_of, codes_of, slot_in, file_starts, config_for, frame_for}
 use Rattle.accepted_law.specs.Settled.{Grounds}
+use Rattle.accepted_law.specs.Texts.{BinTextsBegin, RenderTextsBegin, start_of}
 use Rattle.accepted_law.specs.Parts.{BinWalks, RenderWalks, FilesBegin}
-use Rattle.accepted_law.specs.Texts.{start_of}
 use Rattle.accepted_law.specs.Held.{ListsAndCodeAreFixed}
-use Rattle.accepted_law.specs.Whole.{FilesSafe, FilesSafeWhatever, FilesSafeAnywhere}
-use Rattle.accepted_law.specs.Others.{FilesSafeWithOthers}
-use Rattle.accepted_law.specs.Textures.{TextureUnitsReadPlainBuffers}
+use Rattle.accepted_law.specs.Whole.{FilesSound}
 use Rattle.accepted_law.proofs.Settling.{files_settle_law}
 use Rattle.accepted_law.proofs.Grounds.{files_ground_law}
 use Rattle.accepted_law.proofs.Allocating.{files_allocate_law}
-use Rattle.accepted_law.proofs.Programs.{records_launch_law}
 use Rattle.accepted_law.proofs.BinWalking.{bins_walk_law}
 use Rattle.accepted_law.proofs.RenderWalking.{renders_walk_law}
-use Rattle.accepted_law.proofs.ListTexts.{bin_texts_begin_law, render_texts_begin_law}
+
+text_begins : (f : FileModel) (m : List ℕ) → Grounds f m → (place : ℕ) (text : List ℕ) → bytes_at m place (length text) ≡ text → IsOneOf (lists_of f 0) place (length text)
+    → TextBegins (file_rights f) m 0 place text
+text_begins f m grounds place text stands one =
+    record {
+      stands = stands;
+      reads = one_inside (job_rights f 0).region place (length text) place (length text) (grounds.lists place (length text) one) (record { from = omega arith; upto = omega arith });
+      fixed = grounds.lists_fixed place (length text) one;
+    }
+
+bin_there : (f : FileModel) → IsOneOf (lists_of f 0) ((layout_of f 0).place + (layout_of f 0).bin) (length (bin_list_of f 0))
+unfolding lists_of lengths_of
+bin_there f = inl refl
+
+render_there : (f : FileModel) → IsOneOf (lists_of f 0) ((layout_of f 0).place + (layout_of f 0).render) (length (render_list_of f 0))
+unfolding lists_of lengths_of
+render_there f = inr (inr (inr (inl refl)))
+
+pub bin_texts_begin_law : BinTextsBegin
+unfolding start_by lengths_of
+bin_texts_begin_law f m grounds =
+    (text_begins f m grounds ((layout_of f 0).place + (layout_of f 0).bin) (bin_list_of f 0) grounds.holds.bin (bin_there f), refl)
+
+pub render_texts_begin_law : RenderTextsBegin
+unfolding start_by lengths_of
+render_texts_begin_law f m grounds =
+    (text_begins f m grounds ((layout_of f 0).place + (layout_of f 0).render) (render_list_of f 0) grounds.holds.render (render_there f), refl)
 
 -- A file of one job names no buffer for another.
-plain_past : (f : FileModel) (j : ℕ) → length f.jobs ≡ 1 → plain_of f (suc j) ≡ []
+pub plain_past : (f : FileModel) (j : ℕ) → length f.jobs ≡ 1 → plain_of f (suc j) ≡ []
 unfolding plain_of named_buffers job_of
 plain_past f j one = ap (λ job. named_buffers (data_of (table_of f) job.handles) f.buffers (length job.handles)) (get_or_past f.jobs (suc j) no_job (omega (arith, one)))
 
@@ -53,7 +71,7 @@ pub files_begin_law : FilesBegin
 files_begin_law f well fits none =
     let m : List ℕ = memory_of f in
     let grounds : Grounds f m = files_ground_law f (files_settle_law f well fits none) in
-    let bin : BinWalks f m = bins_walk_law records_launch_law f m grounds in
+    let bin : BinWalks f m = bins_walk_law f m grounds in
     let render : RenderWalks f = renders_walk_law f m grounds in
     let bin_begins = bin_texts_begin_law f m grounds in
     let render_begins = render_texts_begin_law f m grounds in (
@@ -74,22 +92,6 @@ files_begin_law f well fits none =
         render_len = render_begins.1 ∙ ap length render.text;
       },
     )
-
--- So what reads in a Plain buffer of some job reads in one of the first job's.
-first_alone : (f : FileModel) → length f.jobs ≡ 1 → (j : ℕ) (found : List Access) → ReadInOne (plain_of f j) found → ReadInOne (plain_of f 0) found
-first_alone f one zero found reads = reads
-first_alone f one (suc j) found reads =
-    let none : IsOneOf [] reads.place reads.size = subst (λ plain. IsOneOf plain reads.place reads.size) (plain_past f j one) reads.named in
-    absurd none
-
-pub files_safe_whatever_law : FilesSafeWhatever
-files_safe_whatever_law f well fits none m kept =
-    let begins = files_begin_law f well fits none in
-    jobs_safe_law (file_rights f) (plain_of f) (memory_of f) m (file_starts f) begins.0 kept (begins.1, tt)
-
--- the emitted memory is one of these
-pub files_safe_law : FilesSafe
-files_safe_law f well fits none = files_safe_whatever_law f well fits none (memory_of f) (record { long = refl; same = λ p out. refl })
 
 -- what lies in two lists of intervals joined lies in the first or in the others
 inside_either : (rs qs : List Interval) (p n : ℕ) → Inside (rs ++ qs) p n → Inside rs p n ⊎ Inside qs p n
@@ -114,15 +116,10 @@ has_read_only f m agree = record {
   same = λ p lies out. sym (agree.same p (lists_or_code f p lies out));
 }
 
-pub files_safe_anywhere_law : FilesSafeAnywhere
-files_safe_anywhere_law f well fits none m agree =
+pub files_sound_law : FilesSound
+files_sound_law f well fits none m agree =
     let begins = files_begin_law f well fits none in
-    jobs_safe_anywhere_law (file_rights f) (plain_of f) (memory_of f) m (file_starts f) begins.0 (has_read_only f m agree) (begins.1, tt)
-
-pub files_safe_with_others_law : FilesSafeWithOthers
-files_safe_with_others_law f well fits none m agree =
-    let begins = files_begin_law f well fits none in
-    jobs_safe_with_others_law (file_rights f) (plain_of f) (memory_of f) m (file_starts f) begins.0 (has_read_only f m agree) (begins.1, tt)
+    jobs_sound_law (file_rights f) (plain_of f) (memory_of f) m (file_starts f) begins.0 (has_read_only f m agree) (begins.1, tt)
 
 fixed_there : (rights : List Rights) (place size at n : ℕ) → place ≡ at → size ≡ n → IsFixed rights at n → IsFixed rights place size
 fixed_there rights place size at n place_is size_is fixed =
@@ -137,9 +134,3 @@ lists_and_code_fixed_law f well fits none =
           let at : Buffer = buffer_at f.buffers code.number in
           fixed_there (file_rights f) place size at.place at.size code.place_is code.size_is (grounds.code_fixed code.handle code.number code.named);
     }
-
-pub textures_read_law : TextureUnitsReadPlainBuffers
-textures_read_law f well fits none m agree events found t run k n words on =
-    let begins = files_begin_law f well fits none in
-    let reads = texture_units_read_law (file_rights f) (plain_of f) (memory_of f) m (file_starts f) begins.0 (has_read_only f m agree) (begins.1, tt) events found t run k n words on in
-    first_alone f well.one_job (job_of_unit t (TheTmu k n)) (step t (record { unit = TheTmu k n; words = words })).accesses reads

@@ -1,23 +1,28 @@
--- The renderer list of a file in which no rule stands walks.
-use Rattle.std.proofs.Common.{◌≡◌, ◌≤◌, ◌<◌, ℕ, zero, suc, ◌+◌, ◌||◌, Bool, true, false, nat_le, List, ◌++◌, Option, Some, None, if◌then◌else◌, refl, arith, inl, lit<}
+-- The renderer list of a file in which no rule stands walks: its places are a setup for its frame, and its numbers fit their fields.
+use Rattle.std.proofs.Common.{◌≡◌, ℕ, zero, suc, ◌+◌, ◌<◌, ◌≤◌, ◌^◌, Bool, true, false, if◌then◌else◌, List, Option, Some, None, refl, arith, lit<, ◌||◌, nat_le, ◌++◌, inl}
 use Rattle.field_words.specs.Questions.{first_of, each}
+use Rattle.field_words.specs.Words.{IsBytes}
 use Rattle.field_words.proofs.Questions.{none_stands}
 use Rattle.field_words.proofs.Nones.{front_none}
-use Rattle.buffer_table.specs.Table.{TableModel, items_of, item_at}
-use Rattle.buffer_table.specs.Sound.{IsSoundItem}
-use Rattle.job_format.specs.declared.file.Frame.{Frame as JobFrame}
+use Rattle.buffer_table.specs.Table.{TableModel, buffer_at}
+use Rattle.buffer_table.specs.Handles.{data_of}
+use Rattle.job_format.specs.declared.file.Frame.{Frame}
 use Rattle.job_format.specs.Model.{FileModel}
-use Rattle.machine_plan.specs.Regions.{Rights, LiesIn}
+use Rattle.packets.specs.Opcode.{tile_binning_mode}
 use Rattle.packets.specs.Packet.{slots_text}
-use Rattle.render_list.specs.Frame.{place_at, surface_at, FitsAt, IsTileSet, IsSetupFor}
-use Rattle.render_list.specs.Surfaces.{is_outside_grid, frame_questions, surface_questions, whole_questions, surface_faults, place_in, places_of}
+use Rattle.bin_list.specs.Packets.{passed}
+use Rattle.bin_list.specs.Seen.{seen_before}
+use Rattle.render_list.specs.Frame.{place_at, surface_at, is_present, FitsAt, IsSetupFor, IsTileSet}
+use Rattle.render_list.specs.Surfaces.{surface_questions, surface_faults, place_behind, place_in, places_of, is_outside_grid, frame_questions, whole_questions}
 use Rattle.render_list.specs.Text.{render_slots, render_text}
-use Rattle.render_list.proofs.Checked.{set_of, none_at, is_setup}
-use Rattle.render_walks.specs.Walks.{WalksTo, OwesFine, at_start, GridFits}
-use Rattle.render_walks.proofs.Walking.{render_walks}
+use Rattle.render_list.proofs.Checked.{offset_inside, tiles_inside, set_of, none_at, is_setup}
+use Rattle.render_walks.specs.Walks.{AllFit, PlacesFit, GridFits, WalksTo, OwesFine, at_start}
 use Rattle.render_walks.proofs.Numbers.{render_fits}
+use Rattle.render_walks.proofs.Walking.{render_walks}
 use Rattle.job_check.specs.Shaders.{table_of}
-use Rattle.job_check.specs.Jobs.{job_of, has_bin, grid_of, slot_of, places_in, render_list_of}
+use Rattle.job_check.specs.Jobs.{job_of, has_bin, grid_from, grid_of, slot_of, places_in, render_list_of}
+use Rattle.job_check.proofs.Layouts.{region_limits}
+use Rattle.machine_plan.specs.Regions.{Rights, LiesIn}
 use Rattle.qpu_law.specs.Asks.{IsOneOf}
 use Rattle.qpu_law.proofs.Reading.{one_inside}
 use Rattle.packets.specs.declared.config.Config.{Config}
@@ -25,12 +30,115 @@ use Rattle.list_law.specs.May.{MayWrite}
 use Rattle.list_law.specs.Rendering.{MayDo, NoMatter, AllSet}
 use Rattle.list_law.specs.Start.{frame_of}
 use Rattle.list_law.proofs.Start.{walks_to_weaker, head_sets}
-use Rattle.accepted_law.specs.Holdings.{plain_of, job_rights, across_of, down_of, config_for, frame_for}
 use Rattle.accepted_law.specs.Settled.{Settled, Grounds}
+use Rattle.accepted_law.proofs.Tables.{buffer_low}
+use Rattle.accepted_law.proofs.ByteTexts.{bytes_passed, byte_of_latest}
+use Rattle.accepted_law.specs.Holdings.{plain_of, job_rights, across_of, down_of, config_for, frame_for}
 use Rattle.accepted_law.specs.Parts.{RendersWalk}
 use Rattle.accepted_law.proofs.Frames.{HasRoom, IsSurfaceAt, AreSurfacesAt, surface_is}
-use Rattle.accepted_law.proofs.Grids.{across_small, down_small}
 use Rattle.accepted_law.proofs.Tiles.{HasGridFor, names_none_at, tile_fine}
+
+-- buffers end in the first 64 MiB
+abbrev AreLow : TableModel → Type 0
+AreLow table = (number : ℕ) → (buffer_at table.buffers number).place + (buffer_at table.buffers number).size ≤ 67108864
+
+-- Where a surface is in full resolution, its last tile lies below 2^32.
+fits_named : (frame : Frame) (table : TableModel) (handles : List ℕ) (k : ℕ) (found : Option ℕ) → AreLow table → is_present (surface_at frame k) ≡ true
+    → first_of (surface_questions frame table handles k) ≡ None → data_of table handles (surface_at frame k).hindex ≡ found
+    → FitsAt frame k (place_behind table (surface_at frame k).offset found) frame.max_x frame.max_y
+fits_named frame table handles k None low present none named = tt
+fits_named frame table handles k (Some number) low present none named = tiles_inside frame table handles k number present none named (low number)
+
+fits_by : (b : Bool) (frame : Frame) (table : TableModel) (handles : List ℕ) (k : ℕ) → AreLow table → is_present (surface_at frame k) ≡ b
+    → first_of (surface_questions frame table handles k) ≡ None
+    → FitsAt frame k (if b then place_behind table (surface_at frame k).offset (data_of table handles (surface_at frame k).hindex) else None) frame.max_x frame.max_y
+fits_by true frame table handles k low present none = fits_named frame table handles k (data_of table handles (surface_at frame k).hindex) low present none refl
+fits_by false frame table handles k low present none = tt
+
+fits_in : (frame : Frame) (table : TableModel) (handles : List ℕ) (k : ℕ) → AreLow table → first_of (surface_questions frame table handles k) ≡ None
+    → FitsAt frame k (place_in table handles (surface_at frame k)) frame.max_x frame.max_y
+unfolding place_in
+fits_in frame table handles k low none = fits_by (is_present (surface_at frame k)) frame table handles k low refl none
+
+pub setup_of : (frame : Frame) (grid : Option (ℕ × ℕ)) (table : TableModel) (handles : List ℕ) → AreLow table → first_of (surface_faults frame grid table handles) ≡ None
+    → IsSetupFor frame (places_of frame table handles)
+setup_of frame grid table handles low none =
+    let at : ℕ → Option ℕ = λ k. place_in table handles (surface_at frame k) in
+    let each : (k : ℕ) → k < 6 → first_of (surface_questions frame table handles k) ≡ None = none_at frame grid table handles none in
+    let fits : (k : ℕ) → k < 6 → FitsAt frame k (at k) frame.max_x frame.max_y = λ k below. fits_in frame table handles k low (each k below) in
+    is_setup frame table handles (at 0) (at 1) (at 2) (at 3) (at 4) (at 5) refl refl refl refl refl refl (set_of frame grid table handles none) each
+    (fits 0 (lit< tt)) (fits 1 (lit< tt)) (fits 2 (lit< tt)) (fits 3 (lit< tt)) (fits 4 (lit< tt)) (fits 5 (lit< tt))
+
+-- Each place is a number of four bytes.
+small_named : (frame : Frame) (table : TableModel) (handles : List ℕ) (k : ℕ) (found : Option ℕ) (place : ℕ) → AreLow table → is_present (surface_at frame k) ≡ true
+    → first_of (surface_questions frame table handles k) ≡ None → data_of table handles (surface_at frame k).hindex ≡ found
+    → place_behind table (surface_at frame k).offset found ≡ Some place → place < 2 ^ 32
+small_named frame table handles k None place low present none named is = cc
+small_named frame table handles k (Some number) place low present none named is =
+    let same : (buffer_at table.buffers number).place + (surface_at frame k).offset ≡ place = cc in
+    omega (arith, same, low number, offset_inside frame table handles k number present none named)
+
+small_by : (b : Bool) (frame : Frame) (table : TableModel) (handles : List ℕ) (k place : ℕ) → AreLow table → is_present (surface_at frame k) ≡ b
+    → first_of (surface_questions frame table handles k) ≡ None
+    → (if b then place_behind table (surface_at frame k).offset (data_of table handles (surface_at frame k).hindex) else None) ≡ Some place → place < 2 ^ 32
+small_by true frame table handles k place low present none is = small_named frame table handles k (data_of table handles (surface_at frame k).hindex) place low present none refl is
+small_by false frame table handles k place low present none is = cc
+
+small_in : (frame : Frame) (table : TableModel) (handles : List ℕ) (k place : ℕ) → AreLow table → first_of (surface_questions frame table handles k) ≡ None
+    → place_in table handles (surface_at frame k) ≡ Some place → place < 2 ^ 32
+unfolding place_in
+small_in frame table handles k place low none is = small_by (is_present (surface_at frame k)) frame table handles k place low refl none is
+
+-- Each of the six places is its surface's, and there are no others.
+pub places_are : (P : ℕ → ℕ → Type 0) (frame : Frame) (table : TableModel) (handles : List ℕ)
+    → ((k base : ℕ) → k < 6 → place_in table handles (surface_at frame k) ≡ Some base → P k base)
+    → (k base : ℕ) → place_at (places_of frame table handles) k ≡ Some base → P k base
+places_are P frame table handles each zero base is = each 0 base (lit< tt) is
+places_are P frame table handles each (suc zero) base is = each 1 base (lit< tt) is
+places_are P frame table handles each (suc (suc zero)) base is = each 2 base (lit< tt) is
+places_are P frame table handles each (suc (suc (suc zero))) base is = each 3 base (lit< tt) is
+places_are P frame table handles each (suc (suc (suc (suc zero)))) base is = each 4 base (lit< tt) is
+places_are P frame table handles each (suc (suc (suc (suc (suc zero))))) base is = each 5 base (lit< tt) is
+places_are P frame table handles each (suc (suc (suc (suc (suc (suc k)))))) base is = cc
+
+places_small : (frame : Frame) (table : TableModel) (handles : List ℕ) → AreLow table → ((k : ℕ) → k < 6 → first_of (surface_questions frame table handles k) ≡ None)
+    → (k place : ℕ) → place_at (places_of frame table handles) k ≡ Some place → place < 2 ^ 32
+places_small frame table handles low each = places_are (λ k place. place < 2 ^ 32) frame table handles (λ k place below is. small_in frame table handles k place low (each k below) is)
+
+-- So is the binner's grid of one.
+grid_if : (b : Bool) (grid : ℕ × ℕ) → (grid.0 < 256) × (grid.1 < 256) → GridFits (if b then Some grid else None)
+grid_if true grid small = small
+grid_if false grid small = tt
+
+pub sides_small : (list : List ℕ) → IsBytes list → ((seen_before (passed list)).tiles_x < 256) × ((seen_before (passed list)).tiles_y < 256)
+unfolding seen_before
+sides_small list all = (byte_of_latest tile_binning_mode 13 (passed list) (bytes_passed list all), byte_of_latest tile_binning_mode 14 (passed list) (bytes_passed list all))
+
+grid_small : (f : FileModel) → IsBytes (job_of f 0).bin → GridFits (grid_of f 0)
+unfolding grid_of
+grid_small f all = grid_if (has_bin f 0) (grid_from (seen_before (passed (job_of f 0).bin))) (sides_small (job_of f 0).bin all)
+
+slot_low : (f : FileModel) → f.regions.tile_place ≤ 67108864 → slot_of f 0 ≤ 67108864
+unfolding slot_of
+slot_low f low = omega (arith, low)
+
+-- The same of a settled file.
+low_of : (f : FileModel) → Settled f → AreLow (table_of f)
+low_of f s = buffer_low f.mem_size f.regions f.buffers s.sound
+
+pub frame_setup : (f : FileModel) → Settled f → IsSetupFor (job_of f 0).frame (places_in f 0)
+unfolding places_in
+frame_setup f s = setup_of (job_of f 0).frame (grid_of f 0) (table_of f) (job_of f 0).handles (low_of f s) s.surfaces
+
+frame_places : (f : FileModel) → Settled f → PlacesFit (places_in f 0)
+unfolding places_in
+frame_places f s = places_small (job_of f 0).frame (table_of f) (job_of f 0).handles (low_of f s) (none_at (job_of f 0).frame (grid_of f 0) (table_of f) (job_of f 0).handles s.surfaces)
+
+pub frame_fits : (f : FileModel) → Settled f → AllFit (render_slots (job_of f 0).frame (places_in f 0) (grid_of f 0) (slot_of f 0))
+frame_fits f s =
+    let limits = region_limits f s.sound in
+    render_fits (job_of f 0).frame (places_in f 0) (grid_of f 0) (slot_of f 0) s.job_fits.frame (frame_setup f s) (frame_places f s) (grid_small f s.job_fits.bin)
+    (slot_low f limits.2)
 
 -- The job may write each part of a Plain buffer that its handles name.
 may_write : (f : FileModel) (m : List ℕ) (place size p n : ℕ) → Grounds f m → IsOneOf (plain_of f 0) place size → place ≤ p → p + n ≤ place + size → MayWrite (job_rights f 0) p n
@@ -46,37 +154,25 @@ has_room f m grounds place size named =
     let one : IsOneOf (plain_of f 0) place size = grounds.named_data place size named in
     record { page = grounds.data_page place size one; low = grounds.data_low place size one; writes = λ p n from upto. may_write f m place size p n grounds one from upto }
 
--- Each of the six places is its surface's, and there are no others.
-places_are : (P : ℕ → ℕ → Type 0) (frame : JobFrame) (table : TableModel) (handles : List ℕ)
-    → ((k base : ℕ) → k < 6 → place_in table handles (surface_at frame k) ≡ Some base → P k base)
-    → (k base : ℕ) → place_at (places_of frame table handles) k ≡ Some base → P k base
-places_are P frame table handles each zero base is = each 0 base (lit< tt) is
-places_are P frame table handles each (suc zero) base is = each 1 base (lit< tt) is
-places_are P frame table handles each (suc (suc zero)) base is = each 2 base (lit< tt) is
-places_are P frame table handles each (suc (suc (suc zero))) base is = each 3 base (lit< tt) is
-places_are P frame table handles each (suc (suc (suc (suc zero)))) base is = each 4 base (lit< tt) is
-places_are P frame table handles each (suc (suc (suc (suc (suc zero))))) base is = each 5 base (lit< tt) is
-places_are P frame table handles each (suc (suc (suc (suc (suc (suc k)))))) base is = cc
-
-surfaces_at : (r : Rights) (frame : JobFrame) (grid : Option (ℕ × ℕ)) (table : TableModel) (handles : List ℕ) → HasRoom r table handles
+surfaces_at : (r : Rights) (frame : Frame) (grid : Option (ℕ × ℕ)) (table : TableModel) (handles : List ℕ) → HasRoom r table handles
     → first_of (surface_faults frame grid table handles) ≡ None → AreSurfacesAt r frame (places_of frame table handles)
 surfaces_at r frame grid table handles rooms none =
     places_are (IsSurfaceAt r frame) frame table handles (λ k base below is. surface_is r frame table handles k base rooms (none_at frame grid table handles none k below) is)
 
 -- The tiles of the set are in the binner's grid.
-in_grid : (frame : JobFrame) (grid : Option (ℕ × ℕ)) (table : TableModel) (handles : List ℕ) → first_of (surface_faults frame grid table handles) ≡ None → is_outside_grid frame grid ≡ false
+in_grid : (frame : Frame) (grid : Option (ℕ × ℕ)) (table : TableModel) (handles : List ℕ) → first_of (surface_faults frame grid table handles) ≡ None → is_outside_grid frame grid ≡ false
 unfolding surface_faults frame_questions
 in_grid frame grid table handles none =
     let n = none_stands (frame_questions frame grid) (front_none (frame_questions frame grid) (each (surface_questions frame table handles) 0 6 ++ whole_questions frame) none) in
     n.1.0
 
-tiles_below : (frame : JobFrame) (across down : ℕ) → is_outside_grid frame (Some (across, down)) ≡ false → (frame.max_x < across) × (frame.max_y < down)
+tiles_below : (frame : Frame) (across down : ℕ) → is_outside_grid frame (Some (across, down)) ≡ false → (frame.max_x < across) × (frame.max_y < down)
 unfolding is_outside_grid
 tiles_below frame across down none =
     let outside : (nat_le across frame.max_x || nat_le down frame.max_y) ≡ false = none in
     (grind (arith, outside), grind (arith, outside))
 
-has_grid : (b : Bool) (f : FileModel) (frame : JobFrame) → is_outside_grid frame (if b then Some (across_of f 0, down_of f 0) else None) ≡ false
+has_grid : (b : Bool) (f : FileModel) (frame : Frame) → is_outside_grid frame (if b then Some (across_of f 0, down_of f 0) else None) ≡ false
     → HasGridFor (config_for f 0) frame (slot_of f 0) (if b then Some (across_of f 0, down_of f 0) else None)
 unfolding config_for
 has_grid false f frame none = tt
@@ -89,44 +185,15 @@ unfolding grid_of
 has_grid_for f settled =
     has_grid (has_bin f 0) f (job_of f 0).frame (in_grid (job_of f 0).frame (grid_of f 0) (table_of f) (job_of f 0).handles settled.surfaces)
 
-grid_small : (b : Bool) (across down : ℕ) → across < 256 → down < 256 → GridFits (if b then Some (across, down) else None)
-grid_small true across down one two = (one, two)
-grid_small false across down one two = tt
-
-grid_fits : (f : FileModel) → Settled f → GridFits (grid_of f 0)
-unfolding grid_of
-grid_fits f settled = grid_small (has_bin f 0) (across_of f 0) (down_of f 0) (across_small (job_of f 0).bin settled.job_fits.bin) (down_small (job_of f 0).bin settled.job_fits.bin)
-
--- The tile slot lies in the memory.
-slot_low : (f : FileModel) → Settled f → slot_of f 0 ≤ 67108864
-unfolding slot_of
-slot_low f settled =
-    let item : IsSoundItem f.mem_size (item_at (items_of f.regions f.buffers) 1) = settled.sound.each_item 1 (omega arith) in
-    omega (arith, item.inside, settled.sound.limit)
-
--- The places are a setup for the frame.
-fits_by : (r : Rights) (frame : JobFrame) (k : ℕ) (place : Option ℕ) → ((base : ℕ) → place ≡ Some base → IsSurfaceAt r frame k base) → FitsAt frame k place frame.max_x frame.max_y
-fits_by r frame k None surfaces = tt
-fits_by r frame k (Some base) surfaces = λ full. ((surfaces base refl).full full).low
-
-setup_for : (r : Rights) (frame : JobFrame) (grid : Option (ℕ × ℕ)) (table : TableModel) (handles : List ℕ) → first_of (surface_faults frame grid table handles) ≡ None
-    → AreSurfacesAt r frame (places_of frame table handles) → IsSetupFor frame (places_of frame table handles)
-setup_for r frame grid table handles none surfaces =
-    let place : ℕ → Option ℕ = λ k. place_in table handles (surface_at frame k) in
-    is_setup frame table handles (place 0) (place 1) (place 2) (place 3) (place 4) (place 5) refl refl refl refl refl refl
-    (set_of frame grid table handles none) (none_at frame grid table handles none)
-    (fits_by r frame 0 (place 0) (surfaces 0)) (fits_by r frame 1 (place 1) (surfaces 1)) (fits_by r frame 2 (place 2) (surfaces 2))
-    (fits_by r frame 3 (place 3) (surfaces 3)) (fits_by r frame 4 (place 4) (surfaces 4)) (fits_by r frame 5 (place 5) (surfaces 5))
-
 -- Each tile is fine, and so is the store that clears.
-owes_fine : (r : Rights) (c : Config) (frame : JobFrame) (places : List (Option ℕ)) (grid : Option (ℕ × ℕ)) (slot : ℕ) → AreSurfacesAt r frame places → HasGridFor c frame slot grid
+owes_fine : (r : Rights) (c : Config) (frame : Frame) (places : List (Option ℕ)) (grid : Option (ℕ × ℕ)) (slot : ℕ) → AreSurfacesAt r frame places → HasGridFor c frame slot grid
     → OwesFine (MayDo r c (frame_of frame places)) frame places grid slot
 owes_fine r c frame places grid slot surfaces is = record {
   tiles = λ x y left right up down. tile_fine r c frame places grid slot y x surfaces is right down;
   clears = inl (names_none_at 0 refl);
 }
 
-walks_by : (r : Rights) (c : Config) (frame : JobFrame) (places : List (Option ℕ)) (grid : Option (ℕ × ℕ)) (slot : ℕ) → IsTileSet frame → AreSurfacesAt r frame places → HasGridFor c frame slot grid
+walks_by : (r : Rights) (c : Config) (frame : Frame) (places : List (Option ℕ)) (grid : Option (ℕ × ℕ)) (slot : ℕ) → IsTileSet frame → AreSurfacesAt r frame places → HasGridFor c frame slot grid
     → WalksTo (MayDo r c (frame_of frame places)) NoMatter at_start (render_slots frame places grid slot)
 walks_by r c frame places grid slot set surfaces is =
     let Fine = MayDo r c (frame_of frame places) in
@@ -141,10 +208,6 @@ surfaces_in : (f : FileModel) (m : List ℕ) → Grounds f m → AreSurfacesAt (
 unfolding places_in
 surfaces_in f m grounds = surfaces_at (job_rights f 0) (job_of f 0).frame (grid_of f 0) (table_of f) (job_of f 0).handles (has_room f m grounds) grounds.settled.surfaces
 
-setup_in : (f : FileModel) (m : List ℕ) → Grounds f m → IsSetupFor (job_of f 0).frame (places_in f 0)
-unfolding places_in
-setup_in f m grounds = setup_for (job_rights f 0) (job_of f 0).frame (grid_of f 0) (table_of f) (job_of f 0).handles grounds.settled.surfaces (surfaces_in f m grounds)
-
 sets_in : (f : FileModel) → AllSet (frame_for f 0) (render_slots (job_of f 0).frame (places_in f 0) (grid_of f 0) (slot_of f 0))
 unfolding frame_for
 sets_in f = head_sets (job_of f 0).frame (places_in f 0) (grid_of f 0) (slot_of f 0)
@@ -158,13 +221,4 @@ walks_in f m grounds =
     (surfaces_in f m grounds) (has_grid_for f grounds.settled)
 
 pub renders_walk_law : RendersWalk
-renders_walk_law f m grounds =
-    let surfaces : AreSurfacesAt (job_rights f 0) (job_of f 0).frame (places_in f 0) = surfaces_in f m grounds in
-    record {
-      text = list_text f;
-      walks = walks_in f m grounds;
-      fits =
-          render_fits (job_of f 0).frame (places_in f 0) (grid_of f 0) (slot_of f 0) grounds.settled.job_fits.frame (setup_in f m grounds)
-          (λ k base is. (surfaces k base is).low) (grid_fits f grounds.settled) (slot_low f grounds.settled);
-      sets = sets_in f;
-    }
+renders_walk_law f m grounds = record { text = list_text f; walks = walks_in f m grounds; fits = frame_fits f grounds.settled; sets = sets_in f }

@@ -29,7 +29,7 @@ use Rattle.list_law.proofs.Emitted.{same_count, same_extended}
 use Rattle.qpu_law.specs.Asks.{IsOneOf}
 use Rattle.qpu_law.proofs.Reading.{one_inside}
 use Rattle.machine_law.specs.Begins.{IsFixed}
-use Rattle.machine_law.proofs.Fixed.{fixed_inside}
+use Rattle.machine_law.proofs.Begins.{fixed_inside}
 use Rattle.accepted_law.specs.Holdings.{lists_of, job_rights, file_rights}
 use Rattle.accepted_law.specs.Settled.{Grounds}
 use Rattle.accepted_law.proofs.Uses.{inputs_are, inputs_low, streams_low, emitted_stand}

@@ -4,5 +4,3 @@ pub mod Parts
 pub mod Texts
 pub mod Whole
 pub mod Held
-pub mod Textures
-pub mod Others

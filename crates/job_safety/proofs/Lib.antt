@@ -1,5 +1,3 @@
-pub mod Packets
 pub mod Safety
-pub mod Starts
 pub mod Steps
-pub mod Writing
+pub mod Packets

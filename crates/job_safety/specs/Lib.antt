@@ -2,3 +2,4 @@ pub mod Safe
 pub mod Strength
 pub mod Accepted
 pub mod Files
+pub mod Follows

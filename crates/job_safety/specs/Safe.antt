@@ -1,23 +1,24 @@
--- What it is for jobs to be safe in the machine, and to depend on nothing but what they hold.
+-- What it is for jobs to be sound in the machine, and what it is to be safe and to depend on nothing but what they hold.
 use Rattle.std.specs.Prelude.{ℕ, List}
-use Rattle.machine_plan.specs.Regions.{Rights, joined}
+use Rattle.machine_plan.specs.Regions.{Interval, Rights, joined}
 use Rattle.machine_plan.specs.World.{Safe, Same}
 use Rattle.machine.specs.declared.job.Start.{Start}
 use Rattle.machine.specs.State.{units_start}
 use Rattle.machine.specs.Step.{ready, turn}
-use Rattle.machine_law.specs.Others.{SafeWithOthers}
+use Rattle.machine_law.specs.Sound.{Sound}
 
--- The jobs are safe over this memory. In every run from the start state, whatever its events, in
--- whatever order, of any length and with any choice words: no access is wild, each lies wholly in one
--- interval of the region of the job that it carries, each write in one interval of what that job may
--- write, and every byte that no job may write is at the end as at the start.
+-- The jobs are sound over this memory, where these are their Plain buffers. In every run from the start state, whatever its events, in
+-- whatever order, of any length and with any choice words, and whatever others write before, between and after the steps beside what
+-- jobs may only read: no access is wild, each lies wholly in one interval of the region of the job that it carries, each write in one
+-- interval of what that job may write, and every byte that no job may write and the others leave is at the end as at the start. Over
+-- every memory of this length that agrees with this one on the regions each run is done alike, with changes by others that agree there.
+-- And what a texture unit does reads in one Plain buffer of its job.
+abbrev pub AreSound : List Rights → (ℕ → List Interval) → List ℕ → List Start → Type 0
+AreSound jobs plains memory starts = Sound jobs plains memory (units_start starts)
+
+-- The jobs are safe over this memory: so it is of every run in which nobody else writes.
 abbrev pub AreSafe : List Rights → List ℕ → List Start → Type 0
 AreSafe jobs memory starts = Safe ready turn jobs memory (units_start starts)
-
--- So they are while others write: in every such run in which, before, between and after the steps, anyone may change the bytes that some
--- job may write, to anything.
-abbrev pub AreSafeWithOthers : List Rights → List ℕ → List Start → Type 0
-AreSafeWithOthers jobs memory starts = SafeWithOthers jobs memory (units_start starts)
 
 -- The jobs do the same over every memory of this length that agrees with this one on their regions:
 -- each run is one over that memory too, with the same events and the same accesses; at its end the

@@ -1,11 +1,13 @@
 -- All stands at the start.
-use Rattle.std.proofs.Common.{inl, ℕ, zero, suc, ◌+◌, Bool, true, false, ◌&&◌, List, [], ◌∷◌, ◌++◌, length, Option, Some, None, if◌then◌else◌, bit_or, refl, arith}
+use Rattle.std.proofs.Common.{◌≡◌, ◌⊎◌, inl, inr, ℕ, zero, suc, ◌+◌, Bool, true, false, ◌&&◌, List, [], ◌∷◌, ◌++◌, length, Option, Some, None, if◌then◌else◌, bit_or, refl, arith}
 use Rattle.std.proofs.lemmas.Bool.{false≢true}
 use Rattle.field_words.specs.Pieces.{joined}
 use Rattle.job_format.specs.declared.file.Frame.{Frame as JobFrame}
 use Rattle.packets.specs.declared.packet.Packet.{Packet}
 use Rattle.packets.specs.declared.packet.Packet.TheVariants.{WaitOnSemaphore, BranchToSubList, StoreTileColor, StoreTileColorAndEnd, StoreFullResolution, LoadFullResolution, StoreTileBuffer, LoadTileBuffer, TileRenderingMode, ClearColors, TileCoordinates}
+use Rattle.packets.specs.Opcode.{indexed_primitive_list, array_primitive_list}
 use Rattle.packets.specs.Packet.{slots_text}
+use Rattle.bin_list.specs.Packets.{opcode}
 use Rattle.machine_plan.specs.declared.launch.Launch.{Launch}
 use Rattle.machine_plan.specs.Regions.{Rights}
 use Rattle.bin_walks.specs.Walks.{Kept as Passed, kept_after, Drawing, Tame, Walks}
@@ -39,27 +41,29 @@ lists_begin r K O c f bin_place render_place packets slots bin render = record {
   closed = λ e. absurd (false≢true e);
 }
 
--- Where lists walk by one condition, they walk by a weaker one.
-drawing_weaker : (R Q : ℕ → List ℕ → Type 0) → ((word : ℕ) (packet : List ℕ) → R word packet → Q word packet) → (kept : Passed) (packet : List ℕ) → Drawing R kept packet → Drawing Q kept packet
-drawing_weaker R Q weaker kept packet d = record { word = d.word; kept_word = d.kept_word; started = d.started; allowed = weaker d.word packet d.allowed }
+-- Where lists walk by one condition, they walk by another that follows from it of each packet that draws.
+abbrev pub Follows : (R Q : ℕ → List ℕ → Type 0) → Type 0
+Follows R Q = (word : ℕ) (packet : List ℕ) → R word packet → (opcode packet ≡ indexed_primitive_list) ⊎ (opcode packet ≡ array_primitive_list) → Q word packet
 
-pub walks_weaker : (c : Config) (R Q : ℕ → List ℕ → Type 0) → ((word : ℕ) (packet : List ℕ) → R word packet → Q word packet) → (kept : Passed) (packets : List (List ℕ)) → Walks c R kept packets → Walks c Q kept packets
-walks_weaker c R Q weaker kept [] walks = tt
-walks_weaker c R Q weaker kept (packet ∷ packets) walks =
-    let tame : Tame c R kept packet = walks.0 in (
-      record {
-        whole = tame.whole;
-        known = tame.known;
-        no_halt = tame.no_halt;
-        no_handles = tame.no_handles;
-        configures = tame.configures;
-        starts = tame.starts;
-        indexed = λ e. drawing_weaker R Q weaker kept packet (tame.indexed e);
-        array = λ e. drawing_weaker R Q weaker kept packet (tame.array e);
-        closes = tame.closes;
-      },
-      walks_weaker c R Q weaker (kept_after kept packet) packets walks.1,
-    )
+drawing_so : (R Q : ℕ → List ℕ → Type 0) → Follows R Q → (kept : Passed) (packet : List ℕ) → (opcode packet ≡ indexed_primitive_list) ⊎ (opcode packet ≡ array_primitive_list) → Drawing R kept packet → Drawing Q kept packet
+drawing_so R Q follows kept packet kind one = record { word = one.word; kept_word = one.kept_word; started = one.started; allowed = follows one.word packet one.allowed kind }
+
+tame_so : (c : Config) (R Q : ℕ → List ℕ → Type 0) → Follows R Q → (kept : Passed) (packet : List ℕ) → Tame c R kept packet → Tame c Q kept packet
+tame_so c R Q follows kept packet tame = record {
+  whole = tame.whole;
+  known = tame.known;
+  no_halt = tame.no_halt;
+  no_handles = tame.no_handles;
+  configures = tame.configures;
+  starts = tame.starts;
+  indexed = λ is. drawing_so R Q follows kept packet (inl is) (tame.indexed is);
+  array = λ is. drawing_so R Q follows kept packet (inr is) (tame.array is);
+  closes = tame.closes;
+}
+
+pub walks_so : (c : Config) (R Q : ℕ → List ℕ → Type 0) → Follows R Q → (kept : Passed) (packets : List (List ℕ)) → Walks c R kept packets → Walks c Q kept packets
+walks_so c R Q follows kept [] walks = tt
+walks_so c R Q follows kept (packet ∷ packets) walks = (tame_so c R Q follows kept packet walks.0, walks_so c R Q follows (kept_after kept packet) packets walks.1)
 
 done_weaker : (R Q : Packet → ℕ → ℕ → Type 0) → ((p : Packet) (x y : ℕ) → R p x y → Q p x y) → (load : Option Packet) (x y : ℕ) → IsDoneAt R load x y → IsDoneAt Q load x y
 done_weaker R Q weaker None x y h = tt

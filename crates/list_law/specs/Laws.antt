@@ -5,7 +5,7 @@ use Rattle.machine_plan.specs.declared.launch.Free.{Free}
 use Rattle.machine_plan.specs.declared.launch.Launch.{Launch}
 use Rattle.machine_plan.specs.Glance.{glanced, GlancesIn}
 use Rattle.machine_plan.specs.Plan.{Keeps}
-use Rattle.machine_plan.specs.Regions.{Inside, Rights, IsSafeIn, IsKept}
+use Rattle.machine_plan.specs.Regions.{Inside, Rights, IsSafeIn, HasReadOnly}
 use Rattle.packets.specs.declared.config.Config.{Config}
 use Rattle.list_machine.specs.declared.state.Frame.{Frame}
 use Rattle.list_machine.specs.declared.state.Primitive.{Primitive}
@@ -37,7 +37,7 @@ StartFine =
     → Programs r.region (λ launch. IsTrue (may launch)) m word
     → Keeps who (Inside r.region) (IsSafeIn r) (λ n launch. IfSome launch (λ one. IsTrue (may one))) (start_plan program free word) m
 
--- In these laws the memories that runs can come to are those where nothing changed but what the jobs may write, and a
+-- In these laws the memories that runs can come to are those that have what jobs may only read as the first memory, and a
 -- program may be started where a test says so.
 abbrev pub Passes : (Launch → Bool) → Launch → Type 0
 Passes may launch = IsTrue (may launch)
@@ -46,21 +46,21 @@ Passes may launch = IsTrue (may launch)
 abbrev pub BinnerKeeps : Type 0
 BinnerKeeps =
     (who : Who) (r : Rights) (jobs : List Rights) (first : List ℕ) (may : Launch → Bool) (c : Config) (f : Frame) (s : Lists) (free : Free) (words m : List ℕ)
-    → Allocates r c → IsKept jobs first m → ListsFine r (IsKept jobs first) (Passes may) c f s → glanced (binner_ready s free) m ≡ true
-    → Keeps who (Inside r.region) (IsSafeIn r) (λ n turned. TurnedFine r (IsKept jobs first) (Passes may) c f turned) (binner_plan s free words) m
+    → Allocates r c → HasReadOnly jobs first m → ListsFine r (HasReadOnly jobs first) (Passes may) c f s → glanced (binner_ready s free) m ≡ true
+    → Keeps who (Inside r.region) (IsSafeIn r) (λ n turned. TurnedFine r (HasReadOnly jobs first) (Passes may) c f turned) (binner_plan s free words) m
 
 -- So does one step of its renderer.
 abbrev pub RendererKeeps : Type 0
 RendererKeeps =
     (who : Who) (r : Rights) (jobs : List Rights) (first : List ℕ) (may : Launch → Bool) (c : Config) (f : Frame) (s : Lists) (free : Free) (words m : List ℕ)
-    → IsKept jobs first m → ListsFine r (IsKept jobs first) (Passes may) c f s → glanced (renderer_ready s) m ≡ true
-    → Keeps who (Inside r.region) (IsSafeIn r) (λ n turned. TurnedFine r (IsKept jobs first) (Passes may) c f turned) (renderer_plan s free words) m
+    → HasReadOnly jobs first m → ListsFine r (HasReadOnly jobs first) (Passes may) c f s → glanced (renderer_ready s) m ≡ true
+    → Keeps who (Inside r.region) (IsSafeIn r) (λ n turned. TurnedFine r (HasReadOnly jobs first) (Passes may) c f turned) (renderer_plan s free words) m
 
 -- To see whether it may step, the renderer looks in the job's region.
 abbrev pub RendererLooks : Type 0
 RendererLooks =
     (r : Rights) (jobs : List Rights) (first : List ℕ) (may : Launch → Bool) (c : Config) (f : Frame) (s : Lists) (m : List ℕ)
-    → ListsFine r (IsKept jobs first) (Passes may) c f s → GlancesIn (Inside r.region) (renderer_ready s) m
+    → ListsFine r (HasReadOnly jobs first) (Passes may) c f s → GlancesIn (Inside r.region) (renderer_ready s) m
 
 -- Each part that a store covers may be written where the whole surface may, at whatever tile, and each part that a load
 -- covers lies in the region where the whole surface does.

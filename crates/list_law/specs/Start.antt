@@ -5,7 +5,7 @@ use Rattle.job_format.specs.declared.file.Frame.{Frame as JobFrame}
 use Rattle.packets.specs.Packet.{slots_text}
 use Rattle.machine_plan.specs.declared.launch.Launch.{Launch}
 use Rattle.machine_plan.specs.Memory.{bytes_at}
-use Rattle.machine_plan.specs.Regions.{Inside, Rights, IsKept}
+use Rattle.machine_plan.specs.Regions.{Inside, Rights, HasReadOnly}
 use Rattle.packets.specs.declared.packet.Packet.{Packet}
 use Rattle.bin_walks.specs.Walks.{nothing_kept, Walks}
 use Rattle.render_list.specs.Frame.{place_at}
@@ -41,8 +41,8 @@ pub record RendererBegins (r : Rights) (K : List ℕ → Type 0) (c : Config) (f
 abbrev pub ListsBegin : Type 0
 ListsBegin =
     (r : Rights) (jobs : List Rights) (first : List ℕ) (may : Launch → Bool) (c : Config) (f : Frame) (bin_place render_place : ℕ) (packets : List (List ℕ)) (slots : List (Option Packet))
-    → BinnerBegins r (IsKept jobs first) (Passes may) c bin_place packets → RendererBegins r (IsKept jobs first) c f render_place slots
-    → ListsFine r (IsKept jobs first) (Passes may) c f (lists_start bin_place (length (joined packets)) render_place (length (slots_text slots)))
+    → BinnerBegins r (HasReadOnly jobs first) (Passes may) c bin_place packets → RendererBegins r (HasReadOnly jobs first) c f render_place slots
+    → ListsFine r (HasReadOnly jobs first) (Passes may) c f (lists_start bin_place (length (joined packets)) render_place (length (slots_text slots)))
 
 -- Of a job's renderer list its head alone sets a frame.
 abbrev pub HeadSets : Type 0

@@ -13,6 +13,7 @@ ghost use Rattle.list_law.specs.Emitted.{EmittedFetches, EmittedPrograms};
 
 /// A vertex of a primitive is fetched by safe reads alone, where the primitive's indexes, the attributes of its
 /// record and the data of each vertex that counts lie in the job's region.
+#[tactic(auto, using(crate::proofs::Fetching::fetch_keeps))]
 pub fn fetch_keeps()
     ensures { FetchKeeps }
 {}
@@ -39,11 +40,13 @@ pub fn renderer_looks()
 {}
 
 /// All that a store of one tile writes lies in its surface, at whatever tile.
+#[tactic(auto, using(crate::proofs::Surfaces::store_fine))]
 pub fn store_fine()
     ensures { StoreFine }
 {}
 
 /// All that a load of one tile reads lies in its surface, at whatever tile.
+#[tactic(auto, using(crate::proofs::Surfaces::load_fine))]
 pub fn load_fine()
     ensures { LoadFine }
 {}
@@ -54,6 +57,7 @@ pub fn lists_begin()
 {}
 
 /// Of the renderer list that is written for a job, its head alone sets a frame.
+#[tactic(auto, using(crate::proofs::Start::head_sets))]
 pub fn head_sets()
     ensures { HeadSets }
 {}

@@ -1,10 +1,5 @@
 pub mod Places
 pub mod Processors
 pub mod Owes
-pub mod Jobs
-pub mod Fixed
-pub mod Draws
 pub mod Begins
-pub mod Anywhere
-pub mod Textures
-pub mod Others
+pub mod Sound

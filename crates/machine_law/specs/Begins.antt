@@ -8,8 +8,7 @@ use Rattle.emitted_facts.specs.Records.{is_single}
 use Rattle.packets.specs.StateWord.{attribute_count, record_size}
 use Rattle.machine_plan.specs.declared.launch.Launch.{Launch}
 use Rattle.machine_plan.specs.Memory.{bytes_at}
-use Rattle.machine_plan.specs.Regions.{Interval, Inside, Rights, rights_of, IsKept, IsOutside, joined}
-use Rattle.machine_plan.specs.World.{Safe, Same}
+use Rattle.machine_plan.specs.Regions.{Interval, Inside, Rights, rights_of, joined, IsOutside, HasReadOnly}
 use Rattle.shader_flow.specs.Flow.{is_threaded}
 use Rattle.uniform_stream.specs.Stream.{uniforms_of}
 use Rattle.packets.specs.declared.config.Config.{Config}
@@ -24,10 +23,7 @@ use Rattle.qpu_law.specs.Asks.{IsOneOf}
 use Rattle.qpu_law.specs.Home.{Home}
 use Rattle.qpu_law.specs.Thread.{IsHome, HasSamples}
 use Rattle.machine.specs.declared.job.Start.{Start}
-use Rattle.machine.specs.State.{units_start}
-use Rattle.machine.specs.Step.{ready, turn}
-use Rattle.machine_law.specs.Units.{EachAt}
-use Rattle.machine_law.specs.Jobs.{ArePlain, LaunchFine, HomeFine}
+use Rattle.machine_law.specs.Jobs.{LaunchFine, HomeFine}
 
 -- no job may write any of the n bytes from a place on
 abbrev pub IsFixed : List Rights → ℕ → ℕ → Type 0
@@ -90,38 +86,18 @@ pub record JobBegins (rights : List Rights) (plains : ℕ → List Interval) (fi
   pub render_text : TextBegins rights first j start.render_place (slots_text slots)
   pub render_len : start.render_len ≡ length (slots_text slots)
 
--- What no job may write stays, and so a home stays one.
+-- What some job may reach and none may write stays, and so a home stays one.
 abbrev pub FixedStays : Type 0
 FixedStays =
-    (rights : List Rights) (first m : List ℕ) (place size : ℕ) → IsFixed rights place size → IsKept rights first m
-    → bytes_at m place size ≡ bytes_at first place size
+    (rights : List Rights) (first m : List ℕ) (place size : ℕ) → IsFixed rights place size → Inside (joined rights) place size
+    → HasReadOnly rights first m → bytes_at m place size ≡ bytes_at first place size
 
 abbrev pub HomesStay : Type 0
 HomesStay =
     (rights : List Rights) (plains : ℕ → List Interval) (first : List ℕ) (j : ℕ) (home : Home) (buffers : List Interval) → HomeBegins rights plains first j home buffers → HomeFine rights plains first j home buffers
 
--- So a primitive may be drawn in each memory where nothing changed but what jobs may write.
+-- So a primitive may be drawn in each memory that has what jobs may only read as the first.
 abbrev pub DrawsStay : Type 0
 DrawsStay =
     (rights : List Rights) (plains : ℕ → List Interval) (first : List ℕ) (j word : ℕ) (packet : List ℕ) → DrawBegins rights plains first j word packet
-    → DrawsSo (rights_of rights j) (IsKept rights first) (LaunchFine rights plains first j) word packet
-
--- From what each job begins with, every run of the machine is safe and depends on nothing else: over the first memory, and over each
--- other one where nothing differs from it but what jobs may write.
-abbrev pub JobsSafe : Type 0
-JobsSafe =
-    (rights : List Rights) (plains : ℕ → List Interval) (first m : List ℕ) (starts : List Start) → ArePlain rights plains → IsKept rights first m → EachAt (JobBegins rights plains first) 0 starts
-    → Safe ready turn rights m (units_start starts) × Same ready turn rights (joined rights) m (units_start starts)
-
--- As long as the first memory, with every byte as there that some job may reach and none may write: lists, code and streams. All other
--- bytes may differ.
-pub record HasReadOnly (rights : List Rights) (first m : List ℕ) : Type 0 where
-  pub long : length m ≡ length first
-  pub same : (p : ℕ) → Inside (joined rights) p 1 → IsOutside rights p → slice_index m p ≡ slice_index first p
-
--- So it is over each memory that has these bytes, whatever else it holds.
-abbrev pub JobsSafeAnywhere : Type 0
-JobsSafeAnywhere =
-    (rights : List Rights) (plains : ℕ → List Interval) (first m : List ℕ) (starts : List Start) → ArePlain rights plains → HasReadOnly rights first m
-    → EachAt (JobBegins rights plains first) 0 starts
-    → Safe ready turn rights m (units_start starts) × Same ready turn rights (joined rights) m (units_start starts)
+    → DrawsSo (rights_of rights j) (HasReadOnly rights first) (LaunchFine rights plains first j) word packet

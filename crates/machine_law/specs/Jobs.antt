@@ -1,7 +1,7 @@
 -- What the jobs of a machine begin with, and what is known then of all that its units keep.
 use Rattle.std.specs.Prelude.{◌≡◌, ℕ, List}
 use Rattle.machine_plan.specs.declared.launch.Launch.{Launch}
-use Rattle.machine_plan.specs.Regions.{Interval, Rights, rights_of, IsKept}
+use Rattle.machine_plan.specs.Regions.{Interval, Rights, rights_of, HasReadOnly}
 use Rattle.shader_flow.specs.Flow.{is_threaded}
 use Rattle.packets.specs.declared.config.Config.{Config}
 use Rattle.list_machine.specs.declared.state.Frame.{Frame}
@@ -18,10 +18,10 @@ use Rattle.machine_law.specs.Units.{Facts}
 abbrev pub ArePlain : List Rights → (ℕ → List Interval) → Type 0
 ArePlain rights plains = (j place size : ℕ) → IsOneOf (plains j) place size → IsOneOf (rights_of rights j).region place size
 
--- A shader and its stream are a home for threads of job j: they stand in each memory where nothing changed but what the jobs
--- may write, in the job's region, and each sample of the shader reads in one of these buffers, which are Plain buffers of the job.
+-- A shader and its stream are a home for threads of job j: they stand in each memory that has what jobs may only read as the first, in
+-- the job's region, and each sample of the shader reads in one of these buffers, which are Plain buffers of the job.
 pub record HomeFine (rights : List Rights) (plains : ℕ → List Interval) (first : List ℕ) (j : ℕ) (home : Home) (buffers : List Interval) : Type 0 where
-  pub stands : (m : List ℕ) → IsKept rights first m → IsHome m (rights_of rights j).region home
+  pub stands : (m : List ℕ) → HasReadOnly rights first m → IsHome m (rights_of rights j).region home
   pub samples : HasSamples buffers home
   pub named : (place size : ℕ) → IsOneOf buffers place size → IsOneOf (plains j) place size
 
@@ -47,7 +47,7 @@ pub record JobFine (rights : List Rights) (plains : ℕ → List Interval) (firs
   pub config : Config
   pub frame : Frame
   pub allocates : Allocates (rights_of rights j) config
-  pub lists : ListsFine (rights_of rights j) (IsKept rights first) (LaunchFine rights plains first j) config frame s
+  pub lists : ListsFine (rights_of rights j) (HasReadOnly rights first) (LaunchFine rights plains first j) config frame s
 
 -- what is known of all that the units keep, for jobs with these rights and these Plain buffers over this first memory
 abbrev pub facts_of : List Rights → (ℕ → List Interval) → List ℕ → Facts

@@ -2,5 +2,4 @@ pub mod Units
 pub mod Jobs
 pub mod Laws
 pub mod Begins
-pub mod Textures
-pub mod Others
+pub mod Sound

@@ -3,5 +3,6 @@ pub mod Plans
 pub mod Runs
 pub mod Safe
 pub mod Worlds
+pub mod Others
 pub mod Reading
 pub mod Joining

@@ -6,7 +6,7 @@ use Rattle.field_words.specs.declared.access.Way.TheVariants.{Read, Write, Wild}
 use Rattle.machine_plan.specs.declared.who.Who.{Who}
 use Rattle.machine_plan.specs.Memory.{bytes_at, stored}
 use Rattle.machine_plan.specs.Regions.{Interval, Inside, IsIn, Every, Agree, Misses}
-use Rattle.machine_plan.specs.Plan.{Plan, Done, Wilds, Reads, Looks, Writes, Outcome, access, carried, Keeps, LooksIn, Ends}
+use Rattle.machine_plan.specs.Plan.{Plan, Done, Wilds, Reads, Looks, Writes, Outcome, access, carried, Keeps, LooksIn}
 use Rattle.machine_plan.proofs.Memory.{bytes_agree, stored_agree, stored_keeps, length-stored}
 
 -- two outcomes are the same but for memories that agree on the intervals
@@ -57,14 +57,6 @@ keeps_accesses who L G P Wilds m h = (h, tt)
 keeps_accesses who L G P (Reads p n next) m h = (h.0, keeps_accesses who L G P (next (bytes_at m p n)) m h.1)
 keeps_accesses who L G P (Looks p n next) m h = keeps_accesses who L G P (next (bytes_at m p n)) m h.1
 keeps_accesses who L G P (Writes p bs next) m h = (h.0, keeps_accesses who L G P next (stored m p bs) h.1)
-
--- and of its end
-pub keeps_ends : {R : Type 0} (who : Who) (L : ℕ → ℕ → Type 0) (G : Access → Type 0) (P : List ℕ → R → Type 0) (plan : Plan R) (m : List ℕ) → Keeps who L G P plan m → Ends P (carried who plan m).memory (carried who plan m).result
-keeps_ends who L G P (Done r) m h = h
-keeps_ends who L G P Wilds m h = tt
-keeps_ends who L G P (Reads p n next) m h = keeps_ends who L G P (next (bytes_at m p n)) m h.1
-keeps_ends who L G P (Looks p n next) m h = keeps_ends who L G P (next (bytes_at m p n)) m h.1
-keeps_ends who L G P (Writes p bs next) m h = keeps_ends who L G P next (stored m p bs) h.1
 
 -- and of its looks
 pub keeps_looks : {R : Type 0} (who : Who) (L : ℕ → ℕ → Type 0) (G : Access → Type 0) (P : List ℕ → R → Type 0) (plan : Plan R) (m : List ℕ) → Keeps who L G P plan m → LooksIn L plan m

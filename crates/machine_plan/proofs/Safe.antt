@@ -5,7 +5,6 @@ use Rattle.field_words.specs.declared.access.Way.TheVariants.{Read}
 use Rattle.machine_plan.specs.declared.who.Who.{Who}
 use Rattle.machine_plan.specs.Plan.{access}
 use Rattle.machine_plan.specs.Regions.{Interval, Inside, Every, Rights, rights_of, joined, IsIn, IsSafeAccess, IsSafeIn, IsOutside, Misses}
-use Rattle.machine_plan.specs.World.{Covers}
 use Rattle.machine_plan.proofs.Memory.{inside_part}
 use Rattle.machine_plan.proofs.Runs.{every-weaker}
 
@@ -20,7 +19,7 @@ inside-back [] qs p n lies = lies
 inside-back (r ∷ rs) qs p n lies = inr (inside-back rs qs p n lies)
 
 -- each job's region lies in the regions of all jobs
-pub joined_covers : (jobs : List Rights) → Covers jobs (joined jobs)
+pub joined_covers : (jobs : List Rights) (j p n : ℕ) → Inside (rights_of jobs j).region p n → Inside (joined jobs) p n
 joined_covers [] j p n none = absurd none
 joined_covers (one ∷ others) zero p n lies = inside-front one.region (joined others) p n lies
 joined_covers (one ∷ others) (suc j) p n lies = inside-back one.region (joined others) p n (joined_covers others j p n lies)

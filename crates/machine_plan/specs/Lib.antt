@@ -5,4 +5,5 @@ pub mod Turn
 pub mod Runs
 pub mod Glance
 pub mod World
+pub mod Others
 pub mod Choice

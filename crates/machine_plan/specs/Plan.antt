@@ -56,11 +56,6 @@ LooksIn L (Reads place len next) m = LooksIn L (next (bytes_at m place len)) m
 LooksIn L (Looks place len next) m = L place len × LooksIn L (next (bytes_at m place len)) m
 LooksIn L (Writes place bytes next) m = LooksIn L next (stored m place bytes)
 
--- P of the result, where there is one
-abbrev pub Ends : {R : Type 0} → (List ℕ → R → Type 0) → List ℕ → Option R → Type 0
-Ends P m None = Unit {0}
-Ends P m (Some r) = P m r
-
 -- What code that carries out a plan leaves: the accesses behind those already listed, the memory,
 -- and the result.
 pub record Shows {R : Type 0} (o : Outcome R) (before after : List Access) (memory : List ℕ) (result : Option R) : Type 0 where

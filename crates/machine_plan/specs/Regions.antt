@@ -63,6 +63,12 @@ pub record IsKept (jobs : List Rights) (before after : List ℕ) : Type 0 where
   pub long : length after ≡ length before
   pub same : (p : ℕ) → IsOutside jobs p → slice_index after p ≡ slice_index before p
 
+-- As long as the first memory, with every byte as there that some job may reach and none may write: lists, code and streams.
+-- All other bytes may differ.
+pub record HasReadOnly (jobs : List Rights) (first m : List ℕ) : Type 0 where
+  pub long : length m ≡ length first
+  pub same : (p : ℕ) → Inside (joined jobs) p 1 → IsOutside jobs p → slice_index m p ≡ slice_index first p
+
 -- two memories of one length that agree on the bytes of the intervals
 pub record Agree (intervals : List Interval) (m k : List ℕ) : Type 0 where
   pub long : length m ≡ length k

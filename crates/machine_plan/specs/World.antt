@@ -6,7 +6,7 @@ use Rattle.field_words.specs.declared.access.Access.{Access}
 use Rattle.machine_plan.specs.declared.who.Who.{Who}
 use Rattle.machine_plan.specs.Plan.{Plan, Done, Wilds, Reads, Looks, Writes, Outcome, carried, Keeps}
 use Rattle.machine_plan.specs.Glance.{Glance, glanced, GlancesIn}
-use Rattle.machine_plan.specs.Regions.{Interval, Inside, Every, Rights, rights_of, IsSafeAccess, IsKept, Agree}
+use Rattle.machine_plan.specs.Regions.{Interval, Inside, Every, Rights, rights_of, IsSafeAccess, IsKept, HasReadOnly, Agree}
 use Rattle.machine_plan.specs.Runs.{Moved, Run}
 
 -- the plan with its result handed on
@@ -88,15 +88,10 @@ pub record Same {U E : Type 0} (ready : U → E → Glance Bool) (turn : U → E
       → Run (world_may ready) (world_step turn) (record { memory = first; units = start }) events found t
       → IsKept jobs first t.memory × RunsSame ready turn jobs all other start events found t
 
--- each job's region lies in these intervals
-abbrev pub Covers : List Rights → List Interval → Type 0
-Covers jobs all = (j p n : ℕ) → Inside (rights_of jobs j).region p n → Inside all p n
-
--- What units owe, with what they keep: from all that is kept, over a memory where nothing changed but
--- what jobs may write, each look by which a unit sees whether it may step lies in the intervals; and
--- where it may, its plan looks in the intervals, does safe accesses alone, and comes to what is kept
--- again.
-pub record Owes {U E : Type 0} (ready : U → E → Glance Bool) (turn : U → E → Turn U) (jobs : List Rights) (all : List Interval) (first : List ℕ) (I : U → Type 0) : Type 0 where
-  pub looks : (u : U) (m : List ℕ) (e : E) → I u → IsKept jobs first m → GlancesIn (Inside all) (ready u e) m
-  pub keeps : (u : U) (m : List ℕ) (e : E) → I u → IsKept jobs first m → IsTrue (glanced (ready u e) m)
-      → Keeps (turn u e).who (Inside all) (IsSafeAccess jobs) (λ k next. I next) (turn u e).plan m
+-- What units owe, with what they keep: from all that is kept, over a memory that has what jobs may only read as the first, each look
+-- by which a unit sees whether it may step lies in the region of the job for which it steps; and where it may, its plan looks there,
+-- does safe accesses alone, and comes to what is kept again.
+pub record Owes {U E : Type 0} (ready : U → E → Glance Bool) (turn : U → E → Turn U) (jobs : List Rights) (first : List ℕ) (I : U → Type 0) : Type 0 where
+  pub looks : (u : U) (m : List ℕ) (e : E) → I u → HasReadOnly jobs first m → GlancesIn (Inside (rights_of jobs (turn u e).who.job).region) (ready u e) m
+  pub keeps : (u : U) (m : List ℕ) (e : E) → I u → HasReadOnly jobs first m → IsTrue (glanced (ready u e) m)
+      → Keeps (turn u e).who (Inside (rights_of jobs (turn u e).who.job).region) (IsSafeAccess jobs) (λ k next. I next) (turn u e).plan m

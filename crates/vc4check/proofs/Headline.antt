@@ -18,17 +18,7 @@ may_run : (bytes : List ℕ) → IsFileOf bytes (file_at bytes) → refusal_of b
 unfolding refusal_of
 may_run bytes is none =
     let file : IsSafeFile (file_at bytes) = file_is_safe bytes is none in
-    record {
-      none = none;
-      spells = is;
-      safe = file.safe;
-      same = file.same;
-      whatever_it_holds = file.whatever;
-      anywhere = file.anywhere;
-      while_others_write = file.others;
-      lists_fixed = file.fixed.lists;
-      code_fixed = file.fixed.code;
-    }
+    record { none = none; spells = is; sound = file.sound; lists_fixed = file.fixed.lists; code_fixed = file.fixed.code }
 
 pub accepted_may_run : AcceptedMayRun
 unfolding refusal_of

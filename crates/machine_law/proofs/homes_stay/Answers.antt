@@ -1,4 +1,4 @@
-use Rattle.machine_law.proofs.Fixed.{homes_stay_law}
+use Rattle.machine_law.proofs.Begins.{homes_stay_law}
 use Rattle.machine_law.proofs.homes_stay.Goals as goal
 
 pub returns : goal.returns

@@ -1,6 +1,5 @@
-use Rattle.accepted_law.proofs.Programs.{records_launch_law}
 use Rattle.accepted_law.proofs.BinWalking.{bins_walk_law}
 use Rattle.accepted_law.proofs.bins.bins_walk.Goals as goal
 
 pub returns : goal.returns
-returns c = bins_walk_law records_launch_law
+returns c = bins_walk_law

@@ -1,4 +1,4 @@
-use Rattle.accepted_law.proofs.Bounds.{rights_are_held_law}
+use Rattle.accepted_law.proofs.Intervals.{rights_are_held_law}
 use Rattle.accepted_law.proofs.rights.rights_are_held.Goals as goal
 
 pub returns : goal.returns

@@ -1,4 +1,3 @@
--- The law.
 use Rattle.job_safety.proofs.Safety.{bytes_safe_law}
 use Rattle.job_safety.proofs.files.accepted_bytes_are_safe.Goals as goal
 

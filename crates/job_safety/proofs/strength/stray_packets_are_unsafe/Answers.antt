@@ -1,6 +1,5 @@
 -- The laws.
-use Rattle.job_safety.proofs.Packets.{stray_bin_law, stray_render_law}
-use Rattle.job_safety.proofs.Starts.{stray_starts_law}
+use Rattle.job_safety.proofs.Packets.{stray_bin_law, stray_render_law, stray_starts_law}
 use Rattle.job_safety.proofs.strength.stray_packets_are_unsafe.Goals as goal
 
 pub returns-clause-bin : goal.returns-clause-bin

@@ -1,5 +1,5 @@
 -- The laws.
-use Rattle.job_safety.proofs.Writing.{states_past_law, items_past_law, stores_past_law}
+use Rattle.job_safety.proofs.Packets.{states_past_law, items_past_law, stores_past_law}
 use Rattle.job_safety.proofs.strength.writes_past_are_unsafe.Goals as goal
 
 pub returns-clause-states : goal.returns-clause-states

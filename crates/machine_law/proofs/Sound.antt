@@ -1,0 +1,83 @@
+-- The machine of any jobs is sound. Where texture units read: by what is known of their requests.
+use Rattle.std.proofs.Common.{◌≡◌, ℕ, Bool, true, false, IsTrue, if◌then◌else◌, List, Option, Some, None, sym, subst}
+use Rattle.std.proofs.lemmas.Bool.{false≢true}
+use Rattle.std.specs.Prelude.{IfSome, is_some, nat_lt}
+use Rattle.field_words.specs.declared.access.Actor.TheVariants.{Tmu as TheTmu}
+use Rattle.machine_plan.specs.declared.who.Who.{Who}
+use Rattle.machine_plan.specs.Glance.{Glance, Now, glanced}
+use Rattle.machine_plan.specs.Plan.{Plan, carried}
+use Rattle.machine_plan.specs.Regions.{Interval, Rights}
+use Rattle.machine_plan.specs.World.{mapped}
+use Rattle.machine_plan.proofs.Plans.{keeps_accesses}
+use Rattle.machine_plan.proofs.Others.{run_holds, safe_law, same_law, safe_alone, same_alone}
+use Rattle.machine_plan.proofs.Worlds.{keeps_mapped}
+use Rattle.qpu_machine.specs.declared.state.Qpu.{Qpu}
+use Rattle.qpu_machine.specs.declared.state.Request.{Request}
+use Rattle.qpu_machine.specs.Qpu.{oldest, queue_of, job_of_request, tmu_ready, served, serving}
+use Rattle.qpu_machine.specs.Request.{ask_plan}
+use Rattle.qpu_law.specs.Asks.{IsReadIn}
+use Rattle.qpu_law.proofs.Reading.{asks_stay_in_law}
+use Rattle.machine.specs.State.{Units, State, units_start, item_at}
+use Rattle.machine.specs.Step.{with_qpu, tmu_may, tmu_turn, tmu_job, enabled, job_of, ready, turn}
+use Rattle.machine_law.specs.Units.{AskOf, QpuFine}
+use Rattle.machine_law.specs.Jobs.{facts_of}
+use Rattle.machine_law.specs.Laws.{AreFine}
+use Rattle.machine_law.specs.Sound.{ReadInOne, TexturesReadIn, MachineSound, JobsSound, SoundJobsAreSafe}
+use Rattle.machine_law.proofs.Places.{item_fine}
+use Rattle.machine_law.proofs.Processors.{oldest_fine, queue_of_fine}
+use Rattle.machine_law.proofs.Owes.{units_owe_law, start_fine}
+use Rattle.machine_law.proofs.Begins.{each_begins}
+
+-- a texture unit by its oldest request
+request_reads : (rights : List Rights) (plains : ℕ → List Interval) (first : List ℕ) (u : Units) (k n : ℕ) (q : Qpu) (found : Option Request) (words m : List ℕ) → IfSome found (AskOf (facts_of rights plains first)) → is_some found ≡ true
+    → ReadInOne (plains (job_of_request found)) (carried (record { unit = TheTmu k n; job = job_of_request found }) (mapped (with_qpu u k) (serving found q n words)) m).accesses
+request_reads rights plains first u k n q None words m asked on = absurd (false≢true on)
+request_reads rights plains first u k n q (Some request) words m asked on =
+    let who : Who = record { unit = TheTmu k n; job = request.job } in
+    let within : Interval = record { place = asked.place; size = asked.size } in
+    let L : ℕ → ℕ → Type 0 = λ place len. ⊥ in
+    let G = IsReadIn within in
+    let plan : Plan (Option (List ℕ)) = ask_plan request.ask words in
+    let asks = asks_stay_in_law within request.ask asked.reads who words m in
+    let serves = keeps_mapped (served q n request) who L G (λ i next. i ≡ m) plan m asks in
+    record {
+      place = asked.place;
+      size = asked.size;
+      named = asked.named;
+      reads = keeps_accesses who L G (λ i next. i ≡ m) (mapped (with_qpu u k) (mapped (served q n request) plan)) m (keeps_mapped (with_qpu u k) who L G (λ i next. i ≡ m) (mapped (served q n request) plan) m serves);
+    }
+
+there_on : (there : Bool) (glance : Glance Bool) (m : List ℕ) → IsTrue (glanced (if there then glance else Now false) m) → glanced glance m ≡ true
+there_on true glance m on = on
+there_on false glance m on = absurd (false≢true on)
+
+tmu_reads : (rights : List Rights) (plains : ℕ → List Interval) (first : List ℕ) (u : Units) (k n : ℕ) (found : Option Qpu) (words m : List ℕ) → IfSome found (QpuFine (facts_of rights plains first)) → IsTrue (glanced (tmu_may found n) m)
+    → ReadInOne (plains (tmu_job found n)) (carried (tmu_turn u k n found words).who (tmu_turn u k n found words).plan m).accesses
+tmu_reads rights plains first u k n None words m known on = absurd (false≢true on)
+tmu_reads rights plains first u k n (Some q) words m known on =
+    let f = facts_of rights plains first in
+    request_reads rights plains first u k n q (oldest (queue_of q n)) words m (oldest_fine f (queue_of q n) (queue_of_fine f q n known)) (there_on (nat_lt n 2) (tmu_ready q n) m on)
+
+textures_read : (rights : List Rights) (plains : ℕ → List Interval) (first : List ℕ) (s : State) → AreFine rights plains first s.units → TexturesReadIn plains s
+unfolding turn enabled job_of
+textures_read rights plains first s known k n words on =
+    tmu_reads rights plains first s.units k n (item_at s.units.qpus k) words s.memory (item_fine (QpuFine (facts_of rights plains first)) s.units.qpus k known.qpus) on
+
+pub machine_sound_law : MachineSound
+machine_sound_law rights plains first m u plain has fine =
+    let owes = units_owe_law rights plains first plain in
+    let I : Units → Type 0 = AreFine rights plains first in
+    record {
+      safe = safe_law ready turn rights first m I u owes has fine;
+      same = same_law ready turn rights first m I u owes has fine;
+      textures = λ happenings found t run.
+          let ran = run_holds ready turn rights first I owes happenings (record { memory = m; units = u }) (record { units = fine; has = has }) run.allowed in
+          textures_read rights plains first t (subst (λ s. I s.units) (sym run.last) ran.0.units);
+    }
+
+pub jobs_sound_law : JobsSound
+jobs_sound_law rights plains first m starts plain has all =
+    machine_sound_law rights plains first m (units_start starts) plain has (start_fine rights plains first starts (each_begins rights plains first 0 starts all))
+
+pub sound_jobs_are_safe_law : SoundJobsAreSafe
+sound_jobs_are_safe_law rights plains m u sound = (safe_alone ready turn rights m u sound.safe, same_alone ready turn rights m u sound.safe sound.same)
