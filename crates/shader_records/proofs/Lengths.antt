@@ -1,7 +1,8 @@
 -- How long what is emitted is.
 use Rattle.std.proofs.Common.{◌≡◌, ℕ, zero, suc, ◌+◌, ◌/◌, ◌<◌, ◌≤◌, List, ◌++◌, length, Option, Some, None, refl, sym, ap, arith, ◌∙◌, length-append}
 use Rattle.field_words.specs.Writes.{with_bytes}
-use Rattle.field_words.proofs.WordBytes.{length_words, with_two, with_nothing}
+use Rattle.field_words.proofs.WordBytes.{length_words}
+use Rattle.field_words.proofs.Writes.{with_nothing, with_two}
 use Rattle.field_words.specs.Questions.{first_of}
 use Rattle.qpu_isa.specs.Shader.{ShaderModel}
 use Rattle.shader_records.specs.Inputs.{InputModel}
