@@ -1,6 +1,5 @@
 -- A run that goes one step further.
 use Rattle.std.proofs.Common.{◌≡◌, ◌≤◌, ◌<◌, ℕ, suc, ◌+◌, IsTrue, false, List, [], ◌∷◌, ◌++◌, length, slice_index, refl, sym, ◌∙◌, ap, subst, arith}
-use Rattle.std.specs.Prelude.{take}
 use Rattle.std.proofs.lemmas.Grind.{common_steps}
 use Rattle.field_words.specs.declared.access.Access.{Access}
 use Rattle.field_words.specs.declared.access.Actor.{Actor}
@@ -30,9 +29,6 @@ pub record Followed (Chooses Answers : ℕ → ℕ → ℕ → Type 0) (start no
   pub lines_are : lines ≡ lines_of start events
   pub count : length events ≡ done
   pub now_is : now ≡ reached step start events
-
-pub followed_none : (Chooses Answers : ℕ → ℕ → ℕ → Type 0) (start : State) → Followed Chooses Answers start start 0 []
-followed_none Chooses Answers start = record { events = []; follows = tt; allowed = tt; lines_are = refl; count = refl; now_is = refl }
 
 follows_more : (Chooses Answers : ℕ → ℕ → ℕ → Type 0) (i : ℕ) (s : State) (events : List Event) (event : Event) → Follows Chooses Answers i s events → IsTurn Chooses Answers (i + length events) (reached step s events) event → Follows Chooses Answers i s (events ++ event ∷ [])
 follows_more Chooses Answers i s [] event h turn = let same : i + 0 ≡ i = omega arith in (subst (λ k. IsTurn Chooses Answers k s event) same turn, tt)

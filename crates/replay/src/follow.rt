@@ -9,8 +9,9 @@ use crate::oracle::Oracle;
 use crate::trace::{Ending, Trace, TraceLine, line_of};
 use crate::units::{enabled_units, unit_at, word_count};
 use arrayvec::ArrayVec;
-use field_words::{Access, NoMemory};
+use field_words::NoMemory;
 use machine::Machine;
+use machine_plan::Accesses;
 use std::alloc::Global;
 
 /// The most choice words that a step gets.
@@ -41,7 +42,7 @@ fn fill<C: Fn(u64, u32) -> u32, F: Fn(u64, u32) -> u32>(
     words: &mut [u32],
 )
     requires most { length words.old ≤ 4096 }
-    requires answers { MayAnswer (λ step k. F.pre oracle.now.answer step k) }
+    requires answers { MayAnswer (F.pre oracle.now.answer) }
     ensures given { (k : ℕ) → k < length words.new → F.post oracle.now.answer step k (slice_index words.new k) }
     ensures long { length words.new ≡ length words.old }
 {
@@ -56,16 +57,16 @@ fn take_step<C: Fn(u64, u32) -> u32, F: Fn(u64, u32) -> u32>(
     step: u64,
     units: &ArrayVec<u8, 38>,
     words: &mut [u32; MOST_WORDS],
-    accesses: &mut ArrayVec<Access, 272>,
+    accesses: &mut Accesses,
     machine: &mut Machine,
 ) -> TraceLine
     requires goes { finished machine.old ≡ false }
     requires some { 1 ≤ length units.now.items }
     requires units { units.now.items ≡ enabled_units machine.old }
-    requires chooses { MayChoose (λ step n. C.pre oracle.now.choose step n) }
-    requires below { IsBelow (λ step n picked. C.post oracle.now.choose step n picked) }
-    requires answers { MayAnswer (λ step k. F.pre oracle.now.answer step k) }
-    ensures { StepsBy (λ i n picked. C.post oracle.now.choose i n picked) (λ i k word. F.post oracle.now.answer i k word) step machine.old machine.new result }
+    requires chooses { MayChoose (C.pre oracle.now.choose) }
+    requires below { IsBelow (C.post oracle.now.choose) }
+    requires answers { MayAnswer (F.pre oracle.now.answer) }
+    ensures { StepsBy (C.post oracle.now.choose) (F.post oracle.now.answer) step machine.old machine.new result }
 {
     let place = oracle.pick(step, units.len() as u32);
     let unit = unit_at(units[place as usize]);
@@ -81,13 +82,13 @@ fn go_on<C: Fn(u64, u32) -> u32, F: Fn(u64, u32) -> u32>(
     oracle: &Oracle<C, F>,
     step: u64,
     words: &mut [u32; MOST_WORDS],
-    accesses: &mut ArrayVec<Access, 272>,
+    accesses: &mut Accesses,
     machine: &mut Machine,
 ) -> Result<TraceLine, Ending>
-    requires chooses { MayChoose (λ step n. C.pre oracle.now.choose step n) }
-    requires below { IsBelow (λ step n picked. C.post oracle.now.choose step n picked) }
-    requires answers { MayAnswer (λ step k. F.pre oracle.now.answer step k) }
-    ensures goes { IfOk result (λ line. StepsBy (λ i n picked. C.post oracle.now.choose i n picked) (λ i k word. F.post oracle.now.answer i k word) step machine.old machine.new line) }
+    requires chooses { MayChoose (C.pre oracle.now.choose) }
+    requires below { IsBelow (C.post oracle.now.choose) }
+    requires answers { MayAnswer (F.pre oracle.now.answer) }
+    ensures goes { IfOk result (λ line. StepsBy (C.post oracle.now.choose) (F.post oracle.now.answer) step machine.old machine.new line) }
     ensures over { IfErr result (IsOver machine.old) }
     ensures same { IsErr result → machine.new ≡ machine.old }
 {
@@ -106,10 +107,10 @@ fn follow<C: Fn(u64, u32) -> u32, F: Fn(u64, u32) -> u32>(
 ) -> Result<Ending, NoMemory>
     requires empty { lines.old.items ≡ [] }
     requires few { steps ≤ 1000000 }
-    requires chooses { MayChoose (λ step n. C.pre oracle.now.choose step n) }
-    requires below { IsBelow (λ step n picked. C.post oracle.now.choose step n picked) }
-    requires answers { MayAnswer (λ step k. F.pre oracle.now.answer step k) }
-    ensures { IfOk result (λ ending. (events : List Event) × IsTrace (λ i n picked. C.post oracle.now.choose i n picked) (λ i k word. F.post oracle.now.answer i k word) machine.old steps events (record { lines = lines.new; ending = ending })) }
+    requires chooses { MayChoose (C.pre oracle.now.choose) }
+    requires below { IsBelow (C.post oracle.now.choose) }
+    requires answers { MayAnswer (F.pre oracle.now.answer) }
+    ensures { IfOk result (λ ending. (events : List Event) × IsTrace (C.post oracle.now.choose) (F.post oracle.now.answer) machine.old steps events (record { lines = lines.new; ending = ending })) }
 {
     let mut words = [0; MOST_WORDS];
     let mut accesses = ArrayVec::new();
@@ -134,10 +135,10 @@ pub fn replay<C: Fn(u64, u32) -> u32, F: Fn(u64, u32) -> u32>(
     steps: u32,
 ) -> Result<Trace, NoMemory>
     requires few { steps ≤ 1000000 }
-    requires chooses { MayChoose (λ step n. C.pre oracle.now.choose step n) }
-    requires below { IsBelow (λ step n picked. C.post oracle.now.choose step n picked) }
-    requires answers { MayAnswer (λ step k. F.pre oracle.now.answer step k) }
-    ensures { IfOk result (λ trace. (events : List Event) × IsTrace (λ i n picked. C.post oracle.now.choose i n picked) (λ i k word. F.post oracle.now.answer i k word) machine steps events trace) }
+    requires chooses { MayChoose (C.pre oracle.now.choose) }
+    requires below { IsBelow (C.post oracle.now.choose) }
+    requires answers { MayAnswer (F.pre oracle.now.answer) }
+    ensures { IfOk result (λ trace. (events : List Event) × IsTrace (C.post oracle.now.choose) (F.post oracle.now.answer) machine steps events trace) }
 {
     let mut lines = Vec::with_capacity(alloc, steps as usize)?;
     let ending = follow(oracle, steps, &mut lines, &mut machine)?;

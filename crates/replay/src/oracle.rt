@@ -14,9 +14,9 @@ impl<C: Fn(u64, u32) -> u32, F: Fn(u64, u32) -> u32> Oracle<C, F> {
     /// An oracle of these closures: `choose` may be called at each step for each `n` that isn't 0, and is below `n`; `answer`
     /// may be called at each step for each `k` below 4,096. It takes no memory.
     pub fn new(choose: C, answer: F) -> Oracle<C, F>
-        requires chooses { MayChoose (λ step n. C.pre choose step n) }
-        requires below { IsBelow (λ step n picked. C.post choose step n picked) }
-        requires answers { MayAnswer (λ step k. F.pre answer step k) }
+        requires chooses { MayChoose (C.pre choose) }
+        requires below { IsBelow (C.post choose) }
+        requires answers { MayAnswer (F.pre answer) }
         ensures choose { result.choose ≡ choose }
         ensures answer { result.answer ≡ answer }
     {
@@ -27,8 +27,8 @@ impl<C: Fn(u64, u32) -> u32, F: Fn(u64, u32) -> u32> Oracle<C, F> {
     /// two conditions are those of `new`, which no value of this type can carry.
     pub fn pick(&self, step: u64, count: u32) -> u32
         requires some { 1 ≤ count }
-        requires chooses { MayChoose (λ step n. C.pre self.now.choose step n) }
-        requires below { IsBelow (λ step n picked. C.post self.now.choose step n picked) }
+        requires chooses { MayChoose (C.pre self.now.choose) }
+        requires below { IsBelow (C.post self.now.choose) }
         ensures gives { C.post self.now.choose step count result }
         ensures below { result < count }
     {
@@ -39,7 +39,7 @@ impl<C: Fn(u64, u32) -> u32, F: Fn(u64, u32) -> u32> Oracle<C, F> {
     /// `new`.
     pub fn word(&self, step: u64, k: u32) -> u32
         requires few { k < 4096 }
-        requires answers { MayAnswer (λ step k. F.pre self.now.answer step k) }
+        requires answers { MayAnswer (F.pre self.now.answer) }
         ensures gives { F.post self.now.answer step k result }
     {
         (self.answer)(step, k)
