@@ -9,7 +9,9 @@ ghost use Rattle.list_machine.specs.Cover.{raster_cover, tiled_cover, cover_in, 
 use crate::state::Frame;
 use crate::surface::Cover;
 use field_words::field;
-use texture_layouts::{Style, Tiling, microtile_height, microtile_place, microtile_width, pixel_place};
+use texture_layouts::{
+    Style, Tiling, microtile_height, microtile_place, microtile_width, pixel_place,
+};
 
 /// The tile's side in pixels.
 #[tactic(auto, unfolding(crate::specs::Store::tile_side))]

@@ -16,8 +16,7 @@ mod surface;
 
 pub use job_lists::{JobLists, MOST_ITEMS};
 pub use state::{
-    Binner, Found, Frame, Item, Kept, Load, Primitive, Program, Renderer, Spot, SubList,
-    Work,
+    Binner, Found, Frame, Item, Kept, Load, Primitive, Program, Renderer, Spot, SubList, Work,
 };
 pub use surface::{Cover, Tile};
 

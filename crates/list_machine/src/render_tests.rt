@@ -3,10 +3,10 @@ ghost use Rattle.std.specs.Prelude.{◌≤◌};
 
 use crate::job_lists::{JobLists, MOST_ITEMS};
 use crate::state::{Item, Kept, Primitive};
-use packets::Config;
 use arrayvec::ArrayVec;
 use field_words::{NoMemory, Way};
 use machine_plan::{Free, Launch, Slot};
+use packets::Config;
 use phys_mem::PhysMem;
 use std::alloc::Global;
 
