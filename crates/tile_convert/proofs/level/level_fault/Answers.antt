@@ -28,4 +28,4 @@ pub returns-in-Ok : goal.returns-in-Ok
 returns-in-Ok c =
     c.part_fault.ensures
     ∙ ap (λ t. first_of (part_questions t c.args.face c.args.level)) c.of.ensures.decoded
-    ∙ sym (of_part _ _ _ _ c.args.size c.args.face c.args.level c.in-Ok.ensures.first)
+    ∙ sym (of_part _ _ _ _ c.args.size c.args.face c.args.level c.in-Ok.ensures.first.0)
