@@ -10,7 +10,6 @@ use Rattle.job_format.specs.File.{IsWellFormed, IsFileOf}
 use Rattle.job_format.specs.Faults.{format_questions}
 use Rattle.job_format.specs.Reading.{file_at}
 use Rattle.job_format.proofs.Laws.{read_again}
-use Rattle.job_format.proofs.Nones.{both_pass}
 use Rattle.bin_list.specs.Rules.{bin_questions}
 use Rattle.bin_list.specs.Packets.{passed}
 use Rattle.bin_list.specs.Seen.{seen_before}
@@ -123,27 +122,27 @@ lists_none : (seed across down count : ℕ) → IsInRange across down count → 
 unfolding lists_stages
 lists_none seed across down count range =
     let f = file_of seed across down count in
-    both_pass (bin_stage f 0) (records_stage f 0 ++ surfaces_stage f 0) (bin_none seed across down count range)
-    (both_pass (records_stage f 0) (surfaces_stage f 0) (records_none seed across down count (few_in range)) (surfaces_none seed across down count range))
+    passes (bin_stage f 0) (records_stage f 0 ++ surfaces_stage f 0) (bin_none seed across down count range)
+    ∙ (passes (records_stage f 0) (surfaces_stage f 0) (records_none seed across down count (few_in range)) ∙ surfaces_none seed across down count range)
 
 job_none : (seed across down count : ℕ) → IsInRange across down count → first_of (job_stages (file_of seed across down count) 0) ≡ None
 unfolding job_stages
 job_none seed across down count range =
     let f = file_of seed across down count in
-    both_pass (handles_stage f 0) (lists_stages f 0 ++ layout_stage f 0) (handles_none seed across down count)
-    (both_pass (lists_stages f 0) (layout_stage f 0) (lists_none seed across down count range) (layout_none seed across down count range))
+    passes (handles_stage f 0) (lists_stages f 0 ++ layout_stage f 0) (handles_none seed across down count)
+    ∙ (passes (lists_stages f 0) (layout_stage f 0) (lists_none seed across down count range) ∙ layout_none seed across down count range)
 
 jobs_none : (seed across down count : ℕ) → IsInRange across down count → first_of (each (job_stages (file_of seed across down count)) 0 (length (file_of seed across down count).jobs)) ≡ None
 unfolding each file_of
 jobs_none seed across down count range =
-    both_pass (job_stages (file_of seed across down count) 0) [] (job_none seed across down count range) refl
+    passes (job_stages (file_of seed across down count) 0) [] (job_none seed across down count range)
 
 file_none : (seed across down count : ℕ) → IsInRange across down count → first_of (file_stages (file_of seed across down count)) ≡ None
 unfolding file_stages
 file_none seed across down count range =
     let f = file_of seed across down count in
-    both_pass (table_stage f) (shaders_stage f ++ each (job_stages f) 0 (length f.jobs)) (table_none seed across down count (tiles_in across down count range))
-    (both_pass (shaders_stage f) (each (job_stages f) 0 (length f.jobs)) (shaders_none seed across down count) (jobs_none seed across down count range))
+    passes (table_stage f) (shaders_stage f ++ each (job_stages f) 0 (length f.jobs)) (table_none seed across down count (tiles_in across down count range))
+    ∙ (passes (shaders_stage f) (each (job_stages f) 0 (length f.jobs)) (shaders_none seed across down count) ∙ jobs_none seed across down count range)
 
 formed : (seed across down count : ℕ) → IsInRange across down count → IsWellFormed (file_of seed across down count)
 unfolding file_of
@@ -172,8 +171,8 @@ pub example_accepted : (number : ℕ) (bytes : List ℕ) → IsFileOf bytes (exa
 unfolding refusal_of file_questions
 example_accepted number bytes is =
     let again = read_again bytes (example number) is in
-    both_pass (answered format_refused (format_questions bytes)) (file_stages (file_at bytes)) (answered_none format_refused (format_questions bytes) again.0)
-    (ap (λ f. first_of (file_stages f)) again.1 ∙ (example_faultless number).none)
+    passes (answered format_refused (format_questions bytes)) (file_stages (file_at bytes)) (answered_none format_refused (format_questions bytes) again.0)
+    ∙ (ap (λ f. first_of (file_stages f)) again.1 ∙ (example_faultless number).none)
 
 pub never_refused : (number : ℕ) (bytes : List ℕ) (refusal : Refusal) → IsFileOf bytes (example number) → first_of (file_questions bytes) ≡ Some refusal → ⊥
 unfolding refusal_of
