@@ -1,8 +1,7 @@
 -- No rule stands for the job.
 use Rattle.std.proofs.Common.{◌≡◌, [], ◌∷◌, ◌++◌, Some, None, refl, ap, ◌∙◌}
 use Rattle.field_words.specs.Questions.{first_of, each, answered}
-use Rattle.field_words.proofs.Questions.{answered_none}
-use Rattle.job_format.proofs.Nones.{both_pass}
+use Rattle.field_words.proofs.Questions.{passes, answered_none}
 use Rattle.buffer_table.specs.Table.{buffer_at}
 use Rattle.shader_records.specs.Rules.{all_questions}
 use Rattle.job_check.specs.Faults.{table_stage, shader_stage, shader_refused, shaders_stage, handles_stage, bin_stage, record_refused, records_stage, surfaces_stage, layout_stage, lists_stages, job_stages, file_stages}
@@ -21,11 +20,8 @@ unfolding textured shaders_stage shader_stage each answered content_of buffer_at
 shaders_none =
     let fragment = answered (shader_refused textured 0) (code_questions (code_bytes fragment_words)) in
     let vertex = answered (shader_refused textured 1) (code_questions (code_bytes vertex_words)) in
-    both_pass fragment (vertex ++ [])
-    (answered_none (shader_refused textured 0) (code_questions (code_bytes fragment_words)) fragment_no_fault)
-    (both_pass vertex []
-    (answered_none (shader_refused textured 1) (code_questions (code_bytes vertex_words)) vertex_no_fault)
-    refl)
+    passes fragment (vertex ++ []) (answered_none (shader_refused textured 0) (code_questions (code_bytes fragment_words)) fragment_no_fault)
+    ∙ passes vertex [] (answered_none (shader_refused textured 1) (code_questions (code_bytes vertex_words)) vertex_no_fault)
 
 abbrev fragment_tells : ShaderModel
 fragment_tells = told_of (words_in (code_bytes fragment_words) 14)
@@ -50,21 +46,21 @@ records_none =
 lists_none : first_of (lists_stages textured 0) ≡ None
 unfolding lists_stages
 lists_none =
-    both_pass (bin_stage textured 0) (records_stage textured 0 ++ surfaces_stage textured 0) bin_none
-    (both_pass (records_stage textured 0) (surfaces_stage textured 0) records_none surfaces_none)
+    passes (bin_stage textured 0) (records_stage textured 0 ++ surfaces_stage textured 0) bin_none
+    ∙ (passes (records_stage textured 0) (surfaces_stage textured 0) records_none ∙ surfaces_none)
 
 job_none : first_of (job_stages textured 0) ≡ None
 unfolding job_stages
 job_none =
-    both_pass (handles_stage textured 0) (lists_stages textured 0 ++ layout_stage textured 0) handles_none
-    (both_pass (lists_stages textured 0) (layout_stage textured 0) lists_none layout_none)
+    passes (handles_stage textured 0) (lists_stages textured 0 ++ layout_stage textured 0) handles_none
+    ∙ (passes (lists_stages textured 0) (layout_stage textured 0) lists_none ∙ layout_none)
 
 jobs_none : first_of (each (job_stages textured) 0 1) ≡ None
 unfolding each
-jobs_none = both_pass (job_stages textured 0) [] job_none refl
+jobs_none = passes (job_stages textured 0) [] job_none
 
 pub file_none : first_of (file_stages textured) ≡ None
 unfolding file_stages textured
 file_none =
-    both_pass (table_stage textured) (shaders_stage textured ++ each (job_stages textured) 0 1) table_none
-    (both_pass (shaders_stage textured) (each (job_stages textured) 0 1) shaders_none jobs_none)
+    passes (table_stage textured) (shaders_stage textured ++ each (job_stages textured) 0 1) table_none
+    ∙ (passes (shaders_stage textured) (each (job_stages textured) 0 1) shaders_none ∙ jobs_none)
