@@ -6,8 +6,11 @@ use Rattle.script.specs.Lines.{lines_of}
 use Rattle.qpu_asm.specs.declared.fault.AsmFault.{AsmFault}
 use Rattle.qpu_asm.specs.Lines.{Line, Blank, Label, BadLabel, Coded, read_line}
 use Rattle.qpu_asm.specs.Items.{Spots}
-use Rattle.qpu_asm.specs.Assembly.{LabelSpot, size_of, label_on, labels_from, read_lines, spots_of, line_words, lines_words, Assembled, IsFaultOf}
+use Rattle.qpu_asm.specs.Labels.{LabelSpot, size_of, label_on, labels_from, read_lines, spots_of}
+use Rattle.qpu_asm.specs.Assembly.{Assembled, IsFaultOf}
+use Rattle.qpu_asm.specs.Walk.{line_words, lines_words}
 use Rattle.qpu_asm.specs.Marks.{IsFirstBelow, AreFirstBelow}
+use Rattle.qpu_asm.proofs.Faults.{text_assembles}
 
 pub same_everywhere : {A B : Type 0} (f g : A → B) → ((x : A) → f x ≡ g x) → f ≡ g
 same_everywhere f g h = λ i x. h x i
@@ -62,5 +65,4 @@ unfolding lines_words
 words_end spots text line words none = rw (lines_none text none) refl
 
 pub words_begin : (spots : Spots) (text words : List ℕ) → spots ≡ spots_of text → words ≡ [] → lines_words spots 1 (read_lines text) words ≡ Assembled text
-unfolding Assembled
-words_begin spots text words is none = rw (is, none) refl
+words_begin spots text words is none = rw (is, none) (text_assembles text)

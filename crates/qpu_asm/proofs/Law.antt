@@ -17,13 +17,15 @@ use Rattle.qpu_isa.proofs.Fields.{joined-values_of}
 use Rattle.qpu_isa.proofs.Words.{above-sig}
 use Rattle.qpu_asm.specs.Table.{Named, Row, Kind, widths_of, nop_kind, alu_kind, load_imm_kind, branch_kind, alu_rows}
 use Rattle.qpu_asm.specs.Lines.{Coded, is_full, words_of, read_line, line_of, is_comment, ends_label}
-use Rattle.qpu_asm.specs.Items.{Spots, Partial, find_named, or_number, read_number, read_plain, read_value, is_row, has_row, skip_to, read_named, read_item, read_items, closed_word, kind_code, kind_named, code_of, option_code}
-use Rattle.qpu_asm.specs.Assembly.{read_lines, lines_words, line_words, with_word, if_words, Assembled, spots_of}
+use Rattle.qpu_asm.specs.Items.{has_value, Spots, find_named, or_number, read_number, read_plain, read_value, is_row, has_row, kind_named}
+use Rattle.qpu_asm.specs.Walk.{Partial, skip_to, read_named, read_item, read_items, closed_word, kind_code, code_of, option_code, lines_words, line_words, with_word, if_words}
+use Rattle.qpu_asm.specs.Labels.{read_lines, spots_of}
 use Rattle.qpu_asm.specs.Printed.{name_of, or_decimal, value_text, item_text, item_texts, kind_of, spaced, kind_text, line_text, AsmText, PrintedReturns}
 use Rattle.qpu_asm.proofs.Bytes.{bytes_itself, bytes_same}
 use Rattle.qpu_asm.proofs.Words.{kept_full}
 use Rattle.qpu_asm.proofs.Rows.{kind_cases}
 use Rattle.qpu_asm.proofs.Assembling.{words_end}
+use Rattle.qpu_asm.proofs.Faults.{text_assembles}
 use Rattle.qpu_asm.proofs.Decimals.{decimal_digits, decimal_value, decimal_number}
 
 -- without such a byte
@@ -161,7 +163,7 @@ cut_name (byte ∷ bytes) text test =
 
 item_cut : (spots : Spots) (index : ℕ) (all : List Row) (partial : Partial) (row : Row) (value : ℕ) → ReadFacts row
     → read_item spots index all partial (item_text row value) ≡ read_named spots index all partial row.name (value_text row value)
-unfolding read_item item_text
+unfolding read_item item_text has_value
 item_cut spots index all partial row value facts =
     let cut = cut_name row.name (value_text row value) facts.equals in
     let longer : length row.name < length (row.name ++ 61 ∷ value_text row value) = omega (arith, length-append row.name (61 ∷ value_text row value)) in
@@ -369,5 +371,4 @@ all_words spots (word ∷ words) line before small =
     ∙ (all_words spots words (line + 1) (before ++ word ∷ []) (λ k d h. small (suc k) d (omega arith)) ∙ ap Ok (append_assoc before (word ∷ []) words)))
 
 pub each_returns : PrintedReturns
-unfolding Assembled
-each_returns words small = all_words (spots_of (AsmText words)) words 1 [] small
+each_returns words small = sym (text_assembles (AsmText words)) ∙ all_words (spots_of (AsmText words)) words 1 [] small

@@ -10,7 +10,8 @@ use Rattle.qpu_asm.specs.declared.fault.Mistake.TheVariants.{BadOperand, OutOfRa
 use Rattle.qpu_asm.specs.declared.table.Row as code
 use Rattle.qpu_asm.specs.Table.{Row, Named, widths_of, fallbacks_of, nop_kind, alu_kind, load_imm_kind, branch_kind}
 use Rattle.qpu_asm.specs.Lines.{is_name}
-use Rattle.qpu_asm.specs.Items.{Spots, IsOpen, is_ready, are_ready, read_value, read_plain, or_number, read_number, find_named, read_target, distance, distance_to, is_row, skip_to, with_value, kind_named}
+use Rattle.qpu_asm.specs.Items.{Spots, read_value, read_plain, or_number, read_number, find_named, read_target, distance, distance_to, is_row, kind_named}
+use Rattle.qpu_asm.specs.Walk.{IsOpen, is_ready, are_ready, skip_to, with_value}
 use Rattle.qpu_asm.specs.Seen.{row_seen, rows_seen}
 use Rattle.qpu_asm.proofs.Rows.{RowFacts, row_facts, ready_parts, none_left}
 

@@ -6,7 +6,7 @@ use Rattle.qpu_isa.specs.Fields.{width_of, values_of}
 use Rattle.qpu_asm.specs.declared.table.Row.{Row}
 use Rattle.qpu_asm.specs.Table as table
 use Rattle.qpu_asm.specs.Table.{widths_of, alu_kind, load_imm_kind, branch_kind, nop_kind}
-use Rattle.qpu_asm.specs.Items.{is_ready, are_ready}
+use Rattle.qpu_asm.specs.Walk.{is_ready, are_ready}
 use Rattle.qpu_asm.specs.Printed.{item_texts, item_text, spaced, rows_text, kind_of}
 use Rattle.qpu_asm.specs.Seen.{row_seen, rows_seen}
 

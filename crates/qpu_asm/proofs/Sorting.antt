@@ -16,7 +16,7 @@ use Rattle.std.specs.declared.cmp.Ordering.TheVariants.{Less, Equal, Greater}
 use Rattle.qpu_asm.specs.declared.label.Spot.{Spot}
 use Rattle.qpu_asm.specs.declared.label.Mark.{Mark}
 use Rattle.qpu_asm.specs.Lines.{Line, Blank, Label, BadLabel, Coded}
-use Rattle.qpu_asm.specs.Assembly.{is_before, labels_from, spot_among}
+use Rattle.qpu_asm.specs.Labels.{is_before, labels_from, spot_among}
 use Rattle.qpu_asm.specs.Marks.{spot_cmp, mark_cmp, IsNotLater, AreFirstBelow, BoundsRepeats, IsStart}
 use Rattle.qpu_asm.specs.Seen.{mark_seen, spots_in}
 use Rattle.qpu_asm.proofs.Assembling.{same_everywhere}

@@ -3,5 +3,8 @@ pub mod Table
 pub mod Seen
 pub mod Lines
 pub mod Items
+pub mod Labels
+pub mod Faults
 pub mod Assembly
+pub mod Walk
 pub mod Printed

@@ -7,7 +7,7 @@ use Rattle.qpu_asm.specs.declared.label.Spot.{Spot}
 use Rattle.qpu_asm.specs.declared.label.Mark.{Mark}
 use Rattle.qpu_asm.specs.Lines.{Line, Blank, Label, BadLabel, Coded}
 use Rattle.qpu_asm.specs.Items.{Spots}
-use Rattle.qpu_asm.specs.Assembly.{is_before}
+use Rattle.qpu_asm.specs.Labels.{is_before}
 
 -- the order of marks: by name, by line, by index
 abbrev pub spot_cmp : Spot → Spot → Ordering

@@ -5,7 +5,7 @@ use Rattle.qpu_asm.specs.declared.lines.Line.TheVariants as line
 use Rattle.qpu_asm.specs.declared.label.Mark.{Mark}
 use Rattle.qpu_asm.specs.Lines as lines
 use Rattle.qpu_asm.specs.Items.{Spots}
-use Rattle.qpu_asm.specs.Assembly.{LabelSpot, spot_among}
+use Rattle.qpu_asm.specs.Labels.{LabelSpot, spot_among}
 use Rattle.qpu_asm.specs.declared.table.Named.{Named}
 use Rattle.qpu_asm.specs.declared.table.Row.{Row}
 use Rattle.qpu_asm.specs.declared.table.Kind.{Kind}

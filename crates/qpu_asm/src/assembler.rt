@@ -1,7 +1,10 @@
 //! A text as words.
 ghost use Rattle.std.specs.Prelude.{◌≡◌, ◌<◌, ◌≤◌, ◌+◌, ◌^◌, Ok, length, IfOk, IfErr, vec_len};
 ghost use Rattle.field_words.specs.declared.stop.Stop.TheVariants.{Fault};
-ghost use Rattle.qpu_asm.specs.Assembly.{Assembled, line_words, is_before, IsFaultOf, fault_on as fault_by};
+ghost use Rattle.qpu_asm.specs.Labels.{is_before};
+ghost use Rattle.qpu_asm.specs.Faults.{fault_on as fault_by, text_faults, AnswersLeast};
+ghost use Rattle.qpu_asm.specs.Assembly.{Assembled, IsFaultOf};
+ghost use Rattle.qpu_asm.specs.Walk.{line_words};
 ghost use Rattle.qpu_asm.specs.Marks.{IsFirstBelow};
 ghost use Rattle.qpu_asm.specs.Lines.{Label};
 ghost use Rattle.qpu_asm.specs.Seen.{line_seen, spots_in};
@@ -14,12 +17,13 @@ use field_words::Stop;
 use script::next_line;
 use std::alloc::Global;
 
-/// Assembles a text of lines into the words of its instructions. The fault is the first one: the least line that has one, and
-/// the least kind there. A label may stand before or after its use, so all labels are found first.
+/// Assembles a text of lines into the words of its instructions. The fault is the least of all that the text has, by line and
+/// then by kind. A label may stand before or after its use, so all labels are found first.
 pub fn assemble(alloc: Global, text: &[u8]) -> Result<Vec<u64>, Stop<AsmFault>>
     requires { length text.now < 2 ^ 32 }
     ensures words { IfOk result (λ words. Assembled text.now ≡ Ok words.items) }
     ensures fault { IfErr result (IsFaultOf (Assembled text.now)) }
+    ensures least { AnswersLeast (text_faults text.now) result }
 {
     let found = find_labels(alloc, text)?;
     let mut words = Vec::new(alloc);
@@ -35,7 +39,7 @@ pub fn assemble(alloc: Global, text: &[u8]) -> Result<Vec<u64>, Stop<AsmFault>>
 }
 
 // Puts the word of an instruction's line to those of the lines above it.
-#[tactic(auto, unfolding(crate::specs::Assembly::line_words))]
+#[tactic(auto, unfolding(crate::specs::Walk::line_words))]
 fn put_line<'a>(
     words: &mut Vec<u64>,
     found: &Found<'a>,

@@ -2,7 +2,7 @@
 ghost use Rattle.std.specs.Prelude.{◌≡◌, ◌≤◌, ◌<◌, ◌+◌, ◌/◌, ◌%◌, ◌^◌, ◌==◌, ◌∷◌, ◌++◌, [], true, map, MatchOption, OnOk, IfOk, if◌then◌else◌};
 ghost use Rattle.qpu_isa.specs.Fields.{width_of};
 ghost use Rattle.qpu_asm.specs.Table.{widths_of};
-ghost use Rattle.qpu_asm.specs.Items.{are_ready};
+ghost use Rattle.qpu_asm.specs.Walk.{are_ready};
 ghost use Rattle.qpu_asm.specs.Printed.{name_of as name_in, value_text, item_text, rows_text, kind_of as kind_by, kind_text, line_text, AsmText, PrintedReturns, FieldsInOrder};
 ghost use Rattle.qpu_asm.specs.Seen.{named_seen, row_seen, rows_seen, kind_seen};
 

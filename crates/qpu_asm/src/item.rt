@@ -2,7 +2,8 @@
 ghost use Rattle.std.specs.Prelude.{◌≡◌, ◌≤◌, ◌<◌, ◌*◌, ◌+◌, ◌^◌, ◌∷◌, true, map, MatchOption, IfOk, Some, None, if◌then◌else◌};
 ghost use Rattle.qpu_isa.specs.Fields.{joined};
 ghost use Rattle.qpu_asm.specs.Table.{widths_of, fallbacks_of};
-ghost use Rattle.qpu_asm.specs.Items.{least_of as least_by, find_named, read_number as number_read, read_plain as plain_read, distance as distance_by, read_target as target_read, read_value as value_read, is_row as row_test, has_row as row_among, with_fault as faulted, with_value as valued, skip_to as skipped, read_named as named_read, read_item as item_read, closed_word as word_by, kind_code, kind_named as kind_by, code_of, is_ready, IsOpen};
+ghost use Rattle.qpu_asm.specs.Items.{find_named, read_number as number_read, read_plain as plain_read, distance as distance_by, read_target as target_read, read_value as value_read, is_row as row_test, has_row as row_among, kind_named as kind_by};
+ghost use Rattle.qpu_asm.specs.Walk.{least_of as least_by, with_fault as faulted, with_value as valued, skip_to as skipped, read_named as named_read, read_item as item_read, closed_word as word_by, kind_code, code_of, is_ready, IsOpen};
 ghost use Rattle.qpu_asm.specs.declared.fault.Mistake.TheVariants.{BadOperand, UnknownWord};
 ghost use Rattle.qpu_asm.specs.Lines.{words_of};
 ghost use Rattle.qpu_asm.specs.Seen.{named_seen, row_seen, rows_seen, kind_seen, spots_in};
@@ -25,7 +26,7 @@ pub struct Partial {
 }
 
 impl Model for Partial {
-    ghost use Rattle.qpu_asm.specs.Items.{Partial, IsOpen};
+    ghost use Rattle.qpu_asm.specs.Walk.{Partial, IsOpen};
 
     ghost Value = { Partial };
 
@@ -37,7 +38,7 @@ impl Model for Partial {
 }
 
 /// The word of an instruction, or the least of its faults.
-#[tactic(auto, unfolding(crate::specs::Items::code_of))]
+#[tactic(auto, unfolding(crate::specs::Walk::code_of))]
 pub fn read_code<'a>(labels: &Labels<'a>, index: u32, code: Cut<'a>) -> Result<u64, Mistake>
     ensures { result ≡ code_of (spots_in labels.now) index code.entry.first.now (words_of code.entry.rest.now) }
 {
@@ -87,7 +88,7 @@ fn read_items<'a>(
 }
 
 // The rows that are left have their defaults.
-#[tactic(auto, unfolding(crate::specs::Items::closed_word))]
+#[tactic(auto, unfolding(crate::specs::Walk::closed_word))]
 fn closed_word(partial: Partial) -> Result<u64, Mistake>
     ensures { result ≡ word_by partial }
 {
@@ -121,7 +122,7 @@ fn append(word: u64, width: u32, value: u64) -> u64
     word * (1 << width) + value
 }
 
-#[tactic(auto, unfolding(crate::specs::Items::read_item))]
+#[tactic(auto, unfolding(crate::specs::Walk::read_item, crate::specs::Items::has_value))]
 fn put_item<'a>(
     labels: &Labels<'a>,
     index: u32,
@@ -163,7 +164,7 @@ fn least_of(mistake: Mistake, fault: Option<Mistake>) -> Mistake
     }
 }
 
-#[tactic(auto, unfolding(crate::specs::Items::read_named))]
+#[tactic(auto, unfolding(crate::specs::Walk::read_named))]
 fn put_named<'a>(
     labels: &Labels<'a>,
     index: u32,

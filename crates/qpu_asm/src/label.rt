@@ -2,7 +2,7 @@
 ghost use Rattle.std.specs.Prelude.{◌≡◌, ◌<◌, ◌≤◌, ◌^◌, ◌++◌, length, map, min, IfOk, OnOk, IsSorted, Some, None, bytes_eq, if◌then◌else◌};
 ghost use Rattle.std.specs.Cmp.Lexicographic.{slice_cmp};
 ghost use Rattle.std.specs.Ordering.{nat_cmp, is_lt};
-ghost use Rattle.qpu_asm.specs.Assembly.{spots_of, labels_of, label_on, read_lines, size_of};
+ghost use Rattle.qpu_asm.specs.Labels.{spots_of, labels_of, label_on, read_lines, size_of};
 ghost use Rattle.qpu_asm.specs.Marks.{mark_cmp, AreFirstBelow, BoundsRepeats, IsStart};
 ghost use Rattle.qpu_asm.specs.Seen.{line_seen, mark_seen, spots_in};
 

@@ -1,7 +1,8 @@
 //! The text of instruction words: an assembler and a disassembler.
 //!
 //! The text's language is in `specs/`: `Table` (which items an instruction has, from the highest bit down, and their names),
-//! `Lines`, `Items`, `Assembly` (faults and words of a text) and `Printed` (the disassembler's text).
+//! `Lines`, `Items`, `Labels`, `Faults` (all faults of a text), `Assembly` (its words, or the least of its faults) and `Printed`
+//! (the disassembler's text). `Walk`, `Marks` and `Seen` tie the code to these.
 #![tactic(auto)]
 
 mod assembler;

@@ -1,9 +1,11 @@
 use Rattle.std.proofs.Common.{sym, subst, ◌∙◌, arith}
 use Rattle.std.proofs.lemmas.Bool.Decides.{nat_tests}
 use Rattle.std.proofs.lemmas.Result.{err_from_is_err_and}
-use Rattle.qpu_asm.specs.Assembly.{read_lines, IsFaultOf}
+use Rattle.qpu_asm.specs.Labels.{read_lines}
+use Rattle.qpu_asm.specs.Assembly.{IsFaultOf}
 use Rattle.qpu_asm.specs.Marks.{AreFirstBelow}
 use Rattle.qpu_asm.proofs.Assembling.{lines_first, first_parts, words_begin, words_step, fault_step, words_end}
+use Rattle.qpu_asm.proofs.Faults.{answers_words, answers_least}
 use Rattle.qpu_asm.proofs.assembler.assemble.Goals as goal
 
 pub loop-rest-init : goal.loop-rest-init
@@ -24,6 +26,11 @@ returns-in_err-put_line-clause-fault c =
     rw (answer.1, answer.2) (subst (λ all. IsFaultOf all c.in_err-put_line.field-0.0) c.loop-rest.invariant.same
     (fault_step _ _ _ _ _ _ c.in_err-put_line.field-0.0 (lines_first _ _ _ _ c.next_line-cut.ensures.lines c.read_line.ensures) c.in_err-put_line.ensures.fault))
 
+pub returns-in_err-put_line-clause-least : goal.returns-in_err-put_line-clause-least
+returns-in_err-put_line-clause-least c =
+    let answer = err_from_is_err_and c.from_residual-in_err-put_line.result c.from_residual-in_err-put_line.ensures.1 in
+    answers_least _ _ (returns-in_err-put_line-clause-fault c) (λ made is. cc)
+
 pub loop-rest-preserved : goal.loop-rest-preserved
 loop-rest-preserved c =
     let lines = lines_first _ _ _ _ c.next_line-cut.ensures.lines c.read_line.ensures in
@@ -37,3 +44,6 @@ loop-rest-preserved c =
 pub returns-clause-words : goal.returns-clause-words
 returns-clause-words c =
     sym c.loop-rest.invariant.same ∙ words_end _ c.loop-rest.rest.now _ _ (grind (arith, nat_tests, c.is_empty.ensures, c.loop-rest-test.false))
+
+pub returns-clause-least : goal.returns-clause-least
+returns-clause-least c = answers_words _ _ (returns-clause-words c)

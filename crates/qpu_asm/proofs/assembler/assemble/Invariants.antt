@@ -1,5 +1,7 @@
 use Rattle.std.proofs.Common.{◌≡◌, ◌≤◌, ◌+◌, length, vec_len}
-use Rattle.qpu_asm.specs.Assembly.{lines_words, read_lines, Assembled}
+use Rattle.qpu_asm.specs.Labels.{read_lines}
+use Rattle.qpu_asm.specs.Assembly.{Assembled}
+use Rattle.qpu_asm.specs.Walk.{lines_words}
 use Rattle.qpu_asm.specs.Marks.{AreFirstBelow}
 use Rattle.qpu_asm.specs.Seen.{spots_in}
 use Rattle.qpu_asm.proofs.assembler.assemble.Given as goal

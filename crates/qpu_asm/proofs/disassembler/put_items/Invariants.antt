@@ -1,7 +1,7 @@
 use Rattle.std.proofs.Common.{◌≡◌, ◌≤◌, ◌++◌, length, true}
 use Rattle.qpu_isa.specs.Fields.{width_of}
 use Rattle.qpu_asm.specs.Table.{widths_of}
-use Rattle.qpu_asm.specs.Items.{are_ready}
+use Rattle.qpu_asm.specs.Walk.{are_ready}
 use Rattle.qpu_asm.specs.Printed.{rows_text}
 use Rattle.qpu_asm.specs.Seen.{rows_seen}
 use Rattle.qpu_asm.proofs.disassembler.put_items.Given as goal

@@ -1,7 +1,7 @@
 use Rattle.std.proofs.Common.{ap, ◌∙◌, ◌≤◌, sym, subst}
 use Rattle.qpu_isa.specs.Fields.{width_of}
 use Rattle.qpu_asm.specs.Table.{widths_of}
-use Rattle.qpu_asm.specs.Items.{are_ready}
+use Rattle.qpu_asm.specs.Walk.{are_ready}
 use Rattle.qpu_asm.proofs.Rows.{kind_ready, kind_wide}
 use Rattle.qpu_asm.proofs.disassembler.put_line.Goals as goal
 

@@ -1,5 +1,5 @@
 use Rattle.std.proofs.Common.{sym, ◌∙◌, ap}
-use Rattle.qpu_asm.specs.Items.{read_items, closed_word, kind_code}
+use Rattle.qpu_asm.specs.Walk.{read_items, closed_word, kind_code}
 use Rattle.qpu_asm.specs.Seen.{rows_seen, spots_in}
 use Rattle.qpu_asm.proofs.item.read_items.Goals as goal
 

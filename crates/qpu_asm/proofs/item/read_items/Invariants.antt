@@ -1,6 +1,6 @@
 use Rattle.std.proofs.Common.{◌≡◌, length, None}
 use Rattle.qpu_asm.specs.Lines.{words_of}
-use Rattle.qpu_asm.specs.Items.{read_items}
+use Rattle.qpu_asm.specs.Walk.{read_items}
 use Rattle.qpu_asm.specs.Seen.{rows_seen, spots_in}
 use Rattle.qpu_asm.proofs.item.read_items.Given as goal
 

@@ -1,5 +1,6 @@
 use Rattle.std.proofs.Common.{◌≡◌, length}
-use Rattle.qpu_asm.specs.Items.{skip_to, read_value, IsOpen}
+use Rattle.qpu_asm.specs.Items.{read_value}
+use Rattle.qpu_asm.specs.Walk.{skip_to, IsOpen}
 use Rattle.qpu_asm.specs.Seen.{rows_seen, spots_in}
 use Rattle.qpu_asm.proofs.item.skip_to.Given as goal
 

@@ -1,7 +1,7 @@
 use Rattle.std.proofs.Common.{◌≡◌, length}
 use Rattle.qpu_isa.specs.Fields.{joined}
 use Rattle.qpu_asm.specs.Table.{widths_of, fallbacks_of}
-use Rattle.qpu_asm.specs.Items.{IsOpen}
+use Rattle.qpu_asm.specs.Walk.{IsOpen}
 use Rattle.qpu_asm.specs.Seen.{rows_seen}
 use Rattle.qpu_asm.proofs.item.with_defaults.Given as goal
 

@@ -1,6 +1,6 @@
 use Rattle.std.proofs.Common.{subst}
 use Rattle.std.proofs.lemmas.List.Sorted.{Contains-permutation}
-use Rattle.qpu_asm.specs.Assembly.{read_lines, labels_of}
+use Rattle.qpu_asm.specs.Labels.{read_lines, labels_of}
 use Rattle.qpu_asm.specs.Marks.{AreFirstBelow, BoundsRepeats}
 use Rattle.qpu_asm.proofs.Sorting.{far, sorted_labels, firsts_below}
 use Rattle.qpu_asm.proofs.label.find_labels.Goals as goal

@@ -1,5 +1,5 @@
 use Rattle.std.proofs.Common.{◌≡◌, ◌≤◌, ◌+◌, ◌++◌, length, map}
-use Rattle.qpu_asm.specs.Assembly.{labels_from, labels_of, read_lines}
+use Rattle.qpu_asm.specs.Labels.{labels_from, labels_of, read_lines}
 use Rattle.qpu_asm.specs.Seen.{mark_seen}
 use Rattle.qpu_asm.proofs.label.marks_of.Given as goal
 
