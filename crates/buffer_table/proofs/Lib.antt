@@ -1,3 +1,5 @@
 pub mod Named
 pub mod Order
+pub mod Bits
 pub mod Sounds
+pub mod Taken

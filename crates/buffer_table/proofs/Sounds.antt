@@ -14,7 +14,7 @@ use Rattle.buffer_table.specs.Table.{TableModel, items_of, item_at, no_item, buf
 use Rattle.buffer_table.specs.Sound.{IsSoundItem, IsSound, IsSoundBuffer, AreApart}
 
 -- An item that passes M2 to M5.
-sound_item : (memory : ℕ) (items : List Item) (k : ℕ) → first_of (item_questions memory items k) ≡ None → IsSoundItem memory (item_at items k)
+pub sound_item : (memory : ℕ) (items : List Item) (k : ℕ) → first_of (item_questions memory items k) ≡ None → IsSoundItem memory (item_at items k)
 unfolding item_questions is_off_page
 sound_item memory items k none =
     let asked = none_stands (item_questions memory items k) none in

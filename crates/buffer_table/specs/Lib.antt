@@ -1,4 +1,5 @@
 pub mod Handles
+pub mod Pages
 pub mod Rules
 pub mod Sound
 pub mod Table

@@ -1,5 +1,5 @@
 -- The rules of a memory table, and what they promise.
-use Rattle.std.specs.Prelude.{◌≡◌, ℕ, ◌+◌, ◌*◌, ◌%◌, ◌≤◌, ◌<◌, min, max, Bool, not, ◌||◌, nat_lt, ◌==◌, List, [], ◌∷◌, ◌++◌, length, map, take, slice_index_or, Some}
+use Rattle.std.specs.Prelude.{◌≡◌, ◌↔◌, ℕ, true, ◌+◌, ◌*◌, ◌%◌, ◌≤◌, ◌<◌, min, max, Bool, not, ◌||◌, nat_lt, ◌==◌, List, [], ◌∷◌, ◌++◌, length, map, take, slice_index_or, Some}
 use Rattle.std.specs.List.{list_any}
 use Rattle.field_words.specs.Questions.{Question, Ask, first_of, each}
 use Rattle.field_words.specs.Least.{IsLeast, NotAfter}
@@ -52,6 +52,10 @@ ShareByte x y = (byte : ℕ) × IsIn byte x × IsIn byte y
 
 unfoldable pub shares : Item → Item → Bool
 shares x y = nat_lt (max x.place y.place) (min (x.place + x.size) (y.place + y.size))
+
+-- The test on ends is that of a byte.
+abbrev pub SharingMeansByte : Type 0
+SharingMeansByte = (x y : Item) → (shares x y ≡ true) ↔ ShareByte x y
 
 unfoldable pub is_off_page : Item → Bool
 is_off_page x = not (x.place % page_size == 0) || (not (x.size % page_size == 0) || x.size == 0)

@@ -1,10 +1,12 @@
 //! The items of a memory table as intervals, and the rules that each of them keeps.
-ghost use Rattle.std.specs.Prelude.{◌≡◌, ◌+◌, ◌<◌, ◌≤◌, ◌↔◌, IsTrue, Some, length, take};
-ghost use Rattle.std.specs.List.{list_any};
+ghost use Rattle.std.specs.Prelude.{◌≡◌, ◌+◌, ◌*◌, ◌<◌, ◌≤◌, true, false, Some, IfNone, length};
 ghost use Rattle.field_words.specs.Questions.{first_of, each};
-ghost use Rattle.buffer_table.specs.Table.{lists_item, tile_item, buffer_item, shares, ShareByte, is_off_page, item_questions, items_questions, memory_questions, table_questions, items_of, item_at, fault};
+ghost use Rattle.field_words.specs.Sizes.{most_memory};
+ghost use Rattle.buffer_table.specs.Pages.{TakesPage, IsFree, Takes, IsWhole, AreTaken, first_page, end_page};
+ghost use Rattle.buffer_table.specs.Table.{lists_item, tile_item, buffer_item, is_off_page, item_questions, items_questions, memory_questions, table_questions, items_of, item_at, fault};
 
 use crate::buffer::{Buffer, Regions, TableFault, TableRule};
+use crate::pages::{WORDS, is_taken, take_pages};
 use field_words::{MOST_MEMORY, PAGE_SIZE, SLOT_SIZE};
 
 /// `size` bytes of the memory from `place` on, of which the file gives the first `content`.
@@ -48,17 +50,6 @@ fn item_of(buffer: &Buffer) -> Item
     }
 }
 
-/// Whether some byte lies in both.
-#[tactic(auto, unfolding(crate::specs::Table::shares))]
-fn shares_byte(x: &Item, y: &Item) -> bool
-    ensures same { result ≡ shares x.now y.now }
-    ensures meaning { IsTrue result ↔ ShareByte x.now y.now }
-{
-    let x_end = u128::from(x.place) + u128::from(x.size);
-    let y_end = u128::from(y.place) + u128::from(y.size);
-    u128::from(x.place.max(y.place)) < x_end.min(y_end)
-}
-
 /// Whether a place or size is no multiple of a page, or there is no byte.
 #[tactic(auto, unfolding(crate::specs::Table::is_off_page))]
 fn is_off_page(x: &Item) -> bool
@@ -84,7 +75,8 @@ fn item_at(regions: &Regions, buffers: &[Buffer], k: usize) -> Item
 /// M1: the memory's size.
 #[tactic(auto, unfolding(crate::specs::Table::memory_questions))]
 fn memory_fault(mem_size: u32) -> Option<TableFault>
-    ensures { result ≡ first_of (memory_questions mem_size) }
+    ensures first { result ≡ first_of (memory_questions mem_size) }
+    ensures limit { IfNone result (mem_size ≤ most_memory) }
 {
     if mem_size == 0 || u64::from(mem_size) % PAGE != 0 || mem_size > MOST_MEMORY {
         return fault(TableRule::MemorySize, 0);
@@ -92,17 +84,36 @@ fn memory_fault(mem_size: u32) -> Option<TableFault>
     None
 }
 
-/// Whether one of the items before item `k` has a byte of `x`.
-fn is_shared(regions: &Regions, buffers: &[Buffer], k: usize, x: &Item) -> bool
-    requires inside { k < length buffers.now + 2 }
-    ensures { result ≡ list_any (shares x.now) (take k (items_of regions.now buffers.now)) }
+// The pages of an item, from the first one up to the one past its last.
+fn first_page(x: &Item) -> usize
+    requires whole { IsWhole x.now }
+    ensures { result ≡ first_page x.now }
 {
-    for j in 0..k {
-        if shares_byte(x, &item_at(regions, buffers, j)) {
-            return true;
-        }
-    }
-    false
+    (x.place / PAGE) as usize
+}
+
+fn end_page(x: &Item) -> usize
+    requires whole { IsWhole x.now }
+    ensures value { result ≡ end_page x.now }
+    ensures inside { result ≤ 64 * WORDS }
+{
+    ((x.place + x.size) / PAGE) as usize
+}
+
+/// Whether a page of an item is taken.
+fn is_shared(pages: &[u64; WORDS], x: &Item) -> bool
+    requires whole { IsWhole x.now }
+    ensures taken { result ≡ true → TakesPage pages.now (first_page x.now) (end_page x.now) }
+    ensures free { result ≡ false → IsFree pages.now (first_page x.now) (end_page x.now) }
+{
+    is_taken(pages, first_page(x), end_page(x))
+}
+
+fn take_item(pages: &mut [u64; WORDS], x: &Item)
+    requires whole { IsWhole x.now }
+    ensures { Takes pages.old pages.new (first_page x.now) (end_page x.now) }
+{
+    take_pages(pages, first_page(x), end_page(x));
 }
 
 fn fault(rule: TableRule, item: u32) -> Option<TableFault>
@@ -114,11 +125,19 @@ fn fault(rule: TableRule, item: u32) -> Option<TableFault>
     })
 }
 
-/// M2 to M5 of item `k` of the list, which is item `k + 1` of a fault.
+/// M2 to M5 of item `k` of the list, which is item `k + 1` of a fault. The pages of the items before it are taken.
 #[tactic(auto, unfolding(crate::specs::Table::item_questions))]
-fn item_fault(mem_size: u32, regions: &Regions, buffers: &[Buffer], k: usize) -> Option<TableFault>
+fn item_fault(
+    mem_size: u32,
+    regions: &Regions,
+    buffers: &[Buffer],
+    pages: &[u64; WORDS],
+    k: usize,
+) -> Option<TableFault>
+    requires limit { mem_size ≤ most_memory }
     requires inside { k < length buffers.now + 2 }
     requires few { length buffers.now ≤ 1024 }
+    requires taken { AreTaken pages.now (items_of regions.now buffers.now) k }
     ensures { result ≡ first_of (item_questions mem_size (items_of regions.now buffers.now) k) }
 {
     let x = item_at(regions, buffers, k);
@@ -129,7 +148,7 @@ fn item_fault(mem_size: u32, regions: &Regions, buffers: &[Buffer], k: usize) ->
     if u128::from(x.place) + u128::from(x.size) > u128::from(mem_size) {
         return fault(TableRule::OutsideMemory, item);
     }
-    if is_shared(regions, buffers, k, &x) {
+    if is_shared(pages, &x) {
         return fault(TableRule::SharedByte, item);
     }
     if x.content > x.size {
@@ -138,15 +157,18 @@ fn item_fault(mem_size: u32, regions: &Regions, buffers: &[Buffer], k: usize) ->
     None
 }
 
-/// The first of M2 to M5, item by item.
+/// The first of M2 to M5, item by item. An item without a fault takes its pages.
 fn items_fault(mem_size: u32, regions: &Regions, buffers: &[Buffer]) -> Option<TableFault>
+    requires limit { mem_size ≤ most_memory }
     requires few { length buffers.now ≤ 1024 }
     ensures { result ≡ first_of (items_questions mem_size (items_of regions.now buffers.now)) }
 {
+    let mut pages = [0; WORDS];
     for k in 0..buffers.len() + 2 {
-        if let Some(fault) = item_fault(mem_size, regions, buffers, k) {
+        if let Some(fault) = item_fault(mem_size, regions, buffers, &pages, k) {
             return Some(fault);
         }
+        take_item(&mut pages, &item_at(regions, buffers, k));
     }
     None
 }

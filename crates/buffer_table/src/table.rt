@@ -1,7 +1,7 @@
 //! The memory table.
 ghost use Rattle.std.specs.Prelude.{◌≡◌, ◌<◌, ◌≤◌, length, IfOk};
 ghost use Rattle.field_words.specs.Questions.{Answers, NamesFirst, NeverHidesFault};
-ghost use Rattle.buffer_table.specs.Table.{TableModel, FirstIsLeast, table_questions, buffer_at};
+ghost use Rattle.buffer_table.specs.Table.{TableModel, FirstIsLeast, SharingMeansByte, table_questions, buffer_at};
 ghost use Rattle.buffer_table.specs.Sound.{IsSound, IsSoundBuffer};
 
 use crate::buffer::{Buffer, Regions, TableFault};
@@ -76,4 +76,9 @@ impl Table {
 /// The first memory rule that stands is the least of all that stand, by item and then by number.
 pub fn first_fault_is_least()
     ensures { FirstIsLeast }
+{}
+
+/// Two items share a byte by M4 exactly where some byte of the memory lies in both.
+pub fn sharing_means_a_byte()
+    ensures { SharingMeansByte }
 {}

@@ -1,25 +1,48 @@
 -- An item without a fault leaves the decision to those after it; the first fault ends it.
-use Rattle.std.proofs.Common.{List, ◌<◌, ◌≤◌, sym, ◌∙◌, length, arith}
+use Rattle.std.proofs.Common.{List, ◌<◌, ◌≤◌, ◌≡◌, ◌-◌, replicate, sym, ap, ◌∙◌, length, subst, arith}
+use Rattle.field_words.specs.Questions.{first_of, each}
 use Rattle.field_words.proofs.Questions.{each_on, each_stop, each_end}
 use Rattle.buffer_table.specs.declared.item.Item.{Item}
-use Rattle.buffer_table.specs.Table.{item_questions, items_of}
-use Rattle.buffer_table.proofs.Sounds.{length_items}
+use Rattle.buffer_table.specs.Table.{item_questions, items_of, item_at}
+use Rattle.buffer_table.specs.Pages.{IsWhole, Takes, first_page, end_page}
+use Rattle.buffer_table.proofs.Sounds.{length_items, sound_item}
+use Rattle.buffer_table.proofs.Bits.{zero_pages}
+use Rattle.buffer_table.proofs.Taken.{more_taken, none_taken_yet, sound_whole}
 use Rattle.buffer_table.proofs.item.items_fault.Goals as goal
 
 pub returns-in-Some : goal.returns-in-Some
 returns-in-Some c =
     let items : List Item = items_of c.args.regions.now c.args.buffers.now in
     let inside : c.loop-k.k < length items = omega (arith, length_items c.args.regions.now c.args.buffers.now, c.loop-k-test.true) in
-    sym (each_stop (item_questions c.args.mem_size items) c.loop-k.k (length items) c.in-Some.fault inside (sym c.in-Some.ensures)) ∙ c.loop-k.invariant
+    sym (each_stop (item_questions c.args.mem_size items) c.loop-k.k (length items) c.in-Some.fault inside (sym c.in-Some.ensures)) ∙ c.loop-k.invariant.same
+
+pub loop-k-init : goal.loop-k-init
+loop-k-init c =
+    let items : List Item = items_of c.args.regions.now c.args.buffers.now in
+    let whole : length items - 0 ≡ length items = omega arith in
+    record {
+      taken = none_taken_yet (replicate 256 0) items (zero_pages 256);
+      same = ap (λ n. first_of (each (item_questions c.args.mem_size items) 0 n)) whole;
+    }
+
+pub take_item-requires : goal.take_item-requires
+take_item-requires c =
+    let items : List Item = items_of c.args.regions.now c.args.buffers.now in
+    record { whole = subst IsWhole (sym c.item_at.ensures) (sound_whole c.args.mem_size (item_at items c.loop-k.k) c.requires.limit (sound_item c.args.mem_size items c.loop-k.k (sym c.in_default.ensures))) }
 
 pub loop-k-preserved : goal.loop-k-preserved
 loop-k-preserved c =
     let items : List Item = items_of c.args.regions.now c.args.buffers.now in
     let inside : c.loop-k.k < length items = omega (arith, length_items c.args.regions.now c.args.buffers.now, c.loop-k-test.true) in
-    each_on (item_questions c.args.mem_size items) c.loop-k.k (length items) inside (sym c.in_default.ensures) ∙ c.loop-k.invariant
+    let whole = sound_whole c.args.mem_size (item_at items c.loop-k.k) c.requires.limit (sound_item c.args.mem_size items c.loop-k.k (sym c.in_default.ensures)) in
+    record {
+      taken = more_taken c.loop-k.pages _ items c.loop-k.k c.loop-k.invariant.taken whole
+          (subst (λ x. Takes c.loop-k.pages c.take_item.new.pages (first_page x) (end_page x)) c.item_at.ensures c.take_item.ensures);
+      same = each_on (item_questions c.args.mem_size items) c.loop-k.k (length items) inside (sym c.in_default.ensures) ∙ c.loop-k.invariant.same;
+    }
 
 pub returns : goal.returns
 returns c =
     let items : List Item = items_of c.args.regions.now c.args.buffers.now in
     let past : length items ≤ c.loop-k.k = omega (arith, length_items c.args.regions.now c.args.buffers.now, c.loop-k-test.false) in
-    sym (each_end (item_questions c.args.mem_size items) c.loop-k.k (length items) past) ∙ c.loop-k.invariant
+    sym (each_end (item_questions c.args.mem_size items) c.loop-k.k (length items) past) ∙ c.loop-k.invariant.same
