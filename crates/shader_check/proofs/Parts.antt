@@ -1,6 +1,7 @@
 -- The instructions that take a sample's uniforms: the first, and one to three more.
-use Rattle.std.proofs.Common.{◌≡◌, ◌≤◌, ◌<◌, ◌+◌, ◌-◌, ℕ, zero, suc, true, false, ◌&&◌, ◌||◌, List, [], ◌∷◌, ◌++◌, length, if◌then◌else◌, refl, sym, ap, subst, inl, inr, arith, ◌∙◌, nat_le, length-append}
-use Rattle.std.proofs.lemmas.Bool.{and_cases, or_cases, or_parts, cases_Bool, true≢false, leb-false, eqb-false}
+use Rattle.std.proofs.Common.{◌≡◌, ◌≤◌, ◌<◌, ◌+◌, ◌-◌, ℕ, zero, suc, true, false, ◌||◌, List, [], ◌∷◌, ◌++◌, length, if◌then◌else◌, refl, sym, ap, subst, inl, inr, arith, ◌∙◌, length-append}
+use Rattle.std.proofs.lemmas.Bool.Decides.{nat_tests}
+use Rattle.std.proofs.lemmas.Bool.{cases_Bool, eqb-false}
 use Rattle.qpu_isa.specs.Terms.{writes_s, writes_tmu, is_address_write, is_min_with_uniform, is_add_with_uniform}
 use Rattle.shader_flow.specs.Flow.{word, checked_of}
 use Rattle.qpu_isa.specs.Setups.{is_direct}
@@ -40,19 +41,7 @@ pub record PartsAre (code : List ℕ) (i : ℕ) : Type 0 where
 -- the TMU that is asked
 pub asked_tmu : (w : ℕ) → asks w ≡ true → (sample_tmu w < 2) × (writes_s w (sample_tmu w) ≡ true)
 unfolding asks sample_tmu
-asked_tmu w asked =
-    elim (cases_Bool (writes_s w 0)) [
-      | inl one ↦
-          (let e : (if writes_s w 0 then 0 else 1) ≡ 0 = ap (λ b. if b then 0 else 1) one in
-          (omega (arith, e), subst (λ t. writes_s w t ≡ true) (sym e) one))
-      | inr none ↦
-          (let e : (if writes_s w 0 then 0 else 1) ≡ 1 = ap (λ b. if b then 0 else 1) none in
-          let two : writes_s w 1 ≡ true = elim (or_cases (writes_s w 0) (writes_s w 1) asked) [
-            | inl one ↦ absurd (true≢false (sym one ∙ none))
-            | inr other ↦ other
-          ] in
-          (omega (arith, e), subst (λ t. writes_s w t ≡ true) (sym e) two))
-    ]
+asked_tmu w asked = (grind (arith, asked), grind (arith, asked))
 
 -- a direct write is one unit's
 pub directs : (code : List ℕ) (i t : ℕ) → t < 2 → is_direct (word code i) t (pending_of code t i) ≡ true → (direct_by_add code i || direct_by_mul code i) ≡ true
@@ -64,18 +53,8 @@ directs code i (suc (suc t)) small direct = let no : ⊥ = omega (arith, small) 
 -- fewer than four are pending
 pub room : (code : List ℕ) (i t : ℕ) → t < 2 → IsCleanAt code i → writes_tmu (word code i) t ≡ true → pending_of code t i < 4
 unfolding s22 is_full
-room code i zero small clean writes =
-    let none = (or_parts (writes_tmu (word code i) 0 && nat_le 4 (pending_of code 0 i)) (writes_tmu (word code i) 1 && nat_le 4 (pending_of code 1 i)) clean.room).0 in
-    elim (and_cases (writes_tmu (word code i) 0) (nat_le 4 (pending_of code 0 i)) none) [
-      | inl not ↦ absurd (true≢false (sym writes ∙ not))
-      | inr less ↦ leb-false 4 (pending_of code 0 i) less
-    ]
-room code i (suc zero) small clean writes =
-    let none = (or_parts (writes_tmu (word code i) 0 && nat_le 4 (pending_of code 0 i)) (writes_tmu (word code i) 1 && nat_le 4 (pending_of code 1 i)) clean.room).1 in
-    elim (and_cases (writes_tmu (word code i) 1) (nat_le 4 (pending_of code 1 i)) none) [
-      | inl not ↦ absurd (true≢false (sym writes ∙ not))
-      | inr less ↦ leb-false 4 (pending_of code 1 i) less
-    ]
+room code i zero small clean writes = let room = clean.room in grind (arith, nat_tests, room, writes)
+room code i (suc zero) small clean writes = let room = clean.room in grind (arith, nat_tests, room, writes)
 room code i (suc (suc t)) small clean writes = let no : ⊥ = omega (arith, small) in absurd no
 
 pub parts_direct : (code : List ℕ) (i : ℕ) → i < checked_of code → IsCleanAt code i → asks (word code i) ≡ true → is_direct_sample code i ≡ true → PartsAre code i

@@ -1,5 +1,5 @@
 -- The first that stands of a union of sorted tables is the least of the firsts.
-use Rattle.std.proofs.Common.{◌≡◌, ◌≤◌, ℕ, Bool, true, false, ◌&&◌, List, [], ◌∷◌, Option, Some, None, min, if◌then◌else◌, refl, sym, ap, inl, inr, arith, ◌∙◌, nat_lt, nat_le}
+use Rattle.std.proofs.Common.{◌≡◌, ◌≤◌, ℕ, Bool, true, false, List, [], ◌∷◌, Option, Some, None, min, if◌then◌else◌, refl, sym, ap, inl, inr, arith, ◌∙◌, nat_lt, nat_le}
 use Rattle.std.proofs.lemmas.Bool.{and_parts, leb-true, cases_Bool}
 use Rattle.field_words.specs.Questions.{Question, Ask, first_of}
 use Rattle.shader_check.specs.Merge.{lesser, rises, inserted, merged}

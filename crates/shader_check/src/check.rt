@@ -1,13 +1,14 @@
 //! The checker.
-ghost use Rattle.std.specs.Prelude.{◌≡◌, ◌<◌, ◌≤◌, ◌+◌, ◌*◌, length, IfOk, IfErr};
+ghost use Rattle.std.specs.Prelude.{◌≡◌, ◌<◌, ◌≤◌, ◌+◌, ◌*◌, length, IfOk};
 ghost use Rattle.field_words.specs.Sizes.{most_words};
+ghost use Rattle.field_words.specs.Least.{NamesLeast};
 ghost use Rattle.field_words.specs.Questions.{Answers};
 ghost use Rattle.qpu_isa.specs.Shader.{IsSoundShader, shader_view};
 ghost use Rattle.shader_flow.specs.Flow.{IsFlow};
 ghost use Rattle.shader_flow.specs.Pending.{count_of};
 ghost use Rattle.uniform_stream.specs.Stream.{uniforms_of};
 ghost use Rattle.shader_check.specs.Info.{IsInfo};
-ghost use Rattle.shader_check.specs.Least.{IsLeastStop};
+ghost use Rattle.shader_check.specs.Least.{IsUpTo};
 ghost use Rattle.shader_check.specs.Rules.{shader_questions};
 
 use crate::fault::ShaderFault;
@@ -51,7 +52,7 @@ pub fn check_shader<L: Ledger>(
 ) -> Result<ShaderInfo, Stop<ShaderFault>>
     requires { length code.now ≤ most_words }
     ensures answers { Answers (shader_questions code.now) (IsInfo code.now) result }
-    ensures least { IfErr result (IsLeastStop code.now) }
+    ensures least { NamesLeast IsUpTo (shader_questions code.now) result }
     ensures sound { IfOk result (λ info. IsSoundShader (shader_view info)) }
     ensures bound { steps.new ≤ steps.old + (8 * length code.now + 8) }
 {
@@ -85,7 +86,7 @@ fn counted<L: Ledger>(
     requires parts { blank.parts ≡ L.parts }
     requires some { 0 < blank.parts }
     ensures answers { Answers (shader_questions code.now) (IsInfo code.now) result }
-    ensures least { IfErr result (IsLeastStop code.now) }
+    ensures least { NamesLeast IsUpTo (shader_questions code.now) result }
     ensures sound { IfOk result (λ info. IsSoundShader (shader_view info)) }
 {
     check_shader(alloc, code, &mut Steps::<L>::new(blank))
@@ -95,7 +96,7 @@ fn counted<L: Ledger>(
 pub fn check_code(alloc: Global, code: &[u64]) -> Result<ShaderInfo, Stop<ShaderFault>>
     requires { length code.now ≤ most_words }
     ensures answers { Answers (shader_questions code.now) (IsInfo code.now) result }
-    ensures least { IfErr result (IsLeastStop code.now) }
+    ensures least { NamesLeast IsUpTo (shader_questions code.now) result }
     ensures sound { IfOk result (λ info. IsSoundShader (shader_view info)) }
 {
     counted::<Brand>(alloc, code, Blank::new(1))

@@ -1,11 +1,13 @@
 use Rattle.std.proofs.Common.{length, sym, ◌∙◌}
 use Rattle.field_words.specs.Questions.{each, answered}
+use Rattle.field_words.proofs.Least.{least}
 use Rattle.field_words.proofs.Questions.{passes, refuses_front, answered_none, answered_some}
 use Rattle.shader_flow.specs.Flow.{checked_of}
 use Rattle.shader_check.specs.Rules.{questions_at, fault_at, whole_questions, shader_questions}
 use Rattle.shader_check.proofs.SoundInfo.{info_sound}
 use Rattle.shader_check.proofs.Indexed.{sound_shader}
-use Rattle.shader_check.proofs.Leasts.{least_fault, least_stop}
+use Rattle.shader_check.specs.Least.{IsUpTo}
+use Rattle.shader_check.proofs.Leasts.{order, all_rise, refusal_least}
 use Rattle.shader_check.proofs.check.check_shader.Goals as goal
 
 pub returns-in-Err-clause-answers : goal.returns-in-Err-clause-answers
@@ -22,19 +24,10 @@ returns-in-Some-clause-answers g c =
     ∙ answered_some (fault_at (length c.args.code.now)) (whole_questions c.args.code.now) c.in-Some.number (sym c.in-Some.ensures)
 
 pub returns-in-Err-clause-least : goal.returns-in-Err-clause-least
-unfolding shader_questions
-returns-in-Err-clause-least g c =
-    least_stop c.args.code.now c.in-Err.stop
-    (refuses_front (each (questions_at c.args.code.now) 0 (checked_of c.args.code.now)) (answered (fault_at (length c.args.code.now)) (whole_questions c.args.code.now))
-    c.in-Err.stop c.in-Err.ensures.answers)
+returns-in-Err-clause-least g c = refusal_least c.args.code.now c.in-Err.stop (returns-in-Err-clause-answers g c)
 
 pub returns-in-Some-clause-least : goal.returns-in-Some-clause-least
-unfolding shader_questions fault_at
-returns-in-Some-clause-least g c =
-    least_fault c.args.code.now _
-    (passes (each (questions_at c.args.code.now) 0 (checked_of c.args.code.now)) (answered (fault_at (length c.args.code.now)) (whole_questions c.args.code.now))
-    c.in-Ok.ensures.answers.0
-    ∙ answered_some (fault_at (length c.args.code.now)) (whole_questions c.args.code.now) c.in-Some.number (sym c.in-Some.ensures))
+returns-in-Some-clause-least g c = least IsUpTo (fault_at 0 0) _ (shader_questions c.args.code.now) _ order (all_rise c.args.code.now) (returns-in-Some-clause-answers g c)
 
 pub returns-clause-answers : goal.returns-clause-answers
 unfolding shader_questions
