@@ -1,5 +1,5 @@
--- The texts of `check`: of an accepted job, and of a refusal.
-use Rattle.std.specs.Prelude.{ℕ, zero, suc, ◌+◌, ◌-◌, ◌/◌, ◌==◌, Bool, List, [], ◌++◌, length, take, drop, replicate, codes, false, if◌then◌else◌}
+-- The texts of `check`: of an accepted file, and of a refusal.
+use Rattle.std.specs.Prelude.{◌≡◌, ◌≤◌, ℕ, zero, suc, ◌+◌, ◌-◌, ◌/◌, ◌==◌, Bool, List, [], ◌++◌, length, take, drop, replicate, slice_index_or, codes, false, if◌then◌else◌}
 use Rattle.std.specs.List.{list_all}
 use Rattle.std.specs.Fmt.{digits, decimal}
 use Rattle.hex.specs.Hex.{encode_lower}
@@ -55,13 +55,43 @@ layout_text layout lengths =
     ++ (list_line (codes "render") (layout.place + layout.render) lengths.render
     ++ slot_line layout.slot)))
 
--- what is printed of an accepted job: its memory's size and where its parts lie, and then each row of the
--- memory that isn't all zero
-unfoldable pub head_text : ℕ → Layout → Lengths → List ℕ
-head_text size layout lengths = codes "accepted\n" ++ (memory_line size ++ layout_text layout lengths)
+-- those of job j; past the last one, of nothing
+abbrev pub no_layout : Layout
+no_layout = record { place = 0; bin = 0; records = 0; uniforms = 0; render = 0; end = 0; slot = 0 }
 
-unfoldable pub accepted_text : List ℕ → Layout → Lengths → List ℕ
-accepted_text memory layout lengths = head_text (length memory) layout lengths ++ (rows_text memory 0 (length memory / 16) ++ codes "end\n")
+abbrev pub no_lengths : Lengths
+no_lengths = record { bin = 0; records = 0; uniforms = 0; render = 0 }
+
+unfoldable pub lines_of : List Layout → List Lengths → ℕ → List ℕ
+lines_of layouts lengths j = layout_text (slice_index_or layouts j no_layout) (slice_index_or lengths j no_lengths)
+
+unfoldable pub job_line : ℕ → List ℕ
+job_line job = codes "job " ++ (decimal job ++ codes "\n")
+
+-- those of the first n jobs, each behind the job's number
+unfoldable pub jobs_text : List Layout → List Lengths → ℕ → List ℕ
+jobs_text layouts lengths zero = []
+jobs_text layouts lengths (suc n) = jobs_text layouts lengths n ++ (job_line n ++ lines_of layouts lengths n)
+
+-- a file of version 1 has one job, and its number isn't printed
+unfoldable pub layouts_text : ℕ → List Layout → List Lengths → List ℕ
+layouts_text version layouts lengths = if version == 1 then lines_of layouts lengths 0 else jobs_text layouts lengths (length layouts)
+
+-- what is printed of an accepted file of a version: its memory's size and where the parts of its jobs lie, and then each row of the
+-- memory that isn't all zero
+unfoldable pub head_text : (version size : ℕ) → List Layout → List Lengths → List ℕ
+head_text version size layouts lengths = codes "accepted\n" ++ (memory_line size ++ layouts_text version layouts lengths)
+
+unfoldable pub accepted_text : ℕ → List ℕ → List Layout → List Lengths → List ℕ
+accepted_text version memory layouts lengths =
+    head_text version (length memory) layouts lengths ++ (rows_text memory 0 (length memory / 16) ++ codes "end\n")
+
+-- a version that there is, with a layout and lengths for each of its jobs
+pub record AreOfVersion (version : ℕ) (layouts : List Layout) (lengths : List Lengths) : Type 0 where
+  pub a_version : 1 ≤ version
+  pub known : version ≤ 2
+  pub one_job : version ≡ 1 → length layouts ≡ 1
+  pub each_job : length lengths ≡ length layouts
 
 -- what is printed of a refusal: the rule, and the place in the file that it is about
 unfoldable pub refused_text : Refusal → List ℕ

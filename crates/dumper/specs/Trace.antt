@@ -27,9 +27,13 @@ reach_text line =
 unfoldable pub counts_text : TraceLine → List ℕ
 counts_text line = codes " " ++ (decimal line.reads ++ (codes " " ++ (decimal line.writes ++ codes " ")))
 
+-- the end of a step's line; in version 2 it says for which job the step was done
+unfoldable pub step_end : (version job : ℕ) → List ℕ
+step_end version job = if version == 1 then codes "\n" else codes " job " ++ (decimal job ++ codes "\n")
+
 -- the line of a step: its unit, how many reads and writes it did, and how far they reach
-unfoldable pub step_text : TraceLine → List ℕ
-step_text line = unit_text line.unit ++ (counts_text line ++ (reach_text line ++ codes "\n"))
+unfoldable pub step_text : ℕ → TraceLine → List ℕ
+step_text version line = unit_text line.unit ++ (counts_text line ++ (reach_text line ++ step_end version line.job))
 
 abbrev pub ending_name : Ending → List ℕ
 ending_name Finished = codes "finished"
@@ -40,6 +44,6 @@ ending_name Spent = codes "steps spent"
 unfoldable pub ending_text : Ending → ℕ → List ℕ
 ending_text ending steps = ending_name ending ++ (codes " after " ++ (decimal steps ++ codes "\n"))
 
--- what is printed of a run
-unfoldable pub trace_text : Trace → List ℕ
-trace_text trace = flat_map step_text trace.lines.items ++ ending_text trace.ending (length trace.lines.items)
+-- what is printed of a run of a file of a version
+unfoldable pub trace_text : ℕ → Trace → List ℕ
+trace_text version trace = flat_map (step_text version) trace.lines.items ++ ending_text trace.ending (length trace.lines.items)

@@ -1,9 +1,9 @@
-//! The texts of an accepted job and of a refusal.
+//! The texts of an accepted file and of a refusal.
 ghost use Rattle.std.specs.Prelude.{◌≡◌, ◌≤◌, ◌<◌, ◌^◌, ◌+◌, ◌*◌, ◌++◌, ◌/◌, ◌%◌, ◌-◌, length, take, false, IfOk, OnOk, string_bytes};
 ghost use Rattle.field_words.specs.Writes.{with_bytes};
 ghost use Rattle.hex.specs.Hex.{encode_lower};
 ghost use Rattle.std.specs.Fmt.{digit_glyph};
-ghost use Rattle.dumper.specs.Text.{place_text, list_line, memory_line, slot_line, row_size, row_line, row_at, is_blank, row_text, rows_text, layout_text, head_text, accepted_text, refused_text};
+ghost use Rattle.dumper.specs.Text.{place_text, list_line, memory_line, slot_line, row_size, row_line, row_at, is_blank, row_text, rows_text, layout_text, lines_of, job_line, jobs_text, layouts_text, head_text, accepted_text, AreOfVersion, refused_text};
 
 use field_words::NoMemory;
 use job_format::Refusal;
@@ -14,7 +14,7 @@ use std::alloc::{AllocError, Global};
 /// The length of a row's line: eight digits of its place, a blank, two for each byte and a line feed.
 const ROW_LINE: usize = 42;
 
-/// The last line of the text of an accepted job.
+/// The last line of the text of an accepted file.
 pub const IMAGE_END: &[u8; 4] = b"end\n";
 
 /// How many bytes of rows are made at once.
@@ -225,38 +225,112 @@ fn push_layout(
     out.extend_from_slice(slot_line(alloc, u64::from(layout.slot))?.as_bytes())
 }
 
-/// The text of an accepted job up to its rows: the memory's size in decimal, and where the job's parts lie.
+#[tactic(auto, unfolding(crate::specs::Text::job_line))]
+fn job_line(alloc: Global, job: usize) -> Result<String, AllocError>
+    ensures { IfOk result (λ line. string_bytes line ≡ job_line job) }
+{
+    format!(in alloc; "job {job}\n")
+}
+
+#[tactic(auto, unfolding(crate::specs::Text::lines_of))]
+fn push_lines(
+    alloc: Global,
+    out: &mut Vec<u8>,
+    layouts: &[Layout],
+    lengths: &[Lengths],
+    job: usize,
+) -> Result<(), AllocError>
+    requires layout { job < length layouts.now }
+    requires lengths { job < length lengths.now }
+    ensures { OnOk result (out.new.items ≡ out.old.items ++ lines_of layouts.now lengths.now job) }
+{
+    push_layout(alloc, out, &layouts[job], &lengths[job])
+}
+
+fn push_job(
+    alloc: Global,
+    out: &mut Vec<u8>,
+    layouts: &[Layout],
+    lengths: &[Lengths],
+    job: usize,
+) -> Result<(), AllocError>
+    requires layout { job < length layouts.now }
+    requires lengths { job < length lengths.now }
+    ensures { OnOk result (out.new.items ≡ out.old.items ++ (job_line job ++ lines_of layouts.now lengths.now job)) }
+{
+    out.extend_from_slice(job_line(alloc, job)?.as_bytes())?;
+    push_lines(alloc, out, layouts, lengths, job)
+}
+
+fn push_jobs(
+    alloc: Global,
+    out: &mut Vec<u8>,
+    layouts: &[Layout],
+    lengths: &[Lengths],
+) -> Result<(), AllocError>
+    requires { length lengths.now ≡ length layouts.now }
+    ensures { OnOk result (out.new.items ≡ out.old.items ++ jobs_text layouts.now lengths.now (length layouts.now)) }
+{
+    for job in 0..layouts.len() {
+        push_job(alloc, out, layouts, lengths, job)?;
+    }
+    Ok(())
+}
+
+#[tactic(auto, unfolding(crate::specs::Text::layouts_text))]
+fn push_layouts(
+    alloc: Global,
+    out: &mut Vec<u8>,
+    version: u32,
+    layouts: &[Layout],
+    lengths: &[Lengths],
+) -> Result<(), AllocError>
+    requires { AreOfVersion version layouts.now lengths.now }
+    ensures { OnOk result (out.new.items ≡ out.old.items ++ layouts_text version layouts.now lengths.now) }
+{
+    if version == 1 {
+        return push_lines(alloc, out, layouts, lengths, 0);
+    }
+    push_jobs(alloc, out, layouts, lengths)
+}
+
+/// The text of an accepted file of a version up to its rows: the memory's size in decimal, and where the parts of each job lie.
 #[tactic(auto, unfolding(crate::specs::Text::head_text))]
 pub fn image_head(
     alloc: Global,
+    version: u32,
     size: u32,
-    layout: &Layout,
-    lengths: &Lengths,
+    layouts: &[Layout],
+    lengths: &[Lengths],
 ) -> Result<Vec<u8>, NoMemory>
-    ensures { IfOk result (λ text. text.items ≡ head_text size layout.now lengths.now) }
+    requires { AreOfVersion version layouts.now lengths.now }
+    ensures { IfOk result (λ text. text.items ≡ head_text version size layouts.now lengths.now) }
 {
     let mut out = Vec::new(alloc);
     out.extend_from_slice(b"accepted\n")?;
     out.extend_from_slice(memory_line(alloc, size)?.as_bytes())?;
-    push_layout(alloc, &mut out, layout, lengths)?;
+    push_layouts(alloc, &mut out, version, layouts, lengths)?;
     Ok(out)
 }
 
-/// The text of an accepted job, from the memory that it runs in and where its parts lie there. Places have eight hexadecimal
-/// digits, or more where they need more; lengths and the memory's size in bytes are decimal. A row of 16 bytes that are all
-/// zero is left out. A caller that passes the text on can do without all of it in memory, by [`image_head`], [`put_rows`] and
-/// [`IMAGE_END`].
+/// The text of an accepted file of version 1 or 2, from the memory that its jobs run in and where their parts lie there. There is one
+/// layout and one record of lengths for each job, of which a file of version 1 has one. Places have eight hexadecimal digits, or more
+/// where they need more; lengths and the memory's size in bytes are decimal. In version 2 the lines of a job stand behind its number.
+/// A row of 16 bytes that are all zero is left out. A caller that passes the text on can do without all of it in memory, by
+/// [`image_head`], [`put_rows`] and [`IMAGE_END`].
 #[tactic(auto, unfolding(crate::specs::Text::accepted_text))]
 pub fn image_text(
     alloc: Global,
+    version: u32,
     memory: &PhysMem,
-    layout: &Layout,
-    lengths: &Lengths,
+    layouts: &[Layout],
+    lengths: &[Lengths],
 ) -> Result<Vec<u8>, NoMemory>
-    requires { length memory.now % 16 ≡ 0 }
-    ensures { IfOk result (λ text. text.items ≡ accepted_text memory.now layout.now lengths.now) }
+    requires rows { length memory.now % 16 ≡ 0 }
+    requires jobs { AreOfVersion version layouts.now lengths.now }
+    ensures { IfOk result (λ text. text.items ≡ accepted_text version memory.now layouts.now lengths.now) }
 {
-    let mut out = image_head(alloc, memory.len(), layout, lengths)?;
+    let mut out = image_head(alloc, version, memory.len(), layouts, lengths)?;
     push_rows(&mut out, memory)?;
     out.extend_from_slice(IMAGE_END)?;
     Ok(out)
@@ -304,7 +378,7 @@ mod tests {
             uniforms: 0,
             render: 254,
         };
-        let text = image_text(rt.alloc(), &memory, &layout, &lengths)?;
+        let text = image_text(rt.alloc(), 1, &memory, &[layout], &[lengths])?;
         assert_eq!(rt; text.as_slice(), IMAGE.as_bytes());
         Ok(())
     }
@@ -333,8 +407,50 @@ mod tests {
             uniforms: 2,
             render: 3,
         };
-        let text = image_text(rt.alloc(), &memory, &layout, &lengths)?;
+        let text = image_text(rt.alloc(), 1, &memory, &[layout], &[lengths])?;
         assert_eq!(rt; text.as_slice(), FAR.as_bytes());
+        Ok(())
+    }
+
+    const TWO: &str =
+        "accepted\nmemory 16\njob 0\nbin 00000010 1\nrecords 00000020 2\nuniforms 00000030 3\nrender 00000040 4\nslot 00001000\n\
+        job 1\nbin 00000210 5\nrecords 00000220 6\nuniforms 00000230 7\nrender 00000240 8\nslot 00081000\nend\n";
+
+    // In version 2 the lines of each job stand behind its number.
+    #[test]
+    fn prints_two_jobs(rt: HostRuntime) -> Result<(), NoMemory> {
+        let memory = PhysMem::new(rt.alloc(), 16)?;
+        assert_eq!(rt; memory.len(), 16);
+        let first = Layout {
+            place: 0x10,
+            bin: 0,
+            records: 0x10,
+            uniforms: 0x20,
+            render: 0x30,
+            end: 0x34,
+            slot: 0x1000,
+        };
+        let second = Layout {
+            place: 0x210,
+            slot: 0x8_1000,
+            ..first
+        };
+        let lengths = [
+            Lengths {
+                bin: 1,
+                records: 2,
+                uniforms: 3,
+                render: 4,
+            },
+            Lengths {
+                bin: 5,
+                records: 6,
+                uniforms: 7,
+                render: 8,
+            },
+        ];
+        let text = image_text(rt.alloc(), 2, &memory, &[first, second], &lengths)?;
+        assert_eq!(rt; text.as_slice(), TWO.as_bytes());
         Ok(())
     }
 

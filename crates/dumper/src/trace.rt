@@ -1,7 +1,7 @@
 //! The text of a run.
 ghost use Rattle.std.specs.Prelude.{◌≡◌, ◌≤◌, ◌<◌, ◌++◌, length, IfOk, OnOk, string_bytes};
 ghost use Rattle.std.specs.List.{flat_map};
-ghost use Rattle.dumper.specs.Trace.{unit_text, counts_text, reach_text, step_text, ending_name, ending_text, trace_text};
+ghost use Rattle.dumper.specs.Trace.{unit_text, counts_text, reach_text, step_end, step_text, ending_name, ending_text, trace_text};
 ghost use Rattle.dumper.specs.Text.{place_text};
 ghost use Rattle.std.specs.Fmt.{decimal};
 
@@ -78,21 +78,43 @@ fn push_counts(out: &mut Vec<u8>, line: &TraceLine) -> Result<(), AllocError>
     out.extend_from_slice(b" ")
 }
 
+#[tactic(auto, unfolding(crate::specs::Trace::step_end))]
+fn push_step_end(out: &mut Vec<u8>, version: u32, job: u8) -> Result<(), AllocError>
+    ensures { OnOk result (out.new.items ≡ out.old.items ++ step_end version job) }
+{
+    if version == 1 {
+        return out.extend_from_slice(b"\n");
+    }
+    out.extend_from_slice(b" job ")?;
+    push_number(out, u32::from(job))?;
+    out.extend_from_slice(b"\n")
+}
+
 #[tactic(auto, unfolding(crate::specs::Trace::step_text))]
-fn push_step(alloc: Global, out: &mut Vec<u8>, line: &TraceLine) -> Result<(), AllocError>
-    ensures { OnOk result (out.new.items ≡ out.old.items ++ step_text line.now) }
+fn push_step(
+    alloc: Global,
+    out: &mut Vec<u8>,
+    version: u32,
+    line: &TraceLine,
+) -> Result<(), AllocError>
+    ensures { OnOk result (out.new.items ≡ out.old.items ++ step_text version line.now) }
 {
     push_unit(out, line.unit)?;
     push_counts(out, line)?;
     push_reach(alloc, out, line)?;
-    out.extend_from_slice(b"\n")
+    push_step_end(out, version, line.job)
 }
 
-fn push_steps(alloc: Global, out: &mut Vec<u8>, lines: &[TraceLine]) -> Result<(), AllocError>
-    ensures { OnOk result (out.new.items ≡ out.old.items ++ flat_map step_text lines.now) }
+fn push_steps(
+    alloc: Global,
+    out: &mut Vec<u8>,
+    version: u32,
+    lines: &[TraceLine],
+) -> Result<(), AllocError>
+    ensures { OnOk result (out.new.items ≡ out.old.items ++ flat_map (step_text version) lines.now) }
 {
     for line in lines {
-        push_step(alloc, out, line)?;
+        push_step(alloc, out, version, line)?;
     }
     Ok(())
 }
@@ -116,13 +138,51 @@ fn ending_text(alloc: Global, ending: Ending, steps: usize) -> Result<String, Al
 }
 
 /// The text of a run: a line for each step, and how the run ended after how many. A step's line has its unit, how many reads and
-/// how many writes it did, and the least place and the greatest end of what it touched, or `- -` where it touched nothing.
+/// how many writes it did, and the least place and the greatest end of what it touched, or `- -` where it touched nothing. In a file
+/// of version 2 the number of the job that the step was done for comes last.
 #[tactic(auto, unfolding(crate::specs::Trace::trace_text))]
-pub fn trace_text(alloc: Global, trace: &Trace) -> Result<Vec<u8>, NoMemory>
-    ensures { IfOk result (λ text. text.items ≡ trace_text trace.now) }
+pub fn trace_text(alloc: Global, version: u32, trace: &Trace) -> Result<Vec<u8>, NoMemory>
+    requires a_version { 1 ≤ version }
+    requires known { version ≤ 2 }
+    ensures { IfOk result (λ text. text.items ≡ trace_text version trace.now) }
 {
     let mut out = Vec::with_capacity(alloc, STEP_LINE.saturating_mul(trace.lines.len()))?;
-    push_steps(alloc, &mut out, &trace.lines)?;
+    push_steps(alloc, &mut out, version, &trace.lines)?;
     out.extend_from_slice(ending_text(alloc, trace.ending, trace.lines.len())?.as_bytes())?;
     Ok(out)
+}
+
+#[cfg(test)]
+mod tests {
+    use super::*;
+
+    // In version 2 each step's line ends with its job.
+    #[test]
+    fn prints_the_jobs_of_steps(rt: HostRuntime) -> Result<(), NoMemory> {
+        let line = TraceLine {
+            unit: Actor::Tmu(3, 1),
+            job: 7,
+            reads: 2,
+            writes: 0,
+            low: 0x10,
+            high: 0x1234,
+        };
+        let mut lines = Vec::new(rt.alloc());
+        lines.push(line)?;
+        let trace = Trace {
+            lines,
+            ending: Ending::Waiting,
+        };
+        let first = trace_text(rt.alloc(), 1, &trace)?;
+        assert_eq!(rt;
+            first.as_slice(),
+            b"tmu3.1 2 0 00000010 00001234\nwaiting after 1\n".as_slice()
+        );
+        let second = trace_text(rt.alloc(), 2, &trace)?;
+        assert_eq!(rt;
+            second.as_slice(),
+            b"tmu3.1 2 0 00000010 00001234 job 7\nwaiting after 1\n".as_slice()
+        );
+        Ok(())
+    }
 }

@@ -1,11 +1,10 @@
 -- An example's file is well formed, whatever its number.
-use Rattle.std.proofs.Common.{◌≡◌, ◌<◌, ◌≤◌, ℕ, suc, zero, ◌+◌, ◌*◌, List, [], ◌∷◌, ◌++◌, length, map, replicate, arith, refl, sym, ◌∙◌, ap, subst}
+use Rattle.std.proofs.Common.{◌≡◌, ◌≤◌, ℕ, suc, zero, ◌+◌, ◌*◌, [], ◌∷◌, length, replicate, arith, refl, ap}
 use Rattle.field_words.specs.Pieces.{joined}
-use Rattle.buffer_table.specs.declared.buffer.Buffer.{Buffer}
 use Rattle.job_format.specs.File.{IsWellFormed, IsJobWellFormed}
 use Rattle.example_job.specs.Noise.{next_state, noise}
-use Rattle.example_job.specs.Lists.{state, triangle, states_from, packets_of, bin_of, record_bytes, records_of}
-use Rattle.example_job.specs.Example.{job_of, file_of, shader, vertex_bytes, code_buffer, vertex_buffer, frame_buffer}
+use Rattle.example_job.specs.Lists.{states_from, bin_of, record_bytes, records_of}
+use Rattle.example_job.specs.Example.{job_of, file_of, vertex_bytes}
 
 pub noise_length : (x n : ℕ) → length (noise x n) ≡ n
 unfolding noise
@@ -41,10 +40,14 @@ job_formed across down count few = record {
 pub well_formed : (seed across down count : ℕ) → count ≤ 4000 → IsWellFormed (file_of seed across down count)
 unfolding file_of
 well_formed seed across down count few = record {
-  version = refl;
+  a_version = omega arith;
+  known = omega arith;
+  first = λ is_first. record { buffers = omega arith; one_job = refl; handles = (omega arith, tt) };
+  slots = λ later some. omega arith;
   buffers = omega arith;
   code = (omega arith, (tt, (tt, tt)));
   contents = ap (λ n. 24 ∷ n ∷ 0 ∷ []) (noise_length seed vertex_bytes);
-  one_job = refl;
+  some_job = omega arith;
+  few_jobs = omega arith;
   jobs = (job_formed across down count few, tt);
 }

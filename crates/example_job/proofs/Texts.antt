@@ -1,5 +1,5 @@
 -- The texts of an example as its loops write them: what stands already and what is left are together the whole.
-use Rattle.std.proofs.Common.{◌≡◌, ◌<◌, ◌≤◌, ℕ, suc, zero, ◌+◌, ◌-◌, ◌/◌, ◌^◌, List, [], ◌∷◌, ◌++◌, replicate, arith, refl, sym, ◌∙◌, ap, append_assoc, append-nil}
+use Rattle.std.proofs.Common.{◌≡◌, ◌<◌, ◌≤◌, ℕ, suc, zero, ◌+◌, ◌-◌, ◌/◌, ◌^◌, List, [], ◌∷◌, ◌++◌, replicate, arith, sym, ◌∙◌, ap, append_assoc, append-nil}
 use Rattle.field_words.specs.Pieces.{joined}
 use Rattle.example_job.specs.Noise.{next_state, noise}
 use Rattle.example_job.specs.Lists.{state, triangle, states_from, record_bytes}

@@ -3,11 +3,11 @@ use Rattle.std.proofs.Common.{◌≡◌, ℕ, ◌+◌, ◌*◌, ◌-◌, ◌≤�
 use Rattle.std.specs.Prelude.{nat_lt, if◌then◌else◌}
 use Rattle.field_words.specs.Words.{rounded_up}
 use Rattle.field_words.proofs.Numbers.{rounded}
-use Rattle.relocation.specs.Layout.{records_start, uniforms_start, render_start}
+use Rattle.relocation.specs.Layout.{records_start, uniforms_start, render_start, region_end}
 use Rattle.render_list.specs.Frame.{is_present, is_full}
 use Rattle.render_list.specs.Length.{load_size, loads_size, writes_size, tile_size, render_length}
 use Rattle.job_check.specs.Jobs.{has_tiles, render_room}
-use Rattle.example_job.specs.Example.{frame_of}
+use Rattle.example_job.specs.Example.{regions, frame_of}
 use Rattle.example_law.proofs.Numbers.{IsTiles, is_under}
 
 -- 12 bytes, and 9 for each tile
@@ -31,10 +31,10 @@ render_most across down some_across some_down tiles =
     let is = render_is across down some_across some_down in
     most_if (has_tiles (frame_of across down)) (render_length (frame_of across down) true) 33699 (omega arith)
 
-pub lists_fit : (bin records render : ℕ) → bin ≤ 262159 → records ≤ 1048576 → render ≤ 33699 → nat_lt 0x400000 (render_start bin records 0 + render) ≡ false
+pub lists_fit : (bin records render : ℕ) → bin ≤ 262159 → records ≤ 1048576 → render ≤ 33699 → nat_lt (region_end regions) (regions.lists_place + (render_start bin records 0 + render)) ≡ false
 unfolding records_start uniforms_start render_start
 lists_fit bin records render bin_most records_most render_most =
     let one = (rounded bin 16 (omega arith)).near in
     let two = (rounded (rounded_up bin 16 + records) 16 (omega arith)).near in
     let three = (rounded (rounded_up (rounded_up bin 16 + records) 16 + 0) 16 (omega arith)).near in
-    is_under 0x400000 (rounded_up (rounded_up (rounded_up bin 16 + records) 16 + 0) 16 + render) (omega arith)
+    is_under (region_end regions) (regions.lists_place + (rounded_up (rounded_up (rounded_up bin 16 + records) 16 + 0) 16 + render)) (omega arith)

@@ -15,7 +15,7 @@ use Rattle.bin_list.specs.Packets.{passed}
 use Rattle.bin_list.specs.Seen.{seen_before}
 use Rattle.shader_records.specs.Rules.{all_questions}
 use Rattle.render_list.specs.Surfaces.{surface_faults}
-use Rattle.job_check.specs.Jobs.{job_of, has_bin, grid_from, grid_of, render_room, layout_of, states_in, input_for}
+use Rattle.job_check.specs.Jobs.{job_of, has_bin, grid_from, grid_of, render_room, lists_begin, layout_of, states_in, input_for}
 use Rattle.job_check.specs.Shaders.{words_in, code_questions, told_of, content_of, shader_of, shaders_up_to}
 use Rattle.job_check.specs.Faults.{table_refused, table_stage, shader_refused, shader_stage, shaders_stage, handle_refused, handles_stage, bin_refused, bin_stage, record_refused, records_stage, surface_refused, surfaces_stage, layout_stage, lists_stages, job_stages, file_stages}
 use Rattle.job_check.specs.Whole.{format_refused, refusal_of, all_questions as file_questions}
@@ -109,7 +109,7 @@ room_is seed across down count range =
     (render_most across down range.some_across range.some_down (tiles_in across down count range))
 
 layout_none : (seed across down count : ℕ) → IsInRange across down count → first_of (layout_stage (file_of seed across down count) 0) ≡ None
-unfolding layout_stage layout_of job_of file_of
+unfolding layout_stage layout_of lists_begin job_of file_of
 layout_none seed across down count range =
     let few = range.records in
     let bin = bin_length across down count in
@@ -151,11 +151,15 @@ formed seed across down count range =
     let bin = bin_length across down count in
     let records = records_length count in
     record {
-      version = refl;
+      a_version = omega arith;
+      known = omega arith;
+      first = λ is_first. record { buffers = omega arith; one_job = refl; handles = (omega arith, tt) };
+      slots = λ later some. omega arith;
       buffers = omega arith;
       code = (omega arith, (tt, (tt, tt)));
       contents = ap (λ n. 24 ∷ n ∷ 0 ∷ []) (noise_length seed vertex_bytes);
-      one_job = refl;
+      some_job = omega arith;
+      few_jobs = omega arith;
       jobs = (record { handles = omega arith; bin = omega arith; records = omega arith; declared = omega arith; uniforms = omega arith; whole_words = refl }, tt);
     }
 

@@ -1,5 +1,5 @@
--- What is emitted is the memory of the file.
-use Rattle.std.proofs.Common.{◌≡◌, ℕ, suc, ◌+◌, ◌%◌, ◌<◌, ◌≤◌, List, [], ◌∷◌, ◌++◌, length, get_or, map, refl, sym, ap, subst, arith, ◌∙◌}
+-- Parts put into a memory, and contents that fit it.
+use Rattle.std.proofs.Common.{◌≡◌, ℕ, suc, ◌+◌, ◌<◌, ◌≤◌, List, [], ◌∷◌, ◌++◌, length, get_or, map, refl, sym, ap, subst, arith, ◌∙◌}
 use Rattle.std.proofs.lemmas.List.{get_or_default, length-replicate}
 use Rattle.field_words.specs.Writes.{Part, placed, with_bytes, zeros}
 use Rattle.buffer_table.specs.declared.buffer.Buffer.{Buffer}
@@ -8,11 +8,7 @@ use Rattle.buffer_table.specs.Sound.{IsSound}
 use Rattle.buffer_table.proofs.Sounds.{sound_buffer}
 use Rattle.job_format.specs.Model.{FileModel}
 use Rattle.job_check.specs.Shaders.{table_of}
-use Rattle.relocation.specs.declared.layout.Layout.{Layout}
-use Rattle.relocation.specs.declared.layout.Lengths.{Lengths}
-use Rattle.job_check.specs.Jobs.{layout_of}
-use Rattle.job_check.specs.Emit.{content_parts, memory_parts, memory_of, ContentsFit, InOrder, IsPlacedFor, IsEmitted, IsPlaced}
-use Rattle.job_check.proofs.Layouts.{layout_numbers, layout_order, lists_inside}
+use Rattle.job_check.specs.Emit.{ContentsFit}
 
 -- Parts put one after the other: first those in front, then the rest.
 pub placed-append : (memory : List ℕ) (front rest : List Part) → placed memory (front ++ rest) ≡ placed (placed memory front) rest
@@ -51,28 +47,3 @@ pub fit_at : (f : FileModel) (m : List ℕ) (buffers : List Buffer) (contents : 
 fit_at f m buffers contents a b c sound same =
     subst (λ n. ContentsFit n buffers contents) (sym (ap length a ∙ length_zeros f.mem_size))
     (subst (λ x. ContentsFit f.mem_size x contents) (sym b) (subst (ContentsFit f.mem_size f.buffers) (sym c) (contents_fit f sound same)))
-
--- Contents first, then the lists: that is the file's memory.
-pub is_emitted : (f : FileModel) (memory : List ℕ) (layout : Layout) (lengths : Lengths)
-    → memory ≡ placed (placed (zeros f.mem_size) (content_parts f.buffers f.contents)) (memory_parts f 0)
-    → IsPlacedFor f 0 layout lengths → IsEmitted f memory layout lengths
-unfolding memory_of
-is_emitted f memory layout lengths put is =
-    record {
-      memory_is = put ∙ sym (placed-append (zeros f.mem_size) (content_parts f.buffers f.contents) (memory_parts f 0));
-      layout_is = is.layout_is;
-      lengths_are = is.lengths_are;
-    }
-
--- The lists lie inside a memory of the file's size.
-pub is_placed : (f : FileModel) (memory : List ℕ) (layout : Layout) → IsSound f.mem_size f.regions f.buffers → length memory ≡ f.mem_size
-    → layout ≡ layout_of f 0 → layout.end ≤ f.regions.lists_size → IsPlaced memory layout
-is_placed f memory layout sound size is fits =
-    let numbers = layout_numbers f 0 layout is in
-    record {
-      pages = ap (λ n. n % 4096) size ∙ sound.pages;
-      not_empty = omega (arith, size, sound.not_empty);
-      limit = omega (arith, size, sound.limit);
-      inside = omega (arith, size, numbers.0, fits, lists_inside f sound);
-      order = subst InOrder (sym is) (layout_order f 0);
-    }

@@ -1,26 +1,13 @@
 -- The jobs of a file.
-use Rattle.std.proofs.Common.{◌≡◌, None, ℕ, zero, suc, ◌+◌, ◌<◌, List, [], ◌∷◌, length, get_or, map, sym, ap, subst, arith, ◌∙◌, sum_by, take}
+use Rattle.std.proofs.Common.{◌≡◌, ℕ, zero, suc, ◌+◌, ◌<◌, List, [], ◌∷◌, length, get_or, map, sym, ap, subst, arith, ◌∙◌, sum_by, take}
 use Rattle.std.proofs.lemmas.List.Sums.{sum_by_more}
 use Rattle.std.specs.List.{AllByRecursion}
-use Rattle.std.proofs.lemmas.List.{append-nil, get_or-map, length-map}
-use Rattle.field_words.specs.declared.stop.Stop.{Stop}
-use Rattle.field_words.specs.Questions.{Question, first_of, each, Refuses}
+use Rattle.std.proofs.lemmas.List.{get_or-map, length-map}
 use Rattle.job_format.specs.declared.file.Job.{Job}
 use Rattle.job_format.specs.File.{IsJobWellFormed}
 use Rattle.job_format.specs.Model.{FileModel, JobModel, job_view}
 use Rattle.job_check.specs.Jobs.{job_of, no_job}
 use Rattle.job_check.specs.Offsets.{parts_size}
-
--- What is said of the one job's rules is said of all jobs'.
-one_is_all : {F : Type 0} (questions : ℕ → List (Question F)) (n : ℕ) → n ≡ 1 → each questions 0 n ≡ questions 0
-unfolding each
-one_is_all questions n one = ap (each questions 0) one ∙ append-nil (questions 0)
-
-pub none_in_one : {F : Type 0} (questions : ℕ → List (Question F)) (n : ℕ) → n ≡ 1 → first_of (questions 0) ≡ None → first_of (each questions 0 n) ≡ None
-none_in_one questions n one none = ap first_of (one_is_all questions n one) ∙ none
-
-pub refuses_one : {F : Type 0} (questions : ℕ → List (Question F)) (n : ℕ) (stop : Stop F) → n ≡ 1 → Refuses (questions 0) stop → Refuses (each questions 0 n) stop
-refuses_one questions n stop one refuses = subst (λ q. Refuses q stop) (sym (one_is_all questions n one)) refuses
 
 -- the job that is read is the file's
 pub job_is : (jobs : List Job) (f : FileModel) (j : ℕ) (job : Job) → f.jobs ≡ map job_view jobs → j < length jobs → job ≡ get_or jobs j job → job_view job ≡ job_of f j

@@ -1,18 +1,19 @@
--- The layout of a job: its numbers, and what fits where.
-use Rattle.std.proofs.Common.{◌≡◌, ℕ, ◌+◌, ◌<◌, ◌≤◌, Bool, List, length, Option, refl, sym, subst, arith, lit≤}
+-- The layouts of the jobs: their numbers, what fits where, and that the lists of each job lie behind those of the jobs before it.
+use Rattle.std.proofs.Common.{◌≡◌, ℕ, zero, suc, ◌+◌, ◌%◌, ◌<◌, ◌≤◌, Bool, List, length, Option, ◌⊎◌, inl, inr, refl, sym, subst, arith, lit≤}
+use Rattle.std.proofs.lemmas.Bool.{cases_lt}
 use Rattle.field_words.specs.Words.{rounded_up}
 use Rattle.field_words.proofs.Numbers.{rounded}
 use Rattle.buffer_table.specs.Table.{TableModel}
 use Rattle.buffer_table.specs.Sound.{IsSound}
 use Rattle.job_format.specs.declared.file.Frame.{Frame}
-use Rattle.job_format.specs.File.{IsJobWellFormed}
+use Rattle.job_format.specs.File.{IsWellFormed, IsJobWellFormed}
 use Rattle.job_format.specs.Model.{FileModel, JobModel}
 use Rattle.qpu_isa.specs.Shader.{ShaderModel}
 use Rattle.relocation.specs.declared.layout.Layout.{Layout}
-use Rattle.relocation.specs.Layout.{records_start, uniforms_start, render_start, lists_end, StandApart}
+use Rattle.relocation.specs.Layout.{records_start, uniforms_start, render_start, lists_end, region_end, begins_after, StandApart}
 use Rattle.render_list.specs.Frame.{IsTileSet}
 use Rattle.render_list.specs.Length.{render_length}
-use Rattle.job_check.specs.Jobs.{job_of, slot_of, has_bin, has_tiles, render_room, layout_of}
+use Rattle.job_check.specs.Jobs.{job_of, slot_of, has_bin, has_tiles, render_room, lists_room, lists_begin, layout_of}
 use Rattle.job_check.specs.Context.{InView, IsContext}
 use Rattle.job_check.specs.Emit.{InOrder}
 
@@ -22,14 +23,14 @@ unfolding render_room has_tiles
 room_is frame has_bin tiles = grind (arith, tiles.across, tiles.down)
 
 pub layout_numbers : (f : FileModel) (j : ℕ) (layout : Layout) → layout ≡ layout_of f j
-    → (layout.place ≡ f.regions.lists_place) × (layout.slot ≡ slot_of f j) × (layout.render + render_room (job_of f j).frame (has_bin f j) ≡ layout.end)
+    → (layout.place ≡ lists_begin f j) × (layout.slot ≡ slot_of f j) × (layout.render + render_room (job_of f j).frame (has_bin f j) ≡ layout.end)
 unfolding layout_of
 layout_numbers f j layout e =
-    let P : Layout → Type 0 = λ l. (l.place ≡ f.regions.lists_place) × (l.slot ≡ slot_of f j) × (l.render + render_room (job_of f j).frame (has_bin f j) ≡ l.end) in
+    let P : Layout → Type 0 = λ l. (l.place ≡ lists_begin f j) × (l.slot ≡ slot_of f j) × (l.render + render_room (job_of f j).frame (has_bin f j) ≡ l.end) in
     subst P (sym e) (refl, refl, refl)
 
 -- the lists' region lies inside the memory
-pub lists_inside : (f : FileModel) → IsSound f.mem_size f.regions f.buffers → f.regions.lists_place + f.regions.lists_size ≤ f.mem_size
+pub lists_inside : (f : FileModel) → IsSound f.mem_size f.regions f.buffers → region_end f.regions ≤ f.mem_size
 lists_inside f sound = let s = sound.each_item 0 (omega arith) in s.inside
 
 -- regions inside a memory of at most 64 MiB
@@ -70,15 +71,74 @@ layout_order f j =
       render = omega (arith, apart.last);
     }
 
--- the lists begin in the first 64 MiB, and the slot too
-pub layout_low : (f : FileModel) (j : ℕ) → IsSound f.mem_size f.regions f.buffers → length f.jobs ≡ 1 → j < length f.jobs → IsJobWellFormed (job_of f j)
+-- The lists of a job begin a multiple of 16, in the lists' region or behind it.
+pub begin_whole : (f : FileModel) (j : ℕ) → IsSound f.mem_size f.regions f.buffers → lists_begin f j % 16 ≡ 0
+unfolding lists_begin begins_after
+begin_whole f zero sound = let lists = sound.each_item 0 (omega arith) in omega (arith, lists.place)
+begin_whole f (suc j) sound = let r = rounded (lists_begin f j + lists_room f j) 16 (lit≤ tt) in r.multiple
+
+-- behind the lists of the job before
+pub next_begins : (f : FileModel) (j : ℕ) → lists_begin f j + lists_room f j ≤ lists_begin f (suc j)
+unfolding lists_begin begins_after
+next_begins f j = let r = rounded (lists_begin f j + lists_room f j) 16 (lit≤ tt) in r.least
+
+pub begin_from : (f : FileModel) (j : ℕ) → f.regions.lists_place ≤ lists_begin f j
+unfolding lists_begin
+begin_from f zero = omega arith
+begin_from f (suc j) = omega (arith, begin_from f j, next_begins f j)
+
+pub begin_behind : (f : FileModel) (i j : ℕ) → i < j → lists_begin f i + lists_room f i ≤ lists_begin f j
+begin_behind f i zero before = absurd (omega arith)
+begin_behind f i (suc j) before =
+    elim (cases_lt i j) [
+      | inl earlier ↦ omega (arith, begin_behind f i j earlier, next_begins f j)
+      | inr last ↦ let same : i ≡ j = omega (arith, before, last) in subst (λ k. lists_begin f i + lists_room f i ≤ lists_begin f (suc k)) same (next_begins f i)
+    ]
+
+-- so the lists of two jobs lie apart
+pub lists_apart : (f : FileModel) (j k : ℕ) → j < k → (layout_of f j).place + (layout_of f j).end ≤ (layout_of f k).place
+unfolding layout_of lists_room
+lists_apart f j k before = begin_behind f j k before
+
+-- Lists that follow lists inside the region begin inside it, since it ends with a page.
+pub next_inside : (f : FileModel) (place end : ℕ) → IsSound f.mem_size f.regions f.buffers → place + end ≤ region_end f.regions → begins_after place end ≤ region_end f.regions
+unfolding begins_after
+next_inside f place end sound inside =
+    let lists = sound.each_item 0 (omega arith) in
+    let r = rounded (place + end) 16 (lit≤ tt) in
+    omega (arith, lists.place, lists.size, r.multiple, r.near, inside)
+
+-- The tile region holds a slot for each job: it isn't empty, and in version 2 has a slot for each where it has any.
+known_version : (v : ℕ) → 1 ≤ v → v ≤ 2 → (v ≡ 1) ⊎ (v ≡ 2)
+known_version zero some known = absurd (omega arith)
+known_version (suc zero) some known = inl refl
+known_version (suc (suc zero)) some known = inr refl
+known_version (suc (suc (suc v))) some known = absurd (omega arith)
+
+pub slots_for : (f : FileModel) → IsWellFormed f → 0 < f.regions.tile_slots → length f.jobs ≤ f.regions.tile_slots
+slots_for f h some =
+    elim (known_version f.version h.a_version h.known) [
+      | inl first ↦ let limits = h.first first in omega (arith, limits.one_job, some)
+      | inr second ↦ h.slots second some
+    ]
+
+pub enough_slots : (f : FileModel) → IsWellFormed f → IsSound f.mem_size f.regions f.buffers → length f.jobs ≤ f.regions.tile_slots
+enough_slots f h sound = let tiles = sound.each_item 1 (omega arith) in slots_for f h (omega (arith, tiles.not_empty))
+
+-- The lists of a job begin in the first 64 MiB, and so does its slot.
+pub layout_low : (f : FileModel) (j : ℕ) → IsSound f.mem_size f.regions f.buffers → length f.jobs ≤ f.regions.tile_slots → lists_begin f j ≤ region_end f.regions → j < length f.jobs → IsJobWellFormed (job_of f j)
     → ((layout_of f j).place ≤ 67108864) × ((layout_of f j).records ≤ 67108864) × ((layout_of f j).uniforms ≤ 67108864) × ((layout_of f j).slot ≤ 67108864)
 unfolding layout_of records_start uniforms_start slot_of
-layout_low f j sound one inside small =
-    let limits = region_limits f sound in
+layout_low f j sound slots begins inside small =
+    let lists = lists_inside f sound in
+    let tiles = sound.each_item 1 (omega arith) in
     let near = rounded (length (job_of f j).bin) 16 (lit≤ tt) in
-    let next = rounded (rounded_up (length (job_of f j).bin) 16 + length (job_of f j).records) 16 (lit≤ tt) in
-    (limits.0, omega (arith, near.near, small.bin), omega (arith, near.near, next.near, small.bin, small.records), omega (arith, limits.2, one, inside))
+    let next = rounded (rounded_up (length (job_of f j).bin) 16 + length (job_of f j).records) 16 (lit≤ tt) in (
+      omega (arith, begins, lists, sound.limit),
+      omega (arith, near.near, small.bin),
+      omega (arith, near.near, next.near, small.bin, small.records),
+      omega (arith, tiles.inside, sound.limit, slots, inside),
+    )
 
 -- so of the layout that the check keeps of a job in view
 pub record IsLow (layout : Layout) : Type 0 where
@@ -89,7 +149,7 @@ pub record IsLow (layout : Layout) : Type 0 where
 
 pub kept_low : (v : InView) (job : JobModel) (table : TableModel) (shaders : List (Option ShaderModel)) (handles : List ℕ) (layout : Layout) → IsContext v job table shaders handles layout → IsLow layout
 kept_low v job table shaders handles layout h =
-    let low = layout_low v.file v.number h.sound h.well_formed.one_job h.inside (subst IsJobWellFormed h.job_is h.limits) in
+    let low = layout_low v.file v.number h.sound (enough_slots v.file h.well_formed h.sound) h.begins h.inside (subst IsJobWellFormed h.job_is h.limits) in
     subst IsLow (sym h.layout_is) (record { place = low.0; records = low.1; uniforms = low.2; slot = low.3 })
 
 -- all lists together have some 11 MiB at most

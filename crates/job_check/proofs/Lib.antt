@@ -1,9 +1,12 @@
+pub mod Alike
 pub mod Codes
+pub mod Counted
 pub mod Emission
 pub mod Jobs
 pub mod Layouts
 pub mod Parts
 pub mod Order
+pub mod Progress
 pub mod Views
 pub mod Windows
 pub mod Wants

@@ -1,12 +1,14 @@
 -- Stages one after the other.
-use Rattle.std.proofs.Common.{◌≡◌, ℕ, ◌<◌, ◌≤◌, List, ◌++◌, Some, None, Result, Ok, Err, IfOk, refl, ◌∙◌}
+use Rattle.std.proofs.Common.{◌≡◌, ℕ, ◌+◌, ◌<◌, ◌≤◌, List, ◌++◌, Some, None, Result, Ok, Err, IfOk, refl, sym, subst, ◌∙◌}
+use Rattle.std.specs.Result.{IsErrAnd}
 use Rattle.std.proofs.lemmas.Bool.{le-ltb, lt-ltb}
 use Rattle.field_words.specs.declared.stop.Stop.{Stop}
 use Rattle.field_words.specs.declared.stop.Stop.TheVariants.{Fault, NoMemory}
-use Rattle.field_words.specs.Questions.{Question, first_of, Answers}
+use Rattle.field_words.specs.Questions.{Question, first_of, Refuses, Answers}
 use Rattle.field_words.proofs.Questions.{passes, stops, stands_none}
 use Rattle.job_format.specs.Model.{FileModel}
 use Rattle.job_format.specs.declared.rule.Stage.TheVariants.{X}
+use Rattle.relocation.specs.Layout.{region_end}
 use Rattle.job_check.specs.Jobs.{layout_of}
 use Rattle.job_check.specs.Faults.{refused, layout_stage}
 use Rattle.job_check.specs.Offsets.{job_offset, layout_offset}
@@ -17,14 +19,20 @@ answers_front front rest P (Ok made) none answers = (passes front rest answers.0
 answers_front front rest P (Err (Fault f)) none answers = stops front rest f answers
 answers_front front rest P (Err NoMemory) none answers = tt
 
--- the lists fit, or they don't
-pub layout_fits : (f : FileModel) (j : ℕ) → (layout_of f j).end ≤ f.regions.lists_size → first_of (layout_stage f j) ≡ None
-unfolding layout_stage
-layout_fits f j fits = stands_none (layout_stage f j) (le-ltb f.regions.lists_size (layout_of f j).end fits, tt)
+-- What leaves by a `?` is the fault that it was.
+pub exits : {X F : Type 0} (questions : List (Question F)) (P : X → Type 0) (result : Result X (Stop F)) (stop : Stop F) → IsErrAnd result (λ e. e ≡ stop) → Refuses questions stop → Answers questions P result
+exits questions P (Ok made) stop is refuses = absurd is
+exits questions P (Err other) stop is refuses = subst (Refuses questions) (sym is) refuses
 
-pub layout_stands : (f : FileModel) (j : ℕ) → f.regions.lists_size < (layout_of f j).end → first_of (layout_stage f j) ≡ Some (refused X 1 (layout_offset (job_offset f j)))
+-- the lists fit, or they don't
+pub layout_fits : (f : FileModel) (j : ℕ) → (layout_of f j).place + (layout_of f j).end ≤ region_end f.regions → first_of (layout_stage f j) ≡ None
 unfolding layout_stage
-layout_stands f j past = rw (lt-ltb f.regions.lists_size (layout_of f j).end past) refl
+layout_fits f j fits = stands_none (layout_stage f j) (le-ltb (region_end f.regions) ((layout_of f j).place + (layout_of f j).end) fits, tt)
+
+pub layout_stands : (f : FileModel) (j : ℕ) → region_end f.regions < (layout_of f j).place + (layout_of f j).end
+    → first_of (layout_stage f j) ≡ Some (refused X 1 (layout_offset (job_offset f j)))
+unfolding layout_stage
+layout_stands f j past = rw (lt-ltb (region_end f.regions) ((layout_of f j).place + (layout_of f j).end) past) refl
 
 -- what follows from a clause on Ok
 pub if_ok : {X E : Type 0} {P Q : Type 0} (result : Result X E) → (P → Q) → IfOk result (λ _. P) → IfOk result (λ _. Q)

@@ -13,6 +13,7 @@ use Rattle.job_format.specs.declared.rule.Refusal.{Refusal}
 use Rattle.job_format.specs.Model.{FileModel, JobModel}
 use Rattle.relocation.specs.declared.layout.Layout.{Layout}
 use Rattle.relocation.specs.declared.layout.Lengths.{Lengths}
+use Rattle.relocation.specs.Layout.{region_end}
 use Rattle.render_list.specs.Frame.{IsTileSet, IsSetupFor}
 use Rattle.render_list.specs.Length.{render_length}
 use Rattle.render_list.specs.Text.{render_text}
@@ -256,12 +257,11 @@ parts_fit f j bin records streams render =
       ),
     )
 
--- a window of the lists' region lies inside the memory
+-- the window of lists that end inside their region lies inside the memory
 pub window_fits : (v : InView) (job : JobModel) (table : TableModel) (shaders : List (Option ShaderModel)) (handles : List ℕ) (layout : Layout) → IsContext v job table shaders handles layout
-    → (layout_of v.file v.number).end ≤ v.file.regions.lists_size → layout.place + layout.end ≤ v.file.mem_size
+    → (layout_of v.file v.number).place + (layout_of v.file v.number).end ≤ region_end v.file.regions → layout.place + layout.end ≤ v.file.mem_size
 window_fits v job table shaders handles layout h fits =
-    let numbers = layout_numbers v.file v.number layout h.layout_is in
-    omega (arith, numbers.0, ap (λ l. l.end) h.layout_is, fits, lists_inside v.file h.sound)
+    omega (arith, ap (λ l. l.place) h.layout_is, ap (λ l. l.end) h.layout_is, fits, lists_inside v.file h.sound)
 
 -- lists written in the window stand in the memory
 pub placed_lists : (v : InView) (layout : Layout) → layout ≡ layout_of v.file v.number → (memory : List ℕ) → layout.place + layout.end ≤ length memory

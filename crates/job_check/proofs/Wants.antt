@@ -1,5 +1,5 @@
 -- What want of memory hides.
-use Rattle.std.proofs.Common.{◌≡◌, ℕ, zero, suc, ◌+◌, ◌<◌, Bool, true, false, List, [], ◌++◌, length, Result, Ok, Err, Option, None, Some, if◌then◌else◌, refl, sym, ap, arith, ◌∙◌, append_assoc, append-nil}
+use Rattle.std.proofs.Common.{◌≡◌, ℕ, zero, suc, ◌+◌, ◌<◌, Bool, true, false, List, ◌++◌, length, Result, Ok, Err, Option, None, Some, if◌then◌else◌, refl, sym, ap, arith, ◌∙◌, append_assoc, append-nil}
 use Rattle.field_words.specs.declared.stop.Stop.{Stop}
 use Rattle.field_words.specs.declared.stop.Stop.TheVariants.{Fault, NoMemory}
 use Rattle.field_words.specs.Questions.{Question, first_of, each, answered, NeverHidesFault}
@@ -9,9 +9,8 @@ use Rattle.buffer_table.specs.declared.buffer.Kind.TheVariants.{Plain, Code}
 use Rattle.job_format.specs.declared.rule.Refusal.{Refusal}
 use Rattle.buffer_table.specs.Table.{buffer_at}
 use Rattle.job_format.specs.Model.{FileModel}
-use Rattle.shader_check.specs.declared.fault.ShaderFault.{ShaderFault}
 use Rattle.job_check.specs.Shaders.{content_of, code_questions}
-use Rattle.job_check.specs.Faults.{shader_refused, shader_questions_in, shader_stage, whole_questions_in, whole_stage, MayEndAt, HidesNoShader}
+use Rattle.job_check.specs.Faults.{shader_refused, shader_questions_in, shader_stage, whole_questions_in, whole_stage, HidesNoShader}
 
 -- where no question stands, want of memory hides none
 pub never_hidden : {X F : Type 0} (questions : List (Question F)) (result : Result X (Stop F)) → first_of questions ≡ None → NeverHidesFault questions result

@@ -1,20 +1,24 @@
 -- A job in view: a file in whose memory table and shaders no rule stands, and one of its jobs, each of whose handles names a buffer
--- of the job's client.
-use Rattle.std.specs.Prelude.{◌≡◌, ℕ, ◌<◌, List, length, Option}
+-- of the job's client, and whose lists begin in the lists' region or where it ends.
+use Rattle.std.specs.Prelude.{◌≡◌, ℕ, ◌<◌, ◌≤◌, List, length, Option}
 use Rattle.buffer_table.specs.Table.{TableModel}
 use Rattle.buffer_table.specs.Handles.{AreNumbersOf}
 use Rattle.buffer_table.specs.Sound.{IsSound}
 use Rattle.job_format.specs.File.{IsWellFormed, IsJobWellFormed}
 use Rattle.job_format.specs.Model.{FileModel, JobModel}
 use Rattle.relocation.specs.declared.layout.Layout.{Layout}
+use Rattle.relocation.specs.Layout.{region_end}
 use Rattle.qpu_isa.specs.Shader.{ShaderModel}
 use Rattle.job_check.specs.Shaders.{table_of, AreShadersIn}
-use Rattle.job_check.specs.Jobs.{job_of, layout_of}
+use Rattle.job_check.specs.Jobs.{job_of, lists_begin, layout_of}
 
 -- what contracts see: the file, and the job's number
 pub record InView : Type 0 where
   pub file : FileModel
   pub number : ℕ
+
+abbrev pub in_view : FileModel → ℕ → InView
+in_view f j = record { file = f; number = j }
 
 -- What the check keeps of a job in view is what the file says.
 pub record IsContext (v : InView) (job : JobModel) (table : TableModel) (shaders : List (Option ShaderModel)) (handles : List ℕ) (layout : Layout) : Type 0 where
@@ -27,4 +31,5 @@ pub record IsContext (v : InView) (job : JobModel) (table : TableModel) (shaders
   pub sound : IsSound v.file.mem_size v.file.regions v.file.buffers
   pub handles_are : handles ≡ job.handles
   pub numbers : AreNumbersOf table handles
+  pub begins : lists_begin v.file v.number ≤ region_end v.file.regions
   pub layout_is : layout ≡ layout_of v.file v.number

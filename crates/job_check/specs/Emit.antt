@@ -1,12 +1,15 @@
--- The memory of an accepted file: zeros, but for the contents of each buffer at its place and the lists of the job in the
--- lists' region.
-use Rattle.std.specs.Prelude.{◌≡◌, ℕ, ◌+◌, ◌%◌, ◌≤◌, ◌<◌, List, [], ◌∷◌, ◌++◌, length}
+-- The memory of an accepted file: zeros, but for the contents of each buffer at its place and the lists of each job in the lists' region.
+use Rattle.std.specs.Prelude.{◌≡◌, ℕ, zero, suc, ◌+◌, ◌%◌, ◌≤◌, ◌<◌, List, [], ◌∷◌, ◌++◌, length, map}
+use Rattle.std.specs.List.{AllByRecursion, range_with_len}
+use Rattle.field_words.specs.Sizes.{most_memory}
 use Rattle.field_words.specs.Writes.{Part, emitted}
 use Rattle.buffer_table.specs.declared.buffer.Buffer.{Buffer}
 use Rattle.job_format.specs.Model.{FileModel}
 use Rattle.relocation.specs.declared.layout.Layout.{Layout}
 use Rattle.relocation.specs.declared.layout.Lengths.{Lengths}
-use Rattle.job_check.specs.Jobs.{layout_of, bin_list_of, records_of, streams_of, render_list_of}
+use Rattle.job_check.specs.declared.check.Checked.{Checked}
+use Rattle.job_check.specs.declared.check.Lists.{Lists}
+use Rattle.job_check.specs.Jobs.{layout_of, end_of, layouts_of, bin_list_of, records_of, streams_of, render_list_of}
 
 -- contents at the places of their buffers
 unfoldable pub content_parts : List Buffer → List (List ℕ) → List Part
@@ -18,7 +21,10 @@ content_parts (buffer ∷ buffers) (content ∷ contents) = record { place = buf
 unfoldable pub lengths_of : FileModel → ℕ → Lengths
 lengths_of f j = record { bin = length (bin_list_of f j); records = length (records_of f j); uniforms = length (streams_of f j); render = length (render_list_of f j) }
 
--- the lists of job j, each at its offset in the lists' region
+unfoldable pub all_lengths_of : FileModel → List Lengths
+all_lengths_of f = map (lengths_of f) (range_with_len 0 (length f.jobs))
+
+-- the lists of job j, each at its offset from where they begin
 abbrev pub part : ℕ → List ℕ → Part
 part place bytes = record { place = place; bytes = bytes }
 
@@ -45,9 +51,17 @@ PartsFit size (part ∷ parts) = (part.place + length part.bytes ≤ size) × Pa
 unfoldable pub memory_parts : FileModel → ℕ → List Part
 memory_parts f j = moved (layout_of f j).place (list_parts f j)
 
--- version 1 has one job, number 0
+-- those of the first n jobs, one job after the other
+unfoldable pub jobs_parts : FileModel → ℕ → List Part
+jobs_parts f zero = []
+jobs_parts f (suc n) = jobs_parts f n ++ memory_parts f n
+
+-- the memory before any list, and with all of them
+abbrev pub fresh_memory_of : FileModel → List ℕ
+fresh_memory_of f = emitted f.mem_size (content_parts f.buffers f.contents)
+
 unfoldable pub memory_of : FileModel → List ℕ
-memory_of f = emitted f.mem_size (content_parts f.buffers f.contents ++ memory_parts f 0)
+memory_of f = emitted f.mem_size (content_parts f.buffers f.contents ++ jobs_parts f (length f.jobs))
 
 -- each buffer's contents lie inside a memory of this size
 unfoldable pub ContentsFit : ℕ → List Buffer → List (List ℕ) → Type 0
@@ -55,11 +69,15 @@ ContentsFit size [] contents = Unit {0}
 ContentsFit size (buffer ∷ buffers) [] = Unit {0}
 ContentsFit size (buffer ∷ buffers) (content ∷ contents) = (buffer.place + length content ≤ size) × ContentsFit size buffers contents
 
--- What an accepted file comes to.
-pub record IsEmitted (f : FileModel) (memory : List ℕ) (layout : Layout) (lengths : Lengths) : Type 0 where
+-- What an accepted file comes to: its memory, and by job where the lists lie there and how many bytes of each were emitted.
+pub record IsEmitted (f : FileModel) (memory : List ℕ) (layouts : List Layout) (lengths : List Lengths) : Type 0 where
   pub memory_is : memory ≡ memory_of f
-  pub layout_is : layout ≡ layout_of f 0
-  pub lengths_are : lengths ≡ lengths_of f 0
+  pub layouts_are : layouts ≡ layouts_of f
+  pub lengths_are : lengths ≡ all_lengths_of f
+
+-- the same of what the check answers
+abbrev pub Emits : FileModel → Checked → Type 0
+Emits f checked = IsEmitted f checked.memory checked.layouts.items checked.lengths.items
 
 -- The lists lie in their order.
 pub record InOrder (layout : Layout) : Type 0 where
@@ -68,15 +86,22 @@ pub record InOrder (layout : Layout) : Type 0 where
   pub uniforms : layout.uniforms ≤ layout.render
   pub render : layout.render ≤ layout.end
 
--- The memory is whole pages, at least one and at most 64 MiB of them, and the lists lie inside it.
-pub record IsPlaced (memory : List ℕ) (layout : Layout) : Type 0 where
+-- They lie inside a memory of this size.
+pub record IsInside (size : ℕ) (layout : Layout) : Type 0 where
+  pub inside : end_of layout ≤ size
+  pub order : InOrder layout
+
+-- The memory is whole pages, at least one and at most 64 MiB of them, and the lists of each job lie inside it.
+pub record IsPlaced (memory : List ℕ) (layouts : List Layout) : Type 0 where
   pub pages : length memory % 4096 ≡ 0
   pub not_empty : 0 < length memory
-  pub limit : length memory ≤ 67108864
-  pub inside : layout.place + layout.end ≤ length memory
-  pub order : InOrder layout
+  pub limit : length memory ≤ most_memory
+  pub each_job : AllByRecursion (IsInside (length memory)) layouts
 
 -- Where the lists of a job went, and how many bytes of each were emitted.
 pub record IsPlacedFor (f : FileModel) (j : ℕ) (layout : Layout) (lengths : Lengths) : Type 0 where
   pub layout_is : layout ≡ layout_of f j
   pub lengths_are : lengths ≡ lengths_of f j
+
+abbrev pub ArePlaced : FileModel → ℕ → Lists → Type 0
+ArePlaced f j lists = IsPlacedFor f j lists.layout lists.lengths

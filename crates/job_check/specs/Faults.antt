@@ -1,6 +1,6 @@
 -- All rules that can refuse a file that was read, in the order of refusal: the memory table, the shaders by buffer,
 -- and then job by job its handles, its binner list, its shader records with their uniforms, its frame and surfaces, and its layout.
-use Rattle.std.specs.Prelude.{◌≡◌, ℕ, Bool, not, ◌+◌, ◌*◌, ◌%◌, ◌==◌, ◌<◌, nat_lt, List, [], ◌∷◌, ◌++◌, length, Option, None, Result, Ok, Err, if◌then◌else◌}
+use Rattle.std.specs.Prelude.{◌≡◌, ℕ, Bool, not, ◌+◌, ◌*◌, ◌%◌, ◌==◌, ◌<◌, nat_lt, List, [], ◌∷◌, ◌++◌, length, None, Result, Ok, Err, if◌then◌else◌}
 use Rattle.field_words.specs.Questions.{Question, Ask, first_of, each, answered}
 use Rattle.field_words.specs.declared.stop.Stop.{Stop}
 use Rattle.field_words.specs.declared.stop.Stop.TheVariants.{Fault, NoMemory}
@@ -17,9 +17,10 @@ use Rattle.render_list.specs.declared.fault.RenderFault.{RenderFault}
 use Rattle.render_list.specs.Surfaces.{surface_faults}
 use Rattle.bin_list.specs.declared.fault.ListFault.{ListFault}
 use Rattle.bin_list.specs.Rules.{bin_questions}
+use Rattle.relocation.specs.Layout.{region_end}
 use Rattle.shader_records.specs.declared.fault.RecordFault.{RecordFault}
 use Rattle.shader_records.specs.Rules.{all_questions}
-use Rattle.job_check.specs.Jobs.{job_of, has_bin, grid_of, input_for, layout_of}
+use Rattle.job_check.specs.Jobs.{job_of, has_bin, grid_of, input_for, layout_of, end_of}
 use Rattle.shader_check.specs.declared.fault.ShaderFault.{ShaderFault}
 use Rattle.job_check.specs.Shaders.{table_of, content_of, code_questions}
 use Rattle.job_check.specs.Offsets.{item_offset, shader_offset, job_offset, handles_offset, bin_offset, records_offset, uniforms_offset, surface_offset, layout_offset}
@@ -102,17 +103,24 @@ surface_refused f j fault = refused G fault.number (surface_offset (job_offset f
 unfoldable pub surfaces_stage : FileModel → ℕ → List (Question Refusal)
 surfaces_stage f j = answered (surface_refused f j) (surface_faults (job_of f j).frame (grid_of f j) (table_of f) (job_of f j).handles)
 
--- X: the lists of job j don't fit their region
+-- X: the lists of job j end past the lists' region
 unfoldable pub layout_stage : FileModel → ℕ → List (Question Refusal)
-layout_stage f j = Ask (nat_lt f.regions.lists_size (layout_of f j).end) (refused X 1 (layout_offset (job_offset f j))) ∷ []
+layout_stage f j = Ask (nat_lt (region_end f.regions) (end_of (layout_of f j))) (refused X 1 (layout_offset (job_offset f j))) ∷ []
 
 -- the lists of a job
 unfoldable pub lists_stages : FileModel → ℕ → List (Question Refusal)
 lists_stages f j = bin_stage f j ++ (records_stage f j ++ surfaces_stage f j)
 
--- all of a job, and all of a file that was read
+-- the same and where they end
+abbrev pub laid_stages : FileModel → ℕ → List (Question Refusal)
+laid_stages f j = lists_stages f j ++ layout_stage f j
+
+-- all of a job, of all jobs, and of a file that was read
 unfoldable pub job_stages : FileModel → ℕ → List (Question Refusal)
-job_stages f j = handles_stage f j ++ (lists_stages f j ++ layout_stage f j)
+job_stages f j = handles_stage f j ++ laid_stages f j
+
+abbrev pub jobs_stages : FileModel → List (Question Refusal)
+jobs_stages f = each (job_stages f) 0 (length f.jobs)
 
 unfoldable pub file_stages : FileModel → List (Question Refusal)
-file_stages f = table_stage f ++ (shaders_stage f ++ each (job_stages f) 0 (length f.jobs))
+file_stages f = table_stage f ++ (shaders_stage f ++ jobs_stages f)

@@ -1,5 +1,5 @@
 -- The jobs of a file, and where the lists of each go.
-use Rattle.std.specs.Prelude.{ℕ, ◌==◌, Bool, not, ◌&&◌, false, nat_le, List, [], length, slice_index_or, Option, Some, None, if◌then◌else◌}
+use Rattle.std.specs.Prelude.{ℕ, zero, suc, ◌+◌, ◌==◌, Bool, not, ◌&&◌, false, nat_le, List, [], length, map, slice_index_or, Option, Some, None, if◌then◌else◌}
 use Rattle.bin_list.specs.declared.seen.Seen.{Seen}
 use Rattle.bin_list.specs.declared.state.State.{State}
 use Rattle.bin_list.specs.Packets.{packets, passed}
@@ -11,10 +11,11 @@ use Rattle.shader_records.specs.Emission.{emitted_records, emitted_uniforms}
 use Rattle.shader_records.specs.Emitted.{streams_place}
 use Rattle.job_check.specs.Shaders.{table_of, shaders_of}
 use Rattle.tile_memory.specs.Slots.{slot_place}
+use Rattle.std.specs.List.{range_with_len}
 use Rattle.job_format.specs.declared.file.Frame.{Frame}
 use Rattle.job_format.specs.Model.{FileModel, JobModel}
 use Rattle.relocation.specs.declared.layout.Layout.{Layout}
-use Rattle.relocation.specs.Layout.{layout_for}
+use Rattle.relocation.specs.Layout.{layout_at, lists_end, begins_after}
 use Rattle.render_list.specs.Surfaces.{places_of}
 use Rattle.render_list.specs.Text.{render_text}
 use Rattle.render_list.specs.Length.{render_length}
@@ -61,9 +62,26 @@ has_tiles frame = nat_le frame.min_x frame.max_x && nat_le frame.min_y frame.max
 unfoldable pub render_room : Frame → Bool → ℕ
 render_room frame has_bin = if has_tiles frame then render_length frame has_bin else 0
 
+-- the room that the lists of job j take, by the sizes of their sources
+unfoldable pub lists_room : FileModel → ℕ → ℕ
+lists_room f j = lists_end (length (job_of f j).bin) (length (job_of f j).records) (length (job_of f j).uniforms) (render_room (job_of f j).frame (has_bin f j))
+
+-- where they begin: those of job 0 with the lists' region, and those of each further job behind the lists of the job before it
+unfoldable pub lists_begin : FileModel → ℕ → ℕ
+lists_begin f zero = f.regions.lists_place
+lists_begin f (suc j) = begins_after (lists_begin f j) (lists_room f j)
+
 -- where the lists of job j lie
 unfoldable pub layout_of : FileModel → ℕ → Layout
-layout_of f j = layout_for f.regions (length (job_of f j).bin) (length (job_of f j).records) (length (job_of f j).uniforms) (render_room (job_of f j).frame (has_bin f j)) (slot_of f j)
+layout_of f j = layout_at (lists_begin f j) (length (job_of f j).bin) (length (job_of f j).records) (length (job_of f j).uniforms) (render_room (job_of f j).frame (has_bin f j)) (slot_of f j)
+
+-- where those of all jobs lie
+unfoldable pub layouts_of : FileModel → List Layout
+layouts_of f = map (layout_of f) (range_with_len 0 (length f.jobs))
+
+-- where in memory the lists with this layout end
+abbrev pub end_of : Layout → ℕ
+end_of layout = layout.place + layout.end
 
 -- the shader states of job j
 unfoldable pub states_in : FileModel → ℕ → List State

@@ -5,4 +5,5 @@ pub mod Jobs
 pub mod Offsets
 pub mod Shaders
 pub mod Told
+pub mod Upgrade
 pub mod Whole

@@ -1,5 +1,5 @@
 //! A job in view.
-ghost use Rattle.std.specs.Prelude.{◌≡◌, ◌↔◌, ◌<◌, ◌≤◌, ◌+◌, length, IsTrue};
+ghost use Rattle.std.specs.Prelude.{◌≡◌, ◌↔◌, ◌<◌, ◌≤◌, length, IsTrue};
 ghost use Rattle.field_words.specs.Questions.{Answers, NeverHidesFault};
 ghost use Rattle.job_format.specs.File.{IsWellFormed, IsJobWellFormed};
 ghost use Rattle.job_format.specs.Model.{file_view, job_view};
@@ -7,11 +7,13 @@ ghost use Rattle.buffer_table.specs.Sound.{IsSound};
 ghost use Rattle.job_format.specs.declared.rule.Stage.TheVariants.{X as StageX};
 ghost use Rattle.shader_records.specs.Inputs.{shaders_view};
 ghost use Rattle.job_check.specs.Shaders.{table_of, AreShadersIn};
-ghost use Rattle.job_check.specs.Jobs.{job_of, layout_of};
+ghost use Rattle.job_check.specs.Jobs.{job_of, lists_begin, layout_of, end_of};
+ghost use Rattle.job_check.specs.Context.{in_view};
+ghost use Rattle.relocation.specs.Layout.{region_end};
 ghost use Rattle.job_check.specs.Faults.{refused, handles_stage};
 ghost use Rattle.job_check.specs.Offsets.{job_offset, layout_offset};
 
-use super::layout::job_layout;
+use super::layout::{is_inside, job_layout};
 use super::refusals::{handle_refusal, layout_refusal};
 use buffer_table::{Handles, Table};
 use field_words::Stop;
@@ -58,21 +60,25 @@ pub fn job_at(file: &JobFile, number: usize) -> &Job
 }
 
 impl<'a> Context<'a> {
-    /// H: the handles of the job of this number, and with them the job in view. Finding a fault takes no memory.
+    /// H: the handles of the job of this number, and with them the job in view, whose lists begin at this place. Finding a fault takes
+    /// no memory.
     #[tactic(auto, unfolding(crate::specs::Faults::handles_stage), using(field_words::proofs::Questions::answered_none, field_words::proofs::Questions::answered_some))]
     pub fn open(
         alloc: Global,
         file: &'a JobFile,
         number: usize,
+        place: u32,
         table: &'a Table,
         shaders: &'a Vec<Option<ShaderInfo>>,
     ) -> Result<Context<'a>, Stop<Refusal>>
         requires well_formed { IsWellFormed (file_view file.now) }
         requires inside { number < length file.now.jobs.items }
+        requires place_is { place ≡ lists_begin (file_view file.now) number }
+        requires begins { place ≤ region_end file.now.regions }
         requires table_is { table.now ≡ table_of (file_view file.now) }
         requires shaders_are { AreShadersIn (file_view file.now) (shaders_view shaders.now.items) }
         requires sound { IsSound file.now.mem_size file.now.regions file.now.buffers.items }
-        ensures answers { Answers (handles_stage (file_view file.now) number) (λ c. c ≡ record { file = file_view file.now; number = number }) result }
+        ensures answers { Answers (handles_stage (file_view file.now) number) (λ c. c ≡ in_view (file_view file.now) number) result }
         ensures memory { NeverHidesFault (handles_stage (file_view file.now) number) result }
     {
         let job = job_at(file, number);
@@ -84,21 +90,21 @@ impl<'a> Context<'a> {
                 table,
                 shaders,
                 handles,
-                layout: job_layout(file, number, job),
+                layout: job_layout(file, number, place, job),
             }),
             Err(Stop::Fault(index)) => Err(Stop::Fault(handle_refusal(file, number, index))),
             Err(Stop::NoMemory) => Err(Stop::NoMemory),
         }
     }
 
-    /// Whether the lists fit their region.
+    /// Whether the lists end inside their region.
     pub fn fits(&self) -> bool
-        ensures { IsTrue result ↔ ((layout_of self.now.file self.now.number).end ≤ self.now.file.regions.lists_size) }
+        ensures { IsTrue result ↔ (end_of (layout_of self.now.file self.now.number) ≤ region_end self.now.file.regions) }
     {
-        self.layout.end <= self.file.regions.lists_size
+        is_inside(&self.layout, &self.file.regions)
     }
 
-    /// X1: the lists don't fit their region.
+    /// X1: the lists end past their region.
     pub fn layout_refusal(&self) -> Refusal
         ensures { result ≡ refused StageX 1 (layout_offset (job_offset self.now.file self.now.number)) }
     {

@@ -1,13 +1,13 @@
-//! Where the lists of a job go.
-ghost use Rattle.std.specs.Prelude.{◌≡◌, ◌≤◌, ◌+◌, ◌*◌};
-ghost use Rattle.field_words.specs.Sizes.{most_render};
-ghost use Rattle.buffer_table.specs.Sound.{IsSound};
-ghost use Rattle.job_format.specs.File.{IsWellFormed, IsJobWellFormed};
+//! Where the lists of the jobs go.
+ghost use Rattle.std.specs.Prelude.{◌≡◌, ◌↔◌, ◌≤◌, ◌+◌, ◌*◌, IsTrue};
+ghost use Rattle.field_words.specs.Sizes.{slot_size, most_memory, most_render};
+ghost use Rattle.job_format.specs.File.{IsJobWellFormed};
 ghost use Rattle.job_format.specs.Model.{file_view, job_view};
-ghost use Rattle.job_check.specs.Jobs.{job_of, has_tiles, render_room, layout_of, slot_of};
+ghost use Rattle.relocation.specs.Layout.{region_end, begins_after};
+ghost use Rattle.job_check.specs.Jobs.{job_of, has_tiles, render_room, lists_begin, layout_of, end_of};
 
 use buffer_table::Regions;
-use field_words::MOST_MEMORY;
+use field_words::round_up;
 use job_format::{Frame, Job, JobFile};
 use relocation::Layout;
 use render_list::render_size;
@@ -33,24 +33,37 @@ fn render_room(frame: &Frame, has_bin: bool) -> u64
     0
 }
 
-/// Where the lists of the job go, also where they don't fit their region: the rules before the one that refuses this
-/// are asked of them all the same.
+/// Where the lists of the job go that begin at this place, also where they don't fit their region: the rules before the one that
+/// refuses this are asked of them all the same.
 #[tactic(auto, unfolding(crate::specs::Jobs::layout_of, crate::specs::Jobs::slot_of, crate::specs::Jobs::has_bin))]
-pub fn job_layout(file: &JobFile, number: usize, job: &Job) -> Layout
+pub fn job_layout(file: &JobFile, number: usize, place: u32, job: &Job) -> Layout
     requires job_is { job_view job.now ≡ job_of (file_view file.now) number }
     requires limits { IsJobWellFormed (job_view job.now) }
-    requires place { file.now.regions.lists_place ≤ 67108864 }
-    requires slot { file.now.regions.tile_place + 524288 * number ≤ 67108864 }
+    requires place_is { place ≡ lists_begin (file_view file.now) number }
+    requires slot { file.now.regions.tile_place + slot_size * number ≤ most_memory }
     ensures { result ≡ layout_of (file_view file.now) number }
 {
-    let roomy = Regions {
-        lists_size: MOST_MEMORY,
-        ..file.regions
-    };
     let slot = slot_place(file.regions.tile_place, number as u32);
     let bin = job.bin.len() as u32;
     let records = job.records.len() as u32;
     let uniforms = job.uniforms.len() as u32;
     let render = render_room(&job.frame, job.bin.len() != 0);
-    Layout::of(&roomy, bin, records, uniforms, render, slot).unwrap()
+    Layout::at(place, bin, records, uniforms, render, slot)
+}
+
+/// Where the lists of the job after the one with this layout begin.
+#[tactic(auto, unfolding(relocation::specs::Layout::begins_after))]
+pub fn next_place(layout: &Layout) -> u32
+    requires { end_of layout.now ≤ most_memory }
+    ensures { result ≡ begins_after layout.now.place layout.now.end }
+{
+    round_up(u64::from(layout.place) + u64::from(layout.end), 16) as u32
+}
+
+/// Whether the lists of a job end inside their region.
+pub fn is_inside(layout: &Layout, regions: &Regions) -> bool
+    ensures { IsTrue result ↔ (end_of layout.now ≤ region_end regions.now) }
+{
+    let end = u64::from(layout.place) + u64::from(layout.end);
+    end <= u64::from(regions.lists_place) + u64::from(regions.lists_size)
 }

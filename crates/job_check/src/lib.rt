@@ -1,4 +1,4 @@
-//! The check of a job file that was read: the first rule that stands, or the memory that the job is to run in.
+//! The check of a job file that was read: the first rule that stands, or the memory that its jobs are to run in.
 //!
 //! `specs/Faults.antt` lists the stages in the order of refusal. A further stage is a line there, and a method of the
 //! job in view (`context.rt`) or, where it asks of the file as a whole, a function in `stages.rt`.
@@ -12,8 +12,12 @@ mod lists;
 mod refusals;
 mod shaders;
 mod stages;
+#[cfg(test)]
+mod tests;
+mod upgrade;
 mod whole;
 
 pub use check::{Checked, check_job};
 pub use shaders::words_of;
-pub use whole::check_bytes;
+pub use upgrade::upgrade_changes_nothing;
+pub use whole::{check_bytes, format_refusal};

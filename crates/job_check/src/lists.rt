@@ -85,10 +85,8 @@ impl<'a> Context<'a> {
         ensures written { IfOk result (λ _. out.new ≡ with_bytes out.old (layout_of self.now.file self.now.number).render (render_list_of self.now.file self.now.number)) }
         ensures fits { IfOk result (λ n. (layout_of self.now.file self.now.number).render + n ≡ (layout_of self.now.file self.now.number).end) }
     {
-        match self.surfaces(tiles) {
-            Ok(setup) => Ok(self.render(&setup, tiles, out)),
-            Err(stop) => Err(stop),
-        }
+        let setup = self.surfaces(tiles)?;
+        Ok(self.render(&setup, tiles, out))
     }
 
     /// A and U: the shader records and uniforms of the states of the binner list, and those that the hardware is given, at
@@ -144,15 +142,13 @@ impl<'a> Context<'a> {
         ensures written { IfOk result (λ _. out.new ≡ with_bytes out.old (layout_of self.now.file self.now.number).render (render_list_of self.now.file self.now.number)) }
         ensures fits { IfOk result (λ _. (layout_of self.now.file self.now.number).render + length (render_list_of self.now.file self.now.number) ≡ (layout_of self.now.file self.now.number).end) }
     {
-        match self.draw(Some((bin.tiles_x, bin.tiles_y)), out) {
-            Ok(render) => Ok(Lengths {
-                bin: bin.length,
-                records: records.records,
-                uniforms: records.uniforms,
-                render,
-            }),
-            Err(stop) => Err(stop),
-        }
+        let render = self.draw(Some((bin.tiles_x, bin.tiles_y)), out)?;
+        Ok(Lengths {
+            bin: bin.length,
+            records: records.records,
+            uniforms: records.uniforms,
+            render,
+        })
     }
 
     /// The stages after the binner list, with what was told of it.
@@ -170,10 +166,8 @@ impl<'a> Context<'a> {
         ensures written { IfOk result (λ _. out.new ≡ placed out.old (later_parts self.now.file self.now.number)) }
         ensures fit { IfOk result (λ _. PartsFit (layout_of self.now.file self.now.number).end (list_parts self.now.file self.now.number)) }
     {
-        match self.records(alloc, &bin.states, out) {
-            Ok(records) => self.after_records(bin, &records, out),
-            Err(stop) => Err(stop),
-        }
+        let records = self.records(alloc, &bin.states, out)?;
+        self.after_records(bin, &records, out)
     }
 
     /// The stages of a job with a binner list.
@@ -185,10 +179,8 @@ impl<'a> Context<'a> {
         ensures written { IfOk result (λ _. out.new ≡ placed out.old (list_parts self.now.file self.now.number)) }
         ensures fit { IfOk result (λ _. PartsFit (layout_of self.now.file self.now.number).end (list_parts self.now.file self.now.number)) }
     {
-        match self.bin(alloc, out) {
-            Ok(bin) => self.after_bin(alloc, &bin, out),
-            Err(stop) => Err(stop),
-        }
+        let bin = self.bin(alloc, out)?;
+        self.after_bin(alloc, &bin, out)
     }
 
     /// The stages of a job without a binner list: its records, its declared states and its uniforms are not asked, and
@@ -201,15 +193,13 @@ impl<'a> Context<'a> {
         ensures written { IfOk result (λ _. out.new ≡ placed out.old (list_parts self.now.file self.now.number)) }
         ensures fit { IfOk result (λ _. PartsFit (layout_of self.now.file self.now.number).end (list_parts self.now.file self.now.number)) }
     {
-        match self.draw(None, out) {
-            Ok(render) => Ok(Lengths {
-                bin: 0,
-                records: 0,
-                uniforms: 0,
-                render,
-            }),
-            Err(stop) => Err(stop),
-        }
+        let render = self.draw(None, out)?;
+        Ok(Lengths {
+            bin: 0,
+            records: 0,
+            uniforms: 0,
+            render,
+        })
     }
 
     /// Whether the job has a binner list.

@@ -4,7 +4,7 @@ ghost use Rattle.job_format.specs.declared.rule.Stage.TheVariants.{M as StageM, 
 ghost use Rattle.std.specs.List.{AllByRecursion};
 ghost use Rattle.job_format.specs.File.{IsWellFormed, IsJobWellFormed};
 ghost use Rattle.job_format.specs.Model.{file_view, job_view};
-ghost use Rattle.job_format.specs.Offsets.{entry_offset};
+ghost use Rattle.job_format.specs.Offsets.{most_buffers, most_handles, most_jobs, entry_offset};
 ghost use Rattle.job_check.specs.Jobs.{job_of};
 ghost use Rattle.job_check.specs.Faults.{refused, table_refused, shader_refused, handle_refused, bin_refused, part_offset, record_refused, surface_refused};
 ghost use Rattle.job_check.specs.Offsets.{item_offset, job_offset, content_offset, shader_offset, handles_offset, bin_offset, records_offset, uniforms_offset, surface_offset, layout_offset, parts_size};
@@ -69,9 +69,9 @@ fn job_offset(file: &JobFile, number: usize) -> u64
 /// How many bytes of contents the buffers before this one have.
 fn content_before(buffers: &[Buffer], b: usize) -> u64
     requires inside { b ≤ length buffers.now }
-    requires few { length buffers.now ≤ 64 }
+    requires few { length buffers.now ≤ most_buffers }
     ensures value { result ≡ sum (map (λ x. x.content) (take b buffers.now)) }
-    ensures fits { result < 2 ^ 40 }
+    ensures fits { result < 2 ^ 42 }
 {
     let mut size = 0;
     for buffer in &buffers[..b] {
@@ -86,7 +86,7 @@ fn content_offset(file: &JobFile, b: usize) -> u64
     requires well_formed { IsWellFormed (file_view file.now) }
     requires inside { b ≤ length file.now.buffers.items }
     ensures value { result ≡ content_offset (file_view file.now) b }
-    ensures fits { result < 2 ^ 41 }
+    ensures fits { result < 2 ^ 43 }
 {
     job_offset(file, file.jobs.len()) + content_before(&file.buffers, b)
 }
@@ -121,7 +121,7 @@ fn parts_size(job: &Job) -> u64
 /// How many bytes of parts the jobs before the one of this number have.
 fn parts_before(jobs: &[Job], number: usize) -> u64
     requires inside { number ≤ length jobs.now }
-    requires few { length jobs.now ≤ 8 }
+    requires few { length jobs.now ≤ most_jobs }
     requires limits { AllByRecursion IsJobWellFormed (map job_view jobs.now) }
     ensures value { result ≡ sum_by parts_size (take number (map job_view jobs.now)) }
     ensures fits { result ≤ 33554432 }
@@ -139,7 +139,7 @@ fn handles_offset(file: &JobFile, number: usize) -> u64
     requires well_formed { IsWellFormed (file_view file.now) }
     requires inside { number < length file.now.jobs.items }
     ensures value { result ≡ handles_offset (file_view file.now) number }
-    ensures fits { result < 2 ^ 42 }
+    ensures fits { result < 2 ^ 44 }
 {
     content_offset(file, file.buffers.len()) + parts_before(&file.jobs, number)
 }
@@ -162,7 +162,7 @@ fn handle_count(file: &JobFile, number: usize) -> u64
     requires well_formed { IsWellFormed (file_view file.now) }
     requires inside { number < length file.now.jobs.items }
     ensures value { result ≡ length (job_of (file_view file.now) number).handles }
-    ensures few { result ≤ 64 }
+    ensures few { result ≤ most_handles }
 {
     job_at(file, number).handles.len() as u64
 }
@@ -173,7 +173,7 @@ fn bin_offset(file: &JobFile, number: usize) -> u64
     requires well_formed { IsWellFormed (file_view file.now) }
     requires inside { number < length file.now.jobs.items }
     ensures value { result ≡ bin_offset (file_view file.now) number }
-    ensures fits { result < 2 ^ 43 }
+    ensures fits { result < 2 ^ 45 }
 {
     handles_offset(file, number) + 4 * handle_count(file, number)
 }
@@ -210,7 +210,7 @@ fn part_offset(file: &JobFile, number: usize, in_uniforms: bool) -> u64
     requires well_formed { IsWellFormed (file_view file.now) }
     requires inside { number < length file.now.jobs.items }
     ensures value { result ≡ part_offset (file_view file.now) number in_uniforms }
-    ensures fits { result < 2 ^ 44 }
+    ensures fits { result < 2 ^ 46 }
 {
     let (bin, records) = list_sizes(file, number);
     let offset = bin_offset(file, number) + bin;
@@ -252,7 +252,7 @@ pub fn surface_refusal(file: &JobFile, number: usize, fault: &RenderFault) -> Re
     refusal(Stage::G, fault.number, surface_offset(entry, fault.item))
 }
 
-/// The lists don't fit their region.
+/// The lists end past their region.
 #[tactic(auto, unfolding(crate::specs::Offsets::layout_offset))]
 pub fn layout_refusal(file: &JobFile, number: usize) -> Refusal
     requires well_formed { IsWellFormed (file_view file.now) }

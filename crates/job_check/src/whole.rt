@@ -4,7 +4,7 @@ ghost use Rattle.field_words.specs.Questions.{Answers, NeverHidesFault, answered
 ghost use Rattle.job_format.specs.Faults.{format_questions};
 ghost use Rattle.job_format.specs.Reading.{file_at};
 ghost use Rattle.job_format.specs.File.{IsFileOf};
-ghost use Rattle.job_check.specs.Emit.{IsEmitted, IsPlaced};
+ghost use Rattle.job_check.specs.Emit.{Emits, IsPlaced};
 ghost use Rattle.job_check.specs.Whole.{all_questions, format_refused, format_stopped};
 
 use super::check::{Checked, check_job};
@@ -13,7 +13,7 @@ use job_format::{FormatFault, Refusal, Rule, Stage, read_job};
 use std::alloc::Global;
 
 /// A fault of the format is a refusal by a rule F.
-fn format_refusal(stop: Stop<FormatFault>) -> Stop<Refusal>
+pub fn format_refusal(stop: Stop<FormatFault>) -> Stop<Refusal>
     ensures { result ≡ format_stopped stop }
 {
     match stop {
@@ -28,16 +28,16 @@ fn format_refusal(stop: Stop<FormatFault>) -> Stop<Refusal>
     }
 }
 
-/// The first rule that stands for these bytes, or the memory of the job that they hold.
+/// The first rule that stands for these bytes, or the memory of the jobs that they hold.
 ///
 /// # Errors
 /// The first rule that stands, by its letter, its number and its place in the bytes; or want of memory, which never hides a rule of the
 /// format.
 #[tactic(auto, unfolding(crate::specs::Whole::all_questions))]
 pub fn check_bytes(alloc: Global, bytes: &[u8]) -> Result<Checked, Stop<Refusal>>
-    ensures answers { Answers (all_questions bytes.now) (λ checked. IsEmitted (file_at bytes.now) checked.memory checked.layout checked.lengths) result }
+    ensures answers { Answers (all_questions bytes.now) (Emits (file_at bytes.now)) result }
     ensures format { NeverHidesFault (answered format_refused (format_questions bytes.now)) result }
-    ensures placed { IfOk result (λ checked. IsPlaced checked.memory checked.layout) }
+    ensures placed { IfOk result (λ checked. IsPlaced checked.memory checked.layouts.items) }
     ensures sized { IfOk result (λ checked. length checked.memory ≡ (file_at bytes.now).mem_size) }
     ensures spelled { IsOk result → IsFileOf bytes.now (file_at bytes.now) }
 {

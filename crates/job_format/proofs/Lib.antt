@@ -11,3 +11,4 @@ pub mod Only
 pub mod Passing
 pub mod Standing
 pub mod Tails
+pub mod Versions

@@ -1,10 +1,10 @@
 -- Lists that are read item by item: none, and one more.
-use Rattle.std.proofs.Common.{◌≡◌, ℕ, ◌+◌, ◌*◌, List, [], ◌∷◌, ◌++◌, map, refl, ap, sym, ◌∙◌, zero-add}
+use Rattle.std.proofs.Common.{◌≡◌, ℕ, ◌+◌, ◌*◌, List, [], ◌∷◌, ◌++◌, map, refl, ap, ◌∙◌, zero-add}
 use Rattle.std.proofs.lemmas.List.{map-append}
 use Rattle.std.proofs.lemmas.List.FromFn.{map-range_with_len_more}
 use Rattle.field_words.specs.Words.{u32_at}
 use Rattle.job_format.specs.Offsets.{entry_offset, content_size, content_offset}
-use Rattle.job_format.specs.Reading.{cut, entry_at, words_at, buffers_at, contents_at}
+use Rattle.job_format.specs.Reading.{cut, entry_at, words_at, buffers_at, contents_at, job_at, jobs_at}
 
 pub words_none : (bytes : List ℕ) (at : ℕ) → words_at bytes at 0 ≡ []
 unfolding words_at
@@ -30,9 +30,15 @@ pub contents_more : (bytes : List ℕ) (n : ℕ) → contents_at bytes (n + 1) �
 unfolding contents_at
 contents_more bytes n = map-range_with_len_more (λ b. cut bytes (content_offset bytes b) (content_size bytes b)) 0 n n (zero-add n)
 
--- One more of the values whose bytes are the contents.
-pub contents_next : {V : Type 0} (items : V → List ℕ) (bytes : List ℕ) (n : ℕ) (old new : List V) (v : V) → new ≡ old ++ v ∷ [] → map items old ≡ contents_at bytes n
-    → items v ≡ cut bytes (content_offset bytes n) (content_size bytes n) → map items new ≡ contents_at bytes (n + 1)
-contents_next items bytes n old new v pushed before one =
-    ap (map items) pushed ∙ map-append items old (v ∷ []) ∙ ap (λ front. front ++ items v ∷ []) before
-    ∙ ap (λ last. contents_at bytes n ++ last ∷ []) one ∙ sym (contents_more bytes n)
+pub jobs_none : (bytes : List ℕ) → jobs_at bytes 0 ≡ []
+unfolding jobs_at
+jobs_none bytes = refl
+
+pub jobs_more : (bytes : List ℕ) (n : ℕ) → jobs_at bytes (n + 1) ≡ jobs_at bytes n ++ (job_at bytes n ∷ [])
+unfolding jobs_at
+jobs_more bytes n = map-range_with_len_more (job_at bytes) 0 n n (zero-add n)
+
+-- One more of the values, as they are seen.
+pub one_more_seen : {V W : Type 0} (view : V → W) (old new : List V) (v : V) (seen : List W) (w : W) → new ≡ old ++ v ∷ [] → map view old ≡ seen → view v ≡ w → map view new ≡ seen ++ w ∷ []
+one_more_seen view old new v seen w pushed before one =
+    ap (map view) pushed ∙ map-append view old (v ∷ []) ∙ ap (λ front. front ++ view v ∷ []) before ∙ ap (λ last. seen ++ last ∷ []) one

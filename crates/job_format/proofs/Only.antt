@@ -12,14 +12,14 @@ use Rattle.buffer_table.specs.declared.buffer.Buffer.{Buffer}
 use Rattle.job_format.specs.Model.{JobModel, FileModel}
 use Rattle.field_words.specs.WordBytes.{word}
 use Rattle.job_format.specs.Text.{flag, kind_number, header_text, buffer_text, job_text, parts_text, file_text}
-use Rattle.job_format.specs.Offsets.{most_states, entry_offset, job_offset, content_size, content_offset, handles_offset, bin_offset, records_offset, uniforms_offset, end_offset}
-use Rattle.job_format.specs.Reading.{cut, regions_at, entry_at, words_at, buffers_at, contents_at, job_at, file_at}
+use Rattle.job_format.specs.Offsets.{most_buffers, most_handles, most_jobs, most_first, most_states, version_in, slot_count, buffer_count, job_count, entry_offset, job_offset, job_word, content_size, content_offset, handles_offset, bin_offset, records_offset, uniforms_offset, end_offset}
+use Rattle.job_format.specs.Reading.{cut, regions_at, entry_at, words_at, buffers_at, contents_at, job_at, jobs_at, file_at}
 use Rattle.job_format.specs.File.{BufferFits, JobFits, FitsShader, IsJobWellFormed, IsFileOf}
 use Rattle.job_format.proofs.Entries.{buffer_back}
 use Rattle.job_format.proofs.Heads.{HeaderReads, JobReads, SizesFit, header_back, job_back, job_long}
-use Rattle.job_format.proofs.Passing.{Passes, EntryPasses}
-use Rattle.job_format.proofs.Standing.{content_offset_first, content_offset_step}
-use Rattle.job_format.proofs.Tails.{IsTail, tail_front, tail_rest, end_of_tail, whole_tail}
+use Rattle.job_format.proofs.Passing.{HeaderPasses, EntryPasses, JobPasses, Passes}
+use Rattle.job_format.proofs.Standing.{content_offset_first, content_offset_step, handles_offset_first, handles_offset_step}
+use Rattle.job_format.proofs.Tails.{IsTail, four_joined, tail_front, tail_rest, end_of_tail, whole_tail}
 
 buffer_long : (b : Buffer) → length (buffer_text b) ≡ 20
 unfolding buffer_text
@@ -116,148 +116,209 @@ header_long : (f : FileModel) → length (header_text f) ≡ 36
 unfolding header_text
 header_long f = refl
 
--- What the bytes after the contents say.
-record PartsRead (bytes : List ℕ) (j : JobModel) : Type 0 where
-  handles : words_at bytes (handles_offset bytes) (u32_at bytes (job_offset bytes + 8)) ≡ j.handles
-  bin : cut bytes (bin_offset bytes) (u32_at bytes (job_offset bytes + 12)) ≡ j.bin
-  records : cut bytes (records_offset bytes) (u32_at bytes (job_offset bytes + 16)) ≡ j.records
-  uniforms : cut bytes (uniforms_offset bytes) (u32_at bytes (job_offset bytes + 24)) ≡ j.uniforms
-  end : end_offset bytes ≡ length bytes
+-- what the bytes of the entry of job k say
+record EntryOfJob (bytes : List ℕ) (k : ℕ) (j : JobModel) : Type 0 where
+  inside : job_offset bytes k + 124 ≤ length bytes
+  fields : JobReads bytes (job_offset bytes k) j
 
-parts_back : (bytes : List ℕ) (j : JobModel) → JobFits j → JobReads bytes (job_offset bytes) j → IsTail bytes (handles_offset bytes) (parts_text j) → PartsRead bytes j
-unfolding parts_text words_at bin_offset records_offset uniforms_offset end_offset
-parts_back bytes j fits r tail =
-    let at : ℕ = job_offset bytes in
-    let rest : List ℕ = j.bin ++ (j.records ++ j.uniforms) in
-    let first : IsTail bytes (handles_offset bytes + 4 * 0) (flat_map word j.handles ++ rest) = subst (λ p. IsTail bytes p (flat_map word j.handles ++ rest)) (omega arith) tail in
-    let w = words_back bytes (handles_offset bytes) 0 j.handles rest fits.handles first in
-    let count = r.handles in
-    let t1 : IsTail bytes (bin_offset bytes) rest = subst (λ p. IsTail bytes p rest) (omega arith) w.1 in
-    let bin = tail_front bytes (bin_offset bytes) (u32_at bytes (at + 12)) j.bin (j.records ++ j.uniforms) (sym r.bin) t1 in
-    let t2 = tail_rest bytes (bin_offset bytes) (u32_at bytes (at + 12)) (records_offset bytes) j.bin (j.records ++ j.uniforms) (sym r.bin) refl t1 in
-    let records = tail_front bytes (records_offset bytes) (u32_at bytes (at + 16)) j.records j.uniforms (sym r.records) t2 in
-    let t3 = tail_rest bytes (records_offset bytes) (u32_at bytes (at + 16)) (uniforms_offset bytes) j.records j.uniforms (sym r.records) refl t2 in
-    let t3_nil : IsTail bytes (uniforms_offset bytes) (j.uniforms ++ []) = subst (λ t. IsTail bytes (uniforms_offset bytes) t) (sym (append-nil j.uniforms)) t3 in
-    let uniforms = tail_front bytes (uniforms_offset bytes) (u32_at bytes (at + 24)) j.uniforms [] (sym r.uniforms) t3_nil in
-    let t4 = tail_rest bytes (uniforms_offset bytes) (u32_at bytes (at + 24)) (end_offset bytes) j.uniforms [] (sym r.uniforms) refl t3_nil in
-    record {
-      handles = ap (λ n. map (λ i. u32_at bytes (handles_offset bytes + 4 * i)) (range_with_len 0 n)) r.handles ∙ w.0;
-      bin = bin.same;
-      records = records.same;
-      uniforms = uniforms.same;
-      end = end_of_tail bytes (end_offset bytes) t4;
-    }
-
-job_is : (bytes : List ℕ) (j : JobModel) → JobReads bytes (job_offset bytes) j → PartsRead bytes j → job_at bytes ≡ j
-unfolding job_at
-job_is bytes j r p = rw (r.client, p.handles, p.bin, p.records, r.declared, p.uniforms, r.frame) refl
-
--- the one job
-one_job : (js : List JobModel) → length js ≡ 1 → (j : JobModel) × (js ≡ j ∷ [])
-one_job (j ∷ []) one = (j, refl)
-one_job _ one = absurd (omega (arith, one))
-
--- a file's text, its jobs apart
-abbrev text_with : FileModel → List JobModel → List ℕ
-text_with f js = header_text f ++ (flat_map buffer_text f.buffers ++ (flat_map job_text js ++ (joined f.contents ++ flat_map parts_text js)))
-
-text_is : (f : FileModel) → file_text f ≡ text_with f f.jobs
-unfolding file_text
-text_is f = refl
+-- the entries from job k on
+abbrev JobsRead : List ℕ → ℕ → List JobModel → Type 0
+JobsRead bytes k [] = Unit {0}
+JobsRead bytes k (j ∷ js) = EntryOfJob bytes k j × JobsRead bytes (k + 1) js
 
 sizes_fit : (j : JobModel) → IsJobWellFormed j → SizesFit j
 sizes_fit j w =
     record { handles = omega (arith, w.handles); bin = omega (arith, w.bin); records = omega (arith, w.records); uniforms = omega (arith, w.uniforms) }
 
--- what the whole file's bytes say
-record FileReads (bytes : List ℕ) (f : FileModel) (j : JobModel) : Type 0 where
-  header : HeaderReads bytes f
-  entries : EntriesRead bytes 0 f.buffers
-  job : JobReads bytes (job_offset bytes) j
-  job_inside : job_offset bytes + 124 ≤ length bytes
-  contents : contents_at bytes (u32_at bytes 28) ≡ f.contents
-  parts : PartsRead bytes j
-  header_inside : 36 ≤ length bytes
+jobs_back : (bytes : List ℕ) (k : ℕ) (js : List JobModel) (rest : List ℕ) → AllByRecursion JobFits js → AllByRecursion IsJobWellFormed js → IsTail bytes (job_offset bytes k) (flat_map job_text js ++ rest)
+    → JobsRead bytes k js × IsTail bytes (job_offset bytes (k + length js)) rest
+jobs_back bytes k [] rest fit well tail = (tt, subst (λ p. IsTail bytes p rest) (omega arith) tail)
+jobs_back bytes k (j ∷ js) rest fit well tail =
+    let others : List ℕ = flat_map job_text js ++ rest in
+    let regrouped : IsTail bytes (job_offset bytes k) (job_text j ++ others) =
+    subst (λ t. IsTail bytes (job_offset bytes k) t) (append_assoc (job_text j) (flat_map job_text js) rest) tail in
+    let piece = tail_front bytes (job_offset bytes k) 124 (job_text j) others (job_long j fit.0.frame) regrouped in
+    let after = tail_rest bytes (job_offset bytes k) 124 (job_offset bytes (k + 1)) (job_text j) others (job_long j fit.0.frame) (omega arith) regrouped in
+    let more = jobs_back bytes (k + 1) js rest fit.1 well.1 after in (
+      (record { inside = piece.inside; fields = job_back bytes (job_offset bytes k) j fit.0 (sizes_fit j well.0) piece }, more.0),
+      subst (λ p. IsTail bytes p rest) (omega arith) more.1,
+    )
 
-file_reads : (bytes : List ℕ) (f : FileModel) (j : JobModel) → IsFileOf bytes f → f.jobs ≡ j ∷ [] → JobFits j → IsJobWellFormed j → FileReads bytes f j
-unfolding contents_at handles_offset
-file_reads bytes f j is one fits well =
-    let w = is.well_formed in
-    let few_buffers = w.buffers in
-    let parts : List ℕ = parts_text j in
-    let contents : List ℕ = joined f.contents in
-    let text : bytes ≡ header_text f ++ (flat_map buffer_text f.buffers ++ (job_text j ++ (contents ++ parts))) =
-    is.text ∙ text_is f ∙ ap (text_with f) one
-    ∙ ap (λ t. header_text f ++ (flat_map buffer_text f.buffers ++ (t ++ (contents ++ (parts ++ []))))) (append-nil (job_text j))
-    ∙ ap (λ t. header_text f ++ (flat_map buffer_text f.buffers ++ (job_text j ++ (contents ++ t)))) (append-nil parts) in
-    let t0 : IsTail bytes 0 (header_text f ++ (flat_map buffer_text f.buffers ++ (job_text j ++ (contents ++ parts)))) = whole_tail bytes _ text in
-    let header_piece = tail_front bytes 0 36 (header_text f) (flat_map buffer_text f.buffers ++ (job_text j ++ (contents ++ parts))) (header_long f) t0 in
-    let header = header_back bytes f is.fits (omega arith) (let n = w.one_job in omega arith) header_piece in
-    let count = header.buffers in
-    let t36 = tail_rest bytes 0 36 36 (header_text f) (flat_map buffer_text f.buffers ++ (job_text j ++ (contents ++ parts))) (header_long f) refl t0 in
-    let e = entries_back bytes 0 f.buffers (job_text j ++ (contents ++ parts)) is.fits.buffers t36 in
-    let t_job : IsTail bytes (job_offset bytes) (job_text j ++ (contents ++ parts)) = subst (λ p. IsTail bytes p (job_text j ++ (contents ++ parts))) (omega arith) e.1 in
-    let job_piece = tail_front bytes (job_offset bytes) 124 (job_text j) (contents ++ parts) (job_long j fits.frame) t_job in
-    let job = job_back bytes (job_offset bytes) j fits (sizes_fit j well) job_piece in
-    let t_contents : IsTail bytes (content_offset bytes 0) (contents ++ parts) =
-    tail_rest bytes (job_offset bytes) 124 (content_offset bytes 0) (job_text j) (contents ++ parts) (job_long j fits.frame) (content_offset_first bytes) t_job in
-    let c = contents_back bytes 0 f.buffers f.contents parts e.0 w.contents t_contents in
-    let t_parts : IsTail bytes (handles_offset bytes) parts =
-    subst (λ n. IsTail bytes (content_offset bytes n) parts) (omega arith) c.1 in
-    record {
-      header = header;
-      entries = e.0;
-      job = job;
-      job_inside = job_piece.inside;
-      contents = ap (λ n. map (λ b. cut bytes (content_offset bytes b) (content_size bytes b)) (range_with_len 0 n)) count ∙ c.0;
-      parts = parts_back bytes j fits job t_parts;
-      header_inside = header_piece.inside;
-    }
-
-reads_pass : (bytes : List ℕ) (f : FileModel) (j : JobModel) → IsFileOf bytes f → IsJobWellFormed j → FileReads bytes f j → Passes bytes
-reads_pass bytes f j is well r =
-    let w = is.well_formed in
-    let h = r.header in
-    let g = r.job in
+-- each entry passes
+job_passes : (bytes : List ℕ) (k : ℕ) (j : JobModel) → EntryOfJob bytes k j → IsJobWellFormed j → (version_in bytes ≡ 1 → length j.handles ≤ most_first) → JobPasses bytes (job_offset bytes k)
+job_passes bytes k j r well first =
+    let g = r.fields in
     let flag_small : (b : Bool) → flag b ≤ 1 = λ b. elim b as (λ v. flag v ≤ 1) [ true ↦ omega arith | false ↦ omega arith ] in
     record {
-      header = record {
-        size = r.header_inside;
-        letters = h.letters;
-        version = h.version ∙ w.version;
-        buffers = subst (λ n. n ≤ 64) (sym h.buffers) w.buffers;
-        jobs = h.jobs ∙ w.one_job;
-      };
-      entry = λ b below. subst (λ m. EntryPasses bytes (entry_offset m)) (omega arith) (entries_pass bytes 0 f.buffers r.entries w.code b (let n = h.buffers in omega arith));
-      job = record {
-        size = r.job_inside;
-        flags = subst (λ n. n ≤ 1) (sym g.flags) (flag_small j.frame.clear);
-        handles = subst (λ n. n ≤ 64) (sym g.handles) well.handles;
-        bin = subst (λ n. n ≤ most_list) (sym g.bin) well.bin;
-        records = subst (λ n. n ≤ most_list) (sym g.records) well.records;
-        declared = subst (λ n. n ≤ most_states) (sym g.declared) well.declared;
-        uniforms = subst (λ n. n ≤ most_list) (sym g.uniforms) well.uniforms;
-        whole_words = subst (λ n. n % 4 ≡ 0) (sym g.uniforms) well.whole_words;
-        first = g.first;
-        second = g.second;
-        third = g.third;
-      };
-      end = r.parts.end;
+      size = r.inside;
+      flags = subst (λ n. n ≤ 1) (sym g.flags) (flag_small j.frame.clear);
+      handles = subst (λ n. n ≤ most_handles) (sym g.handles) well.handles;
+      first_handles = λ is. subst (λ n. n ≤ most_first) (sym g.handles) (first is);
+      bin = subst (λ n. n ≤ most_list) (sym g.bin) well.bin;
+      records = subst (λ n. n ≤ most_list) (sym g.records) well.records;
+      declared = subst (λ n. n ≤ most_states) (sym g.declared) well.declared;
+      uniforms = subst (λ n. n ≤ most_list) (sym g.uniforms) well.uniforms;
+      whole_words = subst (λ n. n % 4 ≡ 0) (sym g.uniforms) well.whole_words;
+      first = g.first;
+      second = g.second;
+      third = g.third;
     }
 
-file_is : (bytes : List ℕ) (f : FileModel) (j : JobModel) → f.jobs ≡ j ∷ [] → FileReads bytes f j → file_at bytes ≡ f
-unfolding file_at regions_at buffers_at
-file_is bytes f j one r =
+jobs_pass : (bytes : List ℕ) (k : ℕ) (js : List JobModel) → JobsRead bytes k js → AllByRecursion IsJobWellFormed js
+    → (version_in bytes ≡ 1 → AllByRecursion (λ j. length j.handles ≤ most_first) js) → (i : ℕ) → i < length js → JobPasses bytes (job_offset bytes (k + i))
+jobs_pass bytes k [] read well first i below = absurd (omega (arith, below))
+jobs_pass bytes k (j ∷ js) read well first zero below =
+    subst (λ m. JobPasses bytes (job_offset bytes m)) (let e : k ≡ k + zero = omega arith in e) (job_passes bytes k j read.0 well.0 (λ is. (first is).0))
+jobs_pass bytes k (j ∷ js) read well first (suc i) below =
+    subst (λ m. JobPasses bytes (job_offset bytes m)) (let e : (k + 1) + i ≡ k + suc i = omega arith in e)
+    (jobs_pass bytes (k + 1) js read.1 well.1 (λ is. (first is).1) i (omega arith))
+
+-- What the bytes of the parts of job k say.
+record PartsRead (bytes : List ℕ) (k : ℕ) (j : JobModel) : Type 0 where
+  handles : words_at bytes (handles_offset bytes k) (job_word bytes k 8) ≡ j.handles
+  bin : cut bytes (bin_offset bytes k) (job_word bytes k 12) ≡ j.bin
+  records : cut bytes (records_offset bytes k) (job_word bytes k 16) ≡ j.records
+  uniforms : cut bytes (uniforms_offset bytes k) (job_word bytes k 24) ≡ j.uniforms
+
+parts_back : (bytes : List ℕ) (k : ℕ) (j : JobModel) (rest : List ℕ) → JobFits j → JobReads bytes (job_offset bytes k) j → IsTail bytes (handles_offset bytes k) (parts_text j ++ rest)
+    → PartsRead bytes k j × IsTail bytes (handles_offset bytes (k + 1)) rest
+unfolding parts_text words_at bin_offset records_offset uniforms_offset end_offset
+parts_back bytes k j rest fits r tail =
+    let handles : ℕ = handles_offset bytes k in
+    let behind : List ℕ = j.bin ++ (j.records ++ (j.uniforms ++ rest)) in
+    let regrouped : IsTail bytes handles (flat_map word j.handles ++ behind) =
+    subst (λ t. IsTail bytes handles t) (four_joined (flat_map word j.handles) j.bin j.records j.uniforms rest) tail in
+    let first : IsTail bytes (handles + 4 * 0) (flat_map word j.handles ++ behind) = subst (λ p. IsTail bytes p (flat_map word j.handles ++ behind)) (omega arith) regrouped in
+    let w = words_back bytes handles 0 j.handles behind fits.handles first in
+    let count = r.handles in
+    let t1 : IsTail bytes (bin_offset bytes k) behind = subst (λ p. IsTail bytes p behind) (omega arith) w.1 in
+    let bin = tail_front bytes (bin_offset bytes k) (job_word bytes k 12) j.bin (j.records ++ (j.uniforms ++ rest)) (sym r.bin) t1 in
+    let t2 = tail_rest bytes (bin_offset bytes k) (job_word bytes k 12) (records_offset bytes k) j.bin (j.records ++ (j.uniforms ++ rest)) (sym r.bin) refl t1 in
+    let records = tail_front bytes (records_offset bytes k) (job_word bytes k 16) j.records (j.uniforms ++ rest) (sym r.records) t2 in
+    let t3 = tail_rest bytes (records_offset bytes k) (job_word bytes k 16) (uniforms_offset bytes k) j.records (j.uniforms ++ rest) (sym r.records) refl t2 in
+    let uniforms = tail_front bytes (uniforms_offset bytes k) (job_word bytes k 24) j.uniforms rest (sym r.uniforms) t3 in
+    let t4 = tail_rest bytes (uniforms_offset bytes k) (job_word bytes k 24) (end_offset bytes k) j.uniforms rest (sym r.uniforms) refl t3 in (
+      record {
+        handles = ap (λ n. map (λ i. u32_at bytes (handles + 4 * i)) (range_with_len 0 n)) r.handles ∙ w.0;
+        bin = bin.same;
+        records = records.same;
+        uniforms = uniforms.same;
+      },
+      subst (λ p. IsTail bytes p rest) (sym (handles_offset_step bytes k)) t4,
+    )
+
+job_is : (bytes : List ℕ) (k : ℕ) (j : JobModel) → JobReads bytes (job_offset bytes k) j → PartsRead bytes k j → job_at bytes k ≡ j
+unfolding job_at
+job_is bytes k j r p = rw (r.client, p.handles, p.bin, p.records, r.declared, p.uniforms, r.frame) refl
+
+-- The parts from job k on, and so the jobs.
+all_parts_back : (bytes : List ℕ) (k : ℕ) (js : List JobModel) (rest : List ℕ) → AllByRecursion JobFits js → JobsRead bytes k js → IsTail bytes (handles_offset bytes k) (flat_map parts_text js ++ rest)
+    → (map (job_at bytes) (range_with_len k (length js)) ≡ js) × IsTail bytes (handles_offset bytes (k + length js)) rest
+all_parts_back bytes k [] rest fit read tail = (refl, subst (λ p. IsTail bytes (handles_offset bytes p) rest) (omega arith) tail)
+all_parts_back bytes k (j ∷ js) rest fit read tail =
+    let others : List ℕ = flat_map parts_text js ++ rest in
+    let regrouped : IsTail bytes (handles_offset bytes k) (parts_text j ++ others) =
+    subst (λ t. IsTail bytes (handles_offset bytes k) t) (append_assoc (parts_text j) (flat_map parts_text js) rest) tail in
+    let one = parts_back bytes k j others fit.0 read.0.fields regrouped in
+    let more = all_parts_back bytes (k + 1) js rest fit.1 read.1 one.1 in (
+      ap (λ x. x ∷ map (job_at bytes) (range_with_len (k + 1) (length js))) (job_is bytes k j read.0.fields one.0) ∙ ap (λ xs. j ∷ xs) more.0,
+      subst (λ p. IsTail bytes (handles_offset bytes p) rest) (omega arith) more.1,
+    )
+
+text_is : (f : FileModel) → file_text f ≡ header_text f ++ (flat_map buffer_text f.buffers ++ (flat_map job_text f.jobs ++ (joined f.contents ++ flat_map parts_text f.jobs)))
+unfolding file_text
+text_is f = refl
+
+-- what the whole file's bytes say
+record FileReads (bytes : List ℕ) (f : FileModel) : Type 0 where
+  header_inside : 36 ≤ length bytes
+  header : HeaderReads bytes f
+  entries : EntriesRead bytes 0 f.buffers
+  job_entries : JobsRead bytes 0 f.jobs
+  contents : contents_at bytes (buffer_count bytes) ≡ f.contents
+  jobs : jobs_at bytes (job_count bytes) ≡ f.jobs
+  end : handles_offset bytes (job_count bytes) ≡ length bytes
+
+file_reads : (bytes : List ℕ) (f : FileModel) → IsFileOf bytes f → FileReads bytes f
+unfolding contents_at jobs_at
+file_reads bytes f is =
+    let w = is.well_formed in
+    let few_buffers = w.buffers in
+    let few_jobs = w.few_jobs in
+    let parts : List ℕ = flat_map parts_text f.jobs in
+    let contents : List ℕ = joined f.contents in
+    let after_buffers : List ℕ = flat_map job_text f.jobs ++ (contents ++ parts) in
+    let after_header : List ℕ = flat_map buffer_text f.buffers ++ after_buffers in
+    let t0 : IsTail bytes 0 (header_text f ++ after_header) = whole_tail bytes (header_text f ++ after_header) (is.text ∙ text_is f) in
+    let header_piece = tail_front bytes 0 36 (header_text f) after_header (header_long f) t0 in
+    let header = header_back bytes f is.fits (omega arith) (omega arith) header_piece in
+    let count = header.buffers in
+    let jobs_count = header.jobs in
+    let t36 = tail_rest bytes 0 36 36 (header_text f) after_header (header_long f) refl t0 in
+    let e = entries_back bytes 0 f.buffers after_buffers is.fits.buffers t36 in
+    let t_jobs : IsTail bytes (job_offset bytes 0) after_buffers = subst (λ p. IsTail bytes p after_buffers) (omega arith) e.1 in
+    let j = jobs_back bytes 0 f.jobs (contents ++ parts) is.fits.jobs w.jobs t_jobs in
+    let t_contents : IsTail bytes (content_offset bytes 0) (contents ++ parts) =
+    subst (λ p. IsTail bytes p (contents ++ parts)) (let first = content_offset_first bytes in omega arith) j.1 in
+    let c = contents_back bytes 0 f.buffers f.contents parts e.0 w.contents t_contents in
+    let same_place : content_offset bytes (0 + length f.buffers) ≡ content_offset bytes (buffer_count bytes) = ap (content_offset bytes) (omega arith) in
+    let t_parts : IsTail bytes (handles_offset bytes 0) parts =
+    subst (λ p. IsTail bytes p parts) (same_place ∙ sym (handles_offset_first bytes)) c.1 in
+    let t_parts_nil : IsTail bytes (handles_offset bytes 0) (parts ++ []) = subst (λ t. IsTail bytes (handles_offset bytes 0) t) (sym (append-nil parts)) t_parts in
+    let p = all_parts_back bytes 0 f.jobs [] is.fits.jobs j.0 t_parts_nil in
+    let last_place : handles_offset bytes (0 + length f.jobs) ≡ handles_offset bytes (job_count bytes) = ap (handles_offset bytes) (omega arith) in
+    record {
+      header_inside = header_piece.inside;
+      header = header;
+      entries = e.0;
+      job_entries = j.0;
+      contents = ap (λ n. map (λ b. cut bytes (content_offset bytes b) (content_size bytes b)) (range_with_len 0 n)) count ∙ c.0;
+      jobs = ap (λ n. map (job_at bytes) (range_with_len 0 n)) jobs_count ∙ p.0;
+      end = sym last_place ∙ end_of_tail bytes (handles_offset bytes (0 + length f.jobs)) p.1;
+    }
+
+header_passes : (bytes : List ℕ) (f : FileModel) → IsFileOf bytes f → FileReads bytes f → HeaderPasses bytes
+header_passes bytes f is r =
+    let w = is.well_formed in
     let h = r.header in
-    let buffers : map (λ b. entry_at bytes (entry_offset b)) (range_with_len 0 (u32_at bytes 28)) ≡ f.buffers =
+    let first : version_in bytes ≡ 1 → f.version ≡ 1 = λ is_first. sym h.version ∙ is_first in
+    record {
+      size = r.header_inside;
+      letters = h.letters;
+      a_version = subst (λ n. 1 ≤ n) (sym h.version) w.a_version;
+      known = subst (λ n. n ≤ 2) (sym h.version) w.known;
+      buffers = subst (λ n. n ≤ most_buffers) (sym h.buffers) w.buffers;
+      first_buffers = λ is_first. subst (λ n. n ≤ most_first) (sym h.buffers) (w.first (first is_first)).buffers;
+      some_job = subst (λ n. 1 ≤ n) (sym h.jobs) w.some_job;
+      few_jobs = subst (λ n. n ≤ most_jobs) (sym h.jobs) w.few_jobs;
+      first_jobs = λ is_first. h.jobs ∙ (w.first (first is_first)).one_job;
+      slots = λ later some.
+          subst (λ n. n ≤ slot_count bytes) (sym h.jobs)
+          (subst (λ n. length f.jobs ≤ n) (sym h.tile_slots) (w.slots (sym h.version ∙ later) (subst (λ n. 0 < n) h.tile_slots some)));
+    }
+
+reads_pass : (bytes : List ℕ) (f : FileModel) → IsFileOf bytes f → FileReads bytes f → Passes bytes
+reads_pass bytes f is r =
+    let w = is.well_formed in
+    let h = r.header in
+    let buffers = h.buffers in
+    let jobs = h.jobs in
+    record {
+      header = header_passes bytes f is r;
+      entry = λ b below. subst (λ m. EntryPasses bytes (entry_offset m)) (omega arith) (entries_pass bytes 0 f.buffers r.entries w.code b (omega arith));
+      job = λ j below.
+          subst (λ m. JobPasses bytes (job_offset bytes m)) (let e : 0 + j ≡ j = omega arith in e)
+          (jobs_pass bytes 0 f.jobs r.job_entries w.jobs (λ first. (w.first (sym h.version ∙ first)).handles) j (omega arith));
+      end = r.end;
+    }
+
+file_is : (bytes : List ℕ) (f : FileModel) → FileReads bytes f → file_at bytes ≡ f
+unfolding file_at regions_at buffers_at
+file_is bytes f r =
+    let h = r.header in
+    let buffers : map (λ b. entry_at bytes (entry_offset b)) (range_with_len 0 (buffer_count bytes)) ≡ f.buffers =
     ap (λ n. map (λ b. entry_at bytes (entry_offset b)) (range_with_len 0 n)) h.buffers ∙ entries_are bytes 0 f.buffers r.entries in
-    let jobs : job_at bytes ∷ [] ≡ f.jobs = ap (λ x. x ∷ []) (job_is bytes j r.job r.parts) ∙ sym one in
-    rw (h.version, h.mem_size, h.lists_place, h.lists_size, h.tile_place, h.tile_slots, buffers, r.contents, jobs) refl
+    rw (h.version, h.mem_size, h.lists_place, h.lists_size, h.tile_place, h.tile_slots, buffers, r.contents, r.jobs) refl
 
 pub only_file : (bytes : List ℕ) (f : FileModel) → IsFileOf bytes f → Passes bytes × (file_at bytes ≡ f)
-only_file bytes f is =
-    let one = one_job f.jobs is.well_formed.one_job in
-    let fits : AllByRecursion JobFits (one.0 ∷ []) = subst (AllByRecursion JobFits) one.1 is.fits.jobs in
-    let well : AllByRecursion IsJobWellFormed (one.0 ∷ []) = subst (AllByRecursion IsJobWellFormed) one.1 is.well_formed.jobs in
-    let r = file_reads bytes f one.0 is one.1 fits.0 well.0 in
-    (reads_pass bytes f one.0 is well.0 r, file_is bytes f one.0 one.1 r)
+only_file bytes f is = let r = file_reads bytes f is in (reads_pass bytes f is r, file_is bytes f r)

@@ -1,5 +1,5 @@
 -- The rest of a file from a place on, as a text.
-use Rattle.std.proofs.Common.{◌≡◌, ℕ, ◌+◌, ◌-◌, ◌≤◌, List, [], ◌++◌, length, take, drop, sym, ap, arith, ◌∙◌, length-append, length-drop}
+use Rattle.std.proofs.Common.{◌≡◌, ℕ, ◌+◌, ◌-◌, ◌≤◌, List, [], ◌++◌, length, take, drop, sym, ap, arith, ◌∙◌, append_assoc, length-append, length-drop}
 use Rattle.std.proofs.lemmas.List.{take-append-drop}
 use Rattle.std.proofs.Math.Seq.{drop-length}
 use Rattle.field_words.specs.Pieces.{IsPiece}
@@ -8,6 +8,12 @@ use Rattle.field_words.proofs.Pieces.{drop_drop, front_of, rest_of}
 pub record IsTail (bytes : List ℕ) (at : ℕ) (text : List ℕ) : Type 0 where
   pub inside : at ≤ length bytes
   pub same : drop at bytes ≡ text
+
+-- Four texts and what follows them, the other way round.
+pub four_joined : (one two three four rest : List ℕ) → (one ++ (two ++ (three ++ four))) ++ rest ≡ one ++ (two ++ (three ++ (four ++ rest)))
+four_joined one two three four rest =
+    append_assoc one (two ++ (three ++ four)) rest
+    ∙ ap (λ t. one ++ t) (append_assoc two (three ++ four) rest ∙ ap (λ t. two ++ t) (append_assoc three four rest))
 
 -- A piece, and what follows it.
 pub tail_join : (bytes : List ℕ) (at n next : ℕ) (one two : List ℕ) → next ≡ at + n → IsPiece bytes at n one → IsTail bytes next two → IsTail bytes at (one ++ two)

@@ -1,5 +1,4 @@
--- When bytes are a job file of version 1: they are its text, its numbers fit their fields, and it
--- is well formed.
+-- When bytes are a job file: they are its text, its numbers fit their fields, and it is well formed.
 use Rattle.std.specs.Prelude.{◌≡◌, ℕ, ◌%◌, ◌≤◌, ◌<◌, ◌^◌, List, length, map, Result, Ok, Err}
 use Rattle.std.specs.List.{AllByRecursion}
 use Rattle.field_words.specs.Words.{IsBytes}
@@ -15,7 +14,7 @@ use Rattle.job_format.specs.declared.file.JobFile.{JobFile}
 use Rattle.job_format.specs.declared.file.Surface.{Surface}
 use Rattle.job_format.specs.declared.file.Frame.{Frame}
 use Rattle.job_format.specs.Model.{JobModel, FileModel, file_view}
-use Rattle.job_format.specs.Offsets.{most_buffers, most_handles, most_states}
+use Rattle.job_format.specs.Offsets.{most_buffers, most_handles, most_jobs, most_first, most_states}
 use Rattle.job_format.specs.Text.{file_text}
 
 -- Each number fits the bytes that hold it.
@@ -99,15 +98,29 @@ pub record IsJobWellFormed (j : JobModel) : Type 0 where
   pub uniforms : length j.uniforms ≤ most_list
   pub whole_words : length j.uniforms % 4 ≡ 0
 
--- What a file that was read is, and what a file needs to be written: the limits hold, and there
--- is one list of contents per buffer, as long as its entry says.
+-- the narrower limits of version 1
+pub record IsFirstVersion (f : FileModel) : Type 0 where
+  pub buffers : length f.buffers ≤ most_first
+  pub one_job : length f.jobs ≡ 1
+  pub handles : AllByRecursion (λ j. length j.handles ≤ most_first) f.jobs
+
+-- What a file that was read is, and what a file needs to be written: the version is 1 or 2 and its limits hold, in version 2 each job
+-- has a tile slot where there are slots at all, and there is one list of contents per buffer, as long as its entry says.
 pub record IsWellFormed (f : FileModel) : Type 0 where
-  pub version : f.version ≡ 1
+  pub a_version : 1 ≤ f.version
+  pub known : f.version ≤ 2
+  pub first : f.version ≡ 1 → IsFirstVersion f
+  pub slots : f.version ≡ 2 → 0 < f.regions.tile_slots → length f.jobs ≤ f.regions.tile_slots
   pub buffers : length f.buffers ≤ most_buffers
   pub code : AllByRecursion (λ b. FitsShader b.kind b.content) f.buffers
   pub contents : map length f.contents ≡ map (λ b. b.content) f.buffers
-  pub one_job : length f.jobs ≡ 1
+  pub some_job : 1 ≤ length f.jobs
+  pub few_jobs : length f.jobs ≤ most_jobs
   pub jobs : AllByRecursion IsJobWellFormed f.jobs
+
+-- the same file as version 2
+abbrev pub upgraded : FileModel → FileModel
+upgraded f = record { version = 2; mem_size = f.mem_size; regions = f.regions; buffers = f.buffers; contents = f.contents; jobs = f.jobs }
 
 -- The bytes are this file.
 pub record IsFileOf (bytes : List ℕ) (f : FileModel) : Type 0 where

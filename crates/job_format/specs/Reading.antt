@@ -10,7 +10,7 @@ use Rattle.buffer_table.specs.declared.buffer.Regions.{Regions}
 use Rattle.job_format.specs.declared.file.Surface.{Surface}
 use Rattle.job_format.specs.declared.file.Frame.{Frame}
 use Rattle.job_format.specs.Model.{JobModel, FileModel}
-use Rattle.job_format.specs.Offsets.{buffer_count, entry_offset, job_offset, content_size, content_offset, handles_offset, bin_offset, records_offset, uniforms_offset}
+use Rattle.job_format.specs.Offsets.{version_in, buffer_count, job_count, entry_offset, job_offset, job_word, content_size, content_offset, handles_offset, bin_offset, records_offset, uniforms_offset}
 
 -- n bytes from a place on
 abbrev pub cut : List ℕ → ℕ → ℕ → List ℕ
@@ -28,7 +28,7 @@ entry_at bytes at = record { place = u32_at bytes at; size = u32_at bytes (at + 
 unfoldable pub surface_at : List ℕ → ℕ → Surface
 surface_at bytes at = record { hindex = u32_at bytes at; offset = u32_at bytes (at + 4); bits = u16_at bytes (at + 8); flags = u16_at bytes (at + 10) }
 
--- at the job's entry
+-- at a job's entry
 unfoldable pub frame_at : List ℕ → ℕ → Frame
 frame_at bytes at = record {
   width = u16_at bytes (at + 28);
@@ -53,23 +53,26 @@ buffers_at bytes n = map (λ b. entry_at bytes (entry_offset b)) (range_with_len
 unfoldable pub contents_at : List ℕ → ℕ → List (List ℕ)
 contents_at bytes n = map (λ b. cut bytes (content_offset bytes b) (content_size bytes b)) (range_with_len 0 n)
 
-unfoldable pub job_at : List ℕ → JobModel
-job_at bytes = record {
-  client = u32_at bytes (job_offset bytes);
-  handles = words_at bytes (handles_offset bytes) (u32_at bytes (job_offset bytes + 8));
-  bin = cut bytes (bin_offset bytes) (u32_at bytes (job_offset bytes + 12));
-  records = cut bytes (records_offset bytes) (u32_at bytes (job_offset bytes + 16));
-  declared = u32_at bytes (job_offset bytes + 20);
-  uniforms = cut bytes (uniforms_offset bytes) (u32_at bytes (job_offset bytes + 24));
-  frame = frame_at bytes (job_offset bytes);
+unfoldable pub job_at : List ℕ → ℕ → JobModel
+job_at bytes j = record {
+  client = u32_at bytes (job_offset bytes j);
+  handles = words_at bytes (handles_offset bytes j) (job_word bytes j 8);
+  bin = cut bytes (bin_offset bytes j) (job_word bytes j 12);
+  records = cut bytes (records_offset bytes j) (job_word bytes j 16);
+  declared = job_word bytes j 20;
+  uniforms = cut bytes (uniforms_offset bytes j) (job_word bytes j 24);
+  frame = frame_at bytes (job_offset bytes j);
 }
+
+unfoldable pub jobs_at : List ℕ → ℕ → List JobModel
+jobs_at bytes n = map (job_at bytes) (range_with_len 0 n)
 
 unfoldable pub file_at : List ℕ → FileModel
 file_at bytes = record {
-  version = u32_at bytes 4;
+  version = version_in bytes;
   mem_size = u32_at bytes 8;
   regions = regions_at bytes;
   buffers = buffers_at bytes (buffer_count bytes);
   contents = contents_at bytes (buffer_count bytes);
-  jobs = job_at bytes ∷ [];
+  jobs = jobs_at bytes (job_count bytes);
 }

@@ -2,7 +2,7 @@
 use Rattle.std.specs.Prelude.{ℕ, List, ◌++◌, codes}
 use Rattle.std.specs.Fmt.{decimal}
 use Rattle.job_format.specs.declared.rule.FormatRule.{FormatRule}
-use Rattle.job_format.specs.declared.rule.FormatRule.TheVariants.{NotAJobFile, EndsEarly, BytesFollow, OverLimit, WithoutMeaning}
+use Rattle.job_format.specs.declared.rule.FormatRule.TheVariants.{NotAJobFile, EndsEarly, BytesFollow, OverLimit, WithoutMeaning, LacksSlots}
 use Rattle.job_format.specs.declared.rule.Stage.{Stage}
 use Rattle.job_format.specs.declared.rule.Stage.TheVariants.{F, M, S, H, B, A, U, G, X}
 use Rattle.job_format.specs.declared.rule.Rule.{Rule}
@@ -13,6 +13,7 @@ format_rule_number EndsEarly = 2
 format_rule_number BytesFollow = 3
 format_rule_number OverLimit = 4
 format_rule_number WithoutMeaning = 5
+format_rule_number LacksSlots = 7
 
 abbrev pub letter : Stage → List ℕ
 letter F = codes "F"

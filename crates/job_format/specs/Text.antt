@@ -1,8 +1,7 @@
--- The text of a job file of version 1: its parts, one after the other. All numbers are little
+-- The text of a job file: its parts, one after the other. All numbers are little
 -- endian.
 use Rattle.std.specs.Prelude.{ℕ, Bool, true, false, List, [], ◌∷◌, ◌++◌, length, codes}
 use Rattle.std.specs.List.{flat_map}
-use Rattle.std.specs.Int.{w16, w32, to_le_bytes}
 use Rattle.field_words.specs.Pieces.{joined}
 use Rattle.field_words.specs.WordBytes.{half, word}
 use Rattle.buffer_table.specs.declared.buffer.Kind.{Kind}

@@ -2,13 +2,14 @@
 ghost use Rattle.std.specs.Prelude.{◌≡◌, ◌+◌, ◌*◌, ◌++◌, ◌<◌, ◌≤◌, length, Some, IfNone};
 ghost use Rattle.field_words.specs.Words.{u32_at};
 ghost use Rattle.field_words.specs.Questions.{GoesOn, first_of, each};
-ghost use Rattle.job_format.specs.Faults.{header_questions, entry_questions, buffer_questions, job_questions, content_questions, parts_questions, rest_questions, job_and_rest_questions, body_questions, format_questions, fault};
+ghost use Rattle.job_format.specs.Faults.{is_version, is_miscounted, lacks_slots, header_questions, entry_questions, buffer_questions, job_entry_questions, job_questions, content_questions, parts_questions, end_questions, last_questions, rest_questions, jobs_and_rest_questions, body_questions, format_questions, fault};
 ghost use Rattle.job_format.specs.Whole.{HasHeader};
-ghost use Rattle.job_format.specs.Offsets.{header_size, entry_size, job_size, most_buffers, buffer_count, entry_offset, job_offset, content_size, content_offset, handles_offset};
+ghost use Rattle.job_format.specs.Offsets.{header_size, entry_size, job_size, most_buffers, most_jobs, buffer_count, job_count, entry_offset, job_offset, content_size, content_offset, handles_offset};
 
 use crate::rule::{FormatFault, FormatRule};
 use crate::sizes::{
-    ENTRY_SIZE, HEADER_SIZE, JOB_SIZE, MAGIC, MOST_BUFFERS, MOST_HANDLES, MOST_STATES, entry_offset,
+    ENTRY_SIZE, HEADER_SIZE, JOB_SIZE, MAGIC, MOST_JOBS, MOST_STATES, buffer_limit, entry_offset,
+    handle_limit, job_offset,
 };
 use crate::words::word;
 use field_words::{MOST_CODE, MOST_LIST};
@@ -28,12 +29,40 @@ fn fault(rule: FormatRule, offset: usize) -> Option<FormatFault>
     Some(fault_of(rule, offset))
 }
 
-/// The header: F2, F1 and F4.
+#[tactic(auto, unfolding(crate::specs::Faults::is_version))]
+fn is_version(version: u32) -> bool
+    ensures { result ≡ is_version version }
+{
+    version == 1 || version == 2
+}
+
+/// Whether a version has not this many jobs.
+#[tactic(auto, unfolding(crate::specs::Faults::is_miscounted))]
+fn is_miscounted(version: u32, jobs: u32) -> bool
+    ensures { result ≡ is_miscounted version jobs }
+{
+    if version == 1 {
+        jobs != 1
+    } else {
+        jobs == 0 || jobs > MOST_JOBS
+    }
+}
+
+/// Whether a job has no tile slot, though there are slots.
+#[tactic(auto, unfolding(crate::specs::Faults::lacks_slots))]
+fn lacks_slots(version: u32, slots: u32, jobs: u32) -> bool
+    ensures { result ≡ lacks_slots version slots jobs }
+{
+    version == 2 && slots != 0 && slots < jobs
+}
+
+/// The header: F2, F1, F4 and F7.
 #[tactic(auto, unfolding(crate::specs::Faults::header_questions))]
 fn header_fault(bytes: &[u8]) -> Option<FormatFault>
     ensures first { result ≡ first_of (header_questions bytes.now) }
     ensures inside { IfNone result (header_size ≤ length bytes.now) }
-    ensures few { IfNone result (buffer_count bytes.now ≤ most_buffers) }
+    ensures few_buffers { IfNone result (buffer_count bytes.now ≤ most_buffers) }
+    ensures few_jobs { IfNone result (job_count bytes.now ≤ most_jobs) }
 {
     if bytes.len() < HEADER_SIZE {
         return fault(FormatRule::EndsEarly, 0);
@@ -41,14 +70,19 @@ fn header_fault(bytes: &[u8]) -> Option<FormatFault>
     if word(bytes, 0) != MAGIC {
         return fault(FormatRule::NotAJobFile, 0);
     }
-    if word(bytes, 4) != 1 {
+    let version = word(bytes, 4);
+    if !is_version(version) {
         return fault(FormatRule::NotAJobFile, 4);
     }
-    if word(bytes, 28) > MOST_BUFFERS {
+    if word(bytes, 28) > buffer_limit(version) {
         return fault(FormatRule::OverLimit, 28);
     }
-    if word(bytes, 32) != 1 {
+    let jobs = word(bytes, 32);
+    if is_miscounted(version, jobs) {
         return fault(FormatRule::OverLimit, 32);
+    }
+    if lacks_slots(version, word(bytes, 24), jobs) {
+        return fault(FormatRule::LacksSlots, 24);
     }
     None
 }
@@ -73,11 +107,12 @@ fn entry_fault(bytes: &[u8], at: usize) -> Option<FormatFault>
     None
 }
 
-/// The job's entry: F2, F4 and F5.
-#[tactic(auto, unfolding(crate::specs::Faults::job_questions))]
-fn job_fault(bytes: &[u8], at: usize) -> Option<FormatFault>
+/// A job's entry: F2, F4 and F5.
+#[tactic(auto, unfolding(crate::specs::Faults::job_entry_questions))]
+fn job_entry_fault(bytes: &[u8], at: usize) -> Option<FormatFault>
+    requires header { header_size ≤ length bytes.now }
     requires before { at ≤ length bytes.now }
-    ensures first { result ≡ first_of (job_questions bytes.now at) }
+    ensures first { result ≡ first_of (job_entry_questions bytes.now at) }
     ensures inside { IfNone result (at + job_size ≤ length bytes.now) }
 {
     if bytes.len() - at < JOB_SIZE {
@@ -86,7 +121,7 @@ fn job_fault(bytes: &[u8], at: usize) -> Option<FormatFault>
     if word(bytes, at + 4) > 1 {
         return fault(FormatRule::WithoutMeaning, at + 4);
     }
-    if word(bytes, at + 8) > MOST_HANDLES {
+    if word(bytes, at + 8) > handle_limit(word(bytes, 4)) {
         return fault(FormatRule::OverLimit, at + 8);
     }
     if word(bytes, at + 12) > MOST_LIST {
@@ -127,14 +162,43 @@ fn buffer_fault(bytes: &[u8], b: usize) -> Option<FormatFault>
     entry_fault(bytes, entry_offset(b))
 }
 
-/// The entries of `count` buffers.
-fn buffers_fault(bytes: &[u8], count: usize) -> Option<FormatFault>
-    requires header { HasHeader bytes.now count }
-    ensures first { result ≡ first_of (each (buffer_questions bytes.now) 0 count) }
-    ensures inside { IfNone result (entry_offset count ≤ length bytes.now) }
+/// The entries of so many buffers.
+fn buffers_fault(bytes: &[u8], buffers: usize, jobs: usize) -> Option<FormatFault>
+    requires header { HasHeader bytes.now buffers jobs }
+    ensures first { result ≡ first_of (each (buffer_questions bytes.now) 0 buffers) }
+    ensures inside { IfNone result (entry_offset buffers ≤ length bytes.now) }
 {
-    for b in 0..count {
+    for b in 0..buffers {
         if let Some(fault) = buffer_fault(bytes, b) {
+            return Some(fault);
+        }
+    }
+    None
+}
+
+/// The entry of job `j`.
+#[tactic(auto, unfolding(crate::specs::Faults::job_questions))]
+fn job_fault(bytes: &[u8], buffers: usize, j: usize) -> Option<FormatFault>
+    requires header { header_size ≤ length bytes.now }
+    requires named { buffers ≡ buffer_count bytes.now }
+    requires few_buffers { buffers ≤ most_buffers }
+    requires few_jobs { j ≤ most_jobs }
+    requires before { job_offset bytes.now j ≤ length bytes.now }
+    ensures first { result ≡ first_of (job_questions bytes.now j) }
+    ensures inside { IfNone result (job_offset bytes.now j + job_size ≤ length bytes.now) }
+{
+    job_entry_fault(bytes, job_offset(buffers, j))
+}
+
+/// The entries of so many jobs.
+fn jobs_fault(bytes: &[u8], buffers: usize, jobs: usize) -> Option<FormatFault>
+    requires header { HasHeader bytes.now buffers jobs }
+    requires before { entry_offset buffers ≤ length bytes.now }
+    ensures first { result ≡ first_of (each (job_questions bytes.now) 0 jobs) }
+    ensures inside { IfNone result (job_offset bytes.now jobs ≤ length bytes.now) }
+{
+    for j in 0..jobs {
+        if let Some(fault) = job_fault(bytes, buffers, j) {
             return Some(fault);
         }
     }
@@ -168,14 +232,14 @@ fn content_fault(bytes: &[u8], b: usize, at: usize) -> Result<usize, FormatFault
 }
 
 /// The contents of the buffers, and the offset where they end.
-fn contents_fault(bytes: &[u8], count: usize) -> Result<usize, FormatFault>
-    requires header { HasHeader bytes.now count }
-    requires before { entry_offset count + job_size ≤ length bytes.now }
-    ensures { GoesOn (each (content_questions bytes.now) 0 count)
-        (λ end. (end ≡ handles_offset bytes.now) × (end ≤ length bytes.now)) result }
+fn contents_fault(bytes: &[u8], buffers: usize, jobs: usize) -> Result<usize, FormatFault>
+    requires header { HasHeader bytes.now buffers jobs }
+    requires before { job_offset bytes.now jobs ≤ length bytes.now }
+    ensures { GoesOn (each (content_questions bytes.now) 0 buffers)
+        (λ end. (end ≡ handles_offset bytes.now 0) × (end ≤ length bytes.now)) result }
 {
-    let mut at = entry_offset(count) + JOB_SIZE;
-    for b in 0..count {
+    let mut at = job_offset(buffers, jobs);
+    for b in 0..buffers {
         match content_fault(bytes, b, at) {
             Ok(end) => at = end,
             Err(fault) => return Err(fault),
@@ -184,87 +248,138 @@ fn contents_fault(bytes: &[u8], count: usize) -> Result<usize, FormatFault>
     Ok(at)
 }
 
-/// The handles, the binner list, the records and the uniforms, which begin at `at`, and the end of
-/// the file.
-#[tactic(auto, unfolding(crate::specs::Faults::parts_questions, crate::specs::Offsets::bin_offset, crate::specs::Offsets::records_offset, crate::specs::Offsets::uniforms_offset, crate::specs::Offsets::end_offset))]
-fn parts_fault(bytes: &[u8], job: usize, at: usize) -> Option<FormatFault>
-    requires job { job ≡ job_offset bytes.now }
-    requires here { at ≡ handles_offset bytes.now }
-    requires entry { job + job_size ≤ length bytes.now }
+/// The handles, the binner list, the records and the uniforms of job `j`, which begin at `at`, and
+/// the offset where they end.
+#[tactic(auto, unfolding(crate::specs::Faults::parts_questions, crate::specs::Offsets::bin_offset, crate::specs::Offsets::records_offset, crate::specs::Offsets::uniforms_offset, crate::specs::Offsets::end_offset), using(crate::proofs::Standing::handles_offset_step))]
+fn parts_fault(bytes: &[u8], buffers: usize, j: usize, at: usize) -> Result<usize, FormatFault>
+    requires named { buffers ≡ buffer_count bytes.now }
+    requires few_buffers { buffers ≤ most_buffers }
+    requires few_jobs { j < most_jobs }
+    requires here { at ≡ handles_offset bytes.now j }
+    requires entry { job_offset bytes.now j + job_size ≤ length bytes.now }
     requires before { at ≤ length bytes.now }
-    ensures { result ≡ first_of (parts_questions bytes.now) }
+    ensures { GoesOn (parts_questions bytes.now j)
+        (λ end. (end ≡ handles_offset bytes.now (j + 1)) × (end ≤ length bytes.now)) result }
 {
+    let job = job_offset(buffers, j);
     let handles = 4 * word(bytes, job + 8) as usize;
     if bytes.len() - at < handles {
-        return fault(FormatRule::EndsEarly, at);
+        return Err(fault_of(FormatRule::EndsEarly, at));
     }
     let at = at + handles;
     let bin = word(bytes, job + 12) as usize;
     if bytes.len() - at < bin {
-        return fault(FormatRule::EndsEarly, at);
+        return Err(fault_of(FormatRule::EndsEarly, at));
     }
     let at = at + bin;
     let records = word(bytes, job + 16) as usize;
     if bytes.len() - at < records {
-        return fault(FormatRule::EndsEarly, at);
+        return Err(fault_of(FormatRule::EndsEarly, at));
     }
     let at = at + records;
     let uniforms = word(bytes, job + 24) as usize;
     if bytes.len() - at < uniforms {
-        return fault(FormatRule::EndsEarly, at);
+        return Err(fault_of(FormatRule::EndsEarly, at));
     }
-    let end = at + uniforms;
-    if end < bytes.len() {
-        return fault(FormatRule::BytesFollow, end);
+    Ok(at + uniforms)
+}
+
+/// The parts of the jobs, which begin at `at`, and the offset where they end.
+fn all_parts_fault(
+    bytes: &[u8],
+    buffers: usize,
+    jobs: usize,
+    at: usize,
+) -> Result<usize, FormatFault>
+    requires header { HasHeader bytes.now buffers jobs }
+    requires here { at ≡ handles_offset bytes.now 0 }
+    requires entries { job_offset bytes.now jobs ≤ length bytes.now }
+    requires before { at ≤ length bytes.now }
+    ensures { GoesOn (each (parts_questions bytes.now) 0 jobs)
+        (λ end. (end ≡ handles_offset bytes.now jobs) × (end ≤ length bytes.now)) result }
+{
+    let mut at = at;
+    for j in 0..jobs {
+        match parts_fault(bytes, buffers, j, at) {
+            Ok(end) => at = end,
+            Err(fault) => return Err(fault),
+        }
+    }
+    Ok(at)
+}
+
+/// The end of the file, where the parts end at `at`.
+#[tactic(auto, unfolding(crate::specs::Faults::end_questions))]
+fn end_fault(bytes: &[u8], at: usize) -> Option<FormatFault>
+    requires here { at ≡ handles_offset bytes.now (job_count bytes.now) }
+    ensures { result ≡ first_of (end_questions bytes.now) }
+{
+    if at < bytes.len() {
+        return fault(FormatRule::BytesFollow, at);
     }
     None
 }
 
-/// The contents of the buffers, and the parts after them.
+/// The parts of the jobs, which begin at `at`, and the end of the file.
 #[tactic(auto, using(field_words::proofs::Questions::passes, field_words::proofs::Questions::stops))]
-fn rest_fault(bytes: &[u8], count: usize) -> Option<FormatFault>
-    requires header { HasHeader bytes.now count }
-    requires before { entry_offset count + job_size ≤ length bytes.now }
-    ensures { result ≡ first_of (rest_questions bytes.now) }
+fn last_fault(bytes: &[u8], buffers: usize, jobs: usize, at: usize) -> Option<FormatFault>
+    requires header { HasHeader bytes.now buffers jobs }
+    requires here { at ≡ handles_offset bytes.now 0 }
+    requires entries { job_offset bytes.now jobs ≤ length bytes.now }
+    requires before { at ≤ length bytes.now }
+    ensures { result ≡ first_of (last_questions bytes.now) }
 {
-    match contents_fault(bytes, count) {
+    match all_parts_fault(bytes, buffers, jobs, at) {
         Err(fault) => Some(fault),
-        Ok(at) => parts_fault(bytes, entry_offset(count), at),
+        Ok(end) => end_fault(bytes, end),
     }
 }
 
-/// The job's entry, and what follows it.
+/// The contents of the buffers, and the parts after them.
 #[tactic(auto, using(field_words::proofs::Questions::passes, field_words::proofs::Questions::stops))]
-fn job_and_rest_fault(bytes: &[u8], count: usize) -> Option<FormatFault>
-    requires header { HasHeader bytes.now count }
-    requires before { entry_offset count ≤ length bytes.now }
-    ensures { result ≡ first_of (job_and_rest_questions bytes.now) }
+fn rest_fault(bytes: &[u8], buffers: usize, jobs: usize) -> Option<FormatFault>
+    requires header { HasHeader bytes.now buffers jobs }
+    requires before { job_offset bytes.now jobs ≤ length bytes.now }
+    ensures { result ≡ first_of (rest_questions bytes.now) }
 {
-    match job_fault(bytes, entry_offset(count)) {
+    match contents_fault(bytes, buffers, jobs) {
+        Err(fault) => Some(fault),
+        Ok(at) => last_fault(bytes, buffers, jobs, at),
+    }
+}
+
+/// The jobs' entries, and what follows them.
+#[tactic(auto, using(field_words::proofs::Questions::passes, field_words::proofs::Questions::stops))]
+fn jobs_and_rest_fault(bytes: &[u8], buffers: usize, jobs: usize) -> Option<FormatFault>
+    requires header { HasHeader bytes.now buffers jobs }
+    requires before { entry_offset buffers ≤ length bytes.now }
+    ensures { result ≡ first_of (jobs_and_rest_questions bytes.now) }
+{
+    match jobs_fault(bytes, buffers, jobs) {
         Some(fault) => Some(fault),
-        None => rest_fault(bytes, count),
+        None => rest_fault(bytes, buffers, jobs),
     }
 }
 
 /// The buffers' entries, and what follows them.
 #[tactic(auto, using(field_words::proofs::Questions::passes, field_words::proofs::Questions::stops))]
-fn body_fault(bytes: &[u8], count: usize) -> Option<FormatFault>
-    requires header { HasHeader bytes.now count }
+fn body_fault(bytes: &[u8], buffers: usize, jobs: usize) -> Option<FormatFault>
+    requires header { HasHeader bytes.now buffers jobs }
     ensures { result ≡ first_of (body_questions bytes.now) }
 {
-    match buffers_fault(bytes, count) {
+    match buffers_fault(bytes, buffers, jobs) {
         Some(fault) => Some(fault),
-        None => job_and_rest_fault(bytes, count),
+        None => jobs_and_rest_fault(bytes, buffers, jobs),
     }
 }
 
-/// The first of F1 to F5.
+/// The first of F1 to F5 and F7.
 #[tactic(auto, unfolding(crate::specs::Faults::format_questions), using(field_words::proofs::Questions::passes, field_words::proofs::Questions::stops))]
 pub(crate) fn format_fault(bytes: &[u8]) -> Option<FormatFault>
     ensures { result ≡ first_of (format_questions bytes.now) }
 {
     match header_fault(bytes) {
         Some(fault) => Some(fault),
-        None => body_fault(bytes, word(bytes, 28) as usize),
+        None => body_fault(bytes, word(bytes, 28) as usize, word(bytes, 32) as usize),
     }
 }

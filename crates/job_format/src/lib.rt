@@ -1,4 +1,4 @@
-//! The job file: its bytes, its values, and the rules of its format.
+//! The job file, of version 1 and 2: its bytes, its values, and the rules of its format.
 #![tactic(auto)]
 
 mod faults;
@@ -6,13 +6,18 @@ mod file;
 mod reading;
 mod rule;
 mod sizes;
+mod upgrade;
 mod words;
 mod writing;
 
 pub use file::{Frame, Job, JobFile, Surface};
 pub use reading::read_job;
 pub use rule::{FormatFault, FormatRule, Refusal, Rule, Stage};
-pub use sizes::{ENTRY_SIZE, HEADER_SIZE, JOB_SIZE, MOST_BUFFERS, MOST_HANDLES, MOST_STATES};
+pub use sizes::{
+    ENTRY_SIZE, HEADER_SIZE, JOB_SIZE, MOST_BUFFERS, MOST_FIRST, MOST_HANDLES, MOST_JOBS,
+    MOST_STATES,
+};
+pub use upgrade::upgrade_file;
 pub use writing::{one_file_a_text, write_job};
 
 #[cfg(test)]

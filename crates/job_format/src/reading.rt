@@ -5,14 +5,14 @@ ghost use Rattle.field_words.specs.Questions.{first_of, Answers, NamesFirst, Nev
 ghost use Rattle.job_format.specs.Faults.{format_questions};
 ghost use Rattle.job_format.specs.File.{IsFileOf, Reads};
 ghost use Rattle.job_format.specs.Model.{FileModel, job_view, file_view};
-ghost use Rattle.job_format.specs.Offsets.{header_size, entry_size, job_size, most_buffers, buffer_count, entry_offset, job_offset, content_offset, handles_offset, bin_offset, records_offset, uniforms_offset, end_offset};
-ghost use Rattle.job_format.specs.Whole.{HasHeader, HasParts};
-ghost use Rattle.job_format.specs.Reading.{cut, regions_at, entry_at, surface_at, frame_at, kind_of, words_at, buffers_at, contents_at, job_at, file_at};
+ghost use Rattle.job_format.specs.Offsets.{header_size, entry_size, job_size, most_buffers, most_handles, most_jobs, buffer_count, job_count, entry_offset, job_offset, job_word, content_offset, handles_offset, bin_offset, records_offset, uniforms_offset, end_offset};
+ghost use Rattle.job_format.specs.Whole.{HasParts};
+ghost use Rattle.job_format.specs.Reading.{cut, regions_at, entry_at, surface_at, frame_at, kind_of, words_at, buffers_at, contents_at, job_at, jobs_at, file_at};
 
 use crate::faults::{content_size, format_fault};
 use crate::file::{Frame, Job, JobFile, Surface};
 use crate::rule::FormatFault;
-use crate::sizes::{JOB_SIZE, entry_offset};
+use crate::sizes::{entry_offset, job_offset};
 use crate::words::{half, word};
 use buffer_table::{Buffer, Kind, Regions};
 use field_words::Stop;
@@ -65,7 +65,7 @@ fn surface(bytes: &[u8], at: usize) -> Surface
     }
 }
 
-/// The frame in the job's entry, which begins at `at`.
+/// The frame in a job's entry, which begins at `at`.
 #[tactic(auto, unfolding(crate::specs::Reading::frame_at))]
 fn frame(bytes: &[u8], at: usize) -> Frame
     requires inside { at + job_size ≤ length bytes.now }
@@ -96,7 +96,7 @@ fn frame(bytes: &[u8], at: usize) -> Frame
 /// `count` words from `at` on.
 #[tactic(auto, using(crate::proofs::Listed::words_none, crate::proofs::Listed::words_more))]
 fn words(alloc: Global, bytes: &[u8], at: usize, count: usize) -> Result<Vec<u32>, AllocError>
-    requires few { count ≤ 64 }
+    requires few { count ≤ most_handles }
     requires inside { at + 4 * count ≤ length bytes.now }
     ensures { IfOk result (λ v. v.items ≡ words_at bytes.now at count) }
 {
@@ -110,7 +110,7 @@ fn words(alloc: Global, bytes: &[u8], at: usize, count: usize) -> Result<Vec<u32
 /// The entries of `count` buffers.
 #[tactic(auto, using(crate::proofs::Listed::buffers_none, crate::proofs::Listed::buffers_more))]
 fn buffers(alloc: Global, bytes: &[u8], count: usize) -> Result<Vec<Buffer>, AllocError>
-    requires few { count ≤ 64 }
+    requires few { count ≤ most_buffers }
     requires inside { entry_offset count ≤ length bytes.now }
     ensures { IfOk result (λ v. v.items ≡ buffers_at bytes.now count) }
 {
@@ -129,18 +129,21 @@ fn bytes_at(alloc: Global, bytes: &[u8], at: usize, size: usize) -> Result<Vec<u
     Ok(Vec::from_slice(alloc, &bytes[at..at + size])?)
 }
 
-/// The contents of `count` buffers, one after the other, and the offset where they end.
-#[tactic(auto, using(crate::proofs::Listed::contents_none, crate::proofs::Listed::contents_more, crate::proofs::Standing::content_offset_step, crate::proofs::Standing::content_offset_first, crate::proofs::Standing::content_ends))]
-fn contents(alloc: Global, bytes: &[u8], count: usize) -> Result<(Vec<Vec<u8>>, usize), AllocError>
-    requires header { HasHeader bytes.now count }
-    requires entries { entry_offset count + job_size ≤ length bytes.now }
-    requires inside { content_offset bytes.now count ≤ length bytes.now }
-    ensures values { IfOk result (λ v. map (λ c. c.items) v.0.items ≡ contents_at bytes.now count) }
-    ensures end { IfOk result (λ v. v.1 ≡ content_offset bytes.now count) }
+/// The contents of so many buffers, one after the other, and the offset where they end.
+#[tactic(auto, using(crate::proofs::Listed::contents_none, crate::proofs::Standing::content_offset_first, crate::proofs::Standing::handles_offset_first))]
+fn contents(
+    alloc: Global,
+    bytes: &[u8],
+    buffers: usize,
+    jobs: usize,
+) -> Result<(Vec<Vec<u8>>, usize), AllocError>
+    requires whole { HasParts bytes.now buffers jobs }
+    ensures values { IfOk result (λ v. map (λ c. c.items) v.0.items ≡ contents_at bytes.now buffers) }
+    ensures end { IfOk result (λ v. v.1 ≡ handles_offset bytes.now 0) }
 {
     let mut contents = Vec::new(alloc);
-    let mut at = entry_offset(count) + JOB_SIZE;
-    for b in 0..count {
+    let mut at = job_offset(buffers, jobs);
+    for b in 0..buffers {
         let size = content_size(bytes, b);
         contents.push(bytes_at(alloc, bytes, at, size)?)?;
         at += size;
@@ -148,14 +151,26 @@ fn contents(alloc: Global, bytes: &[u8], count: usize) -> Result<(Vec<Vec<u8>>, 
     Ok((contents, at))
 }
 
-/// The job, whose entry begins at `at` and whose parts begin at `handles`.
-#[tactic(auto, unfolding(crate::specs::Reading::job_at, crate::specs::Offsets::bin_offset, crate::specs::Offsets::records_offset, crate::specs::Offsets::uniforms_offset, crate::specs::Offsets::end_offset))]
-fn job(alloc: Global, bytes: &[u8], at: usize, handles: usize) -> Result<Job, AllocError>
-    requires whole { HasParts bytes.now }
-    requires entry { at ≡ job_offset bytes.now }
-    requires parts { handles ≡ handles_offset bytes.now }
-    ensures { IfOk result (λ j. job_view j ≡ job_at bytes.now) }
+/// Job `j`, whose parts begin at `handles`, and the offset where they end.
+#[tactic(auto, unfolding(crate::specs::Reading::job_at, crate::specs::Offsets::bin_offset, crate::specs::Offsets::records_offset, crate::specs::Offsets::uniforms_offset, crate::specs::Offsets::end_offset), using(crate::proofs::Standing::handles_offset_step))]
+fn job(
+    alloc: Global,
+    bytes: &[u8],
+    buffers: usize,
+    j: usize,
+    handles: usize,
+) -> Result<(Job, usize), AllocError>
+    requires named { buffers ≡ buffer_count bytes.now }
+    requires few_buffers { buffers ≤ most_buffers }
+    requires few_jobs { j < most_jobs }
+    requires entry { job_offset bytes.now j + job_size ≤ length bytes.now }
+    requires few_handles { job_word bytes.now j 8 ≤ most_handles }
+    requires here { handles ≡ handles_offset bytes.now j }
+    requires inside { handles_offset bytes.now (j + 1) ≤ length bytes.now }
+    ensures value { IfOk result (λ v. job_view v.0 ≡ job_at bytes.now j) }
+    ensures end { IfOk result (λ v. v.1 ≡ handles_offset bytes.now (j + 1)) }
 {
+    let at = job_offset(buffers, j);
     let count = word(bytes, at + 8) as usize;
     let bin = handles + 4 * count;
     let bin_size = word(bytes, at + 12) as usize;
@@ -163,7 +178,7 @@ fn job(alloc: Global, bytes: &[u8], at: usize, handles: usize) -> Result<Job, Al
     let records_size = word(bytes, at + 16) as usize;
     let uniforms = records + records_size;
     let uniforms_size = word(bytes, at + 24) as usize;
-    Ok(Job {
+    let job = Job {
         client: word(bytes, at),
         handles: words(alloc, bytes, handles, count)?,
         bin: bytes_at(alloc, bytes, bin, bin_size)?,
@@ -171,27 +186,48 @@ fn job(alloc: Global, bytes: &[u8], at: usize, handles: usize) -> Result<Job, Al
         declared: word(bytes, at + 20),
         uniforms: bytes_at(alloc, bytes, uniforms, uniforms_size)?,
         frame: frame(bytes, at),
-    })
+    };
+    Ok((job, uniforms + uniforms_size))
+}
+
+/// So many jobs, the parts of the first beginning at `handles`.
+fn jobs(
+    alloc: Global,
+    bytes: &[u8],
+    buffers: usize,
+    jobs: usize,
+    handles: usize,
+) -> Result<Vec<Job>, AllocError>
+    requires whole { HasParts bytes.now buffers jobs }
+    requires here { handles ≡ handles_offset bytes.now 0 }
+    ensures { IfOk result (λ v. map job_view v.items ≡ jobs_at bytes.now jobs) }
+{
+    let mut read = Vec::new(alloc);
+    let mut at = handles;
+    for j in 0..jobs {
+        let (job, end) = job(alloc, bytes, buffers, j, at)?;
+        read.push(job)?;
+        at = end;
+    }
+    Ok(read)
 }
 
 /// The file that the bytes are.
-#[tactic(auto, unfolding(crate::specs::Reading::file_at, crate::specs::Offsets::handles_offset), using(crate::proofs::Standing::handles_inside, crate::proofs::Passing::has_parts, crate::proofs::Entries::buffer_piece, crate::proofs::Fitting::is_file, crate::proofs::Only::only_file, crate::proofs::Nones::format_none))]
+#[tactic(auto, unfolding(crate::specs::Reading::file_at))]
 pub(crate) fn file_of(alloc: Global, bytes: &[u8]) -> Result<JobFile, AllocError>
-    requires whole { HasParts bytes.now }
+    requires whole { HasParts bytes.now (buffer_count bytes.now) (job_count bytes.now) }
     ensures { IfOk result (λ f. file_view f ≡ file_at bytes.now) }
 {
     let count = word(bytes, 28) as usize;
-    let at = entry_offset(count);
-    let (contents, handles) = contents(alloc, bytes, count)?;
-    let mut jobs = Vec::new(alloc);
-    jobs.push(job(alloc, bytes, at, handles)?)?;
+    let job_count = word(bytes, 32) as usize;
+    let (contents, handles) = contents(alloc, bytes, count, job_count)?;
     Ok(JobFile {
         version: word(bytes, 4),
         mem_size: word(bytes, 8),
         regions: regions(bytes),
         buffers: buffers(alloc, bytes, count)?,
         contents,
-        jobs,
+        jobs: jobs(alloc, bytes, count, job_count, handles)?,
     })
 }
 
@@ -206,7 +242,8 @@ fn file(alloc: Global, bytes: &[u8]) -> Result<JobFile, Stop<FormatFault>>
     }
 }
 
-/// Reads a job file. The fault is the first of F1 to F5, part by part and in a part by field. Finding
+/// Reads a job file of either version. The fault is the first of F1 to F5 and F7, part by part and in
+/// a part by field. Finding
 /// it takes no memory.
 pub fn read_job(alloc: Global, bytes: &[u8]) -> Result<JobFile, Stop<FormatFault>>
     // Which fault it is, and the fields of the file.

@@ -39,16 +39,18 @@ pub struct Refusal {
 /// The rules of the format.
 #[derive(Clone, Copy, Debug, PartialEq, Eq)]
 pub enum FormatRule {
-    /// The first four bytes aren't `VC4J`, or the version isn't 1.
+    /// The first four bytes aren't `VC4J`, or the version is neither 1 nor 2.
     NotAJobFile,
     /// The file ends before the part's end.
     EndsEarly,
     /// Bytes follow the last part.
     BytesFollow,
-    /// A number is over its limit.
+    /// A number is over the limit of its version, or there is no job.
     OverLimit,
     /// A field holds what has no meaning.
     WithoutMeaning,
+    /// There are tile slots, in version 2, but fewer than jobs.
+    LacksSlots,
 }
 
 impl FormatRule {
@@ -62,17 +64,19 @@ impl FormatRule {
             FormatRule::BytesFollow => 3,
             FormatRule::OverLimit => 4,
             FormatRule::WithoutMeaning => 5,
+            FormatRule::LacksSlots => 7,
         }
     }
 
     /// What the rule says.
     pub fn sentence(self) -> &'static str {
         match self {
-            FormatRule::NotAJobFile => "the letters VC4J or the version 1 are missing",
+            FormatRule::NotAJobFile => "the letters VC4J or the version 1 or 2 are missing",
             FormatRule::EndsEarly => "the file ends before the part's end",
             FormatRule::BytesFollow => "bytes follow the last part",
             FormatRule::OverLimit => "the number is over its limit",
             FormatRule::WithoutMeaning => "the field holds what has no meaning",
+            FormatRule::LacksSlots => "a job has no tile slot",
         }
     }
 }
@@ -94,6 +98,7 @@ impl FormatFault {
             3 => FormatRule::BytesFollow.sentence(),
             4 => FormatRule::OverLimit.sentence(),
             5 => FormatRule::WithoutMeaning.sentence(),
+            7 => FormatRule::LacksSlots.sentence(),
             _ => "there is no rule of this number",
         }
     }

@@ -9,6 +9,7 @@ ghost use Rattle.job_format.specs.Text.{kind_number, header_text, buffer_text, s
 ghost use Rattle.field_words.specs.Questions.{first_of};
 ghost use Rattle.job_format.specs.Faults.{format_questions};
 ghost use Rattle.job_format.specs.Reading.{file_at};
+ghost use Rattle.job_format.specs.Offsets.{most_buffers, most_jobs};
 ghost use Rattle.job_format.specs.File.{HeaderFits, BufferFits, SurfaceFits, FrameFits, JobEntryFits, JobPartsFit, Fits, IsJobWellFormed, IsWellFormed, IsFileOf};
 
 use crate::file::{Frame, Job, JobFile, Surface};
@@ -45,8 +46,8 @@ fn put_bytes(out: &mut Vec<u8>, bytes: &[u8]) -> Result<(), AllocError>
 
 #[tactic(auto, unfolding(crate::specs::Text::header_text))]
 fn put_header(out: &mut Vec<u8>, file: &JobFile) -> Result<(), AllocError>
-    requires buffers { length file.now.buffers.items ≤ 64 }
-    requires jobs { length file.now.jobs.items ≤ 64 }
+    requires buffers { length file.now.buffers.items ≤ most_buffers }
+    requires jobs { length file.now.jobs.items ≤ most_jobs }
     ensures text { OnOk result (out.new.items ≡ out.old.items ++ header_text (file_view file.now)) }
     ensures fits { HeaderFits (file_view file.now) }
 {

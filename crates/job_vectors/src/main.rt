@@ -1,7 +1,7 @@
 //! Checks many job files in one process: an example of how a program of one's own uses the library.
 //!
 //! The input is a row of job files, each behind its length in bytes (four bytes, little endian). For each one a line is
-//! printed: `accepted` with the lengths of the emitted binner list, records, uniforms and renderer list, or the refusal as
+//! printed: `accepted` with the lengths of the emitted binner list, records, uniforms and renderer list of each job, or the refusal as
 //! `vc4check check` prints it. A length that goes past the input ends the reading.
 //!
 //! The exit status is 0 (done), 3 (reading failed), 4 (writing failed), 5 (want of memory) or 6 (more input than the

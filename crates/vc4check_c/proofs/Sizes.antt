@@ -1,5 +1,5 @@
 -- The size in the header of an accepted file is that of its memory, and what else is known of it.
-use Rattle.std.proofs.Common.{◌≡◌, ℕ, ◌<◌, ◌≤◌, ◌%◌, ◌+◌, ◌++◌, List, length, None, ap, subst, arith, ◌∙◌, refl}
+use Rattle.std.proofs.Common.{◌≡◌, ℕ, ◌<◌, ◌≤◌, ◌%◌, ◌+◌, ◌++◌, List, length, get_or, None, ap, subst, sym, arith, ◌∙◌, refl}
 use Rattle.std.proofs.lemmas.List.{length-append}
 use Rattle.std.specs.List.{flat_map}
 use Rattle.field_words.specs.Words.{u32_at}
@@ -12,12 +12,15 @@ use Rattle.job_format.specs.File.{IsFileOf}
 use Rattle.job_format.specs.Reading.{file_at}
 use Rattle.relocation.specs.declared.layout.Layout.{Layout}
 use Rattle.relocation.specs.declared.layout.Lengths.{Lengths}
-use Rattle.job_check.specs.Jobs.{layout_of}
+use Rattle.job_check.specs.Jobs.{layout_of, layouts_of}
 use Rattle.job_check.specs.Emit.{memory_of, IsEmitted, IsPlaced}
 use Rattle.job_check.specs.Whole.{refusal_of}
 use Rattle.vc4check_c.specs.declared.job.JobAnswer.{JobAnswer}
 use Rattle.vc4check_c.specs.Asked.{asked_size, size_unless}
-use Rattle.vc4check_c.specs.Job.{accepted_answer, IsAccepted}
+use Rattle.vc4check_c.specs.declared.jobs.JobsAnswer.{JobsAnswer}
+use Rattle.vc4check_c.specs.Job.{accepted_answer, IsSound, IsAccepted}
+use Rattle.vc4check_c.specs.Jobs.{accepted_jobs, AreAccepted}
+use Rattle.job_check.proofs.Counted.{as_many_layouts, as_many_lengths, first_layout, first_lengths}
 
 header_long : (f : FileModel) → length (header_text f) ≡ 36
 unfolding header_text
@@ -38,26 +41,60 @@ asked_is : (bytes : List ℕ) → 12 ≤ length bytes → first_of (memory_quest
 unfolding asked_size
 asked_is bytes long none = grind (arith, long, none)
 
-accepted_size : (bytes memory : List ℕ) (layout : Layout) → IsFileOf bytes (file_at bytes) → IsPlaced memory layout
+accepted_size : (bytes memory : List ℕ) (layouts : List Layout) → IsFileOf bytes (file_at bytes) → IsPlaced memory layouts
     → length memory ≡ (file_at bytes).mem_size → length memory ≡ asked_size bytes
 unfolding file_at
-accepted_size bytes memory layout spelled placed size =
+accepted_size bytes memory layouts spelled placed size =
     size ∙ asked_is bytes (header_inside bytes (file_at bytes) spelled.text)
     (subst (λ n. first_of (memory_questions n) ≡ None) size (may_be_size (length memory) placed.not_empty placed.pages placed.limit))
 
--- What is known of an accepted job, from what the check of its bytes ensures.
-pub is_accepted : (bytes memory : List ℕ) (layout : Layout) (lengths : Lengths) (answer : JobAnswer)
-    → refusal_of bytes ≡ None → IsFileOf bytes (file_at bytes) → IsEmitted (file_at bytes) memory layout lengths → IsPlaced memory layout
-    → length memory ≡ (file_at bytes).mem_size → answer ≡ accepted_answer (length memory) layout lengths → IsAccepted bytes answer
-is_accepted bytes memory layout lengths answer none spelled emitted placed size told =
-    record {
-      none_stands = none;
-      spelled = spelled;
-      asked = subst (λ m. length m ≡ asked_size bytes) emitted.memory_is (accepted_size bytes memory layout spelled placed size);
-      placed = subst (λ l. IsPlaced (memory_of (file_at bytes)) l) emitted.layout_is (subst (λ m. IsPlaced m layout) emitted.memory_is placed);
+-- What the check of bytes ensures of an accepted file: the file's memory, layouts and lengths.
+pub record IsChecked (bytes memory : List ℕ) (layouts : List Layout) (lengths : List Lengths) : Type 0 where
+  pub none : refusal_of bytes ≡ None
+  pub spelled : IsFileOf bytes (file_at bytes)
+  pub emitted : IsEmitted (file_at bytes) memory layouts lengths
+  pub placed : IsPlaced memory layouts
+  pub size : length memory ≡ (file_at bytes).mem_size
+
+sound : (bytes memory : List ℕ) (layouts : List Layout) (lengths : List Lengths) → IsChecked bytes memory layouts lengths → IsSound bytes
+sound bytes memory layouts lengths is = record {
+  none_stands = is.none;
+  spelled = is.spelled;
+  asked = subst (λ m. length m ≡ asked_size bytes) is.emitted.memory_is (accepted_size bytes memory layouts is.spelled is.placed is.size);
+  placed = subst (λ l. IsPlaced (memory_of (file_at bytes)) l) is.emitted.layouts_are (subst (λ m. IsPlaced m layouts) is.emitted.memory_is is.placed);
+}
+
+-- There are layouts, and as many lengths, of at most eight jobs.
+pub some_layouts : (bytes memory : List ℕ) (layouts : List Layout) (lengths : List Lengths) → IsFileOf bytes (file_at bytes) → IsEmitted (file_at bytes) memory layouts lengths
+    → (1 ≤ length layouts) × (length lengths ≡ length layouts) × (length layouts ≤ 8)
+some_layouts bytes memory layouts lengths spelled emitted =
+    let f = file_at bytes in
+    let long : length layouts ≡ length f.jobs = ap length emitted.layouts_are ∙ as_many_layouts f in
+    let same : length lengths ≡ length f.jobs = ap length emitted.lengths_are ∙ as_many_lengths f in
+    (omega (arith, long, spelled.well_formed.some_job), same ∙ sym long, omega (arith, long, spelled.well_formed.few_jobs))
+
+-- What is told of an accepted file's first job, and of all.
+pub is_accepted : (bytes memory : List ℕ) (layouts : List Layout) (lengths : List Lengths) (none : Layout) (no_lengths : Lengths) (answer : JobAnswer)
+    → IsChecked bytes memory layouts lengths → answer ≡ accepted_answer (length memory) (get_or layouts 0 none) (get_or lengths 0 no_lengths) → IsAccepted bytes answer
+is_accepted bytes memory layouts lengths none no_lengths answer is told =
+    let f = file_at bytes in
+    let some = is.spelled.well_formed.some_job in record {
+      sound = sound bytes memory layouts lengths is;
       told =
           told
-          ∙ ap (λ m. accepted_answer (length m) layout lengths) emitted.memory_is
-          ∙ ap (λ l. accepted_answer (length (memory_of (file_at bytes))) l lengths) emitted.layout_is
-          ∙ ap (accepted_answer (length (memory_of (file_at bytes))) (layout_of (file_at bytes) 0)) emitted.lengths_are;
+          ∙ ap (λ m. accepted_answer (length m) (get_or layouts 0 none) (get_or lengths 0 no_lengths)) is.emitted.memory_is
+          ∙ ap (λ l. accepted_answer (length (memory_of f)) l (get_or lengths 0 no_lengths)) (ap (λ ls. get_or ls 0 none) is.emitted.layouts_are ∙ first_layout f none some)
+          ∙ ap (accepted_answer (length (memory_of f)) (layout_of f 0)) (ap (λ ls. get_or ls 0 no_lengths) is.emitted.lengths_are ∙ first_lengths f no_lengths some);
+    }
+
+pub are_accepted : (bytes memory : List ℕ) (layouts : List Layout) (lengths : List Lengths) (answer : JobsAnswer)
+    → IsChecked bytes memory layouts lengths → answer ≡ accepted_jobs (length memory) layouts lengths → AreAccepted bytes answer
+are_accepted bytes memory layouts lengths answer is told =
+    let f = file_at bytes in record {
+      sound = sound bytes memory layouts lengths is;
+      told =
+          told
+          ∙ ap (λ m. accepted_jobs (length m) layouts lengths) is.emitted.memory_is
+          ∙ ap (λ l. accepted_jobs (length (memory_of f)) l lengths) is.emitted.layouts_are
+          ∙ ap (accepted_jobs (length (memory_of f)) (layouts_of f)) is.emitted.lengths_are;
     }

@@ -9,7 +9,7 @@ use Rattle.job_format.specs.Reading.{file_at}
 use Rattle.relocation.specs.declared.layout.Layout.{Layout}
 use Rattle.relocation.specs.declared.layout.Lengths.{Lengths}
 use Rattle.job_check.specs.Emit.{memory_of, lengths_of, IsPlaced}
-use Rattle.job_check.specs.Jobs.{layout_of}
+use Rattle.job_check.specs.Jobs.{layout_of, layouts_of}
 use Rattle.job_check.specs.Whole.{all_questions, refusal_of}
 use Rattle.vc4check_c.specs.declared.job.JobAnswer.{JobAnswer}
 use Rattle.vc4check_c.specs.Asked.{asked_size}
@@ -59,12 +59,16 @@ refused_answer refusal = record {
 }
 
 -- No rule stands: the bytes spell their file, its memory is as long as the file's header asks, whole pages of at most 64 MiB in which the
--- lists lie in their order, and this is told of it.
-pub record IsAccepted (bytes : List ℕ) (answer : JobAnswer) : Type 0 where
+-- lists of each job lie in their order.
+pub record IsSound (bytes : List ℕ) : Type 0 where
   pub none_stands : refusal_of bytes ≡ None
   pub spelled : IsFileOf bytes (file_at bytes)
   pub asked : length (memory_of (file_at bytes)) ≡ asked_size bytes
-  pub placed : IsPlaced (memory_of (file_at bytes)) (layout_of (file_at bytes) 0)
+  pub placed : IsPlaced (memory_of (file_at bytes)) (layouts_of (file_at bytes))
+
+-- So it is, and this is told of the file's first job.
+pub record IsAccepted (bytes : List ℕ) (answer : JobAnswer) : Type 0 where
+  pub sound : IsSound bytes
   pub told : answer ≡ accepted_answer (length (memory_of (file_at bytes))) (layout_of (file_at bytes) 0) (lengths_of (file_at bytes) 0)
 
 -- A rule stands, none before it in the order of refusal does, and it is told.

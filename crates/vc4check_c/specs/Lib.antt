@@ -1,3 +1,4 @@
 pub mod Asked
 pub mod Job
+pub mod Jobs
 pub mod Shader

@@ -1,5 +1,5 @@
 //! The check of a job file, with the memory of an accepted job in the caller's block.
-ghost use Rattle.std.specs.Prelude.{◌≡◌, ◌≢◌, ◌≤◌, ◌<◌, length};
+ghost use Rattle.std.specs.Prelude.{◌≡◌, ◌≢◌, ◌≤◌, ◌<◌, ◌⊎◌, length};
 ghost use Rattle.field_words.specs.Writes.{with_bytes};
 ghost use Rattle.job_format.specs.Reading.{file_at};
 ghost use Rattle.job_check.specs.Emit.{memory_of};
@@ -14,8 +14,8 @@ use phys_mem::PhysMem;
 use relocation::{Layout, Lengths};
 use std::alloc::Global;
 
-/// What is told of a job file. Of an accepted job: the size of its memory in bytes, the place of the lists' region and that of
-/// the tile slot in it, where each list lies (offsets in the region) and how many bytes of each were emitted. Of a refused one: the
+/// What is told of a job file and its first job. Of an accepted one: the size of its memory in bytes, the place where the lists begin and
+/// that of the tile slot in it, where each list lies (offsets from where they begin) and how many bytes of each were emitted. Of a refused one: the
 /// rule, by its letter in ASCII and its number, and the offset in the file of what it is about. The other fields are zero.
 #[repr(C)]
 #[derive(Clone, Copy, Debug, PartialEq, Eq)]
@@ -62,7 +62,7 @@ fn accepted(size: u32, layout: &Layout, lengths: &Lengths) -> JobAnswer
 }
 
 /// The letter of a stage, as the program prints it.
-fn letter(stage: Stage) -> u8
+pub(crate) fn letter(stage: Stage) -> u8
     ensures { result ≡ letter_code stage }
 {
     match stage {
@@ -111,7 +111,22 @@ fn copy_out(memory: &mut PhysMem, block: &mut [u8])
     block[..size as usize].copy_from_slice(memory.window(0, size));
 }
 
-/// Checks the job file that `bytes` hold. Where no rule stands, the memory that the job is to run in is put into the block, from its
+/// Puts all of the memory to the block's start, or says that the block is too short.
+pub(crate) fn deliver(mut memory: PhysMem, block: &mut [u8]) -> u32
+    ensures statuses { (result ≡ 0) ⊎ (result ≡ 2) }
+    ensures put { result ≡ 0 → block.new ≡ with_bytes block.old 0 memory }
+    ensures fits { result ≡ 0 → length memory ≤ length block.old }
+    ensures short { result ≡ 2 → length block.old < length memory }
+    ensures kept { result ≡ 2 → block.new ≡ block.old }
+{
+    if block.len() < memory.len() as usize {
+        return SHORT;
+    }
+    copy_out(&mut memory, block);
+    ACCEPTED
+}
+
+/// Checks the job file that `bytes` hold. Of a file of several jobs it tells of the first alone; `vc4check_check_jobs` tells of all. Where no rule stands, the memory that the job is to run in is put into the block, from its
 /// start on, with all lists relocated; the block's further bytes stay.
 ///
 /// | Status | Meaning | `answer` | `block` |
@@ -140,13 +155,9 @@ pub extern "C" fn vc4check_check(
 {
     match check_bytes(alloc, bytes) {
         Ok(checked) => {
-            let mut memory = checked.memory;
-            *answer = accepted(memory.len(), &checked.layout, &checked.lengths);
-            if block.len() < memory.len() as usize {
-                return SHORT;
-            }
-            copy_out(&mut memory, block);
-            ACCEPTED
+            let memory = checked.memory;
+            *answer = accepted(memory.len(), &checked.layouts[0], &checked.lengths[0]);
+            deliver(memory, block)
         }
         Err(Stop::Fault(refusal)) => {
             *answer = refused(&refusal);

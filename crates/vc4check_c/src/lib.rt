@@ -6,10 +6,12 @@
 
 mod asked;
 mod job;
+mod jobs;
 mod shader;
 mod status;
 
 pub use job::JobAnswer;
+pub use jobs::{JobLists, JobsAnswer};
 pub use shader::{ShaderAnswer, ShaderSample};
 
 #[cfg(test)]

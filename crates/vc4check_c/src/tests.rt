@@ -2,6 +2,7 @@
 
 use crate::asked::{vc4check_size, vc4check_version};
 use crate::job::{JobAnswer, vc4check_check};
+use crate::jobs::{JobLists, JobsAnswer, vc4check_check_jobs};
 use crate::shader::{ShaderAnswer, ShaderSample, vc4check_shader};
 use crate::status::{ACCEPTED, REFUSED, SHORT, TOO_LONG};
 use std::alloc::Global;
@@ -81,6 +82,93 @@ fn refuses(rt: HostRuntime) -> Result<(), Fail> {
     assert_eq!(rt; block.get(0).copied(), Some(0xa5));
     assert_eq!(rt; vc4check_size(&[]), 0);
     assert_eq!(rt; vc4check_version(), 1);
+    Ok(())
+}
+
+/// Two jobs like the smallest, of clients 1 and 2, each with a buffer of its own.
+const PAIR: &str = "5643344a02000000003010000000000000100000001000000200000002000000020000000010\
+    1000001000000100000000000000000000000020100000100000020000000000000000000000\
+    010000000000000001000000000000000000000000000000000000001000100000000000ffff\
+    ffff0000000000000000000000000000000004000000ffffffff0000000000000000ffffffff\
+    0000000000000000ffffffff0000000000000000ffffffff0000000000000000000000000000\
+    0000000000000000000002000000000000000100000000000000000000000000000000000000\
+    1000100000000000ffffffff0000000000000000000000000000000004000000ffffffff0000\
+    000000000000ffffffff0000000000000000ffffffff0000000000000000ffffffff00000000\
+    00000000000000000000000000000000000000000000000001000000";
+
+/// No job, and nothing told of any.
+const NO_LISTS: JobLists = JobLists {
+    lists: 0,
+    slot: 0,
+    bin: 0,
+    records: 0,
+    uniforms: 0,
+    render: 0,
+    end: 0,
+    bin_length: 0,
+    records_length: 0,
+    uniforms_length: 0,
+    render_length: 0,
+};
+
+const NO_JOBS: JobsAnswer = JobsAnswer {
+    offset: 0,
+    letter: 0,
+    number: 0,
+    size: 0,
+    jobs: 0,
+    lists: [NO_LISTS; 8],
+};
+
+// Two lists, the second behind the first, and two slots; of one job alone the first is told.
+#[test]
+fn tells_of_all_jobs(rt: HostRuntime) -> Result<(), Fail> {
+    let bytes = hex::decode(rt.alloc(), PAIR)?;
+    let first = JobLists {
+        slot: 4096,
+        end: 15,
+        render_length: 15,
+        ..NO_LISTS
+    };
+    let second = JobLists {
+        lists: 16,
+        slot: 528_384,
+        ..first
+    };
+    let mut block = vec![in rt.alloc(); 0xa5u8; 1_060_864]?;
+    let mut answer = NO_JOBS;
+    let status = vc4check_check_jobs(rt.alloc(), &bytes, &mut block, &mut answer);
+    assert_eq!(rt; status, ACCEPTED);
+    assert_eq!(rt; (answer.size, answer.jobs), (1_060_864, 2));
+    assert_eq!(rt;
+        answer.lists,
+        [
+            first, second, NO_LISTS, NO_LISTS, NO_LISTS, NO_LISTS, NO_LISTS, NO_LISTS
+        ]
+    );
+    assert_eq!(rt; block.get(16).copied(), Some(113));
+    let (status, one, _) = checked(rt.alloc(), &bytes, 15)?;
+    assert_eq!(rt; status, SHORT);
+    assert_eq!(rt; (one.size, one.slot, one.end), (1_060_864, 4096, 15));
+    Ok(())
+}
+
+// The same file with a byte too few: the handles of the second job are cut off.
+#[test]
+fn refuses_all_jobs(rt: HostRuntime) -> Result<(), Fail> {
+    let mut bytes = hex::decode(rt.alloc(), PAIR)?;
+    bytes.pop();
+    let told = JobsAnswer {
+        offset: 328,
+        letter: 70,
+        number: 2,
+        ..NO_JOBS
+    };
+    let mut block = vec![in rt.alloc(); 0xa5u8; 1]?;
+    let mut answer = NO_JOBS;
+    let status = vc4check_check_jobs(rt.alloc(), &bytes, &mut block, &mut answer);
+    assert_eq!(rt; status, REFUSED);
+    assert_eq!(rt; answer, told);
     Ok(())
 }
 

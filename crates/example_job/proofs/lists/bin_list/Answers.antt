@@ -1,4 +1,4 @@
-use Rattle.std.proofs.Common.{◌≡◌, ◌+◌, ◌-◌, ◌++◌, ◌∙◌, ap, List, ℕ}
+use Rattle.std.proofs.Common.{◌+◌, ◌-◌, ◌++◌, ◌∙◌, ap, ℕ}
 use Rattle.field_words.specs.Pieces.{joined}
 use Rattle.example_job.specs.Lists.{packets_of, states_from}
 use Rattle.example_job.proofs.Texts.{states_more}

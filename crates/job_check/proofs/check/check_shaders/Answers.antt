@@ -1,19 +1,21 @@
-use Rattle.std.proofs.Common.{length}
+use Rattle.std.proofs.Common.{◌++◌, length}
 use Rattle.field_words.specs.Questions.{each}
 use Rattle.field_words.proofs.Questions.{answers_later, refuses_front}
 use Rattle.job_format.specs.Model.{file_view}
 use Rattle.job_check.specs.declared.check.Checked.{Checked}
 use Rattle.job_check.specs.Faults.{shaders_stage, job_stages}
 use Rattle.job_check.specs.Emit.{IsEmitted}
+use Rattle.job_check.proofs.Order.{exits}
 use Rattle.job_check.proofs.check.check_shaders.Goals as goal
 
-pub returns-in-Ok-clause-answers : goal.returns-in-Ok-clause-answers
-returns-in-Ok-clause-answers c =
+pub returns-clause-answers : goal.returns-clause-answers
+returns-clause-answers c =
     let f = file_view c.args.file.now in
-    answers_later (shaders_stage f) (each (job_stages f) 0 (length c.args.file.now.jobs.items)) (λ (checked : Checked). IsEmitted f checked.memory checked.layout checked.lengths) c.check_jobs.result
-    c.in-Ok.ensures.answers.0 c.check_jobs.ensures.answers
+    answers_later (shaders_stage f) (each (job_stages f) 0 (length f.jobs)) (λ (checked : Checked). IsEmitted f checked.memory checked.layouts.items checked.lengths.items) c.check_jobs.result
+    c.in_ok-shaders.ensures.answers.0 c.check_jobs.ensures.answers
 
-pub returns-in-Err-clause-answers : goal.returns-in-Err-clause-answers
-returns-in-Err-clause-answers c =
+pub returns-in_err-shaders-clause-answers : goal.returns-in_err-shaders-clause-answers
+returns-in_err-shaders-clause-answers c =
     let f = file_view c.args.file.now in
-    refuses_front (shaders_stage f) (each (job_stages f) 0 (length c.args.file.now.jobs.items)) c.in-Err.stop c.in-Err.ensures.answers
+    exits (shaders_stage f ++ (each (job_stages f) 0 (length f.jobs))) (λ (checked : Checked). IsEmitted f checked.memory checked.layouts.items checked.lengths.items) c.from_residual.result c.in_err-shaders.field-0.0 c.from_residual.ensures.1
+    (refuses_front (shaders_stage f) (each (job_stages f) 0 (length f.jobs)) c.in_err-shaders.field-0.0 c.in_err-shaders.ensures.answers)

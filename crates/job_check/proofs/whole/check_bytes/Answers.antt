@@ -19,7 +19,7 @@ pub returns-in-Ok-clause-answers : goal.returns-in-Ok-clause-answers
 unfolding all_questions
 returns-in-Ok-clause-answers c =
     let bytes = c.args.bytes.now in
-    let P : FileModel → Checked → Type 0 = λ f checked. IsEmitted f checked.memory checked.layout checked.lengths in
+    let P : FileModel → Checked → Type 0 = λ f checked. IsEmitted f checked.memory checked.layouts.items checked.lengths.items in
     answers_later (answered format_refused (format_questions bytes)) (file_stages (file_at bytes)) (P (file_at bytes)) c.check_job.result
     (answered_none format_refused (format_questions bytes) c.in-Ok.ensures.read.0)
     (subst (λ f. Answers (file_stages f) (P f) c.check_job.result) c.in-Ok.ensures.read.1 c.check_job.ensures.answers)

@@ -7,5 +7,5 @@ use Rattle.job_format.proofs.faults.buffers_fault.Given as goal
 
 abbrev pub invariant-loop-b : goal.invariant-loop-b
 invariant-loop-b l =
-    (first_of (each (buffer_questions l.bytes) l.b (l.count - l.b)) ≡ first_of (each (buffer_questions l.bytes) 0 l.count))
+    (first_of (each (buffer_questions l.bytes) l.b (l.buffers - l.b)) ≡ first_of (each (buffer_questions l.bytes) 0 l.buffers))
     × (entry_offset l.b ≤ length l.bytes)

@@ -1,29 +1,33 @@
 -- Contents without a fault leave the decision to those after them; the first fault ends it.
-use Rattle.std.proofs.Common.{◌≡◌, ◌+◌, sym, ◌∙◌, ap, arith}
+use Rattle.std.proofs.Common.{◌≡◌, sym, ◌∙◌, ap, arith}
 use Rattle.field_words.proofs.Questions.{each_on, each_stop, each_end}
 use Rattle.field_words.specs.Questions.{each, first_of}
 use Rattle.job_format.specs.Faults.{content_questions}
-use Rattle.job_format.specs.Offsets.{entry_offset, content_offset, handles_offset}
-use Rattle.job_format.proofs.Standing.{content_offset_first}
+use Rattle.job_format.specs.Offsets.{job_count, job_offset, content_offset}
+use Rattle.job_format.proofs.Standing.{content_offset_first, handles_offset_first}
 use Rattle.job_format.proofs.faults.contents_fault.Goals as goal
 
 pub loop-b-init : goal.loop-b-init
-loop-b-init c = (
-  ap (λ n. first_of (each (content_questions c.args.bytes.now) 0 n)) (omega arith),
-  (ap (λ n. n + 124) (c.entry_offset-at.ensures ∙ ap entry_offset c.requires.header.number) ∙ sym (content_offset_first c.args.bytes.now), omega (arith, c.entry_offset-at.ensures, c.requires.before)),
-)
+loop-b-init c =
+    let at : c.job_offset-at.result ≡ job_offset c.args.bytes.now (job_count c.args.bytes.now) = omega (arith, c.job_offset-at.ensures, c.requires.header.buffers_named, c.requires.header.jobs_named) in (
+      ap (λ n. first_of (each (content_questions c.args.bytes.now) 0 n)) (omega arith),
+      (at ∙ sym (content_offset_first c.args.bytes.now), omega (arith, at, c.requires.header.jobs_named, c.requires.before)),
+    )
 
 pub loop-b-preserved : goal.loop-b-preserved
 loop-b-preserved c =
-    (each_on (content_questions c.args.bytes.now) c.loop-b.b c.args.count c.loop-b-test.true c.in-Ok.ensures.0 ∙ c.loop-b.invariant.0, c.in-Ok.ensures.1)
+    (each_on (content_questions c.args.bytes.now) c.loop-b.b c.args.buffers c.loop-b-test.true c.in-Ok.ensures.0 ∙ c.loop-b.invariant.0, c.in-Ok.ensures.1)
 
 pub returns-in-Err : goal.returns-in-Err
 returns-in-Err c =
-    sym c.loop-b.invariant.0 ∙ each_stop (content_questions c.args.bytes.now) c.loop-b.b c.args.count c.in-Err.fault c.loop-b-test.true c.in-Err.ensures
+    sym c.loop-b.invariant.0 ∙ each_stop (content_questions c.args.bytes.now) c.loop-b.b c.args.buffers c.in-Err.fault c.loop-b-test.true c.in-Err.ensures
 
 pub returns : goal.returns
-unfolding handles_offset
-returns c = (
-  sym c.loop-b.invariant.0 ∙ each_end (content_questions c.args.bytes.now) c.loop-b.b c.args.count c.loop-b-test.false,
-  (c.loop-b.invariant.1.0 ∙ ap (content_offset c.args.bytes.now) (let e : c.loop-b.b ≡ c.args.count = omega (arith, c.loop-b-test.false, c.loop-b.auto.b-end) in e ∙ c.requires.header.number), c.loop-b.invariant.1.1),
-)
+returns c =
+    let last : c.loop-b.b ≡ c.args.buffers = omega (arith, c.loop-b-test.false, c.loop-b.auto.b-end) in (
+      sym c.loop-b.invariant.0 ∙ each_end (content_questions c.args.bytes.now) c.loop-b.b c.args.buffers c.loop-b-test.false,
+      (
+        c.loop-b.invariant.1.0 ∙ ap (content_offset c.args.bytes.now) (last ∙ c.requires.header.buffers_named) ∙ sym (handles_offset_first c.args.bytes.now),
+        c.loop-b.invariant.1.1,
+      ),
+    )

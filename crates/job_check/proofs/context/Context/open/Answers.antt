@@ -1,16 +1,14 @@
 use Rattle.std.proofs.Common.{arith, ◌∙◌}
 use Rattle.std.proofs.lemmas.List.{length-map}
 use Rattle.job_format.specs.Model.{file_view, job_view}
-use Rattle.job_check.proofs.Layouts.{region_limits}
+use Rattle.job_check.proofs.Layouts.{enough_slots}
 use Rattle.job_check.proofs.context.Context.open.Goals as goal
-
-pub job_layout-requires-clause-place : goal.job_layout-requires-clause-place
-job_layout-requires-clause-place c = let limits = region_limits (file_view c.args.file.now) c.requires.sound in limits.0
 
 pub job_layout-requires-clause-slot : goal.job_layout-requires-clause-slot
 job_layout-requires-clause-slot c =
-    let limits = region_limits (file_view c.args.file.now) c.requires.sound in
-    omega (arith, limits.2, c.requires.inside, c.requires.well_formed.one_job, length-map c.args.file.now.jobs.items job_view)
+    let tiles = c.requires.sound.each_item 1 (omega arith) in
+    let slots = enough_slots (file_view c.args.file.now) c.requires.well_formed c.requires.sound in
+    omega (arith, tiles.inside, c.requires.sound.limit, slots, c.requires.inside, length-map c.args.file.now.jobs.items job_view)
 
 pub invariant_of-result : goal.invariant_of-result
 invariant_of-result c = record {
@@ -23,5 +21,6 @@ invariant_of-result c = record {
   sound = c.requires.sound;
   handles_are = c.in-Ok.ensures.made.1 ∙ c.deref.ensures.value;
   numbers = c.in-Ok.ensures.numbers;
+  begins = omega (arith, c.requires.place_is, c.requires.begins);
   layout_is = c.job_layout.ensures;
 }

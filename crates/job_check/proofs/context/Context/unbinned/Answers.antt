@@ -5,8 +5,8 @@ use Rattle.job_check.proofs.context.Context.unbinned.Goals as goal
 pub draw-requires-clause-tiles_are : goal.draw-requires-clause-tiles_are
 draw-requires-clause-tiles_are c = no_grid c.args.self.now.file c.args.self.now.number c.requires.none
 
-pub returns-in-Ok : goal.returns-in-Ok
-returns-in-Ok c =
+pub returns : goal.returns
+returns c =
     let f = c.args.self.now.file in
     let j = c.args.self.now.number in
     let bin = ap length (no_bin_list f j c.requires.none) in
@@ -14,9 +14,9 @@ returns-in-Ok c =
     let streams = ap length (no_streams f j c.requires.none) in
     record {
       answers = (
-        unbinned_none f j c.requires.none c.in-Ok.ensures.answers.0,
-        lengths_are f j 0 0 0 c.in-Ok.render (sym bin) (sym records) (sym streams) c.in-Ok.ensures.answers.1,
+        unbinned_none f j c.requires.none c.in_ok-render.ensures.answers.0,
+        lengths_are f j 0 0 0 c.in_ok-render.render (sym bin) (sym records) (sym streams) c.in_ok-render.ensures.answers.1,
       );
-      written = c.in-Ok.ensures.written ∙ render_alone f j c.args.out.now c.requires.none;
-      fit = parts_fit f j (omega (arith, bin)) (omega (arith, records)) (omega (arith, streams)) (omega (arith, c.in-Ok.ensures.answers.1, c.in-Ok.ensures.fits));
+      written = c.in_ok-render.ensures.written ∙ render_alone f j c.args.out.now c.requires.none;
+      fit = parts_fit f j (omega (arith, bin)) (omega (arith, records)) (omega (arith, streams)) (omega (arith, c.in_ok-render.ensures.answers.1, c.in_ok-render.ensures.fits));
     }

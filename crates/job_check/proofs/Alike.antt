@@ -1,0 +1,65 @@
+-- A file and the same file as version 2 have the same rules after the format, and the same memory.
+use Rattle.std.proofs.Common.{◌≡◌, ℕ, List, None, refl, sym, ap, arith, lit<, ◌∙◌}
+use Rattle.field_words.specs.Words.{IsBytes}
+use Rattle.field_words.specs.Questions.{first_of, answered}
+use Rattle.field_words.proofs.Questions.{passes, answered_none}
+use Rattle.job_format.specs.Faults.{format_questions}
+use Rattle.job_format.specs.File.{IsFileOf, IsWellFormed, Fits, upgraded}
+use Rattle.job_format.specs.Model.{FileModel}
+use Rattle.job_format.specs.Reading.{file_at}
+use Rattle.job_format.specs.Text.{file_text}
+use Rattle.job_format.proofs.Laws.{none_file, read_again}
+use Rattle.job_check.specs.Shaders.{content_of, shader_of, shaders_up_to}
+use Rattle.job_check.specs.Offsets.{job_offset, content_offset, shader_offset, handles_offset, bin_offset, records_offset, uniforms_offset}
+use Rattle.job_check.specs.Jobs.{job_of, slot_of, places_in, has_bin, grid_of, lists_room, lists_begin, layout_of, layouts_of, states_in, input_for, bin_list_of, records_of, streams_of, render_list_of}
+use Rattle.job_check.specs.Faults.{table_stage, shader_stage, shaders_stage, handles_stage, bin_stage, part_offset, records_stage, surfaces_stage, layout_stage, lists_stages, job_stages, file_stages}
+use Rattle.job_check.specs.Emit.{lengths_of, all_lengths_of, list_parts, later_parts, memory_parts, jobs_parts, memory_of}
+use Rattle.job_check.specs.Whole.{format_refused, all_questions, refusal_of}
+use Rattle.job_check.specs.Upgrade.{AreAlike, UpgradeChangesNothing}
+use Rattle.job_check.proofs.Layouts.{slots_for}
+
+-- No definition below these reads the version.
+rules_alike : (f : FileModel) → file_stages (upgraded f) ≡ file_stages f
+unfolding file_stages table_stage shaders_stage shader_stage shader_offset content_offset job_offset content_of job_stages handles_stage handles_offset job_of lists_stages bin_stage has_bin bin_offset records_stage part_offset records_offset uniforms_offset input_for states_in shaders_up_to shader_of surfaces_stage grid_of layout_stage layout_of lists_begin lists_room slot_of
+rules_alike f = refl
+
+lists_alike : (f : FileModel) → (memory_of (upgraded f) ≡ memory_of f) × (layouts_of (upgraded f) ≡ layouts_of f) × (all_lengths_of (upgraded f) ≡ all_lengths_of f)
+unfolding memory_of jobs_parts memory_parts list_parts later_parts layouts_of layout_of all_lengths_of lengths_of bin_list_of records_of streams_of render_list_of has_bin job_of input_for places_in grid_of slot_of lists_begin states_in shaders_up_to lists_room shader_of content_of
+lists_alike f = (refl, refl, refl)
+
+alike : (f : FileModel) → AreAlike (upgraded f) f
+alike f = let lists = lists_alike f in record { rules = rules_alike f; memory = lists.0; layouts = lists.1; lengths = lists.2 }
+
+-- The upgraded file is a file, so its text holds it.
+pub file_again : (f : FileModel) → Fits f → IsWellFormed f → IsFileOf (file_text (upgraded f)) (upgraded f)
+file_again f fits h = record {
+  fits = record { version = lit< tt; mem_size = fits.mem_size; regions = fits.regions; buffers = fits.buffers; contents = fits.contents; jobs = fits.jobs };
+  well_formed = record {
+    a_version = omega arith;
+    known = omega arith;
+    first = λ one. absurd (omega (arith, one));
+    slots = λ two some. slots_for f h some;
+    buffers = h.buffers;
+    code = h.code;
+    contents = h.contents;
+    some_job = h.some_job;
+    few_jobs = h.few_jobs;
+    jobs = h.jobs;
+  };
+  text = refl;
+}
+
+-- After the format, the rules of the file that the bytes hold decide.
+after_format : (bytes : List ℕ) → first_of (format_questions bytes) ≡ None → refusal_of bytes ≡ first_of (file_stages (file_at bytes))
+unfolding refusal_of all_questions
+after_format bytes none = passes (answered format_refused (format_questions bytes)) (file_stages (file_at bytes)) (answered_none format_refused (format_questions bytes) none)
+
+same_refusal : (bytes : List ℕ) → IsBytes bytes → first_of (format_questions bytes) ≡ None → refusal_of (file_text (upgraded (file_at bytes))) ≡ refusal_of bytes
+same_refusal bytes fits none =
+    let f = file_at bytes in
+    let is = none_file bytes fits none in
+    let again = read_again (file_text (upgraded f)) (upgraded f) (file_again f is.fits is.well_formed) in
+    after_format (file_text (upgraded f)) again.0 ∙ ap (λ g. first_of (file_stages g)) again.1 ∙ ap first_of (rules_alike f) ∙ sym (after_format bytes none)
+
+pub upgrade : UpgradeChangesNothing
+upgrade = record { alike = alike; refusal = same_refusal }

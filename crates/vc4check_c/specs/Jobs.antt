@@ -1,0 +1,81 @@
+-- What is told of a job file, job by job.
+use Rattle.std.specs.Prelude.{◌≡◌, ℕ, nat_lt, List, length, map, replicate, slice_index_or, Option, Some, None, if◌then◌else◌}
+use Rattle.std.specs.List.{range_with_len}
+use Rattle.field_words.specs.Questions.{IsFirst}
+use Rattle.job_format.specs.declared.rule.Refusal.{Refusal}
+use Rattle.job_format.specs.Offsets.{most_jobs}
+use Rattle.job_format.specs.Reading.{file_at}
+use Rattle.relocation.specs.declared.layout.Layout.{Layout}
+use Rattle.relocation.specs.declared.layout.Lengths.{Lengths}
+use Rattle.job_check.specs.Emit.{memory_of, all_lengths_of}
+use Rattle.job_check.specs.Jobs.{layouts_of}
+use Rattle.job_check.specs.Whole.{all_questions}
+use Rattle.vc4check_c.specs.declared.jobs.JobLists.{JobLists}
+use Rattle.vc4check_c.specs.declared.jobs.JobsAnswer.{JobsAnswer}
+use Rattle.vc4check_c.specs.Job.{letter_code, IsSound}
+
+-- of one job: where its lists lie, and how many bytes of each were emitted
+unfoldable pub told_lists : Layout → Lengths → JobLists
+told_lists layout lengths = record {
+  lists = layout.place;
+  slot = layout.slot;
+  bin = layout.bin;
+  records = layout.records;
+  uniforms = layout.uniforms;
+  render = layout.render;
+  end = layout.end;
+  bin_length = lengths.bin;
+  records_length = lengths.records;
+  uniforms_length = lengths.uniforms;
+  render_length = lengths.render;
+}
+
+-- of no job
+abbrev pub no_lists : JobLists
+no_lists = record { lists = 0; slot = 0; bin = 0; records = 0; uniforms = 0; render = 0; end = 0; bin_length = 0; records_length = 0; uniforms_length = 0; render_length = 0 }
+
+abbrev pub no_layout : Layout
+no_layout = record { place = 0; bin = 0; records = 0; uniforms = 0; render = 0; end = 0; slot = 0 }
+
+abbrev pub no_lengths : Lengths
+no_lengths = record { bin = 0; records = 0; uniforms = 0; render = 0 }
+
+-- of the first n jobs in order, and of none behind them
+unfoldable pub lists_at : List Layout → List Lengths → ℕ → ℕ → JobLists
+lists_at layouts lengths n j =
+    if nat_lt j n then told_lists (slice_index_or layouts j no_layout) (slice_index_or lengths j no_lengths) else no_lists
+
+unfoldable pub all_lists : List Layout → List Lengths → ℕ → List JobLists
+all_lists layouts lengths n = map (lists_at layouts lengths n) (range_with_len 0 most_jobs)
+
+-- of an accepted file: how long its memory is, how many jobs it has, and what is told of each
+unfoldable pub accepted_jobs : ℕ → List Layout → List Lengths → JobsAnswer
+accepted_jobs size layouts lengths = record {
+  offset = 0;
+  letter = 0;
+  number = 0;
+  size = size;
+  jobs = length layouts;
+  lists = all_lists layouts lengths (length layouts);
+}
+
+-- of a refused one: the rule, and the offset in the file of what it is about
+unfoldable pub refused_jobs : Refusal → JobsAnswer
+refused_jobs refusal = record {
+  offset = refusal.offset;
+  letter = letter_code refusal.rule.stage;
+  number = refusal.rule.number;
+  size = 0;
+  jobs = 0;
+  lists = replicate most_jobs no_lists;
+}
+
+-- No rule stands, and this is told of the file.
+pub record AreAccepted (bytes : List ℕ) (answer : JobsAnswer) : Type 0 where
+  pub sound : IsSound bytes
+  pub told : answer ≡ accepted_jobs (length (memory_of (file_at bytes))) (layouts_of (file_at bytes)) (all_lengths_of (file_at bytes))
+
+-- A rule stands, none before it in the order of refusal does, and it is told.
+abbrev pub AreRefused : List ℕ → Option Refusal → JobsAnswer → Type 0
+AreRefused bytes None answer = ⊥
+AreRefused bytes (Some refusal) answer = IsFirst (all_questions bytes) refusal × (answer ≡ refused_jobs refusal)
