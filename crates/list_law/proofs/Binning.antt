@@ -128,7 +128,7 @@ other : (o k n : ℕ) → o ≡ k → (k == n) ≡ false → (o == n) ≡ false
 other o k n is differs = ap (λ x. x == n) is ∙ differs
 
 -- The packet is read, and what it says is done.
-read_keeps : (who : Who) (L : ℕ → ℕ → Type 0) (G : Access → Type 0) (P : List ℕ → Lists → Type 0) (s : Lists) (m : List ℕ) (len : ℕ) (packet : List ℕ)
+pub read_keeps : (who : Who) (L : ℕ → ℕ → Type 0) (G : Access → Type 0) (P : List ℕ → Lists → Type 0) (s : Lists) (m : List ℕ) (len : ℕ) (packet : List ℕ)
     → bin_taken (slice_index m s.binner.place) ≡ len → bytes_at m s.binner.place len ≡ packet → L s.binner.place 1 → G (access who Read s.binner.place len)
     → Keeps who L G P (packet_plan (past s len) packet) m → Keeps who L G P (read_plan s) m
 unfolding read_plan bytes_at
@@ -139,7 +139,7 @@ read_keeps who L G P s m len packet len_is bytes_is looks reads rest =
     let S : ℕ → Type 0 = λ n. G (access who Read place n) × Keeps who L G P (packet_plan (past s n) (bytes_at m place n)) m in
     (looks, subst S (sym len_is) read)
 
-taken_is : (packet : List ℕ) → length packet ≡ bin_length (opcode packet) → bin_length (opcode packet) ≢ 0 → bin_taken (opcode packet) ≡ length packet
+pub taken_is : (packet : List ℕ) → length packet ≡ bin_length (opcode packet) → bin_length (opcode packet) ≢ 0 → bin_taken (opcode packet) ≡ length packet
 unfolding bin_taken
 taken_is packet whole known =
     let differs : (bin_length (opcode packet) == 0) ≡ false = grind (arith, common_steps, nat_tests, known) in
@@ -295,7 +295,7 @@ read_step who r K O c f s m (packet ∷ packets) allocates here fine below ends 
     (λ after is. way_behind r K O c place s.binner.end s.binner.kept after packet packets ends walks.1 stands reads is))
 
 -- A primitive in work.
-ready_item : (due more start item : Bool) → due ≡ false → more ≡ false → (if due then start else (if more then true else item)) ≡ true → item ≡ true
+pub ready_item : (due more start item : Bool) → due ≡ false → more ≡ false → (if due then start else (if more then true else item)) ≡ true → item ≡ true
 ready_item true more start item off all ready = absurd cc
 ready_item false true start item off all ready = absurd cc
 ready_item false false start item off all ready = ready

@@ -313,7 +313,7 @@ waits s packet passes is none =
     let here : not (8 == 8 && s.semaphore == 0) ≡ true = subst (λ p. may_pass s (slice_index (packet_text p) 0) ≡ true) is passes in
     grind (arith, common_steps, nat_tests, here, none)
 
-some_text : (packet : Packet) → 1 ≤ length (packet_text packet)
+pub some_text : (packet : Packet) → 1 ≤ length (packet_text packet)
 unfolding packet_text
 some_text WaitOnSemaphore = omega arith
 some_text (BranchToSubList address) = omega arith

@@ -48,7 +48,7 @@ pub fixed_part : (rights : List Rights) (first m : List ℕ) (j place size q n :
 fixed_part rights first m j place size q n fixed has from upto lies =
     fixed_stays_law rights first m q n (fixed_inside rights place size q n fixed from upto) (joined_covers rights j q n lies) has
 
-home_stays : (rights : List Rights) (first m : List ℕ) (j : ℕ) (home : Home) → IsFixed rights home.place (8 * length home.code) → IsFixed rights home.stream (4 * uniforms_of home.code) → HasReadOnly rights first m
+pub home_stays : (rights : List Rights) (first m : List ℕ) (j : ℕ) (home : Home) → IsFixed rights home.place (8 * length home.code) → IsFixed rights home.stream (4 * uniforms_of home.code) → HasReadOnly rights first m
     → IsHome first (rights_of rights j).region home → IsHome m (rights_of rights j).region home
 home_stays rights first m j home code stream has stands = record {
   sound = stands.sound;
@@ -72,7 +72,7 @@ homes_stay_law rights plains first j home buffers begins = record {
 }
 
 -- a word of the record is the first memory's
-word_stays : (rights : List Rights) (first m : List ℕ) (j word i : ℕ) → RecordStands (rights_of rights j).region first word → IsFixed rights (record_place word) (record_size word) → HasReadOnly rights first m → 4 * i + 4 ≤ record_size word
+pub word_stays : (rights : List Rights) (first m : List ℕ) (j word i : ℕ) → RecordStands (rights_of rights j).region first word → IsFixed rights (record_place word) (record_size word) → HasReadOnly rights first m → 4 * i + 4 ≤ record_size word
     → words_in m word i ≡ words_in first word i
 word_stays rights first m j word i stands fixed has room =
     let p : ℕ = record_place word + 4 * i in
@@ -80,7 +80,7 @@ word_stays rights first m j word i stands fixed has room =
     let bytes : bytes_at m p 4 ≡ bytes_at first p 4 = fixed_part rights first m j (record_place word) (record_size word) p 4 fixed has (omega arith) (omega (arith, room)) lies in
     sym (word_read m p 4 (omega arith)) ∙ ap (λ b. u32_at b 0) bytes ∙ word_read first p 4 (omega arith)
 
-record_stays : (rights : List Rights) (first m : List ℕ) (j word : ℕ) → IsFixed rights (record_place word) (record_size word) → HasReadOnly rights first m → RecordStands (rights_of rights j).region first word → RecordStands (rights_of rights j).region m word
+pub record_stays : (rights : List Rights) (first m : List ℕ) (j word : ℕ) → IsFixed rights (record_place word) (record_size word) → HasReadOnly rights first m → RecordStands (rights_of rights j).region first word → RecordStands (rights_of rights j).region m word
 record_stays rights first m j word fixed has stands = record {
   inside = stands.inside;
   bytes = λ i below.
@@ -106,11 +106,11 @@ program_stays rights plains first m j word threaded there s same code stream beg
     let is : program_in m word threaded s ≡ program_in first word there s = λ i. record { threaded = same i; code = code i; uniforms = stream i } in
     subst (LaunchFine rights plains first j) (sym is) (launch_stays rights plains first j (program_in first word there s) begins)
 
-single_stays : (v w : ℕ → ℕ) → v 0 ≡ w 0 → not (is_single v) ≡ not (is_single w)
+pub single_stays : (v w : ℕ → ℕ) → v 0 ≡ w 0 → not (is_single v) ≡ not (is_single w)
 unfolding is_single
 single_stays v w is = ap (λ n. not (n % 2 == 1)) is
 
-fetches_stay : (rights : List Rights) (plains : ℕ → List Interval) (first m : List ℕ) (j word : ℕ) (packet : List ℕ) → DrawBegins rights plains first j word packet → HasReadOnly rights first m → Fetches (rights_of rights j).region m word (primitive_of packet)
+pub fetches_stay : (rights : List Rights) (plains : ℕ → List Interval) (first m : List ℕ) (j word : ℕ) (packet : List ℕ) → DrawBegins rights plains first j word packet → HasReadOnly rights first m → Fetches (rights_of rights j).region m word (primitive_of packet)
 fetches_stay rights plains first m j word packet begins has =
     let region = (rights_of rights j).region in
     let state = begins.state in
@@ -141,7 +141,7 @@ draws_stay_law rights plains first j word packet begins = record {
   programs = λ m has. programs_stay rights plains first m j word packet begins has;
 }
 
-text_stays : (rights : List Rights) (first : List ℕ) (j place : ℕ) (text : List ℕ) → TextBegins rights first j place text → (m : List ℕ) → HasReadOnly rights first m → bytes_at m place (length text) ≡ text
+pub text_stays : (rights : List Rights) (first : List ℕ) (j place : ℕ) (text : List ℕ) → TextBegins rights first j place text → (m : List ℕ) → HasReadOnly rights first m → bytes_at m place (length text) ≡ text
 text_stays rights first j place text begins m has =
     fixed_stays_law rights first m place (length text) begins.fixed (joined_covers rights j place (length text) begins.reads) has ∙ begins.stands
 

@@ -3,3 +3,5 @@ pub mod Processors
 pub mod Owes
 pub mod Begins
 pub mod Sound
+pub mod Regions
+pub mod Apart

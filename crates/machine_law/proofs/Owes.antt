@@ -1,5 +1,5 @@
 -- All units of the machine owe what makes runs safe, from what each owes for one job, which the units' laws give.
-use Rattle.std.proofs.Common.{◌≡◌, ℕ, Bool, true, false, IsTrue, if◌then◌else◌, List, Option, Some, None, refl, arith, ◌<◌, zero, suc, ◌+◌, [], ◌∷◌, map, replicate, sym, ◌∙◌, subst}
+use Rattle.std.proofs.Common.{◌≡◌, ℕ, Bool, true, false, IsTrue, if◌then◌else◌, List, Option, Some, None, refl, arith, ◌<◌, zero, suc, ◌+◌, [], ◌∷◌, map, replicate, sym, subst}
 use Rattle.std.proofs.lemmas.Bool.{false≢true}
 use Rattle.std.specs.Prelude.{IfSome, nat_lt}
 use Rattle.field_words.specs.declared.access.Actor.{Actor}
@@ -41,7 +41,8 @@ use Rattle.qpu_law.proofs.Join.{threads_keep_law}
 use Rattle.qpu_law.proofs.Reading.{fine_asks_are_safe_law}
 use Rattle.qpu_law.proofs.Starting.{starts_stand_law, results_keep_law}
 use Rattle.machine_law.specs.Units.{Facts, AskOf, QpuFine, UnitsFine, ListsTurned, ThreadTurned, KeepsFor, UnitLaws, EachAt}
-use Rattle.machine_law.proofs.Places.{item_fine, put_fine, put_each, PickedFine, first_fine}
+use Rattle.apart_law.proofs.Places.{put_every}
+use Rattle.machine_law.proofs.Places.{item_fine, put_each, PickedFine, first_fine}
 use Rattle.machine_law.proofs.Processors.{SlotFine, active_fine, launched_fine, went_fine, oldest_fine, queue_of_fine, served_fine}
 use Rattle.machine_law.specs.Jobs.{ArePlain, HomeFine, LaunchFine, ThreadFine, JobFine, facts_of}
 use Rattle.machine_law.specs.Laws.{AreFine, UnitsOwe}
@@ -74,7 +75,7 @@ lists_fine rights K f laws u j turned fine known = record {
 }
 
 qpu_fine : (f : Facts) (u : Units) (k : ℕ) (q : Qpu) → UnitsFine f u → QpuFine f q → UnitsFine f (with_qpu u k q)
-qpu_fine f u k q fine known = record { jobs = fine.jobs; qpus = put_fine (QpuFine f) u.qpus k q known fine.qpus }
+qpu_fine f u k q fine known = record { jobs = fine.jobs; qpus = put_every (QpuFine f) u.qpus k q known fine.qpus }
 
 -- a list unit that isn't held is ready
 not_held : (held : Bool) (glance : Glance Bool) (m : List ℕ) → IsTrue (glanced (if held then Now false else glance) m) → glanced glance m ≡ true

@@ -1,24 +1,15 @@
 -- What is known of each item of a list, by its place and by its number.
-use Rattle.std.proofs.Common.{◌≡◌, ℕ, zero, suc, ◌+◌, Bool, true, false, if◌then◌else◌, List, [], ◌∷◌, Option, Some, subst, arith}
-use Rattle.std.specs.Prelude.{IfSome, drop}
+use Rattle.std.proofs.Common.{◌≡◌, ℕ, zero, suc, ◌+◌, Bool, List, [], ◌∷◌, Option, Some, subst, arith}
+use Rattle.std.specs.Prelude.{IfSome}
 use Rattle.machine_plan.specs.Regions.{Every}
 use Rattle.machine.specs.State.{Picked, first_where, item_at, put_at}
+use Rattle.apart_law.proofs.Places.{chosen}
 use Rattle.machine_law.specs.Units.{EachAt}
-
--- what is known of both is known of the one that a test chooses
-pub chosen : {X : Type 0} (P : X → Type 0) (b : Bool) (x y : X) → P x → P y → P (if b then x else y)
-chosen P true x y first second = first
-chosen P false x y first second = second
 
 pub item_fine : {X : Type 0} (P : X → Type 0) (xs : List X) (k : ℕ) → Every P xs → IfSome (item_at xs k) P
 item_fine P [] k all = tt
 item_fine P (x ∷ xs) zero all = all.0
 item_fine P (x ∷ xs) (suc k) all = item_fine P xs k all.1
-
-pub put_fine : {X : Type 0} (P : X → Type 0) (xs : List X) (k : ℕ) (new : X) → P new → Every P xs → Every P (put_at xs k new)
-put_fine P [] k new fine all = tt
-put_fine P (x ∷ xs) zero new fine all = (fine, all.1)
-put_fine P (x ∷ xs) (suc k) new fine all = (all.0, put_fine P xs k new fine all.1)
 
 -- the same where the list is numbered from n on
 pub put_each : {X : Type 0} (P : ℕ → X → Type 0) (n k number : ℕ) (xs : List X) (new : X) → number ≡ n + k → P number new → EachAt P n xs → EachAt P n (put_at xs k new)
@@ -33,7 +24,3 @@ pub first_fine : {X : Type 0} (P : ℕ → X → Type 0) (p : X → Bool) (n : �
 first_fine P p n [] all = tt
 first_fine {X = X} P p n (x ∷ xs) all =
     chosen (λ (o : Option (Picked X)). IfSome o (PickedFine P)) (p x) (Some (record { number = n; item = x })) (first_where p (n + 1) xs) all.0 (first_fine P p (n + 1) xs all.1)
-
-pub drop_fine : {X : Type 0} (P : X → Type 0) (xs : List X) → Every P xs → Every P (drop 1 xs)
-drop_fine P [] all = tt
-drop_fine P (x ∷ xs) all = all.1

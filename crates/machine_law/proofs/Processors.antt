@@ -14,7 +14,7 @@ use Rattle.qpu_machine.specs.Qpu.{active_of, left_by, gives_way, refreshed, woke
 use Rattle.qpu_machine.specs.Start.{thread_of}
 use Rattle.qpu_machine.specs.Step.{ThreadTurn}
 use Rattle.machine_law.specs.Units.{Facts, IsFresh, AskOf, QpuFine, ThreadTurned}
-use Rattle.machine_law.proofs.Places.{chosen, drop_fine}
+use Rattle.apart_law.proofs.Places.{chosen, drop_every}
 
 -- what is known of a thread, where one runs
 abbrev pub SlotFine : Facts → Option Thread → Type 0
@@ -156,8 +156,8 @@ dropped_fine f q tmu fine = record {
   first = fine.first;
   other = fine.other;
   rests = fine.rests;
-  queue0 = chosen (Every (AskOf f)) (tmu == 0) (drop 1 q.queue0.items) q.queue0.items (drop_fine (AskOf f) q.queue0.items fine.queue0) fine.queue0;
-  queue1 = chosen (Every (AskOf f)) (tmu == 0) q.queue1.items (drop 1 q.queue1.items) fine.queue1 (drop_fine (AskOf f) q.queue1.items fine.queue1);
+  queue0 = chosen (Every (AskOf f)) (tmu == 0) (drop 1 q.queue0.items) q.queue0.items (drop_every (AskOf f) q.queue0.items fine.queue0) fine.queue0;
+  queue1 = chosen (Every (AskOf f)) (tmu == 0) q.queue1.items (drop 1 q.queue1.items) fine.queue1 (drop_every (AskOf f) q.queue1.items fine.queue1);
 }
 
 -- a finished result changes nothing of what is known

@@ -3,3 +3,4 @@ pub mod Jobs
 pub mod Laws
 pub mod Begins
 pub mod Sound
+pub mod Apart

@@ -2,12 +2,14 @@
 //!
 //! The crate has laws on definitions alone. From what is known of each job's lists and of each home of its threads
 //! (`specs::Jobs`), each unit of the machine owes what `Owes` says, so every run is safe and depends on nothing outside
-//! the jobs' regions, also while others write. The laws say nothing of job files, and name no number of jobs.
+//! the jobs' regions, also while others write. What one client's jobs access, and what its memory ends as, doesn't depend on the other
+//! clients' jobs (`specs::Apart`). The laws say nothing of job files, and name no number of jobs.
 #![tactic(auto)]
 
 ghost use Rattle.machine_law.specs.Laws.{UnitsOwe};
 ghost use Rattle.machine_law.specs.Begins.{DrawsStay, FixedStays, HomesStay};
 ghost use Rattle.machine_law.specs.Sound.{MachineSound, JobsSound, SoundJobsAreSafe};
+ghost use Rattle.machine_law.specs.Apart.{ClientsApart, ClientsApartAnywhere, ClientsApartWithOthers};
 
 /// Each unit of the machine keeps all that is known, in each memory that has what jobs may only read as the first.
 #[tactic(auto, using(crate::proofs::Owes::units_owe_law))]
@@ -47,4 +49,22 @@ pub fn jobs_sound()
 /// So every run in which nobody else writes is safe, and bytes outside the jobs' regions have no effect on it.
 pub fn sound_jobs_are_safe()
     ensures { SoundJobsAreSafe }
+{}
+
+/// Two runs from beginnings that have the same jobs of one client, with the same rights and places, and memories that agree on their
+/// regions: where these jobs take the same steps, in order, on the same processors and threads and with the same words, their accesses are
+/// the same in order, and so are the bytes of their regions at the end. All else may differ: the other clients' jobs, how many there are,
+/// and when they step.
+pub fn clients_apart()
+    ensures { ClientsApart }
+{}
+
+/// So it is from all memories that agree there and have what jobs may only read.
+pub fn clients_apart_anywhere()
+    ensures { ClientsApartAnywhere }
+{}
+
+/// And so it is while others write all that is neither the client's nor what jobs may only read.
+pub fn clients_apart_with_others()
+    ensures { ClientsApartWithOthers }
 {}

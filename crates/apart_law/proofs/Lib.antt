@@ -1,0 +1,10 @@
+pub mod Parts
+pub mod Places
+pub mod Slots
+pub mod Plans
+pub mod Starting
+pub mod Tied
+pub mod Turns
+pub mod Silent
+pub mod Own
+pub mod Trails

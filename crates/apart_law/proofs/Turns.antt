@@ -1,0 +1,163 @@
+-- What a step of each unit leaves, said over any property of what all units keep, by the job that it was for.
+use Rattle.std.proofs.Common.{◌≡◌, ℕ, Bool, true, false, if◌then◌else◌, List, Option, Some, None, refl, ◌∙◌}
+use Rattle.std.specs.Prelude.{unwrap_or}
+use Rattle.std.specs.Int.{from_le_bytes, w64}
+use Rattle.field_words.specs.Words.{u32_at}
+use Rattle.field_words.specs.declared.access.Actor.{Actor}
+use Rattle.field_words.specs.declared.access.Actor.TheVariants.{Binner as TheBinner, Renderer as TheRenderer, Qpu as TheQpu, Tmu as TheTmu}
+use Rattle.machine_plan.specs.declared.who.Who.{Who}
+use Rattle.machine_plan.specs.Memory.{bytes_at}
+use Rattle.machine_plan.specs.Plan.{Plan, Done, Wilds, Reads, carried}
+use Rattle.machine_plan.specs.World.{Turn, mapped}
+use Rattle.machine_plan.proofs.Plans.{keeps_weaker}
+use Rattle.machine_plan.proofs.Worlds.{keeps_mapped}
+use Rattle.list_machine.specs.Binner.{binner_plan}
+use Rattle.list_machine.specs.Lists.{Lists, Turned, quiet, binner_of, renderer_of, binner_ended, renderer_ended}
+use Rattle.list_machine.specs.Renderer.{renderer_plan}
+use Rattle.qpu_machine.specs.declared.state.Qpu.{Qpu}
+use Rattle.qpu_machine.specs.declared.state.Request.{Request}
+use Rattle.qpu_machine.specs.declared.state.Thread.{Thread}
+use Rattle.qpu_machine.specs.Qpu.{active_of, job_of_thread, plan_by, went, stopped, stopped_by, queue_of, oldest, job_of_request, dropped, served, serving, free_in}
+use Rattle.qpu_machine.specs.Request.{ask_plan}
+use Rattle.qpu_machine.specs.Step.{ThreadTurn, executed, executed_with, word_plan, thread_plan}
+use Rattle.qpu_machine.specs.Wild.{takes_one, is_wild}
+use Rattle.qpu_machine.specs.Writes.{awake, past_uniform, written_at, added, multiplied, written, stored, loaded, went_on, worked, rested}
+use Rattle.machine.specs.State.{Units, State, Picked, item_at, binner_job, renderer_job}
+use Rattle.machine.specs.Step.{Event, job_of, turn, with_lists, with_qpu, binner_turn, renderer_turn, qpu_turn, tmu_turn, unit_turn, number_or_zero, qpu_job, tmu_job, unit_job}
+use Rattle.apart_law.proofs.Plans.{ComesTo, comes_to, comes_to_any}
+
+-- an instruction leaves its thread to its job
+job_stays : (word uniform : ℕ) (words : List ℕ) (t : Thread) → (executed word uniform words t).thread.job ≡ t.job
+unfolding executed executed_with rested worked went_on loaded stored written multiplied added written_at
+job_stays word uniform words t = refl
+
+job_awake : (words : List ℕ) (t : Thread) → (awake words t).job ≡ t.job
+unfolding awake
+job_awake words t = refl
+
+job_past : (t : Thread) → (past_uniform t).job ≡ t.job
+unfolding past_uniform
+job_past t = refl
+
+word_by : (t : Thread) (who : Who) (word : ℕ) (words m : List ℕ) (wild one : Bool)
+    → ComesTo who (λ turn. turn.thread.job ≡ t.job) (if wild then Wilds else (if one then Reads t.uniforms 4 (λ bytes. Done (executed word (u32_at bytes 0) words (awake words (past_uniform t)))) else Done (executed word 0 words (awake words t)))) m
+word_by t who word words m true one = tt
+word_by t who word words m false true = (tt, job_stays word (u32_at (bytes_at m t.uniforms 4) 0) words (awake words (past_uniform t)) ∙ (job_awake words (past_uniform t) ∙ job_past t))
+word_by t who word words m false false = job_stays word 0 words (awake words t) ∙ job_awake words t
+
+thread_comes : (t : Thread) (who : Who) (words m : List ℕ) → ComesTo who (λ turn. turn.thread.job ≡ t.job) (thread_plan t words) m
+unfolding thread_plan word_plan
+thread_comes t who words m =
+    let word = from_le_bytes w64 (bytes_at m t.place 8) in
+    (tt, word_by t who word words m (is_wild t word) (takes_one t word))
+
+-- P of the job that a step was for, and of all that a step of a unit for it can leave
+pub record AllTurns (u : Units) (P : ℕ → Units → Type 0) : Type 0 where
+  pub none : (j : ℕ) → P j u
+  pub lists : (j : ℕ) (turned : Turned) → P j (with_lists u j turned)
+  pub idle : (j k : ℕ) (q : Qpu) → item_at u.qpus k ≡ Some q → P j (with_qpu u k q)
+  pub goes : (k : ℕ) (q : Qpu) (t : Thread) (turn : ThreadTurn) → item_at u.qpus k ≡ Some q → active_of q ≡ Some t → turn.thread.job ≡ t.job → P t.job (with_qpu u k (went q t turn))
+  pub stops : (k : ℕ) (q : Qpu) (t : Thread) → item_at u.qpus k ≡ Some q → active_of q ≡ Some t → P t.job (with_qpu u k (stopped q t))
+  pub serves : (k n : ℕ) (q : Qpu) (r : Request) (row : Option (List ℕ)) → item_at u.qpus k ≡ Some q → oldest (queue_of q n) ≡ Some r → P r.job (with_qpu u k (served q n r row))
+  pub drops : (k n : ℕ) (q : Qpu) (r : Request) → item_at u.qpus k ≡ Some q → oldest (queue_of q n) ≡ Some r → P r.job (with_qpu u k (dropped q n))
+
+-- what the units keep after a turn
+abbrev pub left_by_turn : Turn Units → List ℕ → Units
+left_by_turn t m = unwrap_or (carried t.who t.plan m).result t.wild
+
+lists_left : (u : Units) (P : ℕ → Units → Type 0) → AllTurns u P → (who : Who) (plan : Plan Turned) (ended : Lists) (m : List ℕ)
+    → P who.job (left_by_turn (record { who = who; plan = mapped (with_lists u who.job) plan; wild = with_lists u who.job (quiet ended) }) m)
+lists_left u P all who plan ended m =
+    let put : Turned → Units = with_lists u who.job in
+    comes_to who (P who.job) (mapped put plan) m (put (quiet ended))
+    (keeps_mapped put who (λ p n. Unit {0}) (λ a. Unit {0}) (λ k next. P who.job next) plan m (comes_to_any who (λ turned. P who.job (put turned)) (λ turned. all.lists who.job turned) plan m))
+    (all.lists who.job (quiet ended))
+
+binner_left : (u : Units) (P : ℕ → Units → Type 0) → AllTurns u P → (found : Option (Picked Lists)) (words m : List ℕ) → P (binner_turn u found words).who.job (left_by_turn (binner_turn u found words) m)
+binner_left u P all None words m = all.none 0
+binner_left u P all (Some b) words m = lists_left u P all (binner_of b.number) (binner_plan b.item (free_in u.qpus) words) (binner_ended b.item) m
+
+renderer_left : (u : Units) (P : ℕ → Units → Type 0) → AllTurns u P → (found : Option (Picked Lists)) (words m : List ℕ) → P (renderer_turn u found words).who.job (left_by_turn (renderer_turn u found words) m)
+renderer_left u P all None words m = all.none 0
+renderer_left u P all (Some r) words m = lists_left u P all (renderer_of r.number) (renderer_plan r.item (free_in u.qpus) words) (renderer_ended r.item) m
+
+-- a processor by its active thread
+abbrev pub thread_turn : Units → ℕ → Qpu → Option Thread → List ℕ → Turn Units
+thread_turn u k q slot words = record {
+  who = record { unit = TheQpu k; job = job_of_thread slot };
+  plan = mapped (with_qpu u k) (plan_by slot q words);
+  wild = with_qpu u k (stopped_by slot q);
+}
+
+thread_left : (u : Units) (P : ℕ → Units → Type 0) → AllTurns u P → (k : ℕ) (q : Qpu) (slot : Option Thread) (words m : List ℕ) → item_at u.qpus k ≡ Some q → active_of q ≡ slot
+    → P (job_of_thread slot) (left_by_turn (thread_turn u k q slot words) m)
+thread_left u P all k q None words m here active = all.idle 0 k q here
+thread_left u P all k q (Some t) words m here active =
+    let who : Who = record { unit = TheQpu k; job = t.job } in
+    let put : Qpu → Units = with_qpu u k in
+    let L : ℕ → ℕ → Type 0 = λ p n. Unit {0} in
+    comes_to who (P t.job) (mapped put (mapped (went q t) (thread_plan t words))) m (put (stopped q t))
+    (keeps_mapped put who L (λ a. Unit {0}) (λ i next. P t.job next) (mapped (went q t) (thread_plan t words)) m
+    (keeps_mapped (went q t) who L (λ a. Unit {0}) (λ i next. P t.job (put next)) (thread_plan t words) m
+    (keeps_weaker who L L (λ a. Unit {0}) (λ a. Unit {0}) (λ i turn. turn.thread.job ≡ t.job) (λ i turn. P t.job (put (went q t turn))) (λ p n h. h) (λ a h. h) (λ i turn same. all.goes k q t turn here active same) (thread_plan t words) m
+    (thread_comes t who words m))))
+    (all.stops k q t here active)
+
+qpu_left : (u : Units) (P : ℕ → Units → Type 0) → AllTurns u P → (k : ℕ) (found : Option Qpu) (words m : List ℕ) → item_at u.qpus k ≡ found → P (qpu_turn u k found words).who.job (left_by_turn (qpu_turn u k found words) m)
+qpu_left u P all k None words m here = all.none 0
+qpu_left u P all k (Some q) words m here = thread_left u P all k q (active_of q) words m here refl
+
+-- a TMU by its oldest request
+abbrev pub request_turn : Units → ℕ → ℕ → Qpu → Option Request → List ℕ → Turn Units
+request_turn u k n q found words = record {
+  who = record { unit = TheTmu k n; job = job_of_request found };
+  plan = mapped (with_qpu u k) (serving found q n words);
+  wild = with_qpu u k (dropped q n);
+}
+
+request_left : (u : Units) (P : ℕ → Units → Type 0) → AllTurns u P → (k n : ℕ) (q : Qpu) (found : Option Request) (words m : List ℕ) → item_at u.qpus k ≡ Some q → oldest (queue_of q n) ≡ found
+    → P (job_of_request found) (left_by_turn (request_turn u k n q found words) m)
+request_left u P all k n q None words m here is = all.idle 0 k q here
+request_left u P all k n q (Some r) words m here is =
+    let who : Who = record { unit = TheTmu k n; job = r.job } in
+    let put : Qpu → Units = with_qpu u k in
+    let L : ℕ → ℕ → Type 0 = λ p n. Unit {0} in
+    comes_to who (P r.job) (mapped put (mapped (served q n r) (ask_plan r.ask words))) m (put (dropped q n))
+    (keeps_mapped put who L (λ a. Unit {0}) (λ i next. P r.job next) (mapped (served q n r) (ask_plan r.ask words)) m
+    (keeps_mapped (served q n r) who L (λ a. Unit {0}) (λ i next. P r.job (put next)) (ask_plan r.ask words) m
+    (comes_to_any who (λ row. P r.job (put (served q n r row))) (λ row. all.serves k n q r row here is) (ask_plan r.ask words) m)))
+    (all.drops k n q r here is)
+
+tmu_left : (u : Units) (P : ℕ → Units → Type 0) → AllTurns u P → (k n : ℕ) (found : Option Qpu) (words m : List ℕ) → item_at u.qpus k ≡ found → P (tmu_turn u k n found words).who.job (left_by_turn (tmu_turn u k n found words) m)
+tmu_left u P all k n None words m here = all.none 0
+tmu_left u P all k n (Some q) words m here = request_left u P all k n q (oldest (queue_of q n)) words m here refl
+
+-- each unit
+pub unit_left : (u : Units) (P : ℕ → Units → Type 0) → AllTurns u P → (unit : Actor) (words m : List ℕ) → P (unit_turn u unit words).who.job (left_by_turn (unit_turn u unit words) m)
+unit_left u P all TheBinner words m = binner_left u P all (binner_job u) words m
+unit_left u P all TheRenderer words m = renderer_left u P all (renderer_job u) words m
+unit_left u P all (TheQpu k) words m = qpu_left u P all k (item_at u.qpus k) words m refl
+unit_left u P all (TheTmu k n) words m = tmu_left u P all k n (item_at u.qpus k) words m refl
+
+-- the job for which a unit steps is that of its turn
+list_job : (u : Units) (found : Option (Picked Lists)) (words : List ℕ) → ((binner_turn u found words).who.job ≡ number_or_zero found) × ((renderer_turn u found words).who.job ≡ number_or_zero found)
+list_job u None words = (refl, refl)
+list_job u (Some one) words = (refl, refl)
+
+qpu_job_is : (u : Units) (k : ℕ) (found : Option Qpu) (words : List ℕ) → (qpu_turn u k found words).who.job ≡ qpu_job found
+qpu_job_is u k None words = refl
+qpu_job_is u k (Some q) words = refl
+
+tmu_job_is : (u : Units) (k n : ℕ) (found : Option Qpu) (words : List ℕ) → (tmu_turn u k n found words).who.job ≡ tmu_job found n
+tmu_job_is u k n None words = refl
+tmu_job_is u k n (Some q) words = refl
+
+pub job_is : (u : Units) (unit : Actor) (words : List ℕ) → (unit_turn u unit words).who.job ≡ unit_job u unit
+job_is u TheBinner words = (list_job u (binner_job u) words).0
+job_is u TheRenderer words = (list_job u (renderer_job u) words).1
+job_is u (TheQpu k) words = qpu_job_is u k (item_at u.qpus k) words
+job_is u (TheTmu k n) words = tmu_job_is u k n (item_at u.qpus k) words
+
+pub turn_job : (s : State) (event : Event) → (turn s.units event).who.job ≡ job_of s event.unit
+unfolding turn job_of
+turn_job s event = job_is s.units event.unit event.words

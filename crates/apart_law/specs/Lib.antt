@@ -1,0 +1,4 @@
+pub mod Part
+pub mod Trail
+pub mod Tied
+pub mod Steps

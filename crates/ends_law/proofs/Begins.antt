@@ -1,0 +1,157 @@
+-- What jobs whose programs are short begin with: all that is left of them, at their start.
+use Rattle.std.proofs.Common.{◌≡◌, ◌≤◌, ◌<◌, ℕ, zero, suc, ◌+◌, ◌-◌, ◌*◌, ◌==◌, not, Bool, true, false, List, [], ◌∷◌, length, map, replicate, Option, refl, sym, ap, subst, arith}
+use Rattle.field_words.specs.Pieces.{joined as joined_bytes}
+use Rattle.packets.specs.declared.config.Config.{Config}
+use Rattle.packets.specs.declared.packet.Packet.{Packet}
+use Rattle.packets.specs.Packet.{slots_text}
+use Rattle.emitted_facts.specs.Records.{is_single, code_word, stream_word}
+use Rattle.emitted_facts.proofs.Records.{header_in}
+use Rattle.bin_walks.specs.Walks.{Kept, nothing_kept, kept_after, Walks}
+use Rattle.machine_plan.specs.declared.launch.Launch.{Launch}
+use Rattle.machine_plan.specs.Regions.{Interval, Rights, rights_of, HasReadOnly}
+use Rattle.list_machine.specs.Lists.{lists_start}
+use Rattle.list_law.specs.Binning.{DrawsSo}
+use Rattle.list_law.specs.Emitted.{words_in, program_in}
+use Rattle.list_law.specs.Lists.{ListsFine}
+use Rattle.list_law.specs.Uses.{Programs}
+use Rattle.list_law.proofs.Emitted.{emitted_programs}
+use Rattle.list_law.proofs.Logs.{same}
+use Rattle.list_law.proofs.Start.{lists_begin, walks_so}
+use Rattle.qpu_machine.specs.Qpu.{idle_qpu}
+use Rattle.machine.specs.declared.job.Start.{Start}
+use Rattle.machine.specs.State.{job_start, units_start}
+use Rattle.machine_law.specs.Begins.{LaunchBegins}
+use Rattle.machine_law.proofs.Begins.{homes_stay_law, fetches_stay, single_stays, word_stays, record_stays, text_stays}
+use Rattle.ends_law.specs.Ends.{DrawShort, JobShort}
+use Rattle.ends_law.specs.Left.{EachWithin, LaunchShort, QpuLeft, AllWhole, JobEnds, UnitsLeft}
+use Rattle.ends_law.specs.Loops.{IsShort}
+use Rattle.ends_law.specs.Steps.{one_if, times, most_times, most_visits, all_entered, job_steps}
+
+-- a program that may be started in each run
+launch_short : (rights : List Rights) (plains : ℕ → List Interval) (first : List ℕ) (w j : ℕ) (launch : Launch) → (begins : LaunchBegins rights plains first j launch) → IsShort w begins.home.code → LaunchShort rights (HasReadOnly rights first) w j launch
+launch_short rights plains first w j launch begins short = record {
+  home = begins.home;
+  short = short;
+  stands = (homes_stay_law rights plains first j begins.home begins.buffers begins.begins).stands;
+  code = begins.code;
+  uniforms = begins.uniforms;
+  threaded = begins.threaded;
+}
+
+program_short : (rights : List Rights) (plains : ℕ → List Interval) (first m : List ℕ) (w j word : ℕ) (threaded there : Bool) (s : ℕ) → threaded ≡ there → words_in m word (code_word s) ≡ words_in first word (code_word s) → words_in m word (stream_word s) ≡ words_in first word (stream_word s)
+    → (begins : LaunchBegins rights plains first j (program_in first word there s)) → IsShort w begins.home.code → LaunchShort rights (HasReadOnly rights first) w j (program_in m word threaded s)
+program_short rights plains first m w j word threaded there s same_flag code stream begins short =
+    let is : program_in m word threaded s ≡ program_in first word there s = λ i. record { threaded = same_flag i; code = code i; uniforms = stream i } in
+    subst (LaunchShort rights (HasReadOnly rights first) w j) (sym is) (launch_short rights plains first w j (program_in first word there s) begins short)
+
+programs_short : (rights : List Rights) (plains : ℕ → List Interval) (first m : List ℕ) (w j word : ℕ) (packet : List ℕ) → DrawShort rights plains first w j word packet → HasReadOnly rights first m
+    → Programs (rights_of rights j).region (LaunchShort rights (HasReadOnly rights first) w j) m word
+programs_short rights plains first m w j word packet draws has =
+    let begins = draws.begins in
+    let room = header_in word in
+    let stays : (i : ℕ) → i < 9 → words_in m word i ≡ words_in first word i = λ i below. word_stays rights first m j word i begins.record_stands begins.record_fixed has (omega (arith, room, below)) in
+    let single : not (is_single (words_in m word)) ≡ not (is_single (words_in first word)) = single_stays (words_in m word) (words_in first word) (stays 0 (omega arith)) in
+    emitted_programs (rights_of rights j).region (LaunchShort rights (HasReadOnly rights first) w j) m word (record_stays rights first m j word begins.record_fixed has begins.record_stands)
+    (program_short rights plains first m w j word (not (is_single (words_in m word))) (not (is_single (words_in first word))) 0 single (stays 1 (omega arith)) (stays 2 (omega arith)) begins.fragment draws.fragment)
+    (program_short rights plains first m w j word false false 1 refl (stays 4 (omega arith)) (stays 5 (omega arith)) begins.vertex draws.vertex)
+    (program_short rights plains first m w j word false false 2 refl (stays 7 (omega arith)) (stays 8 (omega arith)) begins.coordinate draws.coordinate)
+
+draws_short : (rights : List Rights) (plains : ℕ → List Interval) (first : List ℕ) (w j word : ℕ) (packet : List ℕ) → DrawShort rights plains first w j word packet
+    → DrawsSo (rights_of rights j) (HasReadOnly rights first) (LaunchShort rights (HasReadOnly rights first) w j) word packet
+draws_short rights plains first w j word packet draws = record {
+  fetches = λ m has. fetches_stay rights plains first m j word packet draws.begins has;
+  programs = λ m has. programs_short rights plains first m w j word packet draws has;
+}
+
+-- packets that walk are whole
+walks_whole : (c : Config) (R : ℕ → List ℕ → Type 0) (kept : Kept) (packets : List (List ℕ)) → Walks c R kept packets → AllWhole packets
+walks_whole c R kept [] walks = tt
+walks_whole c R kept (packet ∷ packets) walks = (record { whole = walks.0.whole; known = walks.0.known }, walks_whole c R (kept_after kept packet) packets walks.1)
+
+-- No place is among them oftener than the one that is most often.
+rest_most : (one : ℕ) (others all : List ℕ) (n : ℕ) → n ≤ most_times others all → n ≤ most_times (one ∷ others) all
+rest_most one others all n less = omega (arith, less)
+
+found_by : (place one : ℕ) (others all : List ℕ) (n : ℕ) (b : Bool) → (one == place) ≡ b → one_if b + times place others ≡ n + 1 → (times place others ≡ n + 1 → times place all ≤ most_times others all)
+    → times place all ≤ most_times (one ∷ others) all
+found_by place one others all n true on is later =
+    let e : one ≡ place = same one place on in
+    let here : times one all ≡ times place all = ap (λ x. times x all) e in
+    omega (arith, here)
+found_by place one others all n false off is later = rest_most one others all (times place all) (later (omega (arith, is)))
+
+found_most : (place : ℕ) (some all : List ℕ) (n : ℕ) → times place some ≡ n + 1 → times place all ≤ most_times some all
+found_most place [] all n is = absurd (omega (arith, is))
+found_most place (one ∷ others) all n is = found_by place one others all n (one == place) refl is (λ later. found_most place others all n later)
+
+most_by : (place : ℕ) (all : List ℕ) (n : ℕ) → times place all ≡ n → n ≤ most_times all all
+most_by place all zero is = omega arith
+most_by place all (suc n) is = let most = found_most place all all n (omega (arith, is)) in omega (arith, most, is)
+
+often_most : (place : ℕ) (slots : List (Option Packet)) → times place (all_entered slots) ≤ most_visits slots
+unfolding most_visits
+often_most place slots = most_by place (all_entered slots) (times place (all_entered slots)) refl
+
+-- All that is left of a job.
+job_ends : (rights : List Rights) (plains : ℕ → List Interval) (first : List ℕ) (w j n : ℕ) (start : Start) → JobShort rights plains first w j n start → JobEnds rights (HasReadOnly rights first) w j n (job_start start)
+unfolding job_steps
+job_ends rights plains first w j n start short =
+    let begins = short.begins in
+    let r : Rights = rights_of rights j in
+    let K = HasReadOnly rights first in
+    let O = LaunchShort rights K w j in
+    let all : ListsFine r K O begins.config begins.frame (lists_start start.bin_place (length (joined_bytes begins.packets)) start.render_place (length (slots_text begins.slots))) =
+    lists_begin r K O begins.config begins.frame start.bin_place start.render_place begins.packets begins.slots
+    (record {
+      walks = walks_so begins.config (DrawShort rights plains first w j) (DrawsSo r K O) (λ word packet draws kind. draws_short rights plains first w j word packet draws) nothing_kept begins.packets short.short;
+      stands = text_stays rights first j start.bin_place (joined_bytes begins.packets) begins.bin_text;
+      reads = begins.bin_text.reads;
+    })
+    (record {
+      walks = begins.render_walks;
+      fit = begins.render_fits;
+      sets = begins.render_sets;
+      stands = text_stays rights first j start.render_place (slots_text begins.slots) begins.render_text;
+      reads = begins.render_text.reads;
+    }) in
+    let binned : ListsFine r K O begins.config begins.frame (lists_start start.bin_place start.bin_len start.render_place (length (slots_text begins.slots))) =
+    subst (λ n. ListsFine r K O begins.config begins.frame (lists_start start.bin_place n start.render_place (length (slots_text begins.slots)))) (sym begins.bin_len) all in
+    let within = short.within in
+    record {
+      config = begins.config;
+      frame = begins.frame;
+      allocates = begins.allocates;
+      lists = subst (λ n. ListsFine r K O begins.config begins.frame (lists_start start.bin_place start.bin_len start.render_place n)) (sym begins.render_len) binned;
+      most = most_visits begins.slots;
+      left = record {
+        packets = begins.packets;
+        bin_ends = ap (λ n. start.bin_place + n) (sym begins.bin_len);
+        bin_stands = text_stays rights first j start.bin_place (joined_bytes begins.packets) begins.bin_text;
+        whole = walks_whole begins.config (DrawShort rights plains first w j) nothing_kept begins.packets short.short;
+        slots = begins.slots;
+        render_ends = ap (λ n. start.render_place + n) (sym begins.render_len);
+        render_stands = text_stays rights first j start.render_place (slots_text begins.slots) begins.render_text;
+        fit = begins.render_fits;
+        few = omega arith;
+        often = λ tile. (let most = often_most (begins.config.address + 32 * tile) begins.slots in omega (arith, most));
+        sum = omega (arith, within);
+      };
+    }
+
+each_ends : (rights : List Rights) (plains : ℕ → List Interval) (first : List ℕ) (w k n : ℕ) (starts : List Start) → EachWithin (JobShort rights plains first w) k n starts → EachWithin (JobEnds rights (HasReadOnly rights first) w) k n (map job_start starts)
+each_ends rights plains first w k n [] all = tt
+each_ends rights plains first w k n (start ∷ starts) all = (all.0, job_ends rights plains first w k all.0 start all.1, all.2, each_ends rights plains first w (k + 1) (n - all.0) starts all.3)
+
+-- nothing is left of idle processors
+idle_left : (rights : List Rights) (K : List ℕ → Type 0) (k count : ℕ) → EachWithin (QpuLeft rights K) k 0 (replicate count idle_qpu)
+idle_left rights K k zero = tt
+idle_left rights K k (suc count) = (0, record { firsts = 0; others = 0; first = tt; other = tt; sum = omega arith }, omega arith, idle_left rights K (k + 1) count)
+
+pub start_left : (rights : List Rights) (plains : ℕ → List Interval) (first : List ℕ) (w n : ℕ) (starts : List Start) → EachWithin (JobShort rights plains first w) 0 n starts → UnitsLeft rights (HasReadOnly rights first) w n (units_start starts)
+start_left rights plains first w n starts all = record {
+  of_jobs = n;
+  of_qpus = 0;
+  jobs = each_ends rights plains first w 0 n starts all;
+  qpus = idle_left rights (HasReadOnly rights first) 0 12;
+  sum = omega arith;
+}

@@ -1,0 +1,10 @@
+pub mod Plans
+pub mod Shares
+pub mod Threads
+pub mod Processors
+pub mod Visits
+pub mod Binner
+pub mod Renderer
+pub mod Machine
+pub mod Begins
+pub mod Runs

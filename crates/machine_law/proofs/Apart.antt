@@ -1,0 +1,221 @@
+-- Clients are apart: what one client's jobs access, and what its memory ends as, is the same in all runs in which they take the same steps.
+use Rattle.std.proofs.Common.{◌≡◌, ℕ, Bool, true, false, IsTrue, if◌then◌else◌, List, [], ◌∷◌, map, slice_index, Some, None, refl, sym, ◌∙◌, ap, subst, arith}
+use Rattle.std.specs.Prelude.{option_map}
+use Rattle.std.proofs.lemmas.Option.{slice_get-map}
+use Rattle.machine_plan.specs.Others.{Happening, Steps, Changes, MayHappen, happen, AllMayHappen, IsLeft}
+use Rattle.machine_plan.specs.Plan.{Keeps}
+use Rattle.machine_plan.specs.Regions.{Interval, Inside, IsIn, Every, Rights, rights_of, IsSafeAccess, HasReadOnly, Agree, Misses}
+use Rattle.machine_plan.specs.Runs.{reached}
+use Rattle.machine_plan.specs.World.{Turn}
+use Rattle.machine_plan.proofs.Memory.{inside_part}
+use Rattle.machine_plan.proofs.Others.{Holds, run_holds, run_others}
+use Rattle.machine_plan.proofs.Plans.{kept, length-carried, keeps_accesses, keeps_of, keeps_weaker}
+use Rattle.machine_plan.proofs.Runs.{every-weaker}
+use Rattle.machine.specs.State.{Units, State, start_of, job_start}
+use Rattle.machine.specs.Step.{Event, job_of, may, step, ready, turn}
+use Rattle.apart_law.specs.Part.{Client, accesses_of, UnitsAlike, StatesAlike}
+use Rattle.apart_law.specs.Steps.{StaysIn, StepsAlike}
+use Rattle.apart_law.specs.Tied.{AreTied, RestsFresh}
+use Rattle.apart_law.specs.Trail.{Entry, entry_of, own_entry, happening_entry, with_entry, entries_of}
+use Rattle.apart_law.proofs.Own.{own_alike_law}
+use Rattle.apart_law.proofs.Parts.{some_same, some_none}
+use Rattle.apart_law.proofs.Silent.{others_silent_law, keep_tied_law}
+use Rattle.apart_law.proofs.Tied.{idle_tied}
+use Rattle.apart_law.proofs.Trails.{AllMay, trails_alike}
+use Rattle.apart_law.proofs.Turns.{turn_job}
+use Rattle.machine_law.specs.Apart.{regions_of, Beginning, BeginsSoundly, AreNeighbours, AreLeft, ClientsApart, ClientsApartAnywhere, ClientsApartWithOthers}
+use Rattle.machine_law.specs.Jobs.{facts_of}
+use Rattle.machine_law.specs.Laws.{AreFine}
+use Rattle.machine_law.specs.Units.{QpuFine}
+use Rattle.machine_law.proofs.Begins.{each_begins}
+use Rattle.machine_law.proofs.Owes.{units_owe_law, start_fine}
+use Rattle.machine_law.proofs.Regions.{HasRegions, has_regions, neighbour_has}
+
+-- states that are alike to a client
+units_then : (mine : Client) (u v w : Units) → UnitsAlike mine u v → UnitsAlike mine v w → UnitsAlike mine u w
+units_then mine u v w first second = record { jobs = λ j own. first.jobs j own ∙ second.jobs j own; qpus = first.qpus ∙ second.qpus }
+
+units_back : (mine : Client) (u v : Units) → UnitsAlike mine u v → UnitsAlike mine v u
+units_back mine u v alike = record { jobs = λ j own. sym (alike.jobs j own); qpus = sym alike.qpus }
+
+agree_then : (all : List Interval) (m k l : List ℕ) → Agree all m k → Agree all k l → Agree all m l
+agree_then all m k l first second = record { long = first.long ∙ second.long; same = λ p lies. first.same p lies ∙ second.same p lies }
+
+agree_back : (all : List Interval) (m k : List ℕ) → Agree all m k → Agree all k m
+agree_back all m k agree = record { long = sym agree.long; same = λ p lies. sym (agree.same p lies) }
+
+states_then : (mine : Client) (all : List Interval) (s t r : State) → StatesAlike mine all s t → StatesAlike mine all t r → StatesAlike mine all s r
+states_then mine all s t r first second = record { units = units_then mine s.units t.units r.units first.units second.units; memory = agree_then all s.memory t.memory r.memory first.memory second.memory }
+
+states_back : (mine : Client) (all : List Interval) (s t : State) → StatesAlike mine all s t → StatesAlike mine all t s
+states_back mine all s t alike = record { units = units_back mine s.units t.units alike.units; memory = agree_back all s.memory t.memory alike.memory }
+
+-- what is known of each state of a run
+record Known (b : Beginning) (s : State) : Type 0 where
+  pub holds : Holds b.rights b.memory (AreFine b.rights b.plains b.memory) s
+  pub tied : AreTied s.units.qpus
+
+-- a unit steps where it may, and others leave the client's bytes, and what jobs may only read
+abbrev MayApart : Beginning → List Interval → State → Happening Event → Type 0
+MayApart b all s (Steps event) = IsTrue (may s event)
+MayApart b all s (Changes m) = HasReadOnly b.rights s.memory m × ((p : ℕ) → Inside all p 1 → slice_index m p ≡ slice_index s.memory p)
+
+may_happen : (b : Beginning) (all : List Interval) (s : State) (one : Happening Event) → MayApart b all s one → MayHappen ready b.rights s one
+may_happen b all s (Steps event) can = can
+may_happen b all s (Changes m) can = can.0
+
+tied_after : (s : State) (one : Happening Event) → AreTied s.units.qpus → AreTied (happen turn s one).state.units.qpus
+tied_after s (Steps event) tied = keep_tied_law s event tied
+tied_after s (Changes m) tied = tied
+
+known_after : (b : Beginning) (all : List Interval) → BeginsSoundly b → (s : State) (one : Happening Event) → Known b s → MayApart b all s one → Known b (happen turn s one).state
+known_after b all sound s one known can = record {
+  holds = (run_holds ready turn b.rights b.memory (AreFine b.rights b.plains b.memory) (units_owe_law b.rights b.plains b.memory sound.plain) (one ∷ []) s known.holds (may_happen b all s one can, tt)).0;
+  tied = tied_after s one known.tied;
+}
+
+rest_fresh : (b : Beginning) (s : State) → Known b s → Every RestsFresh s.units.qpus
+rest_fresh b s known = every-weaker (QpuFine (facts_of b.rights b.plains b.memory)) RestsFresh (λ q fine. fine.rests) s.units.qpus known.holds.units.qpus
+
+-- what a step owes, by the rights of its job
+abbrev StepKeeps : Beginning → State → Event → Type 0
+StepKeeps b s event =
+    Keeps (turn s.units event).who (Inside (rights_of b.rights (turn s.units event).who.job).region) (IsSafeAccess b.rights) (λ k next. AreFine b.rights b.plains b.memory next) (turn s.units event).plan s.memory
+
+step_keeps : (b : Beginning) → BeginsSoundly b → (s : State) (event : Event) → Known b s → IsTrue (may s event) → StepKeeps b s event
+step_keeps b sound s event known can = (units_owe_law b.rights b.plains b.memory sound.plain).keeps s.units s.memory event known.holds.units known.holds.has can
+
+-- a step for another client's job writes no byte of the client's
+others_leave : (mine : Client) (all : List Interval) (b : Beginning) → HasRegions mine b.rights all → (s : State) (event : Event) → mine (turn s.units event).who.job ≡ false → StepKeeps b s event → (p : ℕ) → Inside all p 1
+    → slice_index (step s event).state.memory p ≡ slice_index s.memory p
+others_leave mine all b has s event others keeps p lies =
+    let t : Turn Units = turn s.units event in
+    let L = Inside (rights_of b.rights t.who.job).region in
+    let P : List ℕ → Units → Type 0 = λ k next. AreFine b.rights b.plains b.memory next in
+    kept t.who t.plan s.memory p
+    (keeps_accesses t.who L (Misses p) P t.plan s.memory
+    (keeps_of t.who L (IsSafeAccess b.rights) (Misses p) P
+    (λ way q n safe writes from before. has.apart t.who.job p others lies (inside_part (rights_of b.rights t.who.job).writable q n p 1 (safe.writes writes) from (omega (arith, before))))
+    t.plan s.memory keeps))
+
+-- a step for its own job stays in what is the client's
+own_stays : (mine : Client) (all : List Interval) (b : Beginning) → HasRegions mine b.rights all → (s : State) (event : Event) → mine (turn s.units event).who.job ≡ true → StepKeeps b s event → StaysIn all (turn s.units event) s.memory
+own_stays mine all b has s event own keeps =
+    let t : Turn Units = turn s.units event in
+    let L = Inside (rights_of b.rights t.who.job).region in
+    let P : List ℕ → Units → Type 0 = λ k next. AreFine b.rights b.plains b.memory next in
+    keeps_weaker t.who L (Inside all) (IsIn all) (IsIn all) P (λ k next. Unit {0}) (λ q n lies. has.covers t.who.job q n own lies) (λ a lies. lies) (λ k next fine. tt) t.plan s.memory
+    (keeps_of t.who L (IsSafeAccess b.rights) (IsIn all) P (λ way q n safe. has.covers t.who.job q n own safe.inside) t.plan s.memory keeps)
+
+-- entries
+entry_none : (own : Bool) (entry : Entry) → (if own then Some entry else None) ≡ None → own ≡ false
+entry_none true entry is = absurd (some_none entry is)
+entry_none false entry is = refl
+
+entry_some : (own : Bool) (entry x : Entry) → (if own then Some entry else None) ≡ Some x → (own ≡ true) × (entry ≡ x)
+entry_some true entry x is = (refl, some_same entry x is)
+entry_some false entry x is = absurd (some_none x (sym is))
+
+-- what leaves no entry is silent
+silent : (mine : Client) (all : List Interval) (b : Beginning) → BeginsSoundly b → HasRegions mine b.rights all → (s : State) (one : Happening Event) → Known b s → MayApart b all s one → happening_entry mine s one ≡ None
+    → (accesses_of mine (happen turn s one).accesses ≡ []) × StatesAlike mine all (happen turn s one).state s
+silent mine all b sound has s (Steps event) known can none =
+    let others : mine (job_of s event.unit) ≡ false = entry_none (mine (job_of s event.unit)) (entry_of s event) none in
+    let still = others_silent_law mine s event others known.tied (rest_fresh b s known) in (
+      still.0,
+      record {
+        units = still.1;
+        memory = record {
+          long = length-carried (turn s.units event).who (turn s.units event).plan s.memory;
+          same = others_leave mine all b has s event (ap mine (turn_job s event) ∙ others) (step_keeps b sound s event known can);
+        };
+      },
+    )
+silent mine all b sound has s (Changes m) known can none = (refl, record { units = record { jobs = λ j own. refl; qpus = refl }; memory = record { long = can.0.long; same = can.1 } })
+
+-- what leaves one entry is alike
+both_alike : (mine : Client) (all : List Interval) (b : Beginning) → BeginsSoundly b → HasRegions mine b.rights all → (s t : State) (one other : Happening Event) (c : Beginning) (x : Entry) → Known b s → MayApart b all s one → MayApart c all t other
+    → StatesAlike mine all s t → happening_entry mine s one ≡ Some x → happening_entry mine t other ≡ Some x
+    → (accesses_of mine (happen turn s one).accesses ≡ accesses_of mine (happen turn t other).accesses) × StatesAlike mine all (happen turn s one).state (happen turn t other).state
+both_alike mine all b sound has s t (Changes m) other c x known can could alike first second = absurd (some_none x (sym first))
+both_alike mine all b sound has s t (Steps event) (Changes m) c x known can could alike first second = absurd (some_none x (sym second))
+both_alike mine all b sound has s t (Steps event) (Steps other) c x known can could alike first second =
+    let one = entry_some (mine (job_of s event.unit)) (entry_of s event) x first in
+    let two = entry_some (mine (job_of t other.unit)) (entry_of t other) x second in
+    let gave = own_alike_law mine all s t event other can could one.0 two.0 alike (one.1 ∙ sym two.1)
+    (own_stays mine all b has s event (ap mine (turn_job s event) ∙ one.0) (step_keeps b sound s event known can)) in
+    (ap (accesses_of mine) gave.accesses, gave.states)
+
+steps_alike : (mine : Client) (b c : Beginning) → AreNeighbours mine b c
+    → StepsAlike (happening_entry mine) (happen turn) mine (MayApart b (regions_of mine 0 b.rights)) (MayApart c (regions_of mine 0 b.rights)) (Known b) (Known c) (StatesAlike mine (regions_of mine 0 b.rights))
+steps_alike mine b c near =
+    let all = regions_of mine 0 b.rights in
+    let has = has_regions mine b.rights near.unshared in
+    let also = neighbour_has mine b c near in
+    record {
+      keeps = λ s one known can. known_after b all near.begins s one known can;
+      others_keep = λ t one known can. known_after c all near.other_begins t one known can;
+      quiet = λ s t one known can alike none.
+          let still = silent mine all b near.begins has s one known can none in
+          (still.0, states_then mine all (happen turn s one).state s t still.1 alike);
+      others_quiet = λ s t one known can alike none.
+          let still = silent mine all c near.other_begins also t one known can none in
+          (still.0, states_then mine all s t (happen turn t one).state alike (states_back mine all (happen turn t one).state t still.1));
+      both = λ s t one other x known there can could alike first second. both_alike mine all b near.begins has s t one other c x known can could alike first second;
+    }
+
+-- the beginning
+begins_known : (b : Beginning) → BeginsSoundly b → (m : List ℕ) → HasReadOnly b.rights b.memory m → Known b (start_of m b.starts)
+begins_known b sound m has = record {
+  holds = record { units = start_fine b.rights b.plains b.memory b.starts (each_begins b.rights b.plains b.memory 0 b.starts sound.jobs); has = has };
+  tied = idle_tied 12;
+}
+
+begin_alike : (mine : Client) (b c : Beginning) → AreNeighbours mine b c → (m n : List ℕ) → Agree (regions_of mine 0 b.rights) m n → StatesAlike mine (regions_of mine 0 b.rights) (start_of m b.starts) (start_of n c.starts)
+begin_alike mine b c near m n agree = record {
+  units = record {
+    jobs = λ j own. slice_get-map job_start b.starts j ∙ (ap (option_map job_start) (near.starts j own) ∙ sym (slice_get-map job_start c.starts j));
+    qpus = refl;
+  };
+  memory = agree;
+}
+
+all_apart : (b : Beginning) (all : List Interval) (happenings : List (Happening Event)) (s : State) → AllMayHappen ready turn b.rights s happenings → AreLeft all s happenings → AllMay (happen turn) (MayApart b all) s happenings
+all_apart b all [] s can left = tt
+all_apart b all (Steps event ∷ later) s can left = (can.0, all_apart b all later (step s event).state can.1 left)
+all_apart b all (Changes m ∷ later) s can left =
+    ((can.0, λ p lies. (left p lies).0), all_apart b all later (record { memory = m; units = s.units }) can.1 (λ p lies. (left p lies).1))
+
+pub apart_with_others_law : ClientsApartWithOthers
+apart_with_others_law mine b c m n near has also agree happenings others found there s t run other left also_left trails =
+    let all = regions_of mine 0 b.rights in
+    let ran = trails_alike (happening_entry mine) (happen turn) mine (MayApart b all) (MayApart c all) (Known b) (Known c) (StatesAlike mine all) (steps_alike mine b c near)
+    (start_of m b.starts) happenings (begins_known b near.begins m has) (all_apart b all happenings (start_of m b.starts) run.allowed left)
+    (start_of n c.starts) others (begins_known c near.other_begins n also) (begin_alike mine b c near m n agree) (all_apart c all others (start_of n c.starts) other.allowed also_left) trails in
+    let ends : Agree all (reached (happen turn) (start_of m b.starts) happenings).memory (reached (happen turn) (start_of n c.starts) others).memory = ran.states.memory in
+    record {
+      accesses = ap (accesses_of mine) run.accesses ∙ (ran.accesses ∙ sym (ap (accesses_of mine) other.accesses));
+      memory = subst (λ (w : State). Agree all w.memory t.memory) (sym run.last) (subst (λ (w : State). Agree all (reached (happen turn) (start_of m b.starts) happenings).memory w.memory) (sym other.last) ends);
+    }
+
+-- runs in which nobody else writes
+same_trail : (mine : Client) (s : State) (events : List Event) → entries_of (own_entry mine) step s events ≡ entries_of (happening_entry mine) (happen turn) s (map Steps events)
+same_trail mine s [] = refl
+same_trail mine s (event ∷ events) = ap (λ entries. with_entry (own_entry mine s event) entries) (same_trail mine (step s event).state events)
+
+nobody_writes : (p : ℕ) (s : State) (events : List Event) → IsLeft turn p s (map Steps events)
+nobody_writes p s [] = tt
+nobody_writes p s (event ∷ events) = nobody_writes p (step s event).state events
+
+pub apart_anywhere_law : ClientsApartAnywhere
+apart_anywhere_law mine b c m n near has also agree events others found there s t run other trails =
+    apart_with_others_law mine b c m n near has also agree (map Steps events) (map Steps others) found there s t
+    (run_others ready turn b.rights (start_of m b.starts) events found s run) (run_others ready turn c.rights (start_of n c.starts) others there t other)
+    (λ p lies. nobody_writes p (start_of m b.starts) events) (λ p lies. nobody_writes p (start_of n c.starts) others)
+    (sym (same_trail mine (start_of m b.starts) events) ∙ (trails ∙ same_trail mine (start_of n c.starts) others))
+
+read_only_same : (rights : List Rights) (m : List ℕ) → HasReadOnly rights m m
+read_only_same rights m = record { long = refl; same = λ p lies out. refl }
+
+pub clients_apart_law : ClientsApart
+clients_apart_law mine b c near agree = apart_anywhere_law mine b c b.memory c.memory near (read_only_same b.rights b.memory) (read_only_same c.rights c.memory) agree
