@@ -1,5 +1,5 @@
 -- The configuration of the job's grid is the job's to write.
-use Rattle.std.proofs.Common.{◌≡◌, inl, ℕ, ◌+◌, ◌-◌, ◌*◌, ◌≤◌, Bool, true, false, not, ◌==◌, List, [], ◌∷◌, None, length, refl, arith, lit≤}
+use Rattle.std.proofs.Common.{◌≡◌, inl, ℕ, ◌+◌, ◌-◌, ◌*◌, ◌≤◌, Bool, true, false, not, ◌==◌, List, [], ◌∷◌, None, length, refl, sym, subst, arith, lit≤}
 use Rattle.std.proofs.lemmas.Bool.{leb-true, eqb-true, not-false}
 use Rattle.field_words.specs.Sizes.{page_size, slot_size}
 use Rattle.field_words.specs.Words.{rounded_up}
@@ -22,6 +22,7 @@ use Rattle.list_law.specs.Binning.{Allocates}
 use Rattle.accepted_law.specs.Holdings.{slot_in, job_rights, across_of, down_of, config_for}
 use Rattle.accepted_law.specs.Settled.{Settled}
 use Rattle.accepted_law.specs.Parts.{FilesAllocate}
+use Rattle.accepted_law.proofs.ByJob.{rights_are}
 
 -- The grid has room in a slot; where there is no binner list it has no tiles.
 grid_room : (given : GivenModel) (list : List ℕ) → first_of (questions_of given (passed list)) ≡ None
@@ -47,17 +48,17 @@ empty_room (o ∷ body) none = absurd (omega (arith, none))
 not_some : (n : ℕ) → not (n == 0) ≡ false → n ≡ 0
 not_some n is = eqb-true n 0 (not-false (n == 0) is)
 
-room_by : (f : FileModel) (b : Bool) → not (length (job_of f 0).bin == 0) ≡ b
-    → (b ≡ true → first_of (bin_questions (job_of f 0).bin (job_of f 0).declared (table_of f) (job_of f 0).handles) ≡ None)
-    → slot_fits (across_of f 0 * down_of f 0) ≡ true
-room_by f true is none =
-    let job = job_of f 0 in
+room_by : (f : FileModel) (j : ℕ) (b : Bool) → not (length (job_of f j).bin == 0) ≡ b
+    → (b ≡ true → first_of (bin_questions (job_of f j).bin (job_of f j).declared (table_of f) (job_of f j).handles) ≡ None)
+    → slot_fits (across_of f j * down_of f j) ≡ true
+room_by f j true is none =
+    let job = job_of f j in
     grid_room (given_of job.bin job.declared (table_of f) job.handles) job.bin (none refl)
-room_by f false is none = empty_room (job_of f 0).bin (not_some (length (job_of f 0).bin) is)
+room_by f j false is none = empty_room (job_of f j).bin (not_some (length (job_of f j).bin) is)
 
-room_of : (f : FileModel) → Settled f → slot_fits (across_of f 0 * down_of f 0) ≡ true
+room_of : (f : FileModel) (j : ℕ) → Settled f j → slot_fits (across_of f j * down_of f j) ≡ true
 unfolding has_bin
-room_of f s = room_by f (not (length (job_of f 0).bin == 0)) refl s.bin
+room_of f j s = room_by f j (not (length (job_of f j).bin == 0)) refl s.bin
 
 record HasRoom (tiles : ℕ) : Type 0 where
   states : 48 * tiles ≤ alloc_offset tiles
@@ -69,21 +70,23 @@ has_room tiles fits =
     let near = rounded (48 * tiles) page_size (lit≤ tt) in
     record { states = near.least; lists = leb-true (alloc_offset tiles + 32 * tiles) slot_size fits }
 
-lies_in_slot : (f : FileModel) (p n : ℕ) → slot_of f 0 ≤ p → p + n ≤ slot_of f 0 + slot_size → MayWrite (job_rights f 0) p n
+lies_in_slot : (f : FileModel) (j p n : ℕ) → slot_of f j ≤ p → p + n ≤ slot_of f j + slot_size → MayWrite (job_rights f j) p n
 unfolding slot_in
-lies_in_slot f p n from upto = record { region = inl (record { from = from; upto = upto }); writable = inl (record { from = from; upto = upto }) }
+lies_in_slot f j p n from upto = record { region = inl (record { from = from; upto = upto }); writable = inl (record { from = from; upto = upto }) }
 
-allocates : (f : FileModel) → HasRoom (across_of f 0 * down_of f 0) → Allocates (job_rights f 0) (config_for f 0)
+allocates : (f : FileModel) (j : ℕ) → HasRoom (across_of f j * down_of f j) → Allocates (job_rights f j) (config_for f j)
 unfolding config_for tiles_of
-allocates f room =
-    let tiles = across_of f 0 * down_of f 0 in
+allocates f j room =
+    let tiles = across_of f j * down_of f j in
     let states = room.states in
     let lists = room.lists in
     record {
-      states = lies_in_slot f (slot_of f 0) (48 * tiles) (omega arith) (omega (arith, states, lists));
-      all = lies_in_slot f (slot_of f 0 + alloc_offset tiles) (slot_size - alloc_offset tiles) (omega arith) (omega (arith, lists));
+      states = lies_in_slot f j (slot_of f j) (48 * tiles) (omega arith) (omega (arith, states, lists));
+      all = lies_in_slot f j (slot_of f j + alloc_offset tiles) (slot_size - alloc_offset tiles) (omega arith) (omega (arith, lists));
       first = omega (arith, lists);
     }
 
 pub files_allocate_law : FilesAllocate
-files_allocate_law f grounds = allocates f (has_room (across_of f 0 * down_of f 0) (room_of f grounds.settled))
+files_allocate_law f j grounds =
+    subst (λ r. Allocates r (config_for f j)) (sym (rights_are f j grounds.settled.inside))
+    (allocates f j (has_room (across_of f j * down_of f j) (room_of f j grounds.settled)))

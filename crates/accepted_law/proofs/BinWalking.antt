@@ -1,5 +1,5 @@
 -- The emitted binner list walks, and each primitive of it may be drawn.
-use Rattle.std.proofs.Common.{◌≡◌, ◌≤◌, ◌<◌, ℕ, ◌+◌, ◌-◌, ◌%◌, ◌==◌, ◌&&◌, nat_lt, Bool, true, false, List, slice_index, length, Some, None, if◌then◌else◌, refl, ◌∙◌, ap, subst, arith, ◌⊎◌, [], ◌∷◌, inl, inr}
+use Rattle.std.proofs.Common.{◌≡◌, ◌≤◌, ◌<◌, ℕ, ◌+◌, ◌-◌, ◌%◌, ◌==◌, ◌&&◌, nat_lt, Bool, true, false, List, slice_index, length, Some, None, if◌then◌else◌, refl, ◌∙◌, ap, subst, arith, []}
 use Rattle.std.proofs.lemmas.Bool.{eqb-true}
 use Rattle.field_words.specs.Words.{u32_at}
 use Rattle.packets.specs.Opcode.{indexed_primitive_list, array_primitive_list}
@@ -14,8 +14,7 @@ use Rattle.bin_list.specs.Emitted.{bin_text}
 use Rattle.bin_list.specs.Fine.{IsLow}
 use Rattle.bin_walks.specs.Draws.{IsStateAt, AreIndexesInside, IsDrawn}
 use Rattle.bin_walks.proofs.Walking.{draws_indexed}
-use Rattle.bin_walks.specs.Walks.{Kept, nothing_kept, kept_after, Drawing, Tame, Walks}
-use Rattle.packets.specs.declared.config.Config.{Config}
+use Rattle.bin_walks.specs.Walks.{nothing_kept, Walks}
 use Rattle.bin_walks.specs.Emission.{emission, config_of}
 use Rattle.bin_walks.specs.Law.{IsWalked}
 use Rattle.bin_walks.proofs.Law.{emitted_lists_walk_law}
@@ -24,11 +23,11 @@ use Rattle.shader_records.specs.Sources.{state_at, record_offset}
 use Rattle.job_format.specs.Model.{FileModel}
 use Rattle.job_check.specs.Shaders.{table_of}
 use Rattle.job_check.specs.Jobs.{job_of, input_for, layout_of, states_in, has_bin, bin_list_of}
-use Rattle.job_check.proofs.Layouts.{layout_low}
+use Rattle.job_check.proofs.Layouts.{layout_numbers, layout_low, enough_slots}
 use Rattle.machine_plan.specs.Regions.{Inside}
 use Rattle.list_law.proofs.Start.{Follows, walks_so}
-use Rattle.machine_law.specs.Begins.{DrawBegins}
-use Rattle.accepted_law.specs.Holdings.{job_rights, plain_of, file_rights, across_of, down_of, config_for}
+use Rattle.accepted_law.specs.Holdings.{rights_at, across_of, down_of, config_for}
+use Rattle.accepted_law.specs.Ends.{DrawShaders}
 use Rattle.accepted_law.specs.Settled.{Grounds}
 use Rattle.accepted_law.specs.Parts.{DrawsBegin, BinWalks, BinsWalk}
 use Rattle.accepted_law.proofs.States.{StateFound, state_found, place_for, place_whole, place_of, state_of, record_kept, data_inside, attributes_of}
@@ -73,99 +72,105 @@ indexed_inside table handles IsNamed packet most named indexes greatest =
       greatest = greatest;
     }
 
-primitive_of : (f : FileModel) (m : List ℕ) (word : ℕ) (packet : List ℕ) → Grounds f m → (drawn : IsDrawn (table_of f) (job_of f 0).handles (layout_of f 0) (states_in f 0) word packet)
-    → IsPrimitive (Inside (job_rights f 0).region) packet drawn.state.max_index
-primitive_of f m word packet grounds drawn = record {
-  indexed = λ is. indexed_inside (table_of f) (job_of f 0).handles (Inside (job_rights f 0).region) packet drawn.state.max_index (data_inside f m grounds) (drawn.indexes is)
+primitive_of : (f : FileModel) (j : ℕ) (m : List ℕ) (word : ℕ) (packet : List ℕ) → Grounds f j m → (drawn : IsDrawn (table_of f) (job_of f j).handles (layout_of f j) (states_in f j) word packet)
+    → IsPrimitive (Inside (rights_at f j).region) packet drawn.state.max_index
+primitive_of f j m word packet grounds drawn = record {
+  indexed = λ is. indexed_inside (table_of f) (job_of f j).handles (Inside (rights_at f j).region) packet drawn.state.max_index (data_inside f j m grounds) (drawn.indexes is)
       (let draws = draws_indexed packet is in omega (arith, draws, drawn.most));
   array = λ is. record { greatest = let draws = draws_array packet is in last_below (u32_at packet 6) (u32_at packet 2) drawn.state.max_index (subst (λ n. n ≤ drawn.state.max_index) draws drawn.most) };
 }
 
-found_in : (f : FileModel) (word : ℕ) (state : State) → IsStateAt (layout_of f 0) 0 (states_in f 0) word state → StateFound (input_for f 0) (layout_of f 0) word state
+found_in : (f : FileModel) (j word : ℕ) (state : State) → IsStateAt (layout_of f j) 0 (states_in f j) word state → StateFound (input_for f j) (layout_of f j) word state
 unfolding input_for
-found_in f word state is = state_found (input_for f 0) (layout_of f 0) word state is
+found_in f j word state is = state_found (input_for f j) (layout_of f j) word state is
 
-listed : (f : FileModel) (k : ℕ) → k < length (input_for f 0).states → k < length (states_in f 0)
+listed : (f : FileModel) (j k : ℕ) → k < length (input_for f j).states → k < length (states_in f j)
 unfolding input_for
-listed f k below = below
+listed f j k below = below
 
-points_there : (f : FileModel) (word : ℕ) (state : State) → (found : StateFound (input_for f 0) (layout_of f 0) word state) → word ≡ place_for f found.number + (state_at (input_for f 0) found.number).word % 16
+points_there : (f : FileModel) (j word : ℕ) (state : State) → (found : StateFound (input_for f j) (layout_of f j) word state) → word ≡ place_for f j found.number + (state_at (input_for f j) found.number).word % 16
 unfolding place_for
-points_there f word state found = found.points
+points_there f j word state found = found.points
 
-place_known : (f : FileModel) (k : ℕ) → place_for f k ≡ (layout_of f 0).place + (layout_of f 0).records + record_offset (input_for f 0) k
+place_known : (f : FileModel) (j k : ℕ) → place_for f j k ≡ (layout_of f j).place + (layout_of f j).records + record_offset (input_for f j) k
 unfolding place_for
-place_known f k = refl
+place_known f j k = refl
 
 pub draws_begin_law : DrawsBegin
-draws_begin_law f m word packet grounds has drawn kind =
-    let found = found_in f word drawn.state drawn.is_state in
+draws_begin_law f j m word packet grounds has drawn kind =
+    let found = found_in f j word drawn.state drawn.is_state in
     let k : ℕ = found.number in
-    let points = points_there f word drawn.state found in
-    let whole = place_whole f k grounds.settled.sound in
-    let n : ℕ = (state_at (input_for f 0) k).word in
-    let place_is = place_of word (place_for f k) n whole points in
-    let state_is = state_of word (place_for f k) n whole points in
-    let kept = record_kept f m k word grounds has found.below place_is state_is in
-    let launches = records_launch_law f m k word grounds has (listed f k found.below) (place_is ∙ place_known f k) in
+    let points = points_there f j word drawn.state found in
+    let whole = place_whole f j k grounds.settled.sound in
+    let n : ℕ = (state_at (input_for f j) k).word in
+    let place_is = place_of word (place_for f j k) n whole points in
+    let state_is = state_of word (place_for f j k) n whole points in
+    let kept = record_kept f j m k word grounds has found.below place_is state_is in
+    let launches = records_launch_law f j m k word grounds has (listed f j k found.below) (place_is ∙ place_known f j k) in
     record {
-      state = n;
-      most = (state_at (input_for f 0) k).max_index;
-      is_state = state_is;
-      record_stands = kept.stands;
-      record_fixed = kept.fixed;
-      attributes = attributes_of f m k word grounds has found.below place_is;
-      fragment = launches.fragment;
-      vertex = launches.vertex;
-      coordinate = launches.coordinate;
-      kind = kind;
-      primitive = subst (λ state. IsPrimitive (Inside (job_rights f 0).region) packet state.max_index) found.same (primitive_of f m word packet grounds drawn);
+      begins = record {
+        state = n;
+        most = (state_at (input_for f j) k).max_index;
+        is_state = state_is;
+        record_stands = kept.stands;
+        record_fixed = kept.fixed;
+        attributes = attributes_of f j m k word grounds has found.below place_is;
+        fragment = launches.fragment;
+        vertex = launches.vertex;
+        coordinate = launches.coordinate;
+        kind = kind;
+        primitive = subst (λ state. IsPrimitive (Inside (rights_at f j).region) packet state.max_index) found.same (primitive_of f j m word packet grounds drawn);
+      };
+      fragment = launches.of_fragment;
+      vertex = launches.of_vertex;
+      coordinate = launches.of_coordinate;
     }
 
 -- The job's one configuration is that of the emitted list.
-grid_is : (f : FileModel) → config_of (layout_of f 0) (across_of f 0) (down_of f 0) ≡ config_for f 0
+grid_is : (f : FileModel) (j : ℕ) → config_of (layout_of f j) (across_of f j) (down_of f j) ≡ config_for f j
 unfolding layout_of config_for
-grid_is f = refl
+grid_is f j = refl
 
-nothing_is : (f : FileModel) → has_bin f 0 ≡ false → bin_list_of f 0 ≡ []
+nothing_is : (f : FileModel) (j : ℕ) → has_bin f j ≡ false → bin_list_of f j ≡ []
 unfolding bin_list_of
-nothing_is f none = ap (λ b. if b then bin_text (job_of f 0).bin (job_of f 0).declared (table_of f) (job_of f 0).handles (layout_of f 0) else []) none
+nothing_is f j none = ap (λ b. if b then bin_text (job_of f j).bin (job_of f j).declared (table_of f) (job_of f j).handles (layout_of f j) else []) none
 
-low : (f : FileModel) (m : List ℕ) → Grounds f m → IsLow (layout_of f 0)
-low f m grounds =
-    let one = grounds.settled.well_formed.one_job in
-    let limits = layout_low f 0 grounds.settled.sound one (omega (arith, one)) grounds.settled.limits in
+low : (f : FileModel) (j : ℕ) (m : List ℕ) → Grounds f j m → IsLow (layout_of f j)
+low f j m grounds =
+    let s = grounds.settled in
+    let numbers = layout_numbers f j (layout_of f j) refl in
+    let limits = layout_low f j s.sound (enough_slots f s.well_formed s.sound) (omega (arith, numbers.0, s.lists)) s.inside s.limits in
     record { place = limits.0; records = limits.1; slot = limits.3 }
 
-walked : (f : FileModel) (m : List ℕ) → Grounds f m → has_bin f 0 ≡ true → IsWalked (job_of f 0).bin (job_of f 0).declared (table_of f) (job_of f 0).handles (layout_of f 0)
-walked f m grounds has =
-    emitted_lists_walk_law (job_of f 0).bin (job_of f 0).declared (table_of f) (job_of f 0).handles (layout_of f 0) grounds.settled.limits.bin (low f m grounds)
+walked : (f : FileModel) (j : ℕ) (m : List ℕ) → Grounds f j m → has_bin f j ≡ true → IsWalked (job_of f j).bin (job_of f j).declared (table_of f) (job_of f j).handles (layout_of f j)
+walked f j m grounds has =
+    emitted_lists_walk_law (job_of f j).bin (job_of f j).declared (table_of f) (job_of f j).handles (layout_of f j) grounds.settled.limits.bin (low f j m grounds)
     (λ number below. buffer_low f.mem_size f.regions f.buffers grounds.settled.sound number) (grounds.settled.bin has)
 
-drawn_begins : (f : FileModel) (m : List ℕ) → Grounds f m → has_bin f 0 ≡ true
-    → Follows (IsDrawn (table_of f) (job_of f 0).handles (layout_of f 0) (states_of (packets (job_of f 0).bin))) (DrawBegins (file_rights f) (plain_of f) m 0)
+drawn_begins : (f : FileModel) (j : ℕ) (m : List ℕ) → Grounds f j m → has_bin f j ≡ true
+    → Follows (IsDrawn (table_of f) (job_of f j).handles (layout_of f j) (states_of (packets (job_of f j).bin))) (DrawShaders f j m)
 unfolding states_in
-drawn_begins f m grounds has word packet drawn kind = draws_begin_law f m word packet grounds has drawn kind
+drawn_begins f j m grounds has word packet drawn kind = draws_begin_law f j m word packet grounds has drawn kind
 
-some_walk : (f : FileModel) (m : List ℕ) → Grounds f m → has_bin f 0 ≡ true → BinWalks f m
-some_walk f m grounds has =
-    let bin : List ℕ = (job_of f 0).bin in
-    let list : List (List ℕ) = emission (given_of bin (job_of f 0).declared (table_of f) (job_of f 0).handles) (layout_of f 0) [] (packets bin) in
-    let it = walked f m grounds has in
-    let R : ℕ → List ℕ → Type 0 = DrawBegins (file_rights f) (plain_of f) m 0 in
-    let walks = walks_so (config_of (layout_of f 0) (across_of f 0) (down_of f 0)) (IsDrawn (table_of f) (job_of f 0).handles (layout_of f 0) (states_of (packets bin))) R (drawn_begins f m grounds has) nothing_kept list it.walks in
+some_walk : (f : FileModel) (j : ℕ) (m : List ℕ) → Grounds f j m → has_bin f j ≡ true → BinWalks f j m
+some_walk f j m grounds has =
+    let bin : List ℕ = (job_of f j).bin in
+    let list : List (List ℕ) = emission (given_of bin (job_of f j).declared (table_of f) (job_of f j).handles) (layout_of f j) [] (packets bin) in
+    let it = walked f j m grounds has in
+    let R : ℕ → List ℕ → Type 0 = DrawShaders f j m in
+    let walks = walks_so (config_of (layout_of f j) (across_of f j) (down_of f j)) (IsDrawn (table_of f) (job_of f j).handles (layout_of f j) (states_of (packets bin))) R (drawn_begins f j m grounds has) nothing_kept list it.walks in
     record {
       packets = list;
-      text = bin_is f has ∙ it.text;
-      walks = subst (λ config. Walks config R nothing_kept list) (grid_is f) walks;
+      text = bin_is f j has ∙ it.text;
+      walks = subst (λ config. Walks config R nothing_kept list) (grid_is f j) walks;
     }
 
-none_walks : (f : FileModel) (m : List ℕ) → has_bin f 0 ≡ false → BinWalks f m
-none_walks f m none = record { packets = []; text = nothing_is f none; walks = tt }
+none_walks : (f : FileModel) (j : ℕ) (m : List ℕ) → has_bin f j ≡ false → BinWalks f j m
+none_walks f j m none = record { packets = []; text = nothing_is f j none; walks = tt }
 
-walks_by : (f : FileModel) (m : List ℕ) → Grounds f m → (b : Bool) → has_bin f 0 ≡ b → BinWalks f m
-walks_by f m grounds true has = some_walk f m grounds has
-walks_by f m grounds false none = none_walks f m none
+walks_by : (f : FileModel) (j : ℕ) (m : List ℕ) → Grounds f j m → (b : Bool) → has_bin f j ≡ b → BinWalks f j m
+walks_by f j m grounds true has = some_walk f j m grounds has
+walks_by f j m grounds false none = none_walks f j m none
 
 pub bins_walk_law : BinsWalk
-bins_walk_law f m grounds = walks_by f m grounds (has_bin f 0) refl
+bins_walk_law f j m grounds = walks_by f j m grounds (has_bin f j) refl

@@ -60,6 +60,10 @@ pub bytes_placed : (memory : List ℕ) (parts : List Part) → IsBytes memory �
 bytes_placed memory [] all each = all
 bytes_placed memory (part ∷ parts) all each = bytes_placed (with_bytes memory part.place part.bytes) parts (bytes_with memory part.place part.bytes all each.0) each.1
 
+pub parts_append : (front rest : List Part) → AllByRecursion (λ part. IsBytes part.bytes) front → AllByRecursion (λ part. IsBytes part.bytes) rest → AllByRecursion (λ part. IsBytes part.bytes) (front ++ rest)
+parts_append [] rest one two = two
+parts_append (part ∷ front) rest one two = (one.0, parts_append front rest one.1 two)
+
 -- numbers as bytes
 byte_small : (i n : ℕ) → byte_at i n < 256
 byte_small zero n = mod-lt n (lit< tt)

@@ -1,5 +1,5 @@
 -- What the rules of a frame promise of each of its surfaces: where it lies, and how its pixels do.
-use Rattle.std.proofs.Common.{◌≡◌, ◌≤◌, ◌<◌, inl, inr, ℕ, zero, suc, ◌+◌, ◌*◌, ◌-◌, ◌/◌, ◌%◌, ◌^◌, ◌==◌, ◌&&◌, ◌||◌, not, Bool, true, false, List, Option, Some, None, if◌then◌else◌, refl, sym, ap, subst, arith, ◌∙◌, bit_or}
+use Rattle.std.proofs.Common.{◌≡◌, ◌≤◌, ◌<◌, ℕ, ◌+◌, ◌*◌, ◌-◌, ◌/◌, ◌%◌, ◌^◌, ◌==◌, ◌&&◌, ◌||◌, not, Bool, true, false, List, Option, Some, None, if◌then◌else◌, refl, sym, ap, subst, arith, ◌∙◌, bit_or}
 use Rattle.std.specs.Prelude.{is_some, IfSome}
 use Rattle.std.proofs.lemmas.Nat.{or_shifted, or_shr, or_mod}
 use Rattle.std.specs.Int.Bits.{or_zero_r}

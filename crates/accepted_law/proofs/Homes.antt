@@ -26,7 +26,7 @@ use Rattle.qpu_law.proofs.Reading.{one_inside}
 use Rattle.qpu_law.proofs.Emitting.{streams_serve_law}
 use Rattle.machine_law.specs.Begins.{HomeBegins}
 use Rattle.machine_law.proofs.Begins.{fixed_inside}
-use Rattle.accepted_law.specs.Holdings.{plain_of, lists_of, job_rights, file_rights}
+use Rattle.accepted_law.specs.Holdings.{plain_of, lists_of, rights_at, file_rights}
 use Rattle.accepted_law.specs.Settled.{Settled, Grounds}
 use Rattle.accepted_law.proofs.Settling.{code_rules}
 use Rattle.accepted_law.proofs.Streams.{number_at, words_from, word_from, words_fit}
@@ -42,12 +42,12 @@ home_of f m number stream = record {
 }
 
 -- The code of a buffer that a handle names is started with a stream that was made for it, among the streams that were emitted.
-pub record IsStarted (f : FileModel) (m : List ℕ) (handle number stream : ℕ) : Type 0 where
-  pub named : code_of (table_of f) (job_of f 0).handles handle ≡ Some number
+pub record IsStarted (f : FileModel) (j : ℕ) (m : List ℕ) (handle number stream : ℕ) : Type 0 where
+  pub named : code_of (table_of f) (job_of f j).handles handle ≡ Some number
   pub sound : IsSoundShader (told_of (words_of (content_of f number)))
-  pub from : (layout_of f 0).place + (layout_of f 0).uniforms ≤ stream
-  pub upto : stream + 4 * uniforms_of (words_of (content_of f number)) ≤ (layout_of f 0).place + (layout_of f 0).uniforms + length (streams_of f 0)
-  pub takes : IsStream (IsDataIn (table_of f) (job_of f 0).handles) (told_of (words_of (content_of f number))) stream (λ k. u32_at m (stream + 4 * k))
+  pub from : (layout_of f j).place + (layout_of f j).uniforms ≤ stream
+  pub upto : stream + 4 * uniforms_of (words_of (content_of f number)) ≤ (layout_of f j).place + (layout_of f j).uniforms + length (streams_of f j)
+  pub takes : IsStream (IsDataIn (table_of f) (job_of f j).handles) (told_of (words_of (content_of f number))) stream (λ k. u32_at m (stream + 4 * k))
 
 -- Its words are in its contents, which are in its buffer, which is in the memory.
 record IsCodeLow (f : FileModel) (number : ℕ) : Type 0 where
@@ -56,8 +56,8 @@ record IsCodeLow (f : FileModel) (number : ℕ) : Type 0 where
   inside : length (content_of f number) ≤ (buffer_at f.buffers number).size
   upto : (buffer_at f.buffers number).place + (buffer_at f.buffers number).size ≤ 67108864
 
-code_low : (f : FileModel) (number : ℕ) → Settled f → number < length f.buffers → (buffer_at f.buffers number).kind ≡ Code → IsCodeLow f number
-code_low f number settled below code =
+code_low : (f : FileModel) (j number : ℕ) → Settled f j → number < length f.buffers → (buffer_at f.buffers number).kind ≡ Code → IsCodeLow f number
+code_low f j number settled below code =
     let long = length_words (content_of f number) (length (content_of f number) / 8) in
     let short = shader_short f number settled.well_formed below code in
     let content = content_long f number settled.well_formed below in
@@ -93,37 +93,37 @@ other_stream : (A B : ℕ → ℕ → Type 0) → ((place size : ℕ) → A plac
 other_stream A B names shader stream words is = record { addresses = is.addresses; samples = λ i below. other_sample A B names shader words i (is.samples i below) }
 
 -- The stream serves the shader's threads.
-stream_serves : (f : FileModel) (m : List ℕ) (handle number stream : ℕ) → Grounds f m → IsStarted f m handle number stream → Emits (plain_of f 0) (home_of f m number stream)
+stream_serves : (f : FileModel) (j : ℕ) (m : List ℕ) (handle number stream : ℕ) → Grounds f j m → IsStarted f j m handle number stream → Emits (plain_of f j) (home_of f m number stream)
 unfolding told_of home_of
-stream_serves f m handle number stream grounds started =
+stream_serves f j m handle number stream grounds started =
     let code : List ℕ = words_of (content_of f number) in
-    streams_serve_law (home_of f m number stream) (plain_of f 0) (told_of code) (record { samples = refl; address_words = refl })
-    (same_stream (IsOneOf (plain_of f 0)) (told_of code) stream (λ k. slice_index (words_from m stream (uniforms_of code)) k) (λ k. u32_at m (stream + 4 * k)) started.sound
+    streams_serve_law (home_of f m number stream) (plain_of f j) (told_of code) (record { samples = refl; address_words = refl })
+    (same_stream (IsOneOf (plain_of f j)) (told_of code) stream (λ k. slice_index (words_from m stream (uniforms_of code)) k) (λ k. u32_at m (stream + 4 * k)) started.sound
     (λ k below. word_from m stream (uniforms_of code) k below)
-    (other_stream (IsDataIn (table_of f) (job_of f 0).handles) (IsOneOf (plain_of f 0)) grounds.named_data (told_of code) stream (λ k. u32_at m (stream + 4 * k)) started.takes))
+    (other_stream (IsDataIn (table_of f) (job_of f j).handles) (IsOneOf (plain_of f j)) grounds.named_data (told_of code) stream (λ k. u32_at m (stream + 4 * k)) started.takes))
 
 -- the emitted streams are one of the job's lists
-uniforms_list : (f : FileModel) → IsOneOf (lists_of f 0) ((layout_of f 0).place + (layout_of f 0).uniforms) (length (streams_of f 0))
+uniforms_list : (f : FileModel) (j : ℕ) → IsOneOf (lists_of f j) ((layout_of f j).place + (layout_of f j).uniforms) (length (streams_of f j))
 unfolding lists_of lengths_of
-uniforms_list f = inr (inr (inl refl))
+uniforms_list f j = inr (inr (inl refl))
 
 -- Code and stream stand in the memory.
-home_stands : (f : FileModel) (m : List ℕ) (handle number stream : ℕ) → Grounds f m → IsStarted f m handle number stream → IsHome m (job_rights f 0).region (home_of f m number stream)
+home_stands : (f : FileModel) (j : ℕ) (m : List ℕ) (handle number stream : ℕ) → Grounds f j m → IsStarted f j m handle number stream → IsHome m (rights_at f j).region (home_of f m number stream)
 unfolding home_of
-home_stands f m handle number stream grounds started =
+home_stands f j m handle number stream grounds started =
     let content : List ℕ = content_of f number in
     let place : ℕ = (buffer_at f.buffers number).place in
-    let is = code_is (table_of f) (job_of f 0).handles handle number started.named in
-    let low = code_low f number grounds.settled is.inside is.kind_is in
+    let is = code_is (table_of f) (job_of f j).handles handle number started.named in
+    let low = code_low f j number grounds.settled is.inside is.kind_is in
     let words = low.words in
     let inside = low.inside in
     let upto = low.upto in
-    let lists = lists_low f grounds.settled grounds.ends in
+    let lists = lists_low f j grounds.settled grounds.ends in
     let limit = grounds.settled.sound.limit in
     let room = grounds.ends.uniforms in
     let from = started.from in
     let ends = started.upto in
-    let emits = stream_serves f m handle number stream grounds started in
+    let emits = stream_serves f j m handle number stream grounds started in
     record {
       sound = code_rules content (grounds.settled.codes number is.inside is.kind_is);
       few = low.few;
@@ -131,21 +131,21 @@ home_stands f m handle number stream grounds started =
       stream_low = omega (arith, lists, limit, room, ends);
       addresses = emits.addresses;
       code_in = λ i below.
-          one_inside (job_rights f 0).region place (buffer_at f.buffers number).size (place + 8 * i) 8 (grounds.code handle number started.named)
+          one_inside (rights_at f j).region place (buffer_at f.buffers number).size (place + 8 * i) 8 (grounds.code handle number started.named)
           (record { from = omega arith; upto = omega (arith, below, words, inside) });
       code_is = λ i below. number_at m content place i (grounds.holds.contents number is.inside) (omega (arith, below, words)) ∙ word_is content i below;
       stream_in = λ k below.
-          one_inside (job_rights f 0).region ((layout_of f 0).place + (layout_of f 0).uniforms) (length (streams_of f 0)) (stream + 4 * k) 4
-          (grounds.lists ((layout_of f 0).place + (layout_of f 0).uniforms) (length (streams_of f 0)) (uniforms_list f))
+          one_inside (rights_at f j).region ((layout_of f j).place + (layout_of f j).uniforms) (length (streams_of f j)) (stream + 4 * k) 4
+          (grounds.lists ((layout_of f j).place + (layout_of f j).uniforms) (length (streams_of f j)) (uniforms_list f j))
           (record { from = omega (arith, from); upto = omega (arith, below, ends) });
       stream_is = λ k below. word_read m (stream + 4 * k) 4 (omega arith) ∙ sym (word_from m stream (uniforms_of (words_of content)) k below);
     }
 
 -- its samples are fine
-home_samples : (f : FileModel) (m : List ℕ) (handle number stream : ℕ) → Grounds f m → IsStarted f m handle number stream → HasSamples (plain_of f 0) (home_of f m number stream)
+home_samples : (f : FileModel) (j : ℕ) (m : List ℕ) (handle number stream : ℕ) → Grounds f j m → IsStarted f j m handle number stream → HasSamples (plain_of f j) (home_of f m number stream)
 unfolding home_of
-home_samples f m handle number stream grounds started =
-    let emits = stream_serves f m handle number stream grounds started in
+home_samples f j m handle number stream grounds started =
+    let emits = stream_serves f j m handle number stream grounds started in
     record {
       samples = emits.samples;
       page = grounds.data_page;
@@ -153,20 +153,20 @@ home_samples f m handle number stream grounds started =
       words = λ k. words_fit m stream (uniforms_of (words_of (content_of f number))) k grounds.holds.bytes;
     }
 
-pub home_begins : (f : FileModel) (m : List ℕ) (handle number stream : ℕ) → Grounds f m → IsStarted f m handle number stream → HomeBegins (file_rights f) (plain_of f) m 0 (home_of f m number stream) (plain_of f 0)
+pub home_begins : (f : FileModel) (j : ℕ) (m : List ℕ) (handle number stream : ℕ) → Grounds f j m → IsStarted f j m handle number stream → HomeBegins (file_rights f) (plain_of f) m j (home_of f m number stream) (plain_of f j)
 unfolding home_of
-home_begins f m handle number stream grounds started =
+home_begins f j m handle number stream grounds started =
     let place : ℕ = (buffer_at f.buffers number).place in
     let code : List ℕ = words_of (content_of f number) in
-    let is = code_is (table_of f) (job_of f 0).handles handle number started.named in
-    let low = code_low f number grounds.settled is.inside is.kind_is in
+    let is = code_is (table_of f) (job_of f j).handles handle number started.named in
+    let low = code_low f j number grounds.settled is.inside is.kind_is in
     let words = low.words in
     let inside = low.inside in
-    let uniforms : ℕ = (layout_of f 0).place + (layout_of f 0).uniforms in
+    let uniforms : ℕ = (layout_of f j).place + (layout_of f j).uniforms in
     record {
-      stands = home_stands f m handle number stream grounds started;
+      stands = home_stands f j m handle number stream grounds started;
       code = fixed_inside (file_rights f) place (buffer_at f.buffers number).size place (8 * length code) (grounds.code_fixed handle number started.named) (omega arith) (omega (arith, words, inside));
-      stream = fixed_inside (file_rights f) uniforms (length (streams_of f 0)) stream (4 * uniforms_of code) (grounds.lists_fixed uniforms (length (streams_of f 0)) (uniforms_list f)) started.from started.upto;
-      samples = home_samples f m handle number stream grounds started;
+      stream = fixed_inside (file_rights f) uniforms (length (streams_of f j)) stream (4 * uniforms_of code) (grounds.lists_fixed uniforms (length (streams_of f j)) (uniforms_list f j)) started.from started.upto;
+      samples = home_samples f j m handle number stream grounds started;
       named = λ place size one. one;
     }

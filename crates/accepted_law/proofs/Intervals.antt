@@ -1,5 +1,5 @@
 -- Intervals of lists, and those of the buffers that handles name. So the rights of a job are no more than what it holds.
-use Rattle.std.proofs.Common.{◌≡◌, ◌⊎◌, inl, inr, ℕ, zero, suc, ◌<◌, List, [], ◌∷◌, ◌++◌, Option, Some, None, refl, sym, ap, arith, ◌∙◌, length}
+use Rattle.std.proofs.Common.{◌≡◌, ◌⊎◌, inl, inr, ℕ, zero, suc, ◌<◌, List, [], ◌∷◌, ◌++◌, Option, Some, None, refl, sym, ap, subst, arith, ◌∙◌, length}
 use Rattle.std.proofs.lemmas.Bool.{cases_lt}
 use Rattle.buffer_table.specs.declared.buffer.Buffer.{Buffer}
 use Rattle.buffer_table.specs.Table.{buffer_at}
@@ -12,6 +12,7 @@ use Rattle.job_check.specs.Jobs.{job_of}
 use Rattle.job_check.specs.Shaders.{table_of}
 use Rattle.accepted_law.specs.Holdings.{buffer_interval, interval_where, named_buffers, plain_of, codes_of, lists_of, slot_in}
 use Rattle.accepted_law.specs.Held.{IsSlot, IsNamedCode, IsToWrite, IsToReach, RightsAreHeld}
+use Rattle.accepted_law.proofs.ByJob.{rights_are}
 
 -- one of the intervals of two lists
 pub one_left : (front rest : List Interval) (place size : ℕ) → IsOneOf front place size → IsOneOf (front ++ rest) place size
@@ -75,37 +76,40 @@ named_by names buffers (suc n) place size one =
       | inr here ↦ where_named names buffers n (names n) place size refl here
     ]
 
-plain_held : (f : FileModel) (place size : ℕ) → IsOneOf (plain_of f 0) place size → IsDataIn (table_of f) (job_of f 0).handles place size
+plain_held : (f : FileModel) (j place size : ℕ) → IsOneOf (plain_of f j) place size → IsDataIn (table_of f) (job_of f j).handles place size
 unfolding plain_of
-plain_held f place size one =
-    let by = named_by (data_of (table_of f) (job_of f 0).handles) f.buffers (length (job_of f 0).handles) place size one in
+plain_held f j place size one =
+    let by = named_by (data_of (table_of f) (job_of f j).handles) f.buffers (length (job_of f j).handles) place size one in
     record { handle = by.handle; number = by.number; named = by.named; place_is = by.place_is; size_is = by.size_is }
 
-pub code_held : (f : FileModel) (place size : ℕ) → IsOneOf (codes_of f 0) place size → IsNamedCode f place size
+pub code_held : (f : FileModel) (j place size : ℕ) → IsOneOf (codes_of f j) place size → IsNamedCode f j place size
 unfolding codes_of
-code_held f place size one =
-    let by = named_by (code_of (table_of f) (job_of f 0).handles) f.buffers (length (job_of f 0).handles) place size one in
+code_held f j place size one =
+    let by = named_by (code_of (table_of f) (job_of f j).handles) f.buffers (length (job_of f j).handles) place size one in
     record { handle = by.handle; number = by.number; named = by.named; place_is = by.place_is; size_is = by.size_is }
 
-slot_held : (f : FileModel) (place size : ℕ) → slot_in f 0 ≡ record { place = place; size = size } → IsSlot f place size
+slot_held : (f : FileModel) (j place size : ℕ) → slot_in f j ≡ record { place = place; size = size } → IsSlot f j place size
 unfolding slot_in
-slot_held f place size is = record { place_is = sym (ap (λ i. i.place) is); size_is = sym (ap (λ i. i.size) is) }
+slot_held f j place size is = record { place_is = sym (ap (λ i. i.place) is); size_is = sym (ap (λ i. i.size) is) }
 
-written : (f : FileModel) (place size : ℕ) → IsOneOf (slot_in f 0 ∷ plain_of f 0) place size → IsToWrite f place size
-written f place size (inl slot) = inl (slot_held f place size slot)
-written f place size (inr plain) = inr (plain_held f place size plain)
+written : (f : FileModel) (j place size : ℕ) → IsOneOf (slot_in f j ∷ plain_of f j) place size → IsToWrite f j place size
+written f j place size (inl slot) = inl (slot_held f j place size slot)
+written f j place size (inr plain) = inr (plain_held f j place size plain)
 
-listed : (f : FileModel) (place size : ℕ) → IsOneOf (lists_of f 0) place size ⊎ IsOneOf (codes_of f 0) place size → IsToReach f place size
-listed f place size (inl list) = inr (inl list)
-listed f place size (inr code) = inr (inr (code_held f place size code))
+listed : (f : FileModel) (j place size : ℕ) → IsOneOf (lists_of f j) place size ⊎ IsOneOf (codes_of f j) place size → IsToReach f j place size
+listed f j place size (inl list) = inr (inl list)
+listed f j place size (inr code) = inr (inr (code_held f j place size code))
 
-behind : (f : FileModel) (place size : ℕ) → IsOneOf (plain_of f 0) place size ⊎ IsOneOf (lists_of f 0 ++ codes_of f 0) place size → IsToReach f place size
-behind f place size (inl plain) = inl (inr (plain_held f place size plain))
-behind f place size (inr others) = listed f place size (both_lists (lists_of f 0) (codes_of f 0) place size others)
+behind : (f : FileModel) (j place size : ℕ) → IsOneOf (plain_of f j) place size ⊎ IsOneOf (lists_of f j ++ codes_of f j) place size → IsToReach f j place size
+behind f j place size (inl plain) = inl (inr (plain_held f j place size plain))
+behind f j place size (inr others) = listed f j place size (both_lists (lists_of f j) (codes_of f j) place size others)
 
-reached : (f : FileModel) (place size : ℕ) → IsOneOf (slot_in f 0 ∷ (plain_of f 0 ++ (lists_of f 0 ++ codes_of f 0))) place size → IsToReach f place size
-reached f place size (inl slot) = inl (inl (slot_held f place size slot))
-reached f place size (inr others) = behind f place size (both_lists (plain_of f 0) (lists_of f 0 ++ codes_of f 0) place size others)
+reached : (f : FileModel) (j place size : ℕ) → IsOneOf (slot_in f j ∷ (plain_of f j ++ (lists_of f j ++ codes_of f j))) place size → IsToReach f j place size
+reached f j place size (inl slot) = inl (inl (slot_held f j place size slot))
+reached f j place size (inr others) = behind f j place size (both_lists (plain_of f j) (lists_of f j ++ codes_of f j) place size others)
 
 pub rights_are_held_law : RightsAreHeld
-rights_are_held_law f = record { region = reached f; writable = written f }
+rights_are_held_law f j inside = record {
+  region = λ place size one. reached f j place size (subst (λ r. IsOneOf r.region place size) (rights_are f j inside) one);
+  writable = λ place size one. written f j place size (subst (λ r. IsOneOf r.writable place size) (rights_are f j inside) one);
+}

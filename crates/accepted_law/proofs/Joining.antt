@@ -1,133 +1,148 @@
 -- From the parts to the whole.
-use Rattle.std.proofs.Common.{◌≡◌, inl, inr, ℕ, ◌+◌, List, length, refl, arith, ◌⊎◌, zero, suc, [], ◌∷◌, ◌++◌, sym, ap, subst, ◌∙◌}
+use Rattle.std.proofs.Common.{◌≡◌, inl, inr, ℕ, ◌+◌, ◌<◌, ◌≤◌, List, length, None, refl, arith, [], ◌∷◌, ◌++◌, sym, ap, subst, ◌∙◌}
+use Rattle.std.proofs.lemmas.Bool.{cases_lt}
 use Rattle.std.proofs.lemmas.List.{get_or_past}
+use Rattle.field_words.specs.Questions.{first_of}
+use Rattle.job_format.specs.File.{IsWellFormed, Fits}
 use Rattle.job_format.specs.Model.{FileModel}
 use Rattle.job_check.specs.Jobs.{layout_of, bin_list_of, render_list_of, no_job, job_of, grid_of, slot_of, places_in}
 use Rattle.job_check.specs.Emit.{lengths_of, memory_of}
+use Rattle.job_check.specs.Faults.{file_stages}
 use Rattle.job_check.specs.Shaders.{table_of}
 use Rattle.machine_plan.specs.Memory.{bytes_at}
-use Rattle.machine_plan.specs.Regions.{Interval, Inside, Rights, IsOutside, HasReadOnly, Agree, joined}
+use Rattle.machine_plan.specs.Regions.{Inside, Rights, IsOutside, HasReadOnly, Agree, joined}
 use Rattle.qpu_law.specs.Asks.{IsOneOf}
 use Rattle.qpu_law.proofs.Reading.{one_inside}
-use Rattle.machine_law.specs.Begins.{TextBegins, IsFixed}
+use Rattle.bin_walks.specs.Walks.{nothing_kept}
+use Rattle.list_law.proofs.Start.{walks_so}
+use Rattle.machine_law.specs.Begins.{TextBegins, IsFixed, DrawBegins, JobBegins}
 use Rattle.machine_law.specs.Jobs.{ArePlain}
+use Rattle.machine_law.specs.Units.{EachAt}
 use Rattle.machine_law.proofs.Sound.{jobs_sound_law}
 use Rattle.render_list.specs.Text.{render_slots}
 use Rattle.buffer_table.specs.declared.buffer.Buffer.{Buffer}
 use Rattle.buffer_table.specs.Table.{buffer_at}
 use Rattle.buffer_table.specs.Handles.{data_of}
-use Rattle.accepted_law.specs.Holdings.{lists_of, job_rights, file_rights, start_by, named_buffers, plain_of, codes_of, slot_in, file_starts, config_for, frame_for}
+use Rattle.accepted_law.specs.Holdings.{OfEachJob, lists_of, job_rights, file_rights, rights_at, start_by, start_of, named_buffers, plain_of, codes_of, slot_in, fixed_of, file_starts, config_for, frame_for}
+use Rattle.accepted_law.specs.Ends.{DrawShaders}
 use Rattle.accepted_law.specs.Settled.{Grounds}
-use Rattle.accepted_law.specs.Texts.{BinTextsBegin, RenderTextsBegin, start_of}
+use Rattle.accepted_law.specs.Texts.{BinTextsBegin, RenderTextsBegin}
 use Rattle.accepted_law.specs.Parts.{BinWalks, RenderWalks, FilesBegin}
 use Rattle.accepted_law.specs.Held.{ListsAndCodeAreFixed}
 use Rattle.accepted_law.specs.Whole.{FilesSound}
+use Rattle.accepted_law.proofs.ByJob.{each_from, rights_are, inside_either, in_some_job, in_fixed}
 use Rattle.accepted_law.proofs.Settling.{files_settle_law}
 use Rattle.accepted_law.proofs.Grounds.{files_ground_law}
 use Rattle.accepted_law.proofs.Allocating.{files_allocate_law}
 use Rattle.accepted_law.proofs.BinWalking.{bins_walk_law}
 use Rattle.accepted_law.proofs.RenderWalking.{renders_walk_law}
 
-text_begins : (f : FileModel) (m : List ℕ) → Grounds f m → (place : ℕ) (text : List ℕ) → bytes_at m place (length text) ≡ text → IsOneOf (lists_of f 0) place (length text)
-    → TextBegins (file_rights f) m 0 place text
-text_begins f m grounds place text stands one =
+text_begins : (f : FileModel) (j : ℕ) (m : List ℕ) → Grounds f j m → (place : ℕ) (text : List ℕ) → bytes_at m place (length text) ≡ text → IsOneOf (lists_of f j) place (length text)
+    → TextBegins (file_rights f) m j place text
+text_begins f j m grounds place text stands one =
     record {
       stands = stands;
-      reads = one_inside (job_rights f 0).region place (length text) place (length text) (grounds.lists place (length text) one) (record { from = omega arith; upto = omega arith });
+      reads = one_inside (rights_at f j).region place (length text) place (length text) (grounds.lists place (length text) one) (record { from = omega arith; upto = omega arith });
       fixed = grounds.lists_fixed place (length text) one;
     }
 
-bin_there : (f : FileModel) → IsOneOf (lists_of f 0) ((layout_of f 0).place + (layout_of f 0).bin) (length (bin_list_of f 0))
+bin_there : (f : FileModel) (j : ℕ) → IsOneOf (lists_of f j) ((layout_of f j).place + (layout_of f j).bin) (length (bin_list_of f j))
 unfolding lists_of lengths_of
-bin_there f = inl refl
+bin_there f j = inl refl
 
-render_there : (f : FileModel) → IsOneOf (lists_of f 0) ((layout_of f 0).place + (layout_of f 0).render) (length (render_list_of f 0))
+render_there : (f : FileModel) (j : ℕ) → IsOneOf (lists_of f j) ((layout_of f j).place + (layout_of f j).render) (length (render_list_of f j))
 unfolding lists_of lengths_of
-render_there f = inr (inr (inr (inl refl)))
+render_there f j = inr (inr (inr (inl refl)))
 
 pub bin_texts_begin_law : BinTextsBegin
 unfolding start_by lengths_of
-bin_texts_begin_law f m grounds =
-    (text_begins f m grounds ((layout_of f 0).place + (layout_of f 0).bin) (bin_list_of f 0) grounds.holds.bin (bin_there f), refl)
+bin_texts_begin_law f j m grounds =
+    (text_begins f j m grounds ((layout_of f j).place + (layout_of f j).bin) (bin_list_of f j) grounds.holds.bin (bin_there f j), refl)
 
 pub render_texts_begin_law : RenderTextsBegin
 unfolding start_by lengths_of
-render_texts_begin_law f m grounds =
-    (text_begins f m grounds ((layout_of f 0).place + (layout_of f 0).render) (render_list_of f 0) grounds.holds.render (render_there f), refl)
+render_texts_begin_law f j m grounds =
+    (text_begins f j m grounds ((layout_of f j).place + (layout_of f j).render) (render_list_of f j) grounds.holds.render (render_there f j), refl)
 
--- A file of one job names no buffer for another.
-pub plain_past : (f : FileModel) (j : ℕ) → length f.jobs ≡ 1 → plain_of f (suc j) ≡ []
+-- Behind the last job there are no buffers.
+plain_past : (f : FileModel) (j : ℕ) → length f.jobs ≤ j → plain_of f j ≡ []
 unfolding plain_of named_buffers job_of
-plain_past f j one = ap (λ job. named_buffers (data_of (table_of f) job.handles) f.buffers (length job.handles)) (get_or_past f.jobs (suc j) no_job (omega (arith, one)))
+plain_past f j past = ap (λ job. named_buffers (data_of (table_of f) job.handles) f.buffers (length job.handles)) (get_or_past f.jobs j no_job past)
 
 -- Each Plain buffer of a job is an interval of its region.
-plain_there : (f : FileModel) (m : List ℕ) → Grounds f m → ArePlain (file_rights f) (plain_of f)
-plain_there f m grounds zero place size named = grounds.data_reads place size named
-plain_there f m grounds (suc j) place size named =
-    let none : IsOneOf [] place size = subst (λ plain. IsOneOf plain place size) (plain_past f j grounds.settled.well_formed.one_job) named in
-    absurd none
+plain_there : (f : FileModel) (m : List ℕ) → OfEachJob f (λ j. Grounds f j m) → ArePlain (file_rights f) (plain_of f)
+plain_there f m grounds j place size named =
+    elim (cases_lt j (length f.jobs)) [
+      | inl inside ↦ (grounds j inside).data_reads place size named
+      | inr past ↦ absurd (subst (λ plain. IsOneOf plain place size) (plain_past f j past) named)
+    ]
+
+pub all_ground : (f : FileModel) → IsWellFormed f → Fits f → first_of (file_stages f) ≡ None → OfEachJob f (λ j. Grounds f j (memory_of f))
+all_ground f well fits none = files_ground_law f (files_settle_law f well fits none)
+
+unfoldable pub job_begins : (f : FileModel) (j : ℕ) → Grounds f j (memory_of f) → JobBegins (file_rights f) (plain_of f) (memory_of f) j (start_of f j)
+job_begins f j grounds =
+    let m : List ℕ = memory_of f in
+    let bin : BinWalks f j m = bins_walk_law f j m grounds in
+    let render : RenderWalks f j = renders_walk_law f j m grounds in
+    let bin_begins = bin_texts_begin_law f j m grounds in
+    let render_begins = render_texts_begin_law f j m grounds in
+    record {
+      config = config_for f j;
+      frame = frame_for f j;
+      allocates = files_allocate_law f j grounds;
+      packets = bin.packets;
+      bin_walks = walks_so (config_for f j) (DrawShaders f j m) (DrawBegins (file_rights f) (plain_of f) m j) (λ word packet draws kind. draws.begins) nothing_kept bin.packets bin.walks;
+      bin_text = subst (TextBegins (file_rights f) m j (start_of f j).bin_place) bin.text bin_begins.0;
+      bin_len = bin_begins.1 ∙ ap length bin.text;
+      slots = render_slots (job_of f j).frame (places_in f j) (grid_of f j) (slot_of f j);
+      render_walks = render.walks;
+      render_fits = render.fits;
+      render_sets = render.sets;
+      render_text = subst (TextBegins (file_rights f) m j (start_of f j).render_place) render.text render_begins.0;
+      render_len = render_begins.1 ∙ ap length render.text;
+    }
 
 pub files_begin_law : FilesBegin
 files_begin_law f well fits none =
-    let m : List ℕ = memory_of f in
-    let grounds : Grounds f m = files_ground_law f (files_settle_law f well fits none) in
-    let bin : BinWalks f m = bins_walk_law f m grounds in
-    let render : RenderWalks f = renders_walk_law f m grounds in
-    let bin_begins = bin_texts_begin_law f m grounds in
-    let render_begins = render_texts_begin_law f m grounds in (
-      plain_there f m grounds,
-      record {
-        config = config_for f 0;
-        frame = frame_for f 0;
-        allocates = files_allocate_law f grounds;
-        packets = bin.packets;
-        bin_walks = bin.walks;
-        bin_text = subst (TextBegins (file_rights f) m 0 (start_of f).bin_place) bin.text bin_begins.0;
-        bin_len = bin_begins.1 ∙ ap length bin.text;
-        slots = render_slots (job_of f 0).frame (places_in f 0) (grid_of f 0) (slot_of f 0);
-        render_walks = render.walks;
-        render_fits = render.fits;
-        render_sets = render.sets;
-        render_text = subst (TextBegins (file_rights f) m 0 (start_of f).render_place) render.text render_begins.0;
-        render_len = render_begins.1 ∙ ap length render.text;
-      },
-    )
+    let grounds = all_ground f well fits none in
+    (plain_there f (memory_of f) grounds, λ j inside. job_begins f j (grounds j inside))
 
--- what lies in two lists of intervals joined lies in the first or in the others
-inside_either : (rs qs : List Interval) (p n : ℕ) → Inside (rs ++ qs) p n → Inside rs p n ⊎ Inside qs p n
-inside_either [] qs p n lies = inr lies
-inside_either (one ∷ others) qs p n (inl here) = inl (inl here)
-inside_either (one ∷ others) qs p n (inr lies) = elim (inside_either others qs p n lies) [ inl there ↦ inl (inr there) | inr back ↦ inr back ]
-
--- What the job may reach and not write lies in its lists and its code.
-lists_or_code : (f : FileModel) (p : ℕ) → Inside (joined (file_rights f)) p 1 → IsOutside (file_rights f) p → Inside (lists_of f 0 ++ codes_of f 0) p 1
-lists_or_code f p lies out =
-    elim (inside_either (job_rights f 0).region [] p 1 lies) [
-      | inl reached ↦ elim (inside_either (slot_in f 0 ∷ plain_of f 0) (lists_of f 0 ++ codes_of f 0) p 1 reached) [
-        | inl written ↦ absurd (out 0 written)
-        | inr read ↦ read
-      ]
-      | inr none ↦ absurd none
+-- What jobs may reach and none may write lies in the lists and the code of one of them.
+read_in_job : (f : FileModel) (j p : ℕ) → j < length f.jobs → Inside (job_rights f j).region p 1 → IsOutside (file_rights f) p → Inside (lists_of f j ++ codes_of f j) p 1
+read_in_job f j p inside reached out =
+    elim (inside_either (slot_in f j ∷ plain_of f j) (lists_of f j ++ codes_of f j) p 1 reached) [
+      | inl written ↦ absurd (out j (subst (λ r. Inside r.writable p 1) (sym (rights_are f j inside)) written))
+      | inr read ↦ read
     ]
 
-has_read_only : (f : FileModel) (m : List ℕ) → Agree (lists_of f 0 ++ codes_of f 0) (memory_of f) m → HasReadOnly (file_rights f) (memory_of f) m
+lists_or_code : (f : FileModel) (p : ℕ) → Inside (joined (file_rights f)) p 1 → IsOutside (file_rights f) p → Inside (fixed_of f) p 1
+lists_or_code f p lies out =
+    let job = in_some_job f p lies in
+    in_fixed f job.number p job.below (read_in_job f job.number p job.below job.lies out)
+
+pub has_read_only : (f : FileModel) (m : List ℕ) → Agree (fixed_of f) (memory_of f) m → HasReadOnly (file_rights f) (memory_of f) m
 has_read_only f m agree = record {
   long = sym agree.long;
   same = λ p lies out. sym (agree.same p (lists_or_code f p lies out));
 }
 
+pub all_begin : (f : FileModel) → OfEachJob f (λ j. JobBegins (file_rights f) (plain_of f) (memory_of f) j (start_of f j)) → EachAt (JobBegins (file_rights f) (plain_of f) (memory_of f)) 0 (file_starts f)
+unfolding file_starts
+all_begin f each = each_from (JobBegins (file_rights f) (plain_of f) (memory_of f)) (start_of f) (length f.jobs) 0 (λ j from upto. each j (omega (arith, upto)))
+
 pub files_sound_law : FilesSound
 files_sound_law f well fits none m agree =
     let begins = files_begin_law f well fits none in
-    jobs_sound_law (file_rights f) (plain_of f) (memory_of f) m (file_starts f) begins.0 (has_read_only f m agree) (begins.1, tt)
+    jobs_sound_law (file_rights f) (plain_of f) (memory_of f) m (file_starts f) begins.0 (has_read_only f m agree) (all_begin f begins.1)
 
 fixed_there : (rights : List Rights) (place size at n : ℕ) → place ≡ at → size ≡ n → IsFixed rights at n → IsFixed rights place size
 fixed_there rights place size at n place_is size_is fixed =
     subst (λ p. IsFixed rights p size) (sym place_is) (subst (λ s. IsFixed rights at s) (sym size_is) fixed)
 
 pub lists_and_code_fixed_law : ListsAndCodeAreFixed
-lists_and_code_fixed_law f well fits none =
-    let grounds : Grounds f (memory_of f) = files_ground_law f (files_settle_law f well fits none) in
+lists_and_code_fixed_law f well fits none j inside =
+    let grounds = all_ground f well fits none j inside in
     record {
       lists = λ place size one. grounds.lists_fixed place size one;
       code = λ place size code.

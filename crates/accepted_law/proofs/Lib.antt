@@ -3,6 +3,7 @@ pub mod Placing
 pub mod BinRoom
 pub mod Tables
 pub mod Settling
+pub mod ByJob
 pub mod Holding
 pub mod Grounds
 pub mod Allocating
@@ -17,3 +18,7 @@ pub mod Tiles
 pub mod RenderWalking
 pub mod Joining
 pub mod Intervals
+pub mod Fixed
+pub mod Unshared
+pub mod Neighbours
+pub mod Emitted

@@ -35,6 +35,11 @@ with_kept m place bytes q fits (inr behind) = with_bytes-behind m place bytes q 
 fit_after : (m : List ℕ) (place : ℕ) (bytes : List ℕ) (parts : List Part) → place + length bytes ≤ length m → PartsFit (length m) parts → PartsFit (length (with_bytes m place bytes)) parts
 fit_after m place bytes parts fits rest = subst (λ n. PartsFit n parts) (sym (length-with_bytes m place bytes fits)) rest
 
+-- A byte that no part of two lists touches.
+pub misses_append : (q : ℕ) (front rest : List Part) → Misses q front → Misses q rest → Misses q (front ++ rest)
+misses_append q [] rest one two = two
+misses_append q (part ∷ front) rest one two = (one.0, misses_append q front rest one.1 two)
+
 -- A byte that no part touches stays.
 pub placed_kept : (m : List ℕ) (parts : List Part) (q : ℕ) → PartsFit (length m) parts → Misses q parts → slice_index (placed m parts) q ≡ slice_index m q
 placed_kept m [] q fit misses = refl

@@ -21,7 +21,6 @@ use Rattle.render_walks.proofs.Numbers.{render_fits}
 use Rattle.render_walks.proofs.Walking.{render_walks}
 use Rattle.job_check.specs.Shaders.{table_of}
 use Rattle.job_check.specs.Jobs.{job_of, has_bin, grid_from, grid_of, slot_of, places_in, render_list_of}
-use Rattle.job_check.proofs.Layouts.{region_limits}
 use Rattle.machine_plan.specs.Regions.{Rights, LiesIn}
 use Rattle.qpu_law.specs.Asks.{IsOneOf}
 use Rattle.qpu_law.proofs.Reading.{one_inside}
@@ -31,9 +30,9 @@ use Rattle.list_law.specs.Rendering.{MayDo, NoMatter, AllSet}
 use Rattle.list_law.specs.Start.{frame_of}
 use Rattle.list_law.proofs.Start.{walks_to_weaker, head_sets}
 use Rattle.accepted_law.specs.Settled.{Settled, Grounds}
-use Rattle.accepted_law.proofs.Tables.{buffer_low}
+use Rattle.accepted_law.proofs.Tables.{buffer_low, slot_inside}
 use Rattle.accepted_law.proofs.ByteTexts.{bytes_passed, byte_of_latest}
-use Rattle.accepted_law.specs.Holdings.{plain_of, job_rights, across_of, down_of, config_for, frame_for}
+use Rattle.accepted_law.specs.Holdings.{plain_of, rights_at, across_of, down_of, config_for, frame_for}
 use Rattle.accepted_law.specs.Parts.{RendersWalk}
 use Rattle.accepted_law.proofs.Frames.{HasRoom, IsSurfaceAt, AreSurfacesAt, surface_is}
 use Rattle.accepted_law.proofs.Tiles.{HasGridFor, names_none_at, tile_fine}
@@ -114,45 +113,46 @@ pub sides_small : (list : List ℕ) → IsBytes list → ((seen_before (passed l
 unfolding seen_before
 sides_small list all = (byte_of_latest tile_binning_mode 13 (passed list) (bytes_passed list all), byte_of_latest tile_binning_mode 14 (passed list) (bytes_passed list all))
 
-grid_small : (f : FileModel) → IsBytes (job_of f 0).bin → GridFits (grid_of f 0)
+grid_small : (f : FileModel) (j : ℕ) → IsBytes (job_of f j).bin → GridFits (grid_of f j)
 unfolding grid_of
-grid_small f all = grid_if (has_bin f 0) (grid_from (seen_before (passed (job_of f 0).bin))) (sides_small (job_of f 0).bin all)
+grid_small f j all = grid_if (has_bin f j) (grid_from (seen_before (passed (job_of f j).bin))) (sides_small (job_of f j).bin all)
 
-slot_low : (f : FileModel) → f.regions.tile_place ≤ 67108864 → slot_of f 0 ≤ 67108864
-unfolding slot_of
-slot_low f low = omega (arith, low)
+slot_low : (f : FileModel) (j : ℕ) → Settled f j → slot_of f j ≤ 67108864
+slot_low f j s =
+    let tiles = s.sound.each_item 1 (omega arith) in
+    let slot = slot_inside f j s.well_formed s.sound s.inside in
+    omega (arith, slot.upto, tiles.inside, s.sound.limit)
 
 -- The same of a settled file.
-low_of : (f : FileModel) → Settled f → AreLow (table_of f)
-low_of f s = buffer_low f.mem_size f.regions f.buffers s.sound
+low_of : (f : FileModel) (j : ℕ) → Settled f j → AreLow (table_of f)
+low_of f j s = buffer_low f.mem_size f.regions f.buffers s.sound
 
-pub frame_setup : (f : FileModel) → Settled f → IsSetupFor (job_of f 0).frame (places_in f 0)
+pub frame_setup : (f : FileModel) (j : ℕ) → Settled f j → IsSetupFor (job_of f j).frame (places_in f j)
 unfolding places_in
-frame_setup f s = setup_of (job_of f 0).frame (grid_of f 0) (table_of f) (job_of f 0).handles (low_of f s) s.surfaces
+frame_setup f j s = setup_of (job_of f j).frame (grid_of f j) (table_of f) (job_of f j).handles (low_of f j s) s.surfaces
 
-frame_places : (f : FileModel) → Settled f → PlacesFit (places_in f 0)
+frame_places : (f : FileModel) (j : ℕ) → Settled f j → PlacesFit (places_in f j)
 unfolding places_in
-frame_places f s = places_small (job_of f 0).frame (table_of f) (job_of f 0).handles (low_of f s) (none_at (job_of f 0).frame (grid_of f 0) (table_of f) (job_of f 0).handles s.surfaces)
+frame_places f j s = places_small (job_of f j).frame (table_of f) (job_of f j).handles (low_of f j s) (none_at (job_of f j).frame (grid_of f j) (table_of f) (job_of f j).handles s.surfaces)
 
-pub frame_fits : (f : FileModel) → Settled f → AllFit (render_slots (job_of f 0).frame (places_in f 0) (grid_of f 0) (slot_of f 0))
-frame_fits f s =
-    let limits = region_limits f s.sound in
-    render_fits (job_of f 0).frame (places_in f 0) (grid_of f 0) (slot_of f 0) s.job_fits.frame (frame_setup f s) (frame_places f s) (grid_small f s.job_fits.bin)
-    (slot_low f limits.2)
+pub frame_fits : (f : FileModel) (j : ℕ) → Settled f j → AllFit (render_slots (job_of f j).frame (places_in f j) (grid_of f j) (slot_of f j))
+frame_fits f j s =
+    render_fits (job_of f j).frame (places_in f j) (grid_of f j) (slot_of f j) s.job_fits.frame (frame_setup f j s) (frame_places f j s) (grid_small f j s.job_fits.bin)
+    (slot_low f j s)
 
 -- The job may write each part of a Plain buffer that its handles name.
-may_write : (f : FileModel) (m : List ℕ) (place size p n : ℕ) → Grounds f m → IsOneOf (plain_of f 0) place size → place ≤ p → p + n ≤ place + size → MayWrite (job_rights f 0) p n
-may_write f m place size p n grounds one from upto =
+may_write : (f : FileModel) (j : ℕ) (m : List ℕ) (place size p n : ℕ) → Grounds f j m → IsOneOf (plain_of f j) place size → place ≤ p → p + n ≤ place + size → MayWrite (rights_at f j) p n
+may_write f j m place size p n grounds one from upto =
     let lies : LiesIn p n (record { place = place; size = size }) = record { from = from; upto = upto } in
     record {
-      region = one_inside (job_rights f 0).region place size p n (grounds.data_reads place size one) lies;
-      writable = one_inside (job_rights f 0).writable place size p n (grounds.data_writes place size one) lies;
+      region = one_inside (rights_at f j).region place size p n (grounds.data_reads place size one) lies;
+      writable = one_inside (rights_at f j).writable place size p n (grounds.data_writes place size one) lies;
     }
 
-has_room : (f : FileModel) (m : List ℕ) → Grounds f m → HasRoom (job_rights f 0) (table_of f) (job_of f 0).handles
-has_room f m grounds place size named =
-    let one : IsOneOf (plain_of f 0) place size = grounds.named_data place size named in
-    record { page = grounds.data_page place size one; low = grounds.data_low place size one; writes = λ p n from upto. may_write f m place size p n grounds one from upto }
+has_room : (f : FileModel) (j : ℕ) (m : List ℕ) → Grounds f j m → HasRoom (rights_at f j) (table_of f) (job_of f j).handles
+has_room f j m grounds place size named =
+    let one : IsOneOf (plain_of f j) place size = grounds.named_data place size named in
+    record { page = grounds.data_page place size one; low = grounds.data_low place size one; writes = λ p n from upto. may_write f j m place size p n grounds one from upto }
 
 surfaces_at : (r : Rights) (frame : Frame) (grid : Option (ℕ × ℕ)) (table : TableModel) (handles : List ℕ) → HasRoom r table handles
     → first_of (surface_faults frame grid table handles) ≡ None → AreSurfacesAt r frame (places_of frame table handles)
@@ -172,18 +172,18 @@ tiles_below frame across down none =
     let outside : (nat_le across frame.max_x || nat_le down frame.max_y) ≡ false = none in
     (grind (arith, outside), grind (arith, outside))
 
-has_grid : (b : Bool) (f : FileModel) (frame : Frame) → is_outside_grid frame (if b then Some (across_of f 0, down_of f 0) else None) ≡ false
-    → HasGridFor (config_for f 0) frame (slot_of f 0) (if b then Some (across_of f 0, down_of f 0) else None)
+has_grid : (b : Bool) (f : FileModel) (j : ℕ) (frame : Frame) → is_outside_grid frame (if b then Some (across_of f j, down_of f j) else None) ≡ false
+    → HasGridFor (config_for f j) frame (slot_of f j) (if b then Some (across_of f j, down_of f j) else None)
 unfolding config_for
-has_grid false f frame none = tt
-has_grid true f frame none =
-    let below = tiles_below frame (across_of f 0) (down_of f 0) none in
+has_grid false f j frame none = tt
+has_grid true f j frame none =
+    let below = tiles_below frame (across_of f j) (down_of f j) none in
     record { address = refl; tiles = refl; across = below.0; down = below.1 }
 
-has_grid_for : (f : FileModel) → Settled f → HasGridFor (config_for f 0) (job_of f 0).frame (slot_of f 0) (grid_of f 0)
+has_grid_for : (f : FileModel) (j : ℕ) → Settled f j → HasGridFor (config_for f j) (job_of f j).frame (slot_of f j) (grid_of f j)
 unfolding grid_of
-has_grid_for f settled =
-    has_grid (has_bin f 0) f (job_of f 0).frame (in_grid (job_of f 0).frame (grid_of f 0) (table_of f) (job_of f 0).handles settled.surfaces)
+has_grid_for f j settled =
+    has_grid (has_bin f j) f j (job_of f j).frame (in_grid (job_of f j).frame (grid_of f j) (table_of f) (job_of f j).handles settled.surfaces)
 
 -- Each tile is fine, and so is the store that clears.
 owes_fine : (r : Rights) (c : Config) (frame : Frame) (places : List (Option ℕ)) (grid : Option (ℕ × ℕ)) (slot : ℕ) → AreSurfacesAt r frame places → HasGridFor c frame slot grid
@@ -200,25 +200,25 @@ walks_by r c frame places grid slot set surfaces is =
     walks_to_weaker Fine Fine _ (λ p x y fine. fine) at_start (render_slots frame places grid slot)
     (render_walks Fine frame places grid slot set (owes_fine r c frame places grid slot surfaces is))
 
-list_text : (f : FileModel) → render_list_of f 0 ≡ slots_text (render_slots (job_of f 0).frame (places_in f 0) (grid_of f 0) (slot_of f 0))
+list_text : (f : FileModel) (j : ℕ) → render_list_of f j ≡ slots_text (render_slots (job_of f j).frame (places_in f j) (grid_of f j) (slot_of f j))
 unfolding render_list_of render_text
-list_text f = refl
+list_text f j = refl
 
-surfaces_in : (f : FileModel) (m : List ℕ) → Grounds f m → AreSurfacesAt (job_rights f 0) (job_of f 0).frame (places_in f 0)
+surfaces_in : (f : FileModel) (j : ℕ) (m : List ℕ) → Grounds f j m → AreSurfacesAt (rights_at f j) (job_of f j).frame (places_in f j)
 unfolding places_in
-surfaces_in f m grounds = surfaces_at (job_rights f 0) (job_of f 0).frame (grid_of f 0) (table_of f) (job_of f 0).handles (has_room f m grounds) grounds.settled.surfaces
+surfaces_in f j m grounds = surfaces_at (rights_at f j) (job_of f j).frame (grid_of f j) (table_of f) (job_of f j).handles (has_room f j m grounds) grounds.settled.surfaces
 
-sets_in : (f : FileModel) → AllSet (frame_for f 0) (render_slots (job_of f 0).frame (places_in f 0) (grid_of f 0) (slot_of f 0))
+sets_in : (f : FileModel) (j : ℕ) → AllSet (frame_for f j) (render_slots (job_of f j).frame (places_in f j) (grid_of f j) (slot_of f j))
 unfolding frame_for
-sets_in f = head_sets (job_of f 0).frame (places_in f 0) (grid_of f 0) (slot_of f 0)
+sets_in f j = head_sets (job_of f j).frame (places_in f j) (grid_of f j) (slot_of f j)
 
-walks_in : (f : FileModel) (m : List ℕ) → Grounds f m
-    → WalksTo (MayDo (job_rights f 0) (config_for f 0) (frame_for f 0)) NoMatter at_start (render_slots (job_of f 0).frame (places_in f 0) (grid_of f 0) (slot_of f 0))
+walks_in : (f : FileModel) (j : ℕ) (m : List ℕ) → Grounds f j m
+    → WalksTo (MayDo (rights_at f j) (config_for f j) (frame_for f j)) NoMatter at_start (render_slots (job_of f j).frame (places_in f j) (grid_of f j) (slot_of f j))
 unfolding frame_for
-walks_in f m grounds =
-    walks_by (job_rights f 0) (config_for f 0) (job_of f 0).frame (places_in f 0) (grid_of f 0) (slot_of f 0)
-    (set_of (job_of f 0).frame (grid_of f 0) (table_of f) (job_of f 0).handles grounds.settled.surfaces)
-    (surfaces_in f m grounds) (has_grid_for f grounds.settled)
+walks_in f j m grounds =
+    walks_by (rights_at f j) (config_for f j) (job_of f j).frame (places_in f j) (grid_of f j) (slot_of f j)
+    (set_of (job_of f j).frame (grid_of f j) (table_of f) (job_of f j).handles grounds.settled.surfaces)
+    (surfaces_in f j m grounds) (has_grid_for f j grounds.settled)
 
 pub renders_walk_law : RendersWalk
-renders_walk_law f m grounds = record { text = list_text f; walks = walks_in f m grounds; fits = frame_fits f grounds.settled; sets = sets_in f }
+renders_walk_law f j m grounds = record { text = list_text f j; walks = walks_in f j m grounds; fits = frame_fits f j grounds.settled; sets = sets_in f j }

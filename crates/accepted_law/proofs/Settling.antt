@@ -1,5 +1,5 @@
 -- A file in which no rule stands settles.
-use Rattle.std.proofs.Common.{◌≡◌, ℕ, ◌%◌, ◌==◌, ◌<◌, ◌≤◌, inl, inr, Bool, true, false, not, if◌then◌else◌, List, [], ◌∷◌, ◌++◌, Some, None, is_some, length, get_or, refl, sym, ap, subst, arith, ◌∙◌}
+use Rattle.std.proofs.Common.{◌≡◌, ℕ, zero, suc, ◌+◌, ◌%◌, ◌==◌, ◌<◌, ◌≤◌, inl, inr, Bool, true, false, not, if◌then◌else◌, List, [], ◌∷◌, ◌++◌, Some, None, is_some, length, get_or, refl, sym, ap, subst, arith, ◌∙◌}
 use Rattle.std.specs.List.{AllByRecursion}
 use Rattle.std.proofs.lemmas.Bool.{ltb-false, cases_lt}
 use Rattle.std.proofs.lemmas.List.{get_or_past}
@@ -25,8 +25,9 @@ use Rattle.shader_check.proofs.Indexed.{sound_shader}
 use Rattle.shader_records.specs.Inputs.{AreShadersOf, shader_in}
 use Rattle.shader_records.specs.Rules.{all_questions}
 use Rattle.render_list.specs.Surfaces.{surface_faults}
-use Rattle.job_format.specs.File.{IsWellFormed, Fits, JobFits}
+use Rattle.job_format.specs.File.{Fits, JobFits}
 use Rattle.job_format.specs.Model.{FileModel, JobModel}
+use Rattle.relocation.specs.Layout.{region_end}
 use Rattle.job_check.specs.Shaders.{table_of, words_of, code_questions, told_of, content_of, shader_for, shaders_of}
 use Rattle.job_check.specs.Jobs.{no_job, job_of, has_bin, grid_of, input_for, layout_of}
 use Rattle.job_check.specs.Faults.{table_refused, table_stage, shader_refused, shader_questions_in, shader_stage, shaders_stage, handle_refused, handles_stage, bin_refused, bin_stage, record_refused, records_stage, surface_refused, surfaces_stage, layout_stage, lists_stages, job_stages, file_stages}
@@ -39,34 +40,34 @@ asked_if : {F : Type 0} (b : Bool) (rules : List (Question F)) → b ≡ true �
 asked_if true rules is none = none
 asked_if false rules is none = absurd (cc)
 
--- the stages of a file, and of its job
-record NoneStands (f : FileModel) : Type 0 where
+-- the stages of a file, and of its job j
+record NoneStands (f : FileModel) (j : ℕ) : Type 0 where
   table : first_of (table_stage f) ≡ None
   shaders : first_of (shaders_stage f) ≡ None
-  handles : first_of (handles_stage f 0) ≡ None
-  bin : first_of (bin_stage f 0) ≡ None
-  records : first_of (records_stage f 0) ≡ None
-  surfaces : first_of (surfaces_stage f 0) ≡ None
-  layout : first_of (layout_stage f 0) ≡ None
+  handles : first_of (handles_stage f j) ≡ None
+  bin : first_of (bin_stage f j) ≡ None
+  records : first_of (records_stage f j) ≡ None
+  surfaces : first_of (surfaces_stage f j) ≡ None
+  layout : first_of (layout_stage f j) ≡ None
 
-none_in : (f : FileModel) → length f.jobs ≡ 1 → first_of (file_stages f) ≡ None → NoneStands f
+none_in : (f : FileModel) (j : ℕ) → j < length f.jobs → first_of (file_stages f) ≡ None → NoneStands f j
 unfolding file_stages job_stages lists_stages
-none_in f one none =
+none_in f j inside none =
     let jobs = each (job_stages f) 0 (length f.jobs) in
     let rest = rest_none (table_stage f) (shaders_stage f ++ jobs) none in
-    let job : first_of (job_stages f 0) ≡ None = each_none (job_stages f) 0 (length f.jobs) 0 (rest_none (shaders_stage f) jobs rest) (omega arith) (omega (arith, one)) in
-    let lists = bin_stage f 0 ++ (records_stage f 0 ++ surfaces_stage f 0) in
-    let later = rest_none (handles_stage f 0) (lists ++ layout_stage f 0) job in
-    let all = front_none lists (layout_stage f 0) later in
-    let behind = rest_none (bin_stage f 0) (records_stage f 0 ++ surfaces_stage f 0) all in
+    let job : first_of (job_stages f j) ≡ None = each_none (job_stages f) 0 (length f.jobs) j (rest_none (shaders_stage f) jobs rest) (omega arith) (omega (arith, inside)) in
+    let lists = bin_stage f j ++ (records_stage f j ++ surfaces_stage f j) in
+    let later = rest_none (handles_stage f j) (lists ++ layout_stage f j) job in
+    let all = front_none lists (layout_stage f j) later in
+    let behind = rest_none (bin_stage f j) (records_stage f j ++ surfaces_stage f j) all in
     record {
       table = front_none (table_stage f) (shaders_stage f ++ jobs) none;
       shaders = front_none (shaders_stage f) jobs rest;
-      handles = front_none (handles_stage f 0) (lists ++ layout_stage f 0) job;
-      bin = front_none (bin_stage f 0) (records_stage f 0 ++ surfaces_stage f 0) all;
-      records = front_none (records_stage f 0) (surfaces_stage f 0) behind;
-      surfaces = rest_none (records_stage f 0) (surfaces_stage f 0) behind;
-      layout = rest_none lists (layout_stage f 0) later;
+      handles = front_none (handles_stage f j) (lists ++ layout_stage f j) job;
+      bin = front_none (bin_stage f j) (records_stage f j ++ surfaces_stage f j) all;
+      records = front_none (records_stage f j) (surfaces_stage f j) behind;
+      surfaces = rest_none (records_stage f j) (surfaces_stage f j) behind;
+      layout = rest_none lists (layout_stage f j) later;
     }
 
 -- M
@@ -119,56 +120,63 @@ shaders_are f none = record {
 }
 
 -- H, B, A and U, G, X
-handles_none : (f : FileModel) → first_of (handles_stage f 0) ≡ None → AreNumbersOf (table_of f) (job_of f 0).handles
+pub handles_clear : (f : FileModel) (j : ℕ) → j < length f.jobs → first_of (file_stages f) ≡ None → first_of (handles_questions (table_of f) (job_of f j).client (job_of f j).handles) ≡ None
 unfolding handles_stage
-handles_none f none =
-    are_numbers (table_of f) (job_of f 0).client (job_of f 0).handles
-    (none_answered (handle_refused f 0) (handles_questions (table_of f) (job_of f 0).client (job_of f 0).handles) none)
+handles_clear f j inside none =
+    none_answered (handle_refused f j) (handles_questions (table_of f) (job_of f j).client (job_of f j).handles) (none_in f j inside none).handles
 
-bin_none : (f : FileModel) → first_of (bin_stage f 0) ≡ None → has_bin f 0 ≡ true → first_of (bin_questions (job_of f 0).bin (job_of f 0).declared (table_of f) (job_of f 0).handles) ≡ None
+handles_none : (f : FileModel) (j : ℕ) → first_of (handles_stage f j) ≡ None → AreNumbersOf (table_of f) (job_of f j).handles
+unfolding handles_stage
+handles_none f j none =
+    are_numbers (table_of f) (job_of f j).client (job_of f j).handles
+    (none_answered (handle_refused f j) (handles_questions (table_of f) (job_of f j).client (job_of f j).handles) none)
+
+bin_none : (f : FileModel) (j : ℕ) → first_of (bin_stage f j) ≡ None → has_bin f j ≡ true → first_of (bin_questions (job_of f j).bin (job_of f j).declared (table_of f) (job_of f j).handles) ≡ None
 unfolding bin_stage
-bin_none f none some =
-    let rules = bin_questions (job_of f 0).bin (job_of f 0).declared (table_of f) (job_of f 0).handles in
-    none_answered (bin_refused f 0) rules (asked_if (has_bin f 0) (answered (bin_refused f 0) rules) some none)
+bin_none f j none some =
+    let rules = bin_questions (job_of f j).bin (job_of f j).declared (table_of f) (job_of f j).handles in
+    none_answered (bin_refused f j) rules (asked_if (has_bin f j) (answered (bin_refused f j) rules) some none)
 
-records_none : (f : FileModel) → first_of (records_stage f 0) ≡ None → has_bin f 0 ≡ true → first_of (all_questions (input_for f 0)) ≡ None
+records_none : (f : FileModel) (j : ℕ) → first_of (records_stage f j) ≡ None → has_bin f j ≡ true → first_of (all_questions (input_for f j)) ≡ None
 unfolding records_stage
-records_none f none some =
-    none_answered (record_refused f 0) (all_questions (input_for f 0)) (asked_if (has_bin f 0) (answered (record_refused f 0) (all_questions (input_for f 0))) some none)
+records_none f j none some =
+    none_answered (record_refused f j) (all_questions (input_for f j)) (asked_if (has_bin f j) (answered (record_refused f j) (all_questions (input_for f j))) some none)
 
-surfaces_none : (f : FileModel) → first_of (surfaces_stage f 0) ≡ None → first_of (surface_faults (job_of f 0).frame (grid_of f 0) (table_of f) (job_of f 0).handles) ≡ None
+surfaces_none : (f : FileModel) (j : ℕ) → first_of (surfaces_stage f j) ≡ None → first_of (surface_faults (job_of f j).frame (grid_of f j) (table_of f) (job_of f j).handles) ≡ None
 unfolding surfaces_stage
-surfaces_none f none = none_answered (surface_refused f 0) (surface_faults (job_of f 0).frame (grid_of f 0) (table_of f) (job_of f 0).handles) none
+surfaces_none f j none = none_answered (surface_refused f j) (surface_faults (job_of f j).frame (grid_of f j) (table_of f) (job_of f j).handles) none
 
-lists_fit : (f : FileModel) → first_of (layout_stage f 0) ≡ None → (layout_of f 0).end ≤ f.regions.lists_size
+lists_fit : (f : FileModel) (j : ℕ) → first_of (layout_stage f j) ≡ None → (layout_of f j).place + (layout_of f j).end ≤ region_end f.regions
 unfolding layout_stage
-lists_fit f none =
-    let asked = none_stands (layout_stage f 0) none in
-    ltb-false f.regions.lists_size (layout_of f 0).end asked.0
+lists_fit f j none =
+    let asked = none_stands (layout_stage f j) none in
+    ltb-false (region_end f.regions) ((layout_of f j).place + (layout_of f j).end) asked.0
 
--- what is true of each job is true of the first
-first_job : (P : JobModel → Type 0) (jobs : List JobModel) → length jobs ≡ 1 → AllByRecursion P jobs → P (get_or jobs 0 no_job)
-first_job P [] one all = absurd (omega (arith, one))
-first_job P (job ∷ jobs) one all = all.0
+-- what is true of each job is true of job j
+each_job : (P : JobModel → Type 0) (jobs : List JobModel) (j : ℕ) → AllByRecursion P jobs → j < length jobs → P (get_or jobs j no_job)
+each_job P [] j all inside = absurd (omega (arith, inside))
+each_job P (job ∷ jobs) zero all inside = all.0
+each_job P (job ∷ jobs) (suc j) all inside = each_job P jobs j all.1 (omega (arith, inside))
 
-job_fits : (f : FileModel) → IsWellFormed f → Fits f → JobFits (job_of f 0)
+job_fits : (f : FileModel) (j : ℕ) → Fits f → j < length f.jobs → JobFits (job_of f j)
 unfolding job_of
-job_fits f well fits = first_job JobFits f.jobs well.one_job fits.jobs
+job_fits f j fits inside = each_job JobFits f.jobs j fits.jobs inside
 
 pub files_settle_law : FilesSettle
-files_settle_law f well fits none =
-    let stages = none_in f well.one_job none in
+files_settle_law f well fits none j inside =
+    let stages = none_in f j inside none in
     record {
       well_formed = well;
       fits = fits;
-      limits = job_limits f 0 well.jobs (omega (arith, well.one_job));
-      job_fits = job_fits f well fits;
+      inside = inside;
+      limits = job_limits f j well.jobs inside;
+      job_fits = job_fits f j fits inside;
       sound = table_sound f stages.table;
       codes = code_at f stages.shaders;
       shaders = shaders_are f stages.shaders;
-      numbers = handles_none f stages.handles;
-      bin = bin_none f stages.bin;
-      records = records_none f stages.records;
-      surfaces = surfaces_none f stages.surfaces;
-      lists = lists_fit f stages.layout;
+      numbers = handles_none f j stages.handles;
+      bin = bin_none f j stages.bin;
+      records = records_none f j stages.records;
+      surfaces = surfaces_none f j stages.surfaces;
+      lists = lists_fit f j stages.layout;
     }

@@ -4,7 +4,7 @@ use Rattle.std.proofs.Math.Seq.{drop-cons}
 use Rattle.std.proofs.lemmas.Bool.{cases_lt}
 use Rattle.field_words.specs.Words.{u32_at}
 use Rattle.emitted_facts.specs.Facts.{IsAttributeIn, IsRecord}
-use Rattle.packets.specs.StateWord.{attribute_count, is_extended, record_size, record_room}
+use Rattle.packets.specs.StateWord.{attribute_count, record_size, record_room}
 use Rattle.buffer_table.specs.Sound.{IsSound}
 use Rattle.bin_list.specs.declared.state.State.{State}
 use Rattle.bin_walks.specs.Draws.{IsStateAt}
@@ -20,7 +20,7 @@ use Rattle.job_format.specs.Model.{FileModel}
 use Rattle.job_check.specs.Shaders.{table_of}
 use Rattle.job_check.specs.Jobs.{job_of, has_bin, input_for, layout_of, records_of}
 use Rattle.job_check.specs.Emit.{lengths_of}
-use Rattle.job_check.proofs.Layouts.{layout_apart, layout_numbers}
+use Rattle.job_check.proofs.Layouts.{layout_apart, layout_numbers, begin_whole}
 use Rattle.job_check.proofs.Views.{records_are}
 use Rattle.machine_plan.specs.Regions.{Interval, Inside}
 use Rattle.list_machine.specs.Fetch.{record_place}
@@ -30,7 +30,7 @@ use Rattle.qpu_law.specs.Asks.{IsOneOf}
 use Rattle.qpu_law.proofs.Reading.{one_inside}
 use Rattle.machine_law.specs.Begins.{IsFixed}
 use Rattle.machine_law.proofs.Begins.{fixed_inside}
-use Rattle.accepted_law.specs.Holdings.{lists_of, job_rights, file_rights}
+use Rattle.accepted_law.specs.Holdings.{lists_of, rights_at, file_rights}
 use Rattle.accepted_law.specs.Settled.{Grounds}
 use Rattle.accepted_law.proofs.Uses.{inputs_are, inputs_low, streams_low, emitted_stand}
 
@@ -86,17 +86,17 @@ record_ends input (suc n) k below =
     ]
 
 -- where the record of state k stands
-unfoldable pub place_for : FileModel → ℕ → ℕ
-place_for f k = (layout_of f 0).place + (layout_of f 0).records + record_offset (input_for f 0) k
+unfoldable pub place_for : FileModel → ℕ → ℕ → ℕ
+place_for f j k = (layout_of f j).place + (layout_of f j).records + record_offset (input_for f j) k
 
-pub place_whole : (f : FileModel) (k : ℕ) → IsSound f.mem_size f.regions f.buffers → place_for f k % 16 ≡ 0
+pub place_whole : (f : FileModel) (j k : ℕ) → IsSound f.mem_size f.regions f.buffers → place_for f j k % 16 ≡ 0
 unfolding place_for
-place_whole f k sound =
-    let numbers = layout_numbers f 0 (layout_of f 0) refl in
-    let page = (sound.each_item 0 (omega arith)).place in
-    let records = (layout_apart f 0).records_aligned in
-    let offset = offset_whole (input_for f 0) k in
-    omega (arith, numbers.0, page, records, offset)
+place_whole f j k sound =
+    let numbers = layout_numbers f j (layout_of f j) refl in
+    let begin = begin_whole f j sound in
+    let records = (layout_apart f j).records_aligned in
+    let offset = offset_whole (input_for f j) k in
+    omega (arith, numbers.0, begin, records, offset)
 
 pub place_of : (word base n : ℕ) → base % 16 ≡ 0 → word ≡ base + n % 16 → record_place word ≡ base
 unfolding record_place
@@ -106,16 +106,16 @@ pub state_of : (word base n : ℕ) → base % 16 ≡ 0 → word ≡ base + n % 1
 state_of word base n whole points = omega (arith, whole, points)
 
 -- the record of state k ends in the emitted records
-record_room_in : (f : FileModel) (k : ℕ) → has_bin f 0 ≡ true → k < length (input_for f 0).states → record_offset (input_for f 0) k + record_room (state_at (input_for f 0) k).word ≤ length (records_of f 0)
-record_room_in f k has below =
-    let long : length (records_of f 0) ≡ record_offset (input_for f 0) (length (input_for f 0).states) =
-    ap length (sym (records_are f 0 has)) ∙ length_records (input_for f 0) (streams_place (layout_of f 0)) (length (input_for f 0).states) in
-    let ends = record_ends (input_for f 0) (length (input_for f 0).states) k below in
+record_room_in : (f : FileModel) (j k : ℕ) → has_bin f j ≡ true → k < length (input_for f j).states → record_offset (input_for f j) k + record_room (state_at (input_for f j) k).word ≤ length (records_of f j)
+record_room_in f j k has below =
+    let long : length (records_of f j) ≡ record_offset (input_for f j) (length (input_for f j).states) =
+    ap length (sym (records_are f j has)) ∙ length_records (input_for f j) (streams_place (layout_of f j)) (length (input_for f j).states) in
+    let ends = record_ends (input_for f j) (length (input_for f j).states) k below in
     omega (arith, long, ends)
 
-records_listed : (f : FileModel) → IsOneOf (lists_of f 0) ((layout_of f 0).place + (layout_of f 0).records) (length (records_of f 0))
+records_listed : (f : FileModel) (j : ℕ) → IsOneOf (lists_of f j) ((layout_of f j).place + (layout_of f j).records) (length (records_of f j))
 unfolding lists_of lengths_of
-records_listed f = inr (inl refl)
+records_listed f j = inr (inl refl)
 
 -- The sizes of a record go by the low four bits of its word.
 same_size : (state word : ℕ) → state % 16 ≡ word % 16 → record_size state ≡ record_size word
@@ -126,52 +126,52 @@ same_size state word is =
     λ i. if extended i then 100 + 4 * count i else 36 + 8 * count i
 
 -- The record of state k, of which a word has the place and the low four bits, stands in memory; no job may write it.
-pub record RecordKept (f : FileModel) (m : List ℕ) (word : ℕ) : Type 0 where
-  pub stands : RecordStands (job_rights f 0).region m word
+pub record RecordKept (f : FileModel) (j : ℕ) (m : List ℕ) (word : ℕ) : Type 0 where
+  pub stands : RecordStands (rights_at f j).region m word
   pub fixed : IsFixed (file_rights f) (record_place word) (record_size word)
 
-pub record_kept : (f : FileModel) (m : List ℕ) (k word : ℕ) → Grounds f m → has_bin f 0 ≡ true → k < length (input_for f 0).states → record_place word ≡ place_for f k
-    → (state_at (input_for f 0) k).word % 16 ≡ word % 16 → RecordKept f m word
+pub record_kept : (f : FileModel) (j : ℕ) (m : List ℕ) (k word : ℕ) → Grounds f j m → has_bin f j ≡ true → k < length (input_for f j).states → record_place word ≡ place_for f j k
+    → (state_at (input_for f j) k).word % 16 ≡ word % 16 → RecordKept f j m word
 unfolding place_for
-record_kept f m k word grounds has below place_is is =
-    let base : ℕ = (layout_of f 0).place + (layout_of f 0).records in
-    let state : ℕ = (state_at (input_for f 0) k).word in
-    let room = record_room_in f k has below in
+record_kept f j m k word grounds has below place_is is =
+    let base : ℕ = (layout_of f j).place + (layout_of f j).records in
+    let state : ℕ = (state_at (input_for f j) k).word in
+    let room = record_room_in f j k has below in
     let size = (emitted_in state).0 in
     let same = same_size state word is in
     let from : base ≤ record_place word = omega (arith, place_is) in
-    let upto : record_place word + record_size word ≤ base + length (records_of f 0) = omega (arith, place_is, room, size, same) in
+    let upto : record_place word + record_size word ≤ base + length (records_of f j) = omega (arith, place_is, room, size, same) in
     record {
       stands = record {
-        inside = one_inside (job_rights f 0).region base (length (records_of f 0)) (record_place word) (record_size word) (grounds.lists base (length (records_of f 0)) (records_listed f)) (record { from = from; upto = upto });
+        inside = one_inside (rights_at f j).region base (length (records_of f j)) (record_place word) (record_size word) (grounds.lists base (length (records_of f j)) (records_listed f j)) (record { from = from; upto = upto });
         bytes = λ i small. grounds.holds.bytes (record_place word + i);
       };
-      fixed = fixed_inside (file_rights f) base (length (records_of f 0)) (record_place word) (record_size word) (grounds.lists_fixed base (length (records_of f 0)) (records_listed f)) from upto;
+      fixed = fixed_inside (file_rights f) base (length (records_of f j)) (record_place word) (record_size word) (grounds.lists_fixed base (length (records_of f j)) (records_listed f j)) from upto;
     }
 
 -- The record of state k is one of the facts of emission.
-pub record_fact : (f : FileModel) (m : List ℕ) (k : ℕ) → Grounds f m → has_bin f 0 ≡ true → k < length (input_for f 0).states
-    → IsRecord (IsDataIn (table_of f) (job_of f 0).handles) (IsCodeIn (input_for f 0)) (state_at (input_for f 0) k).word (state_at (input_for f 0) k).max_index (λ i. u32_at m (place_for f k + 4 * i)) (u32_at m)
+pub record_fact : (f : FileModel) (j : ℕ) (m : List ℕ) (k : ℕ) → Grounds f j m → has_bin f j ≡ true → k < length (input_for f j).states
+    → IsRecord (IsDataIn (table_of f) (job_of f j).handles) (IsCodeIn (input_for f j)) (state_at (input_for f j) k).word (state_at (input_for f j) k).max_index (λ i. u32_at m (place_for f j k + 4 * i)) (u32_at m)
 unfolding place_for input_for
-record_fact f m k grounds has below =
-    records_in_memory (input_for f 0) ((layout_of f 0).place + (layout_of f 0).records) (streams_place (layout_of f 0)) m k (inputs_are f grounds.settled) (inputs_low f grounds.settled) (grounds.settled.records has) below (streams_low f grounds.settled) (emitted_stand f m grounds has)
+record_fact f j m k grounds has below =
+    records_in_memory (input_for f j) ((layout_of f j).place + (layout_of f j).records) (streams_place (layout_of f j)) m k (inputs_are f j grounds.settled) (inputs_low f j grounds.settled) (grounds.settled.records has) below (streams_low f j grounds.settled) (emitted_stand f j m grounds has)
 
 -- Data that the job's handles name lie in its region, and so do attribute_count.
-pub data_inside : (f : FileModel) (m : List ℕ) → Grounds f m → (place size : ℕ) → IsDataIn (table_of f) (job_of f 0).handles place size → Inside (job_rights f 0).region place size
-data_inside f m grounds place size named =
-    one_inside (job_rights f 0).region place size place size (grounds.data_reads place size (grounds.named_data place size named)) (record { from = omega arith; upto = omega arith })
+pub data_inside : (f : FileModel) (j : ℕ) (m : List ℕ) → Grounds f j m → (place size : ℕ) → IsDataIn (table_of f) (job_of f j).handles place size → Inside (rights_at f j).region place size
+data_inside f j m grounds place size named =
+    one_inside (rights_at f j).region place size place size (grounds.data_reads place size (grounds.named_data place size named)) (record { from = omega arith; upto = omega arith })
 
 attribute_inside : (IsNamed : ℕ → ℕ → Type 0) (region : List Interval) (state : ℕ) (word : ℕ → ℕ) (most t : ℕ) → ((place size : ℕ) → IsNamed place size → Inside region place size)
     → IsAttributeIn IsNamed state word most t → IsAttributeIn (Inside region) state word most t
 attribute_inside IsNamed region state word most t inside one =
     record { place = one.place; size = one.size; named = inside one.place one.size one.named; from = one.from; upto = one.upto }
 
-pub attributes_of : (f : FileModel) (m : List ℕ) (k word : ℕ) → Grounds f m → has_bin f 0 ≡ true → k < length (input_for f 0).states → record_place word ≡ place_for f k
-    → (t : ℕ) → t < attribute_count (state_at (input_for f 0) k).word
-    → IsAttributeIn (Inside (job_rights f 0).region) (state_at (input_for f 0) k).word (words_in m word) (state_at (input_for f 0) k).max_index t
-attributes_of f m k word grounds has below place_is t small =
-    let state : State = state_at (input_for f 0) k in
-    let fact = (record_fact f m k grounds has below).attributes t small in
-    let there : IsAttributeIn (IsDataIn (table_of f) (job_of f 0).handles) state.word (words_in m word) state.max_index t =
-    subst (λ p. IsAttributeIn (IsDataIn (table_of f) (job_of f 0).handles) state.word (λ i. u32_at m (p + 4 * i)) state.max_index t) (sym place_is) fact in
-    attribute_inside (IsDataIn (table_of f) (job_of f 0).handles) (job_rights f 0).region state.word (words_in m word) state.max_index t (data_inside f m grounds) there
+pub attributes_of : (f : FileModel) (j : ℕ) (m : List ℕ) (k word : ℕ) → Grounds f j m → has_bin f j ≡ true → k < length (input_for f j).states → record_place word ≡ place_for f j k
+    → (t : ℕ) → t < attribute_count (state_at (input_for f j) k).word
+    → IsAttributeIn (Inside (rights_at f j).region) (state_at (input_for f j) k).word (words_in m word) (state_at (input_for f j) k).max_index t
+attributes_of f j m k word grounds has below place_is t small =
+    let state : State = state_at (input_for f j) k in
+    let fact = (record_fact f j m k grounds has below).attributes t small in
+    let there : IsAttributeIn (IsDataIn (table_of f) (job_of f j).handles) state.word (words_in m word) state.max_index t =
+    subst (λ p. IsAttributeIn (IsDataIn (table_of f) (job_of f j).handles) state.word (λ i. u32_at m (p + 4 * i)) state.max_index t) (sym place_is) fact in
+    attribute_inside (IsDataIn (table_of f) (job_of f j).handles) (rights_at f j).region state.word (words_in m word) state.max_index t (data_inside f j m grounds) there

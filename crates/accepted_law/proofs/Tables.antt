@@ -8,6 +8,10 @@ use Rattle.buffer_table.specs.declared.buffer.Regions.{Regions}
 use Rattle.buffer_table.specs.Table.{items_of, item_at, lists_item, tile_item, buffer_item, buffer_at, past_end}
 use Rattle.buffer_table.specs.Sound.{IsSound, IsSoundItem, AreApart}
 use Rattle.buffer_table.proofs.Sounds.{item_of_buffer, length_items}
+use Rattle.job_format.specs.File.{IsWellFormed}
+use Rattle.job_format.specs.Model.{FileModel}
+use Rattle.job_check.specs.Jobs.{slot_of}
+use Rattle.job_check.proofs.Layouts.{enough_slots}
 
 pub buffer_sound : (memory : ℕ) (r : Regions) (buffers : List Buffer) → IsSound memory r buffers → (number : ℕ) → number < length buffers → IsSoundItem memory (buffer_item (buffer_at buffers number))
 buffer_sound memory r buffers sound number inside =
@@ -38,14 +42,16 @@ tiles_apart memory r buffers sound k inside =
 pub regions_apart : (memory : ℕ) (r : Regions) (buffers : List Buffer) → IsSound memory r buffers → AreApart (lists_item r) (tile_item r)
 regions_apart memory r buffers sound = sound.apart 0 1 (omega arith) (omega (arith, length_items r buffers))
 
--- the first slot lies in the tile region
-slots_some : (n : ℕ) → 0 < slot_size * n → slot_size ≤ slot_size * n
-slots_some n some = omega (arith, some)
+-- The slot of each job lies in the tile region.
+pub record IsSlotInside (f : FileModel) (j : ℕ) : Type 0 where
+  pub from : f.regions.tile_place ≤ slot_of f j
+  pub upto : slot_of f j + slot_size ≤ f.regions.tile_place + slot_size * f.regions.tile_slots
 
-pub one_slot : (memory : ℕ) (r : Regions) (buffers : List Buffer) → IsSound memory r buffers → slot_size ≤ slot_size * r.tile_slots
-one_slot memory r buffers sound =
-    let tiles = sound.each_item 1 (omega (arith, length_items r buffers)) in
-    slots_some r.tile_slots tiles.not_empty
+pub slot_inside : (f : FileModel) (j : ℕ) → IsWellFormed f → IsSound f.mem_size f.regions f.buffers → j < length f.jobs → IsSlotInside f j
+unfolding slot_of
+slot_inside f j well sound inside =
+    let enough = enough_slots f well sound in
+    record { from = omega arith; upto = omega (arith, enough, inside) }
 
 -- Each buffer ends in the first 64 MiB; past the last one there is none, of no bytes.
 past_low : (b : Buffer) → b ≡ past_end → b.place + b.size ≤ most_memory

@@ -12,69 +12,68 @@ use Rattle.shader_records.specs.Named.{AreInMemory, IsEmittedIn}
 use Rattle.job_check.specs.Shaders.{content_of, words_of, told_of, shader_for, shaders_of}
 use Rattle.job_check.specs.Jobs.{has_bin, input_for, layout_of, records_of, streams_of}
 use Rattle.job_check.proofs.Codes.{shader_at}
-use Rattle.job_check.proofs.Layouts.{layout_apart, lists_inside, layout_numbers}
+use Rattle.job_check.proofs.Layouts.{layout_apart, lists_inside}
 use Rattle.job_check.proofs.Views.{records_are, streams_are}
 use Rattle.accepted_law.specs.Settled.{Settled, ListsEnd, Grounds}
 use Rattle.accepted_law.proofs.Streams.{piece_at}
 use Rattle.accepted_law.proofs.Tables.{buffer_sound, buffer_low}
 
 -- The input of the job's records is one in which all is known that the laws on records ask.
-pub inputs_are : (f : FileModel) → Settled f → AreInputs (input_for f 0)
+pub inputs_are : (f : FileModel) (j : ℕ) → Settled f j → AreInputs (input_for f j)
 unfolding input_for
-inputs_are f settled = record { handles = settled.numbers; shaders = settled.shaders }
+inputs_are f j settled = record { handles = settled.numbers; shaders = settled.shaders }
 
 -- a buffer of a sound table is in its memory, with room for its contents
 pub buffer_inside : (f : FileModel) (number : ℕ) → IsSound f.mem_size f.regions f.buffers → number < length f.buffers
     → ((buffer_at f.buffers number).place + (buffer_at f.buffers number).size ≤ f.mem_size) × ((buffer_at f.buffers number).content ≤ (buffer_at f.buffers number).size)
 buffer_inside f number sound below = let s = buffer_sound f.mem_size f.regions f.buffers sound number below in (s.inside, s.content)
 
-pub inputs_low : (f : FileModel) → Settled f → AreInMemory (input_for f 0)
+pub inputs_low : (f : FileModel) (j : ℕ) → Settled f j → AreInMemory (input_for f j)
 unfolding input_for
-inputs_low f settled = record {
+inputs_low f j settled = record {
   records = settled.job_fits.records;
   uniforms = settled.job_fits.uniforms;
   buffers = buffer_low f.mem_size f.regions f.buffers settled.sound;
 }
 
 -- The streams begin and end in the memory, so below 64 MiB.
-pub streams_low : (f : FileModel) → Settled f → (layout_of f 0).place + (layout_of f 0).uniforms + length (input_for f 0).uniforms < 2 ^ 32
+pub streams_low : (f : FileModel) (j : ℕ) → Settled f j → (layout_of f j).place + (layout_of f j).uniforms + length (input_for f j).uniforms < 2 ^ 32
 unfolding input_for
-streams_low f settled =
-    let apart = layout_apart f 0 in
-    let numbers = layout_numbers f 0 (layout_of f 0) refl in
+streams_low f j settled =
+    let apart = layout_apart f j in
     let region = lists_inside f settled.sound in
     let limit = settled.sound.limit in
     let third = apart.third in
     let last = apart.last in
     let fits = settled.lists in
-    omega (arith, third, last, fits, numbers.0, region, limit)
+    omega (arith, third, last, fits, region, limit)
 
 -- the lists end in the memory
-pub lists_low : (f : FileModel) → Settled f → ListsEnd f → (layout_of f 0).place + (layout_of f 0).render ≤ f.mem_size
-lists_low f settled ends =
+pub lists_low : (f : FileModel) (j : ℕ) → Settled f j → ListsEnd f j → (layout_of f j).place + (layout_of f j).render ≤ f.mem_size
+lists_low f j settled ends =
     let region = lists_inside f settled.sound in
     let last = ends.region in
     let room = ends.render in
     omega (arith, region, last, room)
 
 -- The memory has what was emitted of the records and their streams.
-pub emitted_stand : (f : FileModel) (m : List ℕ) → Grounds f m → has_bin f 0 ≡ true
-    → IsEmittedIn (input_for f 0) ((layout_of f 0).place + (layout_of f 0).records) ((layout_of f 0).place + (layout_of f 0).uniforms) m
-emitted_stand f m grounds some =
+pub emitted_stand : (f : FileModel) (j : ℕ) (m : List ℕ) → Grounds f j m → has_bin f j ≡ true
+    → IsEmittedIn (input_for f j) ((layout_of f j).place + (layout_of f j).records) ((layout_of f j).place + (layout_of f j).uniforms) m
+emitted_stand f j m grounds some =
     let ends = grounds.ends in
-    let low = lists_low f grounds.settled ends in
+    let low = lists_low f j grounds.settled ends in
     let long = grounds.holds.long in
     let records_end = ends.records in
     let uniforms_end = ends.uniforms in
-    let records_place : ℕ = (layout_of f 0).place + (layout_of f 0).records in
-    let uniforms_place : ℕ = (layout_of f 0).place + (layout_of f 0).uniforms in
+    let records_place : ℕ = (layout_of f j).place + (layout_of f j).records in
+    let uniforms_place : ℕ = (layout_of f j).place + (layout_of f j).uniforms in
     record {
       records_are =
-          subst (λ text. IsPiece m records_place (length text) text) (sym (records_are f 0 some))
-          (piece_at m records_place (records_of f 0) grounds.holds.records (omega (arith, records_end, uniforms_end, low, long)));
+          subst (λ text. IsPiece m records_place (length text) text) (sym (records_are f j some))
+          (piece_at m records_place (records_of f j) grounds.holds.records (omega (arith, records_end, uniforms_end, low, long)));
       uniforms_are =
-          subst (λ text. IsPiece m uniforms_place (length text) text) (sym (streams_are f 0 some))
-          (piece_at m uniforms_place (streams_of f 0) grounds.holds.uniforms (omega (arith, uniforms_end, low, long)));
+          subst (λ text. IsPiece m uniforms_place (length text) text) (sym (streams_are f j some))
+          (piece_at m uniforms_place (streams_of f j) grounds.holds.uniforms (omega (arith, uniforms_end, low, long)));
     }
 
 -- What is known of the shader there is what the checker told of the words that its contents spell.
@@ -89,7 +88,7 @@ same_some : {X : Type 0} (o : Option X) (x y : X) → o ≡ Some x → o ≡ Som
 same_some None x y one two = cc
 same_some (Some z) x y one two = cc
 
-pub told_is : (f : FileModel) (number : ℕ) (shader : ShaderModel) → number < length f.buffers → (buffer_at f.buffers number).kind ≡ Code → shader_in (input_for f 0).shaders number ≡ Some shader
+pub told_is : (f : FileModel) (j number : ℕ) (shader : ShaderModel) → number < length f.buffers → (buffer_at f.buffers number).kind ≡ Code → shader_in (input_for f j).shaders number ≡ Some shader
     → shader ≡ told_of (words_of (content_of f number))
 unfolding input_for
-told_is f number shader below code is = same_some (shader_in (shaders_of f) number) shader (told_of (words_of (content_of f number))) is (told_there f number below code)
+told_is f j number shader below code is = same_some (shader_in (shaders_of f) number) shader (told_of (words_of (content_of f number))) is (told_there f number below code)

@@ -1,5 +1,6 @@
--- What a job of an accepted file holds, and so what it may reach; and where its lists begin.
-use Rattle.std.specs.Prelude.{ℕ, zero, suc, ◌+◌, ◌*◌, ◌-◌, List, [], ◌∷◌, ◌++◌, length, Option, Some, None}
+-- What each job of an accepted file holds, and so what it may reach; and where its lists begin.
+use Rattle.std.specs.Prelude.{ℕ, zero, suc, ◌<◌, ◌+◌, ◌*◌, ◌-◌, List, [], ◌∷◌, ◌++◌, length, map, Option, Some, None}
+use Rattle.std.specs.List.{range_with_len}
 use Rattle.field_words.specs.Sizes.{slot_size}
 use Rattle.buffer_table.specs.declared.buffer.Buffer.{Buffer}
 use Rattle.buffer_table.specs.Table.{buffer_at}
@@ -13,7 +14,7 @@ use Rattle.relocation.specs.declared.layout.Lengths.{Lengths}
 use Rattle.job_check.specs.Shaders.{table_of}
 use Rattle.job_check.specs.Jobs.{job_of, slot_of, layout_of, places_in}
 use Rattle.job_check.specs.Emit.{lengths_of}
-use Rattle.machine_plan.specs.Regions.{Interval, Rights}
+use Rattle.machine_plan.specs.Regions.{Interval, Rights, rights_of}
 use Rattle.packets.specs.declared.config.Config.{Config}
 use Rattle.list_machine.specs.declared.state.Frame.{Frame}
 use Rattle.list_law.specs.Start.{frame_of}
@@ -62,9 +63,27 @@ slot_in f j = interval (slot_of f j) slot_size
 abbrev pub job_rights : FileModel → ℕ → Rights
 job_rights f j = record { region = slot_in f j ∷ (plain_of f j ++ (lists_of f j ++ codes_of f j)); writable = slot_in f j ∷ plain_of f j }
 
--- version 1 has one job, number 0
-abbrev pub file_rights : FileModel → List Rights
-file_rights f = job_rights f 0 ∷ []
+-- P of each job of the file; and an item for each, one after the other
+abbrev pub OfEachJob : FileModel → (ℕ → Type 0) → Type 0
+OfEachJob f P = (j : ℕ) → j < length f.jobs → P j
+
+abbrev pub of_jobs : {X : Type 0} → FileModel → (ℕ → X) → List X
+of_jobs f item = map item (range_with_len 0 (length f.jobs))
+
+-- the rights of all jobs, and among them those of job j
+unfoldable pub file_rights : FileModel → List Rights
+file_rights f = of_jobs f (job_rights f)
+
+abbrev pub rights_at : FileModel → ℕ → Rights
+rights_at f j = rights_of (file_rights f) j
+
+-- The emitted lists of the first n jobs, with the Code buffers that their handles name; and those of all jobs. No job may write them.
+unfoldable pub fixed_below : FileModel → ℕ → List Interval
+fixed_below f zero = []
+fixed_below f (suc n) = fixed_below f n ++ (lists_of f n ++ codes_of f n)
+
+unfoldable pub fixed_of : FileModel → List Interval
+fixed_of f = fixed_below f (length f.jobs)
 
 -- where a job's binner list and its renderer list stand, and how long they are
 unfoldable pub start_by : Layout → Lengths → Start
@@ -75,8 +94,11 @@ start_by layout lengths = record {
   render_len = lengths.render;
 }
 
-abbrev pub file_starts : FileModel → List Start
-file_starts f = start_by (layout_of f 0) (lengths_of f 0) ∷ []
+abbrev pub start_of : FileModel → ℕ → Start
+start_of f j = start_by (layout_of f j) (lengths_of f j)
+
+unfoldable pub file_starts : FileModel → List Start
+file_starts f = of_jobs f (start_of f)
 
 -- the tiles of the binner's grid; none where there is no binner list
 abbrev pub across_of : FileModel → ℕ → ℕ
@@ -85,7 +107,7 @@ across_of f j = (seen_before (passed (job_of f j).bin)).tiles_x
 abbrev pub down_of : FileModel → ℕ → ℕ
 down_of f j = (seen_before (passed (job_of f j).bin)).tiles_y
 
--- The job's one configuration: the tiles' states stand at the slot's beginning, and their lists behind.
+-- The one configuration of job j: the tiles' states stand at the slot's beginning, and their lists behind.
 unfoldable pub config_for : FileModel → ℕ → Config
 config_for f j = record {
   address = slot_of f j + alloc_offset (across_of f j * down_of f j);

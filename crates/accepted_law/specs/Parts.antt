@@ -1,4 +1,4 @@
--- The parts of what a job of an accepted file begins with.
+-- The parts of what each job of an accepted file begins with.
 use Rattle.std.specs.Prelude.{◌≡◌, ◌<◌, ◌⊎◌, ℕ, ◌+◌, true, false, not, List, length, None}
 use Rattle.field_words.specs.Pieces.{joined}
 use Rattle.field_words.specs.Questions.{first_of}
@@ -15,70 +15,75 @@ use Rattle.job_format.specs.File.{IsWellFormed, Fits}
 use Rattle.job_format.specs.Model.{FileModel}
 use Rattle.job_check.specs.Shaders.{table_of}
 use Rattle.job_check.specs.Jobs.{job_of, has_bin, grid_of, slot_of, places_in, input_for, layout_of, states_in, bin_list_of, render_list_of}
-use Rattle.job_check.specs.Emit.{memory_of, lengths_of}
+use Rattle.job_check.specs.Emit.{memory_of}
 use Rattle.job_check.specs.Faults.{file_stages}
 use Rattle.list_machine.specs.Fetch.{record_place}
 use Rattle.list_law.specs.Binning.{Allocates}
 use Rattle.list_law.specs.Emitted.{words_in, program_in}
 use Rattle.list_law.specs.Rendering.{MayDo, NoMatter, AllSet}
-use Rattle.machine_law.specs.Begins.{LaunchBegins, DrawBegins, JobBegins}
+use Rattle.machine_law.specs.Begins.{LaunchBegins, JobBegins}
 use Rattle.machine_law.specs.Jobs.{ArePlain}
-use Rattle.accepted_law.specs.Holdings.{plain_of, job_rights, file_rights, config_for, frame_for, start_by}
-use Rattle.accepted_law.specs.Settled.{Settled, Grounds}
+use Rattle.accepted_law.specs.Holdings.{OfEachJob, plain_of, file_rights, rights_at, config_for, frame_for, start_of}
+use Rattle.accepted_law.specs.Ends.{IsShaderOf, DrawShaders}
+use Rattle.accepted_law.specs.Settled.{AreSettled, Grounds}
 
 -- From the file: where no rule stands, all this is known of it, and of the memory that it is emitted as.
 abbrev pub FilesSettle : Type 0
-FilesSettle = (f : FileModel) → IsWellFormed f → Fits f → first_of (file_stages f) ≡ None → Settled f
+FilesSettle = (f : FileModel) → IsWellFormed f → Fits f → first_of (file_stages f) ≡ None → AreSettled f
 
 abbrev pub FilesGround : Type 0
-FilesGround = (f : FileModel) → Settled f → Grounds f (memory_of f)
+FilesGround = (f : FileModel) → AreSettled f → OfEachJob f (λ j. Grounds f j (memory_of f))
 
 -- The configuration of the job's grid is the job's to write.
 abbrev pub FilesAllocate : Type 0
-FilesAllocate = (f : FileModel) → Grounds f (memory_of f) → Allocates (job_rights f 0) (config_for f 0)
+FilesAllocate = (f : FileModel) (j : ℕ) → Grounds f j (memory_of f) → Allocates (rights_at f j) (config_for f j)
 
--- A word whose record is that of state k: its three programs may be started from the first memory on.
-pub record RecordLaunches (f : FileModel) (m : List ℕ) (word : ℕ) : Type 0 where
-  pub fragment : LaunchBegins (file_rights f) (plain_of f) m 0 (program_in m word (not (is_single (words_in m word))) 0)
-  pub vertex : LaunchBegins (file_rights f) (plain_of f) m 0 (program_in m word false 1)
-  pub coordinate : LaunchBegins (file_rights f) (plain_of f) m 0 (program_in m word false 2)
+-- A word whose record is that of state k: its three programs may be started from the first memory on, and each is of a shader that a
+-- handle names.
+pub record RecordLaunches (f : FileModel) (j : ℕ) (m : List ℕ) (word : ℕ) : Type 0 where
+  pub fragment : LaunchBegins (file_rights f) (plain_of f) m j (program_in m word (not (is_single (words_in m word))) 0)
+  pub vertex : LaunchBegins (file_rights f) (plain_of f) m j (program_in m word false 1)
+  pub coordinate : LaunchBegins (file_rights f) (plain_of f) m j (program_in m word false 2)
+  pub of_fragment : IsShaderOf f j fragment.home.code
+  pub of_vertex : IsShaderOf f j vertex.home.code
+  pub of_coordinate : IsShaderOf f j coordinate.home.code
 
 abbrev pub RecordsLaunch : Type 0
 RecordsLaunch =
-    (f : FileModel) (m : List ℕ) (k word : ℕ) → Grounds f m → has_bin f 0 ≡ true → k < length (states_in f 0)
-    → record_place word ≡ (layout_of f 0).place + (layout_of f 0).records + record_offset (input_for f 0) k
-    → RecordLaunches f m word
+    (f : FileModel) (j : ℕ) (m : List ℕ) (k word : ℕ) → Grounds f j m → has_bin f j ≡ true → k < length (states_in f j)
+    → record_place word ≡ (layout_of f j).place + (layout_of f j).records + record_offset (input_for f j) k
+    → RecordLaunches f j m word
 
 -- So each primitive of the emitted binner list may be drawn,
 abbrev pub DrawsBegin : Type 0
 DrawsBegin =
-    (f : FileModel) (m : List ℕ) (word : ℕ) (packet : List ℕ) → Grounds f m → has_bin f 0 ≡ true
-    → IsDrawn (table_of f) (job_of f 0).handles (layout_of f 0) (states_in f 0) word packet
+    (f : FileModel) (j : ℕ) (m : List ℕ) (word : ℕ) (packet : List ℕ) → Grounds f j m → has_bin f j ≡ true
+    → IsDrawn (table_of f) (job_of f j).handles (layout_of f j) (states_in f j) word packet
     → (opcode packet ≡ indexed_primitive_list) ⊎ (opcode packet ≡ array_primitive_list)
-    → DrawBegins (file_rights f) (plain_of f) m 0 word packet
+    → DrawShaders f j m word packet
 
 -- and the list walks.
-pub record BinWalks (f : FileModel) (m : List ℕ) : Type 0 where
+pub record BinWalks (f : FileModel) (j : ℕ) (m : List ℕ) : Type 0 where
   pub packets : List (List ℕ)
-  pub text : bin_list_of f 0 ≡ joined packets
-  pub walks : Walks (config_for f 0) (DrawBegins (file_rights f) (plain_of f) m 0) nothing_kept packets
+  pub text : bin_list_of f j ≡ joined packets
+  pub walks : Walks (config_for f j) (DrawShaders f j m) nothing_kept packets
 
 abbrev pub BinsWalk : Type 0
-BinsWalk = (f : FileModel) (m : List ℕ) → Grounds f m → BinWalks f m
+BinsWalk = (f : FileModel) (j : ℕ) (m : List ℕ) → Grounds f j m → BinWalks f j m
 
 -- So does the renderer list.
-pub record RenderWalks (f : FileModel) : Type 0 where
-  pub text : render_list_of f 0 ≡ slots_text (render_slots (job_of f 0).frame (places_in f 0) (grid_of f 0) (slot_of f 0))
-  pub walks : WalksTo (MayDo (job_rights f 0) (config_for f 0) (frame_for f 0)) NoMatter at_start (render_slots (job_of f 0).frame (places_in f 0) (grid_of f 0) (slot_of f 0))
-  pub fits : AllFit (render_slots (job_of f 0).frame (places_in f 0) (grid_of f 0) (slot_of f 0))
-  pub sets : AllSet (frame_for f 0) (render_slots (job_of f 0).frame (places_in f 0) (grid_of f 0) (slot_of f 0))
+pub record RenderWalks (f : FileModel) (j : ℕ) : Type 0 where
+  pub text : render_list_of f j ≡ slots_text (render_slots (job_of f j).frame (places_in f j) (grid_of f j) (slot_of f j))
+  pub walks : WalksTo (MayDo (rights_at f j) (config_for f j) (frame_for f j)) NoMatter at_start (render_slots (job_of f j).frame (places_in f j) (grid_of f j) (slot_of f j))
+  pub fits : AllFit (render_slots (job_of f j).frame (places_in f j) (grid_of f j) (slot_of f j))
+  pub sets : AllSet (frame_for f j) (render_slots (job_of f j).frame (places_in f j) (grid_of f j) (slot_of f j))
 
 abbrev pub RendersWalk : Type 0
-RendersWalk = (f : FileModel) (m : List ℕ) → Grounds f m → RenderWalks f
+RendersWalk = (f : FileModel) (j : ℕ) (m : List ℕ) → Grounds f j m → RenderWalks f j
 
--- The whole: what an accepted file begins with is what the laws of the machine's units ask of a job, and of its Plain buffers.
+-- The whole: what each job of an accepted file begins with is what the laws of the machine's units ask of it, and of its Plain buffers.
 abbrev pub FilesBegin : Type 0
 FilesBegin =
     (f : FileModel) → IsWellFormed f → Fits f → first_of (file_stages f) ≡ None
     → ArePlain (file_rights f) (plain_of f)
-    × JobBegins (file_rights f) (plain_of f) (memory_of f) 0 (start_by (layout_of f 0) (lengths_of f 0))
+    × OfEachJob f (λ j. JobBegins (file_rights f) (plain_of f) (memory_of f) j (start_of f j))

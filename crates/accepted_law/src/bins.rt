@@ -1,4 +1,4 @@
-//! The emitted binner list of an accepted file walks, and each primitive of it may be drawn.
+//! The emitted binner list of each job of an accepted file walks, and each primitive of it may be drawn.
 ghost use Rattle.accepted_law.specs.Parts.{DrawsBegin, BinsWalk};
 
 /// Each primitive of the emitted binner list may be drawn.

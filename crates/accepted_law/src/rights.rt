@@ -7,8 +7,8 @@ pub fn rights_are_held()
     ensures { RightsAreHeld }
 {}
 
-/// In a file in which no rule stands, what the job may write shares no byte with its four emitted lists, nor with a Code buffer that a
-/// handle of it names.
+/// In a file in which no rule stands, what a job may write shares no byte with the four emitted lists of any job, nor with a Code buffer
+/// that a handle of any job names.
 pub fn lists_and_code_are_fixed()
     ensures { ListsAndCodeAreFixed }
 {}

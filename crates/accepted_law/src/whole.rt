@@ -1,18 +1,18 @@
-//! From the parts to the whole: what the job of an accepted file begins with, and so every run of the machine.
+//! From the parts to the whole: what each job of an accepted file begins with, and so every run of the machine.
 ghost use Rattle.accepted_law.specs.Parts.{FilesBegin};
 ghost use Rattle.accepted_law.specs.Whole.{FilesSound};
 
-/// Every accepted file begins as the laws of the machine's units ask: its two lists walk, and what they draw, load and store may be
-/// drawn, loaded and stored.
+/// Each job of an accepted file begins as the laws of the machine's units ask: its two lists walk, and what they draw, load and store
+/// may be drawn, loaded and stored.
 pub fn files_begin()
     ensures { FilesBegin }
 {}
 
-/// The job of an accepted file is sound from every memory of the emitted one's length that has its emitted lists and its code as that
-/// one, whatever all its other bytes are: in every run of the machine, whichever unit steps next, whatever words answer, and whatever
-/// others write beside lists and code, no access is wild, each lies in the job's own buffers, lists, code or tile slot, and each write
-/// in a Plain buffer of the job or in its tile slot. Bytes outside have no effect. And a step of a texture unit does nothing to memory
-/// but read inside one Plain buffer that a handle of the job names.
+/// The 1 to 8 jobs of an accepted file are sound from every memory of the emitted one's length that has their emitted lists and their
+/// code as that one, whatever all its other bytes are: in every run of the machine, whichever unit steps next, whatever words answer, and
+/// whatever others write beside lists and code, no access is wild, each lies in the buffers, lists, code or tile slot of the job for
+/// which it is done, and each write in a Plain buffer of that job or in its tile slot. Bytes outside have no effect. And a step of a
+/// texture unit does nothing to memory but read inside one Plain buffer that a handle of its job names.
 pub fn accepted_files_are_sound()
     ensures { FilesSound }
 {}

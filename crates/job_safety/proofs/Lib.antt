@@ -1,3 +1,4 @@
+pub mod Starts
 pub mod Safety
 pub mod Steps
 pub mod Packets

@@ -1,5 +1,5 @@
 -- What is so of each file in which no rule stands.
-use Rattle.std.specs.Prelude.{◌≡◌, ◌++◌, List, ℕ, None}
+use Rattle.std.specs.Prelude.{◌≡◌, List, ℕ, None}
 use Rattle.field_words.specs.Words.{IsBytes}
 use Rattle.job_format.specs.Model.{FileModel}
 use Rattle.job_format.specs.Reading.{file_at}
@@ -7,16 +7,16 @@ use Rattle.job_check.specs.Emit.{memory_of}
 use Rattle.job_check.specs.Whole.{refusal_of}
 use Rattle.machine_plan.specs.Regions.{Agree}
 use Rattle.accepted_law.specs.Held.{AreFixed}
-use Rattle.accepted_law.specs.Holdings.{plain_of, codes_of, lists_of, file_rights, file_starts}
+use Rattle.accepted_law.specs.Holdings.{OfEachJob, plain_of, fixed_of, file_rights, file_starts}
 use Rattle.job_safety.specs.Safe.{AreSound}
 
--- From each memory of the emitted one's length that has the job's emitted lists, and the Code buffers that its handles name, as the
--- emitted one, whatever all its other bytes are, the job is sound with its rights and from the beginnings of its lists. What it may
--- write has no byte of its lists and code.
+-- From each memory of the emitted one's length that has the emitted lists of all jobs, and the Code buffers that their handles name, as
+-- the emitted one, whatever all its other bytes are, the jobs are sound, each with its own rights and from the beginnings of its lists.
+-- What any job may write has no byte of the lists and the code of any.
 pub record IsSafeFile (f : FileModel) : Type 0 where
-  pub sound : (m : List ℕ) → Agree (lists_of f 0 ++ codes_of f 0) (memory_of f) m
+  pub sound : (m : List ℕ) → Agree (fixed_of f) (memory_of f) m
       → AreSound (file_rights f) (plain_of f) m (file_starts f)
-  pub fixed : AreFixed f
+  pub fixed : OfEachJob f (AreFixed f)
 
 -- So it is of the file that any bytes hold of which no rule stands.
 abbrev pub BytesSafe : Type 0

@@ -1,5 +1,5 @@
 -- What follows of each safe file.
-use Rattle.std.specs.Prelude.{◌≡◌, ◌++◌, List, ℕ, length}
+use Rattle.std.specs.Prelude.{List, ℕ}
 use Rattle.field_words.specs.declared.access.Access.{Access}
 use Rattle.job_format.specs.Model.{FileModel}
 use Rattle.job_check.specs.Emit.{memory_of}
@@ -9,19 +9,19 @@ use Rattle.machine_plan.specs.World.{IsSafeRun}
 use Rattle.machine.specs.State.{State, start_of}
 use Rattle.machine.specs.Step.{Event, ready, turn, IsRun}
 use Rattle.machine_law.specs.Sound.{TexturesReadIn}
-use Rattle.accepted_law.specs.Holdings.{plain_of, codes_of, lists_of, file_rights, file_starts}
+use Rattle.accepted_law.specs.Holdings.{plain_of, fixed_of, file_rights, file_starts}
 use Rattle.job_safety.specs.Safe.{AreSafe, AreSame}
 use Rattle.job_safety.specs.Files.{IsSafeFile}
 
--- the memory has the job's lists and code as they are emitted
+-- the memory has the lists and the code of all jobs as they are emitted
 abbrev pub HasListsAndCode : FileModel → List ℕ → Type 0
-HasListsAndCode f m = Agree (lists_of f 0 ++ codes_of f 0) (memory_of f) m
+HasListsAndCode f m = Agree (fixed_of f) (memory_of f) m
 
 -- every run in which nobody else writes is safe, and depends on nothing outside
 abbrev pub IsSafeAlone : FileModel → List ℕ → Type 0
 IsSafeAlone f m = AreSafe (file_rights f) m (file_starts f) × AreSame (file_rights f) m (file_starts f)
 
--- every run is safe in which others write what the job may write, and nothing else
+-- every run is safe in which others write what some job may write, and nothing else
 abbrev pub IsSafeWithOthers : FileModel → List ℕ → Type 0
 IsSafeWithOthers f m =
     (happenings : List (Happening Event)) (found : List Access) (t : State)
@@ -30,8 +30,9 @@ IsSafeWithOthers f m =
     → IsSafeRun (file_rights f) m found t.memory
 
 -- From the emitted memory all is safe and depends on nothing else. So it is from each of its length in which every byte outside what the
--- job may write is as emitted, and from each that has its lists and code. From each of these it is safe also while others write what the
--- job may write; and in each state to which a run comes, what a texture unit does reads inside one Plain buffer that a handle names.
+-- jobs may write is as emitted, and from each that has their lists and code. From each of these it is safe also while others write what
+-- jobs may write; and in each state to which a run comes, what a texture unit does reads inside one Plain buffer that a handle of its job
+-- names.
 pub record Follows (f : FileModel) : Type 0 where
   pub emitted : IsSafeAlone f (memory_of f)
   pub whatever_it_holds : (m : List ℕ) → IsKept (file_rights f) (memory_of f) m → IsSafeAlone f m
@@ -39,8 +40,8 @@ pub record Follows (f : FileModel) : Type 0 where
   pub while_others_write : (m : List ℕ) → HasListsAndCode f m → IsSafeWithOthers f m
   pub textures : (m : List ℕ) → HasListsAndCode f m
       → (events : List Event) (found : List Access) (t : State) → IsRun (start_of m (file_starts f)) events found t
-      → TexturesReadIn (λ j. plain_of f 0) t
+      → TexturesReadIn (plain_of f) t
 
--- It follows of each file that is safe, which has one job.
+-- It follows of each file that is safe.
 abbrev pub SafeFilesFollow : Type 0
-SafeFilesFollow = (f : FileModel) → length f.jobs ≡ 1 → IsSafeFile f → Follows f
+SafeFilesFollow = (f : FileModel) → IsSafeFile f → Follows f

@@ -1,26 +1,31 @@
 //! A job file, from its bytes to its machine.
-ghost use Rattle.std.specs.Prelude.{◌≡◌, ◌+◌, ◌<◌, ◌^◌, IsOk};
+ghost use Rattle.std.specs.Prelude.{◌≡◌, ◌≤◌, length, IfOk, IsOk};
+ghost use Rattle.std.specs.List.{AllByRecursion};
 ghost use Rattle.field_words.specs.Questions.{Answers};
+ghost use Rattle.field_words.specs.Sizes.{most_memory};
 ghost use Rattle.job_format.specs.Reading.{file_at};
 ghost use Rattle.job_format.specs.File.{IsFileOf};
-ghost use Rattle.job_check.specs.Emit.{memory_of};
+ghost use Rattle.job_check.specs.Emit.{memory_of, IsInside, IsPlaced};
 ghost use Rattle.job_check.specs.Whole.{all_questions};
 ghost use Rattle.accepted_law.specs.Holdings.{start_by, file_rights, file_starts};
-ghost use Rattle.job_safety.specs.Accepted.{machine_of, IsAccepted};
+ghost use Rattle.job_safety.specs.Accepted.{starts_by, IsSetUp, IsAccepted};
+ghost use Rattle.job_safety.specs.Clients.{IsApart};
 ghost use Rattle.job_safety.specs.Safe.{AreSafe, AreSame};
 
-use field_words::{NoMemory, Stop};
-use job_check::check_bytes;
+use field_words::{NoMemory, Stop, get_u32};
+use job_check::{Checked, check_bytes};
 use job_format::Refusal;
 use machine::{Machine, Start};
 use relocation::{Layout, Lengths};
 use std::alloc::Global;
 
-/// An accepted job: where its lists lie in the machine's memory, how long they are, and the machine in its start state.
+/// An accepted file: its version, job by job where its lists lie in the machine's memory and how long they are, and the machine in its
+/// start state.
 #[derive(Drop)]
 pub struct Accepted {
-    pub layout: Layout,
-    pub lengths: Lengths,
+    pub version: u32,
+    pub layouts: Vec<Layout>,
+    pub lengths: Vec<Lengths>,
     pub machine: Machine,
 }
 
@@ -33,11 +38,19 @@ impl Accepted {
     }
 }
 
-// Where the job's lists stand.
+/// The version of a file whose header is there.
+#[tactic(auto, unfolding(job_format::specs::Reading::file_at))]
+pub fn version_of(bytes: &[u8]) -> u32
+    requires { 8 ≤ length bytes.now }
+    ensures { result ≡ (file_at bytes.now).version }
+{
+    get_u32(bytes, 4).unwrap_or(0)
+}
+
+// Where a job's lists stand.
 #[tactic(auto, unfolding(accepted_law::specs::Holdings::start_by))]
 fn start_by(layout: &Layout, lengths: &Lengths) -> Start
-    requires bin { layout.now.place + layout.now.bin < 2 ^ 32 }
-    requires render { layout.now.place + layout.now.render < 2 ^ 32 }
+    requires inside { IsInside most_memory layout.now }
     ensures { result ≡ start_by layout.now lengths.now }
 {
     Start {
@@ -48,32 +61,56 @@ fn start_by(layout: &Layout, lengths: &Lengths) -> Start
     }
 }
 
-/// Reads and checks a job file, and sets its machine up: at the beginnings of the job's lists, over the memory that the job is to
-/// run in. From there every run of that machine is safe, and bytes outside what the job may reach have no effect.
+// Where the lists of each job stand.
+fn starts_by(alloc: Global, layouts: &[Layout], lengths: &[Lengths]) -> Result<Vec<Start>, NoMemory>
+    requires as_many { length lengths.now ≡ length layouts.now }
+    requires inside { AllByRecursion (IsInside most_memory) layouts.now }
+    ensures { IfOk result (λ starts. starts.items ≡ starts_by layouts.now lengths.now) }
+{
+    let mut starts = Vec::new(alloc);
+    for (i, layout) in layouts.iter().enumerate() {
+        starts.push(start_by(layout, &lengths[i]))?;
+    }
+    Ok(starts)
+}
+
+// What was checked, with its machine at the beginnings of the lists of its jobs.
+fn set_up(alloc: Global, version: u32, checked: Checked) -> Result<Accepted, NoMemory>
+    requires placed { IsPlaced checked.memory checked.layouts.items }
+    requires as_many { length checked.lengths.items ≡ length checked.layouts.items }
+    requires some { 1 ≤ length checked.layouts.items }
+    requires few { length checked.layouts.items ≤ 8 }
+    ensures { IfOk result (IsSetUp version checked) }
+{
+    let starts = starts_by(alloc, &checked.layouts, &checked.lengths)?;
+    let machine = Machine::new(alloc, checked.memory, &starts)?;
+    Ok(Accepted {
+        version,
+        layouts: checked.layouts,
+        lengths: checked.lengths,
+        machine,
+    })
+}
+
+/// Reads and checks a job file of 1 to 8 jobs, and sets its machine up: at the beginnings of the lists of its jobs, over the memory that
+/// they are to run in. From there every run of that machine is safe, each access in what the job may reach for which it is done, and
+/// bytes outside what jobs may reach have no effect. To each client the file is the same as every other that is accepted and has the same
+/// jobs of that client in the same places: they access the same, and leave the same, in runs in which they take the same steps.
 ///
 /// # Errors
 /// The first rule that stands for the bytes, by its letter, its number and its place in them; or want of memory.
-#[tactic(auto, unfolding(crate::specs::Accepted::machine_of), using(crate::proofs::Safety::accepted_is_safe, crate::proofs::Safety::accepted_is_same))]
 pub fn accept(alloc: Global, bytes: &[u8]) -> Result<Accepted, Stop<Refusal>>
     ensures answers { Answers (all_questions bytes.now) (IsAccepted (file_at bytes.now)) result }
     ensures spelled { IsOk result → IsFileOf bytes.now (file_at bytes.now) }
     ensures safe { IsOk result → AreSafe (file_rights (file_at bytes.now)) (memory_of (file_at bytes.now)) (file_starts (file_at bytes.now)) }
     ensures same { IsOk result → AreSame (file_rights (file_at bytes.now)) (memory_of (file_at bytes.now)) (file_starts (file_at bytes.now)) }
+    ensures apart { IsOk result → IsApart (file_at bytes.now) }
 {
     match check_bytes(alloc, bytes) {
-        Ok(checked) => {
-            let layout = checked.layout;
-            let lengths = checked.lengths;
-            let start = start_by(&layout, &lengths);
-            match Machine::new(alloc, checked.memory, &[start]) {
-                Ok(machine) => Ok(Accepted {
-                    layout,
-                    lengths,
-                    machine,
-                }),
-                Err(NoMemory) => Err(Stop::NoMemory),
-            }
-        }
+        Ok(checked) => match set_up(alloc, version_of(bytes), checked) {
+            Ok(accepted) => Ok(accepted),
+            Err(NoMemory) => Err(Stop::NoMemory),
+        },
         Err(stop) => Err(stop),
     }
 }

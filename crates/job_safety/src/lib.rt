@@ -3,10 +3,12 @@
 #![tactic(auto)]
 
 mod accepting;
+mod clients;
 mod files;
 mod strength;
 
-pub use accepting::{Accepted, accept};
+pub use accepting::{Accepted, accept, version_of};
+pub use clients::clients_are_apart;
 pub use files::{accepted_bytes_are_safe, safe_files_follow};
 pub use strength::{
     code_past_is_unsafe, direct_reads_past_are_unsafe, lists_past_are_unsafe,

@@ -1,3 +1,4 @@
+pub mod Cases
 pub mod Shaders
 pub mod Tables
 pub mod Lists
@@ -5,3 +6,4 @@ pub mod Records
 pub mod Surfaces
 pub mod Whole
 pub mod Witness
+pub mod Neighbours

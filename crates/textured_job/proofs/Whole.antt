@@ -1,27 +1,45 @@
--- No rule stands for the job.
-use Rattle.std.proofs.Common.{◌≡◌, [], ◌∷◌, ◌++◌, Some, None, refl, ap, ◌∙◌}
-use Rattle.field_words.specs.Questions.{first_of, each, answered}
+-- No rule stands for either file.
+use Rattle.std.proofs.Common.{ℕ, List, ◌≡◌, [], ◌∷◌, ◌++◌, Option, Some, None, refl, ap, ◌∙◌}
+use Rattle.field_words.specs.Questions.{Question, first_of, each, answered}
 use Rattle.field_words.proofs.Questions.{passes, answered_none}
 use Rattle.buffer_table.specs.Table.{buffer_at}
 use Rattle.shader_records.specs.Rules.{all_questions}
+use Rattle.job_format.specs.declared.rule.Refusal.{Refusal}
+use Rattle.job_format.specs.Model.{FileModel}
 use Rattle.job_check.specs.Faults.{table_stage, shader_stage, shader_refused, shaders_stage, handles_stage, bin_stage, record_refused, records_stage, surfaces_stage, layout_stage, lists_stages, job_stages, file_stages}
-use Rattle.job_check.specs.Jobs.{job_of, input_for}
+use Rattle.job_check.specs.Jobs.{job_of, states_in, input_for}
 use Rattle.job_check.specs.Shaders.{words_in, told_of, content_of, code_questions, shader_of, shaders_up_to}
 use Rattle.qpu_isa.specs.Shader.{ShaderModel}
-use Rattle.textured_job.specs.Job.{code_bytes, fragment_words, vertex_words, fragment_told, textured}
+use Rattle.textured_job.specs.Job.{code_bytes, fragment_words, vertex_words, fragment_told, vertex_told, textured, two_clients, one_client}
+use Rattle.textured_job.proofs.Cases.{Case, Alone, First, Second, Single, file_in, number_in, input_in}
 use Rattle.textured_job.proofs.Shaders.{fragment_no_fault, vertex_no_fault, fragment_is_told, vertex_is_told}
-use Rattle.textured_job.proofs.Tables.{table_none, handles_none}
+use Rattle.textured_job.proofs.Tables.{table_none, table_none_of_two, table_none_of_one, handles_none}
 use Rattle.textured_job.proofs.Lists.{bin_there, bin_none, states_are}
-use Rattle.textured_job.proofs.Records.{input, records_asked}
+use Rattle.textured_job.proofs.Records.{records_asked}
 use Rattle.textured_job.proofs.Surfaces.{surfaces_none, layout_none}
+
+-- the shaders of a client, in buffers b and b + 1 of a file
+client_none : (f : FileModel) (b d : ℕ) (rest : List (Question Refusal)) → first_of rest ≡ None
+    → first_of (answered (shader_refused f b) (code_questions (code_bytes fragment_words)) ++ (answered (shader_refused f d) (code_questions (code_bytes vertex_words)) ++ rest)) ≡ None
+client_none f b d rest none =
+    let fragment = answered (shader_refused f b) (code_questions (code_bytes fragment_words)) in
+    let vertex = answered (shader_refused f d) (code_questions (code_bytes vertex_words)) in
+    passes fragment (vertex ++ rest) (answered_none (shader_refused f b) (code_questions (code_bytes fragment_words)) fragment_no_fault)
+    ∙ (passes vertex rest (answered_none (shader_refused f d) (code_questions (code_bytes vertex_words)) vertex_no_fault) ∙ none)
 
 shaders_none : first_of (shaders_stage textured) ≡ None
 unfolding textured shaders_stage shader_stage each answered content_of buffer_at
-shaders_none =
-    let fragment = answered (shader_refused textured 0) (code_questions (code_bytes fragment_words)) in
-    let vertex = answered (shader_refused textured 1) (code_questions (code_bytes vertex_words)) in
-    passes fragment (vertex ++ []) (answered_none (shader_refused textured 0) (code_questions (code_bytes fragment_words)) fragment_no_fault)
-    ∙ passes vertex [] (answered_none (shader_refused textured 1) (code_questions (code_bytes vertex_words)) vertex_no_fault)
+shaders_none = client_none textured 0 1 [] refl
+
+shaders_none_of_two : first_of (shaders_stage two_clients) ≡ None
+unfolding two_clients shaders_stage shader_stage each answered content_of buffer_at
+shaders_none_of_two =
+    let second = answered (shader_refused two_clients 4) (code_questions (code_bytes fragment_words)) ++ (answered (shader_refused two_clients 5) (code_questions (code_bytes vertex_words)) ++ []) in
+    client_none two_clients 0 1 second (client_none two_clients 4 5 [] refl)
+
+shaders_none_of_one : first_of (shaders_stage one_client) ≡ None
+unfolding two_clients one_client shaders_stage shader_stage each answered content_of buffer_at
+shaders_none_of_one = client_none one_client 0 1 [] refl
 
 abbrev fragment_tells : ShaderModel
 fragment_tells = told_of (words_in (code_bytes fragment_words) 14)
@@ -29,38 +47,85 @@ fragment_tells = told_of (words_in (code_bytes fragment_words) 14)
 abbrev vertex_tells : ShaderModel
 vertex_tells = told_of (words_in (code_bytes vertex_words) 3)
 
-pub input_is : input_for textured 0 ≡ input
-unfolding textured input_for job_of shader_of shaders_up_to content_of buffer_at code_bytes
-input_is =
-    ap (λ states. record (input) { states = states; shaders = Some fragment_tells ∷ Some vertex_tells ∷ None ∷ None ∷ [] }) states_are
-    ∙ ap (λ told. record (input) { shaders = Some told ∷ Some vertex_tells ∷ None ∷ None ∷ [] }) fragment_is_told
-    ∙ ap (λ told. record (input) { shaders = Some fragment_told ∷ Some told ∷ None ∷ None ∷ [] }) vertex_is_told
+-- what is computed of a client's shaders, and of all in the file
+abbrev tells : ShaderModel → ShaderModel → List (Option ShaderModel)
+tells fragment vertex = Some fragment ∷ Some vertex ∷ None ∷ None ∷ []
 
-records_none : first_of (records_stage textured 0) ≡ None
+abbrev tells_in : Case → ShaderModel → ShaderModel → List (Option ShaderModel)
+tells_in Alone fragment vertex = tells fragment vertex
+tells_in First fragment vertex = tells fragment vertex ++ tells fragment vertex
+tells_in Second fragment vertex = tells fragment vertex ++ tells fragment vertex
+tells_in Single fragment vertex = tells fragment vertex
+
+told_are : (c : Case) → tells_in c fragment_told vertex_told ≡ (input_in c).shaders
+told_are Alone = refl
+told_are First = refl
+told_are Second = refl
+told_are Single = refl
+
+input_computed : (c : Case) → input_for (file_in c) (number_in c) ≡ record (input_in c) { states = states_in (file_in c) (number_in c); shaders = tells_in c fragment_tells vertex_tells }
+unfolding textured two_clients one_client input_for job_of shader_of shaders_up_to content_of buffer_at code_bytes
+input_computed Alone = refl
+input_computed First = refl
+input_computed Second = refl
+input_computed Single = refl
+
+pub input_is : (c : Case) → input_for (file_in c) (number_in c) ≡ input_in c
+input_is c =
+    input_computed c
+    ∙ ap (λ states. record (input_in c) { states = states; shaders = tells_in c fragment_tells vertex_tells }) (states_are c)
+    ∙ ap (λ fragment. record (input_in c) { shaders = tells_in c fragment vertex_tells }) fragment_is_told
+    ∙ ap (λ vertex. record (input_in c) { shaders = tells_in c fragment_told vertex }) vertex_is_told
+    ∙ ap (λ shaders. record (input_in c) { shaders = shaders }) (told_are c)
+
+records_none : (c : Case) → first_of (records_stage (file_in c) (number_in c)) ≡ None
 unfolding records_stage
-records_none =
-    let none : first_of (answered (record_refused textured 0) (all_questions (input_for textured 0))) ≡ None =
-    answered_none (record_refused textured 0) (all_questions (input_for textured 0)) (ap (λ i. first_of (all_questions i)) input_is ∙ records_asked) in
-    rw bin_there none
+records_none c =
+    let questions = all_questions (input_for (file_in c) (number_in c)) in
+    let none : first_of (answered (record_refused (file_in c) (number_in c)) questions) ≡ None =
+    answered_none (record_refused (file_in c) (number_in c)) questions (ap (λ i. first_of (all_questions i)) (input_is c) ∙ records_asked c) in
+    rw (bin_there c) none
 
-lists_none : first_of (lists_stages textured 0) ≡ None
-unfolding lists_stages
-lists_none =
-    passes (bin_stage textured 0) (records_stage textured 0 ++ surfaces_stage textured 0) bin_none
-    ∙ (passes (records_stage textured 0) (surfaces_stage textured 0) records_none ∙ surfaces_none)
+-- all of a job
+job_none : (c : Case) → first_of (job_stages (file_in c) (number_in c)) ≡ None
+unfolding job_stages lists_stages
+job_none c =
+    let f : FileModel = file_in c in
+    let j : ℕ = number_in c in
+    let lists : first_of (lists_stages f j) ≡ None =
+    passes (bin_stage f j) (records_stage f j ++ surfaces_stage f j) (bin_none c)
+    ∙ (passes (records_stage f j) (surfaces_stage f j) (records_none c) ∙ surfaces_none c) in
+    passes (handles_stage f j) (lists_stages f j ++ layout_stage f j) (handles_none c)
+    ∙ (passes (lists_stages f j) (layout_stage f j) lists ∙ layout_none c)
 
-job_none : first_of (job_stages textured 0) ≡ None
-unfolding job_stages
-job_none =
-    passes (handles_stage textured 0) (lists_stages textured 0 ++ layout_stage textured 0) handles_none
-    ∙ (passes (lists_stages textured 0) (layout_stage textured 0) lists_none ∙ layout_none)
-
-jobs_none : first_of (each (job_stages textured) 0 1) ≡ None
+one_job_none : first_of (each (job_stages textured) 0 1) ≡ None
 unfolding each
-jobs_none = passes (job_stages textured 0) [] job_none
+one_job_none = passes (job_stages textured 0) [] (job_none Alone)
+
+two_jobs_none : first_of (each (job_stages two_clients) 0 2) ≡ None
+unfolding each
+two_jobs_none =
+    passes (job_stages two_clients 0) (job_stages two_clients 1 ++ []) (job_none First)
+    ∙ passes (job_stages two_clients 1) [] (job_none Second)
+
+single_job_none : first_of (each (job_stages one_client) 0 1) ≡ None
+unfolding each
+single_job_none = passes (job_stages one_client 0) [] (job_none Single)
 
 pub file_none : first_of (file_stages textured) ≡ None
 unfolding file_stages textured
 file_none =
     passes (table_stage textured) (shaders_stage textured ++ each (job_stages textured) 0 1) table_none
-    ∙ (passes (shaders_stage textured) (each (job_stages textured) 0 1) shaders_none ∙ jobs_none)
+    ∙ (passes (shaders_stage textured) (each (job_stages textured) 0 1) shaders_none ∙ one_job_none)
+
+pub file_none_of_two : first_of (file_stages two_clients) ≡ None
+unfolding file_stages two_clients
+file_none_of_two =
+    passes (table_stage two_clients) (shaders_stage two_clients ++ each (job_stages two_clients) 0 2) table_none_of_two
+    ∙ (passes (shaders_stage two_clients) (each (job_stages two_clients) 0 2) shaders_none_of_two ∙ two_jobs_none)
+
+pub file_none_of_one : first_of (file_stages one_client) ≡ None
+unfolding file_stages two_clients one_client
+file_none_of_one =
+    passes (table_stage one_client) (shaders_stage one_client ++ each (job_stages one_client) 0 1) table_none_of_one
+    ∙ (passes (shaders_stage one_client) (each (job_stages one_client) 0 1) shaders_none_of_one ∙ single_job_none)

@@ -1,5 +1,6 @@
--- The job's bytes are accepted, and have all that the law speaks of.
-use Rattle.std.proofs.Common.{◌≡◌, ◌<◌, ℕ, zero, suc, Bool, true, List, [], ◌∷◌, length, None, refl, sym, ap, subst, arith, ◌∙◌, lit<}
+-- The bytes of both files are accepted, and have all that the laws speak of.
+use Rattle.std.proofs.Common.{◌≡◌, ◌≢◌, ◌<◌, ◌≤◌, ◌^◌, ℕ, zero, suc, Bool, true, List, [], ◌∷◌, length, None, refl, sym, ap, subst, arith, ◌∙◌, lit<}
+use Rattle.std.specs.List.{AllByRecursion}
 use Rattle.std.specs.Prelude.{nat_lt, ◌&&◌, slice_index}
 use Rattle.std.proofs.lemmas.Bool.{and_parts}
 use Rattle.std.proofs.lemmas.Bool.Decides.{nat_tests}
@@ -7,18 +8,23 @@ use Rattle.field_words.specs.Questions.{first_of, answered}
 use Rattle.field_words.specs.Words.{IsBytes}
 use Rattle.field_words.proofs.Questions.{passes, answered_none}
 use Rattle.job_format.specs.Faults.{format_questions}
-use Rattle.job_format.specs.File.{Fits, SurfaceFits, IsWellFormed, IsFileOf}
+use Rattle.job_format.specs.File.{BufferFits, SurfaceFits, FrameFits, JobFits, Fits, IsJobWellFormed, IsWellFormed, IsFileOf}
+use Rattle.job_format.specs.Model.{FileModel}
+use Rattle.buffer_table.specs.declared.buffer.Kind.{Kind}
+use Rattle.buffer_table.specs.declared.buffer.Kind.TheVariants.{Plain, Code}
 use Rattle.job_format.specs.Reading.{file_at}
 use Rattle.job_format.specs.Text.{header_text, buffer_text, surface_text, frame_text, job_text, parts_text, file_text}
 use Rattle.job_format.proofs.Laws.{read_again}
 use Rattle.job_check.specs.Faults.{file_stages}
+use Rattle.job_check.specs.Jobs.{job_of}
 use Rattle.job_check.specs.Whole.{format_refused, all_questions, refusal_of}
 use Rattle.shader_records.specs.Sources.{shader_used}
-use Rattle.textured_job.specs.Job.{code_bytes, fragment_words, vertex_words, fragment_told, absent, colour_write, bin_list, records, uniforms, textured}
-use Rattle.textured_job.specs.Laws.{UsesAll, HasAll, IsWitness, textured_bytes}
+use Rattle.textured_job.specs.Job.{code_bytes, fragment_words, vertex_words, fragment_told, page, absent, colour_write, frame, bin_list, records, uniforms, job, textured, two_clients, one_client}
+use Rattle.textured_job.specs.Laws.{UsesAll, HasAll, IsAccepted, IsWitness, IsWitnessOfTwo, textured_bytes, two_clients_bytes, one_client_bytes}
+use Rattle.textured_job.proofs.Cases.{Case, Alone, First, Second, file_in, number_in}
 use Rattle.textured_job.proofs.Lists.{bin_there}
 use Rattle.textured_job.proofs.Records.{drawn_is}
-use Rattle.textured_job.proofs.Whole.{input_is, file_none}
+use Rattle.textured_job.proofs.Whole.{input_is, file_none, file_none_of_two, file_none_of_one}
 
 -- each number of the list is below 256
 abbrev all_small : List ℕ → Bool
@@ -42,6 +48,14 @@ text_bytes : IsBytes textured_bytes
 unfolding textured code_bytes header_text buffer_text surface_text frame_text job_text parts_text file_text
 text_bytes = bytes_of textured_bytes refl
 
+one_text_bytes : IsBytes one_client_bytes
+unfolding two_clients one_client code_bytes header_text buffer_text surface_text frame_text job_text parts_text file_text
+one_text_bytes = bytes_of one_client_bytes refl
+
+two_text_bytes : IsBytes two_clients_bytes
+unfolding two_clients code_bytes header_text buffer_text surface_text frame_text job_text parts_text file_text
+two_text_bytes = bytes_of two_clients_bytes refl
+
 fragment_bytes : IsBytes (code_bytes fragment_words)
 unfolding code_bytes
 fragment_bytes = bytes_of (code_bytes fragment_words) refl
@@ -57,6 +71,46 @@ absent_fits = record { hindex = lit< tt; offset = lit< tt; bits = lit< tt; flags
 written_fits : SurfaceFits colour_write
 written_fits = record { hindex = lit< tt; offset = lit< tt; bits = lit< tt; flags = lit< tt }
 
+-- a client's buffers, their contents, and a job
+page_fits : (client place : ℕ) (kind : Kind) (content : ℕ) → client < 2 ^ 32 → place < 2 ^ 32 → content < 2 ^ 32 → BufferFits (page client place kind content)
+page_fits client place kind content is_client is_place is_content = record { place = is_place; size = lit< tt; client = is_client; content = is_content }
+
+frame_fits : FrameFits frame
+frame_fits = record {
+  width = lit< tt;
+  height = lit< tt;
+  min_x = lit< tt;
+  min_y = lit< tt;
+  max_x = lit< tt;
+  max_y = lit< tt;
+  six = refl;
+  surfaces = (absent_fits, (written_fits, (absent_fits, (absent_fits, (absent_fits, (absent_fits, tt))))));
+  two = refl;
+  clear_color = (lit< tt, (lit< tt, tt));
+  clear_z = lit< tt;
+  clear_s = lit< tt;
+}
+
+job_fits : (client : ℕ) (handles : List ℕ) → client < 2 ^ 32 → AllByRecursion (λ h. h < 2 ^ 32) handles → JobFits (job client handles)
+job_fits client handles is_client are_handles = record {
+  client = is_client;
+  handles = are_handles;
+  bin = bytes_of bin_list refl;
+  records = bytes_of records refl;
+  declared = lit< tt;
+  uniforms = bytes_of uniforms refl;
+  frame = frame_fits;
+}
+
+first_job_fits : JobFits (job 1 (0 ∷ 1 ∷ 2 ∷ 3 ∷ []))
+first_job_fits = job_fits 1 (0 ∷ 1 ∷ 2 ∷ 3 ∷ []) (lit< tt) (lit< tt, (lit< tt, (lit< tt, (lit< tt, tt))))
+
+second_job_fits : JobFits (job 2 (4 ∷ 5 ∷ 6 ∷ 7 ∷ []))
+second_job_fits = job_fits 2 (4 ∷ 5 ∷ 6 ∷ 7 ∷ []) (lit< tt) (lit< tt, (lit< tt, (lit< tt, (lit< tt, tt))))
+
+empty_bytes : IsBytes []
+empty_bytes = bytes_of [] refl
+
 fits : Fits textured
 unfolding textured
 fits = record {
@@ -64,63 +118,132 @@ fits = record {
   mem_size = lit< tt;
   regions = record { lists_place = lit< tt; lists_size = lit< tt; tile_place = lit< tt; tile_slots = lit< tt };
   buffers = (
-    record { place = lit< tt; size = lit< tt; client = lit< tt; content = lit< tt },
+    page_fits 1 0x81000 Code 112 (lit< tt) (lit< tt) (lit< tt),
     (
-      record { place = lit< tt; size = lit< tt; client = lit< tt; content = lit< tt },
+      page_fits 1 0x82000 Code 24 (lit< tt) (lit< tt) (lit< tt),
+      (page_fits 1 0x83000 Plain 0 (lit< tt) (lit< tt) (lit< tt), (page_fits 1 0x84000 Plain 0 (lit< tt) (lit< tt) (lit< tt), tt)),
+    ),
+  );
+  contents = (fragment_bytes, (vertex_bytes, (empty_bytes, (empty_bytes, tt))));
+  jobs = (first_job_fits, tt);
+}
+
+two_fit : Fits two_clients
+unfolding two_clients
+two_fit = record {
+  version = lit< tt;
+  mem_size = lit< tt;
+  regions = record { lists_place = lit< tt; lists_size = lit< tt; tile_place = lit< tt; tile_slots = lit< tt };
+  buffers = (
+    page_fits 1 0x101000 Code 112 (lit< tt) (lit< tt) (lit< tt),
+    (
+      page_fits 1 0x102000 Code 24 (lit< tt) (lit< tt) (lit< tt),
       (
-        record { place = lit< tt; size = lit< tt; client = lit< tt; content = lit< tt },
-        (record { place = lit< tt; size = lit< tt; client = lit< tt; content = lit< tt }, tt),
+        page_fits 1 0x103000 Plain 0 (lit< tt) (lit< tt) (lit< tt),
+        (
+          page_fits 1 0x104000 Plain 0 (lit< tt) (lit< tt) (lit< tt),
+          (
+            page_fits 2 0x105000 Code 112 (lit< tt) (lit< tt) (lit< tt),
+            (
+              page_fits 2 0x106000 Code 24 (lit< tt) (lit< tt) (lit< tt),
+              (page_fits 2 0x107000 Plain 0 (lit< tt) (lit< tt) (lit< tt), (page_fits 2 0x108000 Plain 0 (lit< tt) (lit< tt) (lit< tt), tt)),
+            ),
+          ),
+        ),
       ),
     ),
   );
-  contents = (fragment_bytes, (vertex_bytes, (bytes_of [] refl, (bytes_of [] refl, tt))));
-  jobs = (
-    record {
-      client = lit< tt;
-      handles = (lit< tt, (lit< tt, (lit< tt, (lit< tt, tt))));
-      bin = bytes_of bin_list refl;
-      records = bytes_of records refl;
-      declared = lit< tt;
-      uniforms = bytes_of uniforms refl;
-      frame = record {
-        width = lit< tt;
-        height = lit< tt;
-        min_x = lit< tt;
-        min_y = lit< tt;
-        max_x = lit< tt;
-        max_y = lit< tt;
-        six = refl;
-        surfaces = (absent_fits, (written_fits, (absent_fits, (absent_fits, (absent_fits, (absent_fits, tt))))));
-        two = refl;
-        clear_color = (lit< tt, (lit< tt, tt));
-        clear_z = lit< tt;
-        clear_s = lit< tt;
-      };
-    },
-    tt,
-  );
+  contents = (fragment_bytes, (vertex_bytes, (empty_bytes, (empty_bytes, (fragment_bytes, (vertex_bytes, (empty_bytes, (empty_bytes, tt))))))));
+  jobs = (first_job_fits, (second_job_fits, tt));
 }
+
+one_fits : Fits one_client
+unfolding two_clients one_client
+one_fits = record {
+  version = lit< tt;
+  mem_size = lit< tt;
+  regions = record { lists_place = lit< tt; lists_size = lit< tt; tile_place = lit< tt; tile_slots = lit< tt };
+  buffers = (
+    page_fits 1 0x101000 Code 112 (lit< tt) (lit< tt) (lit< tt),
+    (
+      page_fits 1 0x102000 Code 24 (lit< tt) (lit< tt) (lit< tt),
+      (page_fits 1 0x103000 Plain 0 (lit< tt) (lit< tt) (lit< tt), (page_fits 1 0x104000 Plain 0 (lit< tt) (lit< tt) (lit< tt), tt)),
+    ),
+  );
+  contents = (fragment_bytes, (vertex_bytes, (empty_bytes, (empty_bytes, tt))));
+  jobs = (first_job_fits, tt);
+}
+
+job_well_formed : (client : ℕ) (handles : List ℕ) → length handles ≤ 4 → IsJobWellFormed (job client handles)
+job_well_formed client handles few =
+    record { handles = omega (arith, few); bin = omega arith; records = omega arith; declared = omega arith; uniforms = omega arith; whole_words = refl }
 
 well_formed : IsWellFormed textured
 unfolding textured code_bytes
 well_formed = record {
-  version = refl;
+  a_version = omega arith;
+  known = omega arith;
+  first = λ is_first. record { buffers = omega arith; one_job = refl; handles = (omega arith, tt) };
+  slots = λ later some. omega arith;
   buffers = omega arith;
   code = (omega arith, (omega arith, (tt, (tt, tt))));
   contents = refl;
-  one_job = refl;
-  jobs = (record { handles = omega arith; bin = omega arith; records = omega arith; declared = omega arith; uniforms = omega arith; whole_words = refl }, tt);
+  some_job = omega arith;
+  few_jobs = omega arith;
+  jobs = (job_well_formed 1 (0 ∷ 1 ∷ 2 ∷ 3 ∷ []) (omega arith), tt);
 }
 
-is_file : IsFileOf textured_bytes textured
+two_well_formed : IsWellFormed two_clients
+unfolding two_clients code_bytes
+two_well_formed = record {
+  a_version = omega arith;
+  known = omega arith;
+  first = λ is_first. absurd (omega (arith, is_first));
+  slots = λ later some. omega arith;
+  buffers = omega arith;
+  code = (omega arith, (omega arith, (tt, (tt, (omega arith, (omega arith, (tt, (tt, tt))))))));
+  contents = refl;
+  some_job = omega arith;
+  few_jobs = omega arith;
+  jobs = (job_well_formed 1 (0 ∷ 1 ∷ 2 ∷ 3 ∷ []) (omega arith), (job_well_formed 2 (4 ∷ 5 ∷ 6 ∷ 7 ∷ []) (omega arith), tt));
+}
+
+one_well_formed : IsWellFormed one_client
+unfolding two_clients one_client code_bytes
+one_well_formed = record {
+  a_version = omega arith;
+  known = omega arith;
+  first = λ is_first. absurd (omega (arith, is_first));
+  slots = λ later some. omega arith;
+  buffers = omega arith;
+  code = (omega arith, (omega arith, (tt, (tt, tt))));
+  contents = refl;
+  some_job = omega arith;
+  few_jobs = omega arith;
+  jobs = (job_well_formed 1 (0 ∷ 1 ∷ 2 ∷ 3 ∷ []) (omega arith), tt);
+}
+
+pub is_file : IsFileOf textured_bytes textured
 is_file = record { fits = fits; well_formed = well_formed; text = refl }
 
-none_asked : refusal_of textured_bytes ≡ None
+pub two_are_file : IsFileOf two_clients_bytes two_clients
+two_are_file = record { fits = two_fit; well_formed = two_well_formed; text = refl }
+
+pub one_is_file : IsFileOf one_client_bytes one_client
+one_is_file = record { fits = one_fits; well_formed = one_well_formed; text = refl }
+
+-- bytes of a file of which no rule stands are accepted
+accepted : (bytes : List ℕ) (f : FileModel) → IsBytes bytes → IsFileOf bytes f → first_of (file_stages f) ≡ None → IsAccepted bytes
 unfolding refusal_of all_questions
-none_asked =
-    let again = read_again textured_bytes textured is_file in
-    passes (answered format_refused (format_questions textured_bytes)) (file_stages (file_at textured_bytes)) (answered_none format_refused (format_questions textured_bytes) again.0)
-    ∙ (ap (λ f. first_of (file_stages f)) again.1 ∙ file_none)
+accepted bytes f are_bytes is none =
+    let again = read_again bytes f is in
+    record {
+      are_bytes = are_bytes;
+      spells = subst (IsFileOf bytes) (sym again.1) is;
+      none =
+          passes (answered format_refused (format_questions bytes)) (file_stages (file_at bytes)) (answered_none format_refused (format_questions bytes) again.0)
+          ∙ (ap (λ g. first_of (file_stages g)) again.1 ∙ none);
+    }
 
 -- the fragment shader has a texture, then a direct sample
 uses_all : UsesAll fragment_told
@@ -134,21 +257,46 @@ uses_all = record {
   is_direct = refl;
 }
 
-has_all : HasAll textured
-has_all = record {
-  bin = bin_there;
-  states = subst (λ i. 0 < length i.states) (sym input_is) (lit< tt);
+has_all : (c : Case) → HasAll (file_in c) (number_in c)
+has_all c = record {
+  bin = bin_there c;
+  states = subst (λ i. 0 < length i.states) (sym (input_is c)) (lit< tt);
   shader = fragment_told;
-  drawn = ap (λ i. shader_used i 0 0) input_is ∙ drawn_is;
+  drawn = ap (λ i. shader_used i 0 0) (input_is c) ∙ drawn_is c;
   uses = uses_all;
 }
 
+one_in : length textured.jobs ≡ 1
+unfolding textured
+one_in = refl
+
+two_in : length two_clients.jobs ≡ 2
+unfolding two_clients
+two_in = refl
+
+clients_differ : (job_of two_clients 0).client ≢ (job_of two_clients 1).client
+unfolding two_clients job_of
+clients_differ same = absurd (omega (arith, same))
+
 pub textured_witness : IsWitness textured_bytes
 textured_witness =
-    let again = read_again textured_bytes textured is_file in
+    let again = (read_again textured_bytes textured is_file).1 in
     record {
-      are_bytes = text_bytes;
-      spells = subst (IsFileOf textured_bytes) (sym again.1) is_file;
-      none = none_asked;
-      has = subst HasAll (sym again.1) has_all;
+      accepted = accepted textured_bytes textured text_bytes is_file file_none;
+      one_job = ap (λ f. length f.jobs) again ∙ one_in;
+      has = subst (λ f. HasAll f 0) (sym again) (has_all Alone);
     }
+
+pub two_clients_witness : IsWitnessOfTwo two_clients_bytes
+two_clients_witness =
+    let again = (read_again two_clients_bytes two_clients two_are_file).1 in
+    record {
+      accepted = accepted two_clients_bytes two_clients two_text_bytes two_are_file file_none_of_two;
+      two_jobs = ap (λ f. length f.jobs) again ∙ two_in;
+      two_clients = subst (λ f. (job_of f 0).client ≢ (job_of f 1).client) (sym again) clients_differ;
+      first = subst (λ f. HasAll f 0) (sym again) (has_all First);
+      second = subst (λ f. HasAll f 1) (sym again) (has_all Second);
+    }
+
+pub one_client_accepted : IsAccepted one_client_bytes
+one_client_accepted = accepted one_client_bytes one_client one_text_bytes one_is_file file_none_of_one

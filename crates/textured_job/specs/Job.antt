@@ -1,6 +1,6 @@
 -- A job that uses what the machine has: a triangle whose fragment shader has two threads, takes a texture, and reads a table
--- directly, by the texel that it got.
-use Rattle.std.specs.Prelude.{ℕ, ◌^◌, ◌-◌, true, false, List, [], ◌∷◌, map, Some, None}
+-- directly, by the texel that it got. It stands alone in a file, and there are two such jobs in another, of two clients.
+use Rattle.std.specs.Prelude.{ℕ, ◌+◌, ◌^◌, ◌-◌, true, false, List, [], ◌∷◌, ◌++◌, map, Some, None}
 use Rattle.std.specs.Int.{to_le_bytes, w64}
 use Rattle.field_words.specs.Pieces.{joined}
 use Rattle.buffer_table.specs.declared.buffer.Buffer.{Buffer}
@@ -54,16 +54,26 @@ fragment_told = record {
 abbrev pub vertex_told : ShaderModel
 vertex_told = record { uniforms = 0; samples = []; address_words = []; threaded = false }
 
-abbrev pub regions : Regions
-regions = record { lists_place = 0; lists_size = 0x1000; tile_place = 0x1000; tile_slots = 1 }
+-- the lists' region in the first page, and so many tile slots behind it
+abbrev pub regions : (slots : ℕ) → Regions
+regions slots = record { lists_place = 0; lists_size = 0x1000; tile_place = 0x1000; tile_slots = slots }
 
 -- a buffer of one page
-abbrev pub page : ℕ → Kind → ℕ → Buffer
-page place kind content = record { place = place; size = 0x1000; client = 1; kind = kind; content = content }
+abbrev pub page : (client place : ℕ) → Kind → (content : ℕ) → Buffer
+page client place kind content = record { place = place; size = 0x1000; client = client; kind = kind; content = content }
 
--- the two shaders, the frame, and what is read: vertices, texels and the table
-abbrev pub buffers : List Buffer
-buffers = page 0x81000 Code 112 ∷ page 0x82000 Code 24 ∷ page 0x83000 Plain 0 ∷ page 0x84000 Plain 0 ∷ []
+-- the buffers of a client, from a place on: the two shaders, the frame, and what is read, which is vertices, texels and the table
+abbrev pub buffers : (client place : ℕ) → List Buffer
+buffers client place =
+    page client place Code 112
+    ∷ page client (place + 0x1000) Code 24
+    ∷ page client (place + 0x2000) Plain 0
+    ∷ page client (place + 0x3000) Plain 0
+    ∷ []
+
+-- what is in them
+abbrev pub contents : List (List ℕ)
+contents = code_bytes fragment_words ∷ code_bytes vertex_words ∷ [] ∷ [] ∷ []
 
 -- configuration of one tile, start of binning, a shader state of one attribute, three vertices from the first on, increment of the
 -- semaphore, flush
@@ -109,10 +119,11 @@ frame = record {
   clear_s = 0;
 }
 
-abbrev pub job : JobModel
-job = record {
-  client = 1;
-  handles = 0 ∷ 1 ∷ 2 ∷ 3 ∷ [];
+-- the job of a client, with its four buffers
+abbrev pub job : (client : ℕ) → (handles : List ℕ) → JobModel
+job client handles = record {
+  client = client;
+  handles = handles;
   bin = bin_list;
   records = records;
   declared = 1;
@@ -120,13 +131,28 @@ job = record {
   frame = frame;
 }
 
--- the file
+-- the file of the job alone
 unfoldable pub textured : FileModel
 textured = record {
   version = 1;
   mem_size = 0x85000;
-  regions = regions;
-  buffers = buffers;
-  contents = code_bytes fragment_words ∷ code_bytes vertex_words ∷ [] ∷ [] ∷ [];
-  jobs = job ∷ [];
+  regions = regions 1;
+  buffers = buffers 1 0x81000;
+  contents = contents;
+  jobs = job 1 (0 ∷ 1 ∷ 2 ∷ 3 ∷ []) ∷ [];
 }
+
+-- the file of two such jobs, of clients 1 and 2, each with a tile slot and with buffers of its own
+unfoldable pub two_clients : FileModel
+two_clients = record {
+  version = 2;
+  mem_size = 0x109000;
+  regions = regions 2;
+  buffers = buffers 1 0x101000 ++ buffers 2 0x105000;
+  contents = contents ++ contents;
+  jobs = job 1 (0 ∷ 1 ∷ 2 ∷ 3 ∷ []) ∷ job 2 (4 ∷ 5 ∷ 6 ∷ 7 ∷ []) ∷ [];
+}
+
+-- The same file without client 2: neither its job nor its buffers are there.
+unfoldable pub one_client : FileModel
+one_client = record two_clients { buffers = buffers 1 0x101000; contents = contents; jobs = job 1 (0 ∷ 1 ∷ 2 ∷ 3 ∷ []) ∷ [] }

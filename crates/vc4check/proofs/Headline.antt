@@ -3,26 +3,14 @@ use Rattle.std.proofs.Common.{◌≡◌, ℕ, List, None, Some, IfSome, refl, sy
 use Rattle.std.specs.Prelude.{Option}
 use Rattle.std.specs.Io.KnownBytes.{Appends}
 use Rattle.job_format.specs.declared.rule.Refusal.{Refusal}
-use Rattle.job_format.specs.File.{IsFileOf}
 use Rattle.job_format.specs.Reading.{file_at}
 use Rattle.job_check.specs.Whole.{refusal_of}
-use Rattle.job_safety.specs.Files.{IsSafeFile}
-use Rattle.job_safety.proofs.Safety.{bytes_spell, file_is_safe}
+use Rattle.headline.proofs.Uses.{may_run}
 use Rattle.vc4check.specs.declared.command.Command.{Command}
 use Rattle.vc4check.specs.declared.command.Command.TheVariants.{Check}
 use Rattle.vc4check.specs.Answer.{image_of, IsVerdict, IsAnswer}
-use Rattle.vc4check.specs.Headline.{MayRun, IsSafelyAccepted, AcceptedMayRun}
+use Rattle.vc4check.specs.Headline.{IsSafelyAccepted}
 use Rattle.vc4check.specs.Run.{IsAnswered}
-
-may_run : (bytes : List ℕ) → IsFileOf bytes (file_at bytes) → refusal_of bytes ≡ None → MayRun bytes
-unfolding refusal_of
-may_run bytes is none =
-    let file : IsSafeFile (file_at bytes) = file_is_safe bytes is none in
-    record { none = none; spells = is; sound = file.sound; lists_fixed = file.fixed.lists; code_fixed = file.fixed.code }
-
-pub accepted_may_run : AcceptedMayRun
-unfolding refusal_of
-accepted_may_run bytes fits none = may_run bytes (bytes_spell bytes fits none) none
 
 -- status 0 comes only where no rule stands
 by_verdict : (bytes : List ℕ) (found : Option Refusal) (status : ℕ) (text : List ℕ) (before now : Option (List ℕ)) → refusal_of bytes ≡ found → status ≡ 0

@@ -4,3 +4,5 @@ pub mod Counts
 pub mod Headline
 pub mod Told
 pub mod Appending
+pub mod Checked
+pub mod Versions

@@ -6,22 +6,23 @@ use Rattle.job_format.specs.File.{IsFileOf}
 use Rattle.job_format.specs.Model.{FileModel}
 use Rattle.job_format.specs.Reading.{file_at}
 use Rattle.job_check.specs.Whole.{all_questions, refusal_of}
-use Rattle.job_check.specs.Emit.{memory_of, lengths_of}
-use Rattle.job_check.specs.Jobs.{layout_of}
+use Rattle.job_check.specs.Emit.{memory_of, lengths_of, all_lengths_of}
+use Rattle.job_check.specs.Jobs.{layouts_of}
 use Rattle.dumper.specs.Text.{accepted_text, refused_text}
 use Rattle.vc4check.specs.declared.command.Command.{Command}
-use Rattle.vc4check.specs.declared.command.Command.TheVariants.{Check, Replay, Asm, Disasm, Slots, Queue, Untile, Tile, Level}
+use Rattle.vc4check.specs.declared.command.Command.TheVariants.{Check, Replay, Upgrade, Asm, Disasm, Slots, Queue, Untile, Tile, Level}
 use Rattle.vc4check.specs.Pictures.{IsUntileAnswer, IsTileAnswer, IsLevelAnswer}
 use Rattle.vc4check.specs.Replay.{IsReplayAnswer}
 use Rattle.vc4check.specs.Scripts.{IsSlotsAnswer, IsQueueAnswer}
+use Rattle.vc4check.specs.Upgrade.{IsUpgradeAnswer}
 use Rattle.vc4check.specs.Shader.{IsAsmAnswer, IsDisasmAnswer}
 use Rattle.job_format.specs.Text.{file_text}
 use Rattle.dumper.specs.Example.{example_text}
 use Rattle.example_job.specs.Example.{example}
 
--- what is printed of an accepted file: its emitted memory, and where its lists lie there
+-- what is printed of an accepted file: its emitted memory, and where the lists of each job lie there
 unfoldable pub image_of : FileModel → List ℕ
-image_of f = accepted_text (memory_of f) (layout_of f 0) (lengths_of f 0)
+image_of f = accepted_text f.version (memory_of f) (layouts_of f) (all_lengths_of f)
 
 -- Where no rule stands the file is what its bytes spell, and is accepted with its memory; else it is refused by the first rule
 -- that does: it stands, and none before it in the list does.
@@ -36,6 +37,7 @@ IsCheckAnswer bytes status text = IsVerdict bytes (refusal_of bytes) (file_at by
 abbrev pub IsAnswer : Command → List ℕ → ℕ → List ℕ → Type 0
 IsAnswer Check bytes status text = IsCheckAnswer bytes status text
 IsAnswer (Replay steps seed) bytes status text = IsReplayAnswer steps seed bytes status text
+IsAnswer Upgrade bytes status text = IsUpgradeAnswer bytes status text
 IsAnswer Asm bytes status text = IsAsmAnswer bytes status text
 IsAnswer Disasm bytes status text = IsDisasmAnswer bytes status text
 IsAnswer (Slots slots) bytes status text = IsSlotsAnswer slots bytes status text

@@ -4,6 +4,7 @@ pub mod Pictures
 pub mod Run
 pub mod Shader
 pub mod Words
+pub mod Upgrade
 pub mod Replay
 pub mod Scripts
 pub mod Reply

@@ -4,7 +4,7 @@ use Rattle.std.specs.Prelude.{bytes_eq}
 use Rattle.std.specs.declared.alloc.Global.{Global}
 use Rattle.field_words.specs.Sizes.{most_list}
 use Rattle.vc4check.specs.declared.command.Command.{Command}
-use Rattle.vc4check.specs.declared.command.Command.TheVariants.{Check, Replay, Asm, Disasm, Slots, Queue, Untile, Tile, Level}
+use Rattle.vc4check.specs.declared.command.Command.TheVariants.{Check, Replay, Upgrade, Asm, Disasm, Slots, Queue, Untile, Tile, Level}
 use Rattle.vc4check.specs.declared.command.Task.{Task}
 use Rattle.vc4check.specs.declared.command.Task.TheVariants.{Read, Make}
 use Rattle.script.specs.Number.{number_within}
@@ -16,8 +16,9 @@ texts words = map string_bytes words
 abbrev pub command_named : List ℕ → Option Command
 command_named word =
     if bytes_eq word (codes "check") then Some Check
+    else (if bytes_eq word (codes "upgrade") then Some Upgrade
     else (if bytes_eq word (codes "asm") then Some Asm
-    else (if bytes_eq word (codes "disasm") then Some Disasm else None))
+    else (if bytes_eq word (codes "disasm") then Some Disasm else None)))
 
 -- the greatest number of an example
 abbrev pub most_number : ℕ
@@ -69,6 +70,7 @@ textured word p0 p1 p2 p3 face level = if bytes_eq word (codes "level") then opt
 abbrev pub IsWithin : Command → Type 0
 IsWithin Check = Unit {0}
 IsWithin (Replay steps seed) = steps ≤ most_steps
+IsWithin Upgrade = Unit {0}
 IsWithin Asm = Unit {0}
 IsWithin Disasm = Unit {0}
 IsWithin (Slots slots) = (1 ≤ slots) × (slots ≤ most_slots)
@@ -91,18 +93,23 @@ task_of (word ∷ tiling ∷ cpp ∷ width ∷ height ∷ []) = option_map Read 
 task_of (word ∷ p0 ∷ p1 ∷ p2 ∷ p3 ∷ face ∷ level ∷ []) = option_map Read (textured word p0 p1 p2 p3 face level)
 task_of _ = None
 
--- the most bytes of a job file that `check` takes, and of a picture: 24 MiB
+-- the most bytes of a job file: 48 MiB
 abbrev pub most_file : ℕ
-most_file = 25165824
+most_file = 50331648
+
+-- the most bytes of a picture: 24 MiB
+abbrev pub most_picture : ℕ
+most_picture = 25165824
 
 -- the most bytes of input that a command takes
 abbrev pub limit_of : Command → ℕ
 limit_of Check = most_file
 limit_of (Replay steps seed) = most_file
+limit_of Upgrade = most_file
 limit_of Asm = most_list
 limit_of Disasm = most_list
 limit_of (Slots slots) = most_list
 limit_of (Queue buffers) = most_list
-limit_of (Untile picture) = most_file
-limit_of (Tile picture) = most_file
-limit_of (Level part) = most_file
+limit_of (Untile picture) = most_picture
+limit_of (Tile picture) = most_picture
+limit_of (Level part) = most_picture

@@ -1,5 +1,6 @@
 //! The command `check`.
-ghost use Rattle.std.specs.Prelude.{◌≡◌, ◌<◌, IfOk};
+ghost use Rattle.std.specs.Prelude.{◌≡◌, ◌<◌, length, IfOk};
+ghost use Rattle.dumper.specs.Text.{AreOfVersion, head_text};
 ghost use Rattle.job_check.specs.Whole.{refusal_of};
 ghost use Rattle.vc4check.specs.Answer.{IsCheckAnswer, IsVerdict};
 ghost use Rattle.vc4check.specs.Reply.{reply_status, IsReplyOf, IsReplyReady};
@@ -8,11 +9,21 @@ use super::answer::Answer;
 use super::reply::Reply;
 use dumper::{image_head, refusal_text};
 use field_words::{NoMemory, Stop};
-use job_check::check_bytes;
+use job_check::{Checked, check_bytes};
+use job_safety::version_of;
 use std::alloc::Global;
 
-/// What `check` answers to these bytes: the memory of an accepted job, or a refusal.
-#[tactic(auto, unfolding(job_check::specs::Whole::refusal_of, crate::specs::Answer::image_of, crate::specs::Reply::rest_text, dumper::specs::Text::accepted_text), using(field_words::proofs::Questions::first_is))]
+// The text of what was checked, of a file of this version, up to its rows.
+fn head_of(alloc: Global, version: u32, checked: &Checked) -> Result<Vec<u8>, NoMemory>
+    requires { AreOfVersion version checked.now.layouts.items checked.now.lengths.items }
+    ensures { IfOk result (λ head. head.items ≡ head_text version (length checked.now.memory) checked.now.layouts.items checked.now.lengths.items) }
+{
+    let size = checked.memory.len();
+    image_head(alloc, version, size, &checked.layouts, &checked.lengths)
+}
+
+/// What `check` answers to these bytes: the memory of an accepted file, or a refusal.
+#[tactic(auto, unfolding(job_check::specs::Whole::refusal_of), using(field_words::proofs::Questions::first_is))]
 pub fn check_answer(alloc: Global, bytes: &[u8]) -> Result<Reply, NoMemory>
     ensures answers { IfOk result (IsReplyOf (IsCheckAnswer bytes.now) bytes.now) }
     ensures status { IfOk result (λ a. reply_status a < 2) }
@@ -20,9 +31,8 @@ pub fn check_answer(alloc: Global, bytes: &[u8]) -> Result<Reply, NoMemory>
 {
     match check_bytes(alloc, bytes) {
         Ok(checked) => {
-            let memory = checked.memory;
-            let head = image_head(alloc, memory.len(), &checked.layout, &checked.lengths)?;
-            Ok(Reply::Image(head, memory))
+            let head = head_of(alloc, version_of(bytes), &checked)?;
+            Ok(Reply::Image(head, checked.memory))
         }
         Err(Stop::Fault(refusal)) => {
             let text = refusal_text(alloc, &refusal)?;

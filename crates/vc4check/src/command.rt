@@ -7,8 +7,11 @@ use super::pictures::{Picture, TexturePart, level_named, picture_named};
 use field_words::MOST_LIST;
 use script::read_number;
 
-/// The most bytes of a job file that `check` takes, and of a picture: 24 MiB.
-const MOST_FILE: usize = 25_165_824;
+/// The most bytes of a job file: 48 MiB.
+const MOST_FILE: usize = 50_331_648;
+
+/// The most bytes of a picture: 24 MiB.
+const MOST_PICTURE: usize = 25_165_824;
 
 /// The most steps of a run.
 const MOST_STEPS: u64 = 1_000_000;
@@ -27,6 +30,8 @@ pub enum Command {
     /// `replay <steps> <seed>`: reads a job file and prints what a run of at most so many steps does, by the script of the seed; or
     /// why it is refused.
     Replay { steps: u32, seed: u64 },
+    /// `upgrade`: reads a job file and writes it with version 2, or prints which rule of the format it breaks.
+    Upgrade,
     /// `asm`: reads shader text and writes the instruction words, 8 bytes each, little endian.
     Asm,
     /// `disasm`: reads such words and writes shader text that assembles to them.
@@ -59,8 +64,8 @@ impl Command {
         ensures most { result ≤ most_file }
     {
         match self {
-            Command::Check | Command::Replay { .. } => MOST_FILE,
-            Command::Untile(_) | Command::Tile(_) | Command::Level(_) => MOST_FILE,
+            Command::Check | Command::Replay { .. } | Command::Upgrade => MOST_FILE,
+            Command::Untile(_) | Command::Tile(_) | Command::Level(_) => MOST_PICTURE,
             Command::Asm | Command::Disasm | Command::Slots(_) | Command::Queue(_) => {
                 MOST_LIST as usize
             }
@@ -74,6 +79,9 @@ fn command_named(word: &str) -> Option<Command>
 {
     if word == "check" {
         return Some(Command::Check);
+    }
+    if word == "upgrade" {
+        return Some(Command::Upgrade);
     }
     if word == "asm" {
         return Some(Command::Asm);

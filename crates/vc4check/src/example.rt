@@ -21,7 +21,7 @@ fn example_answer(alloc: Global, number: u32) -> Result<Answer, NoMemory>
     match check_bytes(alloc, &bytes) {
         Ok(checked) => {
             let input = bytes.len() as u64;
-            let text = example_text(alloc, number, input, &checked.memory, &checked.lengths)?;
+            let text = example_text(alloc, number, input, &checked.memory, &checked.lengths[0])?;
             Ok(Answer { status: 0, text })
         }
         Err(Stop::Fault(_)) => unreachable!(),

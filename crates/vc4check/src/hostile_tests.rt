@@ -4,6 +4,7 @@ ghost use Rattle.replay.specs.Run.{MayChoose, IsBelow, MayAnswer};
 
 use super::job_tests::usual;
 use super::run::run;
+use super::several_tests::TWO;
 use super::tests::{SMALLEST, SMALLEST_TEXT, file, words};
 use arrayvec::ArrayVec;
 use buffer_table::{Buffer, Kind};
@@ -11,8 +12,9 @@ use example_job::make_job;
 use field_words::{Access, Way};
 use job_format::{Job, read_job};
 use job_io::{MemSink, MemSource};
-use job_safety::{Accepted, accept};
+use job_safety::accept;
 use machine::Machine;
+use relocation::{Layout, Lengths};
 use replay::{Oracle, enabled_units, unit_at, word_count};
 use std::alloc::Global;
 use std::test::Fail;
@@ -121,9 +123,7 @@ impl Reach {
 const SLOT: u32 = 524_288;
 
 /// The four lists of an accepted job as emitted, and its tile slot, which it may write.
-fn lists_and_slot(alloc: Global, accepted: &Accepted) -> Result<Reach, Fail> {
-    let layout = &accepted.layout;
-    let lengths = &accepted.lengths;
+fn lists_and_slot(alloc: Global, layout: &Layout, lengths: &Lengths) -> Result<Reach, Fail> {
     let slot = bytes_from(layout.slot, 0, SLOT);
     let region = [
         bytes_from(layout.place, layout.bin, lengths.bin),
@@ -152,14 +152,26 @@ fn add_named(reach: &mut Reach, buffers: &[Buffer], job: &Job) -> Result<(), Fai
     Ok(())
 }
 
-/// What the job of this file may touch: its lists and its slot, and the buffers that its handles name.
-fn reach_of(alloc: Global, bytes: &[u8]) -> Result<Reach, Fail> {
-    let mut reach = lists_and_slot(alloc, &accept(alloc, bytes)?)?;
+/// What each job of this file may touch: its lists and its slot, and the buffers that its handles name.
+fn reach_of(alloc: Global, bytes: &[u8]) -> Result<Vec<Reach>, Fail> {
+    let accepted = accept(alloc, bytes)?;
     let file = read_job(alloc, bytes)?;
-    for job in file.jobs.iter() {
+    let lists = accepted.layouts.iter().zip(accepted.lengths.iter());
+    let mut all = Vec::new(alloc);
+    for ((layout, lengths), job) in lists.zip(file.jobs.iter()) {
+        let mut reach = lists_and_slot(alloc, layout, lengths)?;
         add_named(&mut reach, &file.buffers, job)?;
+        all.push(reach)?;
     }
-    Ok(reach)
+    Ok(all)
+}
+
+/// Whether the job that the access is done for may do it.
+fn is_allowed(access: &Access, reach: &[Reach]) -> bool {
+    match reach.get(access.job as usize) {
+        Some(of_job) => of_job.allows(access),
+        None => false,
+    }
 }
 
 /// Which of the units that may step a script picks.
@@ -214,11 +226,11 @@ fn answer_all<C: Fn(u64, u32) -> u32, F: Fn(u64, u32) -> u32>(
     }
 }
 
-/// The first access that leaves what the job may touch, in 2,000 steps by the oracle, or until no unit may step.
+/// The first access that leaves what its job may touch, in 2,000 steps by the oracle, or until no unit may step.
 fn first_stray<C: Fn(u64, u32) -> u32, F: Fn(u64, u32) -> u32>(
     machine: &mut Machine,
     oracle: &Oracle<C, F>,
-    reach: &Reach,
+    reach: &[Reach],
 ) -> Option<Access>
     requires chooses { MayChoose (λ step n. C.pre oracle.now.choose step n) }
     requires below { IsBelow (λ step n picked. C.post oracle.now.choose step n picked) }
@@ -236,7 +248,7 @@ fn first_stray<C: Fn(u64, u32) -> u32, F: Fn(u64, u32) -> u32>(
         let count = word_count(unit);
         answer_all(oracle, step, count, &mut words);
         machine.step(unit, &words[..count as usize], &mut accesses);
-        if let Some(stray) = accesses.iter().find(|access| !reach.allows(access)) {
+        if let Some(stray) = accesses.iter().find(|access| !is_allowed(access, reach)) {
             return Some(*stray);
         }
     }
@@ -248,7 +260,7 @@ fn stray_of(
     alloc: Global,
     bytes: &[u8],
     script: (Choice, Fill),
-    reach: &Reach,
+    reach: &[Reach],
 ) -> Result<Option<Access>, Fail> {
     let mut machine = accept(alloc, bytes)?.into_machine();
     let (choice, fill) = script;
@@ -263,7 +275,7 @@ fn stray_of(
 }
 
 // Scripts that always pick the last unit, the first, or one after the other, with words that are the greatest, zero, or mixed of
-// step and number, over five jobs: each access stays inside what the job may touch.
+// step and number, over five jobs and a file of two: each access stays inside what its own job may touch.
 #[test]
 fn no_script_leads_outside(rt: HostRuntime) -> Result<(), Fail> {
     let alloc = rt.alloc();
@@ -273,6 +285,7 @@ fn no_script_leads_outside(rt: HostRuntime) -> Result<(), Fail> {
         make_job(alloc, 7)?,
         make_job(alloc, 511)?,
         file(alloc, DIRECT)?,
+        file(alloc, TWO)?,
     ] {
         let reach = reach_of(alloc, &job)?;
         for choice in [Choice::Last, Choice::First, Choice::InTurn] {

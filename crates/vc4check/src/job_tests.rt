@@ -109,7 +109,7 @@ fn emits_a_textured_draw(rt: HostRuntime) -> Result<(), Fail> {
 fn names_the_first_of_several_stages(rt: HostRuntime) -> Result<(), Fail> {
     let alloc = rt.alloc();
     let all = [
-        (4, 2), // the version
+        (4, 3), // the version
         (12, 1), // the lists' place
         (599, 0), // the signal of the first shader's first instruction
         (64, 2), // the client of the texture's buffer

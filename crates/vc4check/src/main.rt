@@ -21,9 +21,12 @@ mod reply;
 mod run;
 mod scripts;
 mod serve;
+#[cfg(test)]
+mod several_tests;
 mod shader_text;
 #[cfg(test)]
 mod tests;
+mod upgrading;
 
 use entry::{Program, status};
 use job_io::{Sink, Source};

@@ -61,8 +61,9 @@ pub fn replay_answer(alloc: Global, steps: u32, seed: u64, bytes: &[u8]) -> Resu
 {
     match accept(alloc, bytes) {
         Ok(accepted) => {
+            let version = accepted.version;
             let trace = run_of(alloc, accepted.into_machine(), steps, seed)?;
-            let text = trace_text(alloc, &trace)?;
+            let text = trace_text(alloc, version, &trace)?;
             Ok(Answer { status: 0, text })
         }
         Err(Stop::Fault(refusal)) => {

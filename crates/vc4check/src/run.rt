@@ -7,7 +7,11 @@ ghost use Rattle.vc4check.specs.declared.command.Command.{Command};
 ghost use Rattle.vc4check.specs.declared.command.Command.TheVariants.{Check};
 ghost use Rattle.vc4check.specs.declared.command.Task.TheVariants.{Read, Make};
 ghost use Rattle.vc4check.specs.Answer.{IsAnswer, IsExampleAnswer};
-ghost use Rattle.vc4check.specs.Headline.{IsSafelyAccepted, AcceptedMayRun};
+ghost use Rattle.job_safety.specs.Clients.{BytesApart};
+ghost use Rattle.headline.specs.Ends.{AcceptedEnd};
+ghost use Rattle.headline.specs.MayRun.{AcceptedMayRun};
+ghost use Rattle.vc4check.specs.Headline.{IsSafelyAccepted};
+ghost use Rattle.vc4check.specs.Upgrade.{UpgradeKeepsAll};
 ghost use Rattle.vc4check.specs.Run.{IsAnswered, IsCut};
 ghost use Rattle.vc4check.specs.Words.{texts, task_of, limit_of};
 
@@ -29,7 +33,7 @@ use std::alloc::Global;
 /// | 4 | the sink failed | a front of the text of status 0 or 1 |
 /// | 5 | want of memory | nothing |
 /// | 6 | more input than the command's limit | nothing |
-#[tactic(auto, using(crate::proofs::Headline::safely_accepted, crate::proofs::Headline::accepted_may_run))]
+#[tactic(auto, using(crate::proofs::Headline::safely_accepted, headline::proofs::Uses::accepted_may_run, job_safety::proofs::Safety::bytes_apart_law, headline::proofs::Uses::accepted_end, crate::proofs::Versions::upgrade_keeps_all))]
 pub fn run<S: Source, K: Sink>(
     alloc: Global,
     words: &Vec<String>,
@@ -73,12 +77,18 @@ pub fn run<S: Source, K: Sink>(
     ensures made_cut { (number : ℕ) → task_of (texts words.now.items) ≡ Some (Make number) → result ≡ 4 →
         IsCut (IsExampleAnswer number) (K.held sink.old) (K.held sink.new) }
 
-    // From just the memory that `check` prints of an accepted job, every run of the machine is safe, and bytes outside what the job may
-    // reach have no effect.
+    // From just the memory that `check` prints of an accepted file, every run of the machine is safe, each access in what its own job may
+    // reach, and bytes outside what jobs may reach have no effect.
     ensures safe { task_of (texts words.now.items) ≡ Some (Read Check) → result ≡ 0 →
         IfSome (S.left source.old) (λ bytes. IsSafelyAccepted bytes (K.held sink.old) (K.held sink.new)) }
     // And so it is of all bytes of which no rule stands, whatever the source tells.
     ensures law { AcceptedMayRun }
+    // What a client's jobs access, and what its memory ends as, doesn't depend on the other clients, where its own jobs take the same steps.
+    ensures apart { BytesApart }
+    // Where no shader branches back, no run has more steps than the file says, beside those in which the renderer stays at an item.
+    ensures ends { AcceptedEnd }
+    // The file that `upgrade` writes is refused, or accepted and run, as the one that it read.
+    ensures upgrade { UpgradeKeepsAll }
 {
     match task_of(words) {
         None => 2,

@@ -1,0 +1,157 @@
+-- The headline, proved and used: what it comes to for the two files.
+use Rattle.std.proofs.Common.{◌≡◌, ◌≤◌, ◌<◌, ◌⊎◌, inl, inr, ℕ, zero, suc, ◌+◌, List, [], ◌∷◌, length, map, None, sym, subst, arith, ◌∙◌}
+use Rattle.std.specs.List.{AllByRecursion}
+use Rattle.field_words.specs.declared.access.Access.{Access}
+use Rattle.job_format.specs.Model.{FileModel}
+use Rattle.job_format.specs.File.{IsFileOf}
+use Rattle.job_format.specs.Reading.{file_at}
+use Rattle.job_format.proofs.Laws.{read_again}
+use Rattle.job_check.specs.Emit.{memory_of}
+use Rattle.job_check.specs.Whole.{refusal_of}
+use Rattle.machine_plan.specs.Regions.{Every, Inside, IsIn, rights_of, IsSafeAccess, IsSafeIn, IsOutside, Agree}
+use Rattle.field_words.specs.declared.access.Actor.TheVariants.{Tmu as TheTmu}
+use Rattle.machine.specs.State.{units_start}
+use Rattle.machine.specs.Step.{job_of, step}
+use Rattle.machine_law.specs.Sound.{ReadInOne, Sound}
+use Rattle.accepted_law.specs.Holdings.{OfEachJob, plain_of, fixed_of, file_rights, file_starts}
+use Rattle.accepted_law.specs.Held.{AreFixed}
+use Rattle.job_safety.specs.Files.{IsSafeFile}
+use Rattle.job_safety.specs.Safe.{AreSound}
+use Rattle.job_safety.proofs.Safety.{bytes_spell, file_is_safe, fixed_upto, faultless}
+use Rattle.accepted_ends.proofs.Files.{files_end_by_law}
+use Rattle.textured_job.specs.Job.{textured, two_clients}
+use Rattle.textured_job.specs.Laws.{IsAccepted, textured_bytes, two_clients_bytes}
+use Rattle.textured_job.proofs.Witness.{is_file, two_are_file, textured_witness, two_clients_witness}
+use Rattle.headline.specs.Ends.{AcceptedEnd}
+use Rattle.headline.specs.MayRun.{MayRun, AcceptedMayRun}
+use Rattle.headline.specs.Numbers.{Span, Numbers, alone, first, second, written, reached, numbers_of, LiesInOne, KeepsTo, Misses, intervals, rights, start, all_fixed, KeepAnywhere, InNumbers}
+use Rattle.headline.proofs.Stages.{AreOf, alone_is, two_are}
+
+pub may_run : (bytes : List ℕ) → IsFileOf bytes (file_at bytes) → refusal_of bytes ≡ None → MayRun bytes
+unfolding refusal_of
+may_run bytes is none =
+    let file : IsSafeFile (file_at bytes) = file_is_safe bytes is none in
+    record { none = none; spells = is; sound = file.sound; lists_fixed = λ j inside. (file.fixed j inside).lists; code_fixed = λ j inside. (file.fixed j inside).code }
+
+pub accepted_may_run : AcceptedMayRun
+unfolding refusal_of
+accepted_may_run bytes fits none = may_run bytes (bytes_spell bytes fits none) none
+
+pub accepted_end : AcceptedEnd
+unfolding refusal_of
+accepted_end bytes fits none =
+    let is : IsFileOf bytes (file_at bytes) = bytes_spell bytes fits none in
+    files_end_by_law (file_at bytes) is.well_formed is.fits (faultless bytes is none).none
+
+-- an access in intervals of numbers
+lies_in_one : (spans : List Span) (a : Access) → IsIn (intervals spans) a → LiesInOne spans a
+lies_in_one [] a lies = lies
+lies_in_one (span ∷ spans) a (inl here) = inl (here.from, here.upto)
+lies_in_one (span ∷ spans) a (inr there) = inr (lies_in_one spans a there)
+
+-- an access that keeps to the rights of the job of a number
+keeps_at : (jobs : List Numbers) (a : Access) (j : ℕ) → IsSafeIn (rights_of (map rights jobs) j) a → (j < length jobs) × KeepsTo (numbers_of jobs j) a
+keeps_at [] a j safe = absurd safe.inside
+keeps_at (n ∷ jobs) a zero safe = (
+  omega arith,
+  record { tame = safe.tame; lies = lies_in_one (reached n) a safe.inside; writes = λ writes. lies_in_one (written n) a (safe.writes writes) },
+)
+keeps_at (n ∷ jobs) a (suc j) safe = let rest = keeps_at jobs a j safe in (omega (arith, rest.0), rest.1)
+
+all_keep : (jobs : List Numbers) (found : List Access) → Every (IsSafeAccess (map rights jobs)) found
+    → AllByRecursion (λ a. (a.job < length jobs) × KeepsTo (numbers_of jobs a.job) a) found
+all_keep jobs [] all = tt
+all_keep jobs (a ∷ found) all = (keeps_at jobs a a.job (record { tame = all.0.tame; inside = all.0.inside; writes = all.0.writes }), all_keep jobs found all.1)
+
+-- What the headline says of a file, and what that is in its numbers.
+record Says (f : FileModel) : Type 0 where
+  pub sound : (m : List ℕ) → Agree (fixed_of f) (memory_of f) m → AreSound (file_rights f) (plain_of f) m (file_starts f)
+  pub fixed : OfEachJob f (AreFixed f)
+
+said : AcceptedMayRun → (bytes : List ℕ) (f : FileModel) → IsAccepted bytes → IsFileOf bytes f → Says f
+said headline bytes f accepted is =
+    let may : MayRun bytes = headline bytes accepted.are_bytes accepted.none in
+    subst Says (read_again bytes f is).1
+    (record { sound = may.sound; fixed = λ j inside. record { lists = may.lists_fixed j inside; code = may.code_fixed j inside } })
+
+sound_in : (f : FileModel) (jobs : List Numbers) (m : List ℕ) → AreOf f jobs → Says f → Agree (intervals (all_fixed jobs)) (memory_of f) m
+    → Sound (map rights jobs) (plain_of f) m (units_start (map start jobs))
+sound_in f jobs m are says agree =
+    subst (λ s. Sound (map rights jobs) (plain_of f) m (units_start s)) are.starts
+    (subst (λ r. Sound r (plain_of f) m (units_start (file_starts f))) are.rights (says.sound m (subst (λ k. Agree k (memory_of f) m) (sym are.fixed) agree)))
+
+fixed_in : (f : FileModel) (jobs : List Numbers) (p : ℕ) → AreOf f jobs → Says f → Inside (intervals (all_fixed jobs)) p 1 → IsOutside (map rights jobs) p
+unfolding fixed_of
+fixed_in f jobs p are says lies =
+    subst (λ r. IsOutside r p) are.rights (fixed_upto f (length f.jobs) p (omega arith) says.fixed (subst (λ k. Inside k p 1) (sym are.fixed) lies))
+
+keep : (f : FileModel) (jobs : List Numbers) → AreOf f jobs → Says f → KeepAnywhere f jobs
+keep f jobs are says m agree =
+    let sound = sound_in f jobs m are says agree in
+    record {
+      accesses = λ happenings found t run. all_keep jobs found (sound.safe.every_run happenings found t run).accesses;
+      stays = λ happenings found t run p lies left.
+          (sound.safe.every_run happenings found t run).kept p (fixed_in f jobs p are says lies) left ∙ sym (agree.same p lies);
+      textures = λ happenings found t run k n words may.
+          let who = job_of t (TheTmu k n) in
+          subst (λ spans. ReadInOne spans (step t (record { unit = TheTmu k n; words = words })).accesses) (are.plain who) (sound.textures happenings found t run k n words may);
+      same = sound.same;
+    }
+
+-- Spans before some bytes, or behind them.
+abbrev IsClear : (from upto : ℕ) → Span → Type 0
+IsClear from upto span = (span.0 + span.1 ≤ from) ⊎ (upto ≤ span.0)
+
+misses : (from upto : ℕ) (spans : List Span) (a : Access) → AllByRecursion (IsClear from upto) spans → LiesInOne spans a → Misses from upto a
+misses from upto [] a clear lies = absurd lies
+misses from upto (span ∷ spans) a (inl before, others) (inl here) = λ p is_from is_upto begins ends. omega (arith, before, here.0, here.1, is_from, is_upto, begins, ends)
+misses from upto (span ∷ spans) a (inr behind, others) (inl here) = λ p is_from is_upto begins ends. omega (arith, behind, here.0, here.1, is_from, is_upto, begins, ends)
+misses from upto (span ∷ spans) a (clear, others) (inr there) = misses from upto spans a others there
+
+first_clear : AllByRecursion (IsClear 1069056 1085440) (reached first)
+first_clear = (
+  inl (omega arith),
+  (
+    inl (omega arith),
+    (
+      inl (omega arith),
+      (inl (omega arith), (inl (omega arith), (inl (omega arith), (inl (omega arith), (inl (omega arith), (inl (omega arith), tt)))))),
+    ),
+  ),
+)
+
+second_clear : AllByRecursion (IsClear 1052672 1069056) (reached second)
+second_clear = (
+  inl (omega arith),
+  (
+    inr (omega arith),
+    (
+      inr (omega arith),
+      (inl (omega arith), (inl (omega arith), (inl (omega arith), (inl (omega arith), (inr (omega arith), (inr (omega arith), tt)))))),
+    ),
+  ),
+)
+
+-- both, of each access that keeps to the numbers of its job
+abbrev both : List Numbers
+both = first ∷ second ∷ []
+
+clients_miss : (found : List Access) → AllByRecursion (λ a. (a.job < 2) × KeepsTo (numbers_of both a.job) a) found
+    → AllByRecursion (λ a. (a.job ≡ 0 → Misses 1069056 1085440 a) × (a.job ≡ 1 → Misses 1052672 1069056 a)) found
+clients_miss [] all = tt
+clients_miss (a ∷ found) all = (
+  (
+    λ is. misses 1069056 1085440 (reached first) a first_clear (subst (λ j. KeepsTo (numbers_of both j) a) is all.0.1).lies,
+    λ is. misses 1052672 1069056 (reached second) a second_clear (subst (λ j. KeepsTo (numbers_of both j) a) is all.0.1).lies,
+  ),
+  clients_miss found all.1,
+)
+
+pub all_in_numbers : AcceptedMayRun → InNumbers
+all_in_numbers headline =
+    let two : KeepAnywhere two_clients both = keep two_clients both two_are (said headline two_clients_bytes two_clients two_clients_witness.accepted two_are_file) in
+    record {
+      one_job = keep textured (alone ∷ []) alone_is (said headline textured_bytes textured textured_witness.accepted is_file);
+      two_jobs = two;
+      clients = λ m agree happenings found t run. clients_miss found ((two m agree).accesses happenings found t run);
+    }

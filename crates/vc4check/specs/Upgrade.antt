@@ -1,0 +1,46 @@
+-- What `upgrade` answers: the same file as version 2.
+use Rattle.std.specs.Prelude.{◌≡◌, ℕ, List, Option, Some, None}
+use Rattle.field_words.specs.Words.{IsBytes}
+use Rattle.field_words.specs.Questions.{Question, IsFirst, first_of, answered}
+use Rattle.job_format.specs.declared.rule.Refusal.{Refusal}
+use Rattle.job_format.specs.Faults.{format_questions}
+use Rattle.job_format.specs.File.{IsFileOf, upgraded}
+use Rattle.job_format.specs.Model.{FileModel}
+use Rattle.job_format.specs.Reading.{file_at}
+use Rattle.job_format.specs.Text.{file_text}
+use Rattle.job_check.specs.Emit.{memory_of, all_lengths_of}
+use Rattle.job_check.specs.Jobs.{layouts_of}
+use Rattle.job_check.specs.Whole.{format_refused, refusal_of}
+use Rattle.accepted_law.specs.Holdings.{plain_of, fixed_of, file_rights, file_starts}
+use Rattle.dumper.specs.Text.{refused_text}
+
+-- the rules of the format, as the program names them
+abbrev pub format_rules : List ℕ → List (Question Refusal)
+format_rules bytes = answered format_refused (format_questions bytes)
+
+-- Where no rule of the format stands, the file is what its bytes spell, and is written with version 2; else it is refused by the first
+-- such rule that does. No other rule is asked.
+abbrev pub IsUpgradeVerdict : List ℕ → Option Refusal → FileModel → ℕ → List ℕ → Type 0
+IsUpgradeVerdict bytes None f status text = (status ≡ 0) × (text ≡ file_text (upgraded f)) × IsFileOf bytes f
+IsUpgradeVerdict bytes (Some refusal) f status text = (status ≡ 1) × (text ≡ refused_text refusal) × IsFirst (format_rules bytes) refusal
+
+abbrev pub IsUpgradeAnswer : List ℕ → ℕ → List ℕ → Type 0
+IsUpgradeAnswer bytes status text = IsUpgradeVerdict bytes (first_of (format_rules bytes)) (file_at bytes) status text
+
+-- The same file as version 2 is what its text spells. It is refused by the same rule at the same place, or it is accepted with the same
+-- memory, with the lists of each job at the same places and as long; each job may reach the same and begins in the same places, and the
+-- same bytes are such that no job may write them.
+pub record IsUpgradedAlike (bytes : List ℕ) : Type 0 where
+  pub spells : IsFileOf (file_text (upgraded (file_at bytes))) (upgraded (file_at bytes))
+  pub refusal : refusal_of (file_text (upgraded (file_at bytes))) ≡ refusal_of bytes
+  pub memory : memory_of (upgraded (file_at bytes)) ≡ memory_of (file_at bytes)
+  pub layouts : layouts_of (upgraded (file_at bytes)) ≡ layouts_of (file_at bytes)
+  pub lengths : all_lengths_of (upgraded (file_at bytes)) ≡ all_lengths_of (file_at bytes)
+  pub rights : file_rights (upgraded (file_at bytes)) ≡ file_rights (file_at bytes)
+  pub plains : (j : ℕ) → plain_of (upgraded (file_at bytes)) j ≡ plain_of (file_at bytes) j
+  pub starts : file_starts (upgraded (file_at bytes)) ≡ file_starts (file_at bytes)
+  pub fixed : fixed_of (upgraded (file_at bytes)) ≡ fixed_of (file_at bytes)
+
+-- So it is of all bytes of which no rule of the format stands.
+abbrev pub UpgradeKeepsAll : Type 0
+UpgradeKeepsAll = (bytes : List ℕ) → IsBytes bytes → first_of (format_questions bytes) ≡ None → IsUpgradedAlike bytes

@@ -1,0 +1,43 @@
+//! The command `upgrade`.
+ghost use Rattle.std.specs.Prelude.{◌≡◌, ◌<◌, IfOk, IsOk};
+ghost use Rattle.field_words.specs.Questions.{Answers, answered};
+ghost use Rattle.job_check.specs.Whole.{format_refused};
+ghost use Rattle.job_format.specs.Faults.{format_questions};
+ghost use Rattle.job_format.specs.File.{IsFileOf, upgraded};
+ghost use Rattle.job_format.specs.Reading.{file_at};
+ghost use Rattle.job_format.specs.Text.{file_text};
+ghost use Rattle.vc4check.specs.Upgrade.{IsUpgradeAnswer};
+
+use super::answer::Answer;
+use dumper::refusal_text;
+use field_words::{NoMemory, Stop};
+use job_check::format_refusal;
+use job_format::{Refusal, read_job, upgrade_file, write_job};
+use std::alloc::Global;
+
+// The same file as version 2.
+fn upgraded(alloc: Global, bytes: &[u8]) -> Result<Vec<u8>, Stop<Refusal>>
+    ensures answers { Answers (answered format_refused (format_questions bytes.now)) (λ text. text.items ≡ file_text (upgraded (file_at bytes.now))) result }
+    ensures spelled { IsOk result → IsFileOf bytes.now (file_at bytes.now) }
+{
+    match read_job(alloc, bytes) {
+        Ok(file) => Ok(write_job(alloc, &upgrade_file(file))?),
+        Err(stop) => Err(format_refusal(stop)),
+    }
+}
+
+/// What `upgrade` answers to these bytes: the same file as version 2, or the first rule of the format that stands.
+#[tactic(auto, using(field_words::proofs::Questions::first_is))]
+pub fn upgrade_answer(alloc: Global, bytes: &[u8]) -> Result<Answer, NoMemory>
+    ensures answers { IfOk result (λ a. IsUpgradeAnswer bytes.now a.status a.text.items) }
+    ensures status { IfOk result (λ a. a.status < 2) }
+{
+    match upgraded(alloc, bytes) {
+        Ok(text) => Ok(Answer { status: 0, text }),
+        Err(Stop::Fault(refusal)) => {
+            let text = refusal_text(alloc, &refusal)?;
+            Ok(Answer { status: 1, text })
+        }
+        Err(Stop::NoMemory) => Err(NoMemory),
+    }
+}
