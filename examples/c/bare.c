@@ -14,6 +14,10 @@ void *memmove(void *to, const void *from, size_t size) {
     return to;
 }
 
+void *memcpy(void *to, const void *from, size_t size) {
+    return memmove(to, from, size);
+}
+
 void *memset(void *to, int byte, size_t size) {
     for (size_t i = 0; i < size; i++) ((unsigned char *)to)[i] = (unsigned char)byte;
     return to;

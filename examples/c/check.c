@@ -31,11 +31,21 @@ static void print_row(uint32_t place, const uint8_t *row) {
     putchar('\n');
 }
 
-static void print_accepted(const struct vc4check_answer *a, const uint8_t *memory) {
+static void print_job(const struct vc4check_job *job) {
+    printf("bin %08x %u\n", job->lists + job->bin, job->bin_length);
+    printf("records %08x %u\n", job->lists + job->records, job->records_length);
+    printf("uniforms %08x %u\n", job->lists + job->uniforms, job->uniforms_length);
+    printf("render %08x %u\n", job->lists + job->render, job->render_length);
+    printf("slot %08x\n", job->slot);
+}
+
+/* A file of version 1 has one job, whose number isn't printed. The version is the file's fifth byte. */
+static void print_accepted(const struct vc4check_jobs_answer *a, int version, const uint8_t *memory) {
     printf("accepted\nmemory %u\n", a->size);
-    printf("bin %08x %u\nrecords %08x %u\n", a->lists + a->bin, a->bin_length, a->lists + a->records, a->records_length);
-    printf("uniforms %08x %u\nrender %08x %u\n", a->lists + a->uniforms, a->uniforms_length, a->lists + a->render, a->render_length);
-    printf("slot %08x\n", a->slot);
+    for (uint32_t j = 0; j < a->jobs; j++) {
+        if (version != 1) printf("job %u\n", j);
+        print_job(&a->job[j]);
+    }
     for (uint32_t place = 0; place < a->size; place += 16) print_row(place, memory + place);
     puts("end");
 }
@@ -46,9 +56,9 @@ int main(int count, char **words) {
     if (!bytes || vc4check_version() != VC4CHECK_VERSION) return 3;
     uint32_t room = vc4check_size(bytes, length);
     uint8_t *block = malloc(room ? room : 1);
-    struct vc4check_answer answer;
-    uint32_t status = block ? vc4check_check(bytes, length, block, room, &answer) : VC4CHECK_NO_MEMORY;
-    if (status == VC4CHECK_ACCEPTED) print_accepted(&answer, block);
+    struct vc4check_jobs_answer answer;
+    uint32_t status = block ? vc4check_check_jobs(bytes, length, block, room, &answer) : VC4CHECK_NO_MEMORY;
+    if (status == VC4CHECK_ACCEPTED) print_accepted(&answer, bytes[4], block);
     if (status == VC4CHECK_REFUSED) printf("refused %c%u at %llu\n", (int)answer.letter, answer.number, (unsigned long long)answer.offset);
     free(block);
     free(bytes);
