@@ -1,0 +1,6 @@
+pub mod Checked
+pub mod Laws
+pub mod Own
+pub mod Places
+pub mod Session
+pub mod Submit
