@@ -1,8 +1,8 @@
 //! That the jobs of an accepted file end: the law of runs without loops, for files.
 //!
 //! The crate has one law on definitions alone. Where no shader that a handle of a job names branches back, a number that
-//! the file says, `specs::Bound::bound_of`, is the most steps of any run of its 1 to 8 jobs, but for those in which a
-//! renderer stays at an item.
+//! the file says, `specs::Bound::bound_of`, is the most steps of any run of its 1 to 8 jobs, and a second one, `longest_of`
+//! and 1, is how many more there may be for each step in which a renderer stays at an item.
 #![tactic(auto)]
 
 ghost use Rattle.accepted_ends.specs.Law.{FilesEndBy};

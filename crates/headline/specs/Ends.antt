@@ -6,6 +6,6 @@ use Rattle.job_check.specs.Whole.{refusal_of}
 use Rattle.accepted_ends.specs.Law.{FileEnds}
 
 -- Whatever bytes they are: where no rule stands of them, and no shader that a handle of their jobs names branches back, no run of their
--- jobs has more steps than their file says, beside those in which a renderer stays at an item.
+-- jobs has more steps than their file says, and so many more for each step in which a renderer stays at an item.
 abbrev pub AcceptedEnd : Type 0
 AcceptedEnd = (bytes : List ℕ) → IsBytes bytes → refusal_of bytes ≡ None → FileEnds (file_at bytes)

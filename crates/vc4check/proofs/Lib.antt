@@ -6,3 +6,4 @@ pub mod Told
 pub mod Appending
 pub mod Checked
 pub mod Versions
+pub mod Again

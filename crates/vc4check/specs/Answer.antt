@@ -10,11 +10,12 @@ use Rattle.job_check.specs.Emit.{memory_of, lengths_of, all_lengths_of}
 use Rattle.job_check.specs.Jobs.{layouts_of}
 use Rattle.dumper.specs.Text.{accepted_text, refused_text}
 use Rattle.vc4check.specs.declared.command.Command.{Command}
-use Rattle.vc4check.specs.declared.command.Command.TheVariants.{Check, Replay, Upgrade, Asm, Disasm, Slots, Queue, Untile, Tile, Level}
+use Rattle.vc4check.specs.declared.command.Command.TheVariants.{Check, Replay, Upgrade, Show, FromText, Asm, Disasm, Slots, Queue, Untile, Tile, Level}
 use Rattle.vc4check.specs.Pictures.{IsUntileAnswer, IsTileAnswer, IsLevelAnswer}
 use Rattle.vc4check.specs.Replay.{IsReplayAnswer}
 use Rattle.vc4check.specs.Scripts.{IsSlotsAnswer, IsQueueAnswer}
 use Rattle.vc4check.specs.Upgrade.{IsUpgradeAnswer}
+use Rattle.vc4check.specs.Show.{IsShowAnswer, IsMakeAnswer}
 use Rattle.vc4check.specs.Shader.{IsAsmAnswer, IsDisasmAnswer}
 use Rattle.job_format.specs.Text.{file_text}
 use Rattle.dumper.specs.Example.{example_text}
@@ -38,6 +39,8 @@ abbrev pub IsAnswer : Command → List ℕ → ℕ → List ℕ → Type 0
 IsAnswer Check bytes status text = IsCheckAnswer bytes status text
 IsAnswer (Replay steps seed) bytes status text = IsReplayAnswer steps seed bytes status text
 IsAnswer Upgrade bytes status text = IsUpgradeAnswer bytes status text
+IsAnswer Show bytes status text = IsShowAnswer bytes status text
+IsAnswer FromText bytes status text = IsMakeAnswer bytes status text
 IsAnswer Asm bytes status text = IsAsmAnswer bytes status text
 IsAnswer Disasm bytes status text = IsDisasmAnswer bytes status text
 IsAnswer (Slots slots) bytes status text = IsSlotsAnswer slots bytes status text

@@ -3,6 +3,7 @@ pub mod Bands
 pub mod Pictures
 pub mod Run
 pub mod Shader
+pub mod Show
 pub mod Words
 pub mod Upgrade
 pub mod Replay

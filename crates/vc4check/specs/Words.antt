@@ -4,7 +4,7 @@ use Rattle.std.specs.Prelude.{bytes_eq}
 use Rattle.std.specs.declared.alloc.Global.{Global}
 use Rattle.field_words.specs.Sizes.{most_list}
 use Rattle.vc4check.specs.declared.command.Command.{Command}
-use Rattle.vc4check.specs.declared.command.Command.TheVariants.{Check, Replay, Upgrade, Asm, Disasm, Slots, Queue, Untile, Tile, Level}
+use Rattle.vc4check.specs.declared.command.Command.TheVariants.{Check, Replay, Upgrade, Show, FromText, Asm, Disasm, Slots, Queue, Untile, Tile, Level}
 use Rattle.vc4check.specs.declared.command.Task.{Task}
 use Rattle.vc4check.specs.declared.command.Task.TheVariants.{Read, Make}
 use Rattle.script.specs.Number.{number_within}
@@ -17,8 +17,10 @@ abbrev pub command_named : List ℕ → Option Command
 command_named word =
     if bytes_eq word (codes "check") then Some Check
     else (if bytes_eq word (codes "upgrade") then Some Upgrade
+    else (if bytes_eq word (codes "show") then Some Show
+    else (if bytes_eq word (codes "make") then Some FromText
     else (if bytes_eq word (codes "asm") then Some Asm
-    else (if bytes_eq word (codes "disasm") then Some Disasm else None)))
+    else (if bytes_eq word (codes "disasm") then Some Disasm else None)))))
 
 -- the greatest number of an example
 abbrev pub most_number : ℕ
@@ -71,6 +73,8 @@ abbrev pub IsWithin : Command → Type 0
 IsWithin Check = Unit {0}
 IsWithin (Replay steps seed) = steps ≤ most_steps
 IsWithin Upgrade = Unit {0}
+IsWithin Show = Unit {0}
+IsWithin FromText = Unit {0}
 IsWithin Asm = Unit {0}
 IsWithin Disasm = Unit {0}
 IsWithin (Slots slots) = (1 ≤ slots) × (slots ≤ most_slots)
@@ -106,6 +110,8 @@ abbrev pub limit_of : Command → ℕ
 limit_of Check = most_file
 limit_of (Replay steps seed) = most_file
 limit_of Upgrade = most_file
+limit_of Show = most_file
+limit_of FromText = most_file
 limit_of Asm = most_list
 limit_of Disasm = most_list
 limit_of (Slots slots) = most_list

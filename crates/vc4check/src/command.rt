@@ -32,6 +32,10 @@ pub enum Command {
     Replay { steps: u32, seed: u64 },
     /// `upgrade`: reads a job file and writes it with version 2, or prints which rule of the format it breaks.
     Upgrade,
+    /// `show`: reads any bytes and writes them as lines of text that say what they are, if they are a job file.
+    Show,
+    /// `make`: reads such a text and writes its bytes, or its first fault.
+    FromText,
     /// `asm`: reads shader text and writes the instruction words, 8 bytes each, little endian.
     Asm,
     /// `disasm`: reads such words and writes shader text that assembles to them.
@@ -64,7 +68,11 @@ impl Command {
         ensures most { result ≤ most_file }
     {
         match self {
-            Command::Check | Command::Replay { .. } | Command::Upgrade => MOST_FILE,
+            Command::Check
+            | Command::Replay { .. }
+            | Command::Upgrade
+            | Command::Show
+            | Command::FromText => MOST_FILE,
             Command::Untile(_) | Command::Tile(_) | Command::Level(_) => MOST_PICTURE,
             Command::Asm | Command::Disasm | Command::Slots(_) | Command::Queue(_) => {
                 MOST_LIST as usize
@@ -82,6 +90,12 @@ fn command_named(word: &str) -> Option<Command>
     }
     if word == "upgrade" {
         return Some(Command::Upgrade);
+    }
+    if word == "show" {
+        return Some(Command::Show);
+    }
+    if word == "make" {
+        return Some(Command::FromText);
     }
     if word == "asm" {
         return Some(Command::Asm);

@@ -24,6 +24,7 @@ mod serve;
 #[cfg(test)]
 mod several_tests;
 mod shader_text;
+mod shown;
 #[cfg(test)]
 mod tests;
 mod upgrading;

@@ -11,6 +11,7 @@ ghost use Rattle.job_safety.specs.Clients.{BytesApart};
 ghost use Rattle.headline.specs.Ends.{AcceptedEnd};
 ghost use Rattle.headline.specs.MayRun.{AcceptedMayRun};
 ghost use Rattle.vc4check.specs.Headline.{IsSafelyAccepted};
+ghost use Rattle.vc4check.specs.Show.{MakesAgain};
 ghost use Rattle.vc4check.specs.Upgrade.{UpgradeKeepsAll};
 ghost use Rattle.vc4check.specs.Run.{IsAnswered, IsCut};
 ghost use Rattle.vc4check.specs.Words.{texts, task_of, limit_of};
@@ -33,7 +34,7 @@ use std::alloc::Global;
 /// | 4 | the sink failed | a front of the text of status 0 or 1 |
 /// | 5 | want of memory | nothing |
 /// | 6 | more input than the command's limit | nothing |
-#[tactic(auto, using(crate::proofs::Headline::safely_accepted, headline::proofs::Uses::accepted_may_run, job_safety::proofs::Safety::bytes_apart_law, headline::proofs::Uses::accepted_end, crate::proofs::Versions::upgrade_keeps_all))]
+#[tactic(auto, using(crate::proofs::Headline::safely_accepted, headline::proofs::Uses::accepted_may_run, job_safety::proofs::Safety::bytes_apart_law, headline::proofs::Uses::accepted_end, crate::proofs::Versions::upgrade_keeps_all, crate::proofs::Again::makes_again))]
 pub fn run<S: Source, K: Sink>(
     alloc: Global,
     words: &Vec<String>,
@@ -85,10 +86,13 @@ pub fn run<S: Source, K: Sink>(
     ensures law { AcceptedMayRun }
     // What a client's jobs access, and what its memory ends as, doesn't depend on the other clients, where its own jobs take the same steps.
     ensures apart { BytesApart }
-    // Where no shader branches back, no run has more steps than the file says, beside those in which the renderer stays at an item.
+    // Where no shader branches back, no run has more steps than the file says, and so many more for each step in which a renderer stays
+    // at an item.
     ensures ends { AcceptedEnd }
     // The file that `upgrade` writes is refused, or accepted and run, as the one that it read.
     ensures upgrade { UpgradeKeepsAll }
+    // What `make` answers to a text that `show` wrote is the bytes that `show` read.
+    ensures makes_again { MakesAgain }
 {
     match task_of(words) {
         None => 2,

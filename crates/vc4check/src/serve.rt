@@ -15,6 +15,7 @@ use super::replayed::replay_answer;
 use super::reply::{Reply, print};
 use super::scripts::{queue_answer, slots_answer};
 use super::shader_text::{asm_answer, disasm_answer};
+use super::shown::{make_answer, show_answer};
 use super::upgrading::upgrade_answer;
 use field_words::NoMemory;
 use job_io::{ReadEnd, Sink, Source, read_all};
@@ -34,6 +35,8 @@ fn answer_to(alloc: Global, command: Command, bytes: &[u8]) -> Result<Reply, NoM
         Command::Check => return check_answer(alloc, bytes),
         Command::Replay { steps, seed } => replay_answer(alloc, steps, seed, bytes),
         Command::Upgrade => upgrade_answer(alloc, bytes),
+        Command::Show => show_answer(alloc, bytes),
+        Command::FromText => make_answer(alloc, bytes),
         Command::Asm => asm_answer(alloc, bytes),
         Command::Disasm => disasm_answer(alloc, bytes),
         Command::Slots(slots) => slots_answer(alloc, slots, bytes),

@@ -1,0 +1,140 @@
+-- The text of any bytes is read as these bytes.
+use Rattle.std.proofs.Common.{◌≡◌, ℕ, zero, suc, ◌+◌, ◌*◌, ◌/◌, ◌%◌, ◌<◌, Bool, true, false, List, [], ◌∷◌, ◌++◌, length, take, drop, codes, Ok, Some, None, refl, sym, ◌∙◌, ap, append_assoc, append-nil, arith, eq-eqb}
+use Rattle.std.proofs.lemmas.Bool.{eqb-true}
+use Rattle.std.specs.Prelude.{slice_index, ◌==◌, if◌then◌else◌}
+use Rattle.hex.specs.Hex.{encode_lower, encode_with, lower_digits, hex_digit_value}
+use Rattle.hex.proofs.HexLemmas.{IsDigits-lower_digits}
+use Rattle.field_words.specs.Words.{IsBytes}
+use Rattle.script.specs.Lines.{before, lines_of, onto_line}
+use Rattle.job_text.specs.declared.note.Note.{Note}
+use Rattle.job_text.specs.declared.note.Note.TheVariants.{Unread}
+use Rattle.job_text.specs.declared.note.Piece.{Piece}
+use Rattle.job_text.specs.Made.{digits_read, line_read, lines_read, both, made, is_blank}
+use Rattle.job_text.specs.Shown.{remark, line_text, shown}
+
+-- no byte is the mark
+abbrev Free : ℕ → List ℕ → Type 0
+Free mark [] = Unit {0}
+Free mark (byte ∷ bytes) = ((byte == mark) ≡ false) × Free mark bytes
+
+free_append : (mark : ℕ) (xs ys : List ℕ) → Free mark xs → Free mark ys → Free mark (xs ++ ys)
+free_append mark [] ys none free = free
+free_append mark (x ∷ xs) ys (here, none) free = (here, free_append mark xs ys none free)
+
+free_put : (mark byte : ℕ) (bytes : List ℕ) (is : Bool) → (byte == mark) ≡ is → Free mark bytes → Free mark (if is then [] else byte ∷ bytes)
+free_put mark byte bytes true e free = tt
+free_put mark byte bytes false e free = (e, free)
+
+free_before : (mark : ℕ) (bytes : List ℕ) → Free mark (before mark bytes)
+unfolding before
+free_before mark [] = tt
+free_before mark (byte ∷ bytes) = free_put mark byte (before mark bytes) (byte == mark) refl (free_before mark bytes)
+
+before_mark : (mark : ℕ) (xs rest : List ℕ) → Free mark xs → before mark (xs ++ mark ∷ rest) ≡ xs
+unfolding before
+before_mark mark [] rest free = rw (eq-eqb mark mark refl) refl
+before_mark mark (x ∷ xs) rest (here, free) = rw here (ap (λ l. x ∷ l) (before_mark mark xs rest free))
+
+lines_line : (xs rest : List ℕ) → Free 10 xs → lines_of (xs ++ 10 ∷ rest) ≡ xs ∷ lines_of rest
+unfolding lines_of
+lines_line [] rest free = refl
+lines_line (x ∷ xs) rest (here, free) = rw here (ap (onto_line x) (lines_line xs rest free))
+
+-- a digit is no mark that is no digit, and no blank
+digit_free : (mark d v : ℕ) → hex_digit_value mark ≡ None → hex_digit_value d ≡ Some v → (t : Bool) → (d == mark) ≡ t → t ≡ false
+digit_free mark d v none some true e = let same : d ≡ mark = eqb-true d mark e in let clash : Some v ≡ None = sym some ∙ ap hex_digit_value same ∙ none in cc
+digit_free mark d v none some false e = refl
+
+free_digits : (mark : ℕ) (bytes : List ℕ) → hex_digit_value mark ≡ None → IsBytes bytes → Free mark (encode_lower bytes)
+unfolding encode_with
+free_digits mark [] none fits = tt
+free_digits mark (b ∷ bytes) none fits =
+    let small : b < 256 = fits 0 in
+    let high = slice_index lower_digits (b / 16) in
+    let low = slice_index lower_digits (b % 16) in (
+      digit_free mark high (b / 16) none (IsDigits-lower_digits (b / 16) (omega arith)) (high == mark) refl,
+      (
+        digit_free mark low (b % 16) none (IsDigits-lower_digits (b % 16) (omega arith)) (low == mark) refl,
+        free_digits mark bytes none (λ k. fits (suc k)),
+      ),
+    )
+
+digit_not_blank : (d v : ℕ) → hex_digit_value d ≡ Some v → is_blank d ≡ false
+unfolding is_blank
+digit_not_blank d v some =
+    rw (digit_free 32 d v refl some (d == 32) refl, digit_free 9 d v refl some (d == 9) refl, digit_free 13 d v refl some (d == 13) refl) refl
+
+digits_back : (line column : ℕ) (bytes : List ℕ) → IsBytes bytes → digits_read line column (encode_lower bytes ++ codes "  ") ≡ Ok bytes
+unfolding encode_with digits_read is_blank
+digits_back line column [] fits = refl
+digits_back line column (b ∷ bytes) fits =
+    let small : b < 256 = fits 0 in
+    let high = slice_index lower_digits (b / 16) in
+    let low = slice_index lower_digits (b % 16) in
+    let is_high = IsDigits-lower_digits (b / 16) (omega arith) in
+    let is_low = IsDigits-lower_digits (b % 16) (omega arith) in
+    let later = digits_back line (column + 2) bytes (λ k. fits (suc k)) in
+    let whole : 16 * (b / 16) + b % 16 ≡ b = omega arith in
+    rw (digit_not_blank high (b / 16) is_high, is_high, is_low, later) (ap (λ (n : ℕ). Ok (n ∷ bytes)) whole)
+
+-- a line's end behind its last part
+to_end : (a b r rest : List ℕ) → (a ++ (b ++ (r ++ 10 ∷ []))) ++ rest ≡ (a ++ (b ++ r)) ++ 10 ∷ rest
+to_end a b r rest = simp append_assoc
+
+to_mark : (a r : List ℕ) → a ++ (codes "  # " ++ r) ≡ (a ++ codes "  ") ++ 35 ∷ 32 ∷ r
+to_mark a r = sym (append_assoc a (codes "  ") (35 ∷ 32 ∷ r))
+
+line_again : (n at b : ℕ) (bytes rest : List ℕ) (note : Note) → IsBytes (b ∷ bytes)
+    → lines_read n (lines_of (line_text at (b ∷ bytes) note ++ rest)) ≡ both (Ok (b ∷ bytes)) (lines_read (n + 1) (lines_of rest))
+unfolding line_text remark lines_read
+line_again n at b bytes rest note fits =
+    let digits = encode_lower (b ∷ bytes) in
+    let r = remark at (b ∷ bytes) note in
+    let line = digits ++ (codes "  # " ++ r) in
+    let no_feed : Free 10 line = free_append 10 digits (codes "  # " ++ r) (free_digits 10 (b ∷ bytes) refl fits) (free_append 10 (codes "  # ") r (refl, (refl, (refl, (refl, tt)))) (free_before 10 _)) in
+    let no_mark : Free 35 (digits ++ codes "  ") = free_append 35 digits (codes "  ") (free_digits 35 (b ∷ bytes) refl fits) (refl, (refl, tt)) in
+    let front : before 35 line ≡ digits ++ codes "  " = ap (before 35) (to_mark digits r) ∙ before_mark 35 (digits ++ codes "  ") (32 ∷ r) no_mark in
+    let read : line_read n line ≡ Ok (b ∷ bytes) = ap (digits_read n 1) front ∙ digits_back n 1 (b ∷ bytes) fits in
+    ap (λ t. lines_read n (lines_of t)) (to_end digits (codes "  # ") r rest)
+    ∙ ap (lines_read n) (lines_line line rest no_feed)
+    ∙ ap (λ x. both x (lines_read (n + 1) (lines_of rest))) read
+
+-- the lines of some bytes, and of the bytes behind them
+piece_again : (n at : ℕ) (bytes more rest : List ℕ) (note : Note) → IsBytes bytes
+    → ((m : ℕ) → lines_read m (lines_of rest) ≡ Ok more)
+    → lines_read n (lines_of (line_text at bytes note ++ rest)) ≡ Ok (bytes ++ more)
+unfolding line_text
+piece_again n at [] more rest note fits later = later n
+piece_again n at (b ∷ bytes) more rest note fits later =
+    line_again n at b bytes rest note fits ∙ ap (both (Ok (b ∷ bytes))) (later (n + 1))
+
+bytes_take : (n : ℕ) (bytes : List ℕ) → IsBytes bytes → IsBytes (take n bytes)
+bytes_take zero bytes fits k = omega arith
+bytes_take (suc n) [] fits k = omega arith
+bytes_take (suc n) (b ∷ bytes) fits zero = fits 0
+bytes_take (suc n) (b ∷ bytes) fits (suc k) = bytes_take n bytes (λ i. fits (suc i)) k
+
+bytes_drop : (n : ℕ) (bytes : List ℕ) → IsBytes bytes → IsBytes (drop n bytes)
+bytes_drop zero bytes fits = fits
+bytes_drop (suc n) [] fits = fits
+bytes_drop (suc n) (b ∷ bytes) fits = bytes_drop n bytes (λ i. fits (suc i))
+
+halves : (n : ℕ) (bytes : List ℕ) → take n bytes ++ drop n bytes ≡ bytes
+halves zero bytes = refl
+halves (suc n) [] = refl
+halves (suc n) (b ∷ bytes) = ap (λ l. b ∷ l) (halves n bytes)
+
+shown_read : (pieces : List Piece) (n at : ℕ) (bytes : List ℕ) → IsBytes bytes → lines_read n (lines_of (shown at bytes pieces)) ≡ Ok bytes
+unfolding shown lines_read lines_of
+shown_read [] n at bytes fits =
+    ap (λ t. lines_read n (lines_of t)) (sym (append-nil (line_text at bytes Unread)))
+    ∙ piece_again n at bytes [] [] Unread fits (λ m. refl) ∙ ap (λ (l : List ℕ). Ok l) (append-nil bytes)
+shown_read (piece ∷ pieces) n at bytes fits =
+    let front = take piece.size bytes in
+    let back = drop piece.size bytes in
+    piece_again n at front back (shown (at + length front) back pieces) piece.note (bytes_take piece.size bytes fits)
+    (λ m. shown_read pieces m (at + length front) back (bytes_drop piece.size bytes fits))
+    ∙ ap (λ (l : List ℕ). Ok l) (halves piece.size bytes)
+
+pub shown_again : (bytes text : List ℕ) (pieces : List Piece) → IsBytes bytes → text ≡ shown 0 bytes pieces → made text ≡ Ok bytes
+shown_again bytes text pieces fits is = ap made is ∙ shown_read pieces 1 0 bytes fits

@@ -1,0 +1,4 @@
+pub mod Again
+pub mod Pieces
+pub mod Steps
+pub mod Texts

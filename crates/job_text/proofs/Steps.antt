@@ -1,0 +1,77 @@
+-- One step of reading a line, and of printing pieces.
+use Rattle.std.proofs.Common.{◌≡◌, ℕ, ◌+◌, ◌≤◌, true, false, List, [], ◌∷◌, ◌++◌, length, drop, Result, Ok, Err, Option, Some, None, refl, sym, ◌∙◌, ap, append_assoc, append-nil, arith}
+use Rattle.hex.specs.Hex.{hex_digit_value}
+use Rattle.script.specs.Lines.{lines_of}
+use Rattle.field_words.specs.declared.stop.Stop.{Stop}
+use Rattle.field_words.specs.declared.stop.Stop.TheVariants.{Fault, NoMemory}
+use Rattle.job_text.specs.declared.fault.MakeFault.{MakeFault}
+use Rattle.job_text.specs.Made.{is_blank, byte_at, front_digit, both, digits_read, line_read, lines_read, made, IsFaultOf}
+
+pub both_both : (a b : List ℕ) (r : Result (List ℕ) MakeFault) → both (Ok a) (both (Ok b) r) ≡ both (Ok (a ++ b)) r
+both_both a b (Err fault) = refl
+both_both a b (Ok bytes) = ap (λ (l : List ℕ). Ok l) (sym (append_assoc a b bytes))
+
+pub both_err : (a : List ℕ) (r : Result (List ℕ) MakeFault) (fault : MakeFault) → both (Ok a) r ≡ Err fault → r ≡ Err fault
+both_err a (Err other) fault is = is
+both_err a (Ok bytes) fault is = cc
+
+pub both_none : (r : Result (List ℕ) MakeFault) → both (Ok []) r ≡ r
+both_none (Err fault) = refl
+both_none (Ok bytes) = refl
+
+pub digits_blank : (line column c : ℕ) (others : List ℕ) → is_blank c ≡ true → digits_read line (column + 1) others ≡ digits_read line column (c ∷ others)
+unfolding digits_read
+digits_blank line column c [] blank = rw blank refl
+digits_blank line column c (d ∷ rest) blank = rw blank refl
+
+lone : (line column b : ℕ) (o : Option ℕ) → byte_at line column o None ≡ Ok b → ⊥
+lone line column b None is = cc
+lone line column b (Some high) is = cc
+
+pub digits_byte : (line column c b : ℕ) (others : List ℕ) → is_blank c ≡ false → byte_at line column (hex_digit_value c) (front_digit others) ≡ Ok b
+    → digits_read line column (c ∷ others) ≡ both (Ok (b ∷ [])) (digits_read line (column + 2) (drop 1 others))
+unfolding digits_read
+digits_byte line column c b [] blank is = absurd (lone line column b (hex_digit_value c) is)
+digits_byte line column c b (d ∷ rest) blank is = rw (blank, is) refl
+
+pub digits_fault : (line column c : ℕ) (others : List ℕ) (fault : MakeFault) → is_blank c ≡ false → byte_at line column (hex_digit_value c) (front_digit others) ≡ Err fault
+    → digits_read line column (c ∷ others) ≡ Err fault
+unfolding digits_read
+digits_fault line column c [] fault blank is = rw (blank, is) refl
+digits_fault line column c (d ∷ rest) fault blank is = rw (blank, is) refl
+
+pub byte_more : (line column c b : ℕ) (others : List ℕ) → byte_at line column (hex_digit_value c) (front_digit others) ≡ Ok b → 1 + length (drop 1 others) ≡ length others
+byte_more line column c b [] is = absurd (lone line column b (hex_digit_value c) is)
+byte_more line column c b (d ∷ rest) is = omega arith
+
+-- at the end of a line nothing is left to read
+pub digits_end : (line column : ℕ) (out rest : List ℕ) → length rest ≤ 0 → both (Ok out) (digits_read line column rest) ≡ Ok out
+unfolding digits_read
+digits_end line column out [] none = ap (λ (l : List ℕ). Ok l) (append-nil out)
+digits_end line column out (c ∷ rest) none = absurd (omega (arith, none))
+
+-- one line more
+both_line : (out new : List ℕ) (r s : Result (List ℕ) MakeFault) → both (Ok out) r ≡ Ok new → both (Ok new) s ≡ both (Ok out) (both r s)
+both_line out new (Err fault) s is = cc
+both_line out new (Ok bytes) s is = ap (λ x. both x s) (sym is) ∙ sym (both_both out bytes s)
+
+pub line_step : (line : ℕ) (out new first rest : List ℕ) (lines : List (List ℕ)) → lines_of rest ≡ first ∷ lines → both (Ok out) (line_read line first) ≡ Ok new
+    → both (Ok new) (lines_read (line + 1) lines) ≡ both (Ok out) (lines_read line (lines_of rest))
+unfolding lines_read
+line_step line out new first rest lines cut is =
+    both_line out new (line_read line first) (lines_read (line + 1) lines) is ∙ ap (λ l. both (Ok out) (lines_read line l)) (sym cut)
+
+-- the fault of a line behind lines without one is the text's
+pub line_fault : (line : ℕ) (out first rest text : List ℕ) (lines : List (List ℕ)) (stop : Stop MakeFault) → lines_of rest ≡ first ∷ lines
+    → both (Ok out) (lines_read line (lines_of rest)) ≡ both (Ok []) (made text)
+    → IsFaultOf (line_read line first) stop → IsFaultOf (made text) stop
+unfolding lines_read
+line_fault line out first rest text lines (Fault fault) cut same is =
+    sym (both_none (made text)) ∙ sym same ∙ ap (λ l. both (Ok out) (lines_read line l)) cut
+    ∙ ap (λ r. both (Ok out) (both r (lines_read (line + 1) lines))) is
+line_fault line out first rest text lines NoMemory cut same is = tt
+
+pub lines_end : (line : ℕ) (out rest : List ℕ) → length rest ≤ 0 → both (Ok out) (lines_read line (lines_of rest)) ≡ Ok out
+unfolding lines_read lines_of
+lines_end line out [] none = ap (λ (l : List ℕ). Ok l) (append-nil out)
+lines_end line out (c ∷ rest) none = absurd (omega (arith, none))

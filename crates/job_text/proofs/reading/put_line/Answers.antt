@@ -1,0 +1,52 @@
+use Rattle.std.proofs.Common.{◌+◌, ◌∷◌, [], length, drop, Ok, sym, ap, ◌∙◌, arith}
+use Rattle.std.proofs.lemmas.List.{take_rest}
+use Rattle.job_text.specs.Made.{both, digits_read, line_read}
+use Rattle.job_text.proofs.Steps.{both_both, both_err, digits_blank, digits_byte, digits_fault, digits_end, byte_more}
+use Rattle.job_text.proofs.reading.put_line.Goals as goal
+
+pub loop-first-preserved-then-is_blank : goal.loop-first-preserved-then-is_blank
+loop-first-preserved-then-is_blank c =
+    let cut = c.in-Some.ensures.cases in
+    let before = c.loop-first.invariant in
+    let blank = sym c.is_blank.ensures ∙ c.if-is_blank.true in
+    record {
+      column = omega (arith, cut.1, before.column);
+      read = ap (both (Ok c.loop-first.out.items)) (digits_blank c.args.line c.loop-first.column c.in-Some.first.now c.in-Some.others.now blank)
+          ∙ ap (λ r. both (Ok c.loop-first.out.items) (digits_read c.args.line c.loop-first.column r)) (sym cut.0)
+          ∙ before.read;
+    }
+
+pub returns-in-Err-clause-fault : goal.returns-in-Err-clause-fault
+returns-in-Err-clause-fault c =
+    let cut = c.in-Some.ensures.cases in
+    let filled = sym c.is_blank.ensures ∙ c.if-is_blank.false in
+    let fault = sym c.byte_at.ensures ∙ c.in-Err.is in
+    both_err c.args.out.now.items (line_read c.args.line c.args.text.now) c.in-Err.fault
+    (sym c.loop-first.invariant.read
+    ∙ ap (λ r. both (Ok c.loop-first.out.items) (digits_read c.args.line c.loop-first.column r)) cut.0
+    ∙ ap (both (Ok c.loop-first.out.items)) (digits_fault c.args.line c.loop-first.column c.in-Some.first.now c.in-Some.others.now c.in-Err.fault filled fault))
+
+pub loop-first-preserved : goal.loop-first-preserved
+loop-first-preserved c =
+    let out = c.loop-first.out.items in
+    let line = c.args.line in
+    let column = c.loop-first.column in
+    let others = c.in-Some.others.now in
+    let byte = c.in-Ok.byte in
+    let cut = c.in-Some.ensures.cases in
+    let filled = sym c.is_blank.ensures ∙ c.if-is_blank.false in
+    let is = sym c.byte_at.ensures ∙ c.in-Ok.is in
+    let rest = take_rest others 1 in
+    record {
+      column = omega (arith, c.loop-first.invariant.column, cut.1, byte_more line column c.in-Some.first.now byte others is, ap length rest);
+      read = rw (c.in_ok-push-in-Ok.ensures.items, rest)
+          (sym (both_both out (byte ∷ []) (digits_read line (column + 2) (drop 1 others)))
+          ∙ ap (both (Ok out)) (sym (digits_byte line column c.in-Some.first.now byte others filled is))
+          ∙ ap (λ r. both (Ok out) (digits_read line column r)) (sym cut.0)
+          ∙ c.loop-first.invariant.read);
+    }
+
+pub returns-clause-bytes : goal.returns-clause-bytes
+returns-clause-bytes c =
+    sym c.loop-first.invariant.read
+    ∙ digits_end c.args.line c.loop-first.column c.loop-first.out.items c.loop-first.rest.now (omega (arith, c.in_default.ensures.cases))

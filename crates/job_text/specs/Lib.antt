@@ -1,0 +1,4 @@
+pub mod Made
+pub mod Names
+pub mod Sentences
+pub mod Shown

@@ -1,0 +1,276 @@
+//! A file cut into pieces.
+
+use crate::list::push_list;
+use crate::names::field_size;
+use crate::note::{Field, Note, Part, Piece, Role};
+use field_words::get_u32;
+use job_format::{ENTRY_SIZE, HEADER_SIZE, JOB_SIZE};
+use std::alloc::{AllocError, Global};
+
+// The note with a number, where it counts.
+fn numbered(note: Note, number: usize) -> Note {
+    match note {
+        Note::Handle(job, _) => Note::Handle(job, number),
+        Note::Uniform(job, _) => Note::Uniform(job, number),
+        Note::Instruction(buffer, _) => Note::Instruction(buffer, number),
+        other => other,
+    }
+}
+
+/// Appends so many bytes in pieces of a size, of which the last may be shorter.
+pub(crate) fn push_chunks(
+    out: &mut Vec<Piece>,
+    size: usize,
+    total: usize,
+    note: Note,
+) -> Result<(), AllocError> {
+    let mut left = total;
+    for number in 0..total {
+        if left == 0 {
+            break;
+        }
+        let taken = size.min(left);
+        out.push(Piece {
+            size: taken,
+            note: numbered(note, number),
+        })?;
+        left -= taken;
+    }
+    Ok(())
+}
+
+fn push_fields(out: &mut Vec<Piece>, part: Part, fields: &[Field]) -> Result<(), AllocError> {
+    for field in fields {
+        out.push(Piece {
+            size: field_size(*field),
+            note: Note::Number(part, *field),
+        })?;
+    }
+    Ok(())
+}
+
+fn push_header(out: &mut Vec<Piece>) -> Result<(), AllocError> {
+    let fields = [
+        Field::Magic,
+        Field::Version,
+        Field::MemorySize,
+        Field::ListsPlace,
+        Field::ListsSize,
+        Field::TilePlace,
+        Field::TileSlots,
+        Field::Buffers,
+        Field::Jobs,
+    ];
+    push_fields(out, Part::Header, &fields)
+}
+
+fn push_buffer(out: &mut Vec<Piece>, buffer: u32) -> Result<(), AllocError> {
+    let fields = [
+        Field::Place,
+        Field::Size,
+        Field::Client,
+        Field::Kind,
+        Field::Content,
+    ];
+    push_fields(out, Part::Buffer(buffer), &fields)
+}
+
+fn push_surface(out: &mut Vec<Piece>, job: u32, role: Role) -> Result<(), AllocError> {
+    let fields = [
+        Field::HandleIndex,
+        Field::Offset,
+        Field::Bits,
+        Field::SurfaceFlags,
+    ];
+    push_fields(out, Part::Surface(job, role), &fields)
+}
+
+fn push_job_fields(out: &mut Vec<Piece>, job: u32) -> Result<(), AllocError> {
+    let fields = [
+        Field::Client,
+        Field::Flags,
+        Field::Handles,
+        Field::BinSize,
+        Field::RecordsSize,
+        Field::States,
+        Field::UniformsSize,
+        Field::Width,
+        Field::Height,
+        Field::MinX,
+        Field::MinY,
+        Field::MaxX,
+        Field::MaxY,
+    ];
+    push_fields(out, Part::Job(job), &fields)
+}
+
+fn push_clear_fields(out: &mut Vec<Piece>, job: u32) -> Result<(), AllocError> {
+    let fields = [
+        Field::FirstColor,
+        Field::SecondColor,
+        Field::ClearZ,
+        Field::ClearStencil,
+        Field::Zeros,
+    ];
+    push_fields(out, Part::Job(job), &fields)
+}
+
+fn push_job(out: &mut Vec<Piece>, job: u32) -> Result<(), AllocError> {
+    push_job_fields(out, job)?;
+    push_surface(out, job, Role::ColorRead)?;
+    push_surface(out, job, Role::ColorWrite)?;
+    push_surface(out, job, Role::ZsRead)?;
+    push_surface(out, job, Role::ZsWrite)?;
+    push_surface(out, job, Role::SampleColorWrite)?;
+    push_surface(out, job, Role::SampleZsWrite)?;
+    push_clear_fields(out, job)
+}
+
+// The number of four bytes.
+fn word(bytes: &[u8], at: usize) -> u32 {
+    get_u32(bytes, at).unwrap_or(0)
+}
+
+fn push_buffers(out: &mut Vec<Piece>, count: u32) -> Result<(), AllocError> {
+    for buffer in 0..count {
+        push_buffer(out, buffer)?;
+    }
+    Ok(())
+}
+
+fn push_jobs(out: &mut Vec<Piece>, count: u32) -> Result<(), AllocError> {
+    for job in 0..count {
+        push_job(out, job)?;
+    }
+    Ok(())
+}
+
+fn push_entries(out: &mut Vec<Piece>, bytes: &[u8]) -> Result<(), AllocError> {
+    push_buffers(out, word(bytes, 28))?;
+    push_jobs(out, word(bytes, 32))
+}
+
+fn push_content(out: &mut Vec<Piece>, bytes: &[u8], buffer: u32) -> Result<(), AllocError> {
+    let at = HEADER_SIZE + ENTRY_SIZE * buffer as usize;
+    let size = word(bytes, at + 16) as usize;
+    if word(bytes, at + 12) == 1 {
+        push_chunks(out, 8, size, Note::Instruction(buffer, 0))
+    } else {
+        push_chunks(out, 32, size, Note::Data(buffer))
+    }
+}
+
+fn push_contents(out: &mut Vec<Piece>, bytes: &[u8], count: u32) -> Result<(), AllocError> {
+    for buffer in 0..count {
+        push_content(out, bytes, buffer)?;
+    }
+    Ok(())
+}
+
+// Where the handles of the first job begin.
+fn contents_end(bytes: &[u8], buffers: u32, jobs: u32) -> usize {
+    let mut at = HEADER_SIZE + ENTRY_SIZE * buffers as usize + JOB_SIZE * jobs as usize;
+    for buffer in 0..buffers {
+        at = at.saturating_add(
+            word(bytes, HEADER_SIZE + ENTRY_SIZE * buffer as usize + 16) as usize,
+        );
+    }
+    at
+}
+
+// Where the parts of a job end that begin at an offset.
+fn parts_end(bytes: &[u8], entry: usize, start: usize) -> usize {
+    let handles = word(bytes, entry.saturating_add(8)) as usize;
+    let bin = word(bytes, entry.saturating_add(12)) as usize;
+    let records = word(bytes, entry.saturating_add(16)) as usize;
+    let uniforms = word(bytes, entry.saturating_add(24)) as usize;
+    start.saturating_add(4 * handles + bin + records + uniforms)
+}
+
+// Where the parts of the last job end.
+fn jobs_end(bytes: &[u8], buffers: u32, jobs: u32) -> usize {
+    let mut at = contents_end(bytes, buffers, jobs);
+    let first = HEADER_SIZE + ENTRY_SIZE * buffers as usize;
+    for job in 0..jobs {
+        at = parts_end(bytes, first + JOB_SIZE * job as usize, at);
+    }
+    at
+}
+
+// Appends the pieces of a job's parts, which begin at an offset, and says where they end.
+fn push_part(
+    out: &mut Vec<Piece>,
+    bytes: &[u8],
+    buffers: u32,
+    job: u32,
+    start: usize,
+) -> Result<usize, AllocError> {
+    let entry = HEADER_SIZE + ENTRY_SIZE * buffers as usize + JOB_SIZE * job as usize;
+    let end = parts_end(bytes, entry, start);
+    let handles = 4 * word(bytes, entry.saturating_add(8)) as usize;
+    let bin = word(bytes, entry.saturating_add(12)) as usize;
+    let (_, lists) = bytes.split_at(start.saturating_add(handles).min(bytes.len()));
+    push_chunks(out, 4, handles, Note::Handle(job, 0))?;
+    push_list(out, job, &lists[..bin.min(lists.len())])?;
+    push_chunks(
+        out,
+        16,
+        word(bytes, entry + 16) as usize,
+        Note::Records(job),
+    )?;
+    push_chunks(
+        out,
+        4,
+        word(bytes, entry + 24) as usize,
+        Note::Uniform(job, 0),
+    )?;
+    Ok(end)
+}
+
+fn push_parts(
+    out: &mut Vec<Piece>,
+    bytes: &[u8],
+    buffers: u32,
+    jobs: u32,
+) -> Result<(), AllocError> {
+    let mut at = contents_end(bytes, buffers, jobs);
+    for job in 0..jobs {
+        at = push_part(out, bytes, buffers, job, at)?;
+    }
+    Ok(())
+}
+
+// Appends pieces of bytes that belong to nothing, from an offset on.
+fn push_unread(out: &mut Vec<Piece>, bytes: &[u8], at: usize) -> Result<(), AllocError> {
+    push_chunks(out, 16, bytes.len().saturating_sub(at), Note::Unread)
+}
+
+// Appends what follows the header.
+fn push_rest(out: &mut Vec<Piece>, bytes: &[u8]) -> Result<(), AllocError> {
+    let buffers = word(bytes, 28);
+    let jobs = word(bytes, 32);
+    let entries = HEADER_SIZE + ENTRY_SIZE * buffers as usize + JOB_SIZE * jobs as usize;
+    if entries > bytes.len() {
+        return push_unread(out, bytes, HEADER_SIZE);
+    }
+    push_entries(out, bytes)?;
+    let end = jobs_end(bytes, buffers, jobs);
+    if end > bytes.len() {
+        return push_unread(out, bytes, entries);
+    }
+    push_contents(out, bytes, buffers)?;
+    push_parts(out, bytes, buffers, jobs)?;
+    push_unread(out, bytes, end)
+}
+
+/// The pieces of a file, in order.
+pub(crate) fn pieces(alloc: Global, bytes: &[u8]) -> Result<Vec<Piece>, AllocError> {
+    let mut out = Vec::new(alloc);
+    push_header(&mut out)?;
+    if bytes.len() < HEADER_SIZE {
+        push_unread(&mut out, bytes, HEADER_SIZE)?;
+    } else {
+        push_rest(&mut out, bytes)?;
+    }
+    Ok(out)
+}

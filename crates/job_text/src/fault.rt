@@ -1,0 +1,32 @@
+//! What a text is refused for.
+ghost use Rattle.std.specs.Prelude.{◌≡◌};
+ghost use Rattle.job_text.specs.Sentences.{sentence_of};
+
+/// What is wrong at a place of a text.
+#[derive(Clone, Copy, Debug, PartialEq, Eq)]
+pub enum Mistake {
+    /// A character is neither a hexadecimal digit nor a blank.
+    WrongCharacter,
+    /// A digit has no other digit right behind it.
+    LoneDigit,
+}
+
+impl Mistake {
+    /// The mistake as a sentence.
+    pub fn sentence(self) -> &'static str
+        ensures { result.now ≡ sentence_of self }
+    {
+        match self {
+            Mistake::WrongCharacter => "here stands neither a hexadecimal digit nor a blank",
+            Mistake::LoneDigit => "a byte has two hexadecimal digits",
+        }
+    }
+}
+
+/// A fault of a text: where it is, in bytes, and what it is. Lines and columns count from 1.
+#[derive(Clone, Copy, Debug, PartialEq, Eq)]
+pub struct MakeFault {
+    pub line: usize,
+    pub column: usize,
+    pub mistake: Mistake,
+}

@@ -1,0 +1,19 @@
+//! A job file as text for people, and back.
+//!
+//! `show` writes any bytes as lines: some of the bytes in hexadecimal, a `#`, their offset in the file and what they are. `make`
+//! reads what stands before each `#`. So each byte is on one line, and `make` of what `show` wrote is the same bytes.
+#![tactic(auto)]
+
+mod cuts;
+mod fault;
+mod list;
+mod names;
+mod note;
+mod reading;
+#[cfg(test)]
+mod tests;
+mod writing;
+
+pub use fault::{MakeFault, Mistake};
+pub use reading::make;
+pub use writing::show;
