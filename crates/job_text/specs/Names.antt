@@ -125,14 +125,20 @@ packet_name o =
 unfoldable pub of_job : ℕ → List ℕ → List ℕ
 of_job j text = codes "job " ++ (decimal j ++ (codes " " ++ text))
 
+-- the same of the number that some bytes are, where numbers count
+unfoldable pub counted : ℕ → List ℕ → ℕ → List ℕ → List ℕ → List ℕ
+counted j name i what bytes = of_job j (name ++ (decimal i ++ (what ++ decimal (u32_at bytes 0))))
+
 -- what a line says of its bytes
 unfoldable pub note_text : Note → List ℕ → List ℕ
-note_text (Number part field) bytes = part_text part ++ (codes ": " ++ (field_name field ++ (codes " " ++ decimal (u32_at bytes 0))))
-note_text (Handle j i) bytes = of_job j (codes "handle " ++ (decimal i ++ (codes ": buffer " ++ decimal (u32_at bytes 0))))
+note_text (Number part field) bytes =
+    part_text part ++ (codes ": " ++ (field_name field ++ (codes " " ++ decimal (u32_at bytes 0))))
+note_text (Handle j i) bytes = counted j (codes "handle ") i (codes ": buffer ") bytes
 note_text (Packet j) bytes = of_job j (codes "binner list: " ++ packet_name (slice_index bytes 0))
 note_text (BehindHalt j) bytes = of_job j (codes "binner list: behind the halt")
 note_text (Records j) bytes = of_job j (codes "shader records")
-note_text (Uniform j i) bytes = of_job j (codes "uniform " ++ (decimal i ++ (codes ": " ++ decimal (u32_at bytes 0))))
+note_text (Uniform j i) bytes = counted j (codes "uniform ") i (codes ": ") bytes
 note_text (Data b) bytes = codes "buffer " ++ (decimal b ++ codes " content")
-note_text (Instruction b i) bytes = codes "buffer " ++ (decimal b ++ (codes " instruction " ++ (decimal i ++ (codes ": " ++ AsmText (u64_at bytes 0 ∷ [])))))
+note_text (Instruction b i) bytes =
+    codes "buffer " ++ (decimal b ++ (codes " instruction " ++ (decimal i ++ (codes ": " ++ AsmText (u64_at bytes 0 ∷ [])))))
 note_text Unread bytes = codes "unread"

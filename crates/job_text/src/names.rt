@@ -2,7 +2,7 @@
 ghost use Rattle.std.specs.Prelude.{◌≡◌, ◌++◌, ◌∷◌, [], slice_index, codes, decimal, OnOk};
 ghost use Rattle.qpu_asm.specs.Printed.{AsmText};
 ghost use Rattle.field_words.specs.Words.{u32_at, u64_at};
-ghost use Rattle.job_text.specs.Names.{role_name, field_name, field_size, part_text, packet_name, of_job, note_text};
+ghost use Rattle.job_text.specs.Names.{role_name, field_name, field_size, part_text, packet_name, of_job, counted, note_text};
 
 use crate::note::{Field, Note, Part, Role};
 use field_words::NoMemory;
@@ -184,8 +184,9 @@ fn put_part(out: &mut Vec<u8>, part: Part) -> Result<(), AllocError>
     }
 }
 
+#[tactic(auto, unfolding(crate::specs::Names::note_text))]
 fn put_field(out: &mut Vec<u8>, part: Part, field: Field, bytes: &[u8]) -> Result<(), AllocError>
-    ensures { OnOk result (out.new.items ≡ out.old.items ++ (part_text part ++ (codes ": " ++ (field_name field ++ (codes " " ++ decimal (u32_at bytes.now 0)))))) }
+    ensures { OnOk result (out.new.items ≡ out.old.items ++ note_text (Note.Number part field) bytes.now) }
 {
     put_part(out, part)?;
     out.extend_from_slice(b": ")?;
@@ -204,7 +205,7 @@ fn put_of_job(out: &mut Vec<u8>, job: u32, text: &[u8]) -> Result<(), AllocError
     out.extend_from_slice(text)
 }
 
-#[tactic(auto, unfolding(crate::specs::Names::of_job))]
+#[tactic(auto, unfolding(crate::specs::Names::of_job, crate::specs::Names::counted))]
 fn put_counted(
     out: &mut Vec<u8>,
     job: u32,
@@ -213,7 +214,7 @@ fn put_counted(
     what: &[u8],
     bytes: &[u8],
 ) -> Result<(), AllocError>
-    ensures { OnOk result (out.new.items ≡ out.old.items ++ of_job job (name.now ++ (decimal count ++ (what.now ++ decimal (u32_at bytes.now 0))))) }
+    ensures { OnOk result (out.new.items ≡ out.old.items ++ counted job name.now count what.now bytes.now) }
 {
     put_of_job(out, job, name)?;
     put_number(out, count)?;
@@ -238,7 +239,7 @@ fn put_instruction(
     index: usize,
     bytes: &[u8],
 ) -> Result<(), NoMemory>
-    ensures { OnOk result (out.new.items ≡ out.old.items ++ (codes "buffer " ++ (decimal buffer ++ (codes " instruction " ++ (decimal index ++ (codes ": " ++ AsmText (u64_at bytes.now 0 ∷ []))))))) }
+    ensures { OnOk result (out.new.items ≡ out.old.items ++ note_text (Note.Instruction buffer index) bytes.now) }
 {
     out.extend_from_slice(b"buffer ")?;
     put_number(out, buffer as usize)?;

@@ -75,7 +75,8 @@ fn put_lines(
 }
 
 /// Any bytes as lines of text: on each line some of them in hexadecimal, a `#`, their offset and what they are, if they are a
-/// job file. All bytes stand on the lines, in order and each once, so that `make` gives them back. Want of memory is the only error.
+/// job file. All bytes stand on the lines, in order and each once, so that `make` gives them back. Which lines a file has isn't
+/// pinned: the clauses hold for any cut into pieces. Want of memory is the only error.
 #[tactic(auto, using(crate::proofs::Again::shown_again))]
 pub fn show(alloc: Global, bytes: &[u8]) -> Result<Vec<u8>, NoMemory>
     ensures text { IfOk result (λ text. (pieces : List PieceModel) × (text.items ≡ shown 0 bytes.now pieces)) }

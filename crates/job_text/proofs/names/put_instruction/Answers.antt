@@ -1,10 +1,12 @@
 use Rattle.std.proofs.Common.{◌≡◌, ◌++◌, ◌∷◌, [], List, ℕ, OnOk, codes, decimal, subst}
 use Rattle.field_words.specs.Words.{u64_at}
 use Rattle.qpu_asm.specs.Printed.{AsmText}
+use Rattle.job_text.specs.Names.{note_text}
 use Rattle.job_text.proofs.Texts.{in_buffer}
 use Rattle.job_text.proofs.names.put_instruction.Goals as goal
 
 pub returns : goal.returns
+unfolding note_text
 returns c =
     let text = AsmText (u64_at c.args.bytes.now 0 ∷ []) in
     let out = c.args.out.now.items in
