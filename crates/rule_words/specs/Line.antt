@@ -1,0 +1,67 @@
+-- How a place and a refusal are told to a person, in one line.
+use Rattle.std.specs.Prelude.{ℕ, Bool, true, false, List, ◌++◌, codes, if◌then◌else◌}
+use Rattle.std.specs.Fmt.{decimal}
+use Rattle.job_format.specs.Rules.{rule_text}
+use Rattle.rule_words.specs.declared.place.Thing.{Thing}
+use Rattle.rule_words.specs.declared.place.Thing.TheVariants.{File, Header, Entry, JobEntry, Surface, Contents, Shader, Handles, Handle, BinnerList, Records, Uniforms}
+use Rattle.rule_words.specs.declared.place.Place.{Place}
+use Rattle.rule_words.specs.declared.line.Line.{Line}
+
+-- there is one header and one file
+unfoldable pub is_one : Thing → Bool
+is_one File = true
+is_one Header = true
+is_one Entry = false
+is_one JobEntry = false
+is_one Surface = false
+is_one Contents = false
+is_one Shader = false
+is_one Handles = false
+is_one Handle = false
+is_one BinnerList = false
+is_one Records = false
+is_one Uniforms = false
+
+-- the thing's name, before its number
+unfoldable pub thing_name : Thing → List ℕ
+thing_name File = codes "file"
+thing_name Header = codes "header"
+thing_name Entry = codes "entry of buffer"
+thing_name JobEntry = codes "entry of job"
+thing_name Surface = codes "frame of job"
+thing_name Contents = codes "contents of buffer"
+thing_name Shader = codes "shader of buffer"
+thing_name Handles = codes "handles of job"
+thing_name Handle = codes "handles of job"
+thing_name BinnerList = codes "binner list of job"
+thing_name Records = codes "shader records of job"
+thing_name Uniforms = codes "uniforms of job"
+
+-- what is counted in it
+unfoldable pub unit_name : Thing → List ℕ
+unit_name File = codes "byte"
+unit_name Header = codes "byte"
+unit_name Entry = codes "byte"
+unit_name JobEntry = codes "byte"
+unit_name Surface = codes "surface"
+unit_name Contents = codes "byte"
+unit_name Shader = codes "instruction"
+unit_name Handles = codes "byte"
+unit_name Handle = codes "handle"
+unit_name BinnerList = codes "byte"
+unit_name Records = codes "byte"
+unit_name Uniforms = codes "byte"
+
+-- A place: "shader of buffer 3, instruction 12", or "header, byte 8".
+unfoldable pub owner_text : Place → List ℕ
+owner_text place =
+    if is_one place.thing then thing_name place.thing else thing_name place.thing ++ codes " " ++ decimal place.index
+
+unfoldable pub place_text : Place → List ℕ
+place_text place = owner_text place ++ codes ", " ++ unit_name place.thing ++ codes " " ++ decimal place.at
+
+-- A refusal: "vc4check: S24: SENTENCE (shader of buffer 3, instruction 12); see vc4check explain S24".
+unfoldable pub line_text : Line → List ℕ
+line_text line =
+    codes "vc4check: " ++ rule_text line.rule ++ codes ": " ++ line.sentence.now ++ codes " (" ++ place_text line.place
+    ++ codes "); see vc4check explain " ++ rule_text line.rule

@@ -1,0 +1,21 @@
+//! Why a rule refuses, in words: sentences, places, and the line that a person reads.
+#![tactic(auto)]
+
+mod answers;
+mod format;
+mod line;
+mod lists;
+mod name;
+mod place;
+mod records;
+mod shaders;
+mod surfaces;
+mod words;
+
+pub use line::{Line, line_of};
+pub use name::{Family, RuleName, explanation, rule_named, sentence, sentence_bytes};
+pub use place::{Place, Thing, place_of, spot_of};
+pub use words::Words;
+
+#[cfg(test)]
+mod tests;
