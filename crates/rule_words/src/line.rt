@@ -102,8 +102,9 @@ impl fmt::Display for Line {
     }
 }
 
-/// The line for this refusal of these bytes: where the offset stands, and the rule's sentence. The sentence is
-/// `there is no rule of this name` where there is none. It takes no memory, and its time is linear in the number of entries.
+/// The line for this refusal of these bytes: where the offset stands, and the rule's sentence, which is `there is no rule of this name`
+/// where there is none. That it is this rule's sentence is told by no clause. The line takes no memory, also to print
+/// (`rt.eprintln(line_of(bytes, refusal))`), and the time is linear in the number of entries.
 pub fn line_of(bytes: &[u8], refusal: Refusal) -> Line
     ensures rule { result.rule ≡ refusal.rule }
     ensures place { Covers bytes.now refusal.offset result.place }

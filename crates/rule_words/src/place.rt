@@ -192,8 +192,9 @@ fn in_entries(size: u64, from: u64) -> (u32, u64)
     ((from / size) as u32, from % size)
 }
 
-/// The thing that an offset lies in, and how many bytes into it. Where it lies in none, or where the entries aren't whole and the
-/// offset is behind the header, the thing is the file. It takes no memory, and its time is linear in the number of entries.
+/// The thing that an offset lies in, and how many bytes into it. Where it lies in none, or behind entries that aren't whole, the thing
+/// is the file. An offset between two things belongs to the second, but for the rules that are about the end of the first: S2, S26, B18,
+/// B19 and A. (No clause says so; a test does.) It takes no memory, and its time is linear in the number of entries.
 #[tactic(auto, unfolding(crate::specs::Place::start_of, crate::specs::Place::IsBeforeEnd, crate::specs::Place::unit_of), using(job_format::proofs::Standing::content_offset_first))]
 pub fn spot_of(bytes: &[u8], refusal: Refusal) -> Place
     ensures { IsSpot bytes.now refusal.offset result }
