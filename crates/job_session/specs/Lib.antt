@@ -1,4 +1,5 @@
 pub mod Checked
+pub mod Desk
 pub mod Laws
 pub mod Own
 pub mod Places

@@ -1,10 +1,17 @@
 //! Sessions of several clients on one memory: clients are apart, but for the memory being full.
 //!
 //! In `specs/`, `Own` says what a client is answered by its own commands alone, `Places` where live buffers lie, `Session` what calls
-//! of all clients do, and `Laws` that a client's replies are those of its own commands.
+//! of all clients do, and `Laws` that a client's replies are those of its own commands. `Desk` says what `Session` keeps, and what its
+//! calls answer and leave, by its page map and slots. Not proved yet: that a desk answers as `Session` says of the calls before.
 #![tactic(auto)]
 
+mod session;
+#[cfg(test)]
+mod tests;
+
 ghost use Rattle.job_session.specs.Laws.{RepliesAreOwn, OthersAreUnseen};
+
+pub use session::{MOST_BUFFERS, MOST_PAGES, MOST_READ, Session};
 
 /// A law: a client to whom no reply was that memory is full has had exactly the replies of its own commands alone.
 pub fn replies_are_own()
