@@ -7,6 +7,7 @@ pub mod Layouts
 pub mod Parts
 pub mod Order
 pub mod Progress
+pub mod Regions
 pub mod Views
 pub mod Windows
 pub mod Wants

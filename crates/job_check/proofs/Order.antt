@@ -1,16 +1,17 @@
 -- Stages one after the other.
-use Rattle.std.proofs.Common.{◌≡◌, ℕ, ◌+◌, ◌<◌, ◌≤◌, List, ◌++◌, Some, None, Result, Ok, Err, IfOk, refl, sym, subst, ◌∙◌}
+use Rattle.std.proofs.Common.{◌≡◌, ℕ, true, false, inl, inr, ◌+◌, ◌<◌, ◌≤◌, List, ◌++◌, Some, None, Result, Ok, Err, IfOk, refl, sym, subst, ◌∙◌}
 use Rattle.std.specs.Result.{IsErrAnd}
-use Rattle.std.proofs.lemmas.Bool.{le-ltb, lt-ltb}
+use Rattle.std.proofs.lemmas.Bool.{le-ltb, lt-ltb, cases_lt, false≢true}
 use Rattle.field_words.specs.declared.stop.Stop.{Stop}
 use Rattle.field_words.specs.declared.stop.Stop.TheVariants.{Fault, NoMemory}
 use Rattle.field_words.specs.Questions.{Question, first_of, Refuses, Answers}
 use Rattle.field_words.proofs.Questions.{passes, stops, stands_none}
+use Rattle.field_words.proofs.Nones.{front_none}
 use Rattle.job_format.specs.Model.{FileModel}
 use Rattle.job_format.specs.declared.rule.Stage.TheVariants.{X}
 use Rattle.relocation.specs.Layout.{region_end}
 use Rattle.job_check.specs.Jobs.{layout_of}
-use Rattle.job_check.specs.Faults.{refused, layout_stage}
+use Rattle.job_check.specs.Faults.{refused, layout_stage, table_stage, shaders_stage, jobs_stages, file_stages}
 use Rattle.job_check.specs.Offsets.{job_offset, layout_offset}
 
 -- Rules after the front of which none stands change no answer.
@@ -34,7 +35,24 @@ pub layout_stands : (f : FileModel) (j : ℕ) → region_end f.regions < (layout
 unfolding layout_stage
 layout_stands f j past = rw (lt-ltb (region_end f.regions) ((layout_of f j).place + (layout_of f j).end) past) refl
 
+pub is_past : (f : FileModel) (j : ℕ) → ((layout_of f j).place + (layout_of f j).end ≤ region_end f.regions → false ≡ true) → region_end f.regions < (layout_of f j).place + (layout_of f j).end
+is_past f j fits =
+    elim (cases_lt (region_end f.regions) ((layout_of f j).place + (layout_of f j).end)) [
+      | inl past ↦ past
+      | inr inside ↦ absurd (false≢true (fits inside))
+    ]
+
 -- what follows from a clause on Ok
 pub if_ok : {X E : Type 0} {P Q : Type 0} (result : Result X E) → (P → Q) → IfOk result (λ _. P) → IfOk result (λ _. Q)
 if_ok (Ok x) follows h = follows h
 if_ok (Err e) follows h = tt
+
+-- and from two
+pub if_both : {X E : Type 0} {P Q R : Type 0} (result : Result X E) → (P → Q → R) → IfOk result (λ _. P) → IfOk result (λ _. Q) → IfOk result (λ _. R)
+if_both (Ok x) follows p q = follows p q
+if_both (Err e) follows p q = tt
+
+-- where no rule of a file stands, none of its memory table does
+pub table_none : (f : FileModel) → first_of (file_stages f) ≡ None → first_of (table_stage f) ≡ None
+unfolding file_stages
+table_none f none = front_none (table_stage f) (shaders_stage f ++ jobs_stages f) none

@@ -1,5 +1,5 @@
 -- The check of the jobs, one after the other: what stands once no rule of the first n does.
-use Rattle.std.proofs.Common.{◌≡◌, ℕ, suc, ◌+◌, ◌-◌, ◌%◌, ◌<◌, ◌≤◌, List, [], ◌∷◌, ◌++◌, length, map, None, refl, sym, ap, subst, arith, ◌∙◌, append_assoc, append-nil, zero-add}
+use Rattle.std.proofs.Common.{◌≡◌, ℕ, suc, ◌+◌, ◌-◌, ◌<◌, ◌≤◌, List, [], ◌∷◌, ◌++◌, length, map, None, refl, sym, ap, subst, arith, ◌∙◌, zero-add}
 use Rattle.std.specs.List.{AllByRecursion, range_with_len}
 use Rattle.std.proofs.lemmas.List.FromFn.{map-range_with_len_more}
 use Rattle.field_words.specs.declared.stop.Stop.{Stop}
@@ -13,31 +13,39 @@ use Rattle.job_format.specs.Model.{FileModel}
 use Rattle.relocation.specs.declared.layout.Layout.{Layout}
 use Rattle.relocation.specs.declared.layout.Lengths.{Lengths}
 use Rattle.relocation.specs.Layout.{region_end, begins_after}
+use Rattle.job_check.specs.declared.region.Region.{Region}
 use Rattle.job_check.specs.Jobs.{lists_room, lists_begin, layout_of, layouts_of}
 use Rattle.job_check.specs.Faults.{job_stages}
-use Rattle.job_check.specs.Emit.{content_parts, memory_parts, jobs_parts, memory_of, lengths_of, all_lengths_of, InOrder, IsInside, IsPlacedFor, IsEmitted, IsPlaced}
+use Rattle.job_check.specs.Emit.{PartsFit, list_parts, lengths_of, all_lengths_of, InOrder, IsInside, IsPlacedFor}
+use Rattle.job_check.specs.Region.{region_size, region_from, region_parts, regions_parts, region_of, IsRegion}
 use Rattle.job_check.proofs.Emission.{placed-append}
-use Rattle.job_check.proofs.Layouts.{layout_order, lists_inside, next_inside}
+use Rattle.job_check.proofs.Layouts.{layout_order, next_inside}
+use Rattle.job_check.proofs.Regions.{emitted_grown, fit_more, fit_moved, fit_append, size_more, size_before, from_is, zeros_long}
+use Rattle.job_check.proofs.Windows.{length_placed}
 
-pub record SoFar (f : FileModel) (n : ℕ) (memory : List ℕ) (layouts : List Layout) (lengths : List Lengths) (place : ℕ) : Type 0 where
+pub record SoFar (f : FileModel) (n : ℕ) (bytes : List ℕ) (layouts : List Layout) (lengths : List Lengths) (place : ℕ) : Type 0 where
   pub asked : first_of (each (job_stages f) n (length f.jobs - n)) ≡ first_of (each (job_stages f) 0 (length f.jobs))
-  pub memory_is : memory ≡ emitted f.mem_size (content_parts f.buffers f.contents ++ jobs_parts f n)
-  pub size : length memory ≡ f.mem_size
+  pub bytes_are : bytes ≡ emitted (region_size f n) (regions_parts f n)
+  pub size : length bytes ≡ region_size f n
+  pub fit : PartsFit (region_size f n) (regions_parts f n)
+  pub room : f.regions.lists_place + region_size f n ≤ region_end f.regions
   pub layouts_are : layouts ≡ map (layout_of f) (range_with_len 0 n)
   pub lengths_are : lengths ≡ map (lengths_of f) (range_with_len 0 n)
-  pub inside : AllByRecursion (IsInside f.mem_size) layouts
+  pub inside : AllByRecursion (IsInside (region_end f.regions)) layouts
   pub place_is : place ≡ lists_begin f n
   pub begins : place ≤ region_end f.regions
 
 -- before the first job
-pub none : (f : FileModel) (memory : List ℕ) → memory ≡ placed (zeros f.mem_size) (content_parts f.buffers f.contents) → length memory ≡ f.mem_size → SoFar f 0 memory [] [] f.regions.lists_place
-unfolding jobs_parts lists_begin
-none f memory fresh size =
+pub none : (f : FileModel) → SoFar f 0 [] [] [] f.regions.lists_place
+unfolding regions_parts region_size lists_begin zeros
+none f =
     let all : length f.jobs - 0 ≡ length f.jobs = omega arith in
     record {
       asked = ap (λ n. first_of (each (job_stages f) 0 n)) all;
-      memory_is = fresh ∙ ap (emitted f.mem_size) (sym (append-nil (content_parts f.buffers f.contents)));
-      size = size;
+      bytes_are = refl;
+      size = refl;
+      fit = tt;
+      room = omega arith;
       layouts_are = refl;
       lengths_are = refl;
       inside = tt;
@@ -46,10 +54,6 @@ none f memory fresh size =
     }
 
 -- one more passes
-more_parts : (f : FileModel) (n : ℕ) → jobs_parts f (n + 1) ≡ jobs_parts f n ++ memory_parts f n
-unfolding jobs_parts
-more_parts f n = let one : n + 1 ≡ suc n = omega arith in ap (jobs_parts f) one
-
 more_begins : (f : FileModel) (n place : ℕ) (layout : Layout) → layout ≡ layout_of f n → place ≡ begins_after layout.place layout.end → place ≡ lists_begin f (n + 1)
 unfolding lists_begin layout_of lists_room
 more_begins f n place layout is after =
@@ -60,26 +64,56 @@ more_inside : (size : ℕ) (layouts : List Layout) (layout : Layout) → AllByRe
 more_inside size [] layout all last = (last, tt)
 more_inside size (one ∷ layouts) layout all last = (all.0, more_inside size layouts layout all.1 last)
 
-more_placed : (f : FileModel) (n : ℕ) (memory after : List ℕ) → memory ≡ emitted f.mem_size (content_parts f.buffers f.contents ++ jobs_parts f n) → after ≡ placed memory (memory_parts f n)
-    → after ≡ emitted f.mem_size (content_parts f.buffers f.contents ++ jobs_parts f (n + 1))
-more_placed f n memory after is put =
-    let contents = content_parts f.buffers f.contents in
-    put
-    ∙ ap (λ m. placed m (memory_parts f n)) is
-    ∙ sym (placed-append (zeros f.mem_size) (contents ++ jobs_parts f n) (memory_parts f n))
-    ∙ ap (emitted f.mem_size) (append_assoc contents (jobs_parts f n) (memory_parts f n) ∙ ap (λ parts. contents ++ parts) (sym (more_parts f n)))
+-- the region with the lists of one job more
+more_size : (f : FileModel) (n : ℕ) → region_size f (n + 1) ≡ region_from f n + (layout_of f n).end
+more_size f n = let one : n + 1 ≡ suc n = omega arith in ap (region_size f) one ∙ size_more f n
 
-pub next : (f : FileModel) (n : ℕ) (memory after : List ℕ) (layouts : List Layout) (lengths : List Lengths) (place begin : ℕ) (layout : Layout) (long : Lengths)
-    → SoFar f n memory layouts lengths place → IsSound f.mem_size f.regions f.buffers → n < length f.jobs
-    → first_of (job_stages f n) ≡ None → IsPlacedFor f n layout long → after ≡ placed memory (memory_parts f n) → length after ≡ length memory
+more_parts : (f : FileModel) (n : ℕ) → regions_parts f (n + 1) ≡ regions_parts f n ++ region_parts f n
+unfolding regions_parts
+more_parts f n = let one : n + 1 ≡ suc n = omega arith in ap (regions_parts f) one
+
+more_fit : (f : FileModel) (n : ℕ) → PartsFit (region_size f n) (regions_parts f n) → PartsFit (layout_of f n).end (list_parts f n) → PartsFit (region_size f (n + 1)) (regions_parts f (n + 1))
+unfolding region_parts
+more_fit f n before here =
+    let size = more_size f n in
+    subst (PartsFit (region_size f (n + 1))) (sym (more_parts f n))
+    (fit_append (region_size f (n + 1)) (regions_parts f n) (region_parts f n)
+    (fit_more (region_size f n) (region_size f (n + 1)) (regions_parts f n) (omega (arith, size, size_before f n)) before)
+    (fit_moved (region_from f n) (layout_of f n).end (region_size f (n + 1)) (list_parts f n) (omega (arith, size)) here))
+
+more_bytes : (f : FileModel) (n : ℕ) (bytes after : List ℕ) → bytes ≡ emitted (region_size f n) (regions_parts f n) → length bytes ≡ region_size f n → PartsFit (region_size f n) (regions_parts f n)
+    → after ≡ placed (bytes ++ zeros (region_size f (n + 1) - length bytes)) (region_parts f n)
+    → after ≡ emitted (region_size f (n + 1)) (regions_parts f (n + 1))
+more_bytes f n bytes after is size fit put =
+    let a = region_size f n in
+    let b = region_size f (n + 1) in
+    put
+    ∙ ap (λ k. placed (bytes ++ zeros (b - k)) (region_parts f n)) size
+    ∙ ap (λ m. placed (m ++ zeros (b - a)) (region_parts f n)) is
+    ∙ ap (λ m. placed m (region_parts f n)) (emitted_grown a b (regions_parts f n) (omega (arith, more_size f n, size_before f n)) fit)
+    ∙ sym (placed-append (zeros b) (regions_parts f n) (region_parts f n))
+    ∙ ap (emitted b) (sym (more_parts f n))
+
+emitted_long : (size : ℕ) (bytes : List ℕ) (f : FileModel) (n : ℕ) → bytes ≡ emitted size (regions_parts f n) → PartsFit size (regions_parts f n) → length bytes ≡ size
+emitted_long size bytes f n is fit =
+    ap length is ∙ length_placed (zeros size) (regions_parts f n) (subst (λ k. PartsFit k (regions_parts f n)) (sym (zeros_long size)) fit) ∙ zeros_long size
+
+pub next : (f : FileModel) (n : ℕ) (bytes after : List ℕ) (layouts : List Layout) (lengths : List Lengths) (place begin : ℕ) (layout : Layout) (long : Lengths)
+    → SoFar f n bytes layouts lengths place → IsSound f.mem_size f.regions f.buffers → n < length f.jobs
+    → first_of (job_stages f n) ≡ None → IsPlacedFor f n layout long
+    → after ≡ placed (bytes ++ zeros (region_size f (n + 1) - length bytes)) (region_parts f n) → PartsFit (layout_of f n).end (list_parts f n)
     → layout.place + layout.end ≤ region_end f.regions → begin ≡ begins_after layout.place layout.end
     → SoFar f (n + 1) after (layouts ++ (layout ∷ [])) (lengths ++ (long ∷ [])) begin
-next f n memory after layouts lengths place begin layout long so_far sound below passes is put same inside next_place =
-    let here : IsInside f.mem_size layout = record { inside = omega (arith, inside, lists_inside f sound); order = subst InOrder (sym is.layout_is) (layout_order f n) } in
+next f n bytes after layouts lengths place begin layout long so_far sound below passes is put fit inside next_place =
+    let here : IsInside (region_end f.regions) layout = record { inside = inside; order = subst InOrder (sym is.layout_is) (layout_order f n) } in
+    let bytes_are = more_bytes f n bytes after so_far.bytes_are so_far.size so_far.fit put in
+    let all_fit = more_fit f n so_far.fit fit in
     record {
       asked = each_on (job_stages f) n (length f.jobs) below passes ∙ so_far.asked;
-      memory_is = more_placed f n memory after so_far.memory_is put;
-      size = same ∙ so_far.size;
+      bytes_are = bytes_are;
+      size = emitted_long (region_size f (n + 1)) after f (n + 1) bytes_are all_fit;
+      fit = all_fit;
+      room = omega (arith, more_size f n, from_is f n, ap (λ l. l.place) is.layout_is, ap (λ l. l.end) is.layout_is, inside);
       layouts_are =
           ap (λ l. l ++ (layout ∷ [])) so_far.layouts_are
           ∙ ap (λ x. map (layout_of f) (range_with_len 0 n) ++ (x ∷ [])) is.layout_is
@@ -88,35 +122,36 @@ next f n memory after layouts lengths place begin layout long so_far sound below
           ap (λ l. l ++ (long ∷ [])) so_far.lengths_are
           ∙ ap (λ x. map (lengths_of f) (range_with_len 0 n) ++ (x ∷ [])) is.lengths_are
           ∙ sym (map-range_with_len_more (lengths_of f) 0 n n (zero-add n));
-      inside = more_inside f.mem_size layouts layout so_far.inside here;
+      inside = more_inside (region_end f.regions) layouts layout so_far.inside here;
       place_is = more_begins f n begin layout is.layout_is next_place;
       begins = subst (λ k. k ≤ region_end f.regions) (sym next_place) (next_inside f layout.place layout.end sound inside);
     }
 
+-- what lies inside the region lies inside the memory
+pub wider : (a b : ℕ) (layouts : List Layout) → a ≤ b → AllByRecursion (IsInside a) layouts → AllByRecursion (IsInside b) layouts
+wider a b [] below all = tt
+wider a b (layout ∷ layouts) below all = (record { inside = omega (arith, below, all.0.inside); order = all.0.order }, wider a b layouts below all.1)
+
 -- a rule of job n stands
-pub refused : (f : FileModel) (n : ℕ) (memory : List ℕ) (layouts : List Layout) (lengths : List Lengths) (place : ℕ) (stop : Stop Refusal) → SoFar f n memory layouts lengths place → n < length f.jobs
+pub refused : (f : FileModel) (n : ℕ) (bytes : List ℕ) (layouts : List Layout) (lengths : List Lengths) (place : ℕ) (stop : Stop Refusal) → SoFar f n bytes layouts lengths place → n < length f.jobs
     → Refuses (job_stages f n) stop → Refuses (each (job_stages f) 0 (length f.jobs)) stop
-refused f n memory layouts lengths place (Fault refusal) so_far below refuses = sym so_far.asked ∙ each_stop (job_stages f) n (length f.jobs) refusal below refuses
-refused f n memory layouts lengths place NoMemory so_far below refuses = tt
+refused f n bytes layouts lengths place (Fault refusal) so_far below refuses = sym so_far.asked ∙ each_stop (job_stages f) n (length f.jobs) refusal below refuses
+refused f n bytes layouts lengths place NoMemory so_far below refuses = tt
 
 -- all have passed
-pub all : (f : FileModel) (n : ℕ) (memory : List ℕ) (layouts : List Layout) (lengths : List Lengths) (place : ℕ) → SoFar f n memory layouts lengths place → n ≡ length f.jobs
-    → (first_of (each (job_stages f) 0 (length f.jobs)) ≡ None) × IsEmitted f memory layouts lengths
-unfolding memory_of layouts_of all_lengths_of
-all f n memory layouts lengths place so_far end = (
-  sym so_far.asked ∙ each_end (job_stages f) n (length f.jobs) (omega (arith, end)),
-  record {
-    memory_is = so_far.memory_is ∙ ap (λ k. emitted f.mem_size (content_parts f.buffers f.contents ++ jobs_parts f k)) end;
-    layouts_are = so_far.layouts_are ∙ ap (λ k. map (layout_of f) (range_with_len 0 k)) end;
-    lengths_are = so_far.lengths_are ∙ ap (λ k. map (lengths_of f) (range_with_len 0 k)) end;
-  },
-)
-
-pub all_inside : (f : FileModel) (n : ℕ) (memory : List ℕ) (layouts : List Layout) (lengths : List Lengths) (place : ℕ) → SoFar f n memory layouts lengths place → IsSound f.mem_size f.regions f.buffers
-    → IsPlaced memory layouts
-all_inside f n memory layouts lengths place so_far sound = record {
-  pages = ap (λ k. k % 4096) so_far.size ∙ sound.pages;
-  not_empty = omega (arith, so_far.size, sound.not_empty);
-  limit = omega (arith, so_far.size, sound.limit);
-  each_job = subst (λ k. AllByRecursion (IsInside k) layouts) (sym so_far.size) so_far.inside;
-}
+pub all : (f : FileModel) (n : ℕ) (place : ℕ) (region : Region) → SoFar f n region.bytes.items region.layouts.items region.lengths.items place → n ≡ length f.jobs
+    → (first_of (each (job_stages f) 0 (length f.jobs)) ≡ None) × IsRegion f region
+unfolding region_of layouts_of all_lengths_of
+all f n place region so_far end =
+    let bytes_are = so_far.bytes_are ∙ ap (λ k. emitted (region_size f k) (regions_parts f k)) end in
+    let long : length (region_of f) ≡ region_size f n = sym (ap length bytes_are) ∙ so_far.size in (
+      sym so_far.asked ∙ each_end (job_stages f) n (length f.jobs) (omega (arith, end)),
+      record {
+        bytes_are = bytes_are;
+        layouts_are = so_far.layouts_are ∙ ap (λ k. map (layout_of f) (range_with_len 0 k)) end;
+        lengths_are = so_far.lengths_are ∙ ap (λ k. map (lengths_of f) (range_with_len 0 k)) end;
+        fits = omega (arith, long, so_far.room);
+        parts_fit = subst (λ k. PartsFit (region_size f k) (regions_parts f k)) end so_far.fit;
+        each_job = so_far.inside;
+      },
+    )

@@ -8,7 +8,7 @@ use Rattle.job_format.specs.Model.{FileModel}
 use Rattle.relocation.specs.declared.layout.Layout.{Layout}
 use Rattle.relocation.specs.declared.layout.Lengths.{Lengths}
 use Rattle.job_check.specs.declared.check.Checked.{Checked}
-use Rattle.job_check.specs.declared.check.Lists.{Lists}
+use Rattle.job_check.specs.declared.region.Lists.{Lists}
 use Rattle.job_check.specs.Jobs.{layout_of, end_of, layouts_of, bin_list_of, records_of, streams_of, render_list_of}
 
 -- contents at the places of their buffers

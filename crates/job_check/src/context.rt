@@ -10,6 +10,7 @@ ghost use Rattle.job_check.specs.Shaders.{table_of, AreShadersIn};
 ghost use Rattle.job_check.specs.Jobs.{job_of, lists_begin, layout_of, end_of};
 ghost use Rattle.job_check.specs.Context.{in_view};
 ghost use Rattle.relocation.specs.Layout.{region_end};
+ghost use Rattle.job_check.specs.Region.{region_from};
 ghost use Rattle.job_check.specs.Faults.{refused, handles_stage};
 ghost use Rattle.job_check.specs.Offsets.{job_offset, layout_offset};
 
@@ -95,6 +96,13 @@ impl<'a> Context<'a> {
             Err(Stop::Fault(index)) => Err(Stop::Fault(handle_refusal(file, number, index))),
             Err(Stop::NoMemory) => Err(Stop::NoMemory),
         }
+    }
+
+    /// Where in the region of the lists those of this job begin.
+    pub fn place_in_region(&self) -> u32
+        ensures { result ≡ region_from self.now.file self.now.number }
+    {
+        self.layout.place - self.file.regions.lists_place
     }
 
     /// Whether the lists end inside their region.

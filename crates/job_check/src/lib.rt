@@ -10,6 +10,7 @@ mod emit;
 mod layout;
 mod lists;
 mod refusals;
+mod region;
 mod shaders;
 mod stages;
 #[cfg(test)]
@@ -18,6 +19,7 @@ mod upgrade;
 mod whole;
 
 pub use check::{Checked, check_job};
+pub use region::{Region, check_lists};
 pub use shaders::words_of;
 pub use upgrade::upgrade_changes_nothing;
 pub use whole::{check_bytes, format_refusal};

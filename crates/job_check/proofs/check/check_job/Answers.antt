@@ -1,37 +1,32 @@
-use Rattle.std.proofs.Common.{◌++◌, length}
-use Rattle.field_words.specs.Questions.{each}
-use Rattle.field_words.proofs.Questions.{answers_later, refuses_front, names_first}
+use Rattle.std.proofs.Common.{◌%◌, refl, ap, arith, ◌∙◌}
 use Rattle.job_format.specs.Model.{file_view}
-use Rattle.job_check.specs.declared.check.Checked.{Checked}
-use Rattle.job_check.specs.Faults.{table_stage, shaders_stage, job_stages, file_stages}
-use Rattle.job_check.specs.Emit.{IsEmitted}
+use Rattle.job_check.specs.Faults.{table_stage}
+use Rattle.job_check.proofs.Layouts.{lists_inside}
+use Rattle.job_check.proofs.Order.{table_none}
+use Rattle.job_check.proofs.Progress.{wider}
 use Rattle.job_check.proofs.Wants.{never_hidden}
-use Rattle.job_check.proofs.Order.{exits}
 use Rattle.job_check.proofs.check.check_job.Goals as goal
 
 pub returns-clause-answers : goal.returns-clause-answers
-unfolding file_stages
 returns-clause-answers c =
-    let f = file_view c.args.file.now in
-    answers_later (table_stage f) (shaders_stage f ++ each (job_stages f) 0 (length f.jobs)) (λ (checked : Checked). IsEmitted f checked.memory checked.layouts.items checked.lengths.items)
-    c.check_shaders.result c.in_ok-table.ensures.answers.0 c.check_shaders.ensures.answers
+    let is = c.in_ok-region.ensures.answers.1 in (
+      c.in_ok-region.ensures.answers.0,
+      record { memory_is = c.in_ok-memory.ensures.value; layouts_are = is.layouts_are; lengths_are = is.lengths_are },
+    )
 
-pub returns-in_err-table-clause-answers : goal.returns-in_err-table-clause-answers
-unfolding file_stages
-returns-in_err-table-clause-answers c =
+pub returns-clause-placed : goal.returns-clause-placed
+returns-clause-placed c =
     let f = file_view c.args.file.now in
-    exits (file_stages f) (λ (checked : Checked). IsEmitted f checked.memory checked.layouts.items checked.lengths.items) c.from_residual.result c.in_err-table.field-0.0 c.from_residual.ensures.1
-    (refuses_front (table_stage f) (shaders_stage f ++ each (job_stages f) 0 (length f.jobs)) c.in_err-table.field-0.0 c.in_err-table.ensures.answers)
+    let sound = c.in_ok-region.ensures.sound refl in
+    let size = c.in_ok-memory.ensures.size in
+    record {
+      pages = ap (λ k. k % 4096) size ∙ sound.pages;
+      not_empty = omega (arith, size, sound.not_empty);
+      limit = omega (arith, size, sound.limit);
+      each_job = wider _ _ _ (omega (arith, size, lists_inside f sound)) c.in_ok-region.ensures.answers.1.each_job;
+    }
 
-pub returns-clause-first : goal.returns-clause-first
-returns-clause-first c =
+pub returns-in_err-memory-clause-memory : goal.returns-in_err-memory-clause-memory
+returns-in_err-memory-clause-memory c =
     let f = file_view c.args.file.now in
-    names_first (file_stages f) (λ (checked : Checked). IsEmitted f checked.memory checked.layouts.items checked.lengths.items) c.check_shaders.result (returns-clause-answers c)
-
-pub returns-in_err-table-clause-first : goal.returns-in_err-table-clause-first
-returns-in_err-table-clause-first c =
-    let f = file_view c.args.file.now in
-    names_first (file_stages f) (λ (checked : Checked). IsEmitted f checked.memory checked.layouts.items checked.lengths.items) c.from_residual.result (returns-in_err-table-clause-answers c)
-
-pub returns-clause-memory : goal.returns-clause-memory
-returns-clause-memory c = never_hidden (table_stage (file_view c.args.file.now)) c.check_shaders.result c.in_ok-table.ensures.answers.0
+    never_hidden (table_stage f) _ (table_none f c.in_ok-region.ensures.answers.0)

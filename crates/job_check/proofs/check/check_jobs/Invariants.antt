@@ -1,7 +1,0 @@
--- no rule stands of the jobs before this one, and their lists are in the memory
-use Rattle.job_format.specs.Model.{file_view}
-use Rattle.job_check.proofs.Progress.{SoFar}
-use Rattle.job_check.proofs.check.check_jobs.Given as goal
-
-abbrev pub invariant-loop-number : goal.invariant-loop-number
-invariant-loop-number l = SoFar (file_view l.file) l.number l.memory l.layouts.items l.lengths.items l.place

@@ -1,0 +1,193 @@
+//! The rules of a file, and the lists of its jobs. No memory of the jobs is made.
+ghost use Rattle.std.specs.Prelude.{◌≡◌, ◌<◌, ◌≤◌, ◌+◌, ◌++◌, ◌-◌, length, IfOk, IsOk, drop};
+ghost use Rattle.field_words.specs.Questions.{Answers, NamesFirst, NeverHidesFault};
+ghost use Rattle.field_words.specs.Writes.{placed, zeros};
+ghost use Rattle.job_format.specs.File.{IsWellFormed};
+ghost use Rattle.job_format.specs.Model.{file_view};
+ghost use Rattle.buffer_table.specs.Sound.{IsSound};
+ghost use Rattle.shader_records.specs.Inputs.{shaders_view};
+ghost use Rattle.job_check.specs.Shaders.{table_of, AreShadersIn};
+ghost use Rattle.relocation.specs.Layout.{region_end};
+ghost use Rattle.job_check.specs.Jobs.{lists_begin, layout_of, end_of};
+ghost use Rattle.job_check.specs.Faults.{table_stage, shaders_stage, lists_stages, laid_stages, job_stages, jobs_stages, file_stages};
+ghost use Rattle.job_check.specs.Emit.{ArePlaced, PartsFit, list_parts, lengths_of, moved};
+ghost use Rattle.job_check.specs.Region.{region_size, region_from, region_parts, IsRegion, AreChecked};
+
+use super::context::Context;
+use super::layout::next_place;
+use super::shaders::shaders_stage;
+use super::stages::table_stage;
+use buffer_table::Table;
+use field_words::Stop;
+use job_format::{JobFile, Refusal};
+use qpu_isa::ShaderInfo;
+use relocation::{Layout, Lengths};
+use std::alloc::{AllocError, Global};
+
+/// The lists of an accepted file: their bytes, from where the lists of job 0 begin to where those of the last job end, with zeros
+/// between them; and job by job where its lists lie in memory and how many bytes of each were emitted.
+#[derive(Drop)]
+pub struct Region {
+    pub bytes: Vec<u8>,
+    pub layouts: Vec<Layout>,
+    pub lengths: Vec<Lengths>,
+}
+
+/// Where the lists of a job lie, and how many bytes of each were emitted.
+#[derive(Clone, Copy)]
+pub struct Lists {
+    pub layout: Layout,
+    pub lengths: Lengths,
+}
+
+/// Makes a region longer, with zeros behind.
+#[tactic(auto, unfolding(field_words::specs::Writes::zeros))]
+fn extend_region(region: &mut Vec<u8>, size: usize) -> Result<(), AllocError>
+    requires { length region.old.items ≤ size }
+    ensures { IfOk result (λ _. region.new.items ≡ region.old.items ++ zeros (size - length region.old.items)) }
+{
+    region.resize(size, 0)
+}
+
+/// The rules of the lists of a job in view, which are written from this place in the region on.
+fn write_at(
+    alloc: Global,
+    job: &Context,
+    region: &mut [u8],
+    from: usize,
+) -> Result<Lengths, Stop<Refusal>>
+    requires { from + (layout_of job.now.file job.now.number).end ≡ length region.old }
+    ensures answers { Answers (lists_stages job.now.file job.now.number)
+        (λ lengths. lengths ≡ lengths_of job.now.file job.now.number) result }
+    ensures written { IfOk result (λ _. region.new ≡ placed region.old (moved from (list_parts job.now.file job.now.number))) }
+    ensures fit { IfOk result (λ _. PartsFit (layout_of job.now.file job.now.number).end (list_parts job.now.file job.now.number)) }
+{
+    job.write_lists(alloc, &mut region[from..])
+}
+
+/// The rules of the lists of a job in view, and its lists in the region, which is as long as they need.
+#[tactic(auto, unfolding(crate::specs::Region::region_size, crate::specs::Region::region_parts))]
+fn write_region(
+    alloc: Global,
+    job: &Context,
+    region: &mut Vec<u8>,
+) -> Result<Lengths, Stop<Refusal>>
+    requires { length region.old.items ≡ region_size job.now.file job.now.number }
+    ensures answers { Answers (lists_stages job.now.file job.now.number)
+        (λ lengths. lengths ≡ lengths_of job.now.file job.now.number) result }
+    ensures written { IfOk result (λ _. region.new.items ≡
+        placed (region.old.items ++ zeros (region_size job.now.file (job.now.number + 1) - length region.old.items))
+        (region_parts job.now.file job.now.number)) }
+    ensures fit { IfOk result (λ _. PartsFit (layout_of job.now.file job.now.number).end (list_parts job.now.file job.now.number)) }
+{
+    let from = job.place_in_region() as usize;
+    extend_region(region, from + job.layout.end as usize)?;
+    write_at(alloc, job, region, from)
+}
+
+/// The rules of a job in view, and its lists in the region. The rule that its lists fit is asked last.
+fn place_lists(alloc: Global, job: &Context, region: &mut Vec<u8>) -> Result<Lists, Stop<Refusal>>
+    requires { length region.old.items ≡ region_size job.now.file job.now.number }
+    ensures answers { Answers (laid_stages job.now.file job.now.number) (ArePlaced job.now.file job.now.number) result }
+    ensures written { IfOk result (λ _. region.new.items ≡
+        placed (region.old.items ++ zeros (region_size job.now.file (job.now.number + 1) - length region.old.items))
+        (region_parts job.now.file job.now.number)) }
+    ensures fit { IfOk result (λ _. PartsFit (layout_of job.now.file job.now.number).end (list_parts job.now.file job.now.number)) }
+    ensures fits { IfOk result (λ lists. end_of lists.layout ≤ region_end job.now.file.regions) }
+{
+    let layout = job.layout;
+    let lengths = write_region(alloc, job, region)?;
+    if !job.fits() {
+        return Err(Stop::Fault(job.layout_refusal()));
+    }
+    Ok(Lists { layout, lengths })
+}
+
+/// All rules of the job of this number, whose lists begin at this place, and its lists in the region behind those of the jobs before it.
+#[tactic(auto, unfolding(crate::specs::Faults::job_stages))]
+fn check_one(
+    alloc: Global,
+    file: &JobFile,
+    number: usize,
+    place: u32,
+    table: &Table,
+    shaders: &Vec<Option<ShaderInfo>>,
+    region: &mut Vec<u8>,
+) -> Result<Lists, Stop<Refusal>>
+    requires well_formed { IsWellFormed (file_view file.now) }
+    requires inside { number < length file.now.jobs.items }
+    requires place_is { place ≡ lists_begin (file_view file.now) number }
+    requires begins { place ≤ region_end file.now.regions }
+    requires table_is { table.now ≡ table_of (file_view file.now) }
+    requires shaders_are { AreShadersIn (file_view file.now) (shaders_view shaders.now.items) }
+    requires sound { IsSound file.now.mem_size file.now.regions file.now.buffers.items }
+    requires size { length region.old.items ≡ region_size (file_view file.now) number }
+    ensures answers { Answers (job_stages (file_view file.now) number) (ArePlaced (file_view file.now) number) result }
+    ensures written { IfOk result (λ _. region.new.items ≡
+        placed (region.old.items ++ zeros (region_size (file_view file.now) (number + 1) - length region.old.items))
+        (region_parts (file_view file.now) number)) }
+    ensures fit { IfOk result (λ _. PartsFit (layout_of (file_view file.now) number).end (list_parts (file_view file.now) number)) }
+    ensures fits { IfOk result (λ lists. end_of lists.layout ≤ region_end file.now.regions) }
+{
+    let job = Context::open(alloc, file, number, place, table, shaders)?;
+    place_lists(alloc, &job, region)
+}
+
+/// The rules of the jobs, and the region of their lists, those of each job behind those of the job before it.
+fn check_jobs(
+    alloc: Global,
+    file: &JobFile,
+    table: &Table,
+    shaders: &Vec<Option<ShaderInfo>>,
+) -> Result<Region, Stop<Refusal>>
+    requires well_formed { IsWellFormed (file_view file.now) }
+    requires table_is { table.now ≡ table_of (file_view file.now) }
+    requires shaders_are { AreShadersIn (file_view file.now) (shaders_view shaders.now.items) }
+    requires sound { IsSound file.now.mem_size file.now.regions file.now.buffers.items }
+    ensures { Answers (jobs_stages (file_view file.now)) (IsRegion (file_view file.now)) result }
+{
+    let mut bytes = Vec::new(alloc);
+    let mut layouts = Vec::new(alloc);
+    let mut lengths = Vec::new(alloc);
+    let mut place = file.regions.lists_place;
+    for number in 0..file.jobs.len() {
+        let lists = check_one(alloc, file, number, place, table, shaders, &mut bytes)?;
+        place = next_place(&lists.layout);
+        layouts.push(lists.layout)?;
+        lengths.push(lists.lengths)?;
+    }
+    Ok(Region {
+        bytes,
+        layouts,
+        lengths,
+    })
+}
+
+/// S, and then the jobs.
+fn check_shaders(alloc: Global, file: &JobFile, table: &Table) -> Result<Region, Stop<Refusal>>
+    requires well_formed { IsWellFormed (file_view file.now) }
+    requires table_is { table.now ≡ table_of (file_view file.now) }
+    requires sound { IsSound file.now.mem_size file.now.regions file.now.buffers.items }
+    ensures { Answers (shaders_stage (file_view file.now) ++ jobs_stages (file_view file.now)) (IsRegion (file_view file.now)) result }
+{
+    let shaders = shaders_stage(alloc, file)?;
+    check_jobs(alloc, file, table, &shaders)
+}
+
+/// Checks a file that was read, and makes no memory of its jobs. `Ok` comes exactly where
+/// no rule stands of the memory table, of the shaders, and of any job's handles, its binner list, its records and uniforms, its frame and
+/// surfaces, and its layout.
+///
+/// # Errors
+/// The first rule that stands, job by job, with its place in the file; or want of memory, which never hides a rule of the memory table.
+#[tactic(auto, unfolding(crate::specs::Faults::file_stages))]
+pub fn check_lists(alloc: Global, file: &JobFile) -> Result<Region, Stop<Refusal>>
+    requires { IsWellFormed (file_view file.now) }
+    ensures answers { Answers (file_stages (file_view file.now)) (IsRegion (file_view file.now)) result }
+    ensures first { NamesFirst (file_stages (file_view file.now)) result }
+    ensures memory { NeverHidesFault (table_stage (file_view file.now)) result }
+    ensures sound { IsOk result → IsSound file.now.mem_size file.now.regions file.now.buffers.items }
+{
+    let table = table_stage(alloc, file)?;
+    check_shaders(alloc, file, &table)
+}
