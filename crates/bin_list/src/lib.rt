@@ -17,8 +17,6 @@ mod rules;
 mod seen;
 mod state;
 mod states;
-#[cfg(test)]
-mod tests;
 
 pub use check::check_bin;
 pub use fault::ListFault;

@@ -11,6 +11,3 @@ pub use buffer::{Buffer, HandleRule, Kind, Regions, TableFault, TableRule};
 pub use handles::{Handles, use_code, use_data};
 pub use item::Item;
 pub use table::{Table, first_fault_is_least, sharing_means_a_byte};
-
-#[cfg(test)]
-mod tests;

@@ -5,8 +5,6 @@
 mod file;
 mod lists;
 mod noise;
-#[cfg(test)]
-mod tests;
 
 pub use file::make_job;
 pub use noise::next_state;

@@ -13,8 +13,6 @@ mod refusals;
 mod region;
 mod shaders;
 mod stages;
-#[cfg(test)]
-mod tests;
 mod upgrade;
 mod whole;
 

@@ -19,6 +19,3 @@ pub use sizes::{
 };
 pub use upgrade::upgrade_file;
 pub use writing::{one_file_a_text, write_job};
-
-#[cfg(test)]
-mod tests;

@@ -13,8 +13,6 @@ mod adapters;
 mod give;
 mod memory;
 mod steady;
-#[cfg(test)]
-mod tests;
 mod traffic;
 mod whole;
 

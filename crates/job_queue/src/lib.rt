@@ -11,8 +11,6 @@
 mod call;
 mod queue;
 mod replies;
-#[cfg(test)]
-mod tests;
 
 pub use queue::{Queue, QueueFault, starts_late};
 pub use replies::script;

@@ -10,8 +10,6 @@ mod list;
 mod names;
 mod note;
 mod reading;
-#[cfg(test)]
-mod tests;
 mod writing;
 
 pub use fault::{MakeFault, Mistake};

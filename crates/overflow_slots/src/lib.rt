@@ -12,8 +12,6 @@ mod call;
 mod pool;
 mod replies;
 mod slots;
-#[cfg(test)]
-mod tests;
 
 pub use call::Call;
 pub use pool::{Block, Pool};

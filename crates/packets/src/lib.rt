@@ -19,6 +19,3 @@ pub use length::{bin_length, bin_taken, render_taken};
 pub use list::{put_packet, put_present};
 pub use packet::{Packet, decode};
 pub use state_word::{attribute_count, is_extended, record_room, record_size};
-
-#[cfg(test)]
-mod tests;

@@ -8,6 +8,3 @@ mod bytes;
 mod units;
 
 pub use units::{add_result, mul_result};
-
-#[cfg(test)]
-mod tests;

@@ -17,6 +17,3 @@ mod table;
 pub use assembler::assemble;
 pub use disassembler::{disassemble, fields_in_order, printed_returns};
 pub use fault::{AsmFault, Mistake};
-
-#[cfg(test)]
-mod tests;

@@ -14,6 +14,3 @@ pub use setup::Setup;
 pub use size::render_size;
 pub use surfaces::check_surfaces;
 pub use text::build;
-
-#[cfg(test)]
-mod tests;

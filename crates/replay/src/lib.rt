@@ -3,8 +3,6 @@
 
 mod follow;
 mod oracle;
-#[cfg(test)]
-mod tests;
 mod trace;
 mod units;
 

@@ -16,6 +16,3 @@ pub use line::{Line, line_of};
 pub use name::{Family, RuleName, explanation, rule_named, sentence, sentence_bytes};
 pub use place::{Place, Thing, place_of, spot_of};
 pub use words::Words;
-
-#[cfg(test)]
-mod tests;

@@ -4,8 +4,6 @@
 mod lines;
 mod number;
 mod replies;
-#[cfg(test)]
-mod tests;
 
 pub use lines::{Cut, cut_at, next_line};
 pub use number::{is_number, number_up_to, read_number};

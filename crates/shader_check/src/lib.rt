@@ -16,6 +16,3 @@ pub use check::{check_code, check_shader};
 pub use fault::ShaderFault;
 pub use shader_flow::ShaderRule;
 pub use whole::S1_NO_WORDS;
-
-#[cfg(test)]
-mod tests;

@@ -1,4 +1,3 @@
-pub mod Examples
 pub mod Fine
 pub mod Inside
 pub mod Lengths

@@ -1,6 +1,5 @@
 pub mod Emission
 pub mod Emitted
-pub mod Examples
 pub mod Faults
 pub mod Inputs
 pub mod Named

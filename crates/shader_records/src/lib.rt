@@ -25,6 +25,3 @@ pub use fault::RecordFault;
 pub use info::RecordInfo;
 pub use laws::{records_are_facts, streams_are_facts};
 pub use rule::RecordRule;
-
-#[cfg(test)]
-mod tests;

@@ -28,6 +28,3 @@ pub use place::{microtile_place, pixel_place};
 pub use rule::TextureRule;
 pub use setup::Texture;
 pub use surface::{Tiling, microtile_height, microtile_width, surface_size, tiling_of};
-
-#[cfg(test)]
-mod tests;

@@ -14,6 +14,3 @@ pub use copy::copy_picture;
 pub use level::{LevelFault, extract};
 pub use order::{Order, band_height, picture_size};
 pub use surface::{bands_join, tile, tile_of_untile, untile, untile_of_tile};
-
-#[cfg(test)]
-mod tests;

@@ -1,0 +1,223 @@
+//! Each memory rule, the handles' rule, and what handles name.
+use buffer_table::{Buffer, Handles, Kind, Regions, Table, use_code, use_data};
+use field_words::Stop;
+use std::alloc::{AllocError, Global};
+use std::process::Abort;
+use std::test::*;
+
+/// The memory of the smallest job: a page for lists, one tile slot, one page of a buffer.
+const MEMORY: u32 = 0x82000;
+
+const REGIONS: Regions = Regions {
+    lists_place: 0,
+    lists_size: 0x1000,
+    tile_place: 0x1000,
+    tile_slots: 1,
+};
+
+const BUFFER: Buffer = Buffer {
+    place: 0x81000,
+    size: 0x1000,
+    client: 1,
+    kind: Kind::Plain,
+    content: 0,
+};
+
+fn at(place: u32) -> Buffer {
+    Buffer { place, ..BUFFER }
+}
+
+/// The first rule that stands of a memory with three buffers, and its item: 1 and 2 are the regions,
+/// 3 to 5 the buffers.
+fn fault_of(
+    alloc: Global,
+    memory: u32,
+    regions: Regions,
+    three: [Buffer; 3],
+) -> Result<Option<(u8, u32)>, AllocError> {
+    let mut buffers = Vec::new(alloc);
+    buffers.push(three[0])?;
+    buffers.push(three[1])?;
+    buffers.push(three[2])?;
+    Ok(match Table::make(alloc, memory, regions, &buffers) {
+        Err(Stop::Fault(fault)) => Some((fault.number, fault.item)),
+        _ => None,
+    })
+}
+
+#[test]
+fn the_first_memory_rule_that_stands(rt: HostRuntime) -> Result<(), Fail> {
+    let alloc = rt.alloc();
+    for (memory, regions, buffers, want) in [
+        (
+            MEMORY,
+            REGIONS,
+            [BUFFER, at(0x82000), at(0x83000)],
+            Some((3, 4)),
+        ),
+        (0x84000, REGIONS, [BUFFER, at(0x82000), at(0x83000)], None),
+        (
+            0x84000,
+            REGIONS,
+            [BUFFER, at(0x82000), BUFFER],
+            Some((4, 5)),
+        ),
+        (
+            0x84000,
+            REGIONS,
+            [BUFFER, BUFFER, at(0x82000)],
+            Some((4, 4)),
+        ),
+        (
+            0x84000,
+            REGIONS,
+            [at(0x80000), BUFFER, at(0x82000)],
+            Some((4, 3)),
+        ),
+        (
+            0x84000,
+            REGIONS,
+            [BUFFER, at(0x82800), at(0x83000)],
+            Some((2, 4)),
+        ),
+        (
+            0x84000,
+            REGIONS,
+            [
+                BUFFER,
+                at(0x82000),
+                Buffer {
+                    content: 0x1001,
+                    ..at(0x83000)
+                },
+            ],
+            Some((5, 5)),
+        ),
+        (
+            0x84000,
+            REGIONS,
+            [Buffer { size: 0, ..BUFFER }, at(0x82000), at(0x83000)],
+            Some((2, 3)),
+        ),
+        (0, REGIONS, [BUFFER, BUFFER, BUFFER], Some((1, 0))),
+        (0x4001000, REGIONS, [BUFFER, BUFFER, BUFFER], Some((1, 0))),
+        (
+            0x84000,
+            Regions {
+                lists_place: 1,
+                ..REGIONS
+            },
+            [BUFFER, BUFFER, BUFFER],
+            Some((2, 1)),
+        ),
+        (
+            0x84000,
+            Regions {
+                tile_slots: 0,
+                ..REGIONS
+            },
+            [BUFFER, BUFFER, BUFFER],
+            Some((2, 2)),
+        ),
+        (
+            0x84000,
+            Regions {
+                tile_slots: 8192,
+                ..REGIONS
+            },
+            [BUFFER, BUFFER, BUFFER],
+            Some((3, 2)),
+        ),
+        (
+            0x84000,
+            Regions {
+                tile_place: 0,
+                ..REGIONS
+            },
+            [BUFFER, BUFFER, BUFFER],
+            Some((4, 2)),
+        ),
+    ] {
+        assert_eq!(rt; fault_of(alloc, memory, regions, buffers)?, want);
+    }
+    Ok(())
+}
+
+/// 1,024 buffers of a page each behind the regions, and then the last one where and as long as given.
+fn many_fault(
+    rt: &impl Abort,
+    alloc: Global,
+    place: u32,
+    size: u32,
+) -> Result<Option<(u8, u32)>, AllocError> {
+    let mut buffers = Vec::new(alloc);
+    for k in 0..1023u32 {
+        buffers.push(at(0x81000 + 0x1000 * k))?;
+    }
+    buffers.push(Buffer { size, ..at(place) })?;
+    assert!(rt; buffers.len() == 1024);
+    Ok(match Table::make(alloc, 0x4000000, REGIONS, &buffers) {
+        Err(Stop::Fault(fault)) => Some((fault.number, fault.item)),
+        _ => None,
+    })
+}
+
+#[test]
+fn the_most_buffers(rt: HostRuntime) -> Result<(), Fail> {
+    let alloc = rt.alloc();
+    for (place, size, want) in [
+        (0x480000, 0x1000, None),
+        (0x480000, 0x3b80000, None),
+        (0x480000, 0x3b81000, Some((3, 1026))),
+        (0x47f000, 0x1000, Some((4, 1026))),
+        (0x47f000, 0x3b81000, Some((4, 1026))),
+        (0x81000, 0x1000, Some((4, 1026))),
+        (0x80000, 0x1000, Some((4, 1026))),
+    ] {
+        assert_eq!(rt; many_fault(&rt, alloc, place, size)?, want);
+    }
+    Ok(())
+}
+
+#[test]
+fn handles_name_buffers_of_their_client(rt: HostRuntime) -> Result<(), Fail> {
+    let alloc = rt.alloc();
+    let mut buffers = Vec::new(alloc);
+    buffers.push(BUFFER)?;
+    buffers.push(Buffer {
+        kind: Kind::Code,
+        ..at(0x82000)
+    })?;
+    buffers.push(Buffer {
+        client: 2,
+        ..at(0x83000)
+    })?;
+    let table = match Table::make(alloc, 0x84000, REGIONS, &buffers) {
+        Ok(table) => table,
+        Err(_) => return Err("no rule stands".into()),
+    };
+    for (client, numbers, want) in [
+        (1, [0, 1], None),
+        (1, [0, 2], Some(1)),
+        (1, [3, 0], Some(0)),
+        (2, [2, 0], Some(1)),
+    ] {
+        let fault = match Handles::make(alloc, &table, client, &numbers) {
+            Err(Stop::Fault(index)) => Some(index),
+            _ => None,
+        };
+        assert_eq!(rt; fault, want);
+    }
+    match Handles::make(alloc, &table, 1, &[1, 0]) {
+        Ok(handles) => {
+            assert_eq!(rt; use_data(&table, &handles, 0), None);
+            assert_eq!(rt; use_data(&table, &handles, 1), Some(0));
+            assert_eq!(rt; use_data(&table, &handles, 2), None);
+            assert_eq!(rt; use_code(&table, &handles, 0), Some(1));
+            assert_eq!(rt; use_code(&table, &handles, 1), None);
+            assert_eq!(rt; use_code(&table, &handles, 2), None);
+        }
+        Err(_) => return Err("both are buffers of client 1".into()),
+    }
+    Ok(())
+}

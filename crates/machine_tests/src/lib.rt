@@ -1,0 +1,10 @@
+//! Tests of shader rules, of arithmetic, and of replays. A crate with tests is proved twice, so those of many crates stand
+//! in one, which has nothing else.
+#![tactic(auto)]
+
+#[cfg(test)]
+mod qpu_alu_tests;
+#[cfg(test)]
+mod replay_tests;
+#[cfg(test)]
+mod shader_check_tests;

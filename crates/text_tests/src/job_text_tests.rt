@@ -1,0 +1,32 @@
+//! A file as text and back, and texts that are no file.
+use job_text::{MakeFault, Mistake, make, show};
+use field_words::Stop;
+use std::test::*;
+
+#[test]
+fn a_line_says_what_its_bytes_are(rt: HostRuntime) -> Result<(), Fail> {
+    let text = show(rt.alloc(), b"VC4J\x02\x00\x00\x00\x0a").map_err(|_| "no memory")?;
+    assert_eq!(rt;
+        text.as_slice(),
+        b"5643344a  # 0 header: letters 1244939094\n02000000  # 4 header: version 2\n0a  # 8 header: memory size 10\n".as_slice()
+    );
+    Ok(())
+}
+
+#[test]
+fn a_text_is_read_up_to_each_note(rt: HostRuntime) -> Result<(), Fail> {
+    let bytes = make(rt.alloc(), b"# a note\n\n 0a FF# ..\n00").map_err(|_| "no bytes")?;
+    assert_eq!(rt; bytes.as_slice(), b"\x0a\xff\x00".as_slice());
+    Ok(())
+}
+
+#[test]
+fn a_fault_has_its_place(rt: HostRuntime) -> Result<(), Fail> {
+    let fault = MakeFault {
+        line: 2,
+        column: 3,
+        mistake: Mistake::LoneDigit,
+    };
+    assert!(rt; make(rt.alloc(), b"00\n00f #\nx") == Err(Stop::Fault(fault)));
+    Ok(())
+}
