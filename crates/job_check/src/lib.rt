@@ -18,6 +18,6 @@ mod whole;
 
 pub use check::{Checked, check_job};
 pub use region::{Region, check_lists};
-pub use shaders::words_of;
+pub use shaders::{shader_in, words_of};
 pub use upgrade::upgrade_changes_nothing;
 pub use whole::{check_bytes, format_refusal};

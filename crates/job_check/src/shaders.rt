@@ -44,9 +44,10 @@ pub fn words_of(alloc: Global, bytes: &[u8]) -> Result<Vec<u64>, AllocError>
     Ok(words)
 }
 
-/// The shader that these bytes hold.
+/// What the shader that these bytes hold takes and reads. The fault is the first rule of shaders that stands of them, of which the
+/// first is that they are whole words.
 #[tactic(auto, unfolding(crate::specs::Shaders::code_questions, crate::specs::Shaders::told_of))]
-fn shader_in(alloc: Global, bytes: &[u8]) -> Result<ShaderInfo, Stop<ShaderFault>>
+pub fn shader_in(alloc: Global, bytes: &[u8]) -> Result<ShaderInfo, Stop<ShaderFault>>
     requires { length bytes.now ≤ most_code }
     ensures answers { Answers (code_questions bytes.now) (λ info. shader_view info ≡ told_of (words_of bytes.now)) result }
     ensures memory { NeverHidesFault (whole_questions_in CodeKind bytes.now) result }

@@ -23,6 +23,10 @@ laid client place held = record {
   content = length (content_of held.kind held.bytes);
 }
 
+abbrev pub laid_in : ℕ → ℕ → Option Held → Option Buffer
+laid_in client place None = None
+laid_in client place (Some held) = Some (laid client place held)
+
 abbrev pub laid_at : ℕ → ℕ → Option Held → List Buffer
 laid_at client place None = []
 laid_at client place (Some held) = laid client place held ∷ []

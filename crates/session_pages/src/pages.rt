@@ -55,6 +55,14 @@ impl Pages {
         Ok(Pages { memory, owners })
     }
 
+    /// The bytes of the memory. There are always as many.
+    pub fn size(&self) -> u32
+        ensures value { result ≡ memory_size }
+        ensures sized { length self.now.memory ≡ memory_size }
+    {
+        self.memory.len()
+    }
+
     /// Takes the lowest run of so many free pages, and gives its first page. `None` comes exactly where there is no such run, and
     /// changes nothing. The pages' bytes stay as they are. It takes no memory.
     pub fn take(&mut self, pages: u32, owner: u16) -> Option<u32>

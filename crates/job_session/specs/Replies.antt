@@ -1,0 +1,55 @@
+-- What a call is answered from a desk on, and the desk that it leaves.
+use Rattle.std.specs.Prelude.{ℕ, length, List, Result, Ok, Err}
+use Rattle.job_format.specs.declared.rule.Refusal.{Refusal}
+use Rattle.job_session.specs.declared.denied.Denied.{Denied}
+use Rattle.job_session.specs.declared.denied.Denied.TheVariants.{Session, Job}
+use Rattle.job_session.specs.Own.{Command, Create, Make, Write, Read, Free, Submit, Reply, Id, Done, Bytes, Accepted, Refused, Broken}
+use Rattle.job_session.specs.Session.{Call}
+use Rattle.job_session.specs.Desk.{Desk, create_answer, created, code_answer, made, write_answer, written, read_answer, free_answer, freed, submit_answer}
+
+abbrev pub created_reply : Result ℕ ℕ → Reply Refusal
+created_reply (Ok id) = Id id
+created_reply (Err refusal) = Refused refusal
+
+abbrev pub denied_reply : Denied → Reply Refusal
+denied_reply (Session refusal) = Refused refusal
+denied_reply (Job refusal) = Broken refusal
+
+abbrev pub made_reply : Result ℕ Denied → Reply Refusal
+made_reply (Ok id) = Id id
+made_reply (Err denied) = denied_reply denied
+
+abbrev pub done_reply : Result (Unit {0}) ℕ → Reply Refusal
+done_reply (Ok done) = Done
+done_reply (Err refusal) = Refused refusal
+
+abbrev pub read_reply : Result (List ℕ) ℕ → Reply Refusal
+read_reply (Ok bytes) = Bytes bytes
+read_reply (Err refusal) = Refused refusal
+
+abbrev pub submitted_reply : Result (Unit {0}) Denied → Reply Refusal
+submitted_reply (Ok done) = Accepted
+submitted_reply (Err denied) = denied_reply denied
+
+unfoldable pub command_reply : Desk → ℕ → Command → Reply Refusal
+command_reply desk client (Create pages) = created_reply (create_answer desk client pages)
+command_reply desk client (Make bytes) = made_reply (code_answer desk client bytes)
+command_reply desk client (Write id at part) = done_reply (write_answer desk client id at (length part))
+command_reply desk client (Read id at len) = read_reply (read_answer desk client id at len)
+command_reply desk client (Free id) = done_reply (free_answer desk client id)
+command_reply desk client (Submit parts) = submitted_reply (submit_answer desk client parts)
+
+unfoldable pub command_after : Desk → ℕ → Command → Desk
+command_after desk client (Create pages) = created desk client pages (create_answer desk client pages)
+command_after desk client (Make bytes) = made desk client bytes (code_answer desk client bytes)
+command_after desk client (Write id at part) = written desk client id at part (write_answer desk client id at (length part))
+command_after desk client (Read id at len) = desk
+command_after desk client (Free id) = freed desk client id
+command_after desk client (Submit parts) = desk
+
+-- the same for a call
+abbrev pub desk_reply : Desk → Call → Reply Refusal
+desk_reply desk call = command_reply desk call.client call.command
+
+abbrev pub desk_after : Desk → Call → Desk
+desk_after desk call = command_after desk call.client call.command
