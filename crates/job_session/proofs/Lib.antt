@@ -1,2 +1,7 @@
 pub mod Apart
+pub mod Digits
+pub mod Held
+pub mod Packed
+pub mod Refusals
 pub mod Slots
+pub mod Texts

@@ -1,3 +1,4 @@
+pub mod Calls
 pub mod Checked
 pub mod Desk
 pub mod Laws
@@ -6,3 +7,4 @@ pub mod Places
 pub mod Replies
 pub mod Session
 pub mod Submit
+pub mod Text

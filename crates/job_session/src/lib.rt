@@ -5,8 +5,10 @@
 //! calls answer and leave, by its page map and slots. Not proved yet: that a desk answers as `Session` says of the calls before.
 #![tactic(auto)]
 
+mod call;
 mod denied;
 mod job_file;
+mod replies;
 mod rules;
 mod session;
 #[cfg(test)]
@@ -15,6 +17,7 @@ mod tests;
 ghost use Rattle.job_session.specs.Laws.{RepliesAreOwn, OthersAreUnseen};
 
 pub use denied::Denied;
+pub use replies::script;
 pub use session::{MOST_BUFFERS, MOST_PAGES, MOST_READ, Session};
 
 /// A law: a client to whom no reply was that memory is full has had exactly the replies of its own commands alone.

@@ -1,10 +1,10 @@
 //! The session: one memory, and each client's buffers in it.
-ghost use Rattle.std.specs.Prelude.{◌≡◌, ◌≤◌, ◌<◌, ◌++◌, length, replicate, IfOk, IfErr, IfSome, OnOk, Ok};
+ghost use Rattle.std.specs.Prelude.{◌≡◌, ◌≤◌, ◌<◌, ◌++◌, ℕ, List, length, replicate, IfOk, IfErr, IfSome, OnOk, Ok};
 ghost use Rattle.field_words.specs.Sizes.{most_code};
 ghost use Rattle.buffer_table.specs.declared.buffer.Kind.TheVariants.{Plain};
 ghost use Rattle.session_pages.specs.Map.{first_place};
 ghost use Rattle.job_session.specs.Own.{most_buffers};
-ghost use Rattle.job_session.specs.Submit.{packed, contents_from, laid_in, contents_at};
+ghost use Rattle.job_session.specs.Submit.{packed, content_of, contents_from, laid_in, contents_at};
 ghost use Rattle.job_session.specs.Desk.{slot_count, slot_of, empty, least_id, is_live as live, kind_of, page_total, held_in};
 ghost use Rattle.job_session.specs.Desk.{new_id, placed, create_answer, created, code_answer, made, pages_for, free_answer, freed};
 ghost use Rattle.job_session.specs.Desk.{write_answer, written, read_answer, submit_answer, IsStop, IsRefusal};
@@ -82,6 +82,16 @@ fn slot(client: u8, id: u32) -> usize
     ensures { result ≡ slot_of client id }
 {
     64 * client as usize + id as usize
+}
+
+// How many bytes a buffer of so many gives to the contents of a job's file.
+fn content_size(kind: Kind, size: u32) -> u32
+    ensures content { (bytes : List ℕ) → length bytes ≡ size → result ≡ length (content_of kind bytes) }
+{
+    match kind {
+        Kind::Plain => 0,
+        Kind::Code => size,
+    }
 }
 
 impl Session {
@@ -182,7 +192,7 @@ impl Session {
             return Err(1);
         }
         let slot = slot(client, id);
-        if self.kinds[slot] == Kind::Code {
+        if let Kind::Code = self.kinds[slot] {
             return Err(3);
         }
         if u64::from(PAGE_SIZE * self.counts[slot]) < u64::from(at) + part.len() as u64 {
@@ -245,6 +255,8 @@ impl Session {
         if self.counts[slot] == 0 {
             return None;
         }
+        // Its pages are pages of the memory, which is as long as it always is.
+        let _ = self.pages.size();
         let kind = self.kinds[slot];
         let size = PAGE_SIZE * self.counts[slot];
         Some(Buffer {
@@ -252,14 +264,15 @@ impl Session {
             size,
             client: u32::from(client),
             kind,
-            content: if kind == Kind::Code { size } else { 0 },
+            content: content_size(kind, size),
         })
     }
 
     /// A client's live buffers as the file of a job lists them, each directly behind the one before.
     pub fn packed(&self, alloc: Global, client: u8) -> Result<Vec<Buffer>, NoMemory>
         requires { client < 8 }
-        ensures { IfOk result (λ buffers. buffers.items ≡ packed client (held_in self.now client) 0 most_buffers first_place) }
+        ensures all { IfOk result (λ buffers. buffers.items ≡ packed client (held_in self.now client) 0 most_buffers first_place) }
+        ensures few { IfOk result (λ buffers. length buffers.items ≤ most_buffers) }
     {
         let mut buffers = Vec::new(alloc);
         let mut place = FIRST_PLACE;
@@ -285,9 +298,13 @@ impl Session {
         ensures { OnOk result (file.new.items ≡ file.old.items ++ contents_at (held_in self.now client id)) }
     {
         let slot = slot(client, id);
-        if self.counts[slot] != 0 && self.kinds[slot] == Kind::Code {
+        if self.counts[slot] == 0 {
+            return Ok(());
+        }
+        if let Kind::Code = self.kinds[slot] {
             let size = PAGE_SIZE * self.counts[slot];
-            file.extend_from_slice(&self.pages.read(alloc, self.firsts[slot], 0, size)?)?;
+            let bytes = self.pages.read(alloc, self.firsts[slot], 0, size)?;
+            file.extend_from_slice(&bytes)?;
         }
         Ok(())
     }

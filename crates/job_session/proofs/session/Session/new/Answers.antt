@@ -6,4 +6,4 @@ pub invariant_of-result : goal.invariant_of-result
 invariant_of-result c = none_fit _ _ c.none.ensures c.none-2.ensures
 
 pub returns : goal.returns
-returns c = rw (c.in_ok-new.ensures, c.none.ensures, c.none-2.ensures) refl
+returns c = rw (c.in_ok-new.ensures, c.none.ensures, c.none-2.ensures, c.plain.ensures) refl

@@ -1,0 +1,23 @@
+-- The rules of the format come before the others.
+use Rattle.std.proofs.Common.{sym, subst}
+use Rattle.field_words.specs.Questions.{Answers, Refuses, answered}
+use Rattle.field_words.proofs.Questions.{answers_later, answered_none}
+use Rattle.job_format.specs.Faults.{format_questions}
+use Rattle.job_format.specs.Reading.{file_at}
+use Rattle.job_check.specs.Faults.{file_stages}
+use Rattle.job_check.specs.Region.{IsRegion}
+use Rattle.job_check.specs.Whole.{all_questions, format_refused}
+use Rattle.job_session.proofs.Refusals.{format_stops}
+use Rattle.job_session.proofs.rules.check_rules.Goals as goal
+
+pub returns-in-Ok : goal.returns-in-Ok
+unfolding all_questions
+returns-in-Ok c =
+    let bytes = c.args.file.now in
+    answers_later (answered format_refused (format_questions bytes)) (file_stages (file_at bytes)) (IsRegion (file_at bytes)) c.check_lists.result
+    (answered_none format_refused (format_questions bytes) c.in-Ok.ensures.read.0)
+    (subst (λ f. Answers (file_stages f) (IsRegion f) c.check_lists.result) c.in-Ok.ensures.read.1 c.check_lists.ensures.answers)
+
+pub returns-in-Err : goal.returns-in-Err
+returns-in-Err c =
+    subst (λ stop. Refuses (all_questions c.args.file.now) stop) (sym c.format_refusal.ensures) (format_stops c.args.file.now c.in-Err.stop c.in-Err.ensures.read)

@@ -1,0 +1,46 @@
+-- What a script is answered: a line for each of its calls.
+use Rattle.std.specs.Prelude.{ℕ, List, [], ◌++◌, codes, Option, Some, None}
+use Rattle.std.specs.Fmt.{decimal}
+use Rattle.field_words.specs.declared.stop.Stop.{Stop}
+use Rattle.hex.specs.Hex.{encode_lower}
+use Rattle.job_format.specs.declared.rule.Refusal.{Refusal}
+use Rattle.job_format.specs.Rules.{rule_text}
+use Rattle.script.specs.Lines.{lines_of}
+use Rattle.script.specs.Replies.{replies_from, IsScriptFault as IsFaultOf}
+use Rattle.job_session.specs.Own.{Reply, Id, Done, Bytes, Accepted, Refused, Broken}
+use Rattle.job_session.specs.Session.{Call}
+use Rattle.job_session.specs.Desk.{Desk, empty}
+use Rattle.job_session.specs.Replies.{desk_reply, desk_after}
+use Rattle.job_session.specs.Calls.{call_of, fault_line}
+
+-- a rule of shaders or of jobs is named with its place
+unfoldable pub reply_line : Reply Refusal → List ℕ
+reply_line (Id id) = codes "id " ++ (decimal id ++ codes "\n")
+reply_line Done = codes "done\n"
+reply_line (Bytes bytes) = codes "bytes " ++ (encode_lower bytes ++ codes "\n")
+reply_line Accepted = codes "accepted\n"
+reply_line (Refused refusal) = codes "refused J" ++ (decimal refusal ++ codes "\n")
+reply_line (Broken refusal) = codes "refused " ++ (rule_text refusal.rule ++ (codes " at " ++ (decimal refusal.offset ++ codes "\n")))
+
+-- the line that answers a line, which may be no call, and the desk that it leaves
+abbrev pub call_reply : Desk → Option Call → List ℕ
+call_reply desk None = []
+call_reply desk (Some call) = reply_line (desk_reply desk call)
+
+abbrev pub call_after : Desk → Option Call → Desk
+call_after desk None = desk
+call_after desk (Some call) = desk_after desk call
+
+abbrev pub line_reply : Desk → List ℕ → List ℕ
+line_reply desk line = call_reply desk (call_of line)
+
+abbrev pub line_after : Desk → List ℕ → Desk
+line_after desk line = call_after desk (call_of line)
+
+-- the answer to a script, on a session without buffers
+unfoldable pub replies : List ℕ → List ℕ
+replies text = replies_from line_reply line_after empty (lines_of text)
+
+-- a fault names the first malformed line; want of memory says nothing
+abbrev pub IsScriptFault : List ℕ → Stop ℕ → Type 0
+IsScriptFault text stop = IsFaultOf (fault_line text) stop
