@@ -1,0 +1,4 @@
+pub mod Files
+pub mod Lists
+pub mod Records
+pub mod Tables

@@ -1,0 +1,10 @@
+//! The first rule that a file breaks doesn't depend on where its buffers lie.
+#![tactic(auto)]
+
+ghost use Rattle.places_law.specs.Moved.{PlacesAreFree};
+
+/// A law: the first rule that a file breaks doesn't depend on where its buffers lie, as long as they lie well.
+#[tactic(auto, using(crate::proofs::Files::places_are_free))]
+pub fn places_are_free()
+    ensures { PlacesAreFree }
+{}

@@ -1,0 +1,15 @@
+pub mod Answering
+pub mod Bytes
+pub mod Changing
+pub mod Coding
+pub mod Creating
+pub mod Filling
+pub mod Freeing
+pub mod Keeping
+pub mod Listing
+pub mod Making
+pub mod Outcomes
+pub mod Rooms
+pub mod Scripting
+pub mod Shaders
+pub mod Writing

@@ -1,0 +1,69 @@
+-- A script is answered as the history of its calls says.
+use Rattle.std.proofs.Common.{◌≡◌, ℕ, ◌<◌, ◌≤◌, ◌&&◌, nat_le, Bool, true, false, if◌then◌else◌, List, [], ◌∷◌, ◌++◌, Option, Some, None, arith, refl, ap}
+use Rattle.std.proofs.lemmas.Bool.Decides.{nat_tests}
+use Rattle.script.specs.Lines.{before, behind, lines_of}
+use Rattle.script.specs.Number.{number_of, is_number, number_within}
+use Rattle.script.specs.Replies.{replies_from}
+use Rattle.job_session.specs.Own.{Command}
+use Rattle.job_session.specs.Session.{Call, Past, none_yet}
+use Rattle.job_session.specs.Desk.{Desk, empty}
+use Rattle.job_session.specs.Calls.{last_client, call_by, call_of, command_named}
+use Rattle.job_session.specs.Text.{reply_line, call_reply, call_after, line_reply, line_after, replies}
+use Rattle.session_law.specs.Agree.{client_count, Agrees}
+use Rattle.session_law.specs.Scripts.{told_of, past_with, told_reply, told_after, ScriptsAreOfHistories}
+use Rattle.session_law.proofs.Answering.{calls_are_answered, new_sessions_agree}
+use Rattle.session_law.proofs.Listing.{both_true}
+
+some_number : (a b : ℕ) → Some a ≡ Some b → a ≡ b
+some_number a b is = cc
+
+some_call : (a b : Call) → Some a ≡ Some b → a ≡ b
+some_call a b is = cc
+
+-- the client on a line is one of eight
+within_by : (most : ℕ) (word : List ℕ) (number : ℕ) (b : Bool) → (is_number word && nat_le (number_of word) most) ≡ b
+    → (if b then Some (number_of word) else None) ≡ Some number → number ≤ most
+within_by most word number true is found =
+    let small : nat_le (number_of word) most ≡ true = (both_true (is_number word) (nat_le (number_of word) most) is).1 in
+    let e = some_number (number_of word) number found in
+    let low : number_of word ≤ most = grind (arith, nat_tests) in
+    omega (arith, e, low)
+within_by most word number false is found = let clash : ⊥ = cc in absurd clash
+
+within : (most : ℕ) (word : List ℕ) (number : ℕ) → number_within most word ≡ Some number → number ≤ most
+unfolding number_within
+within most word number found = within_by most word number (is_number word && nat_le (number_of word) most) refl found
+
+client_of : (client : Option ℕ) (command : Option Command) (call : Call) → call_by client command ≡ Some call → client ≡ Some call.client
+client_of None command call is = let clash : ⊥ = cc in absurd clash
+client_of (Some client) None call is = let clash : ⊥ = cc in absurd clash
+client_of (Some client) (Some command) call is =
+    ap (λ (c : Call). Some c.client) (some_call (record { client = client; command = command }) call is)
+
+known : (line : List ℕ) (call : Call) → call_of line ≡ Some call → call.client < client_count
+unfolding call_of
+known line call is =
+    let client = client_of (number_within last_client (before 32 (behind 32 line))) (command_named (before 32 line) (behind 32 (behind 32 line))) call is in
+    let small = within last_client (before 32 (behind 32 line)) call.client client in
+    omega (arith, small)
+
+line_by : (past : Past) (desk : Desk) (call : Option Call) → ((c : Call) → call ≡ Some c → c.client < client_count) → Agrees past desk
+    → (call_reply desk call ≡ told_of past call) × Agrees (past_with past call) (call_after desk call)
+line_by past desk None small agrees = (refl, agrees)
+line_by past desk (Some call) small agrees =
+    let answered = calls_are_answered past desk call (small call refl) agrees in
+    (ap reply_line answered.reply, answered.left)
+
+scripts_from : (lines : List (List ℕ)) (past : Past) (desk : Desk) → Agrees past desk
+    → replies_from line_reply line_after desk lines ≡ replies_from told_reply told_after past lines
+unfolding replies_from
+scripts_from [] past desk agrees = refl
+scripts_from (line ∷ lines) past desk agrees =
+    let here = line_by past desk (call_of line) (known line) agrees in
+    let told = here.0 in
+    let later = scripts_from lines (told_after past line) (line_after desk line) here.1 in
+    λ p. told p ++ later p
+
+pub scripts_are_of_histories : ScriptsAreOfHistories
+unfolding replies
+scripts_are_of_histories text = scripts_from (lines_of text) none_yet empty new_sessions_agree

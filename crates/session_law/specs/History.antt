@@ -1,0 +1,29 @@
+-- Calls one after the other: what they leave, and what one client is replied.
+use Rattle.std.specs.Prelude.{ℕ, ◌<◌, ◌==◌, List, [], ◌∷◌, if◌then◌else◌}
+use Rattle.job_format.specs.declared.rule.Refusal.{Refusal}
+use Rattle.job_session.specs.Own.{Reply}
+use Rattle.job_session.specs.Session.{Call, Past, after}
+use Rattle.job_session.specs.Checked.{session_rules}
+use Rattle.job_session.specs.Desk.{Desk}
+use Rattle.job_session.specs.Replies.{desk_reply, desk_after}
+use Rattle.session_law.specs.Agree.{client_count}
+
+-- each call is of a client from 0 to 7
+abbrev pub AreKnown : List Call → Type 0
+AreKnown [] = Unit {0}
+AreKnown (call ∷ calls) = (call.client < client_count) × AreKnown calls
+
+unfoldable pub desk_left : Desk → List Call → Desk
+desk_left desk [] = desk
+desk_left desk (call ∷ calls) = desk_left (desk_after desk call) calls
+
+unfoldable pub past_left : Past → List Call → Past
+past_left past [] = past
+past_left past (call ∷ calls) = past_left (after session_rules past call) calls
+
+-- the replies to one client
+unfoldable pub desk_replies_to : ℕ → Desk → List Call → List (Reply Refusal)
+desk_replies_to client desk [] = []
+desk_replies_to client desk (call ∷ calls) =
+    if client == call.client then desk_reply desk call ∷ desk_replies_to client (desk_after desk call) calls
+    else desk_replies_to client (desk_after desk call) calls

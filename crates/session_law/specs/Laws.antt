@@ -1,0 +1,55 @@
+-- The calls of a session answer and leave what the calls before them, of all clients, say.
+use Rattle.std.specs.Prelude.{◌≡◌, ◌≤◌, ◌<◌, ◌↔◌, ℕ, List, Some, None}
+use Rattle.job_format.specs.declared.rule.Refusal.{Refusal}
+use Rattle.job_session.specs.Own.{Refused, own_replies}
+use Rattle.job_session.specs.Session.{Call, Past, none_yet, reply_to, after, replies_to, commands_of}
+use Rattle.job_session.specs.Places.{Place, least_place}
+use Rattle.job_session.specs.Checked.{session_rules}
+use Rattle.job_session.specs.Laws.{NoneIsFull}
+use Rattle.job_session.specs.Desk.{Desk, empty}
+use Rattle.job_session.specs.Replies.{desk_reply, desk_after}
+use Rattle.session_law.specs.Agree.{client_count, Agrees}
+use Rattle.session_law.specs.History.{AreKnown, desk_left, past_left, desk_replies_to}
+use Rattle.session_law.specs.Kept.{IsKept}
+use Rattle.session_law.specs.Full.{IsFullFor, IsLowestRoom}
+
+-- no call was made of a new session
+abbrev pub NewSessionsAgree : Type 0
+NewSessionsAgree = Agrees none_yet empty
+
+-- a call's reply is that of the calls before it, and what it leaves agrees with the calls up to it
+pub record IsAnswered (past : Past) (desk : Desk) (call : Call) : Type 0 where
+  pub reply : desk_reply desk call ≡ reply_to session_rules past call
+  pub left : Agrees (after session_rules past call) (desk_after desk call)
+
+abbrev pub CallsAreAnswered : Type 0
+CallsAreAnswered = (past : Past) (desk : Desk) (call : Call) → call.client < client_count → Agrees past desk → IsAnswered past desk call
+
+abbrev pub HistoriesAgree : Type 0
+HistoriesAgree = (calls : List Call) → AreKnown calls → Agrees (past_left none_yet calls) (desk_left empty calls)
+
+abbrev pub RepliesAreOfHistories : Type 0
+RepliesAreOfHistories = (client : ℕ) (calls : List Call) → AreKnown calls → desk_replies_to client empty calls ≡ replies_to client session_rules none_yet calls
+
+-- a client to whom no reply was that memory is full has had exactly the replies of its own commands alone
+abbrev pub ClientsAreApart : Type 0
+ClientsAreApart = (client : ℕ) (calls : List Call) → AreKnown calls → NoneIsFull Refusal (desk_replies_to client empty calls)
+    → desk_replies_to client empty calls ≡ own_replies session_rules client (λ id. None) (commands_of client calls)
+
+-- so its replies are equal in two lists of calls that have its commands alike, whatever the others do and wherever its buffers lie
+abbrev pub OthersChangeNothing : Type 0
+OthersChangeNothing = (client : ℕ) (calls others : List Call) → AreKnown calls → AreKnown others
+    → NoneIsFull Refusal (desk_replies_to client empty calls) → NoneIsFull Refusal (desk_replies_to client empty others)
+    → commands_of client calls ≡ commands_of client others → desk_replies_to client empty calls ≡ desk_replies_to client empty others
+
+abbrev pub MemoryIsKept : Type 0
+MemoryIsKept = (calls : List Call) → AreKnown calls → IsKept (past_left none_yet calls) (desk_left empty calls)
+
+-- the reply that memory is full comes exactly where it is
+abbrev pub FullIsExact : Type 0
+FullIsExact = (past : Past) (desk : Desk) (call : Call) → call.client < client_count → Agrees past desk
+    → (desk_reply desk call ≡ Refused 6) ↔ IsFullFor past call.client call.command
+
+-- the place that a new buffer takes is the lowest with room for it
+abbrev pub PlacesAreLowest : Type 0
+PlacesAreLowest = (places : List Place) (pages first : ℕ) → 1 ≤ pages → (least_place places pages ≡ Some first) ↔ IsLowestRoom places pages first
