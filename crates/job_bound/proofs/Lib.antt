@@ -1,0 +1,9 @@
+pub mod Backs
+pub mod Holds
+pub mod Items
+pub mod Lists
+pub mod Naming
+pub mod Packets
+pub mod Settled
+pub mod Tiles
+pub mod Visits

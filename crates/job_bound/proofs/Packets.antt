@@ -1,0 +1,95 @@
+-- The packets of a binner list, one after the other, and the steps that they take.
+use Rattle.std.proofs.Common.{◌≡◌, ◌≢◌, ℕ, zero, suc, ◌+◌, ◌-◌, ◌*◌, ◌/◌, ◌<◌, ◌≤◌, Bool, true, false, ◌==◌, ◌||◌, nat_lt, List, [], ◌∷◌, length, inl, inr, refl, sym, ap, subst, arith, ◌∙◌, if◌then◌else◌}
+use Rattle.std.proofs.lemmas.Bool.{or_cases, eqb-true}
+use Rattle.std.proofs.lemmas.Bool.Decides.{nat_tests}
+use Rattle.std.proofs.lemmas.Grind.{common_steps}
+use Rattle.field_words.specs.Words.{u32_at}
+use Rattle.packets.specs.Opcode.{indexed_primitive_list, array_primitive_list}
+use Rattle.packets.specs.Length.{bin_length}
+use Rattle.bin_list.specs.Packets.{opcode, front_packet, behind, cut, packets}
+use Rattle.bin_list.proofs.Walk.{front_behind, front_some, cut_nothing}
+use Rattle.list_machine.specs.Binner.{work_of, primitive_of}
+use Rattle.ends_law.specs.Left.{IsWhole, AllWhole}
+use Rattle.ends_law.specs.Steps.{draws, programs_left, work_steps, packet_steps, bin_steps}
+
+-- Cutting at most as many packets as there are bytes cuts all.
+cut_same : (n k : ℕ) (bytes : List ℕ) → length bytes ≤ n → length bytes ≤ k → cut n bytes ≡ cut k bytes
+cut_same n k [] enough more = cut_nothing n [] refl ∙ sym (cut_nothing k [] refl)
+cut_same zero k (o ∷ body) enough more = absurd (omega (arith, enough))
+cut_same (suc n) zero (o ∷ body) enough more = absurd (omega (arith, more))
+cut_same (suc n) (suc k) (o ∷ body) enough more =
+    let whole = front_behind (o ∷ body) in
+    let some = front_some (o ∷ body) (omega arith) in
+    ap (λ rest. front_packet (o ∷ body) ∷ rest) (cut_same n k (behind (o ∷ body)) (omega (arith, whole, some, enough)) (omega (arith, whole, some, more)))
+
+pub packets_none : (bytes : List ℕ) → length bytes ≡ 0 → packets bytes ≡ []
+unfolding packets
+packets_none bytes none = cut_nothing (length bytes) bytes none
+
+pub packets_more : (bytes : List ℕ) → 1 ≤ length bytes → packets bytes ≡ front_packet bytes ∷ packets (behind bytes)
+unfolding packets
+packets_more [] some = absurd (omega (arith, some))
+packets_more (o ∷ body) some =
+    let whole = front_behind (o ∷ body) in
+    let front = front_some (o ∷ body) some in
+    ap (λ rest. front_packet (o ∷ body) ∷ rest) (cut_same (length body) (length (behind (o ∷ body))) (behind (o ∷ body)) (omega (arith, whole, front)) (omega arith))
+
+-- The packet at the front is whole where all are, and takes its part of the steps.
+pub whole_more : (bytes : List ℕ) → 1 ≤ length bytes → AllWhole (packets bytes) → IsWhole (front_packet bytes) × AllWhole (packets (behind bytes))
+whole_more bytes some all = subst AllWhole (packets_more bytes some) all
+
+pub steps_more : (w : ℕ) (bytes : List ℕ) → 1 ≤ length bytes → bin_steps w (packets bytes) ≡ packet_steps w (front_packet bytes) + bin_steps w (packets (behind bytes))
+steps_more w bytes some = ap (bin_steps w) (packets_more bytes some)
+
+pub steps_none : (w : ℕ) (bytes : List ℕ) → length bytes ≡ 0 → bin_steps w (packets bytes) ≡ 0
+steps_none w bytes none = ap (bin_steps w) (packets_none bytes none)
+
+pub fewer_left : (bytes : List ℕ) → 1 ≤ length bytes → length (behind bytes) + 1 ≤ length bytes
+fewer_left bytes some =
+    let whole = front_behind bytes in
+    let front = front_some bytes some in
+    omega (arith, whole, front)
+
+-- A packet that draws has its number of vertices, and at the start of its primitive all programs are left.
+long_by : (packet : List ℕ) (o n : ℕ) → IsWhole packet → opcode packet ≡ o → bin_length o ≡ n → 6 ≤ n → 6 ≤ length packet
+long_by packet o n whole is size enough = let long : length packet ≡ n = whole.whole ∙ ap bin_length is ∙ size in omega (arith, long, enough)
+
+indexed_size : bin_length indexed_primitive_list ≡ 14
+unfolding bin_length
+indexed_size = refl
+
+array_size : bin_length array_primitive_list ≡ 10
+unfolding bin_length
+array_size = refl
+
+pub long_draw : (packet : List ℕ) → IsWhole packet → draws packet ≡ true → 6 ≤ length packet
+unfolding draws
+long_draw packet whole is =
+    elim (or_cases (opcode packet == indexed_primitive_list) (opcode packet == array_primitive_list) is) [
+      | inl indexed ↦ long_by packet indexed_primitive_list 14 whole (eqb-true (opcode packet) indexed_primitive_list indexed) indexed_size (omega arith)
+      | inr array ↦ long_by packet array_primitive_list 10 whole (eqb-true (opcode packet) array_primitive_list array) array_size (omega arith)
+    ]
+
+programs_by : (n : ℕ) (b : Bool) → nat_lt 0 n ≡ b → (if b then (n + 15) / 16 - 0 / 16 else 0) ≡ (n + 15) / 16
+programs_by n true some = omega arith
+programs_by n false none =
+    let zero_is : n ≡ 0 = grind (arith, common_steps, nat_tests, none) in
+    omega (arith, zero_is)
+
+nothing_less : (n w p : ℕ) → n - 0 + (1 + w) * (0 + p) + 1 ≡ n + (1 + w) * p + 1
+nothing_less n w p = let same : 0 + p ≡ p = omega arith in ap (λ k. n - 0 + (1 + w) * k + 1) same ∙ omega arith
+
+pub primitive_is : (w : ℕ) (packet : List ℕ) → work_steps w (work_of 0 packet) ≡ u32_at packet 2 + (1 + w) * ((u32_at packet 2 + 15) / 16) + 1
+unfolding work_steps programs_left work_of primitive_of
+primitive_is w packet =
+    let n : ℕ = u32_at packet 2 in
+    let programs = programs_by n (nat_lt 0 n) refl in
+    ap (λ k. n - 0 + (1 + w) * (0 + k) + 1) programs ∙ nothing_less n w ((n + 15) / 16)
+
+pub draw_is : (w : ℕ) (packet : List ℕ) → draws packet ≡ true → packet_steps w packet ≡ 1 + (u32_at packet 2 + (1 + w) * ((u32_at packet 2 + 15) / 16) + 1)
+unfolding packet_steps
+draw_is w packet is = ap (λ (b : Bool). 1 + (if b then work_steps w (work_of 0 packet) else 0)) is ∙ ap (λ n. 1 + n) (primitive_is w packet)
+
+pub other_is : (w : ℕ) (packet : List ℕ) → draws packet ≡ false → packet_steps w packet ≡ 1
+unfolding packet_steps
+other_is w packet is = ap (λ (b : Bool). 1 + (if b then work_steps w (work_of 0 packet) else 0)) is

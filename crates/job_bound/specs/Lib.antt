@@ -1,0 +1,4 @@
+pub mod Back
+pub mod Bound
+pub mod Frames
+pub mod Law

@@ -1,0 +1,88 @@
+//! How many steps a binner list takes.
+ghost use Rattle.std.specs.Prelude.{◌≡◌, ◌<◌, ◌≤◌, ◌+◌, ◌*◌, ◌/◌, length};
+ghost use Rattle.field_words.specs.Sizes.{most_list};
+ghost use Rattle.field_words.specs.Words.{u32_at};
+ghost use Rattle.bin_list.specs.Packets.{opcode, front_packet, behind, packets};
+ghost use Rattle.list_machine.specs.Binner.{work_of};
+ghost use Rattle.ends_law.specs.Left.{IsWhole, AllWhole};
+ghost use Rattle.ends_law.specs.Steps.{draws, work_steps, packet_steps, bin_steps};
+ghost use Rattle.job_bound.specs.Bound.{most_program, most_packet};
+
+use byteorder::{ByteOrder, LittleEndian};
+use packets::bin_taken;
+use packets::opcode::{ARRAY_PRIMITIVE_LIST, HALT, INDEXED_PRIMITIVE_LIST};
+
+/// The packet at the front of the bytes, and the bytes behind it that are still read: none behind a halt.
+#[tactic(auto, unfolding(bin_list::specs::Packets::front_packet, bin_list::specs::Packets::behind), using(bin_list::proofs::Cutting::drop_min, bin_list::proofs::Cutting::take_min))]
+fn split_front(bytes: &[u8]) -> (&[u8], &[u8])
+    requires { 1 ≤ length bytes.now }
+    ensures packet { result.0.now ≡ front_packet bytes.now }
+    ensures rest { result.1.now ≡ behind bytes.now }
+{
+    let taken = bin_taken(bytes[0]) as usize;
+    let (packet, rest) = bytes.split_at(taken.min(bytes.len()));
+    if bytes[0] == HALT {
+        return (packet, &rest[..0]);
+    }
+    (packet, rest)
+}
+
+/// Whether the packet draws a primitive.
+#[tactic(auto, unfolding(ends_law::specs::Steps::draws))]
+fn draws(packet: &[u8]) -> bool
+    requires { IsWhole packet.now }
+    ensures value { result ≡ draws packet.now }
+{
+    packet[0] == INDEXED_PRIMITIVE_LIST || packet[0] == ARRAY_PRIMITIVE_LIST
+}
+
+/// How many vertices the primitive has that a packet draws.
+#[tactic(auto, unfolding(field_words::specs::Words::u32_at))]
+fn vertices(packet: &[u8]) -> u32
+    requires { 6 ≤ length packet.now }
+    ensures { result ≡ u32_at packet.now 2 }
+{
+    LittleEndian::read_u32(&packet[2..])
+}
+
+/// The steps of a primitive of so many vertices beside its items, where no program takes more than `longest`.
+fn primitive_steps(longest: u32, vertices: u32) -> u128
+    requires { longest ≤ most_program }
+    ensures value { result ≡ vertices + (1 + longest) * ((vertices + 15) / 16) + 1 }
+    ensures few { result + 1 ≤ most_packet }
+{
+    let programs = (u128::from(vertices) + 15) / 16;
+    u128::from(vertices) + (1 + u128::from(longest)) * programs + 1
+}
+
+/// The steps that a packet takes, with those of the primitive that it draws.
+#[tactic(auto, using(crate::proofs::Packets::draw_is, crate::proofs::Packets::other_is, crate::proofs::Packets::long_draw))]
+fn packet_steps(longest: u32, packet: &[u8]) -> u128
+    requires longest { longest ≤ most_program }
+    requires whole { IsWhole packet.now }
+    ensures value { result ≡ packet_steps longest packet.now }
+    ensures few { result ≤ most_packet }
+{
+    if !draws(packet) {
+        return 1;
+    }
+    1 + primitive_steps(longest, vertices(packet))
+}
+
+/// The steps that the packets of a binner list take.
+pub fn bin_steps(longest: u32, list: &[u8]) -> u128
+    requires longest { longest ≤ most_program }
+    requires short { length list.now ≤ most_list }
+    requires whole { AllWhole (packets list.now) }
+    ensures value { result ≡ bin_steps longest (packets list.now) }
+    ensures few { result ≤ most_packet * most_list }
+{
+    let mut steps = 0;
+    let mut rest = list;
+    while !rest.is_empty() {
+        let (packet, behind) = split_front(rest);
+        steps += packet_steps(longest, packet);
+        rest = behind;
+    }
+    steps
+}

@@ -1,0 +1,158 @@
+//! The bound of a file.
+ghost use Rattle.std.specs.Prelude.{◌≡◌, ◌<◌, ◌≤◌, ◌+◌, ◌*◌, length, IfOk};
+ghost use Rattle.field_words.specs.Sizes.{most_list};
+ghost use Rattle.field_words.specs.Questions.{Answers, NamesFirst, NeverHidesFault};
+ghost use Rattle.job_format.specs.File.{IsWellFormed, Fits};
+ghost use Rattle.job_format.specs.Model.{file_view};
+ghost use Rattle.render_list.specs.Frame.{IsTileSet};
+ghost use Rattle.render_list.specs.Text.{number_where};
+ghost use Rattle.list_machine.specs.Lists.{most_items};
+ghost use Rattle.accepted_law.specs.Neighbours.{IsFaultless};
+ghost use Rattle.job_check.specs.Jobs.{job_of, has_bin, layout_of, bin_list_of};
+ghost use Rattle.job_check.specs.Faults.{table_stage, file_stages};
+ghost use Rattle.job_check.specs.Region.{region_from, IsRegion};
+ghost use Rattle.accepted_ends.specs.Bound.{longest_of, job_bound, bound_of};
+ghost use Rattle.job_bound.specs.Bound.{bound_in, most_program, most_job};
+
+use crate::binner::bin_steps;
+use crate::jobs::job_at;
+use crate::named::{first_loop, longest};
+use crate::programs::programs_of;
+use crate::renderer::frame_steps;
+use field_words::{NoMemory, Stop};
+use job_check::{Region, check_lists};
+use job_format::{Frame, JobFile, Refusal};
+use std::alloc::Global;
+
+/// What is known of how many steps the jobs of a file take.
+#[derive(Clone, Copy, Debug, PartialEq, Eq)]
+pub enum Bound {
+    /// No shader that a handle names has a loop: each run has at most `most` steps, and `stay` more for each step in which a renderer
+    /// stays at an item.
+    Steps { most: u128, stay: u32 },
+    /// The first branch that leads back stands at this place in the file.
+    Loops { offset: u64 },
+}
+
+/// Where in the region the binner list of the job of this number begins.
+fn bin_place(file: &JobFile, number: usize, region: &Region) -> usize
+    requires region { IsRegion (file_view file.now) region.now }
+    requires inside { number < length file.now.jobs.items }
+    ensures { result ≡ region_from (file_view file.now) number + (layout_of (file_view file.now) number).bin }
+{
+    let layout = &region.layouts[number];
+    (layout.place - file.regions.lists_place) as usize + layout.bin as usize
+}
+
+/// How many bytes the binner list of the job of this number has.
+fn bin_length(file: &JobFile, number: usize, region: &Region) -> usize
+    requires region { IsRegion (file_view file.now) region.now }
+    requires inside { number < length file.now.jobs.items }
+    ensures { result ≡ length (bin_list_of (file_view file.now) number) }
+{
+    region.lengths[number].bin as usize
+}
+
+/// The binner list that the hardware is given for the job of this number.
+fn bin_list<'a>(file: &JobFile, number: usize, region: &'a Region) -> &'a [u8]
+    requires faultless { IsFaultless (file_view file.now) }
+    requires region { IsRegion (file_view file.now) region.now }
+    requires inside { number < length file.now.jobs.items }
+    ensures value { result.now ≡ bin_list_of (file_view file.now) number }
+    ensures short { length result.now ≤ most_list }
+{
+    let from = bin_place(file, number, region);
+    &region.bytes[from..from + bin_length(file, number, region)]
+}
+
+/// Whether the job of this number has a binner list.
+#[tactic(auto, unfolding(job_check::specs::Jobs::has_bin))]
+fn has_bin(file: &JobFile, number: usize) -> bool
+    requires { number < length file.now.jobs.items }
+    ensures { result ≡ has_bin (file_view file.now) number }
+{
+    job_at(file, number).bin.len() != 0
+}
+
+/// The frame of the job of this number.
+fn frame_at(file: &JobFile, number: usize) -> &Frame
+    requires faultless { IsFaultless (file_view file.now) }
+    requires inside { number < length file.now.jobs.items }
+    ensures value { result.now ≡ (job_of (file_view file.now) number).frame }
+    ensures set { IsTileSet result.now }
+{
+    &job_at(file, number).frame
+}
+
+/// The steps for the 32,768 items that the tile lists of a job may have. Each is put once, and the renderer goes past it once where
+/// there is a binner list.
+fn items_steps(has_bin: bool) -> u128
+    ensures { result ≡ most_items * (1 + number_where has_bin 1) }
+{
+    if has_bin { 65536 } else { 32768 }
+}
+
+/// The most steps of the job of this number.
+fn job_bound(file: &JobFile, number: usize, region: &Region, longest: u32) -> u128
+    requires faultless { IsFaultless (file_view file.now) }
+    requires inside { number < length file.now.jobs.items }
+    requires region { IsRegion (file_view file.now) region.now }
+    requires longest { longest ≡ longest_of (file_view file.now) }
+    requires few { longest ≤ most_program }
+    ensures value { result ≡ job_bound (file_view file.now) number }
+    ensures limit { result ≤ most_job }
+{
+    let has_bin = has_bin(file, number);
+    let list = bin_list(file, number, region);
+    let frame = frame_at(file, number);
+    bin_steps(longest, list) + items_steps(has_bin) + u128::from(frame_steps(frame, has_bin))
+}
+
+/// The most steps of all jobs.
+fn all_steps(file: &JobFile, region: &Region, longest: u32) -> u128
+    requires faultless { IsFaultless (file_view file.now) }
+    requires region { IsRegion (file_view file.now) region.now }
+    requires longest { longest ≡ longest_of (file_view file.now) }
+    requires few { longest ≤ most_program }
+    ensures { result ≡ bound_of (file_view file.now) }
+{
+    let mut steps = 0;
+    for number in 0..file.jobs.len() {
+        steps += job_bound(file, number, region, longest);
+    }
+    steps
+}
+
+/// The bound of an accepted file with these lists.
+#[tactic(auto, unfolding(crate::specs::Bound::bound_in))]
+fn bound_with(alloc: Global, file: &JobFile, region: &Region) -> Result<Bound, NoMemory>
+    requires faultless { IsFaultless (file_view file.now) }
+    requires region { IsRegion (file_view file.now) region.now }
+    ensures { IfOk result (λ bound. bound ≡ bound_in (file_view file.now)) }
+{
+    let programs = programs_of(alloc, file)?;
+    if let Some(offset) = first_loop(file, &programs) {
+        return Ok(Bound::Loops { offset });
+    }
+    let longest = longest(file, &programs);
+    Ok(Bound::Steps {
+        most: all_steps(file, region, longest),
+        stay: longest + 1,
+    })
+}
+
+/// Checks a file that was read, and tells how many steps its jobs take at most. `Ok` comes exactly where no rule of the file stands. No
+/// memory of the jobs is made. It takes time and memory in proportion to the file: each shader is looked at once, however many handles
+/// name it.
+///
+/// # Errors
+/// The first rule that stands, with its place in the file; or want of memory, which never hides a rule of the memory table.
+pub fn find_bound(alloc: Global, file: &JobFile) -> Result<Bound, Stop<Refusal>>
+    requires well_formed { IsWellFormed (file_view file.now) }
+    requires fits { Fits (file_view file.now) }
+    ensures answers { Answers (file_stages (file_view file.now)) (λ bound. bound ≡ bound_in (file_view file.now)) result }
+    ensures memory { NeverHidesFault (table_stage (file_view file.now)) result }
+{
+    let region = check_lists(alloc, file)?;
+    Ok(bound_with(alloc, file, &region)?)
+}

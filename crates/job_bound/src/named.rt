@@ -1,0 +1,84 @@
+//! The shaders that the handles of jobs name.
+ghost use Rattle.std.specs.Prelude.{◌≡◌, ◌<◌, ◌≤◌, length};
+ghost use Rattle.field_words.specs.Questions.{first_of};
+ghost use Rattle.job_format.specs.Model.{file_view};
+ghost use Rattle.accepted_law.specs.Neighbours.{IsFaultless};
+ghost use Rattle.job_check.specs.Jobs.{job_of};
+ghost use Rattle.accepted_ends.specs.Bound.{steps, shader_named, job_longest, longest_of};
+ghost use Rattle.job_bound.specs.Back.{handle_branches, job_branches, first_loop};
+ghost use Rattle.job_bound.specs.Bound.{AreProgramsOf, most_program};
+
+use crate::jobs::job_at;
+use crate::programs::Program;
+use job_format::JobFile;
+
+/// The shader that handle `i` of the job of this number names.
+fn program_named(file: &JobFile, number: usize, i: usize, programs: &[Program]) -> Program
+    requires faultless { IsFaultless (file_view file.now) }
+    requires programs { AreProgramsOf (file_view file.now) programs.now }
+    requires inside { number < length file.now.jobs.items }
+    requires handle { i < length (job_of (file_view file.now) number).handles }
+    ensures steps { result.steps ≡ steps (shader_named (file_view file.now) number i) }
+    ensures back { result.back ≡ first_of (handle_branches (file_view file.now) number i) }
+    ensures few { result.steps ≤ most_program }
+{
+    programs[job_at(file, number).handles[i] as usize]
+}
+
+/// The most steps that a program takes of a shader that a handle of the job of this number names.
+fn job_longest(file: &JobFile, number: usize, programs: &[Program]) -> u32
+    requires faultless { IsFaultless (file_view file.now) }
+    requires programs { AreProgramsOf (file_view file.now) programs.now }
+    requires inside { number < length file.now.jobs.items }
+    ensures value { result ≡ job_longest (file_view file.now) number }
+    ensures few { result ≤ most_program }
+{
+    let mut longest = 0;
+    for i in 0..job_at(file, number).handles.len() {
+        longest = longest.max(program_named(file, number, i, programs).steps);
+    }
+    longest
+}
+
+/// The most steps that a program takes of a shader that a handle names.
+pub fn longest(file: &JobFile, programs: &[Program]) -> u32
+    requires faultless { IsFaultless (file_view file.now) }
+    requires programs { AreProgramsOf (file_view file.now) programs.now }
+    ensures value { result ≡ longest_of (file_view file.now) }
+    ensures few { result ≤ most_program }
+{
+    let mut longest = 0;
+    for number in 0..file.jobs.len() {
+        longest = longest.max(job_longest(file, number, programs));
+    }
+    longest
+}
+
+/// Where in the file the first branch stands that leads back, of the shaders that the handles of the job of this number name.
+fn job_back(file: &JobFile, number: usize, programs: &[Program]) -> Option<u64>
+    requires faultless { IsFaultless (file_view file.now) }
+    requires programs { AreProgramsOf (file_view file.now) programs.now }
+    requires inside { number < length file.now.jobs.items }
+    ensures { result ≡ first_of (job_branches (file_view file.now) number) }
+{
+    for i in 0..job_at(file, number).handles.len() {
+        if let Some(offset) = program_named(file, number, i, programs).back {
+            return Some(offset);
+        }
+    }
+    None
+}
+
+/// Where in the file the first branch stands that leads back, by job and by handle.
+pub fn first_loop(file: &JobFile, programs: &[Program]) -> Option<u64>
+    requires faultless { IsFaultless (file_view file.now) }
+    requires programs { AreProgramsOf (file_view file.now) programs.now }
+    ensures { result ≡ first_loop (file_view file.now) }
+{
+    for number in 0..file.jobs.len() {
+        if let Some(offset) = job_back(file, number, programs) {
+            return Some(offset);
+        }
+    }
+    None
+}

@@ -1,0 +1,93 @@
+//! The shaders of a file, each looked at once.
+ghost use Rattle.std.specs.Prelude.{◌≡◌, ◌<◌, ◌≤◌, ◌^◌, length, IfOk, Some};
+ghost use Rattle.field_words.specs.Sizes.{most_code};
+ghost use Rattle.buffer_table.specs.Table.{buffer_at};
+ghost use Rattle.buffer_table.specs.declared.buffer.Kind.TheVariants.{Code as CodeKind};
+ghost use Rattle.job_format.specs.File.{IsWellFormed};
+ghost use Rattle.job_format.specs.Model.{file_view};
+ghost use Rattle.job_check.specs.Offsets.{content_offset};
+ghost use Rattle.job_check.specs.Shaders.{words_of, content_of};
+ghost use Rattle.job_bound.specs.Bound.{code_in, IsProgramOf, AreProgramsOf};
+
+use crate::back::first_back;
+use buffer_table::Kind;
+use field_words::NoMemory;
+use job_check::words_of;
+use job_format::{ENTRY_SIZE, HEADER_SIZE, JOB_SIZE, JobFile};
+use shader_flow::flow;
+use std::alloc::Global;
+
+/// What is kept of the shader in a buffer: the most steps of a program of it, where it doesn't loop, and where in the file its first
+/// branch stands that leads back. A Plain buffer has no steps and no branch.
+#[derive(Clone, Copy, Debug, PartialEq, Eq)]
+pub struct Program {
+    pub steps: u32,
+    pub back: Option<u64>,
+}
+
+/// The contents of buffer `b`.
+fn content_at(file: &JobFile, b: usize) -> &[u8]
+    requires well_formed { IsWellFormed (file_view file.now) }
+    requires inside { b < length file.now.buffers.items }
+    ensures value { result.now ≡ content_of (file_view file.now) b }
+    ensures few { (buffer_at file.now.buffers.items b).kind ≡ CodeKind → length result.now ≤ most_code }
+{
+    &file.contents[b]
+}
+
+/// The shader that these bytes hold, which stand at `place` in the file.
+#[tactic(auto, unfolding(ends_law::specs::Loops::program_steps))]
+fn program_in(alloc: Global, bytes: &[u8], place: u64) -> Result<Program, NoMemory>
+    requires few { length bytes.now ≤ most_code }
+    requires low { place < 2 ^ 62 }
+    ensures { IfOk result (IsProgramOf (Some (words_of bytes.now)) place) }
+{
+    let code = words_of(alloc, bytes)?;
+    let end = flow(alloc, &code)?.end;
+    Ok(Program {
+        steps: 2 * (end + 3),
+        back: first_back(&code, end, place),
+    })
+}
+
+/// The shader in buffer `b`, whose contents stand at `place` in the file.
+#[tactic(auto, unfolding(crate::specs::Bound::code_in, buffer_table::specs::Table::buffer_at))]
+fn program_at(alloc: Global, file: &JobFile, b: usize, place: u64) -> Result<Program, NoMemory>
+    requires well_formed { IsWellFormed (file_view file.now) }
+    requires inside { b < length file.now.buffers.items }
+    requires low { place < 2 ^ 62 }
+    ensures { IfOk result (IsProgramOf (code_in (file_view file.now) b) place) }
+{
+    match file.buffers[b].kind {
+        Kind::Plain => Ok(Program {
+            steps: 0,
+            back: None,
+        }),
+        Kind::Code => program_in(alloc, content_at(file, b), place),
+    }
+}
+
+/// Where in the file the contents of the first buffer stand.
+#[tactic(auto, unfolding(job_check::specs::Offsets::content_offset, job_check::specs::Offsets::job_offset))]
+fn contents_place(file: &JobFile) -> u64
+    requires { IsWellFormed (file_view file.now) }
+    ensures value { result ≡ content_offset (file_view file.now) 0 }
+    ensures low { result < 2 ^ 32 }
+{
+    let entries = ENTRY_SIZE as u64 * file.buffers.len() as u64;
+    HEADER_SIZE as u64 + entries + JOB_SIZE as u64 * file.jobs.len() as u64
+}
+
+/// The shaders of all buffers, of which one may be named by many handles.
+pub fn programs_of(alloc: Global, file: &JobFile) -> Result<Vec<Program>, NoMemory>
+    requires { IsWellFormed (file_view file.now) }
+    ensures { IfOk result (λ programs. AreProgramsOf (file_view file.now) programs.items) }
+{
+    let mut programs = Vec::new(alloc);
+    let mut place = contents_place(file);
+    for b in 0..file.buffers.len() {
+        programs.push(program_at(alloc, file, b, place)?)?;
+        place += u64::from(file.buffers[b].content);
+    }
+    Ok(programs)
+}
