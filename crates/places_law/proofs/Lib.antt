@@ -1,4 +1,7 @@
 pub mod Files
+pub mod Formats
 pub mod Lists
 pub mod Records
 pub mod Tables
+pub mod Wholes
+pub mod Words

@@ -1,9 +1,14 @@
 -- A file whose buffers lie at other places.
-use Rattle.std.specs.Prelude.{◌≡◌, List, map, None}
+use Rattle.std.specs.Prelude.{◌≡◌, ℕ, List, ◌++◌, length, map, None}
+use Rattle.std.specs.List.{flat_map}
 use Rattle.field_words.specs.Questions.{first_of}
 use Rattle.buffer_table.specs.declared.buffer.Buffer.{Buffer}
 use Rattle.job_format.specs.Model.{FileModel}
+use Rattle.job_format.specs.Offsets.{header_size, buffer_count}
+use Rattle.job_format.specs.Reading.{file_at}
+use Rattle.job_format.specs.Text.{buffer_text}
 use Rattle.job_check.specs.Faults.{table_stage, file_stages}
+use Rattle.job_check.specs.Whole.{refusal_of}
 
 -- a buffer's entry without its place
 abbrev pub placeless : Buffer → Buffer
@@ -26,3 +31,21 @@ abbrev pub PlacesAreFree : Type 0
 PlacesAreFree = (f : FileModel) (buffers : List Buffer) → map placeless buffers ≡ map placeless f.buffers
     → first_of (table_stage f) ≡ None → first_of (table_stage (moved f buffers)) ≡ None
     → first_of (file_stages (moved f buffers)) ≡ first_of (file_stages f)
+
+-- Bytes of two files with the same header, the same entries of buffers but for their places, and the same bytes behind the entries.
+pub record AreMoved (bytes other : List ℕ) : Type 0 where
+  pub head : List ℕ
+  pub buffers : List Buffer
+  pub others : List Buffer
+  pub tail : List ℕ
+  pub one : bytes ≡ head ++ (flat_map buffer_text buffers ++ tail)
+  pub two : other ≡ head ++ (flat_map buffer_text others ++ tail)
+  pub header : length head ≡ header_size
+  pub count : buffer_count head ≡ length buffers
+  pub same : map placeless others ≡ map placeless buffers
+
+-- The same for bytes: such files are refused alike.
+abbrev pub MovedAreAlike : Type 0
+MovedAreAlike = (bytes other : List ℕ) → AreMoved bytes other
+    → first_of (table_stage (file_at bytes)) ≡ None → first_of (table_stage (file_at other)) ≡ None
+    → refusal_of other ≡ refusal_of bytes
