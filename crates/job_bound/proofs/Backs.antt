@@ -1,5 +1,5 @@
 -- A branch that leads back, of a shader that a handle names: there is one exactly where that shader, and so the file, has a loop.
-use Rattle.std.proofs.Common.{◌≡◌, ◌↔◌, ℕ, zero, suc, ◌+◌, ◌*◌, ◌<◌, ◌≤◌, Bool, true, false, List, [], ◌∷◌, length, Option, Some, None, refl, sym, ap, arith, ◌∙◌}
+use Rattle.std.proofs.Common.{◌≡◌, ℕ, zero, suc, ◌+◌, ◌*◌, ◌<◌, ◌≤◌, Bool, true, false, List, [], ◌∷◌, length, Option, Some, None, refl, arith, ◌∙◌}
 use Rattle.std.specs.Prelude.{slice_index}
 use Rattle.field_words.specs.Questions.{Question, Ask, first_of, each}
 use Rattle.field_words.proofs.Questions.{passes}

@@ -1,5 +1,5 @@
 -- The numbers bound each run.
-use Rattle.std.proofs.Common.{◌≡◌, ◌≤◌, ℕ, ◌+◌, ◌*◌, List, Option, Some, None, refl, sym, ap, subst, arith, ◌∙◌}
+use Rattle.std.proofs.Common.{◌≡◌, ℕ, ◌+◌, List, Option, Some, None, refl, subst, arith}
 use Rattle.machine_plan.specs.Regions.{Rights}
 use Rattle.machine.specs.State.{Units, units_start}
 use Rattle.job_format.specs.File.{IsFileOf}

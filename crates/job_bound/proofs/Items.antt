@@ -1,9 +1,8 @@
 -- The parts of a job's bound.
-use Rattle.std.proofs.Common.{◌≡◌, ℕ, zero, suc, ◌+◌, ◌*◌, ◌<◌, ◌≤◌, Bool, true, false, ◌||◌, nat_le, ◌++◌, List, [], ◌∷◌, length, map, Option, Some, None, is_some, if◌then◌else◌, refl, sym, ap, subst, arith, ◌∙◌}
+use Rattle.std.proofs.Common.{◌≡◌, ℕ, zero, suc, ◌+◌, ◌*◌, ◌<◌, Bool, true, false, ◌||◌, nat_le, ◌++◌, List, [], ◌∷◌, length, Option, Some, None, is_some, if◌then◌else◌, refl, sym, ap, subst, arith, ◌∙◌}
 use Rattle.std.specs.List.{range_with_len, sum_by}
 use Rattle.std.proofs.lemmas.List.Sums.{sum_by-cons}
 use Rattle.field_words.specs.Questions.{first_of, each}
-use Rattle.field_words.specs.Pieces.{joined}
 use Rattle.field_words.proofs.Questions.{none_stands}
 use Rattle.field_words.proofs.Nones.{front_none}
 use Rattle.buffer_table.specs.Table.{TableModel}
@@ -29,7 +28,7 @@ use Rattle.accepted_law.proofs.BinWalking.{bins_walk_law}
 use Rattle.accepted_law.proofs.Joining.{all_ground}
 use Rattle.accepted_law.proofs.RenderWalking.{frame_setup}
 use Rattle.ends_law.specs.Left.{AllWhole}
-use Rattle.ends_law.specs.Steps.{bin_steps, most_visits, render_steps, job_steps}
+use Rattle.ends_law.specs.Steps.{bin_steps, render_steps, job_steps}
 use Rattle.accepted_ends.specs.Bound.{job_bound, longest_of}
 use Rattle.accepted_ends.proofs.Cut.{packets_walk}
 use Rattle.job_bound.specs.Frames.{frame_steps}

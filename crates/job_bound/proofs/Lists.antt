@@ -1,5 +1,5 @@
 -- The emitted binner list of a job is a part of the region of all lists.
-use Rattle.std.proofs.Common.{◌≡◌, ℕ, zero, suc, ◌+◌, ◌-◌, ◌<◌, ◌≤◌, List, [], ◌∷◌, length, get_or, take, drop, map, zero-add, inl, inr, refl, sym, ap, subst, arith, ◌∙◌}
+use Rattle.std.proofs.Common.{◌≡◌, ℕ, zero, suc, ◌+◌, ◌<◌, ◌≤◌, List, [], ◌∷◌, length, get_or, take, drop, zero-add, inl, inr, refl, sym, ap, subst, arith, ◌∙◌}
 use Rattle.std.proofs.lemmas.Bool.{cases_lt}
 use Rattle.std.proofs.lemmas.List.{places, same_lists}
 use Rattle.std.proofs.lemmas.List.FromFn.{get_or-map-range_with_len}
@@ -18,7 +18,6 @@ use Rattle.job_check.proofs.Emission.{contents_fit}
 use Rattle.job_check.proofs.Layouts.{lists_inside, lists_apart}
 use Rattle.job_check.proofs.Regions.{zeros_long, size_more, from_is, memory_made}
 use Rattle.job_check.proofs.Windows.{length_placed}
-use Rattle.machine_plan.specs.Memory.{bytes_at}
 use Rattle.accepted_law.specs.Neighbours.{IsFaultless}
 use Rattle.accepted_law.specs.Settled.{Settled, Grounds}
 use Rattle.accepted_law.proofs.Joining.{all_ground}

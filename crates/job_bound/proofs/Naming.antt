@@ -1,13 +1,12 @@
 -- The shaders in buffers, and those that handles name.
-use Rattle.std.proofs.Common.{◌≡◌, ℕ, zero, suc, ◌+◌, ◌*◌, ◌<◌, ◌≤◌, Bool, true, false, ◌&&◌, not, max, List, [], ◌∷◌, ◌++◌, length, get_or, map, sum, take, Option, Some, None, refl, sym, ap, subst, arith, ◌∙◌, if◌then◌else◌, inl, inr, length-append}
-use Rattle.std.specs.Prelude.{slice_index, nat_lt}
+use Rattle.std.proofs.Common.{◌≡◌, ℕ, suc, ◌+◌, ◌<◌, ◌≤◌, true, ◌&&◌, not, max, List, [], ◌∷◌, ◌++◌, length, get_or, take, Some, None, refl, sym, ap, subst, arith, ◌∙◌, if◌then◌else◌, inl, inr, length-append}
+use Rattle.std.specs.Prelude.{slice_index}
 use Rattle.std.proofs.lemmas.Bool.Decides.{nat_tests}
 use Rattle.std.proofs.lemmas.Grind.{common_steps}
 use Rattle.std.proofs.lemmas.List.{get_or_append_left, get_or_default}
 use Rattle.std.proofs.Math.Seq.{get_or-append_seam}
 use Rattle.std.proofs.lemmas.Bool.{cases_lt}
 use Rattle.std.proofs.lemmas.List.Sums.{sum_by_more, sum-map}
-use Rattle.field_words.specs.Questions.{first_of, each}
 use Rattle.buffer_table.specs.declared.buffer.Buffer.{Buffer}
 use Rattle.buffer_table.specs.declared.buffer.Kind.{Kind}
 use Rattle.buffer_table.specs.declared.buffer.Kind.TheVariants.{Plain, Code}
@@ -15,10 +14,9 @@ use Rattle.buffer_table.specs.Table.{buffer_at, past_end}
 use Rattle.buffer_table.specs.Handles.{AreNumbersOf, is_plain, is_named, code_of}
 use Rattle.job_format.specs.Model.{FileModel, JobModel}
 use Rattle.job_check.specs.Jobs.{job_of}
-use Rattle.job_check.specs.Offsets.{job_offset, content_offset}
-use Rattle.job_check.specs.Shaders.{table_of, content_of, words_of}
-use Rattle.accepted_ends.specs.Bound.{shader_in, shader_named, steps, greatest_below, job_longest, longest_of}
-use Rattle.job_bound.specs.Back.{branches, handle_branches}
+use Rattle.job_check.specs.Offsets.{content_offset}
+use Rattle.job_check.specs.Shaders.{table_of, content_of}
+use Rattle.accepted_ends.specs.Bound.{shader_in, shader_named, greatest_below}
 use Rattle.job_bound.specs.Bound.{code_for, code_in, IsProgramOf, AreProgramsUpTo, no_program}
 use Rattle.job_bound.specs.declared.programs.Program.{Program}
 
@@ -90,7 +88,7 @@ program_is f j i number programs numbers all inside is =
     let below : handle < length f.buffers = numbers i inside in (
       omega (arith, below, is, all.count),
       subst (λ code. IsProgramOf code (content_offset f handle) (get_or programs number no_program)) (sym (named_at f j i numbers inside))
-      (subst (λ k. IsProgramOf (code_in f handle) (content_offset f handle) (get_or programs k no_program)) (sym is) (all.each handle below)),
+          (subst (λ k. IsProgramOf (code_in f handle) (content_offset f handle) (get_or programs k no_program)) (sym is) (all.each handle below)),
     )
 
 -- the greatest so far, and one more

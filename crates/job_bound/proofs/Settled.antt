@@ -1,5 +1,5 @@
 -- What is known of each job of a faultless file.
-use Rattle.std.proofs.Common.{◌≡◌, ℕ, ◌<◌, length}
+use Rattle.std.proofs.Common.{ℕ, ◌<◌, length}
 use Rattle.buffer_table.specs.Handles.{AreNumbersOf}
 use Rattle.job_format.specs.Model.{FileModel}
 use Rattle.job_check.specs.Jobs.{job_of}

@@ -9,9 +9,7 @@ use std::test::Fail;
 const HEADER: [u32; 9] = [0x4a34_4356, 2, 0x8_3000, 0, 0x1000, 0x1000, 1, 2, 1];
 
 /// A page of pixels with no contents, and one of code with 64 bytes.
-const BUFFERS: [u32; 10] = [
-    0x8_1000, 0x1000, 1, 0, 0, 0x8_2000, 0x1000, 1, 1, 64,
-];
+const BUFFERS: [u32; 10] = [0x8_1000, 0x1000, 1, 0, 0, 0x8_2000, 0x1000, 1, 1, 64];
 
 /// 16 by 16 pixels, which are one tile, with colour write in raster rows of the job's first buffer.
 const FRAME: [u32; 24] = [

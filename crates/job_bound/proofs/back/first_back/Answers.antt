@@ -1,6 +1,6 @@
 -- A branch that leads on leaves the answer to those after it; the first that leads back is the answer.
-use Rattle.std.proofs.Common.{◌≡◌, ◌<◌, ◌+◌, ◌*◌, true, false, [], Some, None, if◌then◌else◌, sym, ap, arith, ◌∙◌}
-use Rattle.field_words.specs.Questions.{Ask, first_of}
+use Rattle.std.proofs.Common.{◌≡◌, ◌<◌, ◌+◌, ◌*◌, Some, None, if◌then◌else◌, sym, ap, arith, ◌∙◌}
+use Rattle.field_words.specs.Questions.{first_of}
 use Rattle.field_words.proofs.Questions.{each_on, each_stop, each_end}
 use Rattle.shader_flow.specs.Flow.{end_of}
 use Rattle.shader_flow.proofs.Ends.{end_of-le}

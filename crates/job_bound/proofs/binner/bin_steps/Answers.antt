@@ -1,6 +1,6 @@
 -- One packet more is cut off the front of the bytes that are left.
-use Rattle.std.proofs.Common.{◌≡◌, ◌≤◌, ◌+◌, List, length, ℕ, sym, ap, subst, arith, ◌∙◌}
-use Rattle.bin_list.specs.Packets.{front_packet, packets}
+use Rattle.std.proofs.Common.{◌≡◌, List, length, ℕ, sym, ap, subst, arith, ◌∙◌}
+use Rattle.bin_list.specs.Packets.{packets}
 use Rattle.bin_list.proofs.Walk.{some_left, none_left}
 use Rattle.ends_law.specs.Left.{IsWhole, AllWhole}
 use Rattle.ends_law.specs.Steps.{packet_steps, bin_steps}

@@ -1,4 +1,4 @@
-use Rattle.std.proofs.Common.{◌≡◌, ◌≤◌, ◌+◌, ◌*◌, length, ℕ}
+use Rattle.std.proofs.Common.{◌≡◌, ◌≤◌, ◌+◌, ◌*◌, length}
 use Rattle.bin_list.specs.Packets.{packets}
 use Rattle.ends_law.specs.Left.{AllWhole}
 use Rattle.ends_law.specs.Steps.{bin_steps}

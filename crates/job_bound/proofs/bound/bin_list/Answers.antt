@@ -1,5 +1,5 @@
 -- The list is a part of the region.
-use Rattle.std.proofs.Common.{◌≡◌, ◌<◌, ◌≤◌, ◌+◌, ◌-◌, length, take, drop, arith, ap, sym, ◌∙◌}
+use Rattle.std.proofs.Common.{◌≡◌, ◌<◌, ◌+◌, ◌-◌, length, take, drop, arith, ap, ◌∙◌}
 use Rattle.std.proofs.lemmas.List.{length-map}
 use Rattle.job_format.specs.Model.{file_view, job_view}
 use Rattle.job_check.specs.Jobs.{layout_of, bin_list_of}

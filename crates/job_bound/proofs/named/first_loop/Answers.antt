@@ -1,5 +1,5 @@
 -- A job without a branch that leads back leaves the answer to those after it; the first with one is the answer.
-use Rattle.std.proofs.Common.{◌≡◌, ◌<◌, ◌≤◌, length, Some, None, sym, ap, arith, ◌∙◌}
+use Rattle.std.proofs.Common.{◌≡◌, length, Some, None, sym, arith, ◌∙◌}
 use Rattle.std.proofs.lemmas.List.{length-map}
 use Rattle.field_words.specs.Questions.{first_of}
 use Rattle.field_words.proofs.Questions.{each_on, each_stop, each_end}

@@ -1,5 +1,5 @@
 -- A handle without a branch that leads back leaves the answer to those after it; the first with one is the answer.
-use Rattle.std.proofs.Common.{◌≡◌, ◌<◌, ◌≤◌, length, Some, None, sym, ap, arith, ◌∙◌}
+use Rattle.std.proofs.Common.{◌≡◌, length, Some, None, sym, ap, arith, ◌∙◌}
 use Rattle.field_words.specs.Questions.{first_of}
 use Rattle.field_words.proofs.Questions.{each_on, each_stop, each_end}
 use Rattle.job_format.specs.Model.{file_view}

@@ -1,9 +1,8 @@
 -- The words are at most 8,192, and so the program end lies below.
-use Rattle.std.proofs.Common.{◌≡◌, ◌≤◌, ◌+◌, ◌*◌, ◌/◌, length, sym, ap, subst, arith, ◌∙◌, Some}
+use Rattle.std.proofs.Common.{◌+◌, ◌*◌, ◌/◌, length, ap, arith, ◌∙◌, Some}
 use Rattle.field_words.specs.Questions.{first_of}
 use Rattle.shader_flow.proofs.Ends.{end_of-le}
 use Rattle.shader_flow.specs.Flow.{end_of}
-use Rattle.job_check.specs.Shaders.{words_of}
 use Rattle.job_check.proofs.Codes.{length_words}
 use Rattle.ends_law.specs.Loops.{program_steps}
 use Rattle.job_bound.specs.Back.{branches}

@@ -1,11 +1,10 @@
 -- One shader more is kept, and the next one's contents stand behind its own.
-use Rattle.std.proofs.Common.{◌≡◌, ◌<◌, ◌+◌, [], ◌∷◌, ◌++◌, length, sym, ap, subst, arith, ◌∙◌}
+use Rattle.std.proofs.Common.{◌≡◌, ◌<◌, ◌+◌, length, sym, ap, subst, arith, ◌∙◌}
 use Rattle.std.proofs.lemmas.List.{get_or_default}
 use Rattle.buffer_table.specs.Table.{buffer_at, past_end}
 use Rattle.job_format.specs.Model.{file_view}
-use Rattle.job_check.specs.Offsets.{content_offset}
 use Rattle.job_bound.specs.Bound.{code_in, IsProgramOf, AreProgramsUpTo}
-use Rattle.job_bound.proofs.Naming.{offset_more, programs_none, programs_more}
+use Rattle.job_bound.proofs.Naming.{offset_more, programs_more}
 use Rattle.job_bound.proofs.programs.programs_of.Goals as goal
 
 pub loop-b-preserved : goal.loop-b-preserved
