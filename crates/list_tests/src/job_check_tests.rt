@@ -1,6 +1,6 @@
 //! Files of two jobs, worked by hand.
-use job_check::check_bytes;
 use field_words::Stop;
+use job_check::check_bytes;
 use job_format::{Refusal, Rule, Stage};
 use relocation::Layout;
 use std::alloc::{AllocError, Global};

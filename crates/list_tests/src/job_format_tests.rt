@@ -3,8 +3,8 @@ ghost use Rattle.std.specs.Prelude.{IfOk};
 ghost use Rattle.job_format.specs.File.{IsWellFormed};
 ghost use Rattle.job_format.specs.Model.{file_view};
 
-use job_format::{JobFile, Rule, Stage, read_job, upgrade_file, write_job};
 use field_words::Stop;
+use job_format::{JobFile, Rule, Stage, read_job, upgrade_file, write_job};
 use std::alloc::{AllocError, Global};
 use std::test::*;
 

@@ -1,11 +1,11 @@
 //! Frames, their faults and their lists, worked by hand.
 ghost use Rattle.std.specs.Prelude.{◌<◌};
 
-use render_list::{build, check_surfaces, render_size};
 use buffer_table::{Buffer, Handles, Kind, Regions, Table, TableFault};
 use field_words::Stop;
 use job_format::{Frame, Surface};
 use relocation::Layout;
+use render_list::{build, check_surfaces, render_size};
 use std::alloc::Global;
 use std::process::Abort;
 use std::test::Fail;

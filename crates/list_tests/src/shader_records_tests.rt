@@ -5,12 +5,12 @@ ghost use Rattle.qpu_isa.specs.Shader.{shader_view, IsSoundShader};
 ghost use Rattle.shader_records.specs.Inputs.{AreShadersOf, shaders_view};
 ghost use Rattle.list_tests.specs.Examples.{HasThree};
 
-use shader_records::{RecordInfo, check_records};
 use bin_list::State;
 use buffer_table::{Buffer, Handles, Kind, Regions, Table};
 use field_words::Stop;
 use qpu_isa::{Sample, ShaderInfo};
 use relocation::Layout;
+use shader_records::{RecordInfo, check_records};
 use std::alloc::{AllocError, Global};
 use std::test::Fail;
 

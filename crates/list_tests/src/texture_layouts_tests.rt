@@ -1,5 +1,8 @@
 //! Worked examples of the rules of textures and of where their levels lie.
-use texture_layouts::{Texture, Tiling, direct_fits, level_size, microtile_height, microtile_place, microtile_width, pixel_place, texture_fits};
+use texture_layouts::{
+    Texture, Tiling, direct_fits, level_size, microtile_height, microtile_place, microtile_width,
+    pixel_place, texture_fits,
+};
 
 /// The number of the rule that stands, and 0 where none does.
 fn number(answer: Result<(), u8>) -> u8 {

@@ -2,11 +2,13 @@
 ghost use Rattle.std.specs.Prelude.{◌≡◌, ◌≤◌, length, IfOk};
 ghost use Rattle.texture_layouts.specs.Surface.{IsPixelSize};
 
-use tile_convert::{LevelFault, Order, band_height, copy_picture, extract, picture_size, tile, untile};
 use field_words::Stop;
 use std::ops::Range;
 use std::test::*;
 use texture_layouts::Tiling;
+use tile_convert::{
+    LevelFault, Order, band_height, copy_picture, extract, picture_size, tile, untile,
+};
 
 /// `count` bytes of which byte `i` is `i % 251`, so that rows and microtiles don't repeat.
 fn counted(rt: &HostRuntime, count: usize) -> Result<Vec<u8>, Fail>

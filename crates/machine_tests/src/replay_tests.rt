@@ -1,10 +1,10 @@
 //! Runs of machines made by hand.
 ghost use Rattle.std.specs.Prelude.{◌≡◌, ◌≤◌};
 
-use replay::{Ending, Oracle, Trace, TraceLine, replay};
 use field_words::{Actor, NoMemory};
 use machine::{Machine, Start};
 use phys_mem::PhysMem;
+use replay::{Ending, Oracle, Trace, TraceLine, replay};
 use std::alloc::Global;
 
 // The run of a machine with this renderer list at place 0, by a script that picks the first unit and answers 0.

@@ -2,10 +2,10 @@
 ghost use Rattle.std.specs.Prelude.{◌≡◌, ◌<◌, ◌≤◌, length};
 ghost use Rattle.field_words.specs.Sizes.{most_words};
 
-use shader_check::check_code;
 use clamp_facts::clamp_of;
 use field_words::{Steps, Stop};
 use qpu_isa::{Reg, ShaderInfo};
+use shader_check::check_code;
 use shader_flow::flow;
 use std::alloc::{AllocError, Global};
 use std::marker::Brand;

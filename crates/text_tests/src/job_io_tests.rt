@@ -1,5 +1,8 @@
 //! Reading and writing in pieces, with faults, and over std's readers and writers.
-use job_io::{Failed, MemSink, MemSource, NullSink, ReadEnd, ReaderSource, SteadySource, WriterSink, read_all, write_all};
+use job_io::{
+    Failed, MemSink, MemSource, NullSink, ReadEnd, ReaderSource, Sink, SteadySource, WriterSink,
+    read_all, write_all,
+};
 use std::alloc::{AllocError, Global};
 use std::io;
 use std::io::{Read, Write};

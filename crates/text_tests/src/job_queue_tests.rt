@@ -1,8 +1,8 @@
 //! Scripts and their answers.
 ghost use Rattle.std.specs.Prelude.{◌≤◌, ◌<◌, ◌^◌, length};
 
-use job_queue::{Queue, QueueFault, script};
 use field_words::Stop;
+use job_queue::{Queue, QueueFault, script};
 use std::test::*;
 
 fn answer(rt: &HostRuntime, buffers: u32, text: &[u8]) -> Result<String, Fail>

@@ -1,6 +1,6 @@
 //! A file as text and back, and texts that are no file.
-use job_text::{MakeFault, Mistake, make, show};
 use field_words::Stop;
+use job_text::{MakeFault, Mistake, make, show};
 use std::test::*;
 
 #[test]

@@ -1,8 +1,8 @@
 //! Scripts and their answers.
 ghost use Rattle.std.specs.Prelude.{◌≤◌, ◌<◌, ◌^◌, length};
 
-use overflow_slots::script;
 use field_words::Stop;
+use overflow_slots::script;
 use std::test::*;
 
 fn answer(rt: &HostRuntime, slots: u32, text: &[u8]) -> Result<String, Fail>

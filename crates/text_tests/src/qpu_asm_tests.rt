@@ -1,6 +1,6 @@
 //! Texts and words worked by hand, and the faults of texts.
-use qpu_asm::{assemble, disassemble};
 use field_words::Stop;
+use qpu_asm::{assemble, disassemble};
 use qpu_isa::{Inst, decode, encode, reads_uniform};
 use std::alloc::Global;
 use std::process::Abort;

@@ -1,8 +1,8 @@
 //! Words that are numbers, and words that aren't; lines of a script.
 ghost use Rattle.std.specs.Prelude.{◌<◌, ◌^◌, ◌++◌, codes, length, nat_lt};
 
-use script::{Clerk, answer, read_number};
 use field_words::Stop;
+use script::{Clerk, answer, read_number};
 use std::alloc::{AllocError, Global};
 use std::test::*;
 
