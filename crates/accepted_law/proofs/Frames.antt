@@ -22,7 +22,7 @@ use Rattle.machine_plan.specs.Regions.{Rights}
 use Rattle.list_machine.specs.Surfaces.{aligned, whole_size}
 use Rattle.list_law.specs.May.{MayWrite}
 
--- A buffer of this place and size begins at a page, ends within 64 MiB, and the job may write each part of it.
+-- A buffer of this place and size begins at a page, ends inside the greatest memory, and the job may write each part of it.
 pub record IsRoom (r : Rights) (place size : ℕ) : Type 0 where
   pub page : place % 4096 ≡ 0
   pub low : place + size ≤ most_place

@@ -37,7 +37,7 @@ use Rattle.accepted_law.specs.Parts.{RendersWalk}
 use Rattle.accepted_law.proofs.Frames.{HasRoom, IsSurfaceAt, AreSurfacesAt, surface_is}
 use Rattle.accepted_law.proofs.Tiles.{HasGridFor, names_none_at, tile_fine}
 
--- buffers end in the first 64 MiB
+-- buffers end inside the greatest memory
 abbrev AreLow : TableModel → Type 0
 AreLow table = (number : ℕ) → (buffer_at table.buffers number).place + (buffer_at table.buffers number).size ≤ most_place
 

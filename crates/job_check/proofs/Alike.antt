@@ -14,7 +14,7 @@ use Rattle.job_check.specs.Offsets.{job_offset, content_offset, shader_offset, h
 use Rattle.job_check.specs.Jobs.{job_of, slot_of, places_in, has_bin, grid_of, lists_room, lists_begin, layout_of, layouts_of, states_in, input_for, bin_list_of, records_of, streams_of, render_list_of}
 use Rattle.job_check.specs.Faults.{table_stage, shader_stage, shaders_stage, handles_stage, bin_stage, part_offset, records_stage, surfaces_stage, layout_stage, lists_stages, job_stages, file_stages, stages_within, table_stage_within}
 use Rattle.job_check.specs.Emit.{lengths_of, all_lengths_of, list_parts, later_parts, memory_parts, jobs_parts, memory_of}
-use Rattle.job_check.specs.Whole.{format_refused, all_questions, refusal_of}
+use Rattle.job_check.specs.Whole.{format_refused, all_questions, refusal_of, questions_within}
 use Rattle.job_check.specs.Upgrade.{AreAlike, UpgradeChangesNothing}
 use Rattle.job_check.proofs.Layouts.{slots_for}
 
@@ -51,7 +51,7 @@ file_again f fits h = record {
 
 -- After the format, the rules of the file that the bytes hold decide.
 after_format : (bytes : List ℕ) → first_of (format_questions bytes) ≡ None → refusal_of bytes ≡ first_of (file_stages (file_at bytes))
-unfolding refusal_of all_questions
+unfolding refusal_of questions_within
 after_format bytes none = passes (answered format_refused (format_questions bytes)) (file_stages (file_at bytes)) (answered_none format_refused (format_questions bytes) none)
 
 same_refusal : (bytes : List ℕ) → IsBytes bytes → first_of (format_questions bytes) ≡ None → refusal_of (file_text (upgraded (file_at bytes))) ≡ refusal_of bytes

@@ -22,4 +22,4 @@ pub use check::{Checked, check_job};
 pub use region::{Region, check_lists, check_lists_within};
 pub use shaders::words_of;
 pub use upgrade::upgrade_changes_nothing;
-pub use whole::{check_bytes, format_refusal};
+pub use whole::{check_bytes, check_places, format_refusal};
