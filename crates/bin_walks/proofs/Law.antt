@@ -1,5 +1,5 @@
 -- The law.
-use Rattle.std.proofs.Common.{◌≡◌, true, false, ◌&&◌, [], None, length, refl, arith}
+use Rattle.std.proofs.Common.{◌≡◌, true, ◌&&◌, [], None, length, refl, arith}
 use Rattle.std.specs.Prelude.{◌==◌}
 use Rattle.std.proofs.lemmas.Bool.{eqb-true, and_parts, false≢true}
 use Rattle.field_words.specs.Questions.{first_of, answered}

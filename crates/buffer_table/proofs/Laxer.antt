@@ -1,8 +1,8 @@
 -- A memory table without faults under a limit is one under any greater limit.
-use Rattle.std.proofs.Common.{◌≡◌, ℕ, ◌≤◌, List, None, length, arith, ◌∙◌}
+use Rattle.std.proofs.Common.{◌≡◌, ℕ, ◌≤◌, List, None, arith, ◌∙◌}
 use Rattle.std.proofs.lemmas.Bool.Decides.{nat_tests}
 use Rattle.std.proofs.lemmas.Grind.{common_steps}
-use Rattle.field_words.specs.Questions.{first_of, each}
+use Rattle.field_words.specs.Questions.{first_of}
 use Rattle.field_words.proofs.Questions.{none_stands, passes}
 use Rattle.field_words.proofs.Nones.{front_none, rest_none}
 use Rattle.buffer_table.specs.declared.buffer.Buffer.{Buffer}

@@ -12,9 +12,9 @@ use Rattle.job_format.proofs.Laws.{none_file, read_again}
 use Rattle.job_check.specs.Shaders.{content_of, shader_of, shaders_up_to}
 use Rattle.job_check.specs.Offsets.{job_offset, content_offset, shader_offset, handles_offset, bin_offset, records_offset, uniforms_offset}
 use Rattle.job_check.specs.Jobs.{job_of, slot_of, places_in, has_bin, grid_of, lists_room, lists_begin, layout_of, layouts_of, states_in, input_for, bin_list_of, records_of, streams_of, render_list_of}
-use Rattle.job_check.specs.Faults.{table_stage, shader_stage, shaders_stage, handles_stage, bin_stage, part_offset, records_stage, surfaces_stage, layout_stage, lists_stages, job_stages, file_stages, stages_within, table_stage_within}
+use Rattle.job_check.specs.Faults.{shader_stage, shaders_stage, handles_stage, bin_stage, part_offset, records_stage, surfaces_stage, layout_stage, lists_stages, job_stages, file_stages, stages_within, table_stage_within}
 use Rattle.job_check.specs.Emit.{lengths_of, all_lengths_of, list_parts, later_parts, memory_parts, jobs_parts, memory_of}
-use Rattle.job_check.specs.Whole.{format_refused, all_questions, refusal_of, questions_within}
+use Rattle.job_check.specs.Whole.{format_refused, refusal_of, questions_within}
 use Rattle.job_check.specs.Upgrade.{AreAlike, UpgradeChangesNothing}
 use Rattle.job_check.proofs.Layouts.{slots_for}
 

@@ -10,7 +10,7 @@ use Rattle.job_format.specs.File.{IsWellFormed, IsJobWellFormed}
 use Rattle.job_format.specs.Model.{FileModel, JobModel}
 use Rattle.qpu_isa.specs.Shader.{ShaderModel}
 use Rattle.relocation.specs.declared.layout.Layout.{Layout}
-use Rattle.relocation.specs.Layout.{records_start, uniforms_start, render_start, lists_end, region_end, begins_after, StandApart}
+use Rattle.relocation.specs.Layout.{records_start, uniforms_start, render_start, region_end, begins_after, StandApart}
 use Rattle.render_list.specs.Frame.{IsTileSet}
 use Rattle.render_list.specs.Length.{render_length}
 use Rattle.job_check.specs.Jobs.{job_of, slot_of, has_bin, has_tiles, render_room, lists_room, lists_begin, layout_of}

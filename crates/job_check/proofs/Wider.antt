@@ -1,5 +1,5 @@
 -- A job file in which no rule stands is one in which none stands under the greatest limit of a memory.
-use Rattle.std.proofs.Common.{◌≡◌, ◌++◌, None, List, arith, ◌∙◌}
+use Rattle.std.proofs.Common.{◌≡◌, ◌++◌, None, arith, ◌∙◌}
 use Rattle.field_words.specs.Questions.{first_of}
 use Rattle.field_words.specs.Sizes.{most_memory}
 use Rattle.field_words.proofs.Questions.{passes, answered_none}

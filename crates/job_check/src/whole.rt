@@ -56,11 +56,7 @@ pub fn check_bytes(alloc: Global, bytes: &[u8]) -> Result<Checked, Stop<Refusal>
 /// # Errors
 /// As those of `check_bytes`.
 #[tactic(auto, unfolding(crate::specs::Whole::questions_within))]
-pub fn check_places(
-    alloc: Global,
-    limit: u32,
-    bytes: &[u8],
-) -> Result<Region, Stop<Refusal>>
+pub fn check_places(alloc: Global, limit: u32, bytes: &[u8]) -> Result<Region, Stop<Refusal>>
     requires { limit ≤ most_place }
     ensures answers { Answers (questions_within limit bytes.now) (IsRegion (file_at bytes.now)) result }
     ensures format { NeverHidesFault (answered format_refused (format_questions bytes.now)) result }

@@ -17,7 +17,7 @@ use Rattle.job_format.specs.Text.{header_text, buffer_text, surface_text, frame_
 use Rattle.job_format.proofs.Laws.{read_again}
 use Rattle.job_check.specs.Faults.{file_stages}
 use Rattle.job_check.specs.Jobs.{job_of}
-use Rattle.job_check.specs.Whole.{format_refused, all_questions, refusal_of, questions_within}
+use Rattle.job_check.specs.Whole.{format_refused, refusal_of, questions_within}
 use Rattle.shader_records.specs.Sources.{shader_used}
 use Rattle.textured_job.specs.Job.{code_bytes, fragment_words, vertex_words, fragment_told, page, absent, colour_write, frame, bin_list, records, uniforms, job, textured, two_clients, one_client}
 use Rattle.textured_job.specs.Laws.{UsesAll, HasAll, IsAccepted, IsWitness, IsWitnessOfTwo, textured_bytes, two_clients_bytes, one_client_bytes}
