@@ -150,6 +150,19 @@ uint32_t vc4check_check(const uint8_t *bytes, size_t length, uint8_t *block, siz
 uint32_t vc4check_check_jobs(const uint8_t *bytes, size_t length, uint8_t *block, size_t room, struct vc4check_jobs_answer *answer);
 
 /*
+ * The same of a job file of 1 to 8 jobs whose places are addresses of the bus, for a driver: its memory, whose size the header gives, may
+ * end anywhere up to 0xFF000000, and is neither made nor read. Where no rule stands, the lists of all jobs are put into `window`, from its
+ * start on, which stands for the start of the lists' region; the window's other bytes stay. In `answer`, `size` is how many bytes they take,
+ * at most the file's size of that region; `lists` and `slot` of each job are addresses.
+ *
+ * VC4CHECK_ACCEPTED   `answer` is filled in, and the lists are in the window.
+ * VC4CHECK_REFUSED    `answer` names the first rule that stands, and where; the window is as before.
+ * VC4CHECK_SHORT      the jobs are accepted and `answer` is filled in, but `room` is below answer->size; the window is as before.
+ * VC4CHECK_NO_MEMORY  `answer` and the window are as before.
+ */
+uint32_t vc4check_place(const uint8_t *bytes, size_t length, uint8_t *window, size_t room, struct vc4check_jobs_answer *answer);
+
+/*
  * Checks a shader by itself: `words` instructions of 64 bits. Where no rule stands, its samples are put into `samples` and the
  * numbers of the uniforms that are addresses of uniforms into `address_words`, each from its start on.
  *

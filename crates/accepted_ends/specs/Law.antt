@@ -6,7 +6,7 @@ use Rattle.machine.specs.State.{units_start}
 use Rattle.job_format.specs.File.{IsWellFormed, Fits}
 use Rattle.job_format.specs.Model.{FileModel}
 use Rattle.job_check.specs.Emit.{memory_of}
-use Rattle.job_check.specs.Faults.{file_stages}
+use Rattle.job_check.specs.Faults.{place_stages}
 use Rattle.accepted_law.specs.Holdings.{fixed_of, file_rights, file_starts}
 use Rattle.ends_law.specs.Ends.{Ends}
 use Rattle.accepted_ends.specs.Bound.{file_loops, longest_of, bound_of}
@@ -21,4 +21,4 @@ FileEnds f =
 
 -- So it is where no rule stands.
 abbrev pub FilesEndBy : Type 0
-FilesEndBy = (f : FileModel) → IsWellFormed f → Fits f → first_of (file_stages f) ≡ None → FileEnds f
+FilesEndBy = (f : FileModel) → IsWellFormed f → Fits f → first_of (place_stages f) ≡ None → FileEnds f

@@ -144,7 +144,7 @@ low f j m grounds =
 
 walked : (f : FileModel) (j : ℕ) (m : List ℕ) → Grounds f j m → has_bin f j ≡ true → IsWalked (job_of f j).bin (job_of f j).declared (table_of f) (job_of f j).handles (layout_of f j)
 walked f j m grounds has =
-    emitted_lists_walk_law (job_of f j).bin (job_of f j).declared (table_of f) (job_of f j).handles (layout_of f j) grounds.settled.limits.bin (low f j m grounds)
+    emitted_lists_walk_law (job_of f j).bin (job_of f j).declared (table_of f) (job_of f j).handles (layout_of f j) grounds.settled.limits.bin grounds.settled.limits.declared (low f j m grounds)
     (λ number below. buffer_low f.mem_size f.regions f.buffers grounds.settled.sound number) (grounds.settled.bin has)
 
 drawn_begins : (f : FileModel) (j : ℕ) (m : List ℕ) → Grounds f j m → has_bin f j ≡ true

@@ -5,7 +5,7 @@ use Rattle.std.proofs.lemmas.Nat.{or_shifted, or_shr, or_mod}
 use Rattle.std.specs.Int.Bits.{or_zero_r}
 use Rattle.field_words.specs.Words.{bits_of}
 use Rattle.field_words.specs.Questions.{first_of}
-use Rattle.buffer_table.specs.Table.{TableModel, buffer_at}
+use Rattle.buffer_table.specs.Table.{TableModel, buffer_at, most_place}
 use Rattle.buffer_table.specs.Handles.{data_of}
 use Rattle.shader_records.specs.Named.{IsDataIn}
 use Rattle.job_format.specs.declared.file.Frame.{Frame as JobFrame}
@@ -22,10 +22,10 @@ use Rattle.machine_plan.specs.Regions.{Rights}
 use Rattle.list_machine.specs.Surfaces.{aligned, whole_size}
 use Rattle.list_law.specs.May.{MayWrite}
 
--- A buffer of this place and size begins at a page, ends within 64 MiB, and the job may write each part of it.
+-- A buffer of this place and size begins at a page, ends inside the greatest memory, and the job may write each part of it.
 pub record IsRoom (r : Rights) (place size : ℕ) : Type 0 where
   pub page : place % 4096 ≡ 0
-  pub low : place + size ≤ 67108864
+  pub low : place + size ≤ most_place
   pub writes : (p n : ℕ) → place ≤ p → p + n ≤ place + size → MayWrite r p n
 
 -- so each Plain buffer that the handles name

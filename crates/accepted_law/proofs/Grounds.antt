@@ -1,9 +1,9 @@
 -- What the rights of a job have, and what no job may write.
 use Rattle.std.proofs.Common.{◌≡◌, ◌⊎◌, inl, inr, ℕ, ◌+◌, ◌*◌, ◌%◌, ◌<◌, ◌≤◌, ◌++◌, Some, length, refl, sym, ap, subst, arith, ◌∙◌}
 use Rattle.std.proofs.lemmas.Bool.{cases_lt}
-use Rattle.field_words.specs.Sizes.{page_size, slot_size, most_memory}
+use Rattle.field_words.specs.Sizes.{page_size, slot_size}
 use Rattle.buffer_table.specs.declared.buffer.Kind.TheVariants.{Plain, Code}
-use Rattle.buffer_table.specs.Table.{buffer_at}
+use Rattle.buffer_table.specs.Table.{buffer_at, most_place}
 use Rattle.buffer_table.specs.Handles.{data_of, code_of}
 use Rattle.buffer_table.proofs.Named.{data_is, code_is}
 use Rattle.shader_records.specs.Named.{IsDataIn}
@@ -203,7 +203,7 @@ plain_page f j s place size one =
     let own = buffer_sound f.mem_size f.regions f.buffers s.sound at.number at.inside in
     ap (λ p. p % page_size) at.place_is ∙ own.place
 
-plain_low : (f : FileModel) (j : ℕ) → Settled f j → (place size : ℕ) → IsOneOf (plain_of f j) place size → place + size ≤ most_memory
+plain_low : (f : FileModel) (j : ℕ) → Settled f j → (place size : ℕ) → IsOneOf (plain_of f j) place size → place + size ≤ most_place
 plain_low f j s place size one =
     let at = plain_at f j place size one in
     let own = buffer_sound f.mem_size f.regions f.buffers s.sound at.number at.inside in

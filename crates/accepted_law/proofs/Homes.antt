@@ -3,7 +3,7 @@ use Rattle.std.proofs.Common.{◌≡◌, ◌≤◌, ◌<◌, ℕ, ◌+◌, ◌*�
 use Rattle.std.proofs.lemmas.List.FromFn.{get_or-map-range_with_len}
 use Rattle.field_words.specs.Words.{u32_at, u64_at}
 use Rattle.buffer_table.specs.declared.buffer.Kind.TheVariants.{Code}
-use Rattle.buffer_table.specs.Table.{buffer_at}
+use Rattle.buffer_table.specs.Table.{buffer_at, most_place}
 use Rattle.buffer_table.specs.Handles.{code_of}
 use Rattle.buffer_table.proofs.Named.{code_is}
 use Rattle.job_format.specs.Model.{FileModel}
@@ -54,7 +54,7 @@ record IsCodeLow (f : FileModel) (number : ℕ) : Type 0 where
   words : 8 * length (words_of (content_of f number)) ≤ length (content_of f number)
   few : length (words_of (content_of f number)) ≤ 8192
   inside : length (content_of f number) ≤ (buffer_at f.buffers number).size
-  upto : (buffer_at f.buffers number).place + (buffer_at f.buffers number).size ≤ 67108864
+  upto : (buffer_at f.buffers number).place + (buffer_at f.buffers number).size ≤ most_place
 
 code_low : (f : FileModel) (j number : ℕ) → Settled f j → number < length f.buffers → (buffer_at f.buffers number).kind ≡ Code → IsCodeLow f number
 code_low f j number settled below code =

@@ -7,7 +7,7 @@ use Rattle.job_format.specs.File.{IsWellFormed, Fits}
 use Rattle.job_format.specs.Model.{FileModel}
 use Rattle.job_check.specs.Jobs.{layout_of, bin_list_of, render_list_of, no_job, job_of, grid_of, slot_of, places_in}
 use Rattle.job_check.specs.Emit.{lengths_of, memory_of}
-use Rattle.job_check.specs.Faults.{file_stages}
+use Rattle.job_check.specs.Faults.{place_stages}
 use Rattle.job_check.specs.Shaders.{table_of}
 use Rattle.machine_plan.specs.Memory.{bytes_at}
 use Rattle.machine_plan.specs.Regions.{Inside, Rights, IsOutside, HasReadOnly, Agree, joined}
@@ -77,7 +77,7 @@ plain_there f m grounds j place size named =
       | inr past ↦ absurd (subst (λ plain. IsOneOf plain place size) (plain_past f j past) named)
     ]
 
-pub all_ground : (f : FileModel) → IsWellFormed f → Fits f → first_of (file_stages f) ≡ None → OfEachJob f (λ j. Grounds f j (memory_of f))
+pub all_ground : (f : FileModel) → IsWellFormed f → Fits f → first_of (place_stages f) ≡ None → OfEachJob f (λ j. Grounds f j (memory_of f))
 all_ground f well fits none = files_ground_law f (files_settle_law f well fits none)
 
 unfoldable pub job_begins : (f : FileModel) (j : ℕ) → Grounds f j (memory_of f) → JobBegins (file_rights f) (plain_of f) (memory_of f) j (start_of f j)

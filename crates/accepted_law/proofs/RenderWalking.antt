@@ -4,7 +4,7 @@ use Rattle.field_words.specs.Questions.{first_of, each}
 use Rattle.field_words.specs.Words.{IsBytes}
 use Rattle.field_words.proofs.Questions.{none_stands}
 use Rattle.field_words.proofs.Nones.{front_none}
-use Rattle.buffer_table.specs.Table.{TableModel, buffer_at}
+use Rattle.buffer_table.specs.Table.{TableModel, buffer_at, most_place}
 use Rattle.buffer_table.specs.Handles.{data_of}
 use Rattle.job_format.specs.declared.file.Frame.{Frame}
 use Rattle.job_format.specs.Model.{FileModel}
@@ -37,9 +37,9 @@ use Rattle.accepted_law.specs.Parts.{RendersWalk}
 use Rattle.accepted_law.proofs.Frames.{HasRoom, IsSurfaceAt, AreSurfacesAt, surface_is}
 use Rattle.accepted_law.proofs.Tiles.{HasGridFor, names_none_at, tile_fine}
 
--- buffers end in the first 64 MiB
+-- buffers end inside the greatest memory
 abbrev AreLow : TableModel → Type 0
-AreLow table = (number : ℕ) → (buffer_at table.buffers number).place + (buffer_at table.buffers number).size ≤ 67108864
+AreLow table = (number : ℕ) → (buffer_at table.buffers number).place + (buffer_at table.buffers number).size ≤ most_place
 
 -- Where a surface is in full resolution, its last tile lies below 2^32.
 fits_named : (frame : Frame) (table : TableModel) (handles : List ℕ) (k : ℕ) (found : Option ℕ) → AreLow table → is_present (surface_at frame k) ≡ true
@@ -117,7 +117,7 @@ grid_small : (f : FileModel) (j : ℕ) → IsBytes (job_of f j).bin → GridFits
 unfolding grid_of
 grid_small f j all = grid_if (has_bin f j) (grid_from (seen_before (passed (job_of f j).bin))) (sides_small (job_of f j).bin all)
 
-slot_low : (f : FileModel) (j : ℕ) → Settled f j → slot_of f j ≤ 67108864
+slot_low : (f : FileModel) (j : ℕ) → Settled f j → slot_of f j ≤ most_place
 slot_low f j s =
     let tiles = s.sound.each_item 1 (omega arith) in
     let slot = slot_inside f j s.well_formed s.sound s.inside in

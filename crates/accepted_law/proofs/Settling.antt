@@ -8,10 +8,10 @@ use Rattle.field_words.proofs.Questions.{none_stands}
 use Rattle.field_words.proofs.Nones.{front_none, rest_none, each_none, none_answered}
 use Rattle.buffer_table.specs.declared.buffer.Kind.{Kind}
 use Rattle.buffer_table.specs.declared.buffer.Kind.TheVariants.{Plain, Code}
-use Rattle.buffer_table.specs.Table.{buffer_at, table_questions}
+use Rattle.buffer_table.specs.Table.{most_place, buffer_at, table_within}
 use Rattle.buffer_table.specs.Handles.{AreNumbersOf, handles_questions}
 use Rattle.buffer_table.specs.Sound.{IsSound}
-use Rattle.buffer_table.proofs.Sounds.{sound}
+use Rattle.buffer_table.proofs.Sounds.{sound_within}
 use Rattle.buffer_table.proofs.Named.{are_numbers}
 use Rattle.bin_list.specs.Rules.{bin_questions}
 use Rattle.qpu_isa.specs.Shader.{ShaderModel, IsSoundShader}
@@ -30,7 +30,7 @@ use Rattle.job_format.specs.Model.{FileModel, JobModel}
 use Rattle.relocation.specs.Layout.{region_end}
 use Rattle.job_check.specs.Shaders.{table_of, words_of, code_questions, told_of, content_of, shader_for, shaders_of}
 use Rattle.job_check.specs.Jobs.{no_job, job_of, has_bin, grid_of, input_for, layout_of}
-use Rattle.job_check.specs.Faults.{table_refused, table_stage, shader_refused, shader_questions_in, shader_stage, shaders_stage, handle_refused, handles_stage, bin_refused, bin_stage, record_refused, records_stage, surface_refused, surfaces_stage, layout_stage, lists_stages, job_stages, file_stages}
+use Rattle.job_check.specs.Faults.{table_refused, table_stage_within, shader_refused, shader_questions_in, shader_stage, shaders_stage, handle_refused, handles_stage, bin_refused, bin_stage, record_refused, records_stage, surface_refused, surfaces_stage, layout_stage, lists_stages, job_stages, stages_within, place_stages}
 use Rattle.job_check.proofs.Codes.{is_code, shader_at, shader_count}
 use Rattle.job_check.proofs.Jobs.{job_limits}
 use Rattle.accepted_law.specs.Parts.{FilesSettle}
@@ -42,7 +42,7 @@ asked_if false rules is none = absurd (cc)
 
 -- the stages of a file, and of its job j
 record NoneStands (f : FileModel) (j : ℕ) : Type 0 where
-  table : first_of (table_stage f) ≡ None
+  table : first_of (table_stage_within most_place f) ≡ None
   shaders : first_of (shaders_stage f) ≡ None
   handles : first_of (handles_stage f j) ≡ None
   bin : first_of (bin_stage f j) ≡ None
@@ -50,18 +50,18 @@ record NoneStands (f : FileModel) (j : ℕ) : Type 0 where
   surfaces : first_of (surfaces_stage f j) ≡ None
   layout : first_of (layout_stage f j) ≡ None
 
-none_in : (f : FileModel) (j : ℕ) → j < length f.jobs → first_of (file_stages f) ≡ None → NoneStands f j
-unfolding file_stages job_stages lists_stages
+none_in : (f : FileModel) (j : ℕ) → j < length f.jobs → first_of (place_stages f) ≡ None → NoneStands f j
+unfolding stages_within job_stages lists_stages
 none_in f j inside none =
     let jobs = each (job_stages f) 0 (length f.jobs) in
-    let rest = rest_none (table_stage f) (shaders_stage f ++ jobs) none in
+    let rest = rest_none (table_stage_within most_place f) (shaders_stage f ++ jobs) none in
     let job : first_of (job_stages f j) ≡ None = each_none (job_stages f) 0 (length f.jobs) j (rest_none (shaders_stage f) jobs rest) (omega arith) (omega (arith, inside)) in
     let lists = bin_stage f j ++ (records_stage f j ++ surfaces_stage f j) in
     let later = rest_none (handles_stage f j) (lists ++ layout_stage f j) job in
     let all = front_none lists (layout_stage f j) later in
     let behind = rest_none (bin_stage f j) (records_stage f j ++ surfaces_stage f j) all in
     record {
-      table = front_none (table_stage f) (shaders_stage f ++ jobs) none;
+      table = front_none (table_stage_within most_place f) (shaders_stage f ++ jobs) none;
       shaders = front_none (shaders_stage f) jobs rest;
       handles = front_none (handles_stage f j) (lists ++ layout_stage f j) job;
       bin = front_none (bin_stage f j) (records_stage f j ++ surfaces_stage f j) all;
@@ -71,9 +71,10 @@ none_in f j inside none =
     }
 
 -- M
-table_sound : (f : FileModel) → first_of (table_stage f) ≡ None → IsSound f.mem_size f.regions f.buffers
-unfolding table_stage
-table_sound f none = sound f.mem_size f.regions f.buffers (none_answered table_refused (table_questions f.mem_size f.regions f.buffers) none)
+table_sound : (f : FileModel) → first_of (table_stage_within most_place f) ≡ None → IsSound f.mem_size f.regions f.buffers
+unfolding table_stage_within
+table_sound f none =
+    sound_within most_place f.mem_size f.regions f.buffers (omega arith) (none_answered table_refused (table_within most_place f.mem_size f.regions f.buffers) none)
 
 -- S
 code_none : (kind : Kind) (content : List ℕ) → kind ≡ Code → first_of (shader_questions_in kind content) ≡ None → first_of (code_questions content) ≡ None
@@ -120,7 +121,7 @@ shaders_are f none = record {
 }
 
 -- H, B, A and U, G, X
-pub handles_clear : (f : FileModel) (j : ℕ) → j < length f.jobs → first_of (file_stages f) ≡ None → first_of (handles_questions (table_of f) (job_of f j).client (job_of f j).handles) ≡ None
+pub handles_clear : (f : FileModel) (j : ℕ) → j < length f.jobs → first_of (place_stages f) ≡ None → first_of (handles_questions (table_of f) (job_of f j).client (job_of f j).handles) ≡ None
 unfolding handles_stage
 handles_clear f j inside none =
     none_answered (handle_refused f j) (handles_questions (table_of f) (job_of f j).client (job_of f j).handles) (none_in f j inside none).handles

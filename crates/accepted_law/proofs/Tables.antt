@@ -2,10 +2,10 @@
 use Rattle.std.proofs.Common.{◌≡◌, inl, inr, ℕ, ◌+◌, ◌*◌, ◌<◌, ◌≤◌, List, length, ap, subst, arith}
 use Rattle.std.proofs.lemmas.Bool.{cases_lt}
 use Rattle.std.proofs.lemmas.List.{get_or_past}
-use Rattle.field_words.specs.Sizes.{slot_size, most_memory}
+use Rattle.field_words.specs.Sizes.{slot_size}
 use Rattle.buffer_table.specs.declared.buffer.Buffer.{Buffer}
 use Rattle.buffer_table.specs.declared.buffer.Regions.{Regions}
-use Rattle.buffer_table.specs.Table.{items_of, item_at, lists_item, tile_item, buffer_item, buffer_at, past_end}
+use Rattle.buffer_table.specs.Table.{items_of, item_at, lists_item, tile_item, buffer_item, buffer_at, past_end, most_place}
 use Rattle.buffer_table.specs.Sound.{IsSound, IsSoundItem, AreApart}
 use Rattle.buffer_table.proofs.Sounds.{item_of_buffer, length_items}
 use Rattle.job_format.specs.File.{IsWellFormed}
@@ -53,8 +53,8 @@ slot_inside f j well sound inside =
     let enough = enough_slots f well sound in
     record { from = omega arith; upto = omega (arith, enough, inside) }
 
--- Each buffer ends in the first 64 MiB; past the last one there is none, of no bytes.
-past_low : (b : Buffer) → b ≡ past_end → b.place + b.size ≤ most_memory
+-- Each buffer ends inside the greatest memory; past the last one there is none, of no bytes.
+past_low : (b : Buffer) → b ≡ past_end → b.place + b.size ≤ most_place
 past_low b is = omega (arith, ap (λ x. x.place) is, ap (λ x. x.size) is)
 
 past_is : (buffers : List Buffer) (number : ℕ) → length buffers ≤ number → buffer_at buffers number ≡ past_end
@@ -62,7 +62,7 @@ unfolding buffer_at
 past_is buffers number past = get_or_past buffers number past_end past
 
 pub buffer_low : (memory : ℕ) (r : Regions) (buffers : List Buffer) → IsSound memory r buffers → (number : ℕ)
-    → (buffer_at buffers number).place + (buffer_at buffers number).size ≤ most_memory
+    → (buffer_at buffers number).place + (buffer_at buffers number).size ≤ most_place
 buffer_low memory r buffers sound number =
     elim (cases_lt number (length buffers)) [
       | inl inside ↦ (let s = buffer_sound memory r buffers sound number inside in omega (arith, s.inside, sound.limit))

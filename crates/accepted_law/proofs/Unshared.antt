@@ -11,7 +11,7 @@ use Rattle.buffer_table.proofs.Named.{data_is}
 use Rattle.job_format.specs.Model.{FileModel}
 use Rattle.job_check.specs.Shaders.{table_of}
 use Rattle.job_check.specs.Jobs.{job_of, slot_of}
-use Rattle.job_check.specs.Faults.{file_stages}
+use Rattle.job_check.specs.Faults.{place_stages}
 use Rattle.machine_plan.specs.Regions.{LiesIn, Inside}
 use Rattle.qpu_law.specs.Asks.{IsOneOf}
 use Rattle.accepted_law.specs.Holdings.{plain_of, lists_of, codes_of, slot_in, job_rights}
@@ -55,7 +55,7 @@ record IsOwned (f : FileModel) (j place size : ℕ) : Type 0 where
   place_is : place ≡ (buffer_at f.buffers number).place
   size_is : size ≡ (buffer_at f.buffers number).size
 
-owned : (f : FileModel) (j : ℕ) → first_of (file_stages f) ≡ None → j < length f.jobs → (place size : ℕ) → IsOneOf (plain_of f j) place size → IsOwned f j place size
+owned : (f : FileModel) (j : ℕ) → first_of (place_stages f) ≡ None → j < length f.jobs → (place size : ℕ) → IsOneOf (plain_of f j) place size → IsOwned f j place size
 unfolding plain_of
 owned f j none job place size one =
     let handles : List ℕ = (job_of f j).handles in
@@ -94,7 +94,7 @@ slot_and_buffer f j p s k job number inside from upto at past =
 
 -- Two jobs of two clients in a file in which no rule stands.
 record AreTwo (f : FileModel) (j k : ℕ) : Type 0 where
-  none : first_of (file_stages f) ≡ None
+  none : first_of (place_stages f) ≡ None
   settled : Settled f j
   one : j < length f.jobs
   other : k < length f.jobs

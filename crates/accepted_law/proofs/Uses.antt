@@ -36,7 +36,7 @@ inputs_low f j settled = record {
   buffers = buffer_low f.mem_size f.regions f.buffers settled.sound;
 }
 
--- The streams begin and end in the memory, so below 64 MiB.
+-- The streams begin and end in the memory, so inside the greatest one.
 pub streams_low : (f : FileModel) (j : ℕ) → Settled f j → (layout_of f j).place + (layout_of f j).uniforms + length (input_for f j).uniforms < 2 ^ 32
 unfolding input_for
 streams_low f j settled =

@@ -9,7 +9,7 @@ use Rattle.job_format.specs.File.{IsWellFormed, Fits}
 use Rattle.job_format.specs.Model.{FileModel}
 use Rattle.job_check.specs.Shaders.{table_of}
 use Rattle.job_check.specs.Jobs.{job_of, slot_of}
-use Rattle.job_check.specs.Faults.{file_stages}
+use Rattle.job_check.specs.Faults.{place_stages}
 use Rattle.qpu_law.specs.Asks.{IsOneOf}
 use Rattle.machine_law.specs.Begins.{IsFixed}
 use Rattle.accepted_law.specs.Holdings.{OfEachJob, lists_of, file_rights, rights_at}
@@ -50,4 +50,4 @@ pub record AreFixed (f : FileModel) (j : ℕ) : Type 0 where
 
 -- So it is for each job where no rule stands.
 abbrev pub ListsAndCodeAreFixed : Type 0
-ListsAndCodeAreFixed = (f : FileModel) → IsWellFormed f → Fits f → first_of (file_stages f) ≡ None → OfEachJob f (AreFixed f)
+ListsAndCodeAreFixed = (f : FileModel) → IsWellFormed f → Fits f → first_of (place_stages f) ≡ None → OfEachJob f (AreFixed f)

@@ -9,7 +9,7 @@ use Rattle.job_format.specs.Model.{FileModel}
 use Rattle.job_check.specs.Shaders.{content_of}
 use Rattle.job_check.specs.Jobs.{job_of, layout_of, bin_list_of, records_of, streams_of, render_list_of}
 use Rattle.job_check.specs.Emit.{lengths_of, memory_of}
-use Rattle.job_check.specs.Faults.{file_stages}
+use Rattle.job_check.specs.Faults.{place_stages}
 use Rattle.machine_plan.specs.Regions.{Interval, Agree}
 use Rattle.apart_law.specs.Part.{Client}
 use Rattle.machine_law.specs.Apart.{Beginning, IsUnshared, regions_of, RunsApart, RunsApartAmong}
@@ -19,7 +19,7 @@ use Rattle.accepted_law.specs.Holdings.{plain_of, fixed_of, file_rights, file_st
 pub record IsFaultless (f : FileModel) : Type 0 where
   pub well_formed : IsWellFormed f
   pub fits : Fits f
-  pub none : first_of (file_stages f) ≡ None
+  pub none : first_of (place_stages f) ≡ None
 
 -- the jobs of client c, by their numbers
 unfoldable pub jobs_of : ℕ → FileModel → Client

@@ -16,7 +16,7 @@ use Rattle.job_format.specs.Model.{FileModel}
 use Rattle.job_check.specs.Shaders.{table_of}
 use Rattle.job_check.specs.Jobs.{job_of, has_bin, grid_of, slot_of, places_in, input_for, layout_of, states_in, bin_list_of, render_list_of}
 use Rattle.job_check.specs.Emit.{memory_of}
-use Rattle.job_check.specs.Faults.{file_stages}
+use Rattle.job_check.specs.Faults.{place_stages}
 use Rattle.list_machine.specs.Fetch.{record_place}
 use Rattle.list_law.specs.Binning.{Allocates}
 use Rattle.list_law.specs.Emitted.{words_in, program_in}
@@ -29,7 +29,7 @@ use Rattle.accepted_law.specs.Settled.{AreSettled, Grounds}
 
 -- From the file: where no rule stands, all this is known of it, and of the memory that it is emitted as.
 abbrev pub FilesSettle : Type 0
-FilesSettle = (f : FileModel) → IsWellFormed f → Fits f → first_of (file_stages f) ≡ None → AreSettled f
+FilesSettle = (f : FileModel) → IsWellFormed f → Fits f → first_of (place_stages f) ≡ None → AreSettled f
 
 abbrev pub FilesGround : Type 0
 FilesGround = (f : FileModel) → AreSettled f → OfEachJob f (λ j. Grounds f j (memory_of f))
@@ -84,6 +84,6 @@ RendersWalk = (f : FileModel) (j : ℕ) (m : List ℕ) → Grounds f j m → Ren
 -- The whole: what each job of an accepted file begins with is what the laws of the machine's units ask of it, and of its Plain buffers.
 abbrev pub FilesBegin : Type 0
 FilesBegin =
-    (f : FileModel) → IsWellFormed f → Fits f → first_of (file_stages f) ≡ None
+    (f : FileModel) → IsWellFormed f → Fits f → first_of (place_stages f) ≡ None
     → ArePlain (file_rights f) (plain_of f)
     × OfEachJob f (λ j. JobBegins (file_rights f) (plain_of f) (memory_of f) j (start_of f j))

@@ -1,10 +1,10 @@
 -- What is known of a file in which no rule stands, stage by stage, and of the memory that it is emitted as.
 use Rattle.std.specs.Prelude.{◌≡◌, ◌≤◌, ◌<◌, ℕ, ◌+◌, ◌%◌, true, List, length, None, Some}
-use Rattle.field_words.specs.Sizes.{page_size, most_memory, slot_size}
+use Rattle.field_words.specs.Sizes.{page_size, slot_size}
 use Rattle.field_words.specs.Words.{IsBytes}
 use Rattle.field_words.specs.Questions.{first_of}
 use Rattle.buffer_table.specs.declared.buffer.Kind.TheVariants.{Code}
-use Rattle.buffer_table.specs.Table.{buffer_at}
+use Rattle.buffer_table.specs.Table.{buffer_at, most_place}
 use Rattle.buffer_table.specs.Handles.{AreNumbersOf, code_of}
 use Rattle.buffer_table.specs.Sound.{IsSound}
 use Rattle.bin_list.specs.Rules.{bin_questions}
@@ -72,7 +72,7 @@ pub record Grounds (f : FileModel) (j : ℕ) (m : List ℕ) : Type 0 where
   pub data_reads : (place size : ℕ) → IsOneOf (plain_of f j) place size → IsOneOf (rights_at f j).region place size
   pub data_writes : (place size : ℕ) → IsOneOf (plain_of f j) place size → IsOneOf (rights_at f j).writable place size
   pub data_page : (place size : ℕ) → IsOneOf (plain_of f j) place size → place % page_size ≡ 0
-  pub data_low : (place size : ℕ) → IsOneOf (plain_of f j) place size → place + size ≤ most_memory
+  pub data_low : (place size : ℕ) → IsOneOf (plain_of f j) place size → place + size ≤ most_place
   pub code : (handle number : ℕ) → code_of (table_of f) (job_of f j).handles handle ≡ Some number
       → IsOneOf (rights_at f j).region (buffer_at f.buffers number).place (buffer_at f.buffers number).size
   pub lists : (place size : ℕ) → IsOneOf (lists_of f j) place size → IsOneOf (rights_at f j).region place size

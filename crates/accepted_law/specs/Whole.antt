@@ -6,7 +6,7 @@ use Rattle.machine.specs.State.{units_start}
 use Rattle.job_format.specs.File.{IsWellFormed, Fits}
 use Rattle.job_format.specs.Model.{FileModel}
 use Rattle.job_check.specs.Emit.{memory_of}
-use Rattle.job_check.specs.Faults.{file_stages}
+use Rattle.job_check.specs.Faults.{place_stages}
 use Rattle.machine_law.specs.Sound.{Sound}
 use Rattle.accepted_law.specs.Holdings.{plain_of, fixed_of, file_rights, file_starts}
 
@@ -14,6 +14,6 @@ use Rattle.accepted_law.specs.Holdings.{plain_of, fixed_of, file_rights, file_st
 -- buffers that their handles name, as the emitted one: whatever all its other bytes are, inside what jobs may reach and outside.
 abbrev pub FilesSound : Type 0
 FilesSound =
-    (f : FileModel) → IsWellFormed f → Fits f → first_of (file_stages f) ≡ None
+    (f : FileModel) → IsWellFormed f → Fits f → first_of (place_stages f) ≡ None
     → (m : List ℕ) → Agree (fixed_of f) (memory_of f) m
     → Sound (file_rights f) (plain_of f) m (units_start (file_starts f))

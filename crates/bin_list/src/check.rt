@@ -1,5 +1,7 @@
 //! The check of a binner list.
 ghost use Rattle.field_words.specs.declared.stop.Stop.TheVariants.{Fault, NoMemory as OutOfMemory};
+ghost use Rattle.field_words.specs.Sizes.{most_list};
+ghost use Rattle.buffer_table.specs.Table.{most_place};
 ghost use Rattle.std.specs.Prelude.{◌≡◌, ◌≤◌, ◌+◌, Err, [], length, OnOk, IfOk};
 ghost use Rattle.field_words.specs.Questions.{Answers, answered, first_of};
 ghost use Rattle.field_words.specs.Writes.{with_bytes};
@@ -45,6 +47,7 @@ fn read_packets(
     out: &mut [u8],
 ) -> Result<Read, Stop<ListFault>>
     requires short { length list.now ≤ 1048576 }
+    requires few { given.now.declared ≤ 65536 }
     requires low { IsLow layout.now }
     requires room { layout.now.bin + length list.now ≤ length out.old }
     ensures answers { Answers (asked given.now (passed list.now)) (λ read. IsRead given.now layout.now list.now read) result }
@@ -126,9 +129,10 @@ pub fn check_bin(
 ) -> Result<BinInfo, Stop<ListFault>>
     requires numbers { AreNumbersOf table.now handles.now }
     requires short { length list.now ≤ 1048576 }
-    requires place_limit { layout.now.place ≤ 67108864 }
-    requires records_limit { layout.now.records ≤ 67108864 }
-    requires slot_limit { layout.now.slot ≤ 67108864 }
+    requires few { declared ≤ 65536 }
+    requires place_limit { layout.now.place ≤ most_place }
+    requires records_limit { layout.now.records ≤ most_list + 16 }
+    requires slot_limit { layout.now.slot ≤ most_place }
     requires room { layout.now.bin + length list.now ≤ length out.old }
     ensures answers { Answers (bin_questions list.now declared table.now handles.now)
         (λ info. IsInfo list.now declared table.now handles.now layout.now info) result }

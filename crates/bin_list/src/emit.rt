@@ -57,7 +57,7 @@ fn put_indexed(given: &Given, seen: &Seen, packet: &[u8], out: &mut [u8], at: us
 #[tactic(auto, unfolding(crate::specs::Emitted::state_text))]
 fn put_state(layout: &Layout, seen: &Seen, packet: &[u8], out: &mut [u8], at: usize) -> usize
     requires low { IsLow layout.now }
-    requires records { seen.now.records ≤ 150994944 }
+    requires records { seen.now.records ≤ 144 * 65536 }
     requires whole { 5 ≤ length packet.now }
     requires room { at + length packet.now ≤ length out.old }
     ensures text { out.new ≡ with_bytes out.old at (state_text layout.now seen.now packet.now) }
@@ -131,7 +131,8 @@ pub(crate) fn put_packet(
     requires some { 1 ≤ length packet.now }
     requires fine { IsFine given.now seen.now packet.now }
     requires low { IsLow layout.now }
-    requires records { seen.now.records ≤ 150994944 }
+    requires few { given.now.declared ≤ 65536 }
+    requires records { seen.now.records ≤ 144 * seen.now.states }
     requires room { at + length packet.now ≤ length out.old }
     ensures text { out.new ≡ with_bytes out.old at (packet_text given.now layout.now seen.now packet.now) }
     ensures end { result ≡ at + length (packet_text given.now layout.now seen.now packet.now) }

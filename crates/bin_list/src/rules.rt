@@ -1,5 +1,6 @@
 //! The rules of a binner list, kind by kind of packet.
 ghost use Rattle.std.specs.Prelude.{◌≡◌, ◌≤◌, ◌<◌, ◌+◌, ◌*◌, ◌^◌, ◌++◌, length, slice_index, is_some, IfNone, IfSome, IsTrue};
+ghost use Rattle.buffer_table.specs.Table.{most_place};
 ghost use Rattle.field_words.specs.Words.{u32_at};
 ghost use Rattle.std.specs.Option.{SomeIff};
 ghost use Rattle.field_words.specs.Questions.{first_of};
@@ -94,7 +95,7 @@ fn primitive_fault(seen: &Seen) -> Option<BinRule>
 pub(crate) fn index_buffer(given: &Given, seen: &Seen) -> Option<Buffer>
     ensures exact { SomeIff result (IsData given.now.table given.now.handles seen.now.index_handle) (index_buffer given.now seen.now) }
     ensures some { is_some result ≡ is_some (data_of given.now.table given.now.handles seen.now.index_handle) }
-    ensures inside { IfSome result (λ buffer. buffer.place + buffer.size ≤ 67108864) }
+    ensures inside { IfSome result (λ buffer. buffer.place + buffer.size ≤ most_place) }
 {
     let number = use_data(given.table, given.handles, seen.index_handle)?;
     Some(given.table.buffer(number))
@@ -154,7 +155,8 @@ fn array_fault(packet: &[u8]) -> Option<BinRule>
 #[tactic(auto, unfolding(crate::specs::Rules::state_questions))]
 fn state_fault(given: &Given, seen: &Seen, packet: &[u8]) -> Option<BinRule>
     requires { 5 ≤ length packet.now }
-    ensures { result ≡ first_of (state_questions given.now seen.now packet.now) }
+    ensures first { result ≡ first_of (state_questions given.now seen.now packet.now) }
+    ensures declared { IfNone result (seen.now.states < given.now.declared) }
 {
     if seen.states >= given.declared {
         return Some(BinRule::UndeclaredState);

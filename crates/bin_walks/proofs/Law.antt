@@ -1,5 +1,5 @@
 -- The law.
-use Rattle.std.proofs.Common.{◌≡◌, true, false, ◌&&◌, [], None, length, refl, arith}
+use Rattle.std.proofs.Common.{◌≡◌, true, ◌&&◌, [], None, length, refl, arith}
 use Rattle.std.specs.Prelude.{◌==◌}
 use Rattle.std.proofs.lemmas.Bool.{eqb-true, and_parts, false≢true}
 use Rattle.field_words.specs.Questions.{first_of, answered}
@@ -28,7 +28,7 @@ ends_with seen none =
 
 pub emitted_lists_walk_law : EmittedListsWalk
 unfolding passed packets questions_of seen_before
-emitted_lists_walk_law list declared table handles layout short low buffers none =
+emitted_lists_walk_law list declared table handles layout short few low buffers none =
     let given = given_of list declared table handles in
     let ps = cut (length list) list in
     let all = onto [] ps in
@@ -38,7 +38,7 @@ emitted_lists_walk_law list declared table handles layout short low buffers none
     let told = ends_with (seen_before all) end in
     let config = config_of layout (seen_before all).tiles_x (seen_before all).tiles_y in
     let known : Known given layout config [] ps = record {
-      premises = record { low = low; buffers = buffers };
+      premises = record { few = few; low = low; buffers = buffers };
       fine = fine;
       cuts = are_cut (length list) list;
       some = tt;

@@ -16,6 +16,7 @@ use Rattle.bin_list.specs.Emitted.{state_text, config_text}
 use Rattle.packets.specs.declared.config.Config.{Config}
 use Rattle.packets.specs.Config.{config_in}
 use Rattle.bin_walks.specs.Emission.{config_of}
+use Rattle.buffer_table.specs.Table.{most_place}
 
 -- a number that was written reads as itself
 pub read_word : (n : ℕ) (rest : List ℕ) → n < 2 ^ 32 → from_le_bytes w32 (to_le_bytes w32 n ++ rest) ≡ n
@@ -84,7 +85,7 @@ same_config a b s t c d x y e f g =
     let make : ℕ → ℕ → ℕ → Config = λ u v w. record { address = u; size = v; states = w; tiles_x = x; tiles_y = y } in
     ap (λ u. make u s c) e ∙ ap (λ v. make b v c) f ∙ ap (λ w. make b t w) g
 
-pub config_read : (layout : Layout) (p : List ℕ) → layout.slot ≤ 67108864 → alloc_offset (slice_index p 13 * slice_index p 14) ≤ 524288
+pub config_read : (layout : Layout) (p : List ℕ) → layout.slot ≤ most_place → alloc_offset (slice_index p 13 * slice_index p 14) ≤ 524288
     → config_in (config_text layout p) ≡ config_of layout (slice_index p 13) (slice_index p 14)
 unfolding config_text config_in u32_at
 config_read layout p slot room =

@@ -8,7 +8,7 @@ use Rattle.field_words.specs.Questions.{first_of}
 use Rattle.field_words.specs.Pieces.{joined}
 use Rattle.field_words.specs.Writes.{with_bytes}
 use Rattle.field_words.proofs.Numbers.{rounded}
-use Rattle.buffer_table.specs.Table.{buffer_at}
+use Rattle.buffer_table.specs.Table.{buffer_at, most_place}
 use Rattle.relocation.specs.declared.layout.Layout.{Layout}
 use Rattle.packets.specs.Opcode.{halt, flush, start_tile_binning, indexed_primitive_list, array_primitive_list, gl_shader_state, tile_binning_mode, buffer_handles}
 use Rattle.packets.specs.Length.{bin_length, bin_taken}
@@ -30,7 +30,7 @@ use Rattle.packets.specs.Config.{config_in}
 use Rattle.bin_walks.specs.Walks.{Kept, kept_after, Drawing, Tame, Walks}
 use Rattle.bin_walks.specs.Emission.{emission, config_of}
 use Rattle.bin_walks.specs.Draws.{IsStateAt, IsDrawn}
-use Rattle.bin_walks.proofs.Fine.{cut_fine, taken_is, flush_fine, indexed_fine, array_fine, config_first}
+use Rattle.bin_walks.proofs.Fine.{cut_fine, taken_is, flush_fine, indexed_fine, array_fine, config_first, state_fine}
 use Rattle.bin_walks.proofs.Texts.{addressed, state_opcode, state_long, state_word, config_opcode, config_long, config_read}
 
 -- The emitted list is its packets joined.
@@ -87,18 +87,19 @@ room_most word =
     let near = r.near in
     omega arith
 
-records_if : (b : Bool) (records room n m : ℕ) → records ≤ 147 * n → room ≤ 147 → 1 ≤ m → (if b then records + room else records) ≤ 147 * (n + m)
-records_if true records room n m before most some = omega arith
-records_if false records room n m before most some = omega arith
+records_if : (b : Bool) (records room n : ℕ) → records ≤ 147 * n → room ≤ 147 → (if b then records + room else records) ≤ 147 * (if b then n + 1 else n)
+records_if true records room n before most = omega (arith, before, most)
+records_if false records room n before most = before
 
 abbrev pub AreSome : List (List ℕ) → Type 0
 AreSome [] = Unit {0}
 AreSome (p ∷ earlier) = (1 ≤ length p) × AreSome earlier
 
-records_bounded : (earlier : List (List ℕ)) → AreSome earlier → records_in earlier ≤ 147 * place earlier
-records_bounded [] some = omega arith
-records_bounded (p ∷ earlier) some =
-    records_if (opcode p == gl_shader_state) (records_in earlier) (record_room (u32_at p 1)) (place earlier) (length p) (records_bounded earlier some.1) (room_most (u32_at p 1)) some.0
+-- the records of the states before, of which there are fewer than are declared
+records_bounded : (earlier : List (List ℕ)) → records_in earlier ≤ 147 * states_in earlier
+records_bounded [] = omega arith
+records_bounded (p ∷ earlier) =
+    records_if (opcode p == gl_shader_state) (records_in earlier) (record_room (u32_at p 1)) (states_in earlier) (records_bounded earlier) (room_most (u32_at p 1))
 
 -- What was read takes no more than the whole, and less where something is left.
 place_grows : (earlier later : List (List ℕ)) → AreCut later → place earlier ≤ place (onto earlier later)
@@ -274,8 +275,9 @@ long_flush = refl
 
 -- what the layout and the tables promise
 pub record Premises (given : GivenModel) (layout : Layout) : Type 0 where
+  pub few : given.declared ≤ 65536
   pub low : IsLow layout
-  pub buffers : (number : ℕ) → number < length given.table.buffers → (buffer_at given.table.buffers number).place + (buffer_at given.table.buffers number).size ≤ 67108864
+  pub buffers : (number : ℕ) → number < length given.table.buffers → (buffer_at given.table.buffers number).place + (buffer_at given.table.buffers number).size ≤ most_place
 
 record IsText (p text : List ℕ) : Type 0 where
   same : opcode text ≡ opcode p
@@ -436,12 +438,12 @@ before_flush given layout config earlier later p known none whole is =
     sym (ap (λ o. is_there (if o == tile_binning_mode then Some p else latest tile_binning_mode earlier)) is) ∙ last
 
 state_fits : (given : GivenModel) (layout : Layout) (config : Config) (earlier later : List (List ℕ)) (p : List ℕ) → Known given layout config earlier (p ∷ later)
-    → layout.place + layout.records + records_in earlier + u32_at p 1 % 16 < 2 ^ 32
-state_fits given layout config earlier later p known =
-    let bound = records_bounded earlier known.some in
-    let grows = place_grows earlier (p ∷ later) known.cuts in
-    let i = known.inside in
-    let s = known.short in
+    → first_of (packet_questions given (seen_before earlier) p) ≡ None → opcode p ≡ gl_shader_state → layout.place + layout.records + records_in earlier + u32_at p 1 % 16 < 2 ^ 32
+unfolding seen_before
+state_fits given layout config earlier later p known none is =
+    let bound = records_bounded earlier in
+    let declared : states_in earlier < given.declared = state_fine given (seen_before earlier) p none is in
+    let few = known.premises.few in
     let a = known.premises.low.place in
     let b = known.premises.low.records in
     let m : u32_at p 1 % 16 < 16 = omega arith in
@@ -492,7 +494,7 @@ next_kept given layout config all earlier later p kept known goes other =
     let it = tame given layout config all earlier later p kept known goes other in
     step given layout config all earlier later p (packet_text given layout seen p) kept goes told.same
     (λ is. it.configures (told.same ∙ is))
-    (λ is. ap (λ t. u32_at t 1) (state_is given layout seen p is) ∙ state_word layout seen p (state_fits given layout config earlier later p known))
+    (λ is. ap (λ t. u32_at t 1) (state_is given layout seen p is) ∙ state_word layout seen p (state_fits given layout config earlier later p known none is))
 
 walks_if : (config : Config) (R : ℕ → List ℕ → Type 0) (kept : Kept) (b : Bool) (x : List ℕ) (xs : List (List ℕ))
     → (b ≡ true → Walks config R kept xs) → (b ≡ false → Tame config R kept x × Walks config R (kept_after kept x) xs)

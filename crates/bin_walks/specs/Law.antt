@@ -2,7 +2,7 @@
 use Rattle.std.specs.Prelude.{◌≡◌, ◌≤◌, ◌<◌, ℕ, ◌+◌, List, [], length, None}
 use Rattle.field_words.specs.Questions.{first_of}
 use Rattle.field_words.specs.Pieces.{joined}
-use Rattle.buffer_table.specs.Table.{TableModel, buffer_at}
+use Rattle.buffer_table.specs.Table.{TableModel, most_place, buffer_at}
 use Rattle.relocation.specs.declared.layout.Layout.{Layout}
 use Rattle.bin_list.specs.Packets.{packets, passed}
 use Rattle.bin_list.specs.Seen.{seen_before}
@@ -13,6 +13,7 @@ use Rattle.bin_list.specs.Emitted.{bin_text}
 use Rattle.bin_walks.specs.Walks.{nothing_kept, Walks}
 use Rattle.bin_walks.specs.Emission.{emission, config_of}
 use Rattle.bin_walks.specs.Draws.{IsDrawn}
+use Rattle.field_words.specs.Sizes.{most_list}
 
 pub record IsWalked (list : List ℕ) (declared : ℕ) (table : TableModel) (handles : List ℕ) (layout : Layout) : Type 0 where
   pub text : bin_text list declared table handles layout ≡ joined (emission (given_of list declared table handles) layout [] (packets list))
@@ -23,7 +24,7 @@ pub record IsWalked (list : List ℕ) (declared : ℕ) (table : TableModel) (han
 abbrev pub EmittedListsWalk : Type 0
 EmittedListsWalk =
     (list : List ℕ) (declared : ℕ) (table : TableModel) (handles : List ℕ) (layout : Layout)
-    → length list ≤ 1048576 → IsLow layout
-    → ((number : ℕ) → number < length table.buffers → (buffer_at table.buffers number).place + (buffer_at table.buffers number).size ≤ 67108864)
+    → length list ≤ most_list → declared ≤ 65536 → IsLow layout
+    → ((number : ℕ) → number < length table.buffers → (buffer_at table.buffers number).place + (buffer_at table.buffers number).size ≤ most_place)
     → first_of (bin_questions list declared table handles) ≡ None
     → IsWalked list declared table handles layout

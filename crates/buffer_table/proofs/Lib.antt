@@ -1,3 +1,4 @@
+pub mod Laxer
 pub mod Named
 pub mod Order
 pub mod Bits

@@ -8,7 +8,7 @@ use Rattle.buffer_table.specs.declared.buffer.Regions.{Regions}
 use Rattle.buffer_table.specs.declared.buffer.TableFault.{TableFault}
 use Rattle.buffer_table.specs.declared.buffer.TableRule.TheVariants.{MemorySize}
 use Rattle.buffer_table.specs.declared.item.Item.{Item}
-use Rattle.buffer_table.specs.Table.{items_of, fault, IsUpTo, memory_questions, item_questions, all_questions, table_questions}
+use Rattle.buffer_table.specs.Table.{items_of, fault, IsUpTo, memory_within, item_questions, all_within, table_within}
 
 order : IsOrder IsUpTo
 order = pairs (λ (f : TableFault). (f.item, f.number))
@@ -18,16 +18,16 @@ item_rises : (memory : ℕ) (items : List Item) (k : ℕ) → Rises IsUpTo (faul
 unfolding item_questions
 item_rises memory items k = (inr (refl, omega arith), (inr (refl, omega arith), (inr (refl, omega arith), (inr (refl, omega arith), inl (omega arith)))))
 
-memory_rises : (memory : ℕ) → Rises IsUpTo (fault MemorySize 0) (memory_questions memory) (fault MemorySize 1)
-unfolding memory_questions
-memory_rises memory = (inr (refl, omega arith), inl (omega arith))
+memory_rises : (limit memory : ℕ) → Rises IsUpTo (fault MemorySize 0) (memory_within limit memory) (fault MemorySize 1)
+unfolding memory_within
+memory_rises limit memory = (inr (refl, omega arith), inl (omega arith))
 
-all_rise : (memory : ℕ) (items : List Item) → Rises IsUpTo (fault MemorySize 0) (all_questions memory items) (fault MemorySize (0 + length items + 1))
-unfolding all_questions
-all_rise memory items =
-    rises_append IsUpTo (fault MemorySize 0) (fault MemorySize 1) _ (memory_questions memory) (each (item_questions memory items) 0 (length items)) order (memory_rises memory)
+all_rise : (limit memory : ℕ) (items : List Item) → Rises IsUpTo (fault MemorySize 0) (all_within limit memory items) (fault MemorySize (0 + length items + 1))
+unfolding all_within
+all_rise limit memory items =
+    rises_append IsUpTo (fault MemorySize 0) (fault MemorySize 1) _ (memory_within limit memory) (each (item_questions memory items) 0 (length items)) order (memory_rises limit memory)
     (rises_each IsUpTo (item_questions memory items) (λ k. fault MemorySize (k + 1)) order (item_rises memory items) 0 (length items))
 
-pub least_fault : (memory : ℕ) (r : Regions) (buffers : List Buffer) (f : TableFault) → first_of (table_questions memory r buffers) ≡ Some f
-    → IsLeast IsUpTo (table_questions memory r buffers) f
-least_fault memory r buffers f some = least IsUpTo (fault MemorySize 0) _ (table_questions memory r buffers) f order (all_rise memory (items_of r buffers)) some
+pub least_fault : (limit memory : ℕ) (r : Regions) (buffers : List Buffer) (f : TableFault) → first_of (table_within limit memory r buffers) ≡ Some f
+    → IsLeast IsUpTo (table_within limit memory r buffers) f
+least_fault limit memory r buffers f some = least IsUpTo (fault MemorySize 0) _ (table_within limit memory r buffers) f order (all_rise limit memory (items_of r buffers)) some

@@ -7,10 +7,11 @@ use Rattle.std.proofs.lemmas.Grind.{common_steps}
 use Rattle.field_words.specs.Questions.{first_of, each}
 use Rattle.field_words.proofs.Questions.{none_stands}
 use Rattle.field_words.proofs.Nones.{front_none, rest_none, each_none}
+use Rattle.field_words.specs.Sizes.{most_memory}
 use Rattle.buffer_table.specs.declared.buffer.Buffer.{Buffer}
 use Rattle.buffer_table.specs.declared.buffer.Regions.{Regions}
 use Rattle.buffer_table.specs.declared.item.Item.{Item}
-use Rattle.buffer_table.specs.Table.{TableModel, items_of, item_at, no_item, buffer_at, past_end, buffer_item, shares, is_off_page, memory_questions, item_questions, all_questions, table_questions}
+use Rattle.buffer_table.specs.Table.{TableModel, items_of, item_at, no_item, buffer_at, past_end, buffer_item, shares, is_off_page, most_place, memory_within, item_questions, all_within, table_within, table_questions}
 use Rattle.buffer_table.specs.Sound.{IsSoundItem, IsSound, IsSoundBuffer, AreApart}
 
 -- An item that passes M2 to M5.
@@ -37,26 +38,38 @@ apart_items memory items j k none before inside =
     let asked = none_stands (item_questions memory items k) none in
     grind (arith, common_steps, asked.1.1.0, list_any_at (shares (item_at items k)) (take k items) j no_item, get_or-take k items j no_item)
 
-pub sound : (memory : ℕ) (r : Regions) (buffers : List Buffer) → first_of (table_questions memory r buffers) ≡ None → IsSound memory r buffers
-unfolding all_questions memory_questions
-sound memory r buffers none =
+-- A memory that passes M1.
+pub memory_limit : (limit memory : ℕ) (r : Regions) (buffers : List Buffer) → first_of (table_within limit memory r buffers) ≡ None → memory ≤ limit
+unfolding all_within memory_within
+memory_limit limit memory r buffers none =
     let items : List Item = items_of r buffers in
-    let first = none_stands (memory_questions memory) (front_none (memory_questions memory) (each (item_questions memory items) 0 (length items)) none) in
-    let rest = rest_none (memory_questions memory) (each (item_questions memory items) 0 (length items)) none in
+    let first = none_stands (memory_within limit memory) (front_none (memory_within limit memory) (each (item_questions memory items) 0 (length items)) none) in
+    grind (arith, first.0)
+
+pub sound_within : (limit memory : ℕ) (r : Regions) (buffers : List Buffer) → limit ≤ most_place → first_of (table_within limit memory r buffers) ≡ None → IsSound memory r buffers
+unfolding all_within memory_within
+sound_within limit memory r buffers low none =
+    let items : List Item = items_of r buffers in
+    let first = none_stands (memory_within limit memory) (front_none (memory_within limit memory) (each (item_questions memory items) 0 (length items)) none) in
+    let rest = rest_none (memory_within limit memory) (each (item_questions memory items) 0 (length items)) none in
     let at : (k : ℕ) → k < length items → first_of (item_questions memory items k) ≡ None = λ k below. each_none (item_questions memory items) 0 (length items) k rest (omega arith) (omega (arith, below)) in
     let good : (k : ℕ) → k < length items → IsSoundItem memory (item_at items k) = λ k below. sound_item memory items k (at k below) in
     record {
       pages = grind (arith, first.0);
       not_empty = grind (arith, first.0);
-      limit = grind (arith, first.0);
+      limit = (let inside : memory ≤ limit = grind (arith, first.0) in omega (arith, inside, low));
       each_item = good;
       apart = λ j k before below.
           apart_of memory (item_at items j) (item_at items k) (apart_items memory items j k (at k below) before below) (good j (omega arith)) (good k below);
     }
 
+-- The table of a job file.
+pub sound : (memory : ℕ) (r : Regions) (buffers : List Buffer) → first_of (table_questions memory r buffers) ≡ None → IsSound memory r buffers
+sound memory r buffers none = sound_within most_memory memory r buffers (omega arith) none
+
 -- The same of a copy of the buffers.
-pub sound_copy : (memory : ℕ) (r : Regions) (buffers copy : List Buffer) → first_of (table_questions memory r buffers) ≡ None → copy ≡ buffers → IsSound memory r copy
-sound_copy memory r buffers copy none same = subst (IsSound memory r) (sym same) (sound memory r buffers none)
+pub sound_copy : (limit memory : ℕ) (r : Regions) (buffers copy : List Buffer) → limit ≤ most_place → first_of (table_within limit memory r buffers) ≡ None → copy ≡ buffers → IsSound memory r copy
+sound_copy limit memory r buffers copy low none same = subst (IsSound memory r) (sym same) (sound_within limit memory r buffers low none)
 
 -- The item of buffer number is two after the regions.
 pub item_of_buffer : (r : Regions) (buffers : List Buffer) (number : ℕ) → number < length buffers → item_at (items_of r buffers) (number + 2) ≡ buffer_item (buffer_at buffers number)

@@ -1,18 +1,16 @@
 -- An item shares a byte with an earlier one exactly where one of its pages is taken.
-use Rattle.std.proofs.Common.{◌≡◌, ◌⊎◌, inl, inr, ℕ, ◌+◌, ◌/◌, ◌≤◌, ◌<◌, max, min, Bool, true, false, List, length, take, get_or, refl, sym, ◌∙◌, ap, subst, arith}
+use Rattle.std.proofs.Common.{◌≡◌, ◌⊎◌, inl, inr, ℕ, suc, zero, ◌+◌, ◌-◌, ◌/◌, ◌≤◌, ◌<◌, max, min, Bool, true, false, List, length, take, get_or, refl, sym, ◌∙◌, ap, subst, arith}
 use Rattle.std.specs.List.{list_any}
 use Rattle.std.proofs.lemmas.Bool.{cases_Bool, cases_lt, ltb-true}
 use Rattle.std.proofs.lemmas.Bool.Decides.{nat_tests}
 use Rattle.std.proofs.lemmas.List.{get_or-take, length-take-le, get_or_default}
-use Rattle.std.proofs.lemmas.List.Folds.{list_any_at, list_any_none}
+use Rattle.std.proofs.lemmas.List.Folds.{list_any_at, list_any_more, list_any_none}
 use Rattle.field_words.specs.Sizes.{page_size, most_memory}
-use Rattle.buffer_table.specs.declared.buffer.Buffer.{Buffer}
-use Rattle.buffer_table.specs.declared.buffer.Regions.{Regions}
 use Rattle.buffer_table.specs.declared.item.Item.{Item}
-use Rattle.buffer_table.specs.Table.{items_of, ShareByte, SharingMeansByte, shares, item_at, no_item, is_off_page}
+use Rattle.buffer_table.specs.Table.{ShareByte, SharingMeansByte, shares, item_at, no_item, is_off_page}
 use Rattle.buffer_table.specs.Sound.{IsSoundItem}
-use Rattle.buffer_table.proofs.Sounds.{length_items}
-use Rattle.buffer_table.specs.Pages.{page_bit, TakesPage, IsFree, Takes, first_page, end_page, IsWhole, Owns, AreTaken}
+use Rattle.buffer_table.specs.Pages.{page_bit, TakesPage, IsFree, Takes, first_page, end_page, IsWhole, IsWholeIn, Owns, AreTaken}
+use Rattle.buffer_table.specs.Earlier.{EndBefore}
 
 -- two items that have a page have a byte
 page_shared : (x y : Item) (page : ℕ) → IsWhole x → IsWhole y → first_page x ≤ page → page < end_page x → first_page y ≤ page → page < end_page y → shares x y ≡ true
@@ -49,13 +47,25 @@ shared_page x y whole_x whole_y is =
       upto_y = omega (arith, below, py, sy);
     }
 
-pub any_taken : (pages : List ℕ) (items : List Item) (k : ℕ) (x : Item) → AreTaken pages items k → k ≤ length items → IsWhole x
+-- one of the first items settles the answer, or none of them does
+pub any_of : (x : Item) (items : List Item) (count j : ℕ) → j < count → count ≤ length items → shares x (item_at items j) ≡ true → list_any (shares x) (take count items) ≡ true
+any_of x items count j before inside is =
+    let long : j < length (take count items) = omega (arith, length-take-le count items inside, before) in
+    list_any_at (shares x) (take count items) j no_item long (ap (shares x) (get_or-take count items j no_item before) ∙ is)
+
+pub none_of : (x : Item) (items : List Item) (count : ℕ) → count ≤ length items → ((j : ℕ) → j < count → shares x (item_at items j) ≡ false)
+    → list_any (shares x) (take count items) ≡ false
+none_of x items count inside none = list_any_none (shares x) (take count items) (λ j d below.
+    let before : j < count = omega (arith, length-take-le count items inside, below) in
+    let same : get_or (take count items) j d ≡ item_at items j = get_or_default (take count items) j d no_item below ∙ get_or-take count items j no_item before in
+    ap (shares x) same ∙ none j before)
+
+any_taken : (pages : List ℕ) (items : List Item) (k : ℕ) (x : Item) → AreTaken pages items k → k ≤ length items → IsWhole x
     → TakesPage pages (first_page x) (end_page x) → list_any (shares x) (take k items) ≡ true
 any_taken pages items k x are inside whole takes =
     let owner = are.owned takes.page takes.taken in
-    let long : owner.j < length (take k items) = omega (arith, length-take-le k items inside, owner.before) in
-    let here = page_shared x (item_at items owner.j) takes.page whole (are.whole owner.j owner.before) takes.from takes.before owner.from owner.upto in
-    list_any_at (shares x) (take k items) owner.j no_item long (ap (shares x) (get_or-take k items owner.j no_item owner.before) ∙ here)
+    any_of x items k owner.j owner.before inside
+    (page_shared x (item_at items owner.j) takes.page whole (are.whole owner.j owner.before) takes.from takes.before owner.from owner.upto)
 
 none_at : (pages : List ℕ) (items : List Item) (k j : ℕ) (x : Item) → AreTaken pages items k → IsWhole x → IsFree pages (first_page x) (end_page x) → j < k
     → shares x (item_at items j) ≡ false
@@ -68,45 +78,61 @@ none_at pages items k j x are whole free before = elim (cases_Bool (shares x (it
   | inr not ↦ not
 ]
 
-pub none_taken : (pages : List ℕ) (items : List Item) (k : ℕ) (x : Item) → AreTaken pages items k → k ≤ length items → IsWhole x
+none_taken : (pages : List ℕ) (items : List Item) (k : ℕ) (x : Item) → AreTaken pages items k → k ≤ length items → IsWhole x
     → IsFree pages (first_page x) (end_page x) → list_any (shares x) (take k items) ≡ false
-none_taken pages items k x are inside whole free = list_any_none (shares x) (take k items) (λ j d below.
-    let before : j < k = omega (arith, length-take-le k items inside, below) in
-    let same : get_or (take k items) j d ≡ item_at items j = get_or_default (take k items) j d no_item below ∙ get_or-take k items j no_item before in
-    ap (shares x) same ∙ none_at pages items k j x are whole free before)
+none_taken pages items k x are inside whole free = none_of x items k inside (λ j before. none_at pages items k j x are whole free before)
 
 outside : (first end page : ℕ) → first ≤ page → page < end → (page < first) ⊎ (end ≤ page) → ⊥
 outside first end page from before (inl early) = omega (arith, from, early)
 outside first end page from before (inr late) = omega (arith, before, late)
 
 -- the answer of the test is the rule's
-shared_is : (pages : List ℕ) (items : List Item) (k : ℕ) (x : Item) (result : Bool) → AreTaken pages items k → k < length items → IsWhole x → x ≡ item_at items k
+pub shared_is : (pages : List ℕ) (items : List Item) (k : ℕ) (x : Item) (result : Bool) → AreTaken pages items k → k ≤ length items → IsWhole x
     → (result ≡ true → TakesPage pages (first_page x) (end_page x)) → (result ≡ false → IsFree pages (first_page x) (end_page x))
-    → result ≡ list_any (shares (item_at items k)) (take k items)
-shared_is pages items k x true are inside whole same takes free =
-    subst (λ y. true ≡ list_any (shares y) (take k items)) same (sym (any_taken pages items k x are (omega (arith, inside)) whole (takes refl)))
-shared_is pages items k x false are inside whole same takes free =
-    subst (λ y. false ≡ list_any (shares y) (take k items)) same (sym (none_taken pages items k x are (omega (arith, inside)) whole (free refl)))
+    → result ≡ list_any (shares x) (take k items)
+shared_is pages items k x true are inside whole takes free = sym (any_taken pages items k x are inside whole (takes refl))
+shared_is pages items k x false are inside whole takes free = sym (none_taken pages items k x are inside whole (free refl))
 
-pub whole_of : (x : Item) (off : Bool) (memory : ℕ) → off ≡ is_off_page x → off ≡ false → x.place + x.size ≤ memory → memory ≤ most_memory → IsWhole x
+pub whole_of : (x : Item) (off : Bool) (memory : ℕ) → off ≡ is_off_page x → off ≡ false → x.place + x.size ≤ memory → IsWholeIn memory x
 unfolding is_off_page
-whole_of x off memory test not inside limit =
+whole_of x off memory test not inside =
     let on = sym test ∙ not in
-    record { place = grind (arith, nat_tests, on); size = grind (arith, nat_tests, on); not_empty = grind (arith, nat_tests, on); inside = omega (arith, inside, limit) }
+    record { place = grind (arith, nat_tests, on); size = grind (arith, nat_tests, on); not_empty = grind (arith, nat_tests, on); inside = inside }
 
--- the test of item k, once it has passed M2 and M3
-pub item_shared : (pages : List ℕ) (r : Regions) (buffers : List Buffer) (k memory : ℕ) (x : Item) (off result : Bool) → AreTaken pages (items_of r buffers) k
-    → k < length buffers + 2 → memory ≤ most_memory → x ≡ item_at (items_of r buffers) k → off ≡ is_off_page x → off ≡ false → x.place + x.size ≤ memory
-    → (result ≡ true → TakesPage pages (first_page x) (end_page x)) → (result ≡ false → IsFree pages (first_page x) (end_page x))
-    → result ≡ list_any (shares (item_at (items_of r buffers) k)) (take k (items_of r buffers))
-item_shared pages r buffers k memory x off result are inside limit same test not upto takes free =
-    let below : k < length (items_of r buffers) = omega (arith, length_items r buffers, inside) in
-    shared_is pages (items_of r buffers) k x result are below (whole_of x off memory test not upto limit) same takes free
+pub sound_whole : (memory : ℕ) (x : Item) → IsSoundItem memory x → IsWholeIn memory x
+sound_whole memory x is_sound = record { place = is_sound.place; size = is_sound.size; not_empty = is_sound.not_empty; inside = is_sound.inside }
 
-pub sound_whole : (memory : ℕ) (x : Item) → memory ≤ most_memory → IsSoundItem memory x → IsWhole x
-sound_whole memory x limit is_sound =
-    let inside = is_sound.inside in
-    record { place = is_sound.place; size = is_sound.size; not_empty = is_sound.not_empty; inside = omega (arith, inside, limit) }
+pub whole_below : (memory : ℕ) (x : Item) → memory ≤ most_memory → IsWholeIn memory x → IsWhole x
+whole_below memory x limit whole =
+    let inside = whole.inside in
+    record { place = whole.place; size = whole.size; not_empty = whole.not_empty; inside = omega (arith, inside, limit) }
+
+-- an item is apart from one that ends before it
+ends_before : (x y : Item) → y.place + y.size ≤ x.place → shares x y ≡ false
+unfolding shares
+ends_before x y before = grind (arith, nat_tests, before)
+
+-- behind the buffers before item k only the regions may have a byte of it
+regions_decide : (x : Item) (items : List Item) (m : ℕ) → m + 2 ≤ length items → ((j : ℕ) → 2 ≤ j → j < m + 2 → shares x (item_at items j) ≡ false)
+    → list_any (shares x) (take (m + 2) items) ≡ list_any (shares x) (take 2 items)
+regions_decide x items zero inside none = refl
+regions_decide x items (suc m) inside none =
+    let here : shares x (item_at items (m + 2)) ≡ false = none (m + 2) (omega arith) (omega arith) in
+    let less = regions_decide x items m (omega (arith, inside)) (λ j from below. none j from (omega (arith, below))) in
+    let more = list_any_more (shares x) items (m + 2) no_item (omega (arith, inside)) in
+    grind (arith, more, here, less)
+
+pub shared_behind : (end k : ℕ) (x : Item) (items : List Item) → EndBefore end items k → k ≤ length items → end ≤ x.place
+    → list_any (shares x) (take (min k 2) items) ≡ list_any (shares x) (take k items)
+shared_behind end k x items before inside behind = elim (cases_lt k 2) [
+  | inl few ↦ ap (λ n. list_any (shares x) (take n items)) (let e : min k 2 ≡ k = omega (arith, few) in e)
+  | inr many ↦
+      let apart : (j : ℕ) → 2 ≤ j → j < k - 2 + 2 → shares x (item_at items j) ≡ false =
+      λ j from below. ends_before x (item_at items j) (omega (arith, before j from (omega (arith, below, many)), behind)) in
+      ap (λ n. list_any (shares x) (take n items)) (let e : min k 2 ≡ 2 = omega (arith, many) in e)
+      ∙ sym (regions_decide x items (k - 2) (omega (arith, inside, many)) apart)
+      ∙ ap (λ n. list_any (shares x) (take n items)) (let e : k - 2 + 2 ≡ k = omega (arith, many) in e)
+]
 
 -- an item of those up to item k that has a page which item k has not
 other : (j k page : ℕ) (items : List Item) → j < k + 1 → first_page (item_at items j) ≤ page → page < end_page (item_at items j)

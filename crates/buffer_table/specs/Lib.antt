@@ -1,3 +1,4 @@
+pub mod Earlier
 pub mod Handles
 pub mod Pages
 pub mod Rules

@@ -42,12 +42,16 @@ first_page x = x.place / page_size
 abbrev pub end_page : Item → ℕ
 end_page x = (x.place + x.size) / page_size
 
--- whole pages inside the greatest memory, at least one
-pub record IsWhole (x : Item) : Type 0 where
+-- whole pages inside a memory, at least one
+pub record IsWholeIn (memory : ℕ) (x : Item) : Type 0 where
   pub place : x.place % page_size ≡ 0
   pub size : x.size % page_size ≡ 0
   pub not_empty : 0 < x.size
-  pub inside : x.place + x.size ≤ most_memory
+  pub inside : x.place + x.size ≤ memory
+
+-- inside the greatest memory of a job file
+abbrev pub IsWhole : Item → Type 0
+IsWhole = IsWholeIn most_memory
 
 -- item j of those before item k has the page
 pub record Owns (items : List Item) (k page : ℕ) : Type 0 where

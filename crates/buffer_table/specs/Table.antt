@@ -13,6 +13,10 @@ use Rattle.buffer_table.specs.declared.buffer.TableRule.TheVariants.{MemorySize,
 use Rattle.buffer_table.specs.declared.item.Item.{Item}
 use Rattle.buffer_table.specs.Rules.{rule_number}
 
+-- 0xFF000000: the greatest limit of a memory. All that is added to a place below it stays below 2^32.
+abbrev pub most_place : ℕ
+most_place = 4278190080
+
 -- what contracts see of a Table
 pub record TableModel : Type 0 where
   pub memory : ℕ
@@ -60,9 +64,13 @@ SharingMeansByte = (x y : Item) → (shares x y ≡ true) ↔ ShareByte x y
 unfoldable pub is_off_page : Item → Bool
 is_off_page x = not (x.place % page_size == 0) || (not (x.size % page_size == 0) || x.size == 0)
 
--- M1: the memory's size is 0, no multiple of a page or over 64 MiB
-unfoldable pub memory_questions : ℕ → List (Question TableFault)
-memory_questions memory = Ask (memory == 0 || (not (memory % page_size == 0) || nat_lt most_memory memory)) (fault MemorySize 0) ∷ []
+-- M1: the memory's size is 0, no multiple of a page or over the limit
+unfoldable pub memory_within : (limit memory : ℕ) → List (Question TableFault)
+memory_within limit memory = Ask (memory == 0 || (not (memory % page_size == 0) || nat_lt limit memory)) (fault MemorySize 0) ∷ []
+
+-- that of a job file, whose memory has at most 64 MiB
+abbrev pub memory_questions : ℕ → List (Question TableFault)
+memory_questions = memory_within most_memory
 
 -- M2: a place or size is no multiple of a page, or the size is 0
 -- M3: the end is past the memory
@@ -80,12 +88,19 @@ item_questions memory items k =
 abbrev pub items_questions : ℕ → List Item → List (Question TableFault)
 items_questions memory items = each (item_questions memory items) 0 (length items)
 
-unfoldable pub all_questions : ℕ → List Item → List (Question TableFault)
-all_questions memory items = memory_questions memory ++ items_questions memory items
+unfoldable pub all_within : (limit memory : ℕ) → List Item → List (Question TableFault)
+all_within limit memory items = memory_within limit memory ++ items_questions memory items
 
--- all rules of the memory table of a file
+-- all rules of a memory table
+abbrev pub table_within : (limit memory : ℕ) → Regions → List Buffer → List (Question TableFault)
+table_within limit memory r buffers = all_within limit memory (items_of r buffers)
+
+-- those of a job file
+abbrev pub all_questions : ℕ → List Item → List (Question TableFault)
+all_questions = all_within most_memory
+
 abbrev pub table_questions : ℕ → Regions → List Buffer → List (Question TableFault)
-table_questions memory r buffers = all_questions memory (items_of r buffers)
+table_questions = table_within most_memory
 
 -- faults in the order of refusal: by item, and at an item by number
 abbrev pub IsUpTo : TableFault → TableFault → Type 0
@@ -93,8 +108,8 @@ IsUpTo one other = NotAfter (one.item, one.number) (other.item, other.number)
 
 -- The first rule of a table that stands is the least of all that do.
 abbrev pub FirstIsLeast : Type 0
-FirstIsLeast = (memory : ℕ) (r : Regions) (buffers : List Buffer) (fault : TableFault) → first_of (table_questions memory r buffers) ≡ Some fault
-    → IsLeast IsUpTo (table_questions memory r buffers) fault
+FirstIsLeast = (limit memory : ℕ) (r : Regions) (buffers : List Buffer) (fault : TableFault) → first_of (table_within limit memory r buffers) ≡ Some fault
+    → IsLeast IsUpTo (table_within limit memory r buffers) fault
 
 -- the entry of a buffer; past the end an entry of no bytes that is no Plain buffer
 abbrev pub past_end : Buffer

@@ -1,9 +1,10 @@
 //! The items of a memory table as intervals, and the rules that each of them keeps.
-ghost use Rattle.std.specs.Prelude.{◌≡◌, ◌+◌, ◌*◌, ◌<◌, ◌≤◌, true, false, Some, IfNone, length};
+ghost use Rattle.std.specs.Prelude.{◌≡◌, ◌+◌, ◌*◌, ◌<◌, ◌≤◌, true, false, Some, IfNone, length, take};
+ghost use Rattle.std.specs.List.{list_any};
 ghost use Rattle.field_words.specs.Questions.{first_of, each};
-ghost use Rattle.field_words.specs.Sizes.{most_memory};
-ghost use Rattle.buffer_table.specs.Pages.{TakesPage, IsFree, Takes, IsWhole, AreTaken, first_page, end_page};
-ghost use Rattle.buffer_table.specs.Table.{lists_item, tile_item, buffer_item, is_off_page, item_questions, items_questions, memory_questions, table_questions, items_of, item_at, fault};
+ghost use Rattle.buffer_table.specs.Earlier.{AreEarlier};
+ghost use Rattle.buffer_table.specs.Pages.{TakesPage, IsFree, Takes, IsWhole, IsWholeIn, first_page, end_page};
+ghost use Rattle.buffer_table.specs.Table.{lists_item, tile_item, buffer_item, is_off_page, shares, item_questions, items_questions, memory_within, table_within, items_of, item_at, fault};
 
 use crate::buffer::{Buffer, Regions, TableFault, TableRule};
 use crate::pages::{WORDS, is_taken, take_pages};
@@ -15,6 +16,15 @@ pub struct Item {
     pub place: u64,
     pub size: u64,
     pub content: u64,
+}
+
+/// What is known of the items before one, by which is found whether it has a byte of them.
+#[derive(Clone, Copy)]
+enum Earlier {
+    /// The pages that they take, in a memory of at most 64 MiB.
+    Pages([u64; WORDS]),
+    /// The place behind which none of their buffers ends, in any memory.
+    End(u64),
 }
 
 /// The size of a page, of which each place and size is a multiple.
@@ -72,13 +82,13 @@ fn item_at(regions: &Regions, buffers: &[Buffer], k: usize) -> Item
     item_of(&buffers[k - 2])
 }
 
-/// M1: the memory's size.
-#[tactic(auto, unfolding(crate::specs::Table::memory_questions))]
-fn memory_fault(mem_size: u32) -> Option<TableFault>
-    ensures first { result ≡ first_of (memory_questions mem_size) }
-    ensures limit { IfNone result (mem_size ≤ most_memory) }
+/// M1: the memory's size, which is at most `limit` bytes.
+#[tactic(auto, unfolding(crate::specs::Table::memory_within))]
+fn memory_fault(limit: u32, mem_size: u32) -> Option<TableFault>
+    ensures first { result ≡ first_of (memory_within limit mem_size) }
+    ensures limit { IfNone result (mem_size ≤ limit) }
 {
-    if mem_size == 0 || u64::from(mem_size) % PAGE != 0 || mem_size > MOST_MEMORY {
+    if mem_size == 0 || u64::from(mem_size) % PAGE != 0 || mem_size > limit {
         return fault(TableRule::MemorySize, 0);
     }
     None
@@ -101,7 +111,7 @@ fn end_page(x: &Item) -> usize
 }
 
 /// Whether a page of an item is taken.
-fn is_shared(pages: &[u64; WORDS], x: &Item) -> bool
+fn has_page(pages: &[u64; WORDS], x: &Item) -> bool
     requires whole { IsWhole x.now }
     ensures taken { result ≡ true → TakesPage pages.now (first_page x.now) (end_page x.now) }
     ensures free { result ≡ false → IsFree pages.now (first_page x.now) (end_page x.now) }
@@ -116,6 +126,79 @@ fn take_item(pages: &mut [u64; WORDS], x: &Item)
     take_pages(pages, first_page(x), end_page(x));
 }
 
+/// Whether some byte lies in both.
+#[tactic(auto, unfolding(crate::specs::Table::shares))]
+fn shares(x: &Item, y: &Item) -> bool
+    ensures { result ≡ shares x.now y.now }
+{
+    let x_end = u128::from(x.place) + u128::from(x.size);
+    let y_end = u128::from(y.place) + u128::from(y.size);
+    u128::from(x.place.max(y.place)) < x_end.min(y_end)
+}
+
+/// Whether one of the first `count` items has a byte of this one.
+fn shares_with_first(regions: &Regions, buffers: &[Buffer], count: usize, x: &Item) -> bool
+    requires inside { count ≤ length buffers.now + 2 }
+    ensures { result ≡ list_any (shares x.now) (take count (items_of regions.now buffers.now)) }
+{
+    for k in 0..count {
+        if shares(x, &item_at(regions, buffers, k)) {
+            return true;
+        }
+    }
+    false
+}
+
+/// What is known before the first item. In a memory of at most 64 MiB each page has a bit. A greater one has too many pages.
+fn no_earlier(mem_size: u32, regions: &Regions, buffers: &[Buffer]) -> Earlier
+    ensures { AreEarlier result mem_size (items_of regions.now buffers.now) 0 }
+{
+    if mem_size <= MOST_MEMORY {
+        return Earlier::Pages([0; WORDS]);
+    }
+    Earlier::End(0)
+}
+
+/// Whether an item before item `k` has a byte of it. Where no buffer before it ends behind its place, as where the buffers stand in
+/// order of their places, it is compared with the two regions alone.
+fn is_shared(
+    earlier: &Earlier,
+    mem_size: u32,
+    regions: &Regions,
+    buffers: &[Buffer],
+    k: usize,
+    x: &Item,
+) -> bool
+    requires inside { k < length buffers.now + 2 }
+    requires known { AreEarlier earlier.now mem_size (items_of regions.now buffers.now) k }
+    requires whole { IsWholeIn mem_size x.now }
+    ensures { result ≡ list_any (shares x.now) (take k (items_of regions.now buffers.now)) }
+{
+    match earlier {
+        Earlier::Pages(pages) => has_page(pages, x),
+        Earlier::End(end) if x.place >= *end => shares_with_first(regions, buffers, k.min(2), x),
+        Earlier::End(_) => shares_with_first(regions, buffers, k, x),
+    }
+}
+
+/// Counts item `k` to those before.
+fn pass_item(earlier: &mut Earlier, mem_size: u32, regions: &Regions, buffers: &[Buffer], k: usize)
+    requires inside { k < length buffers.now + 2 }
+    requires sound { IsWholeIn mem_size (item_at (items_of regions.now buffers.now) k) }
+    requires known { AreEarlier earlier.old mem_size (items_of regions.now buffers.now) k }
+    ensures { AreEarlier earlier.new mem_size (items_of regions.now buffers.now) (k + 1) }
+{
+    let x = item_at(regions, buffers, k);
+    match earlier {
+        Earlier::Pages(pages) => take_item(pages, &x),
+        Earlier::End(end) => {
+            if k >= 2 {
+                *end = (*end).max(x.place + x.size);
+            }
+        }
+    }
+}
+
 fn fault(rule: TableRule, item: u32) -> Option<TableFault>
     ensures { result ≡ Some (fault rule item) }
 {
@@ -125,19 +208,18 @@ fn fault(rule: TableRule, item: u32) -> Option<TableFault>
     })
 }
 
-/// M2 to M5 of item `k` of the list, which is item `k + 1` of a fault. The pages of the items before it are taken.
+/// M2 to M5 of item `k` of the list, which is item `k + 1` of a fault.
 #[tactic(auto, unfolding(crate::specs::Table::item_questions))]
 fn item_fault(
     mem_size: u32,
     regions: &Regions,
     buffers: &[Buffer],
-    pages: &[u64; WORDS],
+    earlier: &Earlier,
     k: usize,
 ) -> Option<TableFault>
-    requires limit { mem_size ≤ most_memory }
     requires inside { k < length buffers.now + 2 }
     requires few { length buffers.now ≤ 1024 }
-    requires taken { AreTaken pages.now (items_of regions.now buffers.now) k }
+    requires known { AreEarlier earlier.now mem_size (items_of regions.now buffers.now) k }
     ensures { result ≡ first_of (item_questions mem_size (items_of regions.now buffers.now) k) }
 {
     let x = item_at(regions, buffers, k);
@@ -148,7 +230,7 @@ fn item_fault(
     if u128::from(x.place) + u128::from(x.size) > u128::from(mem_size) {
         return fault(TableRule::OutsideMemory, item);
     }
-    if is_shared(pages, &x) {
+    if is_shared(earlier, mem_size, regions, buffers, k, &x) {
         return fault(TableRule::SharedByte, item);
     }
     if x.content > x.size {
@@ -157,33 +239,33 @@ fn item_fault(
     None
 }
 
-/// The first of M2 to M5, item by item. An item without a fault takes its pages.
+/// The first of M2 to M5, item by item.
 fn items_fault(mem_size: u32, regions: &Regions, buffers: &[Buffer]) -> Option<TableFault>
-    requires limit { mem_size ≤ most_memory }
     requires few { length buffers.now ≤ 1024 }
     ensures { result ≡ first_of (items_questions mem_size (items_of regions.now buffers.now)) }
 {
-    let mut pages = [0; WORDS];
+    let mut earlier = no_earlier(mem_size, regions, buffers);
     for k in 0..buffers.len() + 2 {
-        if let Some(fault) = item_fault(mem_size, regions, buffers, &pages, k) {
+        if let Some(fault) = item_fault(mem_size, regions, buffers, &earlier, k) {
             return Some(fault);
         }
-        take_item(&mut pages, &item_at(regions, buffers, k));
+        pass_item(&mut earlier, mem_size, regions, buffers, k);
     }
     None
 }
 
-/// The first of M1 to M5.
-#[tactic(auto, unfolding(crate::specs::Table::all_questions), using(field_words::proofs::Questions::passes, field_words::proofs::Questions::stops))]
+/// The first of M1 to M5, of a memory of at most `limit` bytes.
+#[tactic(auto, unfolding(crate::specs::Table::all_within), using(field_words::proofs::Questions::passes, field_words::proofs::Questions::stops))]
 pub(crate) fn table_fault(
+    limit: u32,
     mem_size: u32,
     regions: &Regions,
     buffers: &[Buffer],
 ) -> Option<TableFault>
     requires few { length buffers.now ≤ 1024 }
-    ensures { result ≡ first_of (table_questions mem_size regions.now buffers.now) }
+    ensures { result ≡ first_of (table_within limit mem_size regions.now buffers.now) }
 {
-    match memory_fault(mem_size) {
+    match memory_fault(limit, mem_size) {
         Some(fault) => Some(fault),
         None => items_fault(mem_size, regions, buffers),
     }

@@ -1,4 +1,4 @@
-//! The memory table of a job file: its buffers and regions, checked against the memory.
+//! The memory table of a job: its buffers and regions, checked against the memory.
 #![tactic(auto)]
 
 mod buffer;
@@ -10,4 +10,4 @@ mod table;
 pub use buffer::{Buffer, HandleRule, Kind, Regions, TableFault, TableRule};
 pub use handles::{Handles, use_code, use_data};
 pub use item::Item;
-pub use table::{Table, first_fault_is_least, sharing_means_a_byte};
+pub use table::{MOST_PLACE, Table, first_fault_is_least, sharing_means_a_byte};

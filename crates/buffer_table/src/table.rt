@@ -1,16 +1,20 @@
 //! The memory table.
 ghost use Rattle.std.specs.Prelude.{◌≡◌, ◌<◌, ◌≤◌, length, IfOk};
+ghost use Rattle.field_words.specs.Sizes.{most_memory};
 ghost use Rattle.field_words.specs.Questions.{Answers, NamesFirst, NeverHidesFault};
-ghost use Rattle.buffer_table.specs.Table.{TableModel, FirstIsLeast, SharingMeansByte, table_questions, buffer_at};
+ghost use Rattle.buffer_table.specs.Table.{TableModel, FirstIsLeast, SharingMeansByte, most_place, table_questions, table_within, buffer_at};
 ghost use Rattle.buffer_table.specs.Sound.{IsSound, IsSoundBuffer};
 
 use crate::buffer::{Buffer, Regions, TableFault};
 use crate::item::table_fault;
-use field_words::Stop;
+use field_words::{MOST_MEMORY, Stop};
 use std::alloc::Global;
 use std::marker::Model;
 
-/// The memory of a job file, with its regions and buffers, of which no memory rule stands: all of
+/// The greatest limit of a memory, in bytes: all that is added to a place below it stays below 2^32.
+pub const MOST_PLACE: u32 = 0xff00_0000;
+
+/// The memory of a job, with its regions and buffers, of which no memory rule stands: all of
 /// them are made of whole pages inside the memory, and no two have a byte in common.
 #[derive(Drop)]
 pub struct Table {
@@ -31,8 +35,35 @@ impl Model for Table {
 }
 
 impl Table {
-    /// The table of a memory of `mem_size` bytes. The fault is the first of M1 to M5, by item and
-    /// number. Finding it takes no memory.
+    /// The table of a memory of `mem_size` bytes, of which there are at most `limit`. The fault is the first of M1 to M5, by item
+    /// and number. Finding it takes no memory.
+    pub fn make_within(
+        alloc: Global,
+        limit: u32,
+        mem_size: u32,
+        regions: Regions,
+        buffers: &Vec<Buffer>,
+    ) -> Result<Table, Stop<TableFault>>
+        requires limit { limit ≤ most_place }
+        requires few { length buffers.now.items ≤ 1024 }
+        ensures made { Answers (table_within limit mem_size regions buffers.now.items)
+            (λ t. t ≡ record { memory = mem_size; regions = regions; buffers = buffers.now.items }) result }
+        ensures first { NamesFirst (table_within limit mem_size regions buffers.now.items) result }
+        ensures memory { NeverHidesFault (table_within limit mem_size regions buffers.now.items) result }
+        ensures sound { IfOk result (λ t. IsSound t.memory t.regions t.buffers) }
+        ensures small { IfOk result (λ t. t.memory ≤ limit) }
+    {
+        if let Some(fault) = table_fault(limit, mem_size, &regions, buffers) {
+            return Err(Stop::Fault(fault));
+        }
+        Ok(Table {
+            memory: mem_size,
+            regions,
+            buffers: Vec::from_slice(alloc, buffers)?,
+        })
+    }
+
+    /// The table of the memory of a job file, which has at most 64 MiB.
     pub fn make(
         alloc: Global,
         mem_size: u32,
@@ -45,15 +76,9 @@ impl Table {
         ensures first { NamesFirst (table_questions mem_size regions buffers.now.items) result }
         ensures memory { NeverHidesFault (table_questions mem_size regions buffers.now.items) result }
         ensures sound { IfOk result (λ t. IsSound t.memory t.regions t.buffers) }
+        ensures small { IfOk result (λ t. t.memory ≤ most_memory) }
     {
-        if let Some(fault) = table_fault(mem_size, &regions, buffers) {
-            return Err(Stop::Fault(fault));
-        }
-        Ok(Table {
-            memory: mem_size,
-            regions,
-            buffers: Vec::from_slice(alloc, buffers)?,
-        })
+        Table::make_within(alloc, MOST_MEMORY, mem_size, regions, buffers)
     }
 
     /// How many buffers there are.

@@ -4,7 +4,7 @@ use Rattle.std.specs.Prelude.{◌==◌, nat_lt, min}
 use Rattle.std.proofs.lemmas.Bool.Decides.{nat_tests}
 use Rattle.field_words.specs.Questions.{first_of, each}
 use Rattle.buffer_table.specs.declared.buffer.Kind.TheVariants.{Plain}
-use Rattle.buffer_table.specs.Table.{TableModel, shares, is_off_page, memory_questions, item_questions, all_questions, table_questions, buffer_at}
+use Rattle.buffer_table.specs.Table.{TableModel, shares, is_off_page, memory_within, item_questions, all_within, table_questions, buffer_at}
 use Rattle.buffer_table.specs.Handles.{handle_questions, handles_questions}
 use Rattle.example_job.specs.Example.{regions, code_buffer, vertex_buffer, frame_buffer}
 use Rattle.example_law.proofs.Numbers.{IsTiles, is_under, is_some, is_same}
@@ -61,7 +61,7 @@ room tiles range =
 
 table_none : (memory size : ℕ) → IsRoom memory size
     → first_of (table_questions memory regions (code_buffer ∷ vertex_buffer ∷ record { place = 0x581000; size = size; client = 1; kind = Plain; content = 0 } ∷ [])) ≡ None
-unfolding each shares is_off_page memory_questions item_questions all_questions
+unfolding each shares is_off_page memory_within item_questions all_within
 table_none memory size room =
     rw (room.some, room.pages, room.most, room.lists, room.tile, room.code, room.vertices, room.frame, room.frame_pages, room.frame_some, room.after_lists, room.after_tile, room.after_code, room.after_vertices, room.no_content) refl
 

@@ -17,8 +17,8 @@ use Rattle.shader_records.specs.Rules.{all_questions}
 use Rattle.render_list.specs.Surfaces.{surface_faults}
 use Rattle.job_check.specs.Jobs.{job_of, has_bin, grid_from, grid_of, render_room, lists_begin, layout_of, states_in, input_for}
 use Rattle.job_check.specs.Shaders.{words_in, code_questions, told_of, content_of, shader_of, shaders_up_to}
-use Rattle.job_check.specs.Faults.{table_refused, table_stage, shader_refused, shader_stage, shaders_stage, handle_refused, handles_stage, bin_refused, bin_stage, record_refused, records_stage, surface_refused, surfaces_stage, layout_stage, lists_stages, job_stages, file_stages}
-use Rattle.job_check.specs.Whole.{format_refused, refusal_of, all_questions as file_questions}
+use Rattle.job_check.specs.Faults.{table_refused, table_stage, shader_refused, shader_stage, shaders_stage, handle_refused, handles_stage, bin_refused, bin_stage, record_refused, records_stage, surface_refused, surfaces_stage, layout_stage, lists_stages, job_stages, file_stages, table_stage_within, stages_within}
+use Rattle.job_check.specs.Whole.{format_refused, refusal_of, all_questions as file_questions, questions_within}
 use Rattle.example_job.specs.Lists.{bin_of, records_of}
 use Rattle.example_job.specs.Example.{regions, vertex_bytes, file_of, example, across_of, down_of, count_of, frame_of, shader}
 use Rattle.example_job.proofs.Formed.{noise_length, bin_length, records_length}
@@ -36,7 +36,7 @@ few_in : {across down count : ℕ} → IsInRange across down count → count ≤
 few_in range = let few = range.records in omega arith
 
 table_none : (seed across down count : ℕ) → IsTiles (across * down) → first_of (table_stage (file_of seed across down count)) ≡ None
-unfolding table_stage file_of
+unfolding table_stage_within file_of
 table_none seed across down count tiles =
     answered_none table_refused (table_questions (memory_bytes (across * down)) regions (table_for (across * down)).buffers) (table_no_fault (across * down) tiles)
 
@@ -138,7 +138,7 @@ jobs_none seed across down count range =
     passes (job_stages (file_of seed across down count) 0) [] (job_none seed across down count range)
 
 file_none : (seed across down count : ℕ) → IsInRange across down count → first_of (file_stages (file_of seed across down count)) ≡ None
-unfolding file_stages
+unfolding stages_within
 file_none seed across down count range =
     let f = file_of seed across down count in
     passes (table_stage f) (shaders_stage f ++ each (job_stages f) 0 (length f.jobs)) (table_none seed across down count (tiles_in across down count range))
@@ -172,7 +172,7 @@ example_faultless number = frame_faultless number (across_of number) (down_of nu
 
 -- Bytes that spell it are refused by no rule.
 pub example_accepted : (number : ℕ) (bytes : List ℕ) → IsFileOf bytes (example number) → refusal_of bytes ≡ None
-unfolding refusal_of file_questions
+unfolding refusal_of questions_within
 example_accepted number bytes is =
     let again = read_again bytes (example number) is in
     passes (answered format_refused (format_questions bytes)) (file_stages (file_at bytes)) (answered_none format_refused (format_questions bytes) again.0)

@@ -12,15 +12,15 @@ use Rattle.job_format.proofs.Laws.{none_file, read_again}
 use Rattle.job_check.specs.Shaders.{content_of, shader_of, shaders_up_to}
 use Rattle.job_check.specs.Offsets.{job_offset, content_offset, shader_offset, handles_offset, bin_offset, records_offset, uniforms_offset}
 use Rattle.job_check.specs.Jobs.{job_of, slot_of, places_in, has_bin, grid_of, lists_room, lists_begin, layout_of, layouts_of, states_in, input_for, bin_list_of, records_of, streams_of, render_list_of}
-use Rattle.job_check.specs.Faults.{table_stage, shader_stage, shaders_stage, handles_stage, bin_stage, part_offset, records_stage, surfaces_stage, layout_stage, lists_stages, job_stages, file_stages}
+use Rattle.job_check.specs.Faults.{shader_stage, shaders_stage, handles_stage, bin_stage, part_offset, records_stage, surfaces_stage, layout_stage, lists_stages, job_stages, file_stages, stages_within, table_stage_within}
 use Rattle.job_check.specs.Emit.{lengths_of, all_lengths_of, list_parts, later_parts, memory_parts, jobs_parts, memory_of}
-use Rattle.job_check.specs.Whole.{format_refused, all_questions, refusal_of}
+use Rattle.job_check.specs.Whole.{format_refused, refusal_of, questions_within}
 use Rattle.job_check.specs.Upgrade.{AreAlike, UpgradeChangesNothing}
 use Rattle.job_check.proofs.Layouts.{slots_for}
 
 -- No definition below these reads the version.
 rules_alike : (f : FileModel) → file_stages (upgraded f) ≡ file_stages f
-unfolding file_stages table_stage shaders_stage shader_stage shader_offset content_offset job_offset content_of job_stages handles_stage handles_offset job_of lists_stages bin_stage has_bin bin_offset records_stage part_offset records_offset uniforms_offset input_for states_in shaders_up_to shader_of surfaces_stage grid_of layout_stage layout_of lists_begin lists_room slot_of
+unfolding stages_within table_stage_within shaders_stage shader_stage shader_offset content_offset job_offset content_of job_stages handles_stage handles_offset job_of lists_stages bin_stage has_bin bin_offset records_stage part_offset records_offset uniforms_offset input_for states_in shaders_up_to shader_of surfaces_stage grid_of layout_stage layout_of lists_begin lists_room slot_of
 rules_alike f = refl
 
 lists_alike : (f : FileModel) → (memory_of (upgraded f) ≡ memory_of f) × (layouts_of (upgraded f) ≡ layouts_of f) × (all_lengths_of (upgraded f) ≡ all_lengths_of f)
@@ -51,7 +51,7 @@ file_again f fits h = record {
 
 -- After the format, the rules of the file that the bytes hold decide.
 after_format : (bytes : List ℕ) → first_of (format_questions bytes) ≡ None → refusal_of bytes ≡ first_of (file_stages (file_at bytes))
-unfolding refusal_of all_questions
+unfolding refusal_of questions_within
 after_format bytes none = passes (answered format_refused (format_questions bytes)) (file_stages (file_at bytes)) (answered_none format_refused (format_questions bytes) none)
 
 same_refusal : (bytes : List ℕ) → IsBytes bytes → first_of (format_questions bytes) ≡ None → refusal_of (file_text (upgraded (file_at bytes))) ≡ refusal_of bytes

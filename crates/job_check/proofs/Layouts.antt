@@ -1,21 +1,22 @@
 -- The layouts of the jobs: their numbers, what fits where, and that the lists of each job lie behind those of the jobs before it.
-use Rattle.std.proofs.Common.{◌≡◌, ℕ, zero, suc, ◌+◌, ◌%◌, ◌<◌, ◌≤◌, Bool, List, length, Option, ◌⊎◌, inl, inr, refl, sym, subst, arith, lit≤}
+use Rattle.std.proofs.Common.{◌≡◌, ℕ, zero, suc, ◌+◌, ◌%◌, ◌<◌, ◌≤◌, Bool, List, length, Option, ◌⊎◌, inl, inr, refl, sym, subst, arith, lit≤, ◌*◌}
 use Rattle.std.proofs.lemmas.Bool.{cases_lt}
 use Rattle.field_words.specs.Words.{rounded_up}
 use Rattle.field_words.proofs.Numbers.{rounded}
-use Rattle.buffer_table.specs.Table.{TableModel}
+use Rattle.buffer_table.specs.Table.{TableModel, most_place}
 use Rattle.buffer_table.specs.Sound.{IsSound}
 use Rattle.job_format.specs.declared.file.Frame.{Frame}
 use Rattle.job_format.specs.File.{IsWellFormed, IsJobWellFormed}
 use Rattle.job_format.specs.Model.{FileModel, JobModel}
 use Rattle.qpu_isa.specs.Shader.{ShaderModel}
 use Rattle.relocation.specs.declared.layout.Layout.{Layout}
-use Rattle.relocation.specs.Layout.{records_start, uniforms_start, render_start, lists_end, region_end, begins_after, StandApart}
+use Rattle.relocation.specs.Layout.{records_start, uniforms_start, render_start, region_end, begins_after, StandApart}
 use Rattle.render_list.specs.Frame.{IsTileSet}
 use Rattle.render_list.specs.Length.{render_length}
 use Rattle.job_check.specs.Jobs.{job_of, slot_of, has_bin, has_tiles, render_room, lists_room, lists_begin, layout_of}
 use Rattle.job_check.specs.Context.{InView, IsContext}
 use Rattle.job_check.specs.Emit.{InOrder}
+use Rattle.field_words.specs.Sizes.{most_list}
 
 -- a set of tiles has its length as room
 pub room_is : (frame : Frame) (has_bin : Bool) → IsTileSet frame → render_room frame has_bin ≡ render_length frame has_bin
@@ -32,14 +33,6 @@ layout_numbers f j layout e =
 -- the lists' region lies inside the memory
 pub lists_inside : (f : FileModel) → IsSound f.mem_size f.regions f.buffers → region_end f.regions ≤ f.mem_size
 lists_inside f sound = let s = sound.each_item 0 (omega arith) in s.inside
-
--- regions inside a memory of at most 64 MiB
-pub region_limits : (f : FileModel) → IsSound f.mem_size f.regions f.buffers
-    → (f.regions.lists_place ≤ 67108864) × (f.regions.lists_size ≤ 67108864) × (f.regions.tile_place ≤ 67108864)
-region_limits f sound =
-    let lists = sound.each_item 0 (omega arith) in
-    let tiles = sound.each_item 1 (omega arith) in
-    (omega (arith, lists.inside, sound.limit), omega (arith, lists.inside, sound.limit), omega (arith, tiles.inside, sound.limit))
 
 -- the parts of a layout lie apart, and so in order
 pub layout_apart : (f : FileModel) (j : ℕ) → StandApart (layout_of f j) (length (job_of f j).bin) (length (job_of f j).records) (length (job_of f j).uniforms) (render_room (job_of f j).frame (has_bin f j))
@@ -125,9 +118,9 @@ slots_for f h some =
 pub enough_slots : (f : FileModel) → IsWellFormed f → IsSound f.mem_size f.regions f.buffers → length f.jobs ≤ f.regions.tile_slots
 enough_slots f h sound = let tiles = sound.each_item 1 (omega arith) in slots_for f h (omega (arith, tiles.not_empty))
 
--- The lists of a job begin in the first 64 MiB, and so does its slot.
+-- The lists of a job begin inside the greatest memory, and so does its slot; records and uniforms begin behind 1 MiB and 2 MiB at most.
 pub layout_low : (f : FileModel) (j : ℕ) → IsSound f.mem_size f.regions f.buffers → length f.jobs ≤ f.regions.tile_slots → lists_begin f j ≤ region_end f.regions → j < length f.jobs → IsJobWellFormed (job_of f j)
-    → ((layout_of f j).place ≤ 67108864) × ((layout_of f j).records ≤ 67108864) × ((layout_of f j).uniforms ≤ 67108864) × ((layout_of f j).slot ≤ 67108864)
+    → ((layout_of f j).place ≤ most_place) × ((layout_of f j).records ≤ most_list + 16) × ((layout_of f j).uniforms ≤ 2 * most_list + 32) × ((layout_of f j).slot ≤ most_place)
 unfolding layout_of records_start uniforms_start slot_of
 layout_low f j sound slots begins inside small =
     let lists = lists_inside f sound in
@@ -142,24 +135,12 @@ layout_low f j sound slots begins inside small =
 
 -- so of the layout that the check keeps of a job in view
 pub record IsLow (layout : Layout) : Type 0 where
-  pub place : layout.place ≤ 67108864
-  pub records : layout.records ≤ 67108864
-  pub uniforms : layout.uniforms ≤ 67108864
-  pub slot : layout.slot ≤ 67108864
+  pub place : layout.place ≤ most_place
+  pub records : layout.records ≤ most_list + 16
+  pub uniforms : layout.uniforms ≤ 2 * most_list + 32
+  pub slot : layout.slot ≤ most_place
 
 pub kept_low : (v : InView) (job : JobModel) (table : TableModel) (shaders : List (Option ShaderModel)) (handles : List ℕ) (layout : Layout) → IsContext v job table shaders handles layout → IsLow layout
 kept_low v job table shaders handles layout h =
     let low = layout_low v.file v.number h.sound (enough_slots v.file h.well_formed h.sound) h.begins h.inside (subst IsJobWellFormed h.job_is h.limits) in
     subst IsLow (sym h.layout_is) (record { place = low.0; records = low.1; uniforms = low.2; slot = low.3 })
-
--- all lists together have some 11 MiB at most
-rounds_near : (n : ℕ) → rounded_up n 16 < n + 16
-rounds_near n = let r = rounded n 16 (lit≤ tt) in r.near
-
-pub lists_small : (bin records uniforms render : ℕ) → bin ≤ 1048576 → records ≤ 1048576 → uniforms ≤ 1048576 → render ≤ 8388608 → lists_end bin records uniforms render ≤ 67108864
-unfolding records_start uniforms_start render_start
-lists_small bin records uniforms render b r u e =
-    let a = rounds_near bin in
-    let c = rounds_near (rounded_up bin 16 + records) in
-    let d = rounds_near (rounded_up (rounded_up bin 16 + records) 16 + uniforms) in
-    omega (arith, a, c, d)

@@ -11,3 +11,5 @@ pub mod Regions
 pub mod Views
 pub mod Windows
 pub mod Wants
+pub mod Wider
+pub mod Stops

@@ -11,7 +11,7 @@ use Rattle.job_format.specs.Model.{FileModel}
 use Rattle.job_format.specs.declared.rule.Stage.TheVariants.{X}
 use Rattle.relocation.specs.Layout.{region_end}
 use Rattle.job_check.specs.Jobs.{layout_of}
-use Rattle.job_check.specs.Faults.{refused, layout_stage, table_stage, shaders_stage, jobs_stages, file_stages}
+use Rattle.job_check.specs.Faults.{refused, layout_stage, table_stage, shaders_stage, jobs_stages, file_stages, stages_within}
 use Rattle.job_check.specs.Offsets.{job_offset, layout_offset}
 
 -- Rules after the front of which none stands change no answer.
@@ -54,5 +54,5 @@ if_both (Err e) follows p q = tt
 
 -- where no rule of a file stands, none of its memory table does
 pub table_none : (f : FileModel) → first_of (file_stages f) ≡ None → first_of (table_stage f) ≡ None
-unfolding file_stages
+unfolding stages_within
 table_none f none = front_none (table_stage f) (shaders_stage f ++ jobs_stages f) none

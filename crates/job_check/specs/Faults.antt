@@ -7,7 +7,7 @@ use Rattle.field_words.specs.declared.stop.Stop.TheVariants.{Fault, NoMemory}
 use Rattle.buffer_table.specs.declared.buffer.TableFault.{TableFault}
 use Rattle.buffer_table.specs.declared.buffer.Kind.{Kind}
 use Rattle.buffer_table.specs.declared.buffer.Kind.TheVariants.{Plain, Code}
-use Rattle.buffer_table.specs.Table.{table_questions, buffer_at}
+use Rattle.buffer_table.specs.Table.{most_place, table_within, buffer_at}
 use Rattle.buffer_table.specs.Handles.{handles_questions}
 use Rattle.job_format.specs.declared.rule.Stage.{Stage}
 use Rattle.job_format.specs.declared.rule.Stage.TheVariants.{M, S, H, B, G, X}
@@ -24,17 +24,21 @@ use Rattle.job_check.specs.Jobs.{job_of, has_bin, grid_of, input_for, layout_of,
 use Rattle.shader_check.specs.declared.fault.ShaderFault.{ShaderFault}
 use Rattle.job_check.specs.Shaders.{table_of, content_of, code_questions}
 use Rattle.job_check.specs.Offsets.{item_offset, shader_offset, job_offset, handles_offset, bin_offset, records_offset, uniforms_offset, surface_offset, layout_offset}
+use Rattle.field_words.specs.Sizes.{most_memory}
 
 -- a refusal by a rule, at a place in the file
 abbrev pub refused : Stage → ℕ → ℕ → Refusal
 refused stage number offset = record { rule = record { stage = stage; number = number }; offset = offset }
 
--- M: the memory table
+-- M: the memory table, of a memory of at most so many bytes, which are 64 MiB for a file
 abbrev pub table_refused : TableFault → Refusal
 table_refused fault = refused M fault.number (item_offset fault.item)
 
-unfoldable pub table_stage : FileModel → List (Question Refusal)
-table_stage f = answered table_refused (table_questions f.mem_size f.regions f.buffers)
+unfoldable pub table_stage_within : (limit : ℕ) → FileModel → List (Question Refusal)
+table_stage_within limit f = answered table_refused (table_within limit f.mem_size f.regions f.buffers)
+
+abbrev pub table_stage : FileModel → List (Question Refusal)
+table_stage = table_stage_within most_memory
 
 -- S: the shader in buffer b, and all shaders by buffer
 abbrev pub shader_refused : FileModel → ℕ → ShaderFault → Refusal
@@ -115,12 +119,19 @@ lists_stages f j = bin_stage f j ++ (records_stage f j ++ surfaces_stage f j)
 abbrev pub laid_stages : FileModel → ℕ → List (Question Refusal)
 laid_stages f j = lists_stages f j ++ layout_stage f j
 
--- all of a job, of all jobs, and of a file that was read
+-- all of a job, of all jobs, and of a file that was read, whose memory has at most so many bytes
 unfoldable pub job_stages : FileModel → ℕ → List (Question Refusal)
 job_stages f j = handles_stage f j ++ laid_stages f j
 
 abbrev pub jobs_stages : FileModel → List (Question Refusal)
 jobs_stages f = each (job_stages f) 0 (length f.jobs)
 
-unfoldable pub file_stages : FileModel → List (Question Refusal)
-file_stages f = table_stage f ++ (shaders_stage f ++ jobs_stages f)
+unfoldable pub stages_within : (limit : ℕ) → FileModel → List (Question Refusal)
+stages_within limit f = table_stage_within limit f ++ (shaders_stage f ++ jobs_stages f)
+
+abbrev pub file_stages : FileModel → List (Question Refusal)
+file_stages = stages_within most_memory
+
+-- those of a file whose places are a driver's, anywhere in the greatest memory
+abbrev pub place_stages : FileModel → List (Question Refusal)
+place_stages = stages_within most_place

@@ -8,7 +8,9 @@ use Rattle.job_format.specs.declared.rule.Refusal.{Refusal}
 use Rattle.job_format.specs.declared.rule.Stage.TheVariants.{F}
 use Rattle.job_format.specs.Faults.{format_questions}
 use Rattle.job_format.specs.Reading.{file_at}
-use Rattle.job_check.specs.Faults.{refused, file_stages}
+use Rattle.job_check.specs.Faults.{refused, stages_within}
+use Rattle.buffer_table.specs.Table.{most_place}
+use Rattle.field_words.specs.Sizes.{most_memory}
 
 -- F: the format of the file
 abbrev pub format_refused : FormatFault → Refusal
@@ -18,10 +20,18 @@ abbrev pub format_stopped : Stop FormatFault → Stop Refusal
 format_stopped (Fault fault) = Fault (format_refused fault)
 format_stopped NoMemory = NoMemory
 
--- All rules by which these bytes can be refused, in the order of refusal. The stages after the format are asked of the file
--- that the bytes hold.
-unfoldable pub all_questions : List ℕ → List (Question Refusal)
-all_questions bytes = answered format_refused (format_questions bytes) ++ file_stages (file_at bytes)
+-- All rules by which these bytes can be refused, in the order of refusal, where the memory has at most so many bytes. The stages after
+-- the format are asked of the file that the bytes hold.
+unfoldable pub questions_within : (limit : ℕ) → List ℕ → List (Question Refusal)
+questions_within limit bytes = answered format_refused (format_questions bytes) ++ stages_within limit (file_at bytes)
+
+-- those of a job file, whose memory has at most 64 MiB
+abbrev pub all_questions : List ℕ → List (Question Refusal)
+all_questions = questions_within most_memory
+
+-- those of a file whose places are a driver's, anywhere in the greatest memory
+abbrev pub place_questions : List ℕ → List (Question Refusal)
+place_questions = questions_within most_place
 
 -- the first rule that stands, if any
 unfoldable pub refusal_of : List ℕ → Option Refusal

@@ -1,6 +1,7 @@
 //! Where the lists of the jobs go.
 ghost use Rattle.std.specs.Prelude.{◌≡◌, ◌↔◌, ◌≤◌, ◌+◌, ◌*◌, IsTrue};
-ghost use Rattle.field_words.specs.Sizes.{slot_size, most_memory, most_render};
+ghost use Rattle.buffer_table.specs.Table.{most_place};
+ghost use Rattle.field_words.specs.Sizes.{slot_size, most_render};
 ghost use Rattle.job_format.specs.File.{IsJobWellFormed};
 ghost use Rattle.job_format.specs.Model.{file_view, job_view};
 ghost use Rattle.relocation.specs.Layout.{region_end, begins_after};
@@ -40,7 +41,7 @@ pub fn job_layout(file: &JobFile, number: usize, place: u32, job: &Job) -> Layou
     requires job_is { job_view job.now ≡ job_of (file_view file.now) number }
     requires limits { IsJobWellFormed (job_view job.now) }
     requires place_is { place ≡ lists_begin (file_view file.now) number }
-    requires slot { file.now.regions.tile_place + slot_size * number ≤ most_memory }
+    requires slot { file.now.regions.tile_place + slot_size * number ≤ most_place }
     ensures { result ≡ layout_of (file_view file.now) number }
 {
     let slot = slot_place(file.regions.tile_place, number as u32);
@@ -54,7 +55,7 @@ pub fn job_layout(file: &JobFile, number: usize, place: u32, job: &Job) -> Layou
 /// Where the lists of the job after the one with this layout begin.
 #[tactic(auto, unfolding(relocation::specs::Layout::begins_after))]
 pub fn next_place(layout: &Layout) -> u32
-    requires { end_of layout.now ≤ most_memory }
+    requires { end_of layout.now ≤ most_place }
     ensures { result ≡ begins_after layout.now.place layout.now.end }
 {
     round_up(u64::from(layout.place) + u64::from(layout.end), 16) as u32

@@ -17,7 +17,7 @@ mod upgrade;
 mod whole;
 
 pub use check::{Checked, check_job};
-pub use region::{Region, check_lists};
+pub use region::{Region, check_lists, check_lists_within};
 pub use shaders::{shader_in, words_of};
 pub use upgrade::upgrade_changes_nothing;
-pub use whole::{check_bytes, format_refusal};
+pub use whole::{check_bytes, check_places, format_refusal};

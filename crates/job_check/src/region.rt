@@ -1,5 +1,7 @@
 //! The rules of a file, and the lists of its jobs. No memory of the jobs is made.
 ghost use Rattle.std.specs.Prelude.{◌≡◌, ◌<◌, ◌≤◌, ◌+◌, ◌++◌, ◌-◌, length, IfOk, IsOk, drop};
+ghost use Rattle.field_words.specs.Sizes.{most_memory};
+ghost use Rattle.buffer_table.specs.Table.{most_place};
 ghost use Rattle.field_words.specs.Questions.{Answers, NamesFirst, NeverHidesFault};
 ghost use Rattle.field_words.specs.Writes.{placed, zeros};
 ghost use Rattle.job_format.specs.File.{IsWellFormed};
@@ -9,7 +11,7 @@ ghost use Rattle.shader_records.specs.Inputs.{shaders_view};
 ghost use Rattle.job_check.specs.Shaders.{table_of, AreShadersIn};
 ghost use Rattle.relocation.specs.Layout.{region_end};
 ghost use Rattle.job_check.specs.Jobs.{lists_begin, layout_of, end_of};
-ghost use Rattle.job_check.specs.Faults.{table_stage, shaders_stage, lists_stages, laid_stages, job_stages, jobs_stages, file_stages};
+ghost use Rattle.job_check.specs.Faults.{table_stage, table_stage_within, shaders_stage, lists_stages, laid_stages, job_stages, jobs_stages, file_stages, stages_within};
 ghost use Rattle.job_check.specs.Emit.{ArePlaced, PartsFit, list_parts, lengths_of, moved};
 ghost use Rattle.job_check.specs.Region.{region_size, region_from, region_parts, IsRegion, AreChecked};
 
@@ -18,7 +20,7 @@ use super::layout::next_place;
 use super::shaders::shaders_stage;
 use super::stages::table_stage;
 use buffer_table::Table;
-use field_words::Stop;
+use field_words::{MOST_MEMORY, Stop};
 use job_format::{JobFile, Refusal};
 use qpu_isa::ShaderInfo;
 use relocation::{Layout, Lengths};
@@ -174,20 +176,41 @@ fn check_shaders(alloc: Global, file: &JobFile, table: &Table) -> Result<Region,
     check_jobs(alloc, file, table, &shaders)
 }
 
-/// Checks a file that was read, and makes no memory of its jobs. `Ok` comes exactly where
+/// Checks a file that was read and whose memory has at most `limit` bytes, and makes no memory of its jobs. `Ok` comes exactly where
 /// no rule stands of the memory table, of the shaders, and of any job's handles, its binner list, its records and uniforms, its frame and
 /// surfaces, and its layout.
 ///
 /// # Errors
 /// The first rule that stands, job by job, with its place in the file; or want of memory, which never hides a rule of the memory table.
-#[tactic(auto, unfolding(crate::specs::Faults::file_stages))]
+#[tactic(auto, unfolding(crate::specs::Faults::stages_within))]
+pub fn check_lists_within(
+    alloc: Global,
+    limit: u32,
+    file: &JobFile,
+) -> Result<Region, Stop<Refusal>>
+    requires limit { limit ≤ most_place }
+    requires well_formed { IsWellFormed (file_view file.now) }
+    ensures answers { Answers (stages_within limit (file_view file.now)) (IsRegion (file_view file.now)) result }
+    ensures first { NamesFirst (stages_within limit (file_view file.now)) result }
+    ensures memory { NeverHidesFault (table_stage_within limit (file_view file.now)) result }
+    ensures sound { IsOk result → IsSound file.now.mem_size file.now.regions file.now.buffers.items }
+    ensures small { IsOk result → file.now.mem_size ≤ limit }
+{
+    let table = table_stage(alloc, limit, file)?;
+    check_shaders(alloc, file, &table)
+}
+
+/// The same of a job file, whose memory has at most 64 MiB.
+///
+/// # Errors
+/// As those of `check_lists_within`.
 pub fn check_lists(alloc: Global, file: &JobFile) -> Result<Region, Stop<Refusal>>
     requires { IsWellFormed (file_view file.now) }
     ensures answers { Answers (file_stages (file_view file.now)) (IsRegion (file_view file.now)) result }
     ensures first { NamesFirst (file_stages (file_view file.now)) result }
     ensures memory { NeverHidesFault (table_stage (file_view file.now)) result }
     ensures sound { IsOk result → IsSound file.now.mem_size file.now.regions file.now.buffers.items }
+    ensures small { IsOk result → file.now.mem_size ≤ most_memory }
 {
-    let table = table_stage(alloc, file)?;
-    check_shaders(alloc, file, &table)
+    check_lists_within(alloc, MOST_MEMORY, file)
 }

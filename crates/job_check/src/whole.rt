@@ -1,13 +1,16 @@
 //! The check of a job file from its bytes on.
-ghost use Rattle.std.specs.Prelude.{◌≡◌, length, IfOk, IsOk};
+ghost use Rattle.std.specs.Prelude.{◌≡◌, ◌≤◌, length, IfOk, IsOk};
+ghost use Rattle.job_check.specs.Region.{IsRegion};
+ghost use Rattle.buffer_table.specs.Table.{most_place};
 ghost use Rattle.field_words.specs.Questions.{Answers, NeverHidesFault, answered};
 ghost use Rattle.job_format.specs.Faults.{format_questions};
 ghost use Rattle.job_format.specs.Reading.{file_at};
 ghost use Rattle.job_format.specs.File.{IsFileOf};
 ghost use Rattle.job_check.specs.Emit.{Emits, IsPlaced};
-ghost use Rattle.job_check.specs.Whole.{all_questions, format_refused, format_stopped};
+ghost use Rattle.job_check.specs.Whole.{all_questions, questions_within, format_refused, format_stopped};
 
 use super::check::{Checked, check_job};
+use super::region::{Region, check_lists_within};
 use field_words::{NoMemory, Stop};
 use job_format::{FormatFault, Refusal, Rule, Stage, read_job};
 use std::alloc::Global;
@@ -33,7 +36,7 @@ pub fn format_refusal(stop: Stop<FormatFault>) -> Stop<Refusal>
 /// # Errors
 /// The first rule that stands, by its letter, its number and its place in the bytes; or want of memory, which never hides a rule of the
 /// format.
-#[tactic(auto, unfolding(crate::specs::Whole::all_questions))]
+#[tactic(auto, unfolding(crate::specs::Whole::questions_within))]
 pub fn check_bytes(alloc: Global, bytes: &[u8]) -> Result<Checked, Stop<Refusal>>
     ensures answers { Answers (all_questions bytes.now) (Emits (file_at bytes.now)) result }
     ensures format { NeverHidesFault (answered format_refused (format_questions bytes.now)) result }
@@ -43,6 +46,24 @@ pub fn check_bytes(alloc: Global, bytes: &[u8]) -> Result<Checked, Stop<Refusal>
 {
     match read_job(alloc, bytes) {
         Ok(file) => check_job(alloc, &file),
+        Err(stop) => Err(format_refusal(stop)),
+    }
+}
+
+/// The first rule that stands for these bytes, where the memory may have at most `limit` bytes, or the lists of the jobs that they hold.
+/// No memory of the jobs is made, so their places may be a driver's.
+///
+/// # Errors
+/// As those of `check_bytes`.
+#[tactic(auto, unfolding(crate::specs::Whole::questions_within))]
+pub fn check_places(alloc: Global, limit: u32, bytes: &[u8]) -> Result<Region, Stop<Refusal>>
+    requires { limit ≤ most_place }
+    ensures answers { Answers (questions_within limit bytes.now) (IsRegion (file_at bytes.now)) result }
+    ensures format { NeverHidesFault (answered format_refused (format_questions bytes.now)) result }
+    ensures spelled { IsOk result → IsFileOf bytes.now (file_at bytes.now) }
+{
+    match read_job(alloc, bytes) {
+        Ok(file) => check_lists_within(alloc, limit, &file),
         Err(stop) => Err(format_refusal(stop)),
     }
 }

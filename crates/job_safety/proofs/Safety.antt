@@ -11,7 +11,7 @@ use Rattle.job_format.proofs.Laws.{none_file}
 use Rattle.job_format.proofs.Passing.{passes_all}
 use Rattle.job_check.specs.Emit.{memory_of}
 use Rattle.job_check.specs.Faults.{file_stages}
-use Rattle.job_check.specs.Whole.{format_refused, all_questions, refusal_of}
+use Rattle.job_check.specs.Whole.{format_refused, all_questions, refusal_of, questions_within}
 use Rattle.machine_plan.specs.Others.{Steps}
 use Rattle.machine_plan.specs.Regions.{Inside, IsOutside, IsKept}
 use Rattle.machine_plan.proofs.Others.{run_others}
@@ -26,9 +26,10 @@ use Rattle.accepted_law.proofs.ByJob.{inside_either}
 use Rattle.accepted_law.proofs.Joining.{files_sound_law, lists_and_code_fixed_law}
 use Rattle.accepted_law.proofs.Neighbours.{accepted_apart_law}
 use Rattle.job_safety.specs.Clients.{IsApart, BytesApart}
-use Rattle.job_safety.specs.Files.{IsSafeFile, BytesSafe}
+use Rattle.job_safety.specs.Files.{IsSafeFile, BytesSafe, PlacedJobsAreSafe}
 use Rattle.job_safety.specs.Follows.{HasListsAndCode, IsSafeAlone, SafeFilesFollow}
 use Rattle.job_safety.specs.Safe.{AreSafe, AreSame}
+use Rattle.job_check.proofs.Wider.{wider_none}
 
 -- A byte of the lists and the code of the first jobs is one that no job may write.
 pub fixed_upto : (f : FileModel) (n p : ℕ) → n ≤ length f.jobs → OfEachJob f (AreFixed f) → Inside (fixed_below f n) p 1 → IsOutside (file_rights f) p
@@ -60,19 +61,22 @@ safe_files_follow_law f safe = record {
 
 -- the rules of the format, and those of the file
 parts_none : (bytes : List ℕ) → first_of (all_questions bytes) ≡ None → (first_of (format_questions bytes) ≡ None) × (first_of (file_stages (file_at bytes)) ≡ None)
-unfolding all_questions
+unfolding questions_within
 parts_none bytes none =
     let format = answered format_refused (format_questions bytes) in
     (none_answered format_refused (format_questions bytes) (front_none format (file_stages (file_at bytes)) none), rest_none format (file_stages (file_at bytes)) none)
 
+-- A file in which no rule stands is safe, also where its places are a driver's.
+pub placed_safe_law : PlacedJobsAreSafe
+placed_safe_law f well_formed fits none = record {
+  sound = λ m agree. files_sound_law f well_formed fits none m agree;
+  fixed = lists_and_code_fixed_law f well_formed fits none;
+}
+
 pub file_is_safe : (bytes : List ℕ) → IsFileOf bytes (file_at bytes) → first_of (all_questions bytes) ≡ None → IsSafeFile (file_at bytes)
 file_is_safe bytes is none =
     let f : FileModel = file_at bytes in
-    let stages = (parts_none bytes none).1 in
-    record {
-      sound = λ m agree. files_sound_law f is.well_formed is.fits stages m agree;
-      fixed = lists_and_code_fixed_law f is.well_formed is.fits stages;
-    }
+    placed_safe_law f is.well_formed is.fits (wider_none f (parts_none bytes none).1)
 
 -- they have a whole header
 pub header_there : (bytes : List ℕ) → first_of (all_questions bytes) ≡ None → 8 ≤ length bytes
@@ -95,7 +99,7 @@ accepted_is_same bytes is none = (safe_files_follow_law (file_at bytes) (file_is
 
 -- And to each client it is the same as every neighbour of which no rule stands.
 pub faultless : (bytes : List ℕ) → IsFileOf bytes (file_at bytes) → first_of (all_questions bytes) ≡ None → IsFaultless (file_at bytes)
-faultless bytes is none = record { well_formed = is.well_formed; fits = is.fits; none = (parts_none bytes none).1 }
+faultless bytes is none = record { well_formed = is.well_formed; fits = is.fits; none = wider_none (file_at bytes) (parts_none bytes none).1 }
 
 pub accepted_is_apart : (bytes : List ℕ) → IsFileOf bytes (file_at bytes) → first_of (all_questions bytes) ≡ None → IsApart (file_at bytes)
 unfolding refusal_of

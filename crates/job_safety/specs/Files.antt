@@ -9,6 +9,9 @@ use Rattle.machine_plan.specs.Regions.{Agree}
 use Rattle.accepted_law.specs.Held.{AreFixed}
 use Rattle.accepted_law.specs.Holdings.{OfEachJob, plain_of, fixed_of, file_rights, file_starts}
 use Rattle.job_safety.specs.Safe.{AreSound}
+use Rattle.job_format.specs.File.{IsWellFormed, Fits}
+use Rattle.field_words.specs.Questions.{first_of}
+use Rattle.job_check.specs.Faults.{place_stages}
 
 -- From each memory of the emitted one's length that has the emitted lists of all jobs, and the Code buffers that their handles name, as
 -- the emitted one, whatever all its other bytes are, the jobs are sound, each with its own rights and from the beginnings of its lists.
@@ -21,3 +24,7 @@ pub record IsSafeFile (f : FileModel) : Type 0 where
 -- So it is of the file that any bytes hold of which no rule stands.
 abbrev pub BytesSafe : Type 0
 BytesSafe = (bytes : List ℕ) → IsBytes bytes → refusal_of bytes ≡ None → IsSafeFile (file_at bytes)
+
+-- So it is of each file in which no rule stands whose places are a driver's, anywhere in the greatest memory.
+abbrev pub PlacedJobsAreSafe : Type 0
+PlacedJobsAreSafe = (f : FileModel) → IsWellFormed f → Fits f → first_of (place_stages f) ≡ None → IsSafeFile f

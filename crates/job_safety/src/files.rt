@@ -1,5 +1,5 @@
 //! Accepted files are safe, whatever their memory holds beside the lists and the code of their jobs.
-ghost use Rattle.job_safety.specs.Files.{BytesSafe};
+ghost use Rattle.job_safety.specs.Files.{BytesSafe, PlacedJobsAreSafe};
 ghost use Rattle.job_safety.specs.Follows.{SafeFilesFollow};
 
 /// The law that accepted files are safe, of 1 to 8 jobs: whichever bytes they are, where no rule stands of them, from each memory of the
@@ -10,6 +10,12 @@ ghost use Rattle.job_safety.specs.Follows.{SafeFilesFollow};
 /// accesses, and leaves the same bytes there. And what jobs may write has no byte of the lists and the code of any.
 pub fn accepted_bytes_are_safe()
     ensures { BytesSafe }
+{}
+
+/// So is each file of which no rule stands under the greatest limit of a memory, 0xFF000000, as a driver has it whose buffers, lists and
+/// slots stand at addresses of the bus.
+pub fn placed_jobs_are_safe()
+    ensures { PlacedJobsAreSafe }
 {}
 
 /// What follows of each safe file, of runs in which nobody else writes, or only what jobs may write: from the emitted memory, from each

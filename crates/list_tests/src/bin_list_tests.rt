@@ -64,8 +64,8 @@ fn info_text(alloc: Global, info: &BinInfo, out: &[u8]) -> Result<String, Fail> 
 
 /// The first rule that stands, or what the list tells. Records begin at the first multiple of 16 behind the list.
 fn answer(alloc: Global, list: &[u8], declared: u32) -> Result<String, Fail> {
-    if list.len() > 128 {
-        return Err("the test's window is too small".into());
+    if list.len() > 128 || declared > 65_536 {
+        return Err("the test's window is too small, or there are too many states".into());
     }
     let table = table(alloc)?;
     let handles = match Handles::make(alloc, &table, 1, &[0, 1, 2]) {

@@ -1,5 +1,5 @@
 //! Each memory rule, the handles' rule, and what handles name.
-use buffer_table::{Buffer, Handles, Kind, Regions, Table, use_code, use_data};
+use buffer_table::{Buffer, Handles, Kind, MOST_PLACE, Regions, Table, use_code, use_data};
 use field_words::Stop;
 use std::alloc::{AllocError, Global};
 use std::process::Abort;
@@ -175,6 +175,51 @@ fn the_most_buffers(rt: HostRuntime) -> Result<(), Fail> {
         (0x80000, 0x1000, Some((4, 1026))),
     ] {
         assert_eq!(rt; many_fault(&rt, alloc, place, size)?, want);
+    }
+    Ok(())
+}
+
+/// The first rule that stands of a memory below 0xFF000000, with the lists' region above its buffers.
+fn high_fault_of(
+    alloc: Global,
+    memory: u32,
+    three: [Buffer; 3],
+) -> Result<Option<(u8, u32)>, AllocError> {
+    let regions = Regions {
+        lists_place: 0xfe000000,
+        lists_size: 0x1000,
+        tile_place: 0xc0000000,
+        tile_slots: 1,
+    };
+    let mut buffers = Vec::new(alloc);
+    buffers.push(three[0])?;
+    buffers.push(three[1])?;
+    buffers.push(three[2])?;
+    Ok(
+        match Table::make_within(alloc, MOST_PLACE, memory, regions, &buffers) {
+            Err(Stop::Fault(fault)) => Some((fault.number, fault.item)),
+            _ => None,
+        },
+    )
+}
+
+#[test]
+fn the_rules_at_high_places(rt: HostRuntime) -> Result<(), Fail> {
+    let alloc = rt.alloc();
+    let first = at(0xc0080000);
+    let second = at(0xc0081000);
+    let third = at(0xfe001000);
+    for (memory, buffers, want) in [
+        (0xff000000, [first, second, third], None),
+        (0xff000000, [third, second, first], None),
+        (0xff001000, [first, second, third], Some((1, 0))),
+        (0xfe001000, [first, second, third], Some((3, 5))),
+        (0xff000000, [first, third, first], Some((4, 5))),
+        (0xff000000, [third, first, third], Some((4, 5))),
+        (0xff000000, [first, at(0xfe000000), second], Some((4, 4))),
+        (0xff000000, [at(0xc007f000), second, third], Some((4, 3))),
+    ] {
+        assert_eq!(rt; high_fault_of(alloc, memory, buffers)?, want);
     }
     Ok(())
 }

@@ -3,7 +3,7 @@ use Rattle.std.proofs.Common.{◌≡◌, ℕ, zero, suc, ◌+◌, ◌*◌, ◌<�
 use Rattle.field_words.specs.Questions.{Question, first_of, each}
 use Rattle.field_words.proofs.Questions.{none_stands}
 use Rattle.field_words.proofs.Nones.{front_none, rest_none, each_none}
-use Rattle.buffer_table.specs.Table.{TableModel, buffer_at}
+use Rattle.buffer_table.specs.Table.{TableModel, buffer_at, most_place}
 use Rattle.buffer_table.specs.Handles.{data_of}
 use Rattle.job_format.specs.declared.file.Frame.{Frame}
 use Rattle.job_format.specs.declared.file.Surface.{Surface}
@@ -78,7 +78,7 @@ offset_inside frame table handles k number present none named =
 -- Each tile of one in full resolution lies below 2^32.
 pub tiles_inside : (frame : Frame) (table : TableModel) (handles : List ℕ) (k number : ℕ) → is_present (surface_at frame k) ≡ true
     → first_of (surface_questions frame table handles k) ≡ None → data_of table handles (surface_at frame k).hindex ≡ Some number
-    → (buffer_at table.buffers number).place + (buffer_at table.buffers number).size ≤ 67108864
+    → (buffer_at table.buffers number).place + (buffer_at table.buffers number).size ≤ most_place
     → FitsAt frame k (Some ((buffer_at table.buffers number).place + (surface_at frame k).offset)) frame.max_x frame.max_y
 unfolding full_place
 tiles_inside frame table handles k number present none named inside = λ full.

@@ -1,6 +1,7 @@
 //! The packets of a renderer list. One that stands only sometimes has a slot, which is `None` where it
 //! doesn't stand.
 ghost use Rattle.std.specs.Prelude.{◌≡◌, ◌⊎◌, ◌≤◌, ◌<◌, ◌^◌, ◌+◌, ◌*◌, ◌∷◌, [], IsSome};
+ghost use Rattle.buffer_table.specs.Table.{most_place};
 ghost use Rattle.tile_memory.specs.Slots.{alloc_offset};
 ghost use Rattle.render_list.specs.Frame.{FitsAt, TileFits, full_place};
 ghost use Rattle.render_list.specs.Text.{number_where, packet_where, head_packet, clear_packet, clear_slots, load_packet, load_slot, wait_slot, list_place, list_slot, full_store, full_store_slot, zs_store, zs_store_slot, color_store, color_store_slot, is_there, more_after_multisample_zs, more_after_multisample_color, some_before_zs, some_before_color, coordinates_slot, load_slots, list_slots, write_slots, tile_slots};
@@ -148,7 +149,7 @@ fn tile_count(grid: (u8, u8)) -> u32
 /// Where the tile's list begins in the tile slot.
 #[tactic(auto, unfolding(crate::specs::Text::list_place))]
 fn list_place(grid: (u8, u8), slot: u32, tile: Tile) -> u32
-    requires { slot ≤ 67108864 }
+    requires { slot ≤ most_place }
     ensures { result ≡ list_place grid slot tile.x tile.y }
 {
     slot + alloc_offset(tile_count(grid)) + 32 * tile_number(grid.0, tile)
@@ -156,7 +157,7 @@ fn list_place(grid: (u8, u8), slot: u32, tile: Tile) -> u32
 
 /// The branch to the tile's own list, where there is a binner list.
 fn list_slot(tiles: Option<(u8, u8)>, slot: u32, tile: Tile) -> Option<Packet>
-    requires { IsSome tiles → slot ≤ 67108864 }
+    requires { IsSome tiles → slot ≤ most_place }
     ensures { result ≡ list_slot tiles slot tile.x tile.y }
 {
     let grid = tiles?;
@@ -296,7 +297,7 @@ fn load_slots(frame: &Frame, setup: &Setup, tile: Tile) -> [Option<Packet>; 4]
 /// The coordinates of a tile, and its list.
 #[tactic(auto, unfolding(crate::specs::Text::list_slots))]
 fn list_slots(frame: &Frame, tiles: Option<(u8, u8)>, slot: u32, tile: Tile) -> [Option<Packet>; 3]
-    requires { IsSome tiles → slot ≤ 67108864 }
+    requires { IsSome tiles → slot ≤ most_place }
     ensures { result ≡ list_slots frame.now tiles slot tile.x tile.y }
 {
     let coordinates = Packet::TileCoordinates {
@@ -345,7 +346,7 @@ pub fn tile_slots(
     tile: Tile,
 ) -> [Option<Packet>; 14]
     requires fits { TileFits frame.now setup.now.places tile.x tile.y }
-    requires slot { IsSome tiles → slot ≤ 67108864 }
+    requires slot { IsSome tiles → slot ≤ most_place }
     ensures { result ≡ tile_slots frame.now setup.now.places tiles slot tile.y tile.x }
 {
     let [l0, l1, l2, l3] = load_slots(frame, setup, tile);

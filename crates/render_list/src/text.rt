@@ -1,5 +1,6 @@
 //! Writing the renderer list.
 ghost use Rattle.std.specs.Prelude.{◌≡◌, ◌≤◌, ◌<◌, ◌+◌, ◌∷◌, [], length, IsSome, is_some, Some};
+ghost use Rattle.buffer_table.specs.Table.{most_place};
 ghost use Rattle.field_words.specs.Writes.{with_bytes};
 ghost use Rattle.packets.specs.Packet.{slots_text};
 ghost use Rattle.render_list.specs.Frame.{TileFits, IsSetupFor};
@@ -23,7 +24,7 @@ fn put_tile(
     tile: Tile,
 ) -> usize
     requires fits { TileFits frame.now setup.now.places tile.x tile.y }
-    requires slot { IsSome tiles → slot ≤ 67108864 }
+    requires slot { IsSome tiles → slot ≤ most_place }
     requires room { HasRoom out.old at (tile_slots frame.now setup.now.places tiles slot tile.y tile.x) }
     ensures { Puts (tile_slots frame.now setup.now.places tiles slot tile.y tile.x) out.old at out.new result }
 {
@@ -42,7 +43,7 @@ fn put_row(
 ) -> usize
     requires setup { IsSetupFor frame.now setup.now.places }
     requires row { y ≤ frame.now.max_y }
-    requires slot { IsSome tiles → slot ≤ 67108864 }
+    requires slot { IsSome tiles → slot ≤ most_place }
     requires room { HasRoom out.old at (row_slots frame.now setup.now.places tiles slot y) }
     ensures { Puts (row_slots frame.now setup.now.places tiles slot y) out.old at out.new result }
 {
@@ -63,7 +64,7 @@ fn put_tiles(
     slot: u32,
 ) -> usize
     requires setup { IsSetupFor frame.now setup.now.places }
-    requires slot { IsSome tiles → slot ≤ 67108864 }
+    requires slot { IsSome tiles → slot ≤ most_place }
     requires room { HasRoom out.old at (all_tile_slots frame.now setup.now.places tiles slot) }
     ensures { Puts (all_tile_slots frame.now setup.now.places tiles slot) out.old at out.new result }
 {
@@ -96,7 +97,7 @@ fn put_list(
     slot: u32,
 ) -> usize
     requires setup { IsSetupFor frame.now setup.now.places }
-    requires slot { IsSome tiles → slot ≤ 67108864 }
+    requires slot { IsSome tiles → slot ≤ most_place }
     requires room { HasRoom out.old at (render_slots frame.now setup.now.places tiles slot) }
     ensures { Puts (render_slots frame.now setup.now.places tiles slot) out.old at out.new result }
 {
@@ -111,7 +112,7 @@ fn put_list(
 #[tactic(auto, unfolding(crate::specs::Text::render_text), using(crate::proofs::Length::render_fits))]
 pub fn build(frame: &Frame, setup: &Setup, tiles: Option<(u8, u8)>, layout: &Layout, out: &mut [u8])
     requires setup { IsSetupFor frame.now setup.now.places }
-    requires slot { IsSome tiles → layout.now.slot ≤ 67108864 }
+    requires slot { IsSome tiles → layout.now.slot ≤ most_place }
     requires room { layout.now.render + render_length frame.now (is_some tiles) ≤ length out.old }
     ensures { out.new ≡ with_bytes out.old layout.now.render (render_text frame.now setup.now.places tiles layout.now.slot) }
 {

@@ -14,6 +14,7 @@ use Rattle.render_list.specs.Frame.{place_at, surface_at, no_surface, is_full, f
 use Rattle.render_list.specs.Text.{number_where, packet_where, idle_store, color_place, color_bits, head_packet, clear_packet, clear_slots, front_slots, load_packet, load_slot, wait_slot, list_place, list_slot, full_store, full_store_slot, zs_store, zs_store_slot, color_store, color_store_slot, is_there, more_after_multisample_color, more_after_multisample_zs, some_before_zs, some_before_color, load_slots, list_slots, write_slots, tile_slots, span_slots, row_slots, all_tile_slots, render_slots}
 use Rattle.render_list.proofs.Places.{tile_fits}
 use Rattle.render_walks.specs.Walks.{SlotFits, AllFit, PlacesFit, GridFits}
+use Rattle.buffer_table.specs.Table.{most_place}
 
 fit_append : (front rest : List (Option Packet)) → AllFit front → AllFit rest → AllFit (front ++ rest)
 fit_append [] rest one two = two
@@ -64,7 +65,7 @@ fit_load frame k left_out (Some place) x y numbers small places fits =
 place_limit : (a b x y : ℕ) → a < 256 → b < 256 → x < 256 → y < 256 → (a * b ≤ 65025) × (y * a + x ≤ 65280)
 place_limit a b x y ha hb hx hy = (grind arith, grind arith)
 
-fit_list : (grid : Option (ℕ × ℕ)) (slot x y : ℕ) → GridFits grid → slot ≤ 67108864 → x < 256 → y < 256 → SlotFits (list_slot grid slot x y)
+fit_list : (grid : Option (ℕ × ℕ)) (slot x y : ℕ) → GridFits grid → slot ≤ most_place → x < 256 → y < 256 → SlotFits (list_slot grid slot x y)
 unfolding list_place alloc_offset
 fit_list None slot x y fits low hx hy = tt
 fit_list (Some grid) slot x y fits low hx hy =
@@ -106,7 +107,7 @@ fit_wait frame (Some grid) x y = fit_where (is_first_tile frame x y) WaitOnSemap
 pair : {A B : Type 0} → A → B → A × B
 pair a b = (a, b)
 
-fit_tile : (frame : Frame) (places : List (Option ℕ)) (grid : Option (ℕ × ℕ)) (slot y x : ℕ) → FrameFits frame → PlacesFit places → GridFits grid → slot ≤ 67108864
+fit_tile : (frame : Frame) (places : List (Option ℕ)) (grid : Option (ℕ × ℕ)) (slot y x : ℕ) → FrameFits frame → PlacesFit places → GridFits grid → slot ≤ most_place
     → TileFits frame places x y → x < 256 → y < 256 → AllFit (tile_slots frame places grid slot y x)
 unfolding tile_slots load_slots list_slots write_slots is_full
 fit_tile frame places grid slot y x numbers fits grid_fits low tile hx hy =
@@ -146,7 +147,7 @@ fit_front frame places numbers fits =
     (pair (fit_where frame.clear (StoreTileBuffer 0 0) (lit< tt, lit< tt)) tt)))
 
 -- The whole.
-pub render_fits : (frame : Frame) (places : List (Option ℕ)) (grid : Option (ℕ × ℕ)) (slot : ℕ) → FrameFits frame → IsSetupFor frame places → PlacesFit places → GridFits grid → slot ≤ 67108864
+pub render_fits : (frame : Frame) (places : List (Option ℕ)) (grid : Option (ℕ × ℕ)) (slot : ℕ) → FrameFits frame → IsSetupFor frame places → PlacesFit places → GridFits grid → slot ≤ most_place
     → AllFit (render_slots frame places grid slot)
 unfolding render_slots
 render_fits frame places grid slot numbers setup fits grid_fits low =

@@ -7,6 +7,7 @@
 #![tactic(auto)]
 
 ghost use Rattle.std.specs.Prelude.{ℕ, ◌≤◌, Bool, IsTrue, List, Option, is_some};
+ghost use Rattle.buffer_table.specs.Table.{most_place};
 ghost use Rattle.job_format.specs.declared.file.Frame.{Frame};
 ghost use Rattle.packets.specs.declared.packet.Packet.{Packet};
 ghost use Rattle.job_format.specs.File.{FrameFits};
@@ -24,9 +25,9 @@ pub fn renderer_lists_walk()
 {}
 
 /// The law that each number of a renderer list fits its field, where those of the frame, the surfaces'
-/// places and the binner's grid fit theirs, and the tile slot lies in 64 MiB.
+/// places and the binner's grid fit theirs, and the tile slot lies inside the greatest memory.
 pub fn renderer_lists_fit()
     ensures { (frame : Frame) (places : List (Option ℕ)) (grid : Option (ℕ × ℕ)) (slot : ℕ)
-        → FrameFits frame → IsSetupFor frame places → PlacesFit places → GridFits grid → slot ≤ 67108864
+        → FrameFits frame → IsSetupFor frame places → PlacesFit places → GridFits grid → slot ≤ most_place
         → AllFit (render_slots frame places grid slot) }
 {}

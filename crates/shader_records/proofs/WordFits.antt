@@ -12,8 +12,9 @@ use Rattle.shader_records.specs.Rules.{record_questions, use_questions}
 use Rattle.shader_records.specs.Emission.{moved, moved_word, is_address, addressed_word, stream_word_of, shader_word, attribute_word, emitted_word}
 use Rattle.shader_records.proofs.Fine.{address_fits}
 use Rattle.shader_records.proofs.Samples.{base_fits}
+use Rattle.buffer_table.specs.Table.{most_place}
 
-place_limit : (input : InputModel) (o : Option ℕ) → AreInMemory input → place_in input.table o + size_in input.table o ≤ 67108864
+place_limit : (input : InputModel) (o : Option ℕ) → AreInMemory input → place_in input.table o + size_in input.table o ≤ most_place
 place_limit input None fits = omega arith
 place_limit input (Some number) fits = fits.buffers number
 

@@ -2,7 +2,7 @@
 use Rattle.std.specs.Prelude.{◌≡◌, ◌≤◌, ℕ, ◌+◌, List, length, Some}
 use Rattle.field_words.specs.Words.{IsBytes}
 use Rattle.field_words.specs.Pieces.{IsPiece}
-use Rattle.buffer_table.specs.Table.{TableModel, buffer_at}
+use Rattle.buffer_table.specs.Table.{TableModel, buffer_at, most_place}
 use Rattle.buffer_table.specs.Handles.{data_of, code_of}
 use Rattle.qpu_isa.specs.Shader.{ShaderModel}
 use Rattle.shader_records.specs.Inputs.{InputModel, shader_in}
@@ -24,11 +24,11 @@ pub record IsCodeIn (input : InputModel) (place : ℕ) (shader : ShaderModel) : 
   pub place_is : place ≡ (buffer_at input.table.buffers number).place
   pub shader_is : shader_in input.shaders number ≡ Some shader
 
--- The parts of the job file are bytes, and each buffer ends within the 64 MiB that a memory has at most.
+-- The parts of the job file are bytes, and each buffer ends within the greatest memory.
 pub record AreInMemory (input : InputModel) : Type 0 where
   pub records : IsBytes input.records
   pub uniforms : IsBytes input.uniforms
-  pub buffers : (number : ℕ) → (buffer_at input.table.buffers number).place + (buffer_at input.table.buffers number).size ≤ 67108864
+  pub buffers : (number : ℕ) → (buffer_at input.table.buffers number).place + (buffer_at input.table.buffers number).size ≤ most_place
 
 -- A memory has the emitted records from a place on, and the emitted streams from another on.
 pub record IsEmittedIn (input : InputModel) (records first : ℕ) (memory : List ℕ) : Type 0 where

@@ -1,5 +1,7 @@
 //! The check of shader records and uniforms.
-ghost use Rattle.std.specs.Prelude.{◌≡◌, ◌≢◌, None, ◌+◌, ◌<◌, ◌≤◌, ◌^◌, length};
+ghost use Rattle.std.specs.Prelude.{◌≡◌, ◌≢◌, None, ◌+◌, ◌<◌, ◌≤◌, ◌^◌, length, ◌*◌};
+ghost use Rattle.field_words.specs.Sizes.{most_list};
+ghost use Rattle.buffer_table.specs.Table.{most_place};
 ghost use Rattle.field_words.specs.Questions.{first_of, Answers};
 ghost use Rattle.field_words.specs.declared.stop.Stop.TheVariants.{NoMemory as OutOfMemory};
 ghost use Rattle.buffer_table.specs.Handles.{AreNumbersOf};
@@ -25,8 +27,8 @@ fn emit(inputs: &Inputs, layout: &Layout, out: &mut [u8]) -> RecordInfo
     requires few_records { length inputs.now.records ≤ 1048576 }
     requires few { length inputs.now.uniforms ≤ 1048576 }
     requires fine { first_of (all_questions inputs.now) ≡ None }
-    requires place_limit { layout.now.place ≤ 67108864 }
-    requires limit { layout.now.uniforms ≤ 67108864 }
+    requires place_limit { layout.now.place ≤ most_place }
+    requires limit { layout.now.uniforms ≤ 2 * most_list + 32 }
     requires order { layout.now.records + length inputs.now.records ≤ layout.now.uniforms }
     requires room { layout.now.uniforms + length inputs.now.uniforms ≤ length out.old }
     ensures { IsEmitted inputs.now layout.now out.old out.new result }
@@ -65,8 +67,8 @@ pub fn check_records(
     requires shaders { AreShadersOf table.now (shaders_view shaders.now) }
     requires records_limit { length records.now ≤ 1048576 }
     requires uniforms_limit { length uniforms.now ≤ 1048576 }
-    requires place_limit { layout.now.place ≤ 67108864 }
-    requires limit { layout.now.uniforms ≤ 67108864 }
+    requires place_limit { layout.now.place ≤ most_place }
+    requires limit { layout.now.uniforms ≤ 2 * most_list + 32 }
     requires order { layout.now.records + length records.now ≤ layout.now.uniforms }
     requires room { layout.now.uniforms + length uniforms.now ≤ length out.old }
     ensures answers { Answers (all_questions (input_of states.now records.now uniforms.now table.now handles.now shaders.now))

@@ -1,7 +1,7 @@
 //! What the check is given.
 ghost use Rattle.std.specs.Prelude.{◌≡◌, ◌+◌, ◌*◌, ◌^◌, ◌<◌, ◌≤◌, length, slice_index_or, IfSome, MatchOption, Some, None};
 ghost use Rattle.field_words.specs.Words.{u32_at};
-ghost use Rattle.buffer_table.specs.Table.{buffer_at};
+ghost use Rattle.buffer_table.specs.Table.{buffer_at, most_place};
 ghost use Rattle.qpu_isa.specs.Shader.{shader_view, IsSoundShader};
 ghost use Rattle.shader_records.specs.Inputs.{shaders_view, shader_in};
 ghost use Rattle.shader_records.specs.Sources.{no_state, state_at, handles_size, code_number, attribute_number, sample_number, shader_used, is_threaded, record_word, place_in, size_in};
@@ -184,7 +184,7 @@ impl<'a> Inputs<'a> {
     pub(crate) fn place_of(&self, number: Option<usize>) -> u32
         requires { IfSome number (λ number. number < length self.now.table.buffers) }
         ensures value { result ≡ place_in self.now.table number }
-        ensures limit { result + size_in self.now.table number ≤ 67108864 }
+        ensures limit { result + size_in self.now.table number ≤ most_place }
     {
         match number {
             Some(number) => self.table.buffer(number).place,

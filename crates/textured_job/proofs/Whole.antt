@@ -6,7 +6,7 @@ use Rattle.buffer_table.specs.Table.{buffer_at}
 use Rattle.shader_records.specs.Rules.{all_questions}
 use Rattle.job_format.specs.declared.rule.Refusal.{Refusal}
 use Rattle.job_format.specs.Model.{FileModel}
-use Rattle.job_check.specs.Faults.{table_stage, shader_stage, shader_refused, shaders_stage, handles_stage, bin_stage, record_refused, records_stage, surfaces_stage, layout_stage, lists_stages, job_stages, file_stages}
+use Rattle.job_check.specs.Faults.{table_stage, shader_stage, shader_refused, shaders_stage, handles_stage, bin_stage, record_refused, records_stage, surfaces_stage, layout_stage, lists_stages, job_stages, file_stages, stages_within}
 use Rattle.job_check.specs.Jobs.{job_of, states_in, input_for}
 use Rattle.job_check.specs.Shaders.{words_in, told_of, content_of, code_questions, shader_of, shaders_up_to}
 use Rattle.qpu_isa.specs.Shader.{ShaderModel}
@@ -113,19 +113,19 @@ unfolding each
 single_job_none = passes (job_stages one_client 0) [] (job_none Single)
 
 pub file_none : first_of (file_stages textured) ≡ None
-unfolding file_stages textured
+unfolding stages_within textured
 file_none =
     passes (table_stage textured) (shaders_stage textured ++ each (job_stages textured) 0 1) table_none
     ∙ (passes (shaders_stage textured) (each (job_stages textured) 0 1) shaders_none ∙ one_job_none)
 
 pub file_none_of_two : first_of (file_stages two_clients) ≡ None
-unfolding file_stages two_clients
+unfolding stages_within two_clients
 file_none_of_two =
     passes (table_stage two_clients) (shaders_stage two_clients ++ each (job_stages two_clients) 0 2) table_none_of_two
     ∙ (passes (shaders_stage two_clients) (each (job_stages two_clients) 0 2) shaders_none_of_two ∙ two_jobs_none)
 
 pub file_none_of_one : first_of (file_stages one_client) ≡ None
-unfolding file_stages two_clients one_client
+unfolding stages_within two_clients one_client
 file_none_of_one =
     passes (table_stage one_client) (shaders_stage one_client ++ each (job_stages one_client) 0 1) table_none_of_one
     ∙ (passes (shaders_stage one_client) (each (job_stages one_client) 0 1) shaders_none_of_one ∙ single_job_none)

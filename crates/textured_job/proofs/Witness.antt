@@ -17,7 +17,7 @@ use Rattle.job_format.specs.Text.{header_text, buffer_text, surface_text, frame_
 use Rattle.job_format.proofs.Laws.{read_again}
 use Rattle.job_check.specs.Faults.{file_stages}
 use Rattle.job_check.specs.Jobs.{job_of}
-use Rattle.job_check.specs.Whole.{format_refused, all_questions, refusal_of}
+use Rattle.job_check.specs.Whole.{format_refused, refusal_of, questions_within}
 use Rattle.shader_records.specs.Sources.{shader_used}
 use Rattle.textured_job.specs.Job.{code_bytes, fragment_words, vertex_words, fragment_told, page, absent, colour_write, frame, bin_list, records, uniforms, job, textured, two_clients, one_client}
 use Rattle.textured_job.specs.Laws.{UsesAll, HasAll, IsAccepted, IsWitness, IsWitnessOfTwo, textured_bytes, two_clients_bytes, one_client_bytes}
@@ -234,7 +234,7 @@ one_is_file = record { fits = one_fits; well_formed = one_well_formed; text = re
 
 -- bytes of a file of which no rule stands are accepted
 accepted : (bytes : List ℕ) (f : FileModel) → IsBytes bytes → IsFileOf bytes f → first_of (file_stages f) ≡ None → IsAccepted bytes
-unfolding refusal_of all_questions
+unfolding refusal_of questions_within
 accepted bytes f are_bytes is none =
     let again = read_again bytes f is in
     record {

@@ -1,3 +1,4 @@
 mod Fronts
+pub mod Places
 mod Sizes
 mod Told

@@ -5,7 +5,7 @@ use Rattle.std.specs.List.{flat_map}
 use Rattle.field_words.specs.Words.{u32_at}
 use Rattle.field_words.specs.Pieces.{joined}
 use Rattle.field_words.specs.Questions.{first_of}
-use Rattle.buffer_table.specs.Table.{memory_questions}
+use Rattle.buffer_table.specs.Table.{memory_questions, memory_within}
 use Rattle.job_format.specs.Model.{FileModel}
 use Rattle.job_format.specs.Text.{file_text, header_text, buffer_text, job_text, parts_text}
 use Rattle.job_format.specs.File.{IsFileOf}
@@ -21,6 +21,7 @@ use Rattle.vc4check_c.specs.declared.jobs.JobsAnswer.{JobsAnswer}
 use Rattle.vc4check_c.specs.Job.{accepted_answer, IsSound, IsAccepted}
 use Rattle.vc4check_c.specs.Jobs.{accepted_jobs, AreAccepted}
 use Rattle.job_check.proofs.Counted.{as_many_layouts, as_many_lengths, first_layout, first_lengths}
+use Rattle.field_words.specs.Sizes.{most_memory}
 
 header_long : (f : FileModel) → length (header_text f) ≡ 36
 unfolding header_text
@@ -33,8 +34,8 @@ header_inside bytes f text =
     let long : length bytes ≡ length (header_text f) + length parts = ap length text ∙ length-append (header_text f) parts in
     omega (arith, long, header_long f)
 
-may_be_size : (n : ℕ) → 0 < n → n % 4096 ≡ 0 → n ≤ 67108864 → first_of (memory_questions n) ≡ None
-unfolding memory_questions
+may_be_size : (n : ℕ) → 0 < n → n % 4096 ≡ 0 → n ≤ most_memory → first_of (memory_questions n) ≡ None
+unfolding memory_within
 may_be_size n some pages limit = grind (arith, some, pages, limit)
 
 asked_is : (bytes : List ℕ) → 12 ≤ length bytes → first_of (memory_questions (u32_at bytes 8)) ≡ None → u32_at bytes 8 ≡ asked_size bytes

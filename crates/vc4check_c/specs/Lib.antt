@@ -1,4 +1,5 @@
 pub mod Asked
 pub mod Job
 pub mod Jobs
+pub mod Places
 pub mod Shader

@@ -14,7 +14,7 @@ const VERSION: u32 = 1;
 const SIZE_FIELD: usize = 8;
 
 /// Whether a job's memory may have this many bytes.
-#[tactic(auto, unfolding(buffer_table::specs::Table::memory_questions))]
+#[tactic(auto, unfolding(buffer_table::specs::Table::memory_within))]
 fn is_size(size: u32) -> bool
     ensures exact { IsTrue result ↔ (first_of (memory_questions size) ≡ None) }
     ensures limit { IsTrue result → size ≤ most_memory }

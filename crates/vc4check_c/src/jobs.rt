@@ -100,7 +100,7 @@ fn all_lists(layouts: &[Layout], lengths: &[Lengths]) -> [JobLists; MOST]
 
 /// What is told of an accepted file.
 #[tactic(auto, unfolding(crate::specs::Jobs::accepted_jobs))]
-fn accepted(size: u32, layouts: &[Layout], lengths: &[Lengths]) -> JobsAnswer
+pub(crate) fn accepted(size: u32, layouts: &[Layout], lengths: &[Lengths]) -> JobsAnswer
     requires each { length lengths.now ≡ length layouts.now }
     requires few { length layouts.now ≤ most_jobs }
     ensures { result ≡ accepted_jobs size layouts.now lengths.now }
@@ -117,7 +117,7 @@ fn accepted(size: u32, layouts: &[Layout], lengths: &[Lengths]) -> JobsAnswer
 
 /// What is told of a refused one.
 #[tactic(auto, unfolding(crate::specs::Jobs::refused_jobs))]
-fn refused(refusal: &Refusal) -> JobsAnswer
+pub(crate) fn refused(refusal: &Refusal) -> JobsAnswer
     ensures { result ≡ refused_jobs refusal.now }
 {
     JobsAnswer {

@@ -7,6 +7,7 @@
 mod asked;
 mod job;
 mod jobs;
+mod place;
 mod shader;
 mod status;
 

@@ -3,6 +3,7 @@
 use crate::asked::{vc4check_size, vc4check_version};
 use crate::job::{JobAnswer, vc4check_check};
 use crate::jobs::{JobLists, JobsAnswer, vc4check_check_jobs};
+use crate::place::vc4check_place;
 use crate::shader::{ShaderAnswer, ShaderSample, vc4check_shader};
 use crate::status::{ACCEPTED, REFUSED, SHORT, TOO_LONG};
 use std::alloc::Global;
@@ -169,6 +170,46 @@ fn refuses_all_jobs(rt: HostRuntime) -> Result<(), Fail> {
     let status = vc4check_check_jobs(rt.alloc(), &bytes, &mut block, &mut answer);
     assert_eq!(rt; status, REFUSED);
     assert_eq!(rt; answer, told);
+    Ok(())
+}
+
+/// The smallest job with its memory from 0xC0000000 on.
+const PLACED: &str = "5643344a01000000002008c0000000c000100000001000c0010000000100000001000000\
+    001008c000100000010000000000000000000000\
+    01000000000000000100000000000000000000000000000000000000100010000000000\
+    0ffffffff0000000000000000000000000000000004000000ffffffff0000000000000000\
+    ffffffff0000000000000000ffffffff0000000000000000ffffffff0000000000000000\
+    0000000000000000000000000000000000000000";
+
+// The same 15 bytes in the window's start, and each place moved by as much. Below 64 MiB it is no job.
+#[test]
+fn places(rt: HostRuntime) -> Result<(), Fail> {
+    let bytes = hex::decode(rt.alloc(), PLACED)?;
+    let job = JobLists {
+        lists: 0xc0000000,
+        slot: 0xc0001000,
+        end: 15,
+        render_length: 15,
+        ..NO_LISTS
+    };
+    let mut window = vec![in rt.alloc(); 0xa5u8; 16]?;
+    let mut answer = NO_JOBS;
+    let status = vc4check_place(rt.alloc(), &bytes, &mut window, &mut answer);
+    assert_eq!(rt; status, ACCEPTED);
+    assert_eq!(rt; (answer.size, answer.jobs), (15, 1));
+    assert_eq!(rt;
+        answer.lists,
+        [
+            job, NO_LISTS, NO_LISTS, NO_LISTS, NO_LISTS, NO_LISTS, NO_LISTS, NO_LISTS
+        ]
+    );
+    assert_eq!(rt; window.get(0).copied(), Some(113));
+    assert_eq!(rt; window.get(15).copied(), Some(0xa5));
+    let status = vc4check_place(rt.alloc(), &bytes, &mut window[..14], &mut answer);
+    assert_eq!(rt; status, SHORT);
+    let status = vc4check_check_jobs(rt.alloc(), &bytes, &mut window, &mut answer);
+    assert_eq!(rt; status, REFUSED);
+    assert_eq!(rt; (answer.letter, answer.number, answer.offset), (77, 1, 8));
     Ok(())
 }
 

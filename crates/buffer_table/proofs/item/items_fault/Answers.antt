@@ -1,13 +1,11 @@
 -- An item without a fault leaves the decision to those after it; the first fault ends it.
-use Rattle.std.proofs.Common.{List, ◌<◌, ◌≤◌, ◌≡◌, ◌-◌, replicate, sym, ap, ◌∙◌, length, subst, arith}
+use Rattle.std.proofs.Common.{List, ◌<◌, ◌≤◌, ◌≡◌, ◌-◌, sym, ap, ◌∙◌, length, arith}
 use Rattle.field_words.specs.Questions.{first_of, each}
 use Rattle.field_words.proofs.Questions.{each_on, each_stop, each_end}
 use Rattle.buffer_table.specs.declared.item.Item.{Item}
 use Rattle.buffer_table.specs.Table.{item_questions, items_of, item_at}
-use Rattle.buffer_table.specs.Pages.{IsWhole, Takes, first_page, end_page}
 use Rattle.buffer_table.proofs.Sounds.{length_items, sound_item}
-use Rattle.buffer_table.proofs.Bits.{zero_pages}
-use Rattle.buffer_table.proofs.Taken.{more_taken, none_taken_yet, sound_whole}
+use Rattle.buffer_table.proofs.Taken.{sound_whole}
 use Rattle.buffer_table.proofs.item.items_fault.Goals as goal
 
 pub returns-in-Some : goal.returns-in-Some
@@ -20,24 +18,19 @@ pub loop-k-init : goal.loop-k-init
 loop-k-init c =
     let items : List Item = items_of c.args.regions.now c.args.buffers.now in
     let whole : length items - 0 ≡ length items = omega arith in
-    record {
-      taken = none_taken_yet (replicate 256 0) items (zero_pages 256);
-      same = ap (λ n. first_of (each (item_questions c.args.mem_size items) 0 n)) whole;
-    }
+    record { known = c.no_earlier-earlier.ensures; same = ap (λ n. first_of (each (item_questions c.args.mem_size items) 0 n)) whole }
 
-pub take_item-requires : goal.take_item-requires
-take_item-requires c =
+pub pass_item-requires : goal.pass_item-requires
+pass_item-requires c =
     let items : List Item = items_of c.args.regions.now c.args.buffers.now in
-    record { whole = subst IsWhole (sym c.item_at.ensures) (sound_whole c.args.mem_size (item_at items c.loop-k.k) c.requires.limit (sound_item c.args.mem_size items c.loop-k.k (sym c.in_default.ensures))) }
+    record { inside = omega (arith, c.loop-k-test.true); sound = sound_whole c.args.mem_size (item_at items c.loop-k.k) (sound_item c.args.mem_size items c.loop-k.k (sym c.in_default.ensures)); known = c.loop-k.invariant.known }
 
 pub loop-k-preserved : goal.loop-k-preserved
 loop-k-preserved c =
     let items : List Item = items_of c.args.regions.now c.args.buffers.now in
     let inside : c.loop-k.k < length items = omega (arith, length_items c.args.regions.now c.args.buffers.now, c.loop-k-test.true) in
-    let whole = sound_whole c.args.mem_size (item_at items c.loop-k.k) c.requires.limit (sound_item c.args.mem_size items c.loop-k.k (sym c.in_default.ensures)) in
     record {
-      taken = more_taken c.loop-k.pages _ items c.loop-k.k c.loop-k.invariant.taken whole
-          (subst (λ x. Takes c.loop-k.pages c.take_item.new.pages (first_page x) (end_page x)) c.item_at.ensures c.take_item.ensures);
+      known = c.pass_item.ensures;
       same = each_on (item_questions c.args.mem_size items) c.loop-k.k (length items) inside (sym c.in_default.ensures) ∙ c.loop-k.invariant.same;
     }
 

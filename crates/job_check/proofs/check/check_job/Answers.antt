@@ -22,7 +22,7 @@ returns-clause-placed c =
     record {
       pages = ap (λ k. k % 4096) size ∙ sound.pages;
       not_empty = omega (arith, size, sound.not_empty);
-      limit = omega (arith, size, sound.limit);
+      limit = omega (arith, size, c.in_ok-region.ensures.small refl);
       each_job = wider _ _ _ (omega (arith, size, lists_inside f sound)) c.in_ok-region.ensures.answers.1.each_job;
     }
 

@@ -1,4 +1,4 @@
--- A first word is at most a page past its buffer's size, and the buffer ends below 64 MiB.
+-- A first word is at most a page past its buffer's size, and the buffer ends within the greatest memory.
 use Rattle.std.proofs.Common.{◌<◌, ◌^◌, arith, ◌∙◌, ap}
 use Rattle.qpu_isa.specs.Shader.{shader_view, sample_at, first_position}
 use Rattle.shader_records.specs.Sources.{source_word, size_in}

@@ -30,6 +30,12 @@ check_bin-requires-clause-slot_limit c =
     let low = kept_low _ (job_view x.job.now) x.table.now (shaders_view x.shaders.now.items) x.handles x.layout c.self.invariant in
     omega (arith, low.slot)
 
+pub check_bin-requires-clause-few : goal.check_bin-requires-clause-few
+check_bin-requires-clause-few c =
+    let x = c.self.inside in
+    let h = subst (λ (w : InView). IsContext w (job_view x.job.now) x.table.now (shaders_view x.shaders.now.items) x.handles x.layout) c.self.view_is c.self.invariant in
+    omega (arith, h.limits.declared)
+
 pub check_bin-requires-clause-room : goal.check_bin-requires-clause-room
 check_bin-requires-clause-room c =
     let v = c.args.self.now in

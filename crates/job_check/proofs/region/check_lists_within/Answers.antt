@@ -2,35 +2,35 @@ use Rattle.std.proofs.Common.{◌++◌, length}
 use Rattle.field_words.specs.Questions.{each}
 use Rattle.field_words.proofs.Questions.{answers_later, refuses_front, names_first}
 use Rattle.job_format.specs.Model.{file_view}
-use Rattle.job_check.specs.Faults.{table_stage, shaders_stage, job_stages, file_stages}
+use Rattle.job_check.specs.Faults.{table_stage_within, shaders_stage, job_stages, stages_within}
 use Rattle.job_check.specs.Region.{IsRegion}
 use Rattle.job_check.proofs.Wants.{never_hidden}
 use Rattle.job_check.proofs.Order.{exits}
-use Rattle.job_check.proofs.region.check_lists.Goals as goal
+use Rattle.job_check.proofs.region.check_lists_within.Goals as goal
 
 pub returns-clause-answers : goal.returns-clause-answers
-unfolding file_stages
+unfolding stages_within
 returns-clause-answers c =
     let f = file_view c.args.file.now in
-    answers_later (table_stage f) (shaders_stage f ++ each (job_stages f) 0 (length f.jobs)) (IsRegion f)
+    answers_later (table_stage_within c.args.limit f) (shaders_stage f ++ each (job_stages f) 0 (length f.jobs)) (IsRegion f)
     c.check_shaders.result c.in_ok-table.ensures.answers.0 c.check_shaders.ensures
 
 pub returns-in_err-table-clause-answers : goal.returns-in_err-table-clause-answers
-unfolding file_stages
+unfolding stages_within
 returns-in_err-table-clause-answers c =
     let f = file_view c.args.file.now in
-    exits (file_stages f) (IsRegion f) c.from_residual.result c.in_err-table.field-0.0 c.from_residual.ensures.1
-    (refuses_front (table_stage f) (shaders_stage f ++ each (job_stages f) 0 (length f.jobs)) c.in_err-table.field-0.0 c.in_err-table.ensures.answers)
+    exits (stages_within c.args.limit f) (IsRegion f) c.from_residual.result c.in_err-table.field-0.0 c.from_residual.ensures.1
+    (refuses_front (table_stage_within c.args.limit f) (shaders_stage f ++ each (job_stages f) 0 (length f.jobs)) c.in_err-table.field-0.0 c.in_err-table.ensures.answers)
 
 pub returns-clause-first : goal.returns-clause-first
 returns-clause-first c =
     let f = file_view c.args.file.now in
-    names_first (file_stages f) (IsRegion f) c.check_shaders.result (returns-clause-answers c)
+    names_first (stages_within c.args.limit f) (IsRegion f) c.check_shaders.result (returns-clause-answers c)
 
 pub returns-in_err-table-clause-first : goal.returns-in_err-table-clause-first
 returns-in_err-table-clause-first c =
     let f = file_view c.args.file.now in
-    names_first (file_stages f) (IsRegion f) c.from_residual.result (returns-in_err-table-clause-answers c)
+    names_first (stages_within c.args.limit f) (IsRegion f) c.from_residual.result (returns-in_err-table-clause-answers c)
 
 pub returns-clause-memory : goal.returns-clause-memory
-returns-clause-memory c = never_hidden (table_stage (file_view c.args.file.now)) c.check_shaders.result c.in_ok-table.ensures.answers.0
+returns-clause-memory c = never_hidden (table_stage_within c.args.limit (file_view c.args.file.now)) c.check_shaders.result c.in_ok-table.ensures.answers.0

@@ -1,0 +1,28 @@
+-- What is told of a job file whose places are a driver's.
+use Rattle.std.specs.Prelude.{◌≡◌, ℕ, ◌≤◌, List, length, Option, Some, None}
+use Rattle.std.specs.List.{AllByRecursion}
+use Rattle.field_words.specs.Questions.{first_of, IsFirst}
+use Rattle.job_format.specs.declared.rule.Refusal.{Refusal}
+use Rattle.job_format.specs.File.{IsFileOf}
+use Rattle.job_format.specs.Reading.{file_at}
+use Rattle.relocation.specs.Layout.{region_end}
+use Rattle.job_check.specs.Emit.{all_lengths_of, IsInside}
+use Rattle.job_check.specs.Jobs.{layouts_of}
+use Rattle.job_check.specs.Region.{region_of}
+use Rattle.job_check.specs.Whole.{place_questions}
+use Rattle.vc4check_c.specs.declared.jobs.JobsAnswer.{JobsAnswer}
+use Rattle.vc4check_c.specs.Jobs.{accepted_jobs, refused_jobs}
+
+-- No rule stands of these bytes, which spell their file; the lists of its jobs lie in the lists' region, in their order; and this is told:
+-- how many bytes from the region's start on they take, and of each job where its lists lie and how long they are.
+pub record ArePlaced (bytes : List ℕ) (answer : JobsAnswer) : Type 0 where
+  pub none_stands : first_of (place_questions bytes) ≡ None
+  pub spelled : IsFileOf bytes (file_at bytes)
+  pub inside : length (region_of (file_at bytes)) ≤ (file_at bytes).regions.lists_size
+  pub each_job : AllByRecursion (IsInside (region_end (file_at bytes).regions)) (layouts_of (file_at bytes))
+  pub told : answer ≡ accepted_jobs (length (region_of (file_at bytes))) (layouts_of (file_at bytes)) (all_lengths_of (file_at bytes))
+
+-- A rule stands, none before it in the order of refusal does, and it is told.
+abbrev pub IsNotPlaced : List ℕ → Option Refusal → JobsAnswer → Type 0
+IsNotPlaced bytes None answer = ⊥
+IsNotPlaced bytes (Some refusal) answer = IsFirst (place_questions bytes) refusal × (answer ≡ refused_jobs refusal)
