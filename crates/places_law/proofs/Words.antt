@@ -13,10 +13,10 @@ use Rattle.places_law.specs.Moved.{placeless, AreMoved}
 use Rattle.places_law.proofs.Tables.{count_placeless}
 
 -- behind the first of two lists
-drop_past : (m k : ℕ) (one two : List ℕ) → length one ≡ m → drop (m + k) (one ++ two) ≡ drop k two
+pub drop_past : (m k : ℕ) (one two : List ℕ) → length one ≡ m → drop (m + k) (one ++ two) ≡ drop k two
 drop_past m k one two long = sym (drop_drop m k (one ++ two)) ∙ ap (drop k) (rest_of m one two long)
 
-read_past : (m k o : ℕ) (one two : List ℕ) → length one ≡ m → u32_at (one ++ two) (m + k + o) ≡ u32_at two (k + o)
+pub read_past : (m k o : ℕ) (one two : List ℕ) → length one ≡ m → u32_at (one ++ two) (m + k + o) ≡ u32_at two (k + o)
 unfolding u32_at
 read_past m k o one two long =
     let e : m + k + o ≡ m + (k + o) = omega arith in

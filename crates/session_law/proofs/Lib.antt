@@ -2,11 +2,14 @@ pub mod Answering
 pub mod Bytes
 pub mod Changing
 pub mod Coding
+pub mod Counting
 pub mod Creating
 pub mod Filling
 pub mod Freeing
 pub mod Keeping
+pub mod Laying
 pub mod Listing
+pub mod Lying
 pub mod Making
 pub mod Outcomes
 pub mod Rooms

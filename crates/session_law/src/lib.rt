@@ -12,6 +12,7 @@
 #![tactic(auto)]
 
 ghost use Rattle.session_law.specs.Laws.{NewSessionsAgree, CallsAreAnswered, HistoriesAgree, RepliesAreOfHistories, ClientsAreApart, OthersChangeNothing, MemoryIsKept, FullIsExact, PlacesAreLowest};
+ghost use Rattle.session_law.specs.Lying.{SubmitsAreOfPlaces};
 ghost use Rattle.session_law.specs.Scripts.{ScriptsAreOfHistories};
 
 /// A new session agrees with no calls.
@@ -71,4 +72,9 @@ pub fn places_are_lowest()
 #[tactic(auto, using(crate::proofs::Scripting::scripts_are_of_histories))]
 pub fn scripts_are_of_histories()
     ensures { ScriptsAreOfHistories }
+{}
+
+/// A submit's answer is also that of the file with the client's buffers where they lie.
+pub fn submits_are_of_places()
+    ensures { SubmitsAreOfPlaces }
 {}
