@@ -34,6 +34,7 @@ use Rattle.textured_job.proofs.Cases.{Case, First, Single, file_in, number_in, i
 use Rattle.textured_job.proofs.Lists.{bin_there, grid_is}
 use Rattle.textured_job.proofs.Whole.{input_is, file_none_of_two, file_none_of_one}
 use Rattle.textured_job.proofs.Witness.{two_are_file, one_is_file, two_clients_witness, one_client_accepted}
+use Rattle.job_check.proofs.Wider.{wider_none}
 
 -- past the last job there is none of the client
 beyond : (c : ℕ) (f : FileModel) (j : ℕ) → length f.jobs ≤ j → jobs_of c f j ≡ false
@@ -99,8 +100,8 @@ render_long f settled = list_length f 0 (places_in f 0) refl (frame_setup f 0 se
 
 same_render : length (render_list_of two_clients 0) ≡ length (render_list_of one_client 0)
 same_render =
-    let two = render_long two_clients (files_settle_law two_clients two_are_file.well_formed two_are_file.fits file_none_of_two 0 (omega (arith, two_in))) in
-    let one = render_long one_client (files_settle_law one_client one_is_file.well_formed one_is_file.fits file_none_of_one 0 (omega (arith, one_in))) in
+    let two = render_long two_clients (files_settle_law two_clients two_are_file.well_formed two_are_file.fits (wider_none two_clients file_none_of_two) 0 (omega (arith, two_in))) in
+    let one = render_long one_client (files_settle_law one_client one_is_file.well_formed one_is_file.fits (wider_none one_client file_none_of_one) 0 (omega (arith, one_in))) in
     omega (arith, two, one, ap (λ l. l.render) same_layout, ap (λ l. l.end) same_layout)
 
 same_lengths : lengths_of two_clients 0 ≡ lengths_of one_client 0
@@ -207,8 +208,8 @@ same_size = refl
 
 memories : AlikeTo 1 two_clients one_client (memory_of two_clients) (memory_of one_client)
 memories =
-    emitted_alike_law 1 two_clients one_client (record { well_formed = two_are_file.well_formed; fits = two_are_file.fits; none = file_none_of_two })
-    (record { well_formed = one_is_file.well_formed; fits = one_is_file.fits; none = file_none_of_one }) near same_size filled_alike
+    emitted_alike_law 1 two_clients one_client (record { well_formed = two_are_file.well_formed; fits = two_are_file.fits; none = wider_none two_clients file_none_of_two })
+    (record { well_formed = one_is_file.well_formed; fits = one_is_file.fits; none = wider_none one_client file_none_of_one }) near same_size filled_alike
 
 of_client : jobs_of 1 two_clients 0 ≡ true
 unfolding jobs_of job_of two_clients
