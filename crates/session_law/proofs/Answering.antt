@@ -1,8 +1,9 @@
 -- Calls answer and leave what the calls before them say, from a new session on.
+use Rattle.job_session.proofs.Held.{held_none}
 use Rattle.std.proofs.lemmas.Bool.Decides.{nat_tests}
 use Rattle.job_session.specs.Places.{covers, is_used}
 use Rattle.buffer_table.specs.declared.buffer.Kind.TheVariants.{Plain}
-use Rattle.std.proofs.Common.{◌≡◌, ℕ, ◌+◌, ◌<◌, ◌==◌, not, nat_lt, Bool, true, false, if◌then◌else◌, List, [], ◌∷◌, length, get_or, slice_index, replicate, None, arith, refl, sym, ◌∙◌, ap, subst}
+use Rattle.std.proofs.Common.{ne_eqb, ◌≡◌, ℕ, ◌+◌, ◌<◌, ◌==◌, not, nat_lt, Bool, true, false, if◌then◌else◌, List, [], ◌∷◌, length, get_or, slice_index, replicate, None, arith, refl, sym, ◌∙◌, ap, subst}
 use Rattle.std.proofs.lemmas.List.{get_or-replicate, length-replicate}
 use Rattle.field_words.specs.Writes.{zeros}
 use Rattle.field_words.proofs.Writes.{length_zeros}
@@ -20,7 +21,7 @@ use Rattle.job_session.specs.Laws.{NoneIsFull}
 use Rattle.session_law.specs.Laws.{NewSessionsAgree, CallsAreAnswered, HistoriesAgree, RepliesAreOfHistories, ClientsAreApart, OthersChangeNothing}
 use Rattle.job_session.proofs.Apart.{replies_are_own}
 use Rattle.session_law.proofs.Bytes.{is_within, within_none, zero_at}
-use Rattle.session_law.proofs.Changing.{differ, held_past, held_empty, slot_below}
+use Rattle.session_law.proofs.Changing.{held_past, slot_below}
 use Rattle.session_law.proofs.Outcomes.{Meets, write_meets, read_meets, free_meets, submit_meets}
 use Rattle.session_law.proofs.Creating.{create_meets}
 use Rattle.session_law.proofs.Coding.{code_meets}
@@ -48,7 +49,7 @@ new_pages desk bytes pages slots client id new key =
 new_held_by : (desk : Desk) (bytes pages slots client id : ℕ) → IsNew desk bytes pages slots → client < client_count → (b : Bool) → nat_lt id most_buffers ≡ b
     → None ≡ held_in desk client id
 new_held_by desk bytes pages slots client id new known true is =
-    sym (held_empty desk client id (new_pages desk bytes pages slots client id new (record { known = known; small = grind (arith, nat_tests) })))
+    sym (held_none desk client id (new_pages desk bytes pages slots client id new (record { known = known; small = grind (arith, nat_tests) })))
 new_held_by desk bytes pages slots client id new known false is = sym (held_past desk client id (λ h. absurd (grind (arith, nat_tests))))
 
 owner_none : (desk : Desk) (bytes pages slots page : ℕ) → IsNew desk bytes pages slots → slice_index desk.map.owners page ≡ 0
@@ -60,7 +61,7 @@ new_owned desk bytes pages slots client id page new key =
     let free = owner_none desk bytes pages slots page new in
     ap (λ (n : ℕ). is_within (first_page desk client id) n page) (new_pages desk bytes pages slots client id new key)
     ∙ (within_none (first_page desk client id) page
-    ∙ sym (differ (owner_at desk page) (slot_of client id + 1) (λ e. omega (arith, free, e))))
+    ∙ sym (ne_eqb (owner_at desk page) (slot_of client id + 1) (λ e. omega (arith, free, e))))
 
 new_agrees : (desk : Desk) (bytes pages slots : ℕ) → IsNew desk bytes pages slots → Agrees none_yet desk
 unfolding is_used

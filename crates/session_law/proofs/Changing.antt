@@ -1,5 +1,7 @@
 -- One slot changes, with the pages that it has or gets: all others stay as they are.
-use Rattle.std.proofs.Common.{◌≡◌, ◌⊎◌, inl, inr, ℕ, ◌+◌, ◌*◌, ◌/◌, ◌%◌, ◌<◌, ◌≤◌, ◌==◌, ◌&&◌, not, nat_lt, Bool, true, false, if◌then◌else◌, List, slice_index, Option, Some, None, arith, refl, sym, ◌∙◌, ap, subst}
+use Rattle.overflow_slots.proofs.Searches.{equal, apart_by}
+use Rattle.job_session.proofs.Held.{held_some}
+use Rattle.std.proofs.Common.{ne_eqb, ◌≡◌, ◌⊎◌, inl, inr, ℕ, ◌+◌, ◌*◌, ◌/◌, ◌%◌, ◌<◌, ◌≤◌, ◌==◌, ◌&&◌, not, nat_lt, Bool, true, false, if◌then◌else◌, List, slice_index, Option, Some, None, arith, refl, sym, ◌∙◌, ap, subst}
 use Rattle.std.proofs.lemmas.Bool.Decides.{nat_tests}
 use Rattle.field_words.specs.Sizes.{page_size}
 use Rattle.buffer_table.specs.declared.buffer.Kind.{Kind}
@@ -11,18 +13,6 @@ use Rattle.job_session.specs.Session.{Past, with_own}
 use Rattle.job_session.specs.Desk.{Desk, slot_count, slot_of, first_page, page_total, kind_of, bytes_of, held_in}
 use Rattle.session_law.specs.Agree.{IsKey, IsSized, place_in, owner_at, client_count, AreListed, Agrees}
 use Rattle.session_law.proofs.Bytes.{is_within, window_same}
-
-pub equal : (k n : ℕ) → (k == n) ≡ true → k ≡ n
-equal k n is = grind (arith, nat_tests)
-
-pub itself : (n : ℕ) → (n == n) ≡ true
-itself n = grind (arith, nat_tests)
-
-pub differ : (k n : ℕ) → (k ≡ n → ⊥) → (k == n) ≡ false
-differ k n apart = grind (arith, nat_tests)
-
-pub unequal : (k n : ℕ) → (k == n) ≡ false → k ≡ n → ⊥
-unequal k n apart is = grind (arith, nat_tests)
 
 pub slot_below : (client id : ℕ) → IsKey client id → slot_of client id < slot_count
 slot_below client id key = omega (arith, key.known, key.small)
@@ -42,27 +32,13 @@ pub held_is : (desk : Desk) (client id : ℕ) → held_in desk client id ≡ hel
 unfolding held_in
 held_is desk client id = refl
 
+pub held_live : (desk : Desk) (client id : ℕ) → id < most_buffers → 1 ≤ page_total desk client id
+    → held_in desk client id ≡ Some (record { kind = kind_of desk client id; bytes = bytes_of desk client id })
+held_live desk client id small some = held_some desk client id small (λ none. omega (arith, none, some))
+
 pub held_past : (desk : Desk) (client id : ℕ) → (id < most_buffers → ⊥) → held_in desk client id ≡ None
 unfolding held_in
 held_past desk client id past = let e : nat_lt id most_buffers ≡ false = grind (arith, nat_tests) in rw e refl
-
-empty_by : (b : Bool) (held : Held) → held_if (b && false) held ≡ None
-empty_by true held = refl
-empty_by false held = refl
-
-pub held_empty : (desk : Desk) (client id : ℕ) → page_total desk client id ≡ 0 → held_in desk client id ≡ None
-held_empty desk client id none =
-    held_is desk client id
-    ∙ (ap (λ (pages : ℕ). held_of id pages (kind_of desk client id) (bytes_of desk client id)) none
-    ∙ empty_by (nat_lt id most_buffers) (record { kind = kind_of desk client id; bytes = bytes_of desk client id }))
-
-pub held_live : (desk : Desk) (client id : ℕ) → id < most_buffers → 1 ≤ page_total desk client id
-    → held_in desk client id ≡ Some (record { kind = kind_of desk client id; bytes = bytes_of desk client id })
-unfolding held_in
-held_live desk client id small some =
-    let e : nat_lt id most_buffers ≡ true = grind (arith, nat_tests) in
-    let n : (page_total desk client id == 0) ≡ false = differ (page_total desk client id) 0 (λ z. omega (arith, some, z)) in
-    rw (e, n) refl
 
 held_parts : (left desk : Desk) (client id : ℕ) → page_total left client id ≡ page_total desk client id → kind_of left client id ≡ kind_of desk client id
     → bytes_of left client id ≡ bytes_of desk client id → held_in left client id ≡ held_in desk client id
@@ -84,8 +60,8 @@ pub record IsChange (desk left : Desk) (client id first pages : ℕ) : Type 0 wh
 
 -- a page that is free or the slot's own is no page of another slot
 not_theirs : (owner slot other : ℕ) → (owner ≡ 0) ⊎ (owner ≡ slot + 1) → (other ≡ slot → ⊥) → (owner == other + 1) ≡ false
-not_theirs owner slot other (inl none) apart = differ owner (other + 1) (λ e. omega (arith, none, e))
-not_theirs owner slot other (inr ours) apart = differ owner (other + 1) (λ e. apart (omega (arith, ours, e)))
+not_theirs owner slot other (inl none) apart = ne_eqb owner (other + 1) (λ e. omega (arith, none, e))
+not_theirs owner slot other (inr ours) apart = ne_eqb owner (other + 1) (λ e. apart (omega (arith, ours, e)))
 
 apart_slots : (client id c i : ℕ) → IsKey client id → IsKey c i → (c ≡ client → i ≡ id → ⊥) → slot_of c i ≡ slot_of client id → ⊥
 apart_slots client id c i key other apart is = let both = same_slot client id c i key other is in apart both.0 both.1
@@ -168,7 +144,7 @@ own_id past desk left client id first pages i x agrees change key new true is =
     rw (equal i id is) (sym new)
 own_id past desk left client id first pages i x agrees change key new false is =
     ap (λ (own : ℕ → Option Held). own i) (agrees.held client key.known)
-    ∙ sym (other_held past desk left client id first pages client i agrees change key key.known (λ c e. unequal i id is e))
+    ∙ sym (other_held past desk left client id first pages client i agrees change key key.known (λ c e. apart_by i id is e))
 
 own_client : (past : Past) (desk left : Desk) (client id first pages c : ℕ) (x : Option Held) → Agrees past desk → IsChange desk left client id first pages
     → IsKey client id → held_in left client id ≡ x → c < client_count → (b : Bool) → (c == client) ≡ b
@@ -177,7 +153,7 @@ own_client past desk left client id first pages c x agrees change key new known 
     rw (equal c client is) (λ p i. own_id past desk left client id first pages i x agrees change key new (i == id) refl p)
 own_client past desk left client id first pages c x agrees change key new known false is =
     agrees.held c known
-    ∙ (λ p i. sym (other_held past desk left client id first pages c i agrees change key known (λ e j. unequal c client is e)) p)
+    ∙ (λ p i. sym (other_held past desk left client id first pages c i agrees change key known (λ e j. apart_by c client is e)) p)
 
 owned_by : (past : Past) (desk left : Desk) (client id first pages c i page : ℕ) → Agrees past desk → IsChange desk left client id first pages
     → IsKey client id → IsKey c i → (c ≡ client → i ≡ id → ⊥) → page < page_count → (b : Bool) → is_within first pages page ≡ b
@@ -197,7 +173,7 @@ left_owned past desk left client id first pages c i page agrees change key other
     let both = same_slot client id c i key other (equal (slot_of c i) (slot_of client id) is) in
     rw (both.0, both.1) (change.here page inside)
 left_owned past desk left client id first pages c i page agrees change key other inside false is =
-    let apart : c ≡ client → i ≡ id → ⊥ = λ e j. unequal (slot_of c i) (slot_of client id) is (omega (arith, e, j)) in
+    let apart : c ≡ client → i ≡ id → ⊥ = λ e j. apart_by (slot_of c i) (slot_of client id) is (omega (arith, e, j)) in
     ap (λ (p : Place). covers p page) (change.others c i other apart).0
     ∙ owned_by past desk left client id first pages c i page agrees change key other apart inside (is_within first pages page) refl
 

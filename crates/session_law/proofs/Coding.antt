@@ -1,5 +1,5 @@
 -- What `code` answers and leaves.
-use Rattle.std.proofs.Common.{◌≡◌, ℕ, ◌-◌, ◌*◌, ◌<◌, ◌≤◌, ◌==◌, Bool, true, false, List, ◌∷◌, ◌++◌, length, Option, Some, None, arith, refl, sym, ◌∙◌, ap, subst}
+use Rattle.std.proofs.Common.{eq-eqb, ◌≡◌, ℕ, ◌-◌, ◌*◌, ◌<◌, ◌≤◌, ◌==◌, Bool, true, false, List, ◌∷◌, ◌++◌, length, Option, Some, None, arith, refl, sym, ◌∙◌, ap, subst}
 use Rattle.std.proofs.lemmas.List.{places, length-append}
 use Rattle.std.proofs.lemmas.Grind.{same_number_lists}
 use Rattle.field_words.specs.Sizes.{page_size}
@@ -15,7 +15,6 @@ use Rattle.job_session.specs.Checked.{shader_refusal, session_rules}
 use Rattle.job_session.specs.Desk.{Desk, page_total, bytes_of, least_id, placed_id, created_id, denied_id, made_id, code_answer, made, pages_for, with_written}
 use Rattle.job_session.specs.Replies.{made_reply}
 use Rattle.session_law.specs.Agree.{IsKey, client_count, Agrees}
-use Rattle.session_law.proofs.Changing.{itself}
 use Rattle.session_law.proofs.Making.{HasRoom, make_agrees, made_at, made_pages, made_kind, make_bytes, new_place, zero_buffer}
 use Rattle.session_law.proofs.Writing.{Lies, write_agrees, written_buffer}
 use Rattle.session_law.proofs.Rooms.{same_id, same_room, id_found, room_found}
@@ -53,7 +52,7 @@ twice_at : (past : Past) (client id c i : ℕ) (x y : Option Held) (places : Lis
     → with_own (with_new past client id x places) client (with_buffer (with_own past client (with_buffer (past.own client) id x) client) id y) c i
     ≡ with_own past client (with_buffer (past.own client) id y) c i
 twice_at past client id c i x y places true true first second = rw (first, second) refl
-twice_at past client id c i x y places true false first second = rw (first, second, itself client, second) refl
+twice_at past client id c i x y places true false first second = rw (first, second, eq-eqb client client refl, second) refl
 twice_at past client id c i x y places false b first second = rw first refl
 
 twice : (past : Past) (client id : ℕ) (x y : Option Held) (places : List Place)

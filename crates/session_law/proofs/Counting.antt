@@ -1,4 +1,5 @@
 -- A client's buffers have no more pages than there are.
+use Rattle.overflow_slots.proofs.Searches.{equal}
 use Rattle.std.proofs.Common.{◌≡◌, ℕ, zero, suc, ◌+◌, ◌-◌, ◌<◌, ◌≤◌, ◌==◌, ◌&&◌, ◌||◌, min, Bool, true, false, if◌then◌else◌, arith, refl, sym, ◌∙◌, ap}
 use Rattle.std.proofs.lemmas.Bool.Decides.{nat_tests}
 use Rattle.overflow_slots.specs.Search.{count_where}
@@ -9,7 +10,7 @@ use Rattle.job_session.specs.Session.{Past}
 use Rattle.job_session.specs.Desk.{Desk, slot_of, first_page, page_total}
 use Rattle.session_law.specs.Agree.{IsKey, client_count, place_in, owner_at, Agrees}
 use Rattle.session_law.proofs.Bytes.{is_within}
-use Rattle.session_law.proofs.Changing.{equal, slot_below}
+use Rattle.session_law.proofs.Changing.{slot_below}
 
 -- how many pages the buffers of n ids from one on have, and whether one of them has the page
 unfoldable pub pages_sum : Desk → ℕ → ℕ → ℕ → ℕ

@@ -1,5 +1,7 @@
 -- A buffer's pages are given back.
-use Rattle.std.proofs.Common.{◌≡◌, inl, inr, ℕ, ◌+◌, ◌-◌, ◌*◌, ◌<◌, ◌≤◌, ◌==◌, ◌&&◌, not, Bool, true, false, List, length, slice_index, slice_set, None, arith, refl, sym, ◌∙◌, ap, subst}
+use Rattle.overflow_slots.proofs.Searches.{equal, apart_by}
+use Rattle.job_session.proofs.Held.{held_none}
+use Rattle.std.proofs.Common.{ne_eqb, ◌≡◌, inl, inr, ℕ, ◌+◌, ◌-◌, ◌*◌, ◌<◌, ◌≤◌, ◌==◌, ◌&&◌, not, Bool, true, false, List, length, slice_index, slice_set, None, arith, refl, sym, ◌∙◌, ap, subst}
 use Rattle.std.proofs.lemmas.List.{get_or-set_same, get_or-set_other, length-set}
 use Rattle.field_words.specs.Sizes.{page_size}
 use Rattle.field_words.specs.Writes.{with_bytes, zeros}
@@ -12,7 +14,7 @@ use Rattle.job_session.specs.Session.{Past, with_own}
 use Rattle.job_session.specs.Desk.{Desk, SlotsFit, slot_count, slot_of, first_page, page_total}
 use Rattle.session_law.specs.Agree.{IsKey, IsSized, place_in, owner_at, Agrees}
 use Rattle.session_law.proofs.Bytes.{is_within, is_inside, within_none, held_inside, held_outside, length_held, written_apart, zero_at}
-use Rattle.session_law.proofs.Changing.{IsChange, change_agrees, equal, unequal, differ, slot_below, same_slot, held_empty}
+use Rattle.session_law.proofs.Changing.{IsChange, change_agrees, slot_below, same_slot}
 use Rattle.session_law.proofs.Listing.{listed_without, used_without}
 use Rattle.session_law.proofs.Writing.{own_page, room_in, before_page}
 
@@ -31,7 +33,7 @@ fits_by firsts counts slot other fits long inside below true is =
     let before = fits slot inside in
     rw (equal other slot is, get_or-set_same counts slot 0 0 (omega arith)) (omega (arith, before))
 fits_by firsts counts slot other fits long inside below false is =
-    rw (get_or-set_other counts slot other 0 0 (unequal other slot is)) (fits other below)
+    rw (get_or-set_other counts slot other 0 0 (apart_by other slot is)) (fits other below)
 
 run_fits : (past : Past) (desk : Desk) (client id : ℕ) → Agrees past desk → IsKey client id
     → first_page desk client id + page_total desk client id ≤ length desk.map.owners
@@ -81,7 +83,7 @@ freed_here : (past : Past) (desk : Desk) (client id page : ℕ) → Agrees past 
     → (owner_at (freed_at desk client id) page == slot_of client id + 1) ≡ false
 freed_here past desk client id page agrees key inside true is =
     let free = freed_in past desk client id page agrees key is in
-    differ (owner_at (freed_at desk client id) page) (slot_of client id + 1) (λ e. omega (arith, free, e))
+    ne_eqb (owner_at (freed_at desk client id) page) (slot_of client id + 1) (λ e. omega (arith, free, e))
 freed_here past desk client id page agrees key inside false is =
     ap (λ (owner : ℕ). owner == slot_of client id + 1) (freed_out past desk client id page agrees key is)
     ∙ (sym (agrees.owned client id page key inside) ∙ is)
@@ -158,7 +160,7 @@ pub free_agrees : (past : Past) (desk : Desk) (client id : ℕ) → Agrees past 
 free_agrees past desk client id agrees key =
     change_agrees past desk (freed_at desk client id) client id (first_page desk client id) (page_total desk client id) None (without client id past.places)
     agrees key (free_change past desk client id agrees key)
-    (held_empty (freed_at desk client id) client id (freed_pages past desk client id agrees key))
+    (held_none (freed_at desk client id) client id (freed_pages past desk client id agrees key))
     (listed_without (freed_at desk client id) desk client id past.places (λ c i other apart. freed_others desk client id c i key other apart) agrees.listed)
     (λ page inside. used_without past desk client id page past.places agrees key inside agrees.listed
     ∙ free_used past desk client id page agrees key inside (is_within (first_page desk client id) (page_total desk client id) page) refl)

@@ -1,4 +1,5 @@
 -- Buffers lie in their places, and all other pages are zero.
+use Rattle.overflow_slots.proofs.Searches.{equal}
 use Rattle.std.proofs.Common.{◌≡◌, ℕ, zero, suc, ◌+◌, ◌*◌, ◌<◌, ◌≤◌, ◌==◌, ◌||◌, not, Bool, true, false, List, [], ◌∷◌, length, slice_index_or, Option, Some, None, arith, refl, sym, ◌∙◌, ap, subst}
 use Rattle.std.specs.List.{Contains}
 use Rattle.std.proofs.lemmas.Bool.Decides.{nat_tests}
@@ -15,7 +16,7 @@ use Rattle.session_law.specs.History.{desk_left, past_left}
 use Rattle.session_law.specs.Kept.{LiesAt, HasPlace, IsLive, IsKept}
 use Rattle.session_law.specs.Laws.{MemoryIsKept}
 use Rattle.session_law.proofs.Bytes.{within_yes, window_length}
-use Rattle.session_law.proofs.Changing.{equal, same_slot, slot_below, held_live}
+use Rattle.session_law.proofs.Changing.{same_slot, slot_below, held_live}
 use Rattle.session_law.proofs.Listing.{listed_some}
 use Rattle.session_law.proofs.Writing.{own_page, room_in}
 use Rattle.session_law.proofs.Outcomes.{live_key, live_held, dead_held}
@@ -135,6 +136,17 @@ place_live past desk place agrees listed =
           (slot_lies past desk place.client place.id agrees listed.key);
     }
 
+-- two places with a page in common are one
+one_place : (past : Past) (desk : Desk) (one other : Place) (page : ℕ) → Agrees past desk → IsListed desk one → IsListed desk other → page < page_count
+    → covers one page ≡ true → covers other page ≡ true → one ≡ other
+one_place past desk one other page agrees listed also inside cover covered =
+    let ours : (owner_at desk page == slot_of one.client one.id + 1) ≡ true =
+    sym (agrees.owned one.client one.id page listed.key inside) ∙ (ap (λ (p : Place). covers p page) listed.is ∙ cover) in
+    let both = own_cover past desk one.client one.id page other agrees listed.key inside (equal (owner_at desk page) (slot_of one.client one.id + 1) ours) also covered in
+    let client_back = sym both.0 in
+    let id_back = sym both.1 in
+    sym listed.is ∙ ((λ p. place_in desk (client_back p) (id_back p)) ∙ also.is)
+
 free_owner : (owner : ℕ) (u : Bool) → u ≡ not (owner == 0) → u ≡ false → owner ≡ 0
 free_owner owner u is free = let e : not (owner == 0) ≡ false = sym is ∙ free in grind (arith, nat_tests)
 
@@ -142,6 +154,8 @@ pub kept : (past : Past) (desk : Desk) → Agrees past desk → IsKept past desk
 kept past desk agrees = record {
   buffers = λ client id held known is. buffer_by past desk client id held agrees known is (is_live desk client id) refl;
   places = λ place among. place_live past desk place agrees (listed_by desk past.places place agrees.listed among.0 among.1 among.2);
+  apart = λ one other page among too inside cover covered. one_place past desk one other page agrees
+      (listed_by desk past.places one agrees.listed among.0 among.1 among.2) (listed_by desk past.places other agrees.listed too.0 too.1 too.2) inside cover covered;
   zero = λ page at inside small free. agrees.zero page at inside small (free_owner (owner_at desk page) (is_used past.places page) (agrees.used page inside) free);
 }
 

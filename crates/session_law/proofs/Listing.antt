@@ -1,11 +1,12 @@
 -- The list of places, when one slot changes.
-use Rattle.std.proofs.Common.{◌≡◌, ℕ, ◌+◌, ◌<◌, ◌≤◌, ◌==◌, ◌&&◌, ◌||◌, not, Bool, true, false, if◌then◌else◌, List, [], ◌∷◌, arith, refl, sym, ◌∙◌, ap}
+use Rattle.overflow_slots.proofs.Searches.{equal}
+use Rattle.std.proofs.Common.{eq-eqb, ◌≡◌, ℕ, ◌+◌, ◌<◌, ◌≤◌, ◌==◌, ◌&&◌, ◌||◌, not, Bool, true, false, if◌then◌else◌, List, [], ◌∷◌, arith, refl, sym, ◌∙◌, ap}
 use Rattle.session_pages.specs.Runs.{page_count}
 use Rattle.job_session.specs.Places.{Place, covers, is_used, is_of, without}
 use Rattle.job_session.specs.Session.{Past}
 use Rattle.job_session.specs.Desk.{Desk, slot_of, page_total}
 use Rattle.session_law.specs.Agree.{IsKey, place_in, owner_at, AreListed, IsListed, Agrees}
-use Rattle.session_law.proofs.Changing.{equal, itself, same_slot}
+use Rattle.session_law.proofs.Changing.{same_slot}
 
 pub both_true : (a b : Bool) → (a && b) ≡ true → (a ≡ true) × (b ≡ true)
 both_true true true is = (refl, refl)
@@ -45,7 +46,7 @@ is_of_key client id place is =
 
 not_of_key : (client id : ℕ) (place : Place) → is_of client id place ≡ false → place.client ≡ client → place.id ≡ id → ⊥
 not_of_key client id place is c i =
-    let yes : is_of client id place ≡ true = rw (c, i, itself client, itself id) refl in
+    let yes : is_of client id place ≡ true = rw (c, i, eq-eqb client client refl, eq-eqb id id refl) refl in
     let clash : true ≡ false = sym yes ∙ is in
     absurd (grind (arith, clash))
 

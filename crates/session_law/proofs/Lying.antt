@@ -1,4 +1,5 @@
 -- A submit's answer is also that of the file with the client's buffers where they lie.
+use Rattle.job_session.proofs.Held.{held_none}
 use Rattle.std.proofs.Common.{◌≡◌, ◌⊎◌, inl, inr, ℕ, zero, suc, ◌+◌, ◌*◌, ◌%◌, ◌<◌, ◌≤◌, nat_le, Bool, true, false, List, [], ◌∷◌, ◌++◌, length, map, Option, Some, None, arith, refl, sym, ◌∙◌, ap}
 use Rattle.std.specs.List.{flat_map}
 use Rattle.std.proofs.lemmas.Bool.Decides.{nat_tests}
@@ -21,7 +22,7 @@ use Rattle.places_law.proofs.Wholes.{moved_are_alike}
 use Rattle.session_law.specs.Agree.{IsKey, client_count, Agrees}
 use Rattle.session_law.specs.Lying.{lying, lying_file, SubmitsAreOfPlaces}
 use Rattle.session_law.proofs.Bytes.{within_yes, window_length}
-use Rattle.session_law.proofs.Changing.{slot_below, held_empty, held_live}
+use Rattle.session_law.proofs.Changing.{slot_below, held_live}
 use Rattle.session_law.proofs.Writing.{room_in}
 use Rattle.session_law.proofs.Counting.{pages_sum, slots_clash, few_pages}
 use Rattle.session_law.proofs.Laying.{IsWellPlaced, AreApart, ApartFrom, AreLaid, head_count, table_stands}
@@ -43,7 +44,7 @@ slot_by : (past : Past) (desk : Desk) (client id : ℕ) → Agrees past desk →
     → HasNone desk client id ⊎ HasHeld desk client id
 slot_by past desk client id agrees key true is =
     let none : page_total desk client id ≡ 0 = grind (arith, nat_tests) in
-    inl (record { is = held_empty desk client id none; none = none })
+    inl (record { is = held_none desk client id none; none = none })
 slot_by past desk client id agrees key false is =
     let some : 1 ≤ page_total desk client id = grind (arith, nat_tests) in
     inr (record {

@@ -1,5 +1,6 @@
 -- A buffer is made at free pages.
-use Rattle.std.proofs.Common.{◌≡◌, inl, inr, ℕ, ◌+◌, ◌*◌, ◌/◌, ◌%◌, ◌<◌, ◌≤◌, ◌==◌, ◌||◌, not, Bool, true, false, List, ◌∷◌, length, slice_index, slice_set, Some, arith, refl, sym, ◌∙◌, ap, subst}
+use Rattle.overflow_slots.proofs.Searches.{equal, apart_by}
+use Rattle.std.proofs.Common.{ne_eqb, eq-eqb, ◌≡◌, inl, inr, ℕ, ◌+◌, ◌*◌, ◌/◌, ◌%◌, ◌<◌, ◌≤◌, ◌==◌, ◌||◌, not, Bool, true, false, List, ◌∷◌, length, slice_index, slice_set, Some, arith, refl, sym, ◌∙◌, ap, subst}
 use Rattle.std.proofs.lemmas.List.{get_or-set_same, get_or-set_other, length-set}
 use Rattle.field_words.specs.Sizes.{page_size}
 use Rattle.field_words.specs.Writes.{zeros}
@@ -14,7 +15,7 @@ use Rattle.job_session.specs.Session.{Past, with_own}
 use Rattle.job_session.specs.Desk.{Desk, SlotsFit, slot_count, slot_of, first_page, page_total, kind_of, bytes_of, held_in, with_place}
 use Rattle.session_law.specs.Agree.{IsKey, IsSized, place_in, owner_at, AreListed, Agrees}
 use Rattle.session_law.proofs.Bytes.{is_within, within_none, held_inside, held_outside, length_held, window_is, zero_at}
-use Rattle.session_law.proofs.Changing.{IsChange, change_agrees, equal, itself, differ, unequal, slot_below, same_slot, held_live, page_small, page_covered, byte_page}
+use Rattle.session_law.proofs.Changing.{IsChange, change_agrees, slot_below, same_slot, held_live, page_small, page_covered, byte_page}
 use Rattle.session_law.proofs.Listing.{listed_same}
 
 -- a slot gets a table's entry, and the others keep theirs
@@ -24,7 +25,7 @@ fits_by : (firsts counts : List ℕ) (slot first pages other : ℕ) → SlotsFit
 fits_by firsts counts slot first pages other fits long_firsts long_counts inside room below true is =
     rw (equal other slot is, get_or-set_same firsts slot first 0 (omega arith), get_or-set_same counts slot pages 0 (omega arith)) room
 fits_by firsts counts slot first pages other fits long_firsts long_counts inside room below false is =
-    rw (get_or-set_other firsts slot other first 0 (unequal other slot is), get_or-set_other counts slot other pages 0 (unequal other slot is)) (fits other below)
+    rw (get_or-set_other firsts slot other first 0 (apart_by other slot is), get_or-set_other counts slot other pages 0 (apart_by other slot is)) (fits other below)
 
 pub set_fits : (firsts counts : List ℕ) (slot first pages : ℕ) → SlotsFit firsts counts → length firsts ≡ slot_count → length counts ≡ slot_count
     → slot < slot_count → first + pages ≤ page_count → SlotsFit (slice_set firsts slot first) (slice_set counts slot pages)
@@ -89,7 +90,7 @@ here_by : (past : Past) (desk : Desk) (client id pages first page : ℕ) (kind :
     → page < page_count → (b : Bool) → is_within first pages page ≡ b
     → is_within first pages page ≡ (owner_at (made_at desk client id pages kind first) page == slot_of client id + 1)
 here_by past desk client id pages first page kind agrees room inside true is =
-    is ∙ sym (ap (λ (owner : ℕ). owner == slot_of client id + 1) (owner_in desk client id pages first page kind agrees.sized room is) ∙ itself (slot_of client id + 1))
+    is ∙ sym (ap (λ (owner : ℕ). owner == slot_of client id + 1) (owner_in desk client id pages first page kind agrees.sized room is) ∙ eq-eqb (slot_of client id + 1) (slot_of client id + 1) refl)
 here_by past desk client id pages first page kind agrees room inside false is =
     let before : is_within (first_page desk client id) (page_total desk client id) page ≡ (owner_at desk page == slot_of client id + 1) = agrees.owned client id page room.key inside in
     let none : is_within (first_page desk client id) (page_total desk client id) page ≡ false =
@@ -172,7 +173,7 @@ used_make : (past : Past) (desk : Desk) (client id pages first page : ℕ) (kind
     → (is_within first pages page || is_used past.places page) ≡ not (owner_at (made_at desk client id pages kind first) page == 0)
 used_make past desk client id pages first page kind agrees room inside true is =
     let held = owner_in desk client id pages first page kind agrees.sized room is in
-    let yes : (owner_at (made_at desk client id pages kind first) page == 0) ≡ false = differ (owner_at (made_at desk client id pages kind first) page) 0 (λ z. omega (arith, held, z)) in
+    let yes : (owner_at (made_at desk client id pages kind first) page == 0) ≡ false = ne_eqb (owner_at (made_at desk client id pages kind first) page) 0 (λ z. omega (arith, held, z)) in
     ap (λ (b : Bool). b || is_used past.places page) is ∙ sym (ap not yes)
 used_make past desk client id pages first page kind agrees room inside false is =
     ap (λ (b : Bool). b || is_used past.places page) is

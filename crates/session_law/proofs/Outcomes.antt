@@ -1,5 +1,6 @@
 -- What each call answers and leaves, where the desk agrees with the calls before.
-use Rattle.std.proofs.Common.{◌≡◌, ℕ, ◌+◌, ◌*◌, ◌<◌, ◌≤◌, ◌==◌, ◌&&◌, ◌||◌, not, nat_lt, Bool, true, false, if◌then◌else◌, List, [], ◌∷◌, length, take, drop, Option, Some, None, Ok, Err, arith, refl, sym, ◌∙◌, ap, subst}
+use Rattle.overflow_slots.proofs.Searches.{equal}
+use Rattle.std.proofs.Common.{ne_eqb, ◌≡◌, ℕ, ◌+◌, ◌*◌, ◌<◌, ◌≤◌, ◌==◌, ◌&&◌, ◌||◌, not, nat_lt, Bool, true, false, if◌then◌else◌, List, [], ◌∷◌, length, take, drop, Option, Some, None, Ok, Err, arith, refl, sym, ◌∙◌, ap, subst}
 use Rattle.std.proofs.lemmas.Bool.Decides.{nat_tests}
 use Rattle.field_words.specs.Sizes.{page_size}
 use Rattle.field_words.specs.Writes.{with_bytes}
@@ -17,7 +18,6 @@ use Rattle.job_session.specs.Desk.{Desk, first_page, page_total, kind_of, bytes_
 use Rattle.job_session.specs.Replies.{done_reply, read_reply, submitted_reply}
 use Rattle.session_law.specs.Agree.{IsKey, client_count, AreListed, IsListed, Agrees}
 use Rattle.session_law.proofs.Bytes.{window_length, read_window}
-use Rattle.session_law.proofs.Changing.{equal, differ}
 use Rattle.session_law.proofs.Listing.{both_true, is_of_key, listed_some}
 use Rattle.session_law.proofs.Writing.{Lies, write_agrees, room_in}
 use Rattle.session_law.proofs.Freeing.{free_agrees}
@@ -75,7 +75,7 @@ absent desk client id place listed dead = absent_by desk client id place listed 
         live_yes : (desk : Desk) (client id : ℕ) → id < most_buffers → 1 ≤ page_total desk client id → is_live desk client id ≡ true
         live_yes desk client id small some =
             let e : nat_lt id most_buffers ≡ true = grind (arith, nat_tests) in
-            let n : (page_total desk client id == 0) ≡ false = differ (page_total desk client id) 0 (λ z. omega (arith, some, z)) in
+            let n : (page_total desk client id == 0) ≡ false = ne_eqb (page_total desk client id) 0 (λ z. omega (arith, some, z)) in
             rw (e, n) refl
 
 without_none : (desk : Desk) (client id : ℕ) (places : List Place) → AreListed desk places → is_live desk client id ≡ false → without client id places ≡ places

@@ -2,7 +2,7 @@
 use Rattle.std.proofs.Common.{◌≡◌, ◌<◌, ◌≤◌, ◌==◌, ◌&&◌, ◌+◌, not, nat_le, nat_lt, ℕ, zero, suc, Bool, true, false, Option, Some, refl, ◌∙◌, ap, arith}
 use Rattle.std.proofs.lemmas.Bool.Decides.{nat_tests}
 use Rattle.overflow_slots.specs.Search.{first_where}
-use Rattle.overflow_slots.proofs.Searches.{first_same, first_found}
+use Rattle.overflow_slots.proofs.Searches.{equal, first_found, first_same}
 use Rattle.session_pages.specs.Runs.{page_count, all_where, is_run, first_run}
 use Rattle.session_pages.specs.Map.{free_run, is_free}
 use Rattle.job_session.specs.Own.{Held, most_buffers, free_if, is_free_id}
@@ -11,7 +11,7 @@ use Rattle.job_session.specs.Session.{Past}
 use Rattle.job_session.specs.Desk.{Desk, page_total, kind_of, bytes_of, held_in, is_vacant, least_id}
 use Rattle.session_law.specs.Agree.{IsKey, client_count, owner_at, Agrees}
 use Rattle.session_law.proofs.Bytes.{is_inside}
-use Rattle.session_law.proofs.Changing.{held_if, held_is, equal}
+use Rattle.session_law.proofs.Changing.{held_if, held_is}
 use Rattle.session_law.proofs.Listing.{both_true}
 use Rattle.session_law.proofs.Making.{HasRoom}
 

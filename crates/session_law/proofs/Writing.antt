@@ -1,4 +1,5 @@
 -- Bytes are written into a buffer.
+use Rattle.overflow_slots.proofs.Searches.{equal}
 use Rattle.std.proofs.Common.{◌≡◌, inr, ℕ, ◌+◌, ◌*◌, ◌<◌, ◌≤◌, ◌==◌, true, false, List, length, slice_index, Some, arith, refl, sym, ◌∙◌, ap}
 use Rattle.field_words.specs.Sizes.{page_size}
 use Rattle.field_words.specs.Writes.{with_bytes}
@@ -10,7 +11,7 @@ use Rattle.job_session.specs.Session.{Past, with_own}
 use Rattle.job_session.specs.Desk.{Desk, slot_of, first_page, page_total, kind_of, bytes_of, held_in, with_written}
 use Rattle.session_law.specs.Agree.{IsKey, IsSized, owner_at, Agrees}
 use Rattle.session_law.proofs.Bytes.{is_within, is_outside, window_written, written_apart}
-use Rattle.session_law.proofs.Changing.{IsChange, change_agrees, equal, slot_below, held_live}
+use Rattle.session_law.proofs.Changing.{IsChange, change_agrees, slot_below, held_live}
 use Rattle.session_law.proofs.Listing.{listed_same}
 
 -- a buffer has pages, and the bytes end in them

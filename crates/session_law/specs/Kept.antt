@@ -1,12 +1,12 @@
 -- What the memory holds after calls.
-use Rattle.std.specs.Prelude.{◌≡◌, ◌<◌, ℕ, ◌+◌, ◌*◌, false, List, length, slice_index, Some}
+use Rattle.std.specs.Prelude.{◌≡◌, ◌<◌, ℕ, ◌+◌, ◌*◌, true, false, List, length, slice_index, Some}
 use Rattle.std.specs.List.{Contains}
 use Rattle.field_words.specs.Sizes.{page_size}
 use Rattle.phys_mem.specs.Window.{window_of}
 use Rattle.session_pages.specs.Runs.{page_count}
 use Rattle.session_pages.specs.Map.{place_of}
 use Rattle.job_session.specs.Own.{Held}
-use Rattle.job_session.specs.Places.{Place, is_used}
+use Rattle.job_session.specs.Places.{Place, covers, is_used}
 use Rattle.job_session.specs.Session.{Past}
 use Rattle.job_session.specs.Desk.{Desk}
 use Rattle.session_law.specs.Agree.{client_count}
@@ -30,9 +30,12 @@ pub record IsLive (past : Past) (desk : Desk) (place : Place) : Type 0 where
   pub live : past.own place.client place.id ≡ Some held
   pub lies : LiesAt desk.map.memory held place
 
--- each live buffer lies in its pages, each place is a live buffer's, and all bytes of all other pages are zero
+-- each live buffer lies in its pages, each place is a live buffer's, no page is in two places, and all bytes of all other pages are
+-- zero
 pub record IsKept (past : Past) (desk : Desk) : Type 0 where
   pub buffers : (client id : ℕ) (held : Held) → client < client_count → past.own client id ≡ Some held → HasPlace past desk client id held
   pub places : (place : Place) → Contains past.places place → IsLive past desk place
+  pub apart : (one other : Place) (page : ℕ) → Contains past.places one → Contains past.places other → page < page_count
+      → covers one page ≡ true → covers other page ≡ true → one ≡ other
   pub zero : (page at : ℕ) → page < page_count → at < page_size → is_used past.places page ≡ false
       → slice_index desk.map.memory (place_of page + at) ≡ 0

@@ -7,11 +7,12 @@
 //! other pages are zero.
 //!
 //! In `specs/`, `Agree` says when what a session keeps agrees with the calls before, `History` what lists of calls leave, `Kept` what
-//! the memory holds then, `Full` when it is full, `Scripts` what a script is answered, and `Laws` names the laws. Each law is a function with an empty body, so that a call
-//! can cite it.
+//! the memory holds then, `Full` when it is full, `Scripts` what a script is answered, `Lying` the file of a submit with the client's
+//! buffers where they lie, and `Laws` names the laws. Each law is a function with an empty body, so that a call can cite it.
 #![tactic(auto)]
 
-ghost use Rattle.session_law.specs.Laws.{NewSessionsAgree, CallsAreAnswered, HistoriesAgree, RepliesAreOfHistories, ClientsAreApart, OthersChangeNothing, MemoryIsKept, FullIsExact, PlacesAreLowest};
+ghost use Rattle.session_law.specs.Laws.{NewSessionsAgree, CallsAreAnswered, HistoriesAgree, RepliesAreOfHistories};
+ghost use Rattle.session_law.specs.Laws.{ClientsAreApart, OthersChangeNothing, MemoryIsKept, FullIsExact, PlacesAreLowest};
 ghost use Rattle.session_law.specs.Lying.{SubmitsAreOfPlaces};
 ghost use Rattle.session_law.specs.Scripts.{ScriptsAreOfHistories};
 
@@ -51,8 +52,8 @@ pub fn others_change_nothing()
     ensures { OthersChangeNothing }
 {}
 
-/// After any calls each live buffer's bytes lie in its pages, each place is a live buffer's, and all bytes of all other pages are
-/// zero.
+/// After any calls each live buffer's bytes lie in its pages, each place is a live buffer's, no page is in two of them, and all bytes
+/// of all other pages are zero.
 #[tactic(auto, using(crate::proofs::Keeping::memory_is_kept))]
 pub fn memory_is_kept()
     ensures { MemoryIsKept }
