@@ -1,18 +1,11 @@
 -- The rules of shaders and of jobs, as a session tells them.
 use Rattle.std.proofs.Common.{◌≡◌, ℕ, ◌<◌, List, [], ◌∷◌, length, arith, None, Some}
-use Rattle.field_words.specs.Questions.{first_of, answered, each, Refuses}
-use Rattle.field_words.specs.declared.stop.Stop.{Stop}
-use Rattle.field_words.specs.declared.stop.Stop.TheVariants.{Fault, NoMemory}
-use Rattle.field_words.proofs.Questions.{answered_none, answered_some, stops}
-use Rattle.job_format.specs.declared.rule.FormatFault.{FormatFault}
-use Rattle.job_format.specs.Faults.{format_questions}
-use Rattle.job_format.specs.Reading.{file_at}
+use Rattle.field_words.specs.Questions.{first_of, answered, each}
+use Rattle.field_words.proofs.Questions.{answered_none, answered_some}
 use Rattle.shader_check.specs.declared.fault.ShaderFault.{ShaderFault}
 use Rattle.shader_check.specs.Rules.{shader_questions, whole_questions, s1, fault_at}
 use Rattle.shader_flow.specs.Flow.{checked_of, end_of}
-use Rattle.job_check.specs.Faults.{file_stages}
 use Rattle.job_check.specs.Shaders.{code_questions, words_in}
-use Rattle.job_check.specs.Whole.{all_questions, format_refused, format_stopped}
 use Rattle.job_session.specs.Checked.{at_instruction, shader_refusal}
 
 pub passes : (bytes : List ℕ) → first_of (code_questions bytes) ≡ None → shader_refusal bytes ≡ None
@@ -27,11 +20,3 @@ pub has_bytes : (bytes : List ℕ) → first_of (code_questions bytes) ≡ None 
 unfolding code_questions shader_questions whole_questions checked_of end_of s1 fault_at words_in each answered
 has_bytes [] none = let no : ⊥ = cc in absurd no
 has_bytes (byte ∷ bytes) none = omega arith
-
--- A fault of the format is the first rule of all that stands.
-pub format_stops : (bytes : List ℕ) (stop : Stop FormatFault) → Refuses (format_questions bytes) stop → Refuses (all_questions bytes) (format_stopped stop)
-unfolding all_questions
-format_stops bytes (Fault fault) refuses =
-    stops (answered format_refused (format_questions bytes)) (file_stages (file_at bytes)) (format_refused fault)
-    (answered_some format_refused (format_questions bytes) fault refuses)
-format_stops bytes NoMemory refuses = tt

@@ -15,7 +15,7 @@ use Rattle.shader_records.specs.Rules.{all_questions}
 use Rattle.job_check.specs.Shaders.{table_of, content_of, shader_for, shader_of, shaders_up_to, shaders_of}
 use Rattle.job_check.specs.Jobs.{job_of, has_bin, grid_of, slot_of, lists_room, lists_begin, layout_of, end_of, states_in, input_for}
 use Rattle.job_check.specs.Offsets.{job_offset, content_offset, shader_offset, parts_size, handles_offset, bin_offset, records_offset, uniforms_offset, surface_offset, layout_offset}
-use Rattle.job_check.specs.Faults.{refused, table_stage, shader_questions_in, shader_stage, shaders_stage, handles_stage, bin_stage, part_offset, records_stage, surfaces_stage, layout_stage, lists_stages, job_stages, jobs_stages, file_stages}
+use Rattle.job_check.specs.Faults.{refused, table_stage, shader_questions_in, shader_stage, shaders_stage, handles_stage, bin_stage, part_offset, records_stage, surfaces_stage, layout_stage, lists_stages, job_stages, jobs_stages, stages_within}
 use Rattle.places_law.specs.Moved.{placeless, moved, PlacesAreFree}
 use Rattle.places_law.proofs.Tables.{AreAlike, entry_placeless, contents_placeless, count_placeless, kind_same, each_same, handles_same}
 use Rattle.places_law.proofs.Lists.{bin_same, surfaces_same}
@@ -191,7 +191,7 @@ rest_same f buffers same =
     λ p. shaders p ++ jobs p
 
 pub places_are_free : PlacesAreFree
-unfolding file_stages
+unfolding stages_within
 places_are_free f buffers same before behind =
     passes (table_stage (moved f buffers)) (shaders_stage (moved f buffers) ++ jobs_stages (moved f buffers)) behind
     ∙ (ap first_of (rest_same f buffers same)

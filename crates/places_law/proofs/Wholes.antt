@@ -7,7 +7,7 @@ use Rattle.job_format.specs.Model.{FileModel}
 use Rattle.job_format.specs.Reading.{file_at}
 use Rattle.job_format.specs.Faults.{format_questions}
 use Rattle.job_check.specs.Faults.{table_stage, file_stages}
-use Rattle.job_check.specs.Whole.{format_refused, all_questions, refusal_of}
+use Rattle.job_check.specs.Whole.{format_refused, questions_within, refusal_of}
 use Rattle.places_law.specs.Moved.{MovedAreAlike}
 use Rattle.places_law.proofs.Words.{ReadAlike, read_alike}
 use Rattle.places_law.proofs.Formats.{format_same, file_buffers, file_moved}
@@ -29,7 +29,7 @@ files_alike bytes other n alike before behind =
 
 alike_by : (bytes other : List ℕ) (n : ℕ) → ReadAlike bytes other n → first_of (table_stage (file_at bytes)) ≡ None → first_of (table_stage (file_at other)) ≡ None
     → refusal_of other ≡ refusal_of bytes
-unfolding refusal_of all_questions
+unfolding refusal_of questions_within
 alike_by bytes other n alike before behind =
     let front = answered format_refused (format_questions bytes) in
     ap (λ questions. first_of (answered format_refused questions ++ file_stages (file_at other))) (sym (format_same bytes other n alike))

@@ -15,11 +15,11 @@ use Rattle.buffer_table.specs.declared.buffer.Kind.{Kind}
 use Rattle.buffer_table.specs.declared.buffer.Kind.TheVariants.{Plain, Code}
 use Rattle.buffer_table.specs.declared.buffer.Regions.{Regions}
 use Rattle.buffer_table.specs.declared.item.Item.{Item}
-use Rattle.buffer_table.specs.Table.{buffer_at, buffer_item, items_of, lists_item, tile_item, item_at, no_item, shares, is_off_page, memory_questions, item_questions, all_questions, table_questions}
+use Rattle.buffer_table.specs.Table.{buffer_at, buffer_item, items_of, lists_item, tile_item, item_at, no_item, shares, is_off_page, memory_within, item_questions, all_within, table_questions}
 use Rattle.job_format.specs.Offsets.{entry_offset, buffer_count}
 use Rattle.job_format.specs.Text.{buffer_text, kind_number}
 use Rattle.job_format.specs.Reading.{kind_of, entry_at, buffers_at, regions_at, file_at}
-use Rattle.job_check.specs.Faults.{table_refused, table_stage}
+use Rattle.job_check.specs.Faults.{table_refused, table_stage, table_stage_within}
 use Rattle.session_pages.specs.Map.{first_place, memory_size}
 use Rattle.job_session.specs.Submit.{header_of}
 use Rattle.places_law.proofs.Words.{read_past, drop_past, entry_long}
@@ -157,7 +157,7 @@ each_none questions from (suc n) none =
     ∙ each_none questions (from + 1) n (λ k low high. none k (omega arith) (omega arith))
 
 table_none : (buffers : List Buffer) → AreLaid buffers → first_of (table_questions memory_size regions buffers) ≡ None
-unfolding all_questions memory_questions
+unfolding all_within memory_within
 table_none buffers laid =
     each_none (item_questions memory_size (items_of regions buffers)) 0 (length (items_of regions buffers))
     (λ k low high. item_none buffers k laid (omega (arith, high)))
@@ -260,7 +260,7 @@ unfolding u32_at
 size_back n rest = refl
 
 pub table_stands : (buffers : List Buffer) (tail : List ℕ) → AreLaid buffers → length buffers ≤ 64 → first_of (table_stage (file_at (file_with buffers tail))) ≡ None
-unfolding table_stage file_at
+unfolding table_stage_within file_at
 table_stands buffers tail laid few =
     let size = size_back (length buffers) (flat_map buffer_text buffers ++ tail) in
     let places = regions_back (length buffers) (flat_map buffer_text buffers ++ tail) in

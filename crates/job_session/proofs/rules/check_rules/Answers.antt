@@ -6,12 +6,13 @@ use Rattle.job_format.specs.Faults.{format_questions}
 use Rattle.job_format.specs.Reading.{file_at}
 use Rattle.job_check.specs.Faults.{file_stages}
 use Rattle.job_check.specs.Region.{IsRegion}
-use Rattle.job_check.specs.Whole.{all_questions, format_refused}
-use Rattle.job_session.proofs.Refusals.{format_stops}
+use Rattle.job_check.specs.Whole.{all_questions, questions_within, format_refused}
+use Rattle.field_words.specs.Sizes.{most_memory}
+use Rattle.job_check.proofs.Stops.{stopped}
 use Rattle.job_session.proofs.rules.check_rules.Goals as goal
 
 pub returns-in-Ok : goal.returns-in-Ok
-unfolding all_questions
+unfolding questions_within
 returns-in-Ok c =
     let bytes = c.args.file.now in
     answers_later (answered format_refused (format_questions bytes)) (file_stages (file_at bytes)) (IsRegion (file_at bytes)) c.check_lists.result
@@ -20,4 +21,4 @@ returns-in-Ok c =
 
 pub returns-in-Err : goal.returns-in-Err
 returns-in-Err c =
-    subst (λ stop. Refuses (all_questions c.args.file.now) stop) (sym c.format_refusal.ensures) (format_stops c.args.file.now c.in-Err.stop c.in-Err.ensures.read)
+    subst (λ stop. Refuses (all_questions c.args.file.now) stop) (sym c.format_refusal.ensures) (stopped most_memory c.args.file.now c.in-Err.stop c.in-Err.ensures.read)
