@@ -1,5 +1,5 @@
 -- Words that are hex.
-use Rattle.std.proofs.Common.{◌≡◌, ℕ, ◌+◌, ◌*◌, ◌%◌, ◌≤◌, ◌<◌, ◌↔◌, ◌&&◌, Bool, true, false, nat_lt, nat_le, List, [], length, refl, sym, ◌∙◌, ap, arith, Result, Ok, Err, IsTrue}
+use Rattle.std.proofs.Common.{◌≡◌, ℕ, ◌*◌, ◌%◌, ◌≤◌, ◌<◌, ◌↔◌, ◌&&◌, Bool, true, false, nat_lt, nat_le, List, length, refl, sym, ◌∙◌, ap, arith, Result, Ok, Err, IsTrue}
 use Rattle.std.proofs.lemmas.Bool.{false≢true, and_parts}
 use Rattle.std.proofs.lemmas.Bool.Decides.{nat_tests}
 use Rattle.std.specs.List.{AllPass}

@@ -1,5 +1,5 @@
 -- The rules of shaders and of jobs, as a session tells them.
-use Rattle.std.proofs.Common.{◌≡◌, ℕ, ◌<◌, List, [], ◌∷◌, length, sym, ◌∙◌, refl, arith, Option, None, Some}
+use Rattle.std.proofs.Common.{◌≡◌, ℕ, ◌<◌, List, [], ◌∷◌, length, arith, None, Some}
 use Rattle.field_words.specs.Questions.{first_of, answered, each, Refuses}
 use Rattle.field_words.specs.declared.stop.Stop.{Stop}
 use Rattle.field_words.specs.declared.stop.Stop.TheVariants.{Fault, NoMemory}
@@ -15,18 +15,18 @@ use Rattle.job_check.specs.Shaders.{code_questions, words_in}
 use Rattle.job_check.specs.Whole.{all_questions, format_refused, format_stopped}
 use Rattle.job_session.specs.Checked.{at_instruction, shader_refusal}
 
-pub shader_passes : (bytes : List ℕ) → first_of (code_questions bytes) ≡ None → shader_refusal bytes ≡ None
+pub passes : (bytes : List ℕ) → first_of (code_questions bytes) ≡ None → shader_refusal bytes ≡ None
 unfolding shader_refusal
-shader_passes bytes none = answered_none at_instruction (code_questions bytes) none
+passes bytes none = answered_none at_instruction (code_questions bytes) none
 
-pub shader_breaks : (bytes : List ℕ) (fault : ShaderFault) → first_of (code_questions bytes) ≡ Some fault → shader_refusal bytes ≡ Some (at_instruction fault)
+pub breaks : (bytes : List ℕ) (fault : ShaderFault) → first_of (code_questions bytes) ≡ Some fault → shader_refusal bytes ≡ Some (at_instruction fault)
 unfolding shader_refusal
-shader_breaks bytes fault some = answered_some at_instruction (code_questions bytes) fault some
+breaks bytes fault some = answered_some at_instruction (code_questions bytes) fault some
 
-pub shader_has_bytes : (bytes : List ℕ) → first_of (code_questions bytes) ≡ None → 0 < length bytes
+pub has_bytes : (bytes : List ℕ) → first_of (code_questions bytes) ≡ None → 0 < length bytes
 unfolding code_questions shader_questions whole_questions checked_of end_of s1 fault_at words_in each answered
-shader_has_bytes [] none = let no : ⊥ = cc in absurd no
-shader_has_bytes (byte ∷ bytes) none = omega arith
+has_bytes [] none = let no : ⊥ = cc in absurd no
+has_bytes (byte ∷ bytes) none = omega arith
 
 -- A fault of the format is the first rule of all that stands.
 pub format_stops : (bytes : List ℕ) (stop : Stop FormatFault) → Refuses (format_questions bytes) stop → Refuses (all_questions bytes) (format_stopped stop)

@@ -48,6 +48,9 @@ unfoldable pub contents_from : (ℕ → Option Held) → ℕ → ℕ → List �
 contents_from own id zero = []
 contents_from own id (suc n) = contents_at (own id) ++ contents_from own (id + 1) n
 
+abbrev pub all_contents : (ℕ → Option Held) → List ℕ
+all_contents own = contents_from own 0 most_buffers
+
 -- the job's client field is set as far as it is there
 abbrev pub with_client : ℕ → List ℕ → List ℕ
 with_client client parts = take (length parts) (word client) ++ drop 4 parts
@@ -65,4 +68,4 @@ unfoldable pub file_of : ℕ → (ℕ → Option Held) → List ℕ → List ℕ
 file_of client own parts =
     header_of (length (packed client own 0 most_buffers first_place))
     ++ (flat_map buffer_text (packed client own 0 most_buffers first_place)
-    ++ job_bytes (contents_from own 0 most_buffers) (with_client client parts))
+    ++ job_bytes (all_contents own) (with_client client parts))

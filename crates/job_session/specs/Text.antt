@@ -7,10 +7,10 @@ use Rattle.job_format.specs.declared.rule.Refusal.{Refusal}
 use Rattle.job_format.specs.Rules.{rule_text}
 use Rattle.script.specs.Lines.{lines_of}
 use Rattle.script.specs.Replies.{replies_from, IsScriptFault as IsFaultOf}
-use Rattle.job_session.specs.Own.{Reply, Id, Done, Bytes, Accepted, Refused, Broken}
+use Rattle.job_session.specs.Own.{Command, Reply, Id, Done, Bytes, Accepted, Refused, Broken}
 use Rattle.job_session.specs.Session.{Call}
 use Rattle.job_session.specs.Desk.{Desk, empty}
-use Rattle.job_session.specs.Replies.{desk_reply, desk_after}
+use Rattle.job_session.specs.Replies.{command_reply, desk_after}
 use Rattle.job_session.specs.Calls.{call_of, fault_line}
 
 -- a rule of shaders or of jobs is named with its place
@@ -22,10 +22,14 @@ reply_line Accepted = codes "accepted\n"
 reply_line (Refused refusal) = codes "refused J" ++ (decimal refusal ++ codes "\n")
 reply_line (Broken refusal) = codes "refused " ++ (rule_text refusal.rule ++ (codes " at " ++ (decimal refusal.offset ++ codes "\n")))
 
--- the line that answers a line, which may be no call, and the desk that it leaves
+-- the line that answers a client's command
+abbrev pub answer_line : Desk → ℕ → Command → List ℕ
+answer_line desk client command = reply_line (command_reply desk client command)
+
+-- the same for a line, which may be no call, and the desk that it leaves
 abbrev pub call_reply : Desk → Option Call → List ℕ
 call_reply desk None = []
-call_reply desk (Some call) = reply_line (desk_reply desk call)
+call_reply desk (Some call) = answer_line desk call.client call.command
 
 abbrev pub call_after : Desk → Option Call → Desk
 call_after desk None = desk

@@ -3,7 +3,8 @@ ghost use Rattle.std.specs.Prelude.{◌≡◌, ◌≤◌, ◌<◌, ◌↔◌, If
 ghost use Rattle.std.specs.List.{AllPass};
 ghost use Rattle.hex.specs.Hex.{is_hex_digit as digit_test};
 ghost use Rattle.field_words.specs.Sizes.{most_code};
-ghost use Rattle.job_session.specs.Calls.{number_in, is_hex as hex_test, is_code as code_test, hex_bytes, code_of, write_of, read_of, submit_of, command_named};
+ghost use Rattle.job_session.specs.Calls.{number_in, is_hex as hex_test, is_code as code_test, code_of, write_of, read_of, submit_of};
+ghost use Rattle.job_session.specs.Calls.{command_named};
 ghost use Rattle.job_session.specs.Calls.{call_of, asked, called, Fits, LineFits};
 
 use field_words::MOST_CODE;

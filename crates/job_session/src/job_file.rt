@@ -4,7 +4,7 @@ ghost use Rattle.std.specs.List.{flat_map};
 ghost use Rattle.field_words.specs.WordBytes.{word};
 ghost use Rattle.job_format.specs.Text.{kind_number, buffer_text};
 ghost use Rattle.job_session.specs.Own.{most_buffers};
-ghost use Rattle.job_session.specs.Submit.{header_of, with_client as client_set, job_bytes, contents_from, file_of};
+ghost use Rattle.job_session.specs.Submit.{header_of, with_client as client_set, job_bytes, all_contents, file_of};
 ghost use Rattle.job_session.specs.Desk.{held_in};
 
 use super::session::Session;
@@ -102,7 +102,7 @@ fn put_job(
     file: &mut Vec<u8>,
 ) -> Result<(), NoMemory>
     requires { client < 8 }
-    ensures { OnOk result (file.new.items ≡ file.old.items ++ job_bytes (contents_from (held_in session.now client) 0 most_buffers) parts.now) }
+    ensures { OnOk result (file.new.items ≡ file.old.items ++ job_bytes (all_contents (held_in session.now client)) parts.now) }
 {
     if parts.len() < JOB_SIZE {
         file.extend_from_slice(parts)?;

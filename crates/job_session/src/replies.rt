@@ -1,11 +1,11 @@
 //! Scripts of calls, and their answers.
-ghost use Rattle.std.specs.Prelude.{◌≡◌, ◌≤◌, ◌<◌, ◌^◌, ◌++◌, length, IfOk, IfErr, None, string_bytes};
+ghost use Rattle.std.specs.Prelude.{◌≡◌, ◌≤◌, ◌<◌, ◌^◌, ◌++◌, length, IfOk, IfErr, OnOk, None, string_bytes};
 ghost use Rattle.field_words.specs.Sizes.{most_code};
-ghost use Rattle.job_session.specs.Own.{Make, Read, Submit, Write, Id, Accepted, Bytes, Refused, Broken};
+ghost use Rattle.job_session.specs.Own.{Make, Read, Submit, Id, Accepted, Bytes, Refused, Broken};
 ghost use Rattle.job_session.specs.Calls.{fault_line, is_formed as formed, hex_bytes, command_of, Fits};
 ghost use Rattle.job_session.specs.Desk.{Desk};
-ghost use Rattle.job_session.specs.Replies.{created_reply, denied_reply, done_reply, command_reply, command_after};
-ghost use Rattle.job_session.specs.Text.{reply_line, line_reply, line_after, replies, IsScriptFault};
+ghost use Rattle.job_session.specs.Replies.{created_reply, denied_reply, done_reply, command_after};
+ghost use Rattle.job_session.specs.Text.{reply_line, answer_line, line_reply, line_after, replies, IsScriptFault};
 
 use super::call::{Request, read_line};
 use super::denied::Denied;
@@ -106,8 +106,8 @@ fn put_code(
 ) -> Result<(), AllocError>
     requires client { client < 8 }
     requires few { length (hex_bytes hex.now) ≤ most_code }
-    ensures line { IfOk result (λ _. string_bytes out.new ≡ string_bytes out.old ++ reply_line (command_reply session.old client (Make (hex_bytes hex.now)))) }
-    ensures left { IfOk result (λ _. session.new ≡ command_after session.old client (Make (hex_bytes hex.now))) }
+    ensures line { OnOk result (string_bytes out.new ≡ string_bytes out.old ++ answer_line session.old client (Make (hex_bytes hex.now))) }
+    ensures left { OnOk result (session.new ≡ command_after session.old client (Make (hex_bytes hex.now))) }
 {
     let bytes = decoded(alloc, hex)?;
     match session.code(alloc, client, &bytes) {
@@ -115,25 +115,6 @@ fn put_code(
         Err(Stop::Fault(denied)) => put_denied(out, denied),
         Err(Stop::NoMemory) => Err(AllocError),
     }
-}
-
-// Writes into a buffer, and puts the line that answers it.
-#[tactic(auto, unfolding(crate::specs::Replies::command_reply, crate::specs::Replies::command_after))]
-fn put_write(
-    alloc: Global,
-    out: &mut String,
-    session: &mut Session,
-    client: u8,
-    id: u32,
-    at: u32,
-    hex: &[u8],
-) -> Result<(), AllocError>
-    requires { client < 8 }
-    ensures line { IfOk result (λ _. string_bytes out.new ≡ string_bytes out.old ++ reply_line (command_reply session.old client (Write id at (hex_bytes hex.now)))) }
-    ensures left { IfOk result (λ _. session.new ≡ command_after session.old client (Write id at (hex_bytes hex.now))) }
-{
-    let bytes = decoded(alloc, hex)?;
-    put_done(out, session.write(client, id, at, &bytes))
 }
 
 // Reads from a buffer, and puts the line that answers it.
@@ -148,7 +129,7 @@ fn put_read(
     len: u32,
 ) -> Result<(), AllocError>
     requires { client < 8 }
-    ensures { IfOk result (λ _. string_bytes out.new ≡ string_bytes out.old ++ reply_line (command_reply session.now client (Read id at len))) }
+    ensures { OnOk result (string_bytes out.new ≡ string_bytes out.old ++ answer_line session.now client (Read id at len)) }
 {
     match session.read(alloc, client, id, at, len) {
         Ok(bytes) => put_bytes(alloc, out, &bytes),
@@ -167,7 +148,7 @@ fn put_submit(
     hex: &[u8],
 ) -> Result<(), AllocError>
     requires { client < 8 }
-    ensures { IfOk result (λ _. string_bytes out.new ≡ string_bytes out.old ++ reply_line (command_reply session.now client (Submit (hex_bytes hex.now)))) }
+    ensures { OnOk result (string_bytes out.new ≡ string_bytes out.old ++ answer_line session.now client (Submit (hex_bytes hex.now))) }
 {
     let parts = decoded(alloc, hex)?;
     match session.submit(alloc, client, &parts) {
@@ -188,13 +169,16 @@ fn put_answer(
 ) -> Result<(), AllocError>
     requires client { client < 8 }
     requires fits { Fits request }
-    ensures line { IfOk result (λ _. string_bytes out.new ≡ string_bytes out.old ++ reply_line (command_reply session.old client (command_of request.entry))) }
-    ensures left { IfOk result (λ _. session.new ≡ command_after session.old client (command_of request.entry)) }
+    ensures line { OnOk result (string_bytes out.new ≡ string_bytes out.old ++ answer_line session.old client (command_of request.entry)) }
+    ensures left { OnOk result (session.new ≡ command_after session.old client (command_of request.entry)) }
 {
     match request {
         Request::Create { pages } => put_created(out, session.create(client, pages)),
         Request::Code { hex } => put_code(alloc, out, session, client, hex),
-        Request::Write { id, at, hex } => put_write(alloc, out, session, client, id, at, hex),
+        Request::Write { id, at, hex } => {
+            let part = decoded(alloc, hex)?;
+            put_done(out, session.write(client, id, at, &part))
+        }
         Request::Read { id, at, len } => put_read(alloc, out, session, client, id, at, len),
         Request::Free { id } => put_done(out, session.free(client, id)),
         Request::Submit { hex } => put_submit(alloc, out, session, client, hex),

@@ -29,7 +29,7 @@ fn shader_fault(fault: &ShaderFault) -> Refusal
 }
 
 /// The rules of shaders. No shader is without bytes.
-#[tactic(auto, using(crate::proofs::Refusals::shader_passes, crate::proofs::Refusals::shader_breaks, crate::proofs::Refusals::shader_has_bytes))]
+#[tactic(auto, using(crate::proofs::Refusals::passes, crate::proofs::Refusals::breaks, crate::proofs::Refusals::has_bytes))]
 pub fn check_shader(alloc: Global, bytes: &[u8]) -> Result<(), Stop<Denied>>
     requires { length bytes.now ≤ most_code }
     ensures passed { IsOk result → shader_refusal bytes.now ≡ None }

@@ -4,7 +4,7 @@ ghost use Rattle.field_words.specs.Sizes.{most_code};
 ghost use Rattle.buffer_table.specs.declared.buffer.Kind.TheVariants.{Plain};
 ghost use Rattle.session_pages.specs.Map.{first_place};
 ghost use Rattle.job_session.specs.Own.{most_buffers};
-ghost use Rattle.job_session.specs.Submit.{packed, content_of, contents_from, laid_in, contents_at};
+ghost use Rattle.job_session.specs.Submit.{packed, content_of, all_contents, laid_in, contents_at};
 ghost use Rattle.job_session.specs.Desk.{slot_count, slot_of, empty, least_id, is_live as live, kind_of, page_total, held_in};
 ghost use Rattle.job_session.specs.Desk.{new_id, placed, create_answer, created, code_answer, made, pages_for, free_answer, freed};
 ghost use Rattle.job_session.specs.Desk.{write_answer, written, read_answer, submit_answer, IsStop, IsRefusal};
@@ -317,7 +317,7 @@ impl Session {
         file: &mut Vec<u8>,
     ) -> Result<(), NoMemory>
         requires { client < 8 }
-        ensures { OnOk result (file.new.items ≡ file.old.items ++ contents_from (held_in self.now client) 0 most_buffers) }
+        ensures { OnOk result (file.new.items ≡ file.old.items ++ all_contents (held_in self.now client)) }
     {
         for id in 0..MOST_BUFFERS {
             self.put_content(alloc, client, id, file)?;

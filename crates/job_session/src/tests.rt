@@ -1,6 +1,4 @@
 //! Two clients in one memory; scripts and their answers.
-ghost use Rattle.std.specs.Prelude.{◌<◌, ◌^◌, length};
-
 use super::*;
 use field_words::Stop;
 use job_format::{Refusal, Rule, Stage};
@@ -16,9 +14,10 @@ const JOB: &str = "0100000000000000010000000000000000000000000000000000000010001
     0000000000000000ffffffff0000000000000000ffffffff0000000000000000\
     ffffffff00000000000000000000000000000000000000000000000000000000";
 
-fn answer(alloc: Global, text: &[u8]) -> Result<String, Fail>
-    requires { length text.now < 2 ^ 32 }
-{
+fn answer(alloc: Global, text: &[u8]) -> Result<String, Fail> {
+    if text.len() > 1_048_576 {
+        return Err("too long".into());
+    }
     match script(alloc, text) {
         Ok(bytes) => match String::from_utf8(bytes) {
             Ok(text) => Ok(text),
@@ -139,20 +138,19 @@ fn a_client_has_64_buffers(rt: HostRuntime) -> Result<(), Fail> {
 #[test]
 fn lines_that_are_no_calls(rt: HostRuntime) -> Result<(), Fail> {
     for text in [
-        b"".as_slice(),
-        b"create 8 1".as_slice(),
-        b"create 0".as_slice(),
-        b"create 0 1 ".as_slice(),
-        b"create 0 4294967296".as_slice(),
-        b"code 0 ".as_slice(),
-        b"code 0 0".as_slice(),
-        b"submit 0 0g".as_slice(),
-        b"write 0 0 0 ".as_slice(),
-        b"read 0 0 0".as_slice(),
-        b"free 0 00".as_slice(),
+        "free 0 0\n\n",
+        "free 0 0\ncreate 8 1",
+        "free 0 0\ncreate 0",
+        "free 0 0\ncreate 0 1 ",
+        "free 0 0\ncreate 0 4294967296",
+        "free 0 0\ncode 0 ",
+        "free 0 0\ncode 0 0",
+        "free 0 0\nsubmit 0 0g",
+        "free 0 0\nwrite 0 0 0 ",
+        "free 0 0\nread 0 0 0",
+        "free 0 0\nfree 0 00",
     ] {
-        let script = format!(in rt.alloc(); "free 0 0\n{}\n", std::str::from_utf8(text)?)?;
-        assert_eq!(rt; answer(rt.alloc(), script.as_bytes())?.as_str(), "line 2");
+        assert_eq!(rt; answer(rt.alloc(), text.as_bytes())?.as_str(), "line 2");
     }
     Ok(())
 }

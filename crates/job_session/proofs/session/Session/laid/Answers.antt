@@ -1,4 +1,4 @@
-use Rattle.std.proofs.Common.{◌≡◌, ◌*◌, ℕ, get_or, subst, Option, None, Some}
+use Rattle.std.proofs.Common.{◌≡◌, ◌*◌, get_or, subst, Option, None, Some}
 use Rattle.buffer_table.specs.declared.buffer.Buffer.{Buffer}
 use Rattle.buffer_table.specs.declared.buffer.Kind.TheVariants.{Plain}
 use Rattle.job_session.specs.Desk.{Desk, held_in}
