@@ -2,7 +2,8 @@
 //!
 //! In `specs/`, `Own` says what a client is answered by its own commands alone, `Places` where live buffers lie, `Session` what calls
 //! of all clients do, and `Laws` that a client's replies are those of its own commands. `Desk` says what `Session` keeps, and what its
-//! calls answer and leave, by its page map and slots. Not proved yet: that a desk answers as `Session` says of the calls before.
+//! calls answer and leave, by its page map and slots; `Replies` has that by call, `Submit` the file of a job, `Checked` the rules, and
+//! `Calls` and `Text` what a script and its answer are. Not proved yet: that a desk answers as `Session` says of the calls before.
 #![tactic(auto)]
 
 mod call;

@@ -269,7 +269,7 @@ impl Session {
     }
 
     /// A client's live buffers as the file of a job lists them, each directly behind the one before.
-    pub fn packed(&self, alloc: Global, client: u8) -> Result<Vec<Buffer>, NoMemory>
+    pub(crate) fn packed(&self, alloc: Global, client: u8) -> Result<Vec<Buffer>, NoMemory>
         requires { client < 8 }
         ensures all { IfOk result (λ buffers. buffers.items ≡ packed client (held_in self.now client) 0 most_buffers first_place) }
         ensures few { IfOk result (λ buffers. length buffers.items ≤ most_buffers) }
@@ -310,7 +310,7 @@ impl Session {
     }
 
     /// Puts the contents of a client's Code buffers, in order of id.
-    pub fn put_contents(
+    pub(crate) fn put_contents(
         &self,
         alloc: Global,
         client: u8,
