@@ -9,8 +9,11 @@ use Rattle.job_session.specs.Session.{Call, Past, none_yet}
 use Rattle.job_session.specs.Desk.{Desk, empty}
 use Rattle.job_session.specs.Calls.{last_client, call_by, call_of, command_named}
 use Rattle.job_session.specs.Text.{reply_line, call_reply, call_after, line_reply, line_after, replies}
+use Rattle.std.specs.List.{flat_map}
+use Rattle.job_session.specs.Replies.{desk_reply}
+use Rattle.session_law.specs.History.{AreKnown, desk_replies}
 use Rattle.session_law.specs.Agree.{client_count, Agrees}
-use Rattle.session_law.specs.Scripts.{told_of, past_with, told_reply, told_after, ScriptsAreOfHistories}
+use Rattle.session_law.specs.Scripts.{told_of, past_with, told_reply, told_after, onto_calls, calls_in, ScriptsAreOfHistories, ScriptsAreOfCalls}
 use Rattle.session_law.proofs.Answering.{calls_are_answered, new_sessions_agree}
 use Rattle.session_law.proofs.Listing.{both_true}
 
@@ -67,3 +70,29 @@ scripts_from (line ∷ lines) past desk agrees =
 pub scripts_are_of_histories : ScriptsAreOfHistories
 unfolding replies
 scripts_are_of_histories text = scripts_from (lines_of text) none_yet empty new_sessions_agree
+
+-- the calls on the lines, one after the other
+one_known : (call : Option Call) (calls : List Call) → ((c : Call) → call ≡ Some c → c.client < client_count) → AreKnown calls → AreKnown (onto_calls call calls)
+one_known None calls small later = later
+one_known (Some call) calls small later = (small call refl, later)
+
+all_known : (lines : List (List ℕ)) → AreKnown (calls_in lines)
+unfolding calls_in
+all_known [] = tt
+all_known (line ∷ lines) = one_known (call_of line) (calls_in lines) (known line) (all_known lines)
+
+one_told : (desk : Desk) (call : Option Call) (calls : List Call) (rest : List ℕ) → rest ≡ flat_map reply_line (desk_replies (call_after desk call) calls)
+    → (call_reply desk call ++ rest) ≡ flat_map reply_line (desk_replies desk (onto_calls call calls))
+unfolding desk_replies
+one_told desk None calls rest later = later
+one_told desk (Some call) calls rest later = ap (λ (bytes : List ℕ). reply_line (desk_reply desk call) ++ bytes) later
+
+told_from : (lines : List (List ℕ)) (desk : Desk) → replies_from line_reply line_after desk lines ≡ flat_map reply_line (desk_replies desk (calls_in lines))
+unfolding replies_from calls_in desk_replies
+told_from [] desk = refl
+told_from (line ∷ lines) desk =
+    one_told desk (call_of line) (calls_in lines) (replies_from line_reply line_after (line_after desk line) lines) (told_from lines (line_after desk line))
+
+pub scripts_are_of_calls : ScriptsAreOfCalls
+unfolding replies
+scripts_are_of_calls text = record { known = all_known (lines_of text); told = told_from (lines_of text) empty }

@@ -27,3 +27,8 @@ desk_replies_to client desk [] = []
 desk_replies_to client desk (call ∷ calls) =
     if client == call.client then desk_reply desk call ∷ desk_replies_to client (desk_after desk call) calls
     else desk_replies_to client (desk_after desk call) calls
+
+-- the replies to all
+unfoldable pub desk_replies : Desk → List Call → List (Reply Refusal)
+desk_replies desk [] = []
+desk_replies desk (call ∷ calls) = desk_reply desk call ∷ desk_replies (desk_after desk call) calls

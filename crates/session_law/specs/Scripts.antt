@@ -1,11 +1,14 @@
 -- What a script is answered, by the history of its calls.
-use Rattle.std.specs.Prelude.{◌≡◌, ℕ, List, [], Option, Some, None}
+use Rattle.std.specs.Prelude.{◌≡◌, ℕ, List, [], ◌∷◌, Option, Some, None}
+use Rattle.std.specs.List.{flat_map}
 use Rattle.script.specs.Lines.{lines_of}
 use Rattle.script.specs.Replies.{replies_from}
 use Rattle.job_session.specs.Session.{Call, Past, none_yet, reply_to, after}
 use Rattle.job_session.specs.Checked.{session_rules}
+use Rattle.job_session.specs.Desk.{empty}
 use Rattle.job_session.specs.Calls.{call_of}
 use Rattle.job_session.specs.Text.{reply_line, replies}
+use Rattle.session_law.specs.History.{AreKnown, desk_replies}
 
 -- the line that answers a line, which may be no call, and the calls up to it
 abbrev pub told_of : Past → Option Call → List ℕ
@@ -25,3 +28,20 @@ told_after past line = past_with past (call_of line)
 -- a script's answer is that of the history of all clients' calls on its lines
 abbrev pub ScriptsAreOfHistories : Type 0
 ScriptsAreOfHistories = (text : List ℕ) → replies text ≡ replies_from told_reply told_after none_yet (lines_of text)
+
+-- the calls on lines, without the lines that are no calls
+abbrev pub onto_calls : Option Call → List Call → List Call
+onto_calls None calls = calls
+onto_calls (Some call) calls = call ∷ calls
+
+unfoldable pub calls_in : List (List ℕ) → List Call
+calls_in [] = []
+calls_in (line ∷ lines) = onto_calls (call_of line) (calls_in lines)
+
+-- a script's answer is that of its calls, one after the other on a new session, each by a client that there is
+pub record IsOfCalls (text : List ℕ) : Type 0 where
+  pub known : AreKnown (calls_in (lines_of text))
+  pub told : replies text ≡ flat_map reply_line (desk_replies empty (calls_in (lines_of text)))
+
+abbrev pub ScriptsAreOfCalls : Type 0
+ScriptsAreOfCalls = (text : List ℕ) → IsOfCalls text

@@ -14,7 +14,7 @@
 ghost use Rattle.session_law.specs.Laws.{NewSessionsAgree, CallsAreAnswered, HistoriesAgree, RepliesAreOfHistories};
 ghost use Rattle.session_law.specs.Laws.{ClientsAreApart, OthersChangeNothing, MemoryIsKept, FullIsExact, PlacesAreLowest};
 ghost use Rattle.session_law.specs.Lying.{SubmitsAreOfPlaces};
-ghost use Rattle.session_law.specs.Scripts.{ScriptsAreOfHistories};
+ghost use Rattle.session_law.specs.Scripts.{ScriptsAreOfHistories, ScriptsAreOfCalls};
 
 /// A new session agrees with no calls.
 #[tactic(auto, using(crate::proofs::Answering::new_sessions_agree))]
@@ -73,6 +73,12 @@ pub fn places_are_lowest()
 #[tactic(auto, using(crate::proofs::Scripting::scripts_are_of_histories))]
 pub fn scripts_are_of_histories()
     ensures { ScriptsAreOfHistories }
+{}
+
+/// It is the text of the replies to the calls on its lines, made one after the other on a new session, so the laws above speak of them.
+#[tactic(auto, using(crate::proofs::Scripting::scripts_are_of_calls))]
+pub fn scripts_are_of_calls()
+    ensures { ScriptsAreOfCalls }
 {}
 
 /// A submit's answer is also that of the file with the client's buffers where they lie.
