@@ -3,7 +3,8 @@
 //! In `specs/`, `Own` says what a client is answered by its own commands alone, `Places` where live buffers lie, `Session` what calls
 //! of all clients do, and `Laws` that a client's replies are those of its own commands. `Desk` says what `Session` keeps, and what its
 //! calls answer and leave, by its page map and slots; `Replies` has that by call, `Submit` the file of a job, `Checked` the rules, and
-//! `Calls` and `Text` what a script and its answer are. Not proved yet: that a desk answers as `Session` says of the calls before.
+//! `Calls` and `Text` what a script and its answer are. That a desk answers as `Session` says of the
+//! calls before is proved in the crate `session_law`.
 #![tactic(auto)]
 
 mod call;
