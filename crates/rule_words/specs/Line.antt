@@ -7,7 +7,7 @@ use Rattle.rule_words.specs.declared.place.Thing.{Thing}
 use Rattle.rule_words.specs.declared.place.Thing.TheVariants.{File, Header, Entry, JobEntry, Surface, Contents, Shader, Handles, Handle, BinnerList, Records, Uniforms}
 use Rattle.rule_words.specs.declared.place.Place.{Place}
 use Rattle.rule_words.specs.declared.line.Line.{Line}
-use Rattle.rule_words.specs.Names.{sentence_of}
+use Rattle.rule_words.specs.Names.{name_of, sentence_of}
 use Rattle.rule_words.specs.Place.{Covers}
 
 -- there is one header and one file
@@ -72,5 +72,5 @@ line_text line =
 -- The line of a refusal of these bytes has its rule, that rule's sentence, and a place in which the offset lies.
 pub record IsLineOf (bytes : List ℕ) (refusal : Refusal) (line : Line) : Type 0 where
   pub rule : line.rule ≡ refusal.rule
-  pub sentence : line.sentence.now ≡ sentence_of refusal.rule.stage refusal.rule.number
+  pub sentence : line.sentence.now ≡ sentence_of (name_of refusal.rule)
   pub place : Covers bytes refusal.offset line.place

@@ -4,6 +4,7 @@ use Rattle.std.specs.Borrow.{Bor}
 use Rattle.std.specs.Char.{to_ascii_uppercase}
 use Rattle.std.specs.Fmt.{decimal}
 use Rattle.script.specs.Number.{number_within}
+use Rattle.job_format.specs.declared.rule.Rule.{Rule}
 use Rattle.job_format.specs.declared.rule.Stage.{Stage}
 use Rattle.job_format.specs.declared.rule.Stage.TheVariants.{F as StageF, M as StageM, S as StageS, H as StageH, B as StageB, A as StageA, U as StageU, G as StageG, X as StageX}
 use Rattle.rule_words.specs.declared.answers.TheConstants.{SLOTS, QUEUE, SESSION, LEVELS, ASSEMBLER}
@@ -85,9 +86,13 @@ abbrev pub sentence_by : Option (List ℕ × List ℕ) → List ℕ
 sentence_by None = codes "there is no rule of this name"
 sentence_by (Some words) = words.0
 
--- the sentence of a rule of the check
-unfoldable pub sentence_of : Stage → ℕ → List ℕ
-sentence_of stage number = sentence_by (words_of (record { family = family_of stage; number = number }))
+-- a rule's sentence
+unfoldable pub sentence_of : RuleName → List ℕ
+sentence_of name = sentence_by (words_of name)
+
+-- the name of a rule of the check
+abbrev pub name_of : Rule → RuleName
+name_of rule = record { family = family_of rule.stage; number = rule.number }
 
 -- how a rule's name is printed: S24, or kind 3
 unfoldable pub family_text : Family → List ℕ

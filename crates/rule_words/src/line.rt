@@ -3,7 +3,7 @@ ghost use Rattle.std.specs.Prelude.{◌≡◌, ◌++◌, Some, codes};
 ghost use Rattle.std.specs.Fmt.{decimal};
 ghost use Rattle.rule_words.specs.Line.{is_one, thing_name, unit_name, owner_text, place_text, line_text, IsLineOf};
 
-use crate::name::sentence_of;
+use crate::name::RuleName;
 use crate::place::{Place, Thing, place_of};
 use job_format::{Refusal, Rule};
 use std::fmt;
@@ -110,7 +110,7 @@ pub fn line_of(bytes: &[u8], refusal: Refusal) -> Line
     let rule = refusal.rule;
     Line {
         rule,
-        sentence: sentence_of(rule),
+        sentence: RuleName::of_rule(rule).sentence(),
         place: place_of(bytes, refusal),
     }
 }

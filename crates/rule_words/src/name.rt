@@ -1,6 +1,6 @@
 //! The names of rules, and their words.
 ghost use Rattle.std.specs.Prelude.{◌≡◌, option_map, Some, IfOk};
-ghost use Rattle.rule_words.specs.Names.{family_of, texts_in, rows_of, row_in, text_of, words_of, sentence_of, family_text, name_text, explained, family_named, known, rule_named, kind_named};
+ghost use Rattle.rule_words.specs.Names.{family_of, name_of, texts_in, rows_of, row_in, text_of, words_of, sentence_of, family_text, name_text, explained, family_named, known, rule_named, kind_named};
 
 use crate::answers::{ASSEMBLER, LEVELS, QUEUE, SESSION, SLOTS};
 use crate::format::{FORMAT, HANDLES, LAYOUT, TABLE};
@@ -110,7 +110,7 @@ impl Family {
 impl RuleName {
     /// The name of a rule of the check.
     pub fn of_rule(rule: Rule) -> RuleName
-        ensures { result ≡ record { family = family_of rule.stage; number = rule.number } }
+        ensures { result ≡ name_of rule }
     {
         RuleName {
             family: Family::of_stage(rule.stage),
@@ -147,6 +147,17 @@ impl RuleName {
             None => None,
         }
     }
+
+    /// What is wrong where the rule refuses: one line, without a full stop. It is `there is no rule of this name` where there is none.
+    #[tactic(auto, unfolding(crate::specs::Names::sentence_of))]
+    pub fn sentence(self) -> &'static str
+        ensures { result.now ≡ sentence_of self }
+    {
+        match self.words() {
+            Some(words) => words.sentence,
+            None => "there is no rule of this name",
+        }
+    }
 }
 
 impl fmt::Display for Family {
@@ -179,18 +190,6 @@ impl fmt::Display for RuleName {
     #[tactic(auto, unfolding(crate::specs::Names::name_text))]
     fn fmt<W: fmt::Write>(&self, f: &mut fmt::Formatter<W>) -> fmt::Result {
         write!(f, "{}{}", self.family, self.number)
-    }
-}
-
-/// What is wrong where this rule of the check refuses: one line, without a full stop. It is `there is no rule of this name` where there
-/// is none.
-#[tactic(auto, unfolding(crate::specs::Names::sentence_of))]
-pub fn sentence_of(rule: Rule) -> &'static str
-    ensures { result.now ≡ sentence_of rule.stage rule.number }
-{
-    match RuleName::of_rule(rule).words() {
-        Some(words) => words.sentence,
-        None => "there is no rule of this name",
     }
 }
 
