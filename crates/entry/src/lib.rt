@@ -2,6 +2,8 @@
 //! sink, a line on standard error where there is something to say, and the status.
 #![tactic(auto)]
 
+ghost use Rattle.std.specs.Prelude.{◌≡◌, None};
+
 use job_io::{ReaderSource, Sink, Source, WriterSink};
 use std::alloc::Global;
 use std::fs::File;
@@ -13,6 +15,18 @@ use std::{env, fmt, io};
 pub struct Ended<C> {
     pub status: u8,
     pub cause: Option<C>,
+}
+
+impl<C> Ended<C> {
+    /// An end of which there is no more to say than its status does.
+    pub fn silent(status: u8) -> Ended<C>
+        ensures { result ≡ record { status = status; cause = None } }
+    {
+        Ended {
+            status,
+            cause: None,
+        }
+    }
 }
 
 /// A program over any source and sink.
