@@ -1,21 +1,86 @@
-//! The way from a program's `main` to its run: the words after its name, standard input as a
-//! source, standard output as a sink, and the status with which it ends.
+//! The way from a program's `main` to its end: the words after its name, standard input or a file as a source, standard output as a
+//! sink, a line on standard error where there is something to say, and the status.
 #![tactic(auto)]
+
+ghost use Rattle.std.specs.Prelude.{◌≡◌, None};
 
 use job_io::{ReaderSource, Sink, Source, WriterSink};
 use std::alloc::Global;
-use std::{env, io};
+use std::fs::File;
+use std::io::{Eprint, Stdout, Write};
+use std::{env, fmt, io};
+
+/// How a run ended: its status, and why, where there is something to say.
+#[derive(Clone, Copy, Debug, Drop)]
+pub struct Ended<C> {
+    pub status: u8,
+    pub cause: Option<C>,
+}
+
+impl<C> Ended<C> {
+    /// An end of which there is no more to say than its status does.
+    pub fn silent(status: u8) -> Ended<C>
+        ensures { result ≡ record { status = status; cause = None } }
+    {
+        Ended {
+            status,
+            cause: None,
+        }
+    }
+}
 
 /// A program over any source and sink.
 pub trait Program {
-    /// Does what the words ask for, and says the status with which the program ends.
+    /// Why a run ended as it did, as a line without a line feed.
+    type Cause: fmt::Display + Drop;
+
+    /// The program's name, with which its lines begin.
+    fn name(&self) -> &'static str;
+
+    /// Whether the last of these words is the name of a file that is to be read in place of standard input.
+    fn names_file(&self, words: &Vec<String>) -> bool;
+
+    /// Does what the words ask for, and says how it ended.
     fn run<S: Source, K: Sink>(
         &self,
         alloc: Global,
         words: &Vec<String>,
         source: &mut S,
         sink: &mut K,
-    ) -> u8;
+    ) -> Ended<Self::Cause>;
+
+    /// What a status says to a person where the run gave no cause.
+    fn notice(&self, status: u8) -> Option<&'static str>;
+}
+
+/// Standard output, of which it is kept whether its reader has gone.
+#[derive(Drop)]
+struct Output {
+    stdout: Stdout,
+    closed: bool,
+}
+
+impl Output {
+    /// Keeps whether this write or flush found that the reader has gone.
+    fn note<T>(&mut self, done: &io::Result<T>) {
+        if let Err(error) = done {
+            self.closed = self.closed || error.kind() == io::ErrorKind::BrokenPipe;
+        }
+    }
+}
+
+impl Write for Output {
+    fn write(&mut self, bytes: &[u8]) -> io::Result<usize> {
+        let done = self.stdout.write(bytes);
+        self.note(&done);
+        done
+    }
+
+    fn flush(&mut self) -> io::Result<()> {
+        let done = self.stdout.flush();
+        self.note(&done);
+        done
+    }
 }
 
 /// The words after the program's name.
@@ -23,16 +88,62 @@ fn words(rt: &HostRuntime) -> io::Result<Vec<String>> {
     Ok(env::args(rt)?.skip(1).collect(rt.alloc())?)
 }
 
-/// Runs the program over standard input and output, and says its status. It is 5 where memory ran
-/// out before the words were there, and 2 where they aren't text.
+/// Says a line of a status on standard error. Where that fails there is nobody to tell.
+fn tell<P: Program>(rt: &HostRuntime, program: &P, status: u8) -> u8 {
+    if let Some(notice) = program.notice(status) {
+        let _ = rt.eprintln(notice);
+    }
+    status
+}
+
+/// Runs the program on a source, with standard output as its sink, and says what there is to say. A reader of standard output that
+/// has enough is told nothing.
+fn run_on<P: Program, S: Source>(
+    rt: &HostRuntime,
+    program: &P,
+    words: &Vec<String>,
+    source: &mut S,
+) -> u8 {
+    let mut output = Output {
+        stdout: rt.stdout(),
+        closed: false,
+    };
+    let mut sink = WriterSink::new(&mut output);
+    let Ended { status, cause } = program.run(rt.alloc(), words, source, &mut sink);
+    match cause {
+        Some(cause) => {
+            let _ = rt.eprintln(cause);
+            status
+        }
+        None if output.closed => status,
+        None => tell(rt, program, status),
+    }
+}
+
+/// Runs the program on the file of this name, or on standard input where it is `-`. A file that can't be opened is status 3.
+fn run_on_file<P: Program>(rt: &HostRuntime, program: &P, words: &Vec<String>, name: &str) -> u8 {
+    if name == "-" {
+        return run_on(rt, program, words, &mut ReaderSource::new(rt.stdin()));
+    }
+    match File::open(rt, name) {
+        Ok(file) => run_on(rt, program, words, &mut ReaderSource::new(file)),
+        Err(error) => {
+            let _ = eprintln!(rt; "{}: {name}: {error}", program.name());
+            3
+        }
+    }
+}
+
+/// Runs the program over standard input, or over the file that its last word names, and standard output, and says its status. It is
+/// 5 where memory ran out before the words were there, and 2 where they aren't text.
 pub fn status<P: Program>(rt: &HostRuntime, program: &P) -> u8 {
     match words(rt) {
-        Ok(words) => {
-            let mut source = ReaderSource::new(rt.stdin());
-            let mut sink = WriterSink::new(rt.stdout());
-            program.run(rt.alloc(), &words, &mut source, &mut sink)
-        }
-        Err(error) if error.kind() == io::ErrorKind::OutOfMemory => 5,
-        Err(_) => 2,
+        Ok(mut words) if program.names_file(&words) => match words.pop() {
+            Some(name) => run_on_file(rt, program, &words, &name),
+            None => tell(rt, program, 2),
+        },
+        Ok(words) => run_on(rt, program, &words, &mut ReaderSource::new(rt.stdin())),
+        Err(error) if error.kind() == io::ErrorKind::OutOfMemory => tell(rt, program, 5),
+        Err(_) => tell(rt, program, 2),
     }
 }

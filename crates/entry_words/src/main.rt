@@ -2,7 +2,7 @@
 //! shows what `entry` hands over: two words, all of the input, and a status other than 0.
 #![tactic(auto)]
 
-use entry::{Program, status};
+use entry::{Ended, Program, status};
 use job_io::{Failed, Sink, Source, read_all, write_all};
 use std::alloc::Global;
 use std::process::ExitCode;
@@ -18,23 +18,45 @@ fn write_lines<K: Sink>(sink: &mut K, words: &Vec<String>) -> Result<(), Failed>
     Ok(())
 }
 
+// The status of a run.
+fn run<S: Source, K: Sink>(alloc: Global, words: &Vec<String>, source: &mut S, sink: &mut K) -> u8 {
+    let Ok(input) = read_all(alloc, source, LIMIT) else {
+        return 3;
+    };
+    if write_lines(sink, words).is_err() || write_all(sink, &input).is_err() {
+        return 4;
+    }
+    1
+}
+
 struct Words;
 
 impl Program for Words {
+    type Cause = &'static str;
+
+    fn name(&self) -> &'static str {
+        "entry_words"
+    }
+
+    fn names_file(&self, _words: &Vec<String>) -> bool {
+        false
+    }
+
     fn run<S: Source, K: Sink>(
         &self,
         alloc: Global,
         words: &Vec<String>,
         source: &mut S,
         sink: &mut K,
-    ) -> u8 {
-        let Ok(input) = read_all(alloc, source, LIMIT) else {
-            return 3;
-        };
-        if write_lines(sink, words).is_err() || write_all(sink, &input).is_err() {
-            return 4;
+    ) -> Ended<&'static str> {
+        Ended {
+            status: run(alloc, words, source, sink),
+            cause: None,
         }
-        1
+    }
+
+    fn notice(&self, _status: u8) -> Option<&'static str> {
+        None
     }
 }
 

@@ -1,11 +1,14 @@
 -- How a place and a refusal are told to a person, in one line.
-use Rattle.std.specs.Prelude.{ℕ, Bool, true, false, List, ◌++◌, codes, if◌then◌else◌}
+use Rattle.std.specs.Prelude.{◌≡◌, ℕ, Bool, true, false, List, ◌++◌, codes, if◌then◌else◌}
 use Rattle.std.specs.Fmt.{decimal}
 use Rattle.job_format.specs.Rules.{rule_text}
+use Rattle.job_format.specs.declared.rule.Refusal.{Refusal}
 use Rattle.rule_words.specs.declared.place.Thing.{Thing}
 use Rattle.rule_words.specs.declared.place.Thing.TheVariants.{File, Header, Entry, JobEntry, Surface, Contents, Shader, Handles, Handle, BinnerList, Records, Uniforms}
 use Rattle.rule_words.specs.declared.place.Place.{Place}
 use Rattle.rule_words.specs.declared.line.Line.{Line}
+use Rattle.rule_words.specs.Names.{name_of, sentence_of}
+use Rattle.rule_words.specs.Place.{Covers}
 
 -- there is one header and one file
 unfoldable pub is_one : Thing → Bool
@@ -65,3 +68,9 @@ unfoldable pub line_text : Line → List ℕ
 line_text line =
     codes "vc4check: " ++ rule_text line.rule ++ codes ": " ++ line.sentence.now ++ codes " (" ++ place_text line.place
     ++ codes "); see vc4check explain " ++ rule_text line.rule
+
+-- The line of a refusal of these bytes has its rule, that rule's sentence, and a place in which the offset lies.
+pub record IsLineOf (bytes : List ℕ) (refusal : Refusal) (line : Line) : Type 0 where
+  pub rule : line.rule ≡ refusal.rule
+  pub sentence : line.sentence.now ≡ sentence_of (name_of refusal.rule)
+  pub place : Covers bytes refusal.offset line.place

@@ -1,10 +1,9 @@
 //! What a person is told of a refusal, in one line.
 ghost use Rattle.std.specs.Prelude.{◌≡◌, ◌++◌, Some, codes};
 ghost use Rattle.std.specs.Fmt.{decimal};
-ghost use Rattle.rule_words.specs.Line.{is_one, thing_name, unit_name, owner_text, place_text, line_text};
-ghost use Rattle.rule_words.specs.Place.{Covers};
+ghost use Rattle.rule_words.specs.Line.{is_one, thing_name, unit_name, owner_text, place_text, line_text, IsLineOf};
 
-use crate::name::sentence;
+use crate::name::RuleName;
 use crate::place::{Place, Thing, place_of};
 use job_format::{Refusal, Rule};
 use std::fmt;
@@ -102,17 +101,16 @@ impl fmt::Display for Line {
     }
 }
 
-/// The line for this refusal of these bytes: where the offset stands, and the rule's sentence, which is `there is no rule of this name`
-/// where there is none. That it is this rule's sentence is told by no clause. The line takes no memory, also to print
-/// (`rt.eprintln(line_of(bytes, refusal))`), and the time is linear in the number of entries.
+/// The line for this refusal of these bytes: its rule, the rule's sentence, which is `there is no rule of this name` where there is
+/// none, and where the offset stands. The line takes no memory, also to print (`rt.eprintln(line_of(bytes, refusal))`), and the time is
+/// linear in the number of entries.
 pub fn line_of(bytes: &[u8], refusal: Refusal) -> Line
-    ensures rule { result.rule ≡ refusal.rule }
-    ensures place { Covers bytes.now refusal.offset result.place }
+    ensures { IsLineOf bytes.now refusal result }
 {
     let rule = refusal.rule;
     Line {
         rule,
-        sentence: sentence(rule.stage, rule.number).unwrap_or("there is no rule of this name"),
+        sentence: RuleName::of_rule(rule).sentence(),
         place: place_of(bytes, refusal),
     }
 }

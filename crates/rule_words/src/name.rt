@@ -1,4 +1,6 @@
 //! The names of rules, and their words.
+ghost use Rattle.std.specs.Prelude.{◌≡◌, option_map, Some, IfOk};
+ghost use Rattle.rule_words.specs.Names.{family_of, name_of, texts_in, rows_of, row_in, text_of, words_of, sentence_of, family_text, name_text, explained, family_named, known, rule_named, kind_named};
 
 use crate::answers::{ASSEMBLER, LEVELS, QUEUE, SESSION, SLOTS};
 use crate::format::{FORMAT, HANDLES, LAYOUT, TABLE};
@@ -6,8 +8,11 @@ use crate::lists::LISTS;
 use crate::records::{RECORDS, TEXTURES};
 use crate::shaders::SHADERS;
 use crate::surfaces::SURFACES;
-use crate::words::Words;
+use crate::words::{Row, Words};
 use job_format::{Rule, Stage};
+use script::read_number;
+use std::alloc::{AllocError, Global};
+use std::fmt;
 
 /// Who refuses by a rule: the stages of a check, the slot allocator (O), the queue (Q), sessions (J), `level` (V), and the
 /// assembler, whose rules are kinds of faults.
@@ -38,7 +43,10 @@ pub struct RuleName {
 
 impl Family {
     /// The family of a stage.
-    pub fn of_stage(stage: Stage) -> Family {
+    #[tactic(auto, unfolding(crate::specs::Names::family_of))]
+    pub fn of_stage(stage: Stage) -> Family
+        ensures { result ≡ family_of stage }
+    {
         match stage {
             Stage::F => Family::F,
             Stage::M => Family::M,
@@ -53,7 +61,10 @@ impl Family {
     }
 
     /// The family of a letter, in either case.
-    pub fn of_letter(letter: u8) -> Option<Family> {
+    #[tactic(auto, unfolding(crate::specs::Names::family_named))]
+    pub fn of_letter(letter: u8) -> Option<Family>
+        ensures { result ≡ family_named letter }
+    {
         Some(match letter.to_ascii_uppercase() {
             b'F' => Family::F,
             b'M' => Family::M,
@@ -72,8 +83,11 @@ impl Family {
         })
     }
 
-    /// The words of its rules, from number 1 on. The sixth of F stands for F7, since there is no F6.
-    fn rules(self) -> &'static [Words] {
+    /// The words of its rules, by row.
+    #[tactic(auto, unfolding(crate::specs::Names::rows_of))]
+    fn rules(self) -> &'static [Row]
+        ensures { texts_in result.now ≡ rows_of self }
+    {
         match self {
             Family::F => &FORMAT,
             Family::M => &TABLE,
@@ -95,37 +109,88 @@ impl Family {
 
 impl RuleName {
     /// The name of a rule of the check.
-    pub fn of_rule(rule: Rule) -> RuleName {
+    pub fn of_rule(rule: Rule) -> RuleName
+        ensures { result ≡ name_of rule }
+    {
         RuleName {
             family: Family::of_stage(rule.stage),
             number: rule.number,
         }
     }
 
-    /// What there is to say of the rule. `None` comes where there is no rule of this name. It takes no memory.
-    pub fn words(self) -> Option<Words> {
-        let row = match (self.family, self.number) {
-            (Family::F, 6) => return None,
+    /// The row of its family's table, from 1 on; 0 where there is none. The sixth of F is that of F7, since there is no F6.
+    #[tactic(auto, unfolding(crate::specs::Names::row_in))]
+    fn row(self) -> u8
+        ensures { result ≡ row_in self.family self.number }
+    {
+        match (self.family, self.number) {
+            (Family::F, 6) => 0,
             (Family::F, 7) => 6,
             (_, number) => number,
-        };
-        self.family
-            .rules()
-            .get(usize::from(row).checked_sub(1)?)
-            .copied()
+        }
+    }
+
+    /// What there is to say of the rule. `None` comes where there is no rule of this name. It takes no memory.
+    #[tactic(auto, unfolding(crate::specs::Names::words_of))]
+    pub fn words(self) -> Option<Words>
+        ensures { option_map text_of result ≡ words_of self }
+    {
+        let row = usize::from(self.row());
+        if row == 0 {
+            return None;
+        }
+        match self.family.rules().get(row - 1) {
+            Some(&(sentence, explanation)) => Some(Words {
+                sentence,
+                explanation,
+            }),
+            None => None,
+        }
+    }
+
+    /// What is wrong where the rule refuses: one line, without a full stop. It is `there is no rule of this name` where there is none.
+    #[tactic(auto, unfolding(crate::specs::Names::sentence_of))]
+    pub fn sentence(self) -> &'static str
+        ensures { result.now ≡ sentence_of self }
+    {
+        match self.words() {
+            Some(words) => words.sentence,
+            None => "there is no rule of this name",
+        }
     }
 }
 
-/// What is wrong where this rule of the check refuses: one line, without a full stop. `None` comes where there is no such rule.
-pub fn sentence(stage: Stage, number: u8) -> Option<&'static str> {
-    let rule = Rule { stage, number };
-    Some(RuleName::of_rule(rule).words()?.sentence)
+impl fmt::Display for Family {
+    ghost output = { λ family. Some (family_text family) };
+
+    #[tactic(auto, unfolding(crate::specs::Names::family_text))]
+    fn fmt<W: fmt::Write>(&self, f: &mut fmt::Formatter<W>) -> fmt::Result {
+        f.write_str(match self {
+            Family::F => "F",
+            Family::M => "M",
+            Family::S => "S",
+            Family::H => "H",
+            Family::B => "B",
+            Family::A => "A",
+            Family::U => "U",
+            Family::G => "G",
+            Family::X => "X",
+            Family::O => "O",
+            Family::Q => "Q",
+            Family::J => "J",
+            Family::V => "V",
+            Family::Kind => "kind ",
+        })
+    }
 }
 
-/// What else there is to say of this rule of the check, as docs/RULES.md and docs/SHADERS.md have it.
-pub fn explanation(stage: Stage, number: u8) -> Option<&'static str> {
-    let rule = Rule { stage, number };
-    Some(RuleName::of_rule(rule).words()?.explanation)
+impl fmt::Display for RuleName {
+    ghost output = { λ name. Some (name_text name) };
+
+    #[tactic(auto, unfolding(crate::specs::Names::name_text))]
+    fn fmt<W: fmt::Write>(&self, f: &mut fmt::Formatter<W>) -> fmt::Result {
+        write!(f, "{}{}", self.family, self.number)
+    }
 }
 
 /// The sentence of the rule of this letter (in either case) and number; empty where there is none. For C.
@@ -139,47 +204,59 @@ pub fn sentence_bytes(letter: u8, number: u8) -> &'static [u8] {
     }
 }
 
-/// The number of one to three digits, up to 255.
-fn small_number(digits: &[u8]) -> Option<u8> {
-    if digits.is_empty() || digits.len() > 3 {
-        return None;
-    }
-    let mut number: u32 = 0;
-    for digit in digits {
-        if !digit.is_ascii_digit() || number > 25 {
-            return None;
+/// All that is said of a rule: its name and its sentence, an empty line, and its explanation. The text is empty where there is no rule
+/// of this name.
+#[tactic(auto, unfolding(crate::specs::Names::explained, crate::specs::Names::explained_by))]
+pub fn explain(alloc: Global, name: RuleName) -> Result<Vec<u8>, AllocError>
+    ensures { IfOk result (λ text. text.items ≡ explained name) }
+{
+    match name.words() {
+        Some(words) => {
+            let Words {
+                sentence,
+                explanation,
+            } = words;
+            Ok(format!(in alloc; "{name}: {sentence}.\n\n{explanation}\n")?.into_bytes())
         }
-        number = 10 * number + u32::from(*digit - b'0');
+        None => Ok(Vec::new(alloc)),
     }
-    u8::try_from(number).ok()
 }
 
-/// The rule of this name, which is a letter and a number (`S24`, `s24`), or `kind` and a number, with or without a space
-/// (`kind 3`), in any case. `None` comes where there is no rule of this name. It takes no memory.
-pub fn rule_named(word: &[u8]) -> Option<RuleName> {
-    let (family, digits) = match word {
-        [
-            b'k' | b'K',
-            b'i' | b'I',
-            b'n' | b'N',
-            b'd' | b'D',
-            b' ',
-            digits @ ..,
-        ] => (Family::Kind, digits),
-        [
-            b'k' | b'K',
-            b'i' | b'I',
-            b'n' | b'N',
-            b'd' | b'D',
-            digits @ ..,
-        ] => (Family::Kind, digits),
-        [letter, digits @ ..] => (Family::of_letter(*letter)?, digits),
-        [] => return None,
-    };
-    let name = RuleName {
-        family,
-        number: small_number(digits)?,
-    };
-    name.words()?;
-    Some(name)
+// The rule, where there is one of this name.
+#[tactic(auto, unfolding(crate::specs::Names::known))]
+fn known(name: RuleName) -> Option<RuleName>
+    ensures { result ≡ known name }
+{
+    match name.words() {
+        Some(_) => Some(name),
+        None => None,
+    }
+}
+
+/// The rule of this name, which is a letter in either case and a number: `S24`, `s24`. `None` comes where there is no rule of this
+/// name. It takes no memory.
+#[tactic(auto, unfolding(crate::specs::Names::rule_named))]
+pub fn rule_named(word: &[u8]) -> Option<RuleName>
+    ensures { result ≡ rule_named word.now }
+{
+    match word {
+        [letter, digits @ ..] => {
+            let family = Family::of_letter(*letter)?;
+            let number = read_number(digits, 255)? as u8;
+            known(RuleName { family, number })
+        }
+        [] => None,
+    }
+}
+
+/// The kind of the assembler's faults that has this number. It takes no memory.
+#[tactic(auto, unfolding(crate::specs::Names::kind_named))]
+pub fn kind_named(digits: &[u8]) -> Option<RuleName>
+    ensures { result ≡ kind_named digits.now }
+{
+    let number = read_number(digits, 255)? as u8;
+    known(RuleName {
+        family: Family::Kind,
+        number,
+    })
 }

@@ -1,76 +1,76 @@
 //! The rules of shaders, in words. The pages in docs/ have the same text: docs/check_words compares.
-use crate::words::Words;
+use crate::words::Row;
 
 /// The rules of shaders, S1 on.
-pub(crate) const SHADERS: [Words; 27] = [
-    Words {
-        sentence: "there are no words, or no whole ones",
-        explanation: "Without any word the processor would run what lies after the buffer's place. `E` would
+pub(crate) const SHADERS: [Row; 27] = [
+    (
+        "there are no words, or no whole ones",
+        "Without any word the processor would run what lies after the buffer's place. `E` would
 be nowhere. (Whether a buffer's bytes are whole words is asked by whoever makes words of them, under the same number.)
 - Usual cause: a Code buffer for which the file gives no contents.
 - Fix: give the shader's words, eight bytes each.
 
     #! no words",
-    },
-    Words {
-        sentence: "the program end or its two further instructions are missing",
-        explanation: "Then the processor runs past the shader's last word, into
+    ),
+    (
+        "the program end or its two further instructions are missing",
+        "Then the processor runs past the shader's last word, into
 whatever lies behind it.
 - Fix: end the shader with `alu sig=3` and two further instructions.
 
     alu sig=3
     nop
     #! the word after the last is run too",
-    },
-    Words {
-        sentence: "a forbidden signal: breakpoint (0), coverage load (7), colour load and end (9) or alpha mask load (12)",
-        explanation: "A breakpoint stops the
+    ),
+    (
+        "a forbidden signal: breakpoint (0), coverage load (7), colour load and end (9) or alpha mask load (12)",
+        "A breakpoint stops the
 processor for all. A colour load and end is a second kind of program end, which no rule here follows. The two loads are for vector graphics.
 - Fix: another signal. Signal 3 ends a shader, and 8 loads a colour.
 
     alu sig=0            #!",
-    },
-    Words {
-        sentence: "a branch stands in the slots of a branch",
-        explanation: "Where two branches overlap, the slots of the second run at the first one's target, and
+    ),
+    (
+        "a branch stands in the slots of a branch",
+        "Where two branches overlap, the slots of the second run at the first one's target, and
 the checker would follow another path than the hardware.
 - Fix: put three instructions that don't branch behind each branch.
 
     br to=A
     br to=B              #!",
-    },
-    Words {
-        sentence: "a branch goes by a register",
-        explanation: "Its target would be any number that the shader computed.
+    ),
+    (
+        "a branch goes by a register",
+        "Its target would be any number that the shader computed.
 - Fix: branch to a label.
 
     br reg=1 ra=3        #!",
-    },
-    Words {
-        sentence: "a branch is absolute",
-        explanation: "An absolute target is a place in memory, so the shader could run any bytes as code.
+    ),
+    (
+        "a branch is absolute",
+        "An absolute target is a place in memory, so the shader could run any bytes as code.
 - Fix: leave `rel` at 1, and branch to a label.
 
     br rel=0 imm=4096    #!",
-    },
-    Words {
-        sentence: "a branch's immediate is no multiple of 8",
-        explanation: "It leads into the middle of a word, and the two halves read as one instruction
+    ),
+    (
+        "a branch's immediate is no multiple of 8",
+        "It leads into the middle of a word, and the two halves read as one instruction
 that was never checked.
 - Fix: branch to a label, or give eight times a number of instructions.
 
     br imm=4             #!",
-    },
-    Words {
-        sentence: "a branch leads to no instruction from the first to the program end",
-        explanation: "It leaves the shader: the index is none from 0 to E.
+    ),
+    (
+        "a branch leads to no instruction from the first to the program end",
+        "It leaves the shader: the index is none from 0 to E.
 - Fix: a target in the shader. The immediate counts from four instructions after the branch, in bytes.
 
     br imm=8000          #!",
-    },
-    Words {
-        sentence: "a branch's slots end past the program end",
-        explanation: "Then the program end stands in its slots, and where execution goes on is not what
+    ),
+    (
+        "a branch's slots end past the program end",
+        "Then the program end stands in its slots, and where execution goes on is not what
 the checker took it for.
 - Fix: put three instructions between the branch and the program end.
 
@@ -78,60 +78,60 @@ the checker took it for.
     alu sig=3
     nop
     nop",
-    },
-    Words {
-        sentence: "a branch writes a register",
-        explanation: "It can store its return address in a register, and the terms above have branches name none: facts
+    ),
+    (
+        "a branch writes a register",
+        "It can store its return address in a register, and the terms above have branches name none: facts
 would survive a write.
 - Fix: leave both write addresses of a branch at 39.
 
     br wa=32 to=A        #!",
-    },
-    Words {
-        sentence: "a switch stands one or two after a switch",
-        explanation: "The second would come while the first is on its way, and which thread runs then is not
+    ),
+    (
+        "a switch stands one or two after a switch",
+        "The second would come while the first is on its way, and which thread runs then is not
 defined.
 - Fix: put two instructions between the switches.
 
     alu sig=2
     alu sig=2            #!",
-    },
-    Words {
-        sentence: "a branch stands one or two after a switch",
-        explanation: "The branch's slots would be cut in two by the other thread.
+    ),
+    (
+        "a branch stands one or two after a switch",
+        "The branch's slots would be cut in two by the other thread.
 - Fix: put two instructions between the switch and the branch.
 
     alu sig=2
     br to=A              #!",
-    },
-    Words {
-        sentence: "a switch stands in a branch's slots, or acts after the program end",
-        explanation: "It would act on another path, or when
+    ),
+    (
+        "a switch stands in a branch's slots, or acts after the program end",
+        "It would act on another path, or when
 the thread is gone.
 - Fix: put the switch three or more instructions before the branch, or behind its slots; and three or more before the program end.
 
     br to=A
     alu sig=2            #!",
-    },
-    Words {
-        sentence: "a forbidden register is written: 36, 38, 47, 50 or 51",
-        explanation: "They change how TMUs are shared, raise a host interrupt, mask
+    ),
+    (
+        "a forbidden register is written: 36, 38, 47, 50 or 51",
+        "They change how TMUs are shared, raise a host interrupt, mask
 alpha, start VPM DMA, which writes memory at any address, or release a mutex.
 - Fix: leave the write out. Address 39 writes nothing.
 
     alu ca=1 wa=50       #!",
-    },
-    Words {
-        sentence: "40, the uniforms' address, is written on the B side",
-        explanation: "It moves the uniforms' place by the processor's own element number,
+    ),
+    (
+        "40, the uniforms' address, is written on the B side",
+        "It moves the uniforms' place by the processor's own element number,
 which no checker knows.
 - Fix: write 40 by the add unit without `ws`.
 
     alu cm=1 wm=40       #!",
-    },
-    Words {
-        sentence: "an address write (of 40) is not exact",
-        explanation: "An exact one is an `add`, by the add unit, always and not packed, under a signal
+    ),
+    (
+        "an address write (of 40) is not exact",
+        "An exact one is an `add`, by the add unit, always and not packed, under a signal
 that changes nothing, of a register that holds the immediate 4 * (Count + 1) and of a uniform. That uniform is the one that the
 validator fills with the stream's own place, so the sum is the place of the word after it. Any other sum would let the shader take
 uniforms, and with them texture bases, from memory of its own choice.
@@ -139,30 +139,30 @@ uniforms, and with them texture bases, from memory of its own choice.
 
     li ca=1 wa=33 imm=400
     alu ca=1 wa=40 oa=add ra=32 aa=1 ab=6   #!",
-    },
-    Words {
-        sentence: "an address write stands in a branch's slots",
-        explanation: "Whether the write comes before or after the jump would depend on the branch, and with
+    ),
+    (
+        "an address write stands in a branch's slots",
+        "Whether the write comes before or after the jump would depend on the branch, and with
 it from where the uniforms come at the target.
 - Fix: put the address write before the branch, or behind its slots.
 
     li ca=1 wa=33 imm=4
     br cond=2 to=A
     alu ca=1 wa=40 oa=add ra=32 aa=1 ab=6   #!",
-    },
-    Words {
-        sentence: "a uniform is taken one or two after an address write",
-        explanation: "The hardware has already fetched from the old place, or has not: which
+    ),
+    (
+        "a uniform is taken one or two after an address write",
+        "The hardware has already fetched from the old place, or has not: which
 word comes is not defined.
 - Fix: put two instructions that take no uniform behind the address write.
 
     li ca=1 wa=33 imm=4
     alu ca=1 wa=40 oa=add ra=32 aa=1 ab=6
     alu ra=32            #!",
-    },
-    Words {
-        sentence: "a uniform is taken where the position is not known",
-        explanation: "A loop could take one uniform more each time round and run past
+    ),
+    (
+        "a uniform is taken where the position is not known",
+        "A loop could take one uniform more each time round and run past
 the stream's end, and each emitted word would be used as another than the one that was checked. An address write itself takes its
 uniform before it sets a new position.
 - Fix: take the uniform before the target, and keep it in a register; or write the uniforms' address behind the target first.
@@ -173,25 +173,25 @@ uniform before it sets a new position.
     nop
     A:
     alu ra=32            #!",
-    },
-    Words {
-        sentence: "both units write a TMU",
-        explanation: "They would share one uniform, and the checker counts one setup word.
+    ),
+    (
+        "both units write a TMU",
+        "They would share one uniform, and the checker counts one setup word.
 - Fix: write one TMU in an instruction.
 
     alu ca=1 cm=1 wa=57 wm=58   #!",
-    },
-    Words {
-        sentence: "a TMU write is done under a condition",
-        explanation: "Under a condition it depends on each pixel whether the TMU has the word, and a
+    ),
+    (
+        "a TMU write is done under a condition",
+        "Under a condition it depends on each pixel whether the TMU has the word, and a
 request's setup would be of another kind than the one shown.
 - Fix: condition 1, always.
 
     alu ca=2 wa=57       #!",
-    },
-    Words {
-        sentence: "a TMU write finds four set-up words pending",
-        explanation: "A request has at most four setup words; the hardware's behaviour with more
+    ),
+    (
+        "a TMU write finds four set-up words pending",
+        "A request has at most four setup words; the hardware's behaviour with more
 is not defined.
 - Fix: write S (56 or 60), which sends the request, as the fourth at the latest.
 
@@ -200,18 +200,18 @@ is not defined.
     alu ca=1 wa=59
     alu ca=1 wa=57
     alu ca=1 wa=56       #!",
-    },
-    Words {
-        sentence: "a setup write stands in an instruction that reads a uniform",
-        explanation: "Both would get the same word, so a texture's base, which the
+    ),
+    (
+        "a setup write stands in an instruction that reads a uniform",
+        "Both would get the same word, so a texture's base, which the
 validator relocates, would reach a register.
 - Fix: read the uniform in an instruction of its own.
 
     alu ca=1 wa=57 ra=32 #!",
-    },
-    Words {
-        sentence: "a direct write (a read at a computed address) is not clamped",
-        explanation: "A clamped one is an `add`, by the add unit and not packed,
+    ),
+    (
+        "a direct write (a read at a computed address) is not clamped",
+        "A clamped one is an `add`, by the add unit and not packed,
 of a register that is clamped by one uniform and of another uniform. The first of these uniforms is a bound and the second a
 buffer's place, so the address lies in that buffer. Any other address would read any memory of the machine: other clients'
 buffers, or the kernel's.
@@ -223,10 +223,10 @@ A `min` whose register may be negative does not clamp: as an address a negative 
 
     alu ca=1 wa=32 oa=min ra=32 ab=6
     alu ca=1 wa=56 oa=add ra=32 ab=6        #!",
-    },
-    Words {
-        sentence: "a setup word is pending at a target",
-        explanation: "By one path the TMU would have it, by another not, so a later request would mix the
+    ),
+    (
+        "a setup word is pending at a target",
+        "By one path the TMU would have it, by another not, so a later request would mix the
 setup words of two textures.
 - Fix: send the request before the branch, or begin it behind the target.
 
@@ -237,10 +237,10 @@ setup words of two textures.
     nop
     A:
     nop                  #!",
-    },
-    Words {
-        sentence: "a shader that switches threads uses a file register from 16 to 31",
-        explanation: "Each of two threads has half of each file; registers 16
+    ),
+    (
+        "a shader that switches threads uses a file register from 16 to 31",
+        "Each of two threads has half of each file; registers 16
 to 31 are the other thread's, and hold another shader's, perhaps another client's, values and clamped addresses.
 - Fix: use registers 0 to 15 of each file, or leave the thread switches out.
 
@@ -249,12 +249,12 @@ to 31 are the other thread's, and hold another shader's, perhaps another client'
     alu ra=16
     ...
     #! at the end, since it is a rule on the whole",
-    },
-    Words {
-        sentence: "a load immediate has another mode than 0, 1 and 3",
-        explanation: "The hardware defines no other.
+    ),
+    (
+        "a load immediate has another mode than 0, 1 and 3",
+        "The hardware defines no other.
 - Fix: mode 0, 1 or 3.
 
     li mode=2 ca=1 wa=32 #!",
-    },
+    ),
 ];

@@ -7,3 +7,6 @@ pub struct Words {
     pub sentence: &'static str,
     pub explanation: &'static str,
 }
+
+/// A row of a family's table: a rule's sentence, and its explanation.
+pub(crate) type Row = (&'static str, &'static str);

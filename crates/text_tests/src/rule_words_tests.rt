@@ -19,12 +19,13 @@ const STAGES: [(Stage, u8); 9] = [
 
 /// Whether the rule has a sentence of one line that a terminal shows whole, and an explanation.
 fn has_words(stage: Stage, number: u8) -> bool {
-    match (sentence(stage, number), explanation(stage, number)) {
-        (Some(sentence), Some(more)) => {
-            let bytes = sentence.as_bytes();
-            !bytes.is_empty() && bytes.len() <= 140 && !bytes.contains(&b'\n') && !more.is_empty()
+    match RuleName::of_rule(Rule { stage, number }).words() {
+        Some(words) => {
+            let bytes = words.sentence.as_bytes();
+            let short = !bytes.is_empty() && bytes.len() <= 140 && !bytes.contains(&b'\n');
+            short && !words.explanation.is_empty()
         }
-        _ => false,
+        None => false,
     }
 }
 
@@ -35,8 +36,8 @@ fn each_rule_has_words(rt: HostRuntime) -> Result<(), Fail> {
             let missing = stage == Stage::F && number == 6;
             assert_eq!(rt; has_words(stage, number), !missing, "{stage}{number}");
         }
-        assert!(rt; sentence(stage, 0).is_none());
-        assert!(rt; sentence(stage, last + 1).is_none());
+        assert!(rt; !has_words(stage, 0));
+        assert!(rt; !has_words(stage, last + 1));
     }
     Ok(())
 }
@@ -126,5 +127,34 @@ fn a_refusal_is_one_line(rt: HostRuntime) -> Result<(), Fail> {
     let wanted = "vc4check: S2: the program end or its two further instructions are missing \
         (shader of buffer 1, instruction 2); see vc4check explain S2";
     assert_eq!(rt; line.as_str(), wanted);
+    Ok(())
+}
+
+#[test]
+fn a_rule_goes_by_its_letter_and_number(rt: HostRuntime) -> Result<(), Fail> {
+    let alloc = rt.alloc();
+    for (word, told) in [
+        ("S24", "S24: "),
+        ("b3", "B3: "),
+        ("f7", "F7: "),
+        ("J1", "J1: "),
+    ] {
+        let name = rule_named(word.as_bytes()).expect(&rt, word);
+        assert!(rt;
+            explain(alloc, name)?
+                .as_slice()
+                .starts_with(told.as_bytes())
+        );
+    }
+    for word in [
+        "", "S", "F6", "S28", "S0", "S024", "S256", "D1", "kind3", "24",
+    ] {
+        assert!(rt; rule_named(word.as_bytes()).is_none(), "{word}");
+    }
+    assert!(rt; kind_named(b"6").is_none());
+    let kind = kind_named(b"5").expect(&rt, "there are five");
+    let wanted = "kind 5: the label was defined on an earlier line.\n\n\
+        - Fix: give the second label another name.\n";
+    assert_eq!(rt; explain(alloc, kind)?.as_slice(), wanted.as_bytes());
     Ok(())
 }

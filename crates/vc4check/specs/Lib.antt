@@ -1,9 +1,11 @@
 pub mod Answer
 pub mod Bands
+pub mod Cause
 pub mod Pictures
 pub mod Run
 pub mod Shader
 pub mod Show
+pub mod Topics
 pub mod Words
 pub mod Upgrade
 pub mod Replay

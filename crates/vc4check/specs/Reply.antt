@@ -1,10 +1,11 @@
 -- What is printed: a text; the image of an accepted job, of which the memory is kept in place of its text; or a picture, of which one
 -- band at a time is in memory.
-use Rattle.std.specs.Prelude.{ℕ, ◌/◌, List, ◌++◌, length, codes, Option, ⊤}
+use Rattle.std.specs.Prelude.{ℕ, ◌/◌, List, ◌++◌, length, codes, Option, None, ⊤}
 use Rattle.std.specs.Io.KnownBytes.{Appends}
 use Rattle.job_io.specs.Traffic.{AppendsFront}
 use Rattle.dumper.specs.Text.{rows_text}
 use Rattle.vc4check.specs.Bands.{IsReady, IsConverted, AppendsConverted, AppendsConvertedFront}
+use Rattle.vc4check.specs.declared.cause.Cause.{Cause}
 use Rattle.vc4check.specs.declared.reply.Reply.{Reply}
 use Rattle.vc4check.specs.declared.reply.Reply.TheVariants.{Text, Image, Bands}
 
@@ -16,6 +17,12 @@ abbrev pub reply_status : Reply → ℕ
 reply_status (Text answer) = answer.status
 reply_status (Image head memory) = 0
 reply_status (Bands conversion band) = 0
+
+-- why the reply refuses
+abbrev pub reply_cause : Reply → Option Cause
+reply_cause (Text answer) = answer.cause
+reply_cause (Image head memory) = None
+reply_cause (Bands conversion band) = None
 
 -- The reply to these bytes is an answer, by what the command's answers are.
 abbrev pub IsReplyOf : (ℕ → List ℕ → Type 0) → List ℕ → Reply → Type 0

@@ -1,13 +1,18 @@
 -- The words after the program's name.
-use Rattle.std.specs.Prelude.{ℕ, ◌≤◌, ◌==◌, ◌-◌, ◌^◌, List, [], ◌∷◌, codes, map, String, string_bytes, Option, Some, None, option_map, if◌then◌else◌}
+use Rattle.std.specs.Prelude.{ℕ, ◌≤◌, ◌==◌, ◌-◌, ◌^◌, ◌&&◌, not, Bool, true, false, is_some, take, length, List, [], ◌∷◌, codes, map, String, string_bytes, Option, Some, None, option_map, if◌then◌else◌}
 use Rattle.std.specs.Prelude.{bytes_eq}
 use Rattle.std.specs.declared.alloc.Global.{Global}
 use Rattle.field_words.specs.Sizes.{most_list}
 use Rattle.vc4check.specs.declared.command.Command.{Command}
 use Rattle.vc4check.specs.declared.command.Command.TheVariants.{Check, Replay, Upgrade, Show, FromText, Asm, Disasm, Slots, Queue, Untile, Tile, Level}
 use Rattle.vc4check.specs.declared.command.Task.{Task}
-use Rattle.vc4check.specs.declared.command.Task.TheVariants.{Read, Make}
+use Rattle.vc4check.specs.declared.command.Task.TheVariants.{Read, Make, Tell}
+use Rattle.vc4check.specs.declared.help.Verb.{Verb}
+use Rattle.rule_words.specs.declared.name.RuleName.{RuleName}
+use Rattle.vc4check.specs.declared.help.Topic.TheVariants.{Program, Command as CommandTopic, Version, Rule}
 use Rattle.script.specs.Number.{number_within}
+use Rattle.rule_words.specs.Names.{rule_named, kind_named}
+use Rattle.vc4check.specs.Topics.{verb_named}
 use Rattle.vc4check.specs.Pictures.{picture_named, level_named, IsPictureWithin}
 
 abbrev pub texts : List (String Global) → List (List ℕ)
@@ -21,6 +26,12 @@ command_named word =
     else (if bytes_eq word (codes "make") then Some FromText
     else (if bytes_eq word (codes "asm") then Some Asm
     else (if bytes_eq word (codes "disasm") then Some Disasm else None)))))
+
+-- one word: a command, or a question about the program
+abbrev pub task_alone : List ℕ → Option Task
+task_alone word =
+    if bytes_eq word (codes "--help") then Some (Tell Program)
+    else (if bytes_eq word (codes "--version") then Some (Tell Version) else option_map Read (command_named word))
 
 -- the greatest number of an example
 abbrev pub most_number : ℕ
@@ -47,6 +58,18 @@ task_numbered word number =
     else (if bytes_eq word (codes "slots") then option_map Read (slots_by (number_within most_slots number))
     else (if bytes_eq word (codes "queue") then option_map Read (option_map Queue (number_within most_queued number)) else None))
 
+abbrev pub told_of : RuleName → Task
+told_of name = Tell (Rule name)
+
+abbrev pub help_of : Verb → Task
+help_of verb = Tell (CommandTopic verb)
+
+-- two words: a command and its number, a rule to be explained, or a command of which more is to be said
+abbrev pub task_paired : List ℕ → List ℕ → Option Task
+task_paired word second =
+    if bytes_eq second (codes "--help") then option_map help_of (verb_named word)
+    else (if bytes_eq word (codes "explain") then option_map told_of (rule_named second) else task_numbered word second)
+
 -- a run of at most so many steps, by the script of a seed
 abbrev pub most_steps : ℕ
 most_steps = 1000000
@@ -58,6 +81,15 @@ replay_by (Some steps) (Some seed) = Some (Replay steps seed)
 
 abbrev pub replay_named : List ℕ → List ℕ → List ℕ → Option Command
 replay_named word steps seed = if bytes_eq word (codes "replay") then replay_by (number_within most_steps steps) (number_within (2 ^ 64 - 1) seed) else None
+
+-- three words: a run, or a kind of the assembler's faults to be explained
+abbrev pub kind_explained : List ℕ → List ℕ → Option Task
+kind_explained second third = if bytes_eq second (codes "kind") then option_map told_of (kind_named third) else None
+
+abbrev pub task_tripled : List ℕ → List ℕ → List ℕ → Option Task
+task_tripled word second third =
+    if bytes_eq word (codes "explain") then kind_explained second third
+    else option_map Read (replay_named word second third)
 
 -- a picture in a tiling, and a level of a texture
 abbrev pub pictured : List ℕ → List ℕ → List ℕ → List ℕ → List ℕ → Option Command
@@ -86,16 +118,28 @@ IsWithin (Level part) = Unit {0}
 abbrev pub ReadsWithin : Task → Type 0
 ReadsWithin (Read command) = IsWithin command
 ReadsWithin (Make number) = Unit {0}
+ReadsWithin (Tell topic) = Unit {0}
 
--- what the words ask for, if they ask for something: to read input by a command, or to make an example
+-- what the words ask for, if they ask for something: to read input by a command, to make an example, or to tell of a topic
 unfoldable pub task_of : List (List ℕ) → Option Task
 task_of [] = None
-task_of (word ∷ []) = option_map Read (command_named word)
-task_of (word ∷ number ∷ []) = task_numbered word number
-task_of (word ∷ steps ∷ seed ∷ []) = option_map Read (replay_named word steps seed)
+task_of (word ∷ []) = task_alone word
+task_of (word ∷ second ∷ []) = task_paired word second
+task_of (word ∷ second ∷ third ∷ []) = task_tripled word second third
 task_of (word ∷ tiling ∷ cpp ∷ width ∷ height ∷ []) = option_map Read (pictured word tiling cpp width height)
 task_of (word ∷ p0 ∷ p1 ∷ p2 ∷ p3 ∷ face ∷ level ∷ []) = option_map Read (textured word p0 p1 p2 p3 face level)
 task_of _ = None
+
+abbrev pub is_read : Option Task → Bool
+is_read None = false
+is_read (Some (Read command)) = true
+is_read (Some (Make number)) = false
+is_read (Some (Tell topic)) = false
+
+-- Whether the last word is the name of a file to read in place of standard input: all words ask for nothing, and those before it for a
+-- command that reads.
+abbrev pub names_file : List (String Global) → Bool
+names_file words = not (is_some (task_of (texts words))) && is_read (task_of (texts (take (length words - 1) words)))
 
 -- the most bytes of a job file: 48 MiB
 abbrev pub most_file : ℕ

@@ -1,16 +1,42 @@
 //! An answer to all of the input, and its way into the sink.
-ghost use Rattle.std.specs.Prelude.{◌≡◌, ◌≢◌, ◌≤◌, ◌<◌};
+ghost use Rattle.std.specs.Prelude.{◌≡◌, ◌≢◌, ◌≤◌, ◌<◌, None};
 ghost use Rattle.std.specs.Io.KnownBytes.{Appends};
 ghost use Rattle.job_io.specs.Faults.{Rose, LastCallFailed};
 ghost use Rattle.job_io.specs.Traffic.{AppendsFront};
 
+use super::cause::Cause;
 use job_io::{Failed, Sink, write_all};
 
-/// Status 0 or 1, and the text that goes with it.
+/// Status 0 or 1, the text that goes with it, and why it is refused, where there is more to say.
 #[derive(Debug, Drop)]
 pub struct Answer {
     pub status: u8,
     pub text: Vec<u8>,
+    pub cause: Option<Cause>,
+}
+
+impl Answer {
+    /// The text of what was done.
+    pub fn done(text: Vec<u8>) -> Answer
+        ensures { result ≡ record { status = 0; text = text; cause = None } }
+    {
+        Answer {
+            status: 0,
+            text,
+            cause: None,
+        }
+    }
+
+    /// The text of a refusal, and why.
+    pub fn refused(text: Vec<u8>, cause: Option<Cause>) -> Answer
+        ensures { result ≡ record { status = 1; text = text; cause = cause } }
+    {
+        Answer {
+            status: 1,
+            text,
+            cause,
+        }
+    }
 }
 
 /// Writes the answer's text, and says its status; or 4 where the sink failed, which then has a front

@@ -1,22 +1,25 @@
 //! The command `check`.
-ghost use Rattle.std.specs.Prelude.{◌≡◌, ◌<◌, length, IfOk};
-ghost use Rattle.dumper.specs.Text.{AreOfVersion, head_text};
+ghost use Rattle.std.specs.Prelude.{◌≡◌, ◌<◌, IfOk};
+ghost use Rattle.dumper.specs.Text.{AreOfVersion};
 ghost use Rattle.job_check.specs.Whole.{refusal_of};
-ghost use Rattle.vc4check.specs.Answer.{IsCheckAnswer, IsVerdict};
-ghost use Rattle.vc4check.specs.Reply.{reply_status, IsReplyOf, IsReplyReady};
+ghost use Rattle.vc4check.specs.Answer.{IsCheckAnswer, IsVerdict, head_of};
+ghost use Rattle.vc4check.specs.Cause.{IsRuleCause};
+ghost use Rattle.vc4check.specs.Reply.{reply_status, reply_cause, IsReplyOf, IsReplyReady};
 
 use super::answer::Answer;
+use super::cause::Cause;
 use super::reply::Reply;
 use dumper::{image_head, refusal_text};
 use field_words::{NoMemory, Stop};
 use job_check::{Checked, check_bytes};
 use job_safety::version_of;
+use rule_words::line_of;
 use std::alloc::Global;
 
 // The text of what was checked, of a file of this version, up to its rows.
 fn head_of(alloc: Global, version: u32, checked: &Checked) -> Result<Vec<u8>, NoMemory>
     requires { AreOfVersion version checked.now.layouts.items checked.now.lengths.items }
-    ensures { IfOk result (λ head. head.items ≡ head_text version (length checked.now.memory) checked.now.layouts.items checked.now.lengths.items) }
+    ensures { IfOk result (λ head. head.items ≡ head_of version checked.now.memory checked.now.layouts.items checked.now.lengths.items) }
 {
     let size = checked.memory.len();
     image_head(alloc, version, size, &checked.layouts, &checked.lengths)
@@ -28,6 +31,7 @@ pub fn check_answer(alloc: Global, bytes: &[u8]) -> Result<Reply, NoMemory>
     ensures answers { IfOk result (IsReplyOf (IsCheckAnswer bytes.now) bytes.now) }
     ensures status { IfOk result (λ a. reply_status a < 2) }
     ensures ready { IfOk result (IsReplyReady bytes.now) }
+    ensures cause { IfOk result (λ a. IsRuleCause bytes.now (refusal_of bytes.now) (reply_cause a)) }
 {
     match check_bytes(alloc, bytes) {
         Ok(checked) => {
@@ -36,7 +40,8 @@ pub fn check_answer(alloc: Global, bytes: &[u8]) -> Result<Reply, NoMemory>
         }
         Err(Stop::Fault(refusal)) => {
             let text = refusal_text(alloc, &refusal)?;
-            Ok(Reply::Text(Answer { status: 1, text }))
+            let line = line_of(bytes, refusal);
+            Ok(Reply::Text(Answer::refused(text, Some(Cause::Rule(line)))))
         }
         Err(Stop::NoMemory) => Err(NoMemory),
     }

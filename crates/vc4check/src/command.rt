@@ -1,10 +1,12 @@
 //! What the program can do, and the words that ask for it.
 ghost use Rattle.std.specs.Prelude.{◌≡◌, ◌≤◌, Some, None, IfSome};
-ghost use Rattle.vc4check.specs.Words.{texts, command_named, task_numbered, replay_named, pictured, textured, task_of, limit_of, most_file, IsWithin, ReadsWithin, most_slots, slots_by};
+ghost use Rattle.vc4check.specs.Words.{texts, command_named, task_alone, task_numbered, task_paired, kind_explained, task_tripled, replay_named, pictured, textured, task_of, limit_of, most_file, IsWithin, ReadsWithin, most_slots, slots_by, is_read, names_file};
 ghost use Rattle.script.specs.Number.{number_within};
 
+use super::help::{Topic, verb_named};
 use super::pictures::{Picture, TexturePart, level_named, picture_named};
 use field_words::MOST_LIST;
+use rule_words::{kind_named, rule_named};
 use script::read_number;
 
 /// The most bytes of a job file: 48 MiB.
@@ -59,6 +61,8 @@ pub enum Task {
     Read(Command),
     /// `gen <number>`: makes the example job of this number, and says what becomes of it. No input is read.
     Make(u32),
+    /// `--help`, `--version` and `explain`: says something of the program or of a rule. No input is read.
+    Tell(Topic),
 }
 
 impl Command {
@@ -106,6 +110,19 @@ fn command_named(word: &str) -> Option<Command>
     None
 }
 
+fn task_alone(word: &str) -> Option<Task>
+    ensures value { result ≡ task_alone word.now }
+    ensures within { IfSome result ReadsWithin }
+{
+    if word == "--help" {
+        return Some(Task::Tell(Topic::Program));
+    }
+    if word == "--version" {
+        return Some(Task::Tell(Topic::Version));
+    }
+    Some(Task::Read(command_named(word)?))
+}
+
 fn slots_named(number: &str) -> Option<Command>
     ensures value { result ≡ slots_by (number_within most_slots number.now) }
     ensures within { IfSome result IsWithin }
@@ -134,6 +151,19 @@ fn task_numbered(word: &str, number: &str) -> Option<Task>
     None
 }
 
+fn task_paired(word: &str, second: &str) -> Option<Task>
+    ensures value { result ≡ task_paired word.now second.now }
+    ensures within { IfSome result ReadsWithin }
+{
+    if second == "--help" {
+        return Some(Task::Tell(Topic::Command(verb_named(word)?)));
+    }
+    if word == "explain" {
+        return Some(Task::Tell(Topic::Rule(rule_named(second.as_bytes())?)));
+    }
+    task_numbered(word, second)
+}
+
 fn replay_named(word: &str, steps: &str, seed: &str) -> Option<Command>
     ensures value { result ≡ replay_named word.now steps.now seed.now }
     ensures within { IfSome result IsWithin }
@@ -147,6 +177,26 @@ fn replay_named(word: &str, steps: &str, seed: &str) -> Option<Command>
         });
     }
     None
+}
+
+fn kind_explained(second: &str, third: &str) -> Option<Task>
+    ensures value { result ≡ kind_explained second.now third.now }
+    ensures within { IfSome result ReadsWithin }
+{
+    if second == "kind" {
+        return Some(Task::Tell(Topic::Rule(kind_named(third.as_bytes())?)));
+    }
+    None
+}
+
+fn task_tripled(word: &str, second: &str, third: &str) -> Option<Task>
+    ensures value { result ≡ task_tripled word.now second.now third.now }
+    ensures within { IfSome result ReadsWithin }
+{
+    if word == "explain" {
+        return kind_explained(second, third);
+    }
+    Some(Task::Read(replay_named(word, second, third)?))
 }
 
 fn pictured(word: &str, tiling: &str, cpp: &str, width: &str, height: &str) -> Option<Command>
@@ -187,13 +237,9 @@ pub fn task_of(words: &[String]) -> Option<Task>
     ensures within { IfSome result ReadsWithin }
 {
     match words {
-        [word] => Some(Task::Read(command_named(word.as_str())?)),
-        [word, number] => task_numbered(word.as_str(), number.as_str()),
-        [word, steps, seed] => Some(Task::Read(replay_named(
-            word.as_str(),
-            steps.as_str(),
-            seed.as_str(),
-        )?)),
+        [word] => task_alone(word.as_str()),
+        [word, second] => task_paired(word.as_str(), second.as_str()),
+        [word, second, third] => task_tripled(word.as_str(), second.as_str(), third.as_str()),
         [word, tiling, cpp, width, height] => Some(Task::Read(pictured(
             word.as_str(),
             tiling.as_str(),
@@ -212,4 +258,25 @@ pub fn task_of(words: &[String]) -> Option<Task>
         )?)),
         _ => None,
     }
+}
+
+fn is_read(task: Option<Task>) -> bool
+    ensures { result ≡ is_read task }
+{
+    match task {
+        Some(Task::Read(_)) => true,
+        _ => false,
+    }
+}
+
+/// Whether the last of these words is the name of a file to read: all of them ask for nothing, and the words before it for a command
+/// that reads. It takes no memory.
+pub fn names_file(words: &[String]) -> bool
+    ensures { result ≡ names_file words.now }
+{
+    let count = words.len();
+    if count == 0 || task_of(words).is_some() {
+        return false;
+    }
+    is_read(task_of(&words[..count - 1]))
 }

@@ -22,7 +22,11 @@ fn example_answer(alloc: Global, number: u32) -> Result<Answer, NoMemory>
         Ok(checked) => {
             let input = bytes.len() as u64;
             let text = example_text(alloc, number, input, &checked.memory, &checked.lengths[0])?;
-            Ok(Answer { status: 0, text })
+            Ok(Answer {
+                status: 0,
+                text,
+                cause: None,
+            })
         }
         Err(Stop::Fault(_)) => unreachable!(),
         Err(Stop::NoMemory) => Err(NoMemory),

@@ -5,9 +5,11 @@
 
 mod answer;
 mod bands;
+mod cause;
 mod check;
 mod command;
 mod example;
+mod help;
 #[cfg(test)]
 mod hostile_tests;
 #[cfg(test)]
@@ -28,34 +30,46 @@ mod shown;
 #[cfg(test)]
 mod tests;
 mod upgrading;
+#[cfg(test)]
+mod why_tests;
 
-use entry::{Program, status};
+use cause::Cause;
+use command::names_file;
+use entry::{Ended, Program, status};
 use job_io::{Sink, Source};
 use notice::notice_of;
 use std::alloc::Global;
-use std::io::Eprint;
 use std::process::ExitCode;
 
 /// The program that `main` runs.
 struct Checker;
 
 impl Program for Checker {
+    type Cause = Cause;
+
+    fn name(&self) -> &'static str {
+        "vc4check"
+    }
+
+    fn names_file(&self, words: &Vec<String>) -> bool {
+        names_file(words)
+    }
+
     fn run<S: Source, K: Sink>(
         &self,
         alloc: Global,
         words: &Vec<String>,
         source: &mut S,
         sink: &mut K,
-    ) -> u8 {
-        run::run(alloc, words, source, sink)
+    ) -> Ended<Cause> {
+        run::run_told(alloc, words, source, sink)
+    }
+
+    fn notice(&self, status: u8) -> Option<&'static str> {
+        notice_of(status)
     }
 }
 
 fn main(rt: HostRuntime) -> ExitCode {
-    let status = status(&rt, &Checker);
-    if let Some(notice) = notice_of(status) {
-        // Where this fails the status is what it was.
-        let _ = rt.eprintln(notice);
-    }
-    ExitCode::from(status)
+    ExitCode::from(status(&rt, &Checker))
 }

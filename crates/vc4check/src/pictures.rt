@@ -1,11 +1,11 @@
 //! Commands on pictures: `untile`, `tile` and `level`.
-ghost use Rattle.std.specs.Prelude.{◌≡◌, ◌≤◌, ◌<◌, ◌^◌, length, Some, IfOk, IfSome};
+ghost use Rattle.std.specs.Prelude.{◌≡◌, ◌≤◌, ◌<◌, ◌^◌, length, Some, None, IfOk, IfSome};
 ghost use Rattle.script.specs.Number.{number_within};
 ghost use Rattle.texture_layouts.specs.Surface.{IsPixelSize};
 ghost use Rattle.tile_convert.specs.Picture.{size_in, IsCopy};
 ghost use Rattle.vc4check.specs.Pictures.{tiling_named, pixel_by, side_by, most_side, most_word, picture_named, level_named, IsPictureWithin};
 ghost use Rattle.vc4check.specs.Pictures.{length_wanted_text, level_refusal, IsSizedAnswer, IsLevelAnswer};
-ghost use Rattle.vc4check.specs.Reply.{reply_status, IsReplyOf, IsReplyReady};
+ghost use Rattle.vc4check.specs.Reply.{reply_status, reply_cause, IsReplyOf, IsReplyReady};
 
 use super::answer::Answer;
 use super::bands::{Conversion, band_room};
@@ -151,6 +151,7 @@ pub fn picture_reply(
         (IsCopy from to picture.width picture.height picture.cpp bytes.now)) bytes.now) }
     ensures status { IfOk result (λ a. reply_status a < 2) }
     ensures ready { IfOk result (IsReplyReady bytes.now) }
+    ensures cause { IfOk result (λ a. reply_cause a ≡ None) }
 {
     let Picture {
         cpp,
@@ -161,7 +162,7 @@ pub fn picture_reply(
     let wanted = picture_size(from, width, height, cpp);
     if bytes.len() as u64 != wanted {
         let text = length_wanted_text(alloc, bytes.len(), wanted)?;
-        return Ok(Reply::Text(Answer { status: 1, text }));
+        return Ok(Reply::Text(Answer::refused(text, None)));
     }
     let conversion = Conversion {
         from,
@@ -179,12 +180,13 @@ pub fn level_answer(alloc: Global, part: TexturePart, bytes: &[u8]) -> Result<An
     requires { length bytes.now < 2 ^ 32 }
     ensures answers { IfOk result (λ a. IsLevelAnswer part bytes.now a.status a.text.items) }
     ensures status { IfOk result (λ a. a.status < 2) }
+    ensures cause { IfOk result (λ a. a.cause ≡ None) }
 {
     match extract(alloc, part.setup, bytes, part.face, part.level) {
-        Ok(text) => Ok(Answer { status: 0, text }),
+        Ok(text) => Ok(Answer::done(text)),
         Err(Stop::Fault(fault)) => {
             let text = level_refusal(alloc, fault)?;
-            Ok(Answer { status: 1, text })
+            Ok(Answer::refused(text, None))
         }
         Err(Stop::NoMemory) => Err(NoMemory),
     }

@@ -1,17 +1,20 @@
 //! The command `replay`.
 ghost use Rattle.std.specs.Prelude.{◌≡◌, ◌≤◌, ◌<◌, List, IfOk};
 ghost use Rattle.job_check.specs.Whole.{refusal_of};
+ghost use Rattle.vc4check.specs.Cause.{IsRuleCause};
 ghost use Rattle.vc4check.specs.Replay.{picked_by, word_by, Picks, Gives, IsReplayVerdict, IsReplayAnswer};
 ghost use Rattle.machine.specs.Step.{Event};
 ghost use Rattle.replay.specs.Run.{IsTrace};
 
 use super::answer::Answer;
+use super::cause::Cause;
 use dumper::{refusal_text, trace_text};
 use example_job::next_state;
 use field_words::{NoMemory, Stop};
 use job_safety::accept;
 use machine::Machine;
 use replay::{Oracle, Trace, replay};
+use rule_words::line_of;
 use std::alloc::Global;
 
 // The unit that steps, of `n` that may.
@@ -58,17 +61,23 @@ pub fn replay_answer(alloc: Global, steps: u32, seed: u64, bytes: &[u8]) -> Resu
     requires { steps ≤ 1000000 }
     ensures answers { IfOk result (λ a. IsReplayAnswer steps seed bytes.now a.status a.text.items) }
     ensures status { IfOk result (λ a. a.status < 2) }
+    ensures cause { IfOk result (λ a. IsRuleCause bytes.now (refusal_of bytes.now) a.cause) }
 {
     match accept(alloc, bytes) {
         Ok(accepted) => {
             let version = accepted.version;
             let trace = run_of(alloc, accepted.into_machine(), steps, seed)?;
             let text = trace_text(alloc, version, &trace)?;
-            Ok(Answer { status: 0, text })
+            Ok(Answer {
+                status: 0,
+                text,
+                cause: None,
+            })
         }
         Err(Stop::Fault(refusal)) => {
             let text = refusal_text(alloc, &refusal)?;
-            Ok(Answer { status: 1, text })
+            let line = line_of(bytes, refusal);
+            Ok(Answer::refused(text, Some(Cause::Rule(line))))
         }
         Err(Stop::NoMemory) => Err(NoMemory),
     }

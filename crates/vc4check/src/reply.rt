@@ -4,10 +4,11 @@ ghost use Rattle.std.specs.Io.KnownBytes.{Appends};
 ghost use Rattle.job_io.specs.Faults.{Rose, LastCallFailed};
 ghost use Rattle.job_io.specs.Traffic.{AppendsFront};
 ghost use Rattle.dumper.specs.Text.{rows_text};
-ghost use Rattle.vc4check.specs.Reply.{rest_text, reply_status, IsReplyReady, AppendsReply, AppendsReplyFront};
+ghost use Rattle.vc4check.specs.Reply.{rest_text, reply_status, reply_cause, IsReplyReady, AppendsReply, AppendsReplyFront};
 
 use super::answer::{Answer, reply};
 use super::bands::{Conversion, write_bands};
+use super::cause::Cause;
 use dumper::{IMAGE_END, PIECE, put_rows};
 use job_io::{Failed, Sink, write_all};
 use phys_mem::PhysMem;
@@ -20,6 +21,18 @@ pub enum Reply {
     Text(Answer),
     Image(Vec<u8>, PhysMem),
     Bands(Conversion, Vec<u8>),
+}
+
+impl Reply {
+    /// Why the reply refuses, where there is more to say than its text does.
+    pub fn cause(&self) -> Option<Cause>
+        ensures { result ≡ reply_cause self.now }
+    {
+        match self {
+            Reply::Text(answer) => answer.cause,
+            Reply::Image(..) | Reply::Bands(..) => None,
+        }
+    }
 }
 
 // Writes the rows of the memory. It takes no memory.

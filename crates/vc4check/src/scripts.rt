@@ -1,5 +1,5 @@
 //! Commands that answer scripts: `slots` and `queue`.
-ghost use Rattle.std.specs.Prelude.{◌≡◌, ◌≤◌, ◌<◌, length, IfOk};
+ghost use Rattle.std.specs.Prelude.{◌≡◌, ◌≤◌, ◌<◌, length, None, IfOk};
 ghost use Rattle.field_words.specs.Sizes.{most_list};
 ghost use Rattle.vc4check.specs.Scripts.{malformed_text, IsSlotsAnswer, IsQueueAnswer};
 
@@ -21,12 +21,13 @@ pub fn slots_answer(alloc: Global, slots: u32, text: &[u8]) -> Result<Answer, No
     requires small { length text.now ≤ most_list }
     ensures answers { IfOk result (λ a. IsSlotsAnswer slots text.now a.status a.text.items) }
     ensures status { IfOk result (λ a. a.status < 2) }
+    ensures cause { IfOk result (λ a. a.cause ≡ None) }
 {
     match overflow_slots::script(alloc, slots, text) {
-        Ok(text) => Ok(Answer { status: 0, text }),
+        Ok(text) => Ok(Answer::done(text)),
         Err(Stop::Fault(line)) => {
             let text = malformed_text(alloc, line)?;
-            Ok(Answer { status: 1, text })
+            Ok(Answer::refused(text, None))
         }
         Err(Stop::NoMemory) => Err(NoMemory),
     }
@@ -38,12 +39,13 @@ pub fn queue_answer(alloc: Global, buffers: u32, text: &[u8]) -> Result<Answer, 
     requires small { length text.now ≤ most_list }
     ensures answers { IfOk result (λ a. IsQueueAnswer buffers text.now a.status a.text.items) }
     ensures status { IfOk result (λ a. a.status < 2) }
+    ensures cause { IfOk result (λ a. a.cause ≡ None) }
 {
     match job_queue::script(alloc, buffers, text) {
-        Ok(text) => Ok(Answer { status: 0, text }),
+        Ok(text) => Ok(Answer::done(text)),
         Err(Stop::Fault(line)) => {
             let text = malformed_text(alloc, line)?;
-            Ok(Answer { status: 1, text })
+            Ok(Answer::refused(text, None))
         }
         Err(Stop::NoMemory) => Err(NoMemory),
     }

@@ -1,9 +1,12 @@
 //! The commands `asm` and `disasm`.
-ghost use Rattle.std.specs.Prelude.{◌≡◌, ◌≤◌, ◌<◌, length, IfOk};
+ghost use Rattle.std.specs.Prelude.{◌≡◌, ◌≤◌, ◌<◌, length, None, IfOk};
 ghost use Rattle.field_words.specs.Sizes.{most_list};
+ghost use Rattle.qpu_asm.specs.Assembly.{Assembled};
+ghost use Rattle.vc4check.specs.Cause.{kind_cause};
 ghost use Rattle.vc4check.specs.Shader.{bytes_of, fault_text, length_text, IsAsmAnswer, IsDisasmAnswer};
 
 use super::answer::Answer;
+use super::cause::Cause;
 use field_words::{NoMemory, Stop};
 use job_check::words_of;
 use qpu_asm::{AsmFault, assemble, disassemble};
@@ -42,15 +45,16 @@ pub fn asm_answer(alloc: Global, text: &[u8]) -> Result<Answer, NoMemory>
     requires { length text.now ≤ most_list }
     ensures answers { IfOk result (λ a. IsAsmAnswer text.now a.status a.text.items) }
     ensures status { IfOk result (λ a. a.status < 2) }
+    ensures cause { IfOk result (λ a. a.cause ≡ kind_cause (Assembled text.now)) }
 {
     match assemble(alloc, text) {
         Ok(words) => {
             let text = bytes_of(alloc, &words)?;
-            Ok(Answer { status: 0, text })
+            Ok(Answer::done(text))
         }
         Err(Stop::Fault(fault)) => {
             let text = fault_text(alloc, &fault)?;
-            Ok(Answer { status: 1, text })
+            Ok(Answer::refused(text, Some(Cause::Kind(fault))))
         }
         Err(Stop::NoMemory) => Err(NoMemory),
     }
@@ -61,12 +65,13 @@ pub fn disasm_answer(alloc: Global, bytes: &[u8]) -> Result<Answer, NoMemory>
     requires { length bytes.now ≤ most_list }
     ensures answers { IfOk result (λ a. IsDisasmAnswer bytes.now a.status a.text.items) }
     ensures status { IfOk result (λ a. a.status < 2) }
+    ensures cause { IfOk result (λ a. a.cause ≡ None) }
 {
     if bytes.len() % 8 != 0 {
         let text = length_text(alloc, bytes.len())?;
-        return Ok(Answer { status: 1, text });
+        return Ok(Answer::refused(text, None));
     }
     let words = words_of(alloc, bytes)?;
     let text = disassemble(alloc, &words)?;
-    Ok(Answer { status: 0, text })
+    Ok(Answer::done(text))
 }

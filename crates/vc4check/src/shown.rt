@@ -1,8 +1,11 @@
 //! The commands `show` and `make`.
-ghost use Rattle.std.specs.Prelude.{◌≡◌, ◌<◌, IfOk};
+ghost use Rattle.std.specs.Prelude.{◌≡◌, ◌<◌, None, IfOk};
+ghost use Rattle.job_text.specs.Made.{made};
+ghost use Rattle.vc4check.specs.Cause.{mistake_cause};
 ghost use Rattle.vc4check.specs.Show.{mistake_text, IsShowAnswer, IsMakeAnswer};
 
 use super::answer::Answer;
+use super::cause::Cause;
 use field_words::{NoMemory, Stop};
 use job_text::{MakeFault, make, show};
 use std::alloc::{AllocError, Global};
@@ -21,24 +24,23 @@ fn mistake_text(alloc: Global, fault: &MakeFault) -> Result<Vec<u8>, AllocError>
 pub fn show_answer(alloc: Global, bytes: &[u8]) -> Result<Answer, NoMemory>
     ensures answers { IfOk result (λ a. IsShowAnswer bytes.now a.status a.text.items) }
     ensures status { IfOk result (λ a. a.status < 2) }
+    ensures cause { IfOk result (λ a. a.cause ≡ None) }
 {
     let text = show(alloc, bytes)?;
-    Ok(Answer { status: 0, text })
+    Ok(Answer::done(text))
 }
 
 /// What `make` answers to a text: its bytes, or its first fault.
 pub fn make_answer(alloc: Global, text: &[u8]) -> Result<Answer, NoMemory>
     ensures answers { IfOk result (λ a. IsMakeAnswer text.now a.status a.text.items) }
     ensures status { IfOk result (λ a. a.status < 2) }
+    ensures cause { IfOk result (λ a. a.cause ≡ mistake_cause (made text.now)) }
 {
     match make(alloc, text) {
-        Ok(bytes) => Ok(Answer {
-            status: 0,
-            text: bytes,
-        }),
+        Ok(bytes) => Ok(Answer::done(bytes)),
         Err(Stop::Fault(fault)) => {
             let text = mistake_text(alloc, &fault)?;
-            Ok(Answer { status: 1, text })
+            Ok(Answer::refused(text, Some(Cause::Mistake(fault))))
         }
         Err(Stop::NoMemory) => Err(NoMemory),
     }
