@@ -12,10 +12,11 @@ use Rattle.dumper.specs.Text.{head_text, accepted_text, refused_text}
 use Rattle.relocation.specs.declared.layout.Layout.{Layout}
 use Rattle.relocation.specs.declared.layout.Lengths.{Lengths}
 use Rattle.vc4check.specs.declared.command.Command.{Command}
-use Rattle.vc4check.specs.declared.command.Command.TheVariants.{Check, Replay, Upgrade, Show, FromText, Asm, Disasm, Slots, Queue, Untile, Tile, Level}
+use Rattle.vc4check.specs.declared.command.Command.TheVariants.{Check, Replay, Upgrade, Bound, Show, FromText, Asm, Disasm, Slots, Queue, Session, Untile, Tile, Level}
 use Rattle.vc4check.specs.Pictures.{IsUntileAnswer, IsTileAnswer, IsLevelAnswer}
 use Rattle.vc4check.specs.Replay.{IsReplayAnswer}
-use Rattle.vc4check.specs.Scripts.{IsSlotsAnswer, IsQueueAnswer}
+use Rattle.vc4check.specs.Scripts.{IsSlotsAnswer, IsQueueAnswer, IsSessionAnswer}
+use Rattle.vc4check.specs.Bound.{IsBoundAnswer}
 use Rattle.vc4check.specs.Upgrade.{IsUpgradeAnswer}
 use Rattle.vc4check.specs.Show.{IsShowAnswer, IsMakeAnswer}
 use Rattle.vc4check.specs.Shader.{IsAsmAnswer, IsDisasmAnswer}
@@ -45,12 +46,14 @@ abbrev pub IsAnswer : Command → List ℕ → ℕ → List ℕ → Type 0
 IsAnswer Check bytes status text = IsCheckAnswer bytes status text
 IsAnswer (Replay steps seed) bytes status text = IsReplayAnswer steps seed bytes status text
 IsAnswer Upgrade bytes status text = IsUpgradeAnswer bytes status text
+IsAnswer Bound bytes status text = IsBoundAnswer bytes status text
 IsAnswer Show bytes status text = IsShowAnswer bytes status text
 IsAnswer FromText bytes status text = IsMakeAnswer bytes status text
 IsAnswer Asm bytes status text = IsAsmAnswer bytes status text
 IsAnswer Disasm bytes status text = IsDisasmAnswer bytes status text
 IsAnswer (Slots slots) bytes status text = IsSlotsAnswer slots bytes status text
 IsAnswer (Queue buffers) bytes status text = IsQueueAnswer buffers bytes status text
+IsAnswer Session bytes status text = IsSessionAnswer bytes status text
 IsAnswer (Untile picture) bytes status text = IsUntileAnswer picture bytes status text
 IsAnswer (Tile picture) bytes status text = IsTileAnswer picture bytes status text
 IsAnswer (Level part) bytes status text = IsLevelAnswer part bytes status text

@@ -18,7 +18,7 @@ use Rattle.rule_words.specs.Names.{name_text, sentence_of}
 use Rattle.vc4check.specs.declared.cause.Cause.{Cause}
 use Rattle.vc4check.specs.declared.cause.Cause.TheVariants.{Rule, Kind, Mistake}
 use Rattle.vc4check.specs.declared.command.Command.{Command}
-use Rattle.vc4check.specs.declared.command.Command.TheVariants.{Check, Replay, Upgrade, Show, FromText, Asm, Disasm, Slots, Queue, Untile, Tile, Level}
+use Rattle.vc4check.specs.declared.command.Command.TheVariants.{Check, Replay, Upgrade, Bound, Show, FromText, Asm, Disasm, Slots, Queue, Session, Untile, Tile, Level}
 use Rattle.vc4check.specs.Upgrade.{format_rules}
 
 -- the name of a kind of the assembler's faults
@@ -62,12 +62,14 @@ abbrev pub IsCause : Command → List ℕ → Option Cause → Type 0
 IsCause Check bytes cause = IsRuleCause bytes (refusal_of bytes) cause
 IsCause (Replay steps seed) bytes cause = IsRuleCause bytes (refusal_of bytes) cause
 IsCause Upgrade bytes cause = IsRuleCause bytes (first_of (format_rules bytes)) cause
+IsCause Bound bytes cause = IsRuleCause bytes (refusal_of bytes) cause
 IsCause Show bytes cause = cause ≡ None
 IsCause FromText bytes cause = cause ≡ mistake_cause (made bytes)
 IsCause Asm bytes cause = cause ≡ kind_cause (Assembled bytes)
 IsCause Disasm bytes cause = cause ≡ None
 IsCause (Slots slots) bytes cause = cause ≡ None
 IsCause (Queue buffers) bytes cause = cause ≡ None
+IsCause Session bytes cause = cause ≡ None
 IsCause (Untile picture) bytes cause = cause ≡ None
 IsCause (Tile picture) bytes cause = cause ≡ None
 IsCause (Level part) bytes cause = cause ≡ None

@@ -5,6 +5,8 @@ use Rattle.overflow_slots.specs.Text.{replies as slots_replies}
 use Rattle.overflow_slots.specs.Calls.{fault_line as slots_fault}
 use Rattle.job_queue.specs.Text.{replies as queue_replies}
 use Rattle.job_queue.specs.Calls.{fault_line as queue_fault}
+use Rattle.job_session.specs.Text.{replies as session_replies}
+use Rattle.job_session.specs.Calls.{fault_line as session_fault}
 
 -- a line for the first line of a script that is no call
 unfoldable pub malformed_text : ℕ → List ℕ
@@ -22,3 +24,7 @@ IsSlotsAnswer slots text status out = IsScriptAnswer (slots_fault text) (slots_r
 
 abbrev pub IsQueueAnswer : ℕ → List ℕ → ℕ → List ℕ → Type 0
 IsQueueAnswer buffers text status out = IsScriptAnswer (queue_fault text) (queue_replies buffers text) status out
+
+-- calls on a session without buffers
+abbrev pub IsSessionAnswer : List ℕ → ℕ → List ℕ → Type 0
+IsSessionAnswer text status out = IsScriptAnswer (session_fault text) (session_replies text) status out

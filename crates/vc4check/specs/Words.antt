@@ -4,7 +4,7 @@ use Rattle.std.specs.Prelude.{bytes_eq}
 use Rattle.std.specs.declared.alloc.Global.{Global}
 use Rattle.field_words.specs.Sizes.{most_list}
 use Rattle.vc4check.specs.declared.command.Command.{Command}
-use Rattle.vc4check.specs.declared.command.Command.TheVariants.{Check, Replay, Upgrade, Show, FromText, Asm, Disasm, Slots, Queue, Untile, Tile, Level}
+use Rattle.vc4check.specs.declared.command.Command.TheVariants.{Check, Replay, Upgrade, Bound, Show, FromText, Asm, Disasm, Slots, Queue, Session, Untile, Tile, Level}
 use Rattle.vc4check.specs.declared.command.Task.{Task}
 use Rattle.vc4check.specs.declared.command.Task.TheVariants.{Read, Make, Tell}
 use Rattle.vc4check.specs.declared.help.Verb.{Verb}
@@ -22,10 +22,12 @@ abbrev pub command_named : List ℕ → Option Command
 command_named word =
     if bytes_eq word (codes "check") then Some Check
     else (if bytes_eq word (codes "upgrade") then Some Upgrade
+    else (if bytes_eq word (codes "bound") then Some Bound
     else (if bytes_eq word (codes "show") then Some Show
     else (if bytes_eq word (codes "make") then Some FromText
     else (if bytes_eq word (codes "asm") then Some Asm
-    else (if bytes_eq word (codes "disasm") then Some Disasm else None)))))
+    else (if bytes_eq word (codes "disasm") then Some Disasm
+    else (if bytes_eq word (codes "session") then Some Session else None)))))))
 
 -- one word: a command, or a question about the program
 abbrev pub task_alone : List ℕ → Option Task
@@ -105,12 +107,14 @@ abbrev pub IsWithin : Command → Type 0
 IsWithin Check = Unit {0}
 IsWithin (Replay steps seed) = steps ≤ most_steps
 IsWithin Upgrade = Unit {0}
+IsWithin Bound = Unit {0}
 IsWithin Show = Unit {0}
 IsWithin FromText = Unit {0}
 IsWithin Asm = Unit {0}
 IsWithin Disasm = Unit {0}
 IsWithin (Slots slots) = (1 ≤ slots) × (slots ≤ most_slots)
 IsWithin (Queue buffers) = buffers ≤ most_queued
+IsWithin Session = Unit {0}
 IsWithin (Untile picture) = IsPictureWithin picture
 IsWithin (Tile picture) = IsPictureWithin picture
 IsWithin (Level part) = Unit {0}
@@ -154,12 +158,14 @@ abbrev pub limit_of : Command → ℕ
 limit_of Check = most_file
 limit_of (Replay steps seed) = most_file
 limit_of Upgrade = most_file
+limit_of Bound = most_file
 limit_of Show = most_file
 limit_of FromText = most_file
 limit_of Asm = most_list
 limit_of Disasm = most_list
 limit_of (Slots slots) = most_list
 limit_of (Queue buffers) = most_list
+limit_of Session = most_list
 limit_of (Untile picture) = most_picture
 limit_of (Tile picture) = most_picture
 limit_of (Level part) = most_picture

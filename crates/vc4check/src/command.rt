@@ -34,6 +34,8 @@ pub enum Command {
     Replay { steps: u32, seed: u64 },
     /// `upgrade`: reads a job file and writes it with version 2, or prints which rule of the format it breaks.
     Upgrade,
+    /// `bound`: reads a job file and prints how many steps its jobs take at most, or where a shader branches back; or why it is refused.
+    Bound,
     /// `show`: reads any bytes and writes them as lines of text that say what they are, if they are a job file.
     Show,
     /// `make`: reads such a text and writes its bytes, or its first fault.
@@ -46,6 +48,8 @@ pub enum Command {
     Slots(u32),
     /// `queue <buffers>`: reads a script of calls on a queue of jobs that name so many buffers, and answers each.
     Queue(u32),
+    /// `session`: reads a script of calls on a session of eight clients, and answers each.
+    Session,
     /// `untile <t|lt> <cpp> <width> <height>`: reads a surface of such a picture and writes its pixels by rows.
     Untile(Picture),
     /// `tile <t|lt> <cpp> <width> <height>`: reads pixels by rows and writes the surface of such a picture.
@@ -75,12 +79,15 @@ impl Command {
             Command::Check
             | Command::Replay { .. }
             | Command::Upgrade
+            | Command::Bound
             | Command::Show
             | Command::FromText => MOST_FILE,
             Command::Untile(_) | Command::Tile(_) | Command::Level(_) => MOST_PICTURE,
-            Command::Asm | Command::Disasm | Command::Slots(_) | Command::Queue(_) => {
-                MOST_LIST as usize
-            }
+            Command::Asm
+            | Command::Disasm
+            | Command::Slots(_)
+            | Command::Queue(_)
+            | Command::Session => MOST_LIST as usize,
         }
     }
 }
@@ -95,6 +102,9 @@ fn command_named(word: &str) -> Option<Command>
     if word == "upgrade" {
         return Some(Command::Upgrade);
     }
+    if word == "bound" {
+        return Some(Command::Bound);
+    }
     if word == "show" {
         return Some(Command::Show);
     }
@@ -106,6 +116,9 @@ fn command_named(word: &str) -> Option<Command>
     }
     if word == "disasm" {
         return Some(Command::Disasm);
+    }
+    if word == "session" {
+        return Some(Command::Session);
     }
     None
 }

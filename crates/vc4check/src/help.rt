@@ -17,11 +17,13 @@ pub enum Verb {
     Check,
     Replay,
     Upgrade,
+    Bound,
     Show,
     Make,
     Gen,
     Slots,
     Queue,
+    Session,
     Untile,
     Tile,
     Level,
@@ -62,6 +64,12 @@ const UPGRADE: Usage = (
     "Reads a job file of at most 48 MiB and writes the same file as version 2, or the first rule of the format that it breaks.",
 );
 
+const BOUND: Usage = (
+    "bound [FILE]",
+    "Reads a job file of at most 48 MiB and writes how many steps its jobs take at most, and how many more for each step in which a
+renderer stays at an item; or where a shader branches back; or the first rule that it breaks.",
+);
+
 const SHOW: Usage = (
     "show [FILE]",
     "Reads any bytes, at most 48 MiB, and writes them as text that says what each byte of a job file is.",
@@ -87,6 +95,11 @@ const QUEUE: Usage = (
     "queue BUFFERS [FILE]",
     "Reads calls on a queue of jobs that share buffers, at most 1 MiB, and writes a line for each.
 BUFFERS is the number of buffers, from 0 to 1024.",
+);
+
+const SESSION: Usage = (
+    "session [FILE]",
+    "Reads calls of up to eight clients that share a memory, at most 1 MiB, and writes a line for each.",
 );
 
 const UNTILE: Usage = (
@@ -138,15 +151,17 @@ const VERSION: &str =
     "vc4check 0.1.0, for job files of versions 1 and 2\nproved with rattle-kit-13b logic dac8208d650f15bf\n";
 
 /// All commands, as `--help` names them.
-const VERBS: [Verb; 14] = [
+const VERBS: [Verb; 16] = [
     Verb::Check,
     Verb::Replay,
     Verb::Upgrade,
+    Verb::Bound,
     Verb::Show,
     Verb::Make,
     Verb::Gen,
     Verb::Slots,
     Verb::Queue,
+    Verb::Session,
     Verb::Untile,
     Verb::Tile,
     Verb::Level,
@@ -168,6 +183,9 @@ pub fn verb_named(word: &str) -> Option<Verb>
     if word == "upgrade" {
         return Some(Verb::Upgrade);
     }
+    if word == "bound" {
+        return Some(Verb::Bound);
+    }
     if word == "show" {
         return Some(Verb::Show);
     }
@@ -188,6 +206,9 @@ fn other_verb(word: &str) -> Option<Verb>
 {
     if word == "queue" {
         return Some(Verb::Queue);
+    }
+    if word == "session" {
+        return Some(Verb::Session);
     }
     if word == "untile" {
         return Some(Verb::Untile);
@@ -220,11 +241,13 @@ impl Verb {
             Verb::Check => CHECK.0,
             Verb::Replay => REPLAY.0,
             Verb::Upgrade => UPGRADE.0,
+            Verb::Bound => BOUND.0,
             Verb::Show => SHOW.0,
             Verb::Make => MAKE.0,
             Verb::Gen => GEN.0,
             Verb::Slots => SLOTS.0,
             Verb::Queue => QUEUE.0,
+            Verb::Session => SESSION.0,
             Verb::Untile => UNTILE.0,
             Verb::Tile => TILE.0,
             Verb::Level => LEVEL.0,
@@ -243,11 +266,13 @@ impl Verb {
             Verb::Check => CHECK.1,
             Verb::Replay => REPLAY.1,
             Verb::Upgrade => UPGRADE.1,
+            Verb::Bound => BOUND.1,
             Verb::Show => SHOW.1,
             Verb::Make => MAKE.1,
             Verb::Gen => GEN.1,
             Verb::Slots => SLOTS.1,
             Verb::Queue => QUEUE.1,
+            Verb::Session => SESSION.1,
             Verb::Untile => UNTILE.1,
             Verb::Tile => TILE.1,
             Verb::Level => LEVEL.1,

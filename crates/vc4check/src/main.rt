@@ -5,6 +5,7 @@
 
 mod answer;
 mod bands;
+mod bounded;
 mod cause;
 mod check;
 mod command;

@@ -15,6 +15,9 @@ ghost use Rattle.vc4check.specs.Headline.{IsSafelyAccepted};
 ghost use Rattle.vc4check.specs.Show.{MakesAgain};
 ghost use Rattle.vc4check.specs.Topics.{IsTopicAnswer};
 ghost use Rattle.vc4check.specs.Upgrade.{UpgradeKeepsAll};
+ghost use Rattle.session_law.specs.Laws.{ClientsAreApart, MemoryIsKept};
+ghost use Rattle.session_law.specs.Scripts.{ScriptsAreOfCalls};
+ghost use Rattle.job_bound.specs.Law.{BoundHolds};
 ghost use Rattle.vc4check.specs.Cause.{IsCause};
 ghost use Rattle.vc4check.specs.Run.{IsAnswered, IsCut};
 ghost use Rattle.vc4check.specs.Words.{texts, task_of, limit_of};
@@ -30,7 +33,7 @@ use std::alloc::Global;
 
 /// What `run` does, and why: with status 1 comes what a person is told of the refusal, where there is more to say than the text says.
 /// The other clauses are those of `run`.
-#[tactic(auto, using(crate::proofs::Headline::safely_accepted, headline::proofs::Uses::accepted_may_run, job_safety::proofs::Safety::bytes_apart_law, headline::proofs::Uses::accepted_end, crate::proofs::Versions::upgrade_keeps_all, crate::proofs::Again::makes_again))]
+#[tactic(auto, using(crate::proofs::Headline::safely_accepted, headline::proofs::Uses::accepted_may_run, job_safety::proofs::Safety::bytes_apart_law, headline::proofs::Uses::accepted_end, crate::proofs::Versions::upgrade_keeps_all, crate::proofs::Again::makes_again, session_law::proofs::Scripting::scripts_are_of_calls, session_law::proofs::Answering::clients_are_apart, session_law::proofs::Keeping::memory_is_kept, job_bound::proofs::Holds::bound_holds_law))]
 pub fn run_told<S: Source, K: Sink>(
     alloc: Global,
     words: &Vec<String>,
@@ -102,6 +105,13 @@ pub fn run_told<S: Source, K: Sink>(
     ensures upgrade { UpgradeKeepsAll }
     // What `make` answers to a text that `show` wrote is the bytes that `show` read.
     ensures makes_again { MakesAgain }
+    // What `session` answers to a script is the replies to its calls, one by one. A client to whom no reply was that memory is full has had
+    // exactly the replies of its own commands alone; and each live buffer lies in its pages, all other pages are zero.
+    ensures scripts { ScriptsAreOfCalls }
+    ensures clients { ClientsAreApart }
+    ensures pages { MemoryIsKept }
+    // Where `bound` answers two numbers, each run of the jobs keeps to them.
+    ensures bound { BoundHolds }
 {
     match task_of(words) {
         None => Ended::silent(2),
@@ -189,6 +199,13 @@ pub fn run<S: Source, K: Sink>(
     ensures upgrade { UpgradeKeepsAll }
     // What `make` answers to a text that `show` wrote is the bytes that `show` read.
     ensures makes_again { MakesAgain }
+    // What `session` answers to a script is the replies to its calls, one by one. A client to whom no reply was that memory is full has had
+    // exactly the replies of its own commands alone; and each live buffer lies in its pages, all other pages are zero.
+    ensures scripts { ScriptsAreOfCalls }
+    ensures clients { ClientsAreApart }
+    ensures pages { MemoryIsKept }
+    // Where `bound` answers two numbers, each run of the jobs keeps to them.
+    ensures bound { BoundHolds }
 {
     run_told(alloc, words, source, sink).status
 }

@@ -1,7 +1,7 @@
-//! Commands that answer scripts: `slots` and `queue`.
+//! Commands that answer scripts: `slots`, `queue` and `session`.
 ghost use Rattle.std.specs.Prelude.{◌≡◌, ◌≤◌, ◌<◌, length, None, IfOk};
 ghost use Rattle.field_words.specs.Sizes.{most_list};
-ghost use Rattle.vc4check.specs.Scripts.{malformed_text, IsSlotsAnswer, IsQueueAnswer};
+ghost use Rattle.vc4check.specs.Scripts.{malformed_text, IsSlotsAnswer, IsQueueAnswer, IsSessionAnswer};
 
 use super::answer::Answer;
 use field_words::{NoMemory, Stop};
@@ -42,6 +42,23 @@ pub fn queue_answer(alloc: Global, buffers: u32, text: &[u8]) -> Result<Answer, 
     ensures cause { IfOk result (λ a. a.cause ≡ None) }
 {
     match job_queue::script(alloc, buffers, text) {
+        Ok(text) => Ok(Answer::done(text)),
+        Err(Stop::Fault(line)) => {
+            let text = malformed_text(alloc, line)?;
+            Ok(Answer::refused(text, None))
+        }
+        Err(Stop::NoMemory) => Err(NoMemory),
+    }
+}
+
+/// What `session` answers to a script on a session without buffers: a line for each call, or its first malformed line.
+pub fn session_answer(alloc: Global, text: &[u8]) -> Result<Answer, NoMemory>
+    requires { length text.now ≤ most_list }
+    ensures answers { IfOk result (λ a. IsSessionAnswer text.now a.status a.text.items) }
+    ensures status { IfOk result (λ a. a.status < 2) }
+    ensures cause { IfOk result (λ a. a.cause ≡ None) }
+{
+    match job_session::script(alloc, text) {
         Ok(text) => Ok(Answer::done(text)),
         Err(Stop::Fault(line)) => {
             let text = malformed_text(alloc, line)?;

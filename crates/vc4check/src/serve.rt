@@ -10,12 +10,13 @@ ghost use Rattle.vc4check.specs.Run.{IsAnswered, IsCut};
 ghost use Rattle.vc4check.specs.Words.{limit_of, IsWithin};
 
 use super::cause::Cause;
+use super::bounded::bound_answer;
 use super::check::check_answer;
 use super::command::Command;
 use super::pictures::{level_answer, picture_reply};
 use super::replayed::replay_answer;
 use super::reply::{Reply, print};
-use super::scripts::{queue_answer, slots_answer};
+use super::scripts::{queue_answer, session_answer, slots_answer};
 use super::shader_text::{asm_answer, disasm_answer};
 use super::shown::{make_answer, show_answer};
 use super::upgrading::upgrade_answer;
@@ -39,12 +40,14 @@ fn answer_to(alloc: Global, command: Command, bytes: &[u8]) -> Result<Reply, NoM
         Command::Check => return check_answer(alloc, bytes),
         Command::Replay { steps, seed } => replay_answer(alloc, steps, seed, bytes),
         Command::Upgrade => upgrade_answer(alloc, bytes),
+        Command::Bound => bound_answer(alloc, bytes),
         Command::Show => show_answer(alloc, bytes),
         Command::FromText => make_answer(alloc, bytes),
         Command::Asm => asm_answer(alloc, bytes),
         Command::Disasm => disasm_answer(alloc, bytes),
         Command::Slots(slots) => slots_answer(alloc, slots, bytes),
         Command::Queue(buffers) => queue_answer(alloc, buffers, bytes),
+        Command::Session => session_answer(alloc, bytes),
         Command::Untile(picture) => {
             let from = Order::Surface(picture.tiling);
             return picture_reply(alloc, from, Order::Rows, picture, bytes);
