@@ -13,8 +13,6 @@ mod jobs;
 mod named;
 mod programs;
 mod renderer;
-#[cfg(test)]
-mod tests;
 mod text;
 
 ghost use Rattle.job_bound.specs.Back.{NoneWithoutLoop};

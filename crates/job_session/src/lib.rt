@@ -13,8 +13,6 @@ mod job_file;
 mod replies;
 mod rules;
 mod session;
-#[cfg(test)]
-mod tests;
 
 ghost use Rattle.job_session.specs.Laws.{RepliesAreOwn, OthersAreUnseen};
 

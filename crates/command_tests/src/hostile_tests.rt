@@ -1,0 +1,299 @@
+//! Hostile use: a source and a sink that fail at each call in turn, and runs of accepted jobs by scripts that aim at their bounds.
+ghost use Rattle.std.specs.Prelude.{◌≤◌, ◌<◌};
+ghost use Rattle.replay.specs.Run.{MayChoose, IsBelow, MayAnswer};
+
+use super::file_tests::{SMALLEST, SMALLEST_TEXT, file, words};
+use super::job_tests::usual;
+use super::several_tests::TWO;
+use crate::quiet::run;
+use arrayvec::ArrayVec;
+use buffer_table::{Buffer, Kind};
+use example_job::make_job;
+use field_words::{Access, Way};
+use job_format::{Job, read_job};
+use job_io::{MemSink, MemSource};
+use job_safety::accept;
+use machine::Machine;
+use relocation::{Layout, Lengths};
+use replay::{Oracle, enabled_units, unit_at, word_count};
+use std::alloc::Global;
+use std::test::Fail;
+
+/// The textured job of the other tests with a fragment shader that reads a buffer by an address: at least 0 and at most the first
+/// uniform, 4,092, and added to the second.
+const DIRECT: &str = "5643344a01000000008008000000000000100000001000000100000007000000010000000010\
+    0800001000000100000000000000000000000020080000100000010000000000000000000000\
+    0030080000100000010000000000000024000000004008000010000001000000000000000300\
+    0000005008000010000001000000010000004800000000600800001000000100000001000000\
+    1800000000700800001000000100000001000000180000000100000000000000070000002f00\
+    00003c000000010000000c0000001000100000000000ffffffff000000000000000000000000\
+    0000000084000000ffffffff0000000000000000ffffffff0000000000000000ffffffff0000\
+    000000000000ffffffff00000000000000000000000000000000000000000000000002070c11\
+    161b20252a2f34393e43484d52575c61666b70757a7f84898e93989da2a7acb1000102c0019c\
+    13270802d000709e00e7090010807182122708021000709e00e70900108071820c270e021000\
+    709e00e70900a000709e00e709003000709e00e709001000709e00e709001000709e00e70900\
+    3000709e00e709001000709e00e709001000709e00e709003000709e00e709001000709e00e7\
+    0900100000000001000000020000000300000004000000050000000600000070000000000000\
+    000000000000010100064001000000fe03000000000000002004030000000000000002000000\
+    0704040000000500000006000000020000000100000000000000000000000000000000000000\
+    00000000000000000000000000000000000000000b0c000001000000fc0f000000000000";
+
+// The smallest job byte by byte, 184 of them and the end of input: a failure of any of these calls is status 3, and nothing is
+// written. The next call isn't made.
+#[test]
+fn any_failing_read_is_status_3(rt: HostRuntime) -> Result<(), Fail> {
+    let alloc = rt.alloc();
+    for failing in 0..186 {
+        let bytes = file(alloc, SMALLEST)?;
+        let mut source = MemSource::new(bytes, 1, [failing].to_vec(alloc)?);
+        let mut sink = MemSink::new(alloc, 1000, 1000, Vec::new(alloc))?;
+        let status = run(alloc, &words(alloc, &["check"])?, &mut source, &mut sink);
+        let (wanted, text) = if failing < 185 {
+            (3, "")
+        } else {
+            (0, SMALLEST_TEXT)
+        };
+        assert_eq!(rt; status, wanted, "call {failing}");
+        assert_eq!(rt; sink.bytes(), text.as_bytes(), "call {failing}");
+    }
+    Ok(())
+}
+
+// Its text has 156 bytes, which go out one by one: a failure of any of these calls is status 4, and what was written before it
+// stays.
+#[test]
+fn any_failing_write_is_status_4(rt: HostRuntime) -> Result<(), Fail> {
+    let alloc = rt.alloc();
+    for failing in 0..157 {
+        let mut source = MemSource::new(file(alloc, SMALLEST)?, 100, Vec::new(alloc));
+        let mut sink = MemSink::new(alloc, 1, 1000, [failing].to_vec(alloc)?)?;
+        let status = run(alloc, &words(alloc, &["check"])?, &mut source, &mut sink);
+        assert_eq!(rt; status, if failing < 156 { 4 } else { 0 }, "call {failing}");
+        assert_eq!(rt; sink.bytes().len(), failing as usize, "call {failing}");
+        assert!(rt;
+            SMALLEST_TEXT.as_bytes().starts_with(sink.bytes()),
+            "call {failing}"
+        );
+    }
+    Ok(())
+}
+
+/// Bytes of memory, from a place to the end behind the last.
+#[derive(Clone, Copy)]
+struct Span {
+    from: u64,
+    to: u64,
+}
+
+/// The bytes that a job may touch, and those that it may write.
+#[derive(Drop)]
+struct Reach {
+    region: Vec<Span>,
+    writable: Vec<Span>,
+}
+
+fn bytes_from(place: u32, offset: u32, size: u32) -> Span {
+    let from = u64::from(place) + u64::from(offset);
+    Span {
+        from,
+        to: from + u64::from(size),
+    }
+}
+
+fn is_in(access: &Access, spans: &[Span]) -> bool {
+    spans.iter().any(|span| {
+        span.from <= access.place
+            && access.place <= span.to
+            && u64::from(access.len) <= span.to - access.place
+    })
+}
+
+impl Reach {
+    /// Whether the access is tame, and lies in one span that it may touch, or write where it writes.
+    fn allows(&self, access: &Access) -> bool {
+        match access.way {
+            Way::Read => is_in(access, &self.region),
+            Way::Write => is_in(access, &self.region) && is_in(access, &self.writable),
+            Way::Wild => false,
+        }
+    }
+}
+
+/// The bytes of a tile slot.
+const SLOT: u32 = 524_288;
+
+/// The four lists of an accepted job as emitted, and its tile slot, which it may write.
+fn lists_and_slot(alloc: Global, layout: &Layout, lengths: &Lengths) -> Result<Reach, Fail> {
+    let slot = bytes_from(layout.slot, 0, SLOT);
+    let region = [
+        bytes_from(layout.place, layout.bin, lengths.bin),
+        bytes_from(layout.place, layout.records, lengths.records),
+        bytes_from(layout.place, layout.uniforms, lengths.uniforms),
+        bytes_from(layout.place, layout.render, lengths.render),
+        slot,
+    ];
+    Ok(Reach {
+        region: region.to_vec(alloc)?,
+        writable: [slot].to_vec(alloc)?,
+    })
+}
+
+/// Adds the buffers that the job's handles name, of which it may write the plain ones.
+fn add_named(reach: &mut Reach, buffers: &[Buffer], job: &Job) -> Result<(), Fail> {
+    for handle in job.handles.iter() {
+        if let Some(buffer) = buffers.get(*handle as usize) {
+            let place = bytes_from(buffer.place, 0, buffer.size);
+            reach.region.push(place)?;
+            if buffer.kind == Kind::Plain {
+                reach.writable.push(place)?;
+            }
+        }
+    }
+    Ok(())
+}
+
+/// What each job of this file may touch: its lists and its slot, and the buffers that its handles name.
+fn reach_of(alloc: Global, bytes: &[u8]) -> Result<Vec<Reach>, Fail> {
+    let accepted = accept(alloc, bytes)?;
+    let file = read_job(alloc, bytes)?;
+    let lists = accepted.layouts.iter().zip(accepted.lengths.iter());
+    let mut all = Vec::new(alloc);
+    for ((layout, lengths), job) in lists.zip(file.jobs.iter()) {
+        let mut reach = lists_and_slot(alloc, layout, lengths)?;
+        add_named(&mut reach, &file.buffers, job)?;
+        all.push(reach)?;
+    }
+    Ok(all)
+}
+
+/// Whether the job that the access is done for may do it.
+fn is_allowed(access: &Access, reach: &[Reach]) -> bool {
+    match reach.get(access.job as usize) {
+        Some(of_job) => of_job.allows(access),
+        None => false,
+    }
+}
+
+/// Which of the units that may step a script picks.
+#[derive(Clone, Copy, Debug)]
+enum Choice {
+    Last,
+    First,
+    InTurn,
+}
+
+/// Which words a script answers.
+#[derive(Clone, Copy, Debug)]
+enum Fill {
+    Greatest,
+    Zero,
+    Mixed,
+}
+
+fn chosen(choice: Choice, step: u64, count: u32) -> u32
+    requires { 1 ≤ count }
+    ensures { result < count }
+{
+    match choice {
+        Choice::Last => count - 1,
+        Choice::First => 0,
+        Choice::InTurn => (step % u64::from(count)) as u32,
+    }
+}
+
+fn answered(fill: Fill, step: u64, k: u32) -> u32 {
+    match fill {
+        Fill::Greatest => u32::MAX,
+        Fill::Zero => 0,
+        Fill::Mixed => ((step ^ u64::from(k)) % (1 << 32)) as u32,
+    }
+}
+
+/// The most words that a step gets.
+const MOST_WORDS: usize = 4096;
+
+fn answer_all<C: Fn(u64, u32) -> u32, F: Fn(u64, u32) -> u32>(
+    oracle: &Oracle<C, F>,
+    step: u64,
+    count: u32,
+    words: &mut [u32; MOST_WORDS],
+)
+    requires few { count ≤ 4096 }
+    requires answers { MayAnswer (λ step k. F.pre oracle.now.answer step k) }
+{
+    for k in 0..count {
+        words[k as usize] = oracle.word(step, k);
+    }
+}
+
+/// The first access that leaves what its job may touch, in 2,000 steps by the oracle, or until no unit may step.
+fn first_stray<C: Fn(u64, u32) -> u32, F: Fn(u64, u32) -> u32>(
+    machine: &mut Machine,
+    oracle: &Oracle<C, F>,
+    reach: &[Reach],
+) -> Option<Access>
+    requires chooses { MayChoose (λ step n. C.pre oracle.now.choose step n) }
+    requires below { IsBelow (λ step n picked. C.post oracle.now.choose step n picked) }
+    requires answers { MayAnswer (λ step k. F.pre oracle.now.answer step k) }
+{
+    let mut words = [0; MOST_WORDS];
+    let mut accesses = ArrayVec::new();
+    for step in 0..2000 {
+        let units = enabled_units(machine);
+        if units.is_empty() {
+            return None;
+        }
+        let place = oracle.pick(step, units.len() as u32);
+        let unit = unit_at(units[place as usize]);
+        let count = word_count(unit);
+        answer_all(oracle, step, count, &mut words);
+        machine.step(unit, &words[..count as usize], &mut accesses);
+        if let Some(stray) = accesses.iter().find(|access| !is_allowed(access, reach)) {
+            return Some(*stray);
+        }
+    }
+    None
+}
+
+/// The same over the machine of an accepted file.
+fn stray_of(
+    alloc: Global,
+    bytes: &[u8],
+    script: (Choice, Fill),
+    reach: &[Reach],
+) -> Result<Option<Access>, Fail> {
+    let mut machine = accept(alloc, bytes)?.into_machine();
+    let (choice, fill) = script;
+    let oracle = Oracle::new(
+        |step: u64, count: u32|
+            requires { 1 ≤ count }
+            ensures { result < count }
+        { chosen(choice, step, count) },
+        |step: u64, k: u32| answered(fill, step, k),
+    );
+    Ok(first_stray(&mut machine, &oracle, reach))
+}
+
+// Scripts that always pick the last unit, the first, or one after the other, with words that are the greatest, zero, or mixed of
+// step and number, over five jobs and a file of two: each access stays inside what its own job may touch.
+#[test]
+fn no_script_leads_outside(rt: HostRuntime) -> Result<(), Fail> {
+    let alloc = rt.alloc();
+    for job in [
+        usual(alloc)?,
+        make_job(alloc, 0)?,
+        make_job(alloc, 7)?,
+        make_job(alloc, 511)?,
+        file(alloc, DIRECT)?,
+        file(alloc, TWO)?,
+    ] {
+        let reach = reach_of(alloc, &job)?;
+        for choice in [Choice::Last, Choice::First, Choice::InTurn] {
+            for fill in [Fill::Greatest, Fill::Zero, Fill::Mixed] {
+                let stray = stray_of(alloc, &job, (choice, fill), &reach)?;
+                assert_eq!(rt; stray, None, "{choice:?} {fill:?}");
+            }
+        }
+    }
+    Ok(())
+}

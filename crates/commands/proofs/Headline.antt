@@ -1,0 +1,30 @@
+-- What was accepted may run.
+use Rattle.std.proofs.Common.{◌≡◌, ℕ, List, None, Some, IfSome, refl, sym, subst, arith, ◌∙◌}
+use Rattle.std.specs.Prelude.{Option}
+use Rattle.std.specs.Io.KnownBytes.{Appends}
+use Rattle.job_format.specs.declared.rule.Refusal.{Refusal}
+use Rattle.job_format.specs.Reading.{file_at}
+use Rattle.job_check.specs.Whole.{refusal_of}
+use Rattle.headline.proofs.Uses.{may_run}
+use Rattle.commands.specs.declared.command.Command.{Command}
+use Rattle.commands.specs.declared.command.Command.TheVariants.{Check}
+use Rattle.commands.specs.Answer.{image_of, IsVerdict, IsAnswer}
+use Rattle.commands.specs.Headline.{IsSafelyAccepted}
+use Rattle.commands.specs.Run.{IsAnswered}
+
+-- status 0 comes only where no rule stands
+by_verdict : (bytes : List ℕ) (found : Option Refusal) (status : ℕ) (text : List ℕ) (before now : Option (List ℕ)) → refusal_of bytes ≡ found → status ≡ 0
+    → IsVerdict bytes found (file_at bytes) status text → Appends before now text → IsSafelyAccepted bytes before now
+unfolding image_of
+by_verdict bytes None status text before now none zero (is_zero, text_is, is) appends =
+    record { printed = subst (Appends before now) text_is appends; may_run = may_run bytes is none }
+by_verdict bytes (Some refusal) status text before now some zero (is_one, text_is, first) appends = let wrong : 1 ≡ 0 = sym is_one ∙ zero in absurd (omega (arith, wrong))
+
+by_check : (bytes : List ℕ) (status : ℕ) (before now : Option (List ℕ)) → status ≡ 0 → IsAnswered (IsAnswer Check bytes) status before now → IsSafelyAccepted bytes before now
+by_check bytes status before now zero (text, answer, appends) = by_verdict bytes (refusal_of bytes) status text before now refl zero answer appends
+
+pub safely_accepted : (left : Option (List ℕ)) (command : Command) (status : ℕ) (before now : Option (List ℕ)) → command ≡ Check → status ≡ 0
+    → IfSome left (λ bytes. IsAnswered (IsAnswer command bytes) status before now) → IfSome left (λ bytes. IsSafelyAccepted bytes before now)
+safely_accepted None command status before now is zero answered = tt
+safely_accepted (Some bytes) command status before now is zero answered =
+    by_check bytes status before now zero (subst (λ c. IsAnswered (IsAnswer c bytes) status before now) is answered)

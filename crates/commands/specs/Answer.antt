@@ -1,0 +1,67 @@
+-- What a command answers: a status and a text.
+use Rattle.std.specs.Prelude.{◌≡◌, ℕ, List, length, Option, Some, None}
+use Rattle.field_words.specs.Questions.{IsFirst}
+use Rattle.job_format.specs.declared.rule.Refusal.{Refusal}
+use Rattle.job_format.specs.File.{IsFileOf}
+use Rattle.job_format.specs.Model.{FileModel}
+use Rattle.job_format.specs.Reading.{file_at}
+use Rattle.job_check.specs.Whole.{all_questions, refusal_of}
+use Rattle.job_check.specs.Emit.{memory_of, lengths_of, all_lengths_of}
+use Rattle.job_check.specs.Jobs.{layouts_of}
+use Rattle.dumper.specs.Text.{head_text, accepted_text, refused_text}
+use Rattle.relocation.specs.declared.layout.Layout.{Layout}
+use Rattle.relocation.specs.declared.layout.Lengths.{Lengths}
+use Rattle.commands.specs.declared.command.Command.{Command}
+use Rattle.commands.specs.declared.command.Command.TheVariants.{Check, Replay, Upgrade, Bound, Show, FromText, Asm, Disasm, Slots, Queue, Session, Untile, Tile, Level}
+use Rattle.commands.specs.Pictures.{IsUntileAnswer, IsTileAnswer, IsLevelAnswer}
+use Rattle.commands.specs.Replay.{IsReplayAnswer}
+use Rattle.commands.specs.Scripts.{IsSlotsAnswer, IsQueueAnswer, IsSessionAnswer}
+use Rattle.commands.specs.Bound.{IsBoundAnswer}
+use Rattle.commands.specs.Upgrade.{IsUpgradeAnswer}
+use Rattle.commands.specs.Show.{IsShowAnswer, IsMakeAnswer}
+use Rattle.commands.specs.Shader.{IsAsmAnswer, IsDisasmAnswer}
+use Rattle.job_format.specs.Text.{file_text}
+use Rattle.dumper.specs.Example.{example_text}
+use Rattle.example_job.specs.Example.{example}
+
+-- what is printed of an accepted file: its emitted memory, and where the lists of each job lie there
+unfoldable pub image_of : FileModel → List ℕ
+image_of f = accepted_text f.version (memory_of f) (layouts_of f) (all_lengths_of f)
+
+-- what is printed of a memory before its rows
+abbrev pub head_of : ℕ → List ℕ → List Layout → List Lengths → List ℕ
+head_of version memory layouts lengths = head_text version (length memory) layouts lengths
+
+-- Where no rule stands the file is what its bytes spell, and is accepted with its memory; else it is refused by the first rule
+-- that does: it stands, and none before it in the list does.
+abbrev pub IsVerdict : List ℕ → Option Refusal → FileModel → ℕ → List ℕ → Type 0
+IsVerdict bytes None f status text = (status ≡ 0) × (text ≡ image_of f) × IsFileOf bytes f
+IsVerdict bytes (Some refusal) f status text = (status ≡ 1) × (text ≡ refused_text refusal) × IsFirst (all_questions bytes) refusal
+
+abbrev pub IsCheckAnswer : List ℕ → ℕ → List ℕ → Type 0
+IsCheckAnswer bytes status text = IsVerdict bytes (refusal_of bytes) (file_at bytes) status text
+
+-- what each command answers
+abbrev pub IsAnswer : Command → List ℕ → ℕ → List ℕ → Type 0
+IsAnswer Check bytes status text = IsCheckAnswer bytes status text
+IsAnswer (Replay steps seed) bytes status text = IsReplayAnswer steps seed bytes status text
+IsAnswer Upgrade bytes status text = IsUpgradeAnswer bytes status text
+IsAnswer Bound bytes status text = IsBoundAnswer bytes status text
+IsAnswer Show bytes status text = IsShowAnswer bytes status text
+IsAnswer FromText bytes status text = IsMakeAnswer bytes status text
+IsAnswer Asm bytes status text = IsAsmAnswer bytes status text
+IsAnswer Disasm bytes status text = IsDisasmAnswer bytes status text
+IsAnswer (Slots slots) bytes status text = IsSlotsAnswer slots bytes status text
+IsAnswer (Queue buffers) bytes status text = IsQueueAnswer buffers bytes status text
+IsAnswer Session bytes status text = IsSessionAnswer bytes status text
+IsAnswer (Untile picture) bytes status text = IsUntileAnswer picture bytes status text
+IsAnswer (Tile picture) bytes status text = IsTileAnswer picture bytes status text
+IsAnswer (Level part) bytes status text = IsLevelAnswer part bytes status text
+
+-- `gen` makes the example of a number and checks it, as `check` does: no rule stands for it. It says how long the file and the
+-- emitted lists are and what the bytes of the memory add up to.
+unfoldable pub text_of : ℕ → FileModel → List ℕ
+text_of number f = example_text number (length (file_text f)) (memory_of f) (lengths_of f 0)
+
+abbrev pub IsExampleAnswer : ℕ → ℕ → List ℕ → Type 0
+IsExampleAnswer number status text = (status ≡ 0) × (text ≡ text_of number (example number))

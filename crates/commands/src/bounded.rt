@@ -1,0 +1,31 @@
+//! The command `bound`.
+ghost use Rattle.std.specs.Prelude.{◌≡◌, ◌<◌, IfOk};
+ghost use Rattle.job_check.specs.Whole.{refusal_of};
+ghost use Rattle.commands.specs.Bound.{IsBoundAnswer};
+ghost use Rattle.commands.specs.Cause.{IsRuleCause};
+
+use super::answer::Answer;
+use super::cause::Cause;
+use dumper::refusal_text;
+use field_words::{NoMemory, Stop};
+use job_bound::bound_text;
+use rule_words::line_of;
+use std::alloc::Global;
+
+/// What `bound` answers to these bytes: how many steps the jobs of an accepted file take at most, or a refusal.
+#[tactic(auto, unfolding(job_check::specs::Whole::refusal_of), using(field_words::proofs::Questions::first_is))]
+pub fn bound_answer(alloc: Global, bytes: &[u8]) -> Result<Answer, NoMemory>
+    ensures answers { IfOk result (λ a. IsBoundAnswer bytes.now a.status a.text.items) }
+    ensures status { IfOk result (λ a. a.status < 2) }
+    ensures cause { IfOk result (λ a. IsRuleCause bytes.now (refusal_of bytes.now) a.cause) }
+{
+    match bound_text(alloc, bytes) {
+        Ok(text) => Ok(Answer::done(text)),
+        Err(Stop::Fault(refusal)) => {
+            let text = refusal_text(alloc, &refusal)?;
+            let line = line_of(bytes, refusal);
+            Ok(Answer::refused(text, Some(Cause::Rule(line))))
+        }
+        Err(Stop::NoMemory) => Err(NoMemory),
+    }
+}

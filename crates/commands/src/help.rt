@@ -1,0 +1,357 @@
+//! What the program says of itself and of rules: `--help`, `COMMAND --help`, `--version` and `explain`.
+ghost use Rattle.std.specs.Prelude.{◌≡◌, ◌≢◌, ◌≤◌, ◌<◌, ◌⊎◌, ◌++◌, IfOk, OnOk, codes};
+ghost use Rattle.std.specs.List.{flat_map};
+ghost use Rattle.job_io.specs.Faults.{Rose, LastCallFailed};
+ghost use Rattle.commands.specs.Run.{IsAnswered, IsCut};
+ghost use Rattle.commands.specs.Topics.{verb_named, other_verb, usage_of, about_of, usage_line, verb_help, program_help, topic_text, IsTopicAnswer};
+
+use super::answer::{Answer, reply};
+use field_words::NoMemory;
+use job_io::Sink;
+use rule_words::{RuleName, explain};
+use std::alloc::{AllocError, Global};
+
+/// A word that a line of the program begins with.
+#[derive(Clone, Copy, Debug, PartialEq, Eq)]
+pub enum Verb {
+    Check,
+    Replay,
+    Upgrade,
+    Bound,
+    Show,
+    Make,
+    Gen,
+    Slots,
+    Queue,
+    Session,
+    Untile,
+    Tile,
+    Level,
+    Asm,
+    Disasm,
+    Explain,
+}
+
+/// What the program is asked about.
+#[derive(Clone, Copy, Debug, PartialEq, Eq)]
+pub enum Topic {
+    /// `--help`: all that it does.
+    Program,
+    /// `COMMAND --help`: what a command does.
+    Command(Verb),
+    /// `--version`: its version, and that of the toolchain that it is proved with.
+    Version,
+    /// `explain RULE`: a rule, or a kind of the assembler's faults.
+    Rule(RuleName),
+}
+
+/// What a command's line is, behind the program's name, and what the command does.
+type Usage = (&'static str, &'static str);
+
+const CHECK: Usage = (
+    "check [FILE]",
+    "Reads a job file of at most 48 MiB and writes the memory of the accepted jobs, or the first rule that it breaks.",
+);
+
+const REPLAY: Usage = (
+    "replay STEPS SEED [FILE]",
+    "Reads a job file of at most 48 MiB and writes a run of the jobs' machine, a line for each step, or the first rule that it breaks.
+STEPS is the most steps of the run, from 0 to 1000000. SEED is a number below 2^64, which says which unit steps next.",
+);
+
+const UPGRADE: Usage = (
+    "upgrade [FILE]",
+    "Reads a job file of at most 48 MiB and writes the same file as version 2, or the first rule of the format that it breaks.",
+);
+
+const BOUND: Usage = (
+    "bound [FILE]",
+    "Reads a job file of at most 48 MiB and writes how many steps its jobs take at most, and how many more for each step in which a
+renderer stays at an item; or where a shader branches back; or the first rule that it breaks.",
+);
+
+const SHOW: Usage = (
+    "show [FILE]",
+    "Reads any bytes, at most 48 MiB, and writes them as text that says what each byte of a job file is.",
+);
+
+const MAKE: Usage = (
+    "make [FILE]",
+    "Reads such text, at most 48 MiB, and writes its bytes, or its first mistake.",
+);
+
+const GEN: Usage = (
+    "gen NUMBER",
+    "Makes the example job of this number, from 0 to 4294967295, and writes what becomes of it. It reads nothing.",
+);
+
+const SLOTS: Usage = (
+    "slots SLOTS [FILE]",
+    "Reads calls on a slot allocator for tile memory, at most 1 MiB, and writes a line for each.
+SLOTS is the number of slots, from 1 to 32.",
+);
+
+const QUEUE: Usage = (
+    "queue BUFFERS [FILE]",
+    "Reads calls on a queue of jobs that share buffers, at most 1 MiB, and writes a line for each.
+BUFFERS is the number of buffers, from 0 to 1024.",
+);
+
+const SESSION: Usage = (
+    "session [FILE]",
+    "Reads calls of up to eight clients that share a memory, at most 1 MiB, and writes a line for each.",
+);
+
+const UNTILE: Usage = (
+    "untile TILING CPP WIDTH HEIGHT [FILE]",
+    "Reads a tiled surface of at most 24 MiB and writes its pixels by rows.
+TILING is t or lt. CPP is the number of bytes of a pixel: 1, 2, 4 or 8. WIDTH and HEIGHT are pixels, from 1 to 4096.",
+);
+
+const TILE: Usage = (
+    "tile TILING CPP WIDTH HEIGHT [FILE]",
+    "Reads pixels by rows, at most 24 MiB, and writes the tiled surface, which is zero where no pixel lies.
+TILING is t or lt. CPP is the number of bytes of a pixel: 1, 2, 4 or 8. WIDTH and HEIGHT are pixels, from 1 to 4096.",
+);
+
+const LEVEL: Usage = (
+    "level P0 P1 P2 P3 FACE LEVEL [FILE]",
+    "Reads a buffer of at most 24 MiB and writes the pixels of a level of the texture in it, or the first rule that stands.
+P0 to P3 are the texture's set-up words, FACE its face and LEVEL its level; each is a number from 0 to 4294967295.",
+);
+
+const ASM: Usage = (
+    "asm [FILE]",
+    "Reads shader text of at most 1 MiB and writes its words of 8 bytes, or its first fault.",
+);
+
+const DISASM: Usage = (
+    "disasm [FILE]",
+    "Reads shader words of 8 bytes each, at most 1 MiB, and writes the text that assembles to them.",
+);
+
+const EXPLAIN: Usage = (
+    "explain RULE",
+    "Writes what a rule says, why it is there, and how a refused file is mended. RULE is a letter and a number, such as S24,
+or, for a kind of the assembler's faults, kind and a number, such as kind 3. It reads nothing.",
+);
+
+/// What stands before the commands in what `--help` says, and behind them.
+const HEAD: &str = "vc4check checks 3D jobs for the VideoCore IV.\n\n";
+
+const FOOT: &str = "
+A command reads FILE, or standard input where FILE is - or missing, and writes standard output.
+vc4check COMMAND --help says more of a command; vc4check --version says which version this is.
+
+Exit status: 0 done, 1 refused, 2 wrong words, 3 reading failed, 4 writing failed, 5 out of memory, 6 too much input.
+With 1 to 6 a line on standard error says why.
+";
+
+const VERSION: &str =
+    "vc4check 0.1.0, for job files of versions 1 and 2\nproved with rattle-kit-13b logic dac8208d650f15bf\n";
+
+/// All commands, as `--help` names them.
+const VERBS: [Verb; 16] = [
+    Verb::Check,
+    Verb::Replay,
+    Verb::Upgrade,
+    Verb::Bound,
+    Verb::Show,
+    Verb::Make,
+    Verb::Gen,
+    Verb::Slots,
+    Verb::Queue,
+    Verb::Session,
+    Verb::Untile,
+    Verb::Tile,
+    Verb::Level,
+    Verb::Asm,
+    Verb::Disasm,
+    Verb::Explain,
+];
+
+/// The command that a word names.
+pub fn verb_named(word: &str) -> Option<Verb>
+    ensures { result ≡ verb_named word.now }
+{
+    if word == "check" {
+        return Some(Verb::Check);
+    }
+    if word == "replay" {
+        return Some(Verb::Replay);
+    }
+    if word == "upgrade" {
+        return Some(Verb::Upgrade);
+    }
+    if word == "bound" {
+        return Some(Verb::Bound);
+    }
+    if word == "show" {
+        return Some(Verb::Show);
+    }
+    if word == "make" {
+        return Some(Verb::Make);
+    }
+    if word == "gen" {
+        return Some(Verb::Gen);
+    }
+    if word == "slots" {
+        return Some(Verb::Slots);
+    }
+    other_verb(word)
+}
+
+fn other_verb(word: &str) -> Option<Verb>
+    ensures { result ≡ other_verb word.now }
+{
+    if word == "queue" {
+        return Some(Verb::Queue);
+    }
+    if word == "session" {
+        return Some(Verb::Session);
+    }
+    if word == "untile" {
+        return Some(Verb::Untile);
+    }
+    if word == "tile" {
+        return Some(Verb::Tile);
+    }
+    if word == "level" {
+        return Some(Verb::Level);
+    }
+    if word == "asm" {
+        return Some(Verb::Asm);
+    }
+    if word == "disasm" {
+        return Some(Verb::Disasm);
+    }
+    if word == "explain" {
+        return Some(Verb::Explain);
+    }
+    None
+}
+
+impl Verb {
+    /// The command's line, behind the program's name.
+    #[tactic(auto, unfolding(crate::specs::Topics::usage_of))]
+    pub fn usage(self) -> &'static str
+        ensures { result.now ≡ usage_of self }
+    {
+        match self {
+            Verb::Check => CHECK.0,
+            Verb::Replay => REPLAY.0,
+            Verb::Upgrade => UPGRADE.0,
+            Verb::Bound => BOUND.0,
+            Verb::Show => SHOW.0,
+            Verb::Make => MAKE.0,
+            Verb::Gen => GEN.0,
+            Verb::Slots => SLOTS.0,
+            Verb::Queue => QUEUE.0,
+            Verb::Session => SESSION.0,
+            Verb::Untile => UNTILE.0,
+            Verb::Tile => TILE.0,
+            Verb::Level => LEVEL.0,
+            Verb::Asm => ASM.0,
+            Verb::Disasm => DISASM.0,
+            Verb::Explain => EXPLAIN.0,
+        }
+    }
+
+    /// What the command does.
+    #[tactic(auto, unfolding(crate::specs::Topics::about_of))]
+    fn about(self) -> &'static str
+        ensures { result.now ≡ about_of self }
+    {
+        match self {
+            Verb::Check => CHECK.1,
+            Verb::Replay => REPLAY.1,
+            Verb::Upgrade => UPGRADE.1,
+            Verb::Bound => BOUND.1,
+            Verb::Show => SHOW.1,
+            Verb::Make => MAKE.1,
+            Verb::Gen => GEN.1,
+            Verb::Slots => SLOTS.1,
+            Verb::Queue => QUEUE.1,
+            Verb::Session => SESSION.1,
+            Verb::Untile => UNTILE.1,
+            Verb::Tile => TILE.1,
+            Verb::Level => LEVEL.1,
+            Verb::Asm => ASM.1,
+            Verb::Disasm => DISASM.1,
+            Verb::Explain => EXPLAIN.1,
+        }
+    }
+}
+
+#[tactic(auto, unfolding(crate::specs::Topics::verb_help))]
+fn verb_help(alloc: Global, verb: Verb) -> Result<Vec<u8>, AllocError>
+    ensures { IfOk result (λ text. text.items ≡ verb_help verb) }
+{
+    let usage = verb.usage();
+    let about = verb.about();
+    Ok(format!(in alloc; "vc4check {usage}\n{about}\n")?.into_bytes())
+}
+
+#[tactic(auto, unfolding(crate::specs::Topics::usage_line))]
+fn put_usage(text: &mut Vec<u8>, verb: Verb) -> Result<(), AllocError>
+    ensures { OnOk result (text.new.items ≡ text.old.items ++ usage_line verb) }
+{
+    text.extend_from_slice(b"vc4check ")?;
+    text.extend_from_slice(verb.usage().as_bytes())?;
+    text.extend_from_slice(b"\n")?;
+    Ok(())
+}
+
+/// The lines of these commands.
+fn usage_lines(alloc: Global, verbs: &[Verb]) -> Result<Vec<u8>, AllocError>
+    ensures { IfOk result (λ text. text.items ≡ flat_map usage_line verbs.now) }
+{
+    let mut text = Vec::new(alloc);
+    for verb in verbs {
+        put_usage(&mut text, *verb)?;
+    }
+    Ok(text)
+}
+
+/// What `--help` says.
+#[tactic(auto, unfolding(crate::specs::Topics::program_help))]
+fn program_help(alloc: Global) -> Result<Vec<u8>, AllocError>
+    ensures { IfOk result (λ text. text.items ≡ program_help) }
+{
+    let mut text = Vec::new(alloc);
+    text.extend_from_slice(HEAD.as_bytes())?;
+    let lines = usage_lines(alloc, &VERBS)?;
+    text.extend_from_slice(&lines)?;
+    text.extend_from_slice(FOOT.as_bytes())?;
+    Ok(text)
+}
+
+/// What the program says of this.
+#[tactic(auto, unfolding(crate::specs::Topics::topic_text))]
+fn topic_text(alloc: Global, topic: Topic) -> Result<Vec<u8>, AllocError>
+    ensures { IfOk result (λ text. text.items ≡ topic_text topic) }
+{
+    match topic {
+        Topic::Program => program_help(alloc),
+        Topic::Command(verb) => verb_help(alloc, verb),
+        Topic::Version => Vec::from_slice(alloc, VERSION.as_bytes()),
+        Topic::Rule(name) => explain(alloc, name),
+    }
+}
+
+/// Appends what the program says of this to the sink. All memory is taken before the first byte is written. Status 0 is done, 4 is a
+/// fault of the sink, and 5 want of memory.
+pub fn tell<K: Sink>(alloc: Global, topic: Topic, sink: &mut K) -> u8
+    ensures statuses { (result ≡ 0) ⊎ ((result ≡ 4) ⊎ (result ≡ 5)) }
+    ensures write { result ≡ 4 → Rose (K.faults sink.old) (K.faults sink.new) }
+    ensures write_last { result ≡ 4 → LastCallFailed K.held K.faults sink.old sink.new }
+    ensures steady { result ≢ 4 → K.faults sink.new ≡ K.faults sink.old }
+    ensures told { result < 2 → IsAnswered (IsTopicAnswer topic) result (K.held sink.old) (K.held sink.new) }
+    ensures cut { result ≡ 4 → IsCut (IsTopicAnswer topic) (K.held sink.old) (K.held sink.new) }
+    ensures nothing { 1 < result → result ≢ 4 → sink.new ≡ sink.old }
+{
+    let Ok(text) = topic_text(alloc, topic) else {
+        return 5;
+    };
+    reply(sink, &Answer::done(text))
+}

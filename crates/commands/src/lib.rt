@@ -1,0 +1,26 @@
+//! The commands of `vc4check`: what each answers to its input, and what the program says to a person.
+#![tactic(auto)]
+
+mod answer;
+mod bands;
+mod bounded;
+mod cause;
+mod check;
+mod command;
+mod example;
+mod help;
+mod notice;
+mod pictures;
+mod program;
+mod replayed;
+mod reply;
+mod run;
+mod scripts;
+mod serve;
+mod shader_text;
+mod shown;
+mod upgrading;
+
+pub use cause::Cause;
+pub use program::Checker;
+pub use run::{run, run_told};

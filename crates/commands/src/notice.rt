@@ -1,0 +1,21 @@
+//! What a person is told on standard error where the program has no answer.
+ghost use Rattle.std.specs.Prelude.{◌≡◌, Some, None, IfSome, IfNone};
+ghost use Rattle.commands.specs.Notice.{notice_of};
+
+/// The line that says what a status means: the usage for 2, and what happened for 3 to 6. None goes with an answer, that is with 0
+/// and 1. It takes no memory.
+pub fn notice_of(status: u8) -> Option<&'static str>
+    ensures said { IfSome result (λ notice. notice_of status ≡ Some notice.now) }
+    ensures quiet { IfNone result (notice_of status ≡ None) }
+{
+    match status {
+        2 => Some(
+            "usage: vc4check check | replay STEPS SEED | upgrade | show | make | gen NUMBER | slots SLOTS | queue BUFFERS | untile TILING CPP WIDTH HEIGHT | tile TILING CPP WIDTH HEIGHT | level P0 P1 P2 P3 FACE LEVEL | asm | disasm",
+        ),
+        3 => Some("vc4check: reading the input failed"),
+        4 => Some("vc4check: writing the answer failed"),
+        5 => Some("vc4check: memory ran out"),
+        6 => Some("vc4check: the input is longer than the command takes"),
+        _ => None,
+    }
+}

@@ -1,0 +1,193 @@
+//! Commands on pictures: `untile`, `tile` and `level`.
+ghost use Rattle.std.specs.Prelude.{◌≡◌, ◌≤◌, ◌<◌, ◌^◌, length, Some, None, IfOk, IfSome};
+ghost use Rattle.script.specs.Number.{number_within};
+ghost use Rattle.texture_layouts.specs.Surface.{IsPixelSize};
+ghost use Rattle.tile_convert.specs.Picture.{size_in, IsCopy};
+ghost use Rattle.commands.specs.Pictures.{tiling_named, pixel_by, side_by, most_side, most_word, picture_named, level_named, IsPictureWithin};
+ghost use Rattle.commands.specs.Pictures.{length_wanted_text, level_refusal, IsSizedAnswer, IsLevelAnswer};
+ghost use Rattle.commands.specs.Reply.{reply_status, reply_cause, IsReplyOf, IsReplyReady};
+
+use super::answer::Answer;
+use super::bands::{Conversion, band_room};
+use super::reply::Reply;
+use field_words::{NoMemory, Stop};
+use script::read_number;
+use std::alloc::{AllocError, Global};
+use texture_layouts::Tiling;
+use tile_convert::{LevelFault, Order, extract, picture_size};
+
+/// The most pixels of a picture's side.
+const MOST_SIDE: u64 = 4096;
+
+/// A picture in a tiling: how many pixels it is wide and high, and how many bytes each has.
+#[derive(Clone, Copy, Debug, PartialEq, Eq)]
+pub struct Picture {
+    pub tiling: Tiling,
+    pub cpp: u32,
+    pub width: u32,
+    pub height: u32,
+}
+
+/// A level of a face of the texture with these set-up words.
+#[derive(Clone, Copy, Debug, PartialEq, Eq)]
+pub struct TexturePart {
+    pub setup: [u32; 4],
+    pub face: u32,
+    pub level: u32,
+}
+
+fn tiling_named(word: &str) -> Option<Tiling>
+    ensures { result ≡ tiling_named word.now }
+{
+    if word == "t" {
+        return Some(Tiling::T);
+    }
+    if word == "lt" {
+        return Some(Tiling::Lt);
+    }
+    None
+}
+
+fn pixel_named(word: &str) -> Option<u32>
+    ensures value { result ≡ pixel_by (number_within 8 word.now) }
+    ensures size { IfSome result IsPixelSize }
+{
+    match read_number(word.as_bytes(), 8)? {
+        1 => Some(1),
+        2 => Some(2),
+        4 => Some(4),
+        8 => Some(8),
+        _ => None,
+    }
+}
+
+fn side_named(word: &str) -> Option<u32>
+    ensures value { result ≡ side_by (number_within most_side word.now) }
+    ensures limit { IfSome result (λ side. side ≤ most_side) }
+{
+    match read_number(word.as_bytes(), MOST_SIDE)? {
+        0 => None,
+        side => Some(side as u32),
+    }
+}
+
+/// The picture that these words name: its tiling, `t` or `lt`, the bytes of a pixel, and its sides. It takes no memory.
+pub fn picture_named(tiling: &str, cpp: &str, width: &str, height: &str) -> Option<Picture>
+    ensures value { result ≡ picture_named tiling.now cpp.now width.now height.now }
+    ensures within { IfSome result IsPictureWithin }
+{
+    let tiling = tiling_named(tiling)?;
+    let cpp = pixel_named(cpp)?;
+    let width = side_named(width)?;
+    let height = side_named(height)?;
+    Some(Picture {
+        tiling,
+        cpp,
+        width,
+        height,
+    })
+}
+
+fn number_named(word: &str) -> Option<u32>
+    ensures { result ≡ number_within most_word word.now }
+{
+    Some(read_number(word.as_bytes(), u64::from(u32::MAX))? as u32)
+}
+
+/// The level that these words name: the texture's four set-up words, the face and the level. It takes no memory.
+pub fn level_named(
+    p0: &str,
+    p1: &str,
+    p2: &str,
+    p3: &str,
+    face: &str,
+    level: &str,
+) -> Option<TexturePart>
+    ensures { result ≡ level_named p0.now p1.now p2.now p3.now face.now level.now }
+{
+    let p0 = number_named(p0)?;
+    let p1 = number_named(p1)?;
+    let p2 = number_named(p2)?;
+    let p3 = number_named(p3)?;
+    let face = number_named(face)?;
+    let level = number_named(level)?;
+    Some(TexturePart {
+        setup: [p0, p1, p2, p3],
+        face,
+        level,
+    })
+}
+
+#[tactic(auto, unfolding(crate::specs::Pictures::length_wanted_text))]
+fn length_wanted_text(alloc: Global, length: usize, wanted: u64) -> Result<Vec<u8>, AllocError>
+    ensures { IfOk result (λ text. text.items ≡ length_wanted_text length wanted) }
+{
+    Ok(format!(in alloc; "length {length} wants {wanted}\n")?.into_bytes())
+}
+
+#[tactic(auto, unfolding(crate::specs::Pictures::level_refusal))]
+fn level_refusal(alloc: Global, fault: LevelFault) -> Result<Vec<u8>, AllocError>
+    ensures { IfOk result (λ text. text.items ≡ level_refusal fault) }
+{
+    let text = match fault {
+        LevelFault::Texture(rule) => format!(in alloc; "refused U{rule} at 0\n")?,
+        LevelFault::Face => format!(in alloc; "refused V1 at 0\n")?,
+        LevelFault::Level => format!(in alloc; "refused V2 at 0\n")?,
+    };
+    Ok(text.into_bytes())
+}
+
+/// What is answered to a picture that is to be put into another order: that picture, for which memory for one band is taken; or how
+/// many bytes are wanted.
+pub fn picture_reply(
+    alloc: Global,
+    from: Order,
+    to: Order,
+    picture: Picture,
+    bytes: &[u8],
+) -> Result<Reply, NoMemory>
+    requires { IsPictureWithin picture }
+    ensures answers { IfOk result (IsReplyOf (IsSizedAnswer bytes.now (size_in from picture.width picture.height picture.cpp)
+        (IsCopy from to picture.width picture.height picture.cpp bytes.now)) bytes.now) }
+    ensures status { IfOk result (λ a. reply_status a < 2) }
+    ensures ready { IfOk result (IsReplyReady bytes.now) }
+    ensures cause { IfOk result (λ a. reply_cause a ≡ None) }
+{
+    let Picture {
+        cpp,
+        width,
+        height,
+        ..
+    } = picture;
+    let wanted = picture_size(from, width, height, cpp);
+    if bytes.len() as u64 != wanted {
+        let text = length_wanted_text(alloc, bytes.len(), wanted)?;
+        return Ok(Reply::Text(Answer::refused(text, None)));
+    }
+    let conversion = Conversion {
+        from,
+        to,
+        width,
+        height,
+        cpp,
+    };
+    let band = vec![in alloc; 0u8; band_room(conversion)]?;
+    Ok(Reply::Bands(conversion, band))
+}
+
+/// What `level` answers to a buffer that has a texture: the level's pixels by rows, or its blocks, or the first rule that stands.
+pub fn level_answer(alloc: Global, part: TexturePart, bytes: &[u8]) -> Result<Answer, NoMemory>
+    requires { length bytes.now < 2 ^ 32 }
+    ensures answers { IfOk result (λ a. IsLevelAnswer part bytes.now a.status a.text.items) }
+    ensures status { IfOk result (λ a. a.status < 2) }
+    ensures cause { IfOk result (λ a. a.cause ≡ None) }
+{
+    match extract(alloc, part.setup, bytes, part.face, part.level) {
+        Ok(text) => Ok(Answer::done(text)),
+        Err(Stop::Fault(fault)) => {
+            let text = level_refusal(alloc, fault)?;
+            Ok(Answer::refused(text, None))
+        }
+        Err(Stop::NoMemory) => Err(NoMemory),
+    }
+}

@@ -1,0 +1,37 @@
+//! The program over any source and sink, for `main`.
+use super::cause::Cause;
+use super::command::names_file;
+use super::notice::notice_of;
+use super::run::run_told;
+use entry::{Ended, Program};
+use job_io::{Sink, Source};
+use std::alloc::Global;
+
+/// The program that `main` runs.
+pub struct Checker;
+
+impl Program for Checker {
+    type Cause = Cause;
+
+    fn name(&self) -> &'static str {
+        "vc4check"
+    }
+
+    fn names_file(&self, words: &Vec<String>) -> bool {
+        names_file(words)
+    }
+
+    fn run<S: Source, K: Sink>(
+        &self,
+        alloc: Global,
+        words: &Vec<String>,
+        source: &mut S,
+        sink: &mut K,
+    ) -> Ended<Cause> {
+        run_told(alloc, words, source, sink)
+    }
+
+    fn notice(&self, status: u8) -> Option<&'static str> {
+        notice_of(status)
+    }
+}

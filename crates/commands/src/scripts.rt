@@ -1,0 +1,69 @@
+//! Commands that answer scripts: `slots`, `queue` and `session`.
+ghost use Rattle.std.specs.Prelude.{◌≡◌, ◌≤◌, ◌<◌, length, None, IfOk};
+ghost use Rattle.field_words.specs.Sizes.{most_list};
+ghost use Rattle.commands.specs.Scripts.{malformed_text, IsSlotsAnswer, IsQueueAnswer, IsSessionAnswer};
+
+use super::answer::Answer;
+use field_words::{NoMemory, Stop};
+use std::alloc::{AllocError, Global};
+
+#[tactic(auto, unfolding(crate::specs::Scripts::malformed_text))]
+fn malformed_text(alloc: Global, line: u32) -> Result<Vec<u8>, AllocError>
+    ensures { IfOk result (λ text. text.items ≡ malformed_text line) }
+{
+    Ok(format!(in alloc; "line {line} fault 1\n")?.into_bytes())
+}
+
+/// What `slots` answers to a script on so many slots: a line for each call, or its first malformed line.
+pub fn slots_answer(alloc: Global, slots: u32, text: &[u8]) -> Result<Answer, NoMemory>
+    requires some { 1 ≤ slots }
+    requires few { slots ≤ 32 }
+    requires small { length text.now ≤ most_list }
+    ensures answers { IfOk result (λ a. IsSlotsAnswer slots text.now a.status a.text.items) }
+    ensures status { IfOk result (λ a. a.status < 2) }
+    ensures cause { IfOk result (λ a. a.cause ≡ None) }
+{
+    match overflow_slots::script(alloc, slots, text) {
+        Ok(text) => Ok(Answer::done(text)),
+        Err(Stop::Fault(line)) => {
+            let text = malformed_text(alloc, line)?;
+            Ok(Answer::refused(text, None))
+        }
+        Err(Stop::NoMemory) => Err(NoMemory),
+    }
+}
+
+/// What `queue` answers to a script on a queue of jobs with so many buffers: a line for each call, or its first malformed line.
+pub fn queue_answer(alloc: Global, buffers: u32, text: &[u8]) -> Result<Answer, NoMemory>
+    requires few { buffers ≤ 1024 }
+    requires small { length text.now ≤ most_list }
+    ensures answers { IfOk result (λ a. IsQueueAnswer buffers text.now a.status a.text.items) }
+    ensures status { IfOk result (λ a. a.status < 2) }
+    ensures cause { IfOk result (λ a. a.cause ≡ None) }
+{
+    match job_queue::script(alloc, buffers, text) {
+        Ok(text) => Ok(Answer::done(text)),
+        Err(Stop::Fault(line)) => {
+            let text = malformed_text(alloc, line)?;
+            Ok(Answer::refused(text, None))
+        }
+        Err(Stop::NoMemory) => Err(NoMemory),
+    }
+}
+
+/// What `session` answers to a script on a session without buffers: a line for each call, or its first malformed line.
+pub fn session_answer(alloc: Global, text: &[u8]) -> Result<Answer, NoMemory>
+    requires { length text.now ≤ most_list }
+    ensures answers { IfOk result (λ a. IsSessionAnswer text.now a.status a.text.items) }
+    ensures status { IfOk result (λ a. a.status < 2) }
+    ensures cause { IfOk result (λ a. a.cause ≡ None) }
+{
+    match job_session::script(alloc, text) {
+        Ok(text) => Ok(Answer::done(text)),
+        Err(Stop::Fault(line)) => {
+            let text = malformed_text(alloc, line)?;
+            Ok(Answer::refused(text, None))
+        }
+        Err(Stop::NoMemory) => Err(NoMemory),
+    }
+}

@@ -1,0 +1,137 @@
+//! A command from its input to its text in the sink.
+ghost use Rattle.std.specs.Prelude.{◌≡◌, ◌≢◌, ◌≤◌, ◌<◌, ◌⊎◌, ◌↔◌, None, length, IfOk, IfSome};
+ghost use Rattle.std.specs.Io.KnownBytes.{IsAtEnd};
+ghost use Rattle.job_io.specs.Faults.{Rose, LastCallFailed};
+ghost use Rattle.job_io.specs.Traffic.{count_taken};
+ghost use Rattle.commands.specs.Answer.{IsAnswer};
+ghost use Rattle.commands.specs.Cause.{IsCause};
+ghost use Rattle.commands.specs.Reply.{reply_status, reply_cause, IsReplyOf, IsReplyReady};
+ghost use Rattle.commands.specs.Run.{IsAnswered, IsCut};
+ghost use Rattle.commands.specs.Words.{limit_of, IsWithin};
+
+use super::bounded::bound_answer;
+use super::cause::Cause;
+use super::check::check_answer;
+use super::command::Command;
+use super::pictures::{level_answer, picture_reply};
+use super::replayed::replay_answer;
+use super::reply::{Reply, print};
+use super::scripts::{queue_answer, session_answer, slots_answer};
+use super::shader_text::{asm_answer, disasm_answer};
+use super::shown::{make_answer, show_answer};
+use super::upgrading::upgrade_answer;
+use entry::Ended;
+use field_words::NoMemory;
+use job_io::{ReadEnd, Sink, Source, read_all};
+use std::alloc::Global;
+use tile_convert::Order;
+
+/// What the command answers to these bytes.
+#[tactic(auto, unfolding(tile_convert::specs::Picture::size_in))]
+fn answer_to(alloc: Global, command: Command, bytes: &[u8]) -> Result<Reply, NoMemory>
+    requires few { length bytes.now ≤ limit_of command }
+    requires within { IsWithin command }
+    ensures answers { IfOk result (IsReplyOf (IsAnswer command bytes.now) bytes.now) }
+    ensures status { IfOk result (λ a. reply_status a < 2) }
+    ensures ready { IfOk result (IsReplyReady bytes.now) }
+    ensures cause { IfOk result (λ a. IsCause command bytes.now (reply_cause a)) }
+{
+    let answer = match command {
+        Command::Check => return check_answer(alloc, bytes),
+        Command::Replay { steps, seed } => replay_answer(alloc, steps, seed, bytes),
+        Command::Upgrade => upgrade_answer(alloc, bytes),
+        Command::Bound => bound_answer(alloc, bytes),
+        Command::Show => show_answer(alloc, bytes),
+        Command::FromText => make_answer(alloc, bytes),
+        Command::Asm => asm_answer(alloc, bytes),
+        Command::Disasm => disasm_answer(alloc, bytes),
+        Command::Slots(slots) => slots_answer(alloc, slots, bytes),
+        Command::Queue(buffers) => queue_answer(alloc, buffers, bytes),
+        Command::Session => session_answer(alloc, bytes),
+        Command::Untile(picture) => {
+            let from = Order::Surface(picture.tiling);
+            return picture_reply(alloc, from, Order::Rows, picture, bytes);
+        }
+        Command::Tile(picture) => {
+            let to = Order::Surface(picture.tiling);
+            return picture_reply(alloc, Order::Rows, to, picture, bytes);
+        }
+        Command::Level(part) => level_answer(alloc, part, bytes),
+    };
+    Ok(Reply::Text(answer?))
+}
+
+// The cause goes with status 1 alone.
+fn ended(status: u8, cause: Option<Cause>) -> Ended<Cause>
+    ensures status { result.status ≡ status }
+    ensures refused { status ≡ 1 → result.cause ≡ cause }
+    ensures quiet { status ≢ 1 → result.cause ≡ None }
+{
+    if status == 1 {
+        Ended { status, cause }
+    } else {
+        Ended::silent(status)
+    }
+}
+
+/// Appends the answer to these bytes to the sink, and says why they are refused. All memory is taken before the first byte is written.
+fn respond<K: Sink>(alloc: Global, command: Command, bytes: &[u8], sink: &mut K) -> Ended<Cause>
+    requires few { length bytes.now ≤ limit_of command }
+    requires within { IsWithin command }
+    ensures statuses { (result.status < 2) ⊎ ((result.status ≡ 4) ⊎ (result.status ≡ 5)) }
+    ensures write { result.status ≡ 4 → Rose (K.faults sink.old) (K.faults sink.new) }
+    ensures write_last { result.status ≡ 4 → LastCallFailed K.held K.faults sink.old sink.new }
+    ensures steady { result.status ≢ 4 → K.faults sink.new ≡ K.faults sink.old }
+    ensures answered { result.status < 2 → IsAnswered (IsAnswer command bytes.now) result.status (K.held sink.old) (K.held sink.new) }
+    ensures cut { result.status ≡ 4 → IsCut (IsAnswer command bytes.now) (K.held sink.old) (K.held sink.new) }
+    ensures nothing { 1 < result.status → result.status ≢ 4 → sink.new ≡ sink.old }
+    ensures cause { result.status ≡ 1 → IsCause command bytes.now result.cause }
+    ensures quiet { result.status ≢ 1 → result.cause ≡ None }
+{
+    let Ok(answer) = answer_to(alloc, command, bytes) else {
+        return Ended::silent(5);
+    };
+    let why = answer.cause();
+    ended(print(sink, answer, bytes), why)
+}
+
+/// Reads all of the command's input, appends its answer to the sink, and says why the input is refused. All memory is taken before the
+/// first byte is written.
+///
+/// Status 0 is done and 1 refused, of which, and of 4, all input was read; 3 and 4 are faults of the source and of the sink, 5 is want of
+/// memory, and 6 is more input than the command's limit.
+pub fn serve<S: Source, K: Sink>(
+    alloc: Global,
+    command: Command,
+    source: &mut S,
+    sink: &mut K,
+) -> Ended<Cause>
+    requires { IsWithin command }
+    ensures statuses { result.status ≤ 6 }
+    ensures asked { result.status ≢ 2 }
+    ensures read { result.status ≡ 3 → Rose (S.faults source.old) (S.faults source.new) }
+    ensures read_last { result.status ≡ 3 → LastCallFailed S.left S.faults source.old source.new }
+    ensures write { result.status ≡ 4 → Rose (K.faults sink.old) (K.faults sink.new) }
+    ensures write_last { result.status ≡ 4 → LastCallFailed K.held K.faults sink.old sink.new }
+    ensures source_steady { result.status ≢ 3 → S.faults source.new ≡ S.faults source.old }
+    ensures sink_steady { result.status ≢ 4 → K.faults sink.new ≡ K.faults sink.old }
+    ensures all { ((result.status < 2) ⊎ (result.status ≡ 4)) → IsAtEnd (S.left source.new) }
+    ensures long { IfSome (S.left source.old) (λ _. (result.status ≡ 6) ↔
+        (limit_of command < count_taken (S.left source.old) (S.left source.new))) }
+    ensures within { IfSome (S.left source.old) (λ bytes. length bytes ≤ limit_of command → result.status ≢ 6) }
+    ensures answered { result.status < 2 → IfSome (S.left source.old) (λ bytes.
+        IsAnswered (IsAnswer command bytes) result.status (K.held sink.old) (K.held sink.new)) }
+    ensures cut { result.status ≡ 4 → IfSome (S.left source.old) (λ bytes. IsCut (IsAnswer command bytes) (K.held sink.old) (K.held sink.new)) }
+    ensures complete { (Rose (S.faults source.old) (S.faults source.new) → ⊥) → (Rose (K.faults sink.old) (K.faults sink.new) → ⊥)
+        → result.status ≢ 6 → ((result.status < 2) ⊎ (result.status ≡ 5)) }
+    ensures nothing { 1 < result.status → result.status ≢ 4 → sink.new ≡ sink.old }
+    ensures cause { result.status ≡ 1 → IfSome (S.left source.old) (λ bytes. IsCause command bytes result.cause) }
+    ensures quiet { result.status ≢ 1 → result.cause ≡ None }
+{
+    match read_all(alloc, source, command.limit()) {
+        Err(ReadEnd::ReadFault) => Ended::silent(3),
+        Err(ReadEnd::TooLong) => Ended::silent(6),
+        Err(ReadEnd::NoMemory) => Ended::silent(5),
+        Ok(bytes) => respond(alloc, command, &bytes, sink),
+    }
+}

@@ -1,0 +1,77 @@
+//! The commands `asm` and `disasm`.
+ghost use Rattle.std.specs.Prelude.{◌≡◌, ◌≤◌, ◌<◌, length, None, IfOk};
+ghost use Rattle.field_words.specs.Sizes.{most_list};
+ghost use Rattle.qpu_asm.specs.Assembly.{Assembled};
+ghost use Rattle.commands.specs.Cause.{kind_cause};
+ghost use Rattle.commands.specs.Shader.{bytes_of, fault_text, length_text, IsAsmAnswer, IsDisasmAnswer};
+
+use super::answer::Answer;
+use super::cause::Cause;
+use field_words::{NoMemory, Stop};
+use job_check::words_of;
+use qpu_asm::{AsmFault, assemble, disassemble};
+use std::alloc::{AllocError, Global};
+
+/// Words as bytes, 8 each, the lowest first.
+#[tactic(auto, unfolding(crate::specs::Shader::bytes_of))]
+fn bytes_of(alloc: Global, words: &[u64]) -> Result<Vec<u8>, AllocError>
+    ensures { IfOk result (λ bytes. bytes.items ≡ bytes_of words.now) }
+{
+    let mut bytes = Vec::new(alloc);
+    for word in words {
+        bytes.extend_from_slice(&word.to_le_bytes())?;
+    }
+    Ok(bytes)
+}
+
+#[tactic(auto, unfolding(crate::specs::Shader::fault_text))]
+fn fault_text(alloc: Global, fault: &AsmFault) -> Result<Vec<u8>, AllocError>
+    ensures { IfOk result (λ text. text.items ≡ fault_text fault.now) }
+{
+    let line = fault.line;
+    let kind = fault.kind;
+    Ok(format!(in alloc; "line {line} fault {kind}\n")?.into_bytes())
+}
+
+#[tactic(auto, unfolding(crate::specs::Shader::length_text))]
+fn length_text(alloc: Global, length: usize) -> Result<Vec<u8>, AllocError>
+    ensures { IfOk result (λ text. text.items ≡ length_text length) }
+{
+    Ok(format!(in alloc; "length {length}\n")?.into_bytes())
+}
+
+/// What `asm` answers to a text: the words of its instructions, or its first fault.
+pub fn asm_answer(alloc: Global, text: &[u8]) -> Result<Answer, NoMemory>
+    requires { length text.now ≤ most_list }
+    ensures answers { IfOk result (λ a. IsAsmAnswer text.now a.status a.text.items) }
+    ensures status { IfOk result (λ a. a.status < 2) }
+    ensures cause { IfOk result (λ a. a.cause ≡ kind_cause (Assembled text.now)) }
+{
+    match assemble(alloc, text) {
+        Ok(words) => {
+            let text = bytes_of(alloc, &words)?;
+            Ok(Answer::done(text))
+        }
+        Err(Stop::Fault(fault)) => {
+            let text = fault_text(alloc, &fault)?;
+            Ok(Answer::refused(text, Some(Cause::Kind(fault))))
+        }
+        Err(Stop::NoMemory) => Err(NoMemory),
+    }
+}
+
+/// What `disasm` answers to bytes: the text of their words, or their length where it is no multiple of 8.
+pub fn disasm_answer(alloc: Global, bytes: &[u8]) -> Result<Answer, NoMemory>
+    requires { length bytes.now ≤ most_list }
+    ensures answers { IfOk result (λ a. IsDisasmAnswer bytes.now a.status a.text.items) }
+    ensures status { IfOk result (λ a. a.status < 2) }
+    ensures cause { IfOk result (λ a. a.cause ≡ None) }
+{
+    if bytes.len() % 8 != 0 {
+        let text = length_text(alloc, bytes.len())?;
+        return Ok(Answer::refused(text, None));
+    }
+    let words = words_of(alloc, bytes)?;
+    let text = disassemble(alloc, &words)?;
+    Ok(Answer::done(text))
+}

@@ -1,0 +1,46 @@
+//! The command `upgrade`.
+ghost use Rattle.std.specs.Prelude.{◌≡◌, ◌<◌, IfOk, IsOk};
+ghost use Rattle.field_words.specs.Questions.{Answers, first_of};
+ghost use Rattle.job_format.specs.File.{IsFileOf, upgraded};
+ghost use Rattle.job_format.specs.Reading.{file_at};
+ghost use Rattle.job_format.specs.Text.{file_text};
+ghost use Rattle.commands.specs.Cause.{IsRuleCause};
+ghost use Rattle.commands.specs.Upgrade.{format_rules, IsUpgradeAnswer};
+
+use super::answer::Answer;
+use super::cause::Cause;
+use dumper::refusal_text;
+use field_words::{NoMemory, Stop};
+use job_check::format_refusal;
+use job_format::{Refusal, read_job, upgrade_file, write_job};
+use rule_words::line_of;
+use std::alloc::Global;
+
+// The same file as version 2.
+fn upgraded(alloc: Global, bytes: &[u8]) -> Result<Vec<u8>, Stop<Refusal>>
+    ensures answers { Answers (format_rules bytes.now) (λ text. text.items ≡ file_text (upgraded (file_at bytes.now))) result }
+    ensures spelled { IsOk result → IsFileOf bytes.now (file_at bytes.now) }
+{
+    match read_job(alloc, bytes) {
+        Ok(file) => Ok(write_job(alloc, &upgrade_file(file))?),
+        Err(stop) => Err(format_refusal(stop)),
+    }
+}
+
+/// What `upgrade` answers to these bytes: the same file as version 2, or the first rule of the format that stands.
+#[tactic(auto, using(field_words::proofs::Questions::first_is))]
+pub fn upgrade_answer(alloc: Global, bytes: &[u8]) -> Result<Answer, NoMemory>
+    ensures answers { IfOk result (λ a. IsUpgradeAnswer bytes.now a.status a.text.items) }
+    ensures status { IfOk result (λ a. a.status < 2) }
+    ensures cause { IfOk result (λ a. IsRuleCause bytes.now (first_of (format_rules bytes.now)) a.cause) }
+{
+    match upgraded(alloc, bytes) {
+        Ok(text) => Ok(Answer::done(text)),
+        Err(Stop::Fault(refusal)) => {
+            let text = refusal_text(alloc, &refusal)?;
+            let line = line_of(bytes, refusal);
+            Ok(Answer::refused(text, Some(Cause::Rule(line))))
+        }
+        Err(Stop::NoMemory) => Err(NoMemory),
+    }
+}
