@@ -79,6 +79,7 @@ fn respond<K: Sink>(alloc: Global, command: Command, bytes: &[u8], sink: &mut K)
     requires few { length bytes.now ≤ limit_of command }
     requires within { IsWithin command }
     ensures statuses { (result.status < 2) ⊎ ((result.status ≡ 4) ⊎ (result.status ≡ 5)) }
+    ensures short { result.status ≢ 6 }
     ensures write { result.status ≡ 4 → Rose (K.faults sink.old) (K.faults sink.new) }
     ensures write_last { result.status ≡ 4 → LastCallFailed K.held K.faults sink.old sink.new }
     ensures steady { result.status ≢ 4 → K.faults sink.new ≡ K.faults sink.old }
