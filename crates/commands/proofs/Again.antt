@@ -1,5 +1,5 @@
 -- What `show` wrote is made again.
-use Rattle.std.proofs.Common.{◌≡◌, Ok, Err, inl, inr, arith}
+use Rattle.std.proofs.Common.{inl, inr, arith}
 use Rattle.commands.specs.Show.{MakesAgain}
 
 pub makes_again : MakesAgain

@@ -1,5 +1,5 @@
 -- The same file as version 2 keeps all but its version.
-use Rattle.std.proofs.Common.{◌≡◌, ℕ, List, None, refl}
+use Rattle.std.proofs.Common.{◌≡◌, ℕ, List, refl}
 use Rattle.field_words.specs.declared.stop.Stop.{Stop}
 use Rattle.field_words.specs.declared.stop.Stop.TheVariants.{Fault, NoMemory}
 use Rattle.field_words.specs.Questions.{Refuses}
@@ -15,7 +15,7 @@ use Rattle.job_check.specs.Shaders.{content_of, shader_of, shaders_up_to}
 use Rattle.job_check.specs.Jobs.{job_of, slot_of, places_in, has_bin, grid_of, lists_room, lists_begin, layout_of, states_in, input_for, bin_list_of, records_of, streams_of, render_list_of}
 use Rattle.job_check.specs.Emit.{lengths_of}
 use Rattle.job_check.proofs.Alike.{file_again, upgrade}
-use Rattle.accepted_law.specs.Holdings.{plain_of, codes_of, lists_of, slot_in, file_rights, fixed_below, fixed_of, start_by, file_starts}
+use Rattle.accepted_law.specs.Holdings.{plain_of, codes_of, lists_of, slot_in, file_rights, fixed_below, fixed_of, file_starts}
 use Rattle.commands.specs.Upgrade.{format_rules, UpgradeKeepsAll}
 
 rights_alike : (f : FileModel) → file_rights (upgraded f) ≡ file_rights f
