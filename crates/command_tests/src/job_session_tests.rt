@@ -1,7 +1,7 @@
 //! Two clients in one memory; scripts and their answers.
 use field_words::Stop;
 use job_format::{Refusal, Rule, Stage};
-use job_session::{Denied, Session, script};
+use job_session::{Denied, MOST_BUFFERS, Session, script};
 use std::alloc::Global;
 use std::test::*;
 

@@ -1,6 +1,6 @@
 //! Each rule of the check has its words; and the places of refusals in a file of one buffer and one job.
 use job_format::{Refusal, Rule, Stage};
-use rule_words::{explanation, line_of, place_of, sentence};
+use rule_words::{RuleName, explain, kind_named, line_of, place_of, rule_named};
 use std::alloc::{AllocError, Global};
 use std::test::*;
 
