@@ -1,4 +1,4 @@
-use Rattle.std.proofs.Common.{◌≡◌, sym, subst}
+use Rattle.std.proofs.Common.{◌≡◌, Err, sym, subst}
 use Rattle.field_words.specs.Questions.{Answers, Refuses, NeverHidesFault, answered}
 use Rattle.field_words.proofs.Questions.{answers_later, answered_none}
 use Rattle.job_format.specs.Faults.{format_questions}
