@@ -14,7 +14,7 @@ mod pictures;
 mod program;
 mod replayed;
 mod reply;
-mod run;
+mod runs;
 mod scripts;
 mod serve;
 mod shader_text;
@@ -23,4 +23,4 @@ mod upgrading;
 
 pub use cause::Cause;
 pub use program::Checker;
-pub use run::{run, run_told};
+pub use runs::{run, run_told};

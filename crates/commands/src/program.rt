@@ -2,7 +2,7 @@
 use super::cause::Cause;
 use super::command::names_file;
 use super::notice::notice_of;
-use super::run::run_told;
+use super::runs::run_told;
 use entry::{Ended, Program};
 use job_io::{Sink, Source};
 use std::alloc::Global;

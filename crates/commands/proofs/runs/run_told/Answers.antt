@@ -2,7 +2,7 @@
 use Rattle.std.proofs.Common.{◌≡◌, arith}
 use Rattle.commands.specs.declared.command.Command.TheVariants.{Check}
 use Rattle.commands.proofs.Headline.{safely_accepted}
-use Rattle.commands.proofs.run.run_told.Goals as goal
+use Rattle.commands.proofs.runs.run_told.Goals as goal
 
 pub returns-in-Some-Read-clause-safe : goal.returns-in-Some-Read-clause-safe
 returns-in-Some-Read-clause-safe g c = λ asked zero.
