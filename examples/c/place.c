@@ -1,6 +1,7 @@
 /* place FILE..: checks each job file, and the same job with all its places moved up to addresses of the bus, as a driver has them. Both
  * have the same answer, and the same lists but for the highest byte of each address. Prints the first file of which that isn't so, or how
- * many files were compared; files whose memory or a place of which is over 64 MiB can't be moved, and are left out. Status 0: all are the same. */
+ * many files were compared. Files that can't be moved are left out: those whose memory has no byte, or with a number over 64 MiB among memory
+ * and places. Status 0: all are the same. */
 #include <stdio.h>
 #include <stdlib.h>
 #include "vc4check.h"
@@ -33,7 +34,7 @@ static int move(uint8_t *at) {
 
 /* The memory's size and the places of the two regions and of each buffer. */
 static int move_all(uint8_t *bytes, size_t length) {
-    if (length < HEADER || !move(bytes + 8) || !move(bytes + 12) || !move(bytes + 20)) return 0;
+    if (length < HEADER || word_at(bytes + 8) == 0 || !move(bytes + 8) || !move(bytes + 12) || !move(bytes + 20)) return 0;
     uint32_t buffers = word_at(bytes + 28);
     for (uint32_t b = 0; b < buffers && b < MOST_BUFFERS && HEADER + ENTRY * (b + 1) <= length; b++)
         if (!move(bytes + HEADER + ENTRY * b)) return 0;
