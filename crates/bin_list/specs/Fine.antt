@@ -1,7 +1,7 @@
 -- What a packet without faults promises to its emission.
 use Rattle.std.specs.Prelude.{◌≡◌, ◌≤◌, ℕ, ◌+◌, ◌*◌, ◌<◌, ◌^◌, ◌==◌, false, List, length, slice_index}
 use Rattle.field_words.specs.Words.{u32_at}
-use Rattle.field_words.specs.Sizes.{most_list}
+use Rattle.field_words.specs.Sizes.{most_list, slot_size}
 use Rattle.buffer_table.specs.Handles.{IsData}
 use Rattle.buffer_table.specs.Table.{most_place}
 use Rattle.packets.specs.Opcode.{flush, start_tile_binning, increment_semaphore, indexed_primitive_list, array_primitive_list, gl_shader_state, tile_binning_mode, buffer_handles}
@@ -19,7 +19,7 @@ pub record IsFine (given : GivenModel) (seen : Seen) (packet : List ℕ) : Type 
   pub buffer : opcode packet ≡ indexed_primitive_list → IsData given.table given.handles seen.index_handle
   pub indexes : opcode packet ≡ indexed_primitive_list → u32_at packet 6 ≤ (index_buffer given seen).size
   pub array : opcode packet ≡ array_primitive_list → u32_at packet 6 + u32_at packet 2 < 2 ^ 32
-  pub grid : opcode packet ≡ tile_binning_mode → alloc_offset (slice_index packet 13 * slice_index packet 14) ≤ 524288
+  pub grid : opcode packet ≡ tile_binning_mode → alloc_offset (slice_index packet 13 * slice_index packet 14) ≤ slot_size
   pub state : opcode packet ≡ gl_shader_state → seen.states < given.declared
 
 -- a whole packet of a kind that has no rules of its own, tells nothing to later packets, and is copied

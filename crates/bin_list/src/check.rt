@@ -46,7 +46,7 @@ fn read_packets(
     layout: &Layout,
     out: &mut [u8],
 ) -> Result<Read, Stop<ListFault>>
-    requires short { length list.now ≤ 1048576 }
+    requires short { length list.now ≤ most_list }
     requires few { given.now.declared ≤ 65536 }
     requires low { IsLow layout.now }
     requires room { layout.now.bin + length list.now ≤ length out.old }
@@ -88,7 +88,7 @@ fn finish(
     read: Read,
 ) -> Result<BinInfo, Stop<ListFault>>
     requires size { given.now.size ≡ length list.now }
-    requires short { length list.now ≤ 1048576 }
+    requires short { length list.now ≤ most_list }
     requires fine { first_of (asked given.now (passed list.now)) ≡ None }
     requires read { IsRead given.now layout.now list.now read }
     ensures answers { Answers (answered (fault given.now.size) (end_questions (seen_before (passed list.now))))
@@ -128,7 +128,7 @@ pub fn check_bin(
     out: &mut [u8],
 ) -> Result<BinInfo, Stop<ListFault>>
     requires numbers { AreNumbersOf table.now handles.now }
-    requires short { length list.now ≤ 1048576 }
+    requires short { length list.now ≤ most_list }
     requires few { declared ≤ 65536 }
     requires place_limit { layout.now.place ≤ most_place }
     requires records_limit { layout.now.records ≤ most_list + 16 }

@@ -1,5 +1,6 @@
 //! Writing the list that the hardware is given.
 ghost use Rattle.std.specs.Prelude.{◌≡◌, ◌≤◌, ◌+◌, ◌*◌, length, slice_index};
+ghost use Rattle.field_words.specs.Sizes.{slot_size};
 ghost use Rattle.buffer_table.specs.Handles.{IsData};
 ghost use Rattle.field_words.specs.Words.{u32_at};
 ghost use Rattle.tile_memory.specs.Slots.{alloc_offset};
@@ -74,7 +75,7 @@ fn put_state(layout: &Layout, seen: &Seen, packet: &[u8], out: &mut [u8], at: us
 fn config_bytes(layout: &Layout, packet: &[u8]) -> [u8; 16]
     requires low { IsLow layout.now }
     requires whole { 16 ≤ length packet.now }
-    requires grid { alloc_offset (slice_index packet.now 13 * slice_index packet.now 14) ≤ 524288 }
+    requires grid { alloc_offset (slice_index packet.now 13 * slice_index packet.now 14) ≤ slot_size }
     ensures text { result ≡ config_text layout.now packet.now }
     ensures long { length (config_text layout.now packet.now) ≡ 16 }
 {
@@ -109,7 +110,7 @@ fn config_bytes(layout: &Layout, packet: &[u8]) -> [u8; 16]
 fn put_config(layout: &Layout, packet: &[u8], out: &mut [u8], at: usize) -> usize
     requires low { IsLow layout.now }
     requires whole { 16 ≤ length packet.now }
-    requires grid { alloc_offset (slice_index packet.now 13 * slice_index packet.now 14) ≤ 524288 }
+    requires grid { alloc_offset (slice_index packet.now 13 * slice_index packet.now 14) ≤ slot_size }
     requires room { at + length packet.now ≤ length out.old }
     ensures text { out.new ≡ with_bytes out.old at (config_text layout.now packet.now) }
     ensures end { result ≡ at + length (config_text layout.now packet.now) }

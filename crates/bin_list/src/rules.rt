@@ -1,5 +1,6 @@
 //! The rules of a binner list, kind by kind of packet.
 ghost use Rattle.std.specs.Prelude.{◌≡◌, ◌≤◌, ◌<◌, ◌+◌, ◌*◌, ◌^◌, ◌++◌, length, slice_index, is_some, IfNone, IfSome, IsTrue};
+ghost use Rattle.field_words.specs.Sizes.{slot_size};
 ghost use Rattle.buffer_table.specs.Table.{most_place};
 ghost use Rattle.field_words.specs.Words.{u32_at};
 ghost use Rattle.std.specs.Option.{SomeIff};
@@ -172,7 +173,7 @@ fn state_fault(given: &Given, seen: &Seen, packet: &[u8]) -> Option<BinRule>
 fn config_fault(seen: &Seen, packet: &[u8]) -> Option<BinRule>
     requires { 16 ≤ length packet.now }
     ensures first { result ≡ first_of (config_questions seen.now packet.now) }
-    ensures grid { IfNone result (alloc_offset (slice_index packet.now 13 * slice_index packet.now 14) ≤ 524288) }
+    ensures grid { IfNone result (alloc_offset (slice_index packet.now 13 * slice_index packet.now 14) ≤ slot_size) }
 {
     let across = byte_at(packet, 13);
     let down = byte_at(packet, 14);

@@ -1,5 +1,6 @@
 //! What stands before a packet.
 ghost use Rattle.std.specs.Prelude.{◌≡◌, ◌≤◌, ◌+◌, [], length};
+ghost use Rattle.field_words.specs.Sizes.{most_list};
 ghost use Rattle.packets.specs.Length.{bin_length};
 ghost use Rattle.bin_list.specs.Packets.{opcode};
 ghost use Rattle.bin_list.specs.Fine.{IsBounded};
@@ -54,7 +55,7 @@ impl Seen {
     pub(crate) fn after(&self, packet: &[u8]) -> Seen
         requires some { 1 ≤ length packet.now }
         requires whole { bin_length (opcode packet.now) ≤ length packet.now }
-        requires place { self.now.at + length packet.now ≤ 1048576 }
+        requires place { self.now.at + length packet.now ≤ most_list }
         requires bounded { IsBounded self.now }
         ensures value { result ≡ seen_after self.now packet.now }
         ensures bounded { IsBounded result }
@@ -85,7 +86,7 @@ impl Seen {
     #[tactic(auto, unfolding(crate::specs::Seen::seen_past))]
     pub(crate) fn past(&self, packet: &[u8]) -> Seen
         requires some { 1 ≤ length packet.now }
-        requires place { self.now.at + length packet.now ≤ 1048576 }
+        requires place { self.now.at + length packet.now ≤ most_list }
         requires bounded { IsBounded self.now }
         ensures value { result ≡ seen_past self.now packet.now }
         ensures bounded { IsBounded result }

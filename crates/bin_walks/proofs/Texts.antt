@@ -1,5 +1,6 @@
 -- Bytes of a packet, read back from what it is emitted as.
 use Rattle.std.proofs.Common.{◌≡◌, ℕ, ◌+◌, ◌-◌, ◌*◌, ◌%◌, ◌<◌, ◌≤◌, ◌^◌, List, [], ◌∷◌, ◌++◌, length, refl, sym, ap, arith, ◌∙◌}
+use Rattle.field_words.specs.Sizes.{slot_size}
 use Rattle.std.specs.Prelude.{slice_index}
 use Rattle.std.specs.Int.{from_le_bytes, to_le_bytes, w32}
 use Rattle.std.proofs.lemmas.Nat.{from_le_bytes-to_le_bytes_4}
@@ -85,13 +86,13 @@ same_config a b s t c d x y e f g =
     let make : ℕ → ℕ → ℕ → Config = λ u v w. record { address = u; size = v; states = w; tiles_x = x; tiles_y = y } in
     ap (λ u. make u s c) e ∙ ap (λ v. make b v c) f ∙ ap (λ w. make b t w) g
 
-pub config_read : (layout : Layout) (p : List ℕ) → layout.slot ≤ most_place → alloc_offset (slice_index p 13 * slice_index p 14) ≤ 524288
+pub config_read : (layout : Layout) (p : List ℕ) → layout.slot ≤ most_place → alloc_offset (slice_index p 13 * slice_index p 14) ≤ slot_size
     → config_in (config_text layout p) ≡ config_of layout (slice_index p 13) (slice_index p 14)
 unfolding config_text config_in u32_at
 config_read layout p slot room =
     let start = alloc_offset (slice_index p 13 * slice_index p 14) in
     let tail : List ℕ = slice_index p 13 ∷ (slice_index p 14 ∷ ((slice_index p 15 % 2 + 68) ∷ [])) in
-    same_config _ (layout.slot + start) _ (524288 - start) _ layout.slot (slice_index p 13) (slice_index p 14)
-    (read_word (layout.slot + start) (to_le_bytes w32 (524288 - start) ++ (to_le_bytes w32 layout.slot ++ tail)) (omega arith))
-    (read_word (524288 - start) (to_le_bytes w32 layout.slot ++ tail) (omega arith))
+    same_config _ (layout.slot + start) _ (slot_size - start) _ layout.slot (slice_index p 13) (slice_index p 14)
+    (read_word (layout.slot + start) (to_le_bytes w32 (slot_size - start) ++ (to_le_bytes w32 layout.slot ++ tail)) (omega arith))
+    (read_word (slot_size - start) (to_le_bytes w32 layout.slot ++ tail) (omega arith))
     (read_word layout.slot tail (omega arith))

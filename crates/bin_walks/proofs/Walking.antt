@@ -1,5 +1,6 @@
 -- The walk over the emitted list.
 use Rattle.std.proofs.Common.{◌≡◌, ◌≢◌, inl, inr, ℕ, zero, suc, ◌+◌, ◌*◌, ◌%◌, ◌<◌, ◌≤◌, ◌^◌, max, Bool, true, false, List, [], ◌∷◌, ◌++◌, Option, Some, None, length, refl, sym, ap, subst, arith, ◌∙◌, append_assoc, append-nil, take, drop, get_or, eq-eqb}
+use Rattle.field_words.specs.Sizes.{most_list, slot_size}
 use Rattle.std.specs.Prelude.{if◌then◌else◌, ◌==◌, slice_index}
 use Rattle.std.specs.Int.{to_le_bytes, w32}
 use Rattle.std.proofs.lemmas.Bool.{eqb-true, false≢true}
@@ -386,7 +387,7 @@ pub record Known (given : GivenModel) (layout : Layout) (config : Config) (earli
   pub cuts : AreCut later
   pub some : AreSome earlier
   pub inside : place (onto earlier later) ≤ given.size
-  pub short : given.size ≤ 1048576
+  pub short : given.size ≤ most_list
   pub ends : last_opcode (onto earlier later) ≡ flush
   pub there : is_there (latest tile_binning_mode (onto earlier later)) ≡ true
   pub grid : config ≡ config_of layout (byte_of 13 (latest tile_binning_mode (onto earlier later))) (byte_of 14 (latest tile_binning_mode (onto earlier later)))
@@ -422,7 +423,7 @@ one_config given layout config earlier later p known is =
     let last : latest tile_binning_mode (onto (p ∷ earlier) later) ≡ Some p = kept_config given (p ∷ earlier) later known.fine (ap is_there here) ∙ here in
     sym (ap (λ o. config_of layout (byte_of 13 o) (byte_of 14 o)) last) ∙ sym known.grid
 
-room_of : (n : ℕ) → slot_fits n ≡ true → alloc_offset n ≤ 524288
+room_of : (n : ℕ) → slot_fits n ≡ true → alloc_offset n ≤ slot_size
 unfolding slot_fits
 room_of n fits = grind (arith, fits)
 

@@ -1,5 +1,6 @@
 -- The emitted list as the packets that the binner reads.
 use Rattle.std.specs.Prelude.{ℕ, ◌*◌, ◌+◌, ◌-◌, ◌==◌, List, [], ◌∷◌, if◌then◌else◌}
+use Rattle.field_words.specs.Sizes.{slot_size}
 use Rattle.relocation.specs.declared.layout.Layout.{Layout}
 use Rattle.packets.specs.Opcode.{buffer_handles}
 use Rattle.tile_memory.specs.Slots.{alloc_offset}
@@ -20,7 +21,7 @@ emission given layout earlier (packet ∷ later) =
 abbrev pub config_of : Layout → (across down : ℕ) → Config
 config_of layout across down = record {
   address = layout.slot + alloc_offset (across * down);
-  size = 524288 - alloc_offset (across * down);
+  size = slot_size - alloc_offset (across * down);
   states = layout.slot;
   tiles_x = across;
   tiles_y = down;

@@ -1,5 +1,6 @@
 -- No rule stands for the binner list of an example, and what it tells.
 use Rattle.std.proofs.Common.{◌≡◌, ℕ, zero, suc, ◌+◌, ◌*◌, ◌^◌, ◌≤◌, ◌<◌, true, false, List, [], ◌∷◌, None, length, refl, sym, ap, subst, arith, ◌∙◌}
+use Rattle.field_words.specs.Sizes.{slot_size}
 use Rattle.std.specs.Prelude.{◌==◌, nat_le}
 use Rattle.std.proofs.lemmas.Nat.{from_le_bytes-to_le_bytes_4}
 use Rattle.field_words.specs.Words.{u32_at, rounded_up}
@@ -46,7 +47,7 @@ unfolding slot_fits alloc_offset
 has_room tiles range =
     let few = range.few in
     let near = (rounded (48 * tiles) 4096 (omega arith)).near in
-    is_within (rounded_up (48 * tiles) 4096 + 32 * tiles) 524288 (omega arith)
+    is_within (rounded_up (48 * tiles) 4096 + 32 * tiles) slot_size (omega arith)
 
 -- what is seen after the start: the grid, and so many bytes, states and bytes of records
 abbrev seen_in : (across down at last before_last states records : ℕ) → Seen

@@ -1,5 +1,6 @@
 -- No rule stands for the memory of an example, nor for its handles.
 use Rattle.std.proofs.Common.{◌≡◌, ℕ, ◌+◌, ◌*◌, ◌%◌, ◌≤◌, true, false, [], ◌∷◌, None, refl, arith}
+use Rattle.field_words.specs.Sizes.{most_memory}
 use Rattle.std.specs.Prelude.{◌==◌, nat_lt, min}
 use Rattle.std.proofs.lemmas.Bool.Decides.{nat_tests}
 use Rattle.field_words.specs.Questions.{first_of, each}
@@ -20,7 +21,7 @@ table_for tiles = record { memory = memory_bytes tiles; regions = regions; buffe
 record IsRoom (memory size : ℕ) : Type 0 where
   some : (memory == 0) ≡ false
   pages : (memory % 4096 == 0) ≡ true
-  most : nat_lt 67108864 memory ≡ false
+  most : nat_lt most_memory memory ≡ false
   lists : nat_lt memory 0x400000 ≡ false
   tile : nat_lt memory 0x480000 ≡ false
   code : nat_lt memory 0x481000 ≡ false
@@ -44,7 +45,7 @@ room tiles range =
     record {
       some = is_some (memory_bytes tiles) (omega arith);
       pages = is_same (memory_bytes tiles % 4096) 0 (omega arith);
-      most = is_under 67108864 (memory_bytes tiles) (omega arith);
+      most = is_under most_memory (memory_bytes tiles) (omega arith);
       lists = is_under (memory_bytes tiles) 0x400000 (omega arith);
       tile = is_under (memory_bytes tiles) 0x480000 (omega arith);
       code = is_under (memory_bytes tiles) 0x481000 (omega arith);

@@ -1,6 +1,7 @@
 -- The lists of an example fit their region.
 use Rattle.std.proofs.Common.{◌≡◌, ℕ, ◌+◌, ◌*◌, ◌-◌, ◌≤◌, Bool, true, false, ap, arith, ◌∙◌}
 use Rattle.std.specs.Prelude.{nat_lt, if◌then◌else◌}
+use Rattle.field_words.specs.Sizes.{most_list}
 use Rattle.field_words.specs.Words.{rounded_up}
 use Rattle.field_words.proofs.Numbers.{rounded}
 use Rattle.relocation.specs.Layout.{records_start, uniforms_start, render_start, region_end}
@@ -31,7 +32,7 @@ render_most across down some_across some_down tiles =
     let is = render_is across down some_across some_down in
     most_if (has_tiles (frame_of across down)) (render_length (frame_of across down) true) 33699 (omega arith)
 
-pub lists_fit : (bin records render : ℕ) → bin ≤ 262159 → records ≤ 1048576 → render ≤ 33699 → nat_lt (region_end regions) (regions.lists_place + (render_start bin records 0 + render)) ≡ false
+pub lists_fit : (bin records render : ℕ) → bin ≤ 262159 → records ≤ most_list → render ≤ 33699 → nat_lt (region_end regions) (regions.lists_place + (render_start bin records 0 + render)) ≡ false
 unfolding records_start uniforms_start render_start
 lists_fit bin records render bin_most records_most render_most =
     let one = (rounded bin 16 (omega arith)).near in

@@ -1,6 +1,7 @@
 -- What the headline comes to for two files, in numbers that a reader can compare with what `check` prints of them: that of the textured
 -- job alone, and that of two such jobs, of clients 1 and 2.
 use Rattle.std.specs.Prelude.{◌≡◌, ◌≢◌, ◌≤◌, ◌<◌, ◌⊎◌, ℕ, ◌+◌, List, [], ◌∷◌, ◌++◌, map, length, slice_index, slice_index_or}
+use Rattle.field_words.specs.Sizes.{slot_size}
 use Rattle.std.specs.List.{AllByRecursion}
 use Rattle.field_words.specs.declared.access.Access.{Access}
 use Rattle.field_words.specs.declared.access.Way.TheVariants.{Write, Wild}
@@ -31,7 +32,7 @@ pub record Numbers : Type 0 where
 -- the file of one job
 abbrev pub alone : Numbers
 alone = record {
-  slot = (4096, 524288);
+  slot = (4096, slot_size);
   bin = (0, 34);
   records = (48, 48);
   uniforms = (112, 16);
@@ -43,7 +44,7 @@ alone = record {
 -- the file of two: job 0, of client 1, and job 1, of client 2
 abbrev pub first : Numbers
 first = record {
-  slot = (4096, 524288);
+  slot = (4096, slot_size);
   bin = (0, 34);
   records = (48, 48);
   uniforms = (112, 16);
@@ -54,7 +55,7 @@ first = record {
 
 abbrev pub second : Numbers
 second = record {
-  slot = (528384, 524288);
+  slot = (528384, slot_size);
   bin = (176, 34);
   records = (224, 48);
   uniforms = (288, 16);

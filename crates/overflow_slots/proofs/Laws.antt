@@ -1,5 +1,6 @@
 -- No slot belongs to two jobs, and blocks lie apart, after any list of calls.
 use Rattle.std.proofs.Common.{inl, inr, ◌≡◌, ◌⊎◌, ℕ, ◌+◌, ◌≤◌, ◌<◌, ◌==◌, Bool, true, false, not, ◌||◌, List, [], ◌∷◌, refl, sym, ◌∙◌, ap, subst, arith, Option, None, Some, Result, Ok, Err, if◌then◌else◌, eq-eqb}
+use Rattle.field_words.specs.Sizes.{slot_size}
 use Rattle.std.proofs.lemmas.Bool.{false≢true}
 use Rattle.std.proofs.lemmas.Bool.Decides.{nat_tests}
 use Rattle.overflow_slots.specs.declared.pool.Block.{Block}
@@ -186,7 +187,7 @@ all_apart : (one : Held) (others : List Held) (blocks : List Block) → holds on
 all_apart one others [] differ lie = tt
 all_apart one others (block ∷ blocks) differ lie = (apart_of one others block differ lie.0, all_apart one others blocks differ lie.1)
 
-room_left : (used : ℕ) → has_room used ≡ true → used + 128 ≤ 524288
+room_left : (used : ℕ) → has_room used ≡ true → used + 128 ≤ slot_size
 room_left used room = grind (arith, nat_tests)
 
 take_by : (run : Run) (job : ℕ) (one : Held) (others : List Held) (room : Bool) → job < 32 → run.held job ≡ one ∷ others → has_room one.used ≡ room → Core run

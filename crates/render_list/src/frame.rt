@@ -68,7 +68,7 @@ pub fn tile_side(frame: &Frame) -> u32
 #[tactic(auto, unfolding(crate::specs::Frame::full_tile))]
 pub fn full_tile(frame: &Frame, x: u8, y: u8) -> u32
     ensures value { result ≡ full_tile frame.now x y }
-    ensures limit { result < 524288 }
+    ensures limit { result < 2 ^ 19 }
 {
     u32::from(frame.width).div_ceil(32) * u32::from(y) + u32::from(x)
 }

@@ -1,6 +1,7 @@
 -- What the check of shader records is given: the states of the binner list, the parts of the job file,
 -- the memory table with the job's handles, and what is known of each buffer's shader.
-use Rattle.std.specs.Prelude.{◌≡◌, ℕ, ◌<◌, List, length, map, Option, Some, None, slice_index_or, is_some, not}
+use Rattle.std.specs.Prelude.{◌≡◌, ℕ, ◌<◌, ◌≤◌, List, length, map, Option, Some, None, slice_index_or, is_some, not}
+use Rattle.field_words.specs.Sizes.{most_list}
 use Rattle.buffer_table.specs.Table.{TableModel, buffer_at}
 use Rattle.buffer_table.specs.Handles.{AreNumbersOf, is_plain}
 use Rattle.qpu_isa.specs.declared.inst.ShaderInfo.{ShaderInfo}
@@ -36,6 +37,11 @@ pub record AreShadersOf (table : TableModel) (shaders : List (Option ShaderModel
 pub record AreInputs (input : InputModel) : Type 0 where
   pub handles : AreNumbersOf input.table input.handles
   pub shaders : AreShadersOf input.table input.shaders
+
+-- Its records and its uniforms are no longer than a job file has them.
+pub record Fits (input : InputModel) : Type 0 where
+  pub records : length input.records ≤ most_list
+  pub uniforms : length input.uniforms ≤ most_list
 
 -- the input of a job: what its binner list, its parts, its memory table and its shaders give
 abbrev pub input_of : List State → List ℕ → List ℕ → TableModel → List ℕ → List (Option ShaderInfo) → InputModel

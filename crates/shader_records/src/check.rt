@@ -5,7 +5,7 @@ ghost use Rattle.buffer_table.specs.Table.{most_place};
 ghost use Rattle.field_words.specs.Questions.{first_of, Answers};
 ghost use Rattle.field_words.specs.declared.stop.Stop.TheVariants.{NoMemory as OutOfMemory};
 ghost use Rattle.buffer_table.specs.Handles.{AreNumbersOf};
-ghost use Rattle.shader_records.specs.Inputs.{AreShadersOf, shaders_view, input_of};
+ghost use Rattle.shader_records.specs.Inputs.{AreShadersOf, shaders_view, input_of, Fits};
 ghost use Rattle.shader_records.specs.Rules.{all_questions};
 ghost use Rattle.shader_records.specs.Emitted.{IsEmitted};
 
@@ -24,8 +24,7 @@ use std::alloc::Global;
 /// Emits records and uniforms of which no rule fails, each at its offset in `out`.
 #[tactic(auto, using(crate::proofs::Lengths::length_records, crate::proofs::Lengths::length_uniforms))]
 fn emit(inputs: &Inputs, layout: &Layout, out: &mut [u8]) -> RecordInfo
-    requires few_records { length inputs.now.records ≤ 1048576 }
-    requires few { length inputs.now.uniforms ≤ 1048576 }
+    requires fits { Fits inputs.now }
     requires fine { first_of (all_questions inputs.now) ≡ None }
     requires place_limit { layout.now.place ≤ most_place }
     requires limit { layout.now.uniforms ≤ 2 * most_list + 32 }
@@ -65,8 +64,8 @@ pub fn check_records(
 ) -> Result<RecordInfo, Stop<RecordFault>>
     requires handles { AreNumbersOf table.now handles.now }
     requires shaders { AreShadersOf table.now (shaders_view shaders.now) }
-    requires records_limit { length records.now ≤ 1048576 }
-    requires uniforms_limit { length uniforms.now ≤ 1048576 }
+    requires records_limit { length records.now ≤ most_list }
+    requires uniforms_limit { length uniforms.now ≤ most_list }
     requires place_limit { layout.now.place ≤ most_place }
     requires limit { layout.now.uniforms ≤ 2 * most_list + 32 }
     requires order { layout.now.records + length records.now ≤ layout.now.uniforms }

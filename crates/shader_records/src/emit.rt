@@ -1,7 +1,9 @@
 //! Emission of all records, and of all streams.
 ghost use Rattle.std.specs.Prelude.{◌≡◌, None, ◌+◌, ◌<◌, ◌≤◌, ◌^◌, length};
+ghost use Rattle.field_words.specs.Sizes.{most_memory};
 ghost use Rattle.field_words.specs.Questions.{first_of};
 ghost use Rattle.field_words.specs.Writes.{with_bytes};
+ghost use Rattle.shader_records.specs.Inputs.{Fits};
 ghost use Rattle.shader_records.specs.Sources.{state_at, record_offset, stream_offset, given_before};
 ghost use Rattle.packets.specs.StateWord.{record_room};
 ghost use Rattle.shader_records.specs.Rules.{all_questions};
@@ -16,10 +18,9 @@ use packets::record_room;
 
 /// Emits all records from `base` on; their streams stand from the place `first` on. Gives the bytes.
 pub(crate) fn put_records(inputs: &Inputs, first: u32, out: &mut [u8], base: usize) -> usize
-    requires few_records { length inputs.now.records ≤ 1048576 }
-    requires few { length inputs.now.uniforms ≤ 1048576 }
+    requires fits { Fits inputs.now }
     requires fine { first_of (all_questions inputs.now) ≡ None }
-    requires base { base ≤ 67108864 }
+    requires base { base ≤ most_memory }
     requires places { first + length inputs.now.uniforms < 2 ^ 32 }
     requires room { base + length inputs.now.records ≤ length out.old }
     ensures text { out.new ≡ with_bytes out.old base (emitted_records inputs.now first) }
@@ -40,10 +41,9 @@ pub(crate) fn put_records(inputs: &Inputs, first: u32, out: &mut [u8], base: usi
 
 /// Emits all streams from `base` on; they stand from the place `first` on. Gives the bytes.
 pub(crate) fn put_uniforms(inputs: &Inputs, first: u32, out: &mut [u8], base: usize) -> usize
-    requires few_records { length inputs.now.records ≤ 1048576 }
-    requires few { length inputs.now.uniforms ≤ 1048576 }
+    requires fits { Fits inputs.now }
     requires fine { first_of (all_questions inputs.now) ≡ None }
-    requires base { base ≤ 67108864 }
+    requires base { base ≤ most_memory }
     requires places { first + length inputs.now.uniforms < 2 ^ 32 }
     requires room { base + length inputs.now.uniforms ≤ length out.old }
     ensures text { out.new ≡ with_bytes out.old base (emitted_uniforms inputs.now first) }

@@ -1,6 +1,7 @@
 //! The rules of all states.
 ghost use Rattle.std.specs.Prelude.{◌≡◌, ◌+◌, ◌*◌, ◌<◌, ◌≤◌, length};
 ghost use Rattle.field_words.specs.Questions.{GoesOn, first_of, each};
+ghost use Rattle.shader_records.specs.Inputs.{Fits};
 ghost use Rattle.shader_records.specs.Sources.{state_at, source_size, record_source, uniform_source, taken_before};
 ghost use Rattle.shader_records.specs.Rules.{shader_questions, state_questions, all_questions};
 
@@ -14,8 +15,7 @@ use crate::uniform_rules::use_fault;
 /// they end.
 #[tactic(auto, unfolding(crate::specs::Rules::shader_questions), using(field_words::proofs::Questions::each_on, field_words::proofs::Questions::each_stop, field_words::proofs::Questions::each_end, crate::proofs::Steps::taken_zero, crate::proofs::Steps::taken_next))]
 fn uses_fault(inputs: &Inputs, at: usize, from: usize) -> Result<usize, RecordFault>
-    requires few_records { length inputs.now.records ≤ 1048576 }
-    requires few { length inputs.now.uniforms ≤ 1048576 }
+    requires fits { Fits inputs.now }
     requires inside { at + 12 ≤ length inputs.now.records }
     requires from { from ≤ length inputs.now.uniforms }
     ensures { GoesOn (each (shader_questions inputs.now at from) 0 3) (λ end. (end ≡ from + taken_before inputs.now at 3) × (end ≤ length inputs.now.uniforms)) result }
@@ -46,8 +46,7 @@ pub(crate) fn source_of(inputs: &Inputs, k: usize, at: usize) -> Source
 /// The first rule that state `k` breaks, or else where its uniforms end.
 #[tactic(auto, unfolding(crate::specs::Rules::state_questions, crate::specs::Sources::source_size, crate::specs::Sources::handles_size), using(field_words::proofs::Questions::passes, field_words::proofs::Questions::stops, crate::proofs::Steps::uniforms_next))]
 fn state_fault(inputs: &Inputs, k: usize, at: usize, from: usize) -> Result<usize, RecordFault>
-    requires few_records { length inputs.now.records ≤ 1048576 }
-    requires few { length inputs.now.uniforms ≤ 1048576 }
+    requires fits { Fits inputs.now }
     requires inside { k < length inputs.now.states }
     requires record { at ≡ record_source inputs.now k }
     requires uniforms { from ≡ uniform_source inputs.now k }
@@ -64,8 +63,7 @@ fn state_fault(inputs: &Inputs, k: usize, at: usize, from: usize) -> Result<usiz
 /// The first rule that stands, state by state.
 #[tactic(auto, unfolding(crate::specs::Rules::all_questions), using(field_words::proofs::Questions::each_on, field_words::proofs::Questions::each_stop, field_words::proofs::Questions::each_end, crate::proofs::Steps::record_zero, crate::proofs::Steps::uniforms_zero, crate::proofs::Steps::record_next))]
 pub(crate) fn first_fault(inputs: &Inputs) -> Option<RecordFault>
-    requires few_records { length inputs.now.records ≤ 1048576 }
-    requires few { length inputs.now.uniforms ≤ 1048576 }
+    requires fits { Fits inputs.now }
     ensures { result ≡ first_of (all_questions inputs.now) }
 {
     let mut at = 0;

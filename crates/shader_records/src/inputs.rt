@@ -3,7 +3,7 @@ ghost use Rattle.std.specs.Prelude.{◌≡◌, ◌+◌, ◌*◌, ◌^◌, ◌<�
 ghost use Rattle.field_words.specs.Words.{u32_at};
 ghost use Rattle.buffer_table.specs.Table.{buffer_at, most_place};
 ghost use Rattle.qpu_isa.specs.Shader.{shader_view, IsSoundShader};
-ghost use Rattle.shader_records.specs.Inputs.{shaders_view, shader_in};
+ghost use Rattle.shader_records.specs.Inputs.{shaders_view, shader_in, Fits};
 ghost use Rattle.shader_records.specs.Sources.{no_state, state_at, handles_size, code_number, attribute_number, sample_number, shader_used, is_threaded, record_word, place_in, size_in};
 
 use crate::sizes::handles_size;
@@ -104,7 +104,7 @@ impl<'a> Inputs<'a> {
     /// The buffer of shader `s`'s code, for the record whose source begins at `at`.
     #[tactic(auto, unfolding(crate::specs::Sources::code_number))]
     pub(crate) fn code_number(&self, at: usize, s: usize) -> Option<usize>
-        requires few { length self.now.records ≤ 1048576 }
+        requires fits { Fits self.now }
         requires inside { at + 4 * s + 4 ≤ length self.now.records }
         ensures value { result ≡ code_number self.now at s }
         ensures below { IfSome result (λ number. number < length self.now.table.buffers) }
@@ -115,7 +115,7 @@ impl<'a> Inputs<'a> {
     /// The buffer of attribute `t`'s data.
     #[tactic(auto, unfolding(crate::specs::Sources::attribute_number))]
     pub(crate) fn attribute_number(&self, at: usize, t: usize) -> Option<usize>
-        requires few { length self.now.records ≤ 1048576 }
+        requires fits { Fits self.now }
         requires inside { at + (12 + 4 * t) + 4 ≤ length self.now.records }
         ensures value { result ≡ attribute_number self.now at t }
         ensures below { IfSome result (λ number. number < length self.now.table.buffers) }
@@ -126,7 +126,7 @@ impl<'a> Inputs<'a> {
     /// The buffer of sample `i`, for a shader whose uniforms begin at `from`.
     #[tactic(auto, unfolding(crate::specs::Sources::sample_number))]
     pub(crate) fn sample_number(&self, from: usize, i: usize) -> Option<usize>
-        requires few { length self.now.uniforms ≤ 1048576 }
+        requires fits { Fits self.now }
         requires inside { from + 4 * i + 4 ≤ length self.now.uniforms }
         ensures value { result ≡ sample_number self.now from i }
         ensures below { IfSome result (λ number. number < length self.now.table.buffers) }
@@ -137,7 +137,7 @@ impl<'a> Inputs<'a> {
     /// Word `i` of the record whose source begins at `at`.
     #[tactic(auto, unfolding(crate::specs::Sources::record_word))]
     pub(crate) fn record_word(&self, at: usize, state: u32, i: usize) -> u32
-        requires few { length self.now.records ≤ 1048576 }
+        requires fits { Fits self.now }
         requires inside { at + handles_size state + 4 * i + 4 ≤ length self.now.records }
         ensures { result ≡ record_word self.now at state i }
     {
@@ -147,7 +147,7 @@ impl<'a> Inputs<'a> {
     /// What is known of the shader that a record starts, `None` where the handle names none.
     #[tactic(auto, unfolding(crate::specs::Sources::shader_used))]
     pub(crate) fn shader_used(&self, at: usize, s: usize) -> Option<&ShaderInfo>
-        requires few { length self.now.records ≤ 1048576 }
+        requires fits { Fits self.now }
         requires inside { at + 4 * s + 4 ≤ length self.now.records }
         ensures value { MatchOption result (shader_used self.now at s ≡ None) (λ info. shader_used self.now at s ≡ Some (shader_view info.now)) }
         ensures sound { IfSome result (λ info. IsSoundShader (shader_view info.now)) }
@@ -160,7 +160,7 @@ impl<'a> Inputs<'a> {
 
     /// Whether that shader switches threads.
     pub(crate) fn is_threaded(&self, at: usize, s: usize) -> bool
-        requires few { length self.now.records ≤ 1048576 }
+        requires fits { Fits self.now }
         requires inside { at + 4 * s + 4 ≤ length self.now.records }
         ensures { result ≡ is_threaded (shader_used self.now at s) }
     {

@@ -3,6 +3,7 @@ ghost use Rattle.std.specs.Prelude.{◌≡◌, ◌++◌, true, ◌+◌, ◌*◌,
 ghost use Rattle.field_words.specs.Questions.{first_of, each};
 ghost use Rattle.emitted_facts.specs.Records.{attribute_size, attribute_stride, is_single};
 ghost use Rattle.packets.specs.StateWord.{attribute_count, is_extended};
+ghost use Rattle.shader_records.specs.Inputs.{Fits};
 ghost use Rattle.shader_records.specs.Sources.{handles_size, source_size, record_word};
 ghost use Rattle.shader_records.specs.Faults.{record_fault as fault_of};
 ghost use Rattle.shader_records.specs.Rules.{cut_questions, code_questions, handle_questions, fixed_questions, attribute_questions, names_questions, body_questions, record_questions, disagrees};
@@ -38,7 +39,7 @@ fn fault(rule: RecordRule, at: usize) -> RecordFault
 /// A1 and A2: the source is cut off.
 #[tactic(auto, unfolding(crate::specs::Rules::cut_questions))]
 fn cut_fault(inputs: &Inputs, source: Source) -> Option<RecordFault>
-    requires few { length inputs.now.records ≤ 1048576 }
+    requires fits { Fits inputs.now }
     requires from { source.at ≤ length inputs.now.records }
     ensures first { result ≡ first_of (cut_questions inputs.now source.at source.state) }
     ensures inside { IfNone result (source.at + source_size source.state ≤ length inputs.now.records) }
@@ -56,7 +57,7 @@ fn cut_fault(inputs: &Inputs, source: Source) -> Option<RecordFault>
 /// A3 and A6 at the handle of a shader's code.
 #[tactic(auto, unfolding(crate::specs::Rules::code_questions))]
 fn code_fault(inputs: &Inputs, at: usize, s: usize) -> Option<RecordFault>
-    requires few { length inputs.now.records ≤ 1048576 }
+    requires fits { Fits inputs.now }
     requires inside { at + 4 * s + 4 ≤ length inputs.now.records }
     ensures { result ≡ first_of (code_questions inputs.now at s) }
 {
@@ -71,7 +72,7 @@ fn code_fault(inputs: &Inputs, at: usize, s: usize) -> Option<RecordFault>
 
 #[tactic(auto, using(field_words::proofs::Questions::each_on, field_words::proofs::Questions::each_stop, field_words::proofs::Questions::each_end))]
 fn codes_fault(inputs: &Inputs, at: usize) -> Option<RecordFault>
-    requires few { length inputs.now.records ≤ 1048576 }
+    requires fits { Fits inputs.now }
     requires inside { at + 12 ≤ length inputs.now.records }
     ensures { result ≡ first_of (each (code_questions inputs.now at) 0 3) }
 {
@@ -86,7 +87,7 @@ fn codes_fault(inputs: &Inputs, at: usize) -> Option<RecordFault>
 /// A4 at the handle of an attribute.
 #[tactic(auto, unfolding(crate::specs::Rules::handle_questions))]
 fn handle_fault(inputs: &Inputs, at: usize, t: usize) -> Option<RecordFault>
-    requires few { length inputs.now.records ≤ 1048576 }
+    requires fits { Fits inputs.now }
     requires inside { at + (12 + 4 * t) + 4 ≤ length inputs.now.records }
     ensures { result ≡ first_of (handle_questions inputs.now at t) }
 {
@@ -98,7 +99,7 @@ fn handle_fault(inputs: &Inputs, at: usize, t: usize) -> Option<RecordFault>
 
 #[tactic(auto, using(field_words::proofs::Questions::each_on, field_words::proofs::Questions::each_stop, field_words::proofs::Questions::each_end))]
 fn handles_fault(inputs: &Inputs, at: usize, count: usize) -> Option<RecordFault>
-    requires few { length inputs.now.records ≤ 1048576 }
+    requires fits { Fits inputs.now }
     requires count { count ≤ 8 }
     requires inside { at + 12 + 4 * count ≤ length inputs.now.records }
     ensures { result ≡ first_of (each (handle_questions inputs.now at) 0 count) }
@@ -114,7 +115,7 @@ fn handles_fault(inputs: &Inputs, at: usize, count: usize) -> Option<RecordFault
 /// The rules at the handles.
 #[tactic(auto, unfolding(crate::specs::Rules::names_questions, crate::specs::Sources::handles_size), using(field_words::proofs::Questions::passes, field_words::proofs::Questions::stops))]
 fn names_fault(inputs: &Inputs, source: Source) -> Option<RecordFault>
-    requires few { length inputs.now.records ≤ 1048576 }
+    requires fits { Fits inputs.now }
     requires inside { source.at + handles_size source.state ≤ length inputs.now.records }
     ensures { result ≡ first_of (names_questions inputs.now source.at source.state) }
 {
@@ -127,7 +128,7 @@ fn names_fault(inputs: &Inputs, source: Source) -> Option<RecordFault>
 /// A5 and A7: the flags, and the words for code addresses.
 #[tactic(auto, unfolding(crate::specs::Rules::fixed_questions, crate::specs::Rules::disagrees, emitted_facts::specs::Records::is_single))]
 fn fixed_fault(inputs: &Inputs, source: Source) -> Option<RecordFault>
-    requires few { length inputs.now.records ≤ 1048576 }
+    requires fits { Fits inputs.now }
     requires handles { source.at + 12 ≤ length inputs.now.records }
     requires inside { source.at + handles_size source.state + 36 ≤ length inputs.now.records }
     ensures { result ≡ first_of (fixed_questions inputs.now source.at source.state) }
@@ -152,7 +153,7 @@ fn fixed_fault(inputs: &Inputs, source: Source) -> Option<RecordFault>
 /// The bytes that a vertex has in an attribute's data.
 #[tactic(auto, unfolding(emitted_facts::specs::Records::attribute_size))]
 fn attribute_size(inputs: &Inputs, source: Source, t: usize) -> u32
-    requires few { length inputs.now.records ≤ 1048576 }
+    requires fits { Fits inputs.now }
     requires inside { source.at + handles_size source.state + 4 * (10 + 2 * t) + 4 ≤ length inputs.now.records }
     ensures value { result ≡ attribute_size (record_word inputs.now source.at source.state) t }
     ensures limit { result ≤ 256 }
@@ -163,7 +164,7 @@ fn attribute_size(inputs: &Inputs, source: Source, t: usize) -> u32
 /// From a vertex's data to the next vertex's.
 #[tactic(auto, unfolding(emitted_facts::specs::Records::attribute_stride))]
 fn attribute_stride(inputs: &Inputs, source: Source, t: usize) -> u32
-    requires few { length inputs.now.records ≤ 1048576 }
+    requires fits { Fits inputs.now }
     requires inside { source.at + handles_size source.state + 4 * (10 + 2 * t) + 4 ≤ length inputs.now.records }
     requires extension { is_extended source.state ≡ true → source.at + handles_size source.state + 4 * (25 + t) + 4 ≤ length inputs.now.records }
     ensures { result ≡ attribute_stride source.state (record_word inputs.now source.at source.state) t }
@@ -179,7 +180,7 @@ fn attribute_stride(inputs: &Inputs, source: Source, t: usize) -> u32
 /// A9 and A10 at an attribute.
 #[tactic(auto, unfolding(crate::specs::Rules::attribute_questions, crate::specs::Rules::is_attribute_past, crate::specs::Rules::has_vertex_past))]
 fn attribute_fault(inputs: &Inputs, source: Source, t: usize) -> Option<RecordFault>
-    requires few { length inputs.now.records ≤ 1048576 }
+    requires fits { Fits inputs.now }
     requires count { t < 8 }
     requires handle { source.at + (12 + 4 * t) + 4 ≤ length inputs.now.records }
     requires inside { source.at + handles_size source.state + 4 * (10 + 2 * t) + 4 ≤ length inputs.now.records }
@@ -202,7 +203,7 @@ fn attribute_fault(inputs: &Inputs, source: Source, t: usize) -> Option<RecordFa
 
 #[tactic(auto, using(field_words::proofs::Questions::each_on, field_words::proofs::Questions::each_stop, field_words::proofs::Questions::each_end))]
 fn attributes_fault(inputs: &Inputs, source: Source, count: usize) -> Option<RecordFault>
-    requires few { length inputs.now.records ≤ 1048576 }
+    requires fits { Fits inputs.now }
     requires count { count ≤ 8 }
     requires handles { source.at + 12 + 4 * count ≤ length inputs.now.records }
     requires inside { source.at + handles_size source.state + 36 + 8 * count ≤ length inputs.now.records }
@@ -220,7 +221,7 @@ fn attributes_fault(inputs: &Inputs, source: Source, count: usize) -> Option<Rec
 /// The rules in the record itself.
 #[tactic(auto, unfolding(crate::specs::Rules::body_questions, crate::specs::Sources::handles_size, crate::specs::Sources::source_size, packets::specs::StateWord::record_size), using(field_words::proofs::Questions::passes, field_words::proofs::Questions::stops))]
 fn body_fault(inputs: &Inputs, source: Source) -> Option<RecordFault>
-    requires few { length inputs.now.records ≤ 1048576 }
+    requires fits { Fits inputs.now }
     requires inside { source.at + source_size source.state ≤ length inputs.now.records }
     ensures { result ≡ first_of (body_questions inputs.now source.at source.state source.max_index) }
 {
@@ -233,7 +234,7 @@ fn body_fault(inputs: &Inputs, source: Source) -> Option<RecordFault>
 /// The rules at the handles and then those in the record.
 #[tactic(auto, unfolding(crate::specs::Sources::source_size), using(field_words::proofs::Questions::passes, field_words::proofs::Questions::stops))]
 fn whole_fault(inputs: &Inputs, source: Source) -> Option<RecordFault>
-    requires few { length inputs.now.records ≤ 1048576 }
+    requires fits { Fits inputs.now }
     requires inside { source.at + source_size source.state ≤ length inputs.now.records }
     ensures { result ≡ first_of (names_questions inputs.now source.at source.state ++ body_questions inputs.now source.at source.state source.max_index) }
 {
@@ -246,7 +247,7 @@ fn whole_fault(inputs: &Inputs, source: Source) -> Option<RecordFault>
 /// The first rule that a record breaks, by place and number.
 #[tactic(auto, unfolding(crate::specs::Rules::record_questions), using(field_words::proofs::Questions::passes, field_words::proofs::Questions::stops))]
 pub(crate) fn record_fault(inputs: &Inputs, source: Source) -> Option<RecordFault>
-    requires few { length inputs.now.records ≤ 1048576 }
+    requires fits { Fits inputs.now }
     requires from { source.at ≤ length inputs.now.records }
     ensures first { result ≡ first_of (record_questions inputs.now source.at source.state source.max_index) }
     ensures inside { IfNone result (source.at + source_size source.state ≤ length inputs.now.records) }

@@ -4,6 +4,7 @@ ghost use Rattle.field_words.specs.Questions.{first_of};
 ghost use Rattle.field_words.specs.Writes.{with_bytes};
 ghost use Rattle.emitted_facts.specs.Records.{address_word};
 ghost use Rattle.packets.specs.StateWord.{attribute_count, record_size, record_room};
+ghost use Rattle.shader_records.specs.Inputs.{Fits};
 ghost use Rattle.shader_records.specs.Sources.{handles_size, source_size, shader_used, given_by, given_before, record_word, attribute_number, place_in};
 ghost use Rattle.shader_records.specs.Rules.{record_questions};
 ghost use Rattle.shader_records.specs.Emission.{shader_word, attribute_word, emitted_word, stream_place, record_text, AreStreamsOf};
@@ -23,7 +24,7 @@ fn bytes_of(words: u32) -> u64
 
 /// The bytes of the stream of shader `s` of a record.
 pub(crate) fn given_by(inputs: &Inputs, at: usize, s: usize) -> u64
-    requires few { length inputs.now.records ≤ 1048576 }
+    requires fits { Fits inputs.now }
     requires inside { at + 4 * s + 4 ≤ length inputs.now.records }
     ensures value { result ≡ given_by (shader_used inputs.now at s) }
     ensures limit { result < 2 ^ 34 }
@@ -37,7 +38,7 @@ pub(crate) fn given_by(inputs: &Inputs, at: usize, s: usize) -> u64
 /// The bytes of a record's streams before shader `s`.
 #[tactic(auto, using(crate::proofs::Steps::given_zero, crate::proofs::Steps::given_next))]
 pub(crate) fn given_before(inputs: &Inputs, at: usize, count: usize) -> u64
-    requires few { length inputs.now.records ≤ 1048576 }
+    requires fits { Fits inputs.now }
     requires count { count ≤ 3 }
     requires inside { at + 12 ≤ length inputs.now.records }
     ensures value { result ≡ given_before inputs.now at count }
@@ -53,7 +54,7 @@ pub(crate) fn given_before(inputs: &Inputs, at: usize, count: usize) -> u64
 /// Where the streams of a record stand, if the first does at `first`.
 #[tactic(auto, unfolding(crate::specs::Emission::stream_place))]
 fn streams_of(inputs: &Inputs, at: usize, first: u32) -> [u32; 3]
-    requires few { length inputs.now.records ≤ 1048576 }
+    requires fits { Fits inputs.now }
     requires inside { at + 12 ≤ length inputs.now.records }
     requires room { first + given_before inputs.now at 3 < 2 ^ 32 }
     ensures { AreStreamsOf result (stream_place inputs.now at first) }
@@ -67,7 +68,7 @@ fn streams_of(inputs: &Inputs, at: usize, first: u32) -> [u32; 3]
 
 #[tactic(auto, unfolding(crate::specs::Emission::stream_place), using(crate::proofs::Steps::given_rises))]
 fn stream_place(inputs: &Inputs, at: usize, first: u32, s: usize) -> u32
-    requires few { length inputs.now.records ≤ 1048576 }
+    requires fits { Fits inputs.now }
     requires inside { at + 12 ≤ length inputs.now.records }
     requires count { s < 3 }
     requires room { first + given_before inputs.now at 3 < 2 ^ 32 }
@@ -79,7 +80,7 @@ fn stream_place(inputs: &Inputs, at: usize, first: u32, s: usize) -> u32
 /// Word `i` of the first nine.
 #[tactic(auto, unfolding(crate::specs::Emission::shader_word))]
 fn shader_word(inputs: &Inputs, source: Source, first: u32, streams: &[u32; 3], i: usize) -> u32
-    requires few { length inputs.now.records ≤ 1048576 }
+    requires fits { Fits inputs.now }
     requires handles { source.at + 12 ≤ length inputs.now.records }
     requires inside { source.at + handles_size source.state + 36 ≤ length inputs.now.records }
     requires count { i < 9 }
@@ -96,7 +97,7 @@ fn shader_word(inputs: &Inputs, source: Source, first: u32, streams: &[u32; 3], 
 /// The address of attribute `t`, moved by its buffer's place.
 #[tactic(auto, using(crate::proofs::Fine::address_fits))]
 fn moved_address(inputs: &Inputs, source: Source, t: usize) -> u32
-    requires few { length inputs.now.records ≤ 1048576 }
+    requires fits { Fits inputs.now }
     requires count { t < attribute_count source.state }
     requires inside { source.at + source_size source.state ≤ length inputs.now.records }
     requires fine { first_of (record_questions inputs.now source.at source.state source.max_index) ≡ None }
@@ -112,7 +113,7 @@ fn moved_address(inputs: &Inputs, source: Source, t: usize) -> u32
 /// Word `j` of those behind the first nine.
 #[tactic(auto, unfolding(crate::specs::Emission::attribute_word))]
 fn attribute_word(inputs: &Inputs, source: Source, j: usize) -> u32
-    requires few { length inputs.now.records ≤ 1048576 }
+    requires fits { Fits inputs.now }
     requires inside { source.at + source_size source.state ≤ length inputs.now.records }
     requires word { 4 * (9 + j) < record_size source.state }
     requires fine { first_of (record_questions inputs.now source.at source.state source.max_index) ≡ None }
@@ -127,7 +128,7 @@ fn attribute_word(inputs: &Inputs, source: Source, j: usize) -> u32
 /// Word `i` of the record that is emitted.
 #[tactic(auto, unfolding(crate::specs::Emission::emitted_word))]
 fn emitted_word(inputs: &Inputs, source: Source, first: u32, streams: &[u32; 3], i: usize) -> u32
-    requires few { length inputs.now.records ≤ 1048576 }
+    requires fits { Fits inputs.now }
     requires inside { source.at + source_size source.state ≤ length inputs.now.records }
     requires count { i < 64 }
     requires fine { first_of (record_questions inputs.now source.at source.state source.max_index) ≡ None }
@@ -147,7 +148,7 @@ fn emitted_word(inputs: &Inputs, source: Source, first: u32, streams: &[u32; 3],
 /// Emits a record at `base`, with zeros up to a multiple of 16. Its streams stand from `first` on.
 #[tactic(auto, unfolding(crate::specs::Emission::record_text), using(field_words::proofs::WordBytes::no_words, crate::proofs::Fine::source_inside, crate::proofs::Inside::fixed_in))]
 pub(crate) fn put_record(inputs: &Inputs, source: Source, first: u32, out: &mut [u8], base: usize)
-    requires few { length inputs.now.records ≤ 1048576 }
+    requires fits { Fits inputs.now }
     requires fine { first_of (record_questions inputs.now source.at source.state source.max_index) ≡ None }
     requires streams { first + given_before inputs.now source.at 3 < 2 ^ 32 }
     requires room { base + record_room source.state ≤ length out.old }

@@ -4,6 +4,7 @@ ghost use Rattle.field_words.specs.Questions.{first_of};
 ghost use Rattle.field_words.specs.WordBytes.{word_bytes};
 ghost use Rattle.field_words.specs.Writes.{with_bytes};
 ghost use Rattle.qpu_isa.specs.Shader.{shader_view, sample_at, first_position, address_at, IsSoundShader};
+ghost use Rattle.shader_records.specs.Inputs.{Fits};
 ghost use Rattle.shader_records.specs.Sources.{sample_number, source_word, place_in, shader_used, taken_by, given_by, taken_before, given_before};
 ghost use Rattle.shader_records.specs.Rules.{use_questions};
 ghost use Rattle.shader_records.specs.Emission.{stream_word_of, stream_text, streams_text};
@@ -17,7 +18,7 @@ use qpu_isa::ShaderInfo;
 /// Word `k` of a stream's source, for a shader whose uniforms begin at `from`.
 #[tactic(auto, unfolding(crate::specs::Sources::source_word))]
 fn source_word(inputs: &Inputs, from: usize, info: &ShaderInfo, k: usize) -> u32
-    requires few { length inputs.now.uniforms ≤ 1048576 }
+    requires fits { Fits inputs.now }
     requires room { from + 4 * (length info.now.samples.items + info.now.uniforms) ≤ length inputs.now.uniforms }
     requires inside { k < info.now.uniforms }
     ensures { result ≡ source_word inputs.now from (shader_view info.now) k }
@@ -28,7 +29,7 @@ fn source_word(inputs: &Inputs, from: usize, info: &ShaderInfo, k: usize) -> u32
 /// The first word of sample `i`, moved by its buffer's place.
 #[tactic(auto, using(crate::proofs::Samples::base_fits))]
 fn moved_word(inputs: &Inputs, from: usize, info: &ShaderInfo, i: usize) -> u32
-    requires few { length inputs.now.uniforms ≤ 1048576 }
+    requires fits { Fits inputs.now }
     requires sound { IsSoundShader (shader_view info.now) }
     requires room { from + 4 * (length info.now.samples.items + info.now.uniforms) ≤ length inputs.now.uniforms }
     requires inside { i < length info.now.samples.items }
@@ -60,7 +61,7 @@ fn put_words(
     out: &mut [u8],
     base: usize,
 )
-    requires few { length inputs.now.uniforms ≤ 1048576 }
+    requires fits { Fits inputs.now }
     requires sound { IsSoundShader (shader_view info.now) }
     requires fine { first_of (use_questions inputs.now from (Some (shader_view info.now))) ≡ None }
     requires room { base + 4 * info.now.uniforms ≤ length out.old }
@@ -82,8 +83,7 @@ fn put_words(
 /// The bytes of uniforms that shader `s` of a record takes.
 #[tactic(auto, using(crate::proofs::Fine::use_inside))]
 fn taken_by(inputs: &Inputs, at: usize, s: usize, from: usize) -> usize
-    requires few_records { length inputs.now.records ≤ 1048576 }
-    requires few { length inputs.now.uniforms ≤ 1048576 }
+    requires fits { Fits inputs.now }
     requires inside { at + 4 * s + 4 ≤ length inputs.now.records }
     requires fine { first_of (use_questions inputs.now from (shader_used inputs.now at s)) ≡ None }
     ensures { result ≡ taken_by (shader_used inputs.now at s) }
@@ -105,8 +105,7 @@ fn put_stream(
     out: &mut [u8],
     base: usize,
 )
-    requires few_records { length inputs.now.records ≤ 1048576 }
-    requires few { length inputs.now.uniforms ≤ 1048576 }
+    requires fits { Fits inputs.now }
     requires inside { at + 4 * s + 4 ≤ length inputs.now.records }
     requires fine { first_of (use_questions inputs.now from (shader_used inputs.now at s)) ≡ None }
     requires room { base + given_by (shader_used inputs.now at s) ≤ length out.old }
@@ -134,8 +133,7 @@ pub(crate) fn put_streams(
     out: &mut [u8],
     base: usize,
 ) -> Amounts
-    requires few_records { length inputs.now.records ≤ 1048576 }
-    requires few { length inputs.now.uniforms ≤ 1048576 }
+    requires fits { Fits inputs.now }
     requires inside { at + 12 ≤ length inputs.now.records }
     requires fine { (s : ℕ) → s < 3 → first_of (use_questions inputs.now (from + taken_before inputs.now at s) (shader_used inputs.now at s)) ≡ None }
     requires taken { from + taken_before inputs.now at 3 ≤ length inputs.now.uniforms }

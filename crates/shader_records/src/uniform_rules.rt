@@ -1,8 +1,10 @@
 //! The rules of the uniforms that shaders take.
 ghost use Rattle.std.specs.Prelude.{◌≡◌, ℕ, ◌+◌, ◌*◌, ◌<◌, ◌≤◌, ◌^◌, length, Some, None, IfSome, MatchOption};
+ghost use Rattle.field_words.specs.Sizes.{most_list};
 ghost use Rattle.field_words.specs.Questions.{GoesOn, first_of, each};
 ghost use Rattle.qpu_isa.specs.Shader.{shader_view, sample_at, position, first_position, IsSoundShader, IsSoundSample};
 ghost use Rattle.emitted_facts.specs.Facts.{setup};
+ghost use Rattle.shader_records.specs.Inputs.{Fits};
 ghost use Rattle.shader_records.specs.Sources.{shader_used, taken_by, sample_number, source_word, size_in};
 ghost use Rattle.shader_records.specs.Faults.{sample_fault as sample_fault_of};
 ghost use Rattle.shader_records.specs.Rules.{setup_questions, first_word_at, sample_questions, use_questions};
@@ -53,7 +55,7 @@ pub(crate) fn first_position(info: &ShaderInfo, i: usize) -> usize
 /// Set-up word `n` of a sample, of a shader whose uniforms begin at `from`; 0 where there is none.
 #[tactic(auto, unfolding(crate::specs::Sources::source_word))]
 fn setup_word(inputs: &Inputs, from: usize, info: &ShaderInfo, sample: &Sample, n: usize) -> u32
-    requires few { length inputs.now.uniforms ≤ 1048576 }
+    requires fits { Fits inputs.now }
     requires room { from + 4 * (length info.now.samples.items + info.now.uniforms) ≤ length inputs.now.uniforms }
     requires count { n < 4 }
     requires sound { IsSoundSample (shader_view info.now) sample.now }
@@ -74,7 +76,7 @@ fn setup_fault(
     sample: &Sample,
     size: u32,
 ) -> Option<u8>
-    requires few { length inputs.now.uniforms ≤ 1048576 }
+    requires fits { Fits inputs.now }
     requires room { from + 4 * (length info.now.samples.items + info.now.uniforms) ≤ length inputs.now.uniforms }
     requires sound { IsSoundSample (shader_view info.now) sample.now }
     ensures { result ≡ first_of (setup_questions sample.now (source_word inputs.now from (shader_view info.now)) size) }
@@ -93,10 +95,10 @@ fn setup_fault(
 #[tactic(auto, unfolding(crate::specs::Rules::first_word_at))]
 fn first_word_place(info: &ShaderInfo, from: usize, i: usize) -> usize
     requires sound { IsSoundShader (shader_view info.now) }
-    requires room { from + 4 * (length info.now.samples.items + info.now.uniforms) ≤ 1048576 }
+    requires room { from + 4 * (length info.now.samples.items + info.now.uniforms) ≤ most_list }
     requires inside { i < length info.now.samples.items }
     ensures value { result ≡ first_word_at (shader_view info.now) from i }
-    ensures limit { result ≤ 1048576 }
+    ensures limit { result ≤ most_list }
 {
     from + 4 * info.samples.len() + 4 * first_position(info, i)
 }
@@ -104,7 +106,7 @@ fn first_word_place(info: &ShaderInfo, from: usize, i: usize) -> usize
 /// The first rule that a sample breaks.
 #[tactic(auto, unfolding(crate::specs::Rules::sample_questions), using(field_words::proofs::Questions::answered_none, field_words::proofs::Questions::answered_some))]
 fn sample_fault(inputs: &Inputs, from: usize, info: &ShaderInfo, i: usize) -> Option<RecordFault>
-    requires few { length inputs.now.uniforms ≤ 1048576 }
+    requires fits { Fits inputs.now }
     requires sound { IsSoundShader (shader_view info.now) }
     requires room { from + 4 * (length info.now.samples.items + info.now.uniforms) ≤ length inputs.now.uniforms }
     requires inside { i < length info.now.samples.items }
@@ -122,7 +124,7 @@ fn sample_fault(inputs: &Inputs, from: usize, info: &ShaderInfo, i: usize) -> Op
 
 #[tactic(auto, using(field_words::proofs::Questions::each_on, field_words::proofs::Questions::each_stop, field_words::proofs::Questions::each_end))]
 fn samples_fault(inputs: &Inputs, from: usize, info: &ShaderInfo) -> Option<RecordFault>
-    requires few { length inputs.now.uniforms ≤ 1048576 }
+    requires fits { Fits inputs.now }
     requires sound { IsSoundShader (shader_view info.now) }
     requires room { from + 4 * (length info.now.samples.items + info.now.uniforms) ≤ length inputs.now.uniforms }
     ensures { result ≡ first_of (each (sample_questions inputs.now from (shader_view info.now)) 0 (length info.now.samples.items)) }
@@ -146,7 +148,7 @@ fn words_taken(samples: usize, uniforms: u32) -> u128
 /// The first rule that the uniforms of a shader break, which begin at `from`, or else where they end.
 #[tactic(auto, unfolding(crate::specs::Rules::use_questions))]
 fn shader_fault(inputs: &Inputs, from: usize, info: &ShaderInfo) -> Result<usize, RecordFault>
-    requires few { length inputs.now.uniforms ≤ 1048576 }
+    requires fits { Fits inputs.now }
     requires sound { IsSoundShader (shader_view info.now) }
     requires from { from ≤ length inputs.now.uniforms }
     ensures { GoesOn (use_questions inputs.now from (Some (shader_view info.now))) (λ end. (end ≡ from + taken_by (Some (shader_view info.now))) × (end ≤ length inputs.now.uniforms)) result }
@@ -174,8 +176,7 @@ pub(crate) fn use_fault(
     s: usize,
     from: usize,
 ) -> Result<usize, RecordFault>
-    requires few_records { length inputs.now.records ≤ 1048576 }
-    requires few { length inputs.now.uniforms ≤ 1048576 }
+    requires fits { Fits inputs.now }
     requires inside { at + 4 * s + 4 ≤ length inputs.now.records }
     requires from { from ≤ length inputs.now.uniforms }
     ensures { GoesOn (use_questions inputs.now from (shader_used inputs.now at s)) (λ end. (end ≡ from + taken_by (shader_used inputs.now at s)) × (end ≤ length inputs.now.uniforms)) result }

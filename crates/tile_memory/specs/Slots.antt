@@ -3,7 +3,7 @@ use Rattle.std.specs.Prelude.{ℕ, ◌+◌, ◌*◌, Bool, nat_le}
 use Rattle.field_words.specs.Sizes.{page_size, slot_size}
 use Rattle.field_words.specs.Words.{rounded_up}
 
--- slots of 524288 bytes lie one after another
+-- slots lie one after another
 abbrev pub slot_place : (tile_place slot : ℕ) → ℕ
 slot_place tile_place slot = tile_place + slot_size * slot
 

@@ -6,6 +6,7 @@
 #![tactic(auto)]
 
 ghost use Rattle.std.specs.Prelude.{◌≡◌, ◌≤◌, ◌<◌, ◌+◌, ◌*◌, ◌^◌, ◌↔◌, IsTrue};
+ghost use Rattle.field_words.specs.Sizes.{slot_size};
 ghost use Rattle.field_words.specs.Words.{IsRoundedUp};
 ghost use Rattle.tile_memory.specs.Slots.{slot_place, alloc_offset, slot_fits};
 
@@ -39,7 +40,7 @@ pub fn alloc_offset(tiles: u32) -> u32
 pub fn slot_fits(tiles: u32) -> bool
     requires { tiles ≤ 65025 }
     ensures value { result ≡ slot_fits tiles }
-    ensures exact { IsTrue result ↔ (alloc_offset tiles + 32 * tiles ≤ 524288) }
+    ensures exact { IsTrue result ↔ (alloc_offset tiles + 32 * tiles ≤ slot_size) }
 {
     alloc_offset(tiles) + TILE_BLOCK * tiles <= SLOT_SIZE
 }

@@ -33,7 +33,7 @@ overflow_add-first c =
 pub overflow_add-base : goal.overflow_add-base
 overflow_add-base c =
     let inside = state_inside c.args.inputs.now c.loop-k.k c.requires.fine (omega (arith, c.loop-k-test.true, c.count-k-end.ensures)) in
-    omega (arith, inside.emitted, c.loop-k.invariant.done, c.requires.few_records, c.requires.base)
+    omega (arith, inside.emitted, c.loop-k.invariant.done, c.requires.fits.records, c.requires.base)
 
 pub put_record-requires-clause-fine : goal.put_record-requires-clause-fine
 put_record-requires-clause-fine c =
@@ -67,12 +67,12 @@ overflow_add-given c =
 pub overflow_add-at : goal.overflow_add-at
 overflow_add-at c =
     let inside = state_inside c.args.inputs.now c.loop-k.k c.requires.fine (omega (arith, c.loop-k-test.true, c.count-k-end.ensures)) in
-    omega (arith, inside.source, c.loop-k.invariant.at, c.source_size-at.ensures.limit, c.requires.few_records)
+    omega (arith, inside.source, c.loop-k.invariant.at, c.source_size-at.ensures.limit, c.requires.fits.records)
 
 pub overflow_add-done : goal.overflow_add-done
 overflow_add-done c =
     let inside = state_inside c.args.inputs.now c.loop-k.k c.requires.fine (omega (arith, c.loop-k-test.true, c.count-k-end.ensures)) in
-    omega (arith, inside.emitted, c.loop-k.invariant.done, c.record_room.ensures.limit, c.requires.few_records)
+    omega (arith, inside.emitted, c.loop-k.invariant.done, c.record_room.ensures.limit, c.requires.fits.records)
 
 pub loop-k-preserved : goal.loop-k-preserved
 loop-k-preserved c =

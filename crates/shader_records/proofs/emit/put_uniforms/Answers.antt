@@ -67,7 +67,7 @@ pub overflow_add-from : goal.overflow_add-from
 overflow_add-from c =
     let inside = state_inside c.args.inputs.now c.loop-k.k c.requires.fine (omega (arith, c.loop-k-test.true, c.count-k-end.ensures)) in
     let amounts = ap (λ a. a.taken) c.put_streams-amounts.ensures.amounts ∙ ap (λ at. taken_before c.args.inputs.now at 3) c.loop-k.invariant.at in
-    omega (arith, inside.taken, c.loop-k.invariant.from, amounts, c.requires.few)
+    omega (arith, inside.taken, c.loop-k.invariant.from, amounts, c.requires.fits.uniforms)
 
 pub overflow_add-done : goal.overflow_add-done
 overflow_add-done c =
@@ -78,7 +78,7 @@ overflow_add-done c =
 pub overflow_add-at : goal.overflow_add-at
 overflow_add-at c =
     let inside = state_inside c.args.inputs.now c.loop-k.k c.requires.fine (omega (arith, c.loop-k-test.true, c.count-k-end.ensures)) in
-    omega (arith, inside.source, c.loop-k.invariant.at, c.source_size-at.ensures.limit, c.requires.few_records)
+    omega (arith, inside.source, c.loop-k.invariant.at, c.source_size-at.ensures.limit, c.requires.fits.records)
 
 pub loop-k-preserved : goal.loop-k-preserved
 loop-k-preserved c =
@@ -110,4 +110,4 @@ loop-k-preserved c =
 pub put_streams-amounts-requires-clause-base : goal.put_streams-amounts-requires-clause-base
 put_streams-amounts-requires-clause-base c =
     let inside = state_inside c.args.inputs.now c.loop-k.k c.requires.fine (omega (arith, c.loop-k-test.true, c.count-k-end.ensures)) in
-    omega (arith, inside.given, c.loop-k.invariant.done, c.requires.few, c.requires.base)
+    omega (arith, inside.given, c.loop-k.invariant.done, c.requires.fits.uniforms, c.requires.base)

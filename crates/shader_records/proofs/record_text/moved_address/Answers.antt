@@ -11,12 +11,12 @@ attribute_number-number-requires-clause-inside c =
 pub overflow_mul-t : goal.overflow_mul-t
 overflow_mul-t c =
     let source = c.args.source in
-    omega (arith, attribute_in source.state c.args.t c.requires.count, c.requires.inside, c.requires.few)
+    omega (arith, attribute_in source.state c.args.t c.requires.count, c.requires.inside, c.requires.fits.records)
 
 pub overflow_add-t : goal.overflow_add-t
 overflow_add-t c =
     let source = c.args.source in
-    omega (arith, attribute_in source.state c.args.t c.requires.count, c.requires.inside, c.requires.few)
+    omega (arith, attribute_in source.state c.args.t c.requires.count, c.requires.inside, c.requires.fits.records)
 
 pub record_word-requires-clause-inside : goal.record_word-requires-clause-inside
 record_word-requires-clause-inside c =

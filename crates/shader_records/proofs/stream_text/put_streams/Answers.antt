@@ -25,16 +25,16 @@ pub overflow_add-base : goal.overflow_add-base
 overflow_add-base c = omega (arith, c.loop-s.invariant.given, given_upto c.args.inputs.now c.args.at c.loop-s.s c.loop-s-test.true, c.requires.places, c.requires.base)
 
 pub overflow_add-from : goal.overflow_add-from
-overflow_add-from c = omega (arith, c.loop-s.invariant.taken, taken_upto c.args.inputs.now c.args.at c.loop-s.s c.loop-s-test.true, c.requires.taken, c.requires.few)
+overflow_add-from c = omega (arith, c.loop-s.invariant.taken, taken_upto c.args.inputs.now c.args.at c.loop-s.s c.loop-s-test.true, c.requires.taken, c.requires.fits.uniforms)
 
 pub overflow_add-from-in-loop-s : goal.overflow_add-from-in-loop-s
-overflow_add-from-in-loop-s c = omega (arith, c.loop-s.invariant.taken, taken_upto c.args.inputs.now c.args.at c.loop-s.s c.loop-s-test.true, c.requires.taken, c.requires.few)
+overflow_add-from-in-loop-s c = omega (arith, c.loop-s.invariant.taken, taken_upto c.args.inputs.now c.args.at c.loop-s.s c.loop-s-test.true, c.requires.taken, c.requires.fits.uniforms)
 
 pub put_stream-requires-clause-room : goal.put_stream-requires-clause-room
 put_stream-requires-clause-room c = omega (arith, c.loop-s.invariant.given, c.loop-s.auto.out, given_upto c.args.inputs.now c.args.at c.loop-s.s c.loop-s-test.true, c.requires.room)
 
 pub overflow_add-taken : goal.overflow_add-taken
-overflow_add-taken c = omega (arith, c.loop-s.invariant.taken, c.taken_by-taken.ensures, taken_upto c.args.inputs.now c.args.at c.loop-s.s c.loop-s-test.true, c.requires.taken, c.requires.few)
+overflow_add-taken c = omega (arith, c.loop-s.invariant.taken, c.taken_by-taken.ensures, taken_upto c.args.inputs.now c.args.at c.loop-s.s c.loop-s-test.true, c.requires.taken, c.requires.fits.uniforms)
 
 pub overflow_add-given : goal.overflow_add-given
 overflow_add-given c = omega (arith, c.loop-s.invariant.given, c.given_by.ensures.value, given_upto c.args.inputs.now c.args.at c.loop-s.s c.loop-s-test.true, c.requires.places)
