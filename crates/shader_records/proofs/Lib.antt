@@ -4,8 +4,6 @@ pub mod Lengths
 pub mod MemoryFacts
 pub mod RecordFacts
 pub mod RecordsInMemory
-pub mod Samples
 pub mod Shaders
 pub mod Steps
 pub mod StreamFacts
-pub mod WordFits

@@ -20,7 +20,7 @@ use Rattle.shader_records.specs.Rules.{use_questions, all_questions}
 use Rattle.shader_records.proofs.Fine.{IsStateFine, state_fine}
 use Rattle.shader_records.proofs.Steps.{given_rises}
 use Rattle.shader_records.proofs.Inside.{emitted_in}
-use Rattle.shader_records.proofs.WordFits.{stream_fits, word_fits}
+use Rattle.shader_records.proofs.StreamFacts.{stream_fits, word_fits}
 use Rattle.shader_records.proofs.Lengths.{IsStateInside, state_inside, length_streams, length_records, length_uniforms}
 
 -- A text that stands among others, which go before it and behind it.

@@ -1,21 +1,206 @@
 -- An emitted stream is what whoever runs it counts on.
-use Rattle.std.proofs.Common.{◌≡◌, ℕ, zero, suc, ◌+◌, ◌*◌, ◌==◌, ◌<◌, ◌≤◌, Bool, true, false, not, ◌||◌, List, length, Option, Some, None, is_some, if◌then◌else◌, refl, sym, ap, arith, ◌∙◌, inl, inr, add-zero}
-use Rattle.std.proofs.lemmas.Bool.{cases_lt}
-use Rattle.field_words.specs.Words.{u32_at}
+use Rattle.std.proofs.Common.{◌≡◌, ℕ, suc, ◌+◌, ◌^◌, ◌==◌, ◌<◌, ◌≤◌, Bool, true, false, ◌||◌, length, Option, Some, None, is_some, if◌then◌else◌, add-zero, refl, sym, ap, arith, ◌∙◌, zero, ◌*◌, ◌/◌, ◌%◌, ◌-◌, ◌&&◌, nat_lt, nat_le, not, List, inl, inr}
+use Rattle.std.proofs.lemmas.Bool.{ltb-false, eqb-true, ltb-true, cases_lt}
 use Rattle.field_words.specs.Questions.{first_of}
-use Rattle.buffer_table.specs.Table.{TableModel}
-use Rattle.buffer_table.specs.Handles.{data_of}
+use Rattle.field_words.proofs.Questions.{none_stands}
 use Rattle.qpu_isa.specs.declared.inst.Sample.{Sample}
+use Rattle.texture_layouts.specs.Setup.{base_of, texture_of, faces_of, size_below}
 use Rattle.texture_layouts.specs.Fits.{texture_questions, direct_questions}
-use Rattle.qpu_isa.specs.Shader.{ShaderModel, sample_at, first_position, position, address_at, IsSoundShader, IsSoundSample}
+use Rattle.texture_layouts.proofs.Inside.{in_buffer}
+use Rattle.qpu_isa.specs.Shader.{ShaderModel, or_zero, sample_at, first_position, position, address_at, IsSoundShader, IsSoundSample}
 use Rattle.emitted_facts.specs.Facts.{setup, word_or_zero, IsSampleIn, IsStream}
 use Rattle.shader_records.specs.Inputs.{InputModel}
-use Rattle.shader_records.specs.Named.{IsDataIn}
-use Rattle.shader_records.specs.Sources.{sample_number, source_word, place_in, size_in}
-use Rattle.shader_records.specs.Rules.{setup_questions, use_questions}
-use Rattle.shader_records.specs.Emission.{moved, moved_word, is_address, addressed_word, stream_word_of}
-use Rattle.shader_records.proofs.Fine.{sample_fine}
-use Rattle.shader_records.proofs.Samples.{if_same, if_other, direct_base, first_setup}
+use Rattle.shader_records.specs.Sources.{sample_number, source_word, place_in, size_in, handles_size, code_number, attribute_number, record_word}
+use Rattle.shader_records.specs.Rules.{setup_questions, use_questions, record_questions}
+use Rattle.shader_records.specs.Emission.{moved, moved_word, is_address, addressed_word, stream_word_of, shader_word, attribute_word, emitted_word}
+use Rattle.shader_records.proofs.Fine.{sample_fine, address_fits}
+use Rattle.field_words.proofs.Numbers.{u32_fits}
+use Rattle.packets.specs.StateWord.{attribute_count, record_size}
+use Rattle.shader_records.specs.Named.{AreInMemory, IsDataIn}
+use Rattle.buffer_table.specs.Table.{most_place, TableModel}
+use Rattle.field_words.specs.Words.{u32_at}
+use Rattle.buffer_table.specs.Handles.{data_of}
+
+-- The words of a stream that emission changes.
+
+-- A first word that breaks no rule is at most a page past the buffer's size.
+some_face : (b : Bool) → 0 < (if b then 6 else 1)
+some_face true = omega arith
+some_face false = omega arith
+
+texture_base : (p0 p1 p2 p3 size : ℕ) → p0 < 2 ^ 32 → first_of (texture_questions p0 p1 p2 p3 size) ≡ None → p0 ≤ size + 4095
+unfolding texture_of base_of faces_of size_below
+texture_base p0 p1 p2 p3 size fits none =
+    let inside = in_buffer p0 p1 p2 p3 size none in
+    let first = inside.upto 0 0 (some_face (texture_of p0 p1 p2 p3).is_cube) (omega arith) in
+    omega (arith, first, fits)
+
+pub direct_base : (base bound size : ℕ) → first_of (direct_questions base bound size) ≡ None → base + bound + 4 ≤ size
+unfolding direct_questions
+direct_base base bound size none =
+    let n = none_stands (direct_questions base bound size) none in
+    ltb-false size (base + bound + 4) n.1.0
+
+setup_base : (direct : Bool) (p0 p1 p2 p3 size : ℕ) → p0 < 2 ^ 32
+    → first_of (if direct then direct_questions p0 p1 size else texture_questions p0 p1 p2 p3 size) ≡ None → p0 ≤ size + 4095
+setup_base true p0 p1 p2 p3 size fits none = omega (arith, direct_base p0 p1 size none)
+setup_base false p0 p1 p2 p3 size fits none = texture_base p0 p1 p2 p3 size fits none
+
+pub first_setup : (word : ℕ → ℕ) (o : Option ℕ) (k : ℕ) → k ≡ or_zero o → is_some o ≡ true → word_or_zero word o ≡ word k
+first_setup word None k here some = cc
+first_setup word (Some n) k here some = ap word (sym here)
+
+pub base_fits : (input : InputModel) (from : ℕ) (shader : ShaderModel) (i : ℕ) → IsSoundShader shader → i < length shader.samples
+    → first_of (use_questions input from (Some shader)) ≡ None
+    → source_word input from shader (first_position (sample_at shader i)) < 2 ^ 32
+    → source_word input from shader (first_position (sample_at shader i)) ≤ size_in input.table (sample_number input from i) + 4095
+unfolding setup_questions
+base_fits input from shader i sound below none fits =
+    let sample : Sample = sample_at shader i in
+    let word : ℕ → ℕ = source_word input from shader in
+    let fine = sample_fine input from shader i none below in
+    let same : setup word sample 0 ≡ word (first_position sample) = first_setup word (position sample 0) (first_position sample) refl (sound.samples i below).first in
+    rw (← same) (setup_base sample.direct (setup word sample 0) (setup word sample 1) (setup word sample 2) (setup word sample 3) (size_in input.table (sample_number input from i)) (rw same fits) fine.fits)
+
+next : (n : ℕ) → n + 1 ≡ suc n
+next n = omega arith
+
+pub if_same : (a x y : ℕ) → (if a == a then x else y) ≡ x
+if_same a x y = grind arith
+
+pub if_other : (a k x y : ℕ) → (k ≡ a → ⊥) → (if a == k then x else y) ≡ y
+if_other a k x y other = grind arith
+
+if_here : (b : Bool) (a x y : ℕ) → (if (b || a == a) then x else y) ≡ x
+if_here true a x y = refl
+if_here false a x y = if_same a x y
+
+if_there : (b : Bool) (a k x y : ℕ) → (k ≡ a → ⊥) → (if (b || a == k) then x else y) ≡ (if b then x else y)
+if_there true a k x y other = refl
+if_there false a k x y other = if_other a k x y other
+
+-- One sample more is moved: word k changes where it is the sample's first.
+pub moved_here : (input : InputModel) (from : ℕ) (shader : ShaderModel) (n : ℕ)
+    → moved_word input from shader (n + 1) (first_position (sample_at shader n)) ≡ source_word input from shader (first_position (sample_at shader n)) + place_in input.table (sample_number input from n)
+unfolding moved_word moved
+moved_here input from shader n =
+    let first : ℕ = first_position (sample_at shader n) in
+    ap (λ m. source_word input from shader first + moved input from shader m first) (next n)
+    ∙ ap (λ x. source_word input from shader first + x) (if_same first (place_in input.table (sample_number input from n)) (moved input from shader n first))
+
+pub moved_others : (input : InputModel) (from : ℕ) (shader : ShaderModel) (n k : ℕ) → (k ≡ first_position (sample_at shader n) → ⊥)
+    → moved_word input from shader n k ≡ moved_word input from shader (n + 1) k
+unfolding moved_word moved
+moved_others input from shader n k other =
+    let first : ℕ = first_position (sample_at shader n) in
+    sym (ap (λ m. source_word input from shader k + moved input from shader m k) (next n)
+    ∙ ap (λ x. source_word input from shader k + x) (if_other first k (place_in input.table (sample_number input from n)) (moved input from shader n k) other))
+
+-- no sample is moved yet
+pub moved_none : (input : InputModel) (from : ℕ) (shader : ShaderModel) (k : ℕ) → source_word input from shader k ≡ moved_word input from shader 0 k
+unfolding moved_word moved
+moved_none input from shader k = sym (add-zero (source_word input from shader k))
+
+-- The same of address words.
+pub addressed_here : (input : InputModel) (from : ℕ) (shader : ShaderModel) (stream n : ℕ) → stream ≡ addressed_word input from shader stream (n + 1) (address_at shader n)
+unfolding addressed_word is_address
+addressed_here input from shader stream n =
+    let at : ℕ = address_at shader n in
+    sym (ap (λ m. if is_address shader m at then stream else moved_word input from shader (length shader.samples) at) (next n)
+    ∙ if_here (is_address shader n at) at stream (moved_word input from shader (length shader.samples) at))
+
+pub addressed_others : (input : InputModel) (from : ℕ) (shader : ShaderModel) (stream n k : ℕ) → (k ≡ address_at shader n → ⊥)
+    → addressed_word input from shader stream n k ≡ addressed_word input from shader stream (n + 1) k
+unfolding addressed_word is_address
+addressed_others input from shader stream n k other =
+    sym (ap (λ m. if is_address shader m k then stream else moved_word input from shader (length shader.samples) k) (next n)
+    ∙ if_there (is_address shader n k) (address_at shader n) k stream (moved_word input from shader (length shader.samples) k) other)
+
+pub addressed_none : (input : InputModel) (from : ℕ) (shader : ShaderModel) (stream k : ℕ) → addressed_word input from shader stream 0 k ≡ moved_word input from shader (length shader.samples) k
+unfolding addressed_word is_address
+addressed_none input from shader stream k = refl
+
+-- Each emitted word is below 2^32, so that it can be read back.
+
+place_limit : (input : InputModel) (o : Option ℕ) → AreInMemory input → place_in input.table o + size_in input.table o ≤ most_place
+place_limit input None fits = omega arith
+place_limit input (Some number) fits = fits.buffers number
+
+record_fits : (input : InputModel) (at state i : ℕ) → AreInMemory input → record_word input at state i < 2 ^ 32
+unfolding record_word
+record_fits input at state i fits = u32_fits input.records (at + handles_size state + 4 * i) fits.records
+
+source_fits : (input : InputModel) (from : ℕ) (shader : ShaderModel) (k : ℕ) → AreInMemory input → source_word input from shader k < 2 ^ 32
+unfolding source_word
+source_fits input from shader k fits = u32_fits input.uniforms (from + 4 * length shader.samples + 4 * k) fits.uniforms
+
+-- What is added to a word is nothing, or the place of the buffer of a sample whose first word it is.
+moved_one : (input : InputModel) (from : ℕ) (shader : ShaderModel) (n k : ℕ) (b : Bool) → (first_position (sample_at shader n) == k) ≡ b → AreInMemory input → IsSoundShader shader
+    → first_of (use_questions input from (Some shader)) ≡ None → suc n ≤ length shader.samples → source_word input from shader k + moved input from shader n k < 2 ^ 32
+    → source_word input from shader k + (if b then place_in input.table (sample_number input from n) else moved input from shader n k) < 2 ^ 32
+moved_one input from shader n k false is fits sound none upto before = before
+moved_one input from shader n k true is fits sound none upto before =
+    let same : first_position (sample_at shader n) ≡ k = eqb-true (first_position (sample_at shader n)) k is in
+    let here = ap (source_word input from shader) same in
+    let base = base_fits input from shader n sound (omega (arith, upto)) none (source_fits input from shader (first_position (sample_at shader n)) fits) in
+    let limit = place_limit input (sample_number input from n) fits in
+    omega (arith, here, base, limit)
+
+moved_fits : (input : InputModel) (from : ℕ) (shader : ShaderModel) (n k : ℕ) → AreInMemory input → IsSoundShader shader
+    → first_of (use_questions input from (Some shader)) ≡ None → n ≤ length shader.samples → source_word input from shader k + moved input from shader n k < 2 ^ 32
+unfolding moved
+moved_fits input from shader zero k fits sound none upto = let s = source_fits input from shader k fits in omega (arith, s)
+moved_fits input from shader (suc n) k fits sound none upto =
+    moved_one input from shader n k (first_position (sample_at shader n) == k) refl fits sound none upto (moved_fits input from shader n k fits sound none (omega arith))
+
+either : (b : Bool) (x y : ℕ) → x < 2 ^ 32 → y < 2 ^ 32 → (if b then x else y) < 2 ^ 32
+either true x y first second = first
+either false x y first second = second
+
+pub stream_fits : (input : InputModel) (from : ℕ) (shader : ShaderModel) (stream k : ℕ) → AreInMemory input → IsSoundShader shader
+    → first_of (use_questions input from (Some shader)) ≡ None → stream < 2 ^ 32 → stream_word_of input from shader stream k < 2 ^ 32
+unfolding addressed_word moved_word
+stream_fits input from shader stream k fits sound none place =
+    either (is_address shader (length shader.address_words) k) stream (source_word input from shader k + moved input from shader (length shader.samples) k) place
+    (moved_fits input from shader (length shader.samples) k fits sound none (omega arith))
+
+-- The words of a record.
+shader_fits : (input : InputModel) (at state : ℕ) (streams : ℕ → ℕ) (i : ℕ) → i < 9 → AreInMemory input → ((s : ℕ) → s < 3 → streams s < 2 ^ 32) → shader_word input at state streams i < 2 ^ 32
+unfolding shader_word
+shader_fits input at state streams i below fits places =
+    either (i % 3 == 1) (place_in input.table (code_number input at (i / 3))) (if i % 3 == 2 then streams (i / 3) else record_word input at state i)
+    (let limit = place_limit input (code_number input at (i / 3)) fits in omega (arith, limit))
+    (either (i % 3 == 2) (streams (i / 3)) (record_word input at state i) (places (i / 3) (omega (arith, below))) (record_fits input at state i fits))
+
+is_even : (j count : ℕ) → ((j % 2 == 0) && nat_lt j (2 * count)) ≡ true → (j ≡ 2 * (j / 2)) × (j / 2 < count)
+is_even j count stands = (grind (arith, stands), grind (arith, stands))
+
+attribute_one : (input : InputModel) (at state most j : ℕ) (b : Bool) → ((j % 2 == 0) && nat_lt j (2 * attribute_count state)) ≡ b → AreInMemory input
+    → first_of (record_questions input at state most) ≡ None
+    → (if b then record_word input at state (9 + j) + place_in input.table (attribute_number input at (j / 2)) else record_word input at state (9 + j)) < 2 ^ 32
+attribute_one input at state most j false is fits none = record_fits input at state (9 + j) fits
+attribute_one input at state most j true is fits none =
+    let even = is_even j (attribute_count state) is in
+    let base = address_fits input at state most (j / 2) none even.1 in
+    let same = ap (λ m. record_word input at state (9 + m)) even.0 in
+    let limit = place_limit input (attribute_number input at (j / 2)) fits in
+    omega (arith, same, base, limit)
+
+attribute_fits : (input : InputModel) (at state most j : ℕ) → AreInMemory input → first_of (record_questions input at state most) ≡ None → attribute_word input at state j < 2 ^ 32
+unfolding attribute_word
+attribute_fits input at state most j fits none = attribute_one input at state most j ((j % 2 == 0) && nat_lt j (2 * attribute_count state)) refl fits none
+
+one_word : (input : InputModel) (at state most : ℕ) (streams : ℕ → ℕ) (i : ℕ) (b : Bool) → nat_lt i 9 ≡ b → AreInMemory input → ((s : ℕ) → s < 3 → streams s < 2 ^ 32)
+    → first_of (record_questions input at state most) ≡ None → (if b then shader_word input at state streams i else attribute_word input at state (i - 9)) < 2 ^ 32
+one_word input at state most streams i true below fits places none = shader_fits input at state streams i (ltb-true i 9 below) fits places
+one_word input at state most streams i false past fits places none = attribute_fits input at state most (i - 9) fits none
+
+pub word_fits : (input : InputModel) (at state most : ℕ) (streams : ℕ → ℕ) (i : ℕ) → AreInMemory input → ((s : ℕ) → s < 3 → streams s < 2 ^ 32)
+    → first_of (record_questions input at state most) ≡ None → emitted_word input at state streams i < 2 ^ 32
+unfolding emitted_word
+word_fits input at state most streams i fits places none =
+    either (nat_le (record_size state) (4 * i)) 0 (if nat_lt i 9 then shader_word input at state streams i else attribute_word input at state (i - 9)) (omega arith)
+    (one_word input at state most streams i (nat_lt i 9) refl fits places none)
 
 -- Which words are address words.
 or_right : (b : Bool) (n k : ℕ) → n ≡ k → (b || n == k) ≡ true

@@ -36,6 +36,14 @@ unfoldable pub stream_text : InputModel → ℕ → ℕ → Option ShaderModel �
 stream_text input from stream None = []
 stream_text input from stream (Some shader) = word_bytes (stream_word_of input from shader stream) shader.uniforms
 
+-- the address of attribute t, moved by its buffer's place
+abbrev pub moved_address : InputModel → ℕ → ℕ → ℕ → ℕ
+moved_address input at state t = record_word input at state (9 + 2 * t) + place_in input.table (attribute_number input at t)
+
+-- the first word of sample i, moved by its buffer's place
+abbrev pub moved_first : InputModel → ℕ → ShaderModel → ℕ → ℕ
+moved_first input from shader i = source_word input from shader (first_position (sample_at shader i)) + place_in input.table (sample_number input from i)
+
 -- Word i of an attribute's two words (counted from word 9): the address moved by its buffer's place, and
 -- the word after it as in the source.
 unfoldable pub attribute_word : InputModel → ℕ → ℕ → ℕ → ℕ

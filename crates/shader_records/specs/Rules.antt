@@ -1,8 +1,8 @@
 -- The rules of shader records (A) and of the uniforms that their shaders take (A8 and U), in the order
 -- of refusal: state by state; in a state the record and then its shaders' uniforms, shader by shader and
 -- sample by sample. A fault names a place in the job's records or in its uniforms.
-use Rattle.std.specs.Prelude.{ℕ, ◌+◌, ◌*◌, ◌/◌, ◌-◌, ◌==◌, Bool, not, ◌&&◌, nat_lt, List, [], ◌∷◌, ◌++◌, length, is_some, Option, Some, None, if◌then◌else◌}
-use Rattle.field_words.specs.Questions.{Question, Ask, each, answered}
+use Rattle.std.specs.Prelude.{◌≡◌, ℕ, ◌+◌, ◌*◌, ◌/◌, ◌-◌, ◌==◌, Bool, not, ◌&&◌, nat_lt, List, [], ◌∷◌, ◌++◌, length, is_some, Option, Some, None, if◌then◌else◌}
+use Rattle.field_words.specs.Questions.{Question, Ask, each, answered, first_of}
 use Rattle.qpu_isa.specs.declared.inst.Sample.{Sample}
 use Rattle.texture_layouts.specs.Fits.{texture_questions, direct_questions}
 use Rattle.qpu_isa.specs.Shader.{ShaderModel, sample_at, first_position}
@@ -65,9 +65,16 @@ unfoldable pub body_questions : InputModel → ℕ → ℕ → ℕ → List (Que
 body_questions input at state most =
     fixed_questions input at state ++ each (attribute_questions input at state most) 0 (attribute_count state)
 
+abbrev pub whole_questions : InputModel → ℕ → ℕ → ℕ → List (Question RecordFault)
+whole_questions input at state most = names_questions input at state ++ body_questions input at state most
+
 -- The rules of one record, whose source begins at a place. They stand by place and number.
 unfoldable pub record_questions : InputModel → ℕ → ℕ → ℕ → List (Question RecordFault)
-record_questions input at state most = cut_questions input at state ++ (names_questions input at state ++ body_questions input at state most)
+record_questions input at state most = cut_questions input at state ++ whole_questions input at state most
+
+-- none of them stands
+abbrev pub IsFineRecord : InputModel → ℕ → ℕ → ℕ → Type 0
+IsFineRecord input at state most = first_of (record_questions input at state most) ≡ None
 
 -- U1: a sample's handle names no Plain buffer. U2 to U9: the sample doesn't fit the buffer.
 unfoldable pub setup_questions : Sample → (ℕ → ℕ) → ℕ → List (Question ℕ)
@@ -91,6 +98,10 @@ use_questions input from None = []
 use_questions input from (Some shader) =
     Ask (nat_lt (length input.uniforms) (from + 4 * (length shader.samples + shader.uniforms))) (uniform_fault from)
     ∷ each (sample_questions input from shader) 0 (length shader.samples)
+
+-- none of them stands
+abbrev pub IsFineUse : InputModel → ℕ → Option ShaderModel → Type 0
+IsFineUse input from shader = first_of (use_questions input from shader) ≡ None
 
 unfoldable pub shader_questions : InputModel → ℕ → ℕ → ℕ → List (Question RecordFault)
 shader_questions input at from s = use_questions input (from + taken_before input at s) (shader_used input at s)

@@ -4,12 +4,12 @@
 -- A record's source is three handles (u32) for the code of its fragment, vertex and coordinate shader,
 -- one for each attribute, and then the record. The uniforms that a shader takes are one handle for each
 -- sample, and then the words of its stream. Records and streams are emitted one after the other.
-use Rattle.std.specs.Prelude.{ℕ, zero, suc, ◌+◌, ◌*◌, List, length, Option, Some, None, slice_index_or, Bool, false}
+use Rattle.std.specs.Prelude.{◌≡◌, ◌≤◌, ℕ, zero, suc, ◌+◌, ◌*◌, List, length, Option, Some, None, slice_index_or, Bool, true, false}
 use Rattle.field_words.specs.Words.{u32_at}
 use Rattle.buffer_table.specs.Table.{TableModel, buffer_at}
 use Rattle.buffer_table.specs.Handles.{data_of, code_of}
 use Rattle.qpu_isa.specs.Shader.{ShaderModel}
-use Rattle.packets.specs.StateWord.{attribute_count, record_size, record_room}
+use Rattle.packets.specs.StateWord.{attribute_count, record_size, record_room, is_extended}
 use Rattle.bin_list.specs.declared.state.State.{State}
 use Rattle.shader_records.specs.Inputs.{InputModel, shader_in}
 
@@ -93,6 +93,18 @@ sample_number input from i = data_of input.table input.handles (u32_at input.uni
 
 unfoldable pub source_word : InputModel → ℕ → ShaderModel → ℕ → ℕ
 source_word input from shader k = u32_at input.uniforms (from + 4 * length shader.samples + 4 * k)
+
+-- the uniforms that a shader takes from a place on are there
+abbrev pub HasUniforms : InputModel → ℕ → ShaderModel → Type 0
+HasUniforms input from shader = from + taken_by (Some shader) ≤ length input.uniforms
+
+-- a place in the uniforms is this one, and isn't past them
+abbrev pub IsEnd : InputModel → ℕ → ℕ → Type 0
+IsEnd input place end = (end ≡ place) × (end ≤ length input.uniforms)
+
+-- an extended record has the high parts of so many strides
+abbrev pub HasStrides : InputModel → (at state count : ℕ) → Type 0
+HasStrides input at state count = is_extended state ≡ true → at + handles_size state + 100 + 4 * count ≤ length input.records
 
 -- the place and the size of a buffer, 0 where none is named
 abbrev pub place_in : TableModel → Option ℕ → ℕ

@@ -70,8 +70,8 @@ pub fn check_records(
     requires limit { layout.now.uniforms ≤ 2 * most_list + 32 }
     requires order { layout.now.records + length records.now ≤ layout.now.uniforms }
     requires room { layout.now.uniforms + length uniforms.now ≤ length out.old }
-    ensures answers { Answers (all_questions (input_of states.now records.now uniforms.now table.now handles.now shaders.now))
-        (λ info. IsEmitted (input_of states.now records.now uniforms.now table.now handles.now shaders.now) layout.now out.old out.new info) result }
+    ensures answers { let input = input_of states.now records.now uniforms.now table.now handles.now shaders.now in
+        Answers (all_questions input) (λ info. IsEmitted input layout.now out.old out.new info) result }
     ensures takes_no_memory { result ≢ Err OutOfMemory }
 {
     let inputs = Inputs {

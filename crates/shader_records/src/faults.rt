@@ -1,8 +1,8 @@
 //! The rules of all states.
-ghost use Rattle.std.specs.Prelude.{◌≡◌, ◌+◌, ◌*◌, ◌<◌, ◌≤◌, length};
+ghost use Rattle.std.specs.Prelude.{◌≡◌, ◌+◌, ◌*◌, ◌<◌, ◌≤◌, length, IfOk};
 ghost use Rattle.field_words.specs.Questions.{GoesOn, first_of, each};
 ghost use Rattle.shader_records.specs.Inputs.{Fits};
-ghost use Rattle.shader_records.specs.Sources.{state_at, source_size, record_source, uniform_source, taken_before};
+ghost use Rattle.shader_records.specs.Sources.{state_at, source_size, record_source, uniform_source, taken_before, IsEnd};
 ghost use Rattle.shader_records.specs.Rules.{shader_questions, state_questions, all_questions};
 
 use crate::fault::RecordFault;
@@ -18,7 +18,7 @@ fn uses_fault(inputs: &Inputs, at: usize, from: usize) -> Result<usize, RecordFa
     requires fits { Fits inputs.now }
     requires inside { at + 12 ≤ length inputs.now.records }
     requires from { from ≤ length inputs.now.uniforms }
-    ensures { GoesOn (each (shader_questions inputs.now at from) 0 3) (λ end. (end ≡ from + taken_before inputs.now at 3) × (end ≤ length inputs.now.uniforms)) result }
+    ensures { GoesOn (each (shader_questions inputs.now at from) 0 3) (IsEnd inputs.now (from + taken_before inputs.now at 3)) result }
 {
     let mut here = from;
     for s in 0..3usize {
@@ -52,7 +52,8 @@ fn state_fault(inputs: &Inputs, k: usize, at: usize, from: usize) -> Result<usiz
     requires uniforms { from ≡ uniform_source inputs.now k }
     requires room_records { at ≤ length inputs.now.records }
     requires room { from ≤ length inputs.now.uniforms }
-    ensures { GoesOn (state_questions inputs.now k) (λ end. (end ≡ uniform_source inputs.now (k + 1)) × (end ≤ length inputs.now.uniforms) × (at + source_size (state_at inputs.now k).word ≤ length inputs.now.records)) result }
+    ensures uniforms { GoesOn (state_questions inputs.now k) (IsEnd inputs.now (uniform_source inputs.now (k + 1))) result }
+    ensures record { IfOk result (λ _. at + source_size (state_at inputs.now k).word ≤ length inputs.now.records) }
 {
     match record_fault(inputs, source_of(inputs, k, at)) {
         Some(fault) => Err(fault),

@@ -26,13 +26,13 @@ pub(crate) struct Inputs<'a> {
 }
 
 impl<'a> Model for Inputs<'a> {
-    ghost use Rattle.shader_records.specs.Inputs.{InputModel, AreInputs, shaders_view};
+    ghost use Rattle.shader_records.specs.Inputs.{InputModel, AreInputs, input_of};
 
     ghost Value = { InputModel };
 
-    ghost view = { λ g. record { states = g.states.now; records = g.records.now; uniforms = g.uniforms.now; table = g.table.now; handles = g.handles.now; shaders = shaders_view g.shaders.now } };
+    ghost view = { λ g. input_of g.states.now g.records.now g.uniforms.now g.table.now g.handles.now g.shaders.now };
 
-    ghost invariant = { λ g. AreInputs (record { states = g.states.now; records = g.records.now; uniforms = g.uniforms.now; table = g.table.now; handles = g.handles.now; shaders = shaders_view g.shaders.now }) };
+    ghost invariant = { λ g. AreInputs (input_of g.states.now g.records.now g.uniforms.now g.table.now g.handles.now g.shaders.now) };
 }
 
 /// The number of four bytes at a place.
@@ -63,7 +63,8 @@ fn state_of(states: &[State], k: usize) -> State
 #[tactic(auto, using(crate::proofs::Shaders::known_none, crate::proofs::Shaders::known_some))]
 fn known(shaders: &[Option<ShaderInfo>], number: usize) -> Option<&ShaderInfo>
     requires { number < length shaders.now }
-    ensures { MatchOption result (shader_in (shaders_view shaders.now) number ≡ None) (λ info. shader_in (shaders_view shaders.now) number ≡ Some (shader_view info.now)) }
+    ensures { let shader = shader_in (shaders_view shaders.now) number in
+        MatchOption result (shader ≡ None) (λ info. shader ≡ Some (shader_view info.now)) }
 {
     match &shaders[number] {
         Some(info) => Some(info),
@@ -149,7 +150,8 @@ impl<'a> Inputs<'a> {
     pub(crate) fn shader_used(&self, at: usize, s: usize) -> Option<&ShaderInfo>
         requires fits { Fits self.now }
         requires inside { at + 4 * s + 4 ≤ length self.now.records }
-        ensures value { MatchOption result (shader_used self.now at s ≡ None) (λ info. shader_used self.now at s ≡ Some (shader_view info.now)) }
+        ensures value { let used = shader_used self.now at s in
+            MatchOption result (used ≡ None) (λ info. used ≡ Some (shader_view info.now)) }
         ensures sound { IfSome result (λ info. IsSoundShader (shader_view info.now)) }
     {
         match self.code_number(at, s) {

@@ -26,5 +26,6 @@ pub fn records_are_facts()
     ensures { (input : InputModel) (records first : ℕ) (memory : List ℕ) (k : ℕ) → AreInputs input → AreInMemory input
         → first_of (all_questions input) ≡ None → k < length input.states → first + length input.uniforms < 2 ^ 32
         → IsEmittedIn input records first memory
-        → IsRecord (IsDataIn input.table input.handles) (IsCodeIn input) (state_at input k).word (state_at input k).max_index (λ i. u32_at memory (records + record_offset input k + 4 * i)) (u32_at memory) }
+        → IsRecord (IsDataIn input.table input.handles) (IsCodeIn input) (state_at input k).word (state_at input k).max_index
+        (λ i. u32_at memory (records + record_offset input k + 4 * i)) (u32_at memory) }
 {}

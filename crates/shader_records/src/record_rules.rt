@@ -4,9 +4,9 @@ ghost use Rattle.field_words.specs.Questions.{first_of, each};
 ghost use Rattle.emitted_facts.specs.Records.{attribute_size, attribute_stride, is_single};
 ghost use Rattle.packets.specs.StateWord.{attribute_count, is_extended};
 ghost use Rattle.shader_records.specs.Inputs.{Fits};
-ghost use Rattle.shader_records.specs.Sources.{handles_size, source_size, record_word};
+ghost use Rattle.shader_records.specs.Sources.{handles_size, source_size, record_word, HasStrides};
 ghost use Rattle.shader_records.specs.Faults.{record_fault as fault_of};
-ghost use Rattle.shader_records.specs.Rules.{cut_questions, code_questions, handle_questions, fixed_questions, attribute_questions, names_questions, body_questions, record_questions, disagrees};
+ghost use Rattle.shader_records.specs.Rules.{cut_questions, code_questions, handle_questions, fixed_questions, attribute_questions, names_questions, body_questions, record_questions, disagrees, whole_questions};
 
 use crate::fault::RecordFault;
 use crate::inputs::Inputs;
@@ -166,7 +166,7 @@ fn attribute_size(inputs: &Inputs, source: Source, t: usize) -> u32
 fn attribute_stride(inputs: &Inputs, source: Source, t: usize) -> u32
     requires fits { Fits inputs.now }
     requires inside { source.at + handles_size source.state + 4 * (10 + 2 * t) + 4 ≤ length inputs.now.records }
-    requires extension { is_extended source.state ≡ true → source.at + handles_size source.state + 4 * (25 + t) + 4 ≤ length inputs.now.records }
+    requires extension { HasStrides inputs.now source.at source.state (t + 1) }
     ensures { result ≡ attribute_stride source.state (record_word inputs.now source.at source.state) t }
 {
     let low = inputs.record_word(source.at, source.state, 10 + 2 * t) / 256 % 256;
@@ -184,7 +184,7 @@ fn attribute_fault(inputs: &Inputs, source: Source, t: usize) -> Option<RecordFa
     requires count { t < 8 }
     requires handle { source.at + (12 + 4 * t) + 4 ≤ length inputs.now.records }
     requires inside { source.at + handles_size source.state + 4 * (10 + 2 * t) + 4 ≤ length inputs.now.records }
-    requires extension { is_extended source.state ≡ true → source.at + handles_size source.state + 4 * (25 + t) + 4 ≤ length inputs.now.records }
+    requires extension { HasStrides inputs.now source.at source.state (t + 1) }
     ensures { result ≡ first_of (attribute_questions inputs.now source.at source.state source.max_index t) }
 {
     let at = source.at + handles_size(source.state) + (36 + 8 * t);
@@ -207,7 +207,7 @@ fn attributes_fault(inputs: &Inputs, source: Source, count: usize) -> Option<Rec
     requires count { count ≤ 8 }
     requires handles { source.at + 12 + 4 * count ≤ length inputs.now.records }
     requires inside { source.at + handles_size source.state + 36 + 8 * count ≤ length inputs.now.records }
-    requires extension { is_extended source.state ≡ true → source.at + handles_size source.state + 100 + 4 * count ≤ length inputs.now.records }
+    requires extension { HasStrides inputs.now source.at source.state count }
     ensures { result ≡ first_of (each (attribute_questions inputs.now source.at source.state source.max_index) 0 count) }
 {
     for t in 0..count {
@@ -236,7 +236,7 @@ fn body_fault(inputs: &Inputs, source: Source) -> Option<RecordFault>
 fn whole_fault(inputs: &Inputs, source: Source) -> Option<RecordFault>
     requires fits { Fits inputs.now }
     requires inside { source.at + source_size source.state ≤ length inputs.now.records }
-    ensures { result ≡ first_of (names_questions inputs.now source.at source.state ++ body_questions inputs.now source.at source.state source.max_index) }
+    ensures { result ≡ first_of (whole_questions inputs.now source.at source.state source.max_index) }
 {
     match names_fault(inputs, source) {
         Some(fault) => Some(fault),

@@ -6,8 +6,8 @@ ghost use Rattle.emitted_facts.specs.Records.{address_word};
 ghost use Rattle.packets.specs.StateWord.{attribute_count, record_size, record_room};
 ghost use Rattle.shader_records.specs.Inputs.{Fits};
 ghost use Rattle.shader_records.specs.Sources.{handles_size, source_size, shader_used, given_by, given_before, record_word, attribute_number, place_in};
-ghost use Rattle.shader_records.specs.Rules.{record_questions};
-ghost use Rattle.shader_records.specs.Emission.{shader_word, attribute_word, emitted_word, stream_place, record_text, AreStreamsOf};
+ghost use Rattle.shader_records.specs.Rules.{record_questions, IsFineRecord};
+ghost use Rattle.shader_records.specs.Emission.{shader_word, attribute_word, emitted_word, stream_place, record_text, AreStreamsOf, moved_address};
 
 use crate::inputs::{Inputs, relocated};
 use crate::record_rules::Source;
@@ -100,8 +100,8 @@ fn moved_address(inputs: &Inputs, source: Source, t: usize) -> u32
     requires fits { Fits inputs.now }
     requires count { t < attribute_count source.state }
     requires inside { source.at + source_size source.state ≤ length inputs.now.records }
-    requires fine { first_of (record_questions inputs.now source.at source.state source.max_index) ≡ None }
-    ensures { result ≡ record_word inputs.now source.at source.state (9 + 2 * t) + place_in inputs.now.table (attribute_number inputs.now source.at t) }
+    requires fine { IsFineRecord inputs.now source.at source.state source.max_index }
+    ensures { result ≡ moved_address inputs.now source.at source.state t }
 {
     let number = inputs.attribute_number(source.at, t);
     relocated(
@@ -116,7 +116,7 @@ fn attribute_word(inputs: &Inputs, source: Source, j: usize) -> u32
     requires fits { Fits inputs.now }
     requires inside { source.at + source_size source.state ≤ length inputs.now.records }
     requires word { 4 * (9 + j) < record_size source.state }
-    requires fine { first_of (record_questions inputs.now source.at source.state source.max_index) ≡ None }
+    requires fine { IsFineRecord inputs.now source.at source.state source.max_index }
     ensures { result ≡ attribute_word inputs.now source.at source.state j }
 {
     if j % 2 == 0 && j < 2 * attribute_count(source.state) as usize {
@@ -131,7 +131,7 @@ fn emitted_word(inputs: &Inputs, source: Source, first: u32, streams: &[u32; 3],
     requires fits { Fits inputs.now }
     requires inside { source.at + source_size source.state ≤ length inputs.now.records }
     requires count { i < 64 }
-    requires fine { first_of (record_questions inputs.now source.at source.state source.max_index) ≡ None }
+    requires fine { IsFineRecord inputs.now source.at source.state source.max_index }
     requires streams { AreStreamsOf streams.now (stream_place inputs.now source.at first) }
     ensures { result ≡ emitted_word inputs.now source.at source.state (stream_place inputs.now source.at first) i }
 {
@@ -149,7 +149,7 @@ fn emitted_word(inputs: &Inputs, source: Source, first: u32, streams: &[u32; 3],
 #[tactic(auto, unfolding(crate::specs::Emission::record_text), using(field_words::proofs::WordBytes::no_words, crate::proofs::Fine::source_inside, crate::proofs::Inside::fixed_in))]
 pub(crate) fn put_record(inputs: &Inputs, source: Source, first: u32, out: &mut [u8], base: usize)
     requires fits { Fits inputs.now }
-    requires fine { first_of (record_questions inputs.now source.at source.state source.max_index) ≡ None }
+    requires fine { IsFineRecord inputs.now source.at source.state source.max_index }
     requires streams { first + given_before inputs.now source.at 3 < 2 ^ 32 }
     requires room { base + record_room source.state ≤ length out.old }
     ensures { out.new ≡ with_bytes out.old base (record_text inputs.now source.at source.state first) }

@@ -5,9 +5,9 @@ ghost use Rattle.field_words.specs.WordBytes.{word_bytes};
 ghost use Rattle.field_words.specs.Writes.{with_bytes};
 ghost use Rattle.qpu_isa.specs.Shader.{shader_view, sample_at, first_position, address_at, IsSoundShader};
 ghost use Rattle.shader_records.specs.Inputs.{Fits};
-ghost use Rattle.shader_records.specs.Sources.{sample_number, source_word, place_in, shader_used, taken_by, given_by, taken_before, given_before};
-ghost use Rattle.shader_records.specs.Rules.{use_questions};
-ghost use Rattle.shader_records.specs.Emission.{stream_word_of, stream_text, streams_text};
+ghost use Rattle.shader_records.specs.Sources.{sample_number, source_word, place_in, shader_used, taken_by, given_by, taken_before, given_before, HasUniforms};
+ghost use Rattle.shader_records.specs.Rules.{use_questions, IsFineUse};
+ghost use Rattle.shader_records.specs.Emission.{stream_word_of, stream_text, streams_text, moved_first};
 
 use crate::inputs::{Inputs, relocated};
 use crate::record_text::given_by;
@@ -19,7 +19,7 @@ use qpu_isa::ShaderInfo;
 #[tactic(auto, unfolding(crate::specs::Sources::source_word))]
 fn source_word(inputs: &Inputs, from: usize, info: &ShaderInfo, k: usize) -> u32
     requires fits { Fits inputs.now }
-    requires room { from + 4 * (length info.now.samples.items + info.now.uniforms) ≤ length inputs.now.uniforms }
+    requires room { HasUniforms inputs.now from (shader_view info.now) }
     requires inside { k < info.now.uniforms }
     ensures { result ≡ source_word inputs.now from (shader_view info.now) k }
 {
@@ -27,14 +27,14 @@ fn source_word(inputs: &Inputs, from: usize, info: &ShaderInfo, k: usize) -> u32
 }
 
 /// The first word of sample `i`, moved by its buffer's place.
-#[tactic(auto, using(crate::proofs::Samples::base_fits))]
+#[tactic(auto, using(crate::proofs::StreamFacts::base_fits))]
 fn moved_word(inputs: &Inputs, from: usize, info: &ShaderInfo, i: usize) -> u32
     requires fits { Fits inputs.now }
     requires sound { IsSoundShader (shader_view info.now) }
-    requires room { from + 4 * (length info.now.samples.items + info.now.uniforms) ≤ length inputs.now.uniforms }
+    requires room { HasUniforms inputs.now from (shader_view info.now) }
     requires inside { i < length info.now.samples.items }
-    requires fine { first_of (use_questions inputs.now from (Some (shader_view info.now))) ≡ None }
-    ensures { result ≡ source_word inputs.now from (shader_view info.now) (first_position (sample_at (shader_view info.now) i)) + place_in inputs.now.table (sample_number inputs.now from i) }
+    requires fine { IsFineUse inputs.now from (Some (shader_view info.now)) }
+    ensures { result ≡ moved_first inputs.now from (shader_view info.now) i }
 {
     let word = source_word(inputs, from, info, first_position(info, i));
     relocated(word, inputs.place_of(inputs.sample_number(from, i)))
@@ -52,7 +52,7 @@ fn address_word(info: &ShaderInfo, j: usize) -> usize
 
 /// Emits at `base` the stream of a shader whose uniforms begin at `from`: the words of its source, each
 /// sample's first moved by its buffer's place, and each address word the stream's own place.
-#[tactic(auto, using(crate::proofs::Fine::use_inside, field_words::proofs::WordBytes::no_words))]
+#[tactic(auto, unfolding(crate::specs::Emission::stream_text), using(crate::proofs::Fine::use_inside, field_words::proofs::WordBytes::no_words))]
 fn put_words(
     inputs: &Inputs,
     from: usize,
@@ -63,9 +63,9 @@ fn put_words(
 )
     requires fits { Fits inputs.now }
     requires sound { IsSoundShader (shader_view info.now) }
-    requires fine { first_of (use_questions inputs.now from (Some (shader_view info.now))) ≡ None }
+    requires fine { IsFineUse inputs.now from (Some (shader_view info.now)) }
     requires room { base + 4 * info.now.uniforms ≤ length out.old }
-    ensures { out.new ≡ with_bytes out.old base (word_bytes (stream_word_of inputs.now from (shader_view info.now) stream) info.now.uniforms) }
+    ensures { out.new ≡ with_bytes out.old base (stream_text inputs.now from stream (Some (shader_view info.now))) }
 {
     for k in 0..info.uniforms as usize {
         let word = source_word(inputs, from, info, k);
@@ -85,7 +85,7 @@ fn put_words(
 fn taken_by(inputs: &Inputs, at: usize, s: usize, from: usize) -> usize
     requires fits { Fits inputs.now }
     requires inside { at + 4 * s + 4 ≤ length inputs.now.records }
-    requires fine { first_of (use_questions inputs.now from (shader_used inputs.now at s)) ≡ None }
+    requires fine { IsFineUse inputs.now from (shader_used inputs.now at s) }
     ensures { result ≡ taken_by (shader_used inputs.now at s) }
 {
     match inputs.shader_used(at, s) {
@@ -107,7 +107,7 @@ fn put_stream(
 )
     requires fits { Fits inputs.now }
     requires inside { at + 4 * s + 4 ≤ length inputs.now.records }
-    requires fine { first_of (use_questions inputs.now from (shader_used inputs.now at s)) ≡ None }
+    requires fine { IsFineUse inputs.now from (shader_used inputs.now at s) }
     requires room { base + given_by (shader_used inputs.now at s) ≤ length out.old }
     ensures { out.new ≡ with_bytes out.old base (stream_text inputs.now from stream (shader_used inputs.now at s)) }
 {
@@ -135,7 +135,7 @@ pub(crate) fn put_streams(
 ) -> Amounts
     requires fits { Fits inputs.now }
     requires inside { at + 12 ≤ length inputs.now.records }
-    requires fine { (s : ℕ) → s < 3 → first_of (use_questions inputs.now (from + taken_before inputs.now at s) (shader_used inputs.now at s)) ≡ None }
+    requires fine { (s : ℕ) → s < 3 → IsFineUse inputs.now (from + taken_before inputs.now at s) (shader_used inputs.now at s) }
     requires taken { from + taken_before inputs.now at 3 ≤ length inputs.now.uniforms }
     requires base { base < 2 ^ 32 }
     requires places { first + given_before inputs.now at 3 < 2 ^ 32 }

@@ -5,7 +5,7 @@ ghost use Rattle.field_words.specs.Questions.{GoesOn, first_of, each};
 ghost use Rattle.qpu_isa.specs.Shader.{shader_view, sample_at, position, first_position, IsSoundShader, IsSoundSample};
 ghost use Rattle.emitted_facts.specs.Facts.{setup};
 ghost use Rattle.shader_records.specs.Inputs.{Fits};
-ghost use Rattle.shader_records.specs.Sources.{shader_used, taken_by, sample_number, source_word, size_in};
+ghost use Rattle.shader_records.specs.Sources.{shader_used, taken_by, sample_number, source_word, size_in, IsEnd, HasUniforms};
 ghost use Rattle.shader_records.specs.Faults.{sample_fault as sample_fault_of};
 ghost use Rattle.shader_records.specs.Rules.{setup_questions, first_word_at, sample_questions, use_questions};
 
@@ -56,7 +56,7 @@ pub(crate) fn first_position(info: &ShaderInfo, i: usize) -> usize
 #[tactic(auto, unfolding(crate::specs::Sources::source_word))]
 fn setup_word(inputs: &Inputs, from: usize, info: &ShaderInfo, sample: &Sample, n: usize) -> u32
     requires fits { Fits inputs.now }
-    requires room { from + 4 * (length info.now.samples.items + info.now.uniforms) ≤ length inputs.now.uniforms }
+    requires room { HasUniforms inputs.now from (shader_view info.now) }
     requires count { n < 4 }
     requires sound { IsSoundSample (shader_view info.now) sample.now }
     ensures { result ≡ setup (source_word inputs.now from (shader_view info.now)) sample.now n }
@@ -77,7 +77,7 @@ fn setup_fault(
     size: u32,
 ) -> Option<u8>
     requires fits { Fits inputs.now }
-    requires room { from + 4 * (length info.now.samples.items + info.now.uniforms) ≤ length inputs.now.uniforms }
+    requires room { HasUniforms inputs.now from (shader_view info.now) }
     requires sound { IsSoundSample (shader_view info.now) sample.now }
     ensures { result ≡ first_of (setup_questions sample.now (source_word inputs.now from (shader_view info.now)) size) }
 {
@@ -108,7 +108,7 @@ fn first_word_place(info: &ShaderInfo, from: usize, i: usize) -> usize
 fn sample_fault(inputs: &Inputs, from: usize, info: &ShaderInfo, i: usize) -> Option<RecordFault>
     requires fits { Fits inputs.now }
     requires sound { IsSoundShader (shader_view info.now) }
-    requires room { from + 4 * (length info.now.samples.items + info.now.uniforms) ≤ length inputs.now.uniforms }
+    requires room { HasUniforms inputs.now from (shader_view info.now) }
     requires inside { i < length info.now.samples.items }
     ensures { result ≡ first_of (sample_questions inputs.now from (shader_view info.now) i) }
 {
@@ -126,7 +126,7 @@ fn sample_fault(inputs: &Inputs, from: usize, info: &ShaderInfo, i: usize) -> Op
 fn samples_fault(inputs: &Inputs, from: usize, info: &ShaderInfo) -> Option<RecordFault>
     requires fits { Fits inputs.now }
     requires sound { IsSoundShader (shader_view info.now) }
-    requires room { from + 4 * (length info.now.samples.items + info.now.uniforms) ≤ length inputs.now.uniforms }
+    requires room { HasUniforms inputs.now from (shader_view info.now) }
     ensures { result ≡ first_of (each (sample_questions inputs.now from (shader_view info.now)) 0 (length info.now.samples.items)) }
 {
     for i in 0..info.samples.len() {
@@ -151,7 +151,8 @@ fn shader_fault(inputs: &Inputs, from: usize, info: &ShaderInfo) -> Result<usize
     requires fits { Fits inputs.now }
     requires sound { IsSoundShader (shader_view info.now) }
     requires from { from ≤ length inputs.now.uniforms }
-    ensures { GoesOn (use_questions inputs.now from (Some (shader_view info.now))) (λ end. (end ≡ from + taken_by (Some (shader_view info.now))) × (end ≤ length inputs.now.uniforms)) result }
+    ensures { let used = Some (shader_view info.now) in
+        GoesOn (use_questions inputs.now from used) (IsEnd inputs.now (from + taken_by used)) result }
 {
     let words = words_taken(info.samples.len(), info.uniforms);
     if (inputs.uniforms.len() as u128) < from as u128 + 4 * words {
@@ -179,7 +180,8 @@ pub(crate) fn use_fault(
     requires fits { Fits inputs.now }
     requires inside { at + 4 * s + 4 ≤ length inputs.now.records }
     requires from { from ≤ length inputs.now.uniforms }
-    ensures { GoesOn (use_questions inputs.now from (shader_used inputs.now at s)) (λ end. (end ≡ from + taken_by (shader_used inputs.now at s)) × (end ≤ length inputs.now.uniforms)) result }
+    ensures { let used = shader_used inputs.now at s in
+        GoesOn (use_questions inputs.now from used) (IsEnd inputs.now (from + taken_by used)) result }
 {
     match inputs.shader_used(at, s) {
         Some(info) => shader_fault(inputs, from, info),

@@ -2,7 +2,7 @@
 use Rattle.std.proofs.Common.{◌<◌, ◌^◌, arith, ◌∙◌, ap}
 use Rattle.qpu_isa.specs.Shader.{shader_view, sample_at, first_position}
 use Rattle.shader_records.specs.Sources.{source_word, size_in}
-use Rattle.shader_records.proofs.Samples.{base_fits}
+use Rattle.shader_records.proofs.StreamFacts.{base_fits}
 use Rattle.shader_records.proofs.stream_text.moved_word.Goals as goal
 
 pub relocated-requires : goal.relocated-requires
