@@ -23,9 +23,7 @@ use Rattle.qpu_machine.specs.Wild.{takes_one, is_wild}
 use Rattle.qpu_machine.specs.Writes.{awake, past_uniform}
 use Rattle.qpu_law.specs.Home.{Home, Jumps, GoesTo, done}
 use Rattle.qpu_law.specs.Thread.{IsHome}
-use Rattle.qpu_law.proofs.Frames.{is_went}
-use Rattle.qpu_law.proofs.Going.{stays_in_code_law}
-use Rattle.qpu_law.proofs.Rules.{in_checked}
+use Rattle.qpu_law.proofs.Going.{in_checked, is_went, stays_in_code_law}
 use Rattle.qpu_law.proofs.Starting.{starts_stand_law}
 use Rattle.ends_law.specs.Left.{LaunchShort, ThreadLeft}
 use Rattle.ends_law.specs.Loops.{goes_back, has_loop, program_steps}

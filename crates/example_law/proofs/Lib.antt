@@ -1,10 +1,5 @@
-pub mod Told
 pub mod Numbers
 pub mod Shader
-pub mod Packets
-pub mod Memory
 pub mod Bin
 pub mod Records
-pub mod Surfaces
-pub mod Region
 pub mod Whole

@@ -1,9 +1,45 @@
 -- The numbers of an example are in their ranges.
-use Rattle.std.proofs.Common.{◌≡◌, ◌<◌, ◌≤◌, ℕ, ◌+◌, ◌*◌, ◌/◌, ◌%◌, true, false, arith}
-use Rattle.std.specs.Prelude.{◌==◌, nat_le, nat_lt}
+use Rattle.std.specs.Prelude.{zero, suc, ◌==◌, nat_le, nat_lt, min, if◌then◌else◌}
+use Rattle.bin_list.specs.declared.state.State.{State}
+use Rattle.bin_list.specs.States.{state}
+use Rattle.qpu_isa.specs.Shader.{ShaderModel}
+use Rattle.std.proofs.Common.{◌≡◌, ◌<◌, ◌≤◌, ℕ, ◌+◌, ◌*◌, ◌/◌, ◌%◌, true, false, arith, [], ◌∷◌, None, refl, ◌-◌, Bool, ap, ◌∙◌, List, ◌++◌, length, take, drop, sym, subst, length-append}
 use Rattle.std.proofs.lemmas.Bool.Decides.{nat_tests}
 use Rattle.example_law.specs.Laws.{IsInRange}
-use Rattle.example_job.specs.Example.{across_of, down_of, count_of}
+use Rattle.example_job.specs.Example.{across_of, down_of, count_of, regions, code_buffer, vertex_buffer, frame_buffer, frame_of}
+use Rattle.field_words.specs.Sizes.{most_memory, most_list}
+use Rattle.field_words.specs.Questions.{first_of, each, answered}
+use Rattle.buffer_table.specs.declared.buffer.Kind.TheVariants.{Plain}
+use Rattle.buffer_table.specs.Table.{TableModel, shares, is_off_page, memory_within, item_questions, all_within, table_questions, buffer_at}
+use Rattle.buffer_table.specs.Handles.{handle_questions, handles_questions}
+use Rattle.field_words.specs.Words.{rounded_up}
+use Rattle.field_words.proofs.Numbers.{rounded}
+use Rattle.relocation.specs.Layout.{records_start, uniforms_start, render_start, region_end}
+use Rattle.render_list.specs.Frame.{is_present, is_full}
+use Rattle.render_list.specs.Length.{load_size, loads_size, writes_size, tile_size, render_length}
+use Rattle.job_check.specs.Jobs.{has_tiles, render_room}
+use Rattle.std.proofs.lemmas.List.{take_at, drop_at}
+use Rattle.field_words.specs.Pieces.{joined}
+use Rattle.field_words.proofs.Questions.{passes, answered_none}
+use Rattle.packets.specs.Opcode.{halt}
+use Rattle.packets.specs.Length.{bin_taken}
+use Rattle.bin_list.specs.declared.seen.Seen.{Seen}
+use Rattle.bin_list.specs.Packets.{opcode, front_packet, behind, cut, packets, onto, passed}
+use Rattle.bin_list.specs.Seen.{place, seen_before, seen_after}
+use Rattle.bin_list.specs.Rules.{GivenModel, packet_questions, end_questions, asked, questions_of}
+use Rattle.bin_list.specs.Faults.{fault}
+use Rattle.bin_list.proofs.Walk.{cut_step, cut_nothing, taken_some, seen_step}
+
+-- What the binner list of an example tells, and its shader.
+
+-- n states from number j on: each has one attribute, and its triangle's last vertex is j + 2
+abbrev pub states_are : ℕ → ℕ → List State
+states_are j zero = []
+states_are j (suc n) = state 1 (j + 2) ∷ states_are (j + 1) n
+
+-- the shader takes no uniforms, asks for no samples and switches no threads
+abbrev pub told : ShaderModel
+told = record { uniforms = 0; samples = []; address_words = []; threaded = false }
 
 most_tiles : (across down : ℕ) → across ≤ 30 → down ≤ 17 → across * down ≤ 510
 most_tiles across down few_across few_down = grind arith
@@ -45,3 +81,185 @@ is_same n m same = grind (arith, nat_tests)
 
 pub is_within : (n m : ℕ) → n ≤ m → nat_le n m ≡ true
 is_within n m within = grind (arith, nat_tests)
+
+-- No rule stands for the memory of an example, nor for its handles.
+
+-- the memory table of a frame of so many tiles
+abbrev pub memory_bytes : ℕ → ℕ
+memory_bytes tiles = 0x581000 + 16384 * tiles
+
+abbrev pub table_for : ℕ → TableModel
+table_for tiles = record { memory = memory_bytes tiles; regions = regions; buffers = code_buffer ∷ vertex_buffer ∷ frame_buffer tiles ∷ [] }
+
+-- the tests of the table's rules on the memory's size and on the frame's buffer
+record IsRoom (memory size : ℕ) : Type 0 where
+  some : (memory == 0) ≡ false
+  pages : (memory % 4096 == 0) ≡ true
+  most : nat_lt most_memory memory ≡ false
+  lists : nat_lt memory 0x400000 ≡ false
+  tile : nat_lt memory 0x480000 ≡ false
+  code : nat_lt memory 0x481000 ≡ false
+  vertices : nat_lt memory 0x581000 ≡ false
+  frame : nat_lt memory (0x581000 + size) ≡ false
+  frame_pages : (size % 4096 == 0) ≡ true
+  frame_some : (size == 0) ≡ false
+  after_lists : nat_lt 0x581000 (min (0x581000 + size) 0x400000) ≡ false
+  after_tile : nat_lt 0x581000 (min (0x581000 + size) 0x480000) ≡ false
+  after_code : nat_lt 0x581000 (min (0x581000 + size) 0x481000) ≡ false
+  after_vertices : nat_lt 0x581000 (min (0x581000 + size) 0x581000) ≡ false
+  no_content : nat_lt size 0 ≡ false
+
+is_before : (frame end other : ℕ) → other ≤ frame → nat_lt frame (min end other) ≡ false
+is_before frame end other before = grind (arith, nat_tests)
+
+room : (tiles : ℕ) → IsTiles tiles → IsRoom (memory_bytes tiles) (16384 * tiles)
+room tiles range =
+    let some = range.some in
+    let few = range.few in
+    record {
+      some = is_some (memory_bytes tiles) (omega arith);
+      pages = is_same (memory_bytes tiles % 4096) 0 (omega arith);
+      most = is_under most_memory (memory_bytes tiles) (omega arith);
+      lists = is_under (memory_bytes tiles) 0x400000 (omega arith);
+      tile = is_under (memory_bytes tiles) 0x480000 (omega arith);
+      code = is_under (memory_bytes tiles) 0x481000 (omega arith);
+      vertices = is_under (memory_bytes tiles) 0x581000 (omega arith);
+      frame = is_under (memory_bytes tiles) (0x581000 + 16384 * tiles) (omega arith);
+      frame_pages = is_same (16384 * tiles % 4096) 0 (omega arith);
+      frame_some = is_some (16384 * tiles) (omega arith);
+      after_lists = is_before 0x581000 (0x581000 + 16384 * tiles) 0x400000 (omega arith);
+      after_tile = is_before 0x581000 (0x581000 + 16384 * tiles) 0x480000 (omega arith);
+      after_code = is_before 0x581000 (0x581000 + 16384 * tiles) 0x481000 (omega arith);
+      after_vertices = is_before 0x581000 (0x581000 + 16384 * tiles) 0x581000 (omega arith);
+      no_content = is_under (16384 * tiles) 0 (omega arith);
+    }
+
+table_none : (memory size : ℕ) → IsRoom memory size
+    → first_of (table_questions memory regions (code_buffer ∷ vertex_buffer ∷ record { place = 0x581000; size = size; client = 1; kind = Plain; content = 0 } ∷ [])) ≡ None
+unfolding each shares is_off_page memory_within item_questions all_within
+table_none memory size room =
+    rw (room.some, room.pages, room.most, room.lists, room.tile, room.code, room.vertices, room.frame, room.frame_pages, room.frame_some, room.after_lists, room.after_tile, room.after_code, room.after_vertices, room.no_content) refl
+
+pub table_no_fault : (tiles : ℕ) → IsTiles tiles → first_of (table_questions (memory_bytes tiles) regions (table_for tiles).buffers) ≡ None
+table_no_fault tiles range = table_none (memory_bytes tiles) (16384 * tiles) (room tiles range)
+
+pub handles_no_fault : (tiles : ℕ) → first_of (handles_questions (table_for tiles) 1 (0 ∷ 1 ∷ 2 ∷ [])) ≡ None
+unfolding each handle_questions handles_questions buffer_at
+handles_no_fault tiles = refl
+
+-- The lists of an example fit their region.
+
+-- 12 bytes, and 9 for each tile
+render_is : (across down : ℕ) → 1 ≤ across → 1 ≤ down → render_length (frame_of across down) true ≡ 12 + 9 * (across * down)
+unfolding is_present is_full load_size loads_size writes_size tile_size render_length
+render_is across down some_across some_down =
+    let w : across - 1 + 1 - 0 ≡ across = omega arith in
+    let h : down - 1 + 1 - 0 ≡ down = omega arith in
+    ap (λ n. 11 + (0 + (n * ((across - 1 + 1 - 0) * 9) + 1))) h
+    ∙ ap (λ n. 11 + (0 + (down * (n * 9) + 1))) w
+    ∙ grind arith
+
+most_if : (b : Bool) (n most : ℕ) → n ≤ most → (if b then n else 0) ≤ most
+most_if true n most under = under
+most_if false n most under = omega arith
+
+pub render_most : (across down : ℕ) → 1 ≤ across → 1 ≤ down → IsTiles (across * down) → render_room (frame_of across down) true ≤ 33699
+unfolding render_room
+render_most across down some_across some_down tiles =
+    let few = tiles.few in
+    let is = render_is across down some_across some_down in
+    most_if (has_tiles (frame_of across down)) (render_length (frame_of across down) true) 33699 (omega arith)
+
+pub lists_fit : (bin records render : ℕ) → bin ≤ 262159 → records ≤ most_list → render ≤ 33699 → nat_lt (region_end regions) (regions.lists_place + (render_start bin records 0 + render)) ≡ false
+unfolding records_start uniforms_start render_start
+lists_fit bin records render bin_most records_most render_most =
+    let one = (rounded bin 16 (omega arith)).near in
+    let two = (rounded (rounded_up bin 16 + records) 16 (omega arith)).near in
+    let three = (rounded (rounded_up (rounded_up bin 16 + records) 16 + 0) 16 (omega arith)).near in
+    is_under (region_end regions) (regions.lists_place + (rounded_up (rounded_up (rounded_up bin 16 + records) 16 + 0) 16 + render)) (omega arith)
+
+-- A binner list that is made of whole packets: what it is cut into, what is seen of it, and that no rule stands for it where none
+-- stands for a packet after what is seen before it.
+
+-- a packet of its opcode's length, after which the list goes on
+pub record IsWhole (packet : List ℕ) : Type 0 where
+  pub taken : length packet ≡ bin_taken (opcode packet)
+  pub goes_on : (opcode packet == halt) ≡ false
+
+abbrev pub AreWhole : List (List ℕ) → Type 0
+AreWhole [] = Unit {0}
+AreWhole (packet ∷ later) = IsWhole packet × AreWhole later
+
+opcode_front : (packet rest : List ℕ) → 1 ≤ length packet → opcode (packet ++ rest) ≡ opcode packet
+opcode_front [] rest some = absurd (omega arith)
+opcode_front (o ∷ body) rest some = refl
+
+some_bytes : (packet : List ℕ) → IsWhole packet → 1 ≤ length packet
+some_bytes packet whole = let some = taken_some (opcode packet) in let is = whole.taken in omega arith
+
+front_is : (packet rest : List ℕ) → IsWhole packet → front_packet (packet ++ rest) ≡ packet
+unfolding front_packet
+front_is packet rest whole =
+    ap (λ o. take (bin_taken o) (packet ++ rest)) (opcode_front packet rest (some_bytes packet whole))
+    ∙ take_at packet rest (bin_taken (opcode packet)) whole.taken
+
+behind_is : (packet rest : List ℕ) → IsWhole packet → behind (packet ++ rest) ≡ rest
+unfolding behind
+behind_is packet rest whole =
+    ap (λ o. if o == halt then [] else drop (bin_taken o) (packet ++ rest)) (opcode_front packet rest (some_bytes packet whole))
+    ∙ ap (λ halts. if halts then [] else drop (bin_taken (opcode packet)) (packet ++ rest)) whole.goes_on
+    ∙ drop_at packet rest (bin_taken (opcode packet)) whole.taken
+
+pub cut_joined : (fuel : ℕ) (all : List (List ℕ)) → AreWhole all → length (joined all) ≤ fuel → cut fuel (joined all) ≡ all
+cut_joined fuel [] whole enough = cut_nothing fuel [] refl
+cut_joined fuel (packet ∷ later) whole enough =
+    let some = some_bytes packet whole.0 in
+    let sizes = length-append packet (joined later) in
+    let step = cut_step fuel (packet ++ joined later) (omega arith) enough in
+    let rest_is = behind_is packet (joined later) whole.0 in
+    let room : length (joined later) ≤ step.0 = subst (λ rest. length rest ≤ step.0) rest_is step.1.enough in
+    step.1.is
+    ∙ ap (λ p. p ∷ cut step.0 (behind (packet ++ joined later))) (front_is packet (joined later) whole.0)
+    ∙ ap (λ rest. packet ∷ cut step.0 rest) rest_is
+    ∙ ap (λ ps. packet ∷ ps) (cut_joined step.0 later whole.1 room)
+
+pub packets_joined : (all : List (List ℕ)) → AreWhole all → packets (joined all) ≡ all
+unfolding packets
+packets_joined all whole = cut_joined (length (joined all)) all whole (omega arith)
+
+pub passed_joined : (all : List (List ℕ)) → AreWhole all → passed (joined all) ≡ onto [] all
+unfolding passed
+passed_joined all whole = ap (onto []) (packets_joined all whole)
+
+-- what is seen after these packets
+abbrev pub seen_after_all : Seen → List (List ℕ) → Seen
+seen_after_all seen [] = seen
+seen_after_all seen (packet ∷ later) = seen_after_all (seen_after seen packet) later
+
+pub seen_onto : (earlier later : List (List ℕ)) → seen_before (onto earlier later) ≡ seen_after_all (seen_before earlier) later
+seen_onto earlier [] = refl
+seen_onto earlier (packet ∷ later) = seen_onto (packet ∷ earlier) later ∙ ap (λ seen. seen_after_all seen later) (seen_step packet earlier)
+
+-- no rule stands for these packets, each after what is seen before it, nor at the list's end
+abbrev pub Pass : GivenModel → Seen → List (List ℕ) → Type 0
+Pass given seen [] = first_of (end_questions seen) ≡ None
+Pass given seen (packet ∷ later) = (first_of (packet_questions given seen packet) ≡ None) × Pass given (seen_after seen packet) later
+
+asked_none : (given : GivenModel) (earlier later : List (List ℕ)) → first_of (asked given earlier) ≡ None → Pass given (seen_before earlier) later
+    → first_of (questions_of given (onto earlier later)) ≡ None
+unfolding questions_of
+asked_none given earlier [] before pass =
+    passes (asked given earlier) (answered (fault given.size) (end_questions (seen_before earlier))) before
+    ∙ answered_none (fault given.size) (end_questions (seen_before earlier)) pass
+asked_none given earlier (packet ∷ later) before pass =
+    asked_none given (packet ∷ earlier) later
+    (passes (asked given earlier) (answered (fault (place earlier)) (packet_questions given (seen_before earlier) packet)) before
+    ∙ answered_none (fault (place earlier)) (packet_questions given (seen_before earlier) packet) pass.0)
+    (subst (λ seen. Pass given seen later) (sym (seen_step packet earlier)) pass.1)
+
+pub no_fault : (given : GivenModel) (all : List (List ℕ)) → AreWhole all → Pass given (seen_before []) all → first_of (questions_of given (passed (joined all))) ≡ None
+no_fault given all whole pass =
+    ap (λ before. first_of (questions_of given before)) (passed_joined all whole) ∙ asked_none given [] all refl pass
+
+pub seen_joined : (all : List (List ℕ)) → AreWhole all → seen_before (passed (joined all)) ≡ seen_after_all (seen_before []) all
+seen_joined all whole = ap seen_before (passed_joined all whole) ∙ seen_onto [] all

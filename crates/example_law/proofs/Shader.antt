@@ -1,7 +1,7 @@
 -- No rule stands for the shader of an example.
 use Rattle.std.proofs.Common.{◌≡◌, None, refl}
 use Rattle.field_words.specs.Questions.{first_of}
-use Rattle.example_law.proofs.Told.{told}
+use Rattle.example_law.proofs.Numbers.{told}
 use Rattle.field_words.specs.Questions.{each, answered}
 use Rattle.field_words.specs.Words.{u64_at}
 use Rattle.qpu_isa.specs.Setups.{adds_direct, muls_direct, is_direct, adds_setup, muls_setup, has_setup, takes_with, kept}

@@ -22,15 +22,11 @@ use Rattle.job_check.specs.Whole.{format_refused, refusal_of, all_questions as f
 use Rattle.example_job.specs.Lists.{bin_of, records_of}
 use Rattle.example_job.specs.Example.{regions, vertex_bytes, file_of, example, across_of, down_of, count_of, frame_of, shader}
 use Rattle.example_job.proofs.Formed.{noise_length, bin_length, records_length}
-use Rattle.example_law.proofs.Told.{states_are}
+use Rattle.example_law.proofs.Numbers.{states_are, in_range, IsTiles, tiles_in, is_some, memory_bytes, table_for, table_no_fault, handles_no_fault, render_most, lists_fit}
 use Rattle.example_law.specs.Laws.{IsInRange, IsFaultless}
-use Rattle.example_law.proofs.Numbers.{in_range, IsTiles, tiles_in, is_some}
-use Rattle.example_law.proofs.Memory.{memory_bytes, table_for, table_no_fault, handles_no_fault}
 use Rattle.example_law.proofs.Shader.{shader_no_fault, shader_told}
 use Rattle.example_law.proofs.Bin.{bin_no_fault, grid_is, states_told}
-use Rattle.example_law.proofs.Records.{input, records_no_fault}
-use Rattle.example_law.proofs.Surfaces.{surfaces_no_fault}
-use Rattle.example_law.proofs.Region.{render_most, lists_fit}
+use Rattle.example_law.proofs.Records.{input, records_no_fault, surfaces_no_fault}
 
 few_in : {across down count : ℕ} → IsInRange across down count → count ≤ 17476
 few_in range = let few = range.records in omega arith

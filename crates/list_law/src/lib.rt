@@ -40,13 +40,13 @@ pub fn renderer_looks()
 {}
 
 /// All that a store of one tile writes lies in its surface, at whatever tile.
-#[tactic(auto, using(crate::proofs::Surfaces::store_fine))]
+#[tactic(auto, using(crate::proofs::Rendering::store_fine))]
 pub fn store_fine()
     ensures { StoreFine }
 {}
 
 /// All that a load of one tile reads lies in its surface, at whatever tile.
-#[tactic(auto, using(crate::proofs::Surfaces::load_fine))]
+#[tactic(auto, using(crate::proofs::Rendering::load_fine))]
 pub fn load_fine()
     ensures { LoadFine }
 {}

@@ -23,9 +23,7 @@ use Rattle.machine_law.specs.Units.{AskOf, QpuFine}
 use Rattle.machine_law.specs.Jobs.{facts_of}
 use Rattle.machine_law.specs.Laws.{AreFine}
 use Rattle.machine_law.specs.Sound.{ReadInOne, TexturesReadIn, MachineSound, JobsSound, SoundJobsAreSafe}
-use Rattle.machine_law.proofs.Places.{item_fine}
-use Rattle.machine_law.proofs.Processors.{oldest_fine, queue_of_fine}
-use Rattle.machine_law.proofs.Owes.{units_owe_law, start_fine}
+use Rattle.machine_law.proofs.Owes.{item_fine, oldest_fine, queue_of_fine, units_owe_law, start_fine}
 use Rattle.machine_law.proofs.Begins.{each_begins}
 
 -- a texture unit by its oldest request

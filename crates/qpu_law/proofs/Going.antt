@@ -1,23 +1,209 @@
 -- Where a thread goes, and what its marks say then.
-use Rattle.std.proofs.Common.{◌≡◌, ◌≢◌, ◌<◌, ◌≤◌, inl, inr, ◌⊎◌, ℕ, zero, suc, ◌+◌, ◌-◌, ◌*◌, ◌/◌, ◌%◌, ◌^◌, Bool, true, false, ◌&&◌, ◌||◌, ◌==◌, not, List, [], ◌∷◌, length, Option, Some, None, refl, sym, ap, subst, arith, ◌∙◌, nat_lt, nat_le, if◌then◌else◌}
+use Rattle.std.proofs.Common.{◌≡◌, ◌<◌, ◌≤◌, ℕ, ◌+◌, false, List, length, arith, refl, inl, inr, ◌-◌, Bool, ◌&&◌, ◌||◌, sym, ap, ◌∙◌, ◌≢◌, ◌⊎◌, zero, suc, ◌*◌, ◌/◌, ◌%◌, ◌^◌, true, ◌==◌, not, [], ◌∷◌, Option, Some, None, subst, nat_lt, nat_le, if◌then◌else◌}
+use Rattle.field_words.specs.Questions.{each, answered}
+use Rattle.field_words.proofs.Questions.{none_stands}
+use Rattle.shader_flow.specs.Flow.{end_of, checked_of, word, in_slots, after_switch, is_target, makes_target, is_sound_branch, leads_outside, is_threaded}
+use Rattle.shader_flow.specs.Rules.{s3, s4, s5, s6, s7, s8, s9, s10, s11, s12, s13, s27}
+use Rattle.uniform_stream.specs.Rules.{s14, s15, s17, s18, s19, s20, s21, s22, s23, s25, after_address_write, is_full}
+use Rattle.shader_check.specs.Rules.{s2, s16, s24, s26, index_questions, questions_at, fault_at, whole_questions, shader_questions, uses_upper}
+use Rattle.field_words.proofs.Nones.{front_none, rest_none, each_none, none_answered}
+use Rattle.qpu_law.specs.Home.{HasNoFault, readied, done, Home, IsQuiet, MarkIs, IsAt, IsExact, IsRoot, IsBlank, GoesTo, StaysInCode, ArePending, NeverWild}
 use Rattle.std.specs.Prelude.{unwrap_or}
-use Rattle.std.proofs.lemmas.Bool.{and_from, le-leb, or_left, or_right, or_cases, cases_Bool, eqb-true, false_from_ne_true, true≢false, not-false, not_from_false, and_parts}
-use Rattle.std.proofs.lemmas.Grind.{common_steps}
-use Rattle.qpu_isa.specs.Word.{imm_of, cond_of, relative_of, register_of}
-use Rattle.qpu_isa.specs.Terms.{is_branch, is_switch, is_end, is_address_write, target_of}
-use Rattle.shader_flow.specs.Bounded.{is_back}
-use Rattle.shader_flow.specs.Flow.{word, end_of, checked_of, in_slots, is_target, makes_target, is_sound_branch, leads_outside}
-use Rattle.shader_flow.specs.Rules.{s4, s5, s6, s7, s8, s9, s13}
-use Rattle.shader_flow.proofs.Bounded.{some_below_here, some_below_found}
-use Rattle.uniform_stream.specs.Rules.{s17}
-use Rattle.machine_plan.specs.Choice.{word_at}
-use Rattle.qpu_machine.specs.declared.state.Mark.{Mark}
+use Rattle.qpu_isa.specs.Setups.{kept, takes_with}
 use Rattle.qpu_machine.specs.declared.state.Thread.{Thread}
+use Rattle.qpu_machine.specs.Operands.{add_row, mul_row}
+use Rattle.qpu_machine.specs.Writes.{awake, written_at, added, multiplied, written, stored, loaded, went_on, worked, led_to, fate_of, rested, asked, pointer_after, add_address, mul_address}
+use Rattle.qpu_machine.specs.Row.{mask_of}
+use Rattle.qpu_isa.specs.Word.{cond_add_of, cond_mul_of, imm_of, cond_of, relative_of, register_of}
+use Rattle.qpu_machine.specs.Step.{executed_with, executed}
+use Rattle.std.proofs.lemmas.Bool.{or_from, or_parts, le-leb, and_from, or_left, or_right, or_cases, cases_Bool, eqb-true, false_from_ne_true, true≢false, not-false, not_from_false, and_parts, lt-ltb, not_from_true}
+use Rattle.qpu_isa.specs.Terms.{is_branch, is_switch, is_address_write, is_end, target_of, is_relative_address_write, names_forbidden, has_two_tmu_writes, has_conditional_tmu_write, writes_tmu, reads_upper, names_upper}
+use Rattle.shader_flow.specs.Bounded.{is_back, some_below}
+use Rattle.qpu_machine.specs.declared.state.Mark.{Mark}
+use Rattle.std.proofs.lemmas.Grind.{common_steps}
+use Rattle.shader_flow.proofs.Bounded.{some_below_here, some_below_found, some_below_not}
+use Rattle.machine_plan.specs.Choice.{word_at}
 use Rattle.qpu_machine.specs.declared.state.Fate.TheVariants.{Ends, Switches, GoesOn}
-use Rattle.qpu_machine.specs.Writes.{led_to, fate_of}
-use Rattle.qpu_law.specs.Home.{Home, HasNoFault, IsQuiet, IsExact, IsRoot, IsBlank, MarkIs, IsAt, GoesTo, done, StaysInCode}
-use Rattle.qpu_law.proofs.Rules.{IsFineAt, fine_at, in_checked, checked_is, end_inside}
-use Rattle.qpu_law.proofs.Frames.{IsWent, is_went, fate_is}
+use Rattle.shader_flow.specs.Pending.{pending_of, takes}
+use Rattle.qpu_machine.specs.Wild as wild
+
+-- What no rule's standing says of a checked instruction.
+
+-- no rule stands at the instruction
+pub record IsFineAt (code : List ℕ) (i : ℕ) : Type 0 where
+  pub no3 : s3 code i ≡ false
+  pub no4 : s4 code i ≡ false
+  pub no5 : s5 code i ≡ false
+  pub no6 : s6 code i ≡ false
+  pub no7 : s7 code i ≡ false
+  pub no8 : s8 code i ≡ false
+  pub no9 : s9 code i ≡ false
+  pub no10 : s10 code i ≡ false
+  pub no11 : s11 code i ≡ false
+  pub no12 : s12 code i ≡ false
+  pub no13 : s13 code i ≡ false
+  pub no14 : s14 code i ≡ false
+  pub no15 : s15 code i ≡ false
+  pub no16 : s16 code i ≡ false
+  pub no17 : s17 code i ≡ false
+  pub no18 : s18 code i ≡ false
+  pub no19 : s19 code i ≡ false
+  pub no20 : s20 code i ≡ false
+  pub no21 : s21 code i ≡ false
+  pub no22 : s22 code i ≡ false
+  pub no23 : s23 code i ≡ false
+  pub no24 : s24 code i ≡ false
+  pub no25 : s25 code i ≡ false
+  pub no27 : s27 code i ≡ false
+
+pub fine_at : (code : List ℕ) → HasNoFault code → (i : ℕ) → i < checked_of code → IsFineAt code i
+unfolding shader_questions questions_at index_questions
+fine_at code none i inside =
+    let all = front_none (each (questions_at code) 0 (checked_of code)) (answered (fault_at (length code)) (whole_questions code)) none in
+    let here = each_none (questions_at code) 0 (checked_of code) i all (omega arith) (omega (arith, inside)) in
+    let r3 = none_stands (index_questions code i) (none_answered (fault_at i) (index_questions code i) here) in
+    let r8 = r3.1.1.1.1.1 in
+    let r13 = r8.1.1.1.1.1 in
+    let r18 = r13.1.1.1.1.1 in
+    let r23 = r18.1.1.1.1.1 in
+    record {
+      no3 = r3.0;
+      no4 = r3.1.0;
+      no5 = r3.1.1.0;
+      no6 = r3.1.1.1.0;
+      no7 = r3.1.1.1.1.0;
+      no8 = r8.0;
+      no9 = r8.1.0;
+      no10 = r8.1.1.0;
+      no11 = r8.1.1.1.0;
+      no12 = r8.1.1.1.1.0;
+      no13 = r13.0;
+      no14 = r13.1.0;
+      no15 = r13.1.1.0;
+      no16 = r13.1.1.1.0;
+      no17 = r13.1.1.1.1.0;
+      no18 = r18.0;
+      no19 = r18.1.0;
+      no20 = r18.1.1.0;
+      no21 = r18.1.1.1.0;
+      no22 = r18.1.1.1.1.0;
+      no23 = r23.0;
+      no24 = r23.1.0;
+      no25 = r23.1.1.0;
+      no27 = r23.1.1.1.0;
+    }
+
+-- no rule on the whole shader stands
+pub record IsFineWhole (code : List ℕ) : Type 0 where
+  pub no2 : s2 code ≡ false
+  pub no26 : s26 code ≡ false
+
+pub fine_whole : (code : List ℕ) → HasNoFault code → IsFineWhole code
+unfolding shader_questions whole_questions
+fine_whole code none =
+    let rest = rest_none (each (questions_at code) 0 (checked_of code)) (answered (fault_at (length code)) (whole_questions code)) none in
+    let rules = none_stands (whole_questions code) (none_answered (fault_at (length code)) (whole_questions code) rest) in
+    record { no2 = rules.1.0; no26 = rules.1.1.0 }
+
+-- so the code has the two instructions after the program end
+pub end_inside : (code : List ℕ) → HasNoFault code → end_of code + 2 < length code
+unfolding s2
+end_inside code none = let no2 : s2 code ≡ false = (fine_whole code none).no2 in grind (arith, no2)
+
+pub checked_is : (code : List ℕ) → HasNoFault code → checked_of code ≡ end_of code + 3
+unfolding checked_of
+checked_is code none = omega (arith, end_inside code none)
+
+pub in_checked : (code : List ℕ) (n : ℕ) → HasNoFault code → n ≤ end_of code + 2 → n < checked_of code
+in_checked code n none inside = omega (arith, checked_is code none, inside)
+
+-- What one instruction leaves alone, field by field.
+
+-- whose, where, and its marks
+pub record IsWent (word : ℕ) (words : List ℕ) (t next : Thread) : Type 0 where
+  pub job : next.job ≡ t.job
+  pub threaded : next.threaded ≡ t.threaded
+  pub place : next.place ≡ unwrap_or t.last3.to (t.place + 8)
+  pub last1 : next.last1 ≡ record { word = word; to = led_to word words t.place }
+  pub last2 : next.last2 ≡ t.last1
+  pub last3 : next.last3 ≡ t.last2
+
+pub is_went : (word uniform uniforms : ℕ) (words : List ℕ) (t : Thread) → IsWent word words t (done word uniform uniforms words t).thread
+unfolding awake executed executed_with rested worked went_on loaded stored written multiplied added written_at
+is_went word uniform uniforms words t = record { job = refl; threaded = refl; place = refl; last1 = refl; last2 = refl; last3 = refl }
+
+-- the setup words
+pub setups0_are : (word uniform uniforms : ℕ) (words : List ℕ) (t : Thread) → (done word uniform uniforms words t).thread.setups0.items ≡ kept word 0 uniform t.setups0.items
+unfolding awake executed executed_with rested worked went_on loaded stored written multiplied added written_at
+setups0_are word uniform uniforms words t = refl
+
+pub setups1_are : (word uniform uniforms : ℕ) (words : List ℕ) (t : Thread) → (done word uniform uniforms words t).thread.setups1.items ≡ kept word 1 uniform t.setups1.items
+unfolding awake executed executed_with rested worked went_on loaded stored written multiplied added written_at
+setups1_are word uniform uniforms words t = refl
+
+-- the fate is by the instruction two before
+pub fate_is : (word uniform uniforms : ℕ) (words : List ℕ) (t : Thread) → (done word uniform uniforms words t).leaves.fate ≡ fate_of t
+unfolding awake executed executed_with fate_of
+fate_is word uniform uniforms words t = refl
+
+-- the request, by what the two units came to
+pub asked_is : (word uniform uniforms : ℕ) (words : List ℕ) (t : Thread)
+    → (done word uniform uniforms words t).leaves.asked
+    ≡ asked word uniform (add_row (readied uniforms words t) word uniform words) (mul_row (readied uniforms words t) word uniform words) (readied uniforms words t)
+unfolding executed executed_with
+asked_is word uniform uniforms words t = refl
+
+-- the uniform pointer
+pub uniforms_are : (word uniform uniforms : ℕ) (words : List ℕ) (t : Thread)
+    → (done word uniform uniforms words t).thread.uniforms
+    ≡ pointer_after (mul_address word) (mask_of (cond_mul_of word) words 16) (mul_row (readied uniforms words t) word uniform words)
+    (pointer_after (add_address word) (mask_of (cond_add_of word) words 0) (add_row (readied uniforms words t) word uniform words) uniforms)
+unfolding awake executed executed_with rested worked went_on loaded stored written multiplied added written_at
+uniforms_are word uniform uniforms words t = refl
+
+-- What marks say.
+
+back_here : (n k : ℕ) (test : ℕ → Bool) → k ≤ n → is_back n k test ≡ false → test (n - k) ≡ false
+unfolding is_back
+back_here n k test back none = sym (ap (λ b. b && test (n - k)) (le-leb k n back)) ∙ none
+
+-- Where a quiet word fails a test, and the instruction k places before fails it, the mark's word fails it.
+pub mark_not : (place : ℕ) (code : List ℕ) (n k : ℕ) (m : Mark) (test : ℕ → Bool) → MarkIs place code n k m
+    → (IsQuiet m.word → test m.word ≡ false) → is_back n k (λ j. test (word code j)) ≡ false → test m.word ≡ false
+mark_not place code n k m test (inl exact) quiet none =
+    ap test exact.is ∙ back_here n k (λ j. test (word code j)) exact.back none
+mark_not place code n k m test (inr blank) quiet none = quiet blank.quiet
+
+pub no_slots : (h : Home) (n : ℕ) (t : Thread) → IsAt h n t → in_slots h.code n ≡ false → wild.in_slots t ≡ false
+unfolding in_slots wild.in_slots
+no_slots h n t at none =
+    let test : ℕ → Bool = λ k. is_branch (word h.code k) in
+    let three = or_parts (is_back n 1 test) (is_back n 2 test || is_back n 3 test) none in
+    let two = or_parts (is_back n 2 test) (is_back n 3 test) three.1 in
+    or_from (is_branch t.last1.word) (is_branch t.last2.word || is_branch t.last3.word)
+    (mark_not h.place h.code n 1 t.last1 is_branch at.mark1 (λ q. q.branch) three.0)
+    (or_from (is_branch t.last2.word) (is_branch t.last3.word)
+    (mark_not h.place h.code n 2 t.last2 is_branch at.mark2 (λ q. q.branch) two.0)
+    (mark_not h.place h.code n 3 t.last3 is_branch at.mark3 (λ q. q.branch) two.1))
+
+pub no_switch : (h : Home) (n : ℕ) (t : Thread) → IsAt h n t → after_switch h.code n ≡ false → wild.after_switch t ≡ false
+unfolding after_switch wild.after_switch
+no_switch h n t at none =
+    let test : ℕ → Bool = λ k. is_switch (word h.code k) in
+    let two = or_parts (is_back n 1 test) (is_back n 2 test) none in
+    or_from (is_switch t.last1.word) (is_switch t.last2.word)
+    (mark_not h.place h.code n 1 t.last1 is_switch at.mark1 (λ q. q.switch) two.0)
+    (mark_not h.place h.code n 2 t.last2 is_switch at.mark2 (λ q. q.switch) two.1)
+
+pub no_address : (h : Home) (n : ℕ) (t : Thread) → IsAt h n t → after_address_write h.code n ≡ false
+    → (is_address_write t.last1.word || is_address_write t.last2.word) ≡ false
+unfolding after_address_write
+no_address h n t at none =
+    let test : ℕ → Bool = λ k. is_address_write (word h.code k) in
+    let two = or_parts (is_back n 1 test) (is_back n 2 test) none in
+    or_from (is_address_write t.last1.word) (is_address_write t.last2.word)
+    (mark_not h.place h.code n 1 t.last1 is_address_write at.mark1 (λ q. q.address) two.0)
+    (mark_not h.place h.code n 2 t.last2 is_address_write at.mark2 (λ q. q.address) two.1)
 
 -- where the front test is true, what stands behind it is false
 pub behind : (a b : Bool) → a ≡ true → (a && b) ≡ false → b ≡ false
@@ -324,3 +510,95 @@ stays_in_code_law h n uniform uniforms words t none low at lives =
     next_index h n words t (done (word h.code n) uniform uniforms words t).thread none low at
     (λ is. lives (fate_is (word h.code n) uniform uniforms words t ∙ is))
     (is_went (word h.code n) uniform uniforms words t) t.last3.to refl
+
+-- No instruction of a checked shader is wild.
+
+-- the instruction is tame where its front test fails, or what stands behind it does
+front : (a b : Bool) → (a ≡ true → b ≡ false) → (a && b) ≡ false
+front true b later = later refl
+front false b later = refl
+
+word_tame : (code : List ℕ) (n : ℕ) → IsFineAt code n → wild.is_word_wild (word code n) ≡ false
+unfolding s3 s27 s14 s15 s20 s21 wild.is_word_wild wild.is_signal_wild wild.is_mode_wild wild.is_name_wild wild.is_tmu_wild
+word_tame code n fine =
+    let w = word code n in
+    or_from (wild.is_signal_wild w || wild.is_mode_wild w) (wild.is_name_wild w || wild.is_tmu_wild w)
+    (or_from (wild.is_signal_wild w) (wild.is_mode_wild w) fine.no3 fine.no27)
+    (or_from (wild.is_name_wild w) (wild.is_tmu_wild w)
+    (or_from (names_forbidden w) (is_relative_address_write w) fine.no14 fine.no15)
+    (or_from (has_two_tmu_writes w) (has_conditional_tmu_write w) fine.no20 fine.no21))
+
+branch_tame : (h : Home) (n : ℕ) (t : Thread) → IsFineAt h.code n → IsAt h n t → wild.is_branch_wild t (word h.code n) ≡ false
+unfolding s4 s5 s6 s12 wild.is_branch_wild
+branch_tame h n t fine at =
+    let w = word h.code n in
+    front (is_branch w) ((register_of w || not (relative_of w)) || (wild.in_slots t || wild.after_switch t))
+    (λ is. or_from (register_of w || not (relative_of w)) (wild.in_slots t || wild.after_switch t)
+    (or_from (register_of w) (not (relative_of w)) (behind (is_branch w) (register_of w) is fine.no5) (behind (is_branch w) (not (relative_of w)) is fine.no6))
+    (or_from (wild.in_slots t) (wild.after_switch t)
+    (no_slots h n t at (behind (is_branch w) (in_slots h.code n) is fine.no4))
+    (no_switch h n t at (behind (is_branch w) (after_switch h.code n) is fine.no12))))
+
+switch_threads : (code : List ℕ) (n : ℕ) → n < checked_of code → is_switch (word code n) ≡ true → is_threaded code ≡ true
+unfolding is_threaded
+switch_threads code n inside is = some_below_here (checked_of code) n (λ k. is_switch (word code k)) inside is
+
+switch_tame : (h : Home) (n : ℕ) (t : Thread) → n < checked_of h.code → IsFineAt h.code n → IsAt h n t → wild.is_switch_wild t (word h.code n) ≡ false
+unfolding s11 s13 wild.is_switch_wild
+switch_tame h n t inside fine at =
+    let w = word h.code n in
+    front (is_switch w) ((wild.after_switch t || wild.in_slots t) || not t.threaded)
+    (λ is.
+    let parts = or_parts (in_slots h.code n) (nat_lt (end_of h.code) (n + 3)) (behind (is_switch w) (in_slots h.code n || nat_lt (end_of h.code) (n + 3)) is fine.no13) in
+    or_from (wild.after_switch t || wild.in_slots t) (not t.threaded)
+    (or_from (wild.after_switch t) (wild.in_slots t)
+    (no_switch h n t at (behind (is_switch w) (after_switch h.code n) is fine.no11))
+    (no_slots h n t at parts.0))
+    (not_from_true t.threaded (at.threaded ∙ switch_threads h.code n inside is)))
+
+setup_tame : (h : Home) (n : ℕ) (t : Thread) → IsFineAt h.code n → ArePending h.code n t → wild.is_setup_wild t (word h.code n) ≡ false
+unfolding s22 is_full wild.is_setup_wild
+setup_tame h n t fine pending =
+    let w = word h.code n in
+    ap (λ a. (writes_tmu w 0 && nat_le 4 a) || (writes_tmu w 1 && nat_le 4 (length t.setups1.items))) pending.tmu0
+    ∙ (ap (λ b. (writes_tmu w 0 && nat_le 4 (pending_of h.code 0 n)) || (writes_tmu w 1 && nat_le 4 b)) pending.tmu1 ∙ fine.no22)
+
+register_tame : (h : Home) (n : ℕ) (t : Thread) → n < checked_of h.code → HasNoFault h.code → IsAt h n t → wild.is_register_wild t (word h.code n) ≡ false
+unfolding s26 uses_upper wild.is_register_wild
+register_tame h n t inside none at =
+    let w = word h.code n in
+    let whole : s26 h.code ≡ false = (fine_whole h.code none).no26 in
+    front t.threaded (reads_upper w || names_upper w)
+    (λ is. some_below_not (checked_of h.code) n (λ k. uses_upper (word h.code k))
+    (behind (is_threaded h.code) (some_below (checked_of h.code) (λ k. uses_upper (word h.code k))) (sym at.threaded ∙ is) whole) inside)
+
+-- an instruction takes a uniform where the rules say so
+pub takes_same : (code : List ℕ) (n : ℕ) (t : Thread) → n < checked_of code → ArePending code n t → wild.takes_one t (word code n) ≡ takes code n
+unfolding wild.takes_one takes
+takes_same code n t inside pending =
+    ap (λ a. takes_with (word code n) a (length t.setups1.items)) pending.tmu0
+    ∙ (ap (λ b. takes_with (word code n) (pending_of code 0 n) b) pending.tmu1
+    ∙ sym (ap (λ b. b && takes_with (word code n) (pending_of code 0 n) (pending_of code 1 n)) (lt-ltb n (checked_of code) inside)))
+
+uniform_tame : (h : Home) (n : ℕ) (t : Thread) → n < checked_of h.code → IsFineAt h.code n → IsAt h n t → ArePending h.code n t
+    → wild.is_uniform_wild t (word h.code n) ≡ false
+unfolding s18 wild.is_uniform_wild
+uniform_tame h n t inside fine at pending =
+    let w = word h.code n in
+    front (wild.takes_one t w) (is_address_write t.last1.word || is_address_write t.last2.word)
+    (λ is. no_address h n t at (behind (takes h.code n) (after_address_write h.code n) (sym (takes_same h.code n t inside pending) ∙ is) fine.no18))
+
+pub never_wild : (h : Home) (n : ℕ) (t : Thread) → HasNoFault h.code → IsAt h n t → ArePending h.code n t → wild.is_wild t (word h.code n) ≡ false
+unfolding wild.is_wild wild.is_order_wild wild.is_use_wild
+never_wild h n t none at pending =
+    let w = word h.code n in
+    let inside : n < checked_of h.code = in_checked h.code n none at.inside in
+    let fine = fine_at h.code none n inside in
+    or_from (wild.is_word_wild w) (wild.is_order_wild t w || wild.is_use_wild t w) (word_tame h.code n fine)
+    (or_from (wild.is_order_wild t w) (wild.is_use_wild t w)
+    (or_from (wild.is_branch_wild t w) (wild.is_switch_wild t w) (branch_tame h n t fine at) (switch_tame h n t inside fine at))
+    (or_from (wild.is_setup_wild t w) (wild.is_register_wild t w || wild.is_uniform_wild t w) (setup_tame h n t fine pending)
+    (or_from (wild.is_register_wild t w) (wild.is_uniform_wild t w) (register_tame h n t inside none at) (uniform_tame h n t inside fine at pending))))
+
+pub never_wild_law : NeverWild
+never_wild_law = never_wild

@@ -1,17 +1,7 @@
 pub mod Emitting
-pub mod Counts
-pub mod Frames
 pub mod Going
 pub mod Join
-pub mod Keeping
-pub mod Marks
-pub mod Operands
 pub mod Pointer
 pub mod Reading
-pub mod Rules
-pub mod Samples
-pub mod Setups
 pub mod Starting
-pub mod Sums
 pub mod Values
-pub mod Wild

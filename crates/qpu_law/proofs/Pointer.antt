@@ -1,31 +1,216 @@
 -- Where a thread's uniform pointer stands.
-use Rattle.std.proofs.Common.{◌≡◌, ◌<◌, ◌≤◌, inl, inr, ◌⊎◌, ℕ, ◌+◌, ◌-◌, ◌*◌, ◌/◌, ◌%◌, ◌^◌, Bool, true, false, ◌&&◌, ◌==◌, not, List, length, Some, None, refl, sym, ap, subst, arith, ◌∙◌, nat_le, if◌then◌else◌}
+use Rattle.std.proofs.Common.{◌≡◌, ◌<◌, ◌≤◌, inl, inr, ◌⊎◌, ℕ, zero, suc, ◌+◌, ◌-◌, Bool, true, false, ◌&&◌, not, List, length, refl, sym, ap, subst, arith, ◌∙◌, nat_lt, nat_le, ◌==◌, ◌||◌, [], ◌∷◌, ◌++◌, map, if◌then◌else◌, ◌*◌, ◌/◌, ◌%◌, ◌^◌, Some, None}
+use Rattle.std.proofs.lemmas.Bool.{cases_Bool, cases_eq, and_from, and_right, lt-ltb, false_from_ne_true, true≢false, or_from, leb-true, and_parts, not_from_false, or_parts, eqb-true, leb-false, not-true, not-false}
+use Rattle.qpu_isa.specs.Terms.{is_backward, is_address_write, writes_s, writes_tmu, is_branch, target_of, add_names, mul_names, names_on_a, names_on_b, is_relative_address_write, is_add_packed}
+use Rattle.shader_flow.specs.Bounded.{some_in, is_back}
+use Rattle.shader_flow.specs.Flow.{word, checked_of, is_target}
+use Rattle.shader_flow.specs.Pending.{count_of, takes, pending_of}
+use Rattle.qpu_isa.specs.Setups.{takes_with, kept}
+use Rattle.shader_flow.proofs.Bounded.{some_below_here, some_below_found, some_in_none, some_in_not}
+use Rattle.shader_flow.proofs.Counts.{count_same, count_taken}
+use Rattle.shader_flow.proofs.Ends.{checked_of-le}
+use Rattle.uniform_stream.specs.Rules.{s19, s25, s15}
+use Rattle.uniform_stream.specs.Stream.{writes_address, is_known, is_restart, is_open, leaves_open, uniforms_of}
+use Rattle.uniform_stream.proofs.Restarts.{known_not, known_on}
+use Rattle.shader_check.proofs.Clean.{clean}
+use Rattle.shader_check.proofs.SoundInfo.{address_takes, address_write_at, IsAddressWord, Written, Open, address_below, count_total, total_le}
+use Rattle.qpu_law.specs.Home.{HasNoFault, Home, ArePending, Jumps, done, Lands, readied}
+use Rattle.qpu_law.specs.Stream.{IsAddressCount, TakesNone, GoesForward, uniform_at, held_words, AreSetups, HoldsAddresses, IsStreamLow, IsRight, IsLost, IsOver, PointerIs}
+use Rattle.qpu_law.proofs.Going.{fine_at, behind, makes_on, setups0_are, setups1_are, is_went, uniforms_are}
+use Rattle.std.proofs.lemmas.List.{map-append, length-map}
+use Rattle.shader_check.specs.Info.{held}
+use Rattle.shader_check.proofs.Positions.{held_next}
+use Rattle.shader_check.proofs.Held.{held_is}
+use Rattle.shader_check.proofs.Setups.{sets_one, not_sent}
+use Rattle.shader_check.proofs.Roles.{sets_takes}
+use Rattle.qpu_machine.specs.declared.state.Thread.{Thread}
 use Rattle.std.specs.Prelude.{slice_index}
-use Rattle.std.proofs.lemmas.Bool.{cases_Bool, true≢false, eqb-true, false_from_ne_true, leb-false, and_parts, not-true, not-false}
 use Rattle.field_words.specs.Sizes.{most_words}
 use Rattle.qpu_isa.specs.Word.{ws_of, waddr_add_of, waddr_mul_of, cond_add_of, cond_mul_of, imm_of}
-use Rattle.qpu_isa.specs.Terms.{is_branch, is_backward, target_of, add_names, mul_names, names_on_a, names_on_b, is_address_write, is_relative_address_write, is_add_packed}
-use Rattle.shader_flow.specs.Flow.{word, checked_of, is_target}
-use Rattle.shader_flow.specs.Pending.{count_of, takes}
-use Rattle.shader_flow.proofs.Counts.{count_taken, count_same}
-use Rattle.shader_flow.proofs.Ends.{checked_of-le}
-use Rattle.uniform_stream.specs.Rules.{s15}
-use Rattle.uniform_stream.specs.Stream.{is_known, uniforms_of, writes_address}
-use Rattle.uniform_stream.proofs.Restarts.{known_not}
 use Rattle.shader_check.specs.Rules.{s16, is_exact_address_write, adds_address}
-use Rattle.shader_check.proofs.Clean.{clean}
-use Rattle.shader_check.proofs.SoundInfo.{IsAddressWord, Written, Open, address_write_at, address_takes, address_below, count_total, total_le}
 use Rattle.qpu_machine.specs.declared.state.Mark.{Mark}
-use Rattle.qpu_machine.specs.declared.state.Thread.{Thread}
 use Rattle.qpu_machine.specs.Operands.{add_row, mul_row}
 use Rattle.qpu_machine.specs.Row.{has_lane, mask_of}
 use Rattle.qpu_machine.specs.Writes.{pointer_after, add_address, mul_address}
-use Rattle.qpu_law.specs.Home.{Home, HasNoFault, Lands, readied, done}
-use Rattle.qpu_law.specs.Stream.{uniform_at, IsAddressCount, HoldsAddresses, IsStreamLow, TakesNone, GoesForward, IsRight, IsLost, IsOver, PointerIs}
-use Rattle.qpu_law.proofs.Rules.{fine_at}
-use Rattle.qpu_law.proofs.Going.{behind, makes_on}
-use Rattle.qpu_law.proofs.Frames.{is_went, uniforms_are}
-use Rattle.qpu_law.proofs.Counts.{lost_writes, unknown_next, takes_checked, last_word, next_word}
+
+-- Where a thread comes to a target, its count is an address word's, or no more uniforms are taken.
+
+pub takes_checked : (code : List ℕ) (n : ℕ) → takes code n ≡ true → n < checked_of code
+unfolding takes
+takes_checked code n taken = let less : nat_lt n (checked_of code) ≡ true = (and_parts (nat_lt n (checked_of code)) (takes_with (word code n) (pending_of code 0 n) (pending_of code 1 n)) taken).0 in grind (arith, less)
+
+none_past : (code : List ℕ) (n : ℕ) → checked_of code ≤ n → takes code n ≡ false
+none_past code n past = false_from_ne_true (takes code n) (λ taken. let no : ⊥ = omega (arith, takes_checked code n taken, past) in no)
+
+by : (a k : Bool) → k ≡ false → (not a && not k) ≡ false → a ≡ true
+by true k unknown rule = refl
+by false true unknown rule = absurd (true≢false unknown)
+by false false unknown rule = absurd (true≢false rule)
+
+-- where the position isn't known, only a write of the address takes a uniform
+pub lost_writes : (code : List ℕ) (n : ℕ) → HasNoFault code → is_known code n ≡ false → takes code n ≡ true → writes_address code n ≡ true
+unfolding s19 writes_address
+lost_writes code n none unknown taken =
+    let inside = takes_checked code n taken in
+    let rule = behind (takes code n) (not (is_address_write (word code n)) && not (is_known code n)) taken (fine_at code none n inside).no19 in
+    and_from (nat_lt n (checked_of code)) (is_address_write (word code n)) (lt-ltb n (checked_of code) inside) (by (is_address_write (word code n)) (is_known code n) unknown rule)
+
+pub writes_takes : (code : List ℕ) (n : ℕ) → HasNoFault code → writes_address code n ≡ true → takes code n ≡ true
+writes_takes code n none writes = let parts = address_write_at code n writes in address_takes code n (clean code none n parts.0) parts.0 parts.1
+
+pub none_writes : (code : List ℕ) (n : ℕ) → HasNoFault code → takes code n ≡ false → writes_address code n ≡ false
+none_writes code n none taken = false_from_ne_true (writes_address code n) (λ writes. true≢false (sym (writes_takes code n none writes) ∙ taken))
+
+restart_next : (code : List ℕ) (n : ℕ) → writes_address code n ≡ false → is_restart code (n + 1) ≡ false
+unfolding is_restart is_back
+restart_next code n none =
+    let e : n + 1 - 1 ≡ n = omega arith in
+    let first : (n + 1 == 0) ≡ false = grind arith in
+    or_from (n + 1 == 0) (nat_le 1 (n + 1) && writes_address code (n + 1 - 1)) first
+    (and_right (nat_le 1 (n + 1)) (writes_address code (n + 1 - 1)) (ap (writes_address code) e ∙ none))
+
+-- a position that isn't known stays so, up to a write of the address
+pub unknown_next : (code : List ℕ) (n : ℕ) → is_known code n ≡ false → writes_address code n ≡ false → is_known code (n + 1) ≡ false
+unknown_next code n unknown none =
+    elim (cases_Bool (is_target code (n + 1))) [
+      | inl target ↦ known_not code (n + 1) target
+      | inr other ↦ known_on code n other (restart_next code n none) ∙ unknown
+    ]
+
+none_from : (code : List ℕ) (n : ℕ) → takes code n ≡ false → TakesNone code (n + 1) → TakesNone code n
+none_from code n here later k from =
+    elim (cases_eq k n) [
+      | inl same ↦ subst (λ m. takes code m ≡ false) (sym same) here
+      | inr other ↦ later k (omega (arith, from, other))
+    ]
+
+next_taken : (code : List ℕ) → HasNoFault code → (d n : ℕ) → checked_of code ≤ n + d → is_known code n ≡ false → IsAddressCount code (count_of code n) ⊎ TakesNone code n
+next_taken code none zero n past unknown = inr (λ k from. none_past code k (omega (arith, past, from)))
+next_taken code none (suc d) n past unknown =
+    elim (cases_Bool (takes code n)) [
+      | inl taken ↦ inl (inl (record { by = n; writes = lost_writes code n none unknown taken; is = refl }))
+      | inr untaken ↦
+          (let same : count_of code (n + 1) ≡ count_of code n = count_same code n untaken in
+          elim (next_taken code none d (n + 1) (omega (arith, past)) (unknown_next code n unknown (none_writes code n none untaken))) [
+            | inl address ↦ inl (subst (λ c. IsAddressCount code c) same address)
+            | inr later ↦ inr (none_from code n untaken later)
+          ])
+    ]
+
+pub count_flat : (code : List ℕ) (n d : ℕ) → TakesNone code n → count_of code (n + d) ≡ count_of code n
+count_flat code n zero none = let e : n + 0 ≡ n = omega arith in ap (count_of code) e
+count_flat code n (suc d) none =
+    let e : n + suc d ≡ n + d + 1 = omega arith in
+    ap (count_of code) e ∙ (count_same code (n + d) (none (n + d) (omega arith)) ∙ count_flat code n d none)
+
+-- A backward branch with nothing taken after it leaves the stream open.
+opened_by : (code : List ℕ) (b : ℕ) → HasNoFault code → b < checked_of code → is_backward (word code b) ≡ true → TakesNone code (b + 4) → is_open code ≡ true
+unfolding is_open leaves_open
+opened_by code b none inside back later =
+    some_below_here (checked_of code) b (λ k. is_backward (word code k) && not (some_in (k + 4) (checked_of code) (writes_address code))) inside
+    (and_from (is_backward (word code b)) (not (some_in (b + 4) (checked_of code) (writes_address code))) back
+    (not_from_false (some_in (b + 4) (checked_of code) (writes_address code))
+    (some_in_none (b + 4) (checked_of code) (writes_address code) (λ k from to. none_writes code k none (later k from)))))
+
+pub last_word : (code : List ℕ) (n b : ℕ) → HasNoFault code → n < checked_of code → b < checked_of code → is_backward (word code b) ≡ true → TakesNone code n → n ≤ b + 4 → IsAddressCount code (count_of code n)
+last_word code n b none n_in inside back later near =
+    let open_is : is_open code ≡ true = opened_by code b none inside back (λ k from. later k (omega (arith, from, near))) in
+    let size = checked_of-le code in
+    let e : n + (length code - n) ≡ length code = omega (arith, n_in, size) in
+    inr (record { opened = open_is; is = sym (ap (count_of code) e) ∙ count_flat code n (length code - n) later })
+
+found_in : (from to : ℕ) (p : ℕ → Bool) → some_in from to p ≡ true → (k : ℕ) × (from ≤ k) × (k < to) × (p k ≡ true)
+unfolding some_in
+found_in from to p some =
+    let found = some_below_found to (λ k. nat_le from k && p k) some in
+    let parts = and_parts (nat_le from found.0) (p found.0) found.2 in
+    (found.0, leb-true from found.0 parts.0, found.1, parts.1)
+
+-- nothing from there on, and no way back
+pub record NoMore (code : List ℕ) (n : ℕ) : Type 0 where
+  pub none : TakesNone code n
+  pub forward : GoesForward code n
+
+pub next_word : (code : List ℕ) (n : ℕ) → HasNoFault code → n < checked_of code → is_target code n ≡ true → IsAddressCount code (count_of code n) ⊎ NoMore code n
+next_word code n none inside target =
+    elim (next_taken code none (checked_of code) n (omega arith) (known_not code n target)) [
+      | inl address ↦ inl address
+      | inr later ↦
+          elim (cases_Bool (some_in n (checked_of code) (λ k. is_backward (word code k)))) [
+            | inl back ↦
+                (let found = found_in n (checked_of code) (λ k. is_backward (word code k)) back in
+                inl (last_word code n found.0 none inside found.2 found.3 later (omega (arith, found.1))))
+            | inr forward ↦ inr (record { none = later; forward = λ k from to. some_in_not n (checked_of code) k (λ j. is_backward (word code j)) forward from to })
+          ]
+    ]
+
+-- The setup words that a thread keeps.
+
+pub are_pending : (h : Home) (n : ℕ) (t : Thread) → HasNoFault h.code → n ≤ checked_of h.code → AreSetups h n t → ArePending h.code n t
+are_pending h n t none inside are = record {
+  tmu0 = ap length are.tmu0 ∙ (length-map (held h.code 0 n) (uniform_at h) ∙ (held_is h.code 0 (omega arith) (clean h.code none) n inside).size);
+  tmu1 = ap length are.tmu1 ∙ (length-map (held h.code 1 n) (uniform_at h) ∙ (held_is h.code 1 (omega arith) (clean h.code none) n inside).size);
+}
+
+-- A setup write takes a uniform.
+setup_takes : (code : List ℕ) (n tmu : ℕ) → tmu < 2 → n < checked_of code → writes_s (word code n) tmu ≡ false → writes_tmu (word code n) tmu ≡ true → takes code n ≡ true
+setup_takes code n tmu small inside stays writes =
+    sets_takes code n inside (sets_one code tmu n small writes (not_sent (word code n) tmu (pending_of code tmu n) stays))
+
+kept_map_by : (f : ℕ → ℕ) (sends writes : Bool) (n u : ℕ) (xs : List ℕ) → (sends ≡ false → writes ≡ true → u ≡ f n)
+    → (if sends then [] else (if writes then map f xs ++ (u ∷ []) else map f xs)) ≡ map f (if sends then [] else (if writes then xs ++ (n ∷ []) else xs))
+kept_map_by f true writes n u xs is = refl
+kept_map_by f false true n u xs is = ap (λ v. map f xs ++ (v ∷ [])) (is refl refl) ∙ sym (map-append f xs (n ∷ []))
+kept_map_by f false false n u xs is = refl
+
+kept_map : (f : ℕ → ℕ) (w tmu n u : ℕ) (xs : List ℕ) → (writes_s w tmu ≡ false → writes_tmu w tmu ≡ true → u ≡ f n) → kept w tmu u (map f xs) ≡ map f (kept w tmu n xs)
+unfolding kept
+kept_map f w tmu n u xs is = kept_map_by f (writes_s w tmu) (writes_tmu w tmu) n u xs is
+
+one_kept : (h : Home) (n u tmu : ℕ) (items : List ℕ) → tmu < 2 → n < checked_of h.code → (takes h.code n ≡ true → u ≡ uniform_at h n)
+    → items ≡ held_words h tmu n → kept (word h.code n) tmu u items ≡ held_words h tmu (n + 1)
+one_kept h n u tmu items small inside taken are =
+    ap (kept (word h.code n) tmu u) are
+    ∙ (kept_map (uniform_at h) (word h.code n) tmu n u (held h.code tmu n) (λ stays writes. taken (setup_takes h.code n tmu small inside stays writes))
+    ∙ ap (map (uniform_at h)) (sym (held_next h.code tmu n inside)))
+
+pub setups_on : (h : Home) (n u uniforms : ℕ) (words : List ℕ) (t : Thread) → n < checked_of h.code → (takes h.code n ≡ true → u ≡ uniform_at h n)
+    → AreSetups h n t → AreSetups h (n + 1) (done (word h.code n) u uniforms words t).thread
+setups_on h n u uniforms words t inside taken are = record {
+  tmu0 = setups0_are (word h.code n) u uniforms words t ∙ one_kept h n u 0 t.setups0.items (omega arith) inside taken are.tmu0;
+  tmu1 = setups1_are (word h.code n) u uniforms words t ∙ one_kept h n u 1 t.setups1.items (omega arith) inside taken are.tmu1;
+}
+
+-- At a target no setup words are kept.
+empty_by : (xs : List ℕ) → length xs ≡ 0 → xs ≡ []
+empty_by [] none = refl
+empty_by (x ∷ xs) none = absurd (omega (arith, none))
+
+none_by : (code : List ℕ) (tmu i : ℕ) → tmu < 2 → pending_of code 0 i ≡ 0 → pending_of code 1 i ≡ 0 → pending_of code tmu i ≡ 0
+none_by code zero i small zero0 zero1 = zero0
+none_by code (suc zero) i small zero0 zero1 = zero1
+none_by code (suc (suc k)) i small zero0 zero1 = absurd (omega (arith, small))
+
+held_none : (code : List ℕ) (tmu i : ℕ) → HasNoFault code → tmu < 2 → i < checked_of code → is_target code i ≡ true → held code tmu i ≡ []
+unfolding s25
+held_none code tmu i none small inside target =
+    let pending = or_parts (nat_lt 0 (pending_of code 0 i)) (nat_lt 0 (pending_of code 1 i))
+    (behind (is_target code i) (nat_lt 0 (pending_of code 0 i) || nat_lt 0 (pending_of code 1 i)) target (fine_at code none i inside).no25) in
+    let zero0 : pending_of code 0 i ≡ 0 = (let p : nat_lt 0 (pending_of code 0 i) ≡ false = pending.0 in grind (arith, p)) in
+    let zero1 : pending_of code 1 i ≡ 0 = (let p : nat_lt 0 (pending_of code 1 i) ≡ false = pending.1 in grind (arith, p)) in
+    let size : length (held code tmu i) ≡ pending_of code tmu i = (held_is code tmu small (clean code none) i (omega (arith, inside))).size in
+    empty_by (held code tmu i) (size ∙ none_by code tmu i small zero0 zero1)
+
+pub setups_jump : (h : Home) (n to : ℕ) (next : Thread) → HasNoFault h.code → n < checked_of h.code → to < checked_of h.code → n + 1 < checked_of h.code
+    → Jumps h.code n to → AreSetups h (n + 1) next → AreSetups h to next
+setups_jump h n to next none inside to_in on_in way are =
+    let b_in : n - 3 < checked_of h.code = omega (arith, inside) in
+    let from = way.from in
+    let e : n - 3 + 4 ≡ n + 1 = omega (arith, from) in
+    let on : is_target h.code (n + 1) ≡ true = subst (λ i. is_target h.code i ≡ true) e (makes_on h.code none (n - 3) b_in way.branch) in
+    let same : (tmu : ℕ) → tmu < 2 → held_words h tmu (n + 1) ≡ held_words h tmu to =
+    λ tmu small. ap (map (uniform_at h)) (held_none h.code tmu (n + 1) none small on_in on ∙ sym (held_none h.code tmu to none small to_in way.target)) in
+    record { tmu0 = are.tmu0 ∙ same 0 (omega arith); tmu1 = are.tmu1 ∙ same 1 (omega arith) }
 
 -- What the thread would fetch there is the uniform that its instruction takes.
 pub record Fetches (h : Home) (n pointer : ℕ) : Type 0 where

@@ -1,24 +1,40 @@
 -- What a register holds after an instruction.
-use Rattle.std.proofs.Common.{◌≡◌, ◌≢◌, ◌<◌, inl, inr, ℕ, ◌+◌, ◌-◌, Bool, true, false, ◌&&◌, ◌||◌, ◌==◌, not, Option, List, [], length, refl, sym, ap, arith, ◌∙◌, nat_lt, nat_le, if◌then◌else◌}
-use Rattle.std.specs.Prelude.{slice_index, slice_index_or, slice_set}
+use Rattle.std.proofs.Common.{◌≡◌, ◌≢◌, ◌<◌, inl, inr, ℕ, ◌+◌, ◌-◌, Bool, true, false, ◌&&◌, ◌||◌, ◌==◌, not, Option, List, [], length, refl, sym, ap, arith, ◌∙◌, nat_lt, nat_le, if◌then◌else◌, ◌≤◌, ◌⊎◌, ◌%◌, ◌^◌, Some, None, subst}
+use Rattle.std.specs.Prelude.{slice_index, slice_index_or, slice_set, unwrap_or}
 use Rattle.std.proofs.Math.Bool.{not-not}
-use Rattle.std.proofs.lemmas.Bool.{cases_Bool, and_from, or_parts, eqb-true, eqb-false, lt-ltb, le-leb, agree_below_at, and_parts, not-true}
+use Rattle.std.proofs.lemmas.Bool.{cases_Bool, and_from, or_parts, eqb-true, eqb-false, lt-ltb, le-leb, agree_below_at, and_parts, not-true, or_cases, true≢false, ltb-true, cases_eq, leb-true, false_from_ne_true, not_from_false}
 use Rattle.std.proofs.lemmas.Grind.{common_steps}
 use Rattle.std.proofs.lemmas.Bool.Decides.{nat_tests}
-use Rattle.std.proofs.lemmas.List.{length-set, get_or-set_same, get_or-set_other}
+use Rattle.std.proofs.lemmas.List.{length-set, get_or-set_same, get_or-set_other, get_or-replicate}
 use Rattle.std.proofs.lemmas.List.FromFn.{get_or-map-range_with_len}
 use Rattle.qpu_isa.specs.declared.inst.Reg.{Reg}
 use Rattle.qpu_isa.specs.declared.inst.Reg.TheVariants.{A, B, Acc}
-use Rattle.qpu_isa.specs.Word.{ws_of, waddr_add_of, waddr_mul_of, cond_add_of, cond_mul_of}
-use Rattle.qpu_isa.specs.Terms.{is_branch, add_names, mul_names, add_names_reg, mul_names_reg, names, sets_alone, is_add_packed}
+use Rattle.qpu_isa.specs.Word.{ws_of, waddr_add_of, waddr_mul_of, cond_add_of, cond_mul_of, raddr_a_of, raddr_b_of, add_a_of, add_b_of, op_add_of, imm_of, mode_of}
+use Rattle.qpu_isa.specs.Terms.{is_branch, add_names, mul_names, add_names_reg, mul_names_reg, names, sets_alone, is_add_packed, is_alu, is_load_imm, has_small, is_plain, is_uniform_operand, loaded_value, is_max_with_zero, is_min_with_uniform, is_add_with_uniform, operand_register, is_accumulator, is_end, is_switch, first_register, passes}
 use Rattle.qpu_isa.specs.Told.{IsRegister}
 use Rattle.qpu_machine.specs.declared.state.Thread.{Thread}
-use Rattle.qpu_machine.specs.Operands.{add_row, mul_row}
-use Rattle.qpu_machine.specs.Row.{lanes, has_lane, merged, mask_of, chosen_row, chosen_rows}
+use Rattle.qpu_machine.specs.Operands.{add_row, mul_row, read_a, read_b, small_row, operand, immediate_row, sums}
+use Rattle.qpu_machine.specs.Row.{lanes, has_lane, merged, mask_of, chosen_row, chosen_rows, filled}
 use Rattle.qpu_machine.specs.Step.{executed, executed_with}
 use Rattle.qpu_machine.specs.Writes.{awake, file_after, acc_after, add_address, mul_address, written_at, added, multiplied, written, stored, loaded, r4_after, went_on, worked, rested, fate_of, switches}
-use Rattle.qpu_law.specs.Home.{readied, done}
-use Rattle.qpu_law.specs.Facts.{row_of, HasRows}
+use Rattle.qpu_law.specs.Home.{readied, done, Home, IsAt}
+use Rattle.qpu_law.specs.Facts.{row_of, HasRows, IsMade, Tells, FactsHold}
+use Rattle.qpu_alu.specs.Operation.{add_result_of, signed_min, signed_max}
+use Rattle.qpu_alu.proofs.Order.{signed_max_zero, signed_max_zero_first, signed_min-upto}
+use Rattle.machine_plan.specs.Choice.{word_at}
+use Rattle.shader_flow.specs.Flow.{word, is_target, checked_of}
+use Rattle.shader_flow.specs.Bounded.{some_in}
+use Rattle.shader_flow.proofs.Bounded.{some_in_not, some_in_none, some_below_here, some_below_none, some_below_not}
+use Rattle.clamp_facts.specs.Facts.{stays, switches_between, is_delayed, carrier_of, is_max_at, is_not_negative, makes_clamp, made, fact_by, fact_at, is_immediate}
+use Rattle.clamp_facts.proofs.Carriers.{stays_quiet, sets_parts, carried_parts, carrier_found, value_of_made}
+use Rattle.shader_flow.specs.Pending.{takes}
+use Rattle.clamp_facts.specs.declared.fact.Fact.{Fact}
+use Rattle.clamp_facts.specs.declared.fact.Fact.TheVariants.{Nothing, Immediate, NotNegative, Clamped}
+use Rattle.clamp_facts.specs.Readings.{is_value, value_in}
+use Rattle.clamp_facts.specs.Upkeep.{IsCarrier}
+use Rattle.shader_check.proofs.Roles.{reads_takes, min_parts, passed}
+use Rattle.qpu_machine.specs.declared.state.Fate.TheVariants.{GoesOn, Switches, Ends}
+use Rattle.qpu_law.specs.Stream.{uniform_at}
 
 pub lane_at : (f : ℕ → ℕ) (e : ℕ) → e < 16 → slice_index (lanes f) e ≡ f e
 lane_at f e below = get_or-map-range_with_len f 0 16 e e 0 below (omega arith)
@@ -230,3 +246,451 @@ rows_on w u p words t rows =
 pub fresh_is : (w u p : ℕ) (words : List ℕ) (t : Thread) → (done w u p words t).thread.fresh ≡ (switches (fate_of t) || false)
 unfolding awake executed executed_with rested worked went_on loaded stored written multiplied added written_at fate_of
 fresh_is w u p words t = refl
+
+-- What the add unit comes to, where a rule looks at it.
+
+pub filled_at : (x e : ℕ) → e < 16 → slice_index (filled x) e ≡ x
+filled_at x e below = get_or-replicate 16 e x 0 below
+
+-- a uniform operand is the uniform in each element
+uniform_a : (plain : Bool) (address : ℕ) (u : ℕ) (free later : List ℕ) → plain ≡ true → (address == 32) ≡ true
+    → (if not plain then free else (if address == 32 then filled u else later)) ≡ filled u
+uniform_a true address u free later plain is = ap (λ b. if b then filled u else later) is
+uniform_a false address u free later plain is = absurd (true≢false (sym plain))
+
+uniform_b : (small : Bool) (address : ℕ) (u : ℕ) (other later : List ℕ) → (address == 32 && not small) ≡ true
+    → (if small then other else (if address == 32 then filled u else later)) ≡ filled u
+uniform_b true address u other later is = absurd (let h = (and_parts (address == 32) false is).1 in true≢false (sym h))
+uniform_b false address u other later is = ap (λ b. if b then filled u else later) (and_parts (address == 32) true is).0
+
+pub uniform_operand : (t : Thread) (w sel u : ℕ) (words : List ℕ) → is_uniform_operand w sel ≡ true → operand t w sel u words ≡ filled u
+unfolding is_uniform_operand operand read_a read_b
+uniform_operand t w sel u words is =
+    let parts = and_parts (is_plain w sel) ((sel == 6 && raddr_a_of w == 32) || (sel == 7 && (raddr_b_of w == 32 && not (has_small w)))) is in
+    elim (or_cases (sel == 6 && raddr_a_of w == 32) (sel == 7 && (raddr_b_of w == 32 && not (has_small w))) parts.1) [
+      | inl a ↦
+          (let six : sel ≡ 6 = eqb-true sel 6 (and_parts (sel == 6) (raddr_a_of w == 32) a).0 in
+          ap (λ s. operand t w s u words) six
+          ∙ uniform_a (is_plain w 6) (raddr_a_of w) u (chosen_row words 33) _ (subst (λ s. is_plain w s ≡ true) six parts.0) (and_parts (sel == 6) (raddr_a_of w == 32) a).1)
+      | inr b ↦
+          (let seven : sel ≡ 7 = eqb-true sel 7 (and_parts (sel == 7) (raddr_b_of w == 32 && not (has_small w)) b).0 in
+          ap (λ s. operand t w s u words) seven
+          ∙ uniform_b (has_small w) (raddr_b_of w) u (small_row (raddr_b_of w) words) _ (and_parts (sel == 7) (raddr_b_of w == 32 && not (has_small w)) b).1)
+    ]
+
+-- an operation's lane
+pub add_lane : (t : Thread) (w u : ℕ) (words : List ℕ) (e : ℕ) → e < 16 → is_add_packed w ≡ false → is_load_imm w ≡ false
+    → slice_index (add_row t w u words) e
+    ≡ unwrap_or (add_result_of (op_add_of w) (slice_index (operand t w (add_a_of w) u words) e % 2 ^ 32) (slice_index (operand t w (add_b_of w) u words) e % 2 ^ 32)) (word_at words (1 + e))
+unfolding add_row sums
+add_lane t w u words e below plain no_load =
+    ap (λ b. slice_index (if b then chosen_row words 1 else (if is_load_imm w then immediate_row w words 1 else sums (op_add_of w) (operand t w (add_a_of w) u words) (operand t w (add_b_of w) u words) words)) e) plain
+    ∙ (ap (λ b. slice_index (if b then immediate_row w words 1 else sums (op_add_of w) (operand t w (add_a_of w) u words) (operand t w (add_b_of w) u words) words) e) no_load
+    ∙ lane_at (λ k. unwrap_or (add_result_of (op_add_of w) (slice_index (operand t w (add_a_of w) u words) k % 2 ^ 32) (slice_index (operand t w (add_b_of w) u words) k % 2 ^ 32)) (word_at words (1 + k))) e below)
+
+sum_of : (a b d : ℕ) → unwrap_or (add_result_of 12 a b) d ≡ (a + b) % 2 ^ 32
+unfolding add_result_of
+sum_of a b d = refl
+
+min_of : (a b d : ℕ) → unwrap_or (add_result_of 18 a b) d ≡ signed_min a b
+unfolding add_result_of
+min_of a b d = refl
+
+max_of : (a b d : ℕ) → unwrap_or (add_result_of 19 a b) d ≡ signed_max a b
+unfolding add_result_of
+max_of a b d = refl
+
+pub alu_loads_not : (w : ℕ) → is_alu w ≡ true → is_load_imm w ≡ false
+unfolding is_alu is_load_imm
+alu_loads_not w is = grind (arith, nat_tests, is)
+
+small_loads_not : (w : ℕ) → has_small w ≡ true → is_load_imm w ≡ false
+unfolding has_small is_load_imm
+small_loads_not w is = grind (arith, nat_tests, is)
+
+-- the sum with a uniform
+pub sum_lane : (t : Thread) (w u : ℕ) (words : List ℕ) (e : ℕ) → e < 16 → is_add_packed w ≡ false → is_add_with_uniform w ≡ true
+    → slice_index (add_row t w u words) e ≡ (slice_index (operand t w (add_a_of w) u words) e % 2 ^ 32 + u % 2 ^ 32) % 2 ^ 32
+unfolding is_add_with_uniform
+sum_lane t w u words e below plain is =
+    let halves = and_parts (is_alu w && op_add_of w == 12) (is_uniform_operand w (add_b_of w)) is in
+    let first = and_parts (is_alu w) (op_add_of w == 12) halves.0 in
+    let x = slice_index (operand t w (add_a_of w) u words) e % 2 ^ 32 in
+    let y = slice_index (operand t w (add_b_of w) u words) e % 2 ^ 32 in
+    let y_is : slice_index (operand t w (add_b_of w) u words) e ≡ u = ap (λ r. slice_index r e) (uniform_operand t w (add_b_of w) u words halves.1) ∙ filled_at u e below in
+    add_lane t w u words e below plain (alu_loads_not w first.0)
+    ∙ (ap (λ o. unwrap_or (add_result_of o x y) (word_at words (1 + e))) (eqb-true (op_add_of w) 12 first.1)
+    ∙ (sum_of x y (word_at words (1 + e)) ∙ ap (λ v. (x + v % 2 ^ 32) % 2 ^ 32) y_is))
+
+-- the minimum with a uniform, of a number that isn't negative
+pub min_lane : (t : Thread) (w u : ℕ) (words : List ℕ) (e : ℕ) → e < 16 → is_add_packed w ≡ false → is_min_with_uniform w ≡ true
+    → slice_index (operand t w (add_a_of w) u words) e < 2 ^ 31 → slice_index (add_row t w u words) e ≤ u
+unfolding is_min_with_uniform
+min_lane t w u words e below plain is low =
+    let halves = and_parts (is_alu w && op_add_of w == 18) (is_uniform_operand w (add_b_of w)) is in
+    let first = and_parts (is_alu w) (op_add_of w == 18) halves.0 in
+    let x = slice_index (operand t w (add_a_of w) u words) e % 2 ^ 32 in
+    let y = slice_index (operand t w (add_b_of w) u words) e % 2 ^ 32 in
+    let y_is : slice_index (operand t w (add_b_of w) u words) e ≡ u = ap (λ r. slice_index r e) (uniform_operand t w (add_b_of w) u words halves.1) ∙ filled_at u e below in
+    let lane : slice_index (add_row t w u words) e ≡ signed_min x y =
+    add_lane t w u words e below plain (alu_loads_not w first.0)
+    ∙ (ap (λ o. unwrap_or (add_result_of o x y) (word_at words (1 + e))) (eqb-true (op_add_of w) 18 first.1) ∙ min_of x y (word_at words (1 + e))) in
+    let upto : signed_min x y ≤ y = signed_min-upto x y (omega (arith, low)) (omega arith) in
+    omega (arith, lane, upto, y_is)
+
+-- the maximum with the value 0
+zero_by : (small : Bool) (v : ℕ) (words other : List ℕ) → small ≡ true → v ≡ 0 → (if small then small_row v words else other) ≡ filled 0
+unfolding small_row
+zero_by true v words other is none = ap (λ x. small_row x words) none
+zero_by false v words other is none = absurd (true≢false (sym is))
+
+zero_operand : (t : Thread) (w u : ℕ) (words : List ℕ) → has_small w ≡ true → raddr_b_of w ≡ 0 → operand t w 7 u words ≡ filled 0
+unfolding operand read_b small_row
+zero_operand t w u words small zero_is =
+    zero_by (has_small w) (raddr_b_of w) words _ small zero_is
+
+max_zero : (a b : ℕ) → a < 2 ^ 32 → b < 2 ^ 32 → (a ≡ 0) ⊎ (b ≡ 0) → signed_max a b < 2 ^ 31
+max_zero a b a_fits b_fits (inl is) = subst (λ x. signed_max x b < 2 ^ 31) (sym is) (signed_max_zero_first b b_fits)
+max_zero a b a_fits b_fits (inr is) = subst (λ x. signed_max a x < 2 ^ 31) (sym is) (signed_max_zero a a_fits)
+
+pub max_lane : (t : Thread) (w u : ℕ) (words : List ℕ) (e : ℕ) → e < 16 → is_add_packed w ≡ false → is_max_with_zero w ≡ true
+    → slice_index (add_row t w u words) e < 2 ^ 31
+unfolding is_max_with_zero
+max_lane t w u words e below plain is =
+    let halves = and_parts (has_small w && op_add_of w == 19) (raddr_b_of w == 0 && (add_a_of w == 7 || add_b_of w == 7)) is in
+    let first = and_parts (has_small w) (op_add_of w == 19) halves.0 in
+    let second = and_parts (raddr_b_of w == 0) (add_a_of w == 7 || add_b_of w == 7) halves.1 in
+    let zero_is : raddr_b_of w ≡ 0 = eqb-true (raddr_b_of w) 0 second.0 in
+    let x = slice_index (operand t w (add_a_of w) u words) e % 2 ^ 32 in
+    let y = slice_index (operand t w (add_b_of w) u words) e % 2 ^ 32 in
+    let lane : slice_index (add_row t w u words) e ≡ signed_max x y =
+    add_lane t w u words e below plain (small_loads_not w first.0)
+    ∙ (ap (λ o. unwrap_or (add_result_of o x y) (word_at words (1 + e))) (eqb-true (op_add_of w) 19 first.1) ∙ max_of x y (word_at words (1 + e))) in
+    let nought : (sel : ℕ) → (sel == 7) ≡ true → slice_index (operand t w sel u words) e % 2 ^ 32 ≡ 0 =
+    λ sel seven. ap (λ s. slice_index (operand t w s u words) e % 2 ^ 32) (eqb-true sel 7 seven)
+    ∙ (ap (λ r. slice_index r e % 2 ^ 32) (zero_operand t w u words first.0 zero_is) ∙ ap (λ v. v % 2 ^ 32) (filled_at 0 e below)) in
+    let either : (x ≡ 0) ⊎ (y ≡ 0) = elim (or_cases (add_a_of w == 7) (add_b_of w == 7) second.1) [
+      | inl a ↦ inl (nought (add_a_of w) a)
+      | inr b ↦ inr (nought (add_b_of w) b)
+    ] in
+    subst (λ v. v < 2 ^ 31) (sym lane) (max_zero x y (omega arith) (omega arith) either)
+
+-- a value that is loaded
+loaded_parts : (load mode : Bool) (imm v : ℕ) → (if load && mode then Some imm else None) ≡ Some v → (load ≡ true) × (mode ≡ true) × (imm ≡ v)
+loaded_parts true true imm v is = (refl, refl, cc)
+loaded_parts true false imm v is = absurd cc
+loaded_parts false mode imm v is = absurd cc
+
+pub load_lane : (t : Thread) (w u : ℕ) (words : List ℕ) (e v : ℕ) → e < 16 → is_add_packed w ≡ false → loaded_value w ≡ Some v
+    → slice_index (add_row t w u words) e ≡ v
+unfolding add_row immediate_row loaded_value
+load_lane t w u words e v below plain is =
+    let parts = loaded_parts (is_load_imm w) (mode_of w == 0) (imm_of w) v is in
+    ap (λ b. slice_index (if b then chosen_row words 1 else (if is_load_imm w then (if mode_of w == 0 then filled (imm_of w) else chosen_row words 1) else sums (op_add_of w) (operand t w (add_a_of w) u words) (operand t w (add_b_of w) u words) words)) e) plain
+    ∙ (ap (λ b. slice_index (if b then (if mode_of w == 0 then filled (imm_of w) else chosen_row words 1) else sums (op_add_of w) (operand t w (add_a_of w) u words) (operand t w (add_b_of w) u words) words) e) parts.0
+    ∙ (ap (λ b. slice_index (if b then filled (imm_of w) else chosen_row words 1) e) parts.1
+    ∙ (filled_at (imm_of w) e below ∙ parts.2)))
+
+-- What an instruction computes with, where a fact stands for its register.
+
+-- no target stands between
+pub untargeted : (code : List ℕ) (j n : ℕ) (reg : Reg) → IsMade code j n reg → (k : ℕ) → j < k → k ≤ n → is_target code k ≡ false
+unfolding stays
+untargeted code j n reg made k after upto =
+    let parts = and_parts (not (some_in (j + 1) n (λ i. names (word code i) reg))) (not (some_in (j + 1) (n + 1) (is_target code)) && not (is_accumulator reg && switches_between code j n)) made.still in
+    let second = and_parts (not (some_in (j + 1) (n + 1) (is_target code))) (not (is_accumulator reg && switches_between code j n)) parts.1 in
+    some_in_not (j + 1) (n + 1) k (is_target code) (not-true (some_in (j + 1) (n + 1) (is_target code)) second.0) (omega (arith, after)) (omega (arith, upto))
+
+-- the last executed instruction doesn't name it, unless it made it
+pub last_unnamed : (h : Home) (j n : ℕ) (reg : Reg) (t : Thread) → IsAt h n t → IsMade h.code j n reg → n ≢ j + 1 → names t.last1.word reg ≡ false
+last_unnamed h j n reg t at made far =
+    let before = made.before in
+    elim at.mark1 [
+      | inl exact ↦ ap (λ w. names w reg) exact.is ∙ stays_quiet h.code j n (n - 1) reg made.still (omega (arith, before, far)) (omega (arith, before))
+      | inr blank ↦
+          (let from = blank.from in
+          let near = blank.near in
+          let e : blank.root ≡ n = omega (arith, from, near) in
+          elim blank.is [
+            | inl first ↦ absurd (let no : ⊥ = omega (arith, first, e, before) in no)
+            | inr target ↦ absurd (true≢false (sym target ∙ untargeted h.code j n reg made blank.root (omega (arith, e, before)) (omega (arith, e))))
+          ])
+    ]
+
+-- A readable register is what a plain operand reads.
+pub record IsRead (t : Thread) (reg : Reg) : Type 0 where
+  pub known : IsRegister reg
+  pub unnamed : is_accumulator reg ≡ false → names t.last1.word reg ≡ false
+  pub awake : is_accumulator reg ≡ true → t.fresh ≡ false
+
+read_a_by : (plain : Bool) (address : ℕ) (named : Bool) (u : ℕ) (own free : List ℕ) → plain ≡ true → address < 32 → named ≡ false
+    → (if not plain then free else (if address == 32 then filled u else (if address == 39 then filled 0 else (if nat_lt address 32 && not named then own else free)))) ≡ own
+read_a_by true address false u own free plain low none = grind (arith, nat_tests, low)
+read_a_by true address true u own free plain low none = absurd (true≢false none)
+read_a_by false address named u own free plain low none = absurd (true≢false (sym plain))
+
+read_b_by : (small : Bool) (address : ℕ) (named : Bool) (u : ℕ) (own free other : List ℕ) → small ≡ false → address < 32 → named ≡ false
+    → (if small then other else (if address == 32 then filled u else (if address == 39 then filled 0 else (if nat_lt address 32 && not named then own else free)))) ≡ own
+read_b_by false address false u own free other plain low none = grind (arith, nat_tests, low)
+read_b_by false address true u own free other plain low none = absurd (true≢false none)
+read_b_by true address named u own free other plain low none = absurd (true≢false plain)
+
+-- what the selector names
+data Selects (w sel : ℕ) : Reg → Type 0 where
+  OfAcc : sel < 4 → Selects w sel (Acc sel)
+  OfA : sel ≡ 6 → raddr_a_of w < 32 → Selects w sel (A (raddr_a_of w))
+  OfB : sel ≡ 7 → raddr_b_of w < 32 → has_small w ≡ false → Selects w sel (B (raddr_b_of w))
+
+some_same : (x y : Reg) → Some x ≡ Some y → x ≡ y
+some_same x y is = cc
+
+abbrev rest_of : ℕ → ℕ → Option Reg
+rest_of w sel =
+    if nat_lt sel 4 then Some (Acc sel)
+    else (if sel == 6 && nat_lt (raddr_a_of w) 32 then Some (A (raddr_a_of w))
+    else (if sel == 7 && (nat_lt (raddr_b_of w) 32 && not (has_small w)) then Some (B (raddr_b_of w)) else None))
+
+-- by the tests in turn
+by_tests : (w sel : ℕ) (reg : Reg) (c a b : Bool) → nat_lt sel 4 ≡ c → (sel == 6 && nat_lt (raddr_a_of w) 32) ≡ a → (sel == 7 && (nat_lt (raddr_b_of w) 32 && not (has_small w))) ≡ b
+    → (if c then Some (Acc sel) else (if a then Some (A (raddr_a_of w)) else (if b then Some (B (raddr_b_of w)) else None))) ≡ Some reg → Selects w sel reg
+by_tests w sel reg true a b low is_a is_b is = subst (λ r. Selects w sel r) (some_same (Acc sel) reg is) (OfAcc (ltb-true sel 4 low))
+by_tests w sel reg false true b low is_a is_b is =
+    let parts = and_parts (sel == 6) (nat_lt (raddr_a_of w) 32) is_a in
+    subst (λ r. Selects w sel r) (some_same (A (raddr_a_of w)) reg is) (OfA (eqb-true sel 6 parts.0) (ltb-true (raddr_a_of w) 32 parts.1))
+by_tests w sel reg false false true low is_a is_b is =
+    let parts = and_parts (sel == 7) (nat_lt (raddr_b_of w) 32 && not (has_small w)) is_b in
+    let second = and_parts (nat_lt (raddr_b_of w) 32) (not (has_small w)) parts.1 in
+    subst (λ r. Selects w sel r) (some_same (B (raddr_b_of w)) reg is) (OfB (eqb-true sel 7 parts.0) (ltb-true (raddr_b_of w) 32 second.0) (not-true (has_small w) second.1))
+by_tests w sel reg false false false low is_a is_b is = absurd cc
+
+selects_by : (w sel : ℕ) (reg : Reg) → rest_of w sel ≡ Some reg → Selects w sel reg
+selects_by w sel reg is =
+    by_tests w sel reg (nat_lt sel 4) (sel == 6 && nat_lt (raddr_a_of w) 32) (sel == 7 && (nat_lt (raddr_b_of w) 32 && not (has_small w))) refl refl refl is
+
+selects : (w sel : ℕ) (reg : Reg) → operand_register w sel ≡ Some reg → (is_plain w sel ≡ true) × Selects w sel reg
+unfolding operand_register
+selects w sel reg is =
+    elim (cases_Bool (is_plain w sel)) [
+      | inr packed ↦ absurd (let no : None ≡ Some reg = sym (ap (λ b. if not b then None else rest_of w sel) packed) ∙ is in cc)
+      | inl plain ↦ (plain, selects_by w sel reg (sym (ap (λ b. if not b then None else rest_of w sel) plain) ∙ is))
+    ]
+
+known_by : (w sel : ℕ) (reg : Reg) → Selects w sel reg → IsRegister reg
+known_by w sel reg (OfAcc low) = low
+known_by w sel reg (OfA is low) = low
+known_by w sel reg (OfB is low big) = low
+
+ready_acc : (fresh : Bool) (chosen acc : List (List ℕ)) (k : ℕ) → fresh ≡ false → slice_index_or (if fresh then chosen else acc) k [] ≡ slice_index_or acc k []
+ready_acc true chosen acc k is = absurd (true≢false is)
+ready_acc false chosen acc k is = refl
+
+-- the thread begins to work with the registers that it has
+pub ready_row : (p : ℕ) (words : List ℕ) (t : Thread) (reg : Reg) → (is_accumulator reg ≡ true → t.fresh ≡ false) → row_of (readied p words t) reg ≡ row_of t reg
+unfolding awake is_accumulator
+ready_row p words t (A k) woken = refl
+ready_row p words t (B k) woken = refl
+ready_row p words t (Acc k) woken = ready_acc t.fresh (chosen_rows words) t.acc k (woken refl)
+
+operand_of : (w sel u p : ℕ) (words : List ℕ) (t : Thread) (reg : Reg) → is_plain w sel ≡ true → Selects w sel reg → (is_accumulator reg ≡ false → names t.last1.word reg ≡ false)
+    → operand (readied p words t) w sel u words ≡ row_of (readied p words t) reg
+unfolding operand read_a read_b is_accumulator awake
+operand_of w sel u p words t reg plain (OfAcc low) unnamed = grind (arith, nat_tests, low, plain)
+operand_of w sel u p words t reg plain (OfA is low) unnamed =
+    let six : is_plain w 6 ≡ true = subst (λ s. is_plain w s ≡ true) is plain in
+    ap (λ s. operand (readied p words t) w s u words) is
+    ∙ read_a_by (is_plain w 6) (raddr_a_of w) (names t.last1.word (A (raddr_a_of w))) u (slice_index_or t.a (raddr_a_of w) []) (chosen_row words 33) six low (unnamed refl)
+operand_of w sel u p words t reg plain (OfB is low big) unnamed =
+    ap (λ s. operand (readied p words t) w s u words) is
+    ∙ read_b_by (has_small w) (raddr_b_of w) (names t.last1.word (B (raddr_b_of w))) u (slice_index_or t.b (raddr_b_of w) []) (chosen_row words 49) (small_row (raddr_b_of w) words) big low (unnamed refl)
+
+pub operand_is : (w sel u p : ℕ) (words : List ℕ) (t : Thread) (reg : Reg) → operand_register w sel ≡ Some reg → (is_accumulator reg ≡ false → names t.last1.word reg ≡ false)
+    → (is_accumulator reg ≡ true → t.fresh ≡ false) → operand (readied p words t) w sel u words ≡ row_of t reg
+operand_is w sel u p words t reg is unnamed woken =
+    let parts = selects w sel reg is in
+    operand_of w sel u p words t reg parts.0 parts.1 unnamed ∙ ready_row p words t reg woken
+
+pub selects_known : (w sel : ℕ) (reg : Reg) → operand_register w sel ≡ Some reg → IsRegister reg
+selects_known w sel reg is = known_by w sel reg (selects w sel reg is).1
+
+-- Facts on registers, from one instruction to the next.
+
+pub made_of : (code : List ℕ) (j n : ℕ) (reg : Reg) → IsCarrier code j n reg → IsMade code j n reg
+made_of code j n reg one = let parts = carried_parts code j n reg one.carried in record { before = one.below; set_there = parts.0; still = parts.1 }
+
+not_next : (j n : ℕ) (reg : Reg) → is_delayed j n reg ≡ false → is_accumulator reg ≡ false → n ≢ j + 1
+unfolding is_delayed
+not_next j n reg ready file is =
+    let late : (not (is_accumulator reg) && n == j + 1) ≡ true = and_from (not (is_accumulator reg)) (n == j + 1) (not_from_false (is_accumulator reg) file) (grind (arith, nat_tests, is)) in
+    true≢false (sym late ∙ ready)
+
+-- What carries to an operand says what is read.
+pub carried_operand : (h : Home) (j n u p : ℕ) (words : List ℕ) (t : Thread) (sel : ℕ) (reg : Reg) → IsAt h n t → FactsHold h n t → IsCarrier h.code j n reg
+    → operand_register (word h.code n) sel ≡ Some reg → (e : ℕ) → e < 16 → Tells h j (slice_index (operand (readied p words t) (word h.code n) sel u words) e)
+carried_operand h j n u p words t sel reg at facts one is e below =
+    let made_there = made_of h.code j n reg one in
+    let known = selects_known (word h.code n) sel reg is in
+    let ready = (carried_parts h.code j n reg one.carried).2 in
+    let row : operand (readied p words t) (word h.code n) sel u words ≡ row_of t reg =
+    operand_is (word h.code n) sel u p words t reg is
+    (λ file. last_unnamed h j n reg t at made_there (not_next j n reg ready file))
+    (λ acc. facts.kept j reg known made_there acc) in
+    subst (λ r. Tells h j (slice_index r e)) (sym row) (facts.told j reg known made_there e below)
+
+is_max_found : (code : List ℕ) (n : ℕ) (reg : Reg) (o : Option ℕ) → carrier_of code n reg ≡ o → is_max_at code o ≡ true → (j : ℕ) × IsCarrier code j n reg × (is_max_with_zero (word code j) ≡ true)
+is_max_found code n reg None is max = absurd (true≢false (sym max))
+is_max_found code n reg (Some j) is max = (j, carrier_found code j n reg is, max)
+
+not_negative_by : (code : List ℕ) (n : ℕ) (reg : Reg) → is_not_negative code n reg ≡ true → (j : ℕ) × IsCarrier code j n reg × (is_max_with_zero (word code j) ≡ true)
+unfolding is_not_negative
+not_negative_by code n reg is = is_max_found code n reg (carrier_of code n reg) refl is
+
+alone_plain : (w : ℕ) (reg : Reg) → sets_alone w reg ≡ true → is_add_packed w ≡ false
+unfolding sets_alone
+alone_plain w reg is =
+    not-true (is_add_packed w) (and_parts (cond_add_of w == 1) (not (is_add_packed w)) (and_parts (add_names_reg w reg && not (mul_names_reg w reg)) (cond_add_of w == 1 && not (is_add_packed w)) is).1).1
+
+clamp_parts : (code : List ℕ) (n : ℕ) → makes_clamp code n ≡ true
+    → (is_min_with_uniform (word code n) ≡ true) × ((reg : Reg) × (first_register (word code n) ≡ Some reg) × (is_not_negative code n reg ≡ true))
+unfolding makes_clamp
+clamp_parts code n is =
+    let halves = and_parts (is_min_with_uniform (word code n)) (passes (first_register (word code n)) (is_not_negative code n)) is in
+    (halves.0, passed (first_register (word code n)) (is_not_negative code n) halves.1)
+
+pub first_is : (w : ℕ) (reg : Reg) → first_register w ≡ Some reg → operand_register w (add_a_of w) ≡ Some reg
+unfolding first_register
+first_is w reg is = is
+
+-- What an instruction makes is as it says.
+made_tells : (h : Home) (n u p : ℕ) (words : List ℕ) (t : Thread) → n < checked_of h.code → IsAt h n t → FactsHold h n t → (takes h.code n ≡ true → u ≡ uniform_at h n)
+    → is_add_packed (word h.code n) ≡ false → (e : ℕ) → e < 16 → Tells h n (slice_index (add_row (readied p words t) (word h.code n) u words) e)
+made_tells h n u p words t inside at facts taken plain e below =
+    let w = word h.code n in
+    record {
+      loaded = λ v is. load_lane (readied p words t) w u words e v below plain is;
+      not_negative = λ is. max_lane (readied p words t) w u words e below plain is;
+      clamped = λ is.
+          (let parts = clamp_parts h.code n is in
+          let reg = parts.1.0 in
+          let found = not_negative_by h.code n reg parts.1.2 in
+          let told : Tells h found.0 (slice_index (operand (readied p words t) w (add_a_of w) u words) e) =
+          carried_operand h found.0 n u p words t (add_a_of w) reg at facts found.1 (first_is w reg parts.1.1) e below in
+          let upto = min_lane (readied p words t) w u words e below plain parts.0 (told.not_negative found.2) in
+          let is_taken : u ≡ uniform_at h n = taken (reads_takes h.code n inside (min_parts w parts.0).0) in
+          subst (λ v. slice_index (add_row (readied p words t) w u words) e ≤ v) is_taken upto);
+    }
+
+-- What is made at n + 1 was made at n, or by the instruction at n.
+between_less : (code : List ℕ) (j n : ℕ) → switches_between code j (n + 1) ≡ false → switches_between code j n ≡ false
+unfolding switches_between
+between_less code j n none =
+    some_below_none n (λ s. is_switch (word code s) && (nat_le j (s + 2) && nat_le (s + 3) n))
+    (λ s below. false_from_ne_true (is_switch (word code s) && (nat_le j (s + 2) && nat_le (s + 3) n))
+    (λ is.
+    let one = and_parts (is_switch (word code s)) (nat_le j (s + 2) && nat_le (s + 3) n) is in
+    let two = and_parts (nat_le j (s + 2)) (nat_le (s + 3) n) one.1 in
+    let less = leb-true (s + 3) n two.1 in
+    let there : (is_switch (word code s) && (nat_le j (s + 2) && nat_le (s + 3) (n + 1))) ≡ true =
+    and_from (is_switch (word code s)) (nat_le j (s + 2) && nat_le (s + 3) (n + 1)) one.0 (and_from (nat_le j (s + 2)) (nat_le (s + 3) (n + 1)) two.0 (le-leb (s + 3) (n + 1) (omega (arith, less)))) in
+    true≢false (sym there ∙ some_below_not (n + 1) s (λ k. is_switch (word code k) && (nat_le j (k + 2) && nat_le (k + 3) (n + 1))) none (omega (arith, below)))))
+
+acc_less : (acc a b : Bool) → (a ≡ false → b ≡ false) → not (acc && a) ≡ true → not (acc && b) ≡ true
+acc_less true a b less is = not_from_false b (less (not-true a is))
+acc_less false a b less is = refl
+
+stays_less : (code : List ℕ) (j n : ℕ) (reg : Reg) → stays code j (n + 1) reg ≡ true → stays code j n reg ≡ true
+unfolding stays
+stays_less code j n reg is =
+    let name : ℕ → Bool = λ k. names (word code k) reg in
+    let one = and_parts (not (some_in (j + 1) (n + 1) name)) (not (some_in (j + 1) (n + 1 + 1) (is_target code)) && not (is_accumulator reg && switches_between code j (n + 1))) is in
+    let two = and_parts (not (some_in (j + 1) (n + 1 + 1) (is_target code))) (not (is_accumulator reg && switches_between code j (n + 1))) one.1 in
+    and_from (not (some_in (j + 1) n name)) (not (some_in (j + 1) (n + 1) (is_target code)) && not (is_accumulator reg && switches_between code j n))
+    (not_from_false (some_in (j + 1) n name)
+    (some_in_none (j + 1) n name (λ k from to. some_in_not (j + 1) (n + 1) k name (not-true (some_in (j + 1) (n + 1) name) one.0) from (omega (arith, to)))))
+    (and_from (not (some_in (j + 1) (n + 1) (is_target code))) (not (is_accumulator reg && switches_between code j n))
+    (not_from_false (some_in (j + 1) (n + 1) (is_target code))
+    (some_in_none (j + 1) (n + 1) (is_target code) (λ k from to. some_in_not (j + 1) (n + 1 + 1) k (is_target code) (not-true (some_in (j + 1) (n + 1 + 1) (is_target code)) two.0) from (omega (arith, to)))))
+    (acc_less (is_accumulator reg) (switches_between code j (n + 1)) (switches_between code j n) (between_less code j n) two.1))
+
+-- An accumulator with a fact isn't one of a thread that switches.
+acc_between : (acc a : Bool) → acc ≡ true → not (acc && a) ≡ true → a ≡ false
+acc_between true a is none = not-true a none
+acc_between false a is none = absurd (true≢false (sym is))
+
+none_between : (code : List ℕ) (j n : ℕ) (reg : Reg) → stays code j n reg ≡ true → is_accumulator reg ≡ true → switches_between code j n ≡ false
+unfolding stays
+none_between code j n reg is acc =
+    let one = and_parts (not (some_in (j + 1) n (λ k. names (word code k) reg))) (not (some_in (j + 1) (n + 1) (is_target code)) && not (is_accumulator reg && switches_between code j n)) is in
+    let two = and_parts (not (some_in (j + 1) (n + 1) (is_target code))) (not (is_accumulator reg && switches_between code j n)) one.1 in
+    acc_between (is_accumulator reg) (switches_between code j n) acc two.1
+
+switch_between : (code : List ℕ) (j n : ℕ) → 2 ≤ n → j ≤ n → is_switch (word code (n - 2)) ≡ true → switches_between code j (n + 1) ≡ true
+unfolding switches_between
+switch_between code j n two upto is =
+    some_below_here (n + 1) (n - 2) (λ s. is_switch (word code s) && (nat_le j (s + 2) && nat_le (s + 3) (n + 1))) (omega arith)
+    (and_from (is_switch (word code (n - 2))) (nat_le j (n - 2 + 2) && nat_le (n - 2 + 3) (n + 1)) is
+    (and_from (nat_le j (n - 2 + 2)) (nat_le (n - 2 + 3) (n + 1)) (le-leb j (n - 2 + 2) (omega (arith, upto, two))) (le-leb (n - 2 + 3) (n + 1) (omega (arith, two)))))
+
+no_switch_here : (h : Home) (j n : ℕ) (reg : Reg) (t : Thread) → IsAt h n t → j ≤ n → stays h.code j (n + 1) reg ≡ true → is_accumulator reg ≡ true → is_switch t.last2.word ≡ false
+no_switch_here h j n reg t at upto still acc =
+    elim at.mark2 [
+      | inl exact ↦
+          (let back = exact.back in
+          ap is_switch exact.is ∙ false_from_ne_true (is_switch (word h.code (n - 2)))
+          (λ is. true≢false (sym (switch_between h.code j n back upto is) ∙ none_between h.code j (n + 1) reg still acc)))
+      | inr blank ↦ blank.quiet.switch
+    ]
+
+fate_by : (end switch : Bool) → switch ≡ false → (switches (if end then Ends else (if switch then Switches else GoesOn)) || false) ≡ false
+fate_by true switch none = refl
+fate_by false true none = absurd (true≢false none)
+fate_by false false none = refl
+
+stays_awake : (h : Home) (j n u p : ℕ) (words : List ℕ) (reg : Reg) (t : Thread) → IsAt h n t → j ≤ n → stays h.code j (n + 1) reg ≡ true → is_accumulator reg ≡ true
+    → (done (word h.code n) u p words t).thread.fresh ≡ false
+unfolding fate_of
+stays_awake h j n u p words reg t at upto still acc =
+    fresh_is (word h.code n) u p words t ∙ fate_by (is_end t.last2.word) (is_switch t.last2.word) (no_switch_here h j n reg t at upto still acc)
+
+pub facts_on : (h : Home) (n u p : ℕ) (words : List ℕ) (t : Thread) → n < checked_of h.code → IsAt h n t → HasRows t → FactsHold h n t → (takes h.code n ≡ true → u ≡ uniform_at h n)
+    → FactsHold h (n + 1) (done (word h.code n) u p words t).thread
+facts_on h n u p words t inside at rows facts taken =
+    let w = word h.code n in
+    record {
+      told = λ j reg known here e below.
+          elim (cases_eq j n) [
+            | inl same ↦
+                (let alone : sets_alone w reg ≡ true = subst (λ i. sets_alone (word h.code i) reg ≡ true) same (sets_parts h.code j reg here.set_there).1 in
+                let value = register_set w u p words t reg known rows alone e below in
+                subst (λ i. Tells h i (slice_index (row_of (done w u p words t).thread reg) e)) (sym same)
+                (subst (λ v. Tells h n v) (sym value) (made_tells h n u p words t inside at facts taken (alone_plain w reg alone) e below)))
+            | inr other ↦
+                (let before = here.before in
+                let less : j < n = omega (arith, before, other) in
+                let earlier : IsMade h.code j n reg = record { before = less; set_there = here.set_there; still = stays_less h.code j n reg here.still } in
+                let row = register_same w u p words t reg known (stays_quiet h.code j (n + 1) n reg here.still less (omega arith)) ∙ ready_row p words t reg (λ acc. facts.kept j reg known earlier acc) in
+                subst (λ r. Tells h j (slice_index r e)) (sym row) (facts.told j reg known earlier e below))
+          ];
+      kept = λ j reg known here acc. (let before = here.before in stays_awake h j n u p words reg t at (omega (arith, before)) here.still acc);
+    }
+
+pub facts_jump : (h : Home) (to : ℕ) (next : Thread) → is_target h.code to ≡ true → FactsHold h to next
+facts_jump h to next target = record {
+  told = λ j reg known here e below. absurd (true≢false (sym target ∙ untargeted h.code j to reg here to here.before (omega arith)));
+  kept = λ j reg known here acc. absurd (true≢false (sym target ∙ untargeted h.code j to reg here to here.before (omega arith)));
+}
+
+-- A register that a rule calls an immediate has that value.
+value_is : (fact : Fact) (v : ℕ) → is_value fact v ≡ true → value_in fact ≡ Some v
+value_is Nothing v is = absurd (true≢false (sym is))
+value_is (Immediate held) v is = ap Some (eqb-true held v is)
+value_is NotNegative v is = absurd (true≢false (sym is))
+value_is (Clamped k at) v is = absurd (true≢false (sym is))
+
+immediate_by : (code : List ℕ) (n : ℕ) (reg : Reg) (v : ℕ) (o : Option ℕ) → carrier_of code n reg ≡ o → is_value (fact_by code o) v ≡ true
+    → (j : ℕ) × IsCarrier code j n reg × (loaded_value (word code j) ≡ Some v)
+immediate_by code n reg v None is value = absurd (true≢false (sym value))
+immediate_by code n reg v (Some j) is value = (j, carrier_found code j n reg is, sym (value_of_made code j) ∙ value_is (made code j) v value)
+
+pub immediate_found : (code : List ℕ) (n : ℕ) (reg : Reg) (v : ℕ) → is_immediate code n reg v ≡ true → (j : ℕ) × IsCarrier code j n reg × (loaded_value (word code j) ≡ Some v)
+unfolding is_immediate fact_at
+immediate_found code n reg v is = immediate_by code n reg v (carrier_of code n reg) refl is

@@ -1,9 +1,6 @@
 pub mod Cases
-pub mod Shaders
-pub mod Tables
 pub mod Lists
 pub mod Records
-pub mod Surfaces
 pub mod Whole
 pub mod Witness
 pub mod Neighbours

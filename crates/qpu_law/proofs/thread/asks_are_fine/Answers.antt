@@ -1,4 +1,4 @@
-use Rattle.qpu_law.proofs.Samples.{asks_are_fine_law}
+use Rattle.qpu_law.proofs.Join.{asks_are_fine_law}
 use Rattle.qpu_law.proofs.thread.asks_are_fine.Goals as goal
 
 pub returns : goal.returns
