@@ -1,17 +1,11 @@
 -- Binning of a job starts only after each earlier writer of what it reads has rendered.
 use Rattle.std.proofs.Common.{◌≡◌, ℕ, zero, suc, ◌+◌, ◌-◌, ◌≤◌, ◌<◌, ◌==◌, Bool, true, false, nat_lt, List, [], ◌∷◌, length, refl, sym, ◌∙◌, ap, subst, arith, Result, Ok, Err, if◌then◌else◌}
-use Rattle.std.proofs.lemmas.Bool.{false≢true}
+use Rattle.std.proofs.lemmas.Bool.{false≢true, lt-ltb, ltb-false}
 use Rattle.std.proofs.lemmas.Bool.Decides.{nat_tests}
 use Rattle.job_queue.specs.declared.queue.QueueFault.{QueueFault}
 use Rattle.job_queue.specs.declared.queue.QueueFault.TheVariants.{Binning, NoJob, Waits}
 use Rattle.job_queue.specs.Past.{Job, Past, is_in, meet, last_before, last_writer, reads_of, writes_of, start_answer}
 use Rattle.job_queue.specs.Laws.{StartsLate}
-
-lt_true : (a b : ℕ) → a < b → nat_lt a b ≡ true
-lt_true a b h = grind (arith, nat_tests)
-
-lt_false : (a b : ℕ) → nat_lt a b ≡ false → b ≤ a
-lt_false a b h = grind (arith, nat_tests)
 
 -- what was found is never lost for an earlier one
 keeps_by : (reads : List ℕ) (n : ℕ) (job : Job) (jobs : List Job) (number found : ℕ) (below here : Bool) → nat_lt number n ≡ below → meet reads job.writes ≡ here
@@ -42,13 +36,13 @@ covers : (reads : List ℕ) (n : ℕ) (jobs : List Job) (number found places : �
 unfolding last_before writes_of
 covers reads n [] number found places low below meets = absurd (false≢true (sym (meet_none reads) ∙ meets))
 covers reads n (job ∷ jobs) number found zero low below meets =
-    rw (lt_true number n (omega arith), meets) (omega (arith, keeps reads n jobs (number + 1) number (omega arith)))
+    rw (lt-ltb number n (omega arith), meets) (omega (arith, keeps reads n jobs (number + 1) number (omega arith)))
 covers reads n (job ∷ jobs) number found (suc places) low below meets =
     let first : (suc places + 1 == 1) ≡ false = grind (arith, nat_tests) in
     let less : suc places + 1 - 1 ≡ places + 1 = omega arith in
     let there : meet reads (writes_of jobs (places + 1)) ≡ true =
     sym (ap (λ b. meet reads (if b then job.writes else writes_of jobs (suc places + 1 - 1))) first ∙ ap (λ k. meet reads (writes_of jobs k)) less) ∙ meets in
-    rw (lt_true number n (omega arith))
+    rw (lt-ltb number n (omega arith))
     (omega (arith, covers reads n jobs (number + 1) (if meet reads job.writes then number else found) places (found_low (meet reads job.writes) number found low) (omega arith) there))
 
 unless_is : (b : Bool) (fault : QueueFault) (job : ℕ) (x : Result ℕ QueueFault) → (if b then Err fault else x) ≡ Ok job → (b ≡ false) × (x ≡ Ok job)
@@ -70,7 +64,7 @@ started past job e =
     (if nat_lt past.rendered (last_writer past.jobs (past.started + 1)) then Err (Waits (last_writer past.jobs (past.started + 1))) else Ok (past.started + 1)) first.1 in
     let third = unless_is (nat_lt past.rendered (last_writer past.jobs (past.started + 1))) (Waits (last_writer past.jobs (past.started + 1))) job (Ok (past.started + 1)) second.1 in
     let same : past.started + 1 ≡ job = ok_inj (past.started + 1) job third.1 in
-    (subst (λ n. last_writer past.jobs n ≤ past.rendered) same (lt_false past.rendered (last_writer past.jobs (past.started + 1)) third.0), sym same)
+    (subst (λ n. last_writer past.jobs n ≤ past.rendered) same (ltb-false past.rendered (last_writer past.jobs (past.started + 1)) third.0), sym same)
 
 pub starts_late : StartsLate
 unfolding last_writer

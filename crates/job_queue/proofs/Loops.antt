@@ -1,6 +1,7 @@
 -- Buffers of a job, one after the other.
-use Rattle.std.proofs.Common.{◌≡◌, ℕ, ◌+◌, ◌≤◌, ◌<◌, Bool, true, false, max, nat_lt, List, ◌∷◌, length, get_or, drop, refl, sym, ◌∙◌, ap, arith, drop-cons, add-one, Option, Some, None, if◌then◌else◌}
+use Rattle.std.proofs.Common.{◌≡◌, ℕ, ◌+◌, ◌≤◌, ◌<◌, Bool, true, false, max, nat_lt, List, [], ◌∷◌, ◌++◌, length, get_or, drop, refl, sym, ◌∙◌, ap, arith, drop-cons, add-one, Option, Some, None, if◌then◌else◌}
 use Rattle.std.proofs.lemmas.Bool.Decides.{nat_tests}
+use Rattle.std.proofs.lemmas.Bool.{lt-ltb, le-ltb}
 use Rattle.std.proofs.lemmas.List.{drop_all}
 use Rattle.std.specs.Prelude.{slice_index, slice_set}
 use Rattle.job_queue.specs.Past.{first_unknown}
@@ -10,24 +11,18 @@ use Rattle.job_queue.specs.Desk.{greatest, written}
 pub from_here : (xs : List ℕ) (i : ℕ) → i < length xs → drop i xs ≡ get_or xs i 0 ∷ drop (i + 1) xs
 from_here xs i inside = rw add-one (drop-cons xs i 0 inside)
 
-lt_of : (a b : ℕ) → a < b → nat_lt a b ≡ true
-lt_of a b h = grind (arith, nat_tests)
-
-ge_of : (a b : ℕ) → b ≤ a → nat_lt a b ≡ false
-ge_of a b h = grind (arith, nat_tests)
-
 -- the first number that is no buffer's
 pub unknown_here : (buffers : ℕ) (xs : List ℕ) (i : ℕ) (all : Option ℕ) → i < length xs → buffers ≤ get_or xs i 0 → first_unknown buffers (drop i xs) ≡ all
     → Some (get_or xs i 0) ≡ all
 unfolding first_unknown
 unknown_here buffers xs i all inside past before =
-    sym (ap (first_unknown buffers) (from_here xs i inside) ∙ ap (λ b. if b then first_unknown buffers (drop (i + 1) xs) else Some (get_or xs i 0)) (ge_of (get_or xs i 0) buffers past)) ∙ before
+    sym (ap (first_unknown buffers) (from_here xs i inside) ∙ ap (λ b. if b then first_unknown buffers (drop (i + 1) xs) else Some (get_or xs i 0)) (le-ltb (get_or xs i 0) buffers past)) ∙ before
 
 pub unknown_more : (buffers : ℕ) (xs : List ℕ) (i : ℕ) (all : Option ℕ) → i < length xs → get_or xs i 0 < buffers → first_unknown buffers (drop i xs) ≡ all
     → first_unknown buffers (drop (i + 1) xs) ≡ all
 unfolding first_unknown
 unknown_more buffers xs i all inside below before =
-    sym (ap (first_unknown buffers) (from_here xs i inside) ∙ ap (λ b. if b then first_unknown buffers (drop (i + 1) xs) else Some (get_or xs i 0)) (lt_of (get_or xs i 0) buffers below)) ∙ before
+    sym (ap (first_unknown buffers) (from_here xs i inside) ∙ ap (λ b. if b then first_unknown buffers (drop (i + 1) xs) else Some (get_or xs i 0)) (lt-ltb (get_or xs i 0) buffers below)) ∙ before
 
 pub unknown_end : (buffers : ℕ) (xs : List ℕ) (i : ℕ) (all : Option ℕ) → length xs ≤ i → first_unknown buffers (drop i xs) ≡ all → None ≡ all
 unfolding first_unknown
@@ -51,6 +46,21 @@ known_here buffers xs i inside none = (known_at buffers xs i inside none).0
 
 pub known_later : (buffers : ℕ) (xs : List ℕ) (i : ℕ) → i < length xs → first_unknown buffers (drop i xs) ≡ None → first_unknown buffers (drop (i + 1) xs) ≡ None
 known_later buffers xs i inside none = (known_at buffers xs i inside none).1
+
+-- of two lists it is that of the first, if there is one
+front_by : (b : Bool) (x y : Option ℕ) (buffer found : ℕ) → (x ≡ Some found → y ≡ Some found) → (if b then x else Some buffer) ≡ Some found → (if b then y else Some buffer) ≡ Some found
+front_by true x y buffer found later is = later is
+front_by false x y buffer found later is = is
+
+pub unknown_front : (buffers : ℕ) (xs ys : List ℕ) (found : ℕ) → first_unknown buffers xs ≡ Some found → first_unknown buffers (xs ++ ys) ≡ Some found
+unfolding first_unknown
+unknown_front buffers [] ys found is = let no : ⊥ = cc in absurd no
+unknown_front buffers (x ∷ xs) ys found is = front_by (nat_lt x buffers) _ _ x found (unknown_front buffers xs ys found) is
+
+pub unknown_back : (buffers : ℕ) (xs ys : List ℕ) → first_unknown buffers xs ≡ None → first_unknown buffers (xs ++ ys) ≡ first_unknown buffers ys
+unfolding first_unknown
+unknown_back buffers [] ys is = refl
+unknown_back buffers (x ∷ xs) ys is = let known = known_first buffers x xs is in rw (lt-ltb x buffers known.0) (unknown_back buffers xs ys known.1)
 
 -- the greatest that is kept
 pub greatest_more : (writers xs : List ℕ) (i found next all : ℕ) → i < length xs → next ≡ max found (slice_index writers (get_or xs i 0))

@@ -1,16 +1,11 @@
 -- The last writer of what a job reads, when a job comes.
 use Rattle.std.proofs.Common.{◌≡◌, ℕ, zero, suc, ◌+◌, ◌-◌, ◌≤◌, ◌<◌, ◌==◌, Bool, true, false, ◌||◌, max, nat_lt, List, [], ◌∷◌, ◌++◌, length, get_or, set, refl, sym, ◌∙◌, ap, arith, None, get_or-set_other, get_or-set_same, length-set, if◌then◌else◌}
 use Rattle.std.proofs.lemmas.Bool.Decides.{nat_tests}
+use Rattle.std.proofs.lemmas.Bool.{lt-ltb, le-ltb, eqb-true, eqb-false}
 use Rattle.std.specs.Prelude.{slice_index, slice_set}
 use Rattle.job_queue.specs.Past.{Job, is_in, meet, last_before, last_writer, reads_of, first_unknown}
 use Rattle.job_queue.specs.Desk.{greatest, written}
 use Rattle.job_queue.proofs.Loops.{known_first}
-
-lt_of : (a b : ℕ) → a < b → nat_lt a b ≡ true
-lt_of a b h = grind (arith, nat_tests)
-
-ge_of : (a b : ℕ) → b ≤ a → nat_lt a b ≡ false
-ge_of a b h = grind (arith, nat_tests)
 
 -- what reads of nothing finds
 pub nothing_read : (n : ℕ) (jobs : List Job) (number found : ℕ) → last_before [] n jobs number found ≡ found
@@ -70,7 +65,7 @@ later_by false x y found e = refl
 pub same_before : (reads : List ℕ) (n : ℕ) (jobs : List Job) (job : Job) (number found : ℕ) → n ≤ number + length jobs
     → last_before reads n (jobs ++ job ∷ []) number found ≡ last_before reads n jobs number found
 unfolding last_before
-same_before reads n [] job number found past = rw (ge_of number n (omega (arith, past))) refl
+same_before reads n [] job number found past = rw (le-ltb number n (omega (arith, past))) refl
 same_before reads n (one ∷ jobs) job number found past =
     later_by (nat_lt number n) _ _ found (same_before reads n jobs job (number + 1) (if meet reads one.writes then number else found) (omega (arith, past)))
 
@@ -79,10 +74,10 @@ pub with_last : (reads : List ℕ) (n : ℕ) (jobs : List Job) (job : Job) (numb
 unfolding last_before
 with_last reads n [] job number found below =
     let zero_more : number + 0 ≡ number = omega arith in
-    rw (lt_of number n (omega (arith, below)), zero_more) refl
+    rw (lt-ltb number n (omega (arith, below)), zero_more) refl
 with_last reads n (one ∷ jobs) job number found below =
     let more : number + 1 + length jobs ≡ number + suc (length jobs) = omega arith in
-    rw (lt_of number n (omega (arith, below)))
+    rw (lt-ltb number n (omega (arith, below)))
     (with_last reads n jobs job (number + 1) (if meet reads one.writes then number else found) (omega (arith, below))
     ∙ ap (λ k. if meet reads job.writes then k else last_before reads n jobs (number + 1) (if meet reads one.writes then number else found)) more)
 
@@ -92,7 +87,7 @@ pub all_before : (reads : List ℕ) (n m : ℕ) (jobs : List Job) (number found 
 unfolding last_before
 all_before reads n m [] number found low high = refl
 all_before reads n m (one ∷ jobs) number found low high =
-    rw (lt_of number n (omega (arith, low)), lt_of number m (omega (arith, high)))
+    rw (lt-ltb number n (omega (arith, low)), lt-ltb number m (omega (arith, high)))
     (all_before reads n m jobs (number + 1) (if meet reads one.writes then number else found) (omega (arith, low)) (omega (arith, high)))
 
 -- what a job reads
@@ -124,19 +119,13 @@ writer_old jobs job places inside =
     rw (reads_old jobs job places inside) (same_before (reads_of jobs (places + 1)) (places + 1) jobs job 1 0 (omega (arith, inside)))
 
 -- what is kept for a buffer
-equal : (k n : ℕ) → (k == n) ≡ true → k ≡ n
-equal k n is = grind (arith, nat_tests)
-
-apart : (k n : ℕ) → (k == n) ≡ false → n ≡ k → ⊥
-apart k n apart_is is = grind (arith, nat_tests)
-
 kept_by : (writers : List ℕ) (one buffer job : ℕ) (b later : Bool) → (one == buffer) ≡ b → buffer < length writers
     → (if later then job else slice_index (slice_set writers one job) buffer) ≡ (if b || later then job else slice_index writers buffer)
 kept_by writers one buffer job true true is inside = refl
 kept_by writers one buffer job true false is inside =
-    ap (λ n. get_or (set writers n job) buffer 0) (equal one buffer is) ∙ get_or-set_same writers buffer job 0 inside
+    ap (λ n. get_or (set writers n job) buffer 0) (eqb-true one buffer is) ∙ get_or-set_same writers buffer job 0 inside
 kept_by writers one buffer job false true is inside = refl
-kept_by writers one buffer job false false is inside = get_or-set_other writers one buffer job 0 (apart one buffer is)
+kept_by writers one buffer job false false is inside = get_or-set_other writers one buffer job 0 (λ e. eqb-false one buffer is (sym e))
 
 pub written_size : (writers writes : List ℕ) (job : ℕ) → length (written writers writes job) ≡ length writers
 unfolding written

@@ -25,17 +25,24 @@ unfoldable pub answer_line : List ℕ → Result ℕ QueueFault → List ℕ
 answer_line word (Ok job) = word ++ (codes " " ++ (decimal job ++ codes "\n"))
 answer_line word (Err fault) = refused_line fault
 
+-- what the line of a submit is answered, and the past with its job
+abbrev pub submit_reply : Past → List ℕ → List ℕ
+submit_reply past line = answer_line (codes "job") (submit_answer past (buffers_of (reads_word line)) (buffers_of (writes_word line)))
+
+abbrev pub after_submit_line : Past → List ℕ → Past
+after_submit_line past line = after_submit past (buffers_of (reads_word line)) (buffers_of (writes_word line))
+
 -- the line that answers a call, whose line says more of it; a line may be no call
 unfoldable pub call_reply : Past → List ℕ → Option Call → List ℕ
 call_reply past line None = []
-call_reply past line (Some Submit) = answer_line (codes "job") (submit_answer past (buffers_of (reads_word line)) (buffers_of (writes_word line)))
+call_reply past line (Some Submit) = submit_reply past line
 call_reply past line (Some Start) = answer_line (codes "start") (start_answer past)
 call_reply past line (Some Bin) = answer_line (codes "binned") (bin_answer past)
 call_reply past line (Some Render) = answer_line (codes "rendered") (render_answer past)
 
 unfoldable pub after_call : Past → List ℕ → Option Call → Past
 after_call past line None = past
-after_call past line (Some Submit) = after_submit past (buffers_of (reads_word line)) (buffers_of (writes_word line))
+after_call past line (Some Submit) = after_submit_line past line
 after_call past line (Some Start) = after_start past
 after_call past line (Some Bin) = after_bin past
 after_call past line (Some Render) = after_render past

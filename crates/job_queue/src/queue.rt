@@ -1,5 +1,5 @@
 //! The queue.
-ghost use Rattle.std.specs.Prelude.{◌≡◌, ◌≤◌, ◌<◌, ◌^◌, length, IfOk, None, IsErr};
+ghost use Rattle.std.specs.Prelude.{◌≡◌, ◌≤◌, ◌<◌, ◌^◌, ◌++◌, length, IfOk, IfNone, None, IsErr};
 ghost use Rattle.job_queue.specs.Past.{none_yet, submit_answer, start_answer, bin_answer, render_answer, after_submit, after_start, after_bin, after_render};
 ghost use Rattle.job_queue.specs.Past.{first_unknown as unknown};
 ghost use Rattle.job_queue.specs.Desk.{Agrees, Answers, greatest, written};
@@ -73,6 +73,19 @@ fn first_unknown(numbers: &[u32], buffers: usize) -> Option<u32>
     None
 }
 
+// The first number among what a job reads, and then what it writes, that is no buffer's.
+#[tactic(auto, using(crate::proofs::Loops::unknown_front, crate::proofs::Loops::unknown_back))]
+fn unknown_buffer(writers: &[u64], reads: &[u32], writes: &[u32]) -> Option<u32>
+    ensures first { result ≡ unknown (length writers.now) (reads.now ++ writes.now) }
+    ensures reads { IfNone result (unknown (length writers.now) reads.now ≡ None) }
+    ensures writes { IfNone result (unknown (length writers.now) writes.now ≡ None) }
+{
+    match first_unknown(reads, writers.len()) {
+        Some(buffer) => Some(buffer),
+        None => first_unknown(writes, writers.len()),
+    }
+}
+
 // The last job that writes one of these buffers, or 0.
 #[tactic(auto, using(crate::proofs::Loops::known_here, crate::proofs::Loops::greatest_end))]
 fn last_writer(writers: &[u64], reads: &[u32]) -> u64
@@ -122,13 +135,11 @@ impl Queue {
     /// 4,096 jobs haven't rendered. It takes no memory.
     pub fn submit(&mut self, reads: &[u32], writes: &[u32]) -> Result<u64, QueueFault>
         requires { self.old.submitted < 2 ^ 63 }
-        ensures answers { Answers (λ past. submit_answer past reads.now writes.now) (λ past. after_submit past reads.now writes.now) result self.old self.new }
+        ensures answers { Answers (λ past. submit_answer past reads.now writes.now)
+            (λ past. after_submit past reads.now writes.now) result self.old self.new }
         ensures same { IsErr result → self.new ≡ self.old }
     {
-        if let Some(buffer) = first_unknown(reads, self.writers.len()) {
-            return Err(QueueFault::Unknown { buffer });
-        }
-        if let Some(buffer) = first_unknown(writes, self.writers.len()) {
+        if let Some(buffer) = unknown_buffer(&self.writers, reads, writes) {
             return Err(QueueFault::Unknown { buffer });
         }
         if self.submitted - self.rendered >= MOST_WAITING {

@@ -1,9 +1,9 @@
 //! Scripts of calls, and their answers.
 ghost use Rattle.std.specs.Prelude.{◌≡◌, ◌≤◌, ◌<◌, ◌^◌, ◌++◌, length, IfOk, IfErr, None, codes, string_bytes};
-ghost use Rattle.job_queue.specs.Calls.{fault_line, is_formed as formed, buffers_of, reads_word, writes_word};
+ghost use Rattle.job_queue.specs.Calls.{fault_line, is_formed as formed};
 ghost use Rattle.job_queue.specs.Desk.{Agrees};
-ghost use Rattle.job_queue.specs.Past.{Past, submit_answer, after_submit};
-ghost use Rattle.job_queue.specs.Text.{refused_line, answer_line, line_reply, after_line, replies, IsScriptFault};
+ghost use Rattle.job_queue.specs.Past.{Past};
+ghost use Rattle.job_queue.specs.Text.{refused_line, answer_line, submit_reply, after_submit_line, line_reply, after_line, replies, IsScriptFault};
 
 use super::call::{Call, put_numbers, read_call};
 use super::queue::{Queue, QueueFault};
@@ -50,8 +50,9 @@ fn put_submit(
     line: &[u8],
 ) -> Result<(), AllocError>
     requires { queue.old.submitted < 2 ^ 63 }
-    ensures line { (past : Past) → Agrees past queue.old → IfOk result (λ _. string_bytes out.new ≡ string_bytes out.old ++ answer_line (codes "job") (submit_answer past (buffers_of (reads_word line.now)) (buffers_of (writes_word line.now)))) }
-    ensures kept { (past : Past) → Agrees past queue.old → IfOk result (λ _. Agrees (after_submit past (buffers_of (reads_word line.now)) (buffers_of (writes_word line.now))) queue.new) }
+    ensures line { (past : Past) → Agrees past queue.old
+        → IfOk result (λ _. string_bytes out.new ≡ string_bytes out.old ++ submit_reply past line.now) }
+    ensures kept { (past : Past) → Agrees past queue.old → IfOk result (λ _. Agrees (after_submit_line past line.now) queue.new) }
 {
     let buffers = cut_at(cut_at(line, b' ').rest, b' ');
     let mut reads = Vec::new(alloc);
@@ -70,7 +71,8 @@ fn put_line(
     line: &[u8],
 ) -> Result<(), AllocError>
     requires { queue.old.submitted < 2 ^ 63 }
-    ensures line { (past : Past) → Agrees past queue.old → IfOk result (λ _. string_bytes out.new ≡ string_bytes out.old ++ line_reply past line.now) }
+    ensures line { (past : Past) → Agrees past queue.old
+        → IfOk result (λ _. string_bytes out.new ≡ string_bytes out.old ++ line_reply past line.now) }
     ensures kept { (past : Past) → Agrees past queue.old → IfOk result (λ _. Agrees (after_line past line.now) queue.new) }
 {
     match read_call(line) {
