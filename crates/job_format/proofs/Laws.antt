@@ -4,9 +4,8 @@ use Rattle.field_words.specs.declared.stop.Stop.{Stop}
 use Rattle.field_words.specs.declared.stop.Stop.TheVariants.{Fault, NoMemory}
 use Rattle.field_words.specs.Words.{IsBytes}
 use Rattle.field_words.specs.Questions.{first_of, Answers}
-use Rattle.job_format.specs.declared.file.JobFile.{JobFile}
 use Rattle.job_format.specs.declared.rule.FormatFault.{FormatFault}
-use Rattle.job_format.specs.Model.{FileModel, file_view}
+use Rattle.job_format.specs.Model.{FileModel}
 use Rattle.job_format.specs.Faults.{format_questions}
 use Rattle.job_format.specs.File.{IsFileOf, Reads}
 use Rattle.job_format.specs.Reading.{file_at}
@@ -26,16 +25,16 @@ one_file bytes f g is_f is_g = sym (only_file bytes f is_f).1 ∙ (only_file byt
 pub none_file : (bytes : List ℕ) → IsBytes bytes → first_of (format_questions bytes) ≡ None → IsFileOf bytes (file_at bytes)
 none_file bytes fits none = is_file bytes fits (passes_all bytes none)
 
-pub found_by : (bytes : List ℕ) → IsBytes bytes → (result : Result JobFile (Stop FormatFault)) → Answers (format_questions bytes) (λ f. file_view f ≡ file_at bytes) result
-    → IfOk result (λ f. IsFileOf bytes (file_view f))
-found_by bytes fits (Ok file) answers = subst (IsFileOf bytes) (sym answers.1) (none_file bytes fits answers.0)
-found_by bytes fits (Err stop) answers = tt
+pub found_by : {X : Type 0} (view : X → FileModel) (bytes : List ℕ) → IsBytes bytes → (result : Result X (Stop FormatFault)) → Answers (format_questions bytes) (λ f. view f ≡ file_at bytes) result
+    → IfOk result (λ f. IsFileOf bytes (view f))
+found_by view bytes fits (Ok file) answers = subst (IsFileOf bytes) (sym answers.1) (none_file bytes fits answers.0)
+found_by view bytes fits (Err stop) answers = tt
 
-pub only_by : (bytes : List ℕ) (result : Result JobFile (Stop FormatFault)) → Answers (format_questions bytes) (λ f. file_view f ≡ file_at bytes) result
-    → (f : FileModel) → IsFileOf bytes f → Reads f result
-only_by bytes (Ok file) answers f is = answers.1 ∙ (read_again bytes f is).1
-only_by bytes (Err (Fault fault)) answers f is = let none = (read_again bytes f is).0 in let wrong : Some fault ≡ None = sym answers ∙ none in cc
-only_by bytes (Err NoMemory) answers f is = tt
+pub only_by : {X : Type 0} (view : X → FileModel) (bytes : List ℕ) (result : Result X (Stop FormatFault)) → Answers (format_questions bytes) (λ f. view f ≡ file_at bytes) result
+    → (f : FileModel) → IsFileOf bytes f → Reads view f result
+only_by view bytes (Ok file) answers f is = answers.1 ∙ (read_again bytes f is).1
+only_by view bytes (Err (Fault fault)) answers f is = let none = (read_again bytes f is).0 in let wrong : Some fault ≡ None = sym answers ∙ none in cc
+only_by view bytes (Err NoMemory) answers f is = tt
 
 -- So no rule stands exactly where a file belongs to the bytes.
 pub exact_by : (bytes : List ℕ) → IsBytes bytes → (first_of (format_questions bytes) ≡ None) ↔ ((f : FileModel) × IsFileOf bytes f)

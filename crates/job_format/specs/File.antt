@@ -10,10 +10,9 @@ use Rattle.buffer_table.specs.declared.buffer.Regions.{Regions}
 use Rattle.field_words.specs.declared.stop.Stop.{Stop}
 use Rattle.field_words.specs.declared.stop.Stop.TheVariants.{Fault, NoMemory}
 use Rattle.job_format.specs.declared.rule.FormatFault.{FormatFault}
-use Rattle.job_format.specs.declared.file.JobFile.{JobFile}
 use Rattle.job_format.specs.declared.file.Surface.{Surface}
 use Rattle.job_format.specs.declared.file.Frame.{Frame}
-use Rattle.job_format.specs.Model.{JobModel, FileModel, file_view}
+use Rattle.job_format.specs.Model.{JobModel, FileModel}
 use Rattle.job_format.specs.Offsets.{most_buffers, most_handles, most_jobs, most_first, most_states}
 use Rattle.job_format.specs.Text.{file_text}
 
@@ -128,8 +127,8 @@ pub record IsFileOf (bytes : List ℕ) (f : FileModel) : Type 0 where
   pub well_formed : IsWellFormed f
   pub text : bytes ≡ file_text f
 
--- What was answered is this file, unless memory ran out.
-abbrev pub Reads : FileModel → Result JobFile (Stop FormatFault) → Type 0
-Reads f (Ok file) = file_view file ≡ f
-Reads f (Err (Fault fault)) = ⊥
-Reads f (Err NoMemory) = Unit {0}
+-- What was answered is this file, as it is seen, unless memory ran out.
+abbrev pub Reads : {X : Type 0} → (X → FileModel) → FileModel → Result X (Stop FormatFault) → Type 0
+Reads view f (Ok file) = view file ≡ f
+Reads view f (Err (Fault fault)) = ⊥
+Reads view f (Err NoMemory) = Unit {0}

@@ -2,6 +2,7 @@ pub mod Faults
 pub mod File
 pub mod Model
 pub mod Offsets
+pub mod Parts
 pub mod Reading
 pub mod Rules
 pub mod Text

@@ -3,6 +3,7 @@
 
 mod faults;
 mod file;
+mod parts;
 mod reading;
 mod rule;
 mod sizes;
@@ -11,7 +12,8 @@ mod words;
 mod writing;
 
 pub use file::{Frame, Job, JobFile, Surface};
-pub use reading::read_job;
+pub use parts::{FileParts, JobParts};
+pub use reading::{read_job, read_parts};
 pub use rule::{FormatFault, FormatRule, Refusal, Rule, Stage};
 pub use sizes::{
     ENTRY_SIZE, HEADER_SIZE, JOB_SIZE, MOST_BUFFERS, MOST_FIRST, MOST_HANDLES, MOST_JOBS,

@@ -4,13 +4,15 @@ ghost use Rattle.field_words.specs.Words.{u32_at};
 ghost use Rattle.field_words.specs.Questions.{first_of, Answers, NamesFirst, NeverHidesFault};
 ghost use Rattle.job_format.specs.Faults.{format_questions};
 ghost use Rattle.job_format.specs.File.{IsFileOf, Reads};
-ghost use Rattle.job_format.specs.Model.{FileModel, job_view, file_view};
+ghost use Rattle.job_format.specs.Model.{FileModel, file_view};
+ghost use Rattle.job_format.specs.Parts.{job_parts_view, parts_view};
 ghost use Rattle.job_format.specs.Offsets.{header_size, entry_size, job_size, most_buffers, most_handles, most_jobs, buffer_count, job_count, entry_offset, job_offset, job_word, content_offset, handles_offset, bin_offset, records_offset, uniforms_offset, end_offset};
 ghost use Rattle.job_format.specs.Whole.{HasParts};
 ghost use Rattle.job_format.specs.Reading.{cut, regions_at, entry_at, surface_at, frame_at, kind_of, words_at, buffers_at, contents_at, job_at, jobs_at, file_at};
 
 use crate::faults::{content_size, format_fault};
-use crate::file::{Frame, Job, JobFile, Surface};
+use crate::file::{Frame, JobFile, Surface};
+use crate::parts::{FileParts, JobParts};
 use crate::rule::FormatFault;
 use crate::sizes::{entry_offset, job_offset};
 use crate::words::{half, word};
@@ -121,31 +123,31 @@ fn buffers(alloc: Global, bytes: &[u8], count: usize) -> Result<Vec<Buffer>, All
     Ok(buffers)
 }
 
-/// The contents of a buffer: `size` bytes from `at` on.
-fn bytes_at(alloc: Global, bytes: &[u8], at: usize, size: usize) -> Result<Vec<u8>, AllocError>
+/// `size` bytes from `at` on.
+fn bytes_at(bytes: &[u8], at: usize, size: usize) -> &[u8]
     requires inside { at + size ≤ length bytes.now }
-    ensures { IfOk result (λ v. v.items ≡ cut bytes.now at size) }
+    ensures { result.now ≡ cut bytes.now at size }
 {
-    Ok(Vec::from_slice(alloc, &bytes[at..at + size])?)
+    &bytes[at..at + size]
 }
 
 /// The contents of so many buffers, one after the other, and the offset where they end.
 #[tactic(auto, using(crate::proofs::Listed::contents_none, crate::proofs::Standing::content_offset_first, crate::proofs::Standing::handles_offset_first))]
-fn contents(
+fn contents<'a>(
     alloc: Global,
-    bytes: &[u8],
+    bytes: &'a [u8],
     buffers: usize,
     jobs: usize,
-) -> Result<(Vec<Vec<u8>>, usize), AllocError>
+) -> Result<(Vec<&'a [u8]>, usize), AllocError>
     requires whole { HasParts bytes.now buffers jobs }
-    ensures values { IfOk result (λ v. map (λ c. c.items) v.0.items ≡ contents_at bytes.now buffers) }
+    ensures values { IfOk result (λ v. map (λ c. c.now) v.0.items ≡ contents_at bytes.now buffers) }
     ensures end { IfOk result (λ v. v.1 ≡ handles_offset bytes.now 0) }
 {
     let mut contents = Vec::new(alloc);
     let mut at = job_offset(buffers, jobs);
     for b in 0..buffers {
         let size = content_size(bytes, b);
-        contents.push(bytes_at(alloc, bytes, at, size)?)?;
+        contents.push(bytes_at(bytes, at, size))?;
         at += size;
     }
     Ok((contents, at))
@@ -153,13 +155,13 @@ fn contents(
 
 /// Job `j`, whose parts begin at `handles`, and the offset where they end.
 #[tactic(auto, unfolding(crate::specs::Reading::job_at, crate::specs::Offsets::bin_offset, crate::specs::Offsets::records_offset, crate::specs::Offsets::uniforms_offset, crate::specs::Offsets::end_offset), using(crate::proofs::Standing::handles_offset_step))]
-fn job(
+fn job<'a>(
     alloc: Global,
-    bytes: &[u8],
+    bytes: &'a [u8],
     buffers: usize,
     j: usize,
     handles: usize,
-) -> Result<(Job, usize), AllocError>
+) -> Result<(JobParts<'a>, usize), AllocError>
     requires named { buffers ≡ buffer_count bytes.now }
     requires few_buffers { buffers ≤ most_buffers }
     requires few_jobs { j < most_jobs }
@@ -167,7 +169,7 @@ fn job(
     requires few_handles { job_word bytes.now j 8 ≤ most_handles }
     requires here { handles ≡ handles_offset bytes.now j }
     requires inside { handles_offset bytes.now (j + 1) ≤ length bytes.now }
-    ensures value { IfOk result (λ v. job_view v.0 ≡ job_at bytes.now j) }
+    ensures value { IfOk result (λ v. job_parts_view v.0 ≡ job_at bytes.now j) }
     ensures end { IfOk result (λ v. v.1 ≡ handles_offset bytes.now (j + 1)) }
 {
     let at = job_offset(buffers, j);
@@ -178,29 +180,29 @@ fn job(
     let records_size = word(bytes, at + 16) as usize;
     let uniforms = records + records_size;
     let uniforms_size = word(bytes, at + 24) as usize;
-    let job = Job {
+    let job = JobParts {
         client: word(bytes, at),
         handles: words(alloc, bytes, handles, count)?,
-        bin: bytes_at(alloc, bytes, bin, bin_size)?,
-        records: bytes_at(alloc, bytes, records, records_size)?,
+        bin: bytes_at(bytes, bin, bin_size),
+        records: bytes_at(bytes, records, records_size),
         declared: word(bytes, at + 20),
-        uniforms: bytes_at(alloc, bytes, uniforms, uniforms_size)?,
+        uniforms: bytes_at(bytes, uniforms, uniforms_size),
         frame: frame(bytes, at),
     };
     Ok((job, uniforms + uniforms_size))
 }
 
 /// So many jobs, the parts of the first beginning at `handles`.
-fn jobs(
+fn jobs<'a>(
     alloc: Global,
-    bytes: &[u8],
+    bytes: &'a [u8],
     buffers: usize,
     jobs: usize,
     handles: usize,
-) -> Result<Vec<Job>, AllocError>
+) -> Result<Vec<JobParts<'a>>, AllocError>
     requires whole { HasParts bytes.now buffers jobs }
     requires here { handles ≡ handles_offset bytes.now 0 }
-    ensures { IfOk result (λ v. map job_view v.items ≡ jobs_at bytes.now jobs) }
+    ensures { IfOk result (λ v. map job_parts_view v.items ≡ jobs_at bytes.now jobs) }
 {
     let mut read = Vec::new(alloc);
     let mut at = handles;
@@ -212,16 +214,16 @@ fn jobs(
     Ok(read)
 }
 
-/// The file that the bytes are.
+/// The parts of the file that the bytes are.
 #[tactic(auto, unfolding(crate::specs::Reading::file_at))]
-pub(crate) fn file_of(alloc: Global, bytes: &[u8]) -> Result<JobFile, AllocError>
+fn parts_of<'a>(alloc: Global, bytes: &'a [u8]) -> Result<FileParts<'a>, AllocError>
     requires whole { HasParts bytes.now (buffer_count bytes.now) (job_count bytes.now) }
-    ensures { IfOk result (λ f. file_view f ≡ file_at bytes.now) }
+    ensures { IfOk result (λ f. parts_view f ≡ file_at bytes.now) }
 {
     let count = word(bytes, 28) as usize;
     let job_count = word(bytes, 32) as usize;
     let (contents, handles) = contents(alloc, bytes, count, job_count)?;
-    Ok(JobFile {
+    Ok(FileParts {
         version: word(bytes, 4),
         mem_size: word(bytes, 8),
         regions: regions(bytes),
@@ -231,31 +233,51 @@ pub(crate) fn file_of(alloc: Global, bytes: &[u8]) -> Result<JobFile, AllocError
     })
 }
 
-/// The file, or its first fault.
-fn file(alloc: Global, bytes: &[u8]) -> Result<JobFile, Stop<FormatFault>>
-    ensures answers { Answers (format_questions bytes.now) (λ f. file_view f ≡ file_at bytes.now) result }
+/// The parts, or the first fault.
+fn found_parts<'a>(alloc: Global, bytes: &'a [u8]) -> Result<FileParts<'a>, Stop<FormatFault>>
+    ensures answers { Answers (format_questions bytes.now) (λ f. parts_view f ≡ file_at bytes.now) result }
     ensures memory { NeverHidesFault (format_questions bytes.now) result }
 {
     match format_fault(bytes) {
         Some(fault) => Err(Stop::Fault(fault)),
-        None => Ok(file_of(alloc, bytes)?),
+        None => Ok(parts_of(alloc, bytes)?),
     }
 }
 
-/// Reads a job file of either version. The fault is the first of F1 to F5 and F7, part by part and in
-/// a part by field. Finding
-/// it takes no memory.
-pub fn read_job(alloc: Global, bytes: &[u8]) -> Result<JobFile, Stop<FormatFault>>
+/// Reads a job file of either version, and copies neither contents nor lists. The fault is the first of F1 to F5 and F7, part by part and
+/// in a part by field. Finding it takes no memory.
+pub fn read_parts<'a>(alloc: Global, bytes: &'a [u8]) -> Result<FileParts<'a>, Stop<FormatFault>>
     // Which fault it is, and the fields of the file.
-    ensures read { Answers (format_questions bytes.now) (λ f. file_view f ≡ file_at bytes.now) result }
+    ensures read { Answers (format_questions bytes.now) (λ f. parts_view f ≡ file_at bytes.now) result }
     ensures first { NamesFirst (format_questions bytes.now) result }
     ensures memory { NeverHidesFault (format_questions bytes.now) result }
     // The file that is read is the one that the bytes spell.
-    ensures found { IfOk result (λ f. IsFileOf bytes.now (file_view f)) }
+    ensures found { IfOk result (λ f. IsFileOf bytes.now (parts_view f)) }
     // No rule stands exactly where a file belongs to the bytes.
     ensures exact { (first_of (format_questions bytes.now) ≡ None) ↔ ((f : FileModel) × IsFileOf bytes.now f) }
     // Bytes that spell a file are read, unless memory runs out.
-    ensures only { (f : FileModel) → IsFileOf bytes.now f → Reads f result }
+    ensures only { (f : FileModel) → IsFileOf bytes.now f → Reads parts_view f result }
+{
+    found_parts(alloc, bytes)
+}
+
+/// The file that was read, or its first fault.
+fn file(alloc: Global, bytes: &[u8]) -> Result<JobFile, Stop<FormatFault>>
+    ensures answers { Answers (format_questions bytes.now) (λ f. file_view f ≡ file_at bytes.now) result }
+    ensures memory { NeverHidesFault (format_questions bytes.now) result }
+{
+    let parts = found_parts(alloc, bytes)?;
+    Ok(parts.to_file(alloc)?)
+}
+
+/// The same, with contents and lists of its own.
+pub fn read_job(alloc: Global, bytes: &[u8]) -> Result<JobFile, Stop<FormatFault>>
+    ensures read { Answers (format_questions bytes.now) (λ f. file_view f ≡ file_at bytes.now) result }
+    ensures first { NamesFirst (format_questions bytes.now) result }
+    ensures memory { NeverHidesFault (format_questions bytes.now) result }
+    ensures found { IfOk result (λ f. IsFileOf bytes.now (file_view f)) }
+    ensures exact { (first_of (format_questions bytes.now) ≡ None) ↔ ((f : FileModel) × IsFileOf bytes.now f) }
+    ensures only { (f : FileModel) → IsFileOf bytes.now f → Reads file_view f result }
 {
     file(alloc, bytes)
 }

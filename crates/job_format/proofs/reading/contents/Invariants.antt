@@ -5,4 +5,4 @@ use Rattle.job_format.specs.Reading.{contents_at}
 use Rattle.job_format.proofs.reading.contents.Given as goal
 
 abbrev pub invariant-loop-b : goal.invariant-loop-b
-invariant-loop-b l = (l.at ≡ content_offset l.bytes l.b) × (map (λ c. c.items) l.contents.items ≡ contents_at l.bytes l.b)
+invariant-loop-b l = (l.at ≡ content_offset l.bytes l.b) × (map (λ c. c.now) l.contents.items ≡ contents_at l.bytes l.b)

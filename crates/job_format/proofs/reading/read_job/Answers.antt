@@ -11,10 +11,10 @@ pub returns-clause-first : goal.returns-clause-first
 returns-clause-first c = names_first (format_questions c.args.bytes.now) (λ f. file_view f ≡ file_at c.args.bytes.now) c.file.result c.file.ensures.answers
 
 pub returns-clause-found : goal.returns-clause-found
-returns-clause-found c = found_by c.args.bytes.now (λ i. omega (arith, c.type_inv.bytes i)) c.file.result c.file.ensures.answers
+returns-clause-found c = found_by file_view c.args.bytes.now (λ i. omega (arith, c.type_inv.bytes i)) c.file.result c.file.ensures.answers
 
 pub returns-clause-only : goal.returns-clause-only
-returns-clause-only c = only_by c.args.bytes.now c.file.result c.file.ensures.answers
+returns-clause-only c = only_by file_view c.args.bytes.now c.file.result c.file.ensures.answers
 
 pub returns-clause-exact : goal.returns-clause-exact
 returns-clause-exact c = exact_by c.args.bytes.now (λ i. omega (arith, c.type_inv.bytes i))
