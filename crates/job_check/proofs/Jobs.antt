@@ -3,17 +3,18 @@ use Rattle.std.proofs.Common.{◌≡◌, ℕ, zero, suc, ◌+◌, ◌<◌, List,
 use Rattle.std.proofs.lemmas.List.Sums.{sum_by_more}
 use Rattle.std.specs.List.{AllByRecursion}
 use Rattle.std.proofs.lemmas.List.{get_or-map, length-map}
-use Rattle.job_format.specs.declared.file.Job.{Job}
+use Rattle.job_format.specs.declared.parts.JobParts.{JobParts}
 use Rattle.job_format.specs.File.{IsJobWellFormed}
-use Rattle.job_format.specs.Model.{FileModel, JobModel, job_view}
+use Rattle.job_format.specs.Model.{FileModel, JobModel}
+use Rattle.job_format.specs.Parts.{job_parts_view}
 use Rattle.job_check.specs.Jobs.{job_of, no_job}
 use Rattle.job_check.specs.Offsets.{parts_size}
 
 -- the job that is read is the file's
-pub job_is : (jobs : List Job) (f : FileModel) (j : ℕ) (job : Job) → f.jobs ≡ map job_view jobs → j < length jobs → job ≡ get_or jobs j job → job_view job ≡ job_of f j
+pub job_is : {X : Type 0} (view : X → JobModel) (jobs : List X) (f : FileModel) (j : ℕ) (job : X) → f.jobs ≡ map view jobs → j < length jobs → job ≡ get_or jobs j job → view job ≡ job_of f j
 unfolding job_of
-job_is jobs f j job same some read =
-    ap job_view read ∙ sym (get_or-map job_view jobs j job no_job some) ∙ sym (ap (λ js. get_or js j no_job) same)
+job_is view jobs f j job same some read =
+    ap view read ∙ sym (get_or-map view jobs j job no_job some) ∙ sym (ap (λ js. get_or js j no_job) same)
 
 -- what holds of each job holds of job j
 all_at : (jobs : List JobModel) (j : ℕ) → AllByRecursion IsJobWellFormed jobs → j < length jobs → IsJobWellFormed (get_or jobs j no_job)
@@ -26,14 +27,14 @@ unfolding job_of
 job_limits f j all below = all_at f.jobs j all below
 
 -- the same of the jobs that the code holds
-pub limits_at : (jobs : List Job) (k : ℕ) (job : Job) → AllByRecursion IsJobWellFormed (map job_view jobs) → k < length jobs → job ≡ get_or jobs k job → IsJobWellFormed (job_view job)
+pub limits_at : (jobs : List JobParts) (k : ℕ) (job : JobParts) → AllByRecursion IsJobWellFormed (map job_parts_view jobs) → k < length jobs → job ≡ get_or jobs k job → IsJobWellFormed (job_parts_view job)
 limits_at [] k job all below read = absurd (omega arith)
-limits_at (first ∷ jobs) zero job all below read = subst (λ x. IsJobWellFormed (job_view x)) (sym read) all.0
+limits_at (first ∷ jobs) zero job all below read = subst (λ x. IsJobWellFormed (job_parts_view x)) (sym read) all.0
 limits_at (first ∷ jobs) (suc k) job all below read = limits_at jobs k job all.1 (omega (arith, below)) read
 
 -- the parts of one more job
-pub parts_more : (jobs : List Job) (k : ℕ) (job : Job) → k < length jobs → job ≡ get_or jobs k job
-    → sum_by parts_size (take (k + 1) (map job_view jobs)) ≡ sum_by parts_size (take k (map job_view jobs)) + parts_size (job_view job)
+pub parts_more : (jobs : List JobParts) (k : ℕ) (job : JobParts) → k < length jobs → job ≡ get_or jobs k job
+    → sum_by parts_size (take (k + 1) (map job_parts_view jobs)) ≡ sum_by parts_size (take k (map job_parts_view jobs)) + parts_size (job_parts_view job)
 parts_more jobs k job below read =
-    sum_by_more parts_size (map job_view jobs) k no_job (omega (arith, below, length-map jobs job_view))
-    ∙ ap (λ x. sum_by parts_size (take k (map job_view jobs)) + parts_size x) (get_or-map job_view jobs k job no_job below ∙ sym (ap job_view read))
+    sum_by_more parts_size (map job_parts_view jobs) k no_job (omega (arith, below, length-map jobs job_parts_view))
+    ∙ ap (λ x. sum_by parts_size (take k (map job_parts_view jobs)) + parts_size x) (get_or-map job_parts_view jobs k job no_job below ∙ sym (ap job_parts_view read))

@@ -1,17 +1,19 @@
 //! The whole check of a job file, and the memory that its jobs are to run in.
-ghost use Rattle.std.specs.Prelude.{◌≡◌, length, IfOk};
+ghost use Rattle.std.specs.Prelude.{◌≡◌, ◌≤◌, length, IfOk};
+ghost use Rattle.field_words.specs.Sizes.{most_memory};
 ghost use Rattle.field_words.specs.Questions.{Answers, NamesFirst, NeverHidesFault};
 ghost use Rattle.job_format.specs.File.{IsWellFormed};
 ghost use Rattle.job_format.specs.Model.{file_view};
+ghost use Rattle.job_format.specs.Parts.{parts_view};
 ghost use Rattle.buffer_table.specs.Sound.{IsSound};
 ghost use Rattle.job_check.specs.Faults.{table_stage, file_stages};
 ghost use Rattle.job_check.specs.Emit.{fresh_memory_of, memory_of, Emits, IsPlaced};
 ghost use Rattle.job_check.specs.Region.{IsRegion};
 
 use super::emit::put_contents;
-use super::region::{Region, check_lists};
-use field_words::{NoMemory, Stop};
-use job_format::{JobFile, Refusal};
+use super::region::{Region, check_lists, check_parts};
+use field_words::{MOST_MEMORY, NoMemory, Stop};
+use job_format::{FileParts, JobFile, Refusal};
 use phys_mem::PhysMem;
 use relocation::{Layout, Lengths};
 use std::alloc::Global;
@@ -26,28 +28,77 @@ pub struct Checked {
 }
 
 /// The memory of the file before any list: the contents of its buffers.
-fn fresh_memory(alloc: Global, file: &JobFile) -> Result<PhysMem, NoMemory>
-    requires well_formed { IsWellFormed (file_view file.now) }
-    requires sound { IsSound file.now.mem_size file.now.regions file.now.buffers.items }
-    ensures size { IfOk result (λ memory. length memory ≡ file.now.mem_size) }
-    ensures contents { IfOk result (λ memory. memory ≡ fresh_memory_of (file_view file.now)) }
+fn fresh_memory(alloc: Global, parts: &FileParts) -> Result<PhysMem, NoMemory>
+    requires well_formed { IsWellFormed (parts_view parts.now) }
+    requires sound { IsSound parts.now.mem_size parts.now.regions parts.now.buffers.items }
+    ensures size { IfOk result (λ memory. length memory ≡ parts.now.mem_size) }
+    ensures contents { IfOk result (λ memory. memory ≡ fresh_memory_of (parts_view parts.now)) }
 {
-    let mut memory = PhysMem::new(alloc, file.mem_size)?;
-    put_contents(&mut memory, &file.buffers, &file.contents);
+    let mut memory = PhysMem::new(alloc, parts.mem_size)?;
+    put_contents(&mut memory, &parts.buffers, &parts.contents);
     Ok(memory)
 }
 
 /// The memory of an accepted file: the contents of its buffers, and its lists.
-fn make_memory(alloc: Global, file: &JobFile, region: &Region) -> Result<PhysMem, NoMemory>
+fn make_memory(alloc: Global, parts: &FileParts, region: &Region) -> Result<PhysMem, NoMemory>
+    requires well_formed { IsWellFormed (parts_view parts.now) }
+    requires sound { IsSound parts.now.mem_size parts.now.regions parts.now.buffers.items }
+    requires region_is { IsRegion (parts_view parts.now) region.now }
+    ensures value { IfOk result (λ memory. memory ≡ memory_of (parts_view parts.now)) }
+    ensures size { IfOk result (λ memory. length memory ≡ parts.now.mem_size) }
+{
+    let mut memory = fresh_memory(alloc, parts)?;
+    memory.write_bytes(parts.regions.lists_place, &region.bytes);
+    Ok(memory)
+}
+
+/// An accepted file with its memory.
+fn with_memory(alloc: Global, parts: &FileParts, region: Region) -> Result<Checked, NoMemory>
+    requires well_formed { IsWellFormed (parts_view parts.now) }
+    requires sound { IsSound parts.now.mem_size parts.now.regions parts.now.buffers.items }
+    requires small { parts.now.mem_size ≤ most_memory }
+    requires region_is { IsRegion (parts_view parts.now) region }
+    ensures emits { IfOk result (Emits (parts_view parts.now)) }
+    ensures placed { IfOk result (λ checked. IsPlaced checked.memory checked.layouts.items) }
+    ensures sized { IfOk result (λ checked. length checked.memory ≡ parts.now.mem_size) }
+{
+    let memory = make_memory(alloc, parts, &region)?;
+    let Region {
+        bytes: _,
+        layouts,
+        lengths,
+    } = region;
+    Ok(Checked {
+        memory,
+        layouts,
+        lengths,
+    })
+}
+
+/// The same as `check_job` of the parts of a file; their contents are copied only into the memory.
+pub fn check_read(alloc: Global, parts: &FileParts) -> Result<Checked, Stop<Refusal>>
+    requires { IsWellFormed (parts_view parts.now) }
+    ensures answers { Answers (file_stages (parts_view parts.now)) (Emits (parts_view parts.now)) result }
+    ensures memory { NeverHidesFault (table_stage (parts_view parts.now)) result }
+    ensures placed { IfOk result (λ checked. IsPlaced checked.memory checked.layouts.items) }
+    ensures sized { IfOk result (λ checked. length checked.memory ≡ parts.now.mem_size) }
+{
+    let region = check_parts(alloc, MOST_MEMORY, parts)?;
+    Ok(with_memory(alloc, parts, region)?)
+}
+
+/// The same of a file whose rules were asked.
+fn file_memory(alloc: Global, file: &JobFile, region: Region) -> Result<Checked, NoMemory>
     requires well_formed { IsWellFormed (file_view file.now) }
     requires sound { IsSound file.now.mem_size file.now.regions file.now.buffers.items }
-    requires region_is { IsRegion (file_view file.now) region.now }
-    ensures value { IfOk result (λ memory. memory ≡ memory_of (file_view file.now)) }
-    ensures size { IfOk result (λ memory. length memory ≡ file.now.mem_size) }
+    requires small { file.now.mem_size ≤ most_memory }
+    requires region_is { IsRegion (file_view file.now) region }
+    ensures emits { IfOk result (Emits (file_view file.now)) }
+    ensures placed { IfOk result (λ checked. IsPlaced checked.memory checked.layouts.items) }
+    ensures sized { IfOk result (λ checked. length checked.memory ≡ file.now.mem_size) }
 {
-    let mut memory = fresh_memory(alloc, file)?;
-    memory.write_bytes(file.regions.lists_place, &region.bytes);
-    Ok(memory)
+    let parts = file.parts(alloc)?;
+    with_memory(alloc, &parts, region)
 }
 
 /// Checks a file that was read. `Ok` comes exactly where no rule stands of the memory table, of the shaders, and of any job's handles,
@@ -63,15 +114,5 @@ pub fn check_job(alloc: Global, file: &JobFile) -> Result<Checked, Stop<Refusal>
     ensures sized { IfOk result (λ checked. length checked.memory ≡ file.now.mem_size) }
 {
     let region = check_lists(alloc, file)?;
-    let memory = make_memory(alloc, file, &region)?;
-    let Region {
-        bytes: _,
-        layouts,
-        lengths,
-    } = region;
-    Ok(Checked {
-        memory,
-        layouts,
-        lengths,
-    })
+    Ok(file_memory(alloc, file, region)?)
 }

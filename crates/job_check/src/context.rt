@@ -2,7 +2,7 @@
 ghost use Rattle.std.specs.Prelude.{◌≡◌, ◌↔◌, ◌<◌, ◌≤◌, length, IsTrue};
 ghost use Rattle.field_words.specs.Questions.{Answers, NeverHidesFault};
 ghost use Rattle.job_format.specs.File.{IsWellFormed, IsJobWellFormed};
-ghost use Rattle.job_format.specs.Model.{file_view, job_view};
+ghost use Rattle.job_format.specs.Parts.{parts_view, job_parts_view};
 ghost use Rattle.buffer_table.specs.Sound.{IsSound};
 ghost use Rattle.job_format.specs.declared.rule.Stage.TheVariants.{X as StageX};
 ghost use Rattle.shader_records.specs.Inputs.{shaders_view};
@@ -18,7 +18,7 @@ use super::layout::{is_inside, job_layout};
 use super::refusals::{handle_refusal, layout_refusal};
 use buffer_table::{Handles, Table};
 use field_words::Stop;
-use job_format::{Job, JobFile, Refusal};
+use job_format::{FileParts, JobParts, Refusal};
 use qpu_isa::ShaderInfo;
 use relocation::Layout;
 use std::alloc::Global;
@@ -27,60 +27,60 @@ use std::marker::Model;
 /// A job in view, with what all its stages ask: the file with its memory table and its shaders, of which no rule stands,
 /// the job's number, its handles, of which none is refused, and where its lists go. A further stage is a further method.
 #[derive(Drop)]
-pub struct Context<'a> {
-    pub file: &'a JobFile,
+pub struct Context<'a, 'b> {
+    pub file: &'a FileParts<'b>,
     pub number: usize,
-    pub job: &'a Job,
+    pub job: &'a JobParts<'b>,
     pub table: &'a Table,
     pub shaders: &'a Vec<Option<ShaderInfo>>,
     pub handles: Handles,
     pub layout: Layout,
 }
 
-impl<'a> Model for Context<'a> {
+impl<'a, 'b> Model for Context<'a, 'b> {
     ghost use Rattle.job_check.specs.Context.{InView, IsContext};
 
     ghost Value = { InView };
 
-    ghost use Rattle.job_format.specs.Model.{file_view, job_view};
+    ghost use Rattle.job_format.specs.Parts.{parts_view, job_parts_view};
     ghost use Rattle.shader_records.specs.Inputs.{shaders_view};
 
-    ghost view = { λ c. record { file = file_view c.file.now; number = c.number } };
+    ghost view = { λ c. record { file = parts_view c.file.now; number = c.number } };
 
-    ghost invariant = { λ c. IsContext (record { file = file_view c.file.now; number = c.number }) (job_view c.job.now) c.table.now (shaders_view c.shaders.now.items) c.handles c.layout };
+    ghost invariant = { λ c. IsContext (record { file = parts_view c.file.now; number = c.number }) (job_parts_view c.job.now) c.table.now (shaders_view c.shaders.now.items) c.handles c.layout };
 }
 
 /// The job of this number.
-pub fn job_at(file: &JobFile, number: usize) -> &Job
-    requires well_formed { IsWellFormed (file_view file.now) }
+pub fn job_at<'a, 'b>(file: &'a FileParts<'b>, number: usize) -> &'a JobParts<'b>
+    requires well_formed { IsWellFormed (parts_view file.now) }
     requires inside { number < length file.now.jobs.items }
-    ensures value { job_view result.now ≡ job_of (file_view file.now) number }
-    ensures limits { IsJobWellFormed (job_view result.now) }
+    ensures value { job_parts_view result.now ≡ job_of (parts_view file.now) number }
+    ensures limits { IsJobWellFormed (job_parts_view result.now) }
 {
     &file.jobs[number]
 }
 
-impl<'a> Context<'a> {
+impl<'a, 'b> Context<'a, 'b> {
     /// H: the handles of the job of this number, and with them the job in view, whose lists begin at this place. Finding a fault takes
     /// no memory.
     #[tactic(auto, unfolding(crate::specs::Faults::handles_stage), using(field_words::proofs::Questions::answered_none, field_words::proofs::Questions::answered_some))]
     pub fn open(
         alloc: Global,
-        file: &'a JobFile,
+        file: &'a FileParts<'b>,
         number: usize,
         place: u32,
         table: &'a Table,
         shaders: &'a Vec<Option<ShaderInfo>>,
-    ) -> Result<Context<'a>, Stop<Refusal>>
-        requires well_formed { IsWellFormed (file_view file.now) }
+    ) -> Result<Context<'a, 'b>, Stop<Refusal>>
+        requires well_formed { IsWellFormed (parts_view file.now) }
         requires inside { number < length file.now.jobs.items }
-        requires place_is { place ≡ lists_begin (file_view file.now) number }
+        requires place_is { place ≡ lists_begin (parts_view file.now) number }
         requires begins { place ≤ region_end file.now.regions }
-        requires table_is { table.now ≡ table_of (file_view file.now) }
-        requires shaders_are { AreShadersIn (file_view file.now) (shaders_view shaders.now.items) }
+        requires table_is { table.now ≡ table_of (parts_view file.now) }
+        requires shaders_are { AreShadersIn (parts_view file.now) (shaders_view shaders.now.items) }
         requires sound { IsSound file.now.mem_size file.now.regions file.now.buffers.items }
-        ensures answers { Answers (handles_stage (file_view file.now) number) (λ c. c ≡ in_view (file_view file.now) number) result }
-        ensures memory { NeverHidesFault (handles_stage (file_view file.now) number) result }
+        ensures answers { Answers (handles_stage (parts_view file.now) number) (λ c. c ≡ in_view (parts_view file.now) number) result }
+        ensures memory { NeverHidesFault (handles_stage (parts_view file.now) number) result }
     {
         let job = job_at(file, number);
         match Handles::make(alloc, table, job.client, &job.handles) {

@@ -3,13 +3,13 @@ ghost use Rattle.std.specs.Prelude.{◌≡◌, ◌↔◌, ◌≤◌, ◌+◌, �
 ghost use Rattle.buffer_table.specs.Table.{most_place};
 ghost use Rattle.field_words.specs.Sizes.{slot_size, most_render};
 ghost use Rattle.job_format.specs.File.{IsJobWellFormed};
-ghost use Rattle.job_format.specs.Model.{file_view, job_view};
+ghost use Rattle.job_format.specs.Parts.{parts_view, job_parts_view};
 ghost use Rattle.relocation.specs.Layout.{region_end, begins_after};
 ghost use Rattle.job_check.specs.Jobs.{job_of, has_tiles, render_room, lists_begin, layout_of, end_of};
 
 use buffer_table::Regions;
 use field_words::round_up;
-use job_format::{Frame, Job, JobFile};
+use job_format::{FileParts, Frame, JobParts};
 use relocation::Layout;
 use render_list::render_size;
 use tile_memory::slot_place;
@@ -37,12 +37,12 @@ fn render_room(frame: &Frame, has_bin: bool) -> u64
 /// Where the lists of the job go that begin at this place, also where they don't fit their region: the rules before the one that
 /// refuses this are asked of them all the same.
 #[tactic(auto, unfolding(crate::specs::Jobs::layout_of, crate::specs::Jobs::slot_of, crate::specs::Jobs::has_bin))]
-pub fn job_layout(file: &JobFile, number: usize, place: u32, job: &Job) -> Layout
-    requires job_is { job_view job.now ≡ job_of (file_view file.now) number }
-    requires limits { IsJobWellFormed (job_view job.now) }
-    requires place_is { place ≡ lists_begin (file_view file.now) number }
+pub fn job_layout(file: &FileParts, number: usize, place: u32, job: &JobParts) -> Layout
+    requires job_is { job_parts_view job.now ≡ job_of (parts_view file.now) number }
+    requires limits { IsJobWellFormed (job_parts_view job.now) }
+    requires place_is { place ≡ lists_begin (parts_view file.now) number }
     requires slot { file.now.regions.tile_place + slot_size * number ≤ most_place }
-    ensures { result ≡ layout_of (file_view file.now) number }
+    ensures { result ≡ layout_of (parts_view file.now) number }
 {
     let slot = slot_place(file.regions.tile_place, number as u32);
     let bin = job.bin.len() as u32;

@@ -16,8 +16,8 @@ mod stages;
 mod upgrade;
 mod whole;
 
-pub use check::{Checked, check_job};
-pub use region::{Region, check_lists, check_lists_within};
+pub use check::{Checked, check_job, check_read};
+pub use region::{Region, check_lists, check_lists_within, check_parts, check_with_shaders};
 pub use shaders::{shader_in, words_of};
 pub use upgrade::upgrade_changes_nothing;
 pub use whole::{check_bytes, check_places, format_refusal};

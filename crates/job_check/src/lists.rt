@@ -19,7 +19,7 @@ use render_list::{Setup, build, check_surfaces};
 use shader_records::{RecordInfo, check_records};
 use std::alloc::Global;
 
-impl<'a> Context<'a> {
+impl<'a, 'b> Context<'a, 'b> {
     /// B: the binner list, and the one that the hardware is given at its offset in the window of the lists' region.
     #[tactic(auto, unfolding(crate::specs::Faults::bin_stage), using(field_words::proofs::Questions::answered_none, field_words::proofs::Questions::answered_some))]
     fn bin(&self, alloc: Global, out: &mut [u8]) -> Result<BinInfo, Stop<Refusal>>
@@ -32,7 +32,7 @@ impl<'a> Context<'a> {
         let job = self.job;
         match check_bin(
             alloc,
-            &job.bin,
+            job.bin,
             job.declared,
             self.table,
             &self.handles,
@@ -110,8 +110,8 @@ impl<'a> Context<'a> {
         match check_records(
             alloc,
             states,
-            &job.records,
-            &job.uniforms,
+            job.records,
+            job.uniforms,
             self.table,
             &self.handles,
             self.shaders,

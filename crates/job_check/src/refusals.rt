@@ -2,8 +2,9 @@
 ghost use Rattle.std.specs.Prelude.{◌≡◌, ◌≤◌, ◌<◌, ◌+◌, ◌*◌, ◌^◌, length, map, sum, sum_by, take};
 ghost use Rattle.job_format.specs.declared.rule.Stage.TheVariants.{M as StageM, S as StageS, H as StageH, B as StageB, G as StageG, X as StageX};
 ghost use Rattle.std.specs.List.{AllByRecursion};
+ghost use Rattle.field_words.specs.Sizes.{most_list};
 ghost use Rattle.job_format.specs.File.{IsWellFormed, IsJobWellFormed};
-ghost use Rattle.job_format.specs.Model.{file_view, job_view};
+ghost use Rattle.job_format.specs.Parts.{parts_view, job_parts_view};
 ghost use Rattle.job_format.specs.Offsets.{most_buffers, most_handles, most_jobs, entry_offset};
 ghost use Rattle.job_check.specs.Jobs.{job_of};
 ghost use Rattle.job_check.specs.Faults.{refused, table_refused, shader_refused, handle_refused, bin_refused, part_offset, record_refused, surface_refused};
@@ -12,7 +13,7 @@ ghost use Rattle.job_check.specs.Offsets.{item_offset, job_offset, content_offse
 use super::context::job_at;
 use bin_list::ListFault;
 use buffer_table::{Buffer, TableFault};
-use job_format::{ENTRY_SIZE, HEADER_SIZE, JOB_SIZE, Job, JobFile, Refusal, Rule, Stage};
+use job_format::{ENTRY_SIZE, FileParts, HEADER_SIZE, JOB_SIZE, JobParts, Refusal, Rule, Stage};
 use render_list::RenderFault;
 use shader_check::ShaderFault;
 use shader_records::RecordFault;
@@ -57,10 +58,10 @@ pub fn table_refusal(fault: &TableFault) -> Refusal
 
 /// Where the entry of the job of this number stands, or where the entries end.
 #[tactic(auto, unfolding(crate::specs::Offsets::job_offset))]
-fn job_offset(file: &JobFile, number: usize) -> u64
-    requires well_formed { IsWellFormed (file_view file.now) }
+fn job_offset(file: &FileParts, number: usize) -> u64
+    requires well_formed { IsWellFormed (parts_view file.now) }
     requires inside { number ≤ length file.now.jobs.items }
-    ensures value { result ≡ job_offset (file_view file.now) number }
+    ensures value { result ≡ job_offset (parts_view file.now) number }
     ensures fits { result < 2 ^ 32 }
 {
     buffer_offset(file.buffers.len()) + JOB_SIZE as u64 * number as u64
@@ -82,10 +83,10 @@ fn content_before(buffers: &[Buffer], b: usize) -> u64
 
 /// Where the contents of buffer `b` stand, or where the contents end.
 #[tactic(auto, unfolding(crate::specs::Offsets::content_offset))]
-fn content_offset(file: &JobFile, b: usize) -> u64
-    requires well_formed { IsWellFormed (file_view file.now) }
+fn content_offset(file: &FileParts, b: usize) -> u64
+    requires well_formed { IsWellFormed (parts_view file.now) }
     requires inside { b ≤ length file.now.buffers.items }
-    ensures value { result ≡ content_offset (file_view file.now) b }
+    ensures value { result ≡ content_offset (parts_view file.now) b }
     ensures fits { result < 2 ^ 43 }
 {
     job_offset(file, file.jobs.len()) + content_before(&file.buffers, b)
@@ -93,10 +94,10 @@ fn content_offset(file: &JobFile, b: usize) -> u64
 
 /// A rule on the shader in buffer `b` that stands.
 #[tactic(auto, unfolding(crate::specs::Offsets::shader_offset))]
-pub fn shader_refusal(file: &JobFile, b: usize, fault: &ShaderFault) -> Refusal
-    requires well_formed { IsWellFormed (file_view file.now) }
+pub fn shader_refusal(file: &FileParts, b: usize, fault: &ShaderFault) -> Refusal
+    requires well_formed { IsWellFormed (parts_view file.now) }
     requires inside { b < length file.now.buffers.items }
-    ensures { result ≡ shader_refused (file_view file.now) b fault.now }
+    ensures { result ≡ shader_refused (parts_view file.now) b fault.now }
 {
     if fault.number == 1 {
         return refusal(Stage::S, fault.number, buffer_offset(b) + 16);
@@ -109,9 +110,9 @@ pub fn shader_refusal(file: &JobFile, b: usize, fault: &ShaderFault) -> Refusal
 }
 
 /// How many bytes of parts a job has.
-fn parts_size(job: &Job) -> u64
-    requires { IsJobWellFormed (job_view job.now) }
-    ensures value { result ≡ parts_size (job_view job.now) }
+fn parts_size(job: &JobParts) -> u64
+    requires { IsJobWellFormed (job_parts_view job.now) }
+    ensures value { result ≡ parts_size (job_parts_view job.now) }
     ensures fits { result ≤ 4194304 }
 {
     let handles = 4 * job.handles.len() as u64;
@@ -119,11 +120,11 @@ fn parts_size(job: &Job) -> u64
 }
 
 /// How many bytes of parts the jobs before the one of this number have.
-fn parts_before(jobs: &[Job], number: usize) -> u64
+fn parts_before(jobs: &[JobParts], number: usize) -> u64
     requires inside { number ≤ length jobs.now }
     requires few { length jobs.now ≤ most_jobs }
-    requires limits { AllByRecursion IsJobWellFormed (map job_view jobs.now) }
-    ensures value { result ≡ sum_by parts_size (take number (map job_view jobs.now)) }
+    requires limits { AllByRecursion IsJobWellFormed (map job_parts_view jobs.now) }
+    ensures value { result ≡ sum_by parts_size (take number (map job_parts_view jobs.now)) }
     ensures fits { result ≤ 33554432 }
 {
     let mut size = 0;
@@ -135,20 +136,20 @@ fn parts_before(jobs: &[Job], number: usize) -> u64
 
 /// Where the handles of the job of this number stand.
 #[tactic(auto, unfolding(crate::specs::Offsets::handles_offset))]
-fn handles_offset(file: &JobFile, number: usize) -> u64
-    requires well_formed { IsWellFormed (file_view file.now) }
+fn handles_offset(file: &FileParts, number: usize) -> u64
+    requires well_formed { IsWellFormed (parts_view file.now) }
     requires inside { number < length file.now.jobs.items }
-    ensures value { result ≡ handles_offset (file_view file.now) number }
+    ensures value { result ≡ handles_offset (parts_view file.now) number }
     ensures fits { result < 2 ^ 44 }
 {
     content_offset(file, file.buffers.len()) + parts_before(&file.jobs, number)
 }
 
 /// The handle at which H1 stands.
-pub fn handle_refusal(file: &JobFile, number: usize, index: u32) -> Refusal
-    requires well_formed { IsWellFormed (file_view file.now) }
+pub fn handle_refusal(file: &FileParts, number: usize, index: u32) -> Refusal
+    requires well_formed { IsWellFormed (parts_view file.now) }
     requires inside { number < length file.now.jobs.items }
-    ensures { result ≡ handle_refused (file_view file.now) number index }
+    ensures { result ≡ handle_refused (parts_view file.now) number index }
 {
     refusal(
         Stage::H,
@@ -158,10 +159,10 @@ pub fn handle_refusal(file: &JobFile, number: usize, index: u32) -> Refusal
 }
 
 /// How many handles the job of this number has.
-fn handle_count(file: &JobFile, number: usize) -> u64
-    requires well_formed { IsWellFormed (file_view file.now) }
+fn handle_count(file: &FileParts, number: usize) -> u64
+    requires well_formed { IsWellFormed (parts_view file.now) }
     requires inside { number < length file.now.jobs.items }
-    ensures value { result ≡ length (job_of (file_view file.now) number).handles }
+    ensures value { result ≡ length (job_of (parts_view file.now) number).handles }
     ensures few { result ≤ most_handles }
 {
     job_at(file, number).handles.len() as u64
@@ -169,20 +170,20 @@ fn handle_count(file: &JobFile, number: usize) -> u64
 
 /// Where the binner list of the job of this number stands.
 #[tactic(auto, unfolding(crate::specs::Offsets::bin_offset))]
-fn bin_offset(file: &JobFile, number: usize) -> u64
-    requires well_formed { IsWellFormed (file_view file.now) }
+fn bin_offset(file: &FileParts, number: usize) -> u64
+    requires well_formed { IsWellFormed (parts_view file.now) }
     requires inside { number < length file.now.jobs.items }
-    ensures value { result ≡ bin_offset (file_view file.now) number }
+    ensures value { result ≡ bin_offset (parts_view file.now) number }
     ensures fits { result < 2 ^ 45 }
 {
     handles_offset(file, number) + 4 * handle_count(file, number)
 }
 
 /// A rule on the binner list that stands, at a packet of it or at its end.
-pub fn bin_refusal(file: &JobFile, number: usize, fault: &ListFault) -> Refusal
-    requires well_formed { IsWellFormed (file_view file.now) }
+pub fn bin_refusal(file: &FileParts, number: usize, fault: &ListFault) -> Refusal
+    requires well_formed { IsWellFormed (parts_view file.now) }
     requires inside { number < length file.now.jobs.items }
-    ensures { result ≡ bin_refused (file_view file.now) number fault.now }
+    ensures { result ≡ bin_refused (parts_view file.now) number fault.now }
 {
     refusal(
         Stage::B,
@@ -192,13 +193,13 @@ pub fn bin_refusal(file: &JobFile, number: usize, fault: &ListFault) -> Refusal
 }
 
 /// The bytes of the binner list and of the records of the job of this number.
-fn list_sizes(file: &JobFile, number: usize) -> (u64, u64)
-    requires well_formed { IsWellFormed (file_view file.now) }
+fn list_sizes(file: &FileParts, number: usize) -> (u64, u64)
+    requires well_formed { IsWellFormed (parts_view file.now) }
     requires inside { number < length file.now.jobs.items }
-    ensures bin { result.0 ≡ length (job_of (file_view file.now) number).bin }
-    ensures records { result.1 ≡ length (job_of (file_view file.now) number).records }
-    ensures bin_short { result.0 ≤ 1048576 }
-    ensures records_short { result.1 ≤ 1048576 }
+    ensures bin { result.0 ≡ length (job_of (parts_view file.now) number).bin }
+    ensures records { result.1 ≡ length (job_of (parts_view file.now) number).records }
+    ensures bin_short { result.0 ≤ most_list }
+    ensures records_short { result.1 ≤ most_list }
 {
     let job = job_at(file, number);
     (job.bin.len() as u64, job.records.len() as u64)
@@ -206,10 +207,10 @@ fn list_sizes(file: &JobFile, number: usize) -> (u64, u64)
 
 /// Where the uniforms of the job of this number stand, or its records.
 #[tactic(auto, unfolding(crate::specs::Faults::part_offset, crate::specs::Offsets::records_offset, crate::specs::Offsets::uniforms_offset))]
-fn part_offset(file: &JobFile, number: usize, in_uniforms: bool) -> u64
-    requires well_formed { IsWellFormed (file_view file.now) }
+fn part_offset(file: &FileParts, number: usize, in_uniforms: bool) -> u64
+    requires well_formed { IsWellFormed (parts_view file.now) }
     requires inside { number < length file.now.jobs.items }
-    ensures value { result ≡ part_offset (file_view file.now) number in_uniforms }
+    ensures value { result ≡ part_offset (parts_view file.now) number in_uniforms }
     ensures fits { result < 2 ^ 46 }
 {
     let (bin, records) = list_sizes(file, number);
@@ -221,10 +222,10 @@ fn part_offset(file: &JobFile, number: usize, in_uniforms: bool) -> u64
 }
 
 /// A rule on shader records or uniforms that stands.
-pub fn record_refusal(file: &JobFile, number: usize, fault: &RecordFault) -> Refusal
-    requires well_formed { IsWellFormed (file_view file.now) }
+pub fn record_refusal(file: &FileParts, number: usize, fault: &RecordFault) -> Refusal
+    requires well_formed { IsWellFormed (parts_view file.now) }
     requires inside { number < length file.now.jobs.items }
-    ensures { result ≡ record_refused (file_view file.now) number fault.now }
+    ensures { result ≡ record_refused (parts_view file.now) number fault.now }
 {
     let offset = part_offset(file, number, fault.in_uniforms);
     refusal(fault.stage, fault.number, offset + u64::from(fault.at))
@@ -243,10 +244,10 @@ fn surface_offset(entry: u64, item: u8) -> u64
 }
 
 /// A rule on the frame and its surfaces that stands.
-pub fn surface_refusal(file: &JobFile, number: usize, fault: &RenderFault) -> Refusal
-    requires well_formed { IsWellFormed (file_view file.now) }
+pub fn surface_refusal(file: &FileParts, number: usize, fault: &RenderFault) -> Refusal
+    requires well_formed { IsWellFormed (parts_view file.now) }
     requires inside { number < length file.now.jobs.items }
-    ensures { result ≡ surface_refused (file_view file.now) number fault.now }
+    ensures { result ≡ surface_refused (parts_view file.now) number fault.now }
 {
     let entry = job_offset(file, number);
     refusal(Stage::G, fault.number, surface_offset(entry, fault.item))
@@ -254,10 +255,10 @@ pub fn surface_refusal(file: &JobFile, number: usize, fault: &RenderFault) -> Re
 
 /// The lists end past their region.
 #[tactic(auto, unfolding(crate::specs::Offsets::layout_offset))]
-pub fn layout_refusal(file: &JobFile, number: usize) -> Refusal
-    requires well_formed { IsWellFormed (file_view file.now) }
+pub fn layout_refusal(file: &FileParts, number: usize) -> Refusal
+    requires well_formed { IsWellFormed (parts_view file.now) }
     requires inside { number < length file.now.jobs.items }
-    ensures { result ≡ refused StageX 1 (layout_offset (job_offset (file_view file.now) number)) }
+    ensures { result ≡ refused StageX 1 (layout_offset (job_offset (parts_view file.now) number)) }
 {
     refusal(Stage::X, 1, job_offset(file, number) + 12)
 }

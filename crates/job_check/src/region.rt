@@ -6,6 +6,7 @@ ghost use Rattle.field_words.specs.Questions.{Answers, NamesFirst, NeverHidesFau
 ghost use Rattle.field_words.specs.Writes.{placed, zeros};
 ghost use Rattle.job_format.specs.File.{IsWellFormed};
 ghost use Rattle.job_format.specs.Model.{file_view};
+ghost use Rattle.job_format.specs.Parts.{parts_view};
 ghost use Rattle.buffer_table.specs.Sound.{IsSound};
 ghost use Rattle.shader_records.specs.Inputs.{shaders_view};
 ghost use Rattle.job_check.specs.Shaders.{table_of, AreShadersIn};
@@ -21,7 +22,7 @@ use super::shaders::shaders_stage;
 use super::stages::table_stage;
 use buffer_table::Table;
 use field_words::{MOST_MEMORY, Stop};
-use job_format::{JobFile, Refusal};
+use job_format::{FileParts, JobFile, Refusal};
 use qpu_isa::ShaderInfo;
 use relocation::{Layout, Lengths};
 use std::alloc::{AllocError, Global};
@@ -109,26 +110,26 @@ fn place_lists(alloc: Global, job: &Context, region: &mut Vec<u8>) -> Result<Lis
 #[tactic(auto, unfolding(crate::specs::Faults::job_stages))]
 fn check_one(
     alloc: Global,
-    file: &JobFile,
+    file: &FileParts,
     number: usize,
     place: u32,
     table: &Table,
     shaders: &Vec<Option<ShaderInfo>>,
     region: &mut Vec<u8>,
 ) -> Result<Lists, Stop<Refusal>>
-    requires well_formed { IsWellFormed (file_view file.now) }
+    requires well_formed { IsWellFormed (parts_view file.now) }
     requires inside { number < length file.now.jobs.items }
-    requires place_is { place ≡ lists_begin (file_view file.now) number }
+    requires place_is { place ≡ lists_begin (parts_view file.now) number }
     requires begins { place ≤ region_end file.now.regions }
-    requires table_is { table.now ≡ table_of (file_view file.now) }
-    requires shaders_are { AreShadersIn (file_view file.now) (shaders_view shaders.now.items) }
+    requires table_is { table.now ≡ table_of (parts_view file.now) }
+    requires shaders_are { AreShadersIn (parts_view file.now) (shaders_view shaders.now.items) }
     requires sound { IsSound file.now.mem_size file.now.regions file.now.buffers.items }
-    requires size { length region.old.items ≡ region_size (file_view file.now) number }
-    ensures answers { Answers (job_stages (file_view file.now) number) (ArePlaced (file_view file.now) number) result }
+    requires size { length region.old.items ≡ region_size (parts_view file.now) number }
+    ensures answers { Answers (job_stages (parts_view file.now) number) (ArePlaced (parts_view file.now) number) result }
     ensures written { IfOk result (λ _. region.new.items ≡
-        placed (region.old.items ++ zeros (region_size (file_view file.now) (number + 1) - length region.old.items))
-        (region_parts (file_view file.now) number)) }
-    ensures fit { IfOk result (λ _. PartsFit (layout_of (file_view file.now) number).end (list_parts (file_view file.now) number)) }
+        placed (region.old.items ++ zeros (region_size (parts_view file.now) (number + 1) - length region.old.items))
+        (region_parts (parts_view file.now) number)) }
+    ensures fit { IfOk result (λ _. PartsFit (layout_of (parts_view file.now) number).end (list_parts (parts_view file.now) number)) }
     ensures fits { IfOk result (λ lists. end_of lists.layout ≤ region_end file.now.regions) }
 {
     let job = Context::open(alloc, file, number, place, table, shaders)?;
@@ -138,15 +139,15 @@ fn check_one(
 /// The rules of the jobs, and the region of their lists, those of each job behind those of the job before it.
 fn check_jobs(
     alloc: Global,
-    file: &JobFile,
+    file: &FileParts,
     table: &Table,
     shaders: &Vec<Option<ShaderInfo>>,
 ) -> Result<Region, Stop<Refusal>>
-    requires well_formed { IsWellFormed (file_view file.now) }
-    requires table_is { table.now ≡ table_of (file_view file.now) }
-    requires shaders_are { AreShadersIn (file_view file.now) (shaders_view shaders.now.items) }
+    requires well_formed { IsWellFormed (parts_view file.now) }
+    requires table_is { table.now ≡ table_of (parts_view file.now) }
+    requires shaders_are { AreShadersIn (parts_view file.now) (shaders_view shaders.now.items) }
     requires sound { IsSound file.now.mem_size file.now.regions file.now.buffers.items }
-    ensures { Answers (jobs_stages (file_view file.now)) (IsRegion (file_view file.now)) result }
+    ensures { Answers (jobs_stages (parts_view file.now)) (IsRegion (parts_view file.now)) result }
 {
     let mut bytes = Vec::new(alloc);
     let mut layouts = Vec::new(alloc);
@@ -166,23 +167,77 @@ fn check_jobs(
 }
 
 /// S, and then the jobs.
-fn check_shaders(alloc: Global, file: &JobFile, table: &Table) -> Result<Region, Stop<Refusal>>
-    requires well_formed { IsWellFormed (file_view file.now) }
-    requires table_is { table.now ≡ table_of (file_view file.now) }
+fn check_shaders(alloc: Global, file: &FileParts, table: &Table) -> Result<Region, Stop<Refusal>>
+    requires well_formed { IsWellFormed (parts_view file.now) }
+    requires table_is { table.now ≡ table_of (parts_view file.now) }
     requires sound { IsSound file.now.mem_size file.now.regions file.now.buffers.items }
-    ensures { Answers (shaders_stage (file_view file.now) ++ jobs_stages (file_view file.now)) (IsRegion (file_view file.now)) result }
+    ensures { Answers (shaders_stage (parts_view file.now) ++ jobs_stages (parts_view file.now)) (IsRegion (parts_view file.now)) result }
 {
     let shaders = shaders_stage(alloc, file)?;
     check_jobs(alloc, file, table, &shaders)
 }
 
-/// Checks a file that was read and whose memory has at most `limit` bytes, and makes no memory of its jobs. `Ok` comes exactly where
-/// no rule stands of the memory table, of the shaders, and of any job's handles, its binner list, its records and uniforms, its frame and
-/// surfaces, and its layout.
+/// Checks the parts of a file whose memory has at most `limit` bytes, and makes no memory of its jobs; contents and lists are read where
+/// they lie. `Ok` comes exactly where no rule stands of the memory table, of the shaders, and of any job's handles, its binner list, its
+/// records and uniforms, its frame and surfaces, and its layout.
 ///
 /// # Errors
 /// The first rule that stands, job by job, with its place in the file; or want of memory, which never hides a rule of the memory table.
-#[tactic(auto, unfolding(crate::specs::Faults::stages_within))]
+#[tactic(auto, unfolding(crate::specs::Faults::stages_within, crate::specs::Faults::table_stage_within))]
+pub fn check_parts(alloc: Global, limit: u32, parts: &FileParts) -> Result<Region, Stop<Refusal>>
+    requires limit { limit ≤ most_place }
+    requires well_formed { IsWellFormed (parts_view parts.now) }
+    ensures answers { Answers (stages_within limit (parts_view parts.now)) (IsRegion (parts_view parts.now)) result }
+    ensures first { NamesFirst (stages_within limit (parts_view parts.now)) result }
+    ensures memory { NeverHidesFault (table_stage_within limit (parts_view parts.now)) result }
+    ensures sound { IsOk result → IsSound parts.now.mem_size parts.now.regions parts.now.buffers.items }
+    ensures small { IsOk result → parts.now.mem_size ≤ limit }
+{
+    let table = table_stage(alloc, limit, parts.mem_size, parts.regions, &parts.buffers)?;
+    check_shaders(alloc, parts, &table)
+}
+
+/// The same of parts whose shaders were checked before: `shaders` has what was told of the shader in each Code buffer, and S isn't asked
+/// again. The answer is the one that asking would give.
+///
+/// # Errors
+/// As those of `check_parts`.
+#[tactic(auto, unfolding(crate::specs::Faults::stages_within, crate::specs::Faults::table_stage_within))]
+pub fn check_with_shaders(
+    alloc: Global,
+    limit: u32,
+    parts: &FileParts,
+    shaders: &Vec<Option<ShaderInfo>>,
+) -> Result<Region, Stop<Refusal>>
+    requires limit { limit ≤ most_place }
+    requires well_formed { IsWellFormed (parts_view parts.now) }
+    requires checked { AreChecked (parts_view parts.now) (shaders_view shaders.now.items) }
+    ensures answers { Answers (stages_within limit (parts_view parts.now)) (IsRegion (parts_view parts.now)) result }
+    ensures first { NamesFirst (stages_within limit (parts_view parts.now)) result }
+    ensures memory { NeverHidesFault (table_stage_within limit (parts_view parts.now)) result }
+    ensures sound { IsOk result → IsSound parts.now.mem_size parts.now.regions parts.now.buffers.items }
+    ensures small { IsOk result → parts.now.mem_size ≤ limit }
+{
+    let table = table_stage(alloc, limit, parts.mem_size, parts.regions, &parts.buffers)?;
+    check_jobs(alloc, parts, &table, shaders)
+}
+
+/// The rules after the memory table, of a file whose contents and lists are its own.
+fn check_tabled(alloc: Global, file: &JobFile, table: &Table) -> Result<Region, Stop<Refusal>>
+    requires well_formed { IsWellFormed (file_view file.now) }
+    requires table_is { table.now ≡ table_of (file_view file.now) }
+    requires sound { IsSound file.now.mem_size file.now.regions file.now.buffers.items }
+    ensures { Answers (shaders_stage (file_view file.now) ++ jobs_stages (file_view file.now)) (IsRegion (file_view file.now)) result }
+{
+    let parts = file.parts(alloc)?;
+    check_shaders(alloc, &parts, table)
+}
+
+/// The same as `check_parts` of a file that was read.
+///
+/// # Errors
+/// As those of `check_parts`.
+#[tactic(auto, unfolding(crate::specs::Faults::stages_within, crate::specs::Faults::table_stage_within))]
 pub fn check_lists_within(
     alloc: Global,
     limit: u32,
@@ -196,14 +251,14 @@ pub fn check_lists_within(
     ensures sound { IsOk result → IsSound file.now.mem_size file.now.regions file.now.buffers.items }
     ensures small { IsOk result → file.now.mem_size ≤ limit }
 {
-    let table = table_stage(alloc, limit, file)?;
-    check_shaders(alloc, file, &table)
+    let table = table_stage(alloc, limit, file.mem_size, file.regions, &file.buffers)?;
+    check_tabled(alloc, file, &table)
 }
 
 /// The same of a job file, whose memory has at most 64 MiB.
 ///
 /// # Errors
-/// As those of `check_lists_within`.
+/// As those of `check_parts`.
 pub fn check_lists(alloc: Global, file: &JobFile) -> Result<Region, Stop<Refusal>>
     requires { IsWellFormed (file_view file.now) }
     ensures answers { Answers (file_stages (file_view file.now)) (IsRegion (file_view file.now)) result }

@@ -6,7 +6,7 @@ ghost use Rattle.field_words.specs.Questions.{Answers, NeverHidesFault};
 ghost use Rattle.buffer_table.specs.declared.buffer.Kind.TheVariants.{Code as CodeKind};
 ghost use Rattle.buffer_table.specs.Table.{buffer_at};
 ghost use Rattle.job_format.specs.File.{IsWellFormed};
-ghost use Rattle.job_format.specs.Model.{file_view};
+ghost use Rattle.job_format.specs.Parts.{parts_view};
 ghost use Rattle.qpu_isa.specs.Shader.{shader_view, IsSoundShader};
 ghost use Rattle.shader_records.specs.Inputs.{shader_option, shaders_view};
 ghost use Rattle.job_check.specs.Shaders.{words_in, words_of, code_questions, told_of, content_of, shader_of, AreShadersIn};
@@ -16,7 +16,7 @@ use super::refusals::shader_refusal;
 use buffer_table::Kind;
 use byteorder::{ByteOrder, LittleEndian};
 use field_words::Stop;
-use job_format::{JobFile, Refusal};
+use job_format::{FileParts, Refusal};
 use qpu_isa::ShaderInfo;
 use shader_check::{S1_NO_WORDS, ShaderFault, check_code};
 use std::alloc::{AllocError, Global};
@@ -65,7 +65,7 @@ pub fn shader_in(alloc: Global, bytes: &[u8]) -> Result<ShaderInfo, Stop<ShaderF
 
 /// The kind of buffer `b`.
 #[tactic(auto, unfolding(buffer_table::specs::Table::buffer_at))]
-fn kind_at(file: &JobFile, b: usize) -> Kind
+fn kind_at(file: &FileParts, b: usize) -> Kind
     requires { b < length file.now.buffers.items }
     ensures { result ≡ (buffer_at file.now.buffers.items b).kind }
 {
@@ -73,22 +73,22 @@ fn kind_at(file: &JobFile, b: usize) -> Kind
 }
 
 /// The contents of buffer `b`.
-fn content_at(file: &JobFile, b: usize) -> &[u8]
-    requires well_formed { IsWellFormed (file_view file.now) }
+fn content_at<'a>(file: &FileParts<'a>, b: usize) -> &'a [u8]
+    requires well_formed { IsWellFormed (parts_view file.now) }
     requires inside { b < length file.now.buffers.items }
-    ensures value { result.now ≡ content_of (file_view file.now) b }
+    ensures value { result.now ≡ content_of (parts_view file.now) b }
     ensures few { (buffer_at file.now.buffers.items b).kind ≡ CodeKind → length result.now ≤ most_code }
 {
-    &file.contents[b]
+    file.contents[b]
 }
 
 /// S of buffer `b`: what its shader takes and reads, or `None` where it is a Plain one.
 #[tactic(auto, unfolding(crate::specs::Faults::shader_stage, crate::specs::Faults::whole_stage, crate::specs::Shaders::shader_of), using(field_words::proofs::Questions::answered_none, field_words::proofs::Questions::answered_some))]
-fn shader_at(alloc: Global, file: &JobFile, b: usize) -> Result<Option<ShaderInfo>, Stop<Refusal>>
-    requires well_formed { IsWellFormed (file_view file.now) }
+fn shader_at(alloc: Global, file: &FileParts, b: usize) -> Result<Option<ShaderInfo>, Stop<Refusal>>
+    requires well_formed { IsWellFormed (parts_view file.now) }
     requires inside { b < length file.now.buffers.items }
-    ensures answers { Answers (shader_stage (file_view file.now) b) (λ shader. shader_option shader ≡ shader_of (file_view file.now) b) result }
-    ensures memory { NeverHidesFault (whole_stage (file_view file.now) b) result }
+    ensures answers { Answers (shader_stage (parts_view file.now) b) (λ shader. shader_option shader ≡ shader_of (parts_view file.now) b) result }
+    ensures memory { NeverHidesFault (whole_stage (parts_view file.now) b) result }
     ensures sound { IfOk result (λ shader. IfSome (shader_option shader) IsSoundShader) }
 {
     match kind_at(file, b) {
@@ -106,11 +106,11 @@ fn shader_at(alloc: Global, file: &JobFile, b: usize) -> Result<Option<ShaderInf
 #[tactic(auto, unfolding(crate::specs::Faults::shaders_stage), using(field_words::proofs::Questions::each_on, field_words::proofs::Questions::each_stop, field_words::proofs::Questions::each_end, crate::proofs::Codes::shaders_none, crate::proofs::Codes::shaders_more))]
 pub fn shaders_stage(
     alloc: Global,
-    file: &JobFile,
+    file: &FileParts,
 ) -> Result<Vec<Option<ShaderInfo>>, Stop<Refusal>>
-    requires { IsWellFormed (file_view file.now) }
-    ensures answers { Answers (shaders_stage (file_view file.now)) (λ shaders. AreShadersIn (file_view file.now) (shaders_view shaders.items)) result }
-    ensures memory { HidesNoShader (file_view file.now) result }
+    requires { IsWellFormed (parts_view file.now) }
+    ensures answers { Answers (shaders_stage (parts_view file.now)) (λ shaders. AreShadersIn (parts_view file.now) (shaders_view shaders.items)) result }
+    ensures memory { HidesNoShader (parts_view file.now) result }
 {
     let mut shaders = Vec::new(alloc);
     for b in 0..file.buffers.len() {

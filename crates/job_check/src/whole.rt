@@ -9,10 +9,10 @@ ghost use Rattle.job_format.specs.File.{IsFileOf};
 ghost use Rattle.job_check.specs.Emit.{Emits, IsPlaced};
 ghost use Rattle.job_check.specs.Whole.{all_questions, questions_within, format_refused, format_stopped};
 
-use super::check::{Checked, check_job};
-use super::region::{Region, check_lists_within};
+use super::check::{Checked, check_read};
+use super::region::{Region, check_parts};
 use field_words::{NoMemory, Stop};
-use job_format::{FormatFault, Refusal, Rule, Stage, read_job};
+use job_format::{FormatFault, Refusal, Rule, Stage, read_parts};
 use std::alloc::Global;
 
 /// A fault of the format is a refusal by a rule F.
@@ -44,8 +44,8 @@ pub fn check_bytes(alloc: Global, bytes: &[u8]) -> Result<Checked, Stop<Refusal>
     ensures sized { IfOk result (λ checked. length checked.memory ≡ (file_at bytes.now).mem_size) }
     ensures spelled { IsOk result → IsFileOf bytes.now (file_at bytes.now) }
 {
-    match read_job(alloc, bytes) {
-        Ok(file) => check_job(alloc, &file),
+    match read_parts(alloc, bytes) {
+        Ok(parts) => check_read(alloc, &parts),
         Err(stop) => Err(format_refusal(stop)),
     }
 }
@@ -62,8 +62,8 @@ pub fn check_places(alloc: Global, limit: u32, bytes: &[u8]) -> Result<Region, S
     ensures format { NeverHidesFault (answered format_refused (format_questions bytes.now)) result }
     ensures spelled { IsOk result → IsFileOf bytes.now (file_at bytes.now) }
 {
-    match read_job(alloc, bytes) {
-        Ok(file) => check_lists_within(alloc, limit, &file),
+    match read_parts(alloc, bytes) {
+        Ok(parts) => check_parts(alloc, limit, &parts),
         Err(stop) => Err(format_refusal(stop)),
     }
 }

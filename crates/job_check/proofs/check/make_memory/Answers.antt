@@ -1,7 +1,7 @@
 use Rattle.std.proofs.Common.{◌+◌, ◌≤◌, length, ap, arith, ◌∙◌}
 use Rattle.field_words.specs.Writes.{with_bytes}
 use Rattle.field_words.proofs.Writes.{length-with_bytes}
-use Rattle.job_format.specs.Model.{file_view}
+use Rattle.job_format.specs.Parts.{parts_view}
 use Rattle.job_check.proofs.Layouts.{lists_inside}
 use Rattle.job_check.proofs.Regions.{memory_made}
 use Rattle.job_check.proofs.check.make_memory.Goals as goal
@@ -9,11 +9,11 @@ use Rattle.job_check.proofs.check.make_memory.Goals as goal
 pub write_bytes-requires : goal.write_bytes-requires
 write_bytes-requires c =
     let is = c.requires.region_is in
-    omega (arith, is.fits, ap length is.bytes_are, ap length c.deref.ensures.value, lists_inside (file_view c.args.file.now) c.requires.sound, c.in_ok-memory.ensures.size)
+    omega (arith, is.fits, ap length is.bytes_are, ap length c.deref.ensures.value, lists_inside (parts_view c.args.parts.now) c.requires.sound, c.in_ok-memory.ensures.size)
 
 pub returns-clause-value : goal.returns-clause-value
 returns-clause-value c =
-    let f = file_view c.args.file.now in
+    let f = parts_view c.args.parts.now in
     let is = c.requires.region_is in
     c.write_bytes.ensures
     ∙ ap (with_bytes c.in_ok-memory.memory f.regions.lists_place) (c.deref.ensures.value ∙ is.bytes_are)
@@ -21,7 +21,7 @@ returns-clause-value c =
 
 pub returns-clause-size : goal.returns-clause-size
 returns-clause-size c =
-    let f = file_view c.args.file.now in
+    let f = parts_view c.args.parts.now in
     let is = c.requires.region_is in
     let fits : f.regions.lists_place + length c.deref.result.now ≤ length c.in_ok-memory.memory =
     omega (arith, is.fits, ap length is.bytes_are, ap length c.deref.ensures.value, lists_inside f c.requires.sound, c.in_ok-memory.ensures.size) in

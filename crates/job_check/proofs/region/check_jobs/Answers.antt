@@ -1,6 +1,6 @@
 use Rattle.std.proofs.Common.{◌≡◌, ◌<◌, length, arith}
 use Rattle.std.proofs.lemmas.List.{length-map}
-use Rattle.job_format.specs.Model.{file_view, job_view}
+use Rattle.job_format.specs.Parts.{parts_view, job_parts_view}
 use Rattle.field_words.specs.Questions.{each}
 use Rattle.job_check.specs.Faults.{job_stages}
 use Rattle.job_check.specs.Region.{IsRegion}
@@ -10,36 +10,36 @@ use Rattle.job_check.proofs.Progress.{none, next, refused, all}
 use Rattle.job_check.proofs.region.check_jobs.Goals as goal
 
 pub loop-number-init : goal.loop-number-init
-loop-number-init c = rw c.new-bytes.ensures.items (rw c.new-layouts.ensures.items (rw c.new-lengths.ensures.items (none (file_view c.args.file.now))))
+loop-number-init c = rw c.new-bytes.ensures.items (rw c.new-layouts.ensures.items (rw c.new-lengths.ensures.items (none (parts_view c.args.file.now))))
 
 pub check_one-requires-clause-size : goal.check_one-requires-clause-size
 check_one-requires-clause-size c = c.loop-number.invariant.size
 
 pub returns-in_err-lists : goal.returns-in_err-lists
 returns-in_err-lists c =
-    let f = file_view c.args.file.now in
+    let f = parts_view c.args.file.now in
     let l = c.loop-number in
-    let below : l.number < length f.jobs = omega (arith, c.loop-number-test.true, c.len-number-end.ensures, length-map c.args.file.now.jobs.items job_view) in
+    let below : l.number < length f.jobs = omega (arith, c.loop-number-test.true, c.len-number-end.ensures, length-map c.args.file.now.jobs.items job_parts_view) in
     exits (each (job_stages f) 0 (length f.jobs)) (IsRegion f)
     c.from_residual.result c.in_err-lists.field-0.0 c.from_residual.ensures.1
     (refused f l.number l.bytes.items l.layouts.items l.lengths.items l.place c.in_err-lists.field-0.0 l.invariant below c.in_err-lists.ensures.answers)
 
 pub next_place-place-requires : goal.next_place-place-requires
-next_place-place-requires c = omega (arith, c.in_ok-lists.ensures.fits, lists_inside (file_view c.args.file.now) c.requires.sound, c.requires.sound.limit)
+next_place-place-requires c = omega (arith, c.in_ok-lists.ensures.fits, lists_inside (parts_view c.args.file.now) c.requires.sound, c.requires.sound.limit)
 
 pub loop-number-preserved : goal.loop-number-preserved
 loop-number-preserved c =
-    let f = file_view c.args.file.now in
+    let f = parts_view c.args.file.now in
     let l = c.loop-number in
     let lists = c.in_ok-lists.lists in
-    let below : l.number < length f.jobs = omega (arith, c.loop-number-test.true, c.len-number-end.ensures, length-map c.args.file.now.jobs.items job_view) in
+    let below : l.number < length f.jobs = omega (arith, c.loop-number-test.true, c.len-number-end.ensures, length-map c.args.file.now.jobs.items job_parts_view) in
     rw c.in_ok-push.ensures.items (rw c.in_ok-push-2.ensures.items
     (next f l.number l.bytes.items c.check_one.new.region.items l.layouts.items l.lengths.items l.place c.next_place-place.result lists.layout lists.lengths
     l.invariant c.requires.sound below c.in_ok-lists.ensures.answers.0 c.in_ok-lists.ensures.answers.1 c.in_ok-lists.ensures.written c.in_ok-lists.ensures.fit c.in_ok-lists.ensures.fits c.next_place-place.ensures))
 
 pub returns : goal.returns
 returns c =
-    let f = file_view c.args.file.now in
+    let f = parts_view c.args.file.now in
     let l = c.loop-number in
-    let end : l.number ≡ length f.jobs = omega (arith, c.loop-number-test.false, l.auto.number-end, c.len-number-end.ensures, length-map c.args.file.now.jobs.items job_view) in
+    let end : l.number ≡ length f.jobs = omega (arith, c.loop-number-test.false, l.auto.number-end, c.len-number-end.ensures, length-map c.args.file.now.jobs.items job_parts_view) in
     all f l.number l.place (record { bytes = l.bytes; layouts = l.layouts; lengths = l.lengths }) l.invariant end

@@ -9,14 +9,14 @@ use Rattle.job_check.proofs.Order.{exits}
 use Rattle.job_check.proofs.region.check_lists_within.Goals as goal
 
 pub returns-clause-answers : goal.returns-clause-answers
-unfolding stages_within
+unfolding stages_within table_stage_within
 returns-clause-answers c =
     let f = file_view c.args.file.now in
     answers_later (table_stage_within c.args.limit f) (shaders_stage f ++ each (job_stages f) 0 (length f.jobs)) (IsRegion f)
-    c.check_shaders.result c.in_ok-table.ensures.answers.0 c.check_shaders.ensures
+    c.check_tabled.result c.in_ok-table.ensures.answers.0 c.check_tabled.ensures
 
 pub returns-in_err-table-clause-answers : goal.returns-in_err-table-clause-answers
-unfolding stages_within
+unfolding stages_within table_stage_within
 returns-in_err-table-clause-answers c =
     let f = file_view c.args.file.now in
     exits (stages_within c.args.limit f) (IsRegion f) c.from_residual.result c.in_err-table.field-0.0 c.from_residual.ensures.1
@@ -25,7 +25,7 @@ returns-in_err-table-clause-answers c =
 pub returns-clause-first : goal.returns-clause-first
 returns-clause-first c =
     let f = file_view c.args.file.now in
-    names_first (stages_within c.args.limit f) (IsRegion f) c.check_shaders.result (returns-clause-answers c)
+    names_first (stages_within c.args.limit f) (IsRegion f) c.check_tabled.result (returns-clause-answers c)
 
 pub returns-in_err-table-clause-first : goal.returns-in_err-table-clause-first
 returns-in_err-table-clause-first c =
@@ -33,4 +33,5 @@ returns-in_err-table-clause-first c =
     names_first (stages_within c.args.limit f) (IsRegion f) c.from_residual.result (returns-in_err-table-clause-answers c)
 
 pub returns-clause-memory : goal.returns-clause-memory
-returns-clause-memory c = never_hidden (table_stage_within c.args.limit (file_view c.args.file.now)) c.check_shaders.result c.in_ok-table.ensures.answers.0
+unfolding table_stage_within
+returns-clause-memory c = never_hidden (table_stage_within c.args.limit (file_view c.args.file.now)) c.check_tabled.result c.in_ok-table.ensures.answers.0

@@ -1,6 +1,6 @@
 use Rattle.std.proofs.Common.{◌++◌, Some, refl, subst, sym, ap, arith, ◌∙◌}
 use Rattle.field_words.proofs.Questions.{refuses_front, passes}
-use Rattle.job_format.specs.Model.{job_view}
+use Rattle.job_format.specs.Parts.{job_parts_view}
 use Rattle.shader_records.specs.Inputs.{shaders_view}
 use Rattle.job_check.specs.Context.{InView, IsContext}
 use Rattle.job_check.specs.Faults.{lists_stages, layout_stage}
@@ -12,7 +12,7 @@ pub returns-clause-answers : goal.returns-clause-answers
 returns-clause-answers c =
     let v = c.args.job.now in
     let x = c.job.inside in
-    let h = subst (λ (w : InView). IsContext w (job_view x.job.now) x.table.now (shaders_view x.shaders.now.items) x.handles x.layout) c.job.view_is c.job.invariant in (
+    let h = subst (λ (w : InView). IsContext w (job_parts_view x.job.now) x.table.now (shaders_view x.shaders.now.items) x.handles x.layout) c.job.view_is c.job.invariant in (
       passes (lists_stages v.file v.number) (layout_stage v.file v.number) c.in_ok-lengths.ensures.answers.0 ∙ layout_fits v.file v.number (c.if-not-fits.ensures.0 refl),
       record { layout_is = h.layout_is; lengths_are = c.in_ok-lengths.ensures.answers.1 },
     )
@@ -21,7 +21,7 @@ pub returns-clause-fits : goal.returns-clause-fits
 returns-clause-fits c =
     let v = c.args.job.now in
     let x = c.job.inside in
-    let h = subst (λ (w : InView). IsContext w (job_view x.job.now) x.table.now (shaders_view x.shaders.now.items) x.handles x.layout) c.job.view_is c.job.invariant in
+    let h = subst (λ (w : InView). IsContext w (job_parts_view x.job.now) x.table.now (shaders_view x.shaders.now.items) x.handles x.layout) c.job.view_is c.job.invariant in
     omega (arith, ap (λ l. l.place) h.layout_is, ap (λ l. l.end) h.layout_is, (c.if-not-fits.ensures.0 refl))
 
 pub returns-in_err-lengths-clause-answers : goal.returns-in_err-lengths-clause-answers

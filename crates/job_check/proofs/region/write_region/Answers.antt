@@ -1,6 +1,6 @@
 use Rattle.std.proofs.Common.{◌≡◌, ◌+◌, ◌-◌, ◌++◌, length, take, drop, ap, subst, arith, ◌∙◌}
 use Rattle.field_words.specs.Writes.{placed, zeros}
-use Rattle.job_format.specs.Model.{job_view}
+use Rattle.job_format.specs.Parts.{job_parts_view}
 use Rattle.relocation.specs.declared.layout.Layout.{Layout}
 use Rattle.shader_records.specs.Inputs.{shaders_view}
 use Rattle.job_check.specs.Context.{InView, IsContext}
@@ -18,7 +18,7 @@ pub write_at-requires : goal.write_at-requires
 write_at-requires c =
     let v = c.args.job.now in
     let x = c.job.inside in
-    let h = subst (λ (w : InView). IsContext w (job_view x.job.now) x.table.now (shaders_view x.shaders.now.items) x.handles x.layout) c.job.view_is c.job.invariant in
+    let h = subst (λ (w : InView). IsContext w (job_parts_view x.job.now) x.table.now (shaders_view x.shaders.now.items) x.handles x.layout) c.job.view_is c.job.invariant in
     let old = c.args.region.now.items in
     let same : c.place_in_region-from.result + x.layout.end ≡ region_from v.file v.number + (layout_of v.file v.number).end =
     omega (arith, c.place_in_region-from.ensures, ap (λ (l : Layout). l.end) h.layout_is) in
@@ -30,7 +30,7 @@ unfolding region_parts
 returns-clause-written c =
     let v = c.args.job.now in
     let x = c.job.inside in
-    let h = subst (λ (w : InView). IsContext w (job_view x.job.now) x.table.now (shaders_view x.shaders.now.items) x.handles x.layout) c.job.view_is c.job.invariant in
+    let h = subst (λ (w : InView). IsContext w (job_parts_view x.job.now) x.table.now (shaders_view x.shaders.now.items) x.handles x.layout) c.job.view_is c.job.invariant in
     let old = c.args.region.now.items in
     let grown = c.extend_region.new.region in
     let from = c.place_in_region-from.result in

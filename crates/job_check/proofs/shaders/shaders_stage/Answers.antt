@@ -1,7 +1,7 @@
 use Rattle.std.proofs.Common.{◌≡◌, [], ◌∷◌, ◌++◌, length, map, sym, ap, subst, arith, ◌∙◌}
 use Rattle.std.proofs.lemmas.List.{map-append}
 use Rattle.field_words.proofs.Questions.{each_on, each_end}
-use Rattle.job_format.specs.Model.{file_view}
+use Rattle.job_format.specs.Parts.{parts_view}
 use Rattle.shader_records.specs.Inputs.{shader_option, shaders_view}
 use Rattle.job_check.specs.Shaders.{shaders_up_to}
 use Rattle.job_check.specs.Faults.{shader_stage, shaders_stage}
@@ -11,7 +11,7 @@ use Rattle.job_check.proofs.shaders.shaders_stage.Goals as goal
 
 pub loop-b-preserved : goal.loop-b-preserved
 loop-b-preserved c =
-    let f = file_view c.args.file.now in
+    let f = parts_view c.args.file.now in
     let b = c.loop-b.b in
     let more = ap (map shader_option) c.in_ok-push-in-Ok.ensures.items ∙ map-append shader_option c.loop-b.shaders.items (c.in-Ok.shader ∷ []) in
     record {
@@ -28,7 +28,7 @@ loop-b-preserved c =
 pub returns-clause-answers : goal.returns-clause-answers
 unfolding shaders_stage
 returns-clause-answers c =
-    let f = file_view c.args.file.now in
+    let f = parts_view c.args.file.now in
     let b = c.loop-b.b in
     let end : b ≡ length f.buffers = omega (arith, c.loop-b-test.false, c.loop-b.auto.b-end, c.len-b-end.ensures) in (
       sym c.loop-b.invariant.none ∙ each_end (shader_stage f) b (length f.buffers) (omega (arith, end)),
@@ -37,6 +37,6 @@ returns-clause-answers c =
 
 pub returns-in_err-push-in-Ok-clause-memory : goal.returns-in_err-push-in-Ok-clause-memory
 returns-in_err-push-in-Ok-clause-memory c =
-    let f = file_view c.args.file.now in
+    let f = parts_view c.args.file.now in
     let b = c.loop-b.b in
     ended f b c.from_residual.result (omega (arith, c.loop-b-test.true, c.len-b-end.ensures)) c.loop-b.invariant.before (whole_none f b c.in-Ok.ensures.answers.0)

@@ -1,6 +1,6 @@
 use Rattle.std.proofs.Common.{◌≡◌, ◌-◌, length, None}
 use Rattle.field_words.specs.Questions.{first_of, each}
-use Rattle.job_format.specs.Model.{file_view}
+use Rattle.job_format.specs.Parts.{parts_view}
 use Rattle.shader_records.specs.Inputs.{shaders_view}
 use Rattle.job_check.specs.Shaders.{shaders_up_to}
 use Rattle.job_check.specs.Faults.{shader_stage}
@@ -9,9 +9,9 @@ use Rattle.job_check.proofs.shaders.shaders_stage.Given as goal
 
 -- no rule stands in a shader before this one, and what is told of those is kept, and sound
 pub record Going (l : goal.Live-loop-b) : Type 0 where
-  pub none : first_of (each (shader_stage (file_view l.file)) l.b (length l.file.buffers.items - l.b)) ≡ first_of (each (shader_stage (file_view l.file)) 0 (length l.file.buffers.items))
-  pub before : first_of (each (shader_stage (file_view l.file)) 0 l.b) ≡ None
-  pub told : shaders_view l.shaders.items ≡ shaders_up_to (file_view l.file) l.b
+  pub none : first_of (each (shader_stage (parts_view l.file)) l.b (length l.file.buffers.items - l.b)) ≡ first_of (each (shader_stage (parts_view l.file)) 0 (length l.file.buffers.items))
+  pub before : first_of (each (shader_stage (parts_view l.file)) 0 l.b) ≡ None
+  pub told : shaders_view l.shaders.items ≡ shaders_up_to (parts_view l.file) l.b
   pub sound : AllSound (shaders_view l.shaders.items)
 
 abbrev pub invariant-loop-b : goal.invariant-loop-b

@@ -18,9 +18,9 @@ unfolding questions_within
 returns-in-Ok-clause-answers c =
     let bytes = c.args.bytes.now in
     let P : FileModel → Checked → Type 0 = λ f checked. IsEmitted f checked.memory checked.layouts.items checked.lengths.items in
-    answers_later (answered format_refused (format_questions bytes)) (file_stages (file_at bytes)) (P (file_at bytes)) c.check_job.result
+    answers_later (answered format_refused (format_questions bytes)) (file_stages (file_at bytes)) (P (file_at bytes)) c.check_read.result
     (answered_none format_refused (format_questions bytes) c.in-Ok.ensures.read.0)
-    (subst (λ f. Answers (file_stages f) (P f) c.check_job.result) c.in-Ok.ensures.read.1 c.check_job.ensures.answers)
+    (subst (λ f. Answers (file_stages f) (P f) c.check_read.result) c.in-Ok.ensures.read.1 c.check_read.ensures.answers)
 
 pub returns-in-Err-clause-answers : goal.returns-in-Err-clause-answers
 returns-in-Err-clause-answers c =
@@ -30,7 +30,7 @@ returns-in-Err-clause-answers c =
 pub returns-in-Ok-clause-format : goal.returns-in-Ok-clause-format
 returns-in-Ok-clause-format c =
     let format = format_questions c.args.bytes.now in
-    never_hidden (answered format_refused format) c.check_job.result (answered_none format_refused format c.in-Ok.ensures.read.0)
+    never_hidden (answered format_refused format) c.check_read.result (answered_none format_refused format c.in-Ok.ensures.read.0)
 
 pub returns-in-Err-clause-format : goal.returns-in-Err-clause-format
 returns-in-Err-clause-format c =

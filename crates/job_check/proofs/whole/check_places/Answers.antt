@@ -16,9 +16,9 @@ pub returns-in-Ok-clause-answers : goal.returns-in-Ok-clause-answers
 unfolding questions_within
 returns-in-Ok-clause-answers c =
     let bytes = c.args.bytes.now in
-    answers_later (answered format_refused (format_questions bytes)) (stages_within c.args.limit (file_at bytes)) (IsRegion (file_at bytes)) c.check_lists_within.result
+    answers_later (answered format_refused (format_questions bytes)) (stages_within c.args.limit (file_at bytes)) (IsRegion (file_at bytes)) c.check_parts.result
     (answered_none format_refused (format_questions bytes) c.in-Ok.ensures.read.0)
-    (subst (λ (f : FileModel). Answers (stages_within c.args.limit f) (IsRegion f) c.check_lists_within.result) c.in-Ok.ensures.read.1 c.check_lists_within.ensures.answers)
+    (subst (λ (f : FileModel). Answers (stages_within c.args.limit f) (IsRegion f) c.check_parts.result) c.in-Ok.ensures.read.1 c.check_parts.ensures.answers)
 
 pub returns-in-Err-clause-answers : goal.returns-in-Err-clause-answers
 returns-in-Err-clause-answers c =
@@ -28,7 +28,7 @@ returns-in-Err-clause-answers c =
 pub returns-in-Ok-clause-format : goal.returns-in-Ok-clause-format
 returns-in-Ok-clause-format c =
     let format = format_questions c.args.bytes.now in
-    never_hidden (answered format_refused format) c.check_lists_within.result (answered_none format_refused format c.in-Ok.ensures.read.0)
+    never_hidden (answered format_refused format) c.check_parts.result (answered_none format_refused format c.in-Ok.ensures.read.0)
 
 pub returns-in-Err-clause-format : goal.returns-in-Err-clause-format
 returns-in-Err-clause-format c =

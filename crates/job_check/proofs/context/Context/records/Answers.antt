@@ -2,7 +2,7 @@ use Rattle.std.proofs.Common.{◌≡◌, length, Some, None, sym, ap, subst, ari
 use Rattle.field_words.specs.Writes.{with_bytes}
 use Rattle.field_words.specs.Questions.{first_of}
 use Rattle.buffer_table.specs.Table.{TableModel}
-use Rattle.job_format.specs.Model.{job_view}
+use Rattle.job_format.specs.Parts.{job_parts_view}
 use Rattle.relocation.specs.declared.layout.Layout.{Layout}
 use Rattle.shader_records.specs.Inputs.{InputModel, AreShadersOf, shaders_view, input_of}
 use Rattle.shader_records.specs.Rules.{all_questions}
@@ -19,51 +19,49 @@ pub check_records-requires-clause-shaders : goal.check_records-requires-clause-s
 check_records-requires-clause-shaders c =
     let v = c.args.self.now in
     let x = c.self.inside in
-    let h = subst (λ (w : InView). IsContext w (job_view x.job.now) x.table.now (shaders_view x.shaders.now.items) x.handles x.layout) c.self.view_is c.self.invariant in
+    let h = subst (λ (w : InView). IsContext w (job_parts_view x.job.now) x.table.now (shaders_view x.shaders.now.items) x.handles x.layout) c.self.view_is c.self.invariant in
     let sound = subst (λ (t : TableModel). AreShadersOf t (shaders_view x.shaders.now.items)) (sym h.table_is) h.shaders_are.sound in
-    subst (λ l. AreShadersOf x.table.now (shaders_view l)) (sym c.deref-3.ensures.value) sound
+    subst (λ l. AreShadersOf x.table.now (shaders_view l)) (sym c.deref.ensures.value) sound
 
 pub check_records-requires-clause-place_limit : goal.check_records-requires-clause-place_limit
 check_records-requires-clause-place_limit c =
     let x = c.self.inside in
-    let low = kept_low _ (job_view x.job.now) x.table.now (shaders_view x.shaders.now.items) x.handles x.layout c.self.invariant in
+    let low = kept_low _ (job_parts_view x.job.now) x.table.now (shaders_view x.shaders.now.items) x.handles x.layout c.self.invariant in
     omega (arith, low.place)
 
 pub check_records-requires-clause-limit : goal.check_records-requires-clause-limit
 check_records-requires-clause-limit c =
     let x = c.self.inside in
-    let low = kept_low _ (job_view x.job.now) x.table.now (shaders_view x.shaders.now.items) x.handles x.layout c.self.invariant in
+    let low = kept_low _ (job_parts_view x.job.now) x.table.now (shaders_view x.shaders.now.items) x.handles x.layout c.self.invariant in
     omega (arith, low.uniforms)
 
 pub check_records-requires-clause-order : goal.check_records-requires-clause-order
 check_records-requires-clause-order c =
     let v = c.args.self.now in
     let x = c.self.inside in
-    let h = subst (λ (w : InView). IsContext w (job_view x.job.now) x.table.now (shaders_view x.shaders.now.items) x.handles x.layout) c.self.view_is c.self.invariant in
+    let h = subst (λ (w : InView). IsContext w (job_parts_view x.job.now) x.table.now (shaders_view x.shaders.now.items) x.handles x.layout) c.self.view_is c.self.invariant in
     let apart = layout_apart v.file v.number in
-    omega (arith, apart.second, ap (λ l. l.records) h.layout_is, ap (λ l. l.uniforms) h.layout_is, ap length c.deref.ensures.value, ap (λ j. length j.records) h.job_is)
+    omega (arith, apart.second, ap (λ l. l.records) h.layout_is, ap (λ l. l.uniforms) h.layout_is, ap (λ j. length j.records) h.job_is)
 
 pub check_records-requires-clause-room : goal.check_records-requires-clause-room
 check_records-requires-clause-room c =
     let v = c.args.self.now in
     let x = c.self.inside in
-    let h = subst (λ (w : InView). IsContext w (job_view x.job.now) x.table.now (shaders_view x.shaders.now.items) x.handles x.layout) c.self.view_is c.self.invariant in
+    let h = subst (λ (w : InView). IsContext w (job_parts_view x.job.now) x.table.now (shaders_view x.shaders.now.items) x.handles x.layout) c.self.view_is c.self.invariant in
     let apart = layout_apart v.file v.number in
-    omega (arith, apart.third, apart.last, ap (λ l. l.uniforms) h.layout_is, ap length c.deref-2.ensures.value, ap (λ j. length j.uniforms) h.job_is, c.requires.room)
+    omega (arith, apart.third, apart.last, ap (λ l. l.uniforms) h.layout_is, ap (λ j. length j.uniforms) h.job_is, c.requires.room)
 
 pub returns-in-Ok : goal.returns-in-Ok
 returns-in-Ok c =
     let v = c.args.self.now in
     let x = c.self.inside in
-    let h = subst (λ (w : InView). IsContext w (job_view x.job.now) x.table.now (shaders_view x.shaders.now.items) x.handles x.layout) c.self.view_is c.self.invariant in
+    let h = subst (λ (w : InView). IsContext w (job_parts_view x.job.now) x.table.now (shaders_view x.shaders.now.items) x.handles x.layout) c.self.view_is c.self.invariant in
     let f = v.file in
     let j = v.number in
     let out = c.args.out.now in
     let same =
-    ap (λ l. input_of c.args.states.now l c.deref-2.result.now x.table.now x.handles c.deref-3.result.now) c.deref.ensures.value
-    ∙ ap (λ l. input_of c.args.states.now x.job.now.records.items l x.table.now x.handles c.deref-3.result.now) c.deref-2.ensures.value
-    ∙ ap (λ l. input_of c.args.states.now x.job.now.records.items x.job.now.uniforms.items x.table.now x.handles l) c.deref-3.ensures.value
-    ∙ input_is v c.args.states.now (job_view x.job.now) x.table.now (shaders_view x.shaders.now.items) x.handles x.layout h c.requires.states in
+    ap (λ l. input_of c.args.states.now x.job.now.records.now x.job.now.uniforms.now x.table.now x.handles l) c.deref.ensures.value
+    ∙ input_is v c.args.states.now (job_parts_view x.job.now) x.table.now (shaders_view x.shaders.now.items) x.handles x.layout h c.requires.states in
     let none = subst (λ (i : InputModel). first_of (all_questions i) ≡ None) same c.in-Ok.ensures.answers.0 in
     let told = subst (λ (i : InputModel). IsEmitted i x.layout out c.check_records.new.out c.in-Ok.info) same c.in-Ok.ensures.answers.1 in
     let emitted = subst (λ (l : Layout). IsEmitted (input_for f j) l out c.check_records.new.out c.in-Ok.info) h.layout_is told in
@@ -85,12 +83,10 @@ pub returns-in-Err-Fault-clause-answers : goal.returns-in-Err-Fault-clause-answe
 returns-in-Err-Fault-clause-answers c =
     let v = c.args.self.now in
     let x = c.self.inside in
-    let h = subst (λ (w : InView). IsContext w (job_view x.job.now) x.table.now (shaders_view x.shaders.now.items) x.handles x.layout) c.self.view_is c.self.invariant in
+    let h = subst (λ (w : InView). IsContext w (job_parts_view x.job.now) x.table.now (shaders_view x.shaders.now.items) x.handles x.layout) c.self.view_is c.self.invariant in
     let same =
-    ap (λ l. input_of c.args.states.now l c.deref-2.result.now x.table.now x.handles c.deref-3.result.now) c.deref.ensures.value
-    ∙ ap (λ l. input_of c.args.states.now x.job.now.records.items l x.table.now x.handles c.deref-3.result.now) c.deref-2.ensures.value
-    ∙ ap (λ l. input_of c.args.states.now x.job.now.records.items x.job.now.uniforms.items x.table.now x.handles l) c.deref-3.ensures.value
-    ∙ input_is v c.args.states.now (job_view x.job.now) x.table.now (shaders_view x.shaders.now.items) x.handles x.layout h c.requires.states in
+    ap (λ l. input_of c.args.states.now x.job.now.records.now x.job.now.uniforms.now x.table.now x.handles l) c.deref.ensures.value
+    ∙ input_is v c.args.states.now (job_parts_view x.job.now) x.table.now (shaders_view x.shaders.now.items) x.handles x.layout h c.requires.states in
     let told = rw c.in-Err-Fault.field-0-is at c.in-Err-Fault.ensures.answers in
     let stands = subst (λ (i : InputModel). first_of (all_questions i) ≡ Some c.in-Err-Fault.fault) same told in
     records_some v.file v.number c.in-Err-Fault.fault c.requires.some stands

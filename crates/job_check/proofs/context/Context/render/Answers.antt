@@ -1,7 +1,7 @@
 use Rattle.std.proofs.Common.{ap, subst, arith, ◌∙◌}
 use Rattle.field_words.specs.Writes.{with_bytes}
 use Rattle.render_list.specs.Text.{render_text}
-use Rattle.job_format.specs.Model.{job_view}
+use Rattle.job_format.specs.Parts.{job_parts_view}
 use Rattle.shader_records.specs.Inputs.{shaders_view}
 use Rattle.job_check.specs.Context.{InView, IsContext}
 use Rattle.job_check.specs.Jobs.{layout_of}
@@ -12,31 +12,31 @@ use Rattle.job_check.proofs.context.Context.render.Goals as goal
 pub build-requires-clause-slot : goal.build-requires-clause-slot
 build-requires-clause-slot c =
     let x = c.self.inside in
-    let low = kept_low _ (job_view x.job.now) x.table.now (shaders_view x.shaders.now.items) x.handles x.layout c.self.invariant in
+    let low = kept_low _ (job_parts_view x.job.now) x.table.now (shaders_view x.shaders.now.items) x.handles x.layout c.self.invariant in
     λ some. omega (arith, low.slot)
 
 pub build-requires-clause-room : goal.build-requires-clause-room
 build-requires-clause-room c =
     let v = c.args.self.now in
     let x = c.self.inside in
-    let h = subst (λ (w : InView). IsContext w (job_view x.job.now) x.table.now (shaders_view x.shaders.now.items) x.handles x.layout) c.self.view_is c.self.invariant in
-    let ends = render_ends v (job_view x.job.now) x.table.now (shaders_view x.shaders.now.items) x.handles x.layout c.args.tiles h c.requires.tiles_are c.requires.setup.tiles in
+    let h = subst (λ (w : InView). IsContext w (job_parts_view x.job.now) x.table.now (shaders_view x.shaders.now.items) x.handles x.layout) c.self.view_is c.self.invariant in
+    let ends = render_ends v (job_parts_view x.job.now) x.table.now (shaders_view x.shaders.now.items) x.handles x.layout c.args.tiles h c.requires.tiles_are c.requires.setup.tiles in
     omega (arith, ends.0, ends.1, c.requires.room)
 
 pub overflow_sub-result : goal.overflow_sub-result
 overflow_sub-result c =
     let v = c.args.self.now in
     let x = c.self.inside in
-    let h = subst (λ (w : InView). IsContext w (job_view x.job.now) x.table.now (shaders_view x.shaders.now.items) x.handles x.layout) c.self.view_is c.self.invariant in
-    let ends = render_ends v (job_view x.job.now) x.table.now (shaders_view x.shaders.now.items) x.handles x.layout c.args.tiles h c.requires.tiles_are c.requires.setup.tiles in
+    let h = subst (λ (w : InView). IsContext w (job_parts_view x.job.now) x.table.now (shaders_view x.shaders.now.items) x.handles x.layout) c.self.view_is c.self.invariant in
+    let ends = render_ends v (job_parts_view x.job.now) x.table.now (shaders_view x.shaders.now.items) x.handles x.layout c.args.tiles h c.requires.tiles_are c.requires.setup.tiles in
     omega (arith, ends.0)
 
 pub returns : goal.returns
 returns c =
     let v = c.args.self.now in
     let x = c.self.inside in
-    let h = subst (λ (w : InView). IsContext w (job_view x.job.now) x.table.now (shaders_view x.shaders.now.items) x.handles x.layout) c.self.view_is c.self.invariant in
-    let same = list_is v (job_view x.job.now) x.table.now (shaders_view x.shaders.now.items) x.handles x.layout c.args.setup.now.places c.args.tiles h c.requires.places c.requires.tiles_are in
+    let h = subst (λ (w : InView). IsContext w (job_parts_view x.job.now) x.table.now (shaders_view x.shaders.now.items) x.handles x.layout) c.self.view_is c.self.invariant in
+    let same = list_is v (job_parts_view x.job.now) x.table.now (shaders_view x.shaders.now.items) x.handles x.layout c.args.setup.now.places c.args.tiles h c.requires.places c.requires.tiles_are in
     let long = list_length v.file v.number c.args.setup.now.places c.requires.places c.requires.setup in
     let render = ap (λ l. l.render) h.layout_is in
     let end = ap (λ l. l.end) h.layout_is in
