@@ -9,6 +9,7 @@ mod context;
 mod emit;
 mod layout;
 mod lists;
+mod places;
 mod refusals;
 mod region;
 mod shaders;
@@ -17,6 +18,7 @@ mod upgrade;
 mod whole;
 
 pub use check::{Checked, check_job, check_read};
+pub use places::{Part, Place, place_in};
 pub use region::{Region, check_lists, check_lists_within, check_parts, check_with_shaders};
 pub use shaders::{shader_in, words_of};
 pub use upgrade::upgrade_changes_nothing;

@@ -28,7 +28,7 @@ fn refusal(stage: Stage, number: u8, offset: u64) -> Refusal
 }
 
 /// Where the entry of buffer `b` stands, or where the entries end.
-fn buffer_offset(b: usize) -> u64
+pub fn buffer_offset(b: usize) -> u64
     requires { b < 2 ^ 32 }
     ensures value { result ≡ entry_offset b }
     ensures fits { result < 2 ^ 37 }
@@ -58,7 +58,7 @@ pub fn table_refusal(fault: &TableFault) -> Refusal
 
 /// Where the entry of the job of this number stands, or where the entries end.
 #[tactic(auto, unfolding(crate::specs::Offsets::job_offset))]
-fn job_offset(file: &FileParts, number: usize) -> u64
+pub fn job_offset(file: &FileParts, number: usize) -> u64
     requires well_formed { IsWellFormed (parts_view file.now) }
     requires inside { number ≤ length file.now.jobs.items }
     ensures value { result ≡ job_offset (parts_view file.now) number }
@@ -83,7 +83,7 @@ fn content_before(buffers: &[Buffer], b: usize) -> u64
 
 /// Where the contents of buffer `b` stand, or where the contents end.
 #[tactic(auto, unfolding(crate::specs::Offsets::content_offset))]
-fn content_offset(file: &FileParts, b: usize) -> u64
+pub fn content_offset(file: &FileParts, b: usize) -> u64
     requires well_formed { IsWellFormed (parts_view file.now) }
     requires inside { b ≤ length file.now.buffers.items }
     ensures value { result ≡ content_offset (parts_view file.now) b }
@@ -136,7 +136,7 @@ fn parts_before(jobs: &[JobParts], number: usize) -> u64
 
 /// Where the handles of the job of this number stand.
 #[tactic(auto, unfolding(crate::specs::Offsets::handles_offset))]
-fn handles_offset(file: &FileParts, number: usize) -> u64
+pub fn handles_offset(file: &FileParts, number: usize) -> u64
     requires well_formed { IsWellFormed (parts_view file.now) }
     requires inside { number < length file.now.jobs.items }
     ensures value { result ≡ handles_offset (parts_view file.now) number }
@@ -170,7 +170,7 @@ fn handle_count(file: &FileParts, number: usize) -> u64
 
 /// Where the binner list of the job of this number stands.
 #[tactic(auto, unfolding(crate::specs::Offsets::bin_offset))]
-fn bin_offset(file: &FileParts, number: usize) -> u64
+pub fn bin_offset(file: &FileParts, number: usize) -> u64
     requires well_formed { IsWellFormed (parts_view file.now) }
     requires inside { number < length file.now.jobs.items }
     ensures value { result ≡ bin_offset (parts_view file.now) number }
@@ -207,7 +207,7 @@ fn list_sizes(file: &FileParts, number: usize) -> (u64, u64)
 
 /// Where the uniforms of the job of this number stand, or its records.
 #[tactic(auto, unfolding(crate::specs::Faults::part_offset, crate::specs::Offsets::records_offset, crate::specs::Offsets::uniforms_offset))]
-fn part_offset(file: &FileParts, number: usize, in_uniforms: bool) -> u64
+pub fn part_offset(file: &FileParts, number: usize, in_uniforms: bool) -> u64
     requires well_formed { IsWellFormed (parts_view file.now) }
     requires inside { number < length file.now.jobs.items }
     ensures value { result ≡ part_offset (parts_view file.now) number in_uniforms }
