@@ -32,7 +32,7 @@ use Rattle.accepted_law.proofs.Settling.{files_settle_law}
 use Rattle.accepted_law.proofs.Tables.{buffer_sound, tiles_apart, regions_apart, slot_inside}
 use Rattle.accepted_law.proofs.Unshared.{job_is_of, data_number, code_number}
 
-zero_byte : (n q : ℕ) → slice_index (zeros n) q ≡ 0
+pub zero_byte : (n q : ℕ) → slice_index (zeros n) q ≡ 0
 unfolding zeros
 zero_byte n q =
     elim (cases_lt q n) [
@@ -93,7 +93,7 @@ content_clear f j s number i inside below past k there =
           ]
     ]
 
-buffer_byte : (f : FileModel) (j : ℕ) → Settled f j → AreSettled f → (number i : ℕ) → number < length f.buffers → i < (buffer_at f.buffers number).size
+pub buffer_byte : (f : FileModel) (j : ℕ) → Settled f j → AreSettled f → (number i : ℕ) → number < length f.buffers → i < (buffer_at f.buffers number).size
     → slice_index (memory_of f) ((buffer_at f.buffers number).place + i) ≡ slice_index (content_of f number) i
 buffer_byte f j s all number i inside below =
     elim (cases_lt i (length (content_of f number))) [

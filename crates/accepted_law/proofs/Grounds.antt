@@ -147,19 +147,24 @@ region_outside f j s p from upto =
     (λ other there plain. region_clear f.regions.lists_place f.regions.lists_size (buffer_at f.buffers other).place (buffer_at f.buffers other).size p
     (lists_apart f.mem_size f.regions f.buffers s.sound other there) from upto)
 
-record IsInLists (f : FileModel) (place size : ℕ) : Type 0 where
-  from : f.regions.lists_place ≤ place
-  upto : place + size ≤ region_end f.regions
+pub record IsInLists (f : FileModel) (j place size : ℕ) : Type 0 where
+  pub from : f.regions.lists_place ≤ place
+  pub within : place + size ≤ (layout_of f j).place + (layout_of f j).end
+  pub upto : place + size ≤ region_end f.regions
 
 lies_by : (f : FileModel) (j offset n place size : ℕ) → ListsEnd f j → f.regions.lists_place ≤ (layout_of f j).place → offset + n ≤ (layout_of f j).end
-    → interval ((layout_of f j).place + offset) n ≡ interval place size → IsInLists f place size
+    → interval ((layout_of f j).place + offset) n ≡ interval place size → IsInLists f j place size
 lies_by f j offset n place size ends at upto is =
     let place_is : (layout_of f j).place + offset ≡ place = ap (λ i. i.place) is in
     let size_is : n ≡ size = ap (λ i. i.size) is in
-    record { from = omega (arith, place_is, at); upto = omega (arith, place_is, size_is, at, upto, ends.region) }
+    record {
+      from = omega (arith, place_is, at);
+      within = omega (arith, place_is, size_is, upto);
+      upto = omega (arith, place_is, size_is, at, upto, ends.region);
+    }
 
 -- each of the four lists lies in that region
-four_lie : (f : FileModel) (j : ℕ) → ListsEnd f j → (place size : ℕ) → IsOneOf (lists_of f j) place size → IsInLists f place size
+pub four_lie : (f : FileModel) (j : ℕ) → ListsEnd f j → (place size : ℕ) → IsOneOf (lists_of f j) place size → IsInLists f j place size
 unfolding lists_of lengths_of
 four_lie f j ends place size one =
     let numbers = layout_numbers f j (layout_of f j) refl in

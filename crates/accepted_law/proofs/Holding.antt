@@ -94,7 +94,7 @@ unfolding render_list_of render_text
 render_bytes f j s = bytes_slots (render_slots (job_of f j).frame (places_in f j) (grid_of f j) (slot_of f j)) (frame_fits f j s)
 
 -- The memory: contents first, then the four lists of each job.
-abbrev with_contents : FileModel → List ℕ
+abbrev pub with_contents : FileModel → List ℕ
 with_contents f = placed (zeros f.mem_size) (content_parts f.buffers f.contents)
 
 abbrev pub four_parts : FileModel → ℕ → List Part
@@ -152,7 +152,7 @@ all_in f all = jobs_fit f (length f.jobs) (λ j inside. four_in f j (all j insid
 pub zeros_fit : (size : ℕ) (parts : List Part) → PartsFit size parts → PartsFit (length (zeros size)) parts
 zeros_fit size parts fit = subst (λ n. PartsFit n parts) (sym (length_zeros size)) fit
 
-long_contents : (f : FileModel) (j : ℕ) → Settled f j → length (with_contents f) ≡ f.mem_size
+pub long_contents : (f : FileModel) (j : ℕ) → Settled f j → length (with_contents f) ≡ f.mem_size
 long_contents f j s = length_placed (zeros f.mem_size) (content_parts f.buffers f.contents) (zeros_fit f.mem_size (content_parts f.buffers f.contents) (contents_in f j s)) ∙ length_zeros f.mem_size
 
 all_fit : (f : FileModel) (j : ℕ) → Settled f j → AreSettled f → PartsFit (length (with_contents f)) (all_parts f)

@@ -22,3 +22,4 @@ pub mod Fixed
 pub mod Unshared
 pub mod Neighbours
 pub mod Emitted
+pub mod Prepared

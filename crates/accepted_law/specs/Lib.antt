@@ -6,3 +6,4 @@ pub mod Texts
 pub mod Whole
 pub mod Held
 pub mod Neighbours
+pub mod Prepared

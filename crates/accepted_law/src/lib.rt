@@ -16,4 +16,4 @@ pub use memory::{bin_texts_begin, files_allocate, files_ground, files_settle, re
 pub use records::records_launch;
 pub use renders::renders_walk;
 pub use rights::{lists_and_code_are_fixed, rights_are_held};
-pub use whole::{accepted_files_are_sound, files_begin};
+pub use whole::{accepted_files_are_sound, files_begin, prepared_memories_agree};

@@ -1,5 +1,6 @@
 //! From the parts to the whole: what each job of an accepted file begins with, and so every run of the machine.
 ghost use Rattle.accepted_law.specs.Parts.{FilesBegin};
+ghost use Rattle.accepted_law.specs.Prepared.{PreparedMemoriesAgree};
 ghost use Rattle.accepted_law.specs.Whole.{FilesSound};
 
 /// Each job of an accepted file begins as the laws of the machine's units ask: its two lists walk, and what they draw, load and store
@@ -15,4 +16,11 @@ pub fn files_begin()
 /// texture unit does nothing to memory but read inside one Plain buffer that a handle of its job names.
 pub fn accepted_files_are_sound()
     ensures { FilesSound }
+{}
+
+/// A memory that is prepared for the jobs of an accepted file, with the bytes of their relocated lists from the lists' place on, and in each
+/// Code buffer that a handle names its shader with zeros behind, has the lists and the code of all jobs as the emitted memory, whatever
+/// all its other bytes are.
+pub fn prepared_memories_agree()
+    ensures { PreparedMemoriesAgree }
 {}

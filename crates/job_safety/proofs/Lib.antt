@@ -2,3 +2,4 @@ pub mod Starts
 pub mod Safety
 pub mod Steps
 pub mod Packets
+pub mod Prepared

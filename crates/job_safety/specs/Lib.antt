@@ -4,3 +4,4 @@ pub mod Accepted
 pub mod Files
 pub mod Follows
 pub mod Clients
+pub mod Prepared

@@ -1,6 +1,7 @@
 //! Accepted files are safe, whatever their memory holds beside the lists and the code of their jobs.
 ghost use Rattle.job_safety.specs.Files.{BytesSafe, PlacedJobsAreSafe};
 ghost use Rattle.job_safety.specs.Follows.{SafeFilesFollow};
+ghost use Rattle.job_safety.specs.Prepared.{PreparedJobsMayRun, PreparedBytesMayRun};
 
 /// The law that accepted files are safe, of 1 to 8 jobs: whichever bytes they are, where no rule stands of them, from each memory of the
 /// emitted one's length that has the lists and the code of all jobs as emitted, whatever else it holds. In every run of the machine,
@@ -22,4 +23,13 @@ pub fn placed_jobs_are_safe()
 /// in which every byte outside what jobs may write is as emitted, and from each that has their lists and code.
 pub fn safe_files_follow()
     ensures { SafeFilesFollow }
+{}
+
+/// From an accepted call on: the jobs of a file of which no rule stands under that limit may run over every memory that has the relocated
+/// lists at the lists' place, and in each Code buffer that a handle names its shader with zeros behind, whatever else it holds and
+/// whatever others write meanwhile beside lists and code. Each access lies in what the job for which it is done may reach, each write in a
+/// Plain buffer or the slot of that job, and bytes outside have no effect.
+pub fn prepared_jobs_may_run()
+    ensures jobs { PreparedJobsMayRun }
+    ensures bytes { PreparedBytesMayRun }
 {}

@@ -9,7 +9,9 @@ mod strength;
 
 pub use accepting::{Accepted, accept, version_of};
 pub use clients::clients_are_apart;
-pub use files::{accepted_bytes_are_safe, placed_jobs_are_safe, safe_files_follow};
+pub use files::{
+    accepted_bytes_are_safe, placed_jobs_are_safe, prepared_jobs_may_run, safe_files_follow,
+};
 pub use strength::{
     code_past_is_unsafe, direct_reads_past_are_unsafe, lists_past_are_unsafe,
     stray_packets_are_unsafe, textures_past_are_unsafe, writes_past_are_unsafe,

@@ -1,0 +1,27 @@
+-- What an accepted call says of a memory that the caller prepares: every run of the jobs there is safe.
+use Rattle.std.specs.Prelude.{◌≡◌, ℕ, List, None}
+use Rattle.field_words.specs.Questions.{first_of}
+use Rattle.field_words.specs.Words.{IsBytes}
+use Rattle.job_format.specs.File.{IsWellFormed, Fits}
+use Rattle.job_format.specs.Model.{FileModel}
+use Rattle.job_format.specs.Reading.{file_at}
+use Rattle.job_check.specs.Faults.{place_stages}
+use Rattle.job_check.specs.Whole.{place_questions}
+use Rattle.accepted_law.specs.Holdings.{plain_of, file_rights, file_starts}
+use Rattle.accepted_law.specs.Prepared.{IsPrepared}
+use Rattle.job_safety.specs.Safe.{AreSound}
+
+-- The jobs of a file may run over a memory: from the beginnings of their lists, each with its own rights, they are sound there. So every run
+-- is safe, whatever others write meanwhile beside what jobs may only read.
+abbrev pub MayRunOver : FileModel → List ℕ → Type 0
+MayRunOver f m = AreSound (file_rights f) (plain_of f) m (file_starts f)
+
+-- So it is of each memory that is prepared for the jobs of a file in which no rule stands, anywhere in the greatest memory;
+abbrev pub PreparedJobsMayRun : Type 0
+PreparedJobsMayRun = (f : FileModel) → IsWellFormed f → Fits f → first_of (place_stages f) ≡ None → (m : List ℕ) → IsPrepared f m → MayRunOver f m
+
+-- and of the file that any bytes hold of which no rule stands.
+abbrev pub PreparedBytesMayRun : Type 0
+PreparedBytesMayRun =
+    (bytes : List ℕ) → IsBytes bytes → first_of (place_questions bytes) ≡ None → (m : List ℕ) → IsPrepared (file_at bytes) m
+    → MayRunOver (file_at bytes) m
