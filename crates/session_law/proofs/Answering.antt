@@ -3,7 +3,7 @@ use Rattle.job_session.proofs.Held.{held_none}
 use Rattle.std.proofs.lemmas.Bool.Decides.{nat_tests}
 use Rattle.job_session.specs.Places.{covers, is_used}
 use Rattle.buffer_table.specs.declared.buffer.Kind.TheVariants.{Plain}
-use Rattle.std.proofs.Common.{ne_eqb, ◌≡◌, ℕ, ◌+◌, ◌<◌, ◌==◌, not, nat_lt, Bool, true, false, if◌then◌else◌, List, [], ◌∷◌, length, get_or, slice_index, replicate, None, arith, refl, sym, ◌∙◌, ap, subst}
+use Rattle.std.proofs.Common.{ne_eqb, ◌≡◌, ℕ, ◌+◌, ◌<◌, ◌==◌, not, nat_lt, Bool, true, false, if◌then◌else◌, List, [], ◌∷◌, ◌++◌, length, get_or, slice_index, replicate, None, arith, refl, sym, ◌∙◌, ap, subst}
 use Rattle.std.proofs.lemmas.List.{get_or-replicate, length-replicate}
 use Rattle.field_words.specs.Writes.{zeros}
 use Rattle.field_words.proofs.Writes.{length_zeros}
@@ -14,11 +14,11 @@ use Rattle.job_session.specs.Own.{Command, Create, Make, Write, Read, Free, Subm
 use Rattle.job_session.specs.Session.{Call, Past, none_yet, reply_to, after, replies_to}
 use Rattle.job_session.specs.Checked.{session_rules}
 use Rattle.job_session.specs.Desk.{Desk, SlotsFit, slot_count, slot_of, empty, first_page, page_total, held_in}
-use Rattle.job_session.specs.Replies.{desk_after, command_reply, command_after}
+use Rattle.job_session.specs.Replies.{desk_reply, desk_after, command_reply, command_after}
 use Rattle.session_law.specs.Agree.{IsKey, client_count, place_in, owner_at, Agrees}
 use Rattle.session_law.specs.History.{AreKnown, desk_left, past_left, desk_replies_to}
 use Rattle.job_session.specs.Laws.{NoneIsFull}
-use Rattle.session_law.specs.Laws.{NewSessionsAgree, CallsAreAnswered, HistoriesAgree, RepliesAreOfHistories, ClientsAreApart, OthersChangeNothing}
+use Rattle.session_law.specs.Laws.{NewSessionsAgree, CallsAreAnswered, HistoriesAgree, SessionsGoOn, RepliesAreOfHistories, ClientsAreApart, OthersChangeNothing}
 use Rattle.job_session.proofs.Apart.{replies_are_own}
 use Rattle.session_law.proofs.Bytes.{is_within, within_none, zero_at}
 use Rattle.session_law.proofs.Changing.{held_past, slot_below}
@@ -122,6 +122,18 @@ histories_from (call ∷ calls) past desk known agrees =
 
 pub histories_agree : HistoriesAgree
 histories_agree calls known = histories_from calls none_yet empty known new_sessions_agree
+
+left_more : (calls : List Call) (call : Call) (desk : Desk) → desk_after (desk_left desk calls) call ≡ desk_left desk (calls ++ call ∷ [])
+unfolding desk_left
+left_more [] call desk = refl
+left_more (first ∷ calls) call desk = left_more calls call (desk_after desk first)
+
+pub sessions_go_on : SessionsGoOn
+sessions_go_on calls call desk known client is = record {
+  reply = ap (λ (d : Desk). desk_reply d call) is
+      ∙ (calls_are_answered (past_left none_yet calls) (desk_left empty calls) call client (histories_agree calls known)).reply;
+  left = ap (λ (d : Desk). desk_after d call) is ∙ left_more calls call empty;
+}
 
 replies_from : (client : ℕ) (calls : List Call) (past : Past) (desk : Desk) → AreKnown calls → Agrees past desk
     → desk_replies_to client desk calls ≡ replies_to client session_rules past calls

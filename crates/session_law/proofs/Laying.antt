@@ -224,7 +224,7 @@ range_is read from (b ∷ buffers) same =
     let e : from + 1 + i ≡ from + suc i = omega arith in ap read e ∙ same (suc i) (omega (arith, below))) in
     λ p. here p ∷ later p
 
-header_long : (n : ℕ) → length (header_of n) ≡ 36
+pub header_long : (n : ℕ) → length (header_of n) ≡ 36
 header_long n = refl
 
 -- the file of a session's submit
@@ -235,11 +235,11 @@ pub head_count : (n : ℕ) → n ≤ 64 → buffer_count (header_of n) ≡ n
 unfolding u32_at
 head_count n few = word_back n (omega (arith, few))
 
-count_back : (n : ℕ) (rest : List ℕ) → n ≤ 64 → buffer_count (header_of n ++ rest) ≡ n
+pub count_back : (n : ℕ) (rest : List ℕ) → n ≤ 64 → buffer_count (header_of n ++ rest) ≡ n
 unfolding u32_at
 count_back n rest few = word_back n (omega (arith, few))
 
-buffers_back : (buffers : List Buffer) (tail : List ℕ) → AreLaid buffers → length buffers ≤ 64
+pub buffers_back : (buffers : List Buffer) (tail : List ℕ) → AreLaid buffers → length buffers ≤ 64
     → buffers_at (file_with buffers tail) (buffer_count (file_with buffers tail)) ≡ buffers
 unfolding buffers_at
 buffers_back buffers tail laid few =
@@ -251,11 +251,11 @@ buffers_back buffers tail laid few =
     ∙ (entry_past 36 (20 * i) (header_of (length buffers)) (flat_map buffer_text buffers ++ tail) (header_long (length buffers))
     ∙ entries_back buffers tail i laid below))
 
-regions_back : (n : ℕ) (rest : List ℕ) → regions_at (header_of n ++ rest) ≡ regions
+pub regions_back : (n : ℕ) (rest : List ℕ) → regions_at (header_of n ++ rest) ≡ regions
 unfolding regions_at u32_at
 regions_back n rest = refl
 
-size_back : (n : ℕ) (rest : List ℕ) → u32_at (header_of n ++ rest) 8 ≡ memory_size
+pub size_back : (n : ℕ) (rest : List ℕ) → u32_at (header_of n ++ rest) 8 ≡ memory_size
 unfolding u32_at
 size_back n rest = refl
 

@@ -28,17 +28,17 @@ use Rattle.session_law.proofs.Counting.{pages_sum, slots_clash, few_pages}
 use Rattle.session_law.proofs.Laying.{IsWellPlaced, AreApart, ApartFrom, AreLaid, head_count, table_stands}
 
 -- what a slot with pages holds
-abbrev slot_held : Desk → ℕ → ℕ → Held
+abbrev pub slot_held : Desk → ℕ → ℕ → Held
 slot_held desk client id = record { kind = kind_of desk client id; bytes = bytes_of desk client id }
 
-record HasHeld (desk : Desk) (client id : ℕ) : Type 0 where
-  is : held_in desk client id ≡ Some (slot_held desk client id)
-  some : 1 ≤ page_total desk client id
-  size : length (bytes_of desk client id) ≡ page_size * page_total desk client id
+pub record HasHeld (desk : Desk) (client id : ℕ) : Type 0 where
+  pub is : held_in desk client id ≡ Some (slot_held desk client id)
+  pub some : 1 ≤ page_total desk client id
+  pub size : length (bytes_of desk client id) ≡ page_size * page_total desk client id
 
-record HasNone (desk : Desk) (client id : ℕ) : Type 0 where
-  is : held_in desk client id ≡ None
-  none : page_total desk client id ≡ 0
+pub record HasNone (desk : Desk) (client id : ℕ) : Type 0 where
+  pub is : held_in desk client id ≡ None
+  pub none : page_total desk client id ≡ 0
 
 slot_by : (past : Past) (desk : Desk) (client id : ℕ) → Agrees past desk → IsKey client id → (b : Bool) → nat_le (page_total desk client id) 0 ≡ b
     → HasNone desk client id ⊎ HasHeld desk client id
@@ -53,7 +53,7 @@ slot_by past desk client id agrees key false is =
       size = window_length desk.map.memory (place_of (first_page desk client id)) (page_size * page_total desk client id) (room_in past desk client id agrees key);
     })
 
-slot_is : (past : Past) (desk : Desk) (client id : ℕ) → Agrees past desk → IsKey client id → HasNone desk client id ⊎ HasHeld desk client id
+pub slot_is : (past : Past) (desk : Desk) (client id : ℕ) → Agrees past desk → IsKey client id → HasNone desk client id ⊎ HasHeld desk client id
 slot_is past desk client id agrees key = slot_by past desk client id agrees key (nat_le (page_total desk client id) 0) refl
 
 -- a live buffer at a place of whole pages with room behind it
@@ -176,7 +176,7 @@ lying_apart past desk client id other (suc n) agrees key held order few =
           later,
         )
 
-lying_laid : (past : Past) (desk : Desk) (client id n : ℕ) → Agrees past desk → client < client_count → id + n ≤ most_buffers → AreLaid (lying desk client id n)
+pub lying_laid : (past : Past) (desk : Desk) (client id n : ℕ) → Agrees past desk → client < client_count → id + n ≤ most_buffers → AreLaid (lying desk client id n)
 unfolding lying
 lying_laid past desk client id zero agrees known few = tt
 lying_laid past desk client id (suc n) agrees known few =
@@ -248,7 +248,7 @@ packed_stands past desk client parts agrees known =
     (packed_laid past desk client 0 most_buffers first_place agrees known (omega arith) (omega arith) (omega arith) (omega (arith, most)))
     (packed_few client (held_in desk client) 0 most_buffers first_place)
 
-lying_few : (desk : Desk) (client id n : ℕ) → length (lying desk client id n) ≤ n
+pub lying_few : (desk : Desk) (client id n : ℕ) → length (lying desk client id n) ≤ n
 unfolding lying
 lying_few desk client id zero = omega arith
 lying_few desk client id (suc n) =

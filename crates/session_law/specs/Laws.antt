@@ -1,5 +1,5 @@
 -- The calls of a session answer and leave what the calls before them, of all clients, say.
-use Rattle.std.specs.Prelude.{◌≡◌, ◌≤◌, ◌<◌, ◌↔◌, ℕ, List, Some, None}
+use Rattle.std.specs.Prelude.{◌≡◌, ◌≤◌, ◌<◌, ◌↔◌, ℕ, List, [], ◌∷◌, ◌++◌, Some, None}
 use Rattle.job_format.specs.declared.rule.Refusal.{Refusal}
 use Rattle.job_session.specs.Own.{Refused, own_replies}
 use Rattle.job_session.specs.Session.{Call, Past, none_yet, reply_to, after, replies_to, commands_of}
@@ -27,6 +27,17 @@ CallsAreAnswered = (past : Past) (desk : Desk) (call : Call) → call.client < c
 
 abbrev pub HistoriesAgree : Type 0
 HistoriesAgree = (calls : List Call) → AreKnown calls → Agrees (past_left none_yet calls) (desk_left empty calls)
+
+-- Calls were made on a new session one after the other, and this is what they left: a further call's reply is that of the history of all of
+-- them, and what it leaves is what all of them leave. So a session that is called as its contracts say agrees with its history.
+pub record GoesOn (calls : List Call) (call : Call) (desk : Desk) : Type 0 where
+  pub reply : desk_reply desk call ≡ reply_to session_rules (past_left none_yet calls) call
+  pub left : desk_after desk call ≡ desk_left empty (calls ++ call ∷ [])
+
+abbrev pub SessionsGoOn : Type 0
+SessionsGoOn =
+    (calls : List Call) (call : Call) (desk : Desk) → AreKnown calls → call.client < client_count → desk ≡ desk_left empty calls
+    → GoesOn calls call desk
 
 abbrev pub RepliesAreOfHistories : Type 0
 RepliesAreOfHistories = (client : ℕ) (calls : List Call) → AreKnown calls → desk_replies_to client empty calls ≡ replies_to client session_rules none_yet calls

@@ -11,7 +11,7 @@
 //! buffers where they lie, and `Laws` names the laws. Each law is a function with an empty body, so that a call can cite it.
 #![tactic(auto)]
 
-ghost use Rattle.session_law.specs.Laws.{NewSessionsAgree, CallsAreAnswered, HistoriesAgree, RepliesAreOfHistories};
+ghost use Rattle.session_law.specs.Laws.{NewSessionsAgree, CallsAreAnswered, HistoriesAgree, SessionsGoOn, RepliesAreOfHistories};
 ghost use Rattle.session_law.specs.Laws.{ClientsAreApart, OthersChangeNothing, MemoryIsKept, FullIsExact, PlacesAreLowest};
 ghost use Rattle.session_law.specs.Lying.{SubmitsAreOfPlaces};
 ghost use Rattle.session_law.specs.Scripts.{ScriptsAreOfHistories, ScriptsAreOfCalls};
@@ -32,6 +32,12 @@ pub fn calls_are_answered()
 #[tactic(auto, using(crate::proofs::Answering::histories_agree))]
 pub fn histories_agree()
     ensures { HistoriesAgree }
+{}
+
+/// A session on which calls were made one after the other answers a further call as the history of all of them says, and is left as all of
+/// them leave a new one: its calls' clauses on answers and on what they leave say no less than the script's.
+pub fn sessions_go_on()
+    ensures { SessionsGoOn }
 {}
 
 /// The replies to a client are those of the history of all clients' calls.
