@@ -3,11 +3,13 @@
 //! The memory is one block. Its front is kept for jobs' lists and one tile slot; behind it lie 4,096 pages of 4,096 bytes. A
 //! buffer takes the lowest run of free pages that is long enough. Pages that are given back are zero from then on.
 //!
-//! In `specs/`, `Runs` says what a run of free pages is and which is the lowest, and `Map` what each call leaves.
+//! In `specs/`, `Runs` says what a run of free pages is and which is the lowest, `Map` what each call
+//! leaves, and `Marks` the bits by which free pages are found.
 #![tactic(auto)]
 
+mod marks;
+mod owners;
 mod pages;
-mod runs;
 #[cfg(test)]
 mod tests;
 

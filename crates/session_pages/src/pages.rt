@@ -6,7 +6,8 @@ ghost use Rattle.phys_mem.specs.Window.{window_of};
 ghost use Rattle.session_pages.specs.Map.{all_free as all_free_map, free_run, with_run, without_run, with_part, place_of, memory_size};
 ghost use Rattle.session_pages.specs.Runs.{page_count};
 
-use crate::runs::{all_free, first_run, hold};
+use crate::marks::{first_run, mark, none_marked};
+use crate::owners::{all_free, hold};
 use field_words::{NoMemory, PAGE_SIZE};
 use phys_mem::PhysMem;
 use std::alloc::Global;
@@ -21,21 +22,24 @@ pub const FIRST_PLACE: u32 = 4_718_592;
 /// The bytes of the memory.
 pub const MEMORY_SIZE: u32 = 21_495_808;
 
-/// The memory, and for each page who holds it: 0 for a free page, else its owner's number.
+/// The memory; for each page who holds it: 0 for a free page, else its owner's number; and for each page a bit that says whether it is
+/// held, so that a look for free pages goes by words.
 #[derive(Drop)]
 pub struct Pages {
     memory: PhysMem,
     owners: Vec<u16>,
+    marks: [u64; 64],
 }
 
 impl Model for Pages {
     ghost use Rattle.session_pages.specs.Map.{PageMap, IsWhole};
+    ghost use Rattle.session_pages.specs.Marks.{AreMarks};
 
     ghost Value = { PageMap };
 
     ghost view = { λ p. record { memory = p.memory; owners = p.owners.items } };
 
-    ghost invariant = { λ p. IsWhole p.memory p.owners.items };
+    ghost invariant = { λ p. IsWhole p.memory p.owners.items × AreMarks p.owners.items p.marks };
 }
 
 fn place_of_page(page: u32) -> u32
@@ -52,7 +56,12 @@ impl Pages {
     {
         let memory = PhysMem::new(alloc, MEMORY_SIZE)?;
         let owners = all_free(alloc, PAGE_COUNT as usize)?;
-        Ok(Pages { memory, owners })
+        let marks = none_marked();
+        Ok(Pages {
+            memory,
+            owners,
+            marks,
+        })
     }
 
     /// The bytes of the memory. There are always as many.
@@ -71,8 +80,9 @@ impl Pages {
         ensures inside { IfSome result (λ first. first + pages ≤ page_count) }
         ensures taken { self.new ≡ with_run self.old pages owner result }
     {
-        let first = first_run(&self.owners, pages)?;
+        let first = first_run(&self.marks, pages)?;
         hold(&mut self.owners, first, pages, owner);
+        mark(&mut self.marks, first, pages, owner != 0);
         Some(first)
     }
 
@@ -84,6 +94,7 @@ impl Pages {
         let place = place_of_page(first);
         clear(&mut self.memory, place, PAGE_SIZE * pages);
         hold(&mut self.owners, first, pages, 0);
+        mark(&mut self.marks, first, pages, false);
     }
 
     /// Puts these bytes into the memory, from a page's byte `at` on. It takes no memory.
