@@ -1,13 +1,11 @@
 -- A memory that is prepared for the jobs of an accepted file has their lists and their code as the emitted one.
-use Rattle.std.proofs.Common.{◌≡◌, inl, inr, ℕ, zero, suc, ◌+◌, ◌-◌, ◌<◌, ◌≤◌, List, ◌++◌, Some, length, slice_index, refl, sym, ap, subst, arith, ◌∙◌}
+use Rattle.std.proofs.Common.{◌≡◌, inl, inr, ℕ, zero, suc, ◌+◌, ◌-◌, ◌<◌, ◌≤◌, List, ◌++◌, length, slice_index, refl, sym, ap, subst, arith, ◌∙◌}
 use Rattle.std.proofs.lemmas.Bool.{cases_lt}
 use Rattle.std.proofs.lemmas.List.{places, get_or_past}
-use Rattle.field_words.specs.Writes.{with_bytes, zeros}
+use Rattle.field_words.specs.Writes.{zeros}
 use Rattle.field_words.proofs.Writes.{with_bytes-inside}
 use Rattle.phys_mem.specs.Window.{window_of}
-use Rattle.buffer_table.specs.declared.buffer.Buffer.{Buffer}
 use Rattle.buffer_table.specs.Table.{buffer_at}
-use Rattle.buffer_table.specs.Handles.{code_of}
 use Rattle.buffer_table.proofs.Named.{code_is}
 use Rattle.relocation.specs.Layout.{region_end}
 use Rattle.job_format.specs.Model.{FileModel}
@@ -23,10 +21,10 @@ use Rattle.machine_plan.specs.Regions.{Inside}
 use Rattle.accepted_law.specs.Holdings.{lists_of, codes_of, fixed_below, fixed_of}
 use Rattle.accepted_law.specs.Neighbours.{IsFaultless}
 use Rattle.accepted_law.specs.Settled.{Settled, AreSettled}
-use Rattle.accepted_law.specs.Prepared.{filled, HasContent, HasCode, IsPrepared, PreparedMemoriesAgree}
+use Rattle.accepted_law.specs.Prepared.{filled, IsPrepared, PreparedMemoriesAgree}
 use Rattle.accepted_law.proofs.ByJob.{inside_either}
 use Rattle.accepted_law.proofs.Emitted.{buffer_byte, zero_byte}
-use Rattle.accepted_law.proofs.Fixed.{LiesInOne, in_one}
+use Rattle.accepted_law.proofs.Fixed.{in_one}
 use Rattle.accepted_law.proofs.Grounds.{four_lie}
 use Rattle.accepted_law.proofs.Holding.{lists_end, holds_all, with_contents, long_contents, zeros_fit}
 use Rattle.accepted_law.proofs.Intervals.{code_held}
