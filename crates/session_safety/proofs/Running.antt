@@ -1,9 +1,8 @@
 -- The job of an accepted submit may run over the session's memory.
-use Rattle.std.proofs.Common.{◌≡◌, ℕ, ◌+◌, ◌-◌, ◌*◌, ◌<◌, ◌≤◌, List, [], ◌∷◌, ◌++◌, Option, Some, None, Ok, length, take, drop, append-nil, arith, refl, sym, ◌∙◌, ap, subst}
+use Rattle.std.proofs.Common.{◌≡◌, ℕ, ◌+◌, ◌-◌, ◌*◌, ◌<◌, ◌≤◌, List, ◌++◌, Option, Some, None, Ok, length, drop, append-nil, arith, refl, sym, ◌∙◌, ap, subst}
 use Rattle.field_words.specs.Sizes.{page_size}
 use Rattle.field_words.specs.Questions.{first_of, answered}
 use Rattle.field_words.proofs.Nones.{front_none, none_answered}
-use Rattle.field_words.specs.Words.{u32_at}
 use Rattle.field_words.specs.Writes.{with_bytes, zeros}
 use Rattle.field_words.proofs.Writes.{length-with_bytes, with_bytes-behind}
 use Rattle.phys_mem.specs.Window.{window_of}
@@ -15,7 +14,6 @@ use Rattle.buffer_table.specs.Table.{buffer_at}
 use Rattle.buffer_table.proofs.Named.{code_is}
 use Rattle.job_format.specs.declared.rule.Refusal.{Refusal}
 use Rattle.job_format.specs.Faults.{format_questions}
-use Rattle.job_format.specs.Model.{FileModel}
 use Rattle.job_format.specs.Reading.{file_at}
 use Rattle.job_format.proofs.Passing.{passes_all}
 use Rattle.job_check.specs.Faults.{file_stages}
@@ -31,12 +29,11 @@ use Rattle.job_safety.proofs.Safety.{bytes_spell, faultless}
 use Rattle.session_pages.specs.Map.{memory_size, place_of}
 use Rattle.job_session.specs.Own.{most_buffers}
 use Rattle.job_session.specs.Session.{Past}
-use Rattle.job_session.specs.Submit.{content_of, laid, with_client, contents_from, job_bytes}
-use Rattle.job_session.specs.Desk.{Desk, slot_of, first_page, page_total, kind_of, bytes_of, held_in, job_answer}
+use Rattle.job_session.specs.Submit.{content_of, laid, with_client}
+use Rattle.job_session.specs.Desk.{Desk, first_page, page_total, kind_of, bytes_of, job_answer}
 use Rattle.session_law.specs.Agree.{IsKey, client_count, Agrees}
 use Rattle.session_law.specs.Lying.{lying, lying_file}
 use Rattle.session_law.proofs.Bytes.{window_length, window_same}
-use Rattle.session_law.proofs.Changing.{slot_below}
 use Rattle.session_law.proofs.Laying.{regions, regions_back, size_back}
 use Rattle.session_law.proofs.Lying.{slot_held, submits_are_of_places}
 use Rattle.session_law.proofs.Writing.{room_in}
