@@ -26,7 +26,7 @@ use Rattle.accepted_law.proofs.Settling.{files_settle_law, handles_clear}
 use Rattle.accepted_law.proofs.Tables.{tiles_apart}
 
 -- Each handle names a buffer of the job's own client.
-of_client : (t : TableModel) (client : ℕ) (numbers : List ℕ) → first_of (handles_questions t client numbers) ≡ None
+pub of_client : (t : TableModel) (client : ℕ) (numbers : List ℕ) → first_of (handles_questions t client numbers) ≡ None
     → (i : ℕ) → i < length numbers → (buffer_at t.buffers (slice_index numbers i)).client ≡ client
 unfolding handles_questions handle_questions
 of_client t client numbers none i inside =

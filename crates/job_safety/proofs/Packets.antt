@@ -101,7 +101,7 @@ unfolding is_unknown
 unknown opcode (inl none) = rw none refl
 unknown opcode (inr own) = is_own opcode own
 
-wild_where : {R : Type 0} (jobs : List Rights) (who : Who) (m : List ℕ) (wild : Bool) (plan : Plan R) → wild ≡ true → Every (IsSafeAccess jobs) (carried who (if wild then Wilds else plan) m).accesses → ⊥
+pub wild_where : {R : Type 0} (jobs : List Rights) (who : Who) (m : List ℕ) (wild : Bool) (plan : Plan R) → wild ≡ true → Every (IsSafeAccess jobs) (carried who (if wild then Wilds else plan) m).accesses → ⊥
 wild_where jobs who m true plan is all = all.0.tame refl
 wild_where jobs who m false plan is all = absurd cc
 
@@ -169,14 +169,14 @@ abbrev MayWrite : List Rights → Who → ℕ → ℕ → Type 0
 MayWrite jobs who place len = Inside (rights_of jobs who.job).writable place len
 
 -- all that the plan does is safe
-abbrev AllSafe : {R : Type 0} → List Rights → Who → List ℕ → Plan R → Type 0
+abbrev pub AllSafe : {R : Type 0} → List Rights → Who → List ℕ → Plan R → Type 0
 AllSafe jobs who m plan = Every (IsSafeAccess jobs) (carried who plan m).accesses
 
 zeros_long : (n : ℕ) → length (zeros n) ≡ n
 zeros_long n = length-replicate {A = ℕ} n 0
 
 -- the packet that starts binning
-start_plan : (s : Lists) (packet : List ℕ) → slice_index packet 0 ≡ start_tile_binning → bin_packet_plan s packet ≡ begin_plan s s.binner.kept.config
+pub start_plan : (s : Lists) (packet : List ℕ) → slice_index packet 0 ≡ start_tile_binning → bin_packet_plan s packet ≡ begin_plan s s.binner.kept.config
 unfolding bin_packet_plan is_unknown bin_length
 start_plan s packet is = rw is refl
 

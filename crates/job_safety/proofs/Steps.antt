@@ -38,7 +38,7 @@ pub mapped_accesses : {R T : Type 0} (put : R → T) (who : Who) (plan : Plan R)
 mapped_accesses put who plan m = ap (λ o. o.accesses) (carried_mapped put who plan m)
 
 -- the active thread of a processor
-thread_step : (jobs : List Rights) (m : List ℕ) (u : Units) (k : ℕ) (thread : Thread) → IsActive m u k thread → Safe ready turn jobs m u
+pub thread_step : (jobs : List Rights) (m : List ℕ) (u : Units) (k : ℕ) (thread : Thread) → IsActive m u k thread → Safe ready turn jobs m u
     → Every (IsSafeAccess jobs) (carried (record { unit = TheQpu k; job = thread.job }) (thread_plan thread []) m).accesses
 unfolding turn ready enabled
 thread_step jobs m u k thread at safe =
@@ -57,7 +57,7 @@ is_unit : (n : ℕ) → n < 2 → nat_lt n 2 ≡ true
 is_unit n below = grind (arith, nat_tests)
 
 -- the oldest request of a texture unit
-request_step : (jobs : List Rights) (m : List ℕ) (u : Units) (k unit : ℕ) (request : Request) (words : List ℕ) → IsOldest u k unit request → Safe ready turn jobs m u
+pub request_step : (jobs : List Rights) (m : List ℕ) (u : Units) (k unit : ℕ) (request : Request) (words : List ℕ) → IsOldest u k unit request → Safe ready turn jobs m u
     → Every (IsSafeAccess jobs) (carried (record { unit = TheTmu k unit; job = request.job }) (ask_plan request.ask words) m).accesses
 unfolding turn ready
 request_step jobs m u k unit request words at safe =
@@ -94,7 +94,7 @@ texture_past : (jobs : List Rights) (who : Who) (m : List ℕ) (texture : Textur
 unfolding texture_reads
 texture_past jobs who m texture words past all = read_past jobs who m (chosen_place texture words 0) (chosen_length texture words 0) (texture_reads texture words 1 127) past all
 
-undefined_or : {R : Type 0} (jobs : List Rights) (who : Who) (m : List ℕ) (undefined : Bool) (plan : Plan R) → Every (IsSafeAccess jobs) (carried who (if undefined then Wilds else plan) m).accesses
+pub undefined_or : {R : Type 0} (jobs : List Rights) (who : Who) (m : List ℕ) (undefined : Bool) (plan : Plan R) → Every (IsSafeAccess jobs) (carried who (if undefined then Wilds else plan) m).accesses
     → Every (IsSafeAccess jobs) (carried who plan m).accesses
 undefined_or jobs who m true plan all = absurd (all.0.tame refl)
 undefined_or jobs who m false plan all = all
