@@ -69,13 +69,13 @@ fn one_job(alloc: Global, second: u64, handles: u32) -> Result<Vec<u8>, AllocErr
     Ok(bytes)
 }
 
-// The renderer list has three packets: the frame, the tile's coordinates and its store. The tile lists have 32,768 items at most, which are
-// put. The program end is the sixth instruction, so a program has eight, of two steps each.
+// The renderer list has three packets: the frame, the tile's coordinates and its store. The program end is the sixth instruction, so a
+// program has eight, of one step each.
 #[test]
 fn steps_of_one_job(rt: HostRuntime) -> Result<(), Fail> {
     let alloc = rt.alloc();
     let text = bound_text(alloc, &one_job(alloc, NOP, 2)?)?;
-    assert_eq!(rt; text.as_slice(), b"steps 32771 and 17 a stay\n".as_slice());
+    assert_eq!(rt; text.as_slice(), b"steps 3 and 9 a stay\n".as_slice());
     Ok(())
 }
 
@@ -93,6 +93,6 @@ fn loop_in_a_shader(rt: HostRuntime) -> Result<(), Fail> {
 fn loop_in_a_shader_that_no_job_starts(rt: HostRuntime) -> Result<(), Fail> {
     let alloc = rt.alloc();
     let text = bound_text(alloc, &one_job(alloc, BACK, 1)?)?;
-    assert_eq!(rt; text.as_slice(), b"steps 32771 and 1 a stay\n".as_slice());
+    assert_eq!(rt; text.as_slice(), b"steps 3 and 1 a stay\n".as_slice());
     Ok(())
 }

@@ -31,13 +31,13 @@ fn sessions(rt: HostRuntime) -> Result<(), Fail> {
     Ok(())
 }
 
-// The smallest job has three packets for the renderer and no shader; tile lists have 32,768 items at most.
+// The smallest job has three packets for the renderer and no shader; its run takes these three steps (`replays_the_smallest_job`).
 #[test]
 fn bounds(rt: HostRuntime) -> Result<(), Fail> {
     let alloc = rt.alloc();
     let (status, text) = answer(alloc, "bound", file(alloc, SMALLEST)?)?;
     assert_eq!(rt; status, 0);
-    assert_eq!(rt; text.as_slice(), b"steps 32771 and 1 a stay\n".as_slice());
+    assert_eq!(rt; text.as_slice(), b"steps 3 and 1 a stay\n".as_slice());
     let (status, text) = answer(alloc, "bound", Vec::new(alloc))?;
     assert_eq!(rt; status, 1);
     assert_eq!(rt; text.as_slice(), b"refused F2 at 0\n".as_slice());

@@ -25,7 +25,9 @@ use Rattle.machine_law.proofs.Begins.{homes_stay_law, fetches_stay, single_stays
 use Rattle.ends_law.specs.Ends.{DrawShort, JobShort}
 use Rattle.ends_law.specs.Left.{EachWithin, LaunchShort, QpuLeft, AllWhole, JobEnds, UnitsLeft}
 use Rattle.ends_law.specs.Loops.{IsShort}
+use Rattle.ends_law.specs.Room.{room_of}
 use Rattle.ends_law.specs.Steps.{one_if, times, most_times, most_visits, all_entered, job_steps}
+use Rattle.ends_law.proofs.Rooms.{counted_none}
 
 -- a program that may be started in each run
 launch_short : (rights : List Rights) (plains : ℕ → List Interval) (first : List ℕ) (w j : ℕ) (launch : Launch) → (begins : LaunchBegins rights plains first j launch) → IsShort w begins.home.code → LaunchShort rights (HasReadOnly rights first) w j launch
@@ -117,6 +119,9 @@ job_ends rights plains first w j n start short =
     let binned : ListsFine r K O begins.config begins.frame (lists_start start.bin_place start.bin_len start.render_place (length (slots_text begins.slots))) =
     subst (λ n. ListsFine r K O begins.config begins.frame (lists_start start.bin_place n start.render_place (length (slots_text begins.slots)))) (sym begins.bin_len) all in
     let within = short.within in
+    let room : ℕ = room_of begins.packets in
+    let none : room - length (job_start start).items ≡ room = omega arith in
+    let same_items : (room - length (job_start start).items) * (1 + most_visits begins.slots) ≡ room * (1 + most_visits begins.slots) = ap (λ x. x * (1 + most_visits begins.slots)) none in
     record {
       config = begins.config;
       frame = begins.frame;
@@ -132,9 +137,13 @@ job_ends rights plains first w j n start short =
         render_ends = ap (λ n. start.render_place + n) (sym begins.render_len);
         render_stands = text_stays rights first j start.render_place (slots_text begins.slots) begins.render_text;
         fit = begins.render_fits;
+        most = room_of begins.packets;
         few = omega arith;
+        counted = counted_none begins.config;
+        kept_room = omega arith;
+        rest_room = omega arith;
         often = λ tile. (let most = often_most (begins.config.address + 32 * tile) begins.slots in omega (arith, most));
-        sum = omega (arith, within);
+        sum = omega (arith, within, same_items);
       };
     }
 

@@ -3,6 +3,7 @@ pub mod Shares
 pub mod Threads
 pub mod Processors
 pub mod Visits
+pub mod Rooms
 pub mod Binner
 pub mod Renderer
 pub mod Machine

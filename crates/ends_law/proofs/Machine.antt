@@ -70,7 +70,7 @@ binner_turned rights K w j n s free words m here ends on =
     comes_by (binner_of j) (Inside r.region) r (λ turned. TurnedFine r K O ends.config ends.frame turned) (ListsLess K ends.config w ends.most n 0) (JobTurned rights K w j n 0)
     (λ turned fine less. job_turned rights K w j n 0 s turned ends fine less) (binner_plan s free words) m
     (binner_keeps (binner_of j) r K O ends.config ends.frame s free words m ends.allocates here ends.lists on)
-    (binner_goes (binner_of j) K ends.config w ends.most n s free words m here ends.left on)
+    (binner_goes (binner_of j) K ends.config w ends.most n s free words m here ends.lists.configs ends.left on)
 
 renderer_turned : (rights : List Rights) (K : List ℕ → Type 0) (w j n : ℕ) (s : Lists) (free : Free) (words m : List ℕ) → K m → JobEnds rights K w j n s → glanced (renderer_ready s) m ≡ true
     → Comes (renderer_of j) (JobTurned rights K w j n (one_if (stays s words))) (renderer_plan s free words) m

@@ -17,6 +17,7 @@ use Rattle.qpu_machine.specs.Qpu.{active_of, left_by, gives_way, refreshed, woke
 use Rattle.qpu_machine.specs.Start.{thread_of}
 use Rattle.qpu_machine.specs.Step.{ThreadTurn}
 use Rattle.ends_law.specs.Left.{EachWithin, LaunchShort, ThreadLeft, QpuLeft}
+use Rattle.ends_law.specs.Steps.{one_if}
 use Rattle.ends_law.proofs.Shares.{more_within}
 use Rattle.ends_law.proofs.Threads.{ThreadGoes, thread_begins}
 
@@ -66,7 +67,7 @@ one_queue : (tmu : ℕ) → (tmu == 0) ≡ true → (tmu == 1) ≡ false
 one_queue tmu first = grind (arith, common_steps, nat_tests, first)
 
 queues_with : (second : Bool) (job : ℕ) (asked : Option Asked) (requests others : List Request)
-    → length (queue_with 0 second job asked requests) + length (queue_with 1 second job asked others) ≤ length requests + length others + 1
+    → length (queue_with 0 second job asked requests) + length (queue_with 1 second job asked others) ≤ length requests + length others + one_if (is_some asked)
 queues_with second job None requests others = omega arith
 queues_with second job (Some asked) requests others =
     one_by (asked.tmu == 0) (asked.tmu == 1) requests others (record { second = second; job = job; ask = asked.ask }) (one_queue asked.tmu)
@@ -78,7 +79,7 @@ own_left rights K n t Switches left = left (λ e. cc)
 own_left rights K n t Ends left = tt
 
 settled_left : (rights : List Rights) (K : List ℕ → Type 0) (k n rest m : ℕ) (q : Qpu) (second : Bool) (job : ℕ) (own : Option Thread) (over : Bool) (asked : Option Asked)
-    → (left : QpuLeft rights K k n (record q { second = second })) → SlotLeft rights K rest own → rest + n + 1 ≤ (if second then left.others else left.firsts) + m
+    → (left : QpuLeft rights K k n (record q { second = second })) → SlotLeft rights K rest own → rest + n + one_if (is_some asked) ≤ (if second then left.others else left.firsts) + m
     → QpuLeft rights K k m (settled (record q { second = second }) job own over asked)
 unfolding settled
 settled_left rights K k n rest m q true job own over asked left slot less =
@@ -113,7 +114,7 @@ pub went_left : (rights : List Rights) (K : List ℕ → Type 0) (k n : ℕ) (q 
 went_left rights K k n q t turn left goes =
     let share : ℕ = if q.second then left.others else left.firsts in
     let within : share ≤ n = share_within q.second left.firsts left.others (length q.queue0.items + length q.queue1.items) n left.sum in
-    let less : goes.rest + 2 ≤ share = goes.less in
+    let less : goes.rest + 1 + one_if (is_some turn.leaves.asked) ≤ share = goes.less in
     record {
       rest = n - 1;
       left = settled_left rights K k n goes.rest (n - 1) q q.second t.job (left_by turn.leaves.fate turn.thread) (gives_way turn.leaves.fate) turn.leaves.asked left

@@ -31,7 +31,7 @@ use Rattle.list_machine.specs.declared.state.Program.TheVariants.{Fragment, Vert
 use Rattle.list_machine.specs.declared.state.SubList.{SubList}
 use Rattle.list_machine.specs.declared.state.Work.{Work}
 use Rattle.list_machine.specs.declared.surface.Cover.{Cover}
-use Rattle.list_machine.specs.Lists.{Lists, Turned, turned_to, quiet, most_items}
+use Rattle.list_machine.specs.Lists.{Lists, Turned, turned_to, quiet}
 use Rattle.list_machine.specs.Blocks.{tiles_of}
 use Rattle.list_machine.specs.Cover.{cover_for, part_count}
 use Rattle.list_machine.specs.Fetch.{fetch_plan}
@@ -45,6 +45,7 @@ use Rattle.list_law.proofs.Logs.{same}
 use Rattle.list_law.proofs.Rendering.{some_text}
 use Rattle.list_law.proofs.Safe.{keeps_if}
 use Rattle.ends_law.specs.Left.{is_inside, visits, AllWhole, ListsLeft, JobLeft}
+use Rattle.ends_law.specs.Room.{room_of, room_by, Counted}
 use Rattle.ends_law.specs.Stays.{is_at_item, stays}
 use Rattle.ends_law.specs.Steps.{one_if, work_left, bin_steps, render_steps, times, entered, all_entered}
 use Rattle.ends_law.proofs.Binner.{ListsLess, quiet_less, launch_at_most}
@@ -117,7 +118,7 @@ branch_goes who P s c address m true config only enter =
     subst (λ (one : Option Config). Comes who P (enter_plan s (tile_by one address)) m) (sym (only refl)) (enters who P s c address (tile_named c address) m refl enter)
 
 -- Where the renderer stands behind a packet, in no tile's list; and in the one that the packet goes into.
-record Behind (K : List ℕ → Type 0) (c : Config) (w d n place end : ℕ) (work : Option Work) (there upto : ℕ) (items : List Item) (packet : Packet) (slots : List (Option Packet)) : Type 0 where
+record Behind (K : List ℕ → Type 0) (c : Config) (w d n place end : ℕ) (work : Option Work) (there upto : ℕ) (config : Option Config) (blocks : ℕ) (items : List Item) (packet : Packet) (slots : List (Option Packet)) : Type 0 where
   packets : List (List ℕ)
   bin_ends : place + length (joined_bytes packets) ≡ end
   bin_stands : (m : List ℕ) → K m → bytes_at m place (length (joined_bytes packets)) ≡ joined_bytes packets
@@ -125,16 +126,20 @@ record Behind (K : List ℕ → Type 0) (c : Config) (w d n place end : ℕ) (wo
   render_ends : there + length (slots_text slots) ≡ upto
   render_stands : (m : List ℕ) → K m → bytes_at m there (length (slots_text slots)) ≡ slots_text slots
   fit : AllFit slots
-  few : length items ≤ most_items
+  most : ℕ
+  few : length items ≤ most
+  counted : Counted c blocks items
+  kept_room : room_by config ≤ most
+  rest_room : room_of packets ≤ most
   often : (tile : ℕ) → times (c.address + 32 * tile) (entered packet ++ all_entered slots) + 0 ≤ d
-  sum : bin_steps w packets + work_left w work + (most_items - length items) * (1 + d) + (1 + length (entered packet) + render_steps slots + 0)
+  sum : bin_steps w packets + work_left w work + (most - length items) * (1 + d) + (1 + length (entered packet) + render_steps slots + 0)
       + visits c (entered packet ++ all_entered slots) None 0 items ≤ n
 
-passed : (K : List ℕ → Type 0) (c : Config) (w d n place end : ℕ) (work : Option Work) (there upto : ℕ) (items : List Item) (packet : Packet) (slots : List (Option Packet)) → entered packet ≡ []
-    → Behind K c w d n place end work there upto items packet slots → ListsLeft K c w d (n - 1) place end work there upto None items
-passed K c w d n place end work there upto items packet slots none left =
-    let all : bin_steps w left.packets + work_left w work + (most_items - length items) * (1 + d) + (1 + length {A = ℕ} [] + render_steps slots + 0) + visits c ([] ++ all_entered slots) None 0 items ≤ n =
-    subst (λ (es : List ℕ). bin_steps w left.packets + work_left w work + (most_items - length items) * (1 + d) + (1 + length es + render_steps slots + 0) + visits c (es ++ all_entered slots) None 0 items ≤ n) none left.sum in
+passed : (K : List ℕ → Type 0) (c : Config) (w d n place end : ℕ) (work : Option Work) (there upto : ℕ) (config : Option Config) (blocks : ℕ) (items : List Item) (packet : Packet) (slots : List (Option Packet)) → entered packet ≡ []
+    → Behind K c w d n place end work there upto config blocks items packet slots → ListsLeft K c w d (n - 1) place end work there upto None config blocks items
+passed K c w d n place end work there upto config blocks items packet slots none left =
+    let all : bin_steps w left.packets + work_left w work + (left.most - length items) * (1 + d) + (1 + length {A = ℕ} [] + render_steps slots + 0) + visits c ([] ++ all_entered slots) None 0 items ≤ n =
+    subst (λ (es : List ℕ). bin_steps w left.packets + work_left w work + (left.most - length items) * (1 + d) + (1 + length es + render_steps slots + 0) + visits c (es ++ all_entered slots) None 0 items ≤ n) none left.sum in
     record {
       packets = left.packets;
       bin_ends = left.bin_ends;
@@ -144,14 +149,18 @@ passed K c w d n place end work there upto items packet slots none left =
       render_ends = left.render_ends;
       render_stands = left.render_stands;
       fit = left.fit;
+      most = left.most;
       few = left.few;
+      counted = left.counted;
+      kept_room = left.kept_room;
+      rest_room = left.rest_room;
       often = λ tile. subst (λ (es : List ℕ). times (c.address + 32 * tile) (es ++ all_entered slots) + 0 ≤ d) none (left.often tile);
       sum = omega (arith, all);
     }
 
-gone_in : (K : List ℕ → Type 0) (c : Config) (w d n place end : ℕ) (work : Option Work) (there upto : ℕ) (items : List Item) (address tile : ℕ) (slots : List (Option Packet)) → address ≡ c.address + 32 * tile
-    → Behind K c w d n place end work there upto items (BranchToSubList address) slots → ListsLeft K c w d (n - 1) place end work there upto (stands_at tile 0) items
-gone_in K c w d n place end work there upto items address tile slots is left =
+gone_in : (K : List ℕ → Type 0) (c : Config) (w d n place end : ℕ) (work : Option Work) (there upto : ℕ) (config : Option Config) (blocks : ℕ) (items : List Item) (address tile : ℕ) (slots : List (Option Packet)) → address ≡ c.address + 32 * tile
+    → Behind K c w d n place end work there upto config blocks items (BranchToSubList address) slots → ListsLeft K c w d (n - 1) place end work there upto (stands_at tile 0) config blocks items
+gone_in K c w d n place end work there upto config blocks items address tile slots is left =
     let sum = left.sum in
     let fewer = visits_entered c address tile (all_entered slots) 0 items is in
     record {
@@ -163,27 +172,31 @@ gone_in K c w d n place end work there upto items address tile slots is left =
       render_ends = left.render_ends;
       render_stands = left.render_stands;
       fit = left.fit;
+      most = left.most;
       few = left.few;
+      counted = left.counted;
+      kept_room = left.kept_room;
+      rest_room = left.rest_room;
       often = λ one. entered_often c address tile (all_entered slots) one d is (left.often one);
       sum = omega (arith, sum, fewer);
     }
 
 -- A packet that goes into no tile's list.
 on : (K : List ℕ → Type 0) (c : Config) (w d n : ℕ) (s : Lists) (len : ℕ) (packet : Packet) (slots : List (Option Packet)) → s.renderer.inside ≡ None → entered packet ≡ []
-    → Behind K c w d n s.binner.place s.binner.end s.binner.work (s.renderer.place + len) s.renderer.end s.items packet slots → JobLeft K c w d (n - 1) (beyond s len)
+    → Behind K c w d n s.binner.place s.binner.end s.binner.work (s.renderer.place + len) s.renderer.end s.binner.kept.config s.blocks s.items packet slots → JobLeft K c w d (n - 1) (beyond s len)
 on K c w d n s len packet slots outside none left =
-    subst (λ (inside : Option SubList). ListsLeft K c w d (n - 1) s.binner.place s.binner.end s.binner.work (s.renderer.place + len) s.renderer.end inside s.items) (sym outside)
-    (passed K c w d n s.binner.place s.binner.end s.binner.work (s.renderer.place + len) s.renderer.end s.items packet slots none left)
+    subst (λ (inside : Option SubList). ListsLeft K c w d (n - 1) s.binner.place s.binner.end s.binner.work (s.renderer.place + len) s.renderer.end inside s.binner.kept.config s.blocks s.items) (sym outside)
+    (passed K c w d n s.binner.place s.binner.end s.binner.work (s.renderer.place + len) s.renderer.end s.binner.kept.config s.blocks s.items packet slots none left)
 
 -- What a packet says.
 act_goes : (who : Who) (K : List ℕ → Type 0) (c : Config) (w d n : ℕ) (s : Lists) (len : ℕ) (words m : List ℕ) (packet : Packet) (slots : List (Option Packet)) → s.renderer.inside ≡ None → (s.closed ≡ true → s.binner.kept.config ≡ Some c)
-    → Behind K c w d n s.binner.place s.binner.end s.binner.work (s.renderer.place + len) s.renderer.end s.items packet slots
+    → Behind K c w d n s.binner.place s.binner.end s.binner.work (s.renderer.place + len) s.renderer.end s.binner.kept.config s.blocks s.items packet slots
     → Comes who (JobLeft K c w d (n - 1)) (act (beyond s len) words packet) m
 unfolding branch_plan tile_plan whole_written
 act_goes who K c w d n s len words m WaitOnSemaphore slots outside only left = on K c w d n s len WaitOnSemaphore slots outside refl left
 act_goes who K c w d n s len words m (BranchToSubList address) slots outside only left =
     branch_goes who (JobLeft K c w d (n - 1)) (beyond s len) c address m s.closed s.binner.kept.config only
-    (λ tile is. gone_in K c w d n s.binner.place s.binner.end s.binner.work (s.renderer.place + len) s.renderer.end s.items address tile slots is left)
+    (λ tile is. gone_in K c w d n s.binner.place s.binner.end s.binner.work (s.renderer.place + len) s.renderer.end s.binner.kept.config s.blocks s.items address tile slots is left)
 act_goes who K c w d n s len words m StoreTileColor slots outside only left = frame_stored who (JobLeft K c w d (n - 1)) s.renderer.frame s.renderer.x s.renderer.y words (beyond s len) m (on K c w d n s len StoreTileColor slots outside refl left)
 act_goes who K c w d n s len words m StoreTileColorAndEnd slots outside only left = frame_stored who (JobLeft K c w d (n - 1)) s.renderer.frame s.renderer.x s.renderer.y words (beyond s len) m (on K c w d n s len StoreTileColorAndEnd slots outside refl left)
 act_goes who K c w d n s len words m (StoreFullResolution address) slots outside only left = (tt, on K c w d n s len (StoreFullResolution address) slots outside refl left)
@@ -195,7 +208,7 @@ act_goes who K c w d n s len words m (ClearColors first second z stencil) slots 
 act_goes who K c w d n s len words m (TileCoordinates x y) slots outside only left = waiting_loaded who (JobLeft K c w d (n - 1)) s.renderer.waiting s.renderer.frame x y (at_tile (beyond s len) x y) m (on K c w d n s len (TileCoordinates x y) slots outside refl left)
 
 -- The renderer stands before these slots, in no tile's list.
-record Before (K : List ℕ → Type 0) (c : Config) (w d n place end : ℕ) (work : Option Work) (there upto : ℕ) (items : List Item) (slots : List (Option Packet)) : Type 0 where
+record Before (K : List ℕ → Type 0) (c : Config) (w d n place end : ℕ) (work : Option Work) (there upto : ℕ) (config : Option Config) (blocks : ℕ) (items : List Item) (slots : List (Option Packet)) : Type 0 where
   packets : List (List ℕ)
   bin_ends : place + length (joined_bytes packets) ≡ end
   bin_stands : (m : List ℕ) → K m → bytes_at m place (length (joined_bytes packets)) ≡ joined_bytes packets
@@ -203,16 +216,20 @@ record Before (K : List ℕ → Type 0) (c : Config) (w d n place end : ℕ) (wo
   render_ends : there + length (slots_text slots) ≡ upto
   render_stands : (m : List ℕ) → K m → bytes_at m there (length (slots_text slots)) ≡ slots_text slots
   fit : AllFit slots
-  few : length items ≤ most_items
+  most : ℕ
+  few : length items ≤ most
+  counted : Counted c blocks items
+  kept_room : room_by config ≤ most
+  rest_room : room_of packets ≤ most
   often : (tile : ℕ) → times (c.address + 32 * tile) (all_entered slots) + 0 ≤ d
-  sum : bin_steps w packets + work_left w work + (most_items - length items) * (1 + d) + (render_steps slots + 0) + visits c (all_entered slots) None 0 items ≤ n
+  sum : bin_steps w packets + work_left w work + (most - length items) * (1 + d) + (render_steps slots + 0) + visits c (all_entered slots) None 0 items ≤ n
 
-some_slots : (K : List ℕ → Type 0) (c : Config) (w d n place end : ℕ) (work : Option Work) (there upto : ℕ) (items : List Item) (packet : Packet) (slots : List (Option Packet))
-    → Before K c w d n place end work there upto items (Some packet ∷ slots) → 1 ≤ n
-some_slots K c w d n place end work there upto items packet slots left = let sum = left.sum in omega (arith, sum)
+some_slots : (K : List ℕ → Type 0) (c : Config) (w d n place end : ℕ) (work : Option Work) (there upto : ℕ) (config : Option Config) (blocks : ℕ) (items : List Item) (packet : Packet) (slots : List (Option Packet))
+    → Before K c w d n place end work there upto config blocks items (Some packet ∷ slots) → 1 ≤ n
+some_slots K c w d n place end work there upto config blocks items packet slots left = let sum = left.sum in omega (arith, sum)
 
 slots_go : (who : Who) (K : List ℕ → Type 0) (c : Config) (w d n : ℕ) (s : Lists) (free : Free) (words m : List ℕ) (slots : List (Option Packet)) → K m → s.renderer.inside ≡ None → (s.closed ≡ true → s.binner.kept.config ≡ Some c)
-    → s.renderer.place < s.renderer.end → Before K c w d n s.binner.place s.binner.end s.binner.work s.renderer.place s.renderer.end s.items slots → Comes who (ListsLess K c w d n 0) (renderer_plan s free words) m
+    → s.renderer.place < s.renderer.end → Before K c w d n s.binner.place s.binner.end s.binner.work s.renderer.place s.renderer.end s.binner.kept.config s.blocks s.items slots → Comes who (ListsLess K c w d n 0) (renderer_plan s free words) m
 slots_go who K c w d n s free words m [] here outside only below left = absurd (none_left s.renderer.place s.renderer.end left.render_ends below)
 slots_go who K c w d n s free words m (None ∷ slots) here outside only below left =
     slots_go who K c w d n s free words m slots here outside only below
@@ -224,7 +241,11 @@ slots_go who K c w d n s free words m (None ∷ slots) here outside only below l
       render_ends = left.render_ends;
       render_stands = left.render_stands;
       fit = (let fit = left.fit in fit.1);
+      most = left.most;
       few = left.few;
+      counted = left.counted;
+      kept_room = left.kept_room;
+      rest_room = left.rest_room;
       often = left.often;
       sum = left.sum;
     })
@@ -234,7 +255,7 @@ slots_go who K c w d n s free words m (Some packet ∷ slots) here outside only 
     let later : List ℕ = slots_text slots in
     let fit = left.fit in
     let sum = left.sum in
-    let one = some_slots K c w d n s.binner.place s.binner.end s.binner.work s.renderer.place s.renderer.end s.items packet slots left in
+    let one = some_slots K c w d n s.binner.place s.binner.end s.binner.work s.renderer.place s.renderer.end s.binner.kept.config s.blocks s.items packet slots left in
     let bytes : bytes_at m place (length text) ≡ text = bytes_front m place text later (left.render_stands m here) in
     let first : slice_index m place ≡ slice_index text 0 = byte_front m place text (some_text packet) bytes in
     packet_keeps who AnyLook AnyAccess (λ k turned. ListsLess K c w d n 0 turned) s free words m (length text) text packet outside
@@ -250,7 +271,11 @@ slots_go who K c w d n s free words m (Some packet ∷ slots) here outside only 
       render_ends = behind_ends place s.renderer.end text later left.render_ends;
       render_stands = λ k there. bytes_behind k place text later (left.render_stands k there);
       fit = fit.1;
+      most = left.most;
       few = left.few;
+      counted = left.counted;
+      kept_room = left.kept_room;
+      rest_room = left.rest_room;
       often = left.often;
       sum = omega (arith, sum);
     })))
@@ -268,11 +293,15 @@ packet_goes who K c w d n s free words m slots here outside only below left is =
       render_ends = subst (λ (ss : List (Option Packet)). s.renderer.place + length (slots_text ss) ≡ s.renderer.end) is left.render_ends;
       render_stands = λ k there. subst (λ (ss : List (Option Packet)). bytes_at k s.renderer.place (length (slots_text ss)) ≡ slots_text ss) is (left.render_stands k there);
       fit = subst AllFit is left.fit;
+      most = left.most;
       few = left.few;
+      counted = left.counted;
+      kept_room = left.kept_room;
+      rest_room = left.rest_room;
       often = λ tile. subst (λ (inside : Option SubList). times (c.address + 32 * tile) (all_entered slots) + one_if (is_inside inside tile) ≤ d) outside
           (subst (λ (ss : List (Option Packet)). times (c.address + 32 * tile) (all_entered ss) + one_if (is_inside s.renderer.inside tile) ≤ d) is (left.often tile));
-      sum = subst (λ (inside : Option SubList). bin_steps w left.packets + work_left w s.binner.work + (most_items - length s.items) * (1 + d) + (render_steps slots + one_if (is_some inside)) + visits c (all_entered slots) inside 0 s.items ≤ n) outside
-          (subst (λ (ss : List (Option Packet)). bin_steps w left.packets + work_left w s.binner.work + (most_items - length s.items) * (1 + d) + (render_steps ss + one_if (is_some s.renderer.inside)) + visits c (all_entered ss) s.renderer.inside 0 s.items ≤ n) is left.sum);
+      sum = subst (λ (inside : Option SubList). bin_steps w left.packets + work_left w s.binner.work + (left.most - length s.items) * (1 + d) + (render_steps slots + one_if (is_some inside)) + visits c (all_entered slots) inside 0 s.items ≤ n) outside
+          (subst (λ (ss : List (Option Packet)). bin_steps w left.packets + work_left w s.binner.work + (left.most - length s.items) * (1 + d) + (render_steps ss + one_if (is_some s.renderer.inside)) + visits c (all_entered ss) s.renderer.inside 0 s.items ≤ n) is left.sum);
     })
 
 -- In a tile's list the renderer stands elsewhere, or has left it.
@@ -290,7 +319,11 @@ moved K c w d n rest s inside left fewer less =
       render_ends = left.render_ends;
       render_stands = left.render_stands;
       fit = left.fit;
+      most = left.most;
       few = left.few;
+      counted = left.counted;
+      kept_room = left.kept_room;
+      rest_room = left.rest_room;
       often = λ tile. (let often = left.often tile in let here = fewer tile in omega (arith, often, here));
       sum = omega (arith, sum, less);
     }

@@ -1,11 +1,12 @@
 -- A thread of a shader without loops goes forward.
-use Rattle.std.proofs.Common.{◌≡◌, ◌≢◌, ◌≤◌, ◌<◌, inl, inr, ℕ, ◌+◌, ◌-◌, ◌%◌, ◌^◌, ◌&&◌, Bool, true, false, List, length, if◌then◌else◌, sym, ◌∙◌, ap, subst, arith}
+use Rattle.std.proofs.Common.{◌≡◌, ◌≢◌, ◌≤◌, ◌<◌, inl, inr, ℕ, zero, suc, ◌+◌, ◌-◌, ◌%◌, ◌^◌, ◌&&◌, ◌||◌, Bool, true, false, List, length, Some, None, if◌then◌else◌, sym, ◌∙◌, ap, subst, arith}
 use Rattle.std.specs.Int.{from_le_bytes, w64}
-use Rattle.std.specs.Prelude.{nat_lt}
+use Rattle.std.specs.Prelude.{nat_lt, is_some}
+use Rattle.std.proofs.lemmas.Bool.{cases_lt}
 use Rattle.std.proofs.lemmas.Grind.{common_steps}
 use Rattle.std.proofs.lemmas.Bool.Decides.{nat_tests}
 use Rattle.field_words.specs.Words.{u32_at}
-use Rattle.qpu_isa.specs.Terms.{is_branch, target_of}
+use Rattle.qpu_isa.specs.Terms.{is_branch, target_of, writes_s}
 use Rattle.shader_flow.specs.Flow.{word, end_of, checked_of}
 use Rattle.shader_flow.proofs.Bounded.{some_below_not}
 use Rattle.shader_flow.proofs.Ends.{checked_of-le}
@@ -15,18 +16,21 @@ use Rattle.machine_plan.specs.Memory.{bytes_at}
 use Rattle.machine_plan.specs.Plan.{Plan, Done, Wilds, Reads}
 use Rattle.machine_plan.specs.Regions.{Rights, rights_of}
 use Rattle.list_law.proofs.Safe.{keeps_if}
+use Rattle.qpu_machine.specs.declared.state.Asked.{Asked}
+use Rattle.qpu_machine.specs.Operands.{add_row, mul_row}
 use Rattle.qpu_machine.specs.declared.state.Fate.TheVariants.{Ends}
 use Rattle.qpu_machine.specs.declared.state.Thread.{Thread}
 use Rattle.qpu_machine.specs.Start.{thread_of}
-use Rattle.qpu_machine.specs.Step.{ThreadTurn, executed, word_plan, thread_plan}
+use Rattle.qpu_machine.specs.Step.{ThreadTurn, executed, executed_with, word_plan, thread_plan}
 use Rattle.qpu_machine.specs.Wild.{takes_one, is_wild}
-use Rattle.qpu_machine.specs.Writes.{awake, past_uniform}
+use Rattle.qpu_machine.specs.Writes.{awake, past_uniform, ask_of, asked}
 use Rattle.qpu_law.specs.Home.{Home, Jumps, GoesTo, done}
 use Rattle.qpu_law.specs.Thread.{IsHome}
 use Rattle.qpu_law.proofs.Going.{in_checked, is_went, stays_in_code_law}
 use Rattle.qpu_law.proofs.Starting.{starts_stand_law}
 use Rattle.ends_law.specs.Left.{LaunchShort, ThreadLeft}
-use Rattle.ends_law.specs.Loops.{goes_back, has_loop, program_steps}
+use Rattle.ends_law.specs.Loops.{goes_back, has_loop, instruction_steps, steps_before, program_steps}
+use Rattle.ends_law.specs.Steps.{one_if}
 use Rattle.ends_law.proofs.Plans.{AnyLook, AnyAccess, Comes}
 
 -- a branch that doesn't lead back
@@ -55,14 +59,46 @@ goes_on h n t next none inside goes =
       | inr lands ↦ jump_on h.code n goes.to none inside lands.jump
     ]
 
--- What an instruction leaves of its thread takes two steps less: its own, and that which serves what it asked for.
+-- The steps of the first instructions are more, the more they are.
+more_before : (code : List ℕ) (i n : ℕ) → i ≤ n → steps_before code i ≤ steps_before code n
+unfolding steps_before
+more_before code i zero few = let e : i ≡ 0 = omega (arith, few) in subst (λ k. steps_before code k ≤ 0) (sym e) (omega arith)
+more_before code i (suc n) few =
+    elim (cases_lt i (suc n)) [
+      | inl earlier ↦ let less = more_before code i n (omega (arith, earlier)) in omega (arith, less)
+      | inr past ↦ let e : i ≡ suc n = omega (arith, few, past) in subst (λ k. steps_before code k ≤ steps_before code (suc n)) (sym e) (omega arith)
+    ]
+
+one_step : (code : List ℕ) (i : ℕ) → steps_before code (i + 1) ≡ steps_before code i + instruction_steps (word code i)
+unfolding steps_before
+one_step code i = let e : i + 1 ≡ suc i = omega arith in ap (steps_before code) e
+
+-- An instruction asks at most what it is counted for.
+asks_by : (first second : Bool) (one other : Asked) → 1 + one_if (is_some (if first then Some one else (if second then Some other else None))) ≡ (if first || second then 2 else 1)
+asks_by true second one other = omega arith
+asks_by false true one other = omega arith
+asks_by false false one other = omega arith
+
+asked_steps : (w uniform : ℕ) (sum product : List ℕ) (t : Thread) → 1 + one_if (is_some (asked w uniform sum product t)) ≡ instruction_steps w
+unfolding asked instruction_steps
+asked_steps w uniform sum product t =
+    asks_by (writes_s w 0) (writes_s w 1) (record { tmu = 0; ask = ask_of w 0 uniform sum product t.setups0.items }) (record { tmu = 1; ask = ask_of w 1 uniform sum product t.setups1.items })
+
+done_steps : (w u uniforms : ℕ) (words : List ℕ) (t : Thread) → 1 + one_if (is_some (done w u uniforms words t).leaves.asked) ≡ instruction_steps w
+unfolding executed executed_with
+done_steps w u uniforms words t =
+    let t1 : Thread = awake words (record t { uniforms = uniforms }) in
+    asked_steps w u (add_row t1 w u words) (mul_row t1 w u words) t1
+
+-- What an instruction leaves of its thread takes fewer steps: its own is done, and that which serves what it asked for is owed.
 pub record ThreadGoes (rights : List Rights) (K : List ℕ → Type 0) (n : ℕ) (turn : ThreadTurn) : Type 0 where
   pub rest : ℕ
   pub left : turn.leaves.fate ≢ Ends → ThreadLeft rights K rest turn.thread
-  pub less : rest + 2 ≤ n
+  pub less : rest + 1 + one_if (is_some turn.leaves.asked) ≤ n
 
 done_goes : (rights : List Rights) (K : List ℕ → Type 0) (n : ℕ) (t : Thread) (u uniforms : ℕ) (words m : List ℕ) → K m → (left : ThreadLeft rights K n t)
     → ThreadGoes rights K n (done (word left.home.code left.index) u uniforms words t)
+unfolding program_steps
 done_goes rights K n t u uniforms words m here left =
     let h = left.home in
     let i : ℕ = left.index in
@@ -70,11 +106,16 @@ done_goes rights K n t u uniforms words m here left =
     let home = left.stands m here in
     let inside = left.at.inside in
     let sum = left.left in
+    let before : i < checked_of h.code = in_checked h.code i home.sound inside in
+    let steps : steps_before h.code (i + 1) ≤ program_steps h.code = more_before h.code (i + 1) (checked_of h.code) (omega (arith, before)) in
+    let own = one_step h.code i in
+    let cost = done_steps (word h.code i) u uniforms words t in
     record {
-      rest = n - 2;
+      rest = n - instruction_steps (word h.code i);
       left = λ lives.
           let goes = stays_in_code_law h i u uniforms words t home.sound home.low left.at lives in
           let on : i + 1 ≤ goes.to = goes_on h i t next left.no_loop inside goes in
+          let more = more_before h.code (i + 1) goes.to on in
           let job = (is_went (word h.code i) u uniforms words t).job in
           record {
             home = h;
@@ -82,9 +123,9 @@ done_goes rights K n t u uniforms words m here left =
             stands = λ k there. subst (λ j. IsHome k (rights_of rights j).region h) (sym job) (left.stands k there);
             index = goes.to;
             at = goes.at;
-            left = omega (arith, on, sum);
+            left = omega (arith, more, own, sum);
           };
-      less = omega (arith, inside, sum);
+      less = omega (arith, steps, own, cost, sum);
     }
 
 word_goes : (rights : List Rights) (K : List ℕ → Type 0) (n : ℕ) (t : Thread) (who : Who) (words m : List ℕ) → K m → (left : ThreadLeft rights K n t)
@@ -114,7 +155,7 @@ thread_goes rights K n t who words m here left =
 
 -- a program that starts
 pub thread_begins : (rights : List Rights) (K : List ℕ → Type 0) (w j : ℕ) (launch : Launch) → LaunchShort rights K w j launch → ThreadLeft rights K w (thread_of j launch)
-unfolding thread_of program_steps
+unfolding thread_of steps_before
 thread_begins rights K w j launch short =
     let steps = short.short.short in
     record {

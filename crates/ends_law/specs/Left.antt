@@ -14,19 +14,20 @@ use Rattle.list_machine.specs.declared.state.Frame.{Frame}
 use Rattle.list_machine.specs.declared.state.Item.{Item}
 use Rattle.list_machine.specs.declared.state.SubList.{SubList}
 use Rattle.list_machine.specs.declared.state.Work.{Work}
-use Rattle.list_machine.specs.Lists.{Lists, most_items}
+use Rattle.list_machine.specs.Lists.{Lists}
 use Rattle.list_law.specs.Binning.{Allocates}
 use Rattle.list_law.specs.Lists.{ListsFine}
 use Rattle.qpu_machine.specs.declared.state.Qpu.{Qpu}
 use Rattle.qpu_machine.specs.declared.state.Thread.{Thread}
 use Rattle.qpu_law.specs.Home.{Home, IsAt}
 use Rattle.qpu_law.specs.Thread.{IsHome}
-use Rattle.shader_flow.specs.Flow.{end_of, is_threaded}
+use Rattle.shader_flow.specs.Flow.{is_threaded}
 use Rattle.machine.specs.State.{Units, State}
 use Rattle.machine.specs.Step.{Event, may, step}
 use Rattle.machine_law.specs.Jobs.{ArePlain}
 use Rattle.machine_law.specs.Laws.{AreFine}
-use Rattle.ends_law.specs.Loops.{IsShort, has_loop}
+use Rattle.ends_law.specs.Loops.{IsShort, has_loop, steps_before, program_steps}
+use Rattle.ends_law.specs.Room.{room_of, room_by, Counted}
 use Rattle.ends_law.specs.Stays.{unit_stays}
 use Rattle.ends_law.specs.Steps.{one_if, work_left, bin_steps, render_steps, times, all_entered}
 
@@ -51,7 +52,7 @@ pub record ThreadLeft (rights : List Rights) (K : List ℕ → Type 0) (n : ℕ)
   pub stands : (m : List ℕ) → K m → IsHome m (rights_of rights t.job).region home
   pub index : ℕ
   pub at : IsAt home index t
-  pub left : 2 * (end_of home.code + 3) ≤ 2 * index + n
+  pub left : program_steps home.code ≤ steps_before home.code index + n
 
 -- so do both threads of a processor, and each of its requests takes one step
 pub record QpuLeft (rights : List Rights) (K : List ℕ → Type 0) (k n : ℕ) (q : Qpu) : Type 0 where
@@ -87,9 +88,10 @@ AllWhole [] = Unit {0}
 AllWhole (packet ∷ packets) = IsWhole packet × AllWhole packets
 
 -- What is left of the list units of a job with configuration c takes at most n steps, where the binner stands at a place of its list, which
--- ends there, with this work, the renderer at another of its own, in this tile's list, and the tile lists have these items. The packets are
--- the rest of the binner's list and the slots that of the renderer's; an item that is put is gone past at most d times.
-pub record ListsLeft (K : List ℕ → Type 0) (c : Config) (w d n place end : ℕ) (work : Option Work) (there upto : ℕ) (inside : Option SubList) (items : List Item) : Type 0 where
+-- ends there, with this work, the renderer at another of its own, in this tile's list, this configuration is kept, so many further blocks are
+-- taken, and the tile lists have these items. The packets are the rest of the binner's list and the slots that of the renderer's; no more
+-- items are put than `most`, and one that is put is gone past at most d times.
+pub record ListsLeft (K : List ℕ → Type 0) (c : Config) (w d n place end : ℕ) (work : Option Work) (there upto : ℕ) (inside : Option SubList) (config : Option Config) (blocks : ℕ) (items : List Item) : Type 0 where
   pub packets : List (List ℕ)
   pub bin_ends : place + length (joined_bytes packets) ≡ end
   pub bin_stands : (m : List ℕ) → K m → bytes_at m place (length (joined_bytes packets)) ≡ joined_bytes packets
@@ -98,13 +100,17 @@ pub record ListsLeft (K : List ℕ → Type 0) (c : Config) (w d n place end : �
   pub render_ends : there + length (slots_text slots) ≡ upto
   pub render_stands : (m : List ℕ) → K m → bytes_at m there (length (slots_text slots)) ≡ slots_text slots
   pub fit : AllFit slots
-  pub few : length items ≤ most_items
+  pub most : ℕ
+  pub few : length items ≤ most
+  pub counted : Counted c blocks items
+  pub kept_room : room_by config ≤ most
+  pub rest_room : room_of packets ≤ most
   pub often : (tile : ℕ) → times (c.address + 32 * tile) (all_entered slots) + one_if (is_inside inside tile) ≤ d
-  pub sum : bin_steps w packets + work_left w work + (most_items - length items) * (1 + d) + (render_steps slots + one_if (is_some inside))
+  pub sum : bin_steps w packets + work_left w work + (most - length items) * (1 + d) + (render_steps slots + one_if (is_some inside))
       + visits c (all_entered slots) inside 0 items ≤ n
 
 abbrev pub JobLeft : (List ℕ → Type 0) → Config → (w d n : ℕ) → Lists → Type 0
-JobLeft K c w d n s = ListsLeft K c w d n s.binner.place s.binner.end s.binner.work s.renderer.place s.renderer.end s.renderer.inside s.items
+JobLeft K c w d n s = ListsLeft K c w d n s.binner.place s.binner.end s.binner.work s.renderer.place s.renderer.end s.renderer.inside s.binner.kept.config s.blocks s.items
 
 -- So it is of job j, whose programs are short.
 pub record JobEnds (rights : List Rights) (K : List ℕ → Type 0) (w j n : ℕ) (s : Lists) : Type 0 where

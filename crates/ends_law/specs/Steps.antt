@@ -6,7 +6,7 @@ use Rattle.packets.specs.Opcode.{indexed_primitive_list, array_primitive_list}
 use Rattle.bin_list.specs.Packets.{opcode}
 use Rattle.list_machine.specs.declared.state.Work.{Work}
 use Rattle.list_machine.specs.Binner.{work_of}
-use Rattle.list_machine.specs.Lists.{most_items}
+use Rattle.ends_law.specs.Room.{room_of}
 
 abbrev pub one_if : Bool → ℕ
 one_if b = if b then 1 else 0
@@ -74,7 +74,7 @@ most_times (one ∷ others) all = max (times one all) (most_times others all)
 unfoldable pub most_visits : List (Option Packet) → ℕ
 most_visits slots = most_times (all_entered slots) (all_entered slots)
 
--- The most steps of a job with these lists, its programs' among them. Each of the items that its tile lists may have is put once, and
--- passed as often as its tile's list is gone through. Not counted is how often the renderer stays at an item.
+-- The most steps of a job with these lists, its programs' among them. Each of the items for which its tile lists have room is put once,
+-- and passed as often as its tile's list is gone through. Not counted is how often the renderer stays at an item.
 unfoldable pub job_steps : ℕ → List (List ℕ) → List (Option Packet) → ℕ
-job_steps w packets slots = bin_steps w packets + most_items * (1 + most_visits slots) + render_steps slots
+job_steps w packets slots = bin_steps w packets + room_of packets * (1 + most_visits slots) + render_steps slots

@@ -18,7 +18,6 @@ use Rattle.render_list.specs.Text.{number_where, render_slots}
 use Rattle.job_check.specs.Emit.{memory_of}
 use Rattle.job_check.specs.Jobs.{job_of, has_bin, grid_from, grid_of, slot_of, places_in, bin_list_of}
 use Rattle.job_check.specs.Shaders.{table_of}
-use Rattle.list_machine.specs.Lists.{most_items}
 use Rattle.accepted_law.specs.Ends.{DrawShaders}
 use Rattle.accepted_law.specs.Holdings.{config_for}
 use Rattle.accepted_law.specs.Parts.{BinWalks}
@@ -28,6 +27,7 @@ use Rattle.accepted_law.proofs.BinWalking.{bins_walk_law}
 use Rattle.accepted_law.proofs.Joining.{all_ground}
 use Rattle.accepted_law.proofs.RenderWalking.{frame_setup}
 use Rattle.ends_law.specs.Left.{AllWhole}
+use Rattle.ends_law.specs.Room.{room_of}
 use Rattle.ends_law.specs.Steps.{bin_steps, render_steps, job_steps}
 use Rattle.accepted_ends.specs.Bound.{job_bound, longest_of}
 use Rattle.accepted_ends.proofs.Cut.{packets_walk}
@@ -76,7 +76,7 @@ frame_set f j faultless inside = (frame_setup f j (settled f j faultless inside)
 
 -- The bound of a job, part by part.
 pub job_is : (f : FileModel) (j : ℕ) → IsFaultless f → j < length f.jobs
-    → job_bound f j ≡ bin_steps (longest_of f) (packets (bin_list_of f j)) + most_items * (1 + number_where (has_bin f j) 1) + frame_steps (job_of f j).frame (has_bin f j)
+    → job_bound f j ≡ bin_steps (longest_of f) (packets (bin_list_of f j)) + room_of (packets (bin_list_of f j)) * (1 + number_where (has_bin f j) 1) + frame_steps (job_of f j).frame (has_bin f j)
 unfolding job_bound job_steps
 job_is f j faultless inside =
     let s : Settled f j = settled f j faultless inside in
@@ -87,8 +87,8 @@ job_is f j faultless inside =
     let visits = visits_render frame (places_in f j) (grid_of f j) (slot_of f j) setup.present setup.tiles across ∙ ap (λ b. number_where b 1) there in
     let steps = steps_render frame (places_in f j) (grid_of f j) (slot_of f j) setup.present setup.tiles ∙ ap (frame_steps frame) there in
     let first : ℕ = bin_steps (longest_of f) (packets (bin_list_of f j)) in
-    ap (λ n. first + most_items * (1 + n) + render_steps (render_slots frame (places_in f j) (grid_of f j) (slot_of f j))) visits
-    ∙ ap (λ n. first + most_items * (1 + number_where (has_bin f j) 1) + n) steps
+    ap (λ n. first + room_of (packets (bin_list_of f j)) * (1 + n) + render_steps (render_slots frame (places_in f j) (grid_of f j) (slot_of f j))) visits
+    ∙ ap (λ n. first + room_of (packets (bin_list_of f j)) * (1 + number_where (has_bin f j) 1) + n) steps
 
 -- The sum of one job more.
 sum_from : (number : ℕ → ℕ) (j n : ℕ) → sum_by number (range_with_len j (suc n)) ≡ sum_by number (range_with_len j n) + number (j + n)

@@ -1,5 +1,5 @@
 -- The packets of a binner list, one after the other, and the steps that they take.
-use Rattle.std.proofs.Common.{◌≡◌, ℕ, zero, suc, ◌+◌, ◌-◌, ◌*◌, ◌/◌, ◌≤◌, Bool, true, false, ◌==◌, nat_lt, List, [], ◌∷◌, length, inl, inr, refl, sym, ap, subst, arith, ◌∙◌, if◌then◌else◌}
+use Rattle.std.proofs.Common.{◌≡◌, ℕ, zero, suc, ◌+◌, ◌-◌, ◌*◌, ◌/◌, ◌≤◌, Bool, true, false, ◌==◌, nat_lt, max, List, [], ◌∷◌, length, inl, inr, refl, sym, ap, subst, arith, ◌∙◌, if◌then◌else◌}
 use Rattle.std.proofs.lemmas.Bool.{or_cases, eqb-true}
 use Rattle.std.proofs.lemmas.Bool.Decides.{nat_tests}
 use Rattle.std.proofs.lemmas.Grind.{common_steps}
@@ -10,6 +10,7 @@ use Rattle.bin_list.specs.Packets.{opcode, front_packet, behind, cut, packets}
 use Rattle.bin_list.proofs.Walk.{front_behind, front_some, cut_nothing}
 use Rattle.list_machine.specs.Binner.{work_of, primitive_of}
 use Rattle.ends_law.specs.Left.{IsWhole, AllWhole}
+use Rattle.ends_law.specs.Room.{room_in, room_of}
 use Rattle.ends_law.specs.Steps.{draws, programs_left, work_steps, packet_steps, bin_steps}
 
 -- Cutting at most as many packets as there are bytes cuts all.
@@ -43,6 +44,13 @@ steps_more w bytes some = ap (bin_steps w) (packets_more bytes some)
 
 pub steps_none : (w : ℕ) (bytes : List ℕ) → length bytes ≡ 0 → bin_steps w (packets bytes) ≡ 0
 steps_none w bytes none = ap (bin_steps w) (packets_none bytes none)
+
+-- So the room: that of the packet at the front, or more.
+pub room_more : (bytes : List ℕ) → 1 ≤ length bytes → room_of (packets bytes) ≡ max (room_in (front_packet bytes)) (room_of (packets (behind bytes)))
+room_more bytes some = ap room_of (packets_more bytes some)
+
+pub room_none : (bytes : List ℕ) → length bytes ≡ 0 → room_of (packets bytes) ≡ 0
+room_none bytes none = ap room_of (packets_none bytes none)
 
 pub fewer_left : (bytes : List ℕ) → 1 ≤ length bytes → length (behind bytes) + 1 ≤ length bytes
 fewer_left bytes some =

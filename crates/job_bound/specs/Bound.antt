@@ -39,9 +39,9 @@ code_for Code content = Some (words_of content)
 unfoldable pub code_in : FileModel → ℕ → Option (List ℕ)
 code_in f b = code_for (buffer_at f.buffers b).kind (content_of f b)
 
--- no shader has more than 8,192 instructions, of two steps each and three behind the program end
+-- no shader has more than 8,192 instructions, of at most two steps each
 abbrev pub most_program : ℕ
-most_program = 16390
+most_program = 16384
 
 -- no packet of a binner list takes more steps than this, with those of its primitive; and no job
 abbrev pub most_packet : ℕ

@@ -1,16 +1,19 @@
-//! How many steps a binner list takes.
+//! How many steps a binner list takes, and for how many items it makes room.
 ghost use Rattle.std.specs.Prelude.{◌≡◌, ◌<◌, ◌≤◌, ◌+◌, ◌*◌, ◌/◌, length};
 ghost use Rattle.field_words.specs.Sizes.{most_list};
 ghost use Rattle.field_words.specs.Words.{u32_at};
 ghost use Rattle.bin_list.specs.Packets.{opcode, front_packet, behind, packets};
 ghost use Rattle.list_machine.specs.Binner.{work_of};
+ghost use Rattle.list_machine.specs.Lists.{most_items};
 ghost use Rattle.ends_law.specs.Left.{IsWhole, AllWhole};
+ghost use Rattle.ends_law.specs.Room.{items_within, room_in, room_of};
 ghost use Rattle.ends_law.specs.Steps.{draws, work_steps, packet_steps, bin_steps};
 ghost use Rattle.job_bound.specs.Bound.{most_program, most_packet};
 
 use byteorder::{ByteOrder, LittleEndian};
-use packets::bin_taken;
-use packets::opcode::{ARRAY_PRIMITIVE_LIST, HALT, INDEXED_PRIMITIVE_LIST};
+use field_words::round_up;
+use packets::opcode::{ARRAY_PRIMITIVE_LIST, HALT, INDEXED_PRIMITIVE_LIST, TILE_BINNING_MODE};
+use packets::{Config, bin_taken, config_in};
 
 /// The packet at the front of the bytes, and the bytes behind it that are still read: none behind a halt.
 #[tactic(auto, unfolding(bin_list::specs::Packets::front_packet, bin_list::specs::Packets::behind), using(bin_list::proofs::Cutting::drop_min, bin_list::proofs::Cutting::take_min))]
@@ -85,4 +88,45 @@ pub fn bin_steps(longest: u32, list: &[u8]) -> u128
         rest = behind;
     }
     steps
+}
+
+/// For how many items the tile lists have room under a configuration: one in each tile's first block, and seven in each further block.
+#[tactic(auto, using(list_machine::proofs::Putting::tiles_limit), unfolding(ends_law::specs::Room::items_within, list_machine::specs::Blocks::tiles_of, list_machine::specs::Blocks::further_offset))]
+fn items_within(config: &Config) -> u64
+    ensures value { result ≡ items_within config.now }
+    ensures few { result ≤ most_items }
+{
+    let tiles = u64::from(config.tiles_x) * u64::from(config.tiles_y);
+    let further = round_up(32 * tiles, 128);
+    let blocks = u64::from(config.size).saturating_sub(further) / 128;
+    (tiles + 7 * blocks).min(32768)
+}
+
+/// For how many items a packet makes room, where it sets a configuration.
+#[tactic(auto, unfolding(ends_law::specs::Room::room_in, packets::specs::Length::bin_length))]
+fn packet_room(packet: &[u8]) -> u64
+    requires { IsWhole packet.now }
+    ensures value { result ≡ room_in packet.now }
+    ensures few { result ≤ most_items }
+{
+    if packet[0] == TILE_BINNING_MODE {
+        return items_within(&config_in(packet));
+    }
+    0
+}
+
+/// For how many items the tile lists have room under the configuration that a binner list sets.
+pub fn room(list: &[u8]) -> u64
+    requires { AllWhole (packets list.now) }
+    ensures value { result ≡ room_of (packets list.now) }
+    ensures few { result ≤ most_items }
+{
+    let mut most = 0;
+    let mut rest = list;
+    while !rest.is_empty() {
+        let (packet, behind) = split_front(rest);
+        most = most.max(packet_room(packet));
+        rest = behind;
+    }
+    most
 }

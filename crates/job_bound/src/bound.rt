@@ -14,7 +14,7 @@ ghost use Rattle.job_check.specs.Region.{region_from, IsRegion};
 ghost use Rattle.accepted_ends.specs.Bound.{longest_of, job_bound, bound_of};
 ghost use Rattle.job_bound.specs.Bound.{bound_in, most_program, most_job};
 
-use crate::binner::bin_steps;
+use crate::binner::{bin_steps, room};
 use crate::jobs::job_at;
 use crate::named::{first_loop, longest};
 use crate::programs::programs_of;
@@ -84,12 +84,15 @@ fn frame_at(file: &JobFile, number: usize) -> &Frame
     &job_at(file, number).frame
 }
 
-/// The steps for the 32,768 items that the tile lists of a job may have. Each is put once, and the renderer goes past it once where
-/// there is a binner list.
-fn items_steps(has_bin: bool) -> u128
-    ensures { result ≡ most_items * (1 + number_where has_bin 1) }
+/// The steps for the items for which the tile lists of a job have room. Each is put once, and the renderer goes past it once where there
+/// is a binner list.
+fn items_steps(room: u64, has_bin: bool) -> u128
+    requires { room ≤ most_items }
+    ensures value { result ≡ room * (1 + number_where has_bin 1) }
+    ensures few { result ≤ 65536 }
 {
-    if has_bin { 65536 } else { 32768 }
+    let times = if has_bin { 2 } else { 1 };
+    u128::from(room) * times
 }
 
 /// The most steps of the job of this number.
@@ -105,7 +108,9 @@ fn job_bound(file: &JobFile, number: usize, region: &Region, longest: u32) -> u1
     let has_bin = has_bin(file, number);
     let list = bin_list(file, number, region);
     let frame = frame_at(file, number);
-    bin_steps(longest, list) + items_steps(has_bin) + u128::from(frame_steps(frame, has_bin))
+    bin_steps(longest, list)
+        + items_steps(room(list), has_bin)
+        + u128::from(frame_steps(frame, has_bin))
 }
 
 /// The most steps of all jobs.

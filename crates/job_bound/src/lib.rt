@@ -20,7 +20,7 @@ ghost use Rattle.job_bound.specs.Law.{BoundHolds};
 
 pub use bound::{Bound, find_bound};
 pub use programs::Program;
-pub use text::bound_text;
+pub use text::{bound_bytes, bound_text};
 
 /// There is a branch that leads back in a shader that a handle names exactly where the jobs of the file have a loop.
 #[tactic(auto, using(crate::proofs::Backs::none_without_loop))]

@@ -3,18 +3,21 @@ ghost use Rattle.std.specs.Prelude.{◌≡◌, ◌<◌, ◌≤◌, ◌^◌, leng
 ghost use Rattle.field_words.specs.Sizes.{most_code};
 ghost use Rattle.buffer_table.specs.Table.{buffer_at};
 ghost use Rattle.buffer_table.specs.declared.buffer.Kind.TheVariants.{Code as CodeKind};
+ghost use Rattle.shader_flow.specs.Flow.{EndsAt};
 ghost use Rattle.job_format.specs.File.{IsWellFormed};
 ghost use Rattle.job_format.specs.Model.{file_view};
 ghost use Rattle.job_check.specs.Offsets.{content_offset};
 ghost use Rattle.job_check.specs.Shaders.{words_of, content_of};
-ghost use Rattle.job_bound.specs.Bound.{code_in, IsProgramOf, AreProgramsOf};
+ghost use Rattle.ends_law.specs.Loops.{instruction_steps, program_steps};
+ghost use Rattle.job_bound.specs.Bound.{code_in, most_program, IsProgramOf, AreProgramsOf};
 
 use crate::back::first_back;
 use buffer_table::Kind;
 use field_words::NoMemory;
 use job_check::words_of;
 use job_format::{ENTRY_SIZE, HEADER_SIZE, JOB_SIZE, JobFile};
-use shader_flow::flow;
+use qpu_isa::writes::writes_s;
+use shader_flow::{checked, flow};
 use std::alloc::Global;
 
 /// What is kept of the shader in a buffer: the most steps of a program of it, where it doesn't loop, and where in the file its first
@@ -35,8 +38,34 @@ fn content_at(file: &JobFile, b: usize) -> &[u8]
     &file.contents[b]
 }
 
-/// The shader that these bytes hold, which stand at `place` in the file.
+/// The steps of an instruction: its own, and that of the texture unit which serves what it asks for.
+#[tactic(auto, unfolding(ends_law::specs::Loops::instruction_steps))]
+fn instruction_steps(word: u64) -> u32
+    ensures value { result ≡ instruction_steps word }
+    ensures few { result ≤ 2 }
+{
+    if writes_s(word, 0) || writes_s(word, 1) {
+        2
+    } else {
+        1
+    }
+}
+
+/// The steps of a program of a shader without loops, whose program end is the instruction `end`.
 #[tactic(auto, unfolding(ends_law::specs::Loops::program_steps))]
+fn program_steps(code: &[u64], end: u32) -> u32
+    requires { EndsAt code.now end }
+    ensures value { result ≡ program_steps code.now }
+    ensures few { result ≤ most_program }
+{
+    let mut steps = 0;
+    for at in 0..checked(code, end) {
+        steps += instruction_steps(code[at]);
+    }
+    steps
+}
+
+/// The shader that these bytes hold, which stand at `place` in the file.
 fn program_in(alloc: Global, bytes: &[u8], place: u64) -> Result<Program, NoMemory>
     requires few { length bytes.now ≤ most_code }
     requires low { place < 2 ^ 62 }
@@ -45,7 +74,7 @@ fn program_in(alloc: Global, bytes: &[u8], place: u64) -> Result<Program, NoMemo
     let code = words_of(alloc, bytes)?;
     let end = flow(alloc, &code)?.end;
     Ok(Program {
-        steps: 2 * (end + 3),
+        steps: program_steps(&code, end),
         back: first_back(&code, end, place),
     })
 }

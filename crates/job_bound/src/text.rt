@@ -29,7 +29,7 @@ fn line(alloc: Global, bound: &Bound) -> Result<Vec<u8>, NoMemory>
 /// # Errors
 /// The first rule that stands, by its letter, its number and its place in the bytes; or want of memory.
 #[tactic(auto, unfolding(job_check::specs::Whole::questions_within))]
-fn bound_bytes(alloc: Global, bytes: &[u8]) -> Result<Bound, Stop<Refusal>>
+pub fn bound_bytes(alloc: Global, bytes: &[u8]) -> Result<Bound, Stop<Refusal>>
     ensures answers { Answers (all_questions bytes.now) (λ bound. bound ≡ bound_in (file_at bytes.now)) result }
     ensures format { NeverHidesFault (answered format_refused (format_questions bytes.now)) result }
     ensures spelled { IsOk result → IsFileOf bytes.now (file_at bytes.now) }

@@ -5,8 +5,8 @@ use Rattle.bin_list.specs.Packets.{packets}
 use Rattle.render_list.specs.Text.{number_where}
 use Rattle.job_format.specs.Model.{file_view, job_view}
 use Rattle.ends_law.specs.Left.{AllWhole}
+use Rattle.ends_law.specs.Room.{room_of}
 use Rattle.ends_law.specs.Steps.{bin_steps}
-use Rattle.list_machine.specs.Lists.{most_items}
 use Rattle.accepted_ends.specs.Bound.{longest_of}
 use Rattle.job_check.specs.Jobs.{job_of, has_bin, bin_list_of}
 use Rattle.job_bound.specs.Frames.{frame_steps}
@@ -19,6 +19,12 @@ bin_steps-requires-clause-whole c =
     let inside : c.args.number < length f.jobs = omega (arith, c.requires.inside, length-map c.args.file.now.jobs.items job_view) in
     subst (λ list. AllWhole (packets list)) (sym c.bin_list-list.ensures.value) (list_whole f c.args.number c.requires.faultless inside)
 
+pub room-requires : goal.room-requires
+room-requires c =
+    let f = file_view c.args.file.now in
+    let inside : c.args.number < length f.jobs = omega (arith, c.requires.inside, length-map c.args.file.now.jobs.items job_view) in
+    subst (λ list. AllWhole (packets list)) (sym c.bin_list-list.ensures.value) (list_whole f c.args.number c.requires.faultless inside)
+
 pub returns-clause-value : goal.returns-clause-value
 returns-clause-value c =
     let f = file_view c.args.file.now in
@@ -27,8 +33,10 @@ returns-clause-value c =
     let first : c.bin_steps.result ≡ bin_steps (longest_of f) (packets (bin_list_of f j)) =
     c.bin_steps.ensures.value ∙ ap (λ w. bin_steps w (packets c.bin_list-list.result.now)) c.requires.longest
     ∙ ap (λ list. bin_steps (longest_of f) (packets list)) c.bin_list-list.ensures.value in
-    let second : c.items_steps.result ≡ most_items * (1 + number_where (has_bin f j) 1) =
-    c.items_steps.ensures ∙ ap (λ b. most_items * (1 + number_where b 1)) c.has_bin-has_bin.ensures in
+    let room : c.room.result ≡ room_of (packets (bin_list_of f j)) = c.room.ensures.value ∙ ap (λ list. room_of (packets list)) c.bin_list-list.ensures.value in
+    let second : c.items_steps.result ≡ room_of (packets (bin_list_of f j)) * (1 + number_where (has_bin f j) 1) =
+    c.items_steps.ensures.value ∙ ap (λ n. n * (1 + number_where c.has_bin-has_bin.result 1)) room
+    ∙ ap (λ b. room_of (packets (bin_list_of f j)) * (1 + number_where b 1)) c.has_bin-has_bin.ensures in
     let third : c.from.result ≡ frame_steps (job_of f j).frame (has_bin f j) =
     c.from.ensures ∙ c.frame_steps.ensures.value ∙ ap (λ frame. frame_steps frame c.has_bin-has_bin.result) c.frame_at-frame.ensures.value
     ∙ ap (frame_steps (job_of f j).frame) c.has_bin-has_bin.ensures in
