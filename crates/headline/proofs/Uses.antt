@@ -17,8 +17,7 @@ use Rattle.accepted_law.specs.Holdings.{OfEachJob, plain_of, fixed_of, file_righ
 use Rattle.accepted_law.specs.Held.{AreFixed}
 use Rattle.job_safety.specs.Files.{IsSafeFile}
 use Rattle.job_safety.specs.Safe.{AreSound}
-use Rattle.job_safety.proofs.Safety.{bytes_spell, file_is_safe, fixed_upto, faultless}
-use Rattle.accepted_ends.proofs.Files.{files_end_by_law}
+use Rattle.job_safety.proofs.Safety.{bytes_spell, file_is_safe, fixed_upto, file_ends}
 use Rattle.textured_job.specs.Job.{textured, two_clients}
 use Rattle.textured_job.specs.Laws.{IsAccepted, textured_bytes, two_clients_bytes}
 use Rattle.textured_job.proofs.Witness.{is_file, two_are_file, textured_witness, two_clients_witness}
@@ -39,9 +38,7 @@ accepted_may_run bytes fits none = may_run bytes (bytes_spell bytes fits none) n
 
 pub accepted_end : AcceptedEnd
 unfolding refusal_of
-accepted_end bytes fits none =
-    let is : IsFileOf bytes (file_at bytes) = bytes_spell bytes fits none in
-    files_end_by_law (file_at bytes) is.well_formed is.fits (faultless bytes is none).none
+accepted_end bytes fits none = file_ends bytes (bytes_spell bytes fits none) none
 
 -- an access in intervals of numbers
 lies_in_one : (spans : List Span) (a : Access) → IsIn (intervals spans) a → LiesInOne spans a

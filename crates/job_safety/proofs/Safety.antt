@@ -25,6 +25,8 @@ use Rattle.accepted_law.proofs.Fixed.{fixed_byte}
 use Rattle.accepted_law.proofs.ByJob.{inside_either}
 use Rattle.accepted_law.proofs.Joining.{files_sound_law, lists_and_code_fixed_law}
 use Rattle.accepted_law.proofs.Neighbours.{accepted_apart_law}
+use Rattle.accepted_ends.specs.Law.{FileEnds}
+use Rattle.accepted_ends.proofs.Files.{files_end_by_law}
 use Rattle.job_safety.specs.Clients.{IsApart, BytesApart}
 use Rattle.job_safety.specs.Files.{IsSafeFile, BytesSafe, PlacedJobsAreSafe}
 use Rattle.job_safety.specs.Follows.{HasListsAndCode, IsSafeAlone, SafeFilesFollow}
@@ -105,6 +107,10 @@ pub accepted_is_apart : (bytes : List ℕ) → IsFileOf bytes (file_at bytes) �
 unfolding refusal_of
 accepted_is_apart bytes is none c others are_bytes accepted near =
     accepted_apart_law c (file_at bytes) (file_at others) (faultless bytes is none) (faultless others (bytes_spell others are_bytes accepted) accepted) near
+
+-- Its jobs end, where no shader has a loop.
+pub file_ends : (bytes : List ℕ) → IsFileOf bytes (file_at bytes) → first_of (all_questions bytes) ≡ None → FileEnds (file_at bytes)
+file_ends bytes is none = files_end_by_law (file_at bytes) is.well_formed is.fits (faultless bytes is none).none
 
 pub bytes_apart_law : BytesApart
 unfolding refusal_of

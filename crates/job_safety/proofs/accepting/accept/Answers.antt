@@ -1,7 +1,7 @@
 -- What was checked is the file's, and so is its machine.
 use Rattle.std.proofs.Common.{refl}
 use Rattle.job_format.specs.Reading.{file_at}
-use Rattle.job_safety.proofs.Safety.{header_there, accepted_is_safe, accepted_is_same, accepted_is_apart}
+use Rattle.job_safety.proofs.Safety.{header_there, accepted_is_safe, accepted_is_same, accepted_is_apart, file_ends}
 use Rattle.job_safety.proofs.Starts.{AreOfJobs, are_of_jobs, is_accepted}
 use Rattle.job_safety.proofs.accepting.accept.Goals as goal
 use Rattle.job_safety.proofs.accepting.accept.Goals.{In-Ok}
@@ -37,3 +37,6 @@ returns-in-Ok-set_up-clause-same c ok = accepted_is_same c.args.bytes.now (c.in-
 
 pub returns-in-Ok-set_up-clause-apart : goal.returns-in-Ok-set_up-clause-apart
 returns-in-Ok-set_up-clause-apart c ok = accepted_is_apart c.args.bytes.now (c.in-Ok.ensures.spelled refl) c.in-Ok.ensures.answers.0
+
+pub returns-in-Ok-set_up-clause-ends : goal.returns-in-Ok-set_up-clause-ends
+returns-in-Ok-set_up-clause-ends c ok = file_ends c.args.bytes.now (c.in-Ok.ensures.spelled refl) c.in-Ok.ensures.answers.0
