@@ -91,6 +91,21 @@ struct vc4check_jobs_answer {
 };
 
 /*
+ * What is told of how long the jobs of a file may run. After VC4CHECK_REFUSED `letter`, `number` and `offset` say why, and the others are 0.
+ * After VC4CHECK_ACCEPTED `loops` is 0, a run has at most 2^64 * `steps_high` + `steps_low` steps and `stay` more for each in which a renderer
+ * stays at an item; or `loops` is 1, and a shader branches back at `offset` of the file. The others are 0.
+ */
+struct vc4check_bound_answer {
+    uint64_t offset;
+    uint64_t steps_low;
+    uint64_t steps_high;
+    uint32_t stay;
+    uint32_t loops;
+    uint32_t letter; /* of the rule, in ASCII */
+    uint32_t number; /* of the rule, from 1 on */
+};
+
+/*
  * What is told of a shader. After VC4CHECK_REFUSED the first two fields say why, and the others are 0; after VC4CHECK_ACCEPTED
  * and VC4CHECK_SHORT those two are 0.
  */
@@ -117,6 +132,7 @@ struct vc4check_sample {
 _Static_assert(sizeof(struct vc4check_answer) == 64, "as long as the library's");
 _Static_assert(sizeof(struct vc4check_job) == 44, "as long as the library's");
 _Static_assert(sizeof(struct vc4check_jobs_answer) == 24 + 8 * 44, "as long as the library's");
+_Static_assert(sizeof(struct vc4check_bound_answer) == 40, "as long as the library's");
 _Static_assert(sizeof(struct vc4check_shader_answer) == 16 + 2 * sizeof(size_t), "as long as the library's");
 _Static_assert(sizeof(struct vc4check_sample) == 20, "as long as the library's");
 #endif
@@ -161,6 +177,15 @@ uint32_t vc4check_check_jobs(const uint8_t *bytes, size_t length, uint8_t *block
  * VC4CHECK_NO_MEMORY  `answer` and the window are as before.
  */
 uint32_t vc4check_place(const uint8_t *bytes, size_t length, uint8_t *window, size_t room, struct vc4check_jobs_answer *answer);
+
+/*
+ * Checks the job file in `bytes`, and tells how many steps a run of its jobs takes at most. No memory of the jobs is made.
+ *
+ * VC4CHECK_ACCEPTED   `answer` has the two numbers, or the place of the first branch that leads back.
+ * VC4CHECK_REFUSED    `answer` names the first rule that stands, and where.
+ * VC4CHECK_NO_MEMORY  `answer` is as before.
+ */
+uint32_t vc4check_bound(const uint8_t *bytes, size_t length, struct vc4check_bound_answer *answer);
 
 /*
  * Checks a shader by itself: `words` instructions of 64 bits. Where no rule stands, its samples are put into `samples` and the

@@ -3,3 +3,4 @@ pub mod Job
 pub mod Jobs
 pub mod Places
 pub mod Shader
+pub mod Bound

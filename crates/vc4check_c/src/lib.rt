@@ -5,15 +5,19 @@
 #![tactic(auto)]
 
 mod asked;
+mod bound;
 mod job;
 mod jobs;
 mod place;
 mod shader;
 mod status;
 
+pub use bound::BoundAnswer;
 pub use job::JobAnswer;
 pub use jobs::{JobLists, JobsAnswer};
 pub use shader::{ShaderAnswer, ShaderSample};
 
+#[cfg(test)]
+mod bound_tests;
 #[cfg(test)]
 mod tests;

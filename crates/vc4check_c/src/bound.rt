@@ -1,0 +1,100 @@
+//! The bound on the steps of a file's jobs.
+ghost use Rattle.std.specs.Prelude.{◌≡◌, ◌≢◌, ◌≤◌};
+ghost use Rattle.job_check.specs.Whole.{refusal_of};
+ghost use Rattle.vc4check_c.specs.Bound.{bounded_answer, unbounded_answer, IsBounded, IsUnbounded};
+
+use crate::job::letter;
+use crate::status::{ACCEPTED, NO_MEMORY, REFUSED};
+use field_words::Stop;
+use job_bound::{Bound, bound_bytes};
+use job_format::Refusal;
+use std::alloc::Global;
+
+/// What is told of how long the jobs of a file may run. Of an accepted one in which no shader branches back: the most steps of a run, in
+/// two halves of 64 bits, and how many more there may be for each step in which a renderer stays at an item. Of one in which a shader does:
+/// that it loops (1), and the offset in the file of the first such branch. Of a refused one: the rule, by its letter in ASCII and its
+/// number, and the offset of what it is about. The other fields are zero.
+#[repr(C)]
+#[derive(Clone, Copy, Debug, PartialEq, Eq)]
+pub struct BoundAnswer {
+    pub offset: u64,
+    pub steps_low: u64,
+    pub steps_high: u64,
+    pub stay: u32,
+    pub loops: u32,
+    pub letter: u32,
+    pub number: u32,
+}
+
+/// What is told of a bound.
+#[tactic(auto, unfolding(crate::specs::Bound::bounded_answer))]
+fn bounded(bound: &Bound) -> BoundAnswer
+    ensures { result ≡ bounded_answer bound.now }
+{
+    match *bound {
+        Bound::Steps { most, stay } => BoundAnswer {
+            offset: 0,
+            steps_low: (most % (1u128 << 64)) as u64,
+            steps_high: (most / (1u128 << 64)) as u64,
+            stay,
+            loops: 0,
+            letter: 0,
+            number: 0,
+        },
+        Bound::Loops { offset } => BoundAnswer {
+            offset,
+            steps_low: 0,
+            steps_high: 0,
+            stay: 0,
+            loops: 1,
+            letter: 0,
+            number: 0,
+        },
+    }
+}
+
+/// What is told of a refused file.
+#[tactic(auto, unfolding(crate::specs::Bound::unbounded_answer))]
+fn unbounded(refusal: &Refusal) -> BoundAnswer
+    ensures { result ≡ unbounded_answer refusal.now }
+{
+    BoundAnswer {
+        offset: refusal.offset,
+        steps_low: 0,
+        steps_high: 0,
+        stay: 0,
+        loops: 0,
+        letter: u32::from(letter(refusal.rule.stage)),
+        number: u32::from(refusal.rule.number),
+    }
+}
+
+/// Checks the job file that `bytes` hold, and tells how many steps a run of its jobs takes at most, by which a driver may set its timer.
+/// No memory of the jobs is made.
+///
+/// | Status | Meaning | `answer` |
+/// |---|---|---|
+/// | 0 | accepted | two numbers, or that a shader branches back and where |
+/// | 1 | refused | the first rule that stands, and its offset |
+/// | 3 | want of memory; nothing is said of the file | as before |
+#[unsafe(no_mangle)]
+#[tactic(auto, unfolding(job_check::specs::Whole::refusal_of), using(field_words::proofs::Questions::first_is))]
+pub extern "C" fn vc4check_bound(alloc: Global, bytes: &[u8], answer: &mut BoundAnswer) -> u32
+    ensures statuses { result ≤ 3 }
+    ensures accepted { result ≡ 0 → IsBounded bytes.now answer.new }
+    ensures refused { result ≡ 1 → IsUnbounded bytes.now (refusal_of bytes.now) answer.new }
+    ensures starved { result ≡ 3 → answer.new ≡ answer.old }
+    ensures known { result ≢ 2 }
+{
+    match bound_bytes(alloc, bytes) {
+        Ok(bound) => {
+            *answer = bounded(&bound);
+            ACCEPTED
+        }
+        Err(Stop::Fault(refusal)) => {
+            *answer = unbounded(&refusal);
+            REFUSED
+        }
+        Err(Stop::NoMemory) => NO_MEMORY,
+    }
+}
