@@ -1,5 +1,5 @@
--- What was checked is printed as the file's image.
-use Rattle.std.proofs.Common.{◌≡◌, ◌≤◌, ℕ, List, ◌++◌, length, get_or, None, refl, sym, ap, subst, ◌∙◌}
+-- What `check` answers of an accepted file, and `gen` of an example.
+use Rattle.std.proofs.Common.{◌≡◌, ◌≤◌, ℕ, List, length, get_or, None, refl, sym, ap, subst, ◌∙◌}
 use Rattle.job_format.specs.File.{IsFileOf}
 use Rattle.job_format.specs.Reading.{file_at}
 use Rattle.job_format.specs.Text.{file_text}
@@ -7,41 +7,11 @@ use Rattle.job_format.proofs.Laws.{read_again}
 use Rattle.relocation.specs.declared.layout.Layout.{Layout}
 use Rattle.relocation.specs.declared.layout.Lengths.{Lengths}
 use Rattle.job_check.specs.Emit.{memory_of, all_lengths_of, IsEmitted}
-use Rattle.job_check.specs.Jobs.{layouts_of}
 use Rattle.job_check.specs.Whole.{refusal_of}
-use Rattle.job_check.proofs.Counted.{as_many_layouts, as_many_lengths, first_lengths}
+use Rattle.job_check.proofs.Counted.{as_many_lengths, first_lengths}
 use Rattle.dumper.specs.Example.{example_text}
-use Rattle.dumper.specs.Text.{AreOfVersion, head_text, accepted_text}
 use Rattle.example_job.specs.Example.{example}
 use Rattle.commands.specs.Answer.{image_of, text_of, IsVerdict, IsCheckAnswer}
-use Rattle.commands.specs.Reply.{rest_text}
-
--- of a version that there is, with layouts and lengths for each job
-pub of_version : (bytes memory : List ℕ) (layouts : List Layout) (lengths : List Lengths) (version : ℕ) → IsFileOf bytes (file_at bytes) → IsEmitted (file_at bytes) memory layouts lengths
-    → version ≡ (file_at bytes).version → AreOfVersion version layouts lengths
-of_version bytes memory layouts lengths version is emitted known =
-    let f = file_at bytes in
-    let well = is.well_formed in
-    let long : length layouts ≡ length f.jobs = ap length emitted.layouts_are ∙ as_many_layouts f in
-    let same : length lengths ≡ length f.jobs = ap length emitted.lengths_are ∙ as_many_lengths f in
-    record {
-      a_version = subst (λ v. 1 ≤ v) (sym known) well.a_version;
-      known = subst (λ v. v ≤ 2) (sym known) well.known;
-      one_job = λ one. long ∙ (well.first (sym known ∙ one)).one_job;
-      each_job = same ∙ sym long;
-    }
-
--- its head and its rows are what is printed of the file
-pub image_is : (bytes memory : List ℕ) (layouts : List Layout) (lengths : List Lengths) (version : ℕ) (head : List ℕ) → IsEmitted (file_at bytes) memory layouts lengths
-    → version ≡ (file_at bytes).version → head ≡ head_text version (length memory) layouts lengths → head ++ rest_text memory ≡ image_of (file_at bytes)
-unfolding image_of accepted_text rest_text
-image_is bytes memory layouts lengths version head emitted known head_is =
-    let f = file_at bytes in
-    ap (λ h. h ++ rest_text memory) head_is
-    ∙ ap (λ v. accepted_text v memory layouts lengths) known
-    ∙ ap (λ m. accepted_text f.version m layouts lengths) emitted.memory_is
-    ∙ ap (λ l. accepted_text f.version (memory_of f) l lengths) emitted.layouts_are
-    ∙ ap (accepted_text f.version (memory_of f) (layouts_of f)) emitted.lengths_are
 
 pub image_answers : (bytes text : List ℕ) → refusal_of bytes ≡ None → IsFileOf bytes (file_at bytes) → text ≡ image_of (file_at bytes) → IsCheckAnswer bytes 0 text
 image_answers bytes text none is shown = subst (λ refusal. IsVerdict bytes refusal (file_at bytes) 0 text) (sym none) (refl, shown, is)

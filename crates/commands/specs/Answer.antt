@@ -8,9 +8,7 @@ use Rattle.job_format.specs.Reading.{file_at}
 use Rattle.job_check.specs.Whole.{all_questions, refusal_of}
 use Rattle.job_check.specs.Emit.{memory_of, lengths_of, all_lengths_of}
 use Rattle.job_check.specs.Jobs.{layouts_of}
-use Rattle.dumper.specs.Text.{head_text, accepted_text, refused_text}
-use Rattle.relocation.specs.declared.layout.Layout.{Layout}
-use Rattle.relocation.specs.declared.layout.Lengths.{Lengths}
+use Rattle.dumper.specs.Text.{accepted_text, refused_text}
 use Rattle.commands.specs.declared.command.Command.{Command}
 use Rattle.commands.specs.declared.command.Command.TheVariants.{Check, Replay, Upgrade, Bound, Show, FromText, Asm, Disasm, Slots, Queue, Session, Untile, Tile, Level}
 use Rattle.commands.specs.Pictures.{IsUntileAnswer, IsTileAnswer, IsLevelAnswer}
@@ -27,10 +25,6 @@ use Rattle.example_job.specs.Example.{example}
 -- what is printed of an accepted file: its emitted memory, and where the lists of each job lie there
 unfoldable pub image_of : FileModel → List ℕ
 image_of f = accepted_text f.version (memory_of f) (layouts_of f) (all_lengths_of f)
-
--- what is printed of a memory before its rows
-abbrev pub head_of : ℕ → List ℕ → List Layout → List Lengths → List ℕ
-head_of version memory layouts lengths = head_text version (length memory) layouts lengths
 
 -- Where no rule stands the file is what its bytes spell, and is accepted with its memory; else it is refused by the first rule
 -- that does: it stands, and none before it in the list does.

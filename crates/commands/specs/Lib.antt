@@ -3,6 +3,7 @@ pub mod Bands
 pub mod Bound
 pub mod Cause
 pub mod Headline
+pub mod Image
 pub mod Notice
 pub mod Pictures
 pub mod Replay

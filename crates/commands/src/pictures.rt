@@ -145,7 +145,7 @@ pub fn picture_reply(
     to: Order,
     picture: Picture,
     bytes: &[u8],
-) -> Result<Reply, NoMemory>
+) -> Result<Reply<'_>, NoMemory>
     requires { IsPictureWithin picture }
     ensures answers { IfOk result (IsReplyOf (IsSizedAnswer bytes.now (size_in from picture.width picture.height picture.cpp)
         (IsCopy from to picture.width picture.height picture.cpp bytes.now)) bytes.now) }

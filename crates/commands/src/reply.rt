@@ -1,29 +1,38 @@
 //! What a command prints, and its way into the sink.
-ghost use Rattle.std.specs.Prelude.{◌≡◌, ◌≢◌, ◌≤◌, ◌<◌, ◌/◌, ◌++◌, length, OnOk, OnErr};
+ghost use Rattle.std.specs.Prelude.{◌≡◌, ◌≢◌, ◌≤◌, ◌<◌, ◌^◌, ◌++◌, length, OnOk, OnErr};
 ghost use Rattle.std.specs.Io.KnownBytes.{Appends};
 ghost use Rattle.job_io.specs.Faults.{Rose, LastCallFailed};
 ghost use Rattle.job_io.specs.Traffic.{AppendsFront};
-ghost use Rattle.dumper.specs.Text.{rows_text};
+ghost use Rattle.field_words.specs.Sizes.{most_memory};
+ghost use Rattle.dumper.specs.Text.{row_size};
+ghost use Rattle.dumper.specs.Parts.{part_at, part_end, part_text, parts_text, Ascend};
+ghost use Rattle.dumper.specs.Spans.{parts_of};
 ghost use Rattle.commands.specs.Reply.{rest_text, reply_status, reply_cause, IsReplyReady, AppendsReply, AppendsReplyFront};
 
 use super::answer::{Answer, reply};
 use super::bands::{Conversion, write_bands};
 use super::cause::Cause;
-use dumper::{IMAGE_END, PIECE, put_rows};
+use dumper::{IMAGE_END, PIECE, Span, put_part};
 use job_io::{Failed, Sink, write_all};
-use phys_mem::PhysMem;
 
-/// A text with its status; the image of an accepted job: its text up to the rows, and the memory, whose rows are printed from it
-/// piece by piece; or the picture of the input in another order, which is printed band by band from the input, and memory for one
-/// band. So the text of a whole memory or a picture is never in memory itself.
+/// The image of an accepted file: its text up to the rows, and what its memory has that isn't zero, by ascending place.
 #[derive(Drop)]
-pub enum Reply {
+pub struct Image<'a> {
+    pub head: Vec<u8>,
+    pub spans: Vec<Span<'a>>,
+}
+
+/// A text with its status; the image of an accepted file, whose rows are printed from its spans piece by piece; or the picture of the
+/// input in another order, which is printed band by band from the input, and memory for one band. So neither a job's memory nor the text
+/// of one or of a picture is ever in memory.
+#[derive(Drop)]
+pub enum Reply<'a> {
     Text(Answer),
-    Image(Vec<u8>, PhysMem),
+    Image(Image<'a>),
     Bands(Conversion, Vec<u8>),
 }
 
-impl Reply {
+impl<'a> Reply<'a> {
     /// Why the reply refuses, where there is more to say than its text does.
     pub fn cause(&self) -> Option<Cause>
         ensures { result ≡ reply_cause self.now }
@@ -35,49 +44,75 @@ impl Reply {
     }
 }
 
-// Writes the rows of the memory. It takes no memory.
-fn write_rows<K: Sink>(sink: &mut K, memory: &PhysMem) -> Result<(), Failed>
-    ensures written { OnOk result (Appends (K.held sink.old) (K.held sink.new) (rows_text memory.now 0 (length memory.now / 16))) }
-    ensures cut { OnErr result (AppendsFront (K.held sink.old) (K.held sink.new) (rows_text memory.now 0 (length memory.now / 16))) }
+// Writes the lines of a part's rows, by way of this piece. It takes no memory.
+#[tactic(auto, unfolding(dumper::specs::Parts::part_text))]
+fn write_part<K: Sink>(
+    sink: &mut K,
+    place: u32,
+    bytes: &[u8],
+    piece: &mut [u8],
+) -> Result<(), Failed>
+    requires end { part_end (part_at place bytes.now) < 2 ^ 32 }
+    requires room { row_size ≤ length piece.old }
+    ensures written { OnOk result (Appends (K.held sink.old) (K.held sink.new) (part_text (part_at place bytes.now))) }
+    ensures cut { OnErr result (AppendsFront (K.held sink.old) (K.held sink.new) (part_text (part_at place bytes.now))) }
     ensures failed { OnErr result (Rose (K.faults sink.old) (K.faults sink.new)) }
     ensures last { OnErr result (LastCallFailed K.held K.faults sink.old sink.new) }
     ensures steady { OnOk result (K.faults sink.new ≡ K.faults sink.old) }
+    ensures long { length piece.new ≡ length piece.old }
 {
-    let mut piece = [0; PIECE];
-    let rows = memory.len() / 16;
+    let rows = bytes.len().div_ceil(16);
     let mut row = 0;
     while row < rows {
-        let filled = put_rows(memory, row, &mut piece);
+        let filled = put_part(place, bytes, row, piece);
         write_all(sink, &piece[..filled.len])?;
         row = filled.row;
     }
     Ok(())
 }
 
-// Writes the rows of the memory and the last line. It takes no memory.
-#[tactic(auto, unfolding(crate::specs::Reply::rest_text), using(crate::proofs::Appending::both_appended, crate::proofs::Appending::front_of_first, crate::proofs::Appending::front_of_second))]
-fn write_rest<K: Sink>(sink: &mut K, memory: &PhysMem) -> Result<(), Failed>
-    ensures written { OnOk result (Appends (K.held sink.old) (K.held sink.new) (rest_text memory.now)) }
-    ensures cut { OnErr result (AppendsFront (K.held sink.old) (K.held sink.new) (rest_text memory.now)) }
+// Writes the lines of the rows of all spans. It takes no memory.
+fn write_spans<K: Sink>(sink: &mut K, spans: &[Span]) -> Result<(), Failed>
+    requires { Ascend 0 most_memory (parts_of spans.now) }
+    ensures written { OnOk result (Appends (K.held sink.old) (K.held sink.new) (parts_text (parts_of spans.now))) }
+    ensures cut { OnErr result (AppendsFront (K.held sink.old) (K.held sink.new) (parts_text (parts_of spans.now))) }
     ensures failed { OnErr result (Rose (K.faults sink.old) (K.faults sink.new)) }
     ensures last { OnErr result (LastCallFailed K.held K.faults sink.old sink.new) }
     ensures steady { OnOk result (K.faults sink.new ≡ K.faults sink.old) }
 {
-    write_rows(sink, memory)?;
+    let mut piece = [0; PIECE];
+    for span in spans {
+        write_part(sink, span.place, span.bytes.as_slice(), &mut piece)?;
+    }
+    Ok(())
+}
+
+// Writes the rows and the last line. It takes no memory.
+#[tactic(auto, unfolding(crate::specs::Reply::rest_text), using(crate::proofs::Appending::both_appended, crate::proofs::Appending::front_of_first, crate::proofs::Appending::front_of_second))]
+fn write_rest<K: Sink>(sink: &mut K, spans: &[Span]) -> Result<(), Failed>
+    requires { Ascend 0 most_memory (parts_of spans.now) }
+    ensures written { OnOk result (Appends (K.held sink.old) (K.held sink.new) (rest_text (parts_of spans.now))) }
+    ensures cut { OnErr result (AppendsFront (K.held sink.old) (K.held sink.new) (rest_text (parts_of spans.now))) }
+    ensures failed { OnErr result (Rose (K.faults sink.old) (K.faults sink.new)) }
+    ensures last { OnErr result (LastCallFailed K.held K.faults sink.old sink.new) }
+    ensures steady { OnOk result (K.faults sink.new ≡ K.faults sink.old) }
+{
+    write_spans(sink, spans)?;
     write_all(sink, IMAGE_END)
 }
 
-// Writes the image of an accepted job. It takes no memory.
+// Writes the image of an accepted file. It takes no memory.
 #[tactic(auto, using(crate::proofs::Appending::both_appended, crate::proofs::Appending::front_of_first, crate::proofs::Appending::front_of_second))]
-fn write_image<K: Sink>(sink: &mut K, head: &[u8], memory: &PhysMem) -> Result<(), Failed>
-    ensures written { OnOk result (Appends (K.held sink.old) (K.held sink.new) (head.now ++ rest_text memory.now)) }
-    ensures cut { OnErr result (AppendsFront (K.held sink.old) (K.held sink.new) (head.now ++ rest_text memory.now)) }
+fn write_image<K: Sink>(sink: &mut K, head: &[u8], spans: &[Span]) -> Result<(), Failed>
+    requires { Ascend 0 most_memory (parts_of spans.now) }
+    ensures written { OnOk result (Appends (K.held sink.old) (K.held sink.new) (head.now ++ rest_text (parts_of spans.now))) }
+    ensures cut { OnErr result (AppendsFront (K.held sink.old) (K.held sink.new) (head.now ++ rest_text (parts_of spans.now))) }
     ensures failed { OnErr result (Rose (K.faults sink.old) (K.faults sink.new)) }
     ensures last { OnErr result (LastCallFailed K.held K.faults sink.old sink.new) }
     ensures steady { OnOk result (K.faults sink.new ≡ K.faults sink.old) }
 {
     write_all(sink, head)?;
-    write_rest(sink, memory)
+    write_rest(sink, spans)
 }
 
 /// Writes all of a reply to these bytes, and says its status; or 4 where the sink failed, which then has a front of the text, where
@@ -85,17 +120,17 @@ fn write_image<K: Sink>(sink: &mut K, head: &[u8], memory: &PhysMem) -> Result<(
 pub fn print<K: Sink>(sink: &mut K, given: Reply, bytes: &[u8]) -> u8
     requires status { reply_status given < 2 }
     requires ready { IsReplyReady bytes.now given }
-    ensures status { result ≢ 4 → result ≡ reply_status given }
+    ensures status { result ≢ 4 → result ≡ reply_status given.entry }
     ensures failing { result ≤ 4 }
-    ensures written { result ≢ 4 → AppendsReply given bytes.now (K.held sink.old) (K.held sink.new) }
-    ensures cut { result ≡ 4 → AppendsReplyFront given bytes.now (K.held sink.old) (K.held sink.new) }
+    ensures written { result ≢ 4 → AppendsReply given.entry bytes.now (K.held sink.old) (K.held sink.new) }
+    ensures cut { result ≡ 4 → AppendsReplyFront given.entry bytes.now (K.held sink.old) (K.held sink.new) }
     ensures failed { result ≡ 4 → Rose (K.faults sink.old) (K.faults sink.new) }
     ensures last { result ≡ 4 → LastCallFailed K.held K.faults sink.old sink.new }
     ensures steady { result ≢ 4 → K.faults sink.new ≡ K.faults sink.old }
 {
     let written = match given {
         Reply::Text(answer) => return reply(sink, &answer),
-        Reply::Image(head, memory) => write_image(sink, &head, &memory),
+        Reply::Image(image) => write_image(sink, &image.head, &image.spans),
         Reply::Bands(conversion, mut band) => write_bands(sink, conversion, bytes, &mut band),
     };
     match written {

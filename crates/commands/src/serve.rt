@@ -28,7 +28,7 @@ use tile_convert::Order;
 
 /// What the command answers to these bytes.
 #[tactic(auto, unfolding(tile_convert::specs::Picture::size_in))]
-fn answer_to(alloc: Global, command: Command, bytes: &[u8]) -> Result<Reply, NoMemory>
+fn answer_to(alloc: Global, command: Command, bytes: &[u8]) -> Result<Reply<'_>, NoMemory>
     requires few { length bytes.now ≤ limit_of command }
     requires within { IsWithin command }
     ensures answers { IfOk result (IsReplyOf (IsAnswer command bytes.now) bytes.now) }

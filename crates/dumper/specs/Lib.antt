@@ -1,3 +1,5 @@
 pub mod Text
+pub mod Parts
+pub mod Spans
 pub mod Example
 pub mod Trace

@@ -2,9 +2,13 @@
 #![tactic(auto)]
 
 mod example;
+mod lines;
+mod span;
 mod text;
 mod trace;
 
 pub use example::example_text;
-pub use text::{Filled, IMAGE_END, PIECE, image_head, image_text, put_rows, refusal_text};
+pub use lines::{Filled, PIECE, put_part};
+pub use span::{Span, insert_span};
+pub use text::{IMAGE_END, image_head, refusal_text};
 pub use trace::trace_text;

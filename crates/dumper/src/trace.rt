@@ -5,7 +5,8 @@ ghost use Rattle.dumper.specs.Trace.{unit_text, counts_text, reach_text, step_en
 ghost use Rattle.dumper.specs.Text.{place_text};
 ghost use Rattle.std.specs.Fmt.{decimal};
 
-use super::text::{place_text, put_digits};
+use super::lines::put_digits;
+use super::text::place_text;
 use field_words::{Actor, NoMemory};
 use itoa::Buffer;
 use replay::{Ending, Trace, TraceLine};

@@ -1,24 +1,21 @@
--- What was checked is the file's, and its version is the one in its header.
-use Rattle.std.proofs.Common.{◌++◌, refl}
+-- What is printed is the image of the bytes' file.
+use Rattle.std.proofs.Common.{◌++◌, refl, sym, ap, subst, ◌∙◌}
 use Rattle.job_check.specs.Whole.{refusal_of}
-use Rattle.job_safety.proofs.Safety.{header_there}
-use Rattle.commands.specs.Reply.{rest_text}
-use Rattle.commands.proofs.Checked.{of_version, image_is, image_answers}
+use Rattle.job_format.specs.File.{IsWellFormed}
+use Rattle.commands.specs.Answer.{image_of}
+use Rattle.commands.specs.Image.{IsAccepted}
+use Rattle.commands.specs.Reply.{image_text}
+use Rattle.commands.proofs.Checked.{image_answers}
 use Rattle.commands.proofs.check.check_answer.Goals as goal
 
-pub version_of-requires : goal.version_of-requires
-version_of-requires c = header_there c.args.bytes.now c.in-Ok.ensures.answers.0
+pub image_of-requires : goal.image_of-requires
+image_of-requires c =
+    let is = c.in-Ok.ensures.answers.1 in
+    let same = sym is.file_is in
+    record { accepted = subst (λ f. IsAccepted f c.in-Ok.accepted) same is; well_formed = subst IsWellFormed same (c.in-Ok.ensures.spelled refl).well_formed }
 
-pub head_of-requires : goal.head_of-requires
-head_of-requires c =
-    of_version c.args.bytes.now c.in-Ok.checked.memory c.in-Ok.checked.layouts.items c.in-Ok.checked.lengths.items c.version_of.result
-    (c.in-Ok.ensures.spelled refl) c.in-Ok.ensures.answers.1 c.version_of.ensures
-
-pub returns-in_ok-head-in-Ok-clause-answers : goal.returns-in_ok-head-in-Ok-clause-answers
+pub returns-in_ok-image_of-in-Ok-clause-answers : goal.returns-in_ok-image_of-in-Ok-clause-answers
 unfolding refusal_of
-returns-in_ok-head-in-Ok-clause-answers c =
-    let bytes = c.args.bytes.now in
-    let checked = c.in-Ok.checked in
-    let head = c.in_ok-head-in-Ok.head.items in
-    image_answers bytes (head ++ rest_text checked.memory) c.in-Ok.ensures.answers.0 (c.in-Ok.ensures.spelled refl)
-    (image_is bytes checked.memory checked.layouts.items checked.lengths.items c.version_of.result head c.in-Ok.ensures.answers.1 c.version_of.ensures c.in_ok-head-in-Ok.ensures)
+returns-in_ok-image_of-in-Ok-clause-answers c =
+    image_answers c.args.bytes.now _ c.in-Ok.ensures.answers.0 (c.in-Ok.ensures.spelled refl)
+    (c.in_ok-image_of-in-Ok.ensures.text ∙ ap image_of c.in-Ok.ensures.answers.1.file_is)

@@ -1,6 +1,6 @@
 use Rattle.std.proofs.Common.{◌∙◌, ◌+◌, ◌*◌, ap, arith, slice_set}
 use Rattle.dumper.proofs.Digits.{digits_more}
-use Rattle.dumper.proofs.text.put_digits.Goals as goal
+use Rattle.dumper.proofs.lines.put_digits.Goals as goal
 
 pub loop-k-preserved : goal.loop-k-preserved
 loop-k-preserved c =

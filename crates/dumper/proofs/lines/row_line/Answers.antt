@@ -2,7 +2,7 @@ use Rattle.std.proofs.Common.{◌∙◌, ap, arith}
 use Rattle.field_words.specs.Writes.{with_bytes}
 use Rattle.hex.specs.Hex.{encode_lower}
 use Rattle.dumper.proofs.Rows.{empty_line, line_is}
-use Rattle.dumper.proofs.text.row_line.Goals as goal
+use Rattle.dumper.proofs.lines.row_line.Goals as goal
 
 pub returns : goal.returns
 returns c =

@@ -1,0 +1,25 @@
+use Rattle.std.proofs.Common.{sym, subst}
+use Rattle.field_words.specs.Questions.{Answers, Refuses, answered}
+use Rattle.field_words.specs.Sizes.{most_memory}
+use Rattle.field_words.proofs.Questions.{answers_later, answered_none}
+use Rattle.job_format.specs.Faults.{format_questions}
+use Rattle.job_format.specs.File.{IsWellFormed}
+use Rattle.job_format.specs.Model.{FileModel}
+use Rattle.job_format.specs.Reading.{file_at}
+use Rattle.job_check.specs.Faults.{file_stages}
+use Rattle.job_check.specs.Whole.{all_questions, questions_within, format_refused}
+use Rattle.job_check.proofs.Stops.{stopped}
+use Rattle.commands.specs.Image.{IsAccepted}
+use Rattle.commands.proofs.check.accept.Goals as goal
+
+pub returns-in-Ok-clause-answers : goal.returns-in-Ok-clause-answers
+unfolding questions_within
+returns-in-Ok-clause-answers c =
+    let bytes = c.args.bytes.now in
+    answers_later (answered format_refused (format_questions bytes)) (file_stages (file_at bytes)) (IsAccepted (file_at bytes)) c.accept_file.result
+    (answered_none format_refused (format_questions bytes) c.in-Ok.ensures.read.0)
+    (subst (λ (f : FileModel). Answers (file_stages f) (IsAccepted f) c.accept_file.result) c.in-Ok.ensures.read.1 c.accept_file.ensures)
+
+pub returns-in-Err-clause-answers : goal.returns-in-Err-clause-answers
+returns-in-Err-clause-answers c =
+    subst (λ stop. Refuses (all_questions c.args.bytes.now) stop) (sym c.format_refusal.ensures) (stopped most_memory c.args.bytes.now c.in-Err.stop c.in-Err.ensures.read)
