@@ -1,7 +1,7 @@
 //! The answer to one job file.
 use dumper::refusal_text;
-use field_words::{NoMemory, Stop};
-use job_check::check_bytes;
+use field_words::{MOST_MEMORY, NoMemory, Stop};
+use job_check::check_places;
 use relocation::Lengths;
 use std::alloc::Global;
 
@@ -24,10 +24,10 @@ fn accepted_line(alloc: Global, all: &[Lengths]) -> Result<Vec<u8>, NoMemory> {
     Ok(line)
 }
 
-/// The line for these bytes: accepted, with the emitted lengths of each job, or the first rule that stands.
+/// The line for these bytes: accepted, with the emitted lengths of each job, or the first rule that stands. No memory of the jobs is made.
 pub fn answer(alloc: Global, bytes: &[u8]) -> Result<Vec<u8>, NoMemory> {
-    match check_bytes(alloc, bytes) {
-        Ok(checked) => accepted_line(alloc, &checked.lengths),
+    match check_places(alloc, MOST_MEMORY, bytes) {
+        Ok(region) => accepted_line(alloc, &region.lengths),
         Err(Stop::Fault(refusal)) => refusal_text(alloc, &refusal),
         Err(Stop::NoMemory) => Err(NoMemory),
     }
