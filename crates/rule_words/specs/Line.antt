@@ -8,7 +8,7 @@ use Rattle.rule_words.specs.declared.place.Thing.TheVariants.{File, Header, Entr
 use Rattle.rule_words.specs.declared.place.Place.{Place}
 use Rattle.rule_words.specs.declared.line.Line.{Line}
 use Rattle.rule_words.specs.Names.{name_of, sentence_of}
-use Rattle.rule_words.specs.Place.{Covers}
+use Rattle.rule_words.specs.Place.{place_at, Covers}
 
 -- there is one header and one file
 unfoldable pub is_one : Thing → Bool
@@ -69,8 +69,9 @@ line_text line =
     codes "vc4check: " ++ rule_text line.rule ++ codes ": " ++ line.sentence.now ++ codes " (" ++ place_text line.place
     ++ codes "); see vc4check explain " ++ rule_text line.rule
 
--- The line of a refusal of these bytes has its rule, that rule's sentence, and a place in which the offset lies.
+-- The line of a refusal of these bytes has its rule, that rule's sentence, and its place, in which the offset lies.
 pub record IsLineOf (bytes : List ℕ) (refusal : Refusal) (line : Line) : Type 0 where
   pub rule : line.rule ≡ refusal.rule
   pub sentence : line.sentence.now ≡ sentence_of (name_of refusal.rule)
-  pub place : Covers bytes refusal.offset line.place
+  pub place : line.place ≡ place_at bytes refusal
+  pub covers : Covers bytes refusal.offset line.place

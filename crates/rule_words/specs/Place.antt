@@ -1,6 +1,11 @@
--- Where the things of a job file begin and how many bytes they have, and what it is for an offset to lie in one of them.
-use Rattle.std.specs.Prelude.{ℕ, ◌≡◌, ◌+◌, ◌*◌, ◌<◌, ◌≤◌, ◌⊎◌, List, length, Result, IfOk, IfErr}
-use Rattle.job_format.specs.Offsets.{header_size, buffer_count, job_count, job_word, content_size, entry_offset, job_offset, content_offset, handles_offset, bin_offset, records_offset, uniforms_offset}
+-- Where the things of a job file begin and how many bytes they have; what it is for an offset to lie in one of them; and the one place that a
+-- refusal is told by.
+use Rattle.std.specs.Prelude.{ℕ, ◌≡◌, ◌+◌, ◌-◌, ◌*◌, ◌/◌, ◌%◌, ◌<◌, ◌≤◌, ◌⊎◌, ◌==◌, ◌&&◌, ◌||◌, not, Bool, false, nat_lt, nat_le, List, [], ◌∷◌, ◌++◌, codes, length, bytes_eq, Option, Some, None, Result, IfOk, IfErr, if◌then◌else◌}
+use Rattle.field_words.specs.Questions.{Question, Ask, each, first_of}
+use Rattle.job_format.specs.Rules.{letter}
+use Rattle.job_format.specs.declared.rule.Refusal.{Refusal}
+use Rattle.job_format.specs.declared.rule.Rule.{Rule}
+use Rattle.job_format.specs.Offsets.{header_size, entry_size, job_size, buffer_count, job_count, job_word, content_size, entry_offset, job_offset, content_offset, handles_offset, bin_offset, records_offset, uniforms_offset}
 use Rattle.rule_words.specs.declared.place.Thing.{Thing}
 use Rattle.rule_words.specs.declared.place.Thing.TheVariants.{File, Header, Entry, JobEntry, Surface, Contents, Shader, Handles, Handle, BinnerList, Records, Uniforms}
 use Rattle.rule_words.specs.declared.place.Place.{Place}
@@ -67,3 +72,94 @@ Covers bytes offset place =
 -- Of a walk from some offset on: it found a spot that stands for the offset, or the offset is so many bytes past the end.
 abbrev pub WalksTo : List ℕ → (offset end : ℕ) → Result Place ℕ → Type 0
 WalksTo bytes offset end walk = IfOk walk (λ place. IsSpot bytes offset place) × IfErr walk (λ left. end + left ≡ offset)
+
+-- the rule is one of this letter
+abbrev pub is_lettered : Rule → List ℕ → Bool
+is_lettered rule name = bytes_eq (letter rule.stage) name
+
+-- The rules that are about the end of a part, one past its last byte: S2 and S26 of a shader, B18 and B19 of a binner list, A8 of uniforms,
+-- and the others of A of records.
+unfoldable pub may_be_end : Thing → Rule → Bool
+may_be_end File rule = false
+may_be_end Header rule = false
+may_be_end Entry rule = false
+may_be_end JobEntry rule = false
+may_be_end Surface rule = false
+may_be_end Contents rule = is_lettered rule (codes "S") && (rule.number == 2 || rule.number == 26)
+may_be_end Shader rule = false
+may_be_end Handles rule = false
+may_be_end Handle rule = false
+may_be_end BinnerList rule = is_lettered rule (codes "B") && (rule.number == 18 || rule.number == 19)
+may_be_end Records rule = is_lettered rule (codes "A") && not (rule.number == 8)
+may_be_end Uniforms rule = is_lettered rule (codes "A") && rule.number == 8
+
+-- So many bytes from a part's start are in it, where it has this size. At a boundary that is the later part, but for rules that are about
+-- the end of the earlier.
+unfoldable pub is_inside : Rule → Thing → (size left : ℕ) → Bool
+is_inside rule thing size left = nat_lt left size || (left == size && may_be_end thing rule)
+
+-- a part of the file, as a question: whether the refusal's offset is in it, and which place that is
+abbrev pub part_at : Refusal → Thing → (index start size : ℕ) → Question Place
+part_at refusal thing index start size =
+    Ask (is_inside refusal.rule thing size (refusal.offset - start)) (record { thing = thing; index = index; at = refusal.offset - start })
+
+unfoldable pub content_parts : List ℕ → Refusal → ℕ → List (Question Place)
+content_parts bytes refusal b = part_at refusal Contents b (content_offset bytes b) (content_size bytes b) ∷ []
+
+unfoldable pub job_parts : List ℕ → Refusal → ℕ → List (Question Place)
+job_parts bytes refusal j =
+    part_at refusal Handles j (handles_offset bytes j) (4 * job_word bytes j 8)
+    ∷ part_at refusal BinnerList j (bin_offset bytes j) (job_word bytes j 12)
+    ∷ part_at refusal Records j (records_offset bytes j) (job_word bytes j 16)
+    ∷ part_at refusal Uniforms j (uniforms_offset bytes j) (job_word bytes j 24)
+    ∷ []
+
+-- the parts behind the entries, in the file's order
+unfoldable pub file_parts : List ℕ → Refusal → List (Question Place)
+file_parts bytes refusal = each (content_parts bytes refusal) 0 (buffer_count bytes) ++ each (job_parts bytes refusal) 0 (job_count bytes)
+
+abbrev pub place_or : Place → Option Place → Place
+place_or other None = other
+place_or other (Some place) = place
+
+-- an entry of so many bytes, of those that begin at an offset
+abbrev pub entry_at : Thing → (size first offset : ℕ) → Place
+entry_at thing size first offset = record { thing = thing; index = (offset - first) / size; at = (offset - first) % size }
+
+-- the file as a whole, which stands where the offset lies in no other thing, or behind entries that aren't whole
+abbrev pub file_place : ℕ → Place
+file_place offset = record { thing = File; index = 0; at = offset }
+
+-- the thing that the offset lies in, and how many bytes into it
+unfoldable pub spot_at : List ℕ → Refusal → Place
+spot_at bytes refusal =
+    if nat_lt refusal.offset header_size then record { thing = Header; index = 0; at = refusal.offset }
+    else (if nat_lt (length bytes) header_size then file_place refusal.offset
+    else (if nat_lt refusal.offset (entry_offset (buffer_count bytes)) then entry_at Entry entry_size header_size refusal.offset
+    else (if nat_lt refusal.offset (job_offset bytes (job_count bytes)) then entry_at JobEntry job_size (entry_offset (buffer_count bytes)) refusal.offset
+    else (if nat_lt (length bytes) (job_offset bytes (job_count bytes)) then file_place refusal.offset
+    else place_or (file_place refusal.offset) (first_of (file_parts bytes refusal))))))
+
+-- counted as a person does: instructions for rules of shaders, handles for H, and surfaces for G
+unfoldable pub counted : Thing → Rule → Place → Place
+counted File rule spot = spot
+counted Header rule spot = spot
+counted Entry rule spot = spot
+counted JobEntry rule spot =
+    if is_lettered rule (codes "G") && nat_le 36 spot.at then record { thing = Surface; index = spot.index; at = (spot.at - 24) / 12 } else spot
+counted Surface rule spot = spot
+counted Contents rule spot = if is_lettered rule (codes "S") then record { thing = Shader; index = spot.index; at = spot.at / 8 } else spot
+counted Shader rule spot = spot
+counted Handles rule spot = if is_lettered rule (codes "H") then record { thing = Handle; index = spot.index; at = spot.at / 4 } else spot
+counted Handle rule spot = spot
+counted BinnerList rule spot = spot
+counted Records rule spot = spot
+counted Uniforms rule spot = spot
+
+-- the place that a refusal of these bytes is told by
+unfoldable pub place_at : List ℕ → Refusal → Place
+place_at bytes refusal = counted (spot_at bytes refusal).thing refusal.rule (spot_at bytes refusal)
+
+-- Of a walk over parts: it found the place of the first that has the offset, or none has.
+abbrev pub FindsPart : List (Question Place) → Result Place ℕ → Type 0
+FindsPart parts walk = IfOk walk (λ place. first_of parts ≡ Some place) × IfErr walk (λ _. first_of parts ≡ None)

@@ -1,8 +1,10 @@
 //! Where in a job file a refusal points, in terms of the file's things.
-ghost use Rattle.std.specs.Prelude.{◌≡◌, ◌+◌, ◌*◌, ◌^◌, ◌<◌, ◌≤◌, true, false, length};
+ghost use Rattle.std.specs.Prelude.{◌≡◌, ◌+◌, ◌-◌, ◌*◌, ◌/◌, ◌%◌, ◌^◌, ◌<◌, ◌≤◌, true, false, codes, length};
 ghost use Rattle.field_words.specs.Words.{u32_at};
 ghost use Rattle.job_format.specs.Offsets.{entry_offset, job_size, buffer_count, job_count, job_offset, content_size, content_offset, handles_offset};
-ghost use Rattle.rule_words.specs.Place.{start_of, IsBeforeEnd, IsSpot, Covers, WalksTo};
+ghost use Rattle.field_words.specs.Questions.{each, first_of};
+ghost use Rattle.rule_words.specs.Place.{start_of, IsBeforeEnd, IsSpot, Covers, WalksTo, FindsPart};
+ghost use Rattle.rule_words.specs.Place.{is_lettered, may_be_end, is_inside, content_parts, job_parts, file_parts, entry_at, spot_at, counted, place_at};
 
 use field_words::get_u32;
 use job_format::{ENTRY_SIZE, HEADER_SIZE, JOB_SIZE, Refusal, Rule, Stage};
@@ -52,59 +54,130 @@ fn word(bytes: &[u8], at: usize) -> u32
     get_u32(bytes, at).unwrap_or(0)
 }
 
+fn is_shader_rule(rule: Rule) -> bool
+    ensures { result ≡ is_lettered rule (codes "S") }
+{
+    match rule.stage {
+        Stage::S => true,
+        _ => false,
+    }
+}
+
+fn is_list_rule(rule: Rule) -> bool
+    ensures { result ≡ is_lettered rule (codes "B") }
+{
+    match rule.stage {
+        Stage::B => true,
+        _ => false,
+    }
+}
+
+fn is_record_rule(rule: Rule) -> bool
+    ensures { result ≡ is_lettered rule (codes "A") }
+{
+    match rule.stage {
+        Stage::A => true,
+        _ => false,
+    }
+}
+
+fn is_handle_rule(rule: Rule) -> bool
+    ensures { result ≡ is_lettered rule (codes "H") }
+{
+    match rule.stage {
+        Stage::H => true,
+        _ => false,
+    }
+}
+
+fn is_frame_rule(rule: Rule) -> bool
+    ensures { result ≡ is_lettered rule (codes "G") }
+{
+    match rule.stage {
+        Stage::G => true,
+        _ => false,
+    }
+}
+
 /// Whether the offset of this rule may be the end of the thing, one past its last byte.
-fn may_be_end(rule: Rule, thing: Thing) -> bool {
-    match (rule.stage, rule.number, thing) {
-        (Stage::S, 2 | 26, Thing::Contents) => true,
-        (Stage::B, 18 | 19, Thing::BinnerList) => true,
-        (Stage::A, 8, thing) => thing == Thing::Uniforms,
-        (Stage::A, _, thing) => thing == Thing::Records,
+#[tactic(auto, unfolding(crate::specs::Place::may_be_end))]
+fn may_be_end(rule: Rule, thing: Thing) -> bool
+    ensures { result ≡ may_be_end thing rule }
+{
+    match thing {
+        Thing::Contents => is_shader_rule(rule) && (rule.number == 2 || rule.number == 26),
+        Thing::BinnerList => is_list_rule(rule) && (rule.number == 18 || rule.number == 19),
+        Thing::Records => is_record_rule(rule) && rule.number != 8,
+        Thing::Uniforms => is_record_rule(rule) && rule.number == 8,
         _ => false,
     }
 }
 
 /// Whether `left` bytes from a thing's start are a place in it for this rule, where the thing has `size` bytes.
+#[tactic(auto, unfolding(crate::specs::Place::is_inside))]
 fn is_inside(rule: Rule, thing: Thing, size: u64, left: u64) -> bool
+    ensures value { result ≡ is_inside rule thing size left }
     ensures past { result ≡ false → size ≤ left }
     ensures inside { result ≡ true → left ≤ size }
 {
     left < size || (left == size && may_be_end(rule, thing))
 }
 
+/// The place of an offset `from` bytes past the start of a buffer's contents, where it lies in them. An error says how many bytes the
+/// offset is past their end.
+#[tactic(auto, unfolding(crate::specs::Place::start_of, crate::specs::Place::IsBeforeEnd, crate::specs::Place::unit_of, crate::specs::Place::content_parts), using(job_format::proofs::Standing::content_offset_step))]
+fn in_content(bytes: &[u8], refusal: Refusal, b: u32, from: u64) -> Result<Place, u64>
+    requires named { b < buffer_count bytes.now }
+    requires entries { entry_offset (b + 1) ≤ length bytes.now }
+    requires at { content_offset bytes.now b + from ≡ refusal.offset }
+    ensures walk { WalksTo bytes.now (content_offset bytes.now b + from) (content_offset bytes.now (b + 1)) result }
+    ensures first { FindsPart (content_parts bytes.now refusal b) result }
+{
+    let entry = HEADER_SIZE + ENTRY_SIZE * b as usize;
+    let size = u64::from(word(bytes, entry + 16));
+    if is_inside(refusal.rule, Thing::Contents, size, from) {
+        return Ok(Place {
+            thing: Thing::Contents,
+            index: b,
+            at: from,
+        });
+    }
+    Err(from - size)
+}
+
 /// The place of an offset `from` bytes past the start of the first buffer's contents. An error says how many bytes the offset is past
 /// the end of the last.
-#[tactic(auto, unfolding(crate::specs::Place::start_of, crate::specs::Place::IsBeforeEnd, crate::specs::Place::unit_of), using(job_format::proofs::Standing::content_offset_step))]
-fn in_contents(bytes: &[u8], rule: Rule, buffers: u32, from: u64) -> Result<Place, u64>
+#[tactic(auto, unfolding(crate::specs::Place::start_of, crate::specs::Place::IsBeforeEnd, crate::specs::Place::unit_of), using(job_format::proofs::Standing::content_offset_step, field_words::proofs::Questions::each_on, field_words::proofs::Questions::each_stop, field_words::proofs::Questions::each_end))]
+fn in_contents(bytes: &[u8], refusal: Refusal, buffers: u32, from: u64) -> Result<Place, u64>
     requires named { buffers ≡ buffer_count bytes.now }
     requires entries { entry_offset buffers ≤ length bytes.now }
-    ensures { WalksTo bytes.now (content_offset bytes.now 0 + from) (content_offset bytes.now buffers) result }
+    requires at { content_offset bytes.now 0 + from ≡ refusal.offset }
+    ensures walk { WalksTo bytes.now (content_offset bytes.now 0 + from) (content_offset bytes.now buffers) result }
+    ensures first { FindsPart (each (content_parts bytes.now refusal) 0 buffers) result }
 {
     let mut left = from;
     for b in 0..buffers {
-        let entry = HEADER_SIZE + ENTRY_SIZE * b as usize;
-        let size = u64::from(word(bytes, entry + 16));
-        if is_inside(rule, Thing::Contents, size, left) {
-            return Ok(Place {
-                thing: Thing::Contents,
-                index: b,
-                at: left,
-            });
+        match in_content(bytes, refusal, b, left) {
+            Ok(place) => return Ok(place),
+            Err(more) => left = more,
         }
-        left -= size;
     }
     Err(left)
 }
 
 /// The place of an offset `from` bytes past the start of this job's handles, where its entry begins at `entry`. An error says how many
 /// bytes the offset is past the end of its uniforms.
-#[tactic(auto, unfolding(crate::specs::Place::start_of, crate::specs::Place::IsBeforeEnd, crate::specs::Place::unit_of, job_format::specs::Offsets::bin_offset, job_format::specs::Offsets::records_offset, job_format::specs::Offsets::uniforms_offset, job_format::specs::Offsets::end_offset), using(job_format::proofs::Standing::handles_offset_step))]
-fn in_job(bytes: &[u8], rule: Rule, job: u32, entry: usize, from: u64) -> Result<Place, u64>
+#[tactic(auto, unfolding(crate::specs::Place::start_of, crate::specs::Place::IsBeforeEnd, crate::specs::Place::unit_of, job_format::specs::Offsets::bin_offset, job_format::specs::Offsets::records_offset, job_format::specs::Offsets::uniforms_offset, job_format::specs::Offsets::end_offset, crate::specs::Place::job_parts), using(job_format::proofs::Standing::handles_offset_step))]
+fn in_job(bytes: &[u8], refusal: Refusal, job: u32, entry: usize, from: u64) -> Result<Place, u64>
     requires job { job < job_count bytes.now }
     requires named { entry ≡ job_offset bytes.now job }
     requires inside { entry + job_size ≤ length bytes.now }
-    ensures { WalksTo bytes.now (handles_offset bytes.now job + from) (handles_offset bytes.now (job + 1)) result }
+    requires at { handles_offset bytes.now job + from ≡ refusal.offset }
+    ensures first { FindsPart (job_parts bytes.now refusal job) result }
+    ensures walk { WalksTo bytes.now (handles_offset bytes.now job + from) (handles_offset bytes.now (job + 1)) result }
 {
     let index = job;
+    let rule = refusal.rule;
     let mut left = from;
     let size = 4 * u64::from(word(bytes, entry + 8));
     if is_inside(rule, Thing::Handles, size, left) {
@@ -150,16 +223,25 @@ fn in_job(bytes: &[u8], rule: Rule, job: u32, entry: usize, from: u64) -> Result
 
 /// The place of an offset `from` bytes past the start of the first job's handles, where the jobs' entries begin at `entries`. An error
 /// says how many bytes the offset is past the end of the last job.
-fn in_jobs(bytes: &[u8], rule: Rule, jobs: u32, entries: usize, from: u64) -> Result<Place, u64>
+#[tactic(auto, using(field_words::proofs::Questions::each_on, field_words::proofs::Questions::each_stop, field_words::proofs::Questions::each_end))]
+fn in_jobs(
+    bytes: &[u8],
+    refusal: Refusal,
+    jobs: u32,
+    entries: usize,
+    from: u64,
+) -> Result<Place, u64>
     requires jobs { jobs ≡ job_count bytes.now }
     requires named { entries ≡ entry_offset (buffer_count bytes.now) }
     requires inside { entries + job_size * jobs ≤ length bytes.now }
-    ensures { WalksTo bytes.now (handles_offset bytes.now 0 + from) (handles_offset bytes.now jobs) result }
+    requires at { handles_offset bytes.now 0 + from ≡ refusal.offset }
+    ensures first { FindsPart (each (job_parts bytes.now refusal) 0 jobs) result }
+    ensures walk { WalksTo bytes.now (handles_offset bytes.now 0 + from) (handles_offset bytes.now jobs) result }
 {
     let mut left = from;
     for job in 0..jobs {
         let entry = entries + JOB_SIZE * job as usize;
-        match in_job(bytes, rule, job, entry, left) {
+        match in_job(bytes, refusal, job, entry, left) {
             Ok(place) => return Ok(place),
             Err(more) => left = more,
         }
@@ -168,17 +250,19 @@ fn in_jobs(bytes: &[u8], rule: Rule, jobs: u32, entries: usize, from: u64) -> Re
 }
 
 /// The place of an offset `from` bytes past the jobs' entries. An error says how many bytes the offset is past the end of the file's parts.
-#[tactic(auto, using(job_format::proofs::Standing::handles_offset_first))]
-fn behind_entries(bytes: &[u8], rule: Rule, from: u64) -> Result<Place, u64>
+#[tactic(auto, unfolding(crate::specs::Place::file_parts), using(job_format::proofs::Standing::handles_offset_first, field_words::proofs::Questions::passes, field_words::proofs::Questions::stops))]
+fn behind_entries(bytes: &[u8], refusal: Refusal, from: u64) -> Result<Place, u64>
     requires header { 36 ≤ length bytes.now }
     requires inside { job_offset bytes.now (job_count bytes.now) ≤ length bytes.now }
-    ensures { WalksTo bytes.now (content_offset bytes.now 0 + from) (handles_offset bytes.now (job_count bytes.now)) result }
+    requires at { content_offset bytes.now 0 + from ≡ refusal.offset }
+    ensures first { FindsPart (file_parts bytes.now refusal) result }
+    ensures walk { WalksTo bytes.now (content_offset bytes.now 0 + from) (handles_offset bytes.now (job_count bytes.now)) result }
 {
     let buffers = word(bytes, 28);
     let entries = HEADER_SIZE + ENTRY_SIZE * buffers as usize;
-    match in_contents(bytes, rule, buffers, from) {
+    match in_contents(bytes, refusal, buffers, from) {
         Ok(place) => Ok(place),
-        Err(left) => in_jobs(bytes, rule, word(bytes, 32), entries, left),
+        Err(left) => in_jobs(bytes, refusal, word(bytes, 32), entries, left),
     }
 }
 
@@ -194,10 +278,11 @@ fn in_entries(size: u64, from: u64) -> (u32, u64)
 
 /// The thing that an offset lies in, and how many bytes into it. Where it lies in none, or behind entries that aren't whole, the thing
 /// is the file. An offset between two things belongs to the second, but for the rules that are about the end of the first: S2, S26, B18,
-/// B19 and A. (No clause says so; a test does.) It takes no memory, and its time is linear in the number of entries.
-#[tactic(auto, unfolding(crate::specs::Place::start_of, crate::specs::Place::IsBeforeEnd, crate::specs::Place::unit_of), using(job_format::proofs::Standing::content_offset_first))]
+/// B19 and A. It takes no memory, and its time is linear in the number of entries.
+#[tactic(auto, unfolding(crate::specs::Place::start_of, crate::specs::Place::IsBeforeEnd, crate::specs::Place::unit_of, crate::specs::Place::spot_at), using(job_format::proofs::Standing::content_offset_first))]
 pub fn spot_of(bytes: &[u8], refusal: Refusal) -> Place
-    ensures { IsSpot bytes.now refusal.offset result }
+    ensures value { result ≡ spot_at bytes.now refusal }
+    ensures spot { IsSpot bytes.now refusal.offset result }
 {
     let offset = refusal.offset;
     let file = Place {
@@ -229,35 +314,45 @@ pub fn spot_of(bytes: &[u8], refusal: Refusal) -> Place
     if bytes.len() < contents {
         return file;
     }
-    match behind_entries(bytes, refusal.rule, offset - contents as u64) {
+    match behind_entries(bytes, refusal, offset - contents as u64) {
         Ok(place) => place,
         Err(_) => file,
     }
 }
 
-/// Where a refused file's offset stands, as a person counts: an instruction of a shader, a handle of a job, a surface, or a byte of
-/// another thing. It holds for any bytes and any offset.
-#[tactic(auto, unfolding(crate::specs::Place::start_of, crate::specs::Place::IsBeforeEnd, crate::specs::Place::unit_of), using(crate::proofs::Spots::covers_bytes))]
-pub fn place_of(bytes: &[u8], refusal: Refusal) -> Place
-    ensures { Covers bytes.now refusal.offset result }
+/// The spot as a person counts: an instruction of a shader, a handle of a job, a surface, or a byte of another thing.
+#[tactic(auto, unfolding(crate::specs::Place::counted, crate::specs::Place::start_of, crate::specs::Place::IsBeforeEnd, crate::specs::Place::unit_of), using(crate::proofs::Spots::covers_bytes))]
+fn counted(bytes: &[u8], refusal: Refusal, spot: Place) -> Place
+    requires { IsSpot bytes.now refusal.offset spot }
+    ensures value { result ≡ counted spot.thing refusal.rule spot }
+    ensures covers { Covers bytes.now refusal.offset result }
 {
-    let spot = spot_of(bytes, refusal);
-    match (refusal.rule.stage, spot.thing) {
-        (Stage::S, Thing::Contents) => Place {
+    match spot.thing {
+        Thing::Contents if is_shader_rule(refusal.rule) => Place {
             thing: Thing::Shader,
             at: spot.at / 8,
             ..spot
         },
-        (Stage::H, Thing::Handles) => Place {
+        Thing::Handles if is_handle_rule(refusal.rule) => Place {
             thing: Thing::Handle,
             at: spot.at / 4,
             ..spot
         },
-        (Stage::G, Thing::JobEntry) if spot.at >= 36 => Place {
+        Thing::JobEntry if is_frame_rule(refusal.rule) && spot.at >= 36 => Place {
             thing: Thing::Surface,
             at: (spot.at - 24) / 12,
             ..spot
         },
         _ => spot,
     }
+}
+
+/// Where a refused file's offset stands, as a person counts: an instruction of a shader, a handle of a job, a surface, or a byte of
+/// another thing. It holds for any bytes and any offset.
+#[tactic(auto, unfolding(crate::specs::Place::place_at))]
+pub fn place_of(bytes: &[u8], refusal: Refusal) -> Place
+    ensures value { result ≡ place_at bytes.now refusal }
+    ensures covers { Covers bytes.now refusal.offset result }
+{
+    counted(bytes, refusal, spot_of(bytes, refusal))
 }
