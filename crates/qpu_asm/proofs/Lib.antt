@@ -2,6 +2,7 @@ pub mod Bytes
 pub mod Words
 pub mod Rows
 pub mod Reading
+pub mod Placing
 pub mod Faults
 pub mod Assembling
 pub mod Sorting

@@ -1,4 +1,5 @@
 pub mod Marks
+pub mod Place
 pub mod Table
 pub mod Seen
 pub mod Lines

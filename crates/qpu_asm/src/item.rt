@@ -49,7 +49,7 @@ pub fn read_code<'a>(labels: &Labels<'a>, index: u32, code: Cut<'a>) -> Result<u
 }
 
 #[tactic(auto, unfolding(crate::specs::Items::kind_named))]
-fn kind_named(word: &[u8]) -> Option<Kind>
+pub fn kind_named(word: &[u8]) -> Option<Kind>
     ensures { MatchOption result (kind_by word.now ≡ None) (λ kind. kind_by word.now ≡ Some (kind_seen kind)) }
 {
     if word == b"nop".as_slice() {
@@ -269,7 +269,7 @@ fn with_field(
 }
 
 #[tactic(auto, unfolding(crate::specs::Items::has_row))]
-fn has_row(name: &[u8], rows: &[Row]) -> bool
+pub fn has_row(name: &[u8], rows: &[Row]) -> bool
     ensures { result ≡ row_among name.now (rows_seen rows.now) }
 {
     let mut rest = rows;
@@ -283,14 +283,19 @@ fn has_row(name: &[u8], rows: &[Row]) -> bool
 }
 
 #[tactic(auto, unfolding(crate::specs::Items::is_row))]
-fn is_row(name: &[u8], row: &Row) -> bool
+pub fn is_row(name: &[u8], row: &Row) -> bool
     ensures { result ≡ row_test name.now (row_seen row.now) }
 {
     row.name == name || (row.takes_label && b"to".as_slice() == name)
 }
 
 #[tactic(auto, unfolding(crate::specs::Items::read_value))]
-fn read_value<'a>(labels: &Labels<'a>, index: u32, cut: Cut<'a>, row: &Row) -> Result<u64, Mistake>
+pub fn read_value<'a>(
+    labels: &Labels<'a>,
+    index: u32,
+    cut: Cut<'a>,
+    row: &Row,
+) -> Result<u64, Mistake>
     requires { row.now.below ≤ 2 ^ 32 }
     ensures { result ≡ value_read (spots_in labels.now) index cut.entry.first.now cut.entry.rest.now (row_seen row.now) }
 {

@@ -12,8 +12,10 @@ mod item;
 mod label;
 mod lines;
 mod names;
+mod place;
 mod table;
 
 pub use assembler::assemble;
 pub use disassembler::{disassemble, fields_in_order, printed_returns};
 pub use fault::{AsmFault, Mistake};
+pub use place::{FaultPlace, Opcode, Wanted, fault_place};

@@ -1,0 +1,453 @@
+//! Where on its line a fault stands, and what was expected there.
+ghost use Rattle.std.specs.Prelude.{◌≡◌, ◌≢◌, ◌<◌, ◌≤◌, ◌+◌, ◌-◌, ◌^◌, ◌∷◌, [], Some, ℕ, length, map, drop, slice_index, slice_index_or, MatchOption, IfOk, IfSome, true};
+ghost use Rattle.std.specs.Option.{option_to_list};
+ghost use Rattle.qpu_asm.specs.Walk.{are_ready};
+ghost use Rattle.script.specs.Lines.{lines_of};
+ghost use Rattle.qpu_asm.specs.Faults.{rows_after, rows_behind, item_mistakes, value_mistakes};
+ghost use Rattle.qpu_asm.specs.Items.{read_value as value_read, kind_named as kind_by};
+ghost use Rattle.qpu_asm.specs.Lines.{Line as LineModel, read_line as line_read};
+ghost use Rattle.qpu_asm.specs.Place.{placed_words, line_at, opcode_of, wanted_number, wanted_value, wanted_item, is_of, item_place, code_place, words_place, fault_place, items_text, opcode_text, wanted_text};
+ghost use Rattle.qpu_asm.specs.Seen.{line_seen, named_seen, rows_seen, spots_in};
+
+use crate::fault::{AsmFault, Mistake};
+use crate::item::{has_row, is_row, kind_named, read_value};
+use crate::label::{Labels, find_labels};
+use crate::lines::{Line, read_line};
+use crate::table::{Kind, Named, Row};
+use script::{Cut, cut_at, next_line};
+use std::alloc::{AllocError, Global};
+use std::fmt;
+
+/// The kinds of instructions.
+#[derive(Clone, Copy, Debug, PartialEq, Eq)]
+pub enum Opcode {
+    Nop,
+    Alu,
+    Li,
+    Br,
+}
+
+/// What was expected where a fault stands.
+#[derive(Clone, Copy, Debug, PartialEq, Eq)]
+pub enum Wanted {
+    /// The first word of an instruction, or a label.
+    FirstWord,
+    /// A well-formed label, alone on its line.
+    LabelLine,
+    /// A label that no earlier line has.
+    NewLabel,
+    /// A name, `=` and a value.
+    Equals,
+    /// An item that the instruction has.
+    Item(Opcode),
+    /// The items in their order, each once.
+    Order(Opcode),
+    /// A number up to this one.
+    Number(u64),
+    /// The name of an operation, or a number up to this one.
+    Operation(u64),
+    /// The name of a label.
+    Target,
+}
+
+/// Where a fault stands: the column of the first byte of the word that it is about, from 1 on, and what was expected there.
+#[derive(Clone, Copy, Debug, PartialEq, Eq)]
+pub struct FaultPlace {
+    pub column: u32,
+    pub wanted: Wanted,
+}
+
+/// A word with the column of its first byte, what comes after it on the line, and the column at which that begins.
+#[derive(Clone, Copy)]
+struct Placed<'a> {
+    column: u32,
+    cut: Cut<'a>,
+    next: u32,
+}
+
+/// What comes behind the spaces that a line begins with, and the column at which it begins.
+#[derive(Clone, Copy)]
+struct Skipped<'a> {
+    column: u32,
+    rest: &'a [u8],
+}
+
+/// Skips the spaces that a line begins with, which begins at a column.
+fn skip_spaces(line: &[u8], column: u32) -> Skipped<'_>
+    requires { column + length line.now < 2 ^ 32 }
+    ensures words { placed_words result.column result.rest.now ≡ placed_words column line.now }
+    ensures inside { result.column + length result.rest.now ≤ column + length line.now }
+    ensures shorter { length result.rest.now ≤ length line.now }
+    ensures first { slice_index result.rest.now 0 ≢ 32 }
+{
+    for (at, byte) in line.iter().enumerate() {
+        if *byte != b' ' {
+            return Skipped {
+                column: column + at as u32,
+                rest: &line[at..],
+            };
+        }
+    }
+    Skipped {
+        column: column + line.len() as u32,
+        rest: &[],
+    }
+}
+
+/// The first word of a line that begins at a column.
+fn next_placed(line: &[u8], column: u32) -> Option<Placed<'_>>
+    requires { column + length line.now < 2 ^ 32 }
+    ensures words { MatchOption result (placed_words column line.now ≡ []) (λ placed. placed_words column line.now ≡
+        record { column = placed.column; text = placed.cut.first.now } ∷ placed_words placed.next placed.cut.rest.now) }
+    ensures shorter { IfSome result (λ placed. length placed.cut.rest.now < length line.now) }
+    ensures inside { IfSome result (λ placed. placed.next + length placed.cut.rest.now ≤ column + length line.now) }
+{
+    let skipped = skip_spaces(line, column);
+    if skipped.rest.is_empty() {
+        return None;
+    }
+    Some(first_placed(skipped.rest, skipped.column))
+}
+
+/// The first word of a line that begins with one.
+fn first_placed(line: &[u8], column: u32) -> Placed<'_>
+    requires room { column + length line.now < 2 ^ 32 }
+    requires some { 0 < length line.now }
+    requires word { slice_index line.now 0 ≢ 32 }
+    ensures words { placed_words column line.now ≡ record { column = result.column; text = result.cut.first.now } ∷ placed_words result.next result.cut.rest.now }
+    ensures shorter { length result.cut.rest.now < length line.now }
+    ensures inside { result.next + length result.cut.rest.now ≤ column + length line.now }
+{
+    let cut = cut_at(line, b' ');
+    let taken = (cut.first.len() + 1).min(line.len());
+    Placed {
+        column,
+        cut,
+        next: column + taken as u32,
+    }
+}
+
+/// The line of this number, from 1 on; it is empty where there is none.
+fn line_at(text: &[u8], number: u32) -> &[u8]
+    ensures line { result.now ≡ line_at text.now number }
+    ensures shorter { length result.now ≤ length text.now }
+{
+    let mut rest = text;
+    let mut left = number.saturating_sub(1);
+    while !rest.is_empty() {
+        let cut = next_line(rest);
+        if left == 0 {
+            return cut.first;
+        }
+        left -= 1;
+        rest = cut.rest;
+    }
+    &[]
+}
+
+fn opcode_of(word: &[u8]) -> Opcode
+    ensures { result ≡ opcode_of word.now }
+{
+    if word == b"nop".as_slice() {
+        Opcode::Nop
+    } else if word == b"li".as_slice() {
+        Opcode::Li
+    } else if word == b"br".as_slice() {
+        Opcode::Br
+    } else {
+        Opcode::Alu
+    }
+}
+
+fn wanted_number(named: &[Named], below: u64) -> Wanted
+    ensures { result ≡ wanted_number (map named_seen named.now) below }
+{
+    match named {
+        [] => Wanted::Number(below.saturating_sub(1)),
+        [_, ..] => Wanted::Operation(below.saturating_sub(1)),
+    }
+}
+
+/// What the value of the item of that name is to be.
+#[tactic(auto, unfolding(crate::specs::Place::wanted_value))]
+fn wanted_value(name: &[u8], rows: &[Row]) -> Wanted
+    ensures { result ≡ wanted_value name.now (rows_seen rows.now) }
+{
+    let mut rest = rows;
+    while let Some((row, later)) = rest.split_first() {
+        if is_row(name, row) {
+            if row.name == name {
+                return wanted_number(row.named, row.below);
+            }
+            return Wanted::Target;
+        }
+        rest = later;
+    }
+    Wanted::Equals
+}
+
+/// What was expected in place of an item.
+#[tactic(auto, unfolding(crate::specs::Place::wanted_item, crate::specs::Items::has_value))]
+fn wanted_item(opcode: Opcode, all: &[Row], rows: &[Row], item: &[u8]) -> Wanted
+    ensures { result ≡ wanted_item opcode (rows_seen all.now) (rows_seen rows.now) item.now }
+{
+    let cut = cut_at(item, b'=');
+    if cut.first.len() >= item.len() {
+        return Wanted::Equals;
+    }
+    if has_row(cut.first, rows) {
+        return wanted_value(cut.first, rows);
+    }
+    if has_row(cut.first, all) {
+        return Wanted::Order(opcode);
+    }
+    Wanted::Item(opcode)
+}
+
+/// The mistake of the value of the row of that name.
+#[tactic(auto, unfolding(crate::specs::Faults::value_mistakes))]
+fn value_mistake<'a>(labels: &Labels<'a>, cut: Cut<'a>, rows: &[Row]) -> Option<Mistake>
+    requires { are_ready (rows_seen rows.now) ≡ true }
+    ensures { option_to_list result ≡ value_mistakes cut.entry.first.now (value_read (spots_in labels.now) 0 cut.entry.first.now cut.entry.rest.now) (rows_seen rows.now) }
+{
+    let mut rest = rows;
+    while let Some((row, later)) = rest.split_first() {
+        if is_row(cut.first, row) {
+            return read_value(labels, 0, cut, row).err();
+        }
+        rest = later;
+    }
+    None
+}
+
+/// An item's mistake, where it has one.
+#[tactic(auto, unfolding(crate::specs::Faults::item_mistakes, crate::specs::Faults::named_mistakes, crate::specs::Items::has_value))]
+fn item_mistake<'a>(
+    labels: &Labels<'a>,
+    all: &[Row],
+    rows: &[Row],
+    item: &'a [u8],
+) -> Option<Mistake>
+    requires { are_ready (rows_seen rows.now) ≡ true }
+    ensures { option_to_list result ≡ item_mistakes (spots_in labels.now) 0 (rows_seen all.now) (rows_seen rows.now) item.now }
+{
+    let cut = cut_at(item, b'=');
+    if cut.first.len() >= item.len() {
+        return Some(Mistake::UnknownWord);
+    }
+    if has_row(cut.first, rows) {
+        return value_mistake(labels, cut, rows);
+    }
+    if has_row(cut.first, all) {
+        return Some(Mistake::BadOperand);
+    }
+    Some(Mistake::UnknownWord)
+}
+
+/// The rows that may still come after an item.
+#[tactic(auto, unfolding(crate::specs::Faults::rows_after, crate::specs::Faults::rows_behind, crate::specs::Items::has_row, crate::specs::Items::has_value))]
+fn rows_after(item: &[u8], rows: &'static [Row]) -> &'static [Row]
+    requires { are_ready (rows_seen rows.now) ≡ true }
+    ensures rows { rows_seen result.now ≡ rows_after item.now (rows_seen rows.now) }
+    ensures ready { are_ready (rows_seen result.now) ≡ true }
+{
+    let cut = cut_at(item, b'=');
+    if cut.first.len() >= item.len() || !has_row(cut.first, rows) {
+        return rows;
+    }
+    rows_behind(cut.first, rows)
+}
+
+/// The rows behind the one of that name.
+#[tactic(auto, unfolding(crate::specs::Faults::rows_behind))]
+fn rows_behind(name: &[u8], rows: &'static [Row]) -> &'static [Row]
+    requires { are_ready (rows_seen rows.now) ≡ true }
+    ensures rows { rows_seen result.now ≡ rows_behind name.now (rows_seen rows.now) }
+    ensures ready { are_ready (rows_seen result.now) ≡ true }
+{
+    let mut rest = rows;
+    while let Some((row, later)) = rest.split_first() {
+        if is_row(name, row) {
+            return later;
+        }
+        rest = later;
+    }
+    rest
+}
+
+fn is_of(kind: u8, mistake: Option<Mistake>) -> bool
+    ensures { result ≡ is_of kind (option_to_list mistake) }
+{
+    match mistake {
+        Some(mistake) => mistake.number() == kind,
+        None => false,
+    }
+}
+
+/// The first of the items, which begin at a column, that has a mistake of this kind.
+fn item_place<'a>(
+    labels: &Labels<'a>,
+    kind: u8,
+    opcode: Opcode,
+    all: &'static [Row],
+    items: &'a [u8],
+    from: u32,
+) -> Option<FaultPlace>
+    requires room { from + length items.now < 2 ^ 32 }
+    requires ready { are_ready (rows_seen all.now) ≡ true }
+    ensures { result ≡ item_place (spots_in labels.now) kind opcode (rows_seen all.now) (rows_seen all.now) (placed_words from items.now) }
+{
+    let mut rest = items;
+    let mut column = from;
+    let mut rows = all;
+    while let Some(placed) = next_placed(rest, column) {
+        let item = placed.cut.first;
+        if is_of(kind, item_mistake(labels, all, rows, item)) {
+            return Some(FaultPlace {
+                column: placed.column,
+                wanted: wanted_item(opcode, all, rows, item),
+            });
+        }
+        rows = rows_after(item, rows);
+        column = placed.next;
+        rest = placed.cut.rest;
+    }
+    None
+}
+
+/// The place of a fault of this kind on an instruction's line, whose first word begins at `column`, and its items at `from`.
+fn code_place<'a>(
+    labels: &Labels<'a>,
+    kind: u8,
+    column: u32,
+    opcode: &[u8],
+    items: &'a [u8],
+    from: u32,
+) -> FaultPlace
+    requires { from + length items.now < 2 ^ 32 }
+    ensures { result ≡ code_place (spots_in labels.now) kind column opcode.now (placed_words from items.now) (kind_by opcode.now) }
+{
+    let first = FaultPlace {
+        column,
+        wanted: Wanted::FirstWord,
+    };
+    match kind_named(opcode) {
+        Some(of) => {
+            let opcode = opcode_of(opcode);
+            item_place(labels, kind, opcode, of.rows, items, from).unwrap_or(first)
+        }
+        None => first,
+    }
+}
+
+/// The place of a fault of this kind on a line.
+fn place_on<'a>(labels: &Labels<'a>, kind: u8, line: &'a [u8]) -> FaultPlace
+    requires { length line.now < 2 ^ 32 - 1 }
+    ensures { result ≡ words_place (spots_in labels.now) kind (line_read line.now) (placed_words 1 line.now) }
+{
+    let Some(placed) = next_placed(line, 1) else {
+        return FaultPlace {
+            column: 1,
+            wanted: Wanted::FirstWord,
+        };
+    };
+    let column = placed.column;
+    match read_line(line) {
+        Line::Blank => FaultPlace {
+            column,
+            wanted: Wanted::FirstWord,
+        },
+        Line::Label(_) => FaultPlace {
+            column,
+            wanted: Wanted::NewLabel,
+        },
+        Line::BadLabel => FaultPlace {
+            column,
+            wanted: Wanted::LabelLine,
+        },
+        Line::Coded(code) => {
+            let items = placed.cut.rest;
+            code_place(labels, kind, column, code.first, items, placed.next)
+        }
+    }
+}
+
+/// Where a text's fault stands on its line, and what was expected there: the first word for a label's line or an unknown instruction,
+/// else the first item that has a mistake of the fault's kind.
+#[tactic(auto, unfolding(crate::specs::Place::fault_place))]
+pub fn fault_place(alloc: Global, text: &[u8], fault: AsmFault) -> Result<FaultPlace, AllocError>
+    requires { length text.now < 2 ^ 32 - 1 }
+    ensures { IfOk result (λ place. place ≡ fault_place text.now fault) }
+{
+    let found = find_labels(alloc, text)?;
+    let line = line_at(text, fault.line);
+    Ok(place_on(&found.labels, fault.kind, line))
+}
+
+impl fmt::Display for Opcode {
+    ghost output = { λ opcode. Some (opcode_text opcode) };
+
+    #[tactic(auto, unfolding(crate::specs::Place::opcode_text))]
+    fn fmt<W: fmt::Write>(&self, f: &mut fmt::Formatter<W>) -> fmt::Result {
+        f.write_str(match self {
+            Opcode::Nop => "nop",
+            Opcode::Alu => "alu",
+            Opcode::Li => "li",
+            Opcode::Br => "br",
+        })
+    }
+}
+
+/// The items of an instruction, each behind a blank.
+#[tactic(auto, unfolding(crate::specs::Place::items_text))]
+fn items_text(opcode: Opcode) -> &'static str
+    ensures { result.now ≡ items_text opcode }
+{
+    match opcode {
+        Opcode::Nop => "",
+        Opcode::Alu => " sig unpack pm pack ca cm sf ws wa wm om oa ra rb aa ab ma mb",
+        Opcode::Li => " mode pm pack ca cm sf ws wa wm imm",
+        Opcode::Br => " sp cond rel reg ra ws wa wm imm, or to for a label",
+    }
+}
+
+impl fmt::Display for Wanted {
+    ghost output = { λ wanted. Some (wanted_text wanted) };
+
+    #[tactic(auto, unfolding(crate::specs::Place::wanted_text))]
+    fn fmt<W: fmt::Write>(&self, f: &mut fmt::Formatter<W>) -> fmt::Result {
+        match self {
+            Wanted::FirstWord => f.write_str(
+                "an instruction begins with nop, alu, li or br, and a label ends with a colon",
+            ),
+            Wanted::LabelLine => f.write_str(
+                "a label is a letter and then letters, digits or _, and stands alone with its colon",
+            ),
+            Wanted::NewLabel => f.write_str("an earlier line has this label"),
+            Wanted::Equals => f.write_str("an item is a name, = and a value, without blanks"),
+            Wanted::Item(opcode) => {
+                let items = items_text(*opcode);
+                write!(
+                    f,
+                    "there is no such item of {}, whose items are{}",
+                    opcode, items
+                )
+            }
+            Wanted::Order(opcode) => {
+                let items = items_text(*opcode);
+                write!(
+                    f,
+                    "the item is repeated or out of order; the order is{}",
+                    items
+                )
+            }
+            Wanted::Number(most) => write!(f, "the value is a number from 0 to {}", most),
+            Wanted::Operation(most) => write!(
+                f,
+                "the value is the name of an operation, or a number from 0 to {}",
+                most
+            ),
+            Wanted::Target => f.write_str("the value is the name of a label that the text has"),
+        }
+    }
+}
