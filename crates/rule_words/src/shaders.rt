@@ -28,7 +28,11 @@ whatever lies behind it.
 processor for all. A colour load and end is a second kind of program end, which no rule here follows. The two loads are for vector graphics.
 - Fix: another signal. Signal 3 ends a shader, and 8 loads a colour.
 
-    alu sig=0            #!",
+    alu sig=0
+    #!
+    alu sig=3
+    nop
+    nop",
     ),
     (
         "a branch stands in the slots of a branch",
@@ -37,21 +41,44 @@ the checker would follow another path than the hardware.
 - Fix: put three instructions that don't branch behind each branch.
 
     br to=A
-    br to=B              #!",
+    br to=B
+    #!
+    nop
+    nop
+    nop
+    A:
+    B:
+    alu sig=3
+    nop
+    nop",
     ),
     (
         "a branch goes by a register",
         "Its target would be any number that the shader computed.
 - Fix: branch to a label.
 
-    br reg=1 ra=3        #!",
+    br reg=1 ra=3
+    #!
+    nop
+    nop
+    nop
+    alu sig=3
+    nop
+    nop",
     ),
     (
         "a branch is absolute",
         "An absolute target is a place in memory, so the shader could run any bytes as code.
 - Fix: leave `rel` at 1, and branch to a label.
 
-    br rel=0 imm=4096    #!",
+    br rel=0 imm=4096
+    #!
+    nop
+    nop
+    nop
+    alu sig=3
+    nop
+    nop",
     ),
     (
         "a branch's immediate is no multiple of 8",
@@ -59,14 +86,28 @@ the checker would follow another path than the hardware.
 that was never checked.
 - Fix: branch to a label, or give eight times a number of instructions.
 
-    br imm=4             #!",
+    br imm=4
+    #!
+    nop
+    nop
+    nop
+    alu sig=3
+    nop
+    nop",
     ),
     (
         "a branch leads to no instruction from the first to the program end",
         "It leaves the shader: the index is none from 0 to E.
 - Fix: a target in the shader. The immediate counts from four instructions after the branch, in bytes.
 
-    br imm=8000          #!",
+    br imm=8000
+    #!
+    nop
+    nop
+    nop
+    alu sig=3
+    nop
+    nop",
     ),
     (
         "a branch's slots end past the program end",
@@ -74,7 +115,9 @@ that was never checked.
 the checker took it for.
 - Fix: put three instructions between the branch and the program end.
 
-    br to=A              #!
+    A:
+    br to=A
+    #!
     alu sig=3
     nop
     nop",
@@ -85,7 +128,15 @@ the checker took it for.
 would survive a write.
 - Fix: leave both write addresses of a branch at 39.
 
-    br wa=32 to=A        #!",
+    br wa=32 to=A
+    #!
+    nop
+    nop
+    nop
+    A:
+    alu sig=3
+    nop
+    nop",
     ),
     (
         "a switch stands one or two after a switch",
@@ -94,7 +145,13 @@ defined.
 - Fix: put two instructions between the switches.
 
     alu sig=2
-    alu sig=2            #!",
+    alu sig=2
+    #!
+    nop
+    nop
+    alu sig=3
+    nop
+    nop",
     ),
     (
         "a branch stands one or two after a switch",
@@ -102,7 +159,15 @@ defined.
 - Fix: put two instructions between the switch and the branch.
 
     alu sig=2
-    br to=A              #!",
+    br to=A
+    #!
+    nop
+    nop
+    nop
+    A:
+    alu sig=3
+    nop
+    nop",
     ),
     (
         "a switch stands in a branch's slots, or acts after the program end",
@@ -111,7 +176,14 @@ the thread is gone.
 - Fix: put the switch three or more instructions before the branch, or behind its slots; and three or more before the program end.
 
     br to=A
-    alu sig=2            #!",
+    alu sig=2
+    #!
+    nop
+    nop
+    A:
+    alu sig=3
+    nop
+    nop",
     ),
     (
         "a forbidden register is written: 36, 38, 47, 50 or 51",
@@ -119,7 +191,11 @@ the thread is gone.
 alpha, start VPM DMA, which writes memory at any address, or release a mutex.
 - Fix: leave the write out. Address 39 writes nothing.
 
-    alu ca=1 wa=50       #!",
+    alu ca=1 wa=50
+    #!
+    alu sig=3
+    nop
+    nop",
     ),
     (
         "40, the uniforms' address, is written on the B side",
@@ -127,7 +203,11 @@ alpha, start VPM DMA, which writes memory at any address, or release a mutex.
 which no checker knows.
 - Fix: write 40 by the add unit without `ws`.
 
-    alu cm=1 wm=40       #!",
+    alu cm=1 wm=40
+    #!
+    alu sig=3
+    nop
+    nop",
     ),
     (
         "an address write (of 40) is not exact",
@@ -138,7 +218,11 @@ uniforms, and with them texture bases, from memory of its own choice.
 - Fix: load 4 * (Count + 1) into a register with `li`, and `add` a uniform to it by the add unit.
 
     li ca=1 wa=33 imm=400
-    alu ca=1 wa=40 oa=add ra=32 aa=1 ab=6   #!",
+    alu ca=1 wa=40 oa=add ra=32 aa=1 ab=6
+    #!
+    alu sig=3
+    nop
+    nop",
     ),
     (
         "an address write stands in a branch's slots",
@@ -148,7 +232,14 @@ it from where the uniforms come at the target.
 
     li ca=1 wa=33 imm=4
     br cond=2 to=A
-    alu ca=1 wa=40 oa=add ra=32 aa=1 ab=6   #!",
+    alu ca=1 wa=40 oa=add ra=32 aa=1 ab=6
+    #!
+    nop
+    nop
+    A:
+    alu sig=3
+    nop
+    nop",
     ),
     (
         "a uniform is taken one or two after an address write",
@@ -158,7 +249,12 @@ word comes is not defined.
 
     li ca=1 wa=33 imm=4
     alu ca=1 wa=40 oa=add ra=32 aa=1 ab=6
-    alu ra=32            #!",
+    alu ra=32
+    #!
+    nop
+    alu sig=3
+    nop
+    nop",
     ),
     (
         "a uniform is taken where the position is not known",
@@ -172,14 +268,22 @@ uniform before it sets a new position.
     nop
     nop
     A:
-    alu ra=32            #!",
+    alu ra=32
+    #!
+    alu sig=3
+    nop
+    nop",
     ),
     (
         "both units write a TMU",
         "They would share one uniform, and the checker counts one setup word.
 - Fix: write one TMU in an instruction.
 
-    alu ca=1 cm=1 wa=57 wm=58   #!",
+    alu ca=1 cm=1 wa=57 wm=58
+    #!
+    alu sig=3
+    nop
+    nop",
     ),
     (
         "a TMU write is done under a condition",
@@ -187,7 +291,11 @@ uniform before it sets a new position.
 request's setup would be of another kind than the one shown.
 - Fix: condition 1, always.
 
-    alu ca=2 wa=57       #!",
+    alu ca=2 wa=57
+    #!
+    alu sig=3
+    nop
+    nop",
     ),
     (
         "a TMU write finds four set-up words pending",
@@ -199,7 +307,11 @@ is not defined.
     alu ca=1 wa=58
     alu ca=1 wa=59
     alu ca=1 wa=57
-    alu ca=1 wa=56       #!",
+    alu ca=1 wa=56
+    #!
+    alu sig=3
+    nop
+    nop",
     ),
     (
         "a setup write stands in an instruction that reads a uniform",
@@ -207,7 +319,11 @@ is not defined.
 validator relocates, would reach a register.
 - Fix: read the uniform in an instruction of its own.
 
-    alu ca=1 wa=57 ra=32 #!",
+    alu ca=1 wa=57 ra=32
+    #!
+    alu sig=3
+    nop
+    nop",
     ),
     (
         "a direct write (a read at a computed address) is not clamped",
@@ -217,12 +333,20 @@ buffer's place, so the address lies in that buffer. Any other address would read
 buffers, or the kernel's.
 - Fix: `max` the offset with 0, `min` it with one uniform, and `add` another uniform to it.
 
-    alu ca=1 wa=56 oa=add ra=32 ab=6        #!
+    alu ca=1 wa=56 oa=add ra=32 ab=6
+    #!
+    alu sig=3
+    nop
+    nop
 
 A `min` whose register may be negative does not clamp: as an address a negative number is beyond every buffer.
 
     alu ca=1 wa=32 oa=min ra=32 ab=6
-    alu ca=1 wa=56 oa=add ra=32 ab=6        #!",
+    alu ca=1 wa=56 oa=add ra=32 ab=6
+    #!
+    alu sig=3
+    nop
+    nop",
     ),
     (
         "a setup word is pending at a target",
@@ -236,7 +360,11 @@ setup words of two textures.
     nop
     nop
     A:
-    nop                  #!",
+    nop
+    #!
+    alu sig=3
+    nop
+    nop",
     ),
     (
         "a shader that switches threads uses a file register from 16 to 31",
@@ -244,10 +372,12 @@ setup words of two textures.
 to 31 are the other thread's, and hold another shader's, perhaps another client's, values and clamped addresses.
 - Fix: use registers 0 to 15 of each file, or leave the thread switches out.
 
-    ...
     alu sig=2
     alu ra=16
-    ...
+    nop
+    alu sig=3
+    nop
+    nop
     #! at the end, since it is a rule on the whole",
     ),
     (
@@ -255,6 +385,10 @@ to 31 are the other thread's, and hold another shader's, perhaps another client'
         "The hardware defines no other.
 - Fix: mode 0, 1 or 3.
 
-    li mode=2 ca=1 wa=32 #!",
+    li mode=2 ca=1 wa=32
+    #!
+    alu sig=3
+    nop
+    nop",
     ),
 ];
