@@ -1,4 +1,10 @@
+pub mod Blocks
 mod Fronts
+pub mod Telling
 pub mod Places
 mod Sizes
+pub mod Spots
+pub mod Submissions
+pub mod Takes
+pub mod Texts
 mod Told

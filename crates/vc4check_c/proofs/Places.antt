@@ -6,7 +6,7 @@ use Rattle.job_format.specs.File.{IsFileOf}
 use Rattle.job_format.specs.Reading.{file_at}
 use Rattle.relocation.specs.Layout.{region_end}
 use Rattle.job_check.specs.declared.region.Region.{Region}
-use Rattle.job_check.specs.Emit.{all_lengths_of, IsInside}
+use Rattle.job_check.specs.Emit.{IsInside}
 use Rattle.job_check.specs.Jobs.{layouts_of}
 use Rattle.job_check.specs.Region.{region_of, IsRegion}
 use Rattle.job_check.specs.Whole.{place_questions}

@@ -16,7 +16,7 @@ use Rattle.job_check.specs.Jobs.{layout_of, layouts_of}
 use Rattle.job_check.specs.Emit.{memory_of, IsEmitted, IsPlaced}
 use Rattle.job_check.specs.Whole.{refusal_of}
 use Rattle.vc4check_c.specs.declared.job.JobAnswer.{JobAnswer}
-use Rattle.vc4check_c.specs.Asked.{asked_size, size_unless}
+use Rattle.vc4check_c.specs.Asked.{asked_size}
 use Rattle.vc4check_c.specs.declared.jobs.JobsAnswer.{JobsAnswer}
 use Rattle.vc4check_c.specs.Job.{accepted_answer, IsSound, IsAccepted}
 use Rattle.vc4check_c.specs.Jobs.{accepted_jobs, AreAccepted}

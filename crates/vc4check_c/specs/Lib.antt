@@ -1,6 +1,12 @@
 pub mod Asked
+pub mod Block
+pub mod Bound
 pub mod Job
 pub mod Jobs
 pub mod Places
+pub mod Sentence
 pub mod Shader
-pub mod Bound
+pub mod Spots
+pub mod Submission
+pub mod Submit
+pub mod Telling

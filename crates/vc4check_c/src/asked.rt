@@ -8,7 +8,7 @@ ghost use Rattle.vc4check_c.specs.Asked.{asked_size};
 use field_words::{MOST_MEMORY, PAGE_SIZE, get_u32};
 
 /// The version of this interface. It rises where a status, a struct or a call changes.
-const VERSION: u32 = 1;
+const VERSION: u32 = 2;
 
 /// Where a job file's header has the size of the memory.
 const SIZE_FIELD: usize = 8;
@@ -26,7 +26,7 @@ fn is_size(size: u32) -> bool
 /// The version of this interface.
 #[unsafe(no_mangle)]
 pub extern "C" fn vc4check_version() -> u32
-    ensures { result ≡ 1 }
+    ensures { result ≡ 2 }
 {
     VERSION
 }

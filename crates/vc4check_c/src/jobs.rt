@@ -51,7 +51,7 @@ pub struct JobsAnswer {
 }
 
 /// Of no job.
-const NO_LISTS: JobLists = JobLists {
+pub(crate) const NO_LISTS: JobLists = JobLists {
     lists: 0,
     slot: 0,
     bin: 0,
@@ -67,7 +67,7 @@ const NO_LISTS: JobLists = JobLists {
 
 /// What is told of one job.
 #[tactic(auto, unfolding(crate::specs::Jobs::told_lists))]
-fn lists_of(layout: &Layout, lengths: &Lengths) -> JobLists
+pub(crate) fn lists_of(layout: &Layout, lengths: &Lengths) -> JobLists
     ensures { result ≡ told_lists layout.now lengths.now }
 {
     JobLists {

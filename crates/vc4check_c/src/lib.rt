@@ -5,17 +5,26 @@
 #![tactic(auto)]
 
 mod asked;
+mod block;
 mod bound;
 mod job;
 mod jobs;
+mod known;
 mod place;
+mod sentence;
 mod shader;
+mod spot;
 mod status;
+mod submission;
+mod submit;
 
+pub use block::{Known, MadeAnswer};
 pub use bound::BoundAnswer;
 pub use job::JobAnswer;
 pub use jobs::{JobLists, JobsAnswer};
 pub use shader::{ShaderAnswer, ShaderSample};
+pub use submission::{GivenBuffer, GivenFrame, GivenSurface, Submission};
+pub use submit::Verdict;
 
 #[cfg(test)]
 mod bound_tests;

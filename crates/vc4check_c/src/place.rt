@@ -15,7 +15,7 @@ use job_check::check_places;
 use std::alloc::Global;
 
 /// Puts the lists to the window's start, or says that the window is too short.
-fn put_lists(lists: &[u8], window: &mut [u8]) -> u32
+pub(crate) fn put_lists(lists: &[u8], window: &mut [u8]) -> u32
     ensures statuses { (result ≡ 0) ⊎ (result ≡ 2) }
     ensures put { result ≡ 0 → window.new ≡ with_bytes window.old 0 lists.now }
     ensures fits { result ≡ 0 → length lists.now ≤ length window.old }

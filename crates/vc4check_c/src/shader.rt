@@ -39,7 +39,7 @@ pub struct ShaderSample {
 }
 
 /// A position, all ones for none.
-fn position(position: Option<u32>) -> u32
+pub(crate) fn position(position: Option<u32>) -> u32
     ensures { result ≡ told_position position }
 {
     position.unwrap_or(u32::MAX)

@@ -83,7 +83,7 @@ fn refuses(rt: HostRuntime) -> Result<(), Fail> {
     assert_eq!(rt; answer, told);
     assert_eq!(rt; block.get(0).copied(), Some(0xa5));
     assert_eq!(rt; vc4check_size(&[]), 0);
-    assert_eq!(rt; vc4check_version(), 1);
+    assert_eq!(rt; vc4check_version(), 2);
     Ok(())
 }
 

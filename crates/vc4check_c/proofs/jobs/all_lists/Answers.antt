@@ -1,5 +1,5 @@
-use Rattle.std.proofs.Common.{get_or, slice_set, ap, arith, ◌∙◌}
-use Rattle.vc4check_c.specs.Jobs.{no_layout, no_lengths, all_lists}
+use Rattle.std.proofs.Common.{slice_set, ap, arith, ◌∙◌}
+use Rattle.vc4check_c.specs.Jobs.{all_lists}
 use Rattle.vc4check_c.proofs.Told.{none_told, one_more_told}
 use Rattle.vc4check_c.proofs.jobs.all_lists.Goals as goal
 

@@ -1,0 +1,137 @@
+-- A block gives back the shader that it was made of.
+use Rattle.std.proofs.Common.{◌≡◌, ◌==◌, ℕ, zero, suc, ◌+◌, ◌-◌, ◌/◌, ◌<◌, ◌≤◌, Bool, true, false, List, [], ◌∷◌, ◌++◌, length, map, get_or, take, drop, refl, ap, sym, subst, Option, Some, None, arith, ◌∙◌, if◌then◌else◌}
+use Rattle.std.specs.List.{slice_index_or}
+use Rattle.std.proofs.Math.Nat.{min-le_left}
+use Rattle.std.proofs.Math.Seq.{take-append_seam, drop-append_seam}
+use Rattle.std.proofs.lemmas.List.{length-map, length-append, take_all}
+use Rattle.field_words.specs.Sizes.{most_code}
+use Rattle.qpu_isa.specs.declared.inst.Sample.{Sample}
+use Rattle.qpu_isa.specs.Shader.{ShaderModel, IsSoundShader, no_sample}
+use Rattle.shader_flow.specs.Bounded.{indexes}
+use Rattle.shader_flow.specs.Flow.{checked_of, end_of}
+use Rattle.shader_flow.proofs.Counts.{count_le}
+use Rattle.uniform_stream.specs.Stream.{uniforms_of, is_open}
+use Rattle.shader_check.specs.Info.{samples_of, sample_of, is_sample}
+use Rattle.job_check.specs.Shaders.{words_of, told_of}
+use Rattle.job_check.proofs.Codes.{length_words}
+use Rattle.vc4check_c.specs.Shader.{told_position, told_flag}
+use Rattle.vc4check_c.specs.declared.block.Known.{Known}
+use Rattle.vc4check_c.specs.Block.{known_whole, known_sample, known_address, block_of, position_in, sample_in, address_in}
+
+longer : (list : List ℕ) (n : ℕ) → length list ≤ n → length (list ++ (n ∷ [])) ≤ suc n
+longer list n few = subst (λ k. k ≤ suc n) (sym (length-append list (n ∷ []))) (omega (arith, few))
+
+same : (list : List ℕ) (n : ℕ) → length list ≤ n → length (list ++ []) ≤ suc n
+same list n few = subst (λ k. k ≤ suc n) (sym (length-append list [])) (omega (arith, few))
+
+one_more : (list : List ℕ) (n : ℕ) (here : Bool) → length list ≤ n → length (list ++ (if here then n ∷ [] else [])) ≤ suc n
+one_more list n true few = longer list n few
+one_more list n false few = same list n few
+
+-- there are no more of them than numbers
+few_indexes : (n : ℕ) (test : ℕ → Bool) → length (indexes n test) ≤ n
+unfolding indexes
+few_indexes zero test = omega arith
+few_indexes (suc n) test = one_more (indexes n test) n (test n) (few_indexes n test)
+
+few_samples : (code : List ℕ) → length (samples_of code) ≤ length code
+unfolding samples_of checked_of
+few_samples code =
+    let all = few_indexes (checked_of code) (is_sample code) in
+    let inside : checked_of code ≤ length code = min-le_left (length code) (end_of code + 3) in
+    let as_many = length-map (indexes (checked_of code) (is_sample code)) (sample_of code) in
+    omega (arith, all, inside, as_many)
+
+one_at_most : (b : Bool) → (if b then 1 else 0) ≤ 1
+one_at_most true = omega arith
+one_at_most false = omega arith
+
+few_uniforms : (code : List ℕ) → uniforms_of code ≤ length code + 1
+unfolding uniforms_of
+few_uniforms code = let counted = count_le code (length code) in let opened = one_at_most (is_open code) in omega (arith, counted, opened)
+
+-- the words of at most 65,536 bytes
+few_words : (code : List ℕ) → length code ≤ most_code → length (words_of code) ≤ 8192
+few_words code few = let as_many = length_words code (length code / 8) in omega (arith, as_many, few)
+
+pub samples_fit : (code : List ℕ) → length code ≤ most_code → length (samples_of (words_of code)) < 4294967296
+samples_fit code few = let samples = few_samples (words_of code) in let words = few_words code few in omega (arith, samples, words)
+
+uniforms_fit : (code : List ℕ) → length code ≤ most_code → uniforms_of (words_of code) < 4294967295
+uniforms_fit code few = let uniforms = few_uniforms (words_of code) in let words = few_words code few in omega (arith, uniforms, words)
+
+-- a position, a yes or no, and a sample
+position_back : (position : Option ℕ) → ((k : ℕ) → position ≡ Some k → k < 4294967295) → position_in (told_position position) ≡ position
+position_back None below = refl
+position_back (Some k) below = grind (arith, below k refl)
+
+pub flag_back : (stands : Bool) → (told_flag stands == 1) ≡ stands
+flag_back true = refl
+flag_back false = refl
+
+abbrev sample_with : List (Option ℕ) → Bool → Sample
+sample_with p direct = record { p = p; direct = direct }
+
+places_back : (p : List (Option ℕ)) (direct : Bool) → length p ≡ 4 → ((n k : ℕ) → slice_index_or p n None ≡ Some k → k < 4294967295)
+    → sample_in (known_sample (sample_with p direct)) ≡ sample_with p direct
+unfolding known_sample sample_in
+places_back [] direct four below = absurd (omega (arith, four))
+places_back (a ∷ []) direct four below = absurd (omega (arith, four))
+places_back (a ∷ b ∷ []) direct four below = absurd (omega (arith, four))
+places_back (a ∷ b ∷ c ∷ []) direct four below = absurd (omega (arith, four))
+places_back (a ∷ b ∷ c ∷ d ∷ []) direct four below =
+    cc (position_back a (below 0), position_back b (below 1), position_back c (below 2), position_back d (below 3), flag_back direct)
+places_back (a ∷ b ∷ c ∷ d ∷ e ∷ more) direct four below = absurd (omega (arith, four))
+
+-- What brings a sample back: it has four positions, none of all ones.
+record IsTellable (sample : Sample) : Type 0 where
+  four : length sample.p ≡ 4
+  below : (n k : ℕ) → slice_index_or sample.p n None ≡ Some k → k < 4294967295
+
+samples_back : (samples : List Sample) → ((i : ℕ) → i < length samples → IsTellable (slice_index_or samples i no_sample)) → map sample_in (map known_sample samples) ≡ samples
+samples_back [] all = refl
+samples_back (sample ∷ samples) all =
+    let here = all 0 (omega arith) in
+    cc (places_back sample.p sample.direct here.four here.below, samples_back samples (λ i inside. all (suc i) (omega (arith, inside))))
+
+pub told_back : (code : List ℕ) → length code ≤ most_code → IsSoundShader (told_of (words_of code)) → map sample_in (map known_sample (samples_of (words_of code))) ≡ samples_of (words_of code)
+unfolding told_of
+told_back code few sound = samples_back (samples_of (words_of code)) (λ i inside. let s = sound.samples i inside in record {
+  four = s.four;
+  below = λ n k is. let small = uniforms_fit code few in let here = s.below n k is in omega (arith, small, here);
+})
+
+pub addresses_back : (words : List ℕ) → map address_in (map known_address words) ≡ words
+addresses_back [] = refl
+addresses_back (word ∷ words) = ap (λ l. word ∷ l) (addresses_back words)
+
+-- How a block reads: its first entry, then as many samples as that says, and then the address words.
+pub record Reads (shader : ShaderModel) (block : List Known) : Type 0 where
+  pub whole : get_or block 0 (record { words = [] }) ≡ known_whole shader
+  pub samples : take (1 + length shader.samples - 1) (drop 1 block) ≡ map known_sample shader.samples
+  pub addresses : take (length block - (1 + length shader.samples)) (drop (1 + length shader.samples) block) ≡ map known_address shader.address_words
+
+front_taken : {X : Type 0} (front rest : List X) (n : ℕ) → n ≡ length front → take n (front ++ rest) ≡ front
+front_taken front rest n is = subst (λ k. take k (front ++ rest) ≡ front) (sym is) (take-append_seam front rest)
+
+rest_left : {X : Type 0} (front rest : List X) (n : ℕ) → n ≡ length front → drop n (front ++ rest) ≡ rest
+rest_left front rest n is = subst (λ k. drop k (front ++ rest) ≡ rest) (sym is) (drop-append_seam front rest)
+
+made_reads : (shader : ShaderModel) → Reads shader (block_of shader)
+unfolding block_of
+made_reads shader =
+    let samples = map known_sample shader.samples in
+    let addresses = map known_address shader.address_words in
+    let n = length shader.samples in
+    let counted : n ≡ length samples = sym (length-map shader.samples known_sample) in
+    let long : length (samples ++ addresses) ≡ length samples + length addresses = length-append samples addresses in
+    record {
+      whole = refl;
+      samples = front_taken samples addresses (1 + n - 1) (omega (arith, counted));
+      addresses =
+          ap (take (length (known_whole shader ∷ (samples ++ addresses)) - (1 + n))) (rest_left (known_whole shader ∷ samples) addresses (1 + n) (omega (arith, counted)))
+          ∙ take_all (length (known_whole shader ∷ (samples ++ addresses)) - (1 + n)) addresses (omega (arith, counted, long));
+    }
+
+pub block_reads : (shader : ShaderModel) (block : List Known) → block ≡ block_of shader → Reads shader block
+block_reads shader block is = subst (Reads shader) (sym is) (made_reads shader)

@@ -1,0 +1,139 @@
+-- Shaders of which there are blocks are checked ones.
+use Rattle.std.proofs.Common.{◌≡◌, ◌==◌, ◌<◌, ◌≤◌, ◌+◌, ℕ, zero, suc, Bool, true, false, List, [], ◌∷◌, length, map, get_or, refl, sym, ap, subst, Some, None, option_map, IfSome, arith, ◌∙◌, ◌⊎◌, inl, inr, if◌then◌else◌}
+use Rattle.std.specs.List.{slice_get}
+use Rattle.std.proofs.lemmas.Bool.{eqb-true}
+use Rattle.std.proofs.lemmas.List.{length-map, ext_get_or}
+use Rattle.std.proofs.lemmas.List.FromFn.{length-map-range_with_len, get_or-map-range_with_len}
+use Rattle.std.proofs.lemmas.Option.{get_or_from_slice_get, slice_get-map, slice_get_within}
+use Rattle.field_words.specs.Questions.{Question, first_of, each}
+use Rattle.field_words.proofs.Questions.{passes, answered_none}
+use Rattle.buffer_table.specs.declared.buffer.Kind.TheVariants.{Plain, Code}
+use Rattle.buffer_table.specs.Table.{buffer_at, past_end}
+use Rattle.qpu_isa.specs.Shader.{ShaderModel, IsSoundShader}
+use Rattle.job_check.specs.Shaders.{words_of, told_of, code_questions, content_of, shader_for, shader_of, shaders_up_to, shaders_of}
+use Rattle.job_check.specs.Faults.{shader_questions_in, shader_refused, shader_stage, shaders_stage}
+use Rattle.job_check.specs.Region.{AreChecked}
+use Rattle.job_check.proofs.Codes.{AllSound, are_shaders}
+use Rattle.vc4check_c.specs.declared.submission.GivenBuffer.{GivenBuffer}
+use Rattle.vc4check_c.specs.declared.submission.Submission.{Submission}
+use Rattle.vc4check_c.specs.Block.{IsBlockOf}
+use Rattle.vc4check_c.specs.Submission.{content_in, entry_in, file_of}
+use Rattle.vc4check_c.specs.Telling.{told_in, AreBlocks}
+use Rattle.vc4check_c.proofs.Submissions.{inside_at}
+
+-- no rule stands of any item
+each_nones : {F : Type 0} (questions : ℕ → List (Question F)) (i n : ℕ) → ((k : ℕ) → i ≤ k → k < i + n → first_of (questions k) ≡ None) → first_of (each questions i n) ≡ None
+unfolding each
+each_nones questions i zero all = refl
+each_nones questions i (suc n) all =
+    passes (questions i) (each questions (i + 1) n) (all i (omega arith) (omega arith))
+    ∙ each_nones questions (i + 1) n (λ k from below. all k (omega (arith, from)) (omega (arith, below)))
+
+-- an item of a list whose items are changed
+mapped_at : {X Y : Type 0} (change : X → Y) (xs : List X) (b : ℕ) (x : X) (d : Y) → slice_get xs b ≡ Some x → get_or (map change xs) b d ≡ change x
+mapped_at change xs b x d here = get_or_from_slice_get (map change xs) b (change x) d (slice_get-map change xs b ∙ ap (option_map change) here)
+
+buffer_is : (s : Submission) (b : ℕ) (given : GivenBuffer) → slice_get s.buffers.now b ≡ Some given → buffer_at (file_of s).buffers b ≡ entry_in given
+unfolding buffer_at file_of
+buffer_is s b given here = mapped_at entry_in s.buffers.now b given past_end here
+
+content_is : (s : Submission) (b : ℕ) (given : GivenBuffer) → slice_get s.buffers.now b ≡ Some given → content_of (file_of s) b ≡ content_in given
+unfolding content_of file_of
+content_is s b given here = mapped_at content_in s.buffers.now b given [] here
+
+-- by the buffer's kind: no rule stands of its shader, and what is known of it is what is told
+none_by : (is_code : Bool) (content : List ℕ) → (is_code ≡ true → first_of (code_questions content) ≡ None)
+    → first_of (shader_questions_in (if is_code then Code else Plain) (if is_code then content else [])) ≡ None
+none_by true content none = none refl
+none_by false content none = refl
+
+told_by : (is_code : Bool) (content : List ℕ)
+    → shader_for (if is_code then Code else Plain) (if is_code then content else []) ≡ (if is_code then Some (told_of (words_of content)) else None)
+told_by true content = refl
+told_by false content = refl
+
+sound_by : (is_code : Bool) (shader : ShaderModel) → (is_code ≡ true → IsSoundShader shader) → IfSome (if is_code then Some shader else None) IsSoundShader
+sound_by true shader sound = sound refl
+sound_by false shader sound = tt
+
+none_in : (given : GivenBuffer) → (given.kind ≡ 1 → IsBlockOf given.content.now given.known.now) → first_of (shader_questions_in (entry_in given).kind (content_in given)) ≡ None
+unfolding entry_in content_in
+none_in given block = none_by (given.kind == 1) given.content.now (λ is. (block (eqb-true given.kind 1 is)).none_stands)
+
+told_is : (given : GivenBuffer) → shader_for (entry_in given).kind (content_in given) ≡ told_in given
+unfolding entry_in content_in told_in
+told_is given = told_by (given.kind == 1) given.content.now
+
+none_at : (s : Submission) (b : ℕ) → AreBlocks s.buffers.now (length s.buffers.now) → b < length s.buffers.now → (given : GivenBuffer) → slice_get s.buffers.now b ≡ Some given
+    → first_of (shader_stage (file_of s) b) ≡ None
+unfolding shader_stage
+none_at s b blocks inside given here =
+    answered_none (shader_refused (file_of s) b) (shader_questions_in (buffer_at (file_of s).buffers b).kind (content_of (file_of s) b))
+    (subst (λ e. first_of (shader_questions_in e.kind (content_of (file_of s) b)) ≡ None) (sym (buffer_is s b given here))
+    (subst (λ c. first_of (shader_questions_in (entry_in given).kind c) ≡ None) (sym (content_is s b given here)) (none_in given (blocks b given inside here))))
+
+shader_is : (s : Submission) (b : ℕ) (given : GivenBuffer) → slice_get s.buffers.now b ≡ Some given → shader_of (file_of s) b ≡ told_in given
+unfolding shader_of
+shader_is s b given here =
+    ap (λ e. shader_for e.kind (content_of (file_of s) b)) (buffer_is s b given here)
+    ∙ ap (shader_for (entry_in given).kind) (content_is s b given here)
+    ∙ told_is given
+
+as_many : (s : Submission) → length (file_of s).buffers ≡ length s.buffers.now
+unfolding file_of
+as_many s = length-map s.buffers.now entry_in
+
+all_sound : (buffers : List GivenBuffer) → ((b : ℕ) (given : GivenBuffer) → slice_get buffers b ≡ Some given → given.kind ≡ 1 → IsBlockOf given.content.now given.known.now)
+    → AllSound (map told_in buffers)
+unfolding told_in
+all_sound [] all = tt
+all_sound (given ∷ buffers) all = (
+  sound_by (given.kind == 1) (told_of (words_of given.content.now)) (λ is. (all 0 given refl (eqb-true given.kind 1 is)).sound),
+  all_sound buffers (λ b. all (suc b)),
+)
+
+told_all : (s : Submission) → map told_in s.buffers.now ≡ shaders_of (file_of s)
+unfolding shaders_up_to
+told_all s =
+    let buffers = s.buffers.now in
+    let f = file_of s in
+    let long : length (map told_in buffers) ≡ length f.buffers = length-map buffers told_in ∙ sym (as_many s) in
+    ext_get_or None (map told_in buffers) (shaders_of f) (long ∙ sym (length-map-range_with_len (shader_of f) 0 (length f.buffers)))
+    (λ b below.
+    let inside : b < length buffers = let many = length-map buffers told_in in omega (arith, below, many) in
+    let here = inside_at buffers b inside in
+    mapped_at told_in buffers b here.0 None here.1
+    ∙ sym (shader_is s b here.0 here.1)
+    ∙ sym (get_or-map-range_with_len (shader_of f) 0 (length f.buffers) b b None (omega (arith, below, long)) (omega arith)))
+
+pub blocks_checked : (s : Submission) → AreBlocks s.buffers.now (length s.buffers.now) → AreChecked (file_of s) (map told_in s.buffers.now)
+unfolding shaders_stage
+blocks_checked s blocks =
+    let buffers = s.buffers.now in
+    let f = file_of s in
+    record {
+      none = each_nones (shader_stage f) 0 (length f.buffers) (λ b from below.
+          let inside : b < length buffers = let many = as_many s in omega (arith, below, many) in
+          let here = inside_at buffers b inside in
+          none_at s b blocks inside here.0 here.1);
+      are = are_shaders f (map told_in buffers) (told_all s) (all_sound buffers (λ b given here. blocks b given (slice_get_within buffers b given here) here));
+    }
+
+-- the block of one buffer more
+last_or_before : (buffers : List GivenBuffer) (b i : ℕ) (given other : GivenBuffer) (is_last : Bool) → (i == b) ≡ is_last → i < b + 1 → AreBlocks buffers b
+    → slice_get buffers b ≡ Some given → slice_get buffers i ≡ Some other → other.kind ≡ 1 → (given.kind ≡ 1 → IsBlockOf given.content.now given.known.now)
+    → IsBlockOf other.content.now other.known.now
+last_or_before buffers b i given other true last below blocks here there code block =
+    let same : i ≡ b = eqb-true i b last in
+    let again : slice_get buffers b ≡ Some other = subst (λ k. slice_get buffers k ≡ Some other) same there in
+    let is : given ≡ other = cc (here, again) in
+    subst (λ g. IsBlockOf g.content.now g.known.now) is (block (ap (λ g. g.kind) is ∙ code))
+last_or_before buffers b i given other false last below blocks here there code block = blocks i other (grind (arith, last, below)) there code
+
+pub blocks_more : (buffers : List GivenBuffer) (b : ℕ) (given : GivenBuffer) → AreBlocks buffers b → slice_get buffers b ≡ Some given
+    → (given.kind ≡ 1 → IsBlockOf given.content.now given.known.now) → AreBlocks buffers (b + 1)
+blocks_more buffers b given blocks here block = λ i other below there code. last_or_before buffers b i given other (i == b) refl below blocks here there code block
+
+pub block_in : (given : GivenBuffer) → (given.known.now ≡ []) ⊎ IsBlockOf given.content.now given.known.now → (given.known.now ≡ [] → ⊥) → IsBlockOf given.content.now given.known.now
+block_in given (inl none) some = absurd (some none)
+block_in given (inr block) some = block

@@ -1,0 +1,58 @@
+-- What is kept of a checked shader for later calls: entries of five words, the first of which tells of the whole shader, and then one for
+-- each sample and each address word.
+use Rattle.std.specs.Prelude.{◌≡◌, ◌≤◌, ◌==◌, ℕ, List, [], ◌∷◌, ◌++◌, length, map, slice_index, Option, Some, None, if◌then◌else◌}
+use Rattle.field_words.specs.Sizes.{most_code}
+use Rattle.field_words.specs.Questions.{first_of, IsFirst}
+use Rattle.qpu_isa.specs.declared.inst.Sample.{Sample}
+use Rattle.qpu_isa.specs.Shader.{ShaderModel, position, IsSoundShader}
+use Rattle.job_check.specs.Shaders.{words_of, code_questions, told_of}
+use Rattle.shader_check.specs.declared.fault.ShaderFault.{ShaderFault}
+use Rattle.vc4check_c.specs.declared.block.Known.{Known}
+use Rattle.vc4check_c.specs.declared.block.MadeAnswer.{MadeAnswer}
+use Rattle.vc4check_c.specs.Shader.{told_position, told_flag}
+
+abbrev pub known_whole : ShaderModel → Known
+known_whole shader = record { words = shader.uniforms ∷ told_flag shader.threaded ∷ length shader.samples ∷ 0 ∷ 0 ∷ [] }
+
+unfoldable pub known_sample : Sample → Known
+known_sample sample = record {
+  words = told_position (position sample 0) ∷ told_position (position sample 1) ∷ told_position (position sample 2) ∷ told_position (position sample 3) ∷ told_flag sample.direct ∷ [];
+}
+
+abbrev pub known_address : ℕ → Known
+known_address word = record { words = word ∷ 0 ∷ 0 ∷ 0 ∷ 0 ∷ [] }
+
+unfoldable pub block_of : ShaderModel → List Known
+block_of shader = known_whole shader ∷ (map known_sample shader.samples ++ map known_address shader.address_words)
+
+-- and back
+abbrev pub position_in : ℕ → Option ℕ
+position_in word = if word == 4294967295 then None else Some word
+
+unfoldable pub sample_in : Known → Sample
+sample_in known = record {
+  p = position_in (slice_index known.words 0) ∷ position_in (slice_index known.words 1) ∷ position_in (slice_index known.words 2) ∷ position_in (slice_index known.words 3) ∷ [];
+  direct = slice_index known.words 4 == 1;
+}
+
+abbrev pub address_in : Known → ℕ
+address_in known = slice_index known.words 0
+
+-- No rule of shaders stands of these bytes, no more than a shader may have, and the block tells of the shader that they hold.
+pub record IsBlockOf (code : List ℕ) (block : List Known) : Type 0 where
+  pub few : length code ≤ most_code
+  pub none_stands : first_of (code_questions code) ≡ None
+  pub sound : IsSoundShader (told_of (words_of code))
+  pub told : block ≡ block_of (told_of (words_of code))
+
+-- what is told of a made block, and of a refused shader
+abbrev pub made_answer : List Known → MadeAnswer
+made_answer block = record { number = 0; index = 0; entries = length block }
+
+abbrev pub unmade_answer : ShaderFault → MadeAnswer
+unmade_answer fault = record { number = fault.number; index = fault.index; entries = 0 }
+
+-- A rule stands of these bytes, none before it in the order of refusal does, and it is told.
+abbrev pub IsUnmade : List ℕ → Option ShaderFault → MadeAnswer → Type 0
+IsUnmade code None answer = ⊥
+IsUnmade code (Some fault) answer = IsFirst (code_questions code) fault × (answer ≡ unmade_answer fault)

@@ -1,0 +1,123 @@
+-- A driver's submission: the job file that it stands for, and what is asked of its numbers before any other rule.
+use Rattle.std.specs.Prelude.{ℕ, ◌+◌, ◌%◌, Bool, not, ◌==◌, nat_lt, List, [], ◌∷◌, ◌++◌, length, map, slice_index, slice_get, Option, Some, None, if◌then◌else◌}
+use Rattle.field_words.specs.Sizes.{most_list, most_code}
+use Rattle.field_words.specs.Questions.{Question, Ask, each}
+use Rattle.buffer_table.specs.declared.buffer.Kind.{Kind}
+use Rattle.buffer_table.specs.declared.buffer.Kind.TheVariants.{Plain, Code}
+use Rattle.buffer_table.specs.declared.buffer.Buffer.{Buffer}
+use Rattle.job_format.specs.declared.file.Surface.{Surface}
+use Rattle.job_format.specs.declared.file.Frame.{Frame}
+use Rattle.job_format.specs.declared.rule.FormatRule.TheVariants.{OverLimit, WithoutMeaning}
+use Rattle.job_format.specs.declared.rule.Stage.TheVariants.{F}
+use Rattle.job_format.specs.Rules.{format_rule_number}
+use Rattle.job_format.specs.Model.{JobModel, FileModel}
+use Rattle.job_format.specs.Offsets.{most_buffers, most_handles, most_states, entry_offset}
+use Rattle.job_format.specs.declared.rule.Refusal.{Refusal}
+use Rattle.job_check.specs.Faults.{refused, place_stages}
+use Rattle.vc4check_c.specs.declared.submission.GivenBuffer.{GivenBuffer}
+use Rattle.vc4check_c.specs.declared.submission.GivenSurface.{GivenSurface}
+use Rattle.vc4check_c.specs.declared.submission.GivenFrame.{GivenFrame}
+use Rattle.vc4check_c.specs.declared.submission.Submission.{Submission}
+
+unfoldable pub surface_in : GivenSurface → Surface
+surface_in given = record { hindex = given.hindex; offset = given.offset; bits = given.bits; flags = given.flags }
+
+unfoldable pub frame_in : GivenFrame → (flags : ℕ) → Frame
+frame_in given flags = record {
+  width = given.width;
+  height = given.height;
+  min_x = given.min_x;
+  min_y = given.min_y;
+  max_x = given.max_x;
+  max_y = given.max_y;
+  surfaces = map surface_in given.surfaces;
+  clear = flags == 1;
+  clear_color = given.clear_color;
+  clear_z = given.clear_z;
+  clear_s = given.clear_s;
+}
+
+abbrev pub kind_in : ℕ → Kind
+kind_in kind = if kind == 1 then Code else Plain
+
+-- the shader in a Code buffer, and nothing of a Plain one
+unfoldable pub content_in : GivenBuffer → List ℕ
+content_in given = if given.kind == 1 then given.content.now else []
+
+unfoldable pub entry_in : GivenBuffer → Buffer
+entry_in given = record {
+  place = given.address;
+  size = given.size;
+  client = given.client;
+  kind = kind_in given.kind;
+  content = length (content_in given);
+}
+
+unfoldable pub job_in : Submission → JobModel
+job_in s = record {
+  client = s.client;
+  handles = s.handles.now;
+  bin = s.bin.now;
+  records = s.records.now;
+  declared = s.states;
+  uniforms = s.uniforms.now;
+  frame = frame_in s.frame s.flags;
+}
+
+-- The file of version 2: its one job has one tile slot, and what is told of no buffer is the memory's.
+unfoldable pub file_of : Submission → FileModel
+file_of s = record {
+  version = 2;
+  mem_size = s.end;
+  regions = record { lists_place = s.lists; lists_size = s.lists_size; tile_place = s.slot; tile_slots = 1 };
+  buffers = map entry_in s.buffers.now;
+  contents = map content_in s.buffers.now;
+  jobs = job_in s ∷ [];
+}
+
+-- F4: a number is over its limit; F5: it has no meaning. Both are told at a field of the file.
+abbrev pub over : (number limit offset : ℕ) → Question Refusal
+over number limit offset = Ask (nat_lt limit number) (refused F (format_rule_number OverLimit) offset)
+
+abbrev pub unknown : Bool → (offset : ℕ) → Question Refusal
+unknown stands offset = Ask stands (refused F (format_rule_number WithoutMeaning) offset)
+
+-- of a buffer: its kind, and the length of its shader
+unfoldable pub entry_questions : GivenBuffer → (at : ℕ) → List (Question Refusal)
+entry_questions given at = unknown (nat_lt 1 given.kind) (at + 12) ∷ (over (length (content_in given)) most_code (at + 16) ∷ [])
+
+abbrev pub entry_questions_at : Option GivenBuffer → ℕ → List (Question Refusal)
+entry_questions_at None b = []
+entry_questions_at (Some given) b = entry_questions given (entry_offset b)
+
+unfoldable pub buffer_questions : List GivenBuffer → ℕ → List (Question Refusal)
+buffer_questions buffers b = entry_questions_at (slice_get buffers b) b
+
+-- of the job, whose entry follows those of the buffers: its flags, counts and lengths, and the three bytes of the frame that have to be zero
+unfoldable pub job_questions : Submission → (at : ℕ) → List (Question Refusal)
+job_questions s at =
+    unknown (nat_lt 1 s.flags) (at + 4)
+    ∷ (over (length s.handles.now) most_handles (at + 8)
+    ∷ (over (length s.bin.now) most_list (at + 12)
+    ∷ (over (length s.records.now) most_list (at + 16)
+    ∷ (over s.states most_states (at + 20)
+    ∷ (over (length s.uniforms.now) most_list (at + 24)
+    ∷ (unknown (not (length s.uniforms.now % 4 == 0)) (at + 24)
+    ∷ (unknown (not (slice_index s.frame.pad 0 == 0)) (at + 121)
+    ∷ (unknown (not (slice_index s.frame.pad 1 == 0)) (at + 122)
+    ∷ (unknown (not (slice_index s.frame.pad 2 == 0)) (at + 123) ∷ [])))))))))
+
+-- of all buffers, and of the job behind them
+abbrev pub entries_questions : List GivenBuffer → List (Question Refusal)
+entries_questions buffers = each (buffer_questions buffers) 0 (length buffers)
+
+abbrev pub job_questions_of : Submission → List (Question Refusal)
+job_questions_of s = job_questions s (entry_offset (length s.buffers.now))
+
+-- What is asked of the submission's own numbers: the rules of the format that a file of it could break.
+unfoldable pub own_questions : Submission → List (Question Refusal)
+own_questions s = over (length s.buffers.now) most_buffers 28 ∷ (entries_questions s.buffers.now ++ job_questions_of s)
+
+-- All rules of a submission, in the order of refusal: its own, and those of the file that it stands for.
+abbrev pub submission_questions : Submission → List (Question Refusal)
+submission_questions s = own_questions s ++ place_stages (file_of s)

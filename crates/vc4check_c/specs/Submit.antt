@@ -1,0 +1,69 @@
+-- What is told of a driver's submission.
+use Rattle.std.specs.Prelude.{◌≡◌, ℕ, ◌≤◌, length, Option, Some, None, Result, Ok, Err}
+use Rattle.field_words.specs.declared.stop.Stop.{Stop}
+use Rattle.field_words.specs.declared.stop.Stop.TheVariants.{Fault, NoMemory}
+use Rattle.field_words.specs.Questions.{first_of, IsFirst}
+use Rattle.job_format.specs.declared.rule.Refusal.{Refusal}
+use Rattle.relocation.specs.declared.layout.Layout.{Layout}
+use Rattle.relocation.specs.declared.layout.Lengths.{Lengths}
+use Rattle.relocation.specs.Layout.{region_end}
+use Rattle.job_check.specs.Emit.{lengths_of, IsInside}
+use Rattle.job_check.specs.Jobs.{layout_of}
+use Rattle.job_check.specs.declared.region.Region.{Region}
+use Rattle.job_check.specs.Region.{region_of, IsRegion}
+use Rattle.vc4check_c.specs.declared.spot.Spot.{Spot}
+use Rattle.vc4check_c.specs.declared.submission.Submission.{Submission}
+use Rattle.vc4check_c.specs.declared.submit.Told.{Told}
+use Rattle.vc4check_c.specs.declared.submit.Verdict.{Verdict}
+use Rattle.vc4check_c.specs.Job.{letter_code}
+use Rattle.vc4check_c.specs.Jobs.{told_lists, no_lists}
+use Rattle.vc4check_c.specs.Spots.{IsAt}
+use Rattle.vc4check_c.specs.Submission.{file_of, submission_questions}
+
+-- of an accepted one: how many bytes its lists take, where they lie and how long they are
+unfoldable pub accepted_verdict : ℕ → Layout → Lengths → Verdict
+accepted_verdict size layout lengths = record {
+  offset = 0;
+  letter = 0;
+  number = 0;
+  part = 0;
+  index = 0;
+  size = size;
+  lists = told_lists layout lengths;
+}
+
+-- of a refused one: the rule, and the place of what it is about
+unfoldable pub refused_verdict : Refusal → Spot → Verdict
+refused_verdict refusal spot = record {
+  offset = spot.offset;
+  letter = letter_code refusal.rule.stage;
+  number = refusal.rule.number;
+  part = spot.part;
+  index = spot.index;
+  size = 0;
+  lists = no_lists;
+}
+
+-- No rule stands of the submission; its lists lie in the lists' region in their order; and this is told.
+pub record IsTaken (s : Submission) (verdict : Verdict) : Type 0 where
+  pub none_stands : first_of (submission_questions s) ≡ None
+  pub inside : length (region_of (file_of s)) ≤ s.lists_size
+  pub placed : IsInside (region_end (file_of s).regions) (layout_of (file_of s) 0)
+  pub told : verdict ≡ accepted_verdict (length (region_of (file_of s))) (layout_of (file_of s) 0) (lengths_of (file_of s) 0)
+
+-- What the check of a submission answers: its lists, or the first rule that stands and the place of its offset.
+abbrev pub Tells : Submission → Result Region (Stop Told) → Type 0
+Tells s (Ok region) = (first_of (submission_questions s) ≡ None) × IsRegion (file_of s) region
+Tells s (Err (Fault told)) = (first_of (submission_questions s) ≡ Some told.refusal) × IsAt (file_of s) told.spot told.refusal.offset
+Tells s (Err NoMemory) = Unit {0}
+
+-- A rule stands, none before it in the order of refusal does, and it is told, with the place of its offset.
+pub record IsRefusedAt (s : Submission) (refusal : Refusal) (verdict : Verdict) : Type 0 where
+  pub first : IsFirst (submission_questions s) refusal
+  pub spot : Spot
+  pub at : IsAt (file_of s) spot refusal.offset
+  pub told : verdict ≡ refused_verdict refusal spot
+
+abbrev pub IsNotTaken : Submission → Option Refusal → Verdict → Type 0
+IsNotTaken s None verdict = ⊥
+IsNotTaken s (Some refusal) verdict = IsRefusedAt s refusal verdict

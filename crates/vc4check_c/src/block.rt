@@ -1,0 +1,229 @@
+//! A shader that is checked once, when it is made: what the check found out is kept in a block of the caller's.
+ghost use Rattle.std.specs.Prelude.{◌≡◌, ◌≢◌, ◌≤◌, ◌<◌, ◌↔◌, ◌⊎◌, length, map, IfOk};
+ghost use Rattle.field_words.specs.Sizes.{most_code};
+ghost use Rattle.field_words.specs.Questions.{Answers, first_of};
+ghost use Rattle.qpu_isa.specs.Shader.{shader_view};
+ghost use Rattle.job_check.specs.Shaders.{words_of, code_questions, told_of};
+ghost use Rattle.vc4check_c.specs.Shader.{with_front};
+ghost use Rattle.vc4check_c.specs.Block.{known_sample, known_address, block_of, made_answer, position_in, sample_in, address_in, IsBlockOf, IsUnmade};
+
+use crate::shader::position;
+use crate::status::{ACCEPTED, NO_MEMORY, REFUSED, SHORT, TOO_LONG};
+use field_words::{MOST_CODE, Stop};
+use job_check::shader_in;
+use qpu_isa::{Sample, ShaderInfo};
+use shader_check::ShaderFault;
+use std::alloc::{AllocError, Global};
+
+/// An entry of what is kept of a checked shader: the first tells of the whole shader, and each other of a sample or an address
+/// word.
+#[repr(C)]
+#[derive(Clone, Copy, Debug, PartialEq, Eq)]
+pub struct Known {
+    pub words: [u32; 5],
+}
+
+/// What is told of a shader that is to be kept. Of an accepted one: how many entries its block takes. Of a refused one: the number of the
+/// rule S, and the index of the instruction, which is the number of instructions for a rule on the whole shader. The other fields are zero.
+#[repr(C)]
+#[derive(Clone, Copy, Debug, PartialEq, Eq)]
+pub struct MadeAnswer {
+    pub number: u32,
+    pub index: u32,
+    pub entries: usize,
+}
+
+/// The entry of a sample.
+#[tactic(auto, unfolding(crate::specs::Block::known_sample))]
+fn known_sample(sample: &Sample) -> Known
+    ensures { result ≡ known_sample sample.now }
+{
+    let [first, second, third, fourth] = sample.p;
+    Known {
+        words: [
+            position(first),
+            position(second),
+            position(third),
+            position(fourth),
+            u32::from(sample.direct),
+        ],
+    }
+}
+
+/// The entries of all samples.
+fn known_samples(alloc: Global, samples: &[Sample]) -> Result<Vec<Known>, AllocError>
+    ensures { IfOk result (λ entries. entries.items ≡ map known_sample samples.now) }
+{
+    let mut entries = Vec::with_capacity(alloc, samples.len())?;
+    for sample in samples {
+        entries.push(known_sample(sample))?;
+    }
+    Ok(entries)
+}
+
+/// The entries of all address words.
+fn known_addresses(alloc: Global, words: &[u32]) -> Result<Vec<Known>, AllocError>
+    ensures { IfOk result (λ entries. entries.items ≡ map known_address words.now) }
+{
+    let mut entries = Vec::with_capacity(alloc, words.len())?;
+    for word in words {
+        let words = [*word, 0, 0, 0, 0];
+        entries.push(Known { words })?;
+    }
+    Ok(entries)
+}
+
+/// What is kept of a shader.
+#[tactic(auto, unfolding(crate::specs::Block::block_of))]
+fn block_of(alloc: Global, info: &ShaderInfo) -> Result<Vec<Known>, AllocError>
+    requires { length info.now.samples.items < 4294967296 }
+    ensures { IfOk result (λ block. block.items ≡ block_of (shader_view info.now)) }
+{
+    let count = info.samples.len() as u32;
+    let words = [info.uniforms, u32::from(info.threaded), count, 0, 0];
+    let mut block = vec![in alloc; Known { words }]?;
+    block.extend_from_slice(&known_samples(alloc, &info.samples)?)?;
+    block.extend_from_slice(&known_addresses(alloc, &info.address_words)?)?;
+    Ok(block)
+}
+
+/// The checker's answer, and what is kept of an accepted shader.
+fn made(alloc: Global, code: &[u8]) -> Result<Vec<Known>, Stop<ShaderFault>>
+    requires { length code.now ≤ most_code }
+    ensures { Answers (code_questions code.now) (λ block. IsBlockOf code.now block.items) result }
+{
+    let info = shader_in(alloc, code)?;
+    Ok(block_of(alloc, &info)?)
+}
+
+/// Puts a block to the room's start, or says that the room is too small.
+fn put_block(block: &[Known], room: &mut [Known]) -> u32
+    ensures statuses { (result ≡ 0) ⊎ (result ≡ 2) }
+    ensures put { result ≡ 0 → room.new ≡ with_front room.old block.now }
+    ensures short { result ≡ 2 → length room.old < length block.now }
+    ensures kept { result ≡ 2 → room.new ≡ room.old }
+{
+    if room.len() < block.len() {
+        return SHORT;
+    }
+    room[..block.len()].copy_from_slice(block);
+    ACCEPTED
+}
+
+/// Checks the shader that these bytes hold, at most 65,536 of them. Where no rule stands, what the check found out is put into the room,
+/// from its start on, for `vc4check_submit`; what further room there is stays.
+///
+/// | Status | Meaning | `answer` | `room` |
+/// |---|---|---|---|
+/// | 0 | accepted | how many entries the block takes | the block at its start |
+/// | 1 | refused | the rule's number, and the index where it stands | as before |
+/// | 2 | accepted, and there is too little room | how many entries the block takes | as before |
+/// | 3 | out of memory; nothing is said of the shader | as before | as before |
+/// | 4 | more than 65,536 bytes; no rule was asked | as before | as before |
+#[unsafe(no_mangle)]
+#[tactic(auto, using(field_words::proofs::Questions::first_is))]
+pub extern "C" fn vc4check_make_shader(
+    alloc: Global,
+    code: &[u8],
+    room: &mut [Known],
+    answer: &mut MadeAnswer,
+) -> u32
+    ensures statuses { result ≤ 4 }
+    ensures accepted { (result ≡ 0) ⊎ (result ≡ 2) → IsBlockOf code.now (block_of (told_of (words_of code.now))) }
+    ensures told { (result ≡ 0) ⊎ (result ≡ 2) → answer.new ≡ made_answer (block_of (told_of (words_of code.now))) }
+    ensures written { result ≡ 0 → room.new ≡ with_front room.old (block_of (told_of (words_of code.now))) }
+    ensures refused { result ≡ 1 → IsUnmade code.now (first_of (code_questions code.now)) answer.new }
+    ensures room { result ≡ 2 → length room.old < length (block_of (told_of (words_of code.now))) }
+    ensures long { (result ≡ 4) ↔ (most_code < length code.now) }
+    ensures kept { result ≢ 0 → room.new ≡ room.old }
+    ensures silent { 2 < result → answer.new ≡ answer.old }
+{
+    if code.len() > MOST_CODE as usize {
+        return TOO_LONG;
+    }
+    match made(alloc, code) {
+        Ok(block) => {
+            *answer = MadeAnswer {
+                number: 0,
+                index: 0,
+                entries: block.len(),
+            };
+            put_block(&block, room)
+        }
+        Err(Stop::Fault(fault)) => {
+            *answer = MadeAnswer {
+                number: u32::from(fault.number),
+                index: fault.index,
+                entries: 0,
+            };
+            REFUSED
+        }
+        Err(Stop::NoMemory) => NO_MEMORY,
+    }
+}
+
+/// A position of a sample, none for all ones.
+fn position_in(word: u32) -> Option<u32>
+    ensures { result ≡ position_in word }
+{
+    if word == u32::MAX { None } else { Some(word) }
+}
+
+/// The sample of an entry.
+#[tactic(auto, unfolding(crate::specs::Block::sample_in))]
+fn sample_in(entry: &Known) -> Sample
+    ensures { result ≡ sample_in entry.now }
+{
+    let [first, second, third, fourth, direct] = entry.words;
+    Sample {
+        p: [
+            position_in(first),
+            position_in(second),
+            position_in(third),
+            position_in(fourth),
+        ],
+        direct: direct == 1,
+    }
+}
+
+/// The samples of these entries.
+fn samples_in(alloc: Global, entries: &[Known]) -> Result<Vec<Sample>, AllocError>
+    ensures { IfOk result (λ samples. samples.items ≡ map sample_in entries.now) }
+{
+    let mut samples = Vec::with_capacity(alloc, entries.len())?;
+    for entry in entries {
+        samples.push(sample_in(entry))?;
+    }
+    Ok(samples)
+}
+
+/// The address words of these entries.
+fn addresses_in(alloc: Global, entries: &[Known]) -> Result<Vec<u32>, AllocError>
+    ensures { IfOk result (λ words. words.items ≡ map address_in entries.now) }
+{
+    let mut words = Vec::with_capacity(alloc, entries.len())?;
+    for entry in entries {
+        words.push(entry.words[0])?;
+    }
+    Ok(words)
+}
+
+/// What is known of the shader that these bytes hold, from the block that was made of it. The bytes themselves aren't read.
+#[tactic(auto, unfolding(crate::specs::Block::block_of))]
+pub(crate) fn shader_in_block(
+    alloc: Global,
+    code: &[u8],
+    block: &[Known],
+) -> Result<ShaderInfo, AllocError>
+    requires { IsBlockOf code.now block.now }
+    ensures { IfOk result (λ info. shader_view info ≡ told_of (words_of code.now)) }
+{
+    let [uniforms, threaded, count, _, _] = block[0].words;
+    let end = 1 + count as usize;
+    Ok(ShaderInfo {
+        uniforms,
+        samples: samples_in(alloc, &block[1..end])?,
+        address_words: addresses_in(alloc, &block[end..])?,
+        threaded: threaded == 1,
+    })
+}

@@ -1,0 +1,166 @@
+//! The check of a driver's submission, with its lists in the caller's window.
+ghost use Rattle.std.specs.Prelude.{◌≡◌, ◌≢◌, ◌≤◌, ◌<◌, length, None};
+ghost use Rattle.field_words.specs.Questions.{Answers, first_of};
+ghost use Rattle.field_words.specs.Writes.{with_bytes};
+ghost use Rattle.job_format.specs.Parts.{parts_view};
+ghost use Rattle.job_check.specs.Faults.{place_stages};
+ghost use Rattle.job_check.specs.Region.{region_of, IsRegion};
+ghost use Rattle.vc4check_c.specs.Telling.{AreKnown};
+ghost use Rattle.vc4check_c.specs.Submission.{file_of, own_questions, submission_questions};
+ghost use Rattle.vc4check_c.specs.Submit.{accepted_verdict, refused_verdict, Tells, IsTaken, IsNotTaken};
+
+use crate::job::letter;
+use crate::jobs::{JobLists, NO_LISTS, lists_of};
+use crate::known::shaders_in;
+use crate::place::put_lists;
+use crate::spot::{Spot, own_spot, spot_of};
+use crate::status::{NO_MEMORY, REFUSED};
+use crate::submission::{Submission, parts_in};
+use buffer_table::MOST_PLACE;
+use field_words::Stop;
+use job_check::{Region, check_parts, check_with_shaders};
+use job_format::{FileParts, Refusal};
+use relocation::{Layout, Lengths};
+use std::alloc::Global;
+
+/// What is told of a submission. Of an accepted one: how many bytes of the window its lists take, where they lie and how long they are. Of a
+/// refused one: the rule, by its letter in ASCII and its number, and the place of what it is about: the part (0 the memory, 1 a buffer, 2
+/// the job, 3 a buffer's content, 4 the handles, 5 the binner list, 6 the records, 7 the uniforms), of which buffer, and the offset in bytes
+/// from the part's start. The other fields are zero.
+#[repr(C)]
+#[derive(Clone, Copy, Debug, PartialEq, Eq)]
+pub struct Verdict {
+    pub offset: u64,
+    pub letter: u32,
+    pub number: u32,
+    pub part: u32,
+    pub index: u32,
+    pub size: u32,
+    pub lists: JobLists,
+}
+
+/// What is told of an accepted submission.
+#[tactic(auto, unfolding(crate::specs::Submit::accepted_verdict))]
+fn accepted(size: u32, layout: &Layout, lengths: &Lengths) -> Verdict
+    ensures { result ≡ accepted_verdict size layout.now lengths.now }
+{
+    Verdict {
+        offset: 0,
+        letter: 0,
+        number: 0,
+        part: 0,
+        index: 0,
+        size,
+        lists: lists_of(layout, lengths),
+    }
+}
+
+/// What is told of a refused one.
+#[tactic(auto, unfolding(crate::specs::Submit::refused_verdict))]
+fn refused(refusal: &Refusal, spot: &Spot) -> Verdict
+    ensures { result ≡ refused_verdict refusal.now spot.now }
+{
+    Verdict {
+        offset: spot.offset,
+        letter: u32::from(letter(refusal.rule.stage)),
+        number: u32::from(refusal.rule.number),
+        part: spot.part,
+        index: spot.index,
+        size: 0,
+        lists: NO_LISTS,
+    }
+}
+
+/// The rules of the submission's file, in which the shaders are asked only where something isn't known of them.
+fn check_file(alloc: Global, given: &Submission, parts: &FileParts) -> Result<Region, Stop<Refusal>>
+    requires known { AreKnown given.now.buffers.now }
+    requires own { first_of (own_questions given.now) ≡ None }
+    requires parts_are { parts_view parts.now ≡ file_of given.now }
+    ensures { Answers (place_stages (file_of given.now)) (IsRegion (file_of given.now)) result }
+{
+    match shaders_in(alloc, given.buffers)? {
+        Some(shaders) => check_with_shaders(alloc, MOST_PLACE, parts, &shaders),
+        None => check_parts(alloc, MOST_PLACE, parts),
+    }
+}
+
+/// A refusal, and the place of what it is about.
+#[derive(Clone, Copy, Debug, PartialEq, Eq)]
+pub struct Told {
+    pub refusal: Refusal,
+    pub spot: Spot,
+}
+
+/// All rules of a submission, and its lists.
+#[tactic(auto, using(field_words::proofs::Questions::passes, field_words::proofs::Questions::stops, crate::proofs::Submissions::few_buffers, crate::proofs::Submissions::job_passes_of))]
+fn check(alloc: Global, given: &Submission) -> Result<Region, Stop<Told>>
+    requires { AreKnown given.now.buffers.now }
+    ensures { Tells given.now result }
+{
+    match parts_in(alloc, given) {
+        Ok(parts) => match check_file(alloc, given, &parts) {
+            Ok(region) => Ok(region),
+            Err(Stop::Fault(refusal)) => {
+                let spot = spot_of(given, &refusal);
+                Err(Stop::Fault(Told { refusal, spot }))
+            }
+            Err(Stop::NoMemory) => Err(Stop::NoMemory),
+        },
+        Err(Stop::Fault(refusal)) => {
+            let spot = own_spot(given, &refusal);
+            Err(Stop::Fault(Told { refusal, spot }))
+        }
+        Err(Stop::NoMemory) => Err(Stop::NoMemory),
+    }
+}
+
+/// How many bytes these are, of at most so many.
+fn size_of(bytes: &[u8], most: u32) -> u32
+    requires { length bytes.now ≤ most }
+    ensures { result ≡ length bytes.now }
+{
+    bytes.len() as u32
+}
+
+/// Checks a job of a driver, whose places are addresses of the bus below 0xFF000000. No memory of it is made. Where no rule stands, its
+/// lists, relocated, are put into the window, from its start on, which stands for the start of the lists' region; the window's further bytes
+/// stay.
+///
+/// | Status | Meaning | `answer` | `window` |
+/// |---|---|---|---|
+/// | 0 | accepted | size, places and lengths | the lists at its start |
+/// | 1 | refused | the first rule that stands, and its place | as before |
+/// | 2 | accepted, and the window is too short | size, places and lengths | as before |
+/// | 3 | out of memory; nothing is said of the job | as before | as before |
+#[unsafe(no_mangle)]
+#[tactic(auto, using(field_words::proofs::Questions::first_is, crate::proofs::Takes::is_taken))]
+pub extern "C" fn vc4check_submit(
+    alloc: Global,
+    submission: &Submission,
+    window: &mut [u8],
+    answer: &mut Verdict,
+) -> u32
+    requires { AreKnown submission.now.buffers.now }
+    ensures statuses { result ≤ 3 }
+    ensures accepted { result ≡ 0 → IsTaken submission.now answer.new }
+    ensures relocated { result ≡ 0 → window.new ≡ with_bytes window.old 0 (region_of (file_of submission.now)) }
+    ensures refused { result ≡ 1 → IsNotTaken submission.now (first_of (submission_questions submission.now)) answer.new }
+    ensures short { result ≡ 2 → IsTaken submission.now answer.new }
+    ensures fits { result ≡ 0 → length (region_of (file_of submission.now)) ≤ length window.old }
+    ensures room { result ≡ 2 → length window.old < length (region_of (file_of submission.now)) }
+    ensures kept { result ≢ 0 → window.new ≡ window.old }
+    ensures starved { result ≡ 3 → answer.new ≡ answer.old }
+{
+    match check(alloc, submission) {
+        Ok(region) => {
+            let size = size_of(&region.bytes, submission.lists_size);
+            *answer = accepted(size, &region.layouts[0], &region.lengths[0]);
+            put_lists(&region.bytes, window)
+        }
+        Err(Stop::Fault(told)) => {
+            *answer = refused(&told.refusal, &told.spot);
+            REFUSED
+        }
+        Err(Stop::NoMemory) => NO_MEMORY,
+    }
+}
