@@ -14,6 +14,8 @@ mod job_tests;
 #[cfg(test)]
 mod picture_tests;
 #[cfg(test)]
+mod program_tests;
+#[cfg(test)]
 mod quiet;
 #[cfg(test)]
 mod session_tests;

@@ -141,3 +141,41 @@ fn a_failing_flush_is_a_write_fault(rt: HostRuntime) {
     assert_eq!(rt; sink.write(b"1"), Err(Failed));
     assert_eq!(rt; sink.write(b"2"), Ok(1));
 }
+
+/// A writer of at most 100,000 bytes a call, which knows how many it took and whether all of them were flushed.
+#[derive(Drop)]
+struct Teller {
+    taken: usize,
+    flushed: bool,
+}
+
+impl Write for Teller {
+    fn write(&mut self, buf: &[u8]) -> io::Result<usize> {
+        let count = buf.len().min(100_000);
+        self.taken = self.taken.saturating_add(count);
+        self.flushed = false;
+        Ok(count)
+    }
+
+    fn flush(&mut self) -> io::Result<()> {
+        self.flushed = true;
+        Ok(())
+    }
+}
+
+// Two MiB at once: all are read, in the memory that takes, and all are written and flushed.
+#[test]
+fn large_pieces_go_through(rt: HostRuntime) -> Result<(), Fail> {
+    let alloc = rt.alloc();
+    let large = vec![in alloc; 7u8; 2_097_152]?;
+    let mut source = ReaderSource::new(large.as_slice());
+    let bytes = read_all(alloc, &mut source, 2_097_152)?;
+    assert!(rt; bytes.as_slice() == large.as_slice());
+    let mut teller = Teller {
+        taken: 0,
+        flushed: false,
+    };
+    assert!(rt; write_all(&mut WriterSink::new(&mut teller), &bytes).is_ok());
+    assert_eq!(rt; (teller.taken, teller.flushed), (2_097_152, true));
+    Ok(())
+}

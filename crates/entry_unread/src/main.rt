@@ -1,0 +1,42 @@
+//! A program that writes a line for any input. Its stored run names a file that isn't there: `entry` runs nothing, and its status is 3.
+#![tactic(auto)]
+
+use entry::{Ended, Program, status};
+use job_io::{Sink, Source, write_all};
+use std::alloc::Global;
+use std::process::ExitCode;
+
+struct Line;
+
+impl Program for Line {
+    type Cause = &'static str;
+
+    fn name(&self) -> &'static str {
+        "entry_unread"
+    }
+
+    fn names_file(&self, words: &Vec<String>) -> bool {
+        words.len() == 2
+    }
+
+    fn run<S: Source, K: Sink>(
+        &self,
+        _alloc: Global,
+        _words: &Vec<String>,
+        _source: &mut S,
+        sink: &mut K,
+    ) -> Ended<&'static str> {
+        Ended {
+            status: if write_all(sink, b"run\n").is_ok() { 0 } else { 4 },
+            cause: None,
+        }
+    }
+
+    fn notice(&self, _status: u8) -> Option<&'static str> {
+        None
+    }
+}
+
+fn main(rt: HostRuntime) -> ExitCode {
+    ExitCode::from(status(&rt, &Line))
+}
