@@ -6,7 +6,7 @@
 PREFIX = /usr/local
 DESTDIR =
 ABI = 1
-VERSION = $(ABI).0.0
+VERSION = $(ABI).1.0
 CFLAGS = -O2
 PROGRAM = crates/vc4check/out/vc4check
 PROVED = crates/vc4check_c/out/libvc4check_c.a

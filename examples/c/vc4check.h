@@ -7,7 +7,7 @@
  * What the caller owes, which nothing checks:
  *  - Each pointer is good for as many elements as its length says, is aligned, and is not null, also where the length is 0.
  *    A length in bytes is below 2^63.
- *  - What is written (block, samples, address_words, answer) shares no byte with anything else that the call is given.
+ *  - What is written (block, window, samples, address_words, text, answer) shares no byte with anything else that the call is given.
  *  - While a call runs, no other thread and no device writes what it reads, or touches what it writes. Copy a job out of its
  *    client's reach first.
  *  - No call is made from a signal handler, or in the child of a fork of a process with threads.
@@ -25,7 +25,7 @@ extern "C" {
 #endif
 
 /* The version of this header. It is that of the library where vc4check_version() answers the same. */
-#define VC4CHECK_VERSION 1
+#define VC4CHECK_VERSION 2
 
 /* How a call ended. */
 enum {
@@ -33,7 +33,7 @@ enum {
     VC4CHECK_REFUSED = 1,   /* a rule stands, and it is told */
     VC4CHECK_SHORT = 2,     /* no rule stands, and the room is too small for what was asked for */
     VC4CHECK_NO_MEMORY = 3, /* memory ran out before the answer was known; the same call may answer later */
-    VC4CHECK_TOO_LONG = 4   /* of a shader alone: more than 8,192 words; no rule was asked */
+    VC4CHECK_TOO_LONG = 4   /* of a shader alone: more than 8,192 words (65,536 bytes); no rule was asked */
 };
 
 /*
@@ -128,6 +128,111 @@ struct vc4check_sample {
                               position 1 the bound), 0 where it asks a texture */
 };
 
+/* What is told of a shader's block. After VC4CHECK_REFUSED the first two fields say why, and `entries` is 0; after VC4CHECK_ACCEPTED
+ * and VC4CHECK_SHORT those two are 0. */
+struct vc4check_made {
+    uint32_t number; /* of the rule S that stands, from 1 on */
+    uint32_t index;  /* of the instruction; the number of instructions for a rule on the whole shader */
+    size_t entries;  /* how many entries the block takes: one, and one for each sample and each address of uniforms */
+};
+
+/* An entry of a shader's block. Its words mean nothing to the caller. */
+struct vc4check_known {
+    uint32_t words[5];
+};
+
+/* What a buffer holds. */
+enum {
+    VC4CHECK_PLAIN = 0, /* data: what the job reads and writes */
+    VC4CHECK_CODE = 1   /* a shader, from the buffer's start on, and zeros behind it */
+};
+
+/* A buffer of a submission. */
+struct vc4check_buffer {
+    uint32_t address;       /* of its first byte on the bus; a multiple of 4,096 */
+    uint32_t size;          /* in bytes; a multiple of 4,096 */
+    uint32_t client;        /* who it belongs to: a number of the driver's */
+    uint32_t kind;          /* VC4CHECK_PLAIN or VC4CHECK_CODE */
+    const uint8_t *content; /* of a Code buffer the shader, of which so many bytes are given; of a Plain one nothing that is read */
+    size_t length;
+    const struct vc4check_known *known; /* the block that vc4check_make_shader made of exactly these bytes; or no entry, and this call checks them */
+    size_t known_count;
+};
+
+/* A surface of the frame, as in Linux's struct drm_vc4_submit_rcl_surface. */
+struct vc4check_surface {
+    uint32_t handle; /* an index into the submission's handles; all ones where the surface is absent */
+    uint32_t offset; /* in bytes from the buffer's start */
+    uint16_t bits;
+    uint16_t flags;
+};
+
+/* The frame: the 96 bytes of Linux's struct drm_vc4_submit_cl from `width` on, of which the last three have to be zero. */
+struct vc4check_frame {
+    uint16_t width, height;
+    uint8_t min_x_tile, min_y_tile, max_x_tile, max_y_tile;
+    struct vc4check_surface color_read, color_write, zs_read, zs_write, msaa_color_write, msaa_zs_write;
+    uint32_t clear_color[2];
+    uint32_t clear_z;
+    uint8_t clear_s;
+    uint8_t pad[3];
+};
+
+/*
+ * One job with all that it names. Its parts are read where they lie: they have to be copies that no client can reach. Whole memory and
+ * all regions and buffers in it are in one alias of the bus.
+ */
+struct vc4check_submission {
+    const struct vc4check_buffer *buffers; /* each once; no two share a byte */
+    size_t buffer_count;
+    const uint32_t *handles; /* for each handle of the job the number of its buffer, from 0 on; one may be named twice */
+    size_t handle_count;
+    const uint8_t *bin; /* the binner list; of length 0 where the job has none */
+    size_t bin_length;
+    const uint8_t *records; /* the shader records */
+    size_t records_length;
+    const uint8_t *uniforms;
+    size_t uniforms_length;
+    uint32_t client;     /* whose job it is */
+    uint32_t flags;      /* VC4CHECK_CLEARS or 0 */
+    uint32_t states;     /* how many shader states the binner list declares */
+    uint32_t end;        /* the first address behind the memory, at most 0xFF000000: nothing of the job lies past it */
+    uint32_t lists;      /* where the hardware finds the window */
+    uint32_t lists_size; /* how many bytes of it the lists may take; whole pages */
+    uint32_t slot;       /* the job's tile slot of 524,288 bytes */
+    struct vc4check_frame frame;
+};
+
+/* A flag of a submission: the frame's clear values are used. */
+#define VC4CHECK_CLEARS 1u
+
+/* The part of a submission that a rule is about. */
+enum {
+    VC4CHECK_OF_MEMORY = 0,   /* at 8 `end`, at 12 `lists` or `lists_size`, at 20 `slot`; at 28 `buffer_count` */
+    VC4CHECK_OF_BUFFER = 1,   /* buffer `index`: at 0 itself, at 12 its kind, at 16 its content's length */
+    VC4CHECK_OF_JOB = 2,      /* at 4 `flags`, at 8 `handle_count`, at 12, 16 and 24 the lengths of bin, records and uniforms, at 20 `states`;
+                                 from 28 on byte `offset` - 28 of `frame` */
+    VC4CHECK_OF_CONTENT = 3,  /* byte `offset` of the content of buffer `index` */
+    VC4CHECK_OF_HANDLES = 4,  /* handle `offset` / 4 */
+    VC4CHECK_OF_BIN = 5,      /* byte `offset` of the binner list, */
+    VC4CHECK_OF_RECORDS = 6,  /*   of the shader records, */
+    VC4CHECK_OF_UNIFORMS = 7  /*   of the uniforms */
+};
+
+/*
+ * What is told of a submission. After VC4CHECK_REFUSED the first five fields say why, and the others are 0; after VC4CHECK_ACCEPTED and
+ * VC4CHECK_SHORT those five are 0, and the others are the job's.
+ */
+struct vc4check_verdict {
+    uint64_t offset;         /* of what the rule is about, in bytes from its part's start */
+    uint32_t letter;         /* of the rule, in ASCII: 'F' 'M' 'S' 'H' 'B' 'A' 'U' 'G' 'X' */
+    uint32_t number;         /* of the rule, from 1 on */
+    uint32_t part;           /* which part of the submission it is about, */
+    uint32_t index;          /*   and of which buffer, else 0 */
+    uint32_t size;           /* how many bytes of the window the lists take */
+    struct vc4check_job job; /* where they lie, as addresses, and how long they are */
+};
+
 #if !defined(__cplusplus) && defined(__STDC_VERSION__) && __STDC_VERSION__ >= 201112L
 _Static_assert(sizeof(struct vc4check_answer) == 64, "as long as the library's");
 _Static_assert(sizeof(struct vc4check_job) == 44, "as long as the library's");
@@ -135,6 +240,12 @@ _Static_assert(sizeof(struct vc4check_jobs_answer) == 24 + 8 * 44, "as long as t
 _Static_assert(sizeof(struct vc4check_bound_answer) == 40, "as long as the library's");
 _Static_assert(sizeof(struct vc4check_shader_answer) == 16 + 2 * sizeof(size_t), "as long as the library's");
 _Static_assert(sizeof(struct vc4check_sample) == 20, "as long as the library's");
+_Static_assert(sizeof(struct vc4check_made) == 8 + sizeof(size_t), "as long as the library's");
+_Static_assert(sizeof(struct vc4check_known) == 20, "as long as the library's");
+_Static_assert(sizeof(struct vc4check_buffer) == 16 + 4 * sizeof(size_t), "as long as the library's");
+_Static_assert(sizeof(struct vc4check_frame) == 96, "as long as the library's, and as Linux's");
+_Static_assert(offsetof(struct vc4check_submission, frame) == 28 + 10 * sizeof(size_t), "where the library's is");
+_Static_assert(sizeof(struct vc4check_verdict) == 28 + 44, "as long as the library's");
 #endif
 
 /* The version of the library: compare it with VC4CHECK_VERSION. */
@@ -186,6 +297,41 @@ uint32_t vc4check_place(const uint8_t *bytes, size_t length, uint8_t *window, si
  * VC4CHECK_NO_MEMORY  `answer` is as before.
  */
 uint32_t vc4check_bound(const uint8_t *bytes, size_t length, struct vc4check_bound_answer *answer);
+
+/*
+ * Checks a shader once, when it is made: `length` bytes. Where no rule stands, what the check found out about it is put into `block`, for
+ * vc4check_submit to read in place of checking the shader again. Keep the block, and the shader itself, where no client can change them.
+ *
+ * VC4CHECK_ACCEPTED   the first answer->entries entries of the block are written.
+ * VC4CHECK_REFUSED    `answer` names the first rule S that stands, and where; the block is as before.
+ * VC4CHECK_SHORT      the shader is accepted, but `room` entries are fewer than answer->entries; the block is as before. A room of 0 asks
+ *                     how many a block takes.
+ * VC4CHECK_NO_MEMORY, VC4CHECK_TOO_LONG  `answer` and the block are as before.
+ */
+uint32_t vc4check_make_shader(const uint8_t *code, size_t length, struct vc4check_known *block, size_t room, struct vc4check_made *answer);
+
+/*
+ * Checks one job of a driver. No memory of the job is made, and nothing of the submission is written. Where no rule stands, its lists,
+ * relocated, are put into `window`, from its start on, which is what the hardware finds at `lists`; the window's other bytes stay.
+ *
+ * VC4CHECK_ACCEPTED   `answer` is filled in, and the lists are in the window.
+ * VC4CHECK_REFUSED    `answer` names the first rule that stands, and where; the window is as before.
+ * VC4CHECK_SHORT      the job is accepted and `answer` is filled in, but `room` is below answer->size; the window is as before. A room of
+ *                     `lists_size` is always enough.
+ * VC4CHECK_NO_MEMORY  `answer` and the window are as before.
+ *
+ * Beside what all calls are owed: a `known` of any entries is what vc4check_make_shader made of the buffer's content.
+ */
+uint32_t vc4check_submit(const struct vc4check_submission *submission, uint8_t *window, size_t room, struct vc4check_verdict *answer);
+
+/*
+ * The sentence of a rule: what is wrong where it refuses. `letter` is in ASCII. The text is put into `text`, with a zero byte behind it, and
+ * cut off where `room` is too small. The result is the whole sentence's length without the zero byte, and 0 where there is no such rule.
+ */
+size_t vc4check_sentence(uint32_t letter, uint32_t number, char *text, size_t room);
+
+/* Room that is enough for every sentence. */
+#define VC4CHECK_SENTENCE_ROOM 256
 
 /*
  * Checks a shader by itself: `words` instructions of 64 bits. Where no rule stands, its samples are put into `samples` and the

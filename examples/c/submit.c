@@ -1,0 +1,158 @@
+/* submit CHANGES FILE..: checks each job file, and so many copies of it with a byte changed, and the same job as a driver's submission with all its places moved up to addresses of the bus. Both
+ * have the same verdict, rule and place, and the same lists but for the highest byte of each address; the lists are to the byte those of
+ * vc4check_place at the same addresses. Each submission is asked twice: with its shaders made before, where they can be made, and with none.
+ * Prints the first file of which that isn't so, or how many were compared. Files that no submission is of are left out (job_file.h). Status
+ * 0: all are the same. */
+#include <stdio.h>
+#include <stdlib.h>
+#include <string.h>
+#include "job_file.h"
+
+static const uint32_t MOVED = 0xC0000000, MOST = 64u << 20, ROOM = 8u << 20;
+static struct filled_submission filled;
+static int compared, left_out, refused;
+static struct vc4check_known *made[1024];
+
+static uint8_t *whole(const char *name, size_t *length) {
+    FILE *file = fopen(name, "rb");
+    if (!file) return NULL;
+    fseek(file, 0, SEEK_END);
+    long size = ftell(file);
+    rewind(file);
+    uint8_t *bytes = size < 0 ? NULL : malloc((size_t)size + 1);
+    *length = bytes ? fread(bytes, 1, (size_t)size, file) : 0;
+    fclose(file);
+    return bytes;
+}
+
+/* Makes the shader of a Code buffer; one that is refused keeps no block. */
+static void make_shader(struct vc4check_buffer *buffer, struct vc4check_known **block) {
+    struct vc4check_made told;
+    static struct vc4check_known none[1];
+    uint32_t status = vc4check_make_shader(buffer->content, buffer->length, none, 0, &told);
+    if (status != VC4CHECK_SHORT) return;
+    *block = malloc(told.entries * sizeof **block);
+    buffer->known_count = told.entries;
+    buffer->known = *block;
+    status = vc4check_make_shader(buffer->content, buffer->length, *block, told.entries, &told);
+    if (status != VC4CHECK_ACCEPTED) abort();
+}
+
+static void make_shaders(struct vc4check_submission *submission) {
+    for (size_t b = 0; b < submission->buffer_count; b++)
+        if (filled.buffers[b].kind == VC4CHECK_CODE) make_shader(&filled.buffers[b], &made[b]);
+}
+
+static void forget_shaders(struct vc4check_submission *submission) {
+    for (size_t b = 0; b < submission->buffer_count; b++) {
+        free(made[b]);
+        made[b] = NULL;
+        filled.buffers[b].known_count = 0;
+    }
+}
+
+static bool same_bytes(const uint8_t *below, const uint8_t *above, uint32_t count) {
+    for (uint32_t i = 0; i < count; i++)
+        if (above[i] != below[i] && above[i] - below[i] != (int)(MOVED >> 24)) return false;
+    return true;
+}
+
+static bool same_job(const struct vc4check_job *a, const struct vc4check_job *b) {
+    return b->lists == a->lists + MOVED && b->slot == a->slot + MOVED && b->bin == a->bin && b->records == a->records
+        && b->uniforms == a->uniforms && b->render == a->render && b->end == a->end && b->bin_length == a->bin_length
+        && b->records_length == a->records_length && b->uniforms_length == a->uniforms_length && b->render_length == a->render_length;
+}
+
+/* What is told of the file at its own places, its memory, and the lists of the same file at the moved ones. */
+struct wanted {
+    uint32_t status;
+    struct vc4check_jobs_answer answer;
+    uint8_t *memory, *lists;
+};
+
+/* Where in the file that the submission was made from its refusal is: that file has contents of Plain buffers too. */
+static uint64_t place_in_file(const struct vc4check_verdict *verdict) {
+    uint64_t place = place_in_job_file(&filled.submission, verdict);
+    for (size_t b = 0; b < filled.submission.buffer_count; b++) {
+        bool before = verdict->part > VC4CHECK_OF_CONTENT || (verdict->part == VC4CHECK_OF_CONTENT && b < verdict->index);
+        if (before && filled.buffers[b].kind != VC4CHECK_CODE) place += filled.buffers[b].length;
+    }
+    return place;
+}
+
+/* Whether the submission is answered as the file is. */
+static bool answers(const struct wanted *wanted, uint8_t *window) {
+    const struct vc4check_submission *submission = &filled.submission;
+    struct vc4check_verdict verdict;
+    memset(window, 0xa5, ROOM);
+    if (vc4check_submit(submission, window, ROOM, &verdict) != wanted->status) return false;
+    if (wanted->status == VC4CHECK_REFUSED)
+        return verdict.letter == wanted->answer.letter && verdict.number == wanted->answer.number
+            && place_in_file(&verdict) == wanted->answer.offset && window[0] == 0xa5;
+    return same_job(&wanted->answer.job[0], &verdict.job) && window[verdict.size] == 0xa5
+        && same_bytes(wanted->memory + (submission->lists - MOVED), window, verdict.size) && memcmp(window, wanted->lists, verdict.size) == 0;
+}
+
+/* 1: the same; 0: not; 2: no submission is of this file. */
+static int compare(uint8_t *bytes, size_t length, uint8_t *window) {
+    struct wanted wanted = {0};
+    uint32_t room = vc4check_size(bytes, length);
+    if (!submission_of_job_file(bytes, length, MOVED, &filled)) return 2;
+    wanted.memory = malloc(room ? room : 1);
+    wanted.lists = malloc(MOST);
+    wanted.status = vc4check_check_jobs(bytes, length, wanted.memory, room, &wanted.answer);
+    if (wanted.status == VC4CHECK_REFUSED) refused++;
+    size_t moved_length;
+    struct vc4check_jobs_answer moved_answer;
+    uint8_t *moved = job_file_of_submission(&filled.submission, false, &moved_length);
+    bool same = vc4check_place(moved, moved_length, wanted.lists, MOST, &moved_answer) == wanted.status && answers(&wanted, window);
+    make_shaders(&filled.submission);
+    same = same && answers(&wanted, window);
+    forget_shaders(&filled.submission);
+    free(moved);
+    free(wanted.lists);
+    free(wanted.memory);
+    return same;
+}
+
+static bool holds(uint8_t *bytes, size_t length, uint8_t *window) {
+    int same = compare(bytes, length, window);
+    if (same == 2) left_out++;
+    else compared++;
+    return same != 0;
+}
+
+/* The file, and copies with one byte changed: every third at any place, the others in what comes behind the contents. */
+static bool all_hold(uint8_t *bytes, size_t length, long changes, uint8_t *window) {
+    static uint64_t state = 1;
+    if (!holds(bytes, length, window)) return false;
+    for (long i = 0; i < changes && length > 0; i++) {
+        state = state * 6364136223846793005u + 1442695040888963407u;
+        size_t from = i % 3 && length > 2048 ? length - 2048 : 0, at = from + (size_t)(state >> 33) % (length - from);
+        uint8_t kept = bytes[at];
+        bytes[at] = (uint8_t)(i % 2 ? kept ^ 1u << (state >> 29 & 7) : state >> 21);
+        bool same = holds(bytes, length, window);
+        bytes[at] = kept;
+        if (!same) return false;
+    }
+    return true;
+}
+
+int main(int count, char **words) {
+    long changes = count > 1 ? atol(words[1]) : 0;
+    uint8_t *window = malloc(MOST);
+    for (int i = 2; i < count; i++) {
+        size_t length = 0;
+        uint8_t *bytes = whole(words[i], &length);
+        if (!bytes || !window) return 3;
+        bool same = all_hold(bytes, length, changes, window);
+        free(bytes);
+        if (!same) {
+            printf("%s: not the same\n", words[i]);
+            return 1;
+        }
+    }
+    free(window);
+    printf("%d the same (%d refused), %d left out\n", compared, refused, left_out);
+    return 0;
+}
