@@ -1,7 +1,8 @@
 /* A preload library that plays the render node of a VideoCore IV processor for Mesa's vc4 driver, on a machine that has none, and puts
- * each job of the program that runs through the checker. Nothing is drawn: a job is checked and then counts as done.
+ * each job of the program that runs through the checker: vc4check_make_shader where it makes a shader, vc4check_submit where it submits.
+ * Nothing is drawn: a job is checked and then counts as done.
  *
- * Environment: VC4CHECK_SAVE=FOLDER  writes each job as a job file, FOLDER/PID-NUMBER.vc4j
+ * Environment: VC4CHECK_SAVE=FOLDER  writes each job as a job file, FOLDER/PID-NUMBER.vc4j, and beside it, .told, what the call said of it
  *              VC4CHECK_STRICT=1     refuses a refused job with EINVAL, as the kernel does
  *              VC4CHECK_QUIET=1      no line for an accepted job
  */
@@ -22,25 +23,27 @@
 #include <unistd.h>
 #include <xf86drm.h>
 #include <vc4_drm.h>
+#include "../c/job_file.h"
 #include "../c/linux_submit.h"
-#include "../c/vc4check.h"
 
 enum { PAGE = 4096, MOST_BUFFERS = 1 << 16, CLIENT = 1 };
-static const uint64_t MOST_MEMORY = 3ull << 30;
 
-/* A buffer lies at `place` of one sparse file, which is what a program maps. */
+/* The bus as on a Raspberry Pi: buffers from 0xC0000000 on, and behind them a window for the lists and a tile slot. */
+static const uint32_t FIRST = 0xC0000000, WINDOW = 0xFE000000, SLOT = 0xFE400000, END = 0xFF000000;
+
+/* A buffer lies at address - FIRST of one sparse file, which is what a program maps. */
 struct buffer {
     struct submit_buffer told;
-    uint64_t place;
     uint64_t tiling;
     bool live;
 };
 
 static struct buffer buffers[MOST_BUFFERS]; /* by GEM handle, from 1 on */
 static uint32_t most_handle;
-static uint64_t taken;
+static uint32_t taken; /* bytes from FIRST on */
+static uint8_t *window;
 static int memory = -1;
-static unsigned jobs, accepted, refused, unasked;
+static unsigned shaders, jobs, accepted, refused;
 static double seconds;
 static struct { char rule[8]; unsigned count; } why[32];
 
@@ -53,19 +56,19 @@ static bool is_device(int fd) {
 static uint32_t new_buffer(uint64_t size) {
     if (memory < 0) {
         memory = memfd_create("vc4", MFD_CLOEXEC);
-        if (memory < 0 || ftruncate(memory, (off_t)MOST_MEMORY) < 0) return 0;
+        if (memory < 0 || ftruncate(memory, (off_t)(WINDOW - FIRST)) < 0) return 0;
     }
     size = (size + PAGE - 1) / PAGE * PAGE;
     for (uint32_t handle = 1; handle <= most_handle; handle++) {
         if (buffers[handle].live || buffers[handle].told.size != size) continue;
-        fallocate(memory, FALLOC_FL_PUNCH_HOLE | FALLOC_FL_KEEP_SIZE, (off_t)buffers[handle].place, (off_t)size);
+        fallocate(memory, FALLOC_FL_PUNCH_HOLE | FALLOC_FL_KEEP_SIZE, (off_t)(buffers[handle].told.address - FIRST), (off_t)size);
         buffers[handle].live = true;
         return handle;
     }
-    if (size == 0 || size > UINT32_MAX || taken + size > MOST_MEMORY || most_handle + 1 == MOST_BUFFERS) return 0;
+    if (size == 0 || size > WINDOW - FIRST - taken || most_handle + 1 == MOST_BUFFERS) return 0;
     struct buffer *buffer = &buffers[++most_handle];
-    *buffer = (struct buffer){.told.size = (uint32_t)size, .place = taken, .live = true};
-    taken += size;
+    *buffer = (struct buffer){.told = {.address = FIRST + taken, .size = (uint32_t)size}, .live = true};
+    taken += (uint32_t)size;
     return most_handle;
 }
 
@@ -75,7 +78,9 @@ static struct buffer *buffer_of(uint32_t handle) {
 
 static void drop(struct buffer *buffer) {
     free((void *)buffer->told.shader);
+    free((void *)buffer->told.known);
     buffer->told.shader = NULL;
+    buffer->told.known = NULL;
     buffer->live = false;
 }
 
@@ -84,13 +89,44 @@ static int make_buffer(struct drm_vc4_create_bo *asked) {
     return asked->handle ? 0 : -ENOMEM;
 }
 
+static void tell_rule(const char *what, unsigned number, uint32_t letter, uint32_t rule, const char *place) {
+    char sentence[VC4CHECK_SENTENCE_ROOM];
+    vc4check_sentence(letter, rule, sentence, sizeof sentence);
+    fprintf(stderr, "vc4check: %s %u: refused %c%u: %s (%s)\n", what, number, (int)letter, rule, sentence, place);
+}
+
+/* What is to be kept of a shader; null where memory ran out. A refused shader, or one that is too long, is kept with no entry: the job
+ * that names it is refused. */
+static struct vc4check_known *know(const uint8_t *shader, size_t length, size_t *entries) {
+    struct vc4check_known none, *block = NULL;
+    struct vc4check_made made = {0};
+    char place[32];
+    uint32_t status = vc4check_make_shader(shader, length, &none, 0, &made);
+    shaders++;
+    if (status == VC4CHECK_NO_MEMORY) return NULL;
+    if (status == VC4CHECK_REFUSED) {
+        snprintf(place, sizeof place, "instruction %u", made.index);
+        tell_rule("shader", shaders, 'S', made.number, place);
+    }
+    *entries = status == VC4CHECK_SHORT ? made.entries : 0;
+    block = malloc((*entries + 1) * sizeof *block);
+    if (block && *entries) status = vc4check_make_shader(shader, length, block, *entries, &made);
+    return block;
+}
+
 static int make_shader(struct drm_vc4_create_shader_bo *asked) {
     uint8_t *shader = malloc(asked->size ? asked->size : 1);
-    uint32_t handle = shader ? new_buffer(asked->size) : 0;
-    if (!handle) return free(shader), -ENOMEM;
+    if (!shader) return -ENOMEM;
     memcpy(shader, (const void *)(uintptr_t)asked->data, asked->size);
-    buffers[handle].told.shader = shader;
-    buffers[handle].told.shader_size = asked->size;
+    size_t entries = 0;
+    struct vc4check_known *known = know(shader, asked->size, &entries);
+    uint32_t handle = known ? new_buffer(asked->size) : 0;
+    if (!handle) return free(known), free(shader), -ENOMEM;
+    struct submit_buffer *told = &buffers[handle].told;
+    told->shader = shader;
+    told->shader_length = asked->size;
+    told->known = known;
+    told->known_count = entries;
     asked->handle = handle;
     return 0;
 }
@@ -112,19 +148,35 @@ static const struct submit_buffer *look_up(void *known, uint32_t handle) {
     return buffer ? &buffer->told : NULL;
 }
 
-static void save(const uint8_t *file, size_t length) {
-    const char *folder = getenv("VC4CHECK_SAVE");
-    char name[4096];
-    if (!folder) return;
-    snprintf(name, sizeof name, "%s/%d-%05u.vc4j", folder, (int)getpid(), jobs);
+static bool write_whole(const char *name, const void *bytes, size_t length) {
     FILE *into = fopen(name, "wb");
-    if (!into || fwrite(file, 1, length, into) != length) fprintf(stderr, "vc4check: %s can't be written\n", name);
-    if (into) fclose(into);
+    bool whole = into && fwrite(bytes, 1, length, into) == length;
+    if (into && fclose(into) != 0) whole = false;
+    if (!whole) fprintf(stderr, "vc4check: %s can't be written\n", name);
+    return whole;
 }
 
-static void count_rule(const struct vc4check_answer *answer) {
+/* The job as a file, and beside it the first line that `vc4check check` prints of that file. */
+static void save(const struct vc4check_submission *submission, uint32_t status, const struct vc4check_verdict *verdict) {
+    const char *folder = getenv("VC4CHECK_SAVE");
+    char name[4096], told[64] = "accepted\n";
+    size_t length;
+    if (!folder) return;
+    uint8_t *file = job_file_of_submission(submission, true, &length);
+    if (!file) return;
+    if (status == VC4CHECK_REFUSED)
+        snprintf(told, sizeof told, "refused %c%u at %llu\n", (int)verdict->letter, verdict->number,
+                 (unsigned long long)place_in_job_file(submission, verdict));
+    snprintf(name, sizeof name, "%s/%d-%05u.vc4j", folder, (int)getpid(), jobs);
+    write_whole(name, file, length);
+    strcpy(strrchr(name, '.'), ".told");
+    write_whole(name, told, strlen(told));
+    free(file);
+}
+
+static void count_rule(const struct vc4check_verdict *verdict) {
     char rule[8];
-    snprintf(rule, sizeof rule, "%c%u", (int)answer->letter, answer->number);
+    snprintf(rule, sizeof rule, "%c%u", (int)verdict->letter, verdict->number);
     for (size_t i = 0; i < sizeof why / sizeof *why; i++) {
         if (why[i].count && strcmp(why[i].rule, rule) != 0) continue;
         strcpy(why[i].rule, rule);
@@ -133,31 +185,61 @@ static void count_rule(const struct vc4check_answer *answer) {
     }
 }
 
-/* One job: its file is made, saved, and checked; the program goes on as if it had run. */
-static int submit(struct drm_vc4_submit_cl *asked) {
-    size_t length = 0;
-    struct vc4check_answer answer;
-    uint8_t *file = job_file_of_submit(asked, CLIENT, look_up, NULL, &length), nothing;
-    if (!file) return -ENOMEM;
-    jobs++;
-    save(file, length);
-    struct timespec from, to;
-    clock_gettime(CLOCK_THREAD_CPUTIME_ID, &from);
-    uint32_t status = vc4check_check(file, length, &nothing, 0, &answer);
-    clock_gettime(CLOCK_THREAD_CPUTIME_ID, &to);
-    seconds += (double)(to.tv_sec - from.tv_sec) + 1e-9 * (double)(to.tv_nsec - from.tv_nsec);
-    free(file);
-    asked->seqno = jobs;
-    if (status == VC4CHECK_NO_MEMORY) return unasked++, -ENOMEM;
+static void tell_refused(const struct vc4check_verdict *verdict) {
+    static const char *parts[] = {
+        [VC4CHECK_OF_MEMORY] = "memory", [VC4CHECK_OF_BUFFER] = "buffer", [VC4CHECK_OF_JOB] = "job", [VC4CHECK_OF_CONTENT] = "shader of buffer",
+        [VC4CHECK_OF_HANDLES] = "handles", [VC4CHECK_OF_BIN] = "binner list", [VC4CHECK_OF_RECORDS] = "shader records", [VC4CHECK_OF_UNIFORMS] = "uniforms",
+    };
+    bool of_buffer = verdict->part == VC4CHECK_OF_BUFFER || verdict->part == VC4CHECK_OF_CONTENT;
+    char place[64];
+    if (of_buffer) snprintf(place, sizeof place, "%s %u, byte %u", parts[verdict->part], verdict->index, (unsigned)verdict->offset);
+    else snprintf(place, sizeof place, "%s, byte %u", parts[verdict->part], (unsigned)verdict->offset);
+    tell_rule("job", jobs, verdict->letter, verdict->number, place);
+}
+
+/* What the kernel says of a checked job. The program goes on as if it had run. */
+static int judge(uint32_t status, const struct vc4check_verdict *verdict) {
+    if (status == VC4CHECK_NO_MEMORY) return -ENOMEM;
     if (status != VC4CHECK_REFUSED) {
         accepted++;
         if (!getenv("VC4CHECK_QUIET")) fprintf(stderr, "vc4check: job %u: accepted\n", jobs);
         return 0;
     }
     refused++;
-    count_rule(&answer);
-    fprintf(stderr, "vc4check: job %u: refused %c%u at %llu\n", jobs, (int)answer.letter, answer.number, (unsigned long long)answer.offset);
+    count_rule(verdict);
+    tell_refused(verdict);
     return getenv("VC4CHECK_STRICT") ? -EINVAL : 0;
+}
+
+static uint32_t check(const struct vc4check_submission *submission, struct vc4check_verdict *verdict) {
+    struct timespec from, to;
+    clock_gettime(CLOCK_THREAD_CPUTIME_ID, &from);
+    uint32_t status = vc4check_submit(submission, window, SLOT - WINDOW, verdict);
+    clock_gettime(CLOCK_THREAD_CPUTIME_ID, &to);
+    seconds += (double)(to.tv_sec - from.tv_sec) + 1e-9 * (double)(to.tv_nsec - from.tv_nsec);
+    return status;
+}
+
+static int submit(struct drm_vc4_submit_cl *asked) {
+    struct vc4check_submission submission;
+    struct vc4check_verdict verdict = {0};
+    size_t count = asked->bo_handle_count ? asked->bo_handle_count : 1;
+    struct vc4check_buffer *entries = malloc(count * sizeof *entries);
+    uint32_t *handles = malloc(count * sizeof *handles), status = VC4CHECK_NO_MEMORY;
+    if (!window) window = malloc(SLOT - WINDOW);
+    asked->seqno = ++jobs;
+    if (entries && handles && window) {
+        submission_of_submit(asked, CLIENT, look_up, NULL, entries, handles, &submission);
+        submission.end = END;
+        submission.lists = WINDOW;
+        submission.lists_size = SLOT - WINDOW;
+        submission.slot = SLOT;
+        status = check(&submission, &verdict);
+        save(&submission, status, &verdict);
+    }
+    free(entries);
+    free(handles);
+    return judge(status, &verdict);
 }
 
 static int tell_version(struct drm_version *asked) {
@@ -180,7 +262,7 @@ static int of_buffer(unsigned long request, void *argument) {
     struct buffer *buffer = buffer_of(request == DRM_IOCTL_GEM_CLOSE ? closed->handle : tiles ? tiling->handle : map->handle);
     if (!buffer) return -ENOENT;
     if (request == DRM_IOCTL_GEM_CLOSE) drop(buffer);
-    else if (request == DRM_IOCTL_VC4_MMAP_BO) map->offset = buffer->place;
+    else if (request == DRM_IOCTL_VC4_MMAP_BO) map->offset = buffer->told.address - FIRST;
     else if (request == DRM_IOCTL_VC4_SET_TILING) buffer->tiling = tiling->modifier;
     else tiling->modifier = buffer->tiling;
     return 0;
