@@ -10,7 +10,7 @@ use Rattle.job_check.specs.Emit.{memory_of, lengths_of, all_lengths_of}
 use Rattle.job_check.specs.Jobs.{layouts_of}
 use Rattle.dumper.specs.Text.{accepted_text, refused_text}
 use Rattle.commands.specs.declared.command.Command.{Command}
-use Rattle.commands.specs.declared.command.Command.TheVariants.{Check, Replay, Upgrade, Bound, Show, FromText, Asm, Disasm, Slots, Queue, Session, Untile, Tile, Level}
+use Rattle.commands.specs.declared.command.Command.TheVariants.{Check, Replay, Upgrade, Bound, Show, FromText, Asm, Disasm, Shader, ShaderText, Slots, Queue, Session, Untile, Tile, Level}
 use Rattle.commands.specs.Pictures.{IsUntileAnswer, IsTileAnswer, IsLevelAnswer}
 use Rattle.commands.specs.Replay.{IsReplayAnswer}
 use Rattle.commands.specs.Scripts.{IsSlotsAnswer, IsQueueAnswer, IsSessionAnswer}
@@ -18,6 +18,7 @@ use Rattle.commands.specs.Bound.{IsBoundAnswer}
 use Rattle.commands.specs.Upgrade.{IsUpgradeAnswer}
 use Rattle.commands.specs.Show.{IsShowAnswer, IsMakeAnswer}
 use Rattle.commands.specs.Shader.{IsAsmAnswer, IsDisasmAnswer}
+use Rattle.commands.specs.LoneShader.{IsShaderAnswer, IsShaderTextAnswer}
 use Rattle.job_format.specs.Text.{file_text}
 use Rattle.dumper.specs.Example.{example_text}
 use Rattle.example_job.specs.Example.{example}
@@ -45,6 +46,8 @@ IsAnswer Show bytes status text = IsShowAnswer bytes status text
 IsAnswer FromText bytes status text = IsMakeAnswer bytes status text
 IsAnswer Asm bytes status text = IsAsmAnswer bytes status text
 IsAnswer Disasm bytes status text = IsDisasmAnswer bytes status text
+IsAnswer Shader bytes status text = IsShaderAnswer bytes status text
+IsAnswer ShaderText bytes status text = IsShaderTextAnswer bytes status text
 IsAnswer (Slots slots) bytes status text = IsSlotsAnswer slots bytes status text
 IsAnswer (Queue buffers) bytes status text = IsQueueAnswer buffers bytes status text
 IsAnswer Session bytes status text = IsSessionAnswer bytes status text

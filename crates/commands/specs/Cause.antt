@@ -1,63 +1,158 @@
 -- Why a command refuses, as a person is told: a function of the refusal and of what was read, but for the place of a rule, of which it is
 -- said that the offset lies in it.
-use Rattle.std.specs.Prelude.{◌≡◌, ℕ, List, ◌++◌, codes, Option, Some, None, Result, Ok, Err}
+use Rattle.std.specs.Prelude.{◌≡◌, ℕ, ◌*◌, ◌%◌, ◌==◌, List, ◌++◌, codes, length, nat_le, slice_index, Option, Some, None, Result, Ok, Err, if◌then◌else◌}
 use Rattle.std.specs.Fmt.{decimal}
 use Rattle.field_words.specs.Questions.{first_of}
+use Rattle.field_words.specs.Sizes.{most_words}
 use Rattle.job_format.specs.declared.rule.Refusal.{Refusal}
+use Rattle.job_check.specs.Shaders.{code_questions}
 use Rattle.job_check.specs.Whole.{refusal_of}
 use Rattle.job_text.specs.declared.fault.MakeFault.{MakeFault}
 use Rattle.job_text.specs.Made.{made}
 use Rattle.job_text.specs.Sentences.{sentence_of as mistake_of}
 use Rattle.qpu_asm.specs.declared.fault.AsmFault.{AsmFault}
 use Rattle.qpu_asm.specs.Assembly.{Assembled}
+use Rattle.qpu_asm.specs.Place.{fault_place, wanted_text}
+use Rattle.qpu_asm.specs.declared.place.FaultPlace.{FaultPlace}
 use Rattle.rule_words.specs.declared.line.Line.{Line}
-use Rattle.rule_words.specs.declared.name.Family.TheVariants.{Kind as KindFamily}
+use Rattle.rule_words.specs.declared.name.Family.TheVariants.{Kind as KindFamily, S as ShaderFamily, U as TextureFamily, V as LevelFamily}
 use Rattle.rule_words.specs.declared.name.RuleName.{RuleName}
 use Rattle.rule_words.specs.Line.{line_text, IsLineOf}
 use Rattle.rule_words.specs.Names.{name_text, sentence_of}
 use Rattle.commands.specs.declared.cause.Cause.{Cause}
-use Rattle.commands.specs.declared.cause.Cause.TheVariants.{Rule, Kind, Mistake}
+use Rattle.commands.specs.declared.cause.Cause.TheVariants.{Rule, Kind, Mistake, Shader as ShaderCause, Long, Call, Part, Size, Level as LevelCause, Words}
 use Rattle.commands.specs.declared.command.Command.{Command}
-use Rattle.commands.specs.declared.command.Command.TheVariants.{Check, Replay, Upgrade, Bound, Show, FromText, Asm, Disasm, Slots, Queue, Session, Untile, Tile, Level}
+use Rattle.commands.specs.declared.command.Command.TheVariants.{Check, Replay, Upgrade, Bound, Show, FromText, Asm, Disasm, Shader, ShaderText, Slots, Queue, Session, Untile, Tile, Level}
+use Rattle.shader_check.specs.declared.fault.ShaderFault.{ShaderFault}
+use Rattle.shader_check.specs.Rules.{shader_questions}
+use Rattle.job_queue.specs.Calls.{fault_line as queue_fault}
+use Rattle.job_session.specs.Calls.{fault_line as session_fault}
+use Rattle.overflow_slots.specs.Calls.{fault_line as slots_fault}
+use Rattle.texture_layouts.specs.Surface.{size_for}
+use Rattle.tile_convert.specs.Level.{level_questions}
+use Rattle.tile_convert.specs.declared.level.LevelFault.{LevelFault}
+use Rattle.tile_convert.specs.declared.level.LevelFault.TheVariants.{Texture, Face, Level as NoLevel}
+use Rattle.commands.specs.declared.pictures.TexturePart.{TexturePart}
 use Rattle.commands.specs.Upgrade.{format_rules}
+use Rattle.commands.specs.WordFault.{word_fault_text}
 
 -- the name of a kind of the assembler's faults
 abbrev pub kind_of : AsmFault → RuleName
 kind_of fault = record { family = KindFamily; number = fault.kind }
 
--- "vc4check: line 3: SENTENCE; see vc4check explain kind 2"
-unfoldable pub kind_line : AsmFault → List ℕ
-kind_line fault =
-    codes "vc4check: line " ++ (decimal fault.line ++ (codes ": " ++ (sentence_of (kind_of fault)
-    ++ (codes "; see vc4check explain " ++ name_text (kind_of fault)))))
+-- "vc4check: line 3, column 14: the value is a number from 0 to 63; see vc4check explain kind 3"
+unfoldable pub kind_line : AsmFault → FaultPlace → List ℕ
+kind_line fault place =
+    codes "vc4check: line " ++ (decimal fault.line ++ (codes ", column " ++ (decimal place.column ++ (codes ": " ++ (wanted_text place.wanted
+    ++ (codes "; see vc4check explain " ++ name_text (kind_of fault)))))))
 
 -- "vc4check: line 3, column 14: SENTENCE"
 unfoldable pub mistake_line : MakeFault → List ℕ
 mistake_line fault =
     codes "vc4check: line " ++ (decimal fault.line ++ (codes ", column " ++ (decimal fault.column ++ (codes ": " ++ mistake_of fault.mistake))))
 
+-- the name of a rule of shaders
+abbrev pub shader_rule : ShaderFault → RuleName
+shader_rule fault = record { family = ShaderFamily; number = fault.number }
+
+-- "vc4check: S24: SENTENCE (instruction 12); see vc4check explain S24"
+unfoldable pub shader_line : ShaderFault → List ℕ
+shader_line fault =
+    codes "vc4check: " ++ (name_text (shader_rule fault) ++ (codes ": " ++ (sentence_of (shader_rule fault) ++ (codes " (instruction "
+    ++ (decimal fault.index ++ (codes "); see vc4check explain " ++ name_text (shader_rule fault)))))))
+
+unfoldable pub long_line : ℕ → List ℕ
+long_line count = codes "vc4check: the shader has " ++ (decimal count ++ codes " instructions, of which it may have 8192")
+
+-- "vc4check: line 3: this is no call"
+unfoldable pub call_line : ℕ → List ℕ
+call_line line = codes "vc4check: line " ++ (decimal line ++ codes ": this is no call")
+
+unfoldable pub part_line : ℕ → List ℕ
+part_line n = codes "vc4check: the input has " ++ (decimal n ++ codes " bytes, which are no whole words of 8")
+
+unfoldable pub size_line : ℕ → ℕ → List ℕ
+size_line n wanted = codes "vc4check: the input has " ++ (decimal n ++ (codes " bytes, and the picture takes " ++ decimal wanted))
+
+-- the name of the rule that refuses a level
+unfoldable pub level_rule : LevelFault → RuleName
+level_rule (Texture number) = record { family = TextureFamily; number = number }
+level_rule Face = record { family = LevelFamily; number = 1 }
+level_rule NoLevel = record { family = LevelFamily; number = 2 }
+
+-- "V2: SENTENCE"
+unfoldable pub named_text : RuleName → List ℕ
+named_text name = name_text name ++ (codes ": " ++ sentence_of name)
+
+-- "vc4check: V2: SENTENCE; see vc4check explain V2"
+unfoldable pub level_line : RuleName → List ℕ
+level_line name = codes "vc4check: " ++ (named_text name ++ (codes "; see vc4check explain " ++ name_text name))
+
 -- the line that a person reads
 unfoldable pub cause_text : Cause → List ℕ
 cause_text (Rule line) = line_text line
-cause_text (Kind fault) = kind_line fault
+cause_text (Kind fault place) = kind_line fault place
 cause_text (Mistake fault) = mistake_line fault
+cause_text (ShaderCause fault) = shader_line fault
+cause_text (Long count) = long_line count
+cause_text (Call line) = call_line line
+cause_text (Part n) = part_line n
+cause_text (Size n wanted) = size_line n wanted
+cause_text (LevelCause name) = level_line name
+cause_text (Words fault) = word_fault_text fault
 
 -- A file that a rule refuses is told by a line of that refusal, and an accepted one by none.
 abbrev pub IsRuleCause : List ℕ → Option Refusal → Option Cause → Type 0
 IsRuleCause bytes None cause = cause ≡ None
 IsRuleCause bytes (Some refusal) cause = (line : Line) × (cause ≡ Some (Rule line)) × IsLineOf bytes refusal line
 
--- the first fault of an assembler's text
-abbrev pub kind_cause : Result (List ℕ) AsmFault → Option Cause
-kind_cause (Ok words) = None
-kind_cause (Err fault) = Some (Kind fault)
+-- the first fault of an assembler's text, and where on its line it stands
+abbrev pub kind_cause : List ℕ → Result (List ℕ) AsmFault → Option Cause
+kind_cause text (Ok words) = None
+kind_cause text (Err fault) = Some (Kind fault (fault_place text fault))
 
 -- the first fault of a text of bytes
 abbrev pub mistake_cause : Result (List ℕ) MakeFault → Option Cause
 mistake_cause (Ok bytes) = None
 mistake_cause (Err fault) = Some (Mistake fault)
 
--- Why each command refuses its input; None where it doesn't, and where its answer itself says why.
+-- the first rule that stands of a shader
+abbrev pub shader_cause : Option ShaderFault → Option Cause
+shader_cause None = None
+shader_cause (Some fault) = Some (ShaderCause fault)
+
+-- that of a shader of these words, of which there may be too many
+abbrev pub words_cause : List ℕ → Option Cause
+words_cause code = if nat_le (length code) most_words then shader_cause (first_of (shader_questions code)) else Some (Long (length code))
+
+-- that of a shader as text, which may have a fault
+abbrev pub text_cause : List ℕ → Result (List ℕ) AsmFault → Option Cause
+text_cause text (Ok words) = words_cause words
+text_cause text (Err fault) = Some (Kind fault (fault_place text fault))
+
+-- the first line of a script that is no call
+abbrev pub call_cause : Option ℕ → Option Cause
+call_cause None = None
+call_cause (Some line) = Some (Call line)
+
+-- bytes that are no whole words
+abbrev pub part_cause : ℕ → Option Cause
+part_cause n = if n % 8 == 0 then None else Some (Part n)
+
+-- as many bytes as wanted, or another number
+abbrev pub size_cause : ℕ → ℕ → Option Cause
+size_cause n wanted = if n == wanted then None else Some (Size n wanted)
+
+-- the first rule that stands of a level
+abbrev pub level_cause : Option LevelFault → Option Cause
+level_cause None = None
+level_cause (Some fault) = Some (LevelCause (level_rule fault))
+
+abbrev pub level_fault : TexturePart → List ℕ → Option LevelFault
+level_fault part bytes = first_of (level_questions (slice_index part.setup 0) (slice_index part.setup 1) (slice_index part.setup 2)
+    (slice_index part.setup 3) (length bytes) part.face part.level)
+
+-- Why each command refuses its input; None where it doesn't.
 abbrev pub IsCause : Command → List ℕ → Option Cause → Type 0
 IsCause Check bytes cause = IsRuleCause bytes (refusal_of bytes) cause
 IsCause (Replay steps seed) bytes cause = IsRuleCause bytes (refusal_of bytes) cause
@@ -65,11 +160,13 @@ IsCause Upgrade bytes cause = IsRuleCause bytes (first_of (format_rules bytes)) 
 IsCause Bound bytes cause = IsRuleCause bytes (refusal_of bytes) cause
 IsCause Show bytes cause = cause ≡ None
 IsCause FromText bytes cause = cause ≡ mistake_cause (made bytes)
-IsCause Asm bytes cause = cause ≡ kind_cause (Assembled bytes)
-IsCause Disasm bytes cause = cause ≡ None
-IsCause (Slots slots) bytes cause = cause ≡ None
-IsCause (Queue buffers) bytes cause = cause ≡ None
-IsCause Session bytes cause = cause ≡ None
-IsCause (Untile picture) bytes cause = cause ≡ None
-IsCause (Tile picture) bytes cause = cause ≡ None
-IsCause (Level part) bytes cause = cause ≡ None
+IsCause Asm bytes cause = cause ≡ kind_cause bytes (Assembled bytes)
+IsCause Disasm bytes cause = cause ≡ part_cause (length bytes)
+IsCause Shader bytes cause = cause ≡ shader_cause (first_of (code_questions bytes))
+IsCause ShaderText bytes cause = cause ≡ text_cause bytes (Assembled bytes)
+IsCause (Slots slots) bytes cause = cause ≡ call_cause (slots_fault bytes)
+IsCause (Queue buffers) bytes cause = cause ≡ call_cause (queue_fault bytes)
+IsCause Session bytes cause = cause ≡ call_cause (session_fault bytes)
+IsCause (Untile p) bytes cause = cause ≡ size_cause (length bytes) (size_for p.tiling p.width p.height p.cpp)
+IsCause (Tile p) bytes cause = cause ≡ size_cause (length bytes) (p.width * p.height * p.cpp)
+IsCause (Level part) bytes cause = cause ≡ level_cause (level_fault part bytes)

@@ -4,6 +4,7 @@ pub mod Bound
 pub mod Cause
 pub mod Headline
 pub mod Image
+pub mod LoneShader
 pub mod Notice
 pub mod Pictures
 pub mod Replay
@@ -14,4 +15,5 @@ pub mod Shader
 pub mod Show
 pub mod Topics
 pub mod Upgrade
+pub mod WordFault
 pub mod Words

@@ -2,9 +2,9 @@
 use Rattle.std.specs.Prelude.{◌≡◌, ℕ, List, ◌++◌, codes, bytes_eq, Option, Some, None, if◌then◌else◌}
 use Rattle.std.specs.List.{flat_map}
 use Rattle.rule_words.specs.Names.{explained}
-use Rattle.commands.specs.declared.help.TheConstants.{CHECK, REPLAY, UPGRADE, BOUND, SHOW, MAKE, GEN, SLOTS, QUEUE, SESSION, UNTILE, TILE, LEVEL, ASM, DISASM, EXPLAIN, HEAD, FOOT, VERSION, VERBS}
+use Rattle.commands.specs.declared.help.TheConstants.{CHECK, REPLAY, UPGRADE, BOUND, SHOW, MAKE, GEN, SLOTS, QUEUE, SESSION, UNTILE, TILE, LEVEL, ASM, DISASM, SHADER, EXPLAIN, HEAD, FOOT, VERSION, VERBS}
 use Rattle.commands.specs.declared.help.Verb.{Verb}
-use Rattle.commands.specs.declared.help.Verb.TheVariants.{Check, Replay, Upgrade, Bound, Show, Make, Gen, Slots, Queue, Session, Untile, Tile, Level, Asm, Disasm, Explain}
+use Rattle.commands.specs.declared.help.Verb.TheVariants.{Check, Replay, Upgrade, Bound, Show, Make, Gen, Slots, Queue, Session, Untile, Tile, Level, Asm, Disasm, Shader, Explain}
 use Rattle.commands.specs.declared.help.Topic.{Topic}
 use Rattle.commands.specs.declared.help.Topic.TheVariants.{Program, Command, Version, Rule}
 
@@ -18,7 +18,8 @@ other_verb word =
     else (if bytes_eq word (codes "level") then Some Level
     else (if bytes_eq word (codes "asm") then Some Asm
     else (if bytes_eq word (codes "disasm") then Some Disasm
-    else (if bytes_eq word (codes "explain") then Some Explain else None)))))))
+    else (if bytes_eq word (codes "shader") then Some Shader
+    else (if bytes_eq word (codes "explain") then Some Explain else None))))))))
 
 abbrev pub verb_named : List ℕ → Option Verb
 verb_named word =
@@ -48,6 +49,7 @@ usage_of Tile = TILE.0.now
 usage_of Level = LEVEL.0.now
 usage_of Asm = ASM.0.now
 usage_of Disasm = DISASM.0.now
+usage_of Shader = SHADER.0.now
 usage_of Explain = EXPLAIN.0.now
 
 -- what a command does
@@ -67,6 +69,7 @@ about_of Tile = TILE.1.now
 about_of Level = LEVEL.1.now
 about_of Asm = ASM.1.now
 about_of Disasm = DISASM.1.now
+about_of Shader = SHADER.1.now
 about_of Explain = EXPLAIN.1.now
 
 -- what `COMMAND --help` says

@@ -2,9 +2,9 @@
 use Rattle.std.specs.Prelude.{ℕ, ◌≤◌, ◌==◌, ◌-◌, ◌^◌, ◌&&◌, not, Bool, true, false, is_some, take, length, List, [], ◌∷◌, codes, map, String, string_bytes, Option, Some, None, option_map, if◌then◌else◌}
 use Rattle.std.specs.Prelude.{bytes_eq}
 use Rattle.std.specs.declared.alloc.Global.{Global}
-use Rattle.field_words.specs.Sizes.{most_list}
+use Rattle.field_words.specs.Sizes.{most_code, most_list}
 use Rattle.commands.specs.declared.command.Command.{Command}
-use Rattle.commands.specs.declared.command.Command.TheVariants.{Check, Replay, Upgrade, Bound, Show, FromText, Asm, Disasm, Slots, Queue, Session, Untile, Tile, Level}
+use Rattle.commands.specs.declared.command.Command.TheVariants.{Check, Replay, Upgrade, Bound, Show, FromText, Asm, Disasm, Shader, ShaderText, Slots, Queue, Session, Untile, Tile, Level}
 use Rattle.commands.specs.declared.command.Task.{Task}
 use Rattle.commands.specs.declared.command.Task.TheVariants.{Read, Make, Tell}
 use Rattle.commands.specs.declared.help.Verb.{Verb}
@@ -27,7 +27,8 @@ command_named word =
     else (if bytes_eq word (codes "make") then Some FromText
     else (if bytes_eq word (codes "asm") then Some Asm
     else (if bytes_eq word (codes "disasm") then Some Disasm
-    else (if bytes_eq word (codes "session") then Some Session else None)))))))
+    else (if bytes_eq word (codes "session") then Some Session
+    else (if bytes_eq word (codes "shader") then Some Shader else None))))))))
 
 -- one word: a command, or a question about the program
 abbrev pub task_alone : List ℕ → Option Task
@@ -66,11 +67,16 @@ told_of name = Tell (Rule name)
 abbrev pub help_of : Verb → Task
 help_of verb = Tell (CommandTopic verb)
 
--- two words: a command and its number, a rule to be explained, or a command of which more is to be said
+-- a shader as text
+abbrev pub shader_named : List ℕ → Option Command
+shader_named second = if bytes_eq second (codes "--asm") then Some ShaderText else None
+
+-- two words: a command and its number, a shader as text, a rule to be explained, or a command of which more is to be said
 abbrev pub task_paired : List ℕ → List ℕ → Option Task
 task_paired word second =
     if bytes_eq second (codes "--help") then option_map help_of (verb_named word)
-    else (if bytes_eq word (codes "explain") then option_map told_of (rule_named second) else task_numbered word second)
+    else (if bytes_eq word (codes "explain") then option_map told_of (rule_named second)
+    else (if bytes_eq word (codes "shader") then option_map Read (shader_named second) else task_numbered word second))
 
 -- a run of at most so many steps, by the script of a seed
 abbrev pub most_steps : ℕ
@@ -112,6 +118,8 @@ IsWithin Show = Unit {0}
 IsWithin FromText = Unit {0}
 IsWithin Asm = Unit {0}
 IsWithin Disasm = Unit {0}
+IsWithin Shader = Unit {0}
+IsWithin ShaderText = Unit {0}
 IsWithin (Slots slots) = (1 ≤ slots) × (slots ≤ most_slots)
 IsWithin (Queue buffers) = buffers ≤ most_queued
 IsWithin Session = Unit {0}
@@ -163,6 +171,8 @@ limit_of Show = most_file
 limit_of FromText = most_file
 limit_of Asm = most_list
 limit_of Disasm = most_list
+limit_of Shader = most_code
+limit_of ShaderText = most_list
 limit_of (Slots slots) = most_list
 limit_of (Queue buffers) = most_list
 limit_of Session = most_list

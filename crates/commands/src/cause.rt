@@ -1,21 +1,38 @@
 //! Why a command refuses, as a line for a person.
 ghost use Rattle.std.specs.Prelude.{◌≡◌, Some};
-ghost use Rattle.commands.specs.Cause.{cause_text, kind_of};
+ghost use Rattle.commands.specs.Cause.{cause_text, kind_of, shader_rule, level_rule, size_line, named_text};
 
+use super::word_fault::WordFault;
 use job_text::MakeFault;
-use qpu_asm::AsmFault;
+use qpu_asm::{AsmFault, FaultPlace};
 use rule_words::{Family, Line, RuleName};
+use shader_check::ShaderFault;
 use std::fmt;
+use tile_convert::LevelFault;
 
-/// Why a command refused its input. It is printed as one line without a line feed, and takes no memory, also to print.
+/// Why a command refused its input, or the program its words. It is printed as one line without a line feed, and takes no memory, also to print.
 #[derive(Clone, Copy, Debug)]
 pub enum Cause {
     /// A job file breaks a rule.
     Rule(Line),
-    /// The first fault of an assembler's text.
-    Kind(AsmFault),
+    /// The first fault of an assembler's text, and where on its line it stands.
+    Kind(AsmFault, FaultPlace),
     /// The first fault of a text of bytes.
     Mistake(MakeFault),
+    /// A shader breaks a rule.
+    Shader(ShaderFault),
+    /// A shader's text has so many instructions, which are too many.
+    Long(u64),
+    /// The first line of a script that is no call.
+    Call(u32),
+    /// The input has so many bytes, which are no whole words.
+    Part(u64),
+    /// The input has so many bytes, and so many are wanted.
+    Size(u64, u64),
+    /// No such level of a texture can be taken, by this rule.
+    Level(RuleName),
+    /// The words ask for nothing that the program does.
+    Words(WordFault),
 }
 
 // The kind's name, as `kind 3`.
@@ -28,20 +45,86 @@ fn kind_of(fault: &AsmFault) -> RuleName
     }
 }
 
+// The rule's name, as `S24`.
+fn shader_rule(fault: &ShaderFault) -> RuleName
+    ensures { result ≡ shader_rule fault.now }
+{
+    RuleName {
+        family: Family::S,
+        number: fault.number,
+    }
+}
+
+/// The name of the rule that refuses a level, as `U7` or `V2`.
+#[tactic(auto, unfolding(crate::specs::Cause::level_rule))]
+pub fn level_rule(fault: &LevelFault) -> RuleName
+    ensures { result ≡ level_rule fault.now }
+{
+    match fault {
+        LevelFault::Texture(number) => RuleName {
+            family: Family::U,
+            number: *number,
+        },
+        LevelFault::Face => RuleName {
+            family: Family::V,
+            number: 1,
+        },
+        LevelFault::Level => RuleName {
+            family: Family::V,
+            number: 2,
+        },
+    }
+}
+
+/// How many bytes the input has, and how many are wanted.
+#[derive(Clone, Copy)]
+struct Sizes {
+    length: u64,
+    wanted: u64,
+}
+
+impl fmt::Display for Sizes {
+    ghost output = { λ sizes. Some (size_line sizes.length sizes.wanted) };
+
+    #[tactic(auto, unfolding(crate::specs::Cause::size_line))]
+    fn fmt<W: fmt::Write>(&self, f: &mut fmt::Formatter<W>) -> fmt::Result {
+        write!(
+            f,
+            "vc4check: the input has {} bytes, and the picture takes {}",
+            self.length, self.wanted
+        )
+    }
+}
+
+/// A rule by its name, and its sentence.
+#[derive(Clone, Copy)]
+struct Named {
+    name: RuleName,
+}
+
+impl fmt::Display for Named {
+    ghost output = { λ named. Some (named_text named.name) };
+
+    #[tactic(auto, unfolding(crate::specs::Cause::named_text))]
+    fn fmt<W: fmt::Write>(&self, f: &mut fmt::Formatter<W>) -> fmt::Result {
+        let sentence = self.name.sentence();
+        write!(f, "{}: {}", self.name, sentence)
+    }
+}
+
 impl fmt::Display for Cause {
     ghost output = { λ cause. Some (cause_text cause) };
 
-    #[tactic(auto, unfolding(crate::specs::Cause::cause_text, crate::specs::Cause::kind_line, crate::specs::Cause::mistake_line))]
+    #[tactic(auto, unfolding(crate::specs::Cause::cause_text, crate::specs::Cause::kind_line, crate::specs::Cause::mistake_line, crate::specs::Cause::shader_line, crate::specs::Cause::long_line, crate::specs::Cause::call_line, crate::specs::Cause::part_line, crate::specs::Cause::level_line))]
     fn fmt<W: fmt::Write>(&self, f: &mut fmt::Formatter<W>) -> fmt::Result {
         match self {
             Cause::Rule(line) => write!(f, "{}", line),
-            Cause::Kind(fault) => {
+            Cause::Kind(fault, place) => {
                 let name = kind_of(fault);
-                let sentence = name.sentence();
                 write!(
                     f,
-                    "vc4check: line {}: {}; see vc4check explain {}",
-                    fault.line, sentence, name
+                    "vc4check: line {}, column {}: {}; see vc4check explain {}",
+                    fault.line, place.column, place.wanted, name
                 )
             }
             Cause::Mistake(fault) => {
@@ -52,6 +135,38 @@ impl fmt::Display for Cause {
                     fault.line, fault.column, sentence
                 )
             }
+            Cause::Shader(fault) => {
+                let name = shader_rule(fault);
+                let sentence = name.sentence();
+                write!(
+                    f,
+                    "vc4check: {}: {} (instruction {}); see vc4check explain {}",
+                    name, sentence, fault.index, name
+                )
+            }
+            Cause::Long(count) => write!(
+                f,
+                "vc4check: the shader has {} instructions, of which it may have 8192",
+                count
+            ),
+            Cause::Call(line) => write!(f, "vc4check: line {}: this is no call", line),
+            Cause::Part(length) => write!(
+                f,
+                "vc4check: the input has {} bytes, which are no whole words of 8",
+                length
+            ),
+            Cause::Size(length, wanted) => {
+                let size = Sizes {
+                    length: *length,
+                    wanted: *wanted,
+                };
+                write!(f, "{}", size)
+            }
+            Cause::Level(name) => {
+                let named = Named { name: *name };
+                write!(f, "vc4check: {}; see vc4check explain {}", named, name)
+            }
+            Cause::Words(fault) => write!(f, "{}", fault),
         }
     }
 }

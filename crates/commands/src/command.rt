@@ -1,11 +1,11 @@
 //! What the program can do, and the words that ask for it.
 ghost use Rattle.std.specs.Prelude.{◌≡◌, ◌≤◌, Some, None, IfSome};
-ghost use Rattle.commands.specs.Words.{texts, command_named, task_alone, task_numbered, task_paired, kind_explained, task_tripled, replay_named, pictured, textured, task_of, limit_of, most_file, IsWithin, ReadsWithin, most_slots, slots_by, is_read, names_file};
+ghost use Rattle.commands.specs.Words.{texts, command_named, task_alone, task_numbered, shader_named, task_paired, kind_explained, task_tripled, replay_named, pictured, textured, task_of, limit_of, most_file, IsWithin, ReadsWithin, most_slots, slots_by, is_read, names_file};
 ghost use Rattle.script.specs.Number.{number_within};
 
 use super::help::{Topic, verb_named};
 use super::pictures::{Picture, TexturePart, level_named, picture_named};
-use field_words::MOST_LIST;
+use field_words::{MOST_CODE, MOST_LIST};
 use rule_words::{kind_named, rule_named};
 use script::read_number;
 
@@ -16,13 +16,13 @@ const MOST_FILE: usize = 50_331_648;
 const MOST_PICTURE: usize = 25_165_824;
 
 /// The most steps of a run.
-const MOST_STEPS: u64 = 1_000_000;
+pub const MOST_STEPS: u64 = 1_000_000;
 
 /// The most slots of a book of tile memory.
-const MOST_SLOTS: u64 = 32;
+pub const MOST_SLOTS: u64 = 32;
 
 /// The most buffers that jobs of a queue name.
-const MOST_QUEUED: u64 = 1024;
+pub const MOST_QUEUED: u64 = 1024;
 
 /// A command that reads all of its input, and answers to it.
 #[derive(Clone, Copy, Debug, PartialEq, Eq)]
@@ -44,6 +44,10 @@ pub enum Command {
     Asm,
     /// `disasm`: reads such words and writes shader text that assembles to them.
     Disasm,
+    /// `shader`: reads the words of one shader and prints what it takes and reads, or the rule that refuses it.
+    Shader,
+    /// `shader --asm`: reads shader text and prints the same of its words, or its first fault.
+    ShaderText,
     /// `slots <n>`: reads a script of calls on a book of so many slots of tile memory, and answers each.
     Slots(u32),
     /// `queue <buffers>`: reads a script of calls on a queue of jobs that name so many buffers, and answers each.
@@ -83,7 +87,9 @@ impl Command {
             | Command::Show
             | Command::FromText => MOST_FILE,
             Command::Untile(_) | Command::Tile(_) | Command::Level(_) => MOST_PICTURE,
+            Command::Shader => MOST_CODE as usize,
             Command::Asm
+            | Command::ShaderText
             | Command::Disasm
             | Command::Slots(_)
             | Command::Queue(_)
@@ -119,6 +125,9 @@ fn command_named(word: &str) -> Option<Command>
     }
     if word == "session" {
         return Some(Command::Session);
+    }
+    if word == "shader" {
+        return Some(Command::Shader);
     }
     None
 }
@@ -164,6 +173,16 @@ fn task_numbered(word: &str, number: &str) -> Option<Task>
     None
 }
 
+fn shader_named(second: &str) -> Option<Command>
+    ensures value { result ≡ shader_named second.now }
+    ensures within { IfSome result IsWithin }
+{
+    if second == "--asm" {
+        return Some(Command::ShaderText);
+    }
+    None
+}
+
 fn task_paired(word: &str, second: &str) -> Option<Task>
     ensures value { result ≡ task_paired word.now second.now }
     ensures within { IfSome result ReadsWithin }
@@ -173,6 +192,9 @@ fn task_paired(word: &str, second: &str) -> Option<Task>
     }
     if word == "explain" {
         return Some(Task::Tell(Topic::Rule(rule_named(second.as_bytes())?)));
+    }
+    if word == "shader" {
+        return Some(Task::Read(shader_named(second)?));
     }
     task_numbered(word, second)
 }

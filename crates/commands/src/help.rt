@@ -29,6 +29,7 @@ pub enum Verb {
     Level,
     Asm,
     Disasm,
+    Shader,
     Explain,
 }
 
@@ -130,6 +131,12 @@ const DISASM: Usage = (
     "Reads shader words of 8 bytes each, at most 1 MiB, and writes the text that assembles to them.",
 );
 
+const SHADER: Usage = (
+    "shader [--asm] [FILE]",
+    "Reads the words of one shader, 8 bytes each, at most 64 KiB, and checks it alone: writes how many uniforms and threads it takes, and its
+samples and address words by the uniforms that they take; or the first rule that it breaks. With --asm it reads shader text, at most 1 MiB.",
+);
+
 const EXPLAIN: Usage = (
     "explain RULE",
     "Writes what a rule says, why it is there, and how a refused file is mended. RULE is a letter and a number, such as S24,
@@ -151,7 +158,7 @@ const VERSION: &str =
     "vc4check 0.1.0, for job files of versions 1 and 2\nproved with rattle-kit-13b logic dac8208d650f15bf\n";
 
 /// All commands, as `--help` names them.
-const VERBS: [Verb; 16] = [
+const VERBS: [Verb; 17] = [
     Verb::Check,
     Verb::Replay,
     Verb::Upgrade,
@@ -167,6 +174,7 @@ const VERBS: [Verb; 16] = [
     Verb::Level,
     Verb::Asm,
     Verb::Disasm,
+    Verb::Shader,
     Verb::Explain,
 ];
 
@@ -225,6 +233,9 @@ fn other_verb(word: &str) -> Option<Verb>
     if word == "disasm" {
         return Some(Verb::Disasm);
     }
+    if word == "shader" {
+        return Some(Verb::Shader);
+    }
     if word == "explain" {
         return Some(Verb::Explain);
     }
@@ -253,6 +264,7 @@ impl Verb {
             Verb::Level => LEVEL.0,
             Verb::Asm => ASM.0,
             Verb::Disasm => DISASM.0,
+            Verb::Shader => SHADER.0,
             Verb::Explain => EXPLAIN.0,
         }
     }
@@ -278,6 +290,7 @@ impl Verb {
             Verb::Level => LEVEL.1,
             Verb::Asm => ASM.1,
             Verb::Disasm => DISASM.1,
+            Verb::Shader => SHADER.1,
             Verb::Explain => EXPLAIN.1,
         }
     }

@@ -9,6 +9,7 @@ mod check;
 mod command;
 mod example;
 mod help;
+mod lone_shader;
 mod notice;
 mod pictures;
 mod program;
@@ -20,7 +21,9 @@ mod serve;
 mod shader_text;
 mod shown;
 mod upgrading;
+mod word_fault;
 
 pub use cause::Cause;
 pub use program::Checker;
 pub use runs::{run, run_told};
+pub use word_fault::WordFault;

@@ -5,10 +5,12 @@ ghost use Rattle.texture_layouts.specs.Surface.{IsPixelSize};
 ghost use Rattle.tile_convert.specs.Picture.{size_in, IsCopy};
 ghost use Rattle.commands.specs.Pictures.{tiling_named, pixel_by, side_by, most_side, most_word, picture_named, level_named, IsPictureWithin};
 ghost use Rattle.commands.specs.Pictures.{length_wanted_text, level_refusal, IsSizedAnswer, IsLevelAnswer};
+ghost use Rattle.commands.specs.Cause.{size_cause, level_cause, level_fault};
 ghost use Rattle.commands.specs.Reply.{reply_status, reply_cause, IsReplyOf, IsReplyReady};
 
 use super::answer::Answer;
 use super::bands::{Conversion, band_room};
+use super::cause::{Cause, level_rule};
 use super::reply::Reply;
 use field_words::{NoMemory, Stop};
 use script::read_number;
@@ -17,7 +19,7 @@ use texture_layouts::Tiling;
 use tile_convert::{LevelFault, Order, extract, picture_size};
 
 /// The most pixels of a picture's side.
-const MOST_SIDE: u64 = 4096;
+pub const MOST_SIDE: u64 = 4096;
 
 /// A picture in a tiling: how many pixels it is wide and high, and how many bytes each has.
 #[derive(Clone, Copy, Debug, PartialEq, Eq)]
@@ -36,7 +38,8 @@ pub struct TexturePart {
     pub level: u32,
 }
 
-fn tiling_named(word: &str) -> Option<Tiling>
+/// The tiling that a word names.
+pub fn tiling_named(word: &str) -> Option<Tiling>
     ensures { result ≡ tiling_named word.now }
 {
     if word == "t" {
@@ -48,7 +51,8 @@ fn tiling_named(word: &str) -> Option<Tiling>
     None
 }
 
-fn pixel_named(word: &str) -> Option<u32>
+/// The bytes of a pixel that a word names.
+pub fn pixel_named(word: &str) -> Option<u32>
     ensures value { result ≡ pixel_by (number_within 8 word.now) }
     ensures size { IfSome result IsPixelSize }
 {
@@ -151,7 +155,7 @@ pub fn picture_reply(
         (IsCopy from to picture.width picture.height picture.cpp bytes.now)) bytes.now) }
     ensures status { IfOk result (λ a. reply_status a < 2) }
     ensures ready { IfOk result (IsReplyReady bytes.now) }
-    ensures cause { IfOk result (λ a. reply_cause a ≡ None) }
+    ensures cause { IfOk result (λ a. reply_cause a ≡ size_cause (length bytes.now) (size_in from picture.width picture.height picture.cpp)) }
 {
     let Picture {
         cpp,
@@ -162,7 +166,8 @@ pub fn picture_reply(
     let wanted = picture_size(from, width, height, cpp);
     if bytes.len() as u64 != wanted {
         let text = length_wanted_text(alloc, bytes.len(), wanted)?;
-        return Ok(Reply::Text(Answer::refused(text, None)));
+        let cause = Cause::Size(bytes.len() as u64, wanted);
+        return Ok(Reply::Text(Answer::refused(text, Some(cause))));
     }
     let conversion = Conversion {
         from,
@@ -180,13 +185,14 @@ pub fn level_answer(alloc: Global, part: TexturePart, bytes: &[u8]) -> Result<An
     requires { length bytes.now < 2 ^ 32 }
     ensures answers { IfOk result (λ a. IsLevelAnswer part bytes.now a.status a.text.items) }
     ensures status { IfOk result (λ a. a.status < 2) }
-    ensures cause { IfOk result (λ a. a.cause ≡ None) }
+    ensures cause { IfOk result (λ a. a.cause ≡ level_cause (level_fault part bytes.now)) }
 {
     match extract(alloc, part.setup, bytes, part.face, part.level) {
         Ok(text) => Ok(Answer::done(text)),
         Err(Stop::Fault(fault)) => {
             let text = level_refusal(alloc, fault)?;
-            Ok(Answer::refused(text, None))
+            let rule = level_rule(&fault);
+            Ok(Answer::refused(text, Some(Cause::Level(rule))))
         }
         Err(Stop::NoMemory) => Err(NoMemory),
     }

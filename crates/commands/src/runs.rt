@@ -19,6 +19,8 @@ ghost use Rattle.session_law.specs.Laws.{ClientsAreApart, MemoryIsKept};
 ghost use Rattle.session_law.specs.Scripts.{ScriptsAreOfCalls};
 ghost use Rattle.job_bound.specs.Law.{BoundHolds};
 ghost use Rattle.commands.specs.Cause.{IsCause};
+ghost use Rattle.commands.specs.WordFault.{fault_of};
+ghost use Rattle.commands.specs.declared.cause.Cause.TheVariants.{Words};
 ghost use Rattle.commands.specs.Run.{IsAnswered, IsCut};
 ghost use Rattle.commands.specs.Words.{texts, task_of, limit_of};
 
@@ -27,11 +29,13 @@ use super::command::{Task, task_of};
 use super::example::make;
 use super::help::tell;
 use super::serve::serve;
+use super::word_fault::fault_of;
 use entry::Ended;
 use job_io::{Sink, Source};
 use std::alloc::Global;
 
-/// What `run` does, and why: with status 1 comes what a person is told of the refusal, where there is more to say than the text says.
+/// What `run` does, and why: with status 1 comes what a person is told of the refusal, where there is more to say than the text says,
+/// and with status 2 which word is wrong.
 /// The other clauses are those of `run`.
 #[tactic(auto, using(crate::proofs::Headline::safely_accepted, headline::proofs::Uses::accepted_may_run, job_safety::proofs::Safety::bytes_apart_law, headline::proofs::Uses::accepted_end, crate::proofs::Versions::upgrade_keeps_all, crate::proofs::Again::makes_again, session_law::proofs::Scripting::scripts_are_of_calls, session_law::proofs::Answering::clients_are_apart, session_law::proofs::Keeping::memory_is_kept, job_bound::proofs::Holds::bound_holds_law))]
 pub fn run_told<S: Source, K: Sink>(
@@ -40,10 +44,12 @@ pub fn run_told<S: Source, K: Sink>(
     source: &mut S,
     sink: &mut K,
 ) -> Ended<Cause>
-    // Why a person's input was refused, where the source tells it. It comes with status 1 alone.
+    // Why a person's input was refused, where the source tells it.
     ensures cause { (command : Command) → task_of (texts words.now.items) ≡ Some (Read command) → result.status ≡ 1 →
         IfSome (S.left source.old) (λ bytes. IsCause command bytes result.cause) }
-    ensures quiet { result.status ≢ 1 → result.cause ≡ None }
+    // Which of the words is wrong, where they ask for nothing.
+    ensures wrong { result.status ≡ 2 → result.cause ≡ Some (Words (fault_of (texts words.now.items))) }
+    ensures quiet { result.status ≢ 1 → result.status ≢ 2 → result.cause ≡ None }
 
     // Which statuses come, and from what.
     ensures statuses { result.status ≤ 6 }
@@ -114,7 +120,10 @@ pub fn run_told<S: Source, K: Sink>(
     ensures bound { BoundHolds }
 {
     match task_of(words) {
-        None => Ended::silent(2),
+        None => Ended {
+            status: 2,
+            cause: Some(Cause::Words(fault_of(words))),
+        },
         Some(Task::Read(command)) => serve(alloc, command, source, sink),
         Some(Task::Make(number)) => Ended::silent(make(alloc, number, sink)),
         Some(Task::Tell(topic)) => Ended::silent(tell(alloc, topic, sink)),

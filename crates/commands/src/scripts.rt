@@ -1,9 +1,14 @@
 //! Commands that answer scripts: `slots`, `queue` and `session`.
-ghost use Rattle.std.specs.Prelude.{◌≡◌, ◌≤◌, ◌<◌, length, None, IfOk};
+ghost use Rattle.std.specs.Prelude.{◌≡◌, ◌≤◌, ◌<◌, length, IfOk};
 ghost use Rattle.field_words.specs.Sizes.{most_list};
+ghost use Rattle.overflow_slots.specs.Calls.{fault_line as slots_fault};
+ghost use Rattle.job_queue.specs.Calls.{fault_line as queue_fault};
+ghost use Rattle.job_session.specs.Calls.{fault_line as session_fault};
+ghost use Rattle.commands.specs.Cause.{call_cause};
 ghost use Rattle.commands.specs.Scripts.{malformed_text, IsSlotsAnswer, IsQueueAnswer, IsSessionAnswer};
 
 use super::answer::Answer;
+use super::cause::Cause;
 use field_words::{NoMemory, Stop};
 use std::alloc::{AllocError, Global};
 
@@ -21,13 +26,13 @@ pub fn slots_answer(alloc: Global, slots: u32, text: &[u8]) -> Result<Answer, No
     requires small { length text.now ≤ most_list }
     ensures answers { IfOk result (λ a. IsSlotsAnswer slots text.now a.status a.text.items) }
     ensures status { IfOk result (λ a. a.status < 2) }
-    ensures cause { IfOk result (λ a. a.cause ≡ None) }
+    ensures cause { IfOk result (λ a. a.cause ≡ call_cause (slots_fault text.now)) }
 {
     match overflow_slots::script(alloc, slots, text) {
         Ok(text) => Ok(Answer::done(text)),
         Err(Stop::Fault(line)) => {
             let text = malformed_text(alloc, line)?;
-            Ok(Answer::refused(text, None))
+            Ok(Answer::refused(text, Some(Cause::Call(line))))
         }
         Err(Stop::NoMemory) => Err(NoMemory),
     }
@@ -39,13 +44,13 @@ pub fn queue_answer(alloc: Global, buffers: u32, text: &[u8]) -> Result<Answer, 
     requires small { length text.now ≤ most_list }
     ensures answers { IfOk result (λ a. IsQueueAnswer buffers text.now a.status a.text.items) }
     ensures status { IfOk result (λ a. a.status < 2) }
-    ensures cause { IfOk result (λ a. a.cause ≡ None) }
+    ensures cause { IfOk result (λ a. a.cause ≡ call_cause (queue_fault text.now)) }
 {
     match job_queue::script(alloc, buffers, text) {
         Ok(text) => Ok(Answer::done(text)),
         Err(Stop::Fault(line)) => {
             let text = malformed_text(alloc, line)?;
-            Ok(Answer::refused(text, None))
+            Ok(Answer::refused(text, Some(Cause::Call(line))))
         }
         Err(Stop::NoMemory) => Err(NoMemory),
     }
@@ -56,13 +61,13 @@ pub fn session_answer(alloc: Global, text: &[u8]) -> Result<Answer, NoMemory>
     requires { length text.now ≤ most_list }
     ensures answers { IfOk result (λ a. IsSessionAnswer text.now a.status a.text.items) }
     ensures status { IfOk result (λ a. a.status < 2) }
-    ensures cause { IfOk result (λ a. a.cause ≡ None) }
+    ensures cause { IfOk result (λ a. a.cause ≡ call_cause (session_fault text.now)) }
 {
     match job_session::script(alloc, text) {
         Ok(text) => Ok(Answer::done(text)),
         Err(Stop::Fault(line)) => {
             let text = malformed_text(alloc, line)?;
-            Ok(Answer::refused(text, None))
+            Ok(Answer::refused(text, Some(Cause::Call(line))))
         }
         Err(Stop::NoMemory) => Err(NoMemory),
     }

@@ -13,6 +13,7 @@ use super::bounded::bound_answer;
 use super::cause::Cause;
 use super::check::check_answer;
 use super::command::Command;
+use super::lone_shader::{shader_answer, shader_text_answer};
 use super::pictures::{level_answer, picture_reply};
 use super::replayed::replay_answer;
 use super::reply::{Reply, print};
@@ -45,6 +46,8 @@ fn answer_to(alloc: Global, command: Command, bytes: &[u8]) -> Result<Reply<'_>,
         Command::FromText => make_answer(alloc, bytes),
         Command::Asm => asm_answer(alloc, bytes),
         Command::Disasm => disasm_answer(alloc, bytes),
+        Command::Shader => shader_answer(alloc, bytes),
+        Command::ShaderText => shader_text_answer(alloc, bytes),
         Command::Slots(slots) => slots_answer(alloc, slots, bytes),
         Command::Queue(buffers) => queue_answer(alloc, buffers, bytes),
         Command::Session => session_answer(alloc, bytes),

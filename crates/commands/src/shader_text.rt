@@ -1,15 +1,15 @@
 //! The commands `asm` and `disasm`.
-ghost use Rattle.std.specs.Prelude.{◌≡◌, ◌≤◌, ◌<◌, length, None, IfOk};
+ghost use Rattle.std.specs.Prelude.{◌≡◌, ◌≤◌, ◌<◌, length, IfOk};
 ghost use Rattle.field_words.specs.Sizes.{most_list};
 ghost use Rattle.qpu_asm.specs.Assembly.{Assembled};
-ghost use Rattle.commands.specs.Cause.{kind_cause};
+ghost use Rattle.commands.specs.Cause.{kind_cause, part_cause};
 ghost use Rattle.commands.specs.Shader.{bytes_of, fault_text, length_text, IsAsmAnswer, IsDisasmAnswer};
 
 use super::answer::Answer;
 use super::cause::Cause;
 use field_words::{NoMemory, Stop};
 use job_check::words_of;
-use qpu_asm::{AsmFault, assemble, disassemble};
+use qpu_asm::{AsmFault, assemble, disassemble, fault_place};
 use std::alloc::{AllocError, Global};
 
 /// Words as bytes, 8 each, the lowest first.
@@ -24,8 +24,9 @@ fn bytes_of(alloc: Global, words: &[u64]) -> Result<Vec<u8>, AllocError>
     Ok(bytes)
 }
 
+/// A line for the first fault of a text.
 #[tactic(auto, unfolding(crate::specs::Shader::fault_text))]
-fn fault_text(alloc: Global, fault: &AsmFault) -> Result<Vec<u8>, AllocError>
+pub fn fault_text(alloc: Global, fault: &AsmFault) -> Result<Vec<u8>, AllocError>
     ensures { IfOk result (λ text. text.items ≡ fault_text fault.now) }
 {
     let line = fault.line;
@@ -45,7 +46,7 @@ pub fn asm_answer(alloc: Global, text: &[u8]) -> Result<Answer, NoMemory>
     requires { length text.now ≤ most_list }
     ensures answers { IfOk result (λ a. IsAsmAnswer text.now a.status a.text.items) }
     ensures status { IfOk result (λ a. a.status < 2) }
-    ensures cause { IfOk result (λ a. a.cause ≡ kind_cause (Assembled text.now)) }
+    ensures cause { IfOk result (λ a. a.cause ≡ kind_cause text.now (Assembled text.now)) }
 {
     match assemble(alloc, text) {
         Ok(words) => {
@@ -53,8 +54,9 @@ pub fn asm_answer(alloc: Global, text: &[u8]) -> Result<Answer, NoMemory>
             Ok(Answer::done(text))
         }
         Err(Stop::Fault(fault)) => {
-            let text = fault_text(alloc, &fault)?;
-            Ok(Answer::refused(text, Some(Cause::Kind(fault))))
+            let out = fault_text(alloc, &fault)?;
+            let place = fault_place(alloc, text, fault)?;
+            Ok(Answer::refused(out, Some(Cause::Kind(fault, place))))
         }
         Err(Stop::NoMemory) => Err(NoMemory),
     }
@@ -65,11 +67,11 @@ pub fn disasm_answer(alloc: Global, bytes: &[u8]) -> Result<Answer, NoMemory>
     requires { length bytes.now ≤ most_list }
     ensures answers { IfOk result (λ a. IsDisasmAnswer bytes.now a.status a.text.items) }
     ensures status { IfOk result (λ a. a.status < 2) }
-    ensures cause { IfOk result (λ a. a.cause ≡ None) }
+    ensures cause { IfOk result (λ a. a.cause ≡ part_cause (length bytes.now)) }
 {
     if bytes.len() % 8 != 0 {
         let text = length_text(alloc, bytes.len())?;
-        return Ok(Answer::refused(text, None));
+        return Ok(Answer::refused(text, Some(Cause::Part(bytes.len() as u64))));
     }
     let words = words_of(alloc, bytes)?;
     let text = disassemble(alloc, &words)?;

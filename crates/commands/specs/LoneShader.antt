@@ -1,0 +1,71 @@
+-- What `shader` answers: what a shader takes and reads, or the rule that refuses it, of the words that the input spells or assembles to.
+use Rattle.std.specs.Prelude.{◌≡◌, ◌⊎◌, ℕ, ◌≤◌, ◌<◌, Bool, List, [], ◌++◌, codes, length, Option, Some, None, Ok, Err, if◌then◌else◌}
+use Rattle.std.specs.Fmt.{decimal}
+use Rattle.std.specs.List.{flat_map}
+use Rattle.field_words.specs.Questions.{Question, IsFirst, first_of}
+use Rattle.field_words.specs.Sizes.{most_words}
+use Rattle.job_check.specs.Shaders.{words_of, code_questions, told_of}
+use Rattle.qpu_asm.specs.declared.fault.AsmFault.{AsmFault}
+use Rattle.qpu_asm.specs.Assembly.{Assembled}
+use Rattle.qpu_isa.specs.declared.inst.Sample.{Sample}
+use Rattle.qpu_isa.specs.Shader.{ShaderModel}
+use Rattle.shader_check.specs.declared.fault.ShaderFault.{ShaderFault}
+use Rattle.shader_check.specs.Rules.{shader_questions}
+use Rattle.commands.specs.Shader.{fault_text}
+
+-- the uniforms that a sample's set-up words are
+unfoldable pub position_text : Option ℕ → List ℕ
+position_text None = []
+position_text (Some position) = codes " " ++ decimal position
+
+-- a sample reads a texture, or a buffer at an address that the shader computed
+abbrev pub sample_name : Bool → List ℕ
+sample_name direct = if direct then codes "direct" else codes "texture"
+
+-- "texture 2 3"
+unfoldable pub sample_line : Sample → List ℕ
+sample_line sample = sample_name sample.direct ++ (flat_map position_text sample.p ++ codes "\n")
+
+-- "address 9"
+unfoldable pub address_line : ℕ → List ℕ
+address_line position = codes "address " ++ (decimal position ++ codes "\n")
+
+abbrev pub thread_count : Bool → ℕ
+thread_count threaded = if threaded then 2 else 1
+
+-- what is printed of a shader that no rule refuses: how many uniforms and threads it takes, and its samples and address words in order
+unfoldable pub head_text : ℕ → ℕ → List ℕ
+head_text uniforms threads = codes "accepted\nuniforms " ++ (decimal uniforms ++ (codes "\nthreads " ++ (decimal threads ++ codes "\n")))
+
+unfoldable pub shader_text : ShaderModel → List ℕ
+shader_text shader =
+    head_text shader.uniforms (thread_count shader.threaded) ++ (flat_map sample_line shader.samples ++ flat_map address_line shader.address_words)
+
+-- a line for the rule that refuses it, and the instruction
+unfoldable pub shader_refusal : ShaderFault → List ℕ
+shader_refusal fault = codes "refused S" ++ (decimal fault.number ++ (codes " at instruction " ++ (decimal fault.index ++ codes "\n")))
+
+-- a line for a text of too many instructions
+unfoldable pub long_text : ℕ → List ℕ
+long_text count = codes "instructions " ++ (decimal count ++ codes "\n")
+
+-- Where no rule stands it is told what the shader takes and reads; else it is refused by the first rule that does.
+abbrev pub IsShaderVerdict : List (Question ShaderFault) → List ℕ → Option ShaderFault → ℕ → List ℕ → Type 0
+IsShaderVerdict questions code None status text = (status ≡ 0) × (text ≡ shader_text (told_of code))
+IsShaderVerdict questions code (Some fault) status text = (status ≡ 1) × (text ≡ shader_refusal fault) × IsFirst questions fault
+
+-- the words that the bytes spell, 8 bytes each; the first rule is that they are whole words
+abbrev pub IsShaderAnswer : List ℕ → ℕ → List ℕ → Type 0
+IsShaderAnswer bytes status text = IsShaderVerdict (code_questions bytes) (words_of bytes) (first_of (code_questions bytes)) status text
+
+-- these words, of which there may be too many
+abbrev pub IsWordsAnswer : List ℕ → ℕ → List ℕ → Type 0
+IsWordsAnswer code status text =
+    ((length code ≤ most_words) × IsShaderVerdict (shader_questions code) code (first_of (shader_questions code)) status text)
+    ⊎ ((most_words < length code) × (status ≡ 1) × (text ≡ long_text (length code)))
+
+-- the words of a text without faults; any other text is answered as `asm` does, with its first fault
+abbrev pub IsShaderTextAnswer : List ℕ → ℕ → List ℕ → Type 0
+IsShaderTextAnswer text status out =
+    ((code : List ℕ) × (Assembled text ≡ Ok code) × IsWordsAnswer code status out)
+    ⊎ ((fault : AsmFault) × (Assembled text ≡ Err fault) × (status ≡ 1) × (out ≡ fault_text fault))

@@ -1,0 +1,203 @@
+//! The command `shader`: one shader, checked without a job.
+ghost use Rattle.std.specs.Prelude.{◌≡◌, ◌≤◌, ◌<◌, ◌++◌, length, IfOk, OnOk};
+ghost use Rattle.std.specs.Fmt.{decimal};
+ghost use Rattle.std.specs.List.{flat_map};
+ghost use Rattle.field_words.specs.Questions.{Answers, first_of};
+ghost use Rattle.field_words.specs.Sizes.{most_code, most_list, most_words};
+ghost use Rattle.job_check.specs.Shaders.{code_questions, told_of};
+ghost use Rattle.qpu_asm.specs.Assembly.{Assembled};
+ghost use Rattle.qpu_isa.specs.Shader.{shader_view};
+ghost use Rattle.shader_check.specs.Rules.{shader_questions};
+ghost use Rattle.commands.specs.Cause.{shader_cause, words_cause, text_cause};
+ghost use Rattle.commands.specs.LoneShader.{position_text, sample_line, address_line, thread_count, head_text, shader_text, shader_refusal, long_text, IsShaderAnswer, IsWordsAnswer, IsShaderTextAnswer};
+
+use super::answer::Answer;
+use super::cause::Cause;
+use super::shader_text::fault_text;
+use field_words::{MOST_WORDS, NoMemory, Stop};
+use itoa::Buffer;
+use job_check::shader_in;
+use qpu_asm::{assemble, fault_place};
+use qpu_isa::{Sample, ShaderInfo};
+use shader_check::{ShaderFault, check_code};
+use std::alloc::{AllocError, Global};
+
+fn put_number(out: &mut Vec<u8>, number: u32) -> Result<(), AllocError>
+    ensures { OnOk result (out.new.items ≡ out.old.items ++ decimal number) }
+{
+    let mut buffer = Buffer::new();
+    out.extend_from_slice(buffer.format(number).as_bytes())
+}
+
+#[tactic(auto, unfolding(crate::specs::LoneShader::position_text))]
+fn put_position(out: &mut Vec<u8>, position: Option<u32>) -> Result<(), AllocError>
+    ensures { OnOk result (out.new.items ≡ out.old.items ++ position_text position) }
+{
+    match position {
+        Some(position) => {
+            out.extend_from_slice(b" ")?;
+            put_number(out, position)
+        }
+        None => Ok(()),
+    }
+}
+
+fn put_positions(out: &mut Vec<u8>, positions: &[Option<u32>]) -> Result<(), AllocError>
+    ensures { OnOk result (out.new.items ≡ out.old.items ++ flat_map position_text positions.now) }
+{
+    for position in positions {
+        put_position(out, *position)?;
+    }
+    Ok(())
+}
+
+#[tactic(auto, unfolding(crate::specs::LoneShader::sample_line))]
+fn put_sample(out: &mut Vec<u8>, sample: &Sample) -> Result<(), AllocError>
+    ensures { OnOk result (out.new.items ≡ out.old.items ++ sample_line sample.now) }
+{
+    let name = if sample.direct { "direct" } else { "texture" };
+    out.extend_from_slice(name.as_bytes())?;
+    put_positions(out, &sample.p)?;
+    out.extend_from_slice(b"\n")
+}
+
+fn put_samples(out: &mut Vec<u8>, samples: &[Sample]) -> Result<(), AllocError>
+    ensures { OnOk result (out.new.items ≡ out.old.items ++ flat_map sample_line samples.now) }
+{
+    for sample in samples {
+        put_sample(out, sample)?;
+    }
+    Ok(())
+}
+
+#[tactic(auto, unfolding(crate::specs::LoneShader::address_line))]
+fn put_address(out: &mut Vec<u8>, position: u32) -> Result<(), AllocError>
+    ensures { OnOk result (out.new.items ≡ out.old.items ++ address_line position) }
+{
+    out.extend_from_slice(b"address ")?;
+    put_number(out, position)?;
+    out.extend_from_slice(b"\n")
+}
+
+fn put_addresses(out: &mut Vec<u8>, positions: &[u32]) -> Result<(), AllocError>
+    ensures { OnOk result (out.new.items ≡ out.old.items ++ flat_map address_line positions.now) }
+{
+    for position in positions {
+        put_address(out, *position)?;
+    }
+    Ok(())
+}
+
+fn thread_count(threaded: bool) -> u32
+    ensures { result ≡ thread_count threaded }
+{
+    if threaded { 2 } else { 1 }
+}
+
+#[tactic(auto, unfolding(crate::specs::LoneShader::head_text))]
+fn head_text(alloc: Global, uniforms: u32, threads: u32) -> Result<Vec<u8>, AllocError>
+    ensures { IfOk result (λ text. text.items ≡ head_text uniforms threads) }
+{
+    Ok(format!(in alloc; "accepted\nuniforms {uniforms}\nthreads {threads}\n")?.into_bytes())
+}
+
+// What is printed of an accepted shader.
+#[tactic(auto, unfolding(crate::specs::LoneShader::shader_text))]
+fn shader_text(alloc: Global, info: &ShaderInfo) -> Result<Vec<u8>, AllocError>
+    ensures { IfOk result (λ text. text.items ≡ shader_text (shader_view info.now)) }
+{
+    let mut text = head_text(alloc, info.uniforms, thread_count(info.threaded))?;
+    put_samples(&mut text, &info.samples)?;
+    put_addresses(&mut text, &info.address_words)?;
+    Ok(text)
+}
+
+#[tactic(auto, unfolding(crate::specs::LoneShader::shader_refusal))]
+fn shader_refusal(alloc: Global, fault: &ShaderFault) -> Result<Vec<u8>, AllocError>
+    ensures { IfOk result (λ text. text.items ≡ shader_refusal fault.now) }
+{
+    let number = fault.number;
+    let index = fault.index;
+    Ok(format!(in alloc; "refused S{number} at instruction {index}\n")?.into_bytes())
+}
+
+#[tactic(auto, unfolding(crate::specs::LoneShader::long_text))]
+fn long_text(alloc: Global, count: u64) -> Result<Vec<u8>, AllocError>
+    ensures { IfOk result (λ text. text.items ≡ long_text count) }
+{
+    Ok(format!(in alloc; "instructions {count}\n")?.into_bytes())
+}
+
+/// What `shader` answers to bytes: what the shader of the words that they spell takes and reads, or the first rule that stands of it.
+#[tactic(auto, using(field_words::proofs::Questions::first_is))]
+pub fn shader_answer(alloc: Global, bytes: &[u8]) -> Result<Answer, NoMemory>
+    requires { length bytes.now ≤ most_code }
+    ensures answers { IfOk result (λ a. IsShaderAnswer bytes.now a.status a.text.items) }
+    ensures status { IfOk result (λ a. a.status < 2) }
+    ensures cause { IfOk result (λ a. a.cause ≡ shader_cause (first_of (code_questions bytes.now))) }
+{
+    match shader_in(alloc, bytes) {
+        Ok(info) => {
+            let text = shader_text(alloc, &info)?;
+            Ok(Answer::done(text))
+        }
+        Err(Stop::Fault(fault)) => {
+            let text = shader_refusal(alloc, &fault)?;
+            Ok(Answer::refused(text, Some(Cause::Shader(fault))))
+        }
+        Err(Stop::NoMemory) => Err(NoMemory),
+    }
+}
+
+// The checker's answer, as it is told of a shader in a job.
+#[tactic(auto, unfolding(job_check::specs::Shaders::told_of))]
+fn checked(alloc: Global, code: &[u64]) -> Result<ShaderInfo, Stop<ShaderFault>>
+    requires { length code.now ≤ most_words }
+    ensures { Answers (shader_questions code.now) (λ info. shader_view info ≡ told_of code.now) result }
+{
+    check_code(alloc, code)
+}
+
+// What is answered to a shader of these words.
+#[tactic(auto, using(field_words::proofs::Questions::first_is))]
+fn words_answer(alloc: Global, code: &[u64]) -> Result<Answer, NoMemory>
+    ensures answers { IfOk result (λ a. IsWordsAnswer code.now a.status a.text.items) }
+    ensures status { IfOk result (λ a. a.status < 2) }
+    ensures cause { IfOk result (λ a. a.cause ≡ words_cause code.now) }
+{
+    if code.len() > MOST_WORDS as usize {
+        let count = code.len() as u64;
+        let text = long_text(alloc, count)?;
+        return Ok(Answer::refused(text, Some(Cause::Long(count))));
+    }
+    match checked(alloc, code) {
+        Ok(info) => {
+            let text = shader_text(alloc, &info)?;
+            Ok(Answer::done(text))
+        }
+        Err(Stop::Fault(fault)) => {
+            let text = shader_refusal(alloc, &fault)?;
+            Ok(Answer::refused(text, Some(Cause::Shader(fault))))
+        }
+        Err(Stop::NoMemory) => Err(NoMemory),
+    }
+}
+
+/// What `shader --asm` answers to a text: what the shader of its words takes and reads, the first rule that stands of it, or the text's
+/// first fault.
+pub fn shader_text_answer(alloc: Global, text: &[u8]) -> Result<Answer, NoMemory>
+    requires { length text.now ≤ most_list }
+    ensures answers { IfOk result (λ a. IsShaderTextAnswer text.now a.status a.text.items) }
+    ensures status { IfOk result (λ a. a.status < 2) }
+    ensures cause { IfOk result (λ a. a.cause ≡ text_cause text.now (Assembled text.now)) }
+{
+    match assemble(alloc, text) {
+        Ok(words) => words_answer(alloc, &words),
+        Err(Stop::Fault(fault)) => {
+            let out = fault_text(alloc, &fault)?;
+            let place = fault_place(alloc, text, fault)?;
+            Ok(Answer::refused(out, Some(Cause::Kind(fault, place))))
+        }
+        Err(Stop::NoMemory) => Err(NoMemory),
+    }
+}
