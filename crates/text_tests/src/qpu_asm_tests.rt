@@ -1,9 +1,10 @@
 //! Texts and words worked by hand, and the faults of texts.
 use field_words::Stop;
-use qpu_asm::{assemble, disassemble};
+use qpu_asm::{FaultPlace, assemble, disassemble, fault_place};
 use qpu_isa::{Inst, decode, encode, reads_uniform};
-use std::alloc::Global;
+use std::alloc::{AllocError, Global};
 use std::process::Abort;
+use std::test::Fail;
 
 // The first fault of a text, where it has one.
 fn fault_of(rt: &impl Abort, alloc: Global, text: &[u8]) -> Option<(u32, u8)> {
@@ -130,4 +131,61 @@ fn the_example_of_the_document(rt: HostRuntime) {
         ),
         Err(_) => panic!(rt; "no memory"),
     }
+}
+
+// Where the first fault of a text stands, and what was expected there, as text.
+fn place_of(rt: &impl Abort, alloc: Global, text: &[u8]) -> Result<String, AllocError> {
+    assert!(rt; text.len() < 4096);
+    match assemble(alloc, text) {
+        Err(Stop::Fault(fault)) => {
+            let FaultPlace { column, wanted } = fault_place(alloc, text, fault)?;
+            format!(in alloc; "{column} {wanted}")
+        }
+        _ => Ok(String::new(alloc)),
+    }
+}
+
+#[test]
+fn a_fault_has_a_column(rt: HostRuntime) -> Result<(), Fail> {
+    let alloc = rt.alloc();
+    for (text, wanted) in [
+        (b"nop\n".as_slice(), ""),
+        (
+            b"nop\n alu  sig=3  xx=1",
+            "13 there is no such item of alu, whose items are sig unpack pm pack ca cm sf ws wa wm om oa ra rb aa ab ma mb",
+        ),
+        (
+            b"nop ra=1",
+            "5 there is no such item of nop, whose items are",
+        ),
+        (
+            b"alu ra=1 oa=3",
+            "10 the item is repeated or out of order; the order is sig unpack pm pack ca cm sf ws wa wm om oa ra rb aa ab ma mb",
+        ),
+        (b"alu ra=64", "5 the value is a number from 0 to 63"),
+        (
+            b"alu ra",
+            "5 an item is a name, = and a value, without blanks",
+        ),
+        (
+            b"alu ca=8 oa=foo",
+            "10 the value is the name of an operation, or a number from 0 to 31",
+        ),
+        (
+            b"br to=A",
+            "4 the value is the name of a label that the text has",
+        ),
+        (b"A:\n  A:", "3 an earlier line has this label"),
+        (
+            b" 1:",
+            "2 a label is a letter and then letters, digits or _, and stands alone with its colon",
+        ),
+        (
+            b"  foo",
+            "3 an instruction begins with nop, alu, li or br, and a label ends with a colon",
+        ),
+    ] {
+        assert_eq!(rt; place_of(&rt, alloc, text)?.as_str(), wanted);
+    }
+    Ok(())
 }
