@@ -75,7 +75,7 @@ all_apart memory (b ∷ buffers) (c ∷ contents) tail each apart behind same ot
       omega (arith, inside, first.inside),
       from_one memory (buffer_item b) c buffers contents tail first small later (λ k below. apart 0 (suc k) (omega arith) (omega (arith, below))) rest (behind 0 (omega arith) c small),
       all_apart memory buffers contents tail later (λ j k less below. apart (suc j) (suc k) (omega (arith, less)) (omega (arith, below)))
-      (λ k below bytes fits. behind (suc k) (omega (arith, below)) bytes fits) rest others,
+          (λ k below bytes fits. behind (suc k) (omega (arith, below)) bytes fits) rest others,
     )
 
 -- The items of a file's table.

@@ -68,7 +68,6 @@ line_is place row small sixteen =
     ap (λ n. take 9 line ++ (shown ++ drop (9 + n) line)) twice
     ∙ ap (λ text. text ++ (codes " " ++ (shown ++ codes "\n"))) (place_is place small)
 
-
 -- the first rows, and those behind them up to a row
 pub rows_upto : (memory : List ℕ) (place row next : ℕ) → row ≤ next → rows_text memory place row ++ rows_text memory (place + 16 * row) (next - row) ≡ rows_text memory place next
 rows_upto memory place row next order =

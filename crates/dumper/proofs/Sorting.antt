@@ -39,8 +39,8 @@ placed_inserted m from size part (next ∷ parts) long fits ascend apart =
     elim (cases_lt part.place next.place) [
       | inl less ↦ ap (placed m) (put_before part next parts less)
       | inr order ↦ ap (placed m) (put_behind part next parts order)
-        ∙ placed_inserted (with_bytes m next.place next.bytes) (part_end next) size part parts (length-with_bytes m next.place next.bytes next_fits ∙ long) fits ascend.2 apart.1
-        ∙ ap (λ x. placed x parts) (sym (swapped m part.place next.place part.bytes next.bytes behind next_fits (bytes_apart part next apart.0)))
+          ∙ placed_inserted (with_bytes m next.place next.bytes) (part_end next) size part parts (length-with_bytes m next.place next.bytes next_fits ∙ long) fits ascend.2 apart.1
+          ∙ ap (λ x. placed x parts) (sym (swapped m part.place next.place part.bytes next.bytes behind next_fits (bytes_apart part next apart.0)))
     ]
 
 apart_inserted : (part other : Part) (parts : List Part) → RowsApart part other → ApartFrom part parts → ApartFrom part (inserted other parts)
@@ -71,7 +71,7 @@ ascend_inserted from size part [] ascend order row fits apart = (order, row, fit
 ascend_inserted from size part (next ∷ parts) ascend order row fits apart = elim (cases_lt part.place next.place) [
   | inl less ↦ subst (Ascend from size) (sym (put_before part next parts less)) (order, row, (ends_before part next apart.0 less, ascend.1, ascend.2))
   | inr behind ↦ subst (Ascend from size) (sym (put_behind part next parts behind))
-    (ascend.0, ascend.1, ascend_inserted (part_end next) size part parts ascend.2 (ends_behind part next apart.0 behind) row fits apart.1)
+      (ascend.0, ascend.1, ascend_inserted (part_end next) size part parts ascend.2 (ends_behind part next apart.0 behind) row fits apart.1)
 ]
 
 pub ascend_sorted : (size : ℕ) (parts : List Part) → AllApart size parts → Ascend 0 size (sorted parts)

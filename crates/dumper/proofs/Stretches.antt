@@ -9,7 +9,6 @@ use Rattle.field_words.specs.Writes.{Part, placed, with_bytes, zeros, emitted}
 use Rattle.field_words.proofs.Writes.{length-with_bytes, with_bytes-before, with_bytes-behind, with_bytes-inside, length_zeros}
 use Rattle.dumper.specs.Text.{row_at, row_text, row_line, rows_text, is_blank}
 use Rattle.dumper.specs.Parts.{part_rows, part_end, alone, part_text, parts_text, Ascend}
-
 use Rattle.dumper.proofs.Rows.{rows_on}
 
 -- the same bytes in two lists, from a place on
@@ -81,9 +80,9 @@ write_same a b at bytes k fits fits2 same = elim (cases_lt k at) [
   | inl before ↦ with_bytes-before a at bytes k fits before ∙ same ∙ sym (with_bytes-before b at bytes k fits2 before)
   | inr from ↦ elim (cases_lt k (at + length bytes)) [
     | inl inside ↦ let i : at + (k - at) ≡ k = omega (arith, from) in
-      let less : k - at < length bytes = omega (arith, inside, from) in
-      subst (λ j. get_or (with_bytes a at bytes) j 0 ≡ get_or (with_bytes b at bytes) j 0) i
-      (with_bytes-inside a at bytes (k - at) fits less ∙ sym (with_bytes-inside b at bytes (k - at) fits2 less))
+        let less : k - at < length bytes = omega (arith, inside, from) in
+        subst (λ j. get_or (with_bytes a at bytes) j 0 ≡ get_or (with_bytes b at bytes) j 0) i
+        (with_bytes-inside a at bytes (k - at) fits less ∙ sym (with_bytes-inside b at bytes (k - at) fits2 less))
     | inr behind ↦ with_bytes-behind a at bytes k fits behind ∙ same ∙ sym (with_bytes-behind b at bytes k fits2 behind)
   ]
 ]

@@ -139,7 +139,12 @@ pub fn put_part(place: u32, bytes: &[u8], row: usize, piece: &mut [u8]) -> Fille
     let mut next = row;
     let mut at = 0;
     while next < rows && at + ROW_LINE <= piece.len() {
-        at = put_row(piece, at, place + 16 * next as u32, &row_in(bytes, 16 * next));
+        at = put_row(
+            piece,
+            at,
+            place + 16 * next as u32,
+            &row_in(bytes, 16 * next),
+        );
         next += 1;
     }
     Filled { row: next, len: at }

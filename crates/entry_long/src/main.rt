@@ -28,7 +28,11 @@ impl Program for Short {
         _sink: &mut K,
     ) -> Ended<&'static str> {
         Ended {
-            status: if read_all(alloc, source, 16).is_ok() { 0 } else { 6 },
+            status: if read_all(alloc, source, 16).is_ok() {
+                0
+            } else {
+                6
+            },
             cause: None,
         }
     }

@@ -27,7 +27,11 @@ impl Program for Line {
         sink: &mut K,
     ) -> Ended<&'static str> {
         Ended {
-            status: if write_all(sink, b"run\n").is_ok() { 0 } else { 4 },
+            status: if write_all(sink, b"run\n").is_ok() {
+                0
+            } else {
+                4
+            },
             cause: None,
         }
     }

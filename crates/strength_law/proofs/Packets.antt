@@ -79,7 +79,6 @@ act_step jobs m u j lists packet at safe =
     let s : Lists = beyond lists (render_taken (slice_index m lists.renderer.place)) in
     subst (λ p. AllSafe jobs (renderer_of j) m (acted s [] p)) at.packet_is (render_step jobs m u j lists at.at safe).1
 
-
 refused_where : (Undefined : Lists → Packet → Type 0) → ((lists : Lists) (packet : Packet) → Undefined lists packet → (len : ℕ) → act (beyond lists len) [] packet ≡ Wilds) → IsRefusedPacket Undefined
 refused_where Undefined wild jobs m u j lists packet at is safe =
     let len : ℕ = render_taken (slice_index m lists.renderer.place) in
