@@ -86,8 +86,9 @@ fn row_in(bytes: &[u8], from: usize) -> [u8; 16]
     whole_row(bytes, from)
 }
 
-/// Puts the line of a row into a piece.
-#[inline]
+/// Puts the line of a row into a piece. It stands apart from the test for zeros, so that the row's bytes are loaded as one and not taken out
+/// of the number of the test.
+#[inline(never)]
 #[tactic(auto, using(crate::proofs::Rows::put_front))]
 fn put_line(piece: &mut [u8], at: usize, place: u32, row: &[u8; 16])
     requires { at + row_size ≤ length piece.old }
