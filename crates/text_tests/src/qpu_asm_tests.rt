@@ -152,7 +152,7 @@ fn a_fault_has_a_column(rt: HostRuntime) -> Result<(), Fail> {
         (b"nop\n".as_slice(), ""),
         (
             b"nop\n alu  sig=3  xx=1",
-            "13 there is no such item of alu, whose items are sig unpack pm pack ca cm sf ws wa wm om oa ra rb aa ab ma mb",
+            "14 there is no such item of alu, whose items are sig unpack pm pack ca cm sf ws wa wm om oa ra rb aa ab ma mb",
         ),
         (
             b"nop ra=1",
