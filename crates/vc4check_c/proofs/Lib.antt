@@ -1,5 +1,6 @@
 pub mod Blocks
 mod Fronts
+pub mod MayRun
 pub mod Telling
 pub mod Places
 mod Sizes

@@ -82,6 +82,16 @@ job_passes s at none =
       whole_words = grind (arith, rest.1.1.0);
     }
 
+-- where no rule of its own numbers stands, no shader is too long
+pub shaders_few : (s : Submission) → first_of (own_questions s) ≡ None
+    → (b : ℕ) (given : GivenBuffer) → slice_get s.buffers.now b ≡ Some given → length (content_in given) ≤ most_code
+unfolding own_questions
+shaders_few s none =
+    let buffers = s.buffers.now in
+    let n = none_stands (own_questions s) none in
+    let rest = stands_none (entries_questions buffers ++ job_questions_of s) n.1 in
+    entries_pass buffers (front_none (entries_questions buffers) (job_questions_of s) rest)
+
 -- A submission of whose own numbers no rule stands is a well-formed file.
 pub well_formed : (s : Submission) → first_of (own_questions s) ≡ None → IsWellFormed (file_of s)
 unfolding own_questions file_of
@@ -89,14 +99,13 @@ well_formed s none =
     let buffers = s.buffers.now in
     let n = none_stands (own_questions s) none in
     let rest = stands_none (entries_questions buffers ++ job_questions_of s) n.1 in
-    let entries = entries_pass buffers (front_none (entries_questions buffers) (job_questions_of s) rest) in
     record {
       a_version = omega arith;
       known = omega arith;
       first = λ is. absurd (omega (arith, is));
       slots = λ is some. omega arith;
       buffers = let few = length-map buffers entry_in in grind (arith, n.0, few);
-      code = all_fit buffers entries;
+      code = all_fit buffers (shaders_few s none);
       contents = as_long buffers;
       some_job = omega arith;
       few_jobs = omega arith;

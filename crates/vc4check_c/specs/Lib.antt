@@ -3,6 +3,7 @@ pub mod Block
 pub mod Bound
 pub mod Job
 pub mod Jobs
+pub mod MayRun
 pub mod Places
 pub mod Sentence
 pub mod Shader

@@ -1,0 +1,55 @@
+-- The job of an accepted submission may run over each memory that is prepared for it.
+use Rattle.std.proofs.Common.{◌≡◌, ◌==◌, ◌≤◌, ℕ, suc, Bool, true, false, List, [], ◌∷◌, length, map, refl, Some, None, arith, if◌then◌else◌}
+use Rattle.std.specs.List.{slice_get, AllByRecursion}
+use Rattle.field_words.specs.Questions.{first_of}
+use Rattle.field_words.specs.Sizes.{most_code}
+use Rattle.field_words.specs.Words.{IsBytes}
+use Rattle.field_words.proofs.Nones.{front_none, rest_none}
+use Rattle.job_format.specs.File.{BufferFits, Fits}
+use Rattle.job_check.specs.Faults.{place_stages}
+use Rattle.accepted_law.proofs.ByteTexts.{bytes_none}
+use Rattle.job_safety.proofs.Prepared.{prepared_jobs_law}
+use Rattle.vc4check_c.specs.declared.submission.GivenBuffer.{GivenBuffer}
+use Rattle.vc4check_c.specs.declared.submission.Submission.{Submission}
+use Rattle.vc4check_c.specs.Submission.{content_in, entry_in, file_of, own_questions}
+use Rattle.vc4check_c.specs.MayRun.{GivenFits, IsOfTypes, AcceptedSubmissionsMayRun}
+use Rattle.vc4check_c.proofs.Submissions.{shaders_few, well_formed}
+
+bytes_if : (stands : Bool) (bytes : List ℕ) → IsBytes bytes → IsBytes (if stands then bytes else [])
+bytes_if true bytes are = are
+bytes_if false bytes are = bytes_none
+
+content_bytes : (given : GivenBuffer) → GivenFits given → IsBytes (content_in given)
+unfolding content_in
+content_bytes given fits = bytes_if (given.kind == 1) given.content.now fits.content
+
+entry_fits : (given : GivenBuffer) → GivenFits given → length (content_in given) ≤ most_code → BufferFits (entry_in given)
+unfolding entry_in
+entry_fits given fits few = record { place = fits.address; size = fits.size; client = fits.client; content = omega (arith, few) }
+
+entries_fit : (buffers : List GivenBuffer) → AllByRecursion GivenFits buffers
+    → ((b : ℕ) (given : GivenBuffer) → slice_get buffers b ≡ Some given → length (content_in given) ≤ most_code)
+    → AllByRecursion BufferFits (map entry_in buffers)
+entries_fit [] fit few = tt
+entries_fit (given ∷ buffers) fit few = (entry_fits given fit.0 (few 0 given refl), entries_fit buffers fit.1 (λ b. few (suc b)))
+
+contents_fit : (buffers : List GivenBuffer) → AllByRecursion GivenFits buffers → AllByRecursion IsBytes (map content_in buffers)
+contents_fit [] fit = tt
+contents_fit (given ∷ buffers) fit = (content_bytes given fit.0, contents_fit buffers fit.1)
+
+fits : (s : Submission) → IsOfTypes s → first_of (own_questions s) ≡ None → Fits (file_of s)
+unfolding file_of
+fits s types none = record {
+  version = omega arith;
+  mem_size = types.end;
+  regions = record { lists_place = types.lists; lists_size = types.lists_size; tile_place = types.slot; tile_slots = omega arith };
+  buffers = entries_fit s.buffers.now types.buffers (shaders_few s none);
+  contents = contents_fit s.buffers.now types.buffers;
+  jobs = (types.job, tt);
+}
+
+pub accepted_submissions_law : AcceptedSubmissionsMayRun
+accepted_submissions_law s types none m prepared =
+    let f = file_of s in
+    let own = front_none (own_questions s) (place_stages f) none in
+    prepared_jobs_law f (well_formed s own) (fits s types own) (rest_none (own_questions s) (place_stages f) none) m prepared
