@@ -39,6 +39,10 @@ fn each_rule_has_words(rt: HostRuntime) -> Result<(), Fail> {
         assert!(rt; !has_words(stage, 0));
         assert!(rt; !has_words(stage, last + 1));
     }
+    for kind in [b"1", b"2", b"3", b"4", b"5"] {
+        assert!(rt; kind_named(kind).is_some());
+    }
+    assert!(rt; kind_named(b"0").is_none());
     Ok(())
 }
 
