@@ -1,19 +1,11 @@
 //! Whole runs: words, files, faults of source and sink, and the first rule that stands.
 ghost use Rattle.std.specs.Prelude.{◌≤◌, length};
 
-use crate::quiet::run;
 use field_words::put_u32;
 use job_io::{MemSink, MemSource, NullSink, SteadySource};
 use std::alloc::{AllocError, Global};
 use std::test::Fail;
-
-/// The smallest job: a tile of a buffer of one page, the lists at place 0.
-pub(crate) const SMALLEST: &str =
-    "5643344a01000000002008000000000000100000001000000100000001000000010000000010\
-    0800001000000100000000000000000000000100000000000000010000000000000000000000\
-    00000000000000001000100000000000ffffffff000000000000000000000000000000000400\
-    0000ffffffff0000000000000000ffffffff0000000000000000ffffffff0000000000000000\
-    ffffffff00000000000000000000000000000000000000000000000000000000";
+use test_runs::{SMALLEST, SMALLEST_TEXT, file, run, words};
 
 /// The same job with the lists at 0x1000, the tile slot at 0x2000, the buffer at 0x82000, and the
 /// surface 16 bytes into it.
@@ -30,26 +22,9 @@ const FRAME: &str = "5643344a010000000090870000000000001000000010000001000000010
     0000ffffffff0000000000000000ffffffff0000000000000000ffffffff0000000000000000\
     ffffffff0000000000000000ff8040ffff8040ffffffff000000000000000000";
 
-pub(crate) const SMALLEST_TEXT: &str =
-    "accepted\nmemory 532480\nbin 00000000 0\nrecords 00000000 0\n\
-    uniforms 00000000 0\nrender 00000000 15\nslot 00001000\n\
-    00000000 71001008001000100004007300001900\nend\n";
-
 const MOVED_TEXT: &str = "accepted\nmemory 536576\nbin 00001000 0\nrecords 00001000 0\n\
     uniforms 00001000 0\nrender 00001000 15\nslot 00002000\n\
     00001000 71102008001000100004007300001900\nend\n";
-
-pub(crate) fn file(alloc: Global, text: &str) -> Result<Vec<u8>, Fail> {
-    Ok(hex::decode(alloc, text)?)
-}
-
-pub(crate) fn words(alloc: Global, all: &[&str]) -> Result<Vec<String>, AllocError> {
-    let mut words = Vec::new(alloc);
-    for word in all {
-        words.push(String::from_str(alloc, word)?)?;
-    }
-    Ok(words)
-}
 
 // The status and the text of `check` on a file, in pieces of 100 bytes.
 #[test]

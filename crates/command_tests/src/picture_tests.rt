@@ -1,10 +1,10 @@
 //! Whole runs of `untile`, `tile` and `level`.
 
-use crate::quiet::run;
 use job_io::{MemSink, SteadySource};
 use std::alloc::Global;
 use std::ops::Range;
 use std::test::Fail;
+use test_runs::run;
 use texture_layouts::Tiling;
 use tile_convert::tile;
 

@@ -1,9 +1,9 @@
 //! The program that `main` runs.
-use super::file_tests::{SMALLEST, SMALLEST_TEXT, file, words};
 use commands::Checker;
 use entry::Program;
 use job_io::{MemSink, SteadySource};
 use std::test::Fail;
+use test_runs::{SMALLEST, SMALLEST_TEXT, file, words};
 
 // It answers as `run` does, and its words name a file where one more of them than a command takes does.
 #[test]

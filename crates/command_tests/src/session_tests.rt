@@ -1,9 +1,8 @@
 //! Sessions, and bounds on steps, by their commands.
-use crate::file_tests::{SMALLEST, file, words};
-use crate::quiet::run;
 use job_io::{MemSink, SteadySource};
 use std::alloc::Global;
 use std::test::Fail;
+use test_runs::{SMALLEST, file, run, words};
 
 /// The status and the text of a command on these bytes.
 fn answer(alloc: Global, command: &str, bytes: Vec<u8>) -> Result<(u8, Vec<u8>), Fail> {

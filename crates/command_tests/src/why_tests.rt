@@ -1,10 +1,9 @@
 //! What a person is told: why input is refused, and of rules.
 
-use super::file_tests::words;
-use crate::quiet::run_told;
 use job_io::{MemSink, NullSink, SteadySource};
 use std::alloc::{AllocError, Global};
 use std::test::Fail;
+use test_runs::{run_told, words};
 
 // The line of what these words answer to a text; it is empty where none comes.
 fn line(alloc: Global, all: &[&str], text: &[u8]) -> Result<String, AllocError> {

@@ -7,7 +7,7 @@ use Rattle.buffer_table.specs.Handles.{is_plain}
 use Rattle.qpu_isa.specs.declared.inst.Sample.{Sample}
 use Rattle.qpu_isa.specs.Shader.{ShaderModel, sample_at, position, first_position, address_at, IsSoundSample, IsSoundShader}
 use Rattle.shader_records.specs.Inputs.{AreShadersOf, shader_in}
-use Rattle.list_tests.specs.Examples.{HasThree}
+use Rattle.record_tests.specs.Examples.{HasThree}
 
 abbrev pub sample : Bool → Sample
 sample direct = record { p = Some 0 ∷ Some 1 ∷ None ∷ None ∷ []; direct = direct }

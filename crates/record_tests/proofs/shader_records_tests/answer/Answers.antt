@@ -1,7 +1,7 @@
 -- The shaders are those of the table.
 use Rattle.qpu_isa.specs.Shader.{shader_view}
-use Rattle.list_tests.proofs.Examples.{three_shaders}
-use Rattle.list_tests.proofs.shader_records_tests.answer.Goals as goal
+use Rattle.record_tests.proofs.Examples.{three_shaders}
+use Rattle.record_tests.proofs.shader_records_tests.answer.Goals as goal
 
 pub check_records-requires-clause-shaders : goal.check_records-requires-clause-shaders
 check_records-requires-clause-shaders c =

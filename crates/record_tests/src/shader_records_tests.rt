@@ -3,7 +3,7 @@ ghost use Rattle.std.specs.Prelude.{◌≡◌, ◌<◌, ◌≤◌, List, [], ◌
 ghost use Rattle.buffer_table.specs.Handles.{AreNumbersOf};
 ghost use Rattle.qpu_isa.specs.Shader.{shader_view, IsSoundShader};
 ghost use Rattle.shader_records.specs.Inputs.{AreShadersOf, shaders_view};
-ghost use Rattle.list_tests.specs.Examples.{HasThree};
+ghost use Rattle.record_tests.specs.Examples.{HasThree};
 
 use bin_list::State;
 use buffer_table::{Buffer, Handles, Kind, Regions, Table};

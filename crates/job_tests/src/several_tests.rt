@@ -1,11 +1,10 @@
 //! Files of several jobs: what `check`, `replay` and `upgrade` answer to them.
 
-use super::file_tests::{SMALLEST, SMALLEST_TEXT, file, words};
-use crate::quiet::run;
 use field_words::put_u32;
 use job_io::{MemSink, SteadySource};
 use std::alloc::Global;
 use std::test::Fail;
+use test_runs::{SMALLEST, SMALLEST_TEXT, file, run, words};
 
 /// Two jobs like the smallest, of clients 1 and 2, each with a buffer of its own.
 const PAIR: &str = "5643344a02000000003010000000000000100000001000000200000002000000020000000010\

@@ -2,10 +2,8 @@
 ghost use Rattle.std.specs.Prelude.{◌≤◌, ◌<◌};
 ghost use Rattle.replay.specs.Run.{MayChoose, IsBelow, MayAnswer};
 
-use super::file_tests::{SMALLEST, SMALLEST_TEXT, file, words};
 use super::job_tests::usual;
 use super::several_tests::TWO;
-use crate::quiet::run;
 use arrayvec::ArrayVec;
 use buffer_table::{Buffer, Kind};
 use example_job::make_job;
@@ -18,6 +16,7 @@ use relocation::{Layout, Lengths};
 use replay::{Oracle, enabled_units, unit_at, word_count};
 use std::alloc::Global;
 use std::test::Fail;
+use test_runs::{SMALLEST, SMALLEST_TEXT, file, run, words};
 
 /// The textured job of the other tests with a fragment shader that reads a buffer by an address: at least 0 and at most the first
 /// uniform, 4,092, and added to the second.

@@ -1,10 +1,10 @@
 //! Whole runs of `check` over jobs with binner lists: what is emitted, and which rule is named of several that stand.
 
-use crate::quiet::run;
 use field_words::put_u32;
 use job_io::{MemSink, SteadySource};
 use std::alloc::Global;
 use std::test::Fail;
+use test_runs::run;
 
 /// The job of examples/textured.txt: a triangle by indexes, with a texture and a uniform.
 const TEXTURED: &str =

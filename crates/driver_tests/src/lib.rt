@@ -1,0 +1,7 @@
+//! Tests of what a driver does for its clients: sessions, and bounds on the steps of jobs.
+#![tactic(auto)]
+
+#[cfg(test)]
+mod job_bound_tests;
+#[cfg(test)]
+mod job_session_tests;
