@@ -16,6 +16,6 @@ mod state_word;
 
 pub use config::{Config, config_in};
 pub use length::{bin_length, bin_taken, render_taken};
-pub use list::{put_packet, put_present};
+pub use list::{put_packet, put_present, put_slot};
 pub use packet::{Packet, decode};
 pub use state_word::{attribute_count, is_extended, record_room, record_size};

@@ -13,6 +13,7 @@ use crate::opcode::{
 use crate::packet::Packet;
 
 /// Puts bytes at a place of the window, and gives the place behind them.
+#[inline(always)]
 fn put(out: &mut [u8], at: usize, bytes: &[u8]) -> usize
     requires room { at + length bytes.now ≤ length out.old }
     ensures text { out.new ≡ with_bytes out.old at bytes.now }
@@ -24,6 +25,7 @@ fn put(out: &mut [u8], at: usize, bytes: &[u8]) -> usize
 }
 
 /// An opcode with a number of four bytes.
+#[inline(always)]
 fn put_word(out: &mut [u8], at: usize, opcode: u8, address: u32) -> usize
     requires room { at + 5 ≤ length out.old }
     ensures text { out.new ≡ with_bytes out.old at (opcode ∷ word address) }
@@ -34,6 +36,7 @@ fn put_word(out: &mut [u8], at: usize, opcode: u8, address: u32) -> usize
 }
 
 /// An opcode with a number of two bytes and one of four.
+#[inline(always)]
 fn put_half_word(out: &mut [u8], at: usize, opcode: u8, bits: u16, address: u32) -> usize
     requires room { at + 7 ≤ length out.old }
     ensures text { out.new ≡ with_bytes out.old at (opcode ∷ (half bits ++ word address)) }
@@ -107,6 +110,7 @@ fn put_clear_colors(
 }
 
 /// Puts a packet at a place of the window, and gives the place behind it.
+#[inline(always)]
 #[tactic(auto, unfolding(crate::specs::Packet::packet_text))]
 pub fn put_packet(out: &mut [u8], at: usize, packet: Packet) -> usize
     requires room { at + length (packet_text packet) ≤ length out.old }
@@ -145,8 +149,9 @@ pub fn put_packet(out: &mut [u8], at: usize, packet: Packet) -> usize
 }
 
 /// Puts the packet, where there is one, and gives the place behind it.
+#[inline(always)]
 #[tactic(auto, using(field_words::proofs::Writes::with_nothing))]
-fn put_slot(out: &mut [u8], at: usize, slot: Option<Packet>) -> usize
+pub fn put_slot(out: &mut [u8], at: usize, slot: Option<Packet>) -> usize
     requires room { at + length (slots_text (slot ∷ [])) ≤ length out.old }
     ensures text { out.new ≡ with_bytes out.old at (slots_text (slot ∷ [])) }
     ensures end { result ≡ at + length (slots_text (slot ∷ [])) }
