@@ -8,6 +8,7 @@ mod size;
 mod slots;
 mod surfaces;
 mod text;
+mod tile;
 
 pub use fault::{FrameRule, RenderFault};
 pub use setup::Setup;

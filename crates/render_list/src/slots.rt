@@ -4,7 +4,7 @@ ghost use Rattle.std.specs.Prelude.{◌≡◌, ◌⊎◌, ◌≤◌, ◌<◌, �
 ghost use Rattle.buffer_table.specs.Table.{most_place};
 ghost use Rattle.tile_memory.specs.Slots.{alloc_offset};
 ghost use Rattle.render_list.specs.Frame.{FitsAt, TileFits, full_place};
-ghost use Rattle.render_list.specs.Text.{number_where, packet_where, head_packet, clear_packet, clear_slots, load_packet, load_slot, wait_slot, list_place, list_slot, full_store, full_store_slot, zs_store, zs_store_slot, color_store, color_store_slot, is_there, more_after_multisample_zs, more_after_multisample_color, some_before_zs, some_before_color, coordinates_slot, load_slots, list_slots, write_slots, tile_slots};
+ghost use Rattle.render_list.specs.Text.{number_where, packet_where, head_packet, clear_packet, clear_slots, load_packet, load_slot, wait_slot, list_place, list_slot, full_store, full_store_slot, zs_store, zs_store_slot, color_store, color_store_slot, is_there, more_after_multisample_zs, more_after_multisample_color, some_before_zs, some_before_color, coordinates_slot, load_slots, list_slots, write_slots};
 
 use crate::frame::{
     COLOR_READ, COLOR_WRITE, MULTISAMPLE_COLOR, MULTISAMPLE_ZS, ZS_READ, ZS_WRITE, full_place,
@@ -39,6 +39,7 @@ pub struct Tile {
 }
 
 /// The number where the test is true, else 0.
+#[inline(always)]
 fn number_where(test: bool, number: u32) -> u32
     ensures { result ≡ number_where test number }
 {
@@ -46,6 +47,7 @@ fn number_where(test: bool, number: u32) -> u32
 }
 
 /// The packet where the test is true.
+#[inline(always)]
 fn packet_where(test: bool, packet: Packet) -> Option<Packet>
     ensures { result ≡ packet_where test packet }
 {
@@ -94,6 +96,7 @@ pub fn clear_slots(frame: &Frame) -> [Option<Packet>; 3]
 }
 
 /// The load of a tile of surface `k`, where it is present.
+#[inline(always)]
 #[tactic(auto, unfolding(crate::specs::Text::load_packet))]
 fn load_slot(
     frame: &Frame,
@@ -120,6 +123,7 @@ fn load_slot(
 }
 
 /// The wait for the binner, on the first tile where there is a binner list.
+#[inline(always)]
 fn wait_slot(frame: &Frame, tiles: Option<(u8, u8)>, tile: Tile) -> Option<Packet>
     ensures { result ≡ wait_slot frame.now tiles tile.x tile.y }
 {
@@ -131,6 +135,7 @@ fn wait_slot(frame: &Frame, tiles: Option<(u8, u8)>, tile: Tile) -> Option<Packe
 }
 
 /// Which tile of a grid with so many tiles across this is, row by row.
+#[inline(always)]
 fn tile_number(across: u8, tile: Tile) -> u32
     ensures value { result ≡ tile.y * across + tile.x }
     ensures limit { result < 65536 }
@@ -139,6 +144,7 @@ fn tile_number(across: u8, tile: Tile) -> u32
 }
 
 /// How many tiles a grid has.
+#[inline(always)]
 fn tile_count(grid: (u8, u8)) -> u32
     ensures value { result ≡ grid.0 * grid.1 }
     ensures limit { result ≤ 65025 }
@@ -147,6 +153,7 @@ fn tile_count(grid: (u8, u8)) -> u32
 }
 
 /// Where the tile's list begins in the tile slot.
+#[inline(always)]
 #[tactic(auto, unfolding(crate::specs::Text::list_place))]
 fn list_place(grid: (u8, u8), slot: u32, tile: Tile) -> u32
     requires { slot ≤ most_place }
@@ -156,6 +163,7 @@ fn list_place(grid: (u8, u8), slot: u32, tile: Tile) -> u32
 }
 
 /// The branch to the tile's own list, where there is a binner list.
+#[inline(always)]
 fn list_slot(tiles: Option<(u8, u8)>, slot: u32, tile: Tile) -> Option<Packet>
     requires { IsSome tiles → slot ≤ most_place }
     ensures { result ≡ list_slot tiles slot tile.x tile.y }
@@ -167,6 +175,7 @@ fn list_slot(tiles: Option<(u8, u8)>, slot: u32, tile: Tile) -> Option<Packet>
 }
 
 /// Whether the surface is there.
+#[inline(always)]
 fn is_there(setup: &Setup, k: usize) -> bool
     requires { k < 6 }
     ensures { result ≡ is_there setup.now.places k }
@@ -175,6 +184,7 @@ fn is_there(setup: &Setup, k: usize) -> bool
 }
 
 /// Whether a write follows the one of multisample ZS.
+#[inline(always)]
 #[tactic(auto, unfolding(crate::specs::Text::more_after_multisample_zs))]
 fn more_after_multisample_zs(setup: &Setup) -> bool
     ensures { result ≡ more_after_multisample_zs setup.now.places }
@@ -183,6 +193,7 @@ fn more_after_multisample_zs(setup: &Setup) -> bool
 }
 
 /// Whether a write follows the one of multisample colour.
+#[inline(always)]
 #[tactic(auto, unfolding(crate::specs::Text::more_after_multisample_color))]
 fn more_after_multisample_color(setup: &Setup) -> bool
     ensures { result ≡ more_after_multisample_color setup.now.places }
@@ -191,6 +202,7 @@ fn more_after_multisample_color(setup: &Setup) -> bool
 }
 
 /// Whether a write comes before the one of ZS.
+#[inline(always)]
 #[tactic(auto, unfolding(crate::specs::Text::some_before_zs))]
 fn some_before_zs(setup: &Setup) -> bool
     ensures { result ≡ some_before_zs setup.now.places }
@@ -199,6 +211,7 @@ fn some_before_zs(setup: &Setup) -> bool
 }
 
 /// Whether a write comes before the one of colour.
+#[inline(always)]
 #[tactic(auto, unfolding(crate::specs::Text::some_before_color))]
 fn some_before_color(setup: &Setup) -> bool
     ensures { result ≡ some_before_color setup.now.places }
@@ -207,6 +220,7 @@ fn some_before_color(setup: &Setup) -> bool
 }
 
 /// The coordinates, where write `k` is there and another came before it.
+#[inline(always)]
 fn coordinates_slot(setup: &Setup, k: usize, some_before: bool, tile: Tile) -> Option<Packet>
     requires { k < 6 }
     ensures { result ≡ coordinates_slot setup.now.places k some_before tile.x tile.y }
@@ -221,6 +235,7 @@ fn coordinates_slot(setup: &Setup, k: usize, some_before: bool, tile: Tile) -> O
 }
 
 /// The store of a tile of surface `k`, one of those in full resolution, where it is present.
+#[inline(always)]
 #[tactic(auto, unfolding(crate::specs::Text::full_store, crate::specs::Frame::is_full))]
 fn full_store_slot(
     frame: &Frame,
@@ -244,6 +259,7 @@ fn full_store_slot(
 }
 
 /// The store of depth and stencil, where they are present.
+#[inline(always)]
 #[tactic(auto, unfolding(crate::specs::Text::zs_store))]
 fn zs_store_slot(frame: &Frame, place: Option<u32>, more: bool, tile: Tile) -> Option<Packet>
     ensures { result ≡ zs_store_slot frame.now place more tile.x tile.y }
@@ -257,6 +273,7 @@ fn zs_store_slot(frame: &Frame, place: Option<u32>, more: bool, tile: Tile) -> O
 }
 
 /// The store of colour, where it is present.
+#[inline(always)]
 #[tactic(auto, unfolding(crate::specs::Text::color_store))]
 fn color_store_slot(frame: &Frame, place: Option<u32>, tile: Tile) -> Option<Packet>
     ensures { result ≡ color_store_slot frame.now place tile.x tile.y }
@@ -270,8 +287,9 @@ fn color_store_slot(frame: &Frame, place: Option<u32>, tile: Tile) -> Option<Pac
 }
 
 /// The loads of a tile.
+#[inline(always)]
 #[tactic(auto, unfolding(crate::specs::Text::load_slots))]
-fn load_slots(frame: &Frame, setup: &Setup, tile: Tile) -> [Option<Packet>; 4]
+pub fn load_slots(frame: &Frame, setup: &Setup, tile: Tile) -> [Option<Packet>; 4]
     requires { TileFits frame.now setup.now.places tile.x tile.y }
     ensures { result ≡ load_slots frame.now setup.now.places tile.x tile.y }
 {
@@ -295,8 +313,14 @@ fn load_slots(frame: &Frame, setup: &Setup, tile: Tile) -> [Option<Packet>; 4]
 }
 
 /// The coordinates of a tile, and its list.
+#[inline(always)]
 #[tactic(auto, unfolding(crate::specs::Text::list_slots))]
-fn list_slots(frame: &Frame, tiles: Option<(u8, u8)>, slot: u32, tile: Tile) -> [Option<Packet>; 3]
+pub fn list_slots(
+    frame: &Frame,
+    tiles: Option<(u8, u8)>,
+    slot: u32,
+    tile: Tile,
+) -> [Option<Packet>; 3]
     requires { IsSome tiles → slot ≤ most_place }
     ensures { result ≡ list_slots frame.now tiles slot tile.x tile.y }
 {
@@ -312,8 +336,9 @@ fn list_slots(frame: &Frame, tiles: Option<(u8, u8)>, slot: u32, tile: Tile) -> 
 }
 
 /// The writes of a tile.
+#[inline(always)]
 #[tactic(auto, unfolding(crate::specs::Text::write_slots))]
-fn write_slots(frame: &Frame, setup: &Setup, tile: Tile) -> [Option<Packet>; 7]
+pub fn write_slots(frame: &Frame, setup: &Setup, tile: Tile) -> [Option<Packet>; 7]
     requires { TileFits frame.now setup.now.places tile.x tile.y }
     ensures { result ≡ write_slots frame.now setup.now.places tile.x tile.y }
 {
@@ -334,23 +359,4 @@ fn write_slots(frame: &Frame, setup: &Setup, tile: Tile) -> [Option<Packet>; 7]
         coordinates_slot(setup, COLOR_WRITE, some_before_color(setup), tile),
         color_store_slot(frame, setup.place_of(COLOR_WRITE), tile),
     ]
-}
-
-/// The fourteen slots of a tile.
-#[tactic(auto, unfolding(crate::specs::Text::tile_slots))]
-pub fn tile_slots(
-    frame: &Frame,
-    setup: &Setup,
-    tiles: Option<(u8, u8)>,
-    slot: u32,
-    tile: Tile,
-) -> [Option<Packet>; 14]
-    requires fits { TileFits frame.now setup.now.places tile.x tile.y }
-    requires slot { IsSome tiles → slot ≤ most_place }
-    ensures { result ≡ tile_slots frame.now setup.now.places tiles slot tile.y tile.x }
-{
-    let [l0, l1, l2, l3] = load_slots(frame, setup, tile);
-    let [c0, c1, c2] = list_slots(frame, tiles, slot, tile);
-    let [w0, w1, w2, w3, w4, w5, w6] = write_slots(frame, setup, tile);
-    [l0, l1, l2, l3, c0, c1, c2, w0, w1, w2, w3, w4, w5, w6]
 }

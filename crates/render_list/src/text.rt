@@ -3,33 +3,16 @@ ghost use Rattle.std.specs.Prelude.{◌≡◌, ◌≤◌, ◌<◌, ◌+◌, ◌�
 ghost use Rattle.buffer_table.specs.Table.{most_place};
 ghost use Rattle.field_words.specs.Writes.{with_bytes};
 ghost use Rattle.packets.specs.Packet.{slots_text};
-ghost use Rattle.render_list.specs.Frame.{TileFits, IsSetupFor};
+ghost use Rattle.render_list.specs.Frame.{IsSetupFor};
 ghost use Rattle.render_list.specs.Length.{render_length};
-ghost use Rattle.render_list.specs.Text.{head_packet, clear_slots, front_slots, tile_slots, row_slots, all_tile_slots, render_slots, render_text, HasRoom, Puts};
+ghost use Rattle.render_list.specs.Text.{head_packet, clear_slots, front_slots, row_slots, all_tile_slots, render_slots, render_text, HasRoom, Puts};
 
 use crate::setup::Setup;
-use crate::slots::{Tile, clear_slots, head_packet, tile_slots};
+use crate::slots::{Tile, clear_slots, head_packet};
+use crate::tile::put_tile;
 use job_format::Frame;
-use packets::{put_packet, put_present};
+use packets::put_present;
 use relocation::Layout;
-
-/// All of a tile.
-fn put_tile(
-    out: &mut [u8],
-    at: usize,
-    frame: &Frame,
-    setup: &Setup,
-    tiles: Option<(u8, u8)>,
-    slot: u32,
-    tile: Tile,
-) -> usize
-    requires fits { TileFits frame.now setup.now.places tile.x tile.y }
-    requires slot { IsSome tiles → slot ≤ most_place }
-    requires room { HasRoom out.old at (tile_slots frame.now setup.now.places tiles slot tile.y tile.x) }
-    ensures { Puts (tile_slots frame.now setup.now.places tiles slot tile.y tile.x) out.old at out.new result }
-{
-    put_present(out, at, &tile_slots(frame, setup, tiles, slot, tile))
-}
 
 /// The tiles of row `y`, from left to right.
 fn put_row(
