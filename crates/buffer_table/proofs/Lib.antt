@@ -1,5 +1,6 @@
 pub mod Laxer
 pub mod Named
+pub mod Ordered
 pub mod Order
 pub mod Bits
 pub mod Sounds

@@ -1,5 +1,6 @@
 -- A memory table without faults is sound.
 use Rattle.std.proofs.Common.{◌≡◌, ℕ, suc, ◌+◌, ◌-◌, ◌<◌, ◌≤◌, map, min, max, false, List, length, take, get_or, None, sym, ap, subst, arith, ◌∙◌}
+use Rattle.std.specs.List.{list_any}
 use Rattle.std.proofs.lemmas.List.{get_or-take, get_or-map, get_or_read, get_or_default, length-map}
 use Rattle.std.proofs.lemmas.Bool.{ltb-false}
 use Rattle.std.proofs.lemmas.List.Folds.{list_any_at}
@@ -29,6 +30,11 @@ apart_of memory x y none sound_x sound_y =
     let some_x = sound_x.not_empty in
     let some_y = sound_y.not_empty in
     grind (arith, past, some_x, some_y)
+
+-- An item that passes M4 has no byte of an earlier one.
+pub apart_item : (memory : ℕ) (items : List Item) (k : ℕ) → first_of (item_questions memory items k) ≡ None → list_any (shares (item_at items k)) (take k items) ≡ false
+unfolding item_questions
+apart_item memory items k none = let asked = none_stands (item_questions memory items k) none in grind (arith, asked.1.1.0)
 
 -- Of an item that passes M4, every earlier one is apart.
 apart_items : (memory : ℕ) (items : List Item) (j k : ℕ) → first_of (item_questions memory items k) ≡ None → j < k → k < length items

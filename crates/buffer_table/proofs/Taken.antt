@@ -10,7 +10,8 @@ use Rattle.buffer_table.specs.declared.item.Item.{Item}
 use Rattle.buffer_table.specs.Table.{ShareByte, SharingMeansByte, shares, item_at, no_item, is_off_page}
 use Rattle.buffer_table.specs.Sound.{IsSoundItem}
 use Rattle.buffer_table.specs.Pages.{page_bit, TakesPage, IsFree, Takes, first_page, end_page, IsWhole, IsWholeIn, Owns, AreTaken}
-use Rattle.buffer_table.specs.Earlier.{EndBefore}
+use Rattle.buffer_table.specs.declared.places.Order.{Order}
+use Rattle.buffer_table.specs.Earlier.{SharesOrdered, IsApartOrdered}
 
 -- two items that have a page have a byte
 page_shared : (x y : Item) (page : ℕ) → IsWhole x → IsWhole y → first_page x ≤ page → page < end_page x → first_page y ≤ page → page < end_page y → shares x y ≡ true
@@ -107,12 +108,16 @@ whole_below memory x limit whole =
     let inside = whole.inside in
     record { place = whole.place; size = whole.size; not_empty = whole.not_empty; inside = omega (arith, inside, limit) }
 
--- an item is apart from one that ends before it
-ends_before : (x y : Item) → y.place + y.size ≤ x.place → shares x y ≡ false
+-- an item is apart from one that ends before it, and from one that begins behind it
+pub ends_before : (x y : Item) → y.place + y.size ≤ x.place → shares x y ≡ false
 unfolding shares
 ends_before x y before = grind (arith, nat_tests, before)
 
--- behind the buffers before item k only the regions may have a byte of it
+pub begins_behind : (x y : Item) → x.place + x.size ≤ y.place → shares x y ≡ false
+unfolding shares
+begins_behind x y behind = grind (arith, nat_tests, behind)
+
+-- where no buffer before item k has a byte of it, the regions decide; and where one of the regions has, that settles it
 regions_decide : (x : Item) (items : List Item) (m : ℕ) → m + 2 ≤ length items → ((j : ℕ) → 2 ≤ j → j < m + 2 → shares x (item_at items j) ≡ false)
     → list_any (shares x) (take (m + 2) items) ≡ list_any (shares x) (take 2 items)
 regions_decide x items zero inside none = refl
@@ -122,16 +127,42 @@ regions_decide x items (suc m) inside none =
     let more = list_any_more (shares x) items (m + 2) no_item (omega (arith, inside)) in
     grind (arith, more, here, less)
 
-pub shared_behind : (end k : ℕ) (x : Item) (items : List Item) → EndBefore end items k → k ≤ length items → end ≤ x.place
-    → list_any (shares x) (take (min k 2) items) ≡ list_any (shares x) (take k items)
-shared_behind end k x items before inside behind = elim (cases_lt k 2) [
-  | inl few ↦ ap (λ n. list_any (shares x) (take n items)) (let e : min k 2 ≡ k = omega (arith, few) in e)
+regions_settle : (x : Item) (items : List Item) (m : ℕ) → m + 2 ≤ length items → list_any (shares x) (take 2 items) ≡ true → list_any (shares x) (take (m + 2) items) ≡ true
+regions_settle x items zero inside taken = taken
+regions_settle x items (suc m) inside taken =
+    let less = regions_settle x items m (omega (arith, inside)) taken in
+    let more = list_any_more (shares x) items (m + 2) no_item (omega (arith, inside)) in
+    grind (arith, more, less)
+
+-- The regions and the buffers in order are the items before item k.
+pub regions_share : (k : ℕ) (x : Item) (items : List Item) → k ≤ length items → list_any (shares x) (take (min k 2) items) ≡ true → true ≡ list_any (shares x) (take k items)
+regions_share k x items inside taken = elim (cases_lt k 2) [
+  | inl few ↦ sym (subst (λ n. list_any (shares x) (take n items) ≡ true) (let e : min k 2 ≡ k = omega (arith, few) in e) taken)
   | inr many ↦
-      let apart : (j : ℕ) → 2 ≤ j → j < k - 2 + 2 → shares x (item_at items j) ≡ false =
-      λ j from below. ends_before x (item_at items j) (omega (arith, before j from (omega (arith, below, many)), behind)) in
-      ap (λ n. list_any (shares x) (take n items)) (let e : min k 2 ≡ 2 = omega (arith, many) in e)
-      ∙ sym (regions_decide x items (k - 2) (omega (arith, inside, many)) apart)
-      ∙ ap (λ n. list_any (shares x) (take n items)) (let e : k - 2 + 2 ≡ k = omega (arith, many) in e)
+      let two : list_any (shares x) (take 2 items) ≡ true = subst (λ n. list_any (shares x) (take n items) ≡ true) (let e : min k 2 ≡ 2 = omega (arith, many) in e) taken in
+      sym (subst (λ n. list_any (shares x) (take n items) ≡ true) (let e : k - 2 + 2 ≡ k = omega (arith, many) in e) (regions_settle x items (k - 2) (omega (arith, inside, many)) two))
+]
+
+pub buffers_share : (order : Order) (k : ℕ) (x : Item) (items : List Item) (ordered : Bool) → order.count ≡ k - 2 → k ≤ length items
+    → list_any (shares x) (take (min k 2) items) ≡ false → (ordered ≡ true → SharesOrdered order items x) → (ordered ≡ false → IsApartOrdered order items x)
+    → ordered ≡ list_any (shares x) (take k items)
+buffers_share order k x items true counts inside none taken free =
+    let other = taken refl in
+    sym (any_of x items k other.item (omega (arith, other.first, other.buffer, counts)) inside other.taken)
+buffers_share order k x items false counts inside none taken free = elim (cases_lt k 2) [
+  | inl few ↦ sym (subst (λ n. list_any (shares x) (take n items) ≡ false) (let e : min k 2 ≡ k = omega (arith, few) in e) none)
+  | inr many ↦
+      let apart : (j : ℕ) → 2 ≤ j → j < k - 2 + 2 → shares x (item_at items j) ≡ false = λ j from below. free refl j from (omega (arith, below, counts)) in
+      let two : list_any (shares x) (take 2 items) ≡ false = subst (λ n. list_any (shares x) (take n items) ≡ false) (let e : min k 2 ≡ 2 = omega (arith, many) in e) none in
+      sym (subst (λ n. list_any (shares x) (take n items) ≡ false) (let e : k - 2 + 2 ≡ k = omega (arith, many) in e)
+      (regions_decide x items (k - 2) (omega (arith, inside, many)) apart ∙ two))
+]
+
+-- none of the first items has a byte of one that shares none with them
+pub apart_first : (x : Item) (items : List Item) (k : ℕ) → k ≤ length items → list_any (shares x) (take k items) ≡ false → (j : ℕ) → j < k → shares x (item_at items j) ≡ false
+apart_first x items k inside none j before = elim (cases_Bool (shares x (item_at items j))) [
+  | inl is ↦ absurd (let wrong : true ≡ false = sym (any_of x items k j before inside is) ∙ none in cc)
+  | inr not ↦ not
 ]
 
 -- an item of those up to item k that has a page which item k has not

@@ -1,17 +1,55 @@
 -- What is known of the items before one, by which is found whether it has a byte of them. No part of what the crate claims.
-use Rattle.std.specs.Prelude.{ℕ, ◌+◌, ◌≤◌, ◌<◌, List}
+use Rattle.std.specs.Prelude.{◌≡◌, ℕ, ◌+◌, ◌-◌, ◌≤◌, ◌<◌, true, false, List, length, slice_index}
 use Rattle.field_words.specs.Sizes.{most_memory}
 use Rattle.buffer_table.specs.declared.item.Earlier.{Earlier}
-use Rattle.buffer_table.specs.declared.item.Earlier.TheVariants.{Pages, End}
+use Rattle.buffer_table.specs.declared.item.Earlier.TheVariants.{Pages, Ordered}
 use Rattle.buffer_table.specs.declared.item.Item.{Item}
-use Rattle.buffer_table.specs.Table.{item_at}
+use Rattle.buffer_table.specs.declared.places.Order.{Order}
+use Rattle.buffer_table.specs.Table.{item_at, shares}
 use Rattle.buffer_table.specs.Pages.{AreTaken}
 
--- no buffer before item k ends behind the place; items 0 and 1 are the regions
-abbrev pub EndBefore : ℕ → List Item → ℕ → Type 0
-EndBefore end items k = (j : ℕ) → 2 ≤ j → j < k → (item_at items j).place + (item_at items j).size ≤ end
+-- an item stands somewhere among those of an order
+pub record IsAmong (order : Order) (item : ℕ) : Type 0 where
+  pub place : ℕ
+  pub inside : place < order.count
+  pub is : slice_index order.numbers place ≡ item
 
--- the pages of the items before item k are taken, in a memory of at most 64 MiB; or no buffer of them ends behind the place
+-- The order has the items of the first buffers, from item 2 on, since items 0 and 1 are the regions: each of them ends before the next one
+-- begins.
+pub record IsOrder (order : Order) (items : List Item) : Type 0 where
+  pub few : order.count ≤ 1024
+  pub room : order.count + 2 ≤ length items
+  pub buffers : (i : ℕ) → i < order.count → 2 ≤ slice_index order.numbers i
+  pub first : (i : ℕ) → i < order.count → slice_index order.numbers i < order.count + 2
+  pub some : (i : ℕ) → i < order.count → 0 < (item_at items (slice_index order.numbers i)).size
+  pub ascends : (i j : ℕ) → i < j → j < order.count
+      → (item_at items (slice_index order.numbers i)).place + (item_at items (slice_index order.numbers i)).size ≤ (item_at items (slice_index order.numbers j)).place
+  pub each : (item : ℕ) → 2 ≤ item → item < order.count + 2 → IsAmong order item
+
+-- so many of its items begin below a place, and the others don't
+pub record CountsBelow (order : Order) (items : List Item) (place n : ℕ) : Type 0 where
+  pub inside : n ≤ order.count
+  pub below : (i : ℕ) → i < n → (item_at items (slice_index order.numbers i)).place < place
+  pub behind : (i : ℕ) → n ≤ i → i < order.count → place ≤ (item_at items (slice_index order.numbers i)).place
+
+-- one of its items has a byte of x
+pub record SharesOrdered (order : Order) (items : List Item) (x : Item) : Type 0 where
+  pub item : ℕ
+  pub buffer : 2 ≤ item
+  pub first : item < order.count + 2
+  pub taken : shares x (item_at items item) ≡ true
+
+-- none of them has
+abbrev pub IsApartOrdered : Order → List Item → Item → Type 0
+IsApartOrdered order items x = (item : ℕ) → 2 ≤ item → item < order.count + 2 → shares x (item_at items item) ≡ false
+
+-- a number stands at a place, and the numbers from there on, up to the count, stand one further
+pub record IsInserted (old new : List ℕ) (count at number : ℕ) : Type 0 where
+  pub before : (i : ℕ) → i < at → slice_index new i ≡ slice_index old i
+  pub here : slice_index new at ≡ number
+  pub behind : (i : ℕ) → at ≤ i → i < count → slice_index new (i + 1) ≡ slice_index old i
+
+-- the pages of the items before item k are taken, in a memory of at most 64 MiB; or those of them that are buffers are in order
 abbrev pub AreEarlier : Earlier → ℕ → List Item → ℕ → Type 0
 AreEarlier (Pages pages) memory items k = (memory ≤ most_memory) × AreTaken pages items k
-AreEarlier (End end) memory items k = EndBefore end items k
+AreEarlier (Ordered order) memory items k = (order.count ≡ k - 2) × IsOrder order items

@@ -39,7 +39,7 @@ pub struct Regions {
 /// The rules of the memory table, in the order in which they are asked.
 #[derive(Clone, Copy, Debug, PartialEq, Eq)]
 pub enum TableRule {
-    /// The memory's size is 0, no multiple of a page, or over 64 MiB.
+    /// The memory's size is 0, no multiple of a page, or over the limit.
     MemorySize,
     /// A place or size is no multiple of a page, or the size is 0.
     OffPage,
@@ -68,7 +68,8 @@ impl TableRule {
     /// What the rule says.
     pub fn sentence(self) -> &'static str {
         match self {
-            TableRule::MemorySize => "the memory's size is 0, no multiple of 4,096, or over 64 MiB",
+            TableRule::MemorySize =>
+                "the memory's size is 0, no multiple of 4,096, or over the limit (64 MiB in a file, 0xFF000000 for a driver)",
             TableRule::OffPage => "a place or size is no multiple of 4,096, or the size is 0",
             TableRule::OutsideMemory => "it ends past the memory",
             TableRule::SharedByte => "a byte of it lies in an earlier item",

@@ -1,13 +1,14 @@
 //! The items of a memory table as intervals, and the rules that each of them keeps.
-ghost use Rattle.std.specs.Prelude.{◌≡◌, ◌+◌, ◌*◌, ◌<◌, ◌≤◌, true, false, Some, IfNone, length, take};
+ghost use Rattle.std.specs.Prelude.{◌≡◌, ◌+◌, ◌-◌, ◌*◌, ◌<◌, ◌≤◌, true, false, Some, IfNone, length, take};
 ghost use Rattle.std.specs.List.{list_any};
 ghost use Rattle.field_words.specs.Questions.{first_of, each};
-ghost use Rattle.buffer_table.specs.Earlier.{AreEarlier};
+ghost use Rattle.buffer_table.specs.Earlier.{AreEarlier, IsOrder};
 ghost use Rattle.buffer_table.specs.Pages.{TakesPage, IsFree, Takes, IsWhole, IsWholeIn, first_page, end_page};
 ghost use Rattle.buffer_table.specs.Table.{lists_item, tile_item, buffer_item, is_off_page, shares, item_questions, items_questions, memory_within, table_within, items_of, item_at, fault};
 
 use crate::buffer::{Buffer, Regions, TableFault, TableRule};
 use crate::pages::{WORDS, is_taken, take_pages};
+use crate::places::{MOST, Order, insert, shares_ordered};
 use field_words::{MOST_MEMORY, PAGE_SIZE, SLOT_SIZE};
 
 /// `size` bytes of the memory from `place` on, of which the file gives the first `content`.
@@ -23,8 +24,8 @@ pub struct Item {
 enum Earlier {
     /// The pages that they take, in a memory of at most 64 MiB.
     Pages([u64; WORDS]),
-    /// The place behind which none of their buffers ends, in any memory.
-    End(u64),
+    /// Those of them that are buffers, by ascending place, in any memory.
+    Ordered(Order),
 }
 
 /// The size of a page, of which each place and size is a multiple.
@@ -69,7 +70,7 @@ fn is_off_page(x: &Item) -> bool
 }
 
 /// Item `k` of a table: the lists' region, the tile region, and then the buffers.
-fn item_at(regions: &Regions, buffers: &[Buffer], k: usize) -> Item
+pub(crate) fn item_at(regions: &Regions, buffers: &[Buffer], k: usize) -> Item
     requires inside { k < length buffers.now + 2 }
     ensures { result ≡ item_at (items_of regions.now buffers.now) k }
 {
@@ -128,7 +129,7 @@ fn take_item(pages: &mut [u64; WORDS], x: &Item)
 
 /// Whether some byte lies in both.
 #[tactic(auto, unfolding(crate::specs::Table::shares))]
-fn shares(x: &Item, y: &Item) -> bool
+pub(crate) fn shares(x: &Item, y: &Item) -> bool
     ensures { result ≡ shares x.now y.now }
 {
     let x_end = u128::from(x.place) + u128::from(x.size);
@@ -156,11 +157,27 @@ fn no_earlier(mem_size: u32, regions: &Regions, buffers: &[Buffer]) -> Earlier
     if mem_size <= MOST_MEMORY {
         return Earlier::Pages([0; WORDS]);
     }
-    Earlier::End(0)
+    Earlier::Ordered(Order {
+        numbers: [0; MOST],
+        count: 0,
+    })
 }
 
-/// Whether an item before item `k` has a byte of it. Where no buffer before it ends behind its place, as where the buffers stand in
-/// order of their places, it is compared with the two regions alone.
+/// Whether one of the two regions, as far as they come before item `k`, or one of the buffers in order has a byte of it.
+fn shares_earlier(order: &Order, regions: &Regions, buffers: &[Buffer], k: usize, x: &Item) -> bool
+    requires inside { k < length buffers.now + 2 }
+    requires counts { order.now.count ≡ k - 2 }
+    requires ordered { IsOrder order.now (items_of regions.now buffers.now) }
+    requires some { 0 < x.now.size }
+    ensures { result ≡ list_any (shares x.now) (take k (items_of regions.now buffers.now)) }
+{
+    if shares_with_first(regions, buffers, k.min(2), x) {
+        return true;
+    }
+    shares_ordered(order, regions, buffers, x)
+}
+
+/// Whether an item before item `k` has a byte of it.
 fn is_shared(
     earlier: &Earlier,
     mem_size: u32,
@@ -176,26 +193,41 @@ fn is_shared(
 {
     match earlier {
         Earlier::Pages(pages) => has_page(pages, x),
-        Earlier::End(end) if x.place >= *end => shares_with_first(regions, buffers, k.min(2), x),
-        Earlier::End(_) => shares_with_first(regions, buffers, k, x),
+        Earlier::Ordered(order) => shares_earlier(order, regions, buffers, k, x),
     }
+}
+
+/// Counts item `k` to the buffers in order, where it is one.
+fn pass_ordered(order: &mut Order, regions: &Regions, buffers: &[Buffer], k: usize, x: &Item)
+    requires inside { k < length buffers.now + 2 }
+    requires few { length buffers.now ≤ 1024 }
+    requires item { x.now ≡ item_at (items_of regions.now buffers.now) k }
+    requires some { 0 < x.now.size }
+    requires apart { list_any (shares x.now) (take k (items_of regions.now buffers.now)) ≡ false }
+    requires counts { order.old.count ≡ k - 2 }
+    requires ordered { IsOrder order.old (items_of regions.now buffers.now) }
+    ensures counts { order.new.count ≡ k + 1 - 2 }
+    ensures ordered { IsOrder order.new (items_of regions.now buffers.now) }
+{
+    if k < 2 {
+        return;
+    }
+    insert(order, regions, buffers, x);
 }
 
 /// Counts item `k` to those before.
 fn pass_item(earlier: &mut Earlier, mem_size: u32, regions: &Regions, buffers: &[Buffer], k: usize)
     requires inside { k < length buffers.now + 2 }
+    requires few { length buffers.now ≤ 1024 }
     requires sound { IsWholeIn mem_size (item_at (items_of regions.now buffers.now) k) }
+    requires apart { list_any (shares (item_at (items_of regions.now buffers.now) k)) (take k (items_of regions.now buffers.now)) ≡ false }
     requires known { AreEarlier earlier.old mem_size (items_of regions.now buffers.now) k }
     ensures { AreEarlier earlier.new mem_size (items_of regions.now buffers.now) (k + 1) }
 {
     let x = item_at(regions, buffers, k);
     match earlier {
         Earlier::Pages(pages) => take_item(pages, &x),
-        Earlier::End(end) => {
-            if k >= 2 {
-                *end = (*end).max(x.place + x.size);
-            }
-        }
+        Earlier::Ordered(order) => pass_ordered(order, regions, buffers, k, &x),
     }
 }
 

@@ -5,6 +5,7 @@ mod buffer;
 mod handles;
 mod item;
 mod pages;
+mod places;
 mod table;
 
 pub use buffer::{Buffer, HandleRule, Kind, Regions, TableFault, TableRule};

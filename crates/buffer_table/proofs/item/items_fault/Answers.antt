@@ -4,7 +4,7 @@ use Rattle.field_words.specs.Questions.{first_of, each}
 use Rattle.field_words.proofs.Questions.{each_on, each_stop, each_end}
 use Rattle.buffer_table.specs.declared.item.Item.{Item}
 use Rattle.buffer_table.specs.Table.{item_questions, items_of, item_at}
-use Rattle.buffer_table.proofs.Sounds.{length_items, sound_item}
+use Rattle.buffer_table.proofs.Sounds.{length_items, sound_item, apart_item}
 use Rattle.buffer_table.proofs.Taken.{sound_whole}
 use Rattle.buffer_table.proofs.item.items_fault.Goals as goal
 
@@ -23,7 +23,13 @@ loop-k-init c =
 pub pass_item-requires : goal.pass_item-requires
 pass_item-requires c =
     let items : List Item = items_of c.args.regions.now c.args.buffers.now in
-    record { inside = omega (arith, c.loop-k-test.true); sound = sound_whole c.args.mem_size (item_at items c.loop-k.k) (sound_item c.args.mem_size items c.loop-k.k (sym c.in_default.ensures)); known = c.loop-k.invariant.known }
+    record {
+      inside = omega (arith, c.loop-k-test.true);
+      few = c.requires.few;
+      sound = sound_whole c.args.mem_size (item_at items c.loop-k.k) (sound_item c.args.mem_size items c.loop-k.k (sym c.in_default.ensures));
+      apart = apart_item c.args.mem_size items c.loop-k.k (sym c.in_default.ensures);
+      known = c.loop-k.invariant.known;
+    }
 
 pub loop-k-preserved : goal.loop-k-preserved
 loop-k-preserved c =
