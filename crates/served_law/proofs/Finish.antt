@@ -1,0 +1,322 @@
+-- Where no unit may step, all is finished, or the binner's job waits for room.
+use Rattle.std.proofs.Common.{◌≡◌, ◌≤◌, ◌<◌, ◌⊎◌, inl, inr, ℕ, zero, suc, ◌+◌, ◌==◌, ◌&&◌, ◌||◌, not, Bool, true, false, if◌then◌else◌, List, [], ◌∷◌, ◌++◌, length, slice_index, Option, Some, None, IfSome, refl, sym, ◌∙◌, ap, subst, arith}
+use Rattle.std.specs.Prelude.{is_some, is_none, nat_lt}
+use Rattle.std.specs.List.{list_all}
+use Rattle.std.proofs.lemmas.Bool.{and_parts, true≢false, false≢true}
+use Rattle.std.proofs.lemmas.Grind.{common_steps}
+use Rattle.std.proofs.lemmas.Bool.Decides.{nat_tests}
+use Rattle.std.proofs.lemmas.List.{length-append}
+use Rattle.field_words.specs.Pieces.{joined as joined_bytes}
+use Rattle.field_words.specs.declared.access.Actor.{Actor}
+use Rattle.field_words.specs.declared.access.Actor.TheVariants.{Binner as TheBinner, Renderer as TheRenderer, Qpu as TheQpu, Tmu as TheTmu}
+use Rattle.packets.specs.declared.packet.Packet.{Packet}
+use Rattle.packets.specs.Opcode.{wait_on_semaphore}
+use Rattle.packets.specs.Packet.{packet_text, slots_text}
+use Rattle.machine_plan.specs.declared.launch.Free.{Free}
+use Rattle.machine_plan.specs.Glance.{Glance, Now, At, glanced}
+use Rattle.machine_plan.specs.Memory.{bytes_at}
+use Rattle.machine_plan.specs.Others.{Happening, OthersRun}
+use Rattle.machine_plan.specs.Plan.{Keeps}
+use Rattle.machine_plan.specs.Regions.{Every, Interval, Inside, Rights, rights_of, IsSafeAccess, HasReadOnly}
+use Rattle.machine_plan.specs.Runs.{reached}
+use Rattle.machine_plan.specs.World.{Owes}
+use Rattle.machine_plan.proofs.Others.{Holds, run_holds}
+use Rattle.list_machine.specs.declared.state.SubList.{SubList}
+use Rattle.list_machine.specs.declared.state.Work.{Work}
+use Rattle.list_machine.specs.Lists.{Lists}
+use Rattle.list_machine.specs.Start.{can_start}
+use Rattle.list_machine.specs.Binner.{has_binner_work, item_may, work_may, binner_may as may_bin, binner_ready}
+use Rattle.list_machine.specs.Renderer.{has_renderer_work, may_pass, ready_in, renderer_ready}
+use Rattle.list_law.proofs.Bytes.{none_left, bytes_front, byte_front}
+use Rattle.list_law.proofs.Rendering.{some_text}
+use Rattle.apart_law.proofs.Parts.{some_same}
+use Rattle.apart_law.proofs.Places.{IsFirst, first_is}
+use Rattle.qpu_machine.specs.declared.state.Qpu.{Qpu}
+use Rattle.qpu_machine.specs.declared.state.Request.{Request}
+use Rattle.qpu_machine.specs.declared.state.Thread.{Thread}
+use Rattle.qpu_machine.specs.Qpu.{active_of, queued, ready_by, qpu_ready, queue_of, oldest, tmu_ready, has_none, is_beside, takes_first, takes_other, slot_from, free_in, is_idle}
+use Rattle.qpu_machine.specs.Step.{thread_ready}
+use Rattle.machine.specs.declared.job.Start.{Start}
+use Rattle.machine.specs.State.{Units, State, Picked, first_where, item_at, binner_job, renderer_job, units_start}
+use Rattle.machine.specs.Step.{Event, is_ahead, binner_may, renderer_may, qpu_may, tmu_may, unit_ready, unit_turn, ready, turn, enabled, finished}
+use Rattle.machine_law.specs.Begins.{JobBegins}
+use Rattle.machine_law.specs.Jobs.{ArePlain}
+use Rattle.machine_law.specs.Laws.{AreFine}
+use Rattle.machine_law.specs.Units.{EachAt}
+use Rattle.machine_law.proofs.Begins.{each_begins}
+use Rattle.machine_law.proofs.Owes.{item_fine, units_owe_law, start_fine}
+use Rattle.ends_law.proofs.Plans.{keeps_both}
+use Rattle.served_law.specs.Finish.{WaitsForRoom, UnitsWait, IsStill, JobMayFinish, JobsFinish}
+use Rattle.served_law.specs.Known.{ThreadServed, QpuServed, AllGo, JobMeets, JobServed, UnitsServed}
+use Rattle.served_law.specs.Raises.{waits_of, waits_in, raised_by}
+use Rattle.served_law.proofs.Begins.{each_begin, start_served}
+use Rattle.served_law.proofs.Machine.{unit_serves}
+use Rattle.served_law.proofs.Processors.{SlotServed, active_served}
+use Rattle.served_law.proofs.Renderer.{byte_waits}
+use Rattle.served_law.proofs.Threads.{thread_may}
+
+zero_is : (n : ℕ) → (n == 0) ≡ true → n ≡ 0
+zero_is n on = grind (arith, common_steps, nat_tests, on)
+
+-- A processor of which no unit may step is idle.
+no_requests : (requests : List Request) → is_some (oldest requests) ≡ false → requests ≡ []
+no_requests [] none = refl
+no_requests (request ∷ requests) none = absurd (true≢false none)
+
+slot_idle : (rights : List Rights) (K : List ℕ → Type 0) (q : Qpu) (slot : Option Thread) (m : List ℕ) → K m → queued q.second q.queue0.items ≡ 0 → queued q.second q.queue1.items ≡ 0
+    → SlotServed rights K (queued q.second q.queue0.items) (queued q.second q.queue1.items) slot → glanced (ready_by slot q) m ≡ false → is_some slot ≡ false
+slot_idle rights K q None m here none0 none1 thread still = refl
+slot_idle rights K q (Some t) m here none0 none1 thread still =
+    let alone : ThreadServed rights K 0 0 t = subst (λ n. ThreadServed rights K 0 n t) none1 (subst (λ n. ThreadServed rights K n (queued q.second q.queue1.items) t) none0 thread) in
+    let may : glanced (thread_ready t 0 0) m ≡ true = thread_may rights K t m here alone in
+    let same_queues : glanced (thread_ready t (queued q.second q.queue0.items) (queued q.second q.queue1.items)) m ≡ glanced (thread_ready t 0 0) m =
+    ap (λ n. glanced (thread_ready t n (queued q.second q.queue1.items)) m) none0 ∙ ap (λ n. glanced (thread_ready t 0 n) m) none1 in
+    absurd (true≢false (sym may ∙ (sym same_queues ∙ still)))
+
+both_idle : (second : Bool) (first other : Option Thread) → (is_some (if second then other else first) || is_none (if second then first else other)) ≡ true → is_some (if second then other else first) ≡ false → (is_none first && is_none other) ≡ true
+both_idle true None None led none = refl
+both_idle true (Some t) None led none = absurd (false≢true led)
+both_idle true first (Some t) led none = absurd (true≢false none)
+both_idle false None None led none = refl
+both_idle false None (Some t) led none = absurd (false≢true led)
+both_idle false (Some t) other led none = absurd (true≢false none)
+
+idle_parts : (a b c : Bool) → a ≡ true → b ≡ true → c ≡ true → (a && (b && c)) ≡ true
+idle_parts true true true one two three = refl
+idle_parts true true false one two three = absurd (false≢true three)
+idle_parts true false c one two three = absurd (false≢true two)
+idle_parts false b c one two three = absurd (false≢true one)
+
+qpu_idle : (rights : List Rights) (K : List ℕ → Type 0) (q : Qpu) (m : List ℕ) → K m → QpuServed rights K q → glanced (qpu_ready q) m ≡ false → is_some (oldest q.queue0.items) ≡ false → is_some (oldest q.queue1.items) ≡ false → is_idle q ≡ true
+qpu_idle rights K q m here known still still0 still1 =
+    let none0 = no_requests q.queue0.items still0 in
+    let none1 = no_requests q.queue1.items still1 in
+    let count0 : queued q.second q.queue0.items ≡ 0 = ap (λ (rs : List Request). queued q.second rs) none0 in
+    let count1 : queued q.second q.queue1.items ≡ 0 = ap (λ (rs : List Request). queued q.second rs) none1 in
+    let alone = slot_idle rights K q (active_of q) m here count0 count1 (active_served rights K q known) still in
+    idle_parts (is_none q.first && is_none q.other) (length q.queue0.items == 0) (length q.queue1.items == 0) (both_idle q.second q.first q.other known.led alone)
+    (ap (λ (rs : List Request). length rs == 0) none0) (ap (λ (rs : List Request). length rs == 0) none1)
+
+-- no unit of processor k may step
+record QpuStill (m : List ℕ) (q : Qpu) : Type 0 where
+  thread : glanced (qpu_ready q) m ≡ false
+  tmu0 : is_some (oldest q.queue0.items) ≡ false
+  tmu1 : is_some (oldest q.queue1.items) ≡ false
+
+still_at : (m : List ℕ) (found : Option Qpu) → glanced (qpu_may found) m ≡ false → glanced (tmu_may found 0) m ≡ false → glanced (tmu_may found 1) m ≡ false → IfSome found (QpuStill m)
+still_at m None still still0 still1 = tt
+still_at m (Some q) still still0 still1 = record { thread = still; tmu0 = still0; tmu1 = still1 }
+
+both_on : (a b : Bool) → a ≡ true → b ≡ true → (a && b) ≡ true
+both_on true b one two = two
+both_on false b one two = absurd (false≢true one)
+
+all_idle : (rights : List Rights) (K : List ℕ → Type 0) (qpus : List Qpu) (m : List ℕ) → K m → Every (QpuServed rights K) qpus → ((k : ℕ) → IfSome (item_at qpus k) (QpuStill m)) → list_all is_idle qpus ≡ true
+all_idle rights K [] m here all still = refl
+all_idle rights K (q ∷ qpus) m here all still =
+    let one : QpuStill m q = still 0 in
+    both_on (is_idle q) (list_all is_idle qpus) (qpu_idle rights K q m here all.0 one.thread one.tmu0 one.tmu1) (all_idle rights K qpus m here all.1 (λ k. still (suc k)))
+
+-- Then a program that isn't threaded could start.
+none_of : (requests : List Request) → (length requests == 0) ≡ true → requests ≡ []
+none_of [] none = refl
+none_of (request ∷ requests) none = let e : suc (length requests) ≡ 0 = zero_is (suc (length requests)) none in absurd (omega (arith, e))
+
+none_takes : (first other : Option Thread) (second : Bool) → (is_none first && is_none other) ≡ true → takes_first false (record { first = first; other = other; second = second; queue0 = record { items = [] }; queue1 = record { items = [] } }) ≡ true
+unfolding takes_first
+none_takes None None second idle = refl
+none_takes None (Some t) second idle = absurd (false≢true idle)
+none_takes (Some t) other second idle = absurd (false≢true idle)
+
+idle_takes : (q : Qpu) → is_idle q ≡ true → takes_first false q ≡ true
+idle_takes q idle =
+    let parts = and_parts (is_none q.first && is_none q.other) (length q.queue0.items == 0 && length q.queue1.items == 0) idle in
+    let empty = and_parts (length q.queue0.items == 0) (length q.queue1.items == 0) parts.1 in
+    let takes = none_takes q.first q.other q.second parts.0 in
+    subst (λ (rs : List Request). takes_first false (record { first = q.first; other = q.other; second = q.second; queue0 = record { items = rs }; queue1 = record { items = q.queue1.items } }) ≡ true) (sym (none_of q.queue0.items empty.0))
+    (subst (λ (rs : List Request). takes_first false (record { first = q.first; other = q.other; second = q.second; queue0 = record { items = [] }; queue1 = record { items = rs } }) ≡ true) (sym (none_of q.queue1.items empty.1)) takes)
+
+first_of_both : (a b : Bool) → (a && b) ≡ true → a ≡ true
+first_of_both true b both = refl
+first_of_both false b both = both
+
+may_start : (qpus : List Qpu) → 1 ≤ length qpus → list_all is_idle qpus ≡ true → is_some (slot_from false 0 qpus) ≡ true
+may_start [] some idle = absurd (omega (arith, some))
+may_start (q ∷ qpus) some idle =
+    let takes : takes_first false q ≡ true = idle_takes q (first_of_both (is_idle q) (list_all is_idle qpus) idle) in
+    ap (λ b. is_some (if b then Some (record { qpu = 0; second = false }) else (if takes_other false q then Some (record { qpu = 0; second = true }) else slot_from false 1 qpus))) takes
+
+-- A binner that may not step though a program could start waits for room.
+room_by : (s : Lists) (work : Work) (free : Free) (due more : Bool) → work.due ≡ due → nat_lt work.done work.primitive.length ≡ more → is_some free.plain ≡ true
+    → (if due then can_start false free else (if more then true else item_may s s.binner.kept.config)) ≡ false → s.binner.work ≡ Some work → WaitsForRoom s
+room_by s work free true more due_is more_is starts still is = absurd (true≢false (sym starts ∙ still))
+room_by s work free false true due_is more_is starts still is = absurd (true≢false still)
+room_by s work free false false due_is more_is starts still is = record { work = work; is = is; started = due_is; fetched = more_is; full = still }
+
+none_has : (below : Bool) → (below || false) ≡ true → below ≡ false → ⊥
+none_has true has still = true≢false still
+none_has false has still = false≢true has
+
+waits_by : (s : Lists) (work : Option Work) (free : Free) → is_some free.plain ≡ true → (nat_lt s.binner.place s.binner.end || is_some work) ≡ true → may_bin s work free ≡ false → s.binner.work ≡ work → WaitsForRoom s
+unfolding work_may
+waits_by s None free starts has still is = absurd (none_has (nat_lt s.binner.place s.binner.end) has still)
+waits_by s (Some work) free starts has still is = room_by s work free work.due (nat_lt work.done work.primitive.length) refl refl starts still is
+
+binner_waits : (s : Lists) (free : Free) (m : List ℕ) → is_some free.plain ≡ true → has_binner_work s ≡ true → glanced (binner_ready s free) m ≡ false → WaitsForRoom s
+unfolding binner_ready
+binner_waits s free m starts has still = waits_by s s.binner.work free starts has still refl
+
+-- A renderer that may not step has a wait before it that nothing raised, so the job's binner has work.
+front_waits : (K : List ℕ → Type 0) (s : Lists) (m : List ℕ) (slots : List (Option Packet)) → K m → s.renderer.place < s.renderer.end → s.renderer.place + length (slots_text slots) ≡ s.renderer.end
+    → bytes_at m s.renderer.place (length (slots_text slots)) ≡ slots_text slots → (slice_index m s.renderer.place == wait_on_semaphore) ≡ true → 1 ≤ waits_in slots
+front_waits K s m [] here below ends stands on = absurd (none_left s.renderer.place s.renderer.end ends below)
+front_waits K s m (None ∷ slots) here below ends stands on = front_waits K s m slots here below ends stands on
+front_waits K s m (Some packet ∷ slots) here below ends stands on =
+    let text : List ℕ = packet_text packet in
+    let bytes : bytes_at m s.renderer.place (length text) ≡ text = bytes_front m s.renderer.place text (slots_text slots) stands in
+    let first : slice_index m s.renderer.place ≡ slice_index text 0 = byte_front m s.renderer.place text (some_text packet) bytes in
+    let one = byte_waits packet (sym (ap (λ o. o == wait_on_semaphore) first) ∙ on) in
+    omega (arith, one)
+
+no_packets : (place end : ℕ) (packets : List (List ℕ)) → place + length (joined_bytes packets) ≡ end → nat_lt place end ≡ false → AllGo packets → packets ≡ []
+no_packets place end [] ends past go = refl
+no_packets place end (packet ∷ packets) ends past go =
+    let whole = go.0.whole in
+    let known = go.0.known in
+    let long : length (packet ++ joined_bytes packets) ≡ length packet + length (joined_bytes packets) = length-append packet (joined_bytes packets) in
+    let over : end ≤ place = grind (arith, common_steps, nat_tests, past) in
+    absurd (omega (arith, whole, known, long, ends, over))
+
+-- the two tests by which a renderer may not pass
+held_by : (at none : Bool) → not (at && none) ≡ false → (at ≡ true) × (none ≡ true)
+held_by true true still = (refl, refl)
+held_by true false still = absurd (true≢false still)
+held_by false none still = absurd (true≢false still)
+
+stuck_at : (rights : List Rights) (K : List ℕ → Type 0) (j : ℕ) (s : Lists) (m : List ℕ) → K m → JobServed rights K j s → s.renderer.place < s.renderer.end → may_pass s (slice_index m s.renderer.place) ≡ false → nat_lt s.binner.place s.binner.end ≡ false → ⊥
+unfolding may_pass
+stuck_at rights K j s m here job below still past =
+    let left = job.meets in
+    let held = held_by (slice_index m s.renderer.place == wait_on_semaphore) (s.semaphore == 0) still in
+    let one = front_waits K s m left.slots here below left.render_ends (left.render_stands m here) held.0 in
+    let zero_semaphore = zero_is s.semaphore held.1 in
+    let none = no_packets s.binner.place s.binner.end left.packets left.bin_ends past left.go in
+    let meets : waits_in left.slots ≤ s.semaphore + raised_by s.pending [] = subst (λ (ps : List (List ℕ)). waits_in left.slots ≤ s.semaphore + raised_by s.pending ps) none left.meets in
+    omega (arith, one, zero_semaphore, meets)
+
+first_off : (a b : Bool) → (a || b) ≡ false → a ≡ false
+first_off true b off = absurd (true≢false off)
+first_off false b off = refl
+
+stuck_in : (rights : List Rights) (K : List ℕ → Type 0) (j : ℕ) (s : Lists) (m : List ℕ) (inside : Option SubList) (below : Bool) → K m → JobServed rights K j s → (nat_lt s.renderer.place s.renderer.end) ≡ below → (below || is_some inside) ≡ true
+    → glanced (ready_in s inside) m ≡ false → nat_lt s.binner.place s.binner.end ≡ false → ⊥
+unfolding bytes_at
+stuck_in rights K j s m (Some sub) below here job is has still past = true≢false still
+stuck_in rights K j s m None false here job is has still past = false≢true has
+stuck_in rights K j s m None true here job is has still past =
+    let under : s.renderer.place < s.renderer.end = grind (arith, common_steps, nat_tests, is) in
+    let stops : may_pass s (slice_index m s.renderer.place) ≡ false =
+    subst (λ (b : Bool). glanced (if b then At s.renderer.place 1 (λ head. Now (may_pass s (slice_index head 0))) else Now false) m ≡ false) is still in
+    stuck_at rights K j s m here job under stops past
+
+renderer_stuck : (rights : List Rights) (K : List ℕ → Type 0) (j : ℕ) (s : Lists) (m : List ℕ) → K m → JobServed rights K j s → has_renderer_work s ≡ true → glanced (renderer_ready s) m ≡ false → has_binner_work s ≡ false → ⊥
+unfolding renderer_ready
+renderer_stuck rights K j s m here job has still none =
+    stuck_in rights K j s m s.renderer.inside (nat_lt s.renderer.place s.renderer.end) here job refl has still (first_off (nat_lt s.binner.place s.binner.end) (is_some s.binner.work) none)
+
+-- what is known of an item by its number
+record Numbered {X : Type 0} (P : ℕ → X → Type 0) (x : X) : Type 0 where
+  number : ℕ
+  known : P number x
+
+at_number : {X : Type 0} (P : ℕ → X → Type 0) (n k : ℕ) (xs : List X) (x : X) → EachAt P n xs → item_at xs k ≡ Some x → Numbered P x
+at_number P n k [] x all is = absurd cc
+at_number {X = X} P n zero (y ∷ xs) x all is = subst (λ (o : X). Numbered P o) (some_same y x is) (record { number = n; known = all.0 })
+at_number P n (suc k) (y ∷ xs) x all is = at_number P (n + 1) k xs x all.1 is
+
+-- where no item passes a test
+none_by : {X : Type 0} (p : X → Bool) (n k : ℕ) (y : X) (xs : List X) (x : X) (passes : Bool) → p y ≡ passes → (first_where p (n + 1) xs ≡ None → (i : ℕ) → item_at xs i ≡ Some x → p x ≡ false)
+    → (if passes then Some (record { number = n; item = y }) else first_where p (n + 1) xs) ≡ None → item_at (y ∷ xs) k ≡ Some x → p x ≡ false
+none_by p n k y xs x true passes later none is = absurd cc
+none_by p n zero y xs x false passes later none is = ap p (sym (some_same y x is)) ∙ passes
+none_by p n (suc k) y xs x false passes later none is = later none k is
+
+none_pass : {X : Type 0} (p : X → Bool) (n k : ℕ) (xs : List X) (x : X) → first_where p n xs ≡ None → item_at xs k ≡ Some x → p x ≡ false
+none_pass p n k [] x none is = absurd cc
+none_pass p n k (y ∷ xs) x none is = none_by p n k y xs x (p y) refl (λ rest i there. none_pass p (n + 1) i xs x rest there) none is
+
+-- The renderer's job has work for the binner, where the renderer may not step.
+no_stuck : (rights : List Rights) (K : List ℕ → Type 0) (u : Units) (r : Picked Lists) (m : List ℕ) → K m → UnitsServed rights K u → renderer_job u ≡ Some r → glanced (renderer_ready r.item) m ≡ false → has_binner_work r.item ≡ false → ⊥
+no_stuck rights K u r m here all is still none =
+    let first = first_is has_renderer_work u.jobs r is in
+    let job = at_number (JobServed rights K) 0 r.number u.jobs r.item all.jobs first.at in
+    renderer_stuck rights K job.number r.item m here job.known first.passes still none
+
+-- the cases
+both_none : (binner renderer : Option (Picked Lists)) (idle : Bool) → binner ≡ None → renderer ≡ None → idle ≡ true → ((is_none binner && is_none renderer) && idle) ≡ true
+both_none binner renderer idle one two three =
+    ap (λ (o : Option (Picked Lists)). (is_none o && is_none renderer) && idle) one ∙ (ap (λ (o : Option (Picked Lists)). is_none o && idle) two ∙ three)
+
+ahead_below : (n : ℕ) (r : Picked Lists) → nat_lt (r.number + 1) n ≡ true → r.number < n
+ahead_below n r ahead = let below : r.number + 1 < n = grind (arith, common_steps, nat_tests, ahead) in omega (arith, below)
+
+is_held : (rights : List Rights) (K : List ℕ → Type 0) (u : Units) (b : Picked Lists) (renderer : Option (Picked Lists)) (m : List ℕ) → K m → UnitsServed rights K u → binner_job u ≡ Some b → renderer_job u ≡ renderer
+    → glanced (renderer_may renderer) m ≡ false → is_ahead b.number renderer ≡ true → ⊥
+is_held rights K u b None m here all first second still ahead = false≢true ahead
+is_held rights K u b (Some r) m here all first second still ahead =
+    let ours = first_is has_binner_work u.jobs b first in
+    let theirs = first_is has_renderer_work u.jobs r second in
+    no_stuck rights K u r m here all second still (ours.before r.number r.item (ahead_below b.number r ahead) theirs.at)
+
+binner_by : (u : Units) (b : Picked Lists) (m : List ℕ) (ahead : Bool) → (ahead ≡ true → ⊥) → is_some (free_in u.qpus).plain ≡ true → has_binner_work b.item ≡ true
+    → glanced (if ahead then Now false else binner_ready b.item (free_in u.qpus)) m ≡ false → WaitsForRoom b.item
+binner_by u b m true never starts has still = absurd (never refl)
+binner_by u b m false never starts has still = binner_waits b.item (free_in u.qpus) m starts has still
+
+by_units : (rights : List Rights) (K : List ℕ → Type 0) (u : Units) (binner renderer : Option (Picked Lists)) (m : List ℕ) → K m → UnitsServed rights K u → binner_job u ≡ binner → renderer_job u ≡ renderer → list_all is_idle u.qpus ≡ true
+    → glanced (binner_may u binner) m ≡ false → glanced (renderer_may renderer) m ≡ false → (((is_none (binner_job u) && is_none (renderer_job u)) && list_all is_idle u.qpus) ≡ true) ⊎ UnitsWait u
+by_units rights K u None None m here all first second idle still_first still_second = inl (both_none (binner_job u) (renderer_job u) (list_all is_idle u.qpus) first second idle)
+by_units rights K u None (Some r) m here all first second idle still_first still_second =
+    let at = (first_is has_renderer_work u.jobs r second).at in
+    absurd (no_stuck rights K u r m here all second still_second (none_pass has_binner_work 0 r.number u.jobs r.item first at))
+by_units rights K u (Some b) renderer m here all first second idle still_first still_second =
+    let held : is_ahead b.number (renderer_job u) ≡ true → ⊥ = λ ahead. is_held rights K u b renderer m here all first second still_second (ap (is_ahead b.number) (sym second) ∙ ahead) in
+    inr (record {
+      one = b;
+      is = first;
+      waits = binner_by u b m (is_ahead b.number (renderer_job u)) held (may_start u.qpus all.some idle) (first_is has_binner_work u.jobs b first).passes still_first;
+      idle = idle;
+    })
+
+stands_still : (rights : List Rights) (K : List ℕ → Type 0) (t : State) → K t.memory → UnitsServed rights K t.units → IsStill t → (finished t ≡ true) ⊎ UnitsWait t.units
+unfolding enabled finished
+stands_still rights K t here all still =
+    let u : Units = t.units in
+    let idle = all_idle rights K u.qpus t.memory here all.qpus (λ k. still_at t.memory (item_at u.qpus k) (still (TheQpu k)) (still (TheTmu k 0)) (still (TheTmu k 1))) in
+    by_units rights K u (binner_job u) (renderer_job u) t.memory here all refl refl idle (still TheBinner) (still TheRenderer)
+
+-- What the units owe, with what is known of them here.
+owes_both : (rights : List Rights) (plains : ℕ → List Interval) (first : List ℕ) → ArePlain rights plains → Owes ready turn rights first (λ u. AreFine rights plains first u × UnitsServed rights (HasReadOnly rights first) u)
+unfolding ready turn
+owes_both rights plains first plain =
+    let owes = units_owe_law rights plains first plain in
+    record {
+      looks = λ u m e known has. owes.looks u m e known.0 has;
+      keeps = λ u m e known has may.
+          let one = unit_turn u e.unit e.words in
+          keeps_both one.who (Inside (rights_of rights one.who.job).region) (IsSafeAccess rights) (AreFine rights plains first) (UnitsServed rights (HasReadOnly rights first)) one.plan m
+          (owes.keeps u m e known.0 has may) (unit_serves rights (HasReadOnly rights first) u e.unit e.words m has known.1 may);
+    }
+
+pub jobs_finish_law : JobsFinish
+jobs_finish_law rights plains first m starts plain has all = record {
+  every_run = λ happenings found t run still.
+      let K = HasReadOnly rights first in
+      let I : Units → Type 0 = λ u. AreFine rights plains first u × UnitsServed rights K u in
+      let w : State = record { memory = m; units = units_start starts } in
+      let fine = start_fine rights plains first starts (each_begins rights plains first 0 starts (each_begin rights plains first 0 starts all)) in
+      let ran = run_holds ready turn rights first I (owes_both rights plains first plain) happenings w (record { units = (fine, start_served rights plains first starts all); has = has }) run.allowed in
+      let last : Holds rights first I t = subst (λ (s : State). Holds rights first I s) (sym run.last) ran.0 in
+      let known = last.units in
+      stands_still rights K t last.has known.1 still;
+}

@@ -1,0 +1,7 @@
+pub mod Threads
+pub mod Processors
+pub mod Binner
+pub mod Renderer
+pub mod Machine
+pub mod Begins
+pub mod Finish

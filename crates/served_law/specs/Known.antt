@@ -1,0 +1,108 @@
+-- What is known of threads, processors and jobs whose shaders wait for nothing but queued requests.
+use Rattle.std.specs.Prelude.{◌≡◌, ◌≢◌, ◌≤◌, ℕ, ◌+◌, ◌||◌, Bool, true, false, List, [], ◌∷◌, length, Option, Some, None, IfSome, IsTrue, is_some, is_none, if◌then◌else◌}
+use Rattle.field_words.specs.Pieces.{joined as joined_bytes}
+use Rattle.machine_plan.specs.declared.launch.Launch.{Launch}
+use Rattle.machine_plan.specs.Memory.{bytes_at}
+use Rattle.machine_plan.specs.Regions.{Interval, Every, Rights, rights_of, HasReadOnly}
+use Rattle.packets.specs.declared.config.Config.{Config}
+use Rattle.packets.specs.declared.packet.Packet.{Packet}
+use Rattle.packets.specs.Length.{bin_length}
+use Rattle.packets.specs.Opcode.{halt}
+use Rattle.packets.specs.Packet.{slots_text}
+use Rattle.bin_list.specs.Packets.{opcode}
+use Rattle.render_walks.specs.Walks.{AllFit}
+use Rattle.list_machine.specs.declared.state.Frame.{Frame}
+use Rattle.list_machine.specs.Lists.{Lists}
+use Rattle.list_law.specs.Binning.{Allocates}
+use Rattle.list_law.specs.Lists.{ListsFine}
+use Rattle.qpu_machine.specs.declared.state.Qpu.{Qpu}
+use Rattle.qpu_machine.specs.declared.state.Thread.{Thread}
+use Rattle.qpu_machine.specs.Qpu.{queued}
+use Rattle.qpu_law.specs.Home.{Home, IsAt}
+use Rattle.qpu_law.specs.Thread.{IsHome}
+use Rattle.shader_flow.specs.Flow.{is_threaded}
+use Rattle.machine.specs.State.{Units, State}
+use Rattle.machine.specs.Step.{Event, may, step}
+use Rattle.machine_law.specs.Jobs.{ArePlain}
+use Rattle.machine_law.specs.Laws.{AreFine}
+use Rattle.machine_law.specs.Units.{EachAt}
+use Rattle.served_law.specs.Raises.{waits_in, raised_by}
+use Rattle.served_law.specs.Waits.{outstanding, may_wait}
+
+-- Job j may start the program: it is that of a shader that waits for nothing else, whose words stand in each memory of K.
+pub record LaunchServed (rights : List Rights) (K : List ℕ → Type 0) (j : ℕ) (launch : Launch) : Type 0 where
+  pub home : Home
+  pub served : may_wait home.code ≡ false
+  pub stands : (m : List ℕ) → K m → IsHome m (rights_of rights j).region home
+  pub code : launch.code ≡ home.place
+  pub uniforms : launch.uniforms ≡ home.stream
+  pub threaded : launch.threaded ≡ is_threaded home.code
+
+-- The thread stands before an instruction of such a shader, and its requests in the two queues, of which there are so many, are with
+-- its results as many as the shader has outstanding there.
+pub record ThreadServed (rights : List Rights) (K : List ℕ → Type 0) (queued0 queued1 : ℕ) (t : Thread) : Type 0 where
+  pub home : Home
+  pub served : may_wait home.code ≡ false
+  pub stands : (m : List ℕ) → K m → IsHome m (rights_of rights t.job).region home
+  pub index : ℕ
+  pub at : IsAt home index t
+  pub tmu0 : queued0 + length t.results0.items ≡ outstanding home.code 0 index
+  pub tmu1 : queued1 + length t.results1.items ≡ outstanding home.code 1 index
+
+-- where a thread of the processor runs, the active one does
+abbrev pub is_led : Bool → Option Thread → Option Thread → Bool
+is_led second first other = is_some (if second then other else first) || is_none (if second then first else other)
+
+-- so do both threads of a processor
+pub record QpuServed (rights : List Rights) (K : List ℕ → Type 0) (q : Qpu) : Type 0 where
+  pub first : IfSome q.first (ThreadServed rights K (queued false q.queue0.items) (queued false q.queue1.items))
+  pub other : IfSome q.other (ThreadServed rights K (queued true q.queue0.items) (queued true q.queue1.items))
+  pub led : is_led q.second q.first q.other ≡ true
+
+-- a packet of a binner list that is whole and doesn't end it
+pub record Goes (packet : List ℕ) : Type 0 where
+  pub whole : length packet ≡ bin_length (opcode packet)
+  pub known : bin_length (opcode packet) ≢ 0
+  pub no_halt : opcode packet ≢ halt
+
+abbrev pub AllGo : List (List ℕ) → Type 0
+AllGo [] = Unit {0}
+AllGo (packet ∷ packets) = Goes packet × AllGo packets
+
+-- Where the binner stands at a place of its list, which ends there, and the renderer at another of its own, the semaphore is raised as
+-- often as the renderer still waits for it: by what is to be raised already, and by the rest of the binner's list.
+pub record ListsMeet (K : List ℕ → Type 0) (place end pending semaphore there upto : ℕ) : Type 0 where
+  pub packets : List (List ℕ)
+  pub bin_ends : place + length (joined_bytes packets) ≡ end
+  pub bin_stands : (m : List ℕ) → K m → bytes_at m place (length (joined_bytes packets)) ≡ joined_bytes packets
+  pub go : AllGo packets
+  pub slots : List (Option Packet)
+  pub render_ends : there + length (slots_text slots) ≡ upto
+  pub render_stands : (m : List ℕ) → K m → bytes_at m there (length (slots_text slots)) ≡ slots_text slots
+  pub fit : AllFit slots
+  pub meets : waits_in slots ≤ semaphore + raised_by pending packets
+
+abbrev pub JobMeets : (List ℕ → Type 0) → Lists → Type 0
+JobMeets K s = ListsMeet K s.binner.place s.binner.end s.pending s.semaphore s.renderer.place s.renderer.end
+
+-- So it is of job j, whose programs wait for nothing else.
+pub record JobServed (rights : List Rights) (K : List ℕ → Type 0) (j : ℕ) (s : Lists) : Type 0 where
+  pub config : Config
+  pub frame : Frame
+  pub allocates : Allocates (rights_of rights j) config
+  pub lists : ListsFine (rights_of rights j) K (LaunchServed rights K j) config frame s
+  pub meets : JobMeets K s
+
+-- so it is of each job and each processor, of which there is one
+pub record UnitsServed (rights : List Rights) (K : List ℕ → Type 0) (u : Units) : Type 0 where
+  pub jobs : EachAt (JobServed rights K) 0 u.jobs
+  pub qpus : Every (QpuServed rights K) u.qpus
+  pub some : 1 ≤ length u.qpus
+
+-- The law of one step: from a state of which all is known, it is known again.
+abbrev pub StepsServe : Type 0
+StepsServe =
+    (rights : List Rights) (plains : ℕ → List Interval) (first : List ℕ) (s : State) (event : Event)
+    → ArePlain rights plains → HasReadOnly rights first s.memory → AreFine rights plains first s.units
+    → UnitsServed rights (HasReadOnly rights first) s.units → IsTrue (may s event)
+    → UnitsServed rights (HasReadOnly rights first) (step s event).state.units

@@ -1,0 +1,4 @@
+pub mod Waits
+pub mod Raises
+pub mod Known
+pub mod Finish
