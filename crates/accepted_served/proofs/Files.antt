@@ -1,0 +1,134 @@
+-- Each job of such a file begins with shaders that are served, and its semaphore is raised as often as it is waited for.
+use Rattle.std.proofs.Common.{◌≡◌, ◌≤◌, ◌<◌, ℕ, ◌+◌, Bool, true, false, List, [], length, Some, None, if◌then◌else◌, refl, sym, ◌∙◌, ap, subst, arith}
+use Rattle.std.specs.Prelude.{is_some}
+use Rattle.buffer_table.proofs.Named.{code_is}
+use Rattle.buffer_table.specs.Table.{TableModel}
+use Rattle.relocation.specs.declared.layout.Layout.{Layout}
+use Rattle.bin_list.specs.Fine.{IsLow}
+use Rattle.bin_list.specs.Packets.{packets, passed}
+use Rattle.bin_list.specs.Rules.{given_of}
+use Rattle.bin_list.specs.Seen.{seen_before}
+use Rattle.bin_list.specs.States.{states_of}
+use Rattle.bin_walks.specs.Draws.{IsDrawn}
+use Rattle.bin_walks.specs.Emission.{emission, config_of}
+use Rattle.bin_walks.specs.Law.{IsWalked}
+use Rattle.bin_walks.specs.Walks.{nothing_kept}
+use Rattle.bin_walks.proofs.Law.{emitted_lists_walk_law}
+use Rattle.list_law.proofs.Start.{walks_so}
+use Rattle.render_list.specs.Text.{render_slots}
+use Rattle.shader_flow.proofs.Bounded.{some_below_not}
+use Rattle.job_format.specs.Model.{FileModel}
+use Rattle.job_check.specs.Emit.{memory_of}
+use Rattle.job_check.specs.Shaders.{table_of}
+use Rattle.job_check.specs.Jobs.{job_of, layout_of, has_bin, bin_list_of, places_in, grid_from, grid_of, slot_of}
+use Rattle.job_check.proofs.Layouts.{layout_numbers, layout_low, enough_slots}
+use Rattle.machine_law.specs.Units.{EachAt}
+use Rattle.accepted_law.specs.Ends.{IsShaderOf, DrawShaders}
+use Rattle.accepted_law.specs.Holdings.{plain_of, file_rights, file_starts, start_of, config_for}
+use Rattle.accepted_law.specs.Parts.{BinWalks}
+use Rattle.accepted_law.specs.Settled.{Grounds}
+use Rattle.accepted_law.proofs.BinWalking.{bins_walk_law}
+use Rattle.accepted_law.proofs.ByJob.{each_from}
+use Rattle.accepted_law.proofs.Holding.{bin_is}
+use Rattle.accepted_law.proofs.Joining.{all_ground, job_begins, files_begin_law, has_read_only}
+use Rattle.accepted_law.proofs.Tables.{buffer_low}
+use Rattle.accepted_ends.specs.Bound.{shader_in, shader_named}
+use Rattle.accepted_ends.proofs.Cut.{packets_walk}
+use Rattle.ends_law.specs.Steps.{one_if}
+use Rattle.served_law.specs.Finish.{DrawServed, JobMayFinish}
+use Rattle.served_law.specs.Raises.{waits_in, raised_by}
+use Rattle.served_law.specs.Waits.{may_wait}
+use Rattle.served_law.proofs.Finish.{jobs_finish_law}
+use Rattle.accepted_served.specs.Law.{FilesFinish}
+use Rattle.accepted_served.specs.Served.{waits, job_waits, file_waits}
+use Rattle.accepted_served.proofs.Raised.{emission_raises}
+use Rattle.accepted_served.proofs.Waited.{render_few}
+
+named_is : (f : FileModel) (j : ℕ) (code : List ℕ) → (is : IsShaderOf f j code) → shader_named f j is.handle ≡ Some code
+unfolding shader_named
+named_is f j code is = ap (shader_in f) is.named ∙ ap (λ words. Some words) (sym is.is)
+
+is_served : (f : FileModel) (j : ℕ) (code : List ℕ) → file_waits f ≡ false → j < length f.jobs → IsShaderOf f j code → may_wait code ≡ false
+unfolding file_waits job_waits
+is_served f j code none inside is =
+    let handle_in = (code_is (table_of f) (job_of f j).handles is.handle is.number is.named).handle_in in
+    let of_job : job_waits f j ≡ false = some_below_not (length f.jobs) j (λ k. job_waits f k) none inside in
+    let of_handle : waits (shader_named f j is.handle) ≡ false = some_below_not (length (job_of f j).handles) is.handle (λ i. waits (shader_named f j i)) of_job handle_in in
+    sym (ap waits (named_is f j code is)) ∙ of_handle
+
+draws_served : (f : FileModel) (j : ℕ) (m : List ℕ) (word : ℕ) (packet : List ℕ) → file_waits f ≡ false → j < length f.jobs → DrawShaders f j m word packet → DrawServed (file_rights f) (plain_of f) m j word packet
+draws_served f j m word packet none inside draws = record {
+  begins = draws.begins;
+  fragment = is_served f j draws.begins.fragment.home.code none inside draws.fragment;
+  vertex = is_served f j draws.begins.vertex.home.code none inside draws.vertex;
+  coordinate = is_served f j draws.begins.coordinate.home.code none inside draws.coordinate;
+}
+
+-- The emitted binner list is cut into the packets of its emission again, which raise the semaphore.
+low : (f : FileModel) (j : ℕ) (m : List ℕ) → Grounds f j m → IsLow (layout_of f j)
+low f j m grounds =
+    let s = grounds.settled in
+    let numbers = layout_numbers f j (layout_of f j) refl in
+    let limits = layout_low f j s.sound (enough_slots f s.well_formed s.sound) (omega (arith, numbers.0, s.lists)) s.inside s.limits in
+    record { place = limits.0; records = limits.1; slot = limits.3 }
+
+some_raised : (f : FileModel) (j : ℕ) (m : List ℕ) → Grounds f j m → has_bin f j ≡ true → 1 ≤ raised_by 0 (packets (bin_list_of f j))
+some_raised f j m grounds has =
+    let bin : List ℕ = (job_of f j).bin in
+    let declared : ℕ = (job_of f j).declared in
+    let table : TableModel = table_of f in
+    let handles : List ℕ = (job_of f j).handles in
+    let layout : Layout = layout_of f j in
+    let list : List (List ℕ) = emission (given_of bin declared table handles) layout [] (packets bin) in
+    let it : IsWalked bin declared table handles layout =
+    emitted_lists_walk_law bin declared table handles layout grounds.settled.limits.bin grounds.settled.limits.declared (low f j m grounds)
+    (λ number below. buffer_low f.mem_size f.regions f.buffers grounds.settled.sound number) (grounds.settled.bin has) in
+    let config = config_of layout (seen_before (passed bin)).tiles_x (seen_before (passed bin)).tiles_y in
+    let cut : packets (bin_list_of f j) ≡ list = ap packets (bin_is f j has ∙ it.text) ∙ packets_walk config (IsDrawn table handles layout (states_of (packets bin))) nothing_kept list it.walks in
+    subst (λ (ps : List (List ℕ)). 1 ≤ raised_by 0 ps) (sym cut) (emission_raises bin declared table handles layout (grounds.settled.bin has))
+
+grid_there : (f : FileModel) (j : ℕ) (b : Bool) → has_bin f j ≡ b → is_some (grid_of f j) ≡ b
+unfolding grid_of
+grid_there f j true has = ap (λ b. is_some (if b then Some (grid_from (seen_before (passed (job_of f j).bin))) else None)) has
+grid_there f j false none = ap (λ b. is_some (if b then Some (grid_from (seen_before (passed (job_of f j).bin))) else None)) none
+
+raised_by_bin : (f : FileModel) (j : ℕ) (m : List ℕ) (b : Bool) → Grounds f j m → has_bin f j ≡ b → one_if (is_some (grid_of f j)) ≤ raised_by 0 (packets (bin_list_of f j))
+raised_by_bin f j m true grounds has =
+    let some = some_raised f j m grounds has in
+    let one : one_if (is_some (grid_of f j)) ≡ 1 = ap one_if (grid_there f j true has) in
+    omega (arith, some, one)
+raised_by_bin f j m false grounds none =
+    let zero_is : one_if (is_some (grid_of f j)) ≡ 0 = ap one_if (grid_there f j false none) in
+    omega (arith, zero_is)
+
+raised_there : (f : FileModel) (j : ℕ) (m : List ℕ) → Grounds f j m → waits_in (render_slots (job_of f j).frame (places_in f j) (grid_of f j) (slot_of f j)) ≤ raised_by 0 (packets (bin_list_of f j))
+raised_there f j m grounds =
+    let few = render_few (job_of f j).frame (places_in f j) (grid_of f j) (slot_of f j) in
+    let raised = raised_by_bin f j m (has_bin f j) grounds refl in
+    omega (arith, few, raised)
+
+packets_are : (f : FileModel) (j : ℕ) (m : List ℕ) → (bin : BinWalks f j m) → packets (bin_list_of f j) ≡ bin.packets
+packets_are f j m bin = ap packets bin.text ∙ packets_walk (config_for f j) (DrawShaders f j m) nothing_kept bin.packets bin.walks
+
+may_finish : (f : FileModel) (j : ℕ) → file_waits f ≡ false → j < length f.jobs → Grounds f j (memory_of f) → JobMayFinish (file_rights f) (plain_of f) (memory_of f) j (start_of f j)
+unfolding job_begins
+may_finish f j none inside grounds =
+    let m : List ℕ = memory_of f in
+    let bin : BinWalks f j m = bins_walk_law f j m grounds in
+    let raised = raised_there f j m grounds in
+    let same : raised_by 0 (packets (bin_list_of f j)) ≡ raised_by 0 bin.packets = ap (raised_by 0) (packets_are f j m bin) in
+    record {
+      begins = job_begins f j grounds;
+      served = walks_so (config_for f j) (DrawShaders f j m) (DrawServed (file_rights f) (plain_of f) m j) (λ word packet draws kind. draws_served f j m word packet none inside draws) nothing_kept bin.packets bin.walks;
+      raised = omega (arith, raised, same);
+    }
+
+all_may : (f : FileModel) → ((j : ℕ) → j < length f.jobs → JobMayFinish (file_rights f) (plain_of f) (memory_of f) j (start_of f j)) → EachAt (JobMayFinish (file_rights f) (plain_of f) (memory_of f)) 0 (file_starts f)
+unfolding file_starts
+all_may f each = each_from (JobMayFinish (file_rights f) (plain_of f) (memory_of f)) (start_of f) (length f.jobs) 0 (λ j from upto. each j (omega (arith, upto)))
+
+pub files_finish_law : FilesFinish
+files_finish_law f well fits none served m agree =
+    let grounds = all_ground f well fits none in
+    jobs_finish_law (file_rights f) (plain_of f) (memory_of f) m (file_starts f) (files_begin_law f well fits none).0 (has_read_only f m agree)
+    (all_may f (λ j inside. may_finish f j served inside (grounds j inside)))

@@ -1,0 +1,3 @@
+pub mod Waited
+pub mod Raised
+pub mod Files
