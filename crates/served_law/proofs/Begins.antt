@@ -1,8 +1,7 @@
 -- What jobs whose shaders are served begin with.
-use Rattle.std.proofs.Common.{◌≡◌, ◌≤◌, ◌<◌, ℕ, zero, suc, ◌+◌, not, Bool, false, List, [], ◌∷◌, length, map, replicate, Option, refl, sym, ap, subst, arith}
+use Rattle.std.proofs.Common.{◌≡◌, ◌<◌, ℕ, zero, suc, ◌+◌, not, Bool, false, List, [], ◌∷◌, length, map, replicate, refl, sym, ap, subst, arith}
 use Rattle.field_words.specs.Pieces.{joined as joined_bytes}
 use Rattle.packets.specs.declared.config.Config.{Config}
-use Rattle.packets.specs.declared.packet.Packet.{Packet}
 use Rattle.packets.specs.Packet.{slots_text}
 use Rattle.emitted_facts.specs.Records.{is_single, code_word, stream_word}
 use Rattle.emitted_facts.proofs.Records.{header_in}

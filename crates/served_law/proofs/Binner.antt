@@ -1,11 +1,10 @@
 -- One step of the binner keeps how often the semaphore is raised.
-use Rattle.std.proofs.Common.{◌≡◌, ◌≢◌, ◌≤◌, ◌<◌, ℕ, ◌+◌, ◌==◌, ◌||◌, Bool, true, false, List, [], ◌∷◌, ◌++◌, length, slice_index, Option, Some, None, if◌then◌else◌, refl, sym, ◌∙◌, ap, subst, arith}
+use Rattle.std.proofs.Common.{◌≡◌, ◌≢◌, ◌≤◌, ◌<◌, ℕ, ◌+◌, ◌==◌, ◌||◌, Bool, true, false, List, [], ◌∷◌, ◌++◌, length, slice_index, Option, Some, None, if◌then◌else◌, refl, ◌∙◌, ap, subst, arith}
 use Rattle.std.specs.Prelude.{nat_lt}
 use Rattle.std.proofs.lemmas.Grind.{common_steps}
 use Rattle.std.proofs.lemmas.Bool.Decides.{nat_tests}
 use Rattle.field_words.specs.Pieces.{joined as joined_bytes}
 use Rattle.packets.specs.declared.config.Config.{Config}
-use Rattle.packets.specs.declared.packet.Packet.{Packet}
 use Rattle.packets.specs.Length.{bin_length, bin_taken}
 use Rattle.packets.specs.Opcode.{halt, flush, start_tile_binning, increment_semaphore, indexed_primitive_list, array_primitive_list, gl_shader_state, tile_binning_mode}
 use Rattle.bin_list.specs.Packets.{opcode}
@@ -25,7 +24,7 @@ use Rattle.list_machine.specs.Lists.{Lists, Turned, quiet, past, incremented, fl
 use Rattle.list_machine.specs.Blocks.{tiles_of, spot_of, item_of, zeros, is_full, block_place, next_place, link_place, put_here, put_plan}
 use Rattle.list_machine.specs.Fetch.{fetch_plan}
 use Rattle.list_machine.specs.Start.{start_plan}
-use Rattle.list_machine.specs.Binner.{configured, with_word, started, clear_plan, begin_plan, work_of, drawn, draw_plan, halted, is_unknown, packet_plan, read_plan, one_done, fetched_with, started_with, chosen_tile, tile_plan, item_plan, work_plan, binner_by, binner_plan, binner_may, binner_ready}
+use Rattle.list_machine.specs.Binner.{configured, with_word, started, clear_plan, begin_plan, work_of, drawn, draw_plan, halted, is_unknown, packet_plan, read_plan, fetched_with, started_with, chosen_tile, tile_plan, item_plan, work_plan, binner_by, binner_plan, binner_may, binner_ready}
 use Rattle.list_law.proofs.Binning.{read_keeps, taken_is}
 use Rattle.list_law.proofs.Bytes.{none_left, bytes_front, bytes_behind, byte_front, behind_ends}
 use Rattle.list_law.proofs.Logs.{same}

@@ -7,18 +7,14 @@ use Rattle.std.proofs.lemmas.Grind.{common_steps}
 use Rattle.std.proofs.lemmas.Bool.Decides.{nat_tests}
 use Rattle.std.proofs.lemmas.List.{length-append}
 use Rattle.field_words.specs.Pieces.{joined as joined_bytes}
-use Rattle.field_words.specs.declared.access.Actor.{Actor}
 use Rattle.field_words.specs.declared.access.Actor.TheVariants.{Binner as TheBinner, Renderer as TheRenderer, Qpu as TheQpu, Tmu as TheTmu}
 use Rattle.packets.specs.declared.packet.Packet.{Packet}
 use Rattle.packets.specs.Opcode.{wait_on_semaphore}
 use Rattle.packets.specs.Packet.{packet_text, slots_text}
 use Rattle.machine_plan.specs.declared.launch.Free.{Free}
-use Rattle.machine_plan.specs.Glance.{Glance, Now, At, glanced}
+use Rattle.machine_plan.specs.Glance.{Now, At, glanced}
 use Rattle.machine_plan.specs.Memory.{bytes_at}
-use Rattle.machine_plan.specs.Others.{Happening, OthersRun}
-use Rattle.machine_plan.specs.Plan.{Keeps}
 use Rattle.machine_plan.specs.Regions.{Every, Interval, Inside, Rights, rights_of, IsSafeAccess, HasReadOnly}
-use Rattle.machine_plan.specs.Runs.{reached}
 use Rattle.machine_plan.specs.World.{Owes}
 use Rattle.machine_plan.proofs.Others.{Holds, run_holds}
 use Rattle.list_machine.specs.declared.state.SubList.{SubList}
@@ -30,25 +26,23 @@ use Rattle.list_machine.specs.Renderer.{has_renderer_work, may_pass, ready_in, r
 use Rattle.list_law.proofs.Bytes.{none_left, bytes_front, byte_front}
 use Rattle.list_law.proofs.Rendering.{some_text}
 use Rattle.apart_law.proofs.Parts.{some_same}
-use Rattle.apart_law.proofs.Places.{IsFirst, first_is}
+use Rattle.apart_law.proofs.Places.{first_is}
 use Rattle.qpu_machine.specs.declared.state.Qpu.{Qpu}
 use Rattle.qpu_machine.specs.declared.state.Request.{Request}
 use Rattle.qpu_machine.specs.declared.state.Thread.{Thread}
-use Rattle.qpu_machine.specs.Qpu.{active_of, queued, ready_by, qpu_ready, queue_of, oldest, tmu_ready, has_none, is_beside, takes_first, takes_other, slot_from, free_in, is_idle}
+use Rattle.qpu_machine.specs.Qpu.{active_of, queued, ready_by, qpu_ready, oldest, takes_first, takes_other, slot_from, free_in, is_idle}
 use Rattle.qpu_machine.specs.Step.{thread_ready}
-use Rattle.machine.specs.declared.job.Start.{Start}
 use Rattle.machine.specs.State.{Units, State, Picked, first_where, item_at, binner_job, renderer_job, units_start}
-use Rattle.machine.specs.Step.{Event, is_ahead, binner_may, renderer_may, qpu_may, tmu_may, unit_ready, unit_turn, ready, turn, enabled, finished}
-use Rattle.machine_law.specs.Begins.{JobBegins}
+use Rattle.machine.specs.Step.{is_ahead, binner_may, renderer_may, qpu_may, tmu_may, unit_turn, ready, turn, enabled, finished}
 use Rattle.machine_law.specs.Jobs.{ArePlain}
 use Rattle.machine_law.specs.Laws.{AreFine}
 use Rattle.machine_law.specs.Units.{EachAt}
 use Rattle.machine_law.proofs.Begins.{each_begins}
-use Rattle.machine_law.proofs.Owes.{item_fine, units_owe_law, start_fine}
+use Rattle.machine_law.proofs.Owes.{units_owe_law, start_fine}
 use Rattle.ends_law.proofs.Plans.{keeps_both}
-use Rattle.served_law.specs.Finish.{WaitsForRoom, UnitsWait, IsStill, JobMayFinish, JobsFinish}
-use Rattle.served_law.specs.Known.{ThreadServed, QpuServed, AllGo, JobMeets, JobServed, UnitsServed}
-use Rattle.served_law.specs.Raises.{waits_of, waits_in, raised_by}
+use Rattle.served_law.specs.Finish.{WaitsForRoom, UnitsWait, IsStill, JobsFinish}
+use Rattle.served_law.specs.Known.{ThreadServed, QpuServed, AllGo, JobServed, UnitsServed}
+use Rattle.served_law.specs.Raises.{waits_in, raised_by}
 use Rattle.served_law.proofs.Begins.{each_begin, start_served}
 use Rattle.served_law.proofs.Machine.{unit_serves}
 use Rattle.served_law.proofs.Processors.{SlotServed, active_served}

@@ -1,7 +1,6 @@
 -- One step of the machine keeps what is known, whichever unit steps.
-use Rattle.std.proofs.Common.{◌≡◌, ◌≤◌, ℕ, zero, suc, ◌+◌, Bool, true, false, IsTrue, if◌then◌else◌, List, [], ◌∷◌, length, Option, Some, None, IfSome, refl, sym, ◌∙◌, ap, subst, arith}
+use Rattle.std.proofs.Common.{◌≡◌, ℕ, zero, suc, Bool, true, false, IsTrue, if◌then◌else◌, List, [], ◌∷◌, length, Option, Some, None, IfSome, refl, ap, arith}
 use Rattle.std.proofs.lemmas.Bool.{false≢true}
-use Rattle.std.specs.Prelude.{is_some, nat_lt}
 use Rattle.field_words.specs.declared.access.Actor.{Actor}
 use Rattle.field_words.specs.declared.access.Actor.TheVariants.{Binner as TheBinner, Renderer as TheRenderer, Qpu as TheQpu, Tmu as TheTmu}
 use Rattle.machine_plan.specs.declared.launch.Free.{Free}
@@ -23,16 +22,15 @@ use Rattle.list_law.proofs.Rendering.{renderer_keeps}
 use Rattle.qpu_machine.specs.declared.state.Qpu.{Qpu}
 use Rattle.qpu_machine.specs.declared.state.Request.{Request}
 use Rattle.qpu_machine.specs.declared.state.Thread.{Thread}
-use Rattle.qpu_machine.specs.Qpu.{active_of, job_of_thread, queued, ready_by, plan_by, went, queue_of, oldest, job_of_request, tmu_ready, served, serving, free_in}
+use Rattle.qpu_machine.specs.Qpu.{active_of, job_of_thread, queued, ready_by, plan_by, went, queue_of, oldest, job_of_request, served, serving, free_in}
 use Rattle.qpu_machine.specs.Request.{ask_plan}
 use Rattle.qpu_machine.specs.Step.{ThreadTurn, thread_plan}
 use Rattle.machine.specs.State.{Units, Picked, item_at, put_at, binner_job, renderer_job}
 use Rattle.machine.specs.Step.{with_launch, with_lists, with_qpu, is_ahead, binner_may, renderer_may, qpu_may, tmu_may, binner_turn, renderer_turn, qpu_turn, tmu_turn, unit_ready, unit_turn, ready, turn}
 use Rattle.machine_law.specs.Laws.{AreFine}
-use Rattle.machine_law.specs.Units.{EachAt}
 use Rattle.machine_law.proofs.Owes.{PickedFine, item_fine, put_each, first_fine, units_owe_law}
 use Rattle.ends_law.proofs.Plans.{AnyLook, AnyAccess, Comes, comes_any, keeps_both}
-use Rattle.served_law.specs.Known.{LaunchServed, ThreadServed, QpuServed, JobMeets, JobServed, UnitsServed, StepsServe}
+use Rattle.served_law.specs.Known.{LaunchServed, QpuServed, JobServed, UnitsServed, StepsServe}
 use Rattle.served_law.proofs.Threads.{ThreadGoes, thread_goes}
 use Rattle.served_law.proofs.Processors.{SlotServed, active_served, went_served, served_served, launched_served, launched_long}
 use Rattle.served_law.proofs.Binner.{TurnedMeets, binner_meets}

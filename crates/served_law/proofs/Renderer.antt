@@ -1,10 +1,9 @@
 -- One step of the renderer keeps how often it waits for the semaphore.
-use Rattle.std.proofs.Common.{◌≡◌, ◌≤◌, ◌<◌, ℕ, ◌+◌, ◌-◌, ◌%◌, ◌==◌, ◌&&◌, not, Bool, true, false, List, [], ◌∷◌, ◌++◌, length, slice_index, Option, Some, None, if◌then◌else◌, refl, sym, ◌∙◌, ap, subst, arith}
+use Rattle.std.proofs.Common.{◌≡◌, ◌≤◌, ◌<◌, ℕ, ◌+◌, ◌-◌, ◌%◌, ◌==◌, ◌&&◌, not, Bool, true, false, List, [], ◌∷◌, length, slice_index, Option, Some, None, if◌then◌else◌, refl, sym, ◌∙◌, ap, subst, arith}
 use Rattle.std.specs.Prelude.{nat_lt}
 use Rattle.std.proofs.lemmas.Grind.{common_steps}
 use Rattle.std.proofs.lemmas.Bool.{true≢false}
 use Rattle.std.proofs.lemmas.Bool.Decides.{nat_tests}
-use Rattle.packets.specs.declared.config.Config.{Config}
 use Rattle.packets.specs.declared.packet.Packet.{Packet}
 use Rattle.packets.specs.declared.packet.Packet.TheVariants.{WaitOnSemaphore, BranchToSubList, StoreTileColor, StoreTileColorAndEnd, StoreFullResolution, LoadFullResolution, StoreTileBuffer, LoadTileBuffer, TileRenderingMode, ClearColors, TileCoordinates}
 use Rattle.packets.specs.Length.{render_taken}
@@ -17,9 +16,8 @@ use Rattle.machine_plan.specs.declared.launch.Free.{Free}
 use Rattle.machine_plan.specs.Choice.{word_at}
 use Rattle.machine_plan.specs.Glance.{Now, At, glanced}
 use Rattle.machine_plan.specs.Memory.{bytes_at}
-use Rattle.machine_plan.specs.Plan.{Plan, Done, Wilds}
+use Rattle.machine_plan.specs.Plan.{Done, Wilds}
 use Rattle.machine_plan.specs.World.{mapped}
-use Rattle.machine_plan.proofs.Plans.{keeps_weaker}
 use Rattle.machine_plan.proofs.Worlds.{keeps_mapped}
 use Rattle.texture_layouts.specs.Format.{general_style, frame_style}
 use Rattle.list_machine.specs.declared.state.Found.{Found}
@@ -43,9 +41,9 @@ use Rattle.list_law.proofs.Bytes.{none_left, bytes_front, bytes_behind, byte_fro
 use Rattle.list_law.proofs.Rendering.{some_text}
 use Rattle.list_law.proofs.Safe.{keeps_if}
 use Rattle.ends_law.proofs.Plans.{AnyLook, AnyAccess, Comes, comes_any}
-use Rattle.served_law.specs.Known.{AllGo, ListsMeet, JobMeets}
+use Rattle.served_law.specs.Known.{ListsMeet, JobMeets}
 use Rattle.served_law.specs.Raises.{waits_of, waits_in, raised_by}
-use Rattle.served_law.proofs.Binner.{TurnedMeets, quiet_meets}
+use Rattle.served_law.proofs.Binner.{TurnedMeets}
 
 -- Loads and stores come to what the renderer then keeps.
 cover_stored : (who : Who) (P : Lists → Type 0) (cover : Option Cover) (words : List ℕ) (s : Lists) (m : List ℕ) → P s → Comes who P (cover_written cover words (Done s)) m

@@ -1,8 +1,8 @@
 -- A thread of a shader that is served keeps count of what it has outstanding, and is never held up but by a queued request.
-use Rattle.std.proofs.Common.{◌≡◌, ◌≢◌, ◌≤◌, ◌<◌, inl, inr, ℕ, zero, suc, ◌+◌, ◌-◌, ◌*◌, ◌%◌, ◌^◌, ◌==◌, ◌&&◌, ◌||◌, not, Bool, true, false, List, [], ◌∷◌, length, Option, Some, None, if◌then◌else◌, refl, sym, ◌∙◌, ap, subst, arith}
+use Rattle.std.proofs.Common.{◌≡◌, ◌≢◌, ◌≤◌, ◌<◌, inl, inr, ℕ, zero, suc, ◌+◌, ◌-◌, ◌%◌, ◌^◌, ◌==◌, ◌&&◌, ◌||◌, not, Bool, true, false, List, [], ◌∷◌, length, Option, Some, None, if◌then◌else◌, refl, sym, ◌∙◌, ap, subst, arith}
 use Rattle.std.specs.Int.{from_le_bytes, w64}
 use Rattle.std.specs.Prelude.{nat_le, drop}
-use Rattle.std.proofs.lemmas.Bool.{or_parts, false_from_ne_true, not-true, true≢false}
+use Rattle.std.proofs.lemmas.Bool.{false_from_ne_true, not-true, true≢false}
 use Rattle.std.proofs.lemmas.Grind.{common_steps}
 use Rattle.std.proofs.lemmas.Bool.Decides.{nat_tests}
 use Rattle.field_words.specs.Words.{u32_at}
@@ -30,7 +30,7 @@ use Rattle.qpu_machine.specs.Wild.{takes_one, is_wild}
 use Rattle.qpu_machine.specs.Writes.{awake, past_uniform, rested, worked, went_on, loaded, stored, written, multiplied, added, written_at, ask_of, asked, loads, results_after}
 use Rattle.qpu_law.specs.Home.{Home, HasNoFault, Jumps, GoesTo, done, readied}
 use Rattle.qpu_law.specs.Thread.{IsHome}
-use Rattle.qpu_law.proofs.Going.{fine_at, in_checked, is_went, asked_is, stays_in_code_law}
+use Rattle.qpu_law.proofs.Going.{fine_at, in_checked, is_went, stays_in_code_law}
 use Rattle.qpu_law.proofs.Starting.{starts_stand_law}
 use Rattle.ends_law.specs.Steps.{one_if}
 use Rattle.ends_law.proofs.Plans.{AnyLook, AnyAccess, Comes}

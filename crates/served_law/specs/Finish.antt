@@ -1,5 +1,5 @@
 -- The law: where no unit may step, the jobs have finished, or one waits for room in its tile lists.
-use Rattle.std.specs.Prelude.{◌≡◌, ◌≤◌, ◌⊎◌, ℕ, Bool, true, false, nat_lt, List, Option, Some}
+use Rattle.std.specs.Prelude.{◌≡◌, ◌≤◌, ◌⊎◌, ℕ, true, false, nat_lt, List, Some}
 use Rattle.std.specs.List.{list_all}
 use Rattle.field_words.specs.declared.access.Access.{Access}
 use Rattle.field_words.specs.declared.access.Actor.{Actor}

@@ -1,5 +1,5 @@
 -- What is known of threads, processors and jobs whose shaders wait for nothing but queued requests.
-use Rattle.std.specs.Prelude.{◌≡◌, ◌≢◌, ◌≤◌, ℕ, ◌+◌, ◌||◌, Bool, true, false, List, [], ◌∷◌, length, Option, Some, None, IfSome, IsTrue, is_some, is_none, if◌then◌else◌}
+use Rattle.std.specs.Prelude.{◌≡◌, ◌≢◌, ◌≤◌, ℕ, ◌+◌, ◌||◌, Bool, true, false, List, [], ◌∷◌, length, Option, IfSome, IsTrue, is_some, is_none, if◌then◌else◌}
 use Rattle.field_words.specs.Pieces.{joined as joined_bytes}
 use Rattle.machine_plan.specs.declared.launch.Launch.{Launch}
 use Rattle.machine_plan.specs.Memory.{bytes_at}
