@@ -1,0 +1,5 @@
+use Rattle.shader_waits.specs.Waits.{AreCounted}
+use Rattle.shader_waits.proofs.counts.counts_of.Given as goal
+
+abbrev pub invariant-loop-at : goal.invariant-loop-at
+invariant-loop-at l = AreCounted l.code l.tmu l.at l.now l.counts.items
