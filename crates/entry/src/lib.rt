@@ -2,12 +2,16 @@
 //! sink, a line on standard error where there is something to say, and the status.
 #![tactic(auto)]
 
-ghost use Rattle.std.specs.Prelude.{◌≡◌, None};
+ghost use Rattle.std.specs.Prelude.{◌≡◌, ◌≢◌, None, IfErr};
+ghost use Rattle.std.specs.IoError.{error_kind};
+ghost use Rattle.std.specs.Process.{exit_status};
+ghost use Rattle.std.specs.declared.io.ErrorKind.TheVariants.{OutOfMemory};
 
 use job_io::{ReaderSource, Sink, Source, WriterSink};
 use std::alloc::Global;
 use std::fs::File;
 use std::io::{Eprint, Stdout, Write};
+use std::process::{ExitCode, Termination};
 use std::{env, fmt, io};
 
 /// How a run ended: its status, and why, where there is something to say.
@@ -89,7 +93,9 @@ fn words(rt: &HostRuntime) -> io::Result<Vec<String>> {
 }
 
 /// Says a line of a status on standard error. Where that fails there is nobody to tell.
-fn tell<P: Program>(rt: &HostRuntime, program: &P, status: u8) -> u8 {
+fn tell<P: Program>(rt: &HostRuntime, program: &P, status: u8) -> u8
+    ensures { result ≡ status }
+{
     if let Some(notice) = program.notice(status) {
         let _ = rt.eprintln(notice);
     }
@@ -134,16 +140,52 @@ fn run_on_file<P: Program>(rt: &HostRuntime, program: &P, words: &Vec<String>, n
     }
 }
 
-/// Runs the program over standard input, or over the file that its last word names, and standard output, and says its status. It is
-/// 5 where memory ran out before the words were there, and 2 where they aren't text.
-pub fn status<P: Program>(rt: &HostRuntime, program: &P) -> u8 {
-    match words(rt) {
+/// The status of a program whose words can't be read: 5 where memory ran out before they were there, and 2 where they aren't text.
+fn wordless(error: &io::Error) -> u8
+    ensures starved { error_kind error.now ≡ OutOfMemory → result ≡ 5 }
+    ensures garbled { error_kind error.now ≢ OutOfMemory → result ≡ 2 }
+{
+    if error.kind() == io::ErrorKind::OutOfMemory {
+        return 5;
+    }
+    2
+}
+
+/// Runs the program, with these words, over standard input, or over the file that the last of them names, and standard output.
+fn run_with<P: Program>(rt: &HostRuntime, program: &P, words: io::Result<Vec<String>>) -> u8
+    ensures starved { IfErr words (λ e. error_kind e ≡ OutOfMemory → result ≡ 5) }
+    ensures garbled { IfErr words (λ e. error_kind e ≢ OutOfMemory → result ≡ 2) }
+{
+    match words {
         Ok(mut words) if program.names_file(&words) => match words.pop() {
             Some(name) => run_on_file(rt, program, &words, &name),
             None => tell(rt, program, 2),
         },
         Ok(words) => run_on(rt, program, &words, &mut ReaderSource::new(rt.stdin())),
-        Err(error) if error.kind() == io::ErrorKind::OutOfMemory => tell(rt, program, 5),
-        Err(_) => tell(rt, program, 2),
+        Err(error) => tell(rt, program, wordless(&error)),
+    }
+}
+
+/// The end of a program that was run. `run` alone makes one: so a `main` that has one ran its program, and the process ends with that
+/// run's status.
+#[derive(Debug, Drop)]
+pub struct Ran {
+    status: u8,
+}
+
+impl Termination for Ran {
+    /// The run's status.
+    fn report<R: Eprint>(self, _rt: &R) -> ExitCode
+        ensures { exit_status result ≡ self.status }
+    {
+        ExitCode::from(self.status)
+    }
+}
+
+/// Runs the program over standard input, or over the file that its last word names, and standard output. The status is 5 where memory
+/// ran out before the words were there, and 2 where they aren't text.
+pub fn run<P: Program>(rt: &HostRuntime, program: &P) -> Ran {
+    Ran {
+        status: run_with(rt, program, words(rt)),
     }
 }

@@ -2,10 +2,9 @@
 //! standard error and not on standard output.
 #![tactic(auto)]
 
-use entry::{Ended, Program, status};
+use entry::{Ended, Program, Ran};
 use job_io::{Sink, Source, read_all};
 use std::alloc::Global;
-use std::process::ExitCode;
 
 struct Short;
 
@@ -45,6 +44,6 @@ impl Program for Short {
     }
 }
 
-fn main(rt: HostRuntime) -> ExitCode {
-    ExitCode::from(status(&rt, &Short))
+fn main(rt: HostRuntime) -> Ran {
+    entry::run(&rt, &Short)
 }

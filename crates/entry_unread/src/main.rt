@@ -1,10 +1,9 @@
 //! A program that writes a line for any input. Its stored run names a file that isn't there: `entry` runs nothing, and its status is 3.
 #![tactic(auto)]
 
-use entry::{Ended, Program, status};
+use entry::{Ended, Program, Ran};
 use job_io::{Sink, Source, write_all};
 use std::alloc::Global;
-use std::process::ExitCode;
 
 struct Line;
 
@@ -41,6 +40,6 @@ impl Program for Line {
     }
 }
 
-fn main(rt: HostRuntime) -> ExitCode {
-    ExitCode::from(status(&rt, &Line))
+fn main(rt: HostRuntime) -> Ran {
+    entry::run(&rt, &Line)
 }

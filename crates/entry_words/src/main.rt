@@ -2,10 +2,9 @@
 //! shows what `entry` hands over: two words, all of the input, and a status other than 0.
 #![tactic(auto)]
 
-use entry::{Ended, Program, status};
+use entry::{Ended, Program, Ran};
 use job_io::{Failed, Sink, Source, read_all, write_all};
 use std::alloc::Global;
-use std::process::ExitCode;
 
 /// The most bytes of input that are written again.
 const LIMIT: usize = 1024;
@@ -60,6 +59,6 @@ impl Program for Words {
     }
 }
 
-fn main(rt: HostRuntime) -> ExitCode {
-    ExitCode::from(status(&rt, &Words))
+fn main(rt: HostRuntime) -> Ran {
+    entry::run(&rt, &Words)
 }

@@ -4,9 +4,8 @@
 #![tactic(auto)]
 
 use commands::Checker;
-use entry::status;
-use std::process::ExitCode;
+use entry::{Ran, run};
 
-fn main(rt: HostRuntime) -> ExitCode {
-    ExitCode::from(status(&rt, &Checker))
+fn main(rt: HostRuntime) -> Ran {
+    run(&rt, &Checker)
 }
