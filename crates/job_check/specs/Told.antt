@@ -1,9 +1,12 @@
 -- What the stages tell of the lists of a job.
 use Rattle.std.specs.Prelude.{◌≡◌, ℕ, length, Some}
+use Rattle.bin_list.specs.Info.{MeetsState}
+use Rattle.bin_list.specs.Rules.{given_of}
 use Rattle.bin_list.specs.declared.info.BinInfo.{BinInfo}
 use Rattle.shader_records.specs.declared.info.RecordInfo.{RecordInfo}
 use Rattle.job_format.specs.Model.{FileModel}
-use Rattle.job_check.specs.Jobs.{grid_of, states_in, bin_list_of, records_of, streams_of}
+use Rattle.job_check.specs.Shaders.{table_of}
+use Rattle.job_check.specs.Jobs.{job_of, grid_of, states_in, bin_list_of, records_of, streams_of}
 
 -- what is told of the binner list of job j: the grid, the states, and the length of the list that the hardware is given
 pub record IsBinOf (f : FileModel) (j : ℕ) (info : BinInfo) : Type 0 where
@@ -15,3 +18,7 @@ pub record IsBinOf (f : FileModel) (j : ℕ) (info : BinInfo) : Type 0 where
 pub record AreRecordsOf (f : FileModel) (j : ℕ) (info : RecordInfo) : Type 0 where
   pub records : info.records ≡ length (records_of f j)
   pub uniforms : info.uniforms ≡ length (streams_of f j)
+
+-- a shader state stands in the binner list of job j, and no rule up to it
+abbrev pub HasStateFirst : FileModel → ℕ → Type 0
+HasStateFirst f j = MeetsState (given_of (job_of f j).bin (job_of f j).declared (table_of f) (job_of f j).handles) (job_of f j).bin

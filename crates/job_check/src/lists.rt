@@ -7,7 +7,7 @@ ghost use Rattle.render_list.specs.Frame.{IsSetupFor};
 ghost use Rattle.job_check.specs.Jobs.{job_of, has_bin, grid_of, places_in, states_in, layout_of, bin_list_of, records_of, streams_of, render_list_of};
 ghost use Rattle.job_check.specs.Faults.{bin_stage, records_stage, surfaces_stage, lists_stages};
 ghost use Rattle.job_check.specs.Emit.{list_parts, later_parts, PartsFit, lengths_of};
-ghost use Rattle.job_check.specs.Told.{IsBinOf, AreRecordsOf};
+ghost use Rattle.job_check.specs.Told.{IsBinOf, AreRecordsOf, HasStateFirst};
 
 use super::context::Context;
 use super::refusals::{bin_refusal, record_refusal, surface_refusal};
@@ -28,6 +28,7 @@ impl<'a, 'b> Context<'a, 'b> {
         ensures answers { Answers (bin_stage self.now.file self.now.number) (IsBinOf self.now.file self.now.number) result }
         ensures written { IfOk result (λ _. out.new ≡ with_bytes out.old (layout_of self.now.file self.now.number).bin (bin_list_of self.now.file self.now.number)) }
         ensures fits { IfOk result (λ _. length (bin_list_of self.now.file self.now.number) ≤ length (job_of self.now.file self.now.number).bin) }
+        ensures memory { result ≡ Err OutOfMemory → HasStateFirst self.now.file self.now.number }
     {
         let job = self.job;
         match check_bin(
@@ -84,6 +85,7 @@ impl<'a, 'b> Context<'a, 'b> {
         ensures answers { Answers (surfaces_stage self.now.file self.now.number) (λ n. n ≡ length (render_list_of self.now.file self.now.number)) result }
         ensures written { IfOk result (λ _. out.new ≡ with_bytes out.old (layout_of self.now.file self.now.number).render (render_list_of self.now.file self.now.number)) }
         ensures fits { IfOk result (λ n. (layout_of self.now.file self.now.number).render + n ≡ (layout_of self.now.file self.now.number).end) }
+        ensures takes_no_memory { result ≢ Err OutOfMemory }
     {
         let setup = self.surfaces(tiles)?;
         Ok(self.render(&setup, tiles, out))
@@ -105,6 +107,7 @@ impl<'a, 'b> Context<'a, 'b> {
         ensures written { IfOk result (λ _. out.new ≡ with_bytes (with_bytes out.old (layout_of self.now.file self.now.number).records (records_of self.now.file self.now.number)) (layout_of self.now.file self.now.number).uniforms (streams_of self.now.file self.now.number)) }
         ensures records_fit { IfOk result (λ _. length (records_of self.now.file self.now.number) ≤ length (job_of self.now.file self.now.number).records) }
         ensures streams_fit { IfOk result (λ _. length (streams_of self.now.file self.now.number) ≤ length (job_of self.now.file self.now.number).uniforms) }
+        ensures takes_no_memory { result ≢ Err OutOfMemory }
     {
         let job = self.job;
         match check_records(
@@ -141,6 +144,7 @@ impl<'a, 'b> Context<'a, 'b> {
         ensures answers { Answers (surfaces_stage self.now.file self.now.number) (λ lengths. lengths ≡ lengths_of self.now.file self.now.number) result }
         ensures written { IfOk result (λ _. out.new ≡ with_bytes out.old (layout_of self.now.file self.now.number).render (render_list_of self.now.file self.now.number)) }
         ensures fits { IfOk result (λ _. (layout_of self.now.file self.now.number).render + length (render_list_of self.now.file self.now.number) ≡ (layout_of self.now.file self.now.number).end) }
+        ensures takes_no_memory { result ≢ Err OutOfMemory }
     {
         let render = self.draw(Some((bin.tiles_x, bin.tiles_y)), out)?;
         Ok(Lengths {
@@ -165,6 +169,7 @@ impl<'a, 'b> Context<'a, 'b> {
         ensures answers { Answers (records_stage self.now.file self.now.number ++ surfaces_stage self.now.file self.now.number) (λ lengths. lengths ≡ lengths_of self.now.file self.now.number) result }
         ensures written { IfOk result (λ _. out.new ≡ placed out.old (later_parts self.now.file self.now.number)) }
         ensures fit { IfOk result (λ _. PartsFit (layout_of self.now.file self.now.number).end (list_parts self.now.file self.now.number)) }
+        ensures takes_no_memory { result ≢ Err OutOfMemory }
     {
         let records = self.records(alloc, &bin.states, out)?;
         self.after_records(bin, &records, out)
@@ -178,6 +183,7 @@ impl<'a, 'b> Context<'a, 'b> {
         ensures answers { Answers (lists_stages self.now.file self.now.number) (λ lengths. lengths ≡ lengths_of self.now.file self.now.number) result }
         ensures written { IfOk result (λ _. out.new ≡ placed out.old (list_parts self.now.file self.now.number)) }
         ensures fit { IfOk result (λ _. PartsFit (layout_of self.now.file self.now.number).end (list_parts self.now.file self.now.number)) }
+        ensures memory { result ≡ Err OutOfMemory → HasStateFirst self.now.file self.now.number }
     {
         let bin = self.bin(alloc, out)?;
         self.after_bin(alloc, &bin, out)
@@ -192,6 +198,7 @@ impl<'a, 'b> Context<'a, 'b> {
         ensures answers { Answers (lists_stages self.now.file self.now.number) (λ lengths. lengths ≡ lengths_of self.now.file self.now.number) result }
         ensures written { IfOk result (λ _. out.new ≡ placed out.old (list_parts self.now.file self.now.number)) }
         ensures fit { IfOk result (λ _. PartsFit (layout_of self.now.file self.now.number).end (list_parts self.now.file self.now.number)) }
+        ensures takes_no_memory { result ≢ Err OutOfMemory }
     {
         let render = self.draw(None, out)?;
         Ok(Lengths {
@@ -217,6 +224,7 @@ impl<'a, 'b> Context<'a, 'b> {
         ensures answers { Answers (lists_stages self.now.file self.now.number) (λ lengths. lengths ≡ lengths_of self.now.file self.now.number) result }
         ensures written { IfOk result (λ _. out.new ≡ placed out.old (list_parts self.now.file self.now.number)) }
         ensures fit { IfOk result (λ _. PartsFit (layout_of self.now.file self.now.number).end (list_parts self.now.file self.now.number)) }
+        ensures memory { result ≡ Err OutOfMemory → HasStateFirst self.now.file self.now.number }
     {
         if self.has_bin() {
             return self.binned(alloc, out);
