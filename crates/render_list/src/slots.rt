@@ -1,10 +1,11 @@
 //! The packets of a renderer list. One that stands only sometimes has a slot, which is `None` where it
 //! doesn't stand.
-ghost use Rattle.std.specs.Prelude.{◌≡◌, ◌⊎◌, ◌≤◌, ◌<◌, ◌^◌, ◌+◌, ◌*◌, ◌∷◌, [], IsSome};
+ghost use Rattle.std.specs.Prelude.{◌≡◌, ◌&&◌, ◌⊎◌, ◌≤◌, ◌<◌, ◌^◌, ◌+◌, ◌*◌, ◌∷◌, [], IsSome};
 ghost use Rattle.buffer_table.specs.Table.{most_place};
 ghost use Rattle.tile_memory.specs.Slots.{alloc_offset};
-ghost use Rattle.render_list.specs.Frame.{FitsAt, TileFits, full_place};
-ghost use Rattle.render_list.specs.Text.{number_where, packet_where, head_packet, clear_packet, clear_slots, load_packet, load_slot, wait_slot, list_place, list_slot, full_store, full_store_slot, zs_store, zs_store_slot, color_store, color_store_slot, is_there, more_after_multisample_zs, more_after_multisample_color, some_before_zs, some_before_color, coordinates_slot, load_slots, list_slots, write_slots};
+ghost use Rattle.render_list.specs.Frame.{place_at, FitsAt, TileFits, full_place};
+ghost use Rattle.packets.specs.declared.packet.Packet.TheVariants.{TileCoordinates};
+ghost use Rattle.render_list.specs.Text.{number_where, packet_where, head_packet, clear_packet, clear_slots, load_packet, load_slot, wait_slot, list_place, list_slot, full_store, full_store_slot, zs_store, zs_store_slot, color_store, color_store_slot, is_there, more_after_multisample_zs, more_after_multisample_color, some_before_zs, some_before_color, coordinates_slot, idle_store};
 
 use crate::frame::{
     COLOR_READ, COLOR_WRITE, MULTISAMPLE_COLOR, MULTISAMPLE_ZS, ZS_READ, ZS_WRITE, full_place,
@@ -124,7 +125,7 @@ fn load_slot(
 
 /// The wait for the binner, on the first tile where there is a binner list.
 #[inline(always)]
-fn wait_slot(frame: &Frame, tiles: Option<(u8, u8)>, tile: Tile) -> Option<Packet>
+pub fn wait_slot(frame: &Frame, tiles: Option<(u8, u8)>, tile: Tile) -> Option<Packet>
     ensures { result ≡ wait_slot frame.now tiles tile.x tile.y }
 {
     let _grid = tiles?;
@@ -164,7 +165,7 @@ fn list_place(grid: (u8, u8), slot: u32, tile: Tile) -> u32
 
 /// The branch to the tile's own list, where there is a binner list.
 #[inline(always)]
-fn list_slot(tiles: Option<(u8, u8)>, slot: u32, tile: Tile) -> Option<Packet>
+pub fn list_slot(tiles: Option<(u8, u8)>, slot: u32, tile: Tile) -> Option<Packet>
     requires { IsSome tiles → slot ≤ most_place }
     ensures { result ≡ list_slot tiles slot tile.x tile.y }
 {
@@ -286,77 +287,131 @@ fn color_store_slot(frame: &Frame, place: Option<u32>, tile: Tile) -> Option<Pac
     }
 }
 
-/// The loads of a tile.
+/// The load of colour.
 #[inline(always)]
-#[tactic(auto, unfolding(crate::specs::Text::load_slots))]
-pub fn load_slots(frame: &Frame, setup: &Setup, tile: Tile) -> [Option<Packet>; 4]
+pub fn color_load(frame: &Frame, setup: &Setup, tile: Tile) -> Option<Packet>
     requires { TileFits frame.now setup.now.places tile.x tile.y }
-    ensures { result ≡ load_slots frame.now setup.now.places tile.x tile.y }
+    ensures { result ≡ load_slot frame.now 0 2 (place_at setup.now.places 0) tile.x tile.y }
 {
-    let color = setup.place_of(COLOR_READ);
-    let zs = setup.place_of(ZS_READ);
-    let both = color.is_some() && zs.is_some();
-    let coordinates = Packet::TileCoordinates {
+    load_slot(
+        frame,
+        COLOR_READ,
+        WITHOUT_ZS,
+        setup.place_of(COLOR_READ),
+        tile,
+    )
+}
+
+/// The load of depth and stencil.
+#[inline(always)]
+pub fn zs_load(frame: &Frame, setup: &Setup, tile: Tile) -> Option<Packet>
+    requires { TileFits frame.now setup.now.places tile.x tile.y }
+    ensures { result ≡ load_slot frame.now 2 1 (place_at setup.now.places 2) tile.x tile.y }
+{
+    load_slot(frame, ZS_READ, WITHOUT_COLOR, setup.place_of(ZS_READ), tile)
+}
+
+/// A packet between two loads, where there are two.
+#[inline(always)]
+pub fn between_loads(setup: &Setup, packet: Packet) -> Option<Packet>
+    ensures { result ≡ packet_where (is_there setup.now.places 0 && is_there setup.now.places 2) packet }
+{
+    packet_where(
+        is_there(setup, COLOR_READ) && is_there(setup, ZS_READ),
+        packet,
+    )
+}
+
+/// The tile's coordinates.
+#[inline(always)]
+pub fn coordinates(tile: Tile) -> Packet
+    ensures { result ≡ TileCoordinates tile.x tile.y }
+{
+    Packet::TileCoordinates {
         x: tile.x,
         y: tile.y,
-    };
-    let idle_store = Packet::StoreTileBuffer {
+    }
+}
+
+/// A general store that stores nothing and clears nothing.
+#[inline(always)]
+pub fn idle_store() -> Packet
+    ensures { result ≡ idle_store }
+{
+    Packet::StoreTileBuffer {
         bits: KEEPS_ALL,
         address: 0,
-    };
-    [
-        load_slot(frame, COLOR_READ, WITHOUT_ZS, color, tile),
-        packet_where(both, coordinates),
-        packet_where(both, idle_store),
-        load_slot(frame, ZS_READ, WITHOUT_COLOR, zs, tile),
-    ]
+    }
 }
 
-/// The coordinates of a tile, and its list.
+/// The write of multisample colour.
 #[inline(always)]
-#[tactic(auto, unfolding(crate::specs::Text::list_slots))]
-pub fn list_slots(
-    frame: &Frame,
-    tiles: Option<(u8, u8)>,
-    slot: u32,
-    tile: Tile,
-) -> [Option<Packet>; 3]
-    requires { IsSome tiles → slot ≤ most_place }
-    ensures { result ≡ list_slots frame.now tiles slot tile.x tile.y }
-{
-    let coordinates = Packet::TileCoordinates {
-        x: tile.x,
-        y: tile.y,
-    };
-    [
-        Some(coordinates),
-        wait_slot(frame, tiles, tile),
-        list_slot(tiles, slot, tile),
-    ]
-}
-
-/// The writes of a tile.
-#[inline(always)]
-#[tactic(auto, unfolding(crate::specs::Text::write_slots))]
-pub fn write_slots(frame: &Frame, setup: &Setup, tile: Tile) -> [Option<Packet>; 7]
+pub fn multisample_color(frame: &Frame, setup: &Setup, tile: Tile) -> Option<Packet>
     requires { TileFits frame.now setup.now.places tile.x tile.y }
-    ensures { result ≡ write_slots frame.now setup.now.places tile.x tile.y }
+    ensures { result ≡ full_store_slot frame.now (place_at setup.now.places 4) 2 (more_after_multisample_color setup.now.places) tile.x tile.y }
 {
-    let color = setup.place_of(MULTISAMPLE_COLOR);
     let more = more_after_multisample_color(setup);
-    let first = full_store_slot(frame, MULTISAMPLE_COLOR, color, WITHOUT_ZS, more, tile);
-    let zs = setup.place_of(MULTISAMPLE_ZS);
+    let place = setup.place_of(MULTISAMPLE_COLOR);
+    full_store_slot(frame, MULTISAMPLE_COLOR, place, WITHOUT_ZS, more, tile)
+}
+
+/// The write of multisample depth and stencil.
+#[inline(always)]
+pub fn multisample_zs(frame: &Frame, setup: &Setup, tile: Tile) -> Option<Packet>
+    requires { TileFits frame.now setup.now.places tile.x tile.y }
+    ensures { result ≡ full_store_slot frame.now (place_at setup.now.places 5) 1 (more_after_multisample_zs setup.now.places) tile.x tile.y }
+{
     let more = more_after_multisample_zs(setup);
-    let second = full_store_slot(frame, MULTISAMPLE_ZS, zs, WITHOUT_COLOR, more, tile);
-    let more = is_there(setup, COLOR_WRITE);
-    let third = zs_store_slot(frame, setup.place_of(ZS_WRITE), more, tile);
-    [
-        first,
-        coordinates_slot(setup, MULTISAMPLE_ZS, color.is_some(), tile),
-        second,
-        coordinates_slot(setup, ZS_WRITE, some_before_zs(setup), tile),
-        third,
-        coordinates_slot(setup, COLOR_WRITE, some_before_color(setup), tile),
-        color_store_slot(frame, setup.place_of(COLOR_WRITE), tile),
-    ]
+    let place = setup.place_of(MULTISAMPLE_ZS);
+    full_store_slot(frame, MULTISAMPLE_ZS, place, WITHOUT_COLOR, more, tile)
+}
+
+/// The write of depth and stencil.
+#[inline(always)]
+pub fn zs_write(frame: &Frame, setup: &Setup, tile: Tile) -> Option<Packet>
+    ensures { result ≡ zs_store_slot frame.now (place_at setup.now.places 3) (is_there setup.now.places 1) tile.x tile.y }
+{
+    zs_store_slot(
+        frame,
+        setup.place_of(ZS_WRITE),
+        is_there(setup, COLOR_WRITE),
+        tile,
+    )
+}
+
+/// The write of colour.
+#[inline(always)]
+pub fn color_write(frame: &Frame, setup: &Setup, tile: Tile) -> Option<Packet>
+    ensures { result ≡ color_store_slot frame.now (place_at setup.now.places 1) tile.x tile.y }
+{
+    color_store_slot(frame, setup.place_of(COLOR_WRITE), tile)
+}
+
+/// The coordinates before the write of multisample depth and stencil.
+#[inline(always)]
+pub fn before_multisample_zs(setup: &Setup, tile: Tile) -> Option<Packet>
+    ensures { result ≡ coordinates_slot setup.now.places 5 (is_there setup.now.places 4) tile.x tile.y }
+{
+    coordinates_slot(
+        setup,
+        MULTISAMPLE_ZS,
+        is_there(setup, MULTISAMPLE_COLOR),
+        tile,
+    )
+}
+
+/// The coordinates before the write of depth and stencil.
+#[inline(always)]
+pub fn before_zs(setup: &Setup, tile: Tile) -> Option<Packet>
+    ensures { result ≡ coordinates_slot setup.now.places 3 (some_before_zs setup.now.places) tile.x tile.y }
+{
+    coordinates_slot(setup, ZS_WRITE, some_before_zs(setup), tile)
+}
+
+/// The coordinates before the write of colour.
+#[inline(always)]
+pub fn before_color(setup: &Setup, tile: Tile) -> Option<Packet>
+    ensures { result ≡ coordinates_slot setup.now.places 1 (some_before_color setup.now.places) tile.x tile.y }
+{
+    coordinates_slot(setup, COLOR_WRITE, some_before_color(setup), tile)
 }

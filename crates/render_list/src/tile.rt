@@ -1,25 +1,19 @@
 //! Writing a tile of the renderer list, slot by slot.
-ghost use Rattle.std.specs.Prelude.{◌≡◌, ◌≤◌, ◌∷◌, [], IsSome};
+ghost use Rattle.std.specs.Prelude.{◌≡◌, ◌≤◌, IsSome};
 ghost use Rattle.buffer_table.specs.Table.{most_place};
 ghost use Rattle.render_list.specs.Frame.{TileFits};
 ghost use Rattle.render_list.specs.Text.{load_slots, list_slots, write_slots, tile_slots, HasRoom, Puts};
 
 use crate::setup::Setup;
-use crate::slots::{Tile, list_slots, load_slots, write_slots};
+use crate::slots::{
+    Tile, before_color, before_multisample_zs, before_zs, between_loads, color_load, color_write,
+    coordinates, idle_store, list_slot, multisample_color, multisample_zs, wait_slot, zs_load,
+    zs_write,
+};
 use job_format::Frame;
-use packets::{Packet, put_slot};
+use packets::put_slot;
 
-// Each of these is called at one place, for each tile: written into one another, no slot has to be made to be looked at.
-
-/// Two slots.
-#[inline(always)]
-fn put_two(out: &mut [u8], at: usize, first: Option<Packet>, second: Option<Packet>) -> usize
-    requires { HasRoom out.old at (first ∷ second ∷ []) }
-    ensures { Puts (first ∷ second ∷ []) out.old at out.new result }
-{
-    let behind = put_slot(out, at, first);
-    put_slot(out, behind, second)
-}
+// A slot is put as soon as it is known. Written into one another, these functions then never have to look at one to see what it is.
 
 /// The loads.
 #[inline(always)]
@@ -28,9 +22,10 @@ fn put_loads(out: &mut [u8], at: usize, frame: &Frame, setup: &Setup, tile: Tile
     requires room { HasRoom out.old at (load_slots frame.now setup.now.places tile.x tile.y) }
     ensures { Puts (load_slots frame.now setup.now.places tile.x tile.y) out.old at out.new result }
 {
-    let [first, coordinates, nothing, second] = load_slots(frame, setup, tile);
-    let behind = put_two(out, at, first, coordinates);
-    put_two(out, behind, nothing, second)
+    let one = put_slot(out, at, color_load(frame, setup, tile));
+    let two = put_slot(out, one, between_loads(setup, coordinates(tile)));
+    let three = put_slot(out, two, between_loads(setup, idle_store()));
+    put_slot(out, three, zs_load(frame, setup, tile))
 }
 
 /// The coordinates, and the tile's list.
@@ -47,9 +42,9 @@ fn put_lists(
     requires room { HasRoom out.old at (list_slots frame.now tiles slot tile.x tile.y) }
     ensures { Puts (list_slots frame.now tiles slot tile.x tile.y) out.old at out.new result }
 {
-    let [coordinates, wait, list] = list_slots(frame, tiles, slot, tile);
-    let behind = put_two(out, at, coordinates, wait);
-    put_slot(out, behind, list)
+    let one = put_slot(out, at, Some(coordinates(tile)));
+    let two = put_slot(out, one, wait_slot(frame, tiles, tile));
+    put_slot(out, two, list_slot(tiles, slot, tile))
 }
 
 /// The writes: each but the first with the coordinates before it.
@@ -59,11 +54,13 @@ fn put_writes(out: &mut [u8], at: usize, frame: &Frame, setup: &Setup, tile: Til
     requires room { HasRoom out.old at (write_slots frame.now setup.now.places tile.x tile.y) }
     ensures { Puts (write_slots frame.now setup.now.places tile.x tile.y) out.old at out.new result }
 {
-    let [color, zs_at, zs, plain_at, plain, last_at, last] = write_slots(frame, setup, tile);
-    let behind_color = put_slot(out, at, color);
-    let behind_zs = put_two(out, behind_color, zs_at, zs);
-    let behind_plain = put_two(out, behind_zs, plain_at, plain);
-    put_two(out, behind_plain, last_at, last)
+    let one = put_slot(out, at, multisample_color(frame, setup, tile));
+    let two = put_slot(out, one, before_multisample_zs(setup, tile));
+    let three = put_slot(out, two, multisample_zs(frame, setup, tile));
+    let four = put_slot(out, three, before_zs(setup, tile));
+    let five = put_slot(out, four, zs_write(frame, setup, tile));
+    let six = put_slot(out, five, before_color(setup, tile));
+    put_slot(out, six, color_write(frame, setup, tile))
 }
 
 /// All of a tile.
