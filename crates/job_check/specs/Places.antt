@@ -1,5 +1,5 @@
 -- Where a refusal stands, as a part of the file and an offset in that part: what a caller needs who has the parts and no file.
-use Rattle.std.specs.Prelude.{ℕ, ◌==◌, if◌then◌else◌}
+use Rattle.std.specs.Prelude.{◌≡◌, ◌≤◌, ℕ, ◌==◌, length, if◌then◌else◌}
 use Rattle.job_format.specs.declared.rule.Stage.{Stage}
 use Rattle.job_format.specs.declared.rule.Stage.TheVariants.{F, M, S, H, B, A, U, G, X}
 use Rattle.job_format.specs.Offsets.{entry_offset}
@@ -31,6 +31,17 @@ place_start f Handles number = handles_offset f number
 place_start f BinList number = bin_offset f number
 place_start f Records number = records_offset f number
 place_start f Uniforms number = uniforms_offset f number
+
+-- the number of a place: of a buffer, at most their count, or of job j
+abbrev pub IsNumbered : FileModel → ℕ → Part → ℕ → Type 0
+IsNumbered f j Header number = number ≡ 0
+IsNumbered f j BufferEntry number = number ≤ length f.buffers
+IsNumbered f j JobEntry number = number ≡ j
+IsNumbered f j Content number = number ≤ length f.buffers
+IsNumbered f j Handles number = number ≡ j
+IsNumbered f j BinList number = number ≡ j
+IsNumbered f j Records number = number ≡ j
+IsNumbered f j Uniforms number = number ≡ j
 
 -- where the first of them begins, of all buffers or of job j
 abbrev pub first_start : FileModel → ℕ → Part → ℕ
