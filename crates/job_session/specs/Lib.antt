@@ -1,6 +1,8 @@
 pub mod Calls
 pub mod Checked
 pub mod Desk
+pub mod Found
+pub mod Kept
 pub mod Laws
 pub mod Own
 pub mod Places

@@ -1,19 +1,25 @@
 //! The session: one memory, and each client's buffers in it.
-ghost use Rattle.std.specs.Prelude.{◌≡◌, ◌≤◌, ◌<◌, ◌++◌, ℕ, List, length, replicate, IfOk, IfErr, IfSome, OnOk, Ok};
-ghost use Rattle.field_words.specs.Sizes.{most_code};
-ghost use Rattle.buffer_table.specs.declared.buffer.Kind.TheVariants.{Plain};
+ghost use Rattle.std.specs.Prelude.{◌≡◌, ◌≤◌, ◌<◌, ◌+◌, ◌*◌, ◌++◌, ℕ, List, length, replicate, slice_index, slice_index_or, IfOk, IfErr, IfSome, OnOk, Ok, None};
+ghost use Rattle.field_words.specs.Sizes.{most_code, page_size};
+ghost use Rattle.buffer_table.specs.declared.buffer.Kind.TheVariants.{Plain, Code};
+ghost use Rattle.job_format.specs.File.{BufferFits};
 ghost use Rattle.session_pages.specs.Map.{first_place};
 ghost use Rattle.job_session.specs.Own.{most_buffers};
 ghost use Rattle.job_session.specs.Submit.{packed, content_of, all_contents, laid_in, contents_at};
 ghost use Rattle.job_session.specs.Desk.{slot_count, slot_of, empty, least_id, is_live as live, kind_of, page_total, held_in};
 ghost use Rattle.job_session.specs.Desk.{new_id, placed, create_answer, created, code_answer, made, pages_for, free_answer, freed};
-ghost use Rattle.job_session.specs.Desk.{write_answer, written, read_answer, submit_answer, IsStop, IsRefusal};
+ghost use Rattle.job_session.specs.Desk.{write_answer, written, read_answer, submit_answer, IsStop, IsRefusal, with_part_at};
+ghost use Rattle.job_session.specs.Kept.{IsKeptOf};
+ghost use Rattle.job_session.specs.Found.{IsFound, AreAll};
 
 use super::denied::Denied;
 use super::job_file::job_file;
+use super::kept::{Entries, Entry, Found, Kept, bytes_in, copy_of};
+use super::known::check_known;
 use super::rules::{check_file, check_shader};
 use buffer_table::{Buffer, Kind};
-use field_words::{NoMemory, PAGE_SIZE, Stop};
+use field_words::{MOST_CODE, NoMemory, PAGE_SIZE, Stop};
+use job_check::shader_in;
 use session_pages::{FIRST_PLACE, Pages};
 use std::alloc::Global;
 use std::marker::Model;
@@ -28,23 +34,25 @@ pub const MOST_PAGES: u32 = 1024;
 pub const MOST_READ: u32 = 256;
 
 /// The memory, and for each slot the first page of its buffer, how many pages it has, and its kind. A client has 64 slots, one for
-/// each id.
+/// each id. Of a Code buffer's slot what was told of the shader is kept too, so that no submit asks again: all its bytes are as then.
 #[derive(Drop)]
 pub struct Session {
     pages: Pages,
     firsts: [u32; 512],
     counts: [u32; 512],
     kinds: [Kind; 512],
+    kept: Vec<Option<Kept>>,
 }
 
 impl Model for Session {
-    ghost use Rattle.job_session.specs.Desk.{Desk, SlotsFit};
+    ghost use Rattle.job_session.specs.Desk.{Desk};
+    ghost use Rattle.job_session.specs.Kept.{IsSession};
 
     ghost Value = { Desk };
 
     ghost view = { λ s. record { map = s.pages; firsts = s.firsts; counts = s.counts; kinds = s.kinds } };
 
-    ghost invariant = { λ s. SlotsFit s.firsts s.counts };
+    ghost invariant = { λ s. IsSession s.pages.memory s.pages.owners s.firsts s.counts s.kinds s.kept.items };
 }
 
 // The least id that the client doesn't use.
@@ -73,6 +81,17 @@ fn plain() -> [Kind; 512]
     ensures { result ≡ replicate slot_count Plain }
 {
     [Kind::Plain; 512]
+}
+
+// Nothing is kept of any slot.
+fn nothing_kept(alloc: Global) -> Result<Vec<Option<Kept>>, NoMemory>
+    ensures { IfOk result (λ kept. kept.items ≡ replicate slot_count None) }
+{
+    let mut kept = Vec::with_capacity(alloc, 512)?;
+    for _ in 0..512usize {
+        kept.push(None)?;
+    }
+    Ok(kept)
 }
 
 // Where the slot of a client's buffer stands.
@@ -104,6 +123,7 @@ impl Session {
             firsts: none(),
             counts: none(),
             kinds: plain(),
+            kept: nothing_kept(alloc)?,
         })
     }
 
@@ -114,6 +134,7 @@ impl Session {
         ensures answer { result ≡ new_id self.old client pages }
         ensures left { self.new ≡ placed self.old client pages kind result }
         ensures held { IfOk result (λ id. page_total self.new client id ≡ pages) }
+        ensures kind { IfOk result (λ id. kind_of self.new client id ≡ kind) }
         ensures inside { IfOk result (λ id. id < 64) }
     {
         let Some(id) = free_id(&self.counts, client) else {
@@ -158,7 +179,9 @@ impl Session {
         let pages = bytes.len().div_ceil(PAGE_SIZE as usize) as u32;
         match self.place(client, pages, Kind::Code) {
             Ok(id) => {
-                self.pages.write(self.firsts[slot(client, id)], 0, bytes);
+                let slot = slot(client, id);
+                self.put(slot, 0, bytes);
+                self.keep(alloc, slot);
                 Ok(id)
             }
             Err(refusal) => Err(Stop::Fault(Denied::Session(refusal))),
@@ -176,6 +199,7 @@ impl Session {
             return Err(1);
         }
         let slot = slot(client, id);
+        self.kept[slot] = None;
         self.pages.give_back(self.firsts[slot], self.counts[slot]);
         self.counts[slot] = 0;
         Ok(())
@@ -198,8 +222,52 @@ impl Session {
         if u64::from(PAGE_SIZE * self.counts[slot]) < u64::from(at) + part.len() as u64 {
             return Err(2);
         }
-        self.pages.write(self.firsts[slot], at, part);
+        self.put(slot, at, part);
         Ok(())
+    }
+
+    // Writes bytes into a slot's buffer. Nothing is kept of it then.
+    fn put(&mut self, slot: usize, at: u32, part: &[u8])
+        requires inside { slot < slot_count }
+        requires live { 1 ≤ slice_index self.old.counts slot }
+        requires fits { at + length part.now ≤ page_size * slice_index self.old.counts slot }
+        ensures { self.new ≡ with_part_at self.old slot at part.now }
+    {
+        self.kept[slot] = None;
+        self.pages.write(self.firsts[slot], at, part);
+    }
+
+    // What a check tells of the shader in a slot's Code buffer, with all its bytes; nothing where a rule stands of them all, or memory
+    // runs out.
+    fn told(&self, alloc: Global, slot: usize) -> Option<Kept>
+        requires inside { slot < slot_count }
+        requires live { 1 ≤ slice_index self.now.counts slot }
+        requires code { slice_index_or self.now.kinds slot Plain ≡ Code }
+        ensures { IfSome result (IsKeptOf self.now.map.memory self.now.firsts self.now.counts self.now.kinds slot) }
+    {
+        let size = PAGE_SIZE * self.counts[slot];
+        let Ok(bytes) = self.pages.read(alloc, self.firsts[slot], 0, size) else {
+            return None;
+        };
+        if bytes.len() > MOST_CODE as usize {
+            return None;
+        }
+        match shader_in(alloc, &bytes) {
+            Ok(info) => Some(Kept { bytes, info }),
+            Err(_) => None,
+        }
+    }
+
+    // Keeps that.
+    fn keep(&mut self, alloc: Global, slot: usize)
+        requires inside { slot < slot_count }
+        requires live { 1 ≤ slice_index self.old.counts slot }
+        requires code { slice_index_or self.old.kinds slot Plain ≡ Code }
+        ensures { self.new ≡ self.old }
+    {
+        if let Some(kept) = self.told(alloc, slot) {
+            self.kept[slot] = Some(kept);
+        }
     }
 
     /// The `len` bytes of a client's buffer from byte `at` on. The first of these that stands refuses it: 1 where the client has no
@@ -240,6 +308,9 @@ impl Session {
         ensures accepted { IfOk result (λ done. submit_answer self.now client parts.now ≡ Ok done) }
         ensures refused { IfErr result (IsRefusal (submit_answer self.now client parts.now)) }
     {
+        if check_known(alloc, self, client, parts)? {
+            return Ok(());
+        }
         let file = job_file(alloc, self, client, parts)?;
         check_file(alloc, &file)
     }
@@ -250,6 +321,7 @@ impl Session {
         requires id { id < 64 }
         ensures buffer { result ≡ laid_in client place (held_in self.now client id) }
         ensures size { IfSome result (λ buffer. buffer.size ≤ 16777216) }
+        ensures fits { IfSome result BufferFits }
     {
         let slot = slot(client, id);
         if self.counts[slot] == 0 {
@@ -283,6 +355,64 @@ impl Session {
             }
         }
         Ok(buffers)
+    }
+
+    // A live buffer as the file of a job has it, at this place.
+    fn entry<'a>(
+        &'a self,
+        alloc: Global,
+        client: u8,
+        id: u32,
+        place: u32,
+    ) -> Result<Found<'a>, NoMemory>
+        requires client { client < 8 }
+        requires id { id < 64 }
+        ensures { IfOk result (IsFound client place (held_in self.now client id)) }
+    {
+        let Some(buffer) = self.laid(client, id, place) else {
+            return Ok(Found::Nothing);
+        };
+        if let Kind::Plain = buffer.kind {
+            return Ok(Found::Entry(Entry {
+                buffer,
+                content: &[],
+                shader: None,
+            }));
+        }
+        match &self.kept[slot(client, id)] {
+            Some(kept) => Ok(Found::Entry(Entry {
+                buffer,
+                content: bytes_in(kept),
+                shader: Some(copy_of(alloc, &kept.info)?),
+            })),
+            None => Ok(Found::Unknown),
+        }
+    }
+
+    /// A client's live buffers as the file of a job has them, each directly behind the one before; `None` where nothing is kept of a Code
+    /// buffer.
+    pub(crate) fn entries<'a>(
+        &'a self,
+        alloc: Global,
+        client: u8,
+    ) -> Result<Option<Entries<'a>>, NoMemory>
+        requires { client < 8 }
+        ensures { IfOk result (λ found. IfSome found (AreAll client (held_in self.now client))) }
+    {
+        let mut entries = Entries::new(alloc);
+        let mut place = FIRST_PLACE;
+        for id in 0..MOST_BUFFERS {
+            let found = self.entry(alloc, client, id, place)?;
+            match found {
+                Found::Nothing => {}
+                Found::Unknown => return Ok(None),
+                Found::Entry(entry) => {
+                    place += entry.buffer.size;
+                    entries.push(entry)?;
+                }
+            }
+        }
+        Ok(Some(entries))
     }
 
     // Puts what a buffer gives to the contents of a job's file: all its bytes where it is Code.

@@ -20,7 +20,7 @@ use Rattle.session_law.specs.History.{AreKnown, desk_left, past_left, desk_repli
 use Rattle.job_session.specs.Laws.{NoneIsFull}
 use Rattle.session_law.specs.Laws.{NewSessionsAgree, CallsAreAnswered, HistoriesAgree, SessionsGoOn, RepliesAreOfHistories, ClientsAreApart, OthersChangeNothing}
 use Rattle.job_session.proofs.Apart.{replies_are_own}
-use Rattle.session_law.proofs.Bytes.{is_within, within_none, zero_at}
+use Rattle.job_session.proofs.Bytes.{is_within, within_none, zero_at}
 use Rattle.session_law.proofs.Changing.{held_past, slot_below}
 use Rattle.session_law.proofs.Outcomes.{Meets, write_meets, read_meets, free_meets, submit_meets}
 use Rattle.session_law.proofs.Creating.{create_meets}

@@ -12,7 +12,7 @@ use Rattle.job_session.specs.Places.{Place, covers, is_used}
 use Rattle.job_session.specs.Session.{Past, with_own}
 use Rattle.job_session.specs.Desk.{Desk, slot_count, slot_of, first_page, page_total, kind_of, bytes_of, held_in}
 use Rattle.session_law.specs.Agree.{IsKey, IsSized, place_in, owner_at, client_count, AreListed, Agrees}
-use Rattle.session_law.proofs.Bytes.{is_within, window_same}
+use Rattle.job_session.proofs.Bytes.{is_within, window_same}
 
 pub slot_below : (client id : ℕ) → IsKey client id → slot_of client id < slot_count
 slot_below client id key = omega (arith, key.known, key.small)

@@ -9,7 +9,7 @@ use Rattle.job_session.specs.Places.{covers}
 use Rattle.job_session.specs.Session.{Past}
 use Rattle.job_session.specs.Desk.{Desk, slot_of, first_page, page_total}
 use Rattle.session_law.specs.Agree.{IsKey, client_count, place_in, owner_at, Agrees}
-use Rattle.session_law.proofs.Bytes.{is_within}
+use Rattle.job_session.proofs.Bytes.{is_within}
 use Rattle.session_law.proofs.Changing.{slot_below}
 
 -- how many pages the buffers of n ids from one on have, and whether one of them has the page

@@ -16,8 +16,7 @@ use Rattle.job_session.specs.Checked.{shader_refusal, session_rules}
 use Rattle.job_session.specs.Desk.{pages_for}
 use Rattle.session_law.specs.Full.{IsRoom, HasNoRoom, IsFullFor}
 use Rattle.session_law.specs.Laws.{FullIsExact, PlacesAreLowest}
-use Rattle.session_law.proofs.Listing.{both_true}
-use Rattle.session_law.proofs.Rooms.{all_found}
+use Rattle.job_session.proofs.Runs.{both_true, all_found}
 use Rattle.session_law.proofs.Making.{zero_buffer}
 use Rattle.session_law.proofs.Creating.{zero_pages}
 use Rattle.session_law.proofs.Coding.{shader_buffer, padded_pages, some_pages}

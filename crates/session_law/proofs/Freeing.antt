@@ -13,7 +13,7 @@ use Rattle.job_session.specs.Places.{covers, is_used, without}
 use Rattle.job_session.specs.Session.{Past, with_own}
 use Rattle.job_session.specs.Desk.{Desk, SlotsFit, slot_count, slot_of, first_page, page_total}
 use Rattle.session_law.specs.Agree.{IsKey, IsSized, place_in, owner_at, Agrees}
-use Rattle.session_law.proofs.Bytes.{is_within, is_inside, within_none, held_inside, held_outside, length_held, written_apart, zero_at}
+use Rattle.job_session.proofs.Bytes.{is_within, is_inside, within_none, held_inside, held_outside, length_held, written_apart, zero_at}
 use Rattle.session_law.proofs.Changing.{IsChange, change_agrees, slot_below, same_slot}
 use Rattle.session_law.proofs.Listing.{listed_without, used_without}
 use Rattle.session_law.proofs.Writing.{own_page, room_in, before_page}

@@ -15,7 +15,7 @@ use Rattle.session_law.specs.Agree.{IsKey, client_count, place_in, owner_at, Are
 use Rattle.session_law.specs.History.{desk_left, past_left}
 use Rattle.session_law.specs.Kept.{LiesAt, HasPlace, IsLive, IsKept}
 use Rattle.session_law.specs.Laws.{MemoryIsKept}
-use Rattle.session_law.proofs.Bytes.{within_yes, window_length}
+use Rattle.job_session.proofs.Bytes.{within_yes, window_length}
 use Rattle.session_law.proofs.Changing.{same_slot, slot_below, held_live}
 use Rattle.session_law.proofs.Listing.{listed_some}
 use Rattle.session_law.proofs.Writing.{own_page, room_in}

@@ -1,5 +1,4 @@
 pub mod Answering
-pub mod Bytes
 pub mod Changing
 pub mod Coding
 pub mod Counting

@@ -5,13 +5,9 @@ use Rattle.session_pages.specs.Runs.{page_count}
 use Rattle.job_session.specs.Places.{Place, covers, is_used, is_of, without}
 use Rattle.job_session.specs.Session.{Past}
 use Rattle.job_session.specs.Desk.{Desk, slot_of, page_total}
+use Rattle.job_session.proofs.Runs.{both_true}
 use Rattle.session_law.specs.Agree.{IsKey, place_in, owner_at, AreListed, IsListed, Agrees}
 use Rattle.session_law.proofs.Changing.{same_slot}
-
-pub both_true : (a b : Bool) → (a && b) ≡ true → (a ≡ true) × (b ≡ true)
-both_true true true is = (refl, refl)
-both_true true false is = (refl, is)
-both_true false b is = let no : false ≡ true = is in absurd (grind (arith, no))
 
 and_no : (a b : Bool) → b ≡ false → (a && b) ≡ false
 and_no true b is = is

@@ -21,7 +21,7 @@ use Rattle.places_law.proofs.Tables.{count_placeless}
 use Rattle.places_law.proofs.Wholes.{moved_are_alike}
 use Rattle.session_law.specs.Agree.{IsKey, client_count, Agrees}
 use Rattle.session_law.specs.Lying.{lying, lying_file, SubmitsAreOfPlaces}
-use Rattle.session_law.proofs.Bytes.{within_yes, window_length}
+use Rattle.job_session.proofs.Bytes.{within_yes, window_length}
 use Rattle.session_law.proofs.Changing.{slot_below, held_live}
 use Rattle.session_law.proofs.Writing.{room_in}
 use Rattle.session_law.proofs.Counting.{pages_sum, slots_clash, few_pages}

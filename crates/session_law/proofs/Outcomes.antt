@@ -17,8 +17,9 @@ use Rattle.job_session.specs.Checked.{session_rules}
 use Rattle.job_session.specs.Desk.{Desk, first_page, page_total, kind_of, bytes_of, held_in, is_live, lies_in, write_in, write_answer, written, read_answer, free_answer, freed, job_answer, submit_answer}
 use Rattle.job_session.specs.Replies.{done_reply, read_reply, submitted_reply}
 use Rattle.session_law.specs.Agree.{IsKey, client_count, AreListed, IsListed, Agrees}
-use Rattle.session_law.proofs.Bytes.{window_length, read_window}
-use Rattle.session_law.proofs.Listing.{both_true, is_of_key, listed_some}
+use Rattle.job_session.proofs.Bytes.{window_length, read_window}
+use Rattle.job_session.proofs.Runs.{both_true}
+use Rattle.session_law.proofs.Listing.{is_of_key, listed_some}
 use Rattle.session_law.proofs.Writing.{Lies, write_agrees, room_in}
 use Rattle.session_law.proofs.Freeing.{free_agrees}
 

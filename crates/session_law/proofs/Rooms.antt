@@ -10,9 +10,9 @@ use Rattle.job_session.specs.Places.{least_place, is_used}
 use Rattle.job_session.specs.Session.{Past}
 use Rattle.job_session.specs.Desk.{Desk, page_total, kind_of, bytes_of, held_in, is_vacant, least_id}
 use Rattle.session_law.specs.Agree.{IsKey, client_count, owner_at, Agrees}
-use Rattle.session_law.proofs.Bytes.{is_inside}
+use Rattle.job_session.proofs.Bytes.{is_inside}
 use Rattle.session_law.proofs.Changing.{held_if, held_is}
-use Rattle.session_law.proofs.Listing.{both_true}
+use Rattle.job_session.proofs.Runs.{run_found}
 use Rattle.session_law.proofs.Making.{HasRoom}
 
 free_by : (b v : Bool) (held : Held) → b ≡ true → free_if (held_if (b && not v) held) ≡ v
@@ -67,32 +67,15 @@ same_room past desk pages agrees =
     run_same (λ page. not (is_used past.places page)) (is_free desk.map.owners) pages
     (λ page inside. ap not (agrees.used page inside) ∙ not_not (owner_at desk page == 0))
 
-pub all_found : (p : ℕ → Bool) (from n k : ℕ) → all_where p from n ≡ true → from ≤ k → k < from + n → p k ≡ true
-unfolding all_where
-all_found p from zero k is low high = absurd (omega (arith, low, high))
-all_found p from (suc n) k is low high =
-    let both = both_true (p from) (all_where p (from + 1) n) is in
-    found_by p from n k both.0 low high (all_found p (from + 1) n k both.1) (nat_le k from) refl
-  where
-    found_by : (p : ℕ → Bool) (from n k : ℕ) → p from ≡ true → from ≤ k → k < from + suc n → (from + 1 ≤ k → k < from + 1 + n → p k ≡ true)
-        → (b : Bool) → nat_le k from ≡ b → p k ≡ true
-    found_by p from n k here low high later true is = let e : k ≡ from = grind (arith, nat_tests) in rw e here
-    found_by p from n k here low high later false is = let past : from < k = grind (arith, nat_tests) in later (omega arith) (omega arith)
-
 -- a run that was found is inside, and free
 pub room_found : (desk : Desk) (client id pages first : ℕ) → IsKey client id → page_total desk client id ≡ 0 → 1 ≤ pages → free_run desk.map pages ≡ Some first
     → HasRoom desk client id pages first
-unfolding first_run is_run
 room_found desk client id pages first key none some is =
-    let found = first_found (is_run (is_free desk.map.owners) pages) 0 page_count first is in
-    let both = both_true (nat_le (first + pages) page_count) (all_where (is_free desk.map.owners) first pages) found.1 in
-    let low : nat_le (first + pages) page_count ≡ true = both.0 in
+    let found = run_found desk.map pages first is in
     record {
       key = key;
       vacant = none;
       some = some;
-      fits = grind (arith, nat_tests);
-      free = λ page inside cover.
-          let in_run = is_inside first pages page cover in
-          equal (owner_at desk page) 0 (all_found (is_free desk.map.owners) first pages page both.1 in_run.0 in_run.1);
+      fits = found.0;
+      free = λ page inside cover. let in_run = is_inside first pages page cover in found.1 page in_run.0 in_run.1;
     }

@@ -15,7 +15,7 @@ use Rattle.session_law.specs.History.{AreKnown, desk_replies}
 use Rattle.session_law.specs.Agree.{client_count, Agrees}
 use Rattle.session_law.specs.Scripts.{told_of, past_with, told_reply, told_after, onto_calls, calls_in, ScriptsAreOfHistories, ScriptsAreOfCalls}
 use Rattle.session_law.proofs.Answering.{calls_are_answered, new_sessions_agree}
-use Rattle.session_law.proofs.Listing.{both_true}
+use Rattle.job_session.proofs.Runs.{both_true}
 
 some_number : (a b : ℕ) → Some a ≡ Some b → a ≡ b
 some_number a b is = cc

@@ -10,7 +10,7 @@ use Rattle.job_session.specs.Own.{Held, with_buffer}
 use Rattle.job_session.specs.Session.{Past, with_own}
 use Rattle.job_session.specs.Desk.{Desk, slot_of, first_page, page_total, kind_of, bytes_of, held_in, with_written}
 use Rattle.session_law.specs.Agree.{IsKey, IsSized, owner_at, Agrees}
-use Rattle.session_law.proofs.Bytes.{is_within, is_outside, window_written, written_apart}
+use Rattle.job_session.proofs.Bytes.{is_within, is_outside, window_written, written_apart}
 use Rattle.session_law.proofs.Changing.{IsChange, change_agrees, slot_below, held_live}
 use Rattle.session_law.proofs.Listing.{listed_same}
 

@@ -33,7 +33,7 @@ use Rattle.job_session.specs.Submit.{content_of, laid, with_client}
 use Rattle.job_session.specs.Desk.{Desk, first_page, page_total, kind_of, bytes_of, job_answer}
 use Rattle.session_law.specs.Agree.{IsKey, client_count, Agrees}
 use Rattle.session_law.specs.Lying.{lying, lying_file}
-use Rattle.session_law.proofs.Bytes.{window_length, window_same}
+use Rattle.job_session.proofs.Bytes.{window_length, window_same}
 use Rattle.session_law.proofs.Laying.{regions, regions_back, size_back}
 use Rattle.session_law.proofs.Lying.{slot_held, submits_are_of_places}
 use Rattle.session_law.proofs.Writing.{room_in}
