@@ -31,4 +31,8 @@ pub use submit::Verdict;
 #[cfg(test)]
 mod bound_tests;
 #[cfg(test)]
+mod layout_tests;
+#[cfg(test)]
+mod limit_tests;
+#[cfg(test)]
 mod tests;

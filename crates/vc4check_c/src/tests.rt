@@ -19,7 +19,7 @@ pub(crate) const SMALLEST: &str =
     0000000000000000000000000000000000000000";
 
 /// Nothing told.
-const NOTHING: JobAnswer = JobAnswer {
+pub(crate) const NOTHING: JobAnswer = JobAnswer {
     offset: 0,
     letter: 0,
     number: 0,
@@ -99,7 +99,7 @@ const PAIR: &str = "5643344a0200000000301000000000000010000000100000020000000200
     00000000000000000000000000000000000000000000000001000000";
 
 /// No job, and nothing told of any.
-const NO_LISTS: JobLists = JobLists {
+pub(crate) const NO_LISTS: JobLists = JobLists {
     lists: 0,
     slot: 0,
     bin: 0,
@@ -113,7 +113,7 @@ const NO_LISTS: JobLists = JobLists {
     render_length: 0,
 };
 
-const NO_JOBS: JobsAnswer = JobsAnswer {
+pub(crate) const NO_JOBS: JobsAnswer = JobsAnswer {
     offset: 0,
     letter: 0,
     number: 0,
@@ -232,7 +232,7 @@ const NO_SAMPLE: ShaderSample = ShaderSample {
     direct: 7,
 };
 
-const UNTOLD: ShaderAnswer = ShaderAnswer {
+pub(crate) const UNTOLD: ShaderAnswer = ShaderAnswer {
     number: 7,
     index: 7,
     uniforms: 7,
