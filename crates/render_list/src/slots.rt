@@ -214,7 +214,7 @@ fn some_before_zs(setup: &Setup) -> bool
 /// Whether a write comes before the one of colour.
 #[inline(always)]
 #[tactic(auto, unfolding(crate::specs::Text::some_before_color))]
-fn some_before_color(setup: &Setup) -> bool
+pub fn some_before_color(setup: &Setup) -> bool
     ensures { result ≡ some_before_color setup.now.places }
 {
     some_before_zs(setup) || is_there(setup, ZS_WRITE)

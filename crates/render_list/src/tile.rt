@@ -7,8 +7,8 @@ ghost use Rattle.render_list.specs.Text.{load_slots, list_slots, write_slots, ti
 use crate::setup::Setup;
 use crate::slots::{
     Tile, before_color, before_multisample_zs, before_zs, between_loads, color_load, color_write,
-    coordinates, idle_store, list_slot, multisample_color, multisample_zs, wait_slot, zs_load,
-    zs_write,
+    coordinates, idle_store, list_slot, multisample_color, multisample_zs, some_before_color,
+    wait_slot, zs_load, zs_write,
 };
 use job_format::Frame;
 use packets::put_slot;
@@ -49,7 +49,7 @@ fn put_lists(
 
 /// The writes: each but the first with the coordinates before it.
 #[inline(always)]
-fn put_writes(out: &mut [u8], at: usize, frame: &Frame, setup: &Setup, tile: Tile) -> usize
+fn put_all_writes(out: &mut [u8], at: usize, frame: &Frame, setup: &Setup, tile: Tile) -> usize
     requires fits { TileFits frame.now setup.now.places tile.x tile.y }
     requires room { HasRoom out.old at (write_slots frame.now setup.now.places tile.x tile.y) }
     ensures { Puts (write_slots frame.now setup.now.places tile.x tile.y) out.old at out.new result }
@@ -61,6 +61,19 @@ fn put_writes(out: &mut [u8], at: usize, frame: &Frame, setup: &Setup, tile: Til
     let five = put_slot(out, four, zs_write(frame, setup, tile));
     let six = put_slot(out, five, before_color(setup, tile));
     put_slot(out, six, color_write(frame, setup, tile))
+}
+
+/// The writes, which mostly are that of colour alone.
+#[inline(always)]
+fn put_writes(out: &mut [u8], at: usize, frame: &Frame, setup: &Setup, tile: Tile) -> usize
+    requires fits { TileFits frame.now setup.now.places tile.x tile.y }
+    requires room { HasRoom out.old at (write_slots frame.now setup.now.places tile.x tile.y) }
+    ensures { Puts (write_slots frame.now setup.now.places tile.x tile.y) out.old at out.new result }
+{
+    if some_before_color(setup) {
+        return put_all_writes(out, at, frame, setup, tile);
+    }
+    put_slot(out, at, color_write(frame, setup, tile))
 }
 
 /// All of a tile.
