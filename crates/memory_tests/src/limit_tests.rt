@@ -76,19 +76,20 @@ fn texts_of_job_files(rt: HostRuntime) -> Result<(), Fail> {
     Ok(())
 }
 
+// As many lines or words as fit in 1 MiB.
 #[test]
 fn texts_of_1_mib(rt: HostRuntime) -> Result<(), Fail> {
     let alloc = rt.alloc();
-    for (all, line, wanted) in [
-        (["asm"].as_slice(), b"nop\n".as_slice(), 0),
-        (&["disasm"], &NOP, 0),
-        (&["shader", "--asm"], b"nop\n", 1),
-        (&["slots", "32"], b"begin 0 1\nend 0\n", 0),
-        (&["queue", "1024"], b"start \n", 1),
-        (&["queue", "1024"], b"start\n", 0),
-        (&["session"], b"create 0 1\n", 0),
+    for (all, line, count, wanted) in [
+        (["asm"].as_slice(), b"nop\n".as_slice(), 262_144, 0),
+        (&["disasm"], &NOP, 131_072, 0),
+        (&["shader", "--asm"], b"nop\n", 262_144, 1),
+        (&["slots", "32"], b"begin 0 1\nend 0\n", 65_536, 0),
+        (&["queue", "1024"], b"start \n", 149_796, 1),
+        (&["queue", "1024"], b"start\n", 174_762, 0),
+        (&["session"], b"create 0 1\n", 95_325, 0),
     ] {
-        let text = filled(alloc, line, TEXT / line.len())?;
+        let text = filled(alloc, line, count)?;
         assert_eq!(rt; status(alloc, all, text)?, wanted);
     }
     Ok(())
