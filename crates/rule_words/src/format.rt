@@ -46,7 +46,7 @@ of the job's entry that has to be zero. The offset is that of the field, or of t
 /// The rules of the memory table, M1 on.
 pub(crate) const TABLE: [Row; 5] = [
     (
-        "the memory's size is 0, no multiple of 4,096, or over 64 MiB",
+        "the memory's size is 0, no multiple of 4,096, or over the limit (64 MiB in a file, 0xFF000000 for a driver)",
         "- Usual cause: giving the size of the contents, and not of whole pages.
 - Fix: round up to a page.",
     ),
