@@ -3,7 +3,7 @@ ghost use Rattle.std.specs.Prelude.{◌≡◌, ◌<◌, ◌∷◌, [], ◌++◌,
 ghost use Rattle.field_words.specs.Sizes.{most_memory};
 ghost use Rattle.field_words.specs.Questions.{Answers};
 ghost use Rattle.job_format.specs.File.{IsWellFormed, IsFileOf};
-ghost use Rattle.job_format.specs.Model.{file_view};
+ghost use Rattle.job_format.specs.Parts.{parts_view};
 ghost use Rattle.job_format.specs.Reading.{file_at};
 ghost use Rattle.job_check.specs.Emit.{content_parts};
 ghost use Rattle.job_check.specs.Faults.{file_stages};
@@ -20,72 +20,73 @@ use super::cause::Cause;
 use super::reply::{Image, Reply};
 use buffer_table::Buffer;
 use dumper::{Span, image_head, insert_span, refusal_text};
-use field_words::{NoMemory, Stop};
-use job_check::{Region, check_lists, format_refusal};
-use job_format::{JobFile, Refusal, read_job};
+use field_words::{MOST_MEMORY, NoMemory, Stop};
+use job_check::{Region, check_parts, format_refusal};
+use job_format::{FileParts, Refusal, read_parts};
 use rule_words::line_of;
 use std::alloc::Global;
 use std::borrow::CowSlice;
 
-/// A file of which no rule stands, and the lists of its jobs.
+/// A file of which no rule stands, whose contents are slices of its bytes, and the lists of its jobs.
 #[derive(Drop)]
-pub struct Accepted {
-    pub file: JobFile,
+pub struct Accepted<'a> {
+    pub file: FileParts<'a>,
     pub region: Region,
 }
 
 // The rules of a file that was read.
-fn accept_file(alloc: Global, file: JobFile) -> Result<Accepted, Stop<Refusal>>
-    requires { IsWellFormed (file_view file) }
-    ensures { Answers (file_stages (file_view file)) (IsAccepted (file_view file)) result }
+fn accept_parts<'a>(alloc: Global, file: FileParts<'a>) -> Result<Accepted<'a>, Stop<Refusal>>
+    requires { IsWellFormed (parts_view file) }
+    ensures { Answers (file_stages (parts_view file.entry)) (IsAccepted (parts_view file.entry)) result }
 {
-    let region = check_lists(alloc, &file)?;
+    let region = check_parts(alloc, MOST_MEMORY, &file)?;
     Ok(Accepted { file, region })
 }
 
-// All rules of these bytes.
-fn accept(alloc: Global, bytes: &[u8]) -> Result<Accepted, Stop<Refusal>>
+// All rules of these bytes. Nothing of them is copied but the numbers of entries and frames.
+fn accept<'a>(alloc: Global, bytes: &'a [u8]) -> Result<Accepted<'a>, Stop<Refusal>>
     ensures answers { Answers (all_questions bytes.now) (IsAccepted (file_at bytes.now)) result }
     ensures spelled { IsOk result → IsFileOf bytes.now (file_at bytes.now) }
 {
-    match read_job(alloc, bytes) {
-        Ok(file) => accept_file(alloc, file),
+    match read_parts(alloc, bytes) {
+        Ok(file) => accept_parts(alloc, file),
         Err(stop) => Err(format_refusal(stop)),
     }
 }
 
-// What a file's memory has by ascending place: the contents of its buffers, and its lists, which begin at this place.
+// What a file's memory has by ascending place: the contents of its buffers, which stay where they are, and its lists, which begin at
+// this place.
 fn spans_of<'a>(
     alloc: Global,
     buffers: &[Buffer],
-    mut contents: Vec<Vec<u8>>,
+    mut contents: Vec<&'a [u8]>,
     place: u32,
     lists: Vec<u8>,
 ) -> Result<Vec<Span<'a>>, NoMemory>
     requires { length contents.items ≡ length buffers.now }
     ensures { IfOk result (λ spans. parts_of spans.items
-        ≡ sorted (content_parts buffers.now (map (λ c. c.items) contents.items) ++ part_at place lists.items ∷ [])) }
+        ≡ sorted (content_parts buffers.now (map (λ c. c.now) contents.entry.items) ++ part_at place lists.items ∷ [])) }
 {
     let mut spans = Vec::new(alloc);
     let bytes = CowSlice::Owned(lists);
     insert_span(&mut spans, Span { place, bytes })?;
     while let Some(content) = contents.pop() {
         let place = buffers[contents.len()].place;
-        let bytes = CowSlice::Owned(content);
+        let bytes = CowSlice::Borrowed(content);
         insert_span(&mut spans, Span { place, bytes })?;
     }
     Ok(spans)
 }
 
 // The image of an accepted file.
-fn image_of<'a>(alloc: Global, accepted: Accepted) -> Result<Image<'a>, NoMemory>
-    requires accepted { IsAccepted (file_view accepted.file) accepted }
-    requires well_formed { IsWellFormed (file_view accepted.file) }
-    ensures text { IfOk result (λ image. image_text image ≡ image_of (file_view accepted.file)) }
+fn image_of<'a>(alloc: Global, accepted: Accepted<'a>) -> Result<Image<'a>, NoMemory>
+    requires accepted { IsAccepted (parts_view accepted.file) accepted }
+    requires well_formed { IsWellFormed (parts_view accepted.file) }
+    ensures text { IfOk result (λ image. image_text image ≡ image_of (parts_view accepted.entry.file)) }
     ensures ready { IfOk result (λ image. Ascend 0 most_memory (parts_of image.spans.items)) }
 {
     let Accepted { file, region } = accepted;
-    let JobFile {
+    let FileParts {
         version,
         mem_size,
         regions,

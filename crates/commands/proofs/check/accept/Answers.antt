@@ -16,9 +16,9 @@ pub returns-in-Ok-clause-answers : goal.returns-in-Ok-clause-answers
 unfolding questions_within
 returns-in-Ok-clause-answers c =
     let bytes = c.args.bytes.now in
-    answers_later (answered format_refused (format_questions bytes)) (file_stages (file_at bytes)) (IsAccepted (file_at bytes)) c.accept_file.result
+    answers_later (answered format_refused (format_questions bytes)) (file_stages (file_at bytes)) (IsAccepted (file_at bytes)) c.accept_parts.result
     (answered_none format_refused (format_questions bytes) c.in-Ok.ensures.read.0)
-    (subst (λ (f : FileModel). Answers (file_stages f) (IsAccepted f) c.accept_file.result) c.in-Ok.ensures.read.1 c.accept_file.ensures)
+    (subst (λ (f : FileModel). Answers (file_stages f) (IsAccepted f) c.accept_parts.result) c.in-Ok.ensures.read.1 c.accept_parts.ensures)
 
 pub returns-in-Err-clause-answers : goal.returns-in-Err-clause-answers
 returns-in-Err-clause-answers c =

@@ -17,7 +17,7 @@ loop-content-init c =
       spans =
           c.in_ok-insert_span.ensures
           ∙ ap (λ spans. inserted lists (parts_of spans)) c.new-spans.ensures.items
-          ∙ first_part (λ v. v.items) a.buffers.now a.contents.items n lists (omega (arith, c.requires));
+          ∙ first_part (λ v. v.now) a.buffers.now a.contents.items n lists (omega (arith, c.requires));
     }
 
 pub loop-content-preserved : goal.loop-content-preserved
@@ -32,11 +32,11 @@ loop-content-preserved c =
     let longer : length old ≡ suc (length new) = omega (arith, ap length is, length-append new (x ∷ [])) in
     let left = c.loop-content.invariant.rest in
     let others = parts_of c.loop-content.spans.items in
-    let put : parts_of c.insert_span-in-Some.new.spans.items ≡ inserted (part_at (get_or a.buffers.now (length new) no_buffer).place x.items) others =
-    c.in_ok-insert_span-2.ensures ∙ ap (λ n. inserted (part_at (get_or a.buffers.now n no_buffer).place x.items) others) (c.len.ensures ∙ c.pop.new.self.ok.0) in
-    let are = subst (λ n. parts_of c.loop-content.spans.items ≡ sorted (content_parts (drop n a.buffers.now) (map (λ v. v.items) (drop n all)) ++ lists)) longer c.loop-content.invariant.spans in record {
+    let put : parts_of c.insert_span-in-Some.new.spans.items ≡ inserted (part_at (get_or a.buffers.now (length new) no_buffer).place x.now) others =
+    c.in_ok-insert_span-2.ensures ∙ ap (λ n. inserted (part_at (get_or a.buffers.now n no_buffer).place x.now) others) (c.len.ensures ∙ c.pop.new.self.ok.0) in
+    let are = subst (λ n. parts_of c.loop-content.spans.items ≡ sorted (content_parts (drop n a.buffers.now) (map (λ v. v.now) (drop n all)) ++ lists)) longer c.loop-content.invariant.spans in record {
       few = omega (arith, longer, c.loop-content.invariant.few);
       rest = rest_taken all old new x left is;
-      spans = one_more (λ v. v.items) a.buffers.now all (length new) no_buffer x lists others (parts_of c.insert_span-in-Some.new.spans.items) (omega (arith, longer, c.loop-content.invariant.few))
+      spans = one_more (λ v. v.now) a.buffers.now all (length new) no_buffer x lists others (parts_of c.insert_span-in-Some.new.spans.items) (omega (arith, longer, c.loop-content.invariant.few))
           (last_taken all old new x left is) are put;
     }

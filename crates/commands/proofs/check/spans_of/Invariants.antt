@@ -10,7 +10,7 @@ invariant-loop-content l = record {
   few : length l.contents.items ≤ length l.buffers;
   rest : l.contents.items ≡ take (length l.contents.items) l.fn.contents.items;
   spans : parts_of l.spans.items ≡ sorted (content_parts (drop (length l.contents.items) l.buffers)
-      (map (λ c. c.items) (drop (length l.contents.items) l.fn.contents.items)) ++ part_at l.fn.place l.fn.lists.items ∷ []);
+      (map (λ c. c.now) (drop (length l.contents.items) l.fn.contents.items)) ++ part_at l.fn.place l.fn.lists.items ∷ []);
 }
 
 abbrev pub decreases-loop-content : goal.decreases-loop-content

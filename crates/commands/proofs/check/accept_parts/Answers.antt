@@ -1,5 +1,5 @@
 use Rattle.std.proofs.Common.{refl}
-use Rattle.commands.proofs.check.accept_file.Goals as goal
+use Rattle.commands.proofs.check.accept_parts.Goals as goal
 
 pub returns : goal.returns
 returns c = (
