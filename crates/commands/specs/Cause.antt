@@ -1,6 +1,5 @@
--- Why a command refuses, as a person is told: a function of the refusal and of what was read, but for the place of a rule, of which it is
--- said that the offset lies in it.
-use Rattle.std.specs.Prelude.{◌≡◌, ℕ, ◌*◌, ◌%◌, ◌==◌, List, ◌++◌, codes, length, nat_le, slice_index, Option, Some, None, Result, Ok, Err, if◌then◌else◌}
+-- Why a command refuses, as a person is told: a function of the refusal and of what was read.
+use Rattle.std.specs.Prelude.{◌≡◌, ℕ, ◌*◌, ◌%◌, ◌==◌, Bool, true, false, List, ◌++◌, codes, length, nat_le, slice_index, Option, Some, None, Result, Ok, Err, if◌then◌else◌}
 use Rattle.std.specs.Fmt.{decimal}
 use Rattle.field_words.specs.Questions.{first_of}
 use Rattle.field_words.specs.Sizes.{most_words}
@@ -14,6 +13,9 @@ use Rattle.qpu_asm.specs.declared.fault.AsmFault.{AsmFault}
 use Rattle.qpu_asm.specs.Assembly.{Assembled}
 use Rattle.qpu_asm.specs.Place.{fault_place, wanted_text}
 use Rattle.qpu_asm.specs.declared.place.FaultPlace.{FaultPlace}
+use Rattle.qpu_asm.specs.declared.place.Opcode.TheVariants.{Nop}
+use Rattle.qpu_asm.specs.declared.place.Wanted.{Wanted}
+use Rattle.qpu_asm.specs.declared.place.Wanted.TheVariants.{Item}
 use Rattle.rule_words.specs.declared.line.Line.{Line}
 use Rattle.rule_words.specs.declared.name.Family.TheVariants.{Kind as KindFamily, S as ShaderFamily, U as TextureFamily, V as LevelFamily}
 use Rattle.rule_words.specs.declared.name.RuleName.{RuleName}
@@ -40,10 +42,19 @@ use Rattle.commands.specs.WordFault.{word_fault_text}
 abbrev pub kind_of : AsmFault → RuleName
 kind_of fault = record { family = KindFamily; number = fault.kind }
 
+-- an item of the one instruction that has none
+unfoldable pub is_bare : Wanted → Bool
+is_bare (Item Nop) = true
+is_bare wanted = false
+
+-- what was expected, in words
+unfoldable pub told_text : Wanted → List ℕ
+told_text wanted = if is_bare wanted then codes "nop has no items" else wanted_text wanted
+
 -- "vc4check: line 3, column 14: the value is a number from 0 to 63; see vc4check explain kind 3"
 unfoldable pub kind_line : AsmFault → FaultPlace → List ℕ
 kind_line fault place =
-    codes "vc4check: line " ++ (decimal fault.line ++ (codes ", column " ++ (decimal place.column ++ (codes ": " ++ (wanted_text place.wanted
+    codes "vc4check: line " ++ (decimal fault.line ++ (codes ", column " ++ (decimal place.column ++ (codes ": " ++ (told_text place.wanted
     ++ (codes "; see vc4check explain " ++ name_text (kind_of fault)))))))
 
 -- "vc4check: line 3, column 14: SENTENCE"

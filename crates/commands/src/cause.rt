@@ -1,10 +1,10 @@
 //! Why a command refuses, as a line for a person.
 ghost use Rattle.std.specs.Prelude.{◌≡◌, Some};
-ghost use Rattle.commands.specs.Cause.{cause_text, kind_of, shader_rule, level_rule, size_line, named_text};
+ghost use Rattle.commands.specs.Cause.{cause_text, is_bare, told_text, kind_of, shader_rule, level_rule, size_line, named_text};
 
 use super::word_fault::WordFault;
 use job_text::MakeFault;
-use qpu_asm::{AsmFault, FaultPlace};
+use qpu_asm::{AsmFault, FaultPlace, Opcode, Wanted};
 use rule_words::{Family, Line, RuleName};
 use shader_check::ShaderFault;
 use std::fmt;
@@ -76,6 +76,36 @@ pub fn level_rule(fault: &LevelFault) -> RuleName
     }
 }
 
+// Whether an item was expected of the one instruction that has none.
+#[tactic(auto, unfolding(crate::specs::Cause::is_bare))]
+fn is_bare(wanted: Wanted) -> bool
+    ensures { result ≡ is_bare wanted }
+{
+    match wanted {
+        Wanted::Item(Opcode::Nop) => true,
+        _ => false,
+    }
+}
+
+/// What was expected where a fault of the assembler stands.
+#[derive(Clone, Copy)]
+struct Told {
+    wanted: Wanted,
+}
+
+impl fmt::Display for Told {
+    ghost output = { λ told. Some (told_text told.wanted) };
+
+    #[tactic(auto, unfolding(crate::specs::Cause::told_text))]
+    fn fmt<W: fmt::Write>(&self, f: &mut fmt::Formatter<W>) -> fmt::Result {
+        if is_bare(self.wanted) {
+            f.write_str("nop has no items")
+        } else {
+            write!(f, "{}", self.wanted)
+        }
+    }
+}
+
 /// How many bytes the input has, and how many are wanted.
 #[derive(Clone, Copy)]
 struct Sizes {
@@ -121,10 +151,13 @@ impl fmt::Display for Cause {
             Cause::Rule(line) => write!(f, "{}", line),
             Cause::Kind(fault, place) => {
                 let name = kind_of(fault);
+                let told = Told {
+                    wanted: place.wanted,
+                };
                 write!(
                     f,
                     "vc4check: line {}, column {}: {}; see vc4check explain {}",
-                    fault.line, place.column, place.wanted, name
+                    fault.line, place.column, told, name
                 )
             }
             Cause::Mistake(fault) => {

@@ -18,7 +18,7 @@ const MOST_PICTURE: usize = 25_165_824;
 /// The most steps of a run.
 pub const MOST_STEPS: u64 = 1_000_000;
 
-/// The most slots of a book of tile memory.
+/// The most slots of a pool.
 pub const MOST_SLOTS: u64 = 32;
 
 /// The most buffers that jobs of a queue name.
@@ -48,7 +48,7 @@ pub enum Command {
     Shader,
     /// `shader --asm`: reads shader text and prints the same of its words, or its first fault.
     ShaderText,
-    /// `slots <n>`: reads a script of calls on a book of so many slots of tile memory, and answers each.
+    /// `slots <n>`: reads a script of calls on a pool of so many slots, and answers each.
     Slots(u32),
     /// `queue <buffers>`: reads a script of calls on a queue of jobs that name so many buffers, and answers each.
     Queue(u32),

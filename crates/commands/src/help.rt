@@ -155,7 +155,7 @@ With 1 to 6 a line on standard error says why.
 ";
 
 const VERSION: &str =
-    "vc4check 0.1.0, for job files of versions 1 and 2\nproved with rattle-kit-13b logic dac8208d650f15bf\n";
+    "vc4check 0.1.0, for job files of versions 1 and 2\nproved with rattle-kit-13f logic dac8208d650f15bf\n";
 
 /// All commands, as `--help` names them.
 const VERBS: [Verb; 17] = [
