@@ -43,18 +43,28 @@ check_bin-requires-clause-room c =
     let apart = layout_apart v.file v.number in
     omega (arith, apart.first, apart.second, apart.third, apart.last, ap (λ l. l.bin) h.layout_is, ap (λ j. length j.bin) h.job_is, c.requires.room)
 
-pub returns-in-Ok : goal.returns-in-Ok
-returns-in-Ok c =
+pub returns-in-Ok-clause-answers : goal.returns-in-Ok-clause-answers
+returns-in-Ok-clause-answers c =
+    let v = c.args.self.now in
+    let x = c.self.inside in
+    let h = subst (λ (w : InView). IsContext w (job_parts_view x.job.now) x.table.now (shaders_view x.shaders.now.items) x.handles x.layout) c.self.view_is c.self.invariant in
+    let none : first_of (bin_questions (job_parts_view x.job.now).bin x.job.now.declared x.table.now x.handles) ≡ None = c.in-Ok.ensures.answers.0 in (
+      bin_none v (job_parts_view x.job.now) x.table.now (shaders_view x.shaders.now.items) x.handles x.layout h c.requires.some none,
+      bin_told v (job_parts_view x.job.now) x.table.now (shaders_view x.shaders.now.items) x.handles x.layout c.in-Ok.info h c.requires.some c.in-Ok.ensures.answers.1,
+    )
+
+pub returns-in-Ok-clause-written : goal.returns-in-Ok-clause-written
+returns-in-Ok-clause-written c =
     let v = c.args.self.now in
     let x = c.self.inside in
     let h = subst (λ (w : InView). IsContext w (job_parts_view x.job.now) x.table.now (shaders_view x.shaders.now.items) x.handles x.layout) c.self.view_is c.self.invariant in
     let same = bin_text_is v (job_parts_view x.job.now) x.table.now (shaders_view x.shaders.now.items) x.handles x.layout h c.requires.some in
-    let none : first_of (bin_questions (job_parts_view x.job.now).bin x.job.now.declared x.table.now x.handles) ≡ None = c.in-Ok.ensures.answers.0 in
-    record {
-      answers = (
-        bin_none v (job_parts_view x.job.now) x.table.now (shaders_view x.shaders.now.items) x.handles x.layout h c.requires.some none,
-        bin_told v (job_parts_view x.job.now) x.table.now (shaders_view x.shaders.now.items) x.handles x.layout c.in-Ok.info h c.requires.some c.in-Ok.ensures.answers.1,
-      );
-      written = c.in-Ok.ensures.put ∙ ap (λ at. with_bytes c.args.out.now at (bin_text x.job.now.bin.now x.job.now.declared x.table.now x.handles x.layout)) (ap (λ l. l.bin) h.layout_is) ∙ ap (with_bytes c.args.out.now (layout_of v.file v.number).bin) same;
-      fits = omega (arith, c.in-Ok.ensures.fits, ap length same, ap (λ j. length j.bin) h.job_is);
-    }
+    c.in-Ok.ensures.put ∙ ap (λ at. with_bytes c.args.out.now at (bin_text x.job.now.bin.now x.job.now.declared x.table.now x.handles x.layout)) (ap (λ l. l.bin) h.layout_is) ∙ ap (with_bytes c.args.out.now (layout_of v.file v.number).bin) same
+
+pub returns-in-Ok-clause-fits : goal.returns-in-Ok-clause-fits
+returns-in-Ok-clause-fits c =
+    let v = c.args.self.now in
+    let x = c.self.inside in
+    let h = subst (λ (w : InView). IsContext w (job_parts_view x.job.now) x.table.now (shaders_view x.shaders.now.items) x.handles x.layout) c.self.view_is c.self.invariant in
+    let same = bin_text_is v (job_parts_view x.job.now) x.table.now (shaders_view x.shaders.now.items) x.handles x.layout h c.requires.some in
+    omega (arith, c.in-Ok.ensures.fits, ap length same, ap (λ j. length j.bin) h.job_is)

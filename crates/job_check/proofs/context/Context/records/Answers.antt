@@ -51,8 +51,8 @@ check_records-requires-clause-room c =
     let apart = layout_apart v.file v.number in
     omega (arith, apart.third, apart.last, ap (λ l. l.uniforms) h.layout_is, ap (λ j. length j.uniforms) h.job_is, c.requires.room)
 
-pub returns-in-Ok : goal.returns-in-Ok
-returns-in-Ok c =
+pub returns-in-Ok-clause-answers : goal.returns-in-Ok-clause-answers
+returns-in-Ok-clause-answers c =
     let v = c.args.self.now in
     let x = c.self.inside in
     let h = subst (λ (w : InView). IsContext w (job_parts_view x.job.now) x.table.now (shaders_view x.shaders.now.items) x.handles x.layout) c.self.view_is c.self.invariant in
@@ -64,20 +64,54 @@ returns-in-Ok c =
     ∙ input_is v c.args.states.now (job_parts_view x.job.now) x.table.now (shaders_view x.shaders.now.items) x.handles x.layout h c.requires.states in
     let none = subst (λ (i : InputModel). first_of (all_questions i) ≡ None) same c.in-Ok.ensures.answers.0 in
     let told = subst (λ (i : InputModel). IsEmitted i x.layout out c.check_records.new.out c.in-Ok.info) same c.in-Ok.ensures.answers.1 in
+    let emitted = subst (λ (l : Layout). IsEmitted (input_for f j) l out c.check_records.new.out c.in-Ok.info) h.layout_is told in (
+      records_none f j c.requires.some none,
+      record { records = emitted.records ∙ ap length (records_are f j c.requires.some); uniforms = emitted.uniforms ∙ ap length (streams_are f j c.requires.some) },
+    )
+
+pub returns-in-Ok-clause-written : goal.returns-in-Ok-clause-written
+returns-in-Ok-clause-written c =
+    let v = c.args.self.now in
+    let x = c.self.inside in
+    let h = subst (λ (w : InView). IsContext w (job_parts_view x.job.now) x.table.now (shaders_view x.shaders.now.items) x.handles x.layout) c.self.view_is c.self.invariant in
+    let f = v.file in
+    let j = v.number in
+    let out = c.args.out.now in
+    let same =
+    ap (λ l. input_of c.args.states.now x.job.now.records.now x.job.now.uniforms.now x.table.now x.handles l) c.deref.ensures.value
+    ∙ input_is v c.args.states.now (job_parts_view x.job.now) x.table.now (shaders_view x.shaders.now.items) x.handles x.layout h c.requires.states in
+    let told = subst (λ (i : InputModel). IsEmitted i x.layout out c.check_records.new.out c.in-Ok.info) same c.in-Ok.ensures.answers.1 in
     let emitted = subst (λ (l : Layout). IsEmitted (input_for f j) l out c.check_records.new.out c.in-Ok.info) h.layout_is told in
     let layout = layout_of f j in
-    record {
-      answers = (
-        records_none f j c.requires.some none,
-        record { records = emitted.records ∙ ap length (records_are f j c.requires.some); uniforms = emitted.uniforms ∙ ap length (streams_are f j c.requires.some) },
-      );
-      written =
-          emitted.bytes
-          ∙ ap (λ t. with_bytes (with_bytes out layout.records t) layout.uniforms (emitted_uniforms (input_for f j) (streams_place layout))) (records_are f j c.requires.some)
-          ∙ ap (with_bytes (with_bytes out layout.records (records_of f j)) layout.uniforms) (streams_are f j c.requires.some);
-      records_fit = records_within f j c.requires.some none;
-      streams_fit = streams_within f j c.requires.some none;
-    }
+    emitted.bytes
+    ∙ ap (λ t. with_bytes (with_bytes out layout.records t) layout.uniforms (emitted_uniforms (input_for f j) (streams_place layout))) (records_are f j c.requires.some)
+    ∙ ap (with_bytes (with_bytes out layout.records (records_of f j)) layout.uniforms) (streams_are f j c.requires.some)
+
+pub returns-in-Ok-clause-records_fit : goal.returns-in-Ok-clause-records_fit
+returns-in-Ok-clause-records_fit c =
+    let v = c.args.self.now in
+    let x = c.self.inside in
+    let h = subst (λ (w : InView). IsContext w (job_parts_view x.job.now) x.table.now (shaders_view x.shaders.now.items) x.handles x.layout) c.self.view_is c.self.invariant in
+    let f = v.file in
+    let j = v.number in
+    let same =
+    ap (λ l. input_of c.args.states.now x.job.now.records.now x.job.now.uniforms.now x.table.now x.handles l) c.deref.ensures.value
+    ∙ input_is v c.args.states.now (job_parts_view x.job.now) x.table.now (shaders_view x.shaders.now.items) x.handles x.layout h c.requires.states in
+    let none = subst (λ (i : InputModel). first_of (all_questions i) ≡ None) same c.in-Ok.ensures.answers.0 in
+    records_within f j c.requires.some none
+
+pub returns-in-Ok-clause-streams_fit : goal.returns-in-Ok-clause-streams_fit
+returns-in-Ok-clause-streams_fit c =
+    let v = c.args.self.now in
+    let x = c.self.inside in
+    let h = subst (λ (w : InView). IsContext w (job_parts_view x.job.now) x.table.now (shaders_view x.shaders.now.items) x.handles x.layout) c.self.view_is c.self.invariant in
+    let f = v.file in
+    let j = v.number in
+    let same =
+    ap (λ l. input_of c.args.states.now x.job.now.records.now x.job.now.uniforms.now x.table.now x.handles l) c.deref.ensures.value
+    ∙ input_is v c.args.states.now (job_parts_view x.job.now) x.table.now (shaders_view x.shaders.now.items) x.handles x.layout h c.requires.states in
+    let none = subst (λ (i : InputModel). first_of (all_questions i) ≡ None) same c.in-Ok.ensures.answers.0 in
+    streams_within f j c.requires.some none
 
 pub returns-in-Err-Fault-clause-answers : goal.returns-in-Err-Fault-clause-answers
 returns-in-Err-Fault-clause-answers c =
