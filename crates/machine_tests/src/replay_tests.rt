@@ -28,7 +28,7 @@ fn run_of(alloc: Global, list: &[u8; 3], steps: u32) -> Result<Trace, NoMemory>
         { 0 },
         |_step: u64, _k: u32| 0,
     );
-    replay(alloc, machine, &oracle, steps)
+    replay(alloc, machine, &oracle, None, steps)
 }
 
 // A renderer that waits for the semaphore: no step is done.

@@ -1,40 +1,67 @@
 -- A run that goes one step further.
-use Rattle.std.proofs.Common.{◌≡◌, ◌≤◌, ◌<◌, ℕ, suc, ◌+◌, IsTrue, false, List, [], ◌∷◌, ◌++◌, length, slice_index, refl, sym, ◌∙◌, ap, subst, arith}
+use Rattle.std.proofs.Common.{◌≡◌, ◌≤◌, ◌<◌, ℕ, suc, ◌+◌, IsTrue, true, false, List, [], ◌∷◌, ◌++◌, length, slice_index, map, Option, None, Some, refl, sym, ◌∙◌, ap, subst, append-nil, append_assoc, arith}
 use Rattle.std.proofs.lemmas.Grind.{common_steps}
 use Rattle.field_words.specs.declared.access.Access.{Access}
 use Rattle.field_words.specs.declared.access.Actor.{Actor}
 use Rattle.std.specs.List.{range_with_len}
-use Rattle.std.proofs.lemmas.List.Elements.{filter_passes}
+use Rattle.std.specs.Prelude.{All, filter}
+use Rattle.std.proofs.lemmas.List.Elements.{filter_passes, All-filter}
 use Rattle.machine_plan.specs.Runs.{Allowed, reached}
 use Rattle.machine_plan.specs.World.{Moves}
 use Rattle.machine.specs.State.{State}
 use Rattle.machine.specs.Step.{Event, enabled, may, ready, step, job_of, finished}
+use Rattle.replay.specs.declared.logged.Log.{Log}
+use Rattle.replay.specs.declared.logged.Logged.{Logged}
 use Rattle.replay.specs.declared.trace.Ending.{Ending}
 use Rattle.replay.specs.declared.trace.Ending.TheVariants.{Finished, Waiting, Spent}
 use Rattle.replay.specs.declared.trace.Trace.{Trace}
 use Rattle.replay.specs.declared.trace.TraceLine.{TraceLine}
-use Rattle.replay.specs.Units.{unit_count, unit_at, word_count, enabled_units}
+use Rattle.replay.specs.declared.units.UnitKind.{UnitKind}
+use Rattle.replay.specs.Units.{unit_count, unit_at, word_count, enabled_units, is_of, preferred, candidates}
 use Rattle.replay.specs.Trace.{line_of}
-use Rattle.replay.specs.Run.{IsTurn, Follows, lines_of, IsEnded, IsOver, StepsBy, IsTrace}
+use Rattle.replay.specs.Run.{IsTurn, Follows, lines_of, numbered, accesses_of, IsEnded, IsOver, StepsBy, IsTrace, IsLog}
 
--- a unit among those that may step may step
-pub among_may : (s : State) (place : ℕ) → place < length (enabled_units s) → IsTrue (enabled s (unit_at (slice_index (enabled_units s) place)))
-among_may s place below = filter_passes (λ n. enabled s (unit_at n)) (range_with_len 0 unit_count) place 0 below
+-- a unit among those that may step may step, also among the favoured ones
+all_may : (s : State) → All (λ n. IsTrue (enabled s (unit_at n))) (enabled_units s)
+all_may s = filter_passes (λ n. enabled s (unit_at n)) (range_with_len 0 unit_count)
+
+all_preferred : (P : ℕ → Type 0) (these those : List ℕ) → All P these → All P those → All P (preferred these those)
+all_preferred P [] those here there = there
+all_preferred P (n ∷ these) those here there = here
+
+candidates_may : (favoured : Option UnitKind) (s : State) → All (λ n. IsTrue (enabled s (unit_at n))) (candidates favoured (enabled_units s))
+unfolding candidates
+candidates_may None s = all_may s
+candidates_may (Some kind) s =
+    all_preferred (λ n. IsTrue (enabled s (unit_at n))) (filter (λ n. is_of kind (unit_at n)) (enabled_units s)) (enabled_units s)
+    (All-filter (λ n. is_of kind (unit_at n)) (λ n. IsTrue (enabled s (unit_at n))) (enabled_units s) (all_may s)) (all_may s)
+
+pub among_may : (favoured : Option UnitKind) (s : State) (place : ℕ) → place < length (candidates favoured (enabled_units s)) → IsTrue (enabled s (unit_at (slice_index (candidates favoured (enabled_units s)) place)))
+among_may favoured s place below = candidates_may favoured s place 0 below
 
 -- what was followed so far
-pub record Followed (Chooses Answers : ℕ → ℕ → ℕ → Type 0) (start now : State) (done : ℕ) (lines : List TraceLine) : Type 0 where
-  pub events : List Event
-  pub follows : Follows Chooses Answers 0 start events
+pub record Followed (Chooses Answers : ℕ → ℕ → ℕ → Type 0) (favoured : Option UnitKind) (start now : State) (done : ℕ) (events : List Event) : Type 0 where
+  pub follows : Follows Chooses Answers favoured 0 start events
   pub allowed : Allowed may step start events
-  pub lines_are : lines ≡ lines_of start events
   pub count : length events ≡ done
   pub now_is : now ≡ reached step start events
 
-follows_more : (Chooses Answers : ℕ → ℕ → ℕ → Type 0) (i : ℕ) (s : State) (events : List Event) (event : Event) → Follows Chooses Answers i s events → IsTurn Chooses Answers (i + length events) (reached step s events) event → Follows Chooses Answers i s (events ++ event ∷ [])
-follows_more Chooses Answers i s [] event h turn = let same : i + 0 ≡ i = omega arith in (subst (λ k. IsTurn Chooses Answers k s event) same turn, tt)
-follows_more Chooses Answers i s (first ∷ events) event h turn =
+-- and its lines, or its accesses
+pub record Lined (Chooses Answers : ℕ → ℕ → ℕ → Type 0) (favoured : Option UnitKind) (start now : State) (done : ℕ) (lines : List TraceLine) : Type 0 where
+  pub events : List Event
+  pub followed : Followed Chooses Answers favoured start now done events
+  pub lines_are : lines ≡ lines_of start events
+
+pub record Noted (Chooses Answers : ℕ → ℕ → ℕ → Type 0) (favoured : Option UnitKind) (start now : State) (done : ℕ) (kept : List Logged) : Type 0 where
+  pub events : List Event
+  pub followed : Followed Chooses Answers favoured start now done events
+  pub kept_are : kept ≡ accesses_of 0 start events
+
+follows_more : (Chooses Answers : ℕ → ℕ → ℕ → Type 0) (favoured : Option UnitKind) (i : ℕ) (s : State) (events : List Event) (event : Event) → Follows Chooses Answers favoured i s events → IsTurn Chooses Answers favoured (i + length events) (reached step s events) event → Follows Chooses Answers favoured i s (events ++ event ∷ [])
+follows_more Chooses Answers favoured i s [] event h turn = let same : i + 0 ≡ i = omega arith in (subst (λ k. IsTurn Chooses Answers favoured k s event) same turn, tt)
+follows_more Chooses Answers favoured i s (first ∷ events) event h turn =
     let same : i + suc (length events) ≡ i + 1 + length events = omega arith in
-    (h.0, follows_more Chooses Answers (i + 1) (step s first).state events event h.1 (subst (λ k. IsTurn Chooses Answers k (reached step (step s first).state events) event) same turn))
+    (h.0, follows_more Chooses Answers favoured (i + 1) (step s first).state events event h.1 (subst (λ k. IsTurn Chooses Answers favoured k (reached step (step s first).state events) event) same turn))
 
 allowed_more : (s : State) (events : List Event) (event : Event) → Allowed may step s events → IsTrue (may (reached step s events) event) → Allowed may step s (events ++ event ∷ [])
 allowed_more s [] event h can = (can, tt)
@@ -56,19 +83,44 @@ may_is : (s : State) (event : Event) → IsTrue (enabled s event.unit) → IsTru
 unfolding enabled ready
 may_is s event can = can
 
-pub followed_more : (Chooses Answers : ℕ → ℕ → ℕ → Type 0) (start now next : State) (done : ℕ) (lines all : List TraceLine) (line : TraceLine) → Followed Chooses Answers start now done lines → StepsBy Chooses Answers done now next line
-    → all ≡ lines ++ line ∷ [] → Followed Chooses Answers start next (done + 1) all
-followed_more Chooses Answers start now next done lines all line h by all_is =
-    let place : done ≡ 0 + length h.events = omega (arith, h.count) in
-    let turn : IsTurn Chooses Answers (0 + length h.events) (reached step start h.events) by.event =
-    subst (λ k. IsTurn Chooses Answers k (reached step start h.events) by.event) place (subst (λ s. IsTurn Chooses Answers done s by.event) h.now_is by.turn) in
+accesses_more : (i : ℕ) (s : State) (events : List Event) (event : Event) → accesses_of i s (events ++ event ∷ []) ≡ accesses_of i s events ++ numbered (i + length events) (step (reached step s events) event).accesses
+accesses_more i s [] event = let same : i ≡ i + 0 = omega arith in append-nil (numbered i (step s event).accesses) ∙ ap (λ k. numbered k (step s event).accesses) same
+accesses_more i s (first ∷ events) event =
+    let same : i + 1 + length events ≡ i + suc (length events) = omega arith in
+    let last = (step (reached step (step s first).state events) event).accesses in
+    ap (λ rest. numbered i (step s first).accesses ++ rest) (accesses_more (i + 1) (step s first).state events event ∙ ap (λ k. accesses_of (i + 1) (step s first).state events ++ numbered k last) same)
+    ∙ sym (append_assoc (numbered i (step s first).accesses) (accesses_of (i + 1) (step s first).state events) (numbered (i + suc (length events)) last))
+
+followed_more : (Chooses Answers : ℕ → ℕ → ℕ → Type 0) (favoured : Option UnitKind) (start now next : State) (done : ℕ) (events : List Event) (listed : List Access) (line : TraceLine) → Followed Chooses Answers favoured start now done events
+    → (by : StepsBy Chooses Answers favoured done now next listed line) → Followed Chooses Answers favoured start next (done + 1) (events ++ by.event ∷ [])
+followed_more Chooses Answers favoured start now next done events listed line h by =
+    let place : done ≡ 0 + length events = omega (arith, h.count) in
+    let turn : IsTurn Chooses Answers favoured (0 + length events) (reached step start events) by.event =
+    subst (λ k. IsTurn Chooses Answers favoured k (reached step start events) by.event) place (subst (λ s. IsTurn Chooses Answers favoured done s by.event) h.now_is by.turn) in
+    record {
+      follows = follows_more Chooses Answers favoured 0 start events by.event h.follows turn;
+      allowed = allowed_more start events by.event h.allowed (subst (λ s. IsTrue (may s by.event)) h.now_is (may_is now by.event by.may));
+      count = one_longer events by.event ∙ ap (λ n. n + 1) h.count;
+      now_is = by.next_is ∙ (ap (λ s. (step s by.event).state) h.now_is ∙ sym (reached_more start events by.event));
+    }
+
+pub lined_more : (Chooses Answers : ℕ → ℕ → ℕ → Type 0) (favoured : Option UnitKind) (start now next : State) (done : ℕ) (listed : List Access) (lines all : List TraceLine) (line : TraceLine) → Lined Chooses Answers favoured start now done lines
+    → StepsBy Chooses Answers favoured done now next listed line → all ≡ lines ++ line ∷ [] → Lined Chooses Answers favoured start next (done + 1) all
+lined_more Chooses Answers favoured start now next done listed lines all line h by all_is = record {
+  events = h.events ++ by.event ∷ [];
+  followed = followed_more Chooses Answers favoured start now next done h.events listed line h.followed by;
+  lines_are = all_is ∙ (ap (λ ls. ls ++ line ∷ []) h.lines_are ∙ (ap (λ l. lines_of start h.events ++ l ∷ []) (by.line_is ∙ ap (λ s. line_of by.event.unit (job_of s by.event.unit) (step s by.event).accesses) h.followed.now_is) ∙ sym (lines_more start h.events by.event)));
+}
+
+pub noted_more : (Chooses Answers : ℕ → ℕ → ℕ → Type 0) (favoured : Option UnitKind) (start now next : State) (done : ℕ) (listed : List Access) (kept all : List Logged) (line : TraceLine) → Noted Chooses Answers favoured start now done kept
+    → StepsBy Chooses Answers favoured done now next listed line → all ≡ kept ++ numbered done listed → Noted Chooses Answers favoured start next (done + 1) all
+noted_more Chooses Answers favoured start now next done listed kept all line h by all_is =
+    let place : done ≡ 0 + length h.events = omega (arith, h.followed.count) in
     record {
       events = h.events ++ by.event ∷ [];
-      follows = follows_more Chooses Answers 0 start h.events by.event h.follows turn;
-      allowed = allowed_more start h.events by.event h.allowed (subst (λ s. IsTrue (may s by.event)) h.now_is (may_is now by.event by.may));
-      lines_are = all_is ∙ (ap (λ ls. ls ++ line ∷ []) h.lines_are ∙ (ap (λ l. lines_of start h.events ++ l ∷ []) (by.line_is ∙ ap (λ s. line_of by.event.unit (job_of s by.event.unit) (step s by.event).accesses) h.now_is) ∙ sym (lines_more start h.events by.event)));
-      count = one_longer h.events by.event ∙ ap (λ n. n + 1) h.count;
-      now_is = by.next_is ∙ (ap (λ s. (step s by.event).state) h.now_is ∙ sym (reached_more start h.events by.event));
+      followed = followed_more Chooses Answers favoured start now next done h.events listed line h.followed by;
+      kept_are = all_is ∙ (ap (λ ks. ks ++ numbered done listed) h.kept_are ∙ (ap (λ k. accesses_of 0 start h.events ++ numbered k listed) place
+          ∙ (ap (λ l. accesses_of 0 start h.events ++ numbered (0 + length h.events) l) (by.listed_is ∙ ap (λ s. (step s by.event).accesses) h.followed.now_is) ∙ sym (accesses_more 0 start h.events by.event))));
     }
 
 over_ends : (s : State) (steps done : ℕ) (ending : Ending) → IsOver s ending → IsEnded s steps done ending
@@ -76,35 +128,54 @@ over_ends s steps done Finished h = h
 over_ends s steps done Waiting h = h
 over_ends s steps done Spent h = absurd h
 
-trace_with : (Chooses Answers : ℕ → ℕ → ℕ → Type 0) (start now : State) (steps done : ℕ) (trace : Trace) (h : Followed Chooses Answers start now done trace.lines.items) → done ≤ steps → IsEnded now steps done trace.ending → (events : List Event) × IsTrace Chooses Answers start steps events trace
-trace_with Chooses Answers start now steps done trace h most ends = (
+trace_with : (Chooses Answers : ℕ → ℕ → ℕ → Type 0) (favoured : Option UnitKind) (start now : State) (steps done : ℕ) (trace : Trace) (h : Lined Chooses Answers favoured start now done trace.lines.items) → done ≤ steps → IsEnded now steps done trace.ending → (events : List Event) × IsTrace Chooses Answers favoured start steps events trace
+trace_with Chooses Answers favoured start now steps done trace h most ends = (
   h.events,
   record {
-    run = record { allowed = h.allowed; accesses = refl; last = refl };
-    follows = h.follows;
+    run = record { allowed = h.followed.allowed; accesses = refl; last = refl };
+    follows = h.followed.follows;
     lines = h.lines_are;
-    most = omega (arith, h.count, most);
-    ends = subst (λ n. IsEnded (reached step start h.events) steps n trace.ending) (sym h.count) (subst (λ s. IsEnded s steps done trace.ending) h.now_is ends);
+    most = omega (arith, h.followed.count, most);
+    ends = subst (λ n. IsEnded (reached step start h.events) steps n trace.ending) (sym h.followed.count) (subst (λ s. IsEnded s steps done trace.ending) h.followed.now_is ends);
   },
 )
 
-pub trace_over : (Chooses Answers : ℕ → ℕ → ℕ → Type 0) (start now : State) (steps done : ℕ) (trace : Trace) → Followed Chooses Answers start now done trace.lines.items → done ≤ steps → IsOver now trace.ending → (events : List Event) × IsTrace Chooses Answers start steps events trace
-trace_over Chooses Answers start now steps done trace h most over = trace_with Chooses Answers start now steps done trace h most (over_ends now steps done trace.ending over)
+pub trace_over : (Chooses Answers : ℕ → ℕ → ℕ → Type 0) (favoured : Option UnitKind) (start now : State) (steps done : ℕ) (trace : Trace) → Lined Chooses Answers favoured start now done trace.lines.items → done ≤ steps → IsOver now trace.ending → (events : List Event) × IsTrace Chooses Answers favoured start steps events trace
+trace_over Chooses Answers favoured start now steps done trace h most over = trace_with Chooses Answers favoured start now steps done trace h most (over_ends now steps done trace.ending over)
 
-pub trace_spent : (Chooses Answers : ℕ → ℕ → ℕ → Type 0) (start now : State) (steps done : ℕ) (trace : Trace) → Followed Chooses Answers start now done trace.lines.items → done ≤ steps → IsEnded now steps done trace.ending → (events : List Event) × IsTrace Chooses Answers start steps events trace
-trace_spent Chooses Answers start now steps done trace h most ends = trace_with Chooses Answers start now steps done trace h most ends
+pub trace_spent : (Chooses Answers : ℕ → ℕ → ℕ → Type 0) (favoured : Option UnitKind) (start now : State) (steps done : ℕ) (trace : Trace) → Lined Chooses Answers favoured start now done trace.lines.items → done ≤ steps → IsEnded now steps done trace.ending → (events : List Event) × IsTrace Chooses Answers favoured start steps events trace
+trace_spent Chooses Answers favoured start now steps done trace h most ends = trace_with Chooses Answers favoured start now steps done trace h most ends
+
+log_with : (Chooses Answers : ℕ → ℕ → ℕ → Type 0) (favoured : Option UnitKind) (start now : State) (steps done : ℕ) (log : Log) (h : Noted Chooses Answers favoured start now done log.accesses.items) → log.steps ≡ done → done ≤ steps → IsEnded now steps done log.ending → (events : List Event) × IsLog Chooses Answers favoured start steps events log
+log_with Chooses Answers favoured start now steps done log h count most ends = (
+  h.events,
+  record {
+    run = record { allowed = h.followed.allowed; accesses = refl; last = refl };
+    follows = h.followed.follows;
+    accesses = h.kept_are;
+    count = count ∙ sym h.followed.count;
+    most = omega (arith, h.followed.count, most);
+    ends = subst (λ n. IsEnded (reached step start h.events) steps n log.ending) (sym h.followed.count) (subst (λ s. IsEnded s steps done log.ending) h.followed.now_is ends);
+  },
+)
+
+pub log_over : (Chooses Answers : ℕ → ℕ → ℕ → Type 0) (favoured : Option UnitKind) (start now : State) (steps done : ℕ) (log : Log) → Noted Chooses Answers favoured start now done log.accesses.items → log.steps ≡ done → done ≤ steps → IsOver now log.ending → (events : List Event) × IsLog Chooses Answers favoured start steps events log
+log_over Chooses Answers favoured start now steps done log h count most over = log_with Chooses Answers favoured start now steps done log h count most (over_ends now steps done log.ending over)
+
+pub log_spent : (Chooses Answers : ℕ → ℕ → ℕ → Type 0) (favoured : Option UnitKind) (start now : State) (steps done : ℕ) (log : Log) → Noted Chooses Answers favoured start now done log.accesses.items → log.steps ≡ done → done ≤ steps → IsEnded now steps done log.ending → (events : List Event) × IsLog Chooses Answers favoured start steps events log
+log_spent Chooses Answers favoured start now steps done log h count most ends = log_with Chooses Answers favoured start now steps done log h count most ends
 
 -- the code's step is one that the script gave
-pub unit_may : (s : State) (units : List ℕ) (place : ℕ) (unit : Actor) → units ≡ enabled_units s → place < length units → unit ≡ unit_at (slice_index units place) → IsTrue (enabled s unit)
-unit_may s units place unit units_are below unit_is =
-    let within : place < length (enabled_units s) = subst (λ us. place < length us) units_are below in
-    subst (λ u. IsTrue (enabled s u)) (sym (unit_is ∙ ap (λ us. unit_at (slice_index us place)) units_are)) (among_may s place within)
+pub unit_may : (favoured : Option UnitKind) (s : State) (units : List ℕ) (place : ℕ) (unit : Actor) → units ≡ candidates favoured (enabled_units s) → place < length units → unit ≡ unit_at (slice_index units place) → IsTrue (enabled s unit)
+unit_may favoured s units place unit units_are below unit_is =
+    let within : place < length (candidates favoured (enabled_units s)) = subst (λ us. place < length us) units_are below in
+    subst (λ u. IsTrue (enabled s u)) (sym (unit_is ∙ ap (λ us. unit_at (slice_index us place)) units_are)) (among_may favoured s place within)
 
-pub steps_by : (Chooses Answers : ℕ → ℕ → ℕ → Type 0) (i : ℕ) (s next : State) (units : List ℕ) (place : ℕ) (unit : Actor) (words : List ℕ) (listed found : List Access) (job : ℕ) (line : TraceLine)
-    → finished s ≡ false → units ≡ enabled_units s → place < length units → Chooses i (length units) place → unit ≡ unit_at (slice_index units place)
+pub steps_by : (Chooses Answers : ℕ → ℕ → ℕ → Type 0) (favoured : Option UnitKind) (i : ℕ) (s next : State) (units : List ℕ) (place : ℕ) (unit : Actor) (words : List ℕ) (listed found : List Access) (job : ℕ) (line : TraceLine)
+    → finished s ≡ false → units ≡ candidates favoured (enabled_units s) → place < length units → Chooses i (length units) place → unit ≡ unit_at (slice_index units place)
     → length words ≡ word_count unit → ((k : ℕ) → k < length words → Answers i k (slice_index words k))
-    → Moves (step s (record { unit = unit; words = words })) found next → listed ≡ found → job ≡ job_of s unit → line ≡ line_of unit job listed → StepsBy Chooses Answers i s next line
-steps_by Chooses Answers i s next units place unit words listed found job line goes units_are below picked unit_is long answers moves listed_is job_is line_is = record {
+    → Moves (step s (record { unit = unit; words = words })) found next → listed ≡ found → job ≡ job_of s unit → line ≡ line_of unit job listed → StepsBy Chooses Answers favoured i s next listed line
+steps_by Chooses Answers favoured i s next units place unit words listed found job line goes units_are below picked unit_is long answers moves listed_is job_is line_is = record {
   event = record { unit = unit; words = words };
   turn = record {
     goes = goes;
@@ -115,35 +186,49 @@ steps_by Chooses Answers i s next units place unit words listed found job line g
     count = long;
     words = answers;
   };
-  may = unit_may s units place unit units_are below unit_is;
+  may = unit_may favoured s units place unit units_are below unit_is;
   next_is = moves.state_is;
+  listed_is = listed_is ∙ moves.accesses_are;
   line_is = line_is ∙ (ap (λ j. line_of unit j listed) job_is ∙ ap (line_of unit (job_of s unit)) (listed_is ∙ moves.accesses_are));
 }
 
 -- The same trace by a script that says less.
-follows_by : (Chooses Answers Chose Told : ℕ → ℕ → ℕ → Type 0) → ((i n m : ℕ) → Chooses i n m → Chose i n m) → ((i k word : ℕ) → Answers i k word → Told i k word) → (i : ℕ) (s : State) (events : List Event) → Follows Chooses Answers i s events → Follows Chose Told i s events
-follows_by Chooses Answers Chose Told chose told i s [] h = tt
-follows_by Chooses Answers Chose Told chose told i s (event ∷ events) h =
+follows_by : (Chooses Answers Chose Told : ℕ → ℕ → ℕ → Type 0) → ((i n m : ℕ) → Chooses i n m → Chose i n m) → ((i k word : ℕ) → Answers i k word → Told i k word) → (favoured : Option UnitKind) (i : ℕ) (s : State) (events : List Event) → Follows Chooses Answers favoured i s events → Follows Chose Told favoured i s events
+follows_by Chooses Answers Chose Told chose told favoured i s [] h = tt
+follows_by Chooses Answers Chose Told chose told favoured i s (event ∷ events) h =
     let turn = h.0 in (
       record {
         goes = turn.goes;
         place = turn.place;
-        picked = chose i (length (enabled_units s)) turn.place turn.picked;
+        picked = chose i (length (candidates favoured (enabled_units s))) turn.place turn.picked;
         within = turn.within;
         unit = turn.unit;
         count = turn.count;
         words = λ k below. told i k (slice_index event.words k) (turn.words k below);
       },
-      follows_by Chooses Answers Chose Told chose told (i + 1) (step s event).state events h.1,
+      follows_by Chooses Answers Chose Told chose told favoured (i + 1) (step s event).state events h.1,
     )
 
-pub trace_by : (Chooses Answers Chose Told : ℕ → ℕ → ℕ → Type 0) → ((i n m : ℕ) → Chooses i n m → Chose i n m) → ((i k word : ℕ) → Answers i k word → Told i k word) → (s : State) (steps : ℕ) (trace : Trace) → (events : List Event) × IsTrace Chooses Answers s steps events trace → (events : List Event) × IsTrace Chose Told s steps events trace
-trace_by Chooses Answers Chose Told chose told s steps trace (events, h) = (
+pub trace_by : (Chooses Answers Chose Told : ℕ → ℕ → ℕ → Type 0) → ((i n m : ℕ) → Chooses i n m → Chose i n m) → ((i k word : ℕ) → Answers i k word → Told i k word) → (favoured : Option UnitKind) (s : State) (steps : ℕ) (trace : Trace) → (events : List Event) × IsTrace Chooses Answers favoured s steps events trace → (events : List Event) × IsTrace Chose Told favoured s steps events trace
+trace_by Chooses Answers Chose Told chose told favoured s steps trace (events, h) = (
   events,
   record {
     run = h.run;
-    follows = follows_by Chooses Answers Chose Told chose told 0 s events h.follows;
+    follows = follows_by Chooses Answers Chose Told chose told favoured 0 s events h.follows;
     lines = h.lines;
+    most = h.most;
+    ends = h.ends;
+  },
+)
+
+pub log_by : (Chooses Answers Chose Told : ℕ → ℕ → ℕ → Type 0) → ((i n m : ℕ) → Chooses i n m → Chose i n m) → ((i k word : ℕ) → Answers i k word → Told i k word) → (favoured : Option UnitKind) (s : State) (steps : ℕ) (log : Log) → (events : List Event) × IsLog Chooses Answers favoured s steps events log → (events : List Event) × IsLog Chose Told favoured s steps events log
+log_by Chooses Answers Chose Told chose told favoured s steps log (events, h) = (
+  events,
+  record {
+    run = h.run;
+    follows = follows_by Chooses Answers Chose Told chose told favoured 0 s events h.follows;
+    accesses = h.accesses;
+    count = h.count;
     most = h.most;
     ends = h.ends;
   },

@@ -1,11 +1,12 @@
 -- The units that may step, one number further.
-use Rattle.std.proofs.Common.{◌≡◌, ℕ, zero, suc, ◌+◌, ◌*◌, Bool, true, false, if◌then◌else◌, List, [], ◌∷◌, ◌++◌, sym, ◌∙◌, ap, append-nil, refl, arith}
-use Rattle.std.specs.Prelude.{filter}
+use Rattle.std.proofs.Common.{◌≡◌, ℕ, zero, suc, ◌+◌, ◌*◌, ◌<◌, Bool, true, false, if◌then◌else◌, List, [], ◌∷◌, ◌++◌, length, take, slice_index, sym, ◌∙◌, ap, append-nil, refl, arith}
+use Rattle.std.specs.Prelude.{filter, ◌==◌}
 use Rattle.std.specs.List.{range_with_len}
-use Rattle.std.proofs.lemmas.List.Elements.{filter-append}
+use Rattle.std.proofs.lemmas.List.Elements.{filter-append, filter_more}
 use Rattle.std.proofs.lemmas.Bool.Decides.{nat_tests}
+use Rattle.std.proofs.Math.Dec.{eqb-suc-zero}
 use Rattle.field_words.specs.declared.access.Actor.TheVariants.{Binner as TheBinner, Renderer as TheRenderer, Qpu as TheQpu, Tmu as TheTmu}
-use Rattle.replay.specs.Units.{unit_at}
+use Rattle.replay.specs.Units.{unit_at, preferred}
 
 range_more : (a n : ℕ) → range_with_len a (suc n) ≡ range_with_len a n ++ (a + n) ∷ []
 range_more a zero = let same : a ≡ a + 0 = omega arith in ap (λ k. k ∷ []) same
@@ -45,3 +46,21 @@ tmu0_at q = grind (arith, nat_tests)
 pub tmu1_at : (q : ℕ) → TheTmu q 1 ≡ unit_at (3 * q + 4)
 unfolding unit_at
 tmu1_at q = grind (arith, nat_tests)
+
+-- the favoured ones, where there are any
+pub preferred_none : (these those : List ℕ) → (length these == 0) ≡ true → preferred these those ≡ those
+preferred_none [] those h = refl
+preferred_none (n ∷ these) those h = absurd (let more : (length (n ∷ these) == 0) ≡ false = eqb-suc-zero (length these) in let clash : true ≡ false = sym h ∙ more in cc)
+
+pub preferred_some : (these those : List ℕ) → (length these == 0) ≡ false → preferred these those ≡ these
+preferred_some [] those h = absurd (cc)
+preferred_some (n ∷ these) those h = refl
+
+-- those of a list that are of a kind, one number further
+pub of_kind_put : (p : ℕ → Bool) (xs : List ℕ) (i : ℕ) (old new : List ℕ) → i < length xs → p (slice_index xs i) ≡ true → old ≡ filter p (take i xs) → new ≡ old ++ slice_index xs i ∷ [] → new ≡ filter p (take (i + 1) xs)
+of_kind_put p xs i old new inside here old_is new_is =
+    new_is ∙ (ap (λ l. l ++ slice_index xs i ∷ []) old_is ∙ sym (filter_more p xs i 0 inside ∙ ap (λ b. filter p (take i xs) ++ (if b then slice_index xs i ∷ [] else [])) here))
+
+pub of_kind_past : (p : ℕ → Bool) (xs : List ℕ) (i : ℕ) (old : List ℕ) → i < length xs → p (slice_index xs i) ≡ false → old ≡ filter p (take i xs) → old ≡ filter p (take (i + 1) xs)
+of_kind_past p xs i old inside here old_is =
+    old_is ∙ sym (filter_more p xs i 0 inside ∙ (ap (λ b. filter p (take i xs) ++ (if b then slice_index xs i ∷ [] else [])) here ∙ append-nil (filter p (take i xs))))

@@ -1,13 +1,18 @@
--- A run by a script. `Chooses step n m` says that at this step m is picked of n, `Answers step k word` that its word k is this.
-use Rattle.std.specs.Prelude.{◌≡◌, ◌≢◌, ◌≤◌, ◌<◌, ℕ, ◌+◌, ◌^◌, true, false, IsTrue, List, [], ◌∷◌, length, slice_index}
+-- A run by a script, which may favour a kind of unit. `Chooses step n m` says that at this step m is picked of n, `Answers step k word` that
+-- its word k is this.
+use Rattle.std.specs.Prelude.{◌≡◌, ◌≢◌, ◌≤◌, ◌<◌, ℕ, ◌+◌, ◌^◌, true, false, IsTrue, List, [], ◌∷◌, ◌++◌, length, map, slice_index, Option}
+use Rattle.field_words.specs.declared.access.Access.{Access}
 use Rattle.machine_plan.specs.Runs.{found_by, reached}
 use Rattle.machine.specs.State.{State}
 use Rattle.machine.specs.Step.{Event, enabled, finished, job_of, step, IsRun}
+use Rattle.replay.specs.declared.logged.Log.{Log}
+use Rattle.replay.specs.declared.logged.Logged.{Logged}
 use Rattle.replay.specs.declared.trace.Ending.{Ending}
 use Rattle.replay.specs.declared.trace.Ending.TheVariants.{Finished, Waiting, Spent}
 use Rattle.replay.specs.declared.trace.Trace.{Trace}
 use Rattle.replay.specs.declared.trace.TraceLine.{TraceLine}
-use Rattle.replay.specs.Units.{unit_at, word_count, enabled_units}
+use Rattle.replay.specs.declared.units.UnitKind.{UnitKind}
+use Rattle.replay.specs.Units.{unit_at, word_count, enabled_units, candidates}
 use Rattle.replay.specs.Trace.{line_of}
 
 -- what is asked of closures that give a script: at each step below 2^64 one may be picked of each number but 0, which is below
@@ -21,26 +26,34 @@ IsBelow Post = (step n picked : ℕ) → step < 2 ^ 64 → 1 ≤ n → n < 2 ^ 3
 abbrev pub MayAnswer : (ℕ → ℕ → Type 0) → Type 0
 MayAnswer Pre = (step k : ℕ) → step < 2 ^ 64 → k < 4096 → Pre step k
 
--- Step number i is this event: the machine isn't finished; the unit is the one that was picked among those that may step, with
--- as many words as it gets, and they are what was answered.
-pub record IsTurn (Chooses Answers : ℕ → ℕ → ℕ → Type 0) (i : ℕ) (s : State) (event : Event) : Type 0 where
+-- Step number i is this event: the machine isn't finished; the unit is the one that was picked among those that may step, or
+-- of these among the favoured ones where there are any, with as many words as it gets, and they are what was answered.
+pub record IsTurn (Chooses Answers : ℕ → ℕ → ℕ → Type 0) (favoured : Option UnitKind) (i : ℕ) (s : State) (event : Event) : Type 0 where
   pub goes : finished s ≡ false
   pub place : ℕ
-  pub picked : Chooses i (length (enabled_units s)) place
-  pub within : place < length (enabled_units s)
-  pub unit : event.unit ≡ unit_at (slice_index (enabled_units s) place)
+  pub picked : Chooses i (length (candidates favoured (enabled_units s))) place
+  pub within : place < length (candidates favoured (enabled_units s))
+  pub unit : event.unit ≡ unit_at (slice_index (candidates favoured (enabled_units s)) place)
   pub count : length event.words ≡ word_count event.unit
   pub words : (k : ℕ) → k < length event.words → Answers i k (slice_index event.words k)
 
 -- the steps from number i on are these events
-abbrev pub Follows : (ℕ → ℕ → ℕ → Type 0) → (ℕ → ℕ → ℕ → Type 0) → ℕ → State → List Event → Type 0
-Follows Chooses Answers i s [] = Unit {0}
-Follows Chooses Answers i s (event ∷ events) = IsTurn Chooses Answers i s event × Follows Chooses Answers (i + 1) (step s event).state events
+abbrev pub Follows : (ℕ → ℕ → ℕ → Type 0) → (ℕ → ℕ → ℕ → Type 0) → Option UnitKind → ℕ → State → List Event → Type 0
+Follows Chooses Answers favoured i s [] = Unit {0}
+Follows Chooses Answers favoured i s (event ∷ events) = IsTurn Chooses Answers favoured i s event × Follows Chooses Answers favoured (i + 1) (step s event).state events
 
 -- a line for each event: its unit, the job for which that stepped, and what it did
 abbrev pub lines_of : State → List Event → List TraceLine
 lines_of s [] = []
 lines_of s (event ∷ events) = line_of event.unit (job_of s event.unit) (step s event).accesses ∷ lines_of (step s event).state events
+
+-- the accesses of the steps from number i on, in order, each with its step's number
+abbrev pub numbered : ℕ → List Access → List Logged
+numbered i accesses = map (λ a. record { step = i; access = a }) accesses
+
+abbrev pub accesses_of : ℕ → State → List Event → List Logged
+accesses_of i s [] = []
+accesses_of i s (event ∷ events) = numbered i (step s event).accesses ++ accesses_of (i + 1) (step s event).state events
 
 -- the run ended in this state, after so many of the steps that were asked for
 abbrev pub IsEnded : State → ℕ → ℕ → Ending → Type 0
@@ -54,18 +67,28 @@ IsOver s Finished = finished s ≡ true
 IsOver s Waiting = (finished s ≡ false) × (enabled_units s ≡ [])
 IsOver s Spent = ⊥
 
--- one step that the script gave: the state after it, and its line
-pub record StepsBy (Chooses Answers : ℕ → ℕ → ℕ → Type 0) (i : ℕ) (s next : State) (line : TraceLine) : Type 0 where
+-- one step that the script gave: the state after it, its accesses, and its line
+pub record StepsBy (Chooses Answers : ℕ → ℕ → ℕ → Type 0) (favoured : Option UnitKind) (i : ℕ) (s next : State) (listed : List Access) (line : TraceLine) : Type 0 where
   pub event : Event
-  pub turn : IsTurn Chooses Answers i s event
+  pub turn : IsTurn Chooses Answers favoured i s event
   pub may : IsTrue (enabled s event.unit)
   pub next_is : next ≡ (step s event).state
+  pub listed_is : listed ≡ (step s event).accesses
   pub line_is : line ≡ line_of event.unit (job_of s event.unit) (step s event).accesses
 
 -- The trace is that of the run of these events from this state, at most so many, which the script gave.
-pub record IsTrace (Chooses Answers : ℕ → ℕ → ℕ → Type 0) (s : State) (steps : ℕ) (events : List Event) (trace : Trace) : Type 0 where
+pub record IsTrace (Chooses Answers : ℕ → ℕ → ℕ → Type 0) (favoured : Option UnitKind) (s : State) (steps : ℕ) (events : List Event) (trace : Trace) : Type 0 where
   pub run : IsRun s events (found_by step s events) (reached step s events)
-  pub follows : Follows Chooses Answers 0 s events
+  pub follows : Follows Chooses Answers favoured 0 s events
   pub lines : trace.lines.items ≡ lines_of s events
   pub most : length events ≤ steps
   pub ends : IsEnded (reached step s events) steps (length events) trace.ending
+
+-- The log is that of the same run: all accesses of its steps, which count from 0, how many steps there were, and how it ended.
+pub record IsLog (Chooses Answers : ℕ → ℕ → ℕ → Type 0) (favoured : Option UnitKind) (s : State) (steps : ℕ) (events : List Event) (log : Log) : Type 0 where
+  pub run : IsRun s events (found_by step s events) (reached step s events)
+  pub follows : Follows Chooses Answers favoured 0 s events
+  pub accesses : log.accesses.items ≡ accesses_of 0 s events
+  pub count : log.steps ≡ length events
+  pub most : length events ≤ steps
+  pub ends : IsEnded (reached step s events) steps (length events) log.ending

@@ -1,10 +1,12 @@
--- The units in the order of a script, and how many words a step of each gets.
-use Rattle.std.specs.Prelude.{ℕ, ◌-◌, ◌/◌, ◌%◌, ◌==◌, if◌then◌else◌, List, filter}
+-- The units in the order of a script, how many words a step of each gets, and which are favoured.
+use Rattle.std.specs.Prelude.{ℕ, ◌-◌, ◌/◌, ◌%◌, ◌==◌, Bool, true, false, if◌then◌else◌, List, [], ◌∷◌, filter, Option, Some, None}
 use Rattle.std.specs.List.{range_with_len}
 use Rattle.field_words.specs.declared.access.Actor.{Actor}
 use Rattle.field_words.specs.declared.access.Actor.TheVariants.{Binner as TheBinner, Renderer as TheRenderer, Qpu as TheQpu, Tmu as TheTmu}
 use Rattle.machine.specs.State.{State}
 use Rattle.machine.specs.Step.{enabled}
+use Rattle.replay.specs.declared.units.UnitKind.{UnitKind}
+use Rattle.replay.specs.declared.units.UnitKind.TheVariants.{Binner, Renderer, Qpu, Tmu}
 
 -- binner, renderer, and twelve processors with two TMUs each
 abbrev pub unit_count : ℕ
@@ -30,3 +32,21 @@ enabled_below s n = filter (λ k. enabled s (unit_at k)) (range_with_len 0 n)
 
 abbrev pub enabled_units : State → List ℕ
 enabled_units s = enabled_below s unit_count
+
+-- a unit is of this kind
+abbrev pub is_of : UnitKind → Actor → Bool
+is_of Binner TheBinner = true
+is_of Renderer TheRenderer = true
+is_of Qpu (TheQpu k) = true
+is_of Tmu (TheTmu k n) = true
+is_of kind unit = false
+
+-- these, or where there are none, those
+abbrev pub preferred : (these those : List ℕ) → List ℕ
+preferred [] those = those
+preferred (n ∷ these) those = n ∷ these
+
+-- The numbers among which the next unit is picked, of those that may step: where some are of the favoured kind, these alone.
+unfoldable pub candidates : Option UnitKind → List ℕ → List ℕ
+candidates None units = units
+candidates (Some kind) units = preferred (filter (λ n. is_of kind (unit_at n)) units) units

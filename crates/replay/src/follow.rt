@@ -3,11 +3,12 @@ ghost use Rattle.std.specs.Prelude.{◌≡◌, ◌≤◌, ◌<◌, ◌^◌, ℕ,
 ghost use Rattle.machine.specs.Step.{Event, finished, step};
 ghost use Rattle.replay.specs.Units.{unit_at, word_count, enabled_units};
 ghost use Rattle.replay.specs.Trace.{line_of};
-ghost use Rattle.replay.specs.Run.{MayChoose, IsBelow, MayAnswer, IsOver, StepsBy, IsTrace};
+ghost use Rattle.replay.specs.Run.{MayChoose, IsBelow, MayAnswer, IsOver, StepsBy, IsTrace, IsLog};
 
+use crate::logged::{Log, Logged, put_step};
 use crate::oracle::Oracle;
 use crate::trace::{Ending, Trace, TraceLine, line_of};
-use crate::units::{enabled_units, unit_at, word_count};
+use crate::units::{UnitKind, candidates, enabled_units, unit_at, word_count};
 use arrayvec::ArrayVec;
 use field_words::NoMemory;
 use machine::Machine;
@@ -51,23 +52,25 @@ fn fill<C: Fn(u64, u32) -> u32, F: Fn(u64, u32) -> u32>(
     }
 }
 
-// One step of the unit that the oracle picks among these.
+// One step of the unit that the oracle picks among these, or among the favoured ones of these where there are any.
 fn take_step<C: Fn(u64, u32) -> u32, F: Fn(u64, u32) -> u32>(
     oracle: &Oracle<C, F>,
+    favoured: Option<UnitKind>,
     step: u64,
-    units: &ArrayVec<u8, 38>,
+    units: ArrayVec<u8, 38>,
     words: &mut [u32; MOST_WORDS],
     accesses: &mut Accesses,
     machine: &mut Machine,
 ) -> TraceLine
     requires goes { finished machine.old ≡ false }
-    requires some { 1 ≤ length units.now.items }
-    requires units { units.now.items ≡ enabled_units machine.old }
+    requires some { 1 ≤ length units.items }
+    requires units { units.items ≡ enabled_units machine.old }
     requires chooses { MayChoose (C.pre oracle.now.choose) }
     requires below { IsBelow (C.post oracle.now.choose) }
     requires answers { MayAnswer (F.pre oracle.now.answer) }
-    ensures { StepsBy (C.post oracle.now.choose) (F.post oracle.now.answer) step machine.old machine.new result }
+    ensures { StepsBy (C.post oracle.now.choose) (F.post oracle.now.answer) favoured step machine.old machine.new accesses.new.items result }
 {
+    let units = candidates(favoured, units);
     let place = oracle.pick(step, units.len() as u32);
     let unit = unit_at(units[place as usize]);
     let words = &mut words[..word_count(unit) as usize];
@@ -77,9 +80,10 @@ fn take_step<C: Fn(u64, u32) -> u32, F: Fn(u64, u32) -> u32>(
     line_of(unit, job, accesses.as_slice())
 }
 
-// One step of the machine, or why it steps no further.
+// One step of the machine with its accesses, or why it steps no further.
 fn go_on<C: Fn(u64, u32) -> u32, F: Fn(u64, u32) -> u32>(
     oracle: &Oracle<C, F>,
+    favoured: Option<UnitKind>,
     step: u64,
     words: &mut [u32; MOST_WORDS],
     accesses: &mut Accesses,
@@ -88,19 +92,20 @@ fn go_on<C: Fn(u64, u32) -> u32, F: Fn(u64, u32) -> u32>(
     requires chooses { MayChoose (C.pre oracle.now.choose) }
     requires below { IsBelow (C.post oracle.now.choose) }
     requires answers { MayAnswer (F.pre oracle.now.answer) }
-    ensures goes { IfOk result (λ line. StepsBy (C.post oracle.now.choose) (F.post oracle.now.answer) step machine.old machine.new line) }
+    ensures goes { IfOk result (λ line. StepsBy (C.post oracle.now.choose) (F.post oracle.now.answer) favoured step machine.old machine.new accesses.new.items line) }
     ensures over { IfErr result (IsOver machine.old) }
     ensures same { IsErr result → machine.new ≡ machine.old }
 {
     match look(machine) {
         Err(ending) => Err(ending),
-        Ok(units) => Ok(take_step(oracle, step, &units, words, accesses, machine)),
+        Ok(units) => Ok(take_step(oracle, favoured, step, units, words, accesses, machine)),
     }
 }
 
 // The steps that the script gives, at most so many.
 fn follow<C: Fn(u64, u32) -> u32, F: Fn(u64, u32) -> u32>(
     oracle: &Oracle<C, F>,
+    favoured: Option<UnitKind>,
     steps: u32,
     lines: &mut Vec<TraceLine>,
     machine: &mut Machine,
@@ -110,12 +115,19 @@ fn follow<C: Fn(u64, u32) -> u32, F: Fn(u64, u32) -> u32>(
     requires chooses { MayChoose (C.pre oracle.now.choose) }
     requires below { IsBelow (C.post oracle.now.choose) }
     requires answers { MayAnswer (F.pre oracle.now.answer) }
-    ensures { IfOk result (λ ending. (events : List Event) × IsTrace (C.post oracle.now.choose) (F.post oracle.now.answer) machine.old steps events (record { lines = lines.new; ending = ending })) }
+    ensures { IfOk result (λ ending. (events : List Event) × IsTrace (C.post oracle.now.choose) (F.post oracle.now.answer) favoured machine.old steps events (record { lines = lines.new; ending = ending })) }
 {
     let mut words = [0; MOST_WORDS];
     let mut accesses = ArrayVec::new();
     for i in 0..steps {
-        match go_on(oracle, i as u64, &mut words, &mut accesses, machine) {
+        match go_on(
+            oracle,
+            favoured,
+            i as u64,
+            &mut words,
+            &mut accesses,
+            machine,
+        ) {
             Err(ending) => return Ok(ending),
             Ok(line) => lines.push(line)?,
         }
@@ -126,21 +138,81 @@ fn follow<C: Fn(u64, u32) -> u32, F: Fn(u64, u32) -> u32>(
     }
 }
 
-/// Steps the machine as the oracle says, at most `steps` times, and keeps a line of each step. It takes its memory first; the
-/// machine is dropped at the end.
+/// Steps the machine as the oracle says, at most `steps` times, and keeps a line of each step. Where a kind of unit is favoured, a unit of
+/// it steps whenever one may. It takes its memory first; the machine is dropped at the end.
 pub fn replay<C: Fn(u64, u32) -> u32, F: Fn(u64, u32) -> u32>(
     alloc: Global,
     mut machine: Machine,
     oracle: &Oracle<C, F>,
+    favoured: Option<UnitKind>,
     steps: u32,
 ) -> Result<Trace, NoMemory>
     requires few { steps ≤ 1000000 }
     requires chooses { MayChoose (C.pre oracle.now.choose) }
     requires below { IsBelow (C.post oracle.now.choose) }
     requires answers { MayAnswer (F.pre oracle.now.answer) }
-    ensures { IfOk result (λ trace. (events : List Event) × IsTrace (C.post oracle.now.choose) (F.post oracle.now.answer) machine steps events trace) }
+    ensures { IfOk result (λ trace. (events : List Event) × IsTrace (C.post oracle.now.choose) (F.post oracle.now.answer) favoured machine steps events trace) }
 {
     let mut lines = Vec::with_capacity(alloc, steps as usize)?;
-    let ending = follow(oracle, steps, &mut lines, &mut machine)?;
+    let ending = follow(oracle, favoured, steps, &mut lines, &mut machine)?;
     Ok(Trace { lines, ending })
+}
+
+// The same steps, of which all accesses are kept; how many there were, and why they ended.
+fn note<C: Fn(u64, u32) -> u32, F: Fn(u64, u32) -> u32>(
+    oracle: &Oracle<C, F>,
+    favoured: Option<UnitKind>,
+    steps: u32,
+    kept: &mut Vec<Logged>,
+    machine: &mut Machine,
+) -> Result<(u32, Ending), NoMemory>
+    requires empty { kept.old.items ≡ [] }
+    requires few { steps ≤ 1000000 }
+    requires chooses { MayChoose (C.pre oracle.now.choose) }
+    requires below { IsBelow (C.post oracle.now.choose) }
+    requires answers { MayAnswer (F.pre oracle.now.answer) }
+    ensures { IfOk result (λ end. (events : List Event) × IsLog (C.post oracle.now.choose) (F.post oracle.now.answer) favoured machine.old steps events (record { accesses = kept.new; steps = end.0; ending = end.1 })) }
+{
+    let mut words = [0; MOST_WORDS];
+    let mut accesses = ArrayVec::new();
+    for i in 0..steps {
+        match go_on(
+            oracle,
+            favoured,
+            i as u64,
+            &mut words,
+            &mut accesses,
+            machine,
+        ) {
+            Err(ending) => return Ok((i, ending)),
+            Ok(_) => put_step(kept, i, accesses.as_slice())?,
+        }
+    }
+    match look(machine) {
+        Err(ending) => Ok((steps, ending)),
+        Ok(_) => Ok((steps, Ending::Spent)),
+    }
+}
+
+/// Steps the machine as [`replay`] does, and keeps all accesses of the steps. The machine is dropped at the end.
+pub fn log_run<C: Fn(u64, u32) -> u32, F: Fn(u64, u32) -> u32>(
+    alloc: Global,
+    mut machine: Machine,
+    oracle: &Oracle<C, F>,
+    favoured: Option<UnitKind>,
+    steps: u32,
+) -> Result<Log, NoMemory>
+    requires few { steps ≤ 1000000 }
+    requires chooses { MayChoose (C.pre oracle.now.choose) }
+    requires below { IsBelow (C.post oracle.now.choose) }
+    requires answers { MayAnswer (F.pre oracle.now.answer) }
+    ensures { IfOk result (λ log. (events : List Event) × IsLog (C.post oracle.now.choose) (F.post oracle.now.answer) favoured machine steps events log) }
+{
+    let mut accesses = Vec::new(alloc);
+    let (steps, ending) = note(oracle, favoured, steps, &mut accesses, &mut machine)?;
+    Ok(Log {
+        accesses,
+        steps,
+        ending,
+    })
 }

@@ -2,11 +2,13 @@
 #![tactic(auto)]
 
 mod follow;
+mod logged;
 mod oracle;
 mod trace;
 mod units;
 
-pub use follow::replay;
+pub use follow::{log_run, replay};
+pub use logged::{Log, Logged};
 pub use oracle::Oracle;
 pub use trace::{Ending, Trace, TraceLine};
-pub use units::{enabled_units, unit_at, word_count};
+pub use units::{UnitKind, enabled_units, unit_at, word_count};

@@ -1,6 +1,6 @@
 //! The units in the order of a script.
-ghost use Rattle.std.specs.Prelude.{◌≡◌, ◌≤◌, ◌<◌, ◌+◌, length, All};
-ghost use Rattle.replay.specs.Units.{unit_count, unit_at, word_count, enabled_below, enabled_units};
+ghost use Rattle.std.specs.Prelude.{◌≡◌, ◌≤◌, ◌<◌, ◌+◌, length, filter};
+ghost use Rattle.replay.specs.Units.{unit_count, unit_at, word_count, enabled_below, enabled_units, is_of, candidates, preferred};
 
 use arrayvec::ArrayVec;
 use field_words::Actor;
@@ -8,6 +8,15 @@ use machine::Machine;
 
 /// How many processors a machine has.
 const PROCESSORS: u8 = 12;
+
+/// A kind of the machine's units.
+#[derive(Clone, Copy, Debug, PartialEq, Eq)]
+pub enum UnitKind {
+    Binner,
+    Renderer,
+    Qpu,
+    Tmu,
+}
 
 /// Unit `n`: the binner, the renderer, and then each processor with its two TMUs. It takes no memory.
 #[tactic(auto, unfolding(crate::specs::Units::unit_at))]
@@ -73,4 +82,45 @@ pub fn enabled_units(machine: &Machine) -> ArrayVec<u8, 38>
         put_enabled(&mut units, machine, 3 * q + 4, Actor::Tmu(q, 1));
     }
     units
+}
+
+/// Whether the unit is of this kind.
+fn is_of(kind: UnitKind, unit: Actor) -> bool
+    ensures { result ≡ is_of kind unit }
+{
+    match unit {
+        Actor::Binner => kind == UnitKind::Binner,
+        Actor::Renderer => kind == UnitKind::Renderer,
+        Actor::Qpu(_) => kind == UnitKind::Qpu,
+        Actor::Tmu(_, _) => kind == UnitKind::Tmu,
+    }
+}
+
+// Those of these numbers whose units are of this kind.
+#[tactic(auto, using(crate::proofs::Order::of_kind_put, crate::proofs::Order::of_kind_past))]
+fn of_kind(kind: UnitKind, units: &[u8]) -> ArrayVec<u8, 38>
+    requires { length units.now ≤ 38 }
+    ensures { result.items ≡ filter (λ n. is_of kind (unit_at n)) units.now }
+{
+    let mut few = ArrayVec::new();
+    for n in units {
+        if is_of(kind, unit_at(*n)) {
+            few.push(*n);
+        }
+    }
+    few
+}
+
+/// The numbers of the units among which the next one is picked, of these that may step: where some are of the favoured kind, those
+/// alone. It takes no memory.
+#[tactic(auto, unfolding(crate::specs::Units::candidates), using(crate::proofs::Order::preferred_none, crate::proofs::Order::preferred_some))]
+pub(crate) fn candidates(favoured: Option<UnitKind>, units: ArrayVec<u8, 38>) -> ArrayVec<u8, 38>
+    ensures value { result.items ≡ candidates favoured units.items }
+    ensures some { 1 ≤ length units.items → 1 ≤ length result.items }
+{
+    let Some(kind) = favoured else {
+        return units;
+    };
+    let few = of_kind(kind, units.as_slice());
+    if few.is_empty() { units } else { few }
 }

@@ -1,21 +1,25 @@
 -- The step is one that the script gave.
-use Rattle.std.proofs.Common.{◌≡◌, ◌<◌, ◌∙◌, subst, ap, length, slice_index, arith}
+use Rattle.std.proofs.Common.{◌≡◌, ◌<◌, ◌∙◌, refl, subst, ap, length, slice_index, arith}
 use Rattle.std.proofs.lemmas.List.{length-take-le}
-use Rattle.replay.specs.Units.{unit_at}
+use Rattle.replay.specs.Trace.{line_of}
+use Rattle.replay.specs.Units.{unit_at, candidates}
 use Rattle.replay.proofs.Going.{unit_may, steps_by}
 use Rattle.replay.proofs.follow.take_step.Goals as goal
 
 pub returns : goal.returns
 returns g c =
     let units_are = c.deref.ensures.0 in
+    let units = c.candidates-units.result.items in
+    let chosen = c.candidates-units.ensures.value ∙ ap (candidates c.args.favoured) c.requires.units in
     let unit_is = c.unit_at-unit.ensures ∙ ap (λ us. unit_at (slice_index us c.pick-place.result)) units_are in
-    let below : c.pick-place.result < length c.args.units.now.items = omega (arith, c.pick-place.ensures.below, c.len.ensures.value) in
-    let may = unit_may c.args.machine.now c.args.units.now.items c.pick-place.result c.unit_at-unit.result c.requires.units below unit_is in
+    let below : c.pick-place.result < length units = omega (arith, c.pick-place.ensures.below, c.len.ensures.value) in
+    let may = unit_may c.args.favoured c.args.machine.now units c.pick-place.result c.unit_at-unit.result chosen below unit_is in
     let picked = c.pick-place.ensures.gives in
     let size = c.len.ensures.value in
     let given = c.fill.new.words in
     let count = c.word_count.result in
     let long : length given ≡ count = c.fill.ensures.long ∙ length-take-le count _ (omega (arith, c.word_count.ensures.most)) in
-    steps_by _ _ c.args.step c.args.machine.now c.step.new.self c.args.units.now.items c.pick-place.result c.unit_at-unit.result given c.as_slice.result.now c.step.new.accesses.items c.job_of-job.result c.line_of.result
-    c.requires.goes c.requires.units below (subst (λ n. goal.C-post g c.args.oracle.now.choose c.args.step n c.pick-place.result) size picked) unit_is (long ∙ c.word_count.ensures.value) c.fill.ensures.given
-    (c.step.ensures.moved (c.step.ensures.done may)) c.as_slice.ensures.value c.job_of-job.ensures c.line_of.ensures
+    let listed = c.step.new.accesses.items in
+    steps_by _ _ c.args.favoured c.args.step c.args.machine.now c.step.new.self units c.pick-place.result c.unit_at-unit.result given listed listed c.job_of-job.result c.line_of.result
+    c.requires.goes chosen below (subst (λ n. goal.C-post g c.args.oracle.now.choose c.args.step n c.pick-place.result) size picked) unit_is (long ∙ c.word_count.ensures.value) c.fill.ensures.given
+    (c.step.ensures.moved (c.step.ensures.done may)) refl c.job_of-job.ensures (c.line_of.ensures ∙ ap (line_of c.unit_at-unit.result c.job_of-job.result) c.as_slice.ensures.value)
