@@ -32,7 +32,7 @@ Gives seed step k word = word ≡ word_by seed step k
 pub record IsReplayed (f : FileModel) (steps seed : ℕ) (text : List ℕ) : Type 0 where
   pub events : List Event
   pub trace : Trace
-  pub run : IsTrace (Picks seed) (Gives seed) (machine_of f) steps events trace
+  pub run : IsTrace (Picks seed) (Gives seed) None (machine_of f) steps events trace
   pub shown : text ≡ trace_text f.version trace
 
 -- Where no rule stands the file is what its bytes spell, and a run of its machine is printed; else it is refused by the first rule

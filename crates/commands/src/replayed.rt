@@ -1,5 +1,5 @@
 //! The command `replay`.
-ghost use Rattle.std.specs.Prelude.{◌≡◌, ◌≤◌, ◌<◌, List, IfOk};
+ghost use Rattle.std.specs.Prelude.{◌≡◌, ◌≤◌, ◌<◌, List, IfOk, None};
 ghost use Rattle.job_check.specs.Whole.{refusal_of};
 ghost use Rattle.commands.specs.Cause.{IsRuleCause};
 ghost use Rattle.commands.specs.Replay.{picked_by, word_by, Picks, Gives, IsReplayVerdict, IsReplayAnswer};
@@ -38,7 +38,7 @@ fn word(seed: u64, step: u64, k: u32) -> u32
 // A run by the script of the seed.
 fn run_of(alloc: Global, machine: Machine, steps: u32, seed: u64) -> Result<Trace, NoMemory>
     requires { steps ≤ 1000000 }
-    ensures { IfOk result (λ trace. (events : List Event) × IsTrace (Picks seed) (Gives seed) machine steps events trace) }
+    ensures { IfOk result (λ trace. (events : List Event) × IsTrace (Picks seed) (Gives seed) None machine steps events trace) }
 {
     let oracle = Oracle::new(
         |step: u64, n: u32|
@@ -49,7 +49,7 @@ fn run_of(alloc: Global, machine: Machine, steps: u32, seed: u64) -> Result<Trac
             ensures { result ≡ word_by seed step k }
         { word(seed, step, k) },
     );
-    match replay(alloc, machine, &oracle, steps) {
+    match replay(alloc, machine, &oracle, None, steps) {
         Ok(trace) => Ok(trace),
         Err(stop) => Err(stop),
     }

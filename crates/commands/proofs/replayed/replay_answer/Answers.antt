@@ -1,5 +1,5 @@
 -- The run is that of the file's machine, by the script of the seed.
-use Rattle.std.proofs.Common.{◌≡◌, ◌∙◌, refl, sym, ap, subst}
+use Rattle.std.proofs.Common.{◌≡◌, ◌∙◌, None, refl, sym, ap, subst}
 use Rattle.job_check.specs.Whole.{refusal_of}
 use Rattle.job_format.specs.Reading.{file_at}
 use Rattle.job_safety.specs.Accepted.{machine_of}
@@ -20,7 +20,7 @@ returns-in_ok-text-in-Ok-clause-answers c =
     let told : IsReplayed f a.steps a.seed c.in_ok-text-in-Ok.text.items = record {
       events = run.0;
       trace = c.in_ok-trace-in-Ok.trace;
-      run = subst (λ machine. IsTrace (Picks a.seed) (Gives a.seed) machine a.steps run.0 c.in_ok-trace-in-Ok.trace) machine_is run.1;
+      run = subst (λ machine. IsTrace (Picks a.seed) (Gives a.seed) None machine a.steps run.0 c.in_ok-trace-in-Ok.trace) machine_is run.1;
       shown = c.in_ok-text-in-Ok.ensures ∙ ap (λ version. trace_text version c.in_ok-trace-in-Ok.trace) accepted.1.version_is;
     } in
     subst (λ refusal. IsReplayVerdict bytes refusal f a.steps a.seed 0 c.in_ok-text-in-Ok.text.items) (sym accepted.0) (refl, told, c.in-Ok.ensures.spelled refl)
