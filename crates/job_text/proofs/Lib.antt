@@ -1,4 +1,5 @@
 pub mod Again
+pub mod FieldSteps
 pub mod Pieces
 pub mod Steps
 pub mod Texts

@@ -2,11 +2,22 @@
 use Rattle.std.proofs.Common.{◌≡◌, ℕ, List, ◌++◌, codes, append_assoc}
 use Rattle.job_text.specs.Names.{of_job}
 
-pub of_job_more : (out : List ℕ) (job : ℕ) (text more : List ℕ) → (out ++ of_job job text) ++ more ≡ out ++ of_job job (text ++ more)
-unfolding of_job
-of_job_more out job text more = simp append_assoc
+pub three_parts : (out a b c : List ℕ) → ((out ++ a) ++ b) ++ c ≡ out ++ (a ++ (b ++ c))
+three_parts out a b c = simp append_assoc
 
-pub in_buffer : (out buffer index text : List ℕ)
-    → ((((out ++ codes "buffer ") ++ buffer) ++ codes " instruction ") ++ index) ++ codes ": " ++ text
+pub four_parts : (out a b c d : List ℕ) → (((out ++ a) ++ b) ++ c) ++ d ≡ out ++ (a ++ (b ++ (c ++ d)))
+four_parts out a b c d = simp append_assoc
+
+pub of_job_more : (out : List ℕ) (job : ℕ) (text more end : List ℕ) → ((out ++ of_job job text) ++ more) ++ end ≡ out ++ of_job job (text ++ (more ++ end))
+unfolding of_job
+of_job_more out job text more end = simp append_assoc
+
+pub in_buffer : (out buffer index : List ℕ)
+    → ((((out ++ codes "buffer ") ++ buffer) ++ codes " instruction ") ++ index) ++ codes ": "
+    ≡ out ++ (codes "buffer " ++ (buffer ++ (codes " instruction " ++ (index ++ codes ": "))))
+in_buffer out buffer index = simp append_assoc
+
+pub in_buffer_more : (out buffer index text : List ℕ)
+    → (out ++ (codes "buffer " ++ (buffer ++ (codes " instruction " ++ (index ++ codes ": "))))) ++ text
     ≡ out ++ (codes "buffer " ++ (buffer ++ (codes " instruction " ++ (index ++ (codes ": " ++ text)))))
-in_buffer out buffer index text = simp append_assoc
+in_buffer_more out buffer index text = simp append_assoc

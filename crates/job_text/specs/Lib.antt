@@ -1,4 +1,7 @@
 pub mod Made
+pub mod Meanings
 pub mod Names
+pub mod Notes
+pub mod Rows
 pub mod Sentences
 pub mod Shown

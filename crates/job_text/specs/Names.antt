@@ -1,17 +1,16 @@
 -- What a line says of its bytes.
 use Rattle.std.specs.Prelude.{ℕ, ◌++◌, List, [], codes, decimal}
-use Rattle.field_words.specs.Words.{u32_at, u64_at}
-use Rattle.qpu_asm.specs.Printed.{AsmText}
-use Rattle.std.specs.Prelude.{◌∷◌, slice_index, ◌==◌, if◌then◌else◌}
+use Rattle.field_words.specs.Words.{u32_at}
+use Rattle.std.specs.Prelude.{◌∷◌, ◌==◌, if◌then◌else◌}
 use Rattle.packets.specs.Opcode.{halt, nop, flush, start_tile_binning, increment_semaphore, indexed_primitive_list, array_primitive_list, primitive_list_format, gl_shader_state, configuration_bits, flat_shade_flags, point_size, line_width, rht_x_boundary, depth_offset, clip_window, viewport_offset, clipper_xy_scaling, clipper_z_scaling, tile_binning_mode, buffer_handles}
 use Rattle.job_text.specs.declared.note.Field.{Field}
-use Rattle.job_text.specs.declared.note.Field.TheVariants.{Magic, Version, MemorySize, ListsPlace, ListsSize, TilePlace, TileSlots, Buffers, Jobs, Place, Size, Client, Kind, Content, Flags, Handles, BinSize, RecordsSize, States, UniformsSize, Width, Height, MinX, MinY, MaxX, MaxY, HandleIndex, Offset, Bits, SurfaceFlags, FirstColor, SecondColor, ClearZ, ClearStencil, Zeros}
+use Rattle.job_text.specs.declared.note.Field.TheVariants.{Magic, Version, MemorySize, ListsPlace, ListsSize, TilePlace, TileSlots, Buffers, Jobs, Place, Size, Client, Kind, Content, Flags, Handles, BinSize, RecordsSize, States, UniformsSize, Width, Height, MinX, MinY, MaxX, MaxY, HandleIndex, Offset, FrameBits, GeneralBits, SampleBits, SurfaceFlags, FirstColor, SecondColor, ClearZ, ClearStencil, Zeros, PrimitiveMode, IndexMode, Length, FirstIndex, IndexAddress, MaxIndex, ListFormat, StateWord, ConfigurationBits, FlatFlags, PointWidth, Boundary, DepthFactor, DepthUnits, ClipLeft, ClipBottom, ClipWidth, ClipHeight, CenterX, CenterY, ScaleX, ScaleY, ScaleZ, OffsetZ, ListsAddress, ListsBytes, StatesAddress, TilesAcross, TilesDown, BinnerFlags, IndexHandle, FurtherHandle, NamedHandle, RecordFlags, FurtherBytes, CodeAddress, UniformsAddress, FurtherWord, DataAddress, DataSize, Stride, VertexOffset, CoordinateOffset, HighStride}
 use Rattle.job_text.specs.declared.note.Role.{Role}
 use Rattle.job_text.specs.declared.note.Role.TheVariants.{ColorRead, ColorWrite, ZsRead, ZsWrite, SampleColorWrite, SampleZsWrite}
 use Rattle.job_text.specs.declared.note.Part.{Part}
-use Rattle.job_text.specs.declared.note.Part.TheVariants.{Header, Buffer, Job, Surface}
-use Rattle.job_text.specs.declared.note.Note.{Note}
-use Rattle.job_text.specs.declared.note.Note.TheVariants.{Number, Handle, Packet, BehindHalt, Records, Uniform, Data, Instruction, Unread}
+use Rattle.job_text.specs.declared.note.Part.TheVariants.{Header, Buffer, Job, Surface, Record, Shader, Attribute}
+use Rattle.job_text.specs.declared.note.Stage.{Stage}
+use Rattle.job_text.specs.declared.note.Stage.TheVariants.{Fragment, Vertex, Coordinate}
 
 abbrev pub role_name : Role → List ℕ
 role_name ColorRead = codes "colour read"
@@ -50,13 +49,59 @@ field_name MaxX = codes "largest tile x"
 field_name MaxY = codes "largest tile y"
 field_name HandleIndex = codes "handle's index"
 field_name Offset = codes "offset"
-field_name Bits = codes "bits"
+field_name FrameBits = codes "bits"
+field_name GeneralBits = codes "bits"
+field_name SampleBits = codes "bits"
 field_name SurfaceFlags = codes "flags"
 field_name FirstColor = codes "clear colour 0"
 field_name SecondColor = codes "clear colour 1"
 field_name ClearZ = codes "clear Z"
 field_name ClearStencil = codes "clear stencil"
 field_name Zeros = codes "zeros"
+field_name PrimitiveMode = codes "mode"
+field_name IndexMode = codes "mode and index type"
+field_name Length = codes "length"
+field_name FirstIndex = codes "first index"
+field_name IndexAddress = codes "address"
+field_name MaxIndex = codes "maximum index"
+field_name ListFormat = codes "format"
+field_name StateWord = codes "word"
+field_name ConfigurationBits = codes "bits"
+field_name FlatFlags = codes "flags"
+field_name PointWidth = codes "value"
+field_name Boundary = codes "boundary"
+field_name DepthFactor = codes "factor"
+field_name DepthUnits = codes "units"
+field_name ClipLeft = codes "left"
+field_name ClipBottom = codes "bottom"
+field_name ClipWidth = codes "width"
+field_name ClipHeight = codes "height"
+field_name CenterX = codes "x"
+field_name CenterY = codes "y"
+field_name ScaleX = codes "x scale"
+field_name ScaleY = codes "y scale"
+field_name ScaleZ = codes "z scale"
+field_name OffsetZ = codes "z offset"
+field_name ListsAddress = codes "allocation address"
+field_name ListsBytes = codes "allocation size"
+field_name StatesAddress = codes "state address"
+field_name TilesAcross = codes "tiles across"
+field_name TilesDown = codes "tiles down"
+field_name BinnerFlags = codes "flags"
+field_name IndexHandle = codes "handle of the index buffer"
+field_name FurtherHandle = codes "further handle"
+field_name NamedHandle = codes "handle"
+field_name RecordFlags = codes "flags"
+field_name FurtherBytes = codes "further bytes"
+field_name CodeAddress = codes "code address"
+field_name UniformsAddress = codes "uniforms' address"
+field_name FurtherWord = codes "further word"
+field_name DataAddress = codes "address"
+field_name DataSize = codes "size less one"
+field_name Stride = codes "stride"
+field_name VertexOffset = codes "vertex shader's offset"
+field_name CoordinateOffset = codes "coordinate shader's offset"
+field_name HighStride = codes "high bits of the stride"
 
 -- the bytes of a field
 abbrev pub field_size : Field → ℕ
@@ -66,10 +111,34 @@ field_size MinX = 1
 field_size MinY = 1
 field_size MaxX = 1
 field_size MaxY = 1
-field_size Bits = 2
+field_size FrameBits = 2
+field_size GeneralBits = 2
+field_size SampleBits = 2
 field_size SurfaceFlags = 2
 field_size ClearStencil = 1
 field_size Zeros = 3
+field_size PrimitiveMode = 1
+field_size IndexMode = 1
+field_size ListFormat = 1
+field_size ConfigurationBits = 3
+field_size Boundary = 2
+field_size DepthFactor = 2
+field_size DepthUnits = 2
+field_size ClipLeft = 2
+field_size ClipBottom = 2
+field_size ClipWidth = 2
+field_size ClipHeight = 2
+field_size CenterX = 2
+field_size CenterY = 2
+field_size TilesAcross = 1
+field_size TilesDown = 1
+field_size BinnerFlags = 1
+field_size RecordFlags = 2
+field_size FurtherBytes = 2
+field_size DataSize = 1
+field_size Stride = 1
+field_size VertexOffset = 1
+field_size CoordinateOffset = 1
 field_size field = 4
 
 -- the fields of the header, of a buffer's entry, and of a job's entry before, in and behind its surfaces
@@ -82,18 +151,30 @@ buffer_fields = Place ∷ Size ∷ Client ∷ Kind ∷ Content ∷ []
 abbrev pub job_fields : List Field
 job_fields = Client ∷ Flags ∷ Handles ∷ BinSize ∷ RecordsSize ∷ States ∷ UniformsSize ∷ Width ∷ Height ∷ MinX ∷ MinY ∷ MaxX ∷ MaxY ∷ []
 
-abbrev pub surface_fields : List Field
-surface_fields = HandleIndex ∷ Offset ∷ Bits ∷ SurfaceFlags ∷ []
+abbrev pub surface_fields : Field → List Field
+surface_fields bits = HandleIndex ∷ Offset ∷ bits ∷ SurfaceFlags ∷ []
 
 abbrev pub clear_fields : List Field
 clear_fields = FirstColor ∷ SecondColor ∷ ClearZ ∷ ClearStencil ∷ Zeros ∷ []
+
+-- a job's number before what is said of a part of it
+unfoldable pub of_job : ℕ → List ℕ → List ℕ
+of_job j text = codes "job " ++ (decimal j ++ (codes " " ++ text))
+
+abbrev pub stage_name : Stage → List ℕ
+stage_name Fragment = codes "fragment shader"
+stage_name Vertex = codes "vertex shader"
+stage_name Coordinate = codes "coordinate shader"
 
 -- the part of the file that a field belongs to
 abbrev pub part_text : Part → List ℕ
 part_text Header = codes "header"
 part_text (Buffer b) = codes "buffer " ++ decimal b
 part_text (Job j) = codes "job " ++ decimal j
-part_text (Surface j role) = (codes "job " ++ decimal j) ++ (codes " " ++ role_name role)
+part_text (Surface j role) = of_job j (role_name role)
+part_text (Record j k) = of_job j (codes "record " ++ decimal k)
+part_text (Shader j k stage) = of_job j (codes "record " ++ (decimal k ++ (codes " " ++ stage_name stage)))
+part_text (Attribute j k t) = of_job j (codes "record " ++ (decimal k ++ (codes " attribute " ++ decimal t)))
 
 -- the name of a binner list's packet
 unfoldable pub packet_name : ℕ → List ℕ
@@ -120,25 +201,3 @@ packet_name o =
     else (if o == tile_binning_mode then codes "tile binning mode configuration"
     else (if o == buffer_handles then codes "buffer handles"
     else codes "no packet"))))))))))))))))))))
-
--- a job's number before what is said of a part of it
-unfoldable pub of_job : ℕ → List ℕ → List ℕ
-of_job j text = codes "job " ++ (decimal j ++ (codes " " ++ text))
-
--- the same of the number that some bytes are, where numbers count
-unfoldable pub counted : ℕ → List ℕ → ℕ → List ℕ → List ℕ → List ℕ
-counted j name i what bytes = of_job j (name ++ (decimal i ++ (what ++ decimal (u32_at bytes 0))))
-
--- what a line says of its bytes
-unfoldable pub note_text : Note → List ℕ → List ℕ
-note_text (Number part field) bytes =
-    part_text part ++ (codes ": " ++ (field_name field ++ (codes " " ++ decimal (u32_at bytes 0))))
-note_text (Handle j i) bytes = counted j (codes "handle ") i (codes ": buffer ") bytes
-note_text (Packet j) bytes = of_job j (codes "binner list: " ++ packet_name (slice_index bytes 0))
-note_text (BehindHalt j) bytes = of_job j (codes "binner list: behind the halt")
-note_text (Records j) bytes = of_job j (codes "shader records")
-note_text (Uniform j i) bytes = counted j (codes "uniform ") i (codes ": ") bytes
-note_text (Data b) bytes = codes "buffer " ++ (decimal b ++ codes " content")
-note_text (Instruction b i) bytes =
-    codes "buffer " ++ (decimal b ++ (codes " instruction " ++ (decimal i ++ (codes ": " ++ AsmText (u64_at bytes 0 ∷ [])))))
-note_text Unread bytes = codes "unread"

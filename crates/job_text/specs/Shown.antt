@@ -5,7 +5,7 @@ use Rattle.script.specs.Lines.{before}
 use Rattle.job_text.specs.declared.note.Note.{Note}
 use Rattle.job_text.specs.declared.note.Note.TheVariants.{Unread}
 use Rattle.job_text.specs.declared.note.Piece.{Piece}
-use Rattle.job_text.specs.Names.{note_text}
+use Rattle.job_text.specs.Notes.{note_text}
 
 -- the offset of the bytes, and what they are, up to a line's end
 unfoldable pub remark : ℕ → List ℕ → Note → List ℕ

@@ -1,43 +1,13 @@
 //! A file cut into pieces.
 
-use crate::list::push_list;
+use crate::chunks::push_chunks;
+use crate::code::push_code;
+use crate::list::{buffer_of, push_list, push_records};
 use crate::names::field_size;
 use crate::note::{Field, Note, Part, Piece, Role};
 use field_words::get_u32;
 use job_format::{ENTRY_SIZE, HEADER_SIZE, JOB_SIZE};
 use std::alloc::{AllocError, Global};
-
-// The note with a number, where it counts.
-fn numbered(note: Note, number: usize) -> Note {
-    match note {
-        Note::Handle(job, _) => Note::Handle(job, number),
-        Note::Uniform(job, _) => Note::Uniform(job, number),
-        Note::Instruction(buffer, _) => Note::Instruction(buffer, number),
-        other => other,
-    }
-}
-
-/// Appends so many bytes in pieces of a size, of which the last may be shorter.
-pub(crate) fn push_chunks(
-    out: &mut Vec<Piece>,
-    size: usize,
-    total: usize,
-    note: Note,
-) -> Result<(), AllocError> {
-    let mut left = total;
-    for number in 0..total {
-        if left == 0 {
-            break;
-        }
-        let taken = size.min(left);
-        out.push(Piece {
-            size: taken,
-            note: numbered(note, number),
-        })?;
-        left -= taken;
-    }
-    Ok(())
-}
 
 fn push_fields(out: &mut Vec<Piece>, part: Part, fields: &[Field]) -> Result<(), AllocError> {
     for field in fields {
@@ -75,14 +45,33 @@ fn push_buffer(out: &mut Vec<Piece>, buffer: u32) -> Result<(), AllocError> {
     push_fields(out, Part::Buffer(buffer), &fields)
 }
 
-fn push_surface(out: &mut Vec<Piece>, job: u32, role: Role) -> Result<(), AllocError> {
-    let fields = [
-        Field::HandleIndex,
-        Field::Offset,
-        Field::Bits,
-        Field::SurfaceFlags,
-    ];
-    push_fields(out, Part::Surface(job, role), &fields)
+// The bits of a surface mean what its role says.
+fn bits_of(role: Role) -> Field {
+    match role {
+        Role::ColorWrite => Field::FrameBits,
+        Role::SampleColorWrite => Field::SampleBits,
+        Role::SampleZsWrite => Field::SampleBits,
+        _ => Field::GeneralBits,
+    }
+}
+
+// Appends a surface, of which the buffer is given that its handle names.
+fn push_surface(
+    out: &mut Vec<Piece>,
+    job: u32,
+    role: Role,
+    buffer: Option<usize>,
+) -> Result<(), AllocError> {
+    let part = Part::Surface(job, role);
+    out.push(Piece {
+        size: 4,
+        note: Note::Named(part, Field::HandleIndex, buffer),
+    })?;
+    push_fields(
+        out,
+        part,
+        &[Field::Offset, bits_of(role), Field::SurfaceFlags],
+    )
 }
 
 fn push_job_fields(out: &mut Vec<Piece>, job: u32) -> Result<(), AllocError> {
@@ -115,14 +104,54 @@ fn push_clear_fields(out: &mut Vec<Piece>, job: u32) -> Result<(), AllocError> {
     push_fields(out, Part::Job(job), &fields)
 }
 
-fn push_job(out: &mut Vec<Piece>, job: u32) -> Result<(), AllocError> {
+// Appends the surfaces of a job in the order of these roles, whose bytes and handles are given.
+fn push_surfaces(
+    out: &mut Vec<Piece>,
+    job: u32,
+    surfaces: &[u8],
+    handles: &[u8],
+    roles: &[Role],
+) -> Result<(), AllocError> {
+    let mut rest = surfaces;
+    for role in roles {
+        let buffer = buffer_of(handles, word(rest, 0));
+        push_surface(out, job, *role, buffer)?;
+        rest = &rest[12.min(rest.len())..];
+    }
+    Ok(())
+}
+
+// What stands in bytes from an offset on, up to a size.
+fn part_at(bytes: &[u8], start: usize, size: usize) -> &[u8] {
+    let (_, rest) = bytes.split_at(start.min(bytes.len()));
+    &rest[..size.min(rest.len())]
+}
+
+// Appends a job's entry, which begins at an offset, and whose handles begin at another.
+fn push_job(
+    out: &mut Vec<Piece>,
+    bytes: &[u8],
+    job: u32,
+    entry: usize,
+    start: usize,
+) -> Result<(), AllocError> {
+    let roles = [
+        Role::ColorRead,
+        Role::ColorWrite,
+        Role::ZsRead,
+        Role::ZsWrite,
+        Role::SampleColorWrite,
+        Role::SampleZsWrite,
+    ];
+    let handles = 4 * word(bytes, entry.saturating_add(8)) as usize;
     push_job_fields(out, job)?;
-    push_surface(out, job, Role::ColorRead)?;
-    push_surface(out, job, Role::ColorWrite)?;
-    push_surface(out, job, Role::ZsRead)?;
-    push_surface(out, job, Role::ZsWrite)?;
-    push_surface(out, job, Role::SampleColorWrite)?;
-    push_surface(out, job, Role::SampleZsWrite)?;
+    push_surfaces(
+        out,
+        job,
+        part_at(bytes, entry.saturating_add(36), 72),
+        part_at(bytes, start, handles),
+        &roles,
+    )?;
     push_clear_fields(out, job)
 }
 
@@ -138,31 +167,54 @@ fn push_buffers(out: &mut Vec<Piece>, count: u32) -> Result<(), AllocError> {
     Ok(())
 }
 
-fn push_jobs(out: &mut Vec<Piece>, count: u32) -> Result<(), AllocError> {
-    for job in 0..count {
-        push_job(out, job)?;
+fn push_jobs(
+    out: &mut Vec<Piece>,
+    bytes: &[u8],
+    buffers: u32,
+    jobs: u32,
+) -> Result<(), AllocError> {
+    let mut at = contents_end(bytes, buffers, jobs);
+    let first = HEADER_SIZE + ENTRY_SIZE * buffers as usize;
+    for job in 0..jobs {
+        let entry = first + JOB_SIZE * job as usize;
+        push_job(out, bytes, job, entry, at)?;
+        at = parts_end(bytes, entry, at);
     }
     Ok(())
 }
 
 fn push_entries(out: &mut Vec<Piece>, bytes: &[u8]) -> Result<(), AllocError> {
-    push_buffers(out, word(bytes, 28))?;
-    push_jobs(out, word(bytes, 32))
+    let buffers = word(bytes, 28);
+    push_buffers(out, buffers)?;
+    push_jobs(out, bytes, buffers, word(bytes, 32))
 }
 
-fn push_content(out: &mut Vec<Piece>, bytes: &[u8], buffer: u32) -> Result<(), AllocError> {
+// Appends a buffer's content, which begins at an offset, and says where it ends.
+fn push_content(
+    out: &mut Vec<Piece>,
+    bytes: &[u8],
+    buffer: u32,
+    start: usize,
+) -> Result<usize, AllocError> {
     let at = HEADER_SIZE + ENTRY_SIZE * buffer as usize;
     let size = word(bytes, at + 16) as usize;
     if word(bytes, at + 12) == 1 {
-        push_chunks(out, 8, size, Note::Instruction(buffer, 0))
+        push_code(out, buffer, part_at(bytes, start, size))?;
     } else {
-        push_chunks(out, 32, size, Note::Data(buffer))
+        push_chunks(out, 32, size, Note::Data(buffer))?;
     }
+    Ok(start.saturating_add(size))
 }
 
-fn push_contents(out: &mut Vec<Piece>, bytes: &[u8], count: u32) -> Result<(), AllocError> {
+fn push_contents(
+    out: &mut Vec<Piece>,
+    bytes: &[u8],
+    count: u32,
+    start: usize,
+) -> Result<(), AllocError> {
+    let mut at = start;
     for buffer in 0..count {
-        push_content(out, bytes, buffer)?;
+        at = push_content(out, bytes, buffer, at)?;
     }
     Ok(())
 }
@@ -209,21 +261,16 @@ fn push_part(
     let end = parts_end(bytes, entry, start);
     let handles = 4 * word(bytes, entry.saturating_add(8)) as usize;
     let bin = word(bytes, entry.saturating_add(12)) as usize;
-    let (_, lists) = bytes.split_at(start.saturating_add(handles).min(bytes.len()));
+    let records = word(bytes, entry.saturating_add(16)) as usize;
+    let uniforms = word(bytes, entry.saturating_add(24)) as usize;
+    let named = part_at(bytes, start, handles);
+    let list_start = start.saturating_add(handles);
+    let list = part_at(bytes, list_start, bin);
+    let records = part_at(bytes, list_start.saturating_add(bin), records);
     push_chunks(out, 4, handles, Note::Handle(job, 0))?;
-    push_list(out, job, &lists[..bin.min(lists.len())])?;
-    push_chunks(
-        out,
-        16,
-        word(bytes, entry + 16) as usize,
-        Note::Records(job),
-    )?;
-    push_chunks(
-        out,
-        4,
-        word(bytes, entry + 24) as usize,
-        Note::Uniform(job, 0),
-    )?;
+    push_list(out, job, list, named)?;
+    push_records(out, job, list, named, records)?;
+    push_chunks(out, 4, uniforms, Note::Uniform(job, 0))?;
     Ok(end)
 }
 
@@ -258,7 +305,7 @@ fn push_rest(out: &mut Vec<Piece>, bytes: &[u8]) -> Result<(), AllocError> {
     if end > bytes.len() {
         return push_unread(out, bytes, entries);
     }
-    push_contents(out, bytes, buffers)?;
+    push_contents(out, bytes, buffers, entries)?;
     push_parts(out, bytes, buffers, jobs)?;
     push_unread(out, bytes, end)
 }

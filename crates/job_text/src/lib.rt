@@ -4,12 +4,19 @@
 //! reads what stands before each `#`. So each byte is on one line, and `make` of what `show` wrote is the same bytes.
 #![tactic(auto)]
 
+mod chunks;
+mod code;
 mod cuts;
 mod fault;
+mod fields;
 mod list;
+mod meanings;
 mod names;
 mod note;
+mod notes;
+mod numbers;
 mod reading;
+mod rows;
 mod writing;
 
 pub use fault::{MakeFault, Mistake};

@@ -1,20 +1,16 @@
-//! What a line says of its bytes.
-ghost use Rattle.std.specs.Prelude.{◌≡◌, ◌++◌, ◌∷◌, [], slice_index, codes, decimal, OnOk};
-ghost use Rattle.qpu_asm.specs.Printed.{AsmText};
-ghost use Rattle.field_words.specs.Words.{u32_at, u64_at};
-ghost use Rattle.job_text.specs.Names.{role_name, field_name, field_size, part_text, packet_name, of_job, counted, note_text};
+//! The names of what a file has.
+ghost use Rattle.std.specs.Prelude.{◌≡◌, ◌++◌, codes, decimal, OnOk};
+ghost use Rattle.job_text.specs.Names.{role_name, stage_name, field_name, field_size, part_text, packet_name, of_job};
 
-use crate::note::{Field, Note, Part, Role};
-use field_words::NoMemory;
-use itoa::Buffer;
+use crate::note::{Field, Part, Role, Stage};
+use crate::numbers::put_number;
 use packets::opcode::{
     ARRAY_PRIMITIVE_LIST, BUFFER_HANDLES, CLIP_WINDOW, CLIPPER_XY_SCALING, CLIPPER_Z_SCALING,
     CONFIGURATION_BITS, DEPTH_OFFSET, FLAT_SHADE_FLAGS, FLUSH, GL_SHADER_STATE, HALT,
     INCREMENT_SEMAPHORE, INDEXED_PRIMITIVE_LIST, LINE_WIDTH, NOP, POINT_SIZE,
     PRIMITIVE_LIST_FORMAT, RHT_X_BOUNDARY, START_TILE_BINNING, TILE_BINNING_MODE, VIEWPORT_OFFSET,
 };
-use qpu_asm::disassemble;
-use std::alloc::{AllocError, Global};
+use std::alloc::AllocError;
 
 fn role_name(role: Role) -> &'static str
     ensures { result.now ≡ role_name role }
@@ -29,7 +25,18 @@ fn role_name(role: Role) -> &'static str
     }
 }
 
-fn field_name(field: Field) -> &'static str
+fn stage_name(stage: Stage) -> &'static str
+    ensures { result.now ≡ stage_name stage }
+{
+    match stage {
+        Stage::Fragment => "fragment shader",
+        Stage::Vertex => "vertex shader",
+        Stage::Coordinate => "coordinate shader",
+    }
+}
+
+/// The name of a field.
+pub(crate) fn field_name(field: Field) -> &'static str
     ensures { result.now ≡ field_name field }
 {
     match field {
@@ -61,13 +68,59 @@ fn field_name(field: Field) -> &'static str
         Field::MaxY => "largest tile y",
         Field::HandleIndex => "handle's index",
         Field::Offset => "offset",
-        Field::Bits => "bits",
+        Field::FrameBits => "bits",
+        Field::GeneralBits => "bits",
+        Field::SampleBits => "bits",
         Field::SurfaceFlags => "flags",
         Field::FirstColor => "clear colour 0",
         Field::SecondColor => "clear colour 1",
         Field::ClearZ => "clear Z",
         Field::ClearStencil => "clear stencil",
         Field::Zeros => "zeros",
+        Field::PrimitiveMode => "mode",
+        Field::IndexMode => "mode and index type",
+        Field::Length => "length",
+        Field::FirstIndex => "first index",
+        Field::IndexAddress => "address",
+        Field::MaxIndex => "maximum index",
+        Field::ListFormat => "format",
+        Field::StateWord => "word",
+        Field::ConfigurationBits => "bits",
+        Field::FlatFlags => "flags",
+        Field::PointWidth => "value",
+        Field::Boundary => "boundary",
+        Field::DepthFactor => "factor",
+        Field::DepthUnits => "units",
+        Field::ClipLeft => "left",
+        Field::ClipBottom => "bottom",
+        Field::ClipWidth => "width",
+        Field::ClipHeight => "height",
+        Field::CenterX => "x",
+        Field::CenterY => "y",
+        Field::ScaleX => "x scale",
+        Field::ScaleY => "y scale",
+        Field::ScaleZ => "z scale",
+        Field::OffsetZ => "z offset",
+        Field::ListsAddress => "allocation address",
+        Field::ListsBytes => "allocation size",
+        Field::StatesAddress => "state address",
+        Field::TilesAcross => "tiles across",
+        Field::TilesDown => "tiles down",
+        Field::BinnerFlags => "flags",
+        Field::IndexHandle => "handle of the index buffer",
+        Field::FurtherHandle => "further handle",
+        Field::NamedHandle => "handle",
+        Field::RecordFlags => "flags",
+        Field::FurtherBytes => "further bytes",
+        Field::CodeAddress => "code address",
+        Field::UniformsAddress => "uniforms' address",
+        Field::FurtherWord => "further word",
+        Field::DataAddress => "address",
+        Field::DataSize => "size less one",
+        Field::Stride => "stride",
+        Field::VertexOffset => "vertex shader's offset",
+        Field::CoordinateOffset => "coordinate shader's offset",
+        Field::HighStride => "high bits of the stride",
     }
 }
 
@@ -78,15 +131,21 @@ pub(crate) fn field_size(field: Field) -> usize
     match field {
         Field::Width | Field::Height => 2,
         Field::MinX | Field::MinY | Field::MaxX | Field::MaxY => 1,
-        Field::Bits | Field::SurfaceFlags => 2,
-        Field::ClearStencil => 1,
-        Field::Zeros => 3,
+        Field::FrameBits | Field::GeneralBits | Field::SampleBits | Field::SurfaceFlags => 2,
+        Field::Boundary | Field::DepthFactor | Field::DepthUnits | Field::ClipLeft => 2,
+        Field::ClipBottom | Field::ClipWidth | Field::ClipHeight | Field::CenterX => 2,
+        Field::CenterY | Field::RecordFlags | Field::FurtherBytes => 2,
+        Field::ClearStencil | Field::PrimitiveMode | Field::IndexMode | Field::ListFormat => 1,
+        Field::TilesAcross | Field::TilesDown | Field::BinnerFlags | Field::DataSize => 1,
+        Field::Stride | Field::VertexOffset | Field::CoordinateOffset => 1,
+        Field::Zeros | Field::ConfigurationBits => 3,
         _ => 4,
     }
 }
 
+/// The name of a binner list's packet.
 #[tactic(auto, unfolding(crate::specs::Names::packet_name))]
-fn packet_name(opcode: u8) -> &'static str
+pub(crate) fn packet_name(opcode: u8) -> &'static str
     ensures { result.now ≡ packet_name opcode }
 {
     match opcode {
@@ -115,54 +174,53 @@ fn packet_name(opcode: u8) -> &'static str
     }
 }
 
-fn put_number(out: &mut Vec<u8>, number: usize) -> Result<(), AllocError>
-    ensures { OnOk result (out.new.items ≡ out.old.items ++ decimal number) }
+/// Appends a job's number, and what is said of a part of it.
+#[tactic(auto, unfolding(crate::specs::Names::of_job))]
+pub(crate) fn put_of_job(out: &mut Vec<u8>, job: u32, text: &[u8]) -> Result<(), AllocError>
+    ensures { OnOk result (out.new.items ≡ out.old.items ++ of_job job text.now) }
 {
-    let mut buffer = Buffer::new();
-    out.extend_from_slice(buffer.format(number).as_bytes())
+    out.extend_from_slice(b"job ")?;
+    put_number(out, job as usize)?;
+    out.extend_from_slice(b" ")?;
+    out.extend_from_slice(text)
 }
 
-// The byte at an index, or zero past the end.
-fn byte_at(bytes: &[u8], index: usize) -> u8
-    ensures { result ≡ slice_index bytes.now index }
+// Appends a job's number, that of a record of it, and what is said of a part of it.
+#[tactic(auto, unfolding(crate::specs::Names::of_job))]
+fn put_of_record(out: &mut Vec<u8>, job: u32, index: usize, text: &[u8]) -> Result<(), AllocError>
+    ensures { OnOk result (out.new.items ≡ out.old.items ++ of_job job (codes "record " ++ (decimal index ++ text.now))) }
 {
-    match bytes.get(index) {
-        Some(byte) => *byte,
-        None => 0,
-    }
+    put_of_job(out, job, b"record ")?;
+    put_number(out, index)?;
+    out.extend_from_slice(text)
 }
 
-// The number of up to four bytes.
-#[tactic(auto, unfolding(field_words::specs::Words::u32_at))]
-fn number(bytes: &[u8]) -> u32
-    ensures { result ≡ u32_at bytes.now 0 }
+// Appends the name of a record's shader.
+#[tactic(auto, unfolding(crate::specs::Names::of_job))]
+fn put_stage(out: &mut Vec<u8>, job: u32, index: usize, stage: Stage) -> Result<(), AllocError>
+    ensures { OnOk result (out.new.items ≡ out.old.items ++ part_text (Part.Shader job index stage)) }
 {
-    u32::from_le_bytes([
-        byte_at(bytes, 0),
-        byte_at(bytes, 1),
-        byte_at(bytes, 2),
-        byte_at(bytes, 3),
-    ])
+    put_of_record(out, job, index, b" ")?;
+    out.extend_from_slice(stage_name(stage).as_bytes())
 }
 
-// The number of up to eight bytes.
-#[tactic(auto, unfolding(field_words::specs::Words::u64_at))]
-fn instruction(bytes: &[u8]) -> u64
-    ensures { result ≡ u64_at bytes.now 0 }
+// Appends the name of a record's attribute.
+#[tactic(auto, unfolding(crate::specs::Names::of_job))]
+fn put_attribute(
+    out: &mut Vec<u8>,
+    job: u32,
+    index: usize,
+    attribute: usize,
+) -> Result<(), AllocError>
+    ensures { OnOk result (out.new.items ≡ out.old.items ++ part_text (Part.Attribute job index attribute)) }
 {
-    u64::from_le_bytes([
-        byte_at(bytes, 0),
-        byte_at(bytes, 1),
-        byte_at(bytes, 2),
-        byte_at(bytes, 3),
-        byte_at(bytes, 4),
-        byte_at(bytes, 5),
-        byte_at(bytes, 6),
-        byte_at(bytes, 7),
-    ])
+    put_of_record(out, job, index, b" attribute ")?;
+    put_number(out, attribute)
 }
 
-fn put_part(out: &mut Vec<u8>, part: Part) -> Result<(), AllocError>
+/// Appends the name of a part of the file.
+#[tactic(auto, unfolding(crate::specs::Names::of_job))]
+pub(crate) fn put_part(out: &mut Vec<u8>, part: Part) -> Result<(), AllocError>
     ensures { OnOk result (out.new.items ≡ out.old.items ++ part_text part) }
 {
     match part {
@@ -175,116 +233,12 @@ fn put_part(out: &mut Vec<u8>, part: Part) -> Result<(), AllocError>
             out.extend_from_slice(b"job ")?;
             put_number(out, j as usize)
         }
-        Part::Surface(j, role) => {
-            out.extend_from_slice(b"job ")?;
-            put_number(out, j as usize)?;
-            out.extend_from_slice(b" ")?;
-            out.extend_from_slice(role_name(role).as_bytes())
+        Part::Surface(j, role) => put_of_job(out, j, role_name(role).as_bytes()),
+        Part::Record(j, k) => {
+            put_of_job(out, j, b"record ")?;
+            put_number(out, k)
         }
+        Part::Shader(j, k, stage) => put_stage(out, j, k, stage),
+        Part::Attribute(j, k, t) => put_attribute(out, j, k, t),
     }
-}
-
-#[tactic(auto, unfolding(crate::specs::Names::note_text))]
-fn put_field(out: &mut Vec<u8>, part: Part, field: Field, bytes: &[u8]) -> Result<(), AllocError>
-    ensures { OnOk result (out.new.items ≡ out.old.items ++ note_text (Note.Number part field) bytes.now) }
-{
-    put_part(out, part)?;
-    out.extend_from_slice(b": ")?;
-    out.extend_from_slice(field_name(field).as_bytes())?;
-    out.extend_from_slice(b" ")?;
-    put_number(out, number(bytes) as usize)
-}
-
-#[tactic(auto, unfolding(crate::specs::Names::of_job))]
-fn put_of_job(out: &mut Vec<u8>, job: u32, text: &[u8]) -> Result<(), AllocError>
-    ensures { OnOk result (out.new.items ≡ out.old.items ++ of_job job text.now) }
-{
-    out.extend_from_slice(b"job ")?;
-    put_number(out, job as usize)?;
-    out.extend_from_slice(b" ")?;
-    out.extend_from_slice(text)
-}
-
-#[tactic(auto, unfolding(crate::specs::Names::of_job, crate::specs::Names::counted))]
-fn put_counted(
-    out: &mut Vec<u8>,
-    job: u32,
-    name: &[u8],
-    count: usize,
-    what: &[u8],
-    bytes: &[u8],
-) -> Result<(), AllocError>
-    ensures { OnOk result (out.new.items ≡ out.old.items ++ counted job name.now count what.now bytes.now) }
-{
-    put_of_job(out, job, name)?;
-    put_number(out, count)?;
-    out.extend_from_slice(what)?;
-    put_number(out, number(bytes) as usize)
-}
-
-// Appends an instruction as assembler text, with its line feed.
-fn put_assembler(alloc: Global, out: &mut Vec<u8>, bytes: &[u8]) -> Result<(), NoMemory>
-    ensures { OnOk result (out.new.items ≡ out.old.items ++ AsmText (u64_at bytes.now 0 ∷ [])) }
-{
-    let word = instruction(bytes);
-    let text = disassemble(alloc, &[word])?;
-    out.extend_from_slice(&text)?;
-    Ok(())
-}
-
-fn put_instruction(
-    alloc: Global,
-    out: &mut Vec<u8>,
-    buffer: u32,
-    index: usize,
-    bytes: &[u8],
-) -> Result<(), NoMemory>
-    ensures { OnOk result (out.new.items ≡ out.old.items ++ note_text (Note.Instruction buffer index) bytes.now) }
-{
-    out.extend_from_slice(b"buffer ")?;
-    put_number(out, buffer as usize)?;
-    out.extend_from_slice(b" instruction ")?;
-    put_number(out, index)?;
-    out.extend_from_slice(b": ")?;
-    put_assembler(alloc, out, bytes)
-}
-
-fn put_data(out: &mut Vec<u8>, buffer: u32) -> Result<(), AllocError>
-    ensures { OnOk result (out.new.items ≡ out.old.items ++ (codes "buffer " ++ (decimal buffer ++ codes " content"))) }
-{
-    out.extend_from_slice(b"buffer ")?;
-    put_number(out, buffer as usize)?;
-    out.extend_from_slice(b" content")
-}
-
-fn put_packet(out: &mut Vec<u8>, job: u32, packet: &[u8]) -> Result<(), AllocError>
-    ensures { OnOk result (out.new.items ≡ out.old.items ++ of_job job (codes "binner list: " ++ packet_name (slice_index packet.now 0))) }
-{
-    put_of_job(out, job, b"binner list: ")?;
-    out.extend_from_slice(packet_name(byte_at(packet, 0)).as_bytes())?;
-    Ok(())
-}
-
-/// Appends what a line says of its bytes.
-#[tactic(auto, unfolding(crate::specs::Names::note_text))]
-pub(crate) fn put_note(
-    alloc: Global,
-    out: &mut Vec<u8>,
-    note: Note,
-    bytes: &[u8],
-) -> Result<(), NoMemory>
-    ensures { OnOk result (out.new.items ≡ out.old.items ++ note_text note bytes.now) }
-{
-    match note {
-        Note::Number(part, field) => put_field(out, part, field, bytes)?,
-        Note::Handle(job, index) => put_counted(out, job, b"handle ", index, b": buffer ", bytes)?,
-        Note::Packet(job) => put_packet(out, job, bytes)?,
-        Note::BehindHalt(job) => put_of_job(out, job, b"binner list: behind the halt")?,
-        Note::Records(job) => put_of_job(out, job, b"shader records")?,
-        Note::Uniform(job, index) => put_counted(out, job, b"uniform ", index, b": ", bytes)?,
-        Note::Data(buffer) => put_data(out, buffer)?,
-        Note::Instruction(buffer, index) => put_instruction(alloc, out, buffer, index, bytes)?,
-        Note::Unread => out.extend_from_slice(b"unread")?,
-    }
-    Ok(())
 }

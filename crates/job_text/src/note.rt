@@ -1,6 +1,6 @@
 //! What the bytes of a line are.
 
-/// A field of the header, of a buffer's entry or of a job's entry.
+/// A field of the header, of an entry, of a packet or of a shader record.
 #[derive(Clone, Copy, Debug, PartialEq, Eq)]
 pub enum Field {
     Magic,
@@ -31,13 +31,59 @@ pub enum Field {
     MaxY,
     HandleIndex,
     Offset,
-    Bits,
+    FrameBits,
+    GeneralBits,
+    SampleBits,
     SurfaceFlags,
     FirstColor,
     SecondColor,
     ClearZ,
     ClearStencil,
     Zeros,
+    PrimitiveMode,
+    IndexMode,
+    Length,
+    FirstIndex,
+    IndexAddress,
+    MaxIndex,
+    ListFormat,
+    StateWord,
+    ConfigurationBits,
+    FlatFlags,
+    PointWidth,
+    Boundary,
+    DepthFactor,
+    DepthUnits,
+    ClipLeft,
+    ClipBottom,
+    ClipWidth,
+    ClipHeight,
+    CenterX,
+    CenterY,
+    ScaleX,
+    ScaleY,
+    ScaleZ,
+    OffsetZ,
+    ListsAddress,
+    ListsBytes,
+    StatesAddress,
+    TilesAcross,
+    TilesDown,
+    BinnerFlags,
+    IndexHandle,
+    FurtherHandle,
+    NamedHandle,
+    RecordFlags,
+    FurtherBytes,
+    CodeAddress,
+    UniformsAddress,
+    FurtherWord,
+    DataAddress,
+    DataSize,
+    Stride,
+    VertexOffset,
+    CoordinateOffset,
+    HighStride,
 }
 
 /// What a frame does with a surface.
@@ -51,28 +97,41 @@ pub enum Role {
     SampleZsWrite,
 }
 
-/// The part of the file that a field belongs to: the header, the entry of the buffer or of the job of a number, or a surface in
-/// the entry of a job.
+/// Which shader of a record.
+#[derive(Clone, Copy, Debug, PartialEq, Eq)]
+pub enum Stage {
+    Fragment,
+    Vertex,
+    Coordinate,
+}
+
+/// The part of the file that a field belongs to: the header, the entry of the buffer or of the job of a number, a surface in
+/// the entry of a job, or in a job's records the record of a number, its shader, or its attribute of a number.
 #[derive(Clone, Copy, Debug, PartialEq, Eq)]
 pub enum Part {
     Header,
     Buffer(u32),
     Job(u32),
     Surface(u32, Role),
+    Record(u32, usize),
+    Shader(u32, usize, Stage),
+    Attribute(u32, usize, usize),
 }
 
 /// What some bytes are. The first number is that of the job, or of the buffer for `Data` and `Instruction`; the second
-/// counts handles, uniforms and instructions.
+/// counts handles, uniforms and instructions. The buffer that a handle names stands last, and the uniform that an instruction
+/// takes.
 #[derive(Clone, Copy, Debug, PartialEq, Eq)]
 pub enum Note {
     Number(Part, Field),
+    Named(Part, Field, Option<usize>),
     Handle(u32, usize),
-    Packet(u32),
+    Packet(u32, Option<usize>),
     BehindHalt(u32),
     Records(u32),
     Uniform(u32, usize),
     Data(u32),
-    Instruction(u32, usize),
+    Instruction(u32, usize, Option<usize>),
     Unread,
 }
 

@@ -5,8 +5,8 @@ ghost use Rattle.job_text.specs.Shown.{remark, line_text, shown};
 ghost use Rattle.job_text.specs.Made.{made};
 
 use crate::cuts::pieces;
-use crate::names::put_note;
 use crate::note::{Note, Piece};
+use crate::notes::put_note;
 use field_words::NoMemory;
 use itoa::Buffer;
 use script::cut_at;

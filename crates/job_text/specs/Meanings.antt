@@ -1,0 +1,71 @@
+-- What a field's number means, as it is said behind the number.
+use Rattle.std.specs.Prelude.{ℕ, ◌++◌, List, [], codes, decimal, ◌==◌, ◌%◌, ◌/◌, Option, Some, None, if◌then◌else◌}
+use Rattle.packets.specs.StateWord.{attribute_count, is_extended}
+use Rattle.texture_layouts.specs.declared.surface.Tiling.{Tiling}
+use Rattle.texture_layouts.specs.declared.surface.Tiling.TheVariants.{Raster, T, Lt}
+use Rattle.texture_layouts.specs.declared.format.Style.{Style}
+use Rattle.texture_layouts.specs.Format.{general_style, frame_style}
+use Rattle.job_text.specs.declared.note.Field.{Field}
+use Rattle.job_text.specs.declared.note.Field.TheVariants.{Kind, Flags, HandleIndex, FrameBits, GeneralBits, SurfaceFlags, PrimitiveMode, IndexMode, StateWord, BinnerFlags, RecordFlags}
+
+abbrev pub tiling_name : Tiling → List ℕ
+tiling_name Raster = codes "raster"
+tiling_name T = codes "T"
+tiling_name Lt = codes "Lt"
+
+-- how a surface's pixels lie
+abbrev pub style_text : Option Style → List ℕ
+style_text None = codes " (no tiling or no format)"
+style_text (Some style) = codes " (" ++ (tiling_name style.tiling ++ (codes " tiling, " ++ (decimal style.cpp ++ codes " bytes a pixel)")))
+
+-- which primitives the vertices make
+unfoldable pub mode_name : ℕ → List ℕ
+mode_name n =
+    if n == 0 then codes "points"
+    else (if n == 1 then codes "lines"
+    else (if n == 2 then codes "line loop"
+    else (if n == 3 then codes "line strip"
+    else (if n == 4 then codes "triangles"
+    else (if n == 5 then codes "triangle strip"
+    else (if n == 6 then codes "triangle fan"
+    else codes "no mode"))))))
+
+-- the bytes of an index: one where bits 7:4 of the mode are zero
+unfoldable pub index_text : ℕ → List ℕ
+index_text n = if n / 16 == 0 then codes "; 1 byte an index)" else codes "; 2 bytes an index)"
+
+-- what is said where a number is one, and where its bit 0 is set
+unfoldable pub said_of_one : ℕ → List ℕ → List ℕ
+said_of_one n text = if n == 1 then text else []
+
+unfoldable pub said_of_bit : ℕ → List ℕ → List ℕ
+said_of_bit n text = if n % 2 == 1 then text else []
+
+unfoldable pub kind_text : ℕ → List ℕ
+kind_text n = if n == 0 then codes " (data)" else (if n == 1 then codes " (code)" else codes " (no kind)")
+
+-- a surface that is absent has a handle's index of all ones
+unfoldable pub absent_text : ℕ → List ℕ
+absent_text n = if n == 4294967295 then codes " (absent)" else []
+
+-- what a shader state's word says of its record
+unfoldable pub extended_text : ℕ → List ℕ
+extended_text n = if is_extended n then codes ", extended)" else codes ")"
+
+unfoldable pub state_text : ℕ → List ℕ
+state_text n = codes " (attributes: " ++ (decimal (attribute_count n) ++ extended_text n)
+
+-- what the number of a field means; nothing where the name says it
+abbrev pub field_meaning : Field → ℕ → List ℕ
+field_meaning Kind n = kind_text n
+field_meaning Flags n = said_of_one n (codes " (the clear values are used)")
+field_meaning HandleIndex n = absent_text n
+field_meaning FrameBits n = style_text (frame_style (n % 65536))
+field_meaning GeneralBits n = style_text (general_style (n % 65536))
+field_meaning SurfaceFlags n = said_of_bit n (codes " (full resolution)")
+field_meaning PrimitiveMode n = codes " (" ++ (mode_name (n % 16) ++ codes ")")
+field_meaning IndexMode n = codes " (" ++ (mode_name (n % 16) ++ index_text n)
+field_meaning StateWord n = state_text n
+field_meaning BinnerFlags n = said_of_bit n (codes " (four samples a pixel)")
+field_meaning RecordFlags n = said_of_bit n (codes " (single-threaded)")
+field_meaning field n = []

@@ -1,0 +1,58 @@
+-- What a line says of its bytes.
+use Rattle.std.specs.Prelude.{ℕ, ◌++◌, List, [], ◌∷◌, codes, decimal, drop, slice_index, Option, Some, None, Bool, if◌then◌else◌}
+use Rattle.field_words.specs.Words.{u32_at, u64_at}
+use Rattle.script.specs.Lines.{before}
+use Rattle.qpu_asm.specs.Printed.{AsmText}
+use Rattle.qpu_isa.specs.Terms.{is_switch, is_end, writes_s}
+use Rattle.job_text.specs.declared.note.Note.{Note}
+use Rattle.job_text.specs.declared.note.Note.TheVariants.{Number, Named, Handle, Packet, BehindHalt, Records, Uniform, Data, Instruction, Unread}
+use Rattle.job_text.specs.Names.{of_job, part_text, packet_name}
+use Rattle.job_text.specs.Rows.{packet_fields, valued, fields_text}
+
+-- the same of the number that some bytes are, where numbers count
+unfoldable pub counted : ℕ → List ℕ → ℕ → List ℕ → List ℕ → List ℕ
+counted j name i what bytes = of_job j (name ++ (decimal i ++ (what ++ decimal (u32_at bytes 0))))
+
+-- the buffer that a handle names, and the uniform that an instruction takes, where there is one
+abbrev pub named_text : Option ℕ → List ℕ
+named_text None = []
+named_text (Some buffer) = codes " (buffer " ++ (decimal buffer ++ codes ")")
+
+abbrev pub taken_text : Option ℕ → List ℕ
+taken_text None = []
+taken_text (Some uniform) = codes "; takes uniform " ++ decimal uniform
+
+-- the name of a packet, and its fields
+unfoldable pub packet_text : List ℕ → List ℕ
+packet_text packet = packet_name (slice_index packet 0) ++ fields_text (packet_fields (slice_index packet 0)) (drop 1 packet)
+
+abbrev pub said_if : Bool → List ℕ → List ℕ
+said_if is text = if is then text else []
+
+-- what an instruction does beside its operations
+unfoldable pub facts_text : ℕ → List ℕ
+facts_text word =
+    said_if (is_switch word) (codes "; thread switch")
+    ++ (said_if (writes_s word 0) (codes "; request to TMU 0")
+    ++ (said_if (writes_s word 1) (codes "; request to TMU 1") ++ said_if (is_end word) (codes "; program end")))
+
+-- an instruction as assembler text, without its line feed
+unfoldable pub assembler_text : ℕ → List ℕ
+assembler_text word = before 10 (AsmText (word ∷ []))
+
+-- what a line says of its bytes
+unfoldable pub note_text : Note → List ℕ → List ℕ
+note_text (Number part field) bytes = part_text part ++ (codes ": " ++ valued field bytes)
+note_text (Named part field buffer) bytes = part_text part ++ (codes ": " ++ (valued field bytes ++ named_text buffer))
+note_text (Handle j i) bytes = counted j (codes "handle ") i (codes ": buffer ") bytes
+note_text (Packet j buffer) bytes = of_job j (codes "binner list: " ++ (packet_text bytes ++ named_text buffer))
+note_text (BehindHalt j) bytes = of_job j (codes "binner list: behind the halt")
+note_text (Records j) bytes = of_job j (codes "shader records")
+note_text (Uniform j i) bytes = counted j (codes "uniform ") i (codes ": ") bytes
+note_text (Data b) bytes = codes "buffer " ++ (decimal b ++ codes " content")
+note_text (Instruction b i uniform) bytes =
+    codes "buffer "
+    ++ (decimal b
+    ++ (codes " instruction "
+    ++ (decimal i ++ (codes ": " ++ (assembler_text (u64_at bytes 0) ++ (taken_text uniform ++ facts_text (u64_at bytes 0)))))))
+note_text Unread bytes = codes "unread"

@@ -1,0 +1,49 @@
+//! Pieces of a size.
+
+use crate::note::{Note, Piece};
+use std::alloc::AllocError;
+
+// The note with a number, where it counts.
+fn numbered(note: Note, number: usize) -> Note {
+    match note {
+        Note::Handle(job, _) => Note::Handle(job, number),
+        Note::Uniform(job, _) => Note::Uniform(job, number),
+        other => other,
+    }
+}
+
+/// Appends so many bytes in pieces of a size, of which the last may be shorter.
+pub(crate) fn push_chunks(
+    out: &mut Vec<Piece>,
+    size: usize,
+    total: usize,
+    note: Note,
+) -> Result<(), AllocError> {
+    let mut left = total;
+    for number in 0..total {
+        if left == 0 {
+            break;
+        }
+        let taken = size.min(left);
+        out.push(Piece {
+            size: taken,
+            note: numbered(note, number),
+        })?;
+        left -= taken;
+    }
+    Ok(())
+}
+
+/// Appends a piece of a size, or of what is left, and says what is left behind it.
+pub(crate) fn push_limited(
+    out: &mut Vec<Piece>,
+    left: usize,
+    size: usize,
+    note: Note,
+) -> Result<usize, AllocError> {
+    let taken = size.min(left);
+    if taken > 0 {
+        out.push(Piece { size: taken, note })?;
+    }
+    Ok(left - taken)
+}

@@ -1,0 +1,151 @@
+//! What the number of a field means.
+ghost use Rattle.std.specs.Prelude.{◌≡◌, ◌++◌, ◌%◌, codes, OnOk};
+ghost use Rattle.job_text.specs.Meanings.{tiling_name, style_text, mode_name, index_text, said_of_one, said_of_bit, kind_text, absent_text, extended_text, state_text, field_meaning};
+
+use crate::note::Field;
+use crate::numbers::put_number;
+use packets::{attribute_count, is_extended};
+use std::alloc::AllocError;
+use texture_layouts::{Style, Tiling, frame_style, general_style};
+
+fn tiling_name(tiling: Tiling) -> &'static str
+    ensures { result.now ≡ tiling_name tiling }
+{
+    match tiling {
+        Tiling::Raster => "raster",
+        Tiling::T => "T",
+        Tiling::Lt => "Lt",
+    }
+}
+
+fn put_style(out: &mut Vec<u8>, style: Option<Style>) -> Result<(), AllocError>
+    ensures { OnOk result (out.new.items ≡ out.old.items ++ style_text style) }
+{
+    match style {
+        None => out.extend_from_slice(b" (no tiling or no format)"),
+        Some(style) => {
+            out.extend_from_slice(b" (")?;
+            out.extend_from_slice(tiling_name(style.tiling).as_bytes())?;
+            out.extend_from_slice(b" tiling, ")?;
+            put_number(out, style.cpp as usize)?;
+            out.extend_from_slice(b" bytes a pixel)")
+        }
+    }
+}
+
+#[tactic(auto, unfolding(crate::specs::Meanings::mode_name))]
+fn mode_name(mode: u32) -> &'static str
+    ensures { result.now ≡ mode_name mode }
+{
+    match mode {
+        0 => "points",
+        1 => "lines",
+        2 => "line loop",
+        3 => "line strip",
+        4 => "triangles",
+        5 => "triangle strip",
+        6 => "triangle fan",
+        _ => "no mode",
+    }
+}
+
+#[tactic(auto, unfolding(crate::specs::Meanings::index_text))]
+fn index_text(number: u32) -> &'static str
+    ensures { result.now ≡ index_text number }
+{
+    if number / 16 == 0 {
+        "; 1 byte an index)"
+    } else {
+        "; 2 bytes an index)"
+    }
+}
+
+fn put_mode(out: &mut Vec<u8>, number: u32, end: &str) -> Result<(), AllocError>
+    ensures { OnOk result (out.new.items ≡ out.old.items ++ (codes " (" ++ (mode_name (number % 16) ++ end.now))) }
+{
+    out.extend_from_slice(b" (")?;
+    out.extend_from_slice(mode_name(number % 16).as_bytes())?;
+    out.extend_from_slice(end.as_bytes())
+}
+
+#[tactic(auto, unfolding(crate::specs::Meanings::said_of_one))]
+fn put_of_one(out: &mut Vec<u8>, number: u32, text: &[u8]) -> Result<(), AllocError>
+    ensures { OnOk result (out.new.items ≡ out.old.items ++ said_of_one number text.now) }
+{
+    if number == 1 {
+        out.extend_from_slice(text)?;
+    }
+    Ok(())
+}
+
+#[tactic(auto, unfolding(crate::specs::Meanings::said_of_bit))]
+fn put_of_bit(out: &mut Vec<u8>, number: u32, text: &[u8]) -> Result<(), AllocError>
+    ensures { OnOk result (out.new.items ≡ out.old.items ++ said_of_bit number text.now) }
+{
+    if number % 2 == 1 {
+        out.extend_from_slice(text)?;
+    }
+    Ok(())
+}
+
+#[tactic(auto, unfolding(crate::specs::Meanings::kind_text))]
+fn kind_text(number: u32) -> &'static str
+    ensures { result.now ≡ kind_text number }
+{
+    match number {
+        0 => " (data)",
+        1 => " (code)",
+        _ => " (no kind)",
+    }
+}
+
+#[tactic(auto, unfolding(crate::specs::Meanings::absent_text))]
+fn put_absent(out: &mut Vec<u8>, number: u32) -> Result<(), AllocError>
+    ensures { OnOk result (out.new.items ≡ out.old.items ++ absent_text number) }
+{
+    if number == u32::MAX {
+        out.extend_from_slice(b" (absent)")?;
+    }
+    Ok(())
+}
+
+#[tactic(auto, unfolding(crate::specs::Meanings::extended_text))]
+fn extended_text(number: u32) -> &'static str
+    ensures { result.now ≡ extended_text number }
+{
+    if is_extended(number) {
+        ", extended)"
+    } else {
+        ")"
+    }
+}
+
+#[tactic(auto, unfolding(crate::specs::Meanings::state_text))]
+fn put_state(out: &mut Vec<u8>, number: u32) -> Result<(), AllocError>
+    ensures { OnOk result (out.new.items ≡ out.old.items ++ state_text number) }
+{
+    out.extend_from_slice(b" (attributes: ")?;
+    put_number(out, attribute_count(number) as usize)?;
+    out.extend_from_slice(extended_text(number).as_bytes())?;
+    Ok(())
+}
+
+/// Appends what the number of a field means.
+pub(crate) fn put_meaning(out: &mut Vec<u8>, field: Field, number: u32) -> Result<(), AllocError>
+    ensures { OnOk result (out.new.items ≡ out.old.items ++ field_meaning field number) }
+{
+    match field {
+        Field::Kind => out.extend_from_slice(kind_text(number).as_bytes()),
+        Field::Flags => put_of_one(out, number, b" (the clear values are used)"),
+        Field::HandleIndex => put_absent(out, number),
+        Field::FrameBits => put_style(out, frame_style((number % 65536) as u16)),
+        Field::GeneralBits => put_style(out, general_style((number % 65536) as u16)),
+        Field::SurfaceFlags => put_of_bit(out, number, b" (full resolution)"),
+        Field::PrimitiveMode => put_mode(out, number, ")"),
+        Field::IndexMode => put_mode(out, number, index_text(number)),
+        Field::StateWord => put_state(out, number),
+        Field::BinnerFlags => put_of_bit(out, number, b" (four samples a pixel)"),
+        Field::RecordFlags => put_of_bit(out, number, b" (single-threaded)"),
+        _ => Ok(()),
+    }
+}

@@ -1,0 +1,210 @@
+//! What a line says of its bytes.
+ghost use Rattle.std.specs.Prelude.{◌≡◌, ◌++◌, codes, decimal, drop, OnOk};
+ghost use Rattle.job_text.specs.Names.{of_job};
+ghost use Rattle.job_text.specs.Notes.{counted, named_text, taken_text, packet_text, said_if, facts_text, assembler_text, note_text};
+
+use crate::names::{packet_name, put_of_job, put_part};
+use crate::note::{Field, Note, Part};
+use crate::numbers::{byte_at, instruction, number, put_number};
+use crate::rows::{put_packet_fields, put_valued};
+use field_words::NoMemory;
+use qpu_asm::disassemble;
+use qpu_isa::word::{is_end, is_switch};
+use qpu_isa::writes::writes_s;
+use script::cut_at;
+use std::alloc::{AllocError, Global};
+
+#[tactic(auto, unfolding(crate::specs::Notes::note_text))]
+fn put_field(out: &mut Vec<u8>, part: Part, field: Field, bytes: &[u8]) -> Result<(), AllocError>
+    ensures { OnOk result (out.new.items ≡ out.old.items ++ note_text (Note.Number part field) bytes.now) }
+{
+    put_part(out, part)?;
+    out.extend_from_slice(b": ")?;
+    put_valued(out, field, bytes)
+}
+
+// Appends the buffer that a handle names, where it names one.
+fn put_named(out: &mut Vec<u8>, buffer: Option<usize>) -> Result<(), AllocError>
+    ensures { OnOk result (out.new.items ≡ out.old.items ++ named_text buffer) }
+{
+    match buffer {
+        None => Ok(()),
+        Some(buffer) => {
+            out.extend_from_slice(b" (buffer ")?;
+            put_number(out, buffer)?;
+            out.extend_from_slice(b")")
+        }
+    }
+}
+
+#[tactic(auto, unfolding(crate::specs::Notes::note_text))]
+fn put_handle_field(
+    out: &mut Vec<u8>,
+    part: Part,
+    field: Field,
+    buffer: Option<usize>,
+    bytes: &[u8],
+) -> Result<(), AllocError>
+    ensures { OnOk result (out.new.items ≡ out.old.items ++ note_text (Note.Named part field buffer) bytes.now) }
+{
+    put_field(out, part, field, bytes)?;
+    put_named(out, buffer)
+}
+
+#[tactic(auto, unfolding(crate::specs::Names::of_job, crate::specs::Notes::counted))]
+fn put_counted(
+    out: &mut Vec<u8>,
+    job: u32,
+    name: &[u8],
+    count: usize,
+    what: &[u8],
+    bytes: &[u8],
+) -> Result<(), AllocError>
+    ensures { OnOk result (out.new.items ≡ out.old.items ++ counted job name.now count what.now bytes.now) }
+{
+    put_of_job(out, job, name)?;
+    put_number(out, count)?;
+    out.extend_from_slice(what)?;
+    put_number(out, number(bytes) as usize)
+}
+
+// Appends the uniform that an instruction takes, where it takes one.
+fn put_taken(out: &mut Vec<u8>, uniform: Option<usize>) -> Result<(), AllocError>
+    ensures { OnOk result (out.new.items ≡ out.old.items ++ taken_text uniform) }
+{
+    match uniform {
+        None => Ok(()),
+        Some(uniform) => {
+            out.extend_from_slice(b"; takes uniform ")?;
+            put_number(out, uniform)
+        }
+    }
+}
+
+fn put_if(out: &mut Vec<u8>, is: bool, text: &[u8]) -> Result<(), AllocError>
+    ensures { OnOk result (out.new.items ≡ out.old.items ++ said_if is text.now) }
+{
+    if is {
+        out.extend_from_slice(text)?;
+    }
+    Ok(())
+}
+
+// Appends what an instruction does beside its operations.
+#[tactic(auto, unfolding(crate::specs::Notes::facts_text))]
+fn put_facts(out: &mut Vec<u8>, word: u64) -> Result<(), AllocError>
+    ensures { OnOk result (out.new.items ≡ out.old.items ++ facts_text word) }
+{
+    put_if(out, is_switch(word), b"; thread switch")?;
+    put_if(out, writes_s(word, 0), b"; request to TMU 0")?;
+    put_if(out, writes_s(word, 1), b"; request to TMU 1")?;
+    put_if(out, is_end(word), b"; program end")
+}
+
+// Appends an instruction as assembler text.
+#[tactic(auto, unfolding(crate::specs::Notes::assembler_text))]
+fn put_assembler(alloc: Global, out: &mut Vec<u8>, word: u64) -> Result<(), NoMemory>
+    ensures { OnOk result (out.new.items ≡ out.old.items ++ assembler_text word) }
+{
+    let text = disassemble(alloc, &[word])?;
+    out.extend_from_slice(cut_at(&text, b'\n').first)?;
+    Ok(())
+}
+
+fn put_instruction(
+    alloc: Global,
+    out: &mut Vec<u8>,
+    word: u64,
+    uniform: Option<usize>,
+) -> Result<(), NoMemory>
+    ensures { OnOk result (out.new.items ≡ out.old.items ++ (assembler_text word ++ (taken_text uniform ++ facts_text word))) }
+{
+    put_assembler(alloc, out, word)?;
+    put_taken(out, uniform)?;
+    put_facts(out, word)?;
+    Ok(())
+}
+
+fn put_numbered(out: &mut Vec<u8>, buffer: u32, index: usize) -> Result<(), AllocError>
+    ensures { OnOk result (out.new.items ≡ out.old.items ++ (codes "buffer " ++ (decimal buffer ++ (codes " instruction " ++ (decimal index ++ codes ": "))))) }
+{
+    out.extend_from_slice(b"buffer ")?;
+    put_number(out, buffer as usize)?;
+    out.extend_from_slice(b" instruction ")?;
+    put_number(out, index)?;
+    out.extend_from_slice(b": ")?;
+    Ok(())
+}
+
+fn put_data(out: &mut Vec<u8>, buffer: u32) -> Result<(), AllocError>
+    ensures { OnOk result (out.new.items ≡ out.old.items ++ (codes "buffer " ++ (decimal buffer ++ codes " content"))) }
+{
+    out.extend_from_slice(b"buffer ")?;
+    put_number(out, buffer as usize)?;
+    out.extend_from_slice(b" content")
+}
+
+// What stands behind a packet's opcode.
+fn behind_opcode(packet: &[u8]) -> &[u8]
+    ensures { result.now ≡ drop 1 packet.now }
+{
+    match packet.split_first() {
+        Some((_, behind)) => behind,
+        None => packet,
+    }
+}
+
+// Appends a packet's name and its fields.
+#[tactic(auto, unfolding(crate::specs::Notes::packet_text))]
+fn put_packet_text(out: &mut Vec<u8>, packet: &[u8]) -> Result<(), AllocError>
+    ensures { OnOk result (out.new.items ≡ out.old.items ++ packet_text packet.now) }
+{
+    let opcode = byte_at(packet, 0);
+    let behind = behind_opcode(packet);
+    out.extend_from_slice(packet_name(opcode).as_bytes())?;
+    put_packet_fields(out, opcode, behind)?;
+    Ok(())
+}
+
+#[tactic(auto, unfolding(crate::specs::Names::of_job))]
+fn put_packet(
+    out: &mut Vec<u8>,
+    job: u32,
+    buffer: Option<usize>,
+    packet: &[u8],
+) -> Result<(), AllocError>
+    ensures { OnOk result (out.new.items ≡ out.old.items ++ of_job job (codes "binner list: " ++ (packet_text packet.now ++ named_text buffer))) }
+{
+    put_of_job(out, job, b"binner list: ")?;
+    put_packet_text(out, packet)?;
+    put_named(out, buffer)?;
+    Ok(())
+}
+
+/// Appends what a line says of its bytes.
+#[tactic(auto, unfolding(crate::specs::Notes::note_text))]
+pub(crate) fn put_note(
+    alloc: Global,
+    out: &mut Vec<u8>,
+    note: Note,
+    bytes: &[u8],
+) -> Result<(), NoMemory>
+    ensures { OnOk result (out.new.items ≡ out.old.items ++ note_text note bytes.now) }
+{
+    match note {
+        Note::Number(part, field) => put_field(out, part, field, bytes)?,
+        Note::Named(part, field, buffer) => put_handle_field(out, part, field, buffer, bytes)?,
+        Note::Handle(job, index) => put_counted(out, job, b"handle ", index, b": buffer ", bytes)?,
+        Note::Packet(job, buffer) => put_packet(out, job, buffer, bytes)?,
+        Note::BehindHalt(job) => put_of_job(out, job, b"binner list: behind the halt")?,
+        Note::Records(job) => put_of_job(out, job, b"shader records")?,
+        Note::Uniform(job, index) => put_counted(out, job, b"uniform ", index, b": ", bytes)?,
+        Note::Data(buffer) => put_data(out, buffer)?,
+        Note::Instruction(buffer, index, uniform) => {
+            put_numbered(out, buffer, index)?;
+            put_instruction(alloc, out, instruction(bytes), uniform)?;
+        }
+        Note::Unread => out.extend_from_slice(b"unread")?,
+    }
+    Ok(())
+}
