@@ -36,7 +36,7 @@ fn bounds(rt: HostRuntime) -> Result<(), Fail> {
     let alloc = rt.alloc();
     let (status, text) = answer(alloc, "bound", file(alloc, SMALLEST)?)?;
     assert_eq!(rt; status, 0);
-    assert_eq!(rt; text.as_slice(), b"steps 3 and 1 a stay\n".as_slice());
+    assert_eq!(rt; text.as_slice(), b"steps 3 and 1 a stay\nends\n".as_slice());
     let (status, text) = answer(alloc, "bound", Vec::new(alloc))?;
     assert_eq!(rt; status, 1);
     assert_eq!(rt; text.as_slice(), b"refused F2 at 0\n".as_slice());

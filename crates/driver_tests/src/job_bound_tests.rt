@@ -46,6 +46,9 @@ const END: u64 = 0x3000_09e7_009e_7000;
 
 const BACK: u64 = 0xf0f8_09e7_ffff_ffd8;
 
+/// A load from a texture unit.
+const LOAD: u64 = 0xa000_09e7_009e_7000;
+
 fn put_words(bytes: &mut Vec<u8>, words: &[u32]) -> Result<(), AllocError> {
     for word in words {
         bytes.extend_from_slice(&word.to_le_bytes())?;
@@ -75,7 +78,7 @@ fn one_job(alloc: Global, second: u64, handles: u32) -> Result<Vec<u8>, AllocErr
 fn steps_of_one_job(rt: HostRuntime) -> Result<(), Fail> {
     let alloc = rt.alloc();
     let text = bound_text(alloc, &one_job(alloc, NOP, 2)?)?;
-    assert_eq!(rt; text.as_slice(), b"steps 3 and 9 a stay\n".as_slice());
+    assert_eq!(rt; text.as_slice(), b"steps 3 and 9 a stay\nends\n".as_slice());
     Ok(())
 }
 
@@ -88,11 +91,23 @@ fn loop_in_a_shader(rt: HostRuntime) -> Result<(), Fail> {
     Ok(())
 }
 
+// Nobody asked for what the second instruction loads.
+#[test]
+fn wait_in_a_shader(rt: HostRuntime) -> Result<(), Fail> {
+    let alloc = rt.alloc();
+    let text = bound_text(alloc, &one_job(alloc, LOAD, 2)?)?;
+    assert_eq!(rt;
+        text.as_slice(),
+        b"steps 3 and 9 a stay\nmay wait at 208\n".as_slice()
+    );
+    Ok(())
+}
+
 // No handle names the shader.
 #[test]
 fn loop_in_a_shader_that_no_job_starts(rt: HostRuntime) -> Result<(), Fail> {
     let alloc = rt.alloc();
     let text = bound_text(alloc, &one_job(alloc, BACK, 1)?)?;
-    assert_eq!(rt; text.as_slice(), b"steps 3 and 1 a stay\n".as_slice());
+    assert_eq!(rt; text.as_slice(), b"steps 3 and 1 a stay\nends\n".as_slice());
     Ok(())
 }

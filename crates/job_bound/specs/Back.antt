@@ -1,12 +1,17 @@
--- The branches that lead back, of the shaders that handles name, by where they stand in the file.
+-- The branches that lead back, and the instructions that may wait for a request that isn't there, of the shaders that handles name, by where
+-- they stand in the file.
 use Rattle.std.specs.Prelude.{◌≡◌, ◌↔◌, ℕ, ◌+◌, ◌*◌, false, List, [], ◌∷◌, length, Option, Some, None, slice_index}
 use Rattle.field_words.specs.Questions.{Question, Ask, first_of, each}
-use Rattle.shader_flow.specs.Flow.{end_of}
+use Rattle.shader_flow.specs.Flow.{end_of, checked_of}
 use Rattle.job_format.specs.Model.{FileModel}
 use Rattle.job_check.specs.Jobs.{job_of}
 use Rattle.job_check.specs.Offsets.{content_offset}
 use Rattle.ends_law.specs.Loops.{goes_back}
+use Rattle.served_law.specs.Waits.{waits_at}
 use Rattle.accepted_ends.specs.Bound.{shader_named, file_loops}
+use Rattle.accepted_served.specs.Served.{file_waits}
+use Rattle.job_bound.specs.declared.named.Sought.{Sought}
+use Rattle.job_bound.specs.declared.named.Sought.TheVariants.{LeadsBack, MayWait}
 
 -- Does instruction i of a shader branch back? It is answered by its place in the file, where the shader begins at this one.
 abbrev pub branch_question : List ℕ → ℕ → ℕ → List (Question ℕ)
@@ -17,20 +22,42 @@ abbrev pub branches : Option (List ℕ) → ℕ → List (Question ℕ)
 branches None place = []
 branches (Some code) place = each (branch_question code place) 0 (end_of code)
 
--- of the shader that handle i of job j names; of job j, handle by handle; and of all jobs
-unfoldable pub handle_branches : FileModel → ℕ → ℕ → List (Question ℕ)
-handle_branches f j i = branches (shader_named f j i) (content_offset f (slice_index (job_of f j).handles i))
+-- May a program wait at instruction i for a request that isn't there? It is answered so too, and asked of each instruction that is checked.
+abbrev pub wait_question : List ℕ → ℕ → ℕ → List (Question ℕ)
+wait_question code place i = Ask (waits_at code i) (place + 8 * i) ∷ []
 
-unfoldable pub job_branches : FileModel → ℕ → List (Question ℕ)
-job_branches f j = each (handle_branches f j) 0 (length (job_of f j).handles)
+abbrev pub wait_places : Option (List ℕ) → ℕ → List (Question ℕ)
+wait_places None place = []
+wait_places (Some code) place = each (wait_question code place) 0 (checked_of code)
 
-unfoldable pub file_branches : FileModel → List (Question ℕ)
-file_branches f = each (job_branches f) 0 (length f.jobs)
+-- the place in the file of an instruction of such a shader
+abbrev pub placed : ℕ → Option ℕ → Option ℕ
+placed place None = None
+placed place (Some i) = Some (place + 8 * i)
 
--- Where in the file the first branch that leads back stands, by job, by handle and by instruction.
-abbrev pub first_loop : FileModel → Option ℕ
-first_loop f = first_of (file_branches f)
+-- what is sought in a shader
+abbrev pub asked : Sought → Option (List ℕ) → ℕ → List (Question ℕ)
+asked LeadsBack shader place = branches shader place
+asked MayWait shader place = wait_places shader place
 
--- There is none exactly where the jobs of the file have no loop.
+-- in that which handle i of job j names; in those of job j, handle by handle; and of all jobs
+unfoldable pub handle_places : Sought → FileModel → ℕ → ℕ → List (Question ℕ)
+handle_places sought f j i = asked sought (shader_named f j i) (content_offset f (slice_index (job_of f j).handles i))
+
+unfoldable pub job_places : Sought → FileModel → ℕ → List (Question ℕ)
+job_places sought f j = each (handle_places sought f j) 0 (length (job_of f j).handles)
+
+unfoldable pub file_places : Sought → FileModel → List (Question ℕ)
+file_places sought f = each (job_places sought f) 0 (length f.jobs)
+
+-- Where in the file the first of them stands, by job, by handle and by instruction.
+abbrev pub first_place : Sought → FileModel → Option ℕ
+first_place sought f = first_of (file_places sought f)
+
+-- There is no branch back exactly where the jobs of the file have no loop.
 abbrev pub NoneWithoutLoop : Type 0
-NoneWithoutLoop = (f : FileModel) → (first_loop f ≡ None) ↔ (file_loops f ≡ false)
+NoneWithoutLoop = (f : FileModel) → (first_place LeadsBack f ≡ None) ↔ (file_loops f ≡ false)
+
+-- There is no instruction that may wait so exactly where no program of the jobs may.
+abbrev pub NoneWhereServed : Type 0
+NoneWhereServed = (f : FileModel) → (first_place MayWait f ≡ None) ↔ (file_waits f ≡ false)

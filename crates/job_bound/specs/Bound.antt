@@ -9,23 +9,26 @@ use Rattle.job_format.specs.Model.{FileModel}
 use Rattle.job_check.specs.Offsets.{content_offset}
 use Rattle.job_check.specs.Shaders.{words_of, content_of}
 use Rattle.accepted_ends.specs.Bound.{steps, longest_of, bound_of}
-use Rattle.job_bound.specs.Back.{branches, first_loop}
+use Rattle.job_bound.specs.Back.{branches, wait_places, first_place}
 use Rattle.job_bound.specs.declared.bound.Bound.{Bound}
 use Rattle.job_bound.specs.declared.bound.Bound.TheVariants.{Steps, Loops}
+use Rattle.job_bound.specs.declared.named.Sought.TheVariants.{LeadsBack, MayWait}
 use Rattle.job_bound.specs.declared.programs.Program.{Program}
 
--- Where no branch leads back, the most steps, and how many more for each step in which a renderer stays at an item; else the place of the
--- first branch that does.
+-- Where no branch leads back, the most steps, how many more for each step in which a renderer stays at an item, and the place of the first
+-- instruction that may wait for a request that isn't there; else the place of the first branch that does.
 abbrev pub bound_by : Option ℕ → FileModel → Bound
-bound_by None f = Steps (bound_of f) (longest_of f + 1)
+bound_by None f = Steps (bound_of f) (longest_of f + 1) (first_place MayWait f)
 bound_by (Some offset) f = Loops offset
 
 unfoldable pub bound_in : FileModel → Bound
-bound_in f = bound_by (first_loop f) f
+bound_in f = bound_by (first_place LeadsBack f) f
 
--- the line that is printed
+-- the lines that are printed
 abbrev pub text_of : Bound → List ℕ
-text_of (Steps most stay) = codes "steps " ++ (decimal most ++ (codes " and " ++ (decimal stay ++ codes " a stay\n")))
+text_of (Steps most stay None) = codes "steps " ++ (decimal most ++ (codes " and " ++ (decimal stay ++ codes " a stay\nends\n")))
+text_of (Steps most stay (Some offset)) =
+    codes "steps " ++ (decimal most ++ (codes " and " ++ (decimal stay ++ (codes " a stay\nmay wait at " ++ (decimal offset ++ codes "\n")))))
 text_of (Loops offset) = codes "loops at " ++ (decimal offset ++ codes "\n")
 
 unfoldable pub bound_text : FileModel → List ℕ
@@ -50,14 +53,16 @@ most_packet = 8796093022208
 abbrev pub most_job : ℕ
 most_job = 9223372036855824389
 
--- what is kept of it: the most steps of a program, and the place of the first branch that leads back
+-- what is kept of it: the most steps of a program, and the places of the first branch that leads back and of the first instruction that may
+-- wait for a request that isn't there
 pub record IsProgramOf (code : Option (List ℕ)) (place : ℕ) (program : Program) : Type 0 where
   pub steps_is : program.steps ≡ steps code
   pub back_is : program.back ≡ first_of (branches code place)
+  pub wait_is : program.wait ≡ first_of (wait_places code place)
   pub few : program.steps ≤ most_program
 
 abbrev pub no_program : Program
-no_program = record { steps = 0; back = None }
+no_program = record { steps = 0; back = None; wait = None }
 
 -- so of the first n buffers
 pub record AreProgramsUpTo (f : FileModel) (n : ℕ) (programs : List Program) : Type 0 where

@@ -16,7 +16,7 @@ ghost use Rattle.job_bound.specs.Bound.{bound_in, most_program, most_job};
 
 use crate::binner::{bin_steps, room};
 use crate::jobs::job_at;
-use crate::named::{first_loop, longest};
+use crate::named::{Sought, first_place, longest};
 use crate::programs::programs_of;
 use crate::renderer::frame_steps;
 use field_words::{NoMemory, Stop};
@@ -28,10 +28,16 @@ use std::alloc::Global;
 #[derive(Clone, Copy, Debug, PartialEq, Eq)]
 pub enum Bound {
     /// No shader that a handle names has a loop: each run has at most `most` steps, and `stay` more for each step in which a renderer
-    /// stays at an item.
-    Steps { most: u128, stay: u32 },
+    /// stays at an item. `wait` is the place in the file of the first instruction that may wait for a request that isn't there.
+    Steps {
+        most: u128,
+        stay: u32,
+        wait: Option<u64>,
+    },
     /// The first branch that leads back stands at this place in the file.
-    Loops { offset: u64 },
+    Loops {
+        offset: u64,
+    },
 }
 
 /// Where in the region the binner list of the job of this number begins.
@@ -136,13 +142,14 @@ fn bound_with(alloc: Global, file: &JobFile, region: &Region) -> Result<Bound, N
     ensures { IfOk result (λ bound. bound ≡ bound_in (file_view file.now)) }
 {
     let programs = programs_of(alloc, file)?;
-    if let Some(offset) = first_loop(file, &programs) {
+    if let Some(offset) = first_place(file, &programs, Sought::LeadsBack) {
         return Ok(Bound::Loops { offset });
     }
     let longest = longest(file, &programs);
     Ok(Bound::Steps {
         most: all_steps(file, region, longest),
         stay: longest + 1,
+        wait: first_place(file, &programs, Sought::MayWait),
     })
 }
 

@@ -1,9 +1,10 @@
 //! The bound on the steps of the jobs of a file, computed from the file.
 //!
 //! Where no shader that a handle of a job names branches back, two numbers bound each run of the jobs: how many steps it
-//! takes at most, and how many more for each step in which a renderer stays at an item. Else the answer is where in the
-//! file the first such branch stands. What the numbers mean is a law (`specs/Law.antt`), and that there is no branch back
-//! exactly where no shader loops is another (`specs/Back.antt`).
+//! takes at most, and how many more for each step in which a renderer stays at an item. Besides it is told where in the file
+//! the first instruction stands that may wait for a request that isn't there, if any. Else the answer is where in the file
+//! the first such branch stands. What the answers mean are laws (`specs/Law.antt`). There is no branch back exactly where no
+//! shader loops, and no such instruction exactly where no program may wait so (`specs/Back.antt`).
 #![tactic(auto)]
 
 mod back;
@@ -15,10 +16,11 @@ mod programs;
 mod renderer;
 mod text;
 
-ghost use Rattle.job_bound.specs.Back.{NoneWithoutLoop};
-ghost use Rattle.job_bound.specs.Law.{BoundHolds};
+ghost use Rattle.job_bound.specs.Back.{NoneWithoutLoop, NoneWhereServed};
+ghost use Rattle.job_bound.specs.Law.{BoundHolds, EndHolds};
 
 pub use bound::{Bound, find_bound};
+pub use named::Sought;
 pub use programs::Program;
 pub use text::{bound_bytes, bound_text};
 
@@ -28,10 +30,24 @@ pub fn none_without_loop()
     ensures { NoneWithoutLoop }
 {}
 
+/// There is an instruction that may wait for a request that isn't there, in a shader that a handle names, exactly where a program of the
+/// jobs of the file may wait so.
+#[tactic(auto, using(crate::proofs::Backs::none_where_served))]
+pub fn none_where_served()
+    ensures { NoneWhereServed }
+{}
+
 /// Whatever bytes they are: where no rule stands of them and the bound is two numbers, each run of their jobs, whichever unit steps next,
 /// whatever words answer, and whatever others write beside lists and code, has at most the first number of steps, and the second more for
 /// each step in which a renderer stays at an item.
 #[tactic(auto, using(crate::proofs::Holds::bound_holds_law))]
 pub fn bound_holds()
     ensures { BoundHolds }
+{}
+
+/// Where the bound tells no instruction that may wait besides, each such run that has come to where no unit may step has finished, or
+/// the binner's job has no room for a further item in its tile slot.
+#[tactic(auto, using(crate::proofs::Holds::end_holds_law))]
+pub fn end_holds()
+    ensures { EndHolds }
 {}

@@ -5,12 +5,20 @@ ghost use Rattle.job_format.specs.Model.{file_view};
 ghost use Rattle.accepted_law.specs.Neighbours.{IsFaultless};
 ghost use Rattle.job_check.specs.Jobs.{job_of};
 ghost use Rattle.accepted_ends.specs.Bound.{steps, shader_named, job_longest, longest_of};
-ghost use Rattle.job_bound.specs.Back.{handle_branches, job_branches, first_loop};
+ghost use Rattle.job_bound.specs.Back.{handle_places, job_places, first_place};
+ghost use Rattle.job_bound.specs.declared.named.Sought.TheVariants.{LeadsBack as LeadsBackPlace, MayWait as MayWaitPlace};
 ghost use Rattle.job_bound.specs.Bound.{AreProgramsOf, most_program};
 
 use crate::jobs::job_at;
 use crate::programs::Program;
 use job_format::JobFile;
+
+/// What is sought in the shaders that handles name: a branch that leads back, or an instruction that may wait for a request that isn't there.
+#[derive(Clone, Copy, Debug, PartialEq, Eq)]
+pub enum Sought {
+    LeadsBack,
+    MayWait,
+}
 
 /// The shader that handle `i` of the job of this number names.
 fn program_named(file: &JobFile, number: usize, i: usize, programs: &[Program]) -> Program
@@ -19,7 +27,8 @@ fn program_named(file: &JobFile, number: usize, i: usize, programs: &[Program]) 
     requires inside { number < length file.now.jobs.items }
     requires handle { i < length (job_of (file_view file.now) number).handles }
     ensures steps { result.steps ≡ steps (shader_named (file_view file.now) number i) }
-    ensures back { result.back ≡ first_of (handle_branches (file_view file.now) number i) }
+    ensures back { result.back ≡ first_of (handle_places LeadsBackPlace (file_view file.now) number i) }
+    ensures wait { result.wait ≡ first_of (handle_places MayWaitPlace (file_view file.now) number i) }
     ensures few { result.steps ≤ most_program }
 {
     programs[job_at(file, number).handles[i] as usize]
@@ -54,29 +63,50 @@ pub fn longest(file: &JobFile, programs: &[Program]) -> u32
     longest
 }
 
-/// Where in the file the first branch stands that leads back, of the shaders that the handles of the job of this number name.
-fn job_back(file: &JobFile, number: usize, programs: &[Program]) -> Option<u64>
+/// Where in the file the first place stands that is sought in the shader that handle `i` of the job of this number names.
+fn place_named(
+    file: &JobFile,
+    number: usize,
+    i: usize,
+    programs: &[Program],
+    sought: Sought,
+) -> Option<u64>
     requires faultless { IsFaultless (file_view file.now) }
     requires programs { AreProgramsOf (file_view file.now) programs.now }
     requires inside { number < length file.now.jobs.items }
-    ensures { result ≡ first_of (job_branches (file_view file.now) number) }
+    requires handle { i < length (job_of (file_view file.now) number).handles }
+    ensures { result ≡ first_of (handle_places sought (file_view file.now) number i) }
+{
+    let program = program_named(file, number, i, programs);
+    match sought {
+        Sought::LeadsBack => program.back,
+        Sought::MayWait => program.wait,
+    }
+}
+
+/// Where in the file it first stands, of the shaders that the handles of the job of this number name.
+fn job_place(file: &JobFile, number: usize, programs: &[Program], sought: Sought) -> Option<u64>
+    requires faultless { IsFaultless (file_view file.now) }
+    requires programs { AreProgramsOf (file_view file.now) programs.now }
+    requires inside { number < length file.now.jobs.items }
+    ensures { result ≡ first_of (job_places sought (file_view file.now) number) }
 {
     for i in 0..job_at(file, number).handles.len() {
-        if let Some(offset) = program_named(file, number, i, programs).back {
+        if let Some(offset) = place_named(file, number, i, programs, sought) {
             return Some(offset);
         }
     }
     None
 }
 
-/// Where in the file the first branch stands that leads back, by job and by handle.
-pub fn first_loop(file: &JobFile, programs: &[Program]) -> Option<u64>
+/// Where in the file it first stands, by job and by handle.
+pub fn first_place(file: &JobFile, programs: &[Program], sought: Sought) -> Option<u64>
     requires faultless { IsFaultless (file_view file.now) }
     requires programs { AreProgramsOf (file_view file.now) programs.now }
-    ensures { result ≡ first_loop (file_view file.now) }
+    ensures { result ≡ first_place sought (file_view file.now) }
 {
     for number in 0..file.jobs.len() {
-        if let Some(offset) = job_back(file, number, programs) {
+        if let Some(offset) = job_place(file, number, programs, sought) {
             return Some(offset);
         }
     }

@@ -9,6 +9,7 @@ ghost use Rattle.job_format.specs.Model.{file_view};
 ghost use Rattle.job_check.specs.Offsets.{content_offset};
 ghost use Rattle.job_check.specs.Shaders.{words_of, content_of};
 ghost use Rattle.ends_law.specs.Loops.{instruction_steps, program_steps};
+ghost use Rattle.job_bound.specs.Back.{placed};
 ghost use Rattle.job_bound.specs.Bound.{code_in, most_program, IsProgramOf, AreProgramsOf};
 
 use crate::back::first_back;
@@ -18,14 +19,17 @@ use job_check::words_of;
 use job_format::{ENTRY_SIZE, HEADER_SIZE, JOB_SIZE, JobFile};
 use qpu_isa::writes::writes_s;
 use shader_flow::{checked, flow};
+use shader_waits::find_wait;
 use std::alloc::Global;
 
 /// What is kept of the shader in a buffer: the most steps of a program of it, where it doesn't loop, and where in the file its first
-/// branch stands that leads back. A Plain buffer has no steps and no branch.
+/// branch stands that leads back, and the first instruction that may wait for a request that isn't there. A Plain buffer has no steps
+/// and neither place.
 #[derive(Clone, Copy, Debug, PartialEq, Eq)]
 pub struct Program {
     pub steps: u32,
     pub back: Option<u64>,
+    pub wait: Option<u64>,
 }
 
 /// The contents of buffer `b`.
@@ -65,6 +69,17 @@ fn program_steps(code: &[u64], end: u32) -> u32
     steps
 }
 
+/// Where in the file the instruction of this number stands, of a shader that begins at `place`.
+fn place_of(found: Option<u32>, place: u64) -> Option<u64>
+    requires { place < 2 ^ 62 }
+    ensures { result ≡ placed place found }
+{
+    match found {
+        None => None,
+        Some(at) => Some(place + 8 * u64::from(at)),
+    }
+}
+
 /// The shader that these bytes hold, which stand at `place` in the file.
 fn program_in(alloc: Global, bytes: &[u8], place: u64) -> Result<Program, NoMemory>
     requires few { length bytes.now ≤ most_code }
@@ -73,9 +88,11 @@ fn program_in(alloc: Global, bytes: &[u8], place: u64) -> Result<Program, NoMemo
 {
     let code = words_of(alloc, bytes)?;
     let end = flow(alloc, &code)?.end;
+    let wait = find_wait(alloc, &code, end)?;
     Ok(Program {
         steps: program_steps(&code, end),
         back: first_back(&code, end, place),
+        wait: place_of(wait, place),
     })
 }
 
@@ -91,6 +108,7 @@ fn program_at(alloc: Global, file: &JobFile, b: usize, place: u64) -> Result<Pro
         Kind::Plain => Ok(Program {
             steps: 0,
             back: None,
+            wait: None,
         }),
         Kind::Code => program_in(alloc, content_at(file, b), place),
     }

@@ -13,12 +13,21 @@ use job_check::format_refusal;
 use job_format::{Refusal, read_job};
 use std::alloc::Global;
 
-/// The line that is printed of a bound.
+/// The lines that are printed of a bound.
 fn line(alloc: Global, bound: &Bound) -> Result<Vec<u8>, NoMemory>
     ensures { IfOk result (λ text. text.items ≡ text_of bound.now) }
 {
     let line = match *bound {
-        Bound::Steps { most, stay } => format!(in alloc; "steps {most} and {stay} a stay\n")?,
+        Bound::Steps {
+            most,
+            stay,
+            wait: None,
+        } => format!(in alloc; "steps {most} and {stay} a stay\nends\n")?,
+        Bound::Steps {
+            most,
+            stay,
+            wait: Some(offset),
+        } => format!(in alloc; "steps {most} and {stay} a stay\nmay wait at {offset}\n")?,
         Bound::Loops { offset } => format!(in alloc; "loops at {offset}\n")?,
     };
     Ok(line.into_bytes())
@@ -40,8 +49,8 @@ pub fn bound_bytes(alloc: Global, bytes: &[u8]) -> Result<Bound, Stop<Refusal>>
     }
 }
 
-/// What is printed of the bound of these bytes: `steps N and W a stay`, or `loops at OFFSET`. `Ok` comes exactly where no rule stands of
-/// them.
+/// What is printed of the bound of these bytes: `steps N and W a stay` and then `ends` or `may wait at OFFSET`, or `loops at OFFSET` alone.
+/// `Ok` comes exactly where no rule stands of them.
 ///
 /// # Errors
 /// The first rule that stands, by its letter, its number and its place in the bytes; or want of memory.

@@ -12,7 +12,7 @@ use Rattle.vc4check_c.specs.Job.{letter_code}
 
 -- the two numbers, the first in halves; or where the first branch stands that leads back
 unfoldable pub bounded_answer : Bound → BoundAnswer
-bounded_answer (Steps most stay) = record { offset = 0; steps_low = most % 2 ^ 64; steps_high = most / 2 ^ 64; stay = stay; loops = 0; letter = 0; number = 0 }
+bounded_answer (Steps most stay wait) = record { offset = 0; steps_low = most % 2 ^ 64; steps_high = most / 2 ^ 64; stay = stay; loops = 0; letter = 0; number = 0 }
 bounded_answer (Loops offset) = record { offset = offset; steps_low = 0; steps_high = 0; stay = 0; loops = 1; letter = 0; number = 0 }
 
 -- the rule, and the offset in the file of what it is about

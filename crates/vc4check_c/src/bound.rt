@@ -32,7 +32,7 @@ fn bounded(bound: &Bound) -> BoundAnswer
     ensures { result ≡ bounded_answer bound.now }
 {
     match *bound {
-        Bound::Steps { most, stay } => BoundAnswer {
+        Bound::Steps { most, stay, .. } => BoundAnswer {
             offset: 0,
             steps_low: (most % (1u128 << 64)) as u64,
             steps_high: (most / (1u128 << 64)) as u64,

@@ -2,7 +2,7 @@
 use Rattle.std.proofs.Common.{◌<◌, length, arith, ap}
 use Rattle.std.proofs.lemmas.List.{length-map}
 use Rattle.job_format.specs.Model.{file_view, job_view}
-use Rattle.job_bound.specs.Back.{handle_branches}
+use Rattle.job_bound.specs.Back.{handle_places}
 use Rattle.job_bound.proofs.Naming.{handle_is, program_is}
 use Rattle.job_bound.proofs.Settled.{numbers}
 use Rattle.job_bound.proofs.named.program_named.Goals as goal
@@ -25,12 +25,20 @@ returns-clause-steps c =
     (program_is f c.args.number c.args.i c.index.result.now c.args.programs.now (numbers f c.args.number c.requires.faultless inside) c.requires.programs c.requires.handle is).1.steps_is
 
 pub returns-clause-back : goal.returns-clause-back
-unfolding handle_branches
+unfolding handle_places
 returns-clause-back c =
     let f = file_view c.args.file.now in
     let inside : c.args.number < length f.jobs = omega (arith, c.requires.inside, length-map c.args.file.now.jobs.items job_view) in
     let is = handle_is f c.args.number c.args.i (job_view c.job_at.result.now) c.index.result.now c.job_at.ensures c.requires.handle c.index.ensures in
     (program_is f c.args.number c.args.i c.index.result.now c.args.programs.now (numbers f c.args.number c.requires.faultless inside) c.requires.programs c.requires.handle is).1.back_is
+
+pub returns-clause-wait : goal.returns-clause-wait
+unfolding handle_places
+returns-clause-wait c =
+    let f = file_view c.args.file.now in
+    let inside : c.args.number < length f.jobs = omega (arith, c.requires.inside, length-map c.args.file.now.jobs.items job_view) in
+    let is = handle_is f c.args.number c.args.i (job_view c.job_at.result.now) c.index.result.now c.job_at.ensures c.requires.handle c.index.ensures in
+    (program_is f c.args.number c.args.i c.index.result.now c.args.programs.now (numbers f c.args.number c.requires.faultless inside) c.requires.programs c.requires.handle is).1.wait_is
 
 pub returns-clause-few : goal.returns-clause-few
 returns-clause-few c =
