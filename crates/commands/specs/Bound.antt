@@ -1,4 +1,5 @@
--- What `bound` answers: how many steps the jobs of a file take at most, or where a shader branches back.
+-- What `bound` answers: how many steps the jobs of a file take at most and whether they may wait for a request that isn't there, or where
+-- a shader branches back.
 use Rattle.std.specs.Prelude.{◌≡◌, ℕ, List, Option, Some, None}
 use Rattle.field_words.specs.Questions.{IsFirst}
 use Rattle.job_format.specs.declared.rule.Refusal.{Refusal}

@@ -12,7 +12,8 @@ use job_bound::bound_text;
 use rule_words::line_of;
 use std::alloc::Global;
 
-/// What `bound` answers to these bytes: how many steps the jobs of an accepted file take at most, or a refusal.
+/// What `bound` answers to these bytes: how many steps the jobs of an accepted file take at most and whether they may wait for a request
+/// that isn't there, or a refusal.
 #[tactic(auto, unfolding(job_check::specs::Whole::refusal_of), using(field_words::proofs::Questions::first_is))]
 pub fn bound_answer(alloc: Global, bytes: &[u8]) -> Result<Answer, NoMemory>
     ensures answers { IfOk result (λ a. IsBoundAnswer bytes.now a.status a.text.items) }

@@ -34,7 +34,8 @@ pub enum Command {
     Replay { steps: u32, seed: u64 },
     /// `upgrade`: reads a job file and writes it with version 2, or prints which rule of the format it breaks.
     Upgrade,
-    /// `bound`: reads a job file and prints how many steps its jobs take at most, or where a shader branches back; or why it is refused.
+    /// `bound`: reads a job file and prints how many steps its jobs take at most and whether they may wait for a request that isn't there,
+    /// or where a shader branches back; or why it is refused.
     Bound,
     /// `show`: reads any bytes and writes them as lines of text that say what they are, if they are a job file.
     Show,

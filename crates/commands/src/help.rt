@@ -68,7 +68,8 @@ const UPGRADE: Usage = (
 const BOUND: Usage = (
     "bound [FILE]",
     "Reads a job file of at most 48 MiB and writes how many steps its jobs take at most, and how many more for each step in which a
-renderer stays at an item; or where a shader branches back; or the first rule that it breaks.",
+renderer stays at an item. Then `ends`, or where in the file an instruction may wait for a texture request that isn't there. Or it writes
+where a shader branches back; or the first rule that it breaks.",
 );
 
 const SHOW: Usage = (

@@ -17,7 +17,7 @@ ghost use Rattle.commands.specs.Topics.{IsTopicAnswer};
 ghost use Rattle.commands.specs.Upgrade.{UpgradeKeepsAll};
 ghost use Rattle.session_law.specs.Laws.{ClientsAreApart, MemoryIsKept};
 ghost use Rattle.session_law.specs.Scripts.{ScriptsAreOfCalls};
-ghost use Rattle.job_bound.specs.Law.{BoundHolds};
+ghost use Rattle.job_bound.specs.Law.{BoundHolds, EndHolds};
 ghost use Rattle.commands.specs.Cause.{IsCause};
 ghost use Rattle.commands.specs.WordFault.{fault_of};
 ghost use Rattle.commands.specs.declared.cause.Cause.TheVariants.{Words};
@@ -37,7 +37,7 @@ use std::alloc::Global;
 /// What `run` does, and why: with status 1 comes what a person is told of the refusal, where there is more to say than the text says,
 /// and with status 2 which word is wrong.
 /// The other clauses are those of `run`.
-#[tactic(auto, using(crate::proofs::Headline::safely_accepted, headline::proofs::Uses::accepted_may_run, job_safety::proofs::Safety::bytes_apart_law, headline::proofs::Uses::accepted_end, crate::proofs::Versions::upgrade_keeps_all, crate::proofs::Again::makes_again, session_law::proofs::Scripting::scripts_are_of_calls, session_law::proofs::Answering::clients_are_apart, session_law::proofs::Keeping::memory_is_kept, job_bound::proofs::Holds::bound_holds_law))]
+#[tactic(auto, using(crate::proofs::Headline::safely_accepted, headline::proofs::Uses::accepted_may_run, job_safety::proofs::Safety::bytes_apart_law, headline::proofs::Uses::accepted_end, crate::proofs::Versions::upgrade_keeps_all, crate::proofs::Again::makes_again, session_law::proofs::Scripting::scripts_are_of_calls, session_law::proofs::Answering::clients_are_apart, session_law::proofs::Keeping::memory_is_kept, job_bound::proofs::Holds::bound_holds_law, job_bound::proofs::Holds::end_holds_law))]
 pub fn run_told<S: Source, K: Sink>(
     alloc: Global,
     words: &Vec<String>,
@@ -118,6 +118,8 @@ pub fn run_told<S: Source, K: Sink>(
     ensures pages { MemoryIsKept }
     // Where `bound` answers two numbers, each run of the jobs keeps to them.
     ensures bound { BoundHolds }
+    // Where it answers `ends` besides, each run that can't go on has finished, or waits for room in its tile slot.
+    ensures finish { EndHolds }
 {
     match task_of(words) {
         None => Ended {
@@ -215,6 +217,8 @@ pub fn run<S: Source, K: Sink>(
     ensures pages { MemoryIsKept }
     // Where `bound` answers two numbers, each run of the jobs keeps to them.
     ensures bound { BoundHolds }
+    // Where it answers `ends` besides, each run that can't go on has finished, or waits for room in its tile slot.
+    ensures finish { EndHolds }
 {
     run_told(alloc, words, source, sink).status
 }
