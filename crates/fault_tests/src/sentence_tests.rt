@@ -22,7 +22,7 @@ const FORMAT: [&str; 6] = [
 
 /// What M1 to M5 say.
 const TABLE: [&str; 5] = [
-    "the memory's size is 0, no multiple of 4,096, or over 64 MiB",
+    "the memory's size is 0, no multiple of 4,096, or over the limit (64 MiB in a file, 0xFF000000 for a driver)",
     "a place or size is no multiple of 4,096, or the size is 0",
     "it ends past the memory",
     "a byte of it lies in an earlier item",
