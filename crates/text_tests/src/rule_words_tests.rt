@@ -151,7 +151,7 @@ fn a_rule_goes_by_its_letter_and_number(rt: HostRuntime) -> Result<(), Fail> {
         );
     }
     for word in [
-        "", "S", "F6", "S28", "S0", "S024", "S256", "D1", "kind3", "24",
+        "", "S", "F6", "S28", "S0", "S024", "S256", "Y1", "kind3", "24",
     ] {
         assert!(rt; rule_named(word.as_bytes()).is_none(), "{word}");
     }
