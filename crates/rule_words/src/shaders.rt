@@ -213,7 +213,7 @@ which no checker knows.
         "an address write (of 40) is not exact",
         "An exact one is an `add`, by the add unit, always and not packed, under a signal
 that changes nothing, of a register that holds the immediate 4 * (Count + 1) and of a uniform. That uniform is the one that the
-validator fills with the stream's own place, so the sum is the place of the word after it. Any other sum would let the shader take
+checker fills with the stream's own place, so the sum is the place of the word after it. Any other sum would let the shader take
 uniforms, and with them texture bases, from memory of its own choice.
 - Fix: load 4 * (Count + 1) into a register with `li`, and `add` a uniform to it by the add unit.
 
@@ -316,7 +316,7 @@ is not defined.
     (
         "a setup write stands in an instruction that reads a uniform",
         "Both would get the same word, so a texture's base, which the
-validator relocates, would reach a register.
+checker relocates, would reach a register.
 - Fix: read the uniform in an instruction of its own.
 
     alu ca=1 wa=57 ra=32
