@@ -6,11 +6,8 @@ use Rattle.std.proofs.lemmas.Bool.{cases_lt, ltb-false}
 use Rattle.buffer_table.specs.declared.item.Item.{Item}
 use Rattle.buffer_table.specs.declared.places.Order.{Order}
 use Rattle.buffer_table.specs.Table.{shares, item_at}
-use Rattle.buffer_table.specs.Earlier.{IsAmong, IsOrder, CountsBelow, SharesOrdered, IsApartOrdered, IsInserted}
+use Rattle.buffer_table.specs.Earlier.{item_in, IsAmong, IsOrder, CountsBelow, SharesOrdered, IsApartOrdered, IsInserted}
 use Rattle.buffer_table.proofs.Taken.{ends_before, begins_behind}
-
-abbrev entry : Order → List Item → ℕ → Item
-entry order items i = item_at items (slice_index order.numbers i)
 
 -- An item that has no byte of one which begins below it lies behind that one; of one that doesn't begin below it, before.
 lies_behind : (x y : Item) → shares x y ≡ false → 0 < x.size → y.place < x.place → y.place + y.size ≤ x.place
@@ -26,13 +23,13 @@ lies_before x y none some some_y behind =
     omega (arith, past, some, some_y, behind)
 
 -- Where the item at a place of the order begins, none before it begins later, and none behind it earlier.
-pub not_later : (order : Order) (items : List Item) (i j : ℕ) → IsOrder order items → i ≤ j → j < order.count → (entry order items i).place ≤ (entry order items j).place
+pub not_later : (order : Order) (items : List Item) (i j : ℕ) → IsOrder order items → i ≤ j → j < order.count → (item_in order items i).place ≤ (item_in order items j).place
 not_later order items i j is upto inside = elim (cases_lt i j) [
   | inl less ↦ let ends = is.ascends i j less inside in omega (arith, ends)
-  | inr not ↦ let same : j ≡ i = omega (arith, not, upto) in subst (λ m. (entry order items i).place ≤ (entry order items m).place) (sym same) (omega arith)
+  | inr not ↦ let same : j ≡ i = omega (arith, not, upto) in subst (λ m. (item_in order items i).place ≤ (item_in order items m).place) (sym same) (omega arith)
 ]
 
-pub all_below : (order : Order) (items : List Item) (place : ℕ) → IsOrder order items → 0 < order.count → (entry order items (order.count - 1)).place < place
+pub all_below : (order : Order) (items : List Item) (place : ℕ) → IsOrder order items → 0 < order.count → (item_in order items (order.count - 1)).place < place
     → CountsBelow order items place order.count
 all_below order items place is some last = record {
   inside = omega arith;
@@ -51,8 +48,8 @@ none_below order items place empty = record {
 pub record IsBetween (order : Order) (items : List Item) (place low high : ℕ) : Type 0 where
   pub order_is : low ≤ high
   pub inside : high ≤ order.count
-  pub below : (i : ℕ) → i < low → (entry order items i).place < place
-  pub behind : (i : ℕ) → high ≤ i → i < order.count → place ≤ (entry order items i).place
+  pub below : (i : ℕ) → i < low → (item_in order items i).place < place
+  pub behind : (i : ℕ) → high ≤ i → i < order.count → place ≤ (item_in order items i).place
 
 pub starts : (order : Order) (items : List Item) (place : ℕ) → IsBetween order items place 0 order.count
 starts order items place = record {
@@ -63,7 +60,7 @@ starts order items place = record {
 }
 
 pub goes_up : (order : Order) (items : List Item) (place low high middle : ℕ) → IsOrder order items → IsBetween order items place low high → middle < high
-    → (entry order items middle).place < place → IsBetween order items place (middle + 1) high
+    → (item_in order items middle).place < place → IsBetween order items place (middle + 1) high
 goes_up order items place low high middle is state before here = record {
   order_is = omega (arith, before);
   inside = state.inside;
@@ -72,7 +69,7 @@ goes_up order items place low high middle is state before here = record {
 }
 
 pub goes_down : (order : Order) (items : List Item) (place low high middle : ℕ) → IsOrder order items → IsBetween order items place low high → low ≤ middle → middle < high
-    → place ≤ (entry order items middle).place → IsBetween order items place low middle
+    → place ≤ (item_in order items middle).place → IsBetween order items place low middle
 goes_down order items place low high middle is state from before here = record {
   order_is = from;
   inside = omega (arith, before, state.inside);
@@ -89,42 +86,42 @@ found order items place low high state past = record {
 
 -- The items that begin below an item of which the last has no byte of it, and the others of which the first has none.
 apart_below : (order : Order) (items : List Item) (x : Item) (n i : ℕ) → IsOrder order items → CountsBelow order items x.place n → 0 < x.size
-    → (0 < n → shares x (entry order items (n - 1)) ≡ false) → i < n → shares x (entry order items i) ≡ false
+    → (0 < n → shares x (item_in order items (n - 1)) ≡ false) → i < n → shares x (item_in order items i) ≡ false
 apart_below order items x n i is counts some last before = elim (cases_lt i (n - 1)) [
   | inl less ↦
       let ends = is.ascends i (n - 1) less (omega (arith, before, counts.inside)) in
       let begins = counts.below (n - 1) (omega (arith, before)) in
-      ends_before x (entry order items i) (omega (arith, ends, begins))
+      ends_before x (item_in order items i) (omega (arith, ends, begins))
   | inr not ↦
       let same : n - 1 ≡ i = omega (arith, not, before) in
-      subst (λ m. shares x (entry order items m) ≡ false) same (last (omega (arith, before)))
+      subst (λ m. shares x (item_in order items m) ≡ false) same (last (omega (arith, before)))
 ]
 
 apart_behind : (order : Order) (items : List Item) (x : Item) (n i : ℕ) → IsOrder order items → CountsBelow order items x.place n → 0 < x.size
-    → (n < order.count → shares x (entry order items n) ≡ false) → n ≤ i → i < order.count → shares x (entry order items i) ≡ false
+    → (n < order.count → shares x (item_in order items n) ≡ false) → n ≤ i → i < order.count → shares x (item_in order items i) ≡ false
 apart_behind order items x n i is counts some next from inside = elim (cases_lt n i) [
   | inl less ↦
       let here : n < order.count = omega (arith, less, inside) in
       let ends = is.ascends n i less inside in
-      let before = lies_before x (entry order items n) (next here) some (is.some n here) (counts.behind n (omega arith) here) in
-      begins_behind x (entry order items i) (omega (arith, ends, before, is.some n here))
+      let before = lies_before x (item_in order items n) (next here) some (is.some n here) (counts.behind n (omega arith) here) in
+      begins_behind x (item_in order items i) (omega (arith, ends, before, is.some n here))
   | inr not ↦
       let same : n ≡ i = omega (arith, not, from) in
-      subst (λ m. shares x (entry order items m) ≡ false) same (next (omega (arith, same, inside)))
+      subst (λ m. shares x (item_in order items m) ≡ false) same (next (omega (arith, same, inside)))
 ]
 
 -- So none of them has.
 pub free_of : (order : Order) (items : List Item) (x : Item) (n : ℕ) → IsOrder order items → CountsBelow order items x.place n → 0 < x.size
-    → (0 < n → shares x (entry order items (n - 1)) ≡ false) → (n < order.count → shares x (entry order items n) ≡ false) → IsApartOrdered order items x
+    → (0 < n → shares x (item_in order items (n - 1)) ≡ false) → (n < order.count → shares x (item_in order items n) ≡ false) → IsApartOrdered order items x
 free_of order items x n is counts some last next item buffer first =
     let among = is.each item buffer first in
-    let apart : shares x (entry order items among.place) ≡ false = elim (cases_lt among.place n) [
+    let apart : shares x (item_in order items among.place) ≡ false = elim (cases_lt among.place n) [
       | inl before ↦ apart_below order items x n among.place is counts some last before
       | inr not ↦ apart_behind order items x n among.place is counts some next (omega (arith, not)) among.inside
     ] in
     subst (λ m. shares x (item_at items m) ≡ false) among.is apart
 
-pub taken_by : (order : Order) (items : List Item) (x : Item) (i : ℕ) → IsOrder order items → i < order.count → shares x (entry order items i) ≡ true → SharesOrdered order items x
+pub taken_by : (order : Order) (items : List Item) (x : Item) (i : ℕ) → IsOrder order items → i < order.count → shares x (item_in order items i) ≡ true → SharesOrdered order items x
 taken_by order items x i is inside taken = record { item = slice_index order.numbers i; buffer = is.buffers i inside; first = is.first i inside; taken = taken }
 
 -- An entry after an insertion: the new one, or one that stood here or one place before.
@@ -221,7 +218,7 @@ ordered_more old new items at is counts puts more few room some apart =
               let number = slice_index old.numbers old_one.j in
               let none = apart number (is.buffers old_one.j old_one.inside) (is.first old_one.j old_one.inside) in
               let goes = lies_before x (item_at items number) none some (is.some old_one.j old_one.inside) (counts.behind old_one.j far old_one.inside) in
-              subst (λ m. (item_at items (slice_index new.numbers i)).place + (item_at items (slice_index new.numbers i)).size ≤ (item_at items m).place) (sym old_one.same)
+              subst (λ m. (item_in new items i).place + (item_in new items i).size ≤ (item_at items m).place) (sym old_one.same)
               (subst (λ m. (item_at items m).place + (item_at items m).size ≤ (item_at items number).place) (sym new_one.0) goes)
         ]
         | inr old_one ↦ elim (from j inside) [
@@ -230,11 +227,11 @@ ordered_more old new items at is counts puts more few room some apart =
               let number = slice_index old.numbers old_one.j in
               let none = apart number (is.buffers old_one.j old_one.inside) (is.first old_one.j old_one.inside) in
               let goes = lies_behind x (item_at items number) none some (counts.below old_one.j near) in
-              subst (λ m. (item_at items (slice_index new.numbers i)).place + (item_at items (slice_index new.numbers i)).size ≤ (item_at items m).place) (sym new_one.0)
+              subst (λ m. (item_in new items i).place + (item_in new items i).size ≤ (item_at items m).place) (sym new_one.0)
               (subst (λ m. (item_at items m).place + (item_at items m).size ≤ x.place) (sym old_one.same) goes)
           | inr too ↦
               let goes = is.ascends old_one.j too.j (both_old at i j old_one.j too.j before old_one.lies too.lies) too.inside in
-              subst (λ m. (item_at items (slice_index new.numbers i)).place + (item_at items (slice_index new.numbers i)).size ≤ (item_at items m).place) (sym too.same)
+              subst (λ m. (item_in new items i).place + (item_in new items i).size ≤ (item_at items m).place) (sym too.same)
               (subst (λ m. (item_at items m).place + (item_at items m).size ≤ (item_at items (slice_index old.numbers too.j)).place) (sym old_one.same) goes)
         ]
       ];

@@ -1,6 +1,5 @@
 -- A memory table without faults is sound.
 use Rattle.std.proofs.Common.{◌≡◌, ℕ, suc, ◌+◌, ◌-◌, ◌<◌, ◌≤◌, map, min, max, false, List, length, take, get_or, None, sym, ap, subst, arith, ◌∙◌}
-use Rattle.std.specs.List.{list_any}
 use Rattle.std.proofs.lemmas.List.{get_or-take, get_or-map, get_or_read, get_or_default, length-map}
 use Rattle.std.proofs.lemmas.Bool.{ltb-false}
 use Rattle.std.proofs.lemmas.List.Folds.{list_any_at}
@@ -8,11 +7,10 @@ use Rattle.std.proofs.lemmas.Grind.{common_steps}
 use Rattle.field_words.specs.Questions.{first_of, each}
 use Rattle.field_words.proofs.Questions.{none_stands}
 use Rattle.field_words.proofs.Nones.{front_none, rest_none, each_none}
-use Rattle.field_words.specs.Sizes.{most_memory}
 use Rattle.buffer_table.specs.declared.buffer.Buffer.{Buffer}
 use Rattle.buffer_table.specs.declared.buffer.Regions.{Regions}
 use Rattle.buffer_table.specs.declared.item.Item.{Item}
-use Rattle.buffer_table.specs.Table.{TableModel, items_of, item_at, no_item, buffer_at, past_end, buffer_item, shares, is_off_page, most_place, memory_within, item_questions, all_within, table_within, table_questions}
+use Rattle.buffer_table.specs.Table.{TableModel, items_of, item_at, no_item, buffer_at, past_end, buffer_item, shares, shares_with_first, is_off_page, most_place, memory_within, item_questions, all_within, table_within}
 use Rattle.buffer_table.specs.Sound.{IsSoundItem, IsSound, IsSoundBuffer, AreApart}
 
 -- An item that passes M2 to M5.
@@ -32,7 +30,7 @@ apart_of memory x y none sound_x sound_y =
     grind (arith, past, some_x, some_y)
 
 -- An item that passes M4 has no byte of an earlier one.
-pub apart_item : (memory : ℕ) (items : List Item) (k : ℕ) → first_of (item_questions memory items k) ≡ None → list_any (shares (item_at items k)) (take k items) ≡ false
+pub apart_item : (memory : ℕ) (items : List Item) (k : ℕ) → first_of (item_questions memory items k) ≡ None → shares_with_first (item_at items k) items k ≡ false
 unfolding item_questions
 apart_item memory items k none = let asked = none_stands (item_questions memory items k) none in grind (arith, asked.1.1.0)
 
@@ -68,10 +66,6 @@ sound_within limit memory r buffers low none =
       apart = λ j k before below.
           apart_of memory (item_at items j) (item_at items k) (apart_items memory items j k (at k below) before below) (good j (omega arith)) (good k below);
     }
-
--- The table of a job file.
-pub sound : (memory : ℕ) (r : Regions) (buffers : List Buffer) → first_of (table_questions memory r buffers) ≡ None → IsSound memory r buffers
-sound memory r buffers none = sound_within most_memory memory r buffers (omega arith) none
 
 -- The same of a copy of the buffers.
 pub sound_copy : (limit memory : ℕ) (r : Regions) (buffers copy : List Buffer) → limit ≤ most_place → first_of (table_within limit memory r buffers) ≡ None → copy ≡ buffers → IsSound memory r copy

@@ -1,13 +1,12 @@
 -- An item shares a byte with an earlier one exactly where one of its pages is taken.
 use Rattle.std.proofs.Common.{◌≡◌, ◌⊎◌, inl, inr, ℕ, suc, zero, ◌+◌, ◌-◌, ◌/◌, ◌≤◌, ◌<◌, max, min, Bool, true, false, List, length, take, get_or, refl, sym, ◌∙◌, ap, subst, arith}
-use Rattle.std.specs.List.{list_any}
 use Rattle.std.proofs.lemmas.Bool.{cases_Bool, cases_lt, ltb-true}
 use Rattle.std.proofs.lemmas.Bool.Decides.{nat_tests}
 use Rattle.std.proofs.lemmas.List.{get_or-take, length-take-le, get_or_default}
 use Rattle.std.proofs.lemmas.List.Folds.{list_any_at, list_any_more, list_any_none}
 use Rattle.field_words.specs.Sizes.{page_size, most_memory}
 use Rattle.buffer_table.specs.declared.item.Item.{Item}
-use Rattle.buffer_table.specs.Table.{ShareByte, SharingMeansByte, shares, item_at, no_item, is_off_page}
+use Rattle.buffer_table.specs.Table.{ShareByte, SharingMeansByte, shares, shares_with_first, item_at, no_item, is_off_page}
 use Rattle.buffer_table.specs.Sound.{IsSoundItem}
 use Rattle.buffer_table.specs.Pages.{page_bit, TakesPage, IsFree, Takes, first_page, end_page, IsWhole, IsWholeIn, Owns, AreTaken}
 use Rattle.buffer_table.specs.declared.places.Order.{Order}
@@ -49,20 +48,20 @@ shared_page x y whole_x whole_y is =
     }
 
 -- one of the first items settles the answer, or none of them does
-pub any_of : (x : Item) (items : List Item) (count j : ℕ) → j < count → count ≤ length items → shares x (item_at items j) ≡ true → list_any (shares x) (take count items) ≡ true
+pub any_of : (x : Item) (items : List Item) (count j : ℕ) → j < count → count ≤ length items → shares x (item_at items j) ≡ true → shares_with_first x items count ≡ true
 any_of x items count j before inside is =
     let long : j < length (take count items) = omega (arith, length-take-le count items inside, before) in
     list_any_at (shares x) (take count items) j no_item long (ap (shares x) (get_or-take count items j no_item before) ∙ is)
 
 pub none_of : (x : Item) (items : List Item) (count : ℕ) → count ≤ length items → ((j : ℕ) → j < count → shares x (item_at items j) ≡ false)
-    → list_any (shares x) (take count items) ≡ false
+    → shares_with_first x items count ≡ false
 none_of x items count inside none = list_any_none (shares x) (take count items) (λ j d below.
     let before : j < count = omega (arith, length-take-le count items inside, below) in
     let same : get_or (take count items) j d ≡ item_at items j = get_or_default (take count items) j d no_item below ∙ get_or-take count items j no_item before in
     ap (shares x) same ∙ none j before)
 
 any_taken : (pages : List ℕ) (items : List Item) (k : ℕ) (x : Item) → AreTaken pages items k → k ≤ length items → IsWhole x
-    → TakesPage pages (first_page x) (end_page x) → list_any (shares x) (take k items) ≡ true
+    → TakesPage pages (first_page x) (end_page x) → shares_with_first x items k ≡ true
 any_taken pages items k x are inside whole takes =
     let owner = are.owned takes.page takes.taken in
     any_of x items k owner.j owner.before inside
@@ -80,7 +79,7 @@ none_at pages items k j x are whole free before = elim (cases_Bool (shares x (it
 ]
 
 none_taken : (pages : List ℕ) (items : List Item) (k : ℕ) (x : Item) → AreTaken pages items k → k ≤ length items → IsWhole x
-    → IsFree pages (first_page x) (end_page x) → list_any (shares x) (take k items) ≡ false
+    → IsFree pages (first_page x) (end_page x) → shares_with_first x items k ≡ false
 none_taken pages items k x are inside whole free = none_of x items k inside (λ j before. none_at pages items k j x are whole free before)
 
 outside : (first end page : ℕ) → first ≤ page → page < end → (page < first) ⊎ (end ≤ page) → ⊥
@@ -90,7 +89,7 @@ outside first end page from before (inr late) = omega (arith, before, late)
 -- the answer of the test is the rule's
 pub shared_is : (pages : List ℕ) (items : List Item) (k : ℕ) (x : Item) (result : Bool) → AreTaken pages items k → k ≤ length items → IsWhole x
     → (result ≡ true → TakesPage pages (first_page x) (end_page x)) → (result ≡ false → IsFree pages (first_page x) (end_page x))
-    → result ≡ list_any (shares x) (take k items)
+    → result ≡ shares_with_first x items k
 shared_is pages items k x true are inside whole takes free = sym (any_taken pages items k x are inside whole (takes refl))
 shared_is pages items k x false are inside whole takes free = sym (none_taken pages items k x are inside whole (free refl))
 
@@ -119,7 +118,7 @@ begins_behind x y behind = grind (arith, nat_tests, behind)
 
 -- where no buffer before item k has a byte of it, the regions decide; and where one of the regions has, that settles it
 regions_decide : (x : Item) (items : List Item) (m : ℕ) → m + 2 ≤ length items → ((j : ℕ) → 2 ≤ j → j < m + 2 → shares x (item_at items j) ≡ false)
-    → list_any (shares x) (take (m + 2) items) ≡ list_any (shares x) (take 2 items)
+    → shares_with_first x items (m + 2) ≡ shares_with_first x items 2
 regions_decide x items zero inside none = refl
 regions_decide x items (suc m) inside none =
     let here : shares x (item_at items (m + 2)) ≡ false = none (m + 2) (omega arith) (omega arith) in
@@ -127,7 +126,7 @@ regions_decide x items (suc m) inside none =
     let more = list_any_more (shares x) items (m + 2) no_item (omega (arith, inside)) in
     grind (arith, more, here, less)
 
-regions_settle : (x : Item) (items : List Item) (m : ℕ) → m + 2 ≤ length items → list_any (shares x) (take 2 items) ≡ true → list_any (shares x) (take (m + 2) items) ≡ true
+regions_settle : (x : Item) (items : List Item) (m : ℕ) → m + 2 ≤ length items → shares_with_first x items 2 ≡ true → shares_with_first x items (m + 2) ≡ true
 regions_settle x items zero inside taken = taken
 regions_settle x items (suc m) inside taken =
     let less = regions_settle x items m (omega (arith, inside)) taken in
@@ -135,31 +134,31 @@ regions_settle x items (suc m) inside taken =
     grind (arith, more, less)
 
 -- The regions and the buffers in order are the items before item k.
-pub regions_share : (k : ℕ) (x : Item) (items : List Item) → k ≤ length items → list_any (shares x) (take (min k 2) items) ≡ true → true ≡ list_any (shares x) (take k items)
+pub regions_share : (k : ℕ) (x : Item) (items : List Item) → k ≤ length items → shares_with_first x items (min k 2) ≡ true → true ≡ shares_with_first x items k
 regions_share k x items inside taken = elim (cases_lt k 2) [
-  | inl few ↦ sym (subst (λ n. list_any (shares x) (take n items) ≡ true) (let e : min k 2 ≡ k = omega (arith, few) in e) taken)
+  | inl few ↦ sym (subst (λ n. shares_with_first x items n ≡ true) (let e : min k 2 ≡ k = omega (arith, few) in e) taken)
   | inr many ↦
-      let two : list_any (shares x) (take 2 items) ≡ true = subst (λ n. list_any (shares x) (take n items) ≡ true) (let e : min k 2 ≡ 2 = omega (arith, many) in e) taken in
-      sym (subst (λ n. list_any (shares x) (take n items) ≡ true) (let e : k - 2 + 2 ≡ k = omega (arith, many) in e) (regions_settle x items (k - 2) (omega (arith, inside, many)) two))
+      let two : shares_with_first x items 2 ≡ true = subst (λ n. shares_with_first x items n ≡ true) (let e : min k 2 ≡ 2 = omega (arith, many) in e) taken in
+      sym (subst (λ n. shares_with_first x items n ≡ true) (let e : k - 2 + 2 ≡ k = omega (arith, many) in e) (regions_settle x items (k - 2) (omega (arith, inside, many)) two))
 ]
 
 pub buffers_share : (order : Order) (k : ℕ) (x : Item) (items : List Item) (ordered : Bool) → order.count ≡ k - 2 → k ≤ length items
-    → list_any (shares x) (take (min k 2) items) ≡ false → (ordered ≡ true → SharesOrdered order items x) → (ordered ≡ false → IsApartOrdered order items x)
-    → ordered ≡ list_any (shares x) (take k items)
+    → shares_with_first x items (min k 2) ≡ false → (ordered ≡ true → SharesOrdered order items x) → (ordered ≡ false → IsApartOrdered order items x)
+    → ordered ≡ shares_with_first x items k
 buffers_share order k x items true counts inside none taken free =
     let other = taken refl in
     sym (any_of x items k other.item (omega (arith, other.first, other.buffer, counts)) inside other.taken)
 buffers_share order k x items false counts inside none taken free = elim (cases_lt k 2) [
-  | inl few ↦ sym (subst (λ n. list_any (shares x) (take n items) ≡ false) (let e : min k 2 ≡ k = omega (arith, few) in e) none)
+  | inl few ↦ sym (subst (λ n. shares_with_first x items n ≡ false) (let e : min k 2 ≡ k = omega (arith, few) in e) none)
   | inr many ↦
       let apart : (j : ℕ) → 2 ≤ j → j < k - 2 + 2 → shares x (item_at items j) ≡ false = λ j from below. free refl j from (omega (arith, below, counts)) in
-      let two : list_any (shares x) (take 2 items) ≡ false = subst (λ n. list_any (shares x) (take n items) ≡ false) (let e : min k 2 ≡ 2 = omega (arith, many) in e) none in
-      sym (subst (λ n. list_any (shares x) (take n items) ≡ false) (let e : k - 2 + 2 ≡ k = omega (arith, many) in e)
+      let two : shares_with_first x items 2 ≡ false = subst (λ n. shares_with_first x items n ≡ false) (let e : min k 2 ≡ 2 = omega (arith, many) in e) none in
+      sym (subst (λ n. shares_with_first x items n ≡ false) (let e : k - 2 + 2 ≡ k = omega (arith, many) in e)
       (regions_decide x items (k - 2) (omega (arith, inside, many)) apart ∙ two))
 ]
 
 -- none of the first items has a byte of one that shares none with them
-pub apart_first : (x : Item) (items : List Item) (k : ℕ) → k ≤ length items → list_any (shares x) (take k items) ≡ false → (j : ℕ) → j < k → shares x (item_at items j) ≡ false
+pub apart_first : (x : Item) (items : List Item) (k : ℕ) → k ≤ length items → shares_with_first x items k ≡ false → (j : ℕ) → j < k → shares x (item_at items j) ≡ false
 apart_first x items k inside none j before = elim (cases_Bool (shares x (item_at items j))) [
   | inl is ↦ absurd (let wrong : true ≡ false = sym (any_of x items k j before inside is) ∙ none in cc)
   | inr not ↦ not

@@ -8,6 +8,10 @@ use Rattle.buffer_table.specs.declared.places.Order.{Order}
 use Rattle.buffer_table.specs.Table.{item_at, shares}
 use Rattle.buffer_table.specs.Pages.{AreTaken}
 
+-- the item that stands at a place of an order
+abbrev pub item_in : Order → List Item → ℕ → Item
+item_in order items i = item_at items (slice_index order.numbers i)
+
 -- an item stands somewhere among those of an order
 pub record IsAmong (order : Order) (item : ℕ) : Type 0 where
   pub place : ℕ
@@ -21,16 +25,15 @@ pub record IsOrder (order : Order) (items : List Item) : Type 0 where
   pub room : order.count + 2 ≤ length items
   pub buffers : (i : ℕ) → i < order.count → 2 ≤ slice_index order.numbers i
   pub first : (i : ℕ) → i < order.count → slice_index order.numbers i < order.count + 2
-  pub some : (i : ℕ) → i < order.count → 0 < (item_at items (slice_index order.numbers i)).size
-  pub ascends : (i j : ℕ) → i < j → j < order.count
-      → (item_at items (slice_index order.numbers i)).place + (item_at items (slice_index order.numbers i)).size ≤ (item_at items (slice_index order.numbers j)).place
+  pub some : (i : ℕ) → i < order.count → 0 < (item_in order items i).size
+  pub ascends : (i j : ℕ) → i < j → j < order.count → (item_in order items i).place + (item_in order items i).size ≤ (item_in order items j).place
   pub each : (item : ℕ) → 2 ≤ item → item < order.count + 2 → IsAmong order item
 
 -- so many of its items begin below a place, and the others don't
 pub record CountsBelow (order : Order) (items : List Item) (place n : ℕ) : Type 0 where
   pub inside : n ≤ order.count
-  pub below : (i : ℕ) → i < n → (item_at items (slice_index order.numbers i)).place < place
-  pub behind : (i : ℕ) → n ≤ i → i < order.count → place ≤ (item_at items (slice_index order.numbers i)).place
+  pub below : (i : ℕ) → i < n → (item_in order items i).place < place
+  pub behind : (i : ℕ) → n ≤ i → i < order.count → place ≤ (item_in order items i).place
 
 -- one of its items has a byte of x
 pub record SharesOrdered (order : Order) (items : List Item) (x : Item) : Type 0 where

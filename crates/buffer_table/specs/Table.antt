@@ -61,6 +61,10 @@ shares x y = nat_lt (max x.place y.place) (min (x.place + x.size) (y.place + y.s
 abbrev pub SharingMeansByte : Type 0
 SharingMeansByte = (x y : Item) → (shares x y ≡ true) ↔ ShareByte x y
 
+-- one of the first items has a byte of it
+abbrev pub shares_with_first : Item → List Item → ℕ → Bool
+shares_with_first x items count = list_any (shares x) (take count items)
+
 unfoldable pub is_off_page : Item → Bool
 is_off_page x = not (x.place % page_size == 0) || (not (x.size % page_size == 0) || x.size == 0)
 
@@ -81,7 +85,7 @@ unfoldable pub item_questions : ℕ → List Item → ℕ → List (Question Tab
 item_questions memory items k =
     Ask (is_off_page (item_at items k)) (fault OffPage (k + 1))
     ∷ (Ask (nat_lt memory ((item_at items k).place + (item_at items k).size)) (fault OutsideMemory (k + 1))
-    ∷ (Ask (list_any (shares (item_at items k)) (take k items)) (fault SharedByte (k + 1))
+    ∷ (Ask (shares_with_first (item_at items k) items k) (fault SharedByte (k + 1))
     ∷ (Ask (nat_lt (item_at items k).size (item_at items k).content) (fault TooMuchContent (k + 1)) ∷ [])))
 
 -- all rules, in the order of refusal
@@ -96,9 +100,6 @@ abbrev pub table_within : (limit memory : ℕ) → Regions → List Buffer → L
 table_within limit memory r buffers = all_within limit memory (items_of r buffers)
 
 -- those of a job file
-abbrev pub all_questions : ℕ → List Item → List (Question TableFault)
-all_questions = all_within most_memory
-
 abbrev pub table_questions : ℕ → Regions → List Buffer → List (Question TableFault)
 table_questions = table_within most_memory
 

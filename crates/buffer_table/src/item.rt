@@ -1,10 +1,9 @@
 //! The items of a memory table as intervals, and the rules that each of them keeps.
-ghost use Rattle.std.specs.Prelude.{◌≡◌, ◌+◌, ◌-◌, ◌*◌, ◌<◌, ◌≤◌, true, false, Some, IfNone, length, take};
-ghost use Rattle.std.specs.List.{list_any};
+ghost use Rattle.std.specs.Prelude.{◌≡◌, ◌+◌, ◌-◌, ◌*◌, ◌<◌, ◌≤◌, true, false, Some, IfNone, length};
 ghost use Rattle.field_words.specs.Questions.{first_of, each};
 ghost use Rattle.buffer_table.specs.Earlier.{AreEarlier, IsOrder};
 ghost use Rattle.buffer_table.specs.Pages.{TakesPage, IsFree, Takes, IsWhole, IsWholeIn, first_page, end_page};
-ghost use Rattle.buffer_table.specs.Table.{lists_item, tile_item, buffer_item, is_off_page, shares, item_questions, items_questions, memory_within, table_within, items_of, item_at, fault};
+ghost use Rattle.buffer_table.specs.Table.{lists_item, tile_item, buffer_item, is_off_page, shares, shares_with_first, item_questions, items_questions, memory_within, table_within, items_of, item_at, fault};
 
 use crate::buffer::{Buffer, Regions, TableFault, TableRule};
 use crate::pages::{WORDS, is_taken, take_pages};
@@ -140,7 +139,7 @@ pub(crate) fn shares(x: &Item, y: &Item) -> bool
 /// Whether one of the first `count` items has a byte of this one.
 fn shares_with_first(regions: &Regions, buffers: &[Buffer], count: usize, x: &Item) -> bool
     requires inside { count ≤ length buffers.now + 2 }
-    ensures { result ≡ list_any (shares x.now) (take count (items_of regions.now buffers.now)) }
+    ensures { result ≡ shares_with_first x.now (items_of regions.now buffers.now) count }
 {
     for k in 0..count {
         if shares(x, &item_at(regions, buffers, k)) {
@@ -169,7 +168,7 @@ fn shares_earlier(order: &Order, regions: &Regions, buffers: &[Buffer], k: usize
     requires counts { order.now.count ≡ k - 2 }
     requires ordered { IsOrder order.now (items_of regions.now buffers.now) }
     requires some { 0 < x.now.size }
-    ensures { result ≡ list_any (shares x.now) (take k (items_of regions.now buffers.now)) }
+    ensures { result ≡ shares_with_first x.now (items_of regions.now buffers.now) k }
 {
     if shares_with_first(regions, buffers, k.min(2), x) {
         return true;
@@ -189,7 +188,7 @@ fn is_shared(
     requires inside { k < length buffers.now + 2 }
     requires known { AreEarlier earlier.now mem_size (items_of regions.now buffers.now) k }
     requires whole { IsWholeIn mem_size x.now }
-    ensures { result ≡ list_any (shares x.now) (take k (items_of regions.now buffers.now)) }
+    ensures { result ≡ shares_with_first x.now (items_of regions.now buffers.now) k }
 {
     match earlier {
         Earlier::Pages(pages) => has_page(pages, x),
@@ -203,7 +202,7 @@ fn pass_ordered(order: &mut Order, regions: &Regions, buffers: &[Buffer], k: usi
     requires few { length buffers.now ≤ 1024 }
     requires item { x.now ≡ item_at (items_of regions.now buffers.now) k }
     requires some { 0 < x.now.size }
-    requires apart { list_any (shares x.now) (take k (items_of regions.now buffers.now)) ≡ false }
+    requires apart { shares_with_first x.now (items_of regions.now buffers.now) k ≡ false }
     requires counts { order.old.count ≡ k - 2 }
     requires ordered { IsOrder order.old (items_of regions.now buffers.now) }
     ensures counts { order.new.count ≡ k + 1 - 2 }
@@ -220,7 +219,7 @@ fn pass_item(earlier: &mut Earlier, mem_size: u32, regions: &Regions, buffers: &
     requires inside { k < length buffers.now + 2 }
     requires few { length buffers.now ≤ 1024 }
     requires sound { IsWholeIn mem_size (item_at (items_of regions.now buffers.now) k) }
-    requires apart { list_any (shares (item_at (items_of regions.now buffers.now) k)) (take k (items_of regions.now buffers.now)) ≡ false }
+    requires apart { shares_with_first (item_at (items_of regions.now buffers.now) k) (items_of regions.now buffers.now) k ≡ false }
     requires known { AreEarlier earlier.old mem_size (items_of regions.now buffers.now) k }
     ensures { AreEarlier earlier.new mem_size (items_of regions.now buffers.now) (k + 1) }
 {

@@ -1,6 +1,6 @@
 //! Buffers by ascending place, as the numbers of their items.
-ghost use Rattle.std.specs.Prelude.{◌≡◌, ◌+◌, ◌-◌, ◌<◌, ◌≤◌, true, false, length, slice_index};
-ghost use Rattle.buffer_table.specs.Earlier.{IsOrder, IsInserted, CountsBelow, SharesOrdered, IsApartOrdered};
+ghost use Rattle.std.specs.Prelude.{◌≡◌, ◌+◌, ◌-◌, ◌<◌, ◌≤◌, true, false, length};
+ghost use Rattle.buffer_table.specs.Earlier.{IsOrder, IsInserted, item_in, CountsBelow, SharesOrdered, IsApartOrdered};
 ghost use Rattle.buffer_table.specs.Table.{items_of, item_at, shares};
 
 use crate::buffer::{Buffer, Regions};
@@ -20,7 +20,7 @@ pub struct Order {
 fn item_in(order: &Order, regions: &Regions, buffers: &[Buffer], i: usize) -> Item
     requires ordered { IsOrder order.now (items_of regions.now buffers.now) }
     requires inside { i < order.now.count }
-    ensures { result ≡ item_at (items_of regions.now buffers.now) (slice_index order.now.numbers i) }
+    ensures { result ≡ item_in order.now (items_of regions.now buffers.now) i }
 {
     item_at(regions, buffers, order.numbers[i] as usize)
 }
@@ -29,7 +29,7 @@ fn item_in(order: &Order, regions: &Regions, buffers: &[Buffer], i: usize) -> It
 fn begin_at(order: &Order, regions: &Regions, buffers: &[Buffer], i: usize) -> u64
     requires ordered { IsOrder order.now (items_of regions.now buffers.now) }
     requires inside { i < order.now.count }
-    ensures { result ≡ (item_at (items_of regions.now buffers.now) (slice_index order.now.numbers i)).place }
+    ensures { result ≡ (item_in order.now (items_of regions.now buffers.now) i).place }
 {
     item_in(order, regions, buffers, i).place
 }
@@ -78,7 +78,7 @@ fn count_below(order: &Order, regions: &Regions, buffers: &[Buffer], place: u64)
 fn shares_at(order: &Order, regions: &Regions, buffers: &[Buffer], i: usize, x: &Item) -> bool
     requires ordered { IsOrder order.now (items_of regions.now buffers.now) }
     requires inside { i < order.now.count }
-    ensures { result ≡ shares x.now (item_at (items_of regions.now buffers.now) (slice_index order.now.numbers i)) }
+    ensures { result ≡ shares x.now (item_in order.now (items_of regions.now buffers.now) i) }
 {
     shares(x, &item_in(order, regions, buffers, i))
 }
@@ -88,7 +88,7 @@ fn shares_before(order: &Order, regions: &Regions, buffers: &[Buffer], at: usize
     requires ordered { IsOrder order.now (items_of regions.now buffers.now) }
     requires inside { at ≤ order.now.count }
     ensures taken { result ≡ true → SharesOrdered order.now (items_of regions.now buffers.now) x.now }
-    ensures free { result ≡ false → 0 < at → shares x.now (item_at (items_of regions.now buffers.now) (slice_index order.now.numbers (at - 1))) ≡ false }
+    ensures free { result ≡ false → 0 < at → shares x.now (item_in order.now (items_of regions.now buffers.now) (at - 1)) ≡ false }
 {
     if at == 0 {
         return false;
@@ -100,7 +100,7 @@ fn shares_before(order: &Order, regions: &Regions, buffers: &[Buffer], at: usize
 fn shares_behind(order: &Order, regions: &Regions, buffers: &[Buffer], at: usize, x: &Item) -> bool
     requires ordered { IsOrder order.now (items_of regions.now buffers.now) }
     ensures taken { result ≡ true → SharesOrdered order.now (items_of regions.now buffers.now) x.now }
-    ensures free { result ≡ false → at < order.now.count → shares x.now (item_at (items_of regions.now buffers.now) (slice_index order.now.numbers at)) ≡ false }
+    ensures free { result ≡ false → at < order.now.count → shares x.now (item_in order.now (items_of regions.now buffers.now) at) ≡ false }
 {
     if at >= order.count {
         return false;

@@ -1,5 +1,5 @@
 -- The pages tell it, or the regions and the order do.
-use Rattle.std.proofs.Common.{◌≤◌, List, length, take, subst, arith}
+use Rattle.std.proofs.Common.{◌≤◌, List, length, subst, arith}
 use Rattle.buffer_table.specs.declared.item.Item.{Item}
 use Rattle.buffer_table.specs.Earlier.{AreEarlier}
 use Rattle.buffer_table.specs.Table.{items_of}

@@ -1,10 +1,9 @@
 -- The next item's pages are taken, or it stands among the buffers in order.
-use Rattle.std.proofs.Common.{◌≡◌, ◌<◌, false, List, take, sym, subst}
-use Rattle.std.specs.List.{list_any}
+use Rattle.std.proofs.Common.{◌≡◌, ◌<◌, false, List, sym, subst}
 use Rattle.buffer_table.specs.declared.item.Item.{Item}
 use Rattle.buffer_table.specs.Earlier.{AreEarlier}
 use Rattle.buffer_table.specs.Pages.{Takes, first_page, end_page}
-use Rattle.buffer_table.specs.Table.{items_of, item_at, shares}
+use Rattle.buffer_table.specs.Table.{items_of, item_at, shares_with_first}
 use Rattle.buffer_table.proofs.Taken.{more_taken, whole_below}
 use Rattle.buffer_table.proofs.item.pass_item.Goals as goal
 
@@ -27,7 +26,7 @@ pass_ordered-requires c =
       few = c.requires.few;
       item = same;
       some = subst (λ x. 0 < x.size) (sym same) c.requires.sound.not_empty;
-      apart = subst (λ x. list_any (shares x) (take c.args.k items) ≡ false) (sym same) c.requires.apart;
+      apart = subst (λ x. shares_with_first x items c.args.k ≡ false) (sym same) c.requires.apart;
       counts = known.0;
       ordered = known.1;
     }

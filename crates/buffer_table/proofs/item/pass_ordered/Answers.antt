@@ -1,5 +1,5 @@
 -- The item has no byte of those before it.
-use Rattle.std.proofs.Common.{◌≡◌, ◌≤◌, ◌+◌, List, length, sym, subst, arith, ◌∙◌, ap}
+use Rattle.std.proofs.Common.{◌≡◌, ◌≤◌, ◌+◌, List, length, arith, ◌∙◌, ap}
 use Rattle.buffer_table.specs.declared.item.Item.{Item}
 use Rattle.buffer_table.specs.Table.{items_of, item_at}
 use Rattle.buffer_table.proofs.Sounds.{length_items}

@@ -1,8 +1,7 @@
 -- The regions and the buffers before the item are all items before it.
-use Rattle.std.proofs.Common.{◌≡◌, ◌≤◌, min, List, length, take, sym, ap, ◌∙◌, arith}
-use Rattle.std.specs.List.{list_any}
+use Rattle.std.proofs.Common.{◌≡◌, ◌≤◌, min, List, length, sym, ap, ◌∙◌, arith}
 use Rattle.buffer_table.specs.declared.item.Item.{Item}
-use Rattle.buffer_table.specs.Table.{items_of, shares}
+use Rattle.buffer_table.specs.Table.{items_of, shares_with_first}
 use Rattle.buffer_table.proofs.Sounds.{length_items}
 use Rattle.buffer_table.proofs.Taken.{regions_share, buffers_share}
 use Rattle.buffer_table.proofs.item.shares_earlier.Goals as goal
@@ -11,15 +10,15 @@ pub returns-then-shares_with_first : goal.returns-then-shares_with_first
 returns-then-shares_with_first c =
     let items : List Item = items_of c.args.regions.now c.args.buffers.now in
     let inside : c.args.k ≤ length items = omega (arith, length_items c.args.regions.now c.args.buffers.now, c.requires.inside) in
-    let told : list_any (shares c.args.x.now) (take (min c.args.k 2) items) ≡ c.shares_with_first.result =
-    sym (c.shares_with_first.ensures ∙ ap (λ n. list_any (shares c.args.x.now) (take n items)) c.min.ensures) in
+    let told : shares_with_first c.args.x.now items (min c.args.k 2) ≡ c.shares_with_first.result =
+    sym (c.shares_with_first.ensures ∙ ap (λ n. shares_with_first c.args.x.now items n) c.min.ensures) in
     regions_share c.args.k c.args.x.now items inside (told ∙ c.if-shares_with_first.true)
 
 pub returns : goal.returns
 returns c =
     let items : List Item = items_of c.args.regions.now c.args.buffers.now in
     let inside : c.args.k ≤ length items = omega (arith, length_items c.args.regions.now c.args.buffers.now, c.requires.inside) in
-    let told : list_any (shares c.args.x.now) (take (min c.args.k 2) items) ≡ c.shares_with_first.result =
-    sym (c.shares_with_first.ensures ∙ ap (λ n. list_any (shares c.args.x.now) (take n items)) c.min.ensures) in
+    let told : shares_with_first c.args.x.now items (min c.args.k 2) ≡ c.shares_with_first.result =
+    sym (c.shares_with_first.ensures ∙ ap (λ n. shares_with_first c.args.x.now items n) c.min.ensures) in
     buffers_share c.args.order.now c.args.k c.args.x.now items c.shares_ordered.result c.requires.counts inside (told ∙ c.if-shares_with_first.false)
     c.shares_ordered.ensures.taken c.shares_ordered.ensures.free

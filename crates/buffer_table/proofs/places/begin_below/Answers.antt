@@ -1,5 +1,5 @@
 -- The last of them begins below the place, and so do the others.
-use Rattle.std.proofs.Common.{◌<◌, ℕ, List, subst, arith}
+use Rattle.std.proofs.Common.{◌<◌, List, subst, arith}
 use Rattle.std.proofs.lemmas.Bool.{ltb-true}
 use Rattle.buffer_table.specs.declared.item.Item.{Item}
 use Rattle.buffer_table.specs.Table.{items_of}
