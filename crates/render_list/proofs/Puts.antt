@@ -1,53 +1,59 @@
--- Slots that are written behind others.
-use Rattle.std.proofs.Common.{◌≡◌, ℕ, ◌+◌, ◌≤◌, Bool, true, false, ◌||◌, ◌&&◌, List, [], ◌∷◌, ◌++◌, length, Option, Some, None, is_some, refl, sym, ap, subst, arith, ◌∙◌, length-append}
+-- Slots that are written one behind the other.
+use Rattle.std.proofs.Common.{◌≡◌, ℕ, ◌+◌, ◌≤◌, Bool, true, false, ◌||◌, ◌&&◌, List, [], ◌∷◌, ◌++◌, length, Option, Some, None, is_some, refl, sym, ap, subst, ◌∙◌}
 use Rattle.field_words.specs.Writes.{with_bytes}
-use Rattle.field_words.proofs.Writes.{length-with_bytes, with_two}
 use Rattle.packets.specs.declared.packet.Packet.{Packet}
 use Rattle.packets.specs.Packet.{slots_text}
 use Rattle.packets.proofs.Slots.{slots_append}
+use Rattle.packets.proofs.Underway.{IsUnderway, begins, next_room, goes_on, ends}
 use Rattle.packets.specs.declared.packet.Packet.TheVariants.{TileCoordinates}
 use Rattle.job_format.specs.declared.file.Frame.{Frame}
 use Rattle.render_list.specs.Frame.{place_at}
 use Rattle.render_list.specs.Text.{packet_where, full_store_slot, zs_store_slot, color_store_slot, more_after_multisample_color, more_after_multisample_zs, some_before_zs, some_before_color, write_slots, HasRoom, Puts}
 
-length_both : (front rest : List (Option Packet)) → length (slots_text (front ++ rest)) ≡ length (slots_text front) + length (slots_text rest)
-length_both front rest = ap length (slots_append front rest) ∙ length-append (slots_text front) (slots_text rest)
+-- Of a list's slots, which were to stand at a place of the window, these are left to be written.
+pub record IsLeft (window : List ℕ) (at : ℕ) (whole : List (Option Packet)) (out : List ℕ) (here : ℕ) (rest : List (Option Packet)) : Type 0 where
+  pub state : IsUnderway window at (slots_text whole) out here (slots_text rest)
 
--- There is room for the first,
-pub room_front : (front rest whole : List (Option Packet)) (window : List ℕ) (at : ℕ) → whole ≡ front ++ rest → HasRoom window at whole → HasRoom window at front
-room_front front rest whole window at cut room =
-    let long : length (slots_text whole) ≡ length (slots_text (front ++ rest)) = ap (λ s. length (slots_text s)) cut in
-    omega (arith, length_both front rest, long, room)
+pub starts : (window : List ℕ) (at : ℕ) (whole : List (Option Packet)) → HasRoom window at whole → IsLeft window at whole window at whole
+starts window at whole room = record { state = begins window at (slots_text whole) room }
 
--- and behind them for the rest,
-pub room_rest : (front rest whole : List (Option Packet)) (window : List ℕ) (at : ℕ) (between : List ℕ) (middle : ℕ) → whole ≡ front ++ rest → HasRoom window at whole
-    → Puts front window at between middle → HasRoom between middle rest
-room_rest front rest whole window at between middle cut room first =
-    let long : length (slots_text whole) ≡ length (slots_text (front ++ rest)) = ap (λ s. length (slots_text s)) cut in
-    let same : length between ≡ length window = ap length first.text ∙ length-with_bytes window at (slots_text front) (room_front front rest whole window at cut room) in
-    omega (arith, length_both front rest, long, same, first.end_is, room)
+-- There is room for the first of them, behind which the others are left,
+pub front_fits : (front rest : List (Option Packet)) {window : List ℕ} {at : ℕ} {whole : List (Option Packet)} {out : List ℕ} {here : ℕ}
+    → IsLeft window at whole out here (front ++ rest) → HasRoom out here front
+front_fits front rest {window} {at} {whole} {out} {here} left =
+    next_room window at (slots_text whole) out here (slots_text (front ++ rest)) (slots_text front) (slots_text rest) left.state (slots_append front rest)
 
--- and then all are written.
-pub puts_both : (front rest whole : List (Option Packet)) (window : List ℕ) (at : ℕ) (between : List ℕ) (middle : ℕ) (after : List ℕ) (end : ℕ) → whole ≡ front ++ rest
-    → HasRoom window at whole → Puts front window at between middle → Puts rest between middle after end → Puts whole window at after end
-puts_both front rest whole window at between middle after end cut room first second =
-    let text : slots_text whole ≡ slots_text front ++ slots_text rest = ap slots_text cut ∙ slots_append front rest in
-    let fits : at + length (slots_text front ++ slots_text rest) ≤ length window = subst (λ t. at + length t ≤ length window) text room in
-    let long : length (slots_text whole) ≡ length (slots_text front) + length (slots_text rest) = ap length text ∙ length-append (slots_text front) (slots_text rest) in
-    record {
-      text =
-          second.text
-          ∙ ap (λ w. with_bytes w middle (slots_text rest)) first.text
-          ∙ ap (λ m. with_bytes (with_bytes window at (slots_text front)) m (slots_text rest)) first.end_is
-          ∙ sym (with_two window at (slots_text front) (slots_text rest) fits)
-          ∙ ap (λ t. with_bytes window at t) (sym text);
-      end_is = omega (arith, long, first.end_is, second.end_is);
-    }
+pub front_put : (front rest : List (Option Packet)) {window : List ℕ} {at : ℕ} {whole : List (Option Packet)} {out : List ℕ} {here : ℕ} {out2 : List ℕ} {here2 : ℕ}
+    → IsLeft window at whole out here (front ++ rest) → Puts front out here out2 here2 → IsLeft window at whole out2 here2 rest
+front_put front rest {window} {at} {whole} {out} {here} {out2} {here2} left puts = record {
+  state =
+      goes_on window at (slots_text whole) out here (slots_text (front ++ rest)) (slots_text front) (slots_text rest) out2 here2 left.state
+      (slots_append front rest) puts.text puts.end_is;
+}
 
--- what one slot more leaves
-pub puts_slot : (slot : Option Packet) (window : List ℕ) (at : ℕ) (after : List ℕ) (end : ℕ) → after ≡ with_bytes window at (slots_text (slot ∷ [])) → end ≡ at + length (slots_text (slot ∷ []))
-    → Puts (slot ∷ []) window at after end
-puts_slot slot window at after end text end_is = record { text = text; end_is = end_is }
+-- and for the first one, as the code has it;
+pub slot_fits : {window : List ℕ} {at : ℕ} {whole : List (Option Packet)} {out : List ℕ} {here : ℕ} {slot put : Option Packet} {rest : List (Option Packet)}
+    → IsLeft window at whole out here (slot ∷ rest) → put ≡ slot → here + length (slots_text (put ∷ [])) ≤ length out
+slot_fits {out = out} {here = here} {slot = slot} {rest = rest} left same =
+    subst (λ s. here + length (slots_text (s ∷ [])) ≤ length out) (sym same) (front_fits (slot ∷ []) rest left)
+
+pub slot_put : {window : List ℕ} {at : ℕ} {whole : List (Option Packet)} {out : List ℕ} {here : ℕ} {slot put : Option Packet} {rest : List (Option Packet)} {out2 : List ℕ} {here2 : ℕ}
+    → IsLeft window at whole out here (slot ∷ rest) → put ≡ slot → out2 ≡ with_bytes out here (slots_text (put ∷ [])) → here2 ≡ here + length (slots_text (put ∷ []))
+    → IsLeft window at whole out2 here2 rest
+slot_put {out = out} {here = here} {slot = slot} {rest = rest} left same text end = front_put (slot ∷ []) rest left (record {
+  text = text ∙ ap (λ s. with_bytes out here (slots_text (s ∷ []))) same;
+  end_is = end ∙ ap (λ s. here + length (slots_text (s ∷ []))) same;
+})
+
+-- and once these are written, or none is left, all are.
+pub rest_put : {window : List ℕ} {at : ℕ} {whole rest : List (Option Packet)} {out : List ℕ} {here : ℕ} {out2 : List ℕ} {here2 : ℕ}
+    → IsLeft window at whole out here rest → Puts rest out here out2 here2 → Puts whole window at out2 here2
+rest_put left puts = record { text = puts.text ∙ left.state.bytes; end_is = puts.end_is ∙ left.state.place }
+
+pub all_put : {window : List ℕ} {at : ℕ} {whole : List (Option Packet)} {out : List ℕ} {here : ℕ} → IsLeft window at whole out here [] → Puts whole window at out here
+all_put {window} {at} {whole} {out} {here} left =
+    let done = ends window at (slots_text whole) out here [] left.state refl in
+    record { text = done.0; end_is = done.1 }
 
 -- Where nothing is written before colour, the text of a tile's writes is that of its write.
 alone_by : (frame : Frame) (color zs plain last : Option ℕ) (before_zs before_color more_color more_zs : Bool) (x y : ℕ) → ((is_some color || is_some zs) || is_some plain) ≡ false → before_color ≡ false

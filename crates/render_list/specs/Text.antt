@@ -165,13 +165,20 @@ list_slots frame grid slot x y =
     ∷ list_slot grid slot x y
     ∷ []
 
+-- the stores of the two multisample surfaces
+abbrev pub multisample_color_store : Frame → List (Option ℕ) → ℕ → ℕ → Option Packet
+multisample_color_store frame places x y = full_store_slot frame (place_at places multisample_color) without_zs (more_after_multisample_color places) x y
+
+abbrev pub multisample_zs_store : Frame → List (Option ℕ) → ℕ → ℕ → Option Packet
+multisample_zs_store frame places x y = full_store_slot frame (place_at places multisample_zs) without_color (more_after_multisample_zs places) x y
+
 -- Its writes that are present, in the order multisample colour, multisample ZS, ZS, colour. All but the
 -- first have the coordinates before them.
 unfoldable pub write_slots : Frame → List (Option ℕ) → ℕ → ℕ → List (Option Packet)
 write_slots frame places x y =
-    full_store_slot frame (place_at places multisample_color) without_zs (more_after_multisample_color places) x y
+    multisample_color_store frame places x y
     ∷ coordinates_slot places multisample_zs (is_there places multisample_color) x y
-    ∷ full_store_slot frame (place_at places multisample_zs) without_color (more_after_multisample_zs places) x y
+    ∷ multisample_zs_store frame places x y
     ∷ coordinates_slot places zs_write (some_before_zs places) x y
     ∷ zs_store_slot frame (place_at places zs_write) (is_there places color_write) x y
     ∷ coordinates_slot places color_write (some_before_color places) x y

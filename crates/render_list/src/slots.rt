@@ -5,7 +5,7 @@ ghost use Rattle.buffer_table.specs.Table.{most_place};
 ghost use Rattle.tile_memory.specs.Slots.{alloc_offset};
 ghost use Rattle.render_list.specs.Frame.{place_at, FitsAt, TileFits, full_place};
 ghost use Rattle.packets.specs.declared.packet.Packet.TheVariants.{TileCoordinates};
-ghost use Rattle.render_list.specs.Text.{number_where, packet_where, head_packet, clear_packet, clear_slots, load_packet, load_slot, wait_slot, list_place, list_slot, full_store, full_store_slot, zs_store, zs_store_slot, color_store, color_store_slot, is_there, more_after_multisample_zs, more_after_multisample_color, some_before_zs, some_before_color, coordinates_slot, idle_store};
+ghost use Rattle.render_list.specs.Text.{number_where, packet_where, head_packet, clear_packet, clear_slots, load_packet, load_slot, wait_slot, list_place, list_slot, full_store, full_store_slot, multisample_color_store, multisample_zs_store, zs_store, zs_store_slot, color_store, color_store_slot, is_there, more_after_multisample_zs, more_after_multisample_color, some_before_zs, some_before_color, coordinates_slot, idle_store};
 
 use crate::frame::{
     COLOR_READ, COLOR_WRITE, MULTISAMPLE_COLOR, MULTISAMPLE_ZS, ZS_READ, ZS_WRITE, full_place,
@@ -348,7 +348,7 @@ pub fn idle_store() -> Packet
 #[inline(always)]
 pub fn multisample_color(frame: &Frame, setup: &Setup, tile: Tile) -> Option<Packet>
     requires { TileFits frame.now setup.now.places tile.x tile.y }
-    ensures { result ≡ full_store_slot frame.now (place_at setup.now.places 4) 2 (more_after_multisample_color setup.now.places) tile.x tile.y }
+    ensures { result ≡ multisample_color_store frame.now setup.now.places tile.x tile.y }
 {
     let more = more_after_multisample_color(setup);
     let place = setup.place_of(MULTISAMPLE_COLOR);
@@ -359,7 +359,7 @@ pub fn multisample_color(frame: &Frame, setup: &Setup, tile: Tile) -> Option<Pac
 #[inline(always)]
 pub fn multisample_zs(frame: &Frame, setup: &Setup, tile: Tile) -> Option<Packet>
     requires { TileFits frame.now setup.now.places tile.x tile.y }
-    ensures { result ≡ full_store_slot frame.now (place_at setup.now.places 5) 1 (more_after_multisample_zs setup.now.places) tile.x tile.y }
+    ensures { result ≡ multisample_zs_store frame.now setup.now.places tile.x tile.y }
 {
     let more = more_after_multisample_zs(setup);
     let place = setup.place_of(MULTISAMPLE_ZS);

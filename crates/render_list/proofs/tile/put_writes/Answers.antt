@@ -1,7 +1,6 @@
 -- Where nothing is written before colour, its write is all.
-use Rattle.std.proofs.Common.{◌≡◌, ◌+◌, ◌≤◌, ℕ, List, [], ◌∷◌, length, Option, sym, ap, subst, ◌∙◌}
+use Rattle.std.proofs.Common.{◌≡◌, ◌+◌, ◌≤◌, [], ◌∷◌, length, sym, ap, subst, ◌∙◌}
 use Rattle.field_words.specs.Writes.{with_bytes}
-use Rattle.packets.specs.declared.packet.Packet.{Packet}
 use Rattle.packets.specs.Packet.{slots_text}
 use Rattle.render_list.specs.Text.{write_slots}
 use Rattle.render_list.proofs.Puts.{color_alone}
