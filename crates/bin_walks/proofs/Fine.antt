@@ -8,11 +8,11 @@ use Rattle.field_words.proofs.Questions.{none_stands}
 use Rattle.buffer_table.specs.Handles.{IsData, data_of}
 use Rattle.buffer_table.proofs.Named.{data_named}
 use Rattle.field_words.proofs.Nones.{front_none, rest_none}
-use Rattle.packets.specs.Opcode.{flush, indexed_primitive_list, array_primitive_list, gl_shader_state, tile_binning_mode}
+use Rattle.packets.specs.Opcode.{flush, indexed_primitive_list, array_primitive_list, tile_binning_mode}
 use Rattle.packets.specs.Length.{bin_length, bin_taken}
 use Rattle.bin_list.specs.declared.seen.Seen.{Seen}
 use Rattle.bin_list.specs.Packets.{opcode}
-use Rattle.bin_list.specs.Rules.{GivenModel, cut_questions, kind_questions, flush_questions, primitive_questions, index_buffer, index_size, indexes_end, index_questions, array_questions, state_questions, config_questions, packet_questions}
+use Rattle.bin_list.specs.Rules.{GivenModel, cut_questions, kind_questions, flush_questions, primitive_questions, index_buffer, index_size, indexes_end, index_questions, array_questions, config_questions, packet_questions}
 use Rattle.bin_list.proofs.Facts.{kind_none, kind_config}
 
 pub cut_fine : (given : GivenModel) (seen : Seen) (p : List ℕ) → first_of (packet_questions given seen p) ≡ None
@@ -50,17 +50,6 @@ flush_fine given seen p none is =
     let asked = none_stands (flush_questions given seen) (sym (ap first_of (kind_flush given seen p is)) ∙ kind_none given seen p none) in
     let b : (seen.at + 1 == given.size) ≡ true = grind (arith, asked.0) in
     eqb-true (seen.at + 1) given.size b
-
-kind_state : (given : GivenModel) (seen : Seen) (p : List ℕ) → opcode p ≡ gl_shader_state → kind_questions given seen p ≡ state_questions given seen p
-unfolding kind_questions
-kind_state given seen p is = rw is refl
-
--- a shader state is one of those that the job declares
-pub state_fine : (given : GivenModel) (seen : Seen) (p : List ℕ) → first_of (packet_questions given seen p) ≡ None → opcode p ≡ gl_shader_state → seen.states < given.declared
-unfolding state_questions
-state_fine given seen p none is =
-    let asked = none_stands (state_questions given seen p) (sym (ap first_of (kind_state given seen p is)) ∙ kind_none given seen p none) in
-    grind (arith, asked.0)
 
 pub record IsPrimitiveFine (seen : Seen) : Type 0 where
   pub states : 1 ≤ seen.states

@@ -23,7 +23,7 @@ use Rattle.bin_list.specs.Rules.{GivenModel, index_buffer, index_size, packet_qu
 use Rattle.bin_list.specs.Fine.{IsLow}
 use Rattle.bin_list.specs.States.{draws_to, greatest, state, states_of}
 use Rattle.bin_list.specs.Emitted.{index_text, state_text, config_text, packet_text, texts}
-use Rattle.bin_list.proofs.Facts.{onto_none, packet_none, start_fine, config_fine}
+use Rattle.bin_list.proofs.Facts.{onto_none, packet_none, start_fine, config_fine, state_fine}
 use Rattle.std.proofs.lemmas.List.{places}
 use Rattle.bin_list.proofs.Walk.{front_some, taken_some}
 use Rattle.packets.specs.declared.config.Config.{Config}
@@ -31,7 +31,7 @@ use Rattle.packets.specs.Config.{config_in}
 use Rattle.bin_walks.specs.Walks.{Kept, kept_after, Drawing, Tame, Walks}
 use Rattle.bin_walks.specs.Emission.{emission, config_of}
 use Rattle.bin_walks.specs.Draws.{IsStateAt, IsDrawn}
-use Rattle.bin_walks.proofs.Fine.{cut_fine, taken_is, flush_fine, indexed_fine, array_fine, config_first, state_fine}
+use Rattle.bin_walks.proofs.Fine.{cut_fine, taken_is, flush_fine, indexed_fine, array_fine, config_first}
 use Rattle.bin_walks.proofs.Texts.{addressed, state_opcode, state_long, state_word, config_opcode, config_long, config_read}
 
 -- The emitted list is its packets joined.
@@ -443,7 +443,7 @@ state_fits : (given : GivenModel) (layout : Layout) (config : Config) (earlier l
 unfolding seen_before
 state_fits given layout config earlier later p known none is =
     let bound = records_bounded earlier in
-    let declared : states_in earlier < given.declared = state_fine given (seen_before earlier) p none is in
+    let declared : states_in earlier < given.declared = (state_fine given (seen_before earlier) p none is).0 in
     let few = known.premises.few in
     let a = known.premises.low.place in
     let b = known.premises.low.records in

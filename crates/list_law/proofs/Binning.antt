@@ -163,25 +163,25 @@ way_behind r K O c place end kept after packet packets ends walks stands reads i
 }
 
 -- The packet plan from each test on.
-abbrev plan_flush : Lists → List ℕ → Plan Lists
+abbrev pub plan_flush : Lists → List ℕ → Plan Lists
 plan_flush s p = if slice_index p 0 == flush then Done (flushed s) else Done s
 
-abbrev plan_raise : Lists → List ℕ → Plan Lists
+abbrev pub plan_raise : Lists → List ℕ → Plan Lists
 plan_raise s p = if slice_index p 0 == increment_semaphore then Done (incremented s) else plan_flush s p
 
-abbrev plan_draw : Lists → List ℕ → Plan Lists
+abbrev pub plan_draw : Lists → List ℕ → Plan Lists
 plan_draw s p = if slice_index p 0 == indexed_primitive_list || slice_index p 0 == array_primitive_list then draw_plan s p else plan_raise s p
 
-abbrev plan_word : Lists → List ℕ → Plan Lists
+abbrev pub plan_word : Lists → List ℕ → Plan Lists
 plan_word s p = if slice_index p 0 == gl_shader_state then Done (with_word s p) else plan_draw s p
 
-abbrev plan_start : Lists → List ℕ → Plan Lists
+abbrev pub plan_start : Lists → List ℕ → Plan Lists
 plan_start s p = if slice_index p 0 == start_tile_binning then begin_plan s s.binner.kept.config else plan_word s p
 
-abbrev plan_config : Lists → List ℕ → Plan Lists
+abbrev pub plan_config : Lists → List ℕ → Plan Lists
 plan_config s p = if slice_index p 0 == tile_binning_mode then Done (configured s p) else plan_start s p
 
-abbrev plan_halt : Lists → List ℕ → Plan Lists
+abbrev pub plan_halt : Lists → List ℕ → Plan Lists
 plan_halt s p = if slice_index p 0 == halt then Done (halted s) else plan_config s p
 
 -- a start clears the states of all tiles
@@ -300,7 +300,7 @@ ready_item true more start item off all ready = absurd cc
 ready_item false true start item off all ready = absurd cc
 ready_item false false start item off all ready = ready
 
-tile_below : (c : Config) (words : List ℕ) → (chosen_tile c words == tiles_of c) ≡ false → chosen_tile c words < tiles_of c
+pub tile_below : (c : Config) (words : List ℕ) → (chosen_tile c words == tiles_of c) ≡ false → chosen_tile c words < tiles_of c
 unfolding chosen_tile
 tile_below c words off =
     let low : chosen_tile c words < tiles_of c + 1 = mod-lt (word_at words 0) (omega arith) in

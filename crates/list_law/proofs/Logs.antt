@@ -28,7 +28,7 @@ pub same : (a b : ℕ) → (a == b) ≡ true → a ≡ b
 same a b h = grind (arith, common_steps, nat_tests, h)
 
 -- what a tile's list has, with one item more
-spot_last : (tile : ℕ) (spot : Spot) (items : List Item) (item : Item) → spot_in tile spot (items ++ item ∷ []) ≡ spotted tile (spot_in tile spot items) item
+pub spot_last : (tile : ℕ) (spot : Spot) (items : List Item) (item : Item) → spot_in tile spot (items ++ item ∷ []) ≡ spotted tile (spot_in tile spot items) item
 spot_last tile spot [] item = refl
 spot_last tile spot (one ∷ items) item = spot_last tile (spotted tile spot one) items item
 

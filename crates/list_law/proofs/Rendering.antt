@@ -330,10 +330,6 @@ idle : (waiting : Option Load) → option_map load_packet waiting ≡ None → w
 idle None e = refl
 idle (Some load) e = absurd cc
 
--- the tile whose list begins at the address
-offset_is : (base tile : ℕ) → base + 32 * tile - base ≡ 32 * tile
-offset_is base tile = omega arith
-
 tile_is : (c : Config) (address tile : ℕ) → address ≡ c.address + 32 * tile → tile < tiles_of c → tile_named c address ≡ Some tile
 unfolding tile_named
 tile_is c address tile is below =
