@@ -66,7 +66,7 @@ draws_short rights plains first w j word packet draws = record {
 }
 
 -- packets that walk are whole
-walks_whole : (c : Config) (R : ℕ → List ℕ → Type 0) (kept : Kept) (packets : List (List ℕ)) → Walks c R kept packets → AllWhole packets
+pub walks_whole : (c : Config) (R : ℕ → List ℕ → Type 0) (kept : Kept) (packets : List (List ℕ)) → Walks c R kept packets → AllWhole packets
 walks_whole c R kept [] walks = tt
 walks_whole c R kept (packet ∷ packets) walks = (record { whole = walks.0.whole; known = walks.0.known }, walks_whole c R (kept_after kept packet) packets walks.1)
 

@@ -5,7 +5,7 @@ use Rattle.std.proofs.lemmas.Grind.{common_steps}
 use Rattle.std.proofs.lemmas.Bool.{and_parts}
 use Rattle.std.proofs.lemmas.Bool.Decides.{nat_tests}
 use Rattle.std.proofs.lemmas.List.{length-append}
-use Rattle.std.proofs.Math.Nat.{mod-lt, mul-le-mul_left}
+use Rattle.std.proofs.Math.Nat.{mul-le-mul_left}
 use Rattle.field_words.specs.Pieces.{joined as joined_bytes}
 use Rattle.packets.specs.declared.config.Config.{Config}
 use Rattle.packets.specs.Length.{bin_length, bin_taken}
@@ -14,10 +14,9 @@ use Rattle.bin_list.specs.Packets.{opcode}
 use Rattle.machine_plan.specs.declared.who.Who.{Who}
 use Rattle.machine_plan.specs.declared.launch.Free.{Free}
 use Rattle.machine_plan.specs.declared.launch.Launch.{Launch}
-use Rattle.machine_plan.specs.Choice.{word_at}
 use Rattle.machine_plan.specs.Glance.{glanced}
 use Rattle.machine_plan.specs.Memory.{bytes_at, stored}
-use Rattle.machine_plan.specs.Plan.{Plan, Done, Wilds, Writes}
+use Rattle.machine_plan.specs.Plan.{Done, Wilds, Writes}
 use Rattle.machine_plan.specs.World.{mapped}
 use Rattle.machine_plan.proofs.Plans.{keeps_weaker}
 use Rattle.machine_plan.proofs.Worlds.{keeps_mapped}
@@ -33,9 +32,9 @@ use Rattle.list_machine.specs.Start.{start_plan, can_start}
 use Rattle.list_machine.specs.Binner.{configured, with_word, started, clear_plan, begin_plan, work_of, drawn, draw_plan, halted, is_unknown, packet_plan, read_plan, is_due, one_done, fetched_with, not_due, started_with, chosen_tile, tile_plan, item_plan, work_plan, binner_by, binner_plan, item_may, work_may, binner_may, binner_ready}
 use Rattle.packets.specs.Config.{config_in}
 use Rattle.list_law.specs.Binning.{IsOnly}
-use Rattle.list_law.proofs.Binning.{read_keeps, taken_is, ready_item}
+use Rattle.list_law.proofs.Binning.{read_keeps, taken_is, ready_item, plan_flush, plan_raise, plan_draw, plan_word, plan_start, plan_config, plan_halt, tile_below}
 use Rattle.list_law.proofs.Bytes.{none_left, bytes_front, bytes_behind, byte_front, behind_ends}
-use Rattle.list_law.proofs.Logs.{not_same, same}
+use Rattle.list_law.proofs.Logs.{same}
 use Rattle.list_law.proofs.Safe.{keeps_if}
 use Rattle.ends_law.specs.Left.{visits, AllWhole, ListsLeft, JobLeft}
 use Rattle.ends_law.specs.Room.{items_within, room_in, room_of, room_by, Counted}
@@ -129,34 +128,17 @@ draw_steps w word packet on =
     let is : (if draws packet then work_steps w (work_of 0 packet) else 0) ≡ work_steps w (work_of word packet) = ap (λ b. if b then work_steps w (work_of 0 packet) else 0) on in
     omega (arith, is)
 
-drawn_goes : (who : Who) (P : Lists → Type 0) (s : Lists) (packet m : List ℕ) (on : Bool) (kept : Option ℕ) → ((word : ℕ) → P (with_work s (Some (work_of word packet)))) → Comes who P (if on then drawn s kept packet else Wilds) m
+pub drawn_goes : (who : Who) (P : Lists → Type 0) (s : Lists) (packet m : List ℕ) (on : Bool) (kept : Option ℕ) → ((word : ℕ) → P (with_work s (Some (work_of word packet)))) → Comes who P (if on then drawn s kept packet else Wilds) m
 drawn_goes who P s packet m false kept draw = tt
 drawn_goes who P s packet m true None draw = tt
 drawn_goes who P s packet m true (Some word) draw = draw word
 
-begin_goes : (who : Who) (P : Lists → Type 0) (s : Lists) (m : List ℕ) (config : Option Config) → P (started s) → Comes who P (begin_plan s config) m
+pub begin_goes : (who : Who) (P : Lists → Type 0) (s : Lists) (m : List ℕ) (config : Option Config) → P (started s) → Comes who P (begin_plan s config) m
 unfolding clear_plan
 begin_goes who P s m None here = tt
 begin_goes who P s m (Some c) here = (tt, here)
 
 -- What a packet says, by what it leaves: the same work behind it, another primitive in work, or the list's end.
-abbrev plan_draw : Lists → List ℕ → Plan Lists
-plan_draw s p =
-    if slice_index p 0 == indexed_primitive_list || slice_index p 0 == array_primitive_list then draw_plan s p
-    else (if slice_index p 0 == increment_semaphore then Done (incremented s) else (if slice_index p 0 == flush then Done (flushed s) else Done s))
-
-abbrev plan_word : Lists → List ℕ → Plan Lists
-plan_word s p = if slice_index p 0 == gl_shader_state then Done (with_word s p) else plan_draw s p
-
-abbrev plan_start : Lists → List ℕ → Plan Lists
-plan_start s p = if slice_index p 0 == start_tile_binning then begin_plan s s.binner.kept.config else plan_word s p
-
-abbrev plan_config : Lists → List ℕ → Plan Lists
-plan_config s p = if slice_index p 0 == tile_binning_mode then Done (configured s p) else plan_start s p
-
-abbrev plan_halt : Lists → List ℕ → Plan Lists
-plan_halt s p = if slice_index p 0 == halt then Done (halted s) else plan_config s p
-
 packet_goes : (who : Who) (K : List ℕ → Type 0) (c : Config) (w d n : ℕ) (s : Lists) (packet m : List ℕ)
     → (left : JobLeft K c w d n (past s (length packet))) → (draws packet ≡ true → (word : ℕ) → JobLeft K c w d n (with_work (past s (length packet)) (Some (work_of word packet))))
     → ((opcode packet == tile_binning_mode) ≡ true → JobLeft K c w d n (configured (past s (length packet)) packet))
@@ -174,9 +156,9 @@ packet_goes who K c w d n s packet m left draw config end =
     (λ no_config. keeps_if who L G P m (o == start_tile_binning) (begin_plan after after.binner.kept.config) (plan_word after packet)
     (λ on. begin_goes who (JobLeft K c w d n) after m after.binner.kept.config left)
     (λ no_start. keeps_if who L G P m (o == gl_shader_state) (Done (with_word after packet)) (plan_draw after packet) (λ on. left)
-    (λ no_word. keeps_if who L G P m (o == indexed_primitive_list || o == array_primitive_list) (draw_plan after packet) (if o == increment_semaphore then Done (incremented after) else (if o == flush then Done (flushed after) else Done after))
+    (λ no_word. keeps_if who L G P m (o == indexed_primitive_list || o == array_primitive_list) (draw_plan after packet) (plan_raise after packet)
     (λ on. drawn_goes who (JobLeft K c w d n) after packet m after.binner.kept.started after.binner.kept.word (draw on))
-    (λ no_draw. keeps_if who L G P m (o == increment_semaphore) (Done (incremented after)) (if o == flush then Done (flushed after) else Done after) (λ on. left)
+    (λ no_draw. keeps_if who L G P m (o == increment_semaphore) (Done (incremented after)) (plan_flush after packet) (λ on. left)
     (λ no_raise. keeps_if who L G P m (o == flush) (Done (flushed after)) (Done after) (λ on. left) (λ off. left))))))))
 
 -- Where its list isn't at its end, some step is left.
@@ -347,13 +329,6 @@ may_parts s c may =
 few_items : (s : Lists) (c : Config) (config : Option Config) (most : ℕ) → IsOnly c config → Counted c s.blocks s.items → room_by config ≤ most → item_may s config ≡ true → length s.items < most
 few_items s c None most only counted room may = absurd cc
 few_items s c (Some kept) most only counted room may = let parts = may_parts s kept may in few_within c kept s.blocks most s.items only counted room parts.0 parts.1
-
-tile_below : (c : Config) (words : List ℕ) → (chosen_tile c words == tiles_of c) ≡ false → chosen_tile c words < tiles_of c
-unfolding chosen_tile
-tile_below c words off =
-    let low : chosen_tile c words < tiles_of c + 1 = mod-lt (word_at words 0) (omega arith) in
-    let differs = not_same (chosen_tile c words) (tiles_of c) off in
-    omega (arith, low, differs)
 
 item_goes : (who : Who) (P : Lists → Type 0) (s : Lists) (c : Config) (config : Option Config) (k : Work) (words m : List ℕ) → IsOnly c config → item_may s config ≡ true → P (with_work s None)
     → ((item : Item) → item.tile < tiles_of c → is_full (spot_of item.tile s.items) ≡ false → P (with_item s item)) → ((item : Item) → item.tile < tiles_of c → P (with_item (with_block s) item))

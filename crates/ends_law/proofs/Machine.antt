@@ -1,5 +1,5 @@
 -- One step of the machine leaves less, whichever unit steps.
-use Rattle.std.proofs.Common.{◌≡◌, ◌≤◌, ℕ, ◌+◌, ◌-◌, ◌*◌, Bool, true, false, IsTrue, if◌then◌else◌, List, Option, Some, None, IfSome, refl, subst, arith}
+use Rattle.std.proofs.Common.{◌≡◌, ◌≤◌, ℕ, ◌+◌, ◌-◌, ◌*◌, true, IsTrue, if◌then◌else◌, List, Option, Some, None, IfSome, refl, subst, arith}
 use Rattle.std.proofs.lemmas.Bool.{false≢true}
 use Rattle.std.specs.Prelude.{is_some, nat_lt}
 use Rattle.field_words.specs.declared.access.Actor.{Actor}
@@ -7,7 +7,7 @@ use Rattle.field_words.specs.declared.access.Actor.TheVariants.{Binner as TheBin
 use Rattle.machine_plan.specs.declared.launch.Free.{Free}
 use Rattle.machine_plan.specs.declared.launch.Launch.{Launch}
 use Rattle.machine_plan.specs.declared.who.Who.{Who}
-use Rattle.machine_plan.specs.Glance.{Glance, Now, glanced}
+use Rattle.machine_plan.specs.Glance.{glanced}
 use Rattle.machine_plan.specs.Plan.{Plan, Keeps}
 use Rattle.machine_plan.specs.Regions.{Inside, Rights, rights_of, IsSafeAccess, IsSafeIn, HasReadOnly}
 use Rattle.machine_plan.specs.World.{mapped}
@@ -28,7 +28,8 @@ use Rattle.qpu_machine.specs.Step.{ThreadTurn, thread_plan}
 use Rattle.machine.specs.State.{Units, Picked, item_at, put_at, binner_job, renderer_job}
 use Rattle.machine.specs.Step.{with_launch, with_lists, with_qpu, is_ahead, binner_may, renderer_may, qpu_may, tmu_may, binner_turn, renderer_turn, qpu_turn, tmu_turn, unit_ready, unit_turn, ready, turn}
 use Rattle.machine_law.specs.Laws.{AreFine}
-use Rattle.machine_law.proofs.Owes.{units_owe_law}
+use Rattle.machine_law.proofs.Owes.{units_owe_law, not_held}
+use Rattle.machine_law.proofs.Sound.{there_on}
 use Rattle.ends_law.specs.Left.{EachWithin, LaunchShort, QpuLeft, JobEnds, UnitsLeft, StepLess, StepsLess}
 use Rattle.ends_law.specs.Stays.{stays, renderer_stays, unit_stays}
 use Rattle.ends_law.specs.Steps.{one_if}
@@ -56,7 +57,7 @@ job_turned rights K w j n stay s turned ends fine less = record {
 }
 
 -- what is kept along a plan, and what it comes to, make what it comes to
-comes_by : {R : Type 0} (who : Who) (L : ℕ → ℕ → Type 0) (r : Rights) (P Q S : R → Type 0) → ((one : R) → P one → Q one → S one) → (plan : Plan R) (m : List ℕ)
+pub comes_by : {R : Type 0} (who : Who) (L : ℕ → ℕ → Type 0) (r : Rights) (P Q S : R → Type 0) → ((one : R) → P one → Q one → S one) → (plan : Plan R) (m : List ℕ)
     → Keeps who L (IsSafeIn r) (λ k one. P one) plan m → Comes who Q plan m → Comes who S plan m
 comes_by who L r P Q S joins plan m keeps comes =
     keeps_weaker who L AnyLook (IsSafeIn r) AnyAccess (λ k one. P one × Q one) (λ k one. S one) (λ p n lies. tt) (λ a safe. tt) (λ k one both. joins one both.0 both.1) plan m
@@ -127,18 +128,10 @@ qpu_turned rights K w n k u q next left hole less =
     }
 
 -- The units' turns.
-comes_mapped : {R : Type 0} (who : Who) (put : R → Units) (P : R → Type 0) (Q : Units → Type 0) → ((one : R) → P one → Q (put one)) → (plan : Plan R) (m : List ℕ) → Comes who P plan m → Comes who Q (mapped put plan) m
+pub comes_mapped : {R : Type 0} (who : Who) (put : R → Units) (P : R → Type 0) (Q : Units → Type 0) → ((one : R) → P one → Q (put one)) → (plan : Plan R) (m : List ℕ) → Comes who P plan m → Comes who Q (mapped put plan) m
 comes_mapped who put P Q puts plan m comes =
     keeps_mapped put who AnyLook AnyAccess (λ k next. Q next) plan m
     (keeps_weaker who AnyLook AnyLook AnyAccess AnyAccess (λ k one. P one) (λ k one. Q (put one)) (λ p n h. h) (λ a h. h) (λ k one known. puts one known) plan m comes)
-
-not_held : (held : Bool) (glance : Glance Bool) (m : List ℕ) → IsTrue (glanced (if held then Now false else glance) m) → glanced glance m ≡ true
-not_held true glance m on = absurd (false≢true on)
-not_held false glance m on = on
-
-there_on : (there : Bool) (glance : Glance Bool) (m : List ℕ) → IsTrue (glanced (if there then glance else Now false) m) → glanced glance m ≡ true
-there_on true glance m on = on
-there_on false glance m on = absurd (false≢true on)
 
 binner_less : (rights : List Rights) (K : List ℕ → Type 0) (w n : ℕ) (u : Units) (found : Option (Picked Lists)) (words m : List ℕ) → K m → (left : UnitsLeft rights K w n u) → IfSome found (PickedHole (JobEnds rights K w) 0 left.of_jobs u.jobs)
     → IsTrue (glanced (binner_may u found) m) → Comes (binner_turn u found words).who (StepLess rights K w n 0) (binner_turn u found words).plan m

@@ -63,12 +63,12 @@ unfolding cover_read
 cover_loaded who P None s m here = tt
 cover_loaded who P (Some cover) s m here = read_keep who AnyLook AnyAccess (λ k next. P next) cover s 0 (part_count cover) m (λ k low high. tt) here
 
-frame_stored : (who : Who) (P : Lists → Type 0) (frame : Option Frame) (x y : ℕ) (words : List ℕ) (s : Lists) (m : List ℕ) → P s → Comes who P (frame_written frame x y words (Done s)) m
+pub frame_stored : (who : Who) (P : Lists → Type 0) (frame : Option Frame) (x y : ℕ) (words : List ℕ) (s : Lists) (m : List ℕ) → P s → Comes who P (frame_written frame x y words (Done s)) m
 unfolding frame_written
 frame_stored who P None x y words s m here = tt
 frame_stored who P (Some frame) x y words s m here = cover_stored who P (cover_for (frame_style frame.bits) (Some frame) frame.address x y) words s m here
 
-general_stored : (who : Who) (P : Lists → Type 0) (bits address : ℕ) (frame : Option Frame) (x y : ℕ) (words : List ℕ) (s : Lists) (m : List ℕ) → P s → Comes who P (general_written bits address frame x y words (Done s)) m
+pub general_stored : (who : Who) (P : Lists → Type 0) (bits address : ℕ) (frame : Option Frame) (x y : ℕ) (words : List ℕ) (s : Lists) (m : List ℕ) → P s → Comes who P (general_written bits address frame x y words (Done s)) m
 unfolding general_written
 general_stored who P bits address frame x y words s m here =
     let cover = cover_for (general_style bits) frame (aligned address) x y in
@@ -80,13 +80,13 @@ general_loaded who P bits address frame x y s m here =
     let cover = cover_for (general_style bits) frame (aligned address) x y in
     keeps_if who AnyLook AnyAccess (λ k next. P next) m (names_none bits) (Done s) (cover_read cover (Done s)) (λ on. here) (λ off. cover_loaded who P cover s m here)
 
-waiting_loaded : (who : Who) (P : Lists → Type 0) (waiting : Option Load) (frame : Option Frame) (x y : ℕ) (s : Lists) (m : List ℕ) → P s → Comes who P (waiting_read waiting frame x y (Done s)) m
+pub waiting_loaded : (who : Who) (P : Lists → Type 0) (waiting : Option Load) (frame : Option Frame) (x y : ℕ) (s : Lists) (m : List ℕ) → P s → Comes who P (waiting_read waiting frame x y (Done s)) m
 unfolding whole_read
 waiting_loaded who P None frame x y s m here = here
 waiting_loaded who P (Some (Full address)) frame x y s m here = (tt, here)
 waiting_loaded who P (Some (General bits address)) frame x y s m here = general_loaded who P bits address frame x y s m here
 
-wait_goes : (who : Who) (P : Lists → Type 0) (s : Lists) (waiting : Option Load) (load : Load) (m : List ℕ) → P (with_load s load) → Comes who P (wait_plan s waiting load) m
+pub wait_goes : (who : Who) (P : Lists → Type 0) (s : Lists) (waiting : Option Load) (load : Load) (m : List ℕ) → P (with_load s load) → Comes who P (wait_plan s waiting load) m
 wait_goes who P s None load m here = here
 wait_goes who P s (Some other) load m here = tt
 

@@ -8,15 +8,11 @@ use Rattle.std.proofs.lemmas.List.{length-append}
 use Rattle.packets.specs.declared.config.Config.{Config}
 use Rattle.list_machine.specs.declared.state.Item.{Item}
 use Rattle.list_machine.specs.declared.state.Spot.{Spot}
-use Rattle.list_machine.specs.Blocks.{tiles_of, further_offset, has_room, no_spot, one_more, spotted, spot_in, spot_of, is_full}
+use Rattle.list_machine.specs.Blocks.{tiles_of, further_offset, has_room, no_spot, one_more, spot_of, is_full}
 use Rattle.list_machine.specs.Lists.{most_items}
 use Rattle.list_law.specs.Binning.{IsOnly, NotYet, Only}
+use Rattle.list_law.proofs.Logs.{spot_last}
 use Rattle.ends_law.specs.Room.{items_within, on_tiles, further_of, Counted}
-
--- A tile has one item more where it is put there.
-spot_last : (tile : ℕ) (spot : Spot) (items : List Item) (item : Item) → spot_in tile spot (items ++ item ∷ []) ≡ spotted tile (spot_in tile spot items) item
-spot_last tile spot [] item = refl
-spot_last tile spot (one ∷ items) item = spot_last tile (spotted tile spot one) items item
 
 count_by : (tile : ℕ) (items : List Item) (item : Item) (b : Bool) → (item.tile == tile) ≡ b → (spot_of tile (items ++ item ∷ [])).count ≡ (if b then one_more (spot_of tile items) item.place else spot_of tile items).count
 count_by tile items item b is =

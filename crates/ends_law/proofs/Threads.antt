@@ -34,15 +34,15 @@ use Rattle.ends_law.specs.Steps.{one_if}
 use Rattle.ends_law.proofs.Plans.{AnyLook, AnyAccess, Comes}
 
 -- a branch that doesn't lead back
-not_back : (branch back : Bool) → (branch && back) ≡ false → branch ≡ true → back ≡ false
-not_back true back off on = off
-not_back false back off on = absurd cc
+pub not_both : (branch back : Bool) → (branch && back) ≡ false → branch ≡ true → back ≡ false
+not_both true back off on = off
+not_both false back off on = absurd cc
 
 leads_on : (code : List ℕ) (b : ℕ) → has_loop code ≡ false → b < end_of code → is_branch (word code b) ≡ true → b + 4 ≤ target_of (word code b) b
 unfolding has_loop goes_back
 leads_on code b none below branch =
     let off : (is_branch (word code b) && nat_lt (target_of (word code b) b) (b + 4)) ≡ false = some_below_not (end_of code) b (λ i. goes_back code i) none below in
-    let on : nat_lt (target_of (word code b) b) (b + 4) ≡ false = not_back (is_branch (word code b)) (nat_lt (target_of (word code b) b) (b + 4)) off branch in
+    let on : nat_lt (target_of (word code b) b) (b + 4) ≡ false = not_both (is_branch (word code b)) (nat_lt (target_of (word code b) b) (b + 4)) off branch in
     grind (arith, common_steps, nat_tests, on)
 
 jump_on : (code : List ℕ) (n to : ℕ) → has_loop code ≡ false → n ≤ end_of code + 2 → Jumps code n to → n + 1 ≤ to

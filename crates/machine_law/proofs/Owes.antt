@@ -279,7 +279,7 @@ qpu_fine : (f : Facts) (u : Units) (k : ℕ) (q : Qpu) → UnitsFine f u → Qpu
 qpu_fine f u k q fine known = record { jobs = fine.jobs; qpus = put_every (QpuFine f) u.qpus k q known fine.qpus }
 
 -- a list unit that isn't held is ready
-not_held : (held : Bool) (glance : Glance Bool) (m : List ℕ) → IsTrue (glanced (if held then Now false else glance) m) → glanced glance m ≡ true
+pub not_held : (held : Bool) (glance : Glance Bool) (m : List ℕ) → IsTrue (glanced (if held then Now false else glance) m) → glanced glance m ≡ true
 not_held true glance m on = absurd (false≢true on)
 not_held false glance m on = on
 

@@ -45,7 +45,7 @@ request_reads rights plains first u k n q (Some request) words m asked on =
       reads = keeps_accesses who L G (λ i next. i ≡ m) (mapped (with_qpu u k) (mapped (served q n request) plan)) m (keeps_mapped (with_qpu u k) who L G (λ i next. i ≡ m) (mapped (served q n request) plan) m serves);
     }
 
-there_on : (there : Bool) (glance : Glance Bool) (m : List ℕ) → IsTrue (glanced (if there then glance else Now false) m) → glanced glance m ≡ true
+pub there_on : (there : Bool) (glance : Glance Bool) (m : List ℕ) → IsTrue (glanced (if there then glance else Now false) m) → glanced glance m ≡ true
 there_on true glance m on = on
 there_on false glance m on = absurd (false≢true on)
 

@@ -24,11 +24,12 @@ use Rattle.list_machine.specs.Lists.{Lists, Turned, quiet, past, incremented, fl
 use Rattle.list_machine.specs.Blocks.{tiles_of, spot_of, item_of, zeros, is_full, block_place, next_place, link_place, put_here, put_plan}
 use Rattle.list_machine.specs.Fetch.{fetch_plan}
 use Rattle.list_machine.specs.Start.{start_plan}
-use Rattle.list_machine.specs.Binner.{configured, with_word, started, clear_plan, begin_plan, work_of, drawn, draw_plan, halted, is_unknown, packet_plan, read_plan, fetched_with, started_with, chosen_tile, tile_plan, item_plan, work_plan, binner_by, binner_plan, binner_may, binner_ready}
-use Rattle.list_law.proofs.Binning.{read_keeps, taken_is}
+use Rattle.list_machine.specs.Binner.{configured, with_word, started, begin_plan, draw_plan, halted, is_unknown, packet_plan, read_plan, fetched_with, started_with, chosen_tile, tile_plan, item_plan, work_plan, binner_by, binner_plan, binner_may, binner_ready}
+use Rattle.list_law.proofs.Binning.{read_keeps, taken_is, plan_flush, plan_raise, plan_draw, plan_word, plan_start, plan_config, plan_halt}
 use Rattle.list_law.proofs.Bytes.{none_left, bytes_front, bytes_behind, byte_front, behind_ends}
 use Rattle.list_law.proofs.Logs.{same}
 use Rattle.list_law.proofs.Safe.{keeps_if}
+use Rattle.ends_law.proofs.Binner.{drawn_goes, begin_goes}
 use Rattle.ends_law.proofs.Plans.{AnyLook, AnyAccess, Comes, comes_any}
 use Rattle.served_law.specs.Known.{AllGo, ListsMeet, JobMeets}
 use Rattle.served_law.specs.Raises.{waits_in, raised_by}
@@ -70,16 +71,6 @@ behind_packet K place end pending next semaphore after there upto packet packets
       meets = omega (arith, meets, more);
     }
 
-drawn_meets : (who : Who) (P : Lists → Type 0) (s : Lists) (packet m : List ℕ) (on : Bool) (kept : Option ℕ) → ((word : ℕ) → P (with_work s (Some (work_of word packet)))) → Comes who P (if on then drawn s kept packet else Wilds) m
-drawn_meets who P s packet m false kept draw = tt
-drawn_meets who P s packet m true None draw = tt
-drawn_meets who P s packet m true (Some word) draw = draw word
-
-begin_meets : (who : Who) (P : Lists → Type 0) (s : Lists) (m : List ℕ) (config : Option Config) → P (started s) → Comes who P (begin_plan s config) m
-unfolding clear_plan
-begin_meets who P s m None here = tt
-begin_meets who P s m (Some c) here = (tt, here)
-
 -- an opcode is no other
 other_than : (o k j : ℕ) → (o == k) ≡ true → (k == j) ≡ false → (o == j) ≡ false
 other_than o k j is other = ap (λ x. x == j) (same o k is) ∙ other
@@ -90,24 +81,6 @@ either_not o a b j false true one two on not_a not_b = other_than o b j two not_
 either_not o a b j false false one two on not_a not_b = absurd cc
 
 -- What a packet says, by what it leaves.
-abbrev plan_raise : Lists → List ℕ → Plan Lists
-plan_raise s p = if slice_index p 0 == increment_semaphore then Done (incremented s) else (if slice_index p 0 == flush then Done (flushed s) else Done s)
-
-abbrev plan_draw : Lists → List ℕ → Plan Lists
-plan_draw s p = if slice_index p 0 == indexed_primitive_list || slice_index p 0 == array_primitive_list then draw_plan s p else plan_raise s p
-
-abbrev plan_word : Lists → List ℕ → Plan Lists
-plan_word s p = if slice_index p 0 == gl_shader_state then Done (with_word s p) else plan_draw s p
-
-abbrev plan_start : Lists → List ℕ → Plan Lists
-plan_start s p = if slice_index p 0 == start_tile_binning then begin_plan s s.binner.kept.config else plan_word s p
-
-abbrev plan_config : Lists → List ℕ → Plan Lists
-plan_config s p = if slice_index p 0 == tile_binning_mode then Done (configured s p) else plan_start s p
-
-abbrev plan_halt : Lists → List ℕ → Plan Lists
-plan_halt s p = if slice_index p 0 == halt then Done (halted s) else plan_config s p
-
 packet_meets : (who : Who) (K : List ℕ → Type 0) (s : Lists) (packet m : List ℕ) → opcode packet ≢ halt
     → ((opcode packet == increment_semaphore) ≡ false → (opcode packet == flush) ≡ false → JobMeets K (past s (length packet)))
     → ((opcode packet == increment_semaphore) ≡ true → JobMeets K (incremented (past s (length packet))))
@@ -125,14 +98,14 @@ packet_meets who K s packet m no_halt plain raise flushes =
     (λ known. keeps_if who L G P m (o == halt) (Done (halted after)) (plan_config after packet) (λ on. absurd (no_halt (same o halt on)))
     (λ off. keeps_if who L G P m (o == tile_binning_mode) (Done (configured after packet)) (plan_start after packet) (λ on. by tile_binning_mode on refl refl)
     (λ no_config. keeps_if who L G P m (o == start_tile_binning) (begin_plan after after.binner.kept.config) (plan_word after packet)
-    (λ on. begin_meets who (JobMeets K) after m after.binner.kept.config (by start_tile_binning on refl refl))
+    (λ on. begin_goes who (JobMeets K) after m after.binner.kept.config (by start_tile_binning on refl refl))
     (λ no_start. keeps_if who L G P m (o == gl_shader_state) (Done (with_word after packet)) (plan_draw after packet) (λ on. by gl_shader_state on refl refl)
     (λ no_word. keeps_if who L G P m (o == indexed_primitive_list || o == array_primitive_list) (draw_plan after packet) (plan_raise after packet)
     (λ on.
     let no_raise : (o == increment_semaphore) ≡ false = either_not o indexed_primitive_list array_primitive_list increment_semaphore (o == indexed_primitive_list) (o == array_primitive_list) refl refl on refl refl in
     let no_flush : (o == flush) ≡ false = either_not o indexed_primitive_list array_primitive_list flush (o == indexed_primitive_list) (o == array_primitive_list) refl refl on refl refl in
-    drawn_meets who (JobMeets K) after packet m after.binner.kept.started after.binner.kept.word (λ word. plain no_raise no_flush))
-    (λ no_draw. keeps_if who L G P m (o == increment_semaphore) (Done (incremented after)) (if o == flush then Done (flushed after) else Done after) (λ on. raise on)
+    drawn_goes who (JobMeets K) after packet m after.binner.kept.started after.binner.kept.word (λ word. plain no_raise no_flush))
+    (λ no_draw. keeps_if who L G P m (o == increment_semaphore) (Done (incremented after)) (plan_flush after packet) (λ on. raise on)
     (λ no_raise. keeps_if who L G P m (o == flush) (Done (flushed after)) (Done after) (λ on. flushes no_raise on) (λ no_flush. plain no_raise no_flush))))))))
 
 -- The binner reads its next packet.

@@ -47,7 +47,7 @@ use Rattle.served_law.proofs.Begins.{each_begin, start_served}
 use Rattle.served_law.proofs.Machine.{unit_serves}
 use Rattle.served_law.proofs.Processors.{SlotServed, active_served}
 use Rattle.served_law.proofs.Renderer.{byte_waits}
-use Rattle.served_law.proofs.Threads.{thread_may}
+use Rattle.served_law.proofs.Threads.{thread_may, first_off}
 
 zero_is : (n : ℕ) → (n == 0) ≡ true → n ≡ 0
 zero_is n on = grind (arith, common_steps, nat_tests, on)
@@ -197,10 +197,6 @@ stuck_at rights K j s m here job below still past =
     let none = no_packets s.binner.place s.binner.end left.packets left.bin_ends past left.go in
     let meets : waits_in left.slots ≤ s.semaphore + raised_by s.pending [] = subst (λ (ps : List (List ℕ)). waits_in left.slots ≤ s.semaphore + raised_by s.pending ps) none left.meets in
     omega (arith, one, zero_semaphore, meets)
-
-first_off : (a b : Bool) → (a || b) ≡ false → a ≡ false
-first_off true b off = absurd (true≢false off)
-first_off false b off = refl
 
 stuck_in : (rights : List Rights) (K : List ℕ → Type 0) (j : ℕ) (s : Lists) (m : List ℕ) (inside : Option SubList) (below : Bool) → K m → JobServed rights K j s → (nat_lt s.renderer.place s.renderer.end) ≡ below → (below || is_some inside) ≡ true
     → glanced (ready_in s inside) m ≡ false → nat_lt s.binner.place s.binner.end ≡ false → ⊥

@@ -1,14 +1,14 @@
 -- One step of the machine keeps what is known, whichever unit steps.
-use Rattle.std.proofs.Common.{◌≡◌, ℕ, zero, suc, Bool, true, false, IsTrue, if◌then◌else◌, List, [], ◌∷◌, length, Option, Some, None, IfSome, refl, ap, arith}
+use Rattle.std.proofs.Common.{◌≡◌, ℕ, zero, suc, true, IsTrue, List, [], ◌∷◌, length, Option, Some, None, IfSome, refl, ap, arith}
 use Rattle.std.proofs.lemmas.Bool.{false≢true}
 use Rattle.field_words.specs.declared.access.Actor.{Actor}
 use Rattle.field_words.specs.declared.access.Actor.TheVariants.{Binner as TheBinner, Renderer as TheRenderer, Qpu as TheQpu, Tmu as TheTmu}
 use Rattle.machine_plan.specs.declared.launch.Free.{Free}
 use Rattle.machine_plan.specs.declared.launch.Launch.{Launch}
 use Rattle.machine_plan.specs.declared.who.Who.{Who}
-use Rattle.machine_plan.specs.Glance.{Glance, Now, glanced}
-use Rattle.machine_plan.specs.Plan.{Plan, Keeps}
-use Rattle.machine_plan.specs.Regions.{Every, Inside, Rights, rights_of, IsSafeAccess, IsSafeIn, HasReadOnly}
+use Rattle.machine_plan.specs.Glance.{glanced}
+use Rattle.machine_plan.specs.Plan.{Plan}
+use Rattle.machine_plan.specs.Regions.{Every, Inside, Rights, rights_of, IsSafeAccess, HasReadOnly}
 use Rattle.machine_plan.specs.World.{mapped}
 use Rattle.machine_plan.proofs.Plans.{keeps_weaker}
 use Rattle.machine_plan.proofs.Worlds.{keeps_mapped, keeps_result}
@@ -28,8 +28,9 @@ use Rattle.qpu_machine.specs.Step.{ThreadTurn, thread_plan}
 use Rattle.machine.specs.State.{Units, Picked, item_at, put_at, binner_job, renderer_job}
 use Rattle.machine.specs.Step.{with_launch, with_lists, with_qpu, is_ahead, binner_may, renderer_may, qpu_may, tmu_may, binner_turn, renderer_turn, qpu_turn, tmu_turn, unit_ready, unit_turn, ready, turn}
 use Rattle.machine_law.specs.Laws.{AreFine}
-use Rattle.machine_law.proofs.Owes.{PickedFine, item_fine, put_each, first_fine, units_owe_law}
+use Rattle.machine_law.proofs.Owes.{PickedFine, item_fine, put_each, first_fine, units_owe_law, not_held}
 use Rattle.ends_law.proofs.Plans.{AnyLook, AnyAccess, Comes, comes_any, keeps_both}
+use Rattle.ends_law.proofs.Machine.{comes_by, comes_mapped}
 use Rattle.served_law.specs.Known.{LaunchServed, QpuServed, JobServed, UnitsServed, StepsServe}
 use Rattle.served_law.proofs.Threads.{ThreadGoes, thread_goes}
 use Rattle.served_law.proofs.Processors.{SlotServed, active_served, went_served, served_served, launched_served, launched_long}
@@ -47,13 +48,6 @@ job_turned rights K j s turned job fine meets = record {
   known = record { config = job.config; frame = job.frame; allocates = job.allocates; lists = fine.lists; meets = meets };
   launch = fine.launch;
 }
-
--- what is kept along a plan, and what it comes to, make what it comes to
-comes_by : {R : Type 0} (who : Who) (L : ℕ → ℕ → Type 0) (r : Rights) (P Q S : R → Type 0) → ((one : R) → P one → Q one → S one) → (plan : Plan R) (m : List ℕ)
-    → Keeps who L (IsSafeIn r) (λ k one. P one) plan m → Comes who Q plan m → Comes who S plan m
-comes_by who L r P Q S joins plan m keeps comes =
-    keeps_weaker who L AnyLook (IsSafeIn r) AnyAccess (λ k one. P one × Q one) (λ k one. S one) (λ p n lies. tt) (λ a safe. tt) (λ k one both. joins one both.0 both.1) plan m
-    (keeps_both who L (IsSafeIn r) P Q plan m keeps comes)
 
 binner_turned : (rights : List Rights) (K : List ℕ → Type 0) (j : ℕ) (s : Lists) (free : Free) (words m : List ℕ) → K m → JobServed rights K j s → glanced (binner_ready s free) m ≡ true
     → Comes (binner_of j) (JobTurned rights K j) (binner_plan s free words) m
@@ -106,19 +100,6 @@ qpu_served rights K u k q all one =
     record { jobs = all.jobs; qpus = put_every (QpuServed rights K) u.qpus k q one all.qpus; some = omega (arith, some, long) }
 
 -- The units' turns.
-comes_mapped : {R : Type 0} (who : Who) (put : R → Units) (P : R → Type 0) (Q : Units → Type 0) → ((one : R) → P one → Q (put one)) → (plan : Plan R) (m : List ℕ) → Comes who P plan m → Comes who Q (mapped put plan) m
-comes_mapped who put P Q puts plan m comes =
-    keeps_mapped put who AnyLook AnyAccess (λ k next. Q next) plan m
-    (keeps_weaker who AnyLook AnyLook AnyAccess AnyAccess (λ k one. P one) (λ k one. Q (put one)) (λ p n h. h) (λ a h. h) (λ k one known. puts one known) plan m comes)
-
-not_held : (held : Bool) (glance : Glance Bool) (m : List ℕ) → IsTrue (glanced (if held then Now false else glance) m) → glanced glance m ≡ true
-not_held true glance m on = absurd (false≢true on)
-not_held false glance m on = on
-
-there_on : (there : Bool) (glance : Glance Bool) (m : List ℕ) → IsTrue (glanced (if there then glance else Now false) m) → glanced glance m ≡ true
-there_on true glance m on = on
-there_on false glance m on = absurd (false≢true on)
-
 binner_serves : (rights : List Rights) (K : List ℕ → Type 0) (u : Units) (found : Option (Picked Lists)) (words m : List ℕ) → K m → UnitsServed rights K u → IfSome found (PickedFine (JobServed rights K))
     → IsTrue (glanced (binner_may u found) m) → Comes (binner_turn u found words).who (UnitsServed rights K) (binner_turn u found words).plan m
 binner_serves rights K u None words m here all picked may = absurd (false≢true may)

@@ -19,69 +19,27 @@ use Rattle.machine_plan.specs.Memory.{bytes_at}
 use Rattle.machine_plan.specs.Plan.{Done, Wilds}
 use Rattle.machine_plan.specs.World.{mapped}
 use Rattle.machine_plan.proofs.Worlds.{keeps_mapped}
-use Rattle.texture_layouts.specs.Format.{general_style, frame_style}
 use Rattle.list_machine.specs.declared.state.Found.{Found}
-use Rattle.list_machine.specs.declared.state.Frame.{Frame}
 use Rattle.list_machine.specs.declared.state.Item.{Item}
-use Rattle.list_machine.specs.declared.state.Load.{Load}
 use Rattle.list_machine.specs.declared.state.Load.TheVariants.{Full, General}
 use Rattle.list_machine.specs.declared.state.Program.{Program}
 use Rattle.list_machine.specs.declared.state.Program.TheVariants.{Fragment, Vertex}
 use Rattle.list_machine.specs.declared.state.SubList.{SubList}
-use Rattle.list_machine.specs.declared.surface.Cover.{Cover}
 use Rattle.list_machine.specs.Lists.{Lists, Turned, turned_to, quiet, with_taken}
-use Rattle.list_machine.specs.Cover.{cover_for, part_count}
 use Rattle.list_machine.specs.Fetch.{fetch_plan}
 use Rattle.list_machine.specs.Start.{start_plan}
-use Rattle.list_machine.specs.Surfaces.{cover_written, cover_read, aligned, names_none, general_written, general_read, frame_written, whole_written, whole_read, waiting_read}
-use Rattle.list_machine.specs.Renderer.{beyond, with_inside, wait_plan, enter_plan, tile_by, branch_plan, tile_plan, at_tile, with_load, act, item_at, at_item, fetched, vertex_plan, program_plan, choice_plan, found_plan, plan_in, renderer_plan, may_pass, ready_in, renderer_ready}
+use Rattle.list_machine.specs.Surfaces.{whole_written}
+use Rattle.list_machine.specs.Renderer.{beyond, with_inside, enter_plan, tile_by, branch_plan, tile_plan, at_tile, act, item_at, at_item, fetched, vertex_plan, program_plan, choice_plan, found_plan, plan_in, renderer_plan, may_pass, ready_in, renderer_ready}
 use Rattle.list_machine.proofs.Items.{ready_below}
-use Rattle.list_machine.proofs.Keeping.{packet_keeps, written_keep, read_keep}
+use Rattle.list_machine.proofs.Keeping.{packet_keeps}
 use Rattle.list_law.proofs.Bytes.{none_left, bytes_front, bytes_behind, byte_front, behind_ends}
 use Rattle.list_law.proofs.Rendering.{some_text}
 use Rattle.list_law.proofs.Safe.{keeps_if}
 use Rattle.ends_law.proofs.Plans.{AnyLook, AnyAccess, Comes, comes_any}
+use Rattle.ends_law.proofs.Renderer.{frame_stored, general_stored, waiting_loaded, wait_goes}
 use Rattle.served_law.specs.Known.{ListsMeet, JobMeets}
 use Rattle.served_law.specs.Raises.{waits_of, waits_in, raised_by}
 use Rattle.served_law.proofs.Binner.{TurnedMeets}
-
--- Loads and stores come to what the renderer then keeps.
-cover_stored : (who : Who) (P : Lists → Type 0) (cover : Option Cover) (words : List ℕ) (s : Lists) (m : List ℕ) → P s → Comes who P (cover_written cover words (Done s)) m
-unfolding cover_written
-cover_stored who P None words s m here = tt
-cover_stored who P (Some cover) words s m here = written_keep who AnyLook AnyAccess (λ k next. P next) cover words s 0 (part_count cover) m (λ k low high. tt) (λ k. here)
-
-cover_loaded : (who : Who) (P : Lists → Type 0) (cover : Option Cover) (s : Lists) (m : List ℕ) → P s → Comes who P (cover_read cover (Done s)) m
-unfolding cover_read
-cover_loaded who P None s m here = tt
-cover_loaded who P (Some cover) s m here = read_keep who AnyLook AnyAccess (λ k next. P next) cover s 0 (part_count cover) m (λ k low high. tt) here
-
-frame_stored : (who : Who) (P : Lists → Type 0) (frame : Option Frame) (x y : ℕ) (words : List ℕ) (s : Lists) (m : List ℕ) → P s → Comes who P (frame_written frame x y words (Done s)) m
-unfolding frame_written
-frame_stored who P None x y words s m here = tt
-frame_stored who P (Some frame) x y words s m here = cover_stored who P (cover_for (frame_style frame.bits) (Some frame) frame.address x y) words s m here
-
-general_stored : (who : Who) (P : Lists → Type 0) (bits address : ℕ) (frame : Option Frame) (x y : ℕ) (words : List ℕ) (s : Lists) (m : List ℕ) → P s → Comes who P (general_written bits address frame x y words (Done s)) m
-unfolding general_written
-general_stored who P bits address frame x y words s m here =
-    let cover = cover_for (general_style bits) frame (aligned address) x y in
-    keeps_if who AnyLook AnyAccess (λ k next. P next) m (names_none bits) (Done s) (cover_written cover words (Done s)) (λ on. here) (λ off. cover_stored who P cover words s m here)
-
-general_loaded : (who : Who) (P : Lists → Type 0) (bits address : ℕ) (frame : Option Frame) (x y : ℕ) (s : Lists) (m : List ℕ) → P s → Comes who P (general_read bits address frame x y (Done s)) m
-unfolding general_read
-general_loaded who P bits address frame x y s m here =
-    let cover = cover_for (general_style bits) frame (aligned address) x y in
-    keeps_if who AnyLook AnyAccess (λ k next. P next) m (names_none bits) (Done s) (cover_read cover (Done s)) (λ on. here) (λ off. cover_loaded who P cover s m here)
-
-waiting_loaded : (who : Who) (P : Lists → Type 0) (waiting : Option Load) (frame : Option Frame) (x y : ℕ) (s : Lists) (m : List ℕ) → P s → Comes who P (waiting_read waiting frame x y (Done s)) m
-unfolding whole_read
-waiting_loaded who P None frame x y s m here = here
-waiting_loaded who P (Some (Full address)) frame x y s m here = (tt, here)
-waiting_loaded who P (Some (General bits address)) frame x y s m here = general_loaded who P bits address frame x y s m here
-
-wait_goes : (who : Who) (P : Lists → Type 0) (s : Lists) (waiting : Option Load) (load : Load) (m : List ℕ) → P (with_load s load) → Comes who P (wait_plan s waiting load) m
-wait_goes who P s None load m here = here
-wait_goes who P s (Some other) load m here = tt
 
 -- The renderer goes into a tile's list.
 enters : (who : Who) (P : Lists → Type 0) (s : Lists) (named : Option ℕ) (m : List ℕ) → ((inside : Option SubList) → P (with_inside s inside)) → Comes who P (enter_plan s named) m

@@ -34,22 +34,18 @@ use Rattle.qpu_law.proofs.Going.{fine_at, in_checked, is_went, stays_in_code_law
 use Rattle.qpu_law.proofs.Starting.{starts_stand_law}
 use Rattle.ends_law.specs.Steps.{one_if}
 use Rattle.ends_law.proofs.Plans.{AnyLook, AnyAccess, Comes}
+use Rattle.ends_law.proofs.Threads.{not_both}
 use Rattle.served_law.specs.Known.{LaunchServed, ThreadServed}
 use Rattle.served_law.specs.Waits.{outstanding_after, outstanding, waits_for, forks, waits_at, may_wait}
 
 -- neither of two tests is true
-first_off : (a b : Bool) → (a || b) ≡ false → a ≡ false
+pub first_off : (a b : Bool) → (a || b) ≡ false → a ≡ false
 first_off true b off = absurd (true≢false off)
 first_off false b off = refl
 
 second_off : (a b : Bool) → (a || b) ≡ false → b ≡ false
 second_off true b off = absurd (true≢false off)
 second_off false b off = off
-
--- where the first is true and both aren't
-not_both : (a b : Bool) → (a && b) ≡ false → a ≡ true → b ≡ false
-not_both true b off on = off
-not_both false b off on = absurd cc
 
 -- What is known of an instruction of such a shader.
 record Serves (code : List ℕ) (i : ℕ) : Type 0 where
