@@ -21,7 +21,7 @@ upto_greatest (suc n) k number below =
       | inr past ↦ let same : k ≡ n = omega (arith, below, past) in let e : number k ≡ number n = ap number same in omega (arith, e)
     ]
 
-named_is : (f : FileModel) (j : ℕ) (code : List ℕ) → (is : IsShaderOf f j code) → shader_named f j is.handle ≡ Some code
+pub named_is : (f : FileModel) (j : ℕ) (code : List ℕ) → (is : IsShaderOf f j code) → shader_named f j is.handle ≡ Some code
 unfolding shader_named
 named_is f j code is = ap (shader_in f) is.named ∙ ap (λ words. Some words) (sym is.is)
 

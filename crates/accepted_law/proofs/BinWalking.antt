@@ -135,8 +135,8 @@ nothing_is : (f : FileModel) (j : ℕ) → has_bin f j ≡ false → bin_list_of
 unfolding bin_list_of
 nothing_is f j none = ap (λ b. if b then bin_text (job_of f j).bin (job_of f j).declared (table_of f) (job_of f j).handles (layout_of f j) else []) none
 
-low : (f : FileModel) (j : ℕ) (m : List ℕ) → Grounds f j m → IsLow (layout_of f j)
-low f j m grounds =
+pub layout_is_low : (f : FileModel) (j : ℕ) (m : List ℕ) → Grounds f j m → IsLow (layout_of f j)
+layout_is_low f j m grounds =
     let s = grounds.settled in
     let numbers = layout_numbers f j (layout_of f j) refl in
     let limits = layout_low f j s.sound (enough_slots f s.well_formed s.sound) (omega (arith, numbers.0, s.lists)) s.inside s.limits in
@@ -144,7 +144,7 @@ low f j m grounds =
 
 walked : (f : FileModel) (j : ℕ) (m : List ℕ) → Grounds f j m → has_bin f j ≡ true → IsWalked (job_of f j).bin (job_of f j).declared (table_of f) (job_of f j).handles (layout_of f j)
 walked f j m grounds has =
-    emitted_lists_walk_law (job_of f j).bin (job_of f j).declared (table_of f) (job_of f j).handles (layout_of f j) grounds.settled.limits.bin grounds.settled.limits.declared (low f j m grounds)
+    emitted_lists_walk_law (job_of f j).bin (job_of f j).declared (table_of f) (job_of f j).handles (layout_of f j) grounds.settled.limits.bin grounds.settled.limits.declared (layout_is_low f j m grounds)
     (λ number below. buffer_low f.mem_size f.regions f.buffers grounds.settled.sound number) (grounds.settled.bin has)
 
 drawn_begins : (f : FileModel) (j : ℕ) (m : List ℕ) → Grounds f j m → has_bin f j ≡ true

@@ -1,12 +1,13 @@
 -- Lists with an item for each job: the rights of all jobs, and what no job may write.
-use Rattle.std.proofs.Common.{◌≡◌, ◌⊎◌, inl, inr, ℕ, zero, suc, ◌+◌, ◌<◌, ◌≤◌, List, [], ◌∷◌, ◌++◌, length, map, sym, subst, arith, zero-add}
+use Rattle.std.proofs.Common.{◌≡◌, inl, inr, ℕ, zero, suc, ◌+◌, ◌<◌, ◌≤◌, [], ◌++◌, length, map, sym, subst, arith, zero-add}
 use Rattle.std.specs.List.{range_with_len}
 use Rattle.std.proofs.lemmas.Bool.{cases_lt}
 use Rattle.std.proofs.lemmas.List.{get_or_past}
 use Rattle.std.proofs.lemmas.List.FromFn.{length-map-range_with_len, get_or-map-range_with_len}
 use Rattle.job_format.specs.Model.{FileModel}
-use Rattle.machine_plan.specs.Regions.{Interval, Inside, Rights, joined}
+use Rattle.machine_plan.specs.Regions.{Inside, Rights, joined}
 use Rattle.machine_law.specs.Units.{EachAt}
+use Rattle.machine_law.proofs.Apart.{inside_left, inside_either, inside_right}
 use Rattle.qpu_law.specs.Asks.{IsOneOf}
 use Rattle.accepted_law.specs.Holdings.{of_jobs, lists_of, codes_of, job_rights, file_rights, rights_at, fixed_below, fixed_of}
 
@@ -32,21 +33,6 @@ in_region f j place size inside one = subst (λ r. IsOneOf r.region place size) 
 
 pub in_writable : (f : FileModel) (j place size : ℕ) → j < length f.jobs → IsOneOf (job_rights f j).writable place size → IsOneOf (rights_at f j).writable place size
 in_writable f j place size inside one = subst (λ r. IsOneOf r.writable place size) (sym (rights_are f j inside)) one
-
--- What lies in two lists of intervals joined lies in the first or in the others.
-pub inside_either : (rs qs : List Interval) (p n : ℕ) → Inside (rs ++ qs) p n → Inside rs p n ⊎ Inside qs p n
-inside_either [] qs p n lies = inr lies
-inside_either (one ∷ others) qs p n (inl here) = inl (inl here)
-inside_either (one ∷ others) qs p n (inr lies) = elim (inside_either others qs p n lies) [ inl there ↦ inl (inr there) | inr back ↦ inr back ]
-
-inside_left : (rs qs : List Interval) (p n : ℕ) → Inside rs p n → Inside (rs ++ qs) p n
-inside_left [] qs p n lies = absurd lies
-inside_left (one ∷ others) qs p n (inl here) = inl here
-inside_left (one ∷ others) qs p n (inr lies) = inr (inside_left others qs p n lies)
-
-inside_right : (rs qs : List Interval) (p n : ℕ) → Inside qs p n → Inside (rs ++ qs) p n
-inside_right [] qs p n lies = lies
-inside_right (one ∷ others) qs p n lies = inr (inside_right others qs p n lies)
 
 -- What lies in the joined regions of jobs lies in that of one of them.
 pub record LiesInJob (rights : ℕ → Rights) (n p : ℕ) : Type 0 where

@@ -19,10 +19,11 @@ use Rattle.machine_plan.specs.Regions.{Interval, LiesIn, Inside, Rights, rights_
 use Rattle.qpu_law.specs.Asks.{IsOneOf}
 use Rattle.apart_law.specs.Part.{Client}
 use Rattle.machine_law.specs.Apart.{regions_of}
+use Rattle.machine_law.proofs.Apart.{inside_either}
 use Rattle.accepted_law.specs.Holdings.{interval, plain_of, codes_of, lists_of, slot_in, job_rights, file_rights}
 use Rattle.accepted_law.specs.Settled.{Settled, AreSettled}
 use Rattle.accepted_law.specs.Neighbours.{jobs_of, reach_of, named_at, PlacedAlike, FilledAlike, AreNeighbourFiles, EmittedAlike}
-use Rattle.accepted_law.proofs.ByJob.{rights_are, inside_either}
+use Rattle.accepted_law.proofs.ByJob.{rights_are}
 use Rattle.accepted_law.proofs.Fixed.{LiesInOne, in_one}
 use Rattle.accepted_law.proofs.Grounds.{slot_apart, two_apart}
 use Rattle.accepted_law.proofs.Holding.{all_parts, four_parts, memory_is, contents_in, all_in, zeros_fit, jobs_miss, misses_four, clear_of, buffer_off_lists, content_byte, holds_all}

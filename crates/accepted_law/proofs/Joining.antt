@@ -19,6 +19,7 @@ use Rattle.machine_law.specs.Begins.{TextBegins, IsFixed, DrawBegins, JobBegins}
 use Rattle.machine_law.specs.Jobs.{ArePlain}
 use Rattle.machine_law.specs.Units.{EachAt}
 use Rattle.machine_law.proofs.Sound.{jobs_sound_law}
+use Rattle.machine_law.proofs.Apart.{inside_either}
 use Rattle.render_list.specs.Text.{render_slots}
 use Rattle.buffer_table.specs.declared.buffer.Buffer.{Buffer}
 use Rattle.buffer_table.specs.Table.{buffer_at}
@@ -30,7 +31,7 @@ use Rattle.accepted_law.specs.Texts.{BinTextsBegin, RenderTextsBegin}
 use Rattle.accepted_law.specs.Parts.{BinWalks, RenderWalks, FilesBegin}
 use Rattle.accepted_law.specs.Held.{ListsAndCodeAreFixed}
 use Rattle.accepted_law.specs.Whole.{FilesSound}
-use Rattle.accepted_law.proofs.ByJob.{each_from, rights_are, inside_either, in_some_job, in_fixed}
+use Rattle.accepted_law.proofs.ByJob.{each_from, rights_are, in_some_job, in_fixed}
 use Rattle.accepted_law.proofs.Settling.{files_settle_law}
 use Rattle.accepted_law.proofs.Grounds.{files_ground_law}
 use Rattle.accepted_law.proofs.Allocating.{files_allocate_law}

@@ -22,7 +22,6 @@ use Rattle.accepted_law.specs.Holdings.{lists_of, codes_of, fixed_below, fixed_o
 use Rattle.accepted_law.specs.Neighbours.{IsFaultless}
 use Rattle.accepted_law.specs.Settled.{Settled, AreSettled}
 use Rattle.accepted_law.specs.Prepared.{filled, IsPrepared, PreparedMemoriesAgree}
-use Rattle.accepted_law.proofs.ByJob.{inside_either}
 use Rattle.accepted_law.proofs.Emitted.{buffer_byte, zero_byte}
 use Rattle.accepted_law.proofs.Fixed.{in_one}
 use Rattle.accepted_law.proofs.Grounds.{four_lie}
@@ -30,6 +29,7 @@ use Rattle.accepted_law.proofs.Holding.{lists_end, holds_all, with_contents, lon
 use Rattle.accepted_law.proofs.Intervals.{code_held}
 use Rattle.accepted_law.proofs.Placing.{fit_append}
 use Rattle.accepted_law.proofs.Settling.{files_settle_law}
+use Rattle.machine_law.proofs.Apart.{inside_either}
 
 -- The lists of the first n jobs lie in their stretch of bytes.
 list_fit : (f : FileModel) (j : ℕ) → Settled f j → PartsFit (layout_of f j).end (list_parts f j)

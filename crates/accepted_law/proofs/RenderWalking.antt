@@ -160,7 +160,7 @@ surfaces_at r frame grid table handles rooms none =
     places_are (IsSurfaceAt r frame) frame table handles (λ k base below is. surface_is r frame table handles k base rooms (none_at frame grid table handles none k below) is)
 
 -- The tiles of the set are in the binner's grid.
-in_grid : (frame : Frame) (grid : Option (ℕ × ℕ)) (table : TableModel) (handles : List ℕ) → first_of (surface_faults frame grid table handles) ≡ None → is_outside_grid frame grid ≡ false
+pub in_grid : (frame : Frame) (grid : Option (ℕ × ℕ)) (table : TableModel) (handles : List ℕ) → first_of (surface_faults frame grid table handles) ≡ None → is_outside_grid frame grid ≡ false
 unfolding surface_faults frame_questions
 in_grid frame grid table handles none =
     let n = none_stands (frame_questions frame grid) (front_none (frame_questions frame grid) (each (surface_questions frame table handles) 0 6 ++ whole_questions frame) none) in

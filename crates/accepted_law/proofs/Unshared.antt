@@ -17,13 +17,14 @@ use Rattle.qpu_law.specs.Asks.{IsOneOf}
 use Rattle.accepted_law.specs.Holdings.{plain_of, lists_of, codes_of, slot_in, job_rights}
 use Rattle.accepted_law.specs.Settled.{Settled}
 use Rattle.accepted_law.specs.Neighbours.{IsFaultless, jobs_of, ClientsUnshared}
-use Rattle.accepted_law.proofs.ByJob.{rights_are, rights_past, inside_either}
+use Rattle.accepted_law.proofs.ByJob.{rights_are, rights_past}
 use Rattle.accepted_law.proofs.Fixed.{LiesInOne, in_one, fixed_byte}
 use Rattle.accepted_law.proofs.Grounds.{slot_apart, two_apart, less_by}
 use Rattle.accepted_law.proofs.Intervals.{named_by}
 use Rattle.accepted_law.proofs.Joining.{lists_and_code_fixed_law}
 use Rattle.accepted_law.proofs.Settling.{files_settle_law, handles_clear}
 use Rattle.accepted_law.proofs.Tables.{tiles_apart}
+use Rattle.machine_law.proofs.Apart.{inside_either}
 
 -- Each handle names a buffer of the job's own client.
 pub of_client : (t : TableModel) (client : ℕ) (numbers : List ℕ) → first_of (handles_questions t client numbers) ≡ None

@@ -4,7 +4,6 @@ use Rattle.std.specs.Prelude.{is_some}
 use Rattle.buffer_table.proofs.Named.{code_is}
 use Rattle.buffer_table.specs.Table.{TableModel}
 use Rattle.relocation.specs.declared.layout.Layout.{Layout}
-use Rattle.bin_list.specs.Fine.{IsLow}
 use Rattle.bin_list.specs.Packets.{packets, passed}
 use Rattle.bin_list.specs.Rules.{given_of}
 use Rattle.bin_list.specs.Seen.{seen_before}
@@ -21,19 +20,20 @@ use Rattle.job_format.specs.Model.{FileModel}
 use Rattle.job_check.specs.Emit.{memory_of}
 use Rattle.job_check.specs.Shaders.{table_of}
 use Rattle.job_check.specs.Jobs.{job_of, layout_of, has_bin, bin_list_of, places_in, grid_from, grid_of, slot_of}
-use Rattle.job_check.proofs.Layouts.{layout_numbers, layout_low, enough_slots}
 use Rattle.machine_law.specs.Units.{EachAt}
 use Rattle.accepted_law.specs.Ends.{IsShaderOf, DrawShaders}
 use Rattle.accepted_law.specs.Holdings.{plain_of, file_rights, file_starts, start_of, config_for}
 use Rattle.accepted_law.specs.Parts.{BinWalks}
 use Rattle.accepted_law.specs.Settled.{Grounds}
-use Rattle.accepted_law.proofs.BinWalking.{bins_walk_law}
+use Rattle.accepted_law.proofs.BinWalking.{bins_walk_law, layout_is_low}
 use Rattle.accepted_law.proofs.ByJob.{each_from}
 use Rattle.accepted_law.proofs.Holding.{bin_is}
 use Rattle.accepted_law.proofs.Joining.{all_ground, job_begins, files_begin_law, has_read_only}
 use Rattle.accepted_law.proofs.Tables.{buffer_low}
-use Rattle.accepted_ends.specs.Bound.{shader_in, shader_named}
+use Rattle.accepted_ends.specs.Bound.{shader_named}
 use Rattle.accepted_ends.proofs.Cut.{packets_walk}
+use Rattle.accepted_ends.proofs.Shaders.{named_is}
+use Rattle.accepted_ends.proofs.Files.{packets_are}
 use Rattle.ends_law.specs.Steps.{one_if}
 use Rattle.served_law.specs.Finish.{DrawServed, JobMayFinish}
 use Rattle.served_law.specs.Raises.{waits_in, raised_by}
@@ -43,10 +43,6 @@ use Rattle.accepted_served.specs.Law.{FilesFinish}
 use Rattle.accepted_served.specs.Served.{waits, job_waits, file_waits}
 use Rattle.accepted_served.proofs.Raised.{emission_raises}
 use Rattle.accepted_served.proofs.Waited.{render_few}
-
-named_is : (f : FileModel) (j : ℕ) (code : List ℕ) → (is : IsShaderOf f j code) → shader_named f j is.handle ≡ Some code
-unfolding shader_named
-named_is f j code is = ap (shader_in f) is.named ∙ ap (λ words. Some words) (sym is.is)
 
 is_served : (f : FileModel) (j : ℕ) (code : List ℕ) → file_waits f ≡ false → j < length f.jobs → IsShaderOf f j code → may_wait code ≡ false
 unfolding file_waits job_waits
@@ -64,14 +60,6 @@ draws_served f j m word packet none inside draws = record {
   coordinate = is_served f j draws.begins.coordinate.home.code none inside draws.coordinate;
 }
 
--- The emitted binner list is cut into the packets of its emission again, which raise the semaphore.
-low : (f : FileModel) (j : ℕ) (m : List ℕ) → Grounds f j m → IsLow (layout_of f j)
-low f j m grounds =
-    let s = grounds.settled in
-    let numbers = layout_numbers f j (layout_of f j) refl in
-    let limits = layout_low f j s.sound (enough_slots f s.well_formed s.sound) (omega (arith, numbers.0, s.lists)) s.inside s.limits in
-    record { place = limits.0; records = limits.1; slot = limits.3 }
-
 some_raised : (f : FileModel) (j : ℕ) (m : List ℕ) → Grounds f j m → has_bin f j ≡ true → 1 ≤ raised_by 0 (packets (bin_list_of f j))
 some_raised f j m grounds has =
     let bin : List ℕ = (job_of f j).bin in
@@ -81,7 +69,7 @@ some_raised f j m grounds has =
     let layout : Layout = layout_of f j in
     let list : List (List ℕ) = emission (given_of bin declared table handles) layout [] (packets bin) in
     let it : IsWalked bin declared table handles layout =
-    emitted_lists_walk_law bin declared table handles layout grounds.settled.limits.bin grounds.settled.limits.declared (low f j m grounds)
+    emitted_lists_walk_law bin declared table handles layout grounds.settled.limits.bin grounds.settled.limits.declared (layout_is_low f j m grounds)
     (λ number below. buffer_low f.mem_size f.regions f.buffers grounds.settled.sound number) (grounds.settled.bin has) in
     let config = config_of layout (seen_before (passed bin)).tiles_x (seen_before (passed bin)).tiles_y in
     let cut : packets (bin_list_of f j) ≡ list = ap packets (bin_is f j has ∙ it.text) ∙ packets_walk config (IsDrawn table handles layout (states_of (packets bin))) nothing_kept list it.walks in
@@ -106,9 +94,6 @@ raised_there f j m grounds =
     let few = render_few (job_of f j).frame (places_in f j) (grid_of f j) (slot_of f j) in
     let raised = raised_by_bin f j m (has_bin f j) grounds refl in
     omega (arith, few, raised)
-
-packets_are : (f : FileModel) (j : ℕ) (m : List ℕ) → (bin : BinWalks f j m) → packets (bin_list_of f j) ≡ bin.packets
-packets_are f j m bin = ap packets bin.text ∙ packets_walk (config_for f j) (DrawShaders f j m) nothing_kept bin.packets bin.walks
 
 may_finish : (f : FileModel) (j : ℕ) → file_waits f ≡ false → j < length f.jobs → Grounds f j (memory_of f) → JobMayFinish (file_rights f) (plain_of f) (memory_of f) j (start_of f j)
 unfolding job_begins

@@ -18,11 +18,11 @@ use Rattle.machine_plan.proofs.Others.{run_others}
 use Rattle.machine.specs.State.{units_start, start_of}
 use Rattle.machine.specs.Step.{ready, turn}
 use Rattle.machine_law.proofs.Sound.{sound_jobs_are_safe_law}
+use Rattle.machine_law.proofs.Apart.{inside_either}
 use Rattle.accepted_law.specs.Held.{AreFixed}
 use Rattle.accepted_law.specs.Holdings.{OfEachJob, plain_of, codes_of, lists_of, fixed_below, fixed_of, file_rights, file_starts}
 use Rattle.accepted_law.specs.Neighbours.{IsFaultless}
 use Rattle.accepted_law.proofs.Fixed.{fixed_byte}
-use Rattle.accepted_law.proofs.ByJob.{inside_either}
 use Rattle.accepted_law.proofs.Joining.{files_sound_law, lists_and_code_fixed_law}
 use Rattle.accepted_law.proofs.Neighbours.{accepted_apart_law}
 use Rattle.accepted_ends.specs.Law.{FileEnds}

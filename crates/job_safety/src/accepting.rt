@@ -104,8 +104,10 @@ fn set_up(alloc: Global, version: u32, checked: Checked) -> Result<Accepted, NoM
 pub fn accept(alloc: Global, bytes: &[u8]) -> Result<Accepted, Stop<Refusal>>
     ensures answers { Answers (all_questions bytes.now) (IsAccepted (file_at bytes.now)) result }
     ensures spelled { IsOk result → IsFileOf bytes.now (file_at bytes.now) }
-    ensures safe { IsOk result → AreSafe (file_rights (file_at bytes.now)) (memory_of (file_at bytes.now)) (file_starts (file_at bytes.now)) }
-    ensures same { IsOk result → AreSame (file_rights (file_at bytes.now)) (memory_of (file_at bytes.now)) (file_starts (file_at bytes.now)) }
+    ensures safe { IsOk result
+        → AreSafe (file_rights (file_at bytes.now)) (memory_of (file_at bytes.now)) (file_starts (file_at bytes.now)) }
+    ensures same { IsOk result
+        → AreSame (file_rights (file_at bytes.now)) (memory_of (file_at bytes.now)) (file_starts (file_at bytes.now)) }
     ensures apart { IsOk result → IsApart (file_at bytes.now) }
     ensures ends { IsOk result → FileEnds (file_at bytes.now) }
 {

@@ -1,14 +1,19 @@
 -- One count more, and counts past the last word.
-use Rattle.std.proofs.Common.{◌≡◌, ◌≤◌, ◌<◌, inl, inr, ℕ, zero, suc, ◌+◌, ◌-◌, List, [], ◌∷◌, ◌++◌, length, slice_index, refl, sym, ◌∙◌, ap, subst, arith}
+use Rattle.std.proofs.Common.{◌≡◌, ◌≤◌, ◌<◌, inl, inr, ℕ, zero, suc, ◌+◌, ◌-◌, List, [], ◌∷◌, ◌++◌, length, slice_index, refl, sym, ◌∙◌, ap, arith}
 use Rattle.std.proofs.lemmas.Bool.{cases_lt}
-use Rattle.std.proofs.lemmas.Grind.{common_steps}
 use Rattle.std.proofs.lemmas.List.{length-append}
 use Rattle.shader_flow.specs.Flow.{word}
 use Rattle.qpu_isa.specs.Word.{sig_of, waddr_add_of, waddr_mul_of}
 use Rattle.qpu_isa.specs.Terms.{is_branch, writes_s, s_address, names_address, add_names, mul_names}
 use Rattle.qpu_machine.specs.Writes.{loads}
 use Rattle.served_law.specs.Waits.{outstanding_after, outstanding}
-use Rattle.shader_waits.specs.Waits.{AreCounts, AreCounted}
+
+-- A TMU has so many requests and results before each of the first instructions, up to this one, before which it has `now`.
+pub record AreCounted (code : List ℕ) (tmu at now : ℕ) (counts : List ℕ) : Type 0 where
+  pub size : length counts ≡ at + 1
+  pub each : (i : ℕ) → i ≤ at → slice_index counts i ≡ outstanding code tmu i
+  pub now_is : now ≡ outstanding code tmu at
+  pub few : now ≤ at
 
 pub counted_none : (code : List ℕ) (tmu : ℕ) → AreCounted code tmu 0 0 (0 ∷ [])
 unfolding outstanding
@@ -49,11 +54,6 @@ counted_more code tmu at now next counts counted is few =
       now_is = here;
       few = omega (arith, below, few);
     }
-
-pub counts_all : (code : List ℕ) (tmu at now : ℕ) (counts : List ℕ) → AreCounted code tmu at now counts → at ≡ length code → AreCounts code tmu counts
-counts_all code tmu at now counts counted is =
-    let size = counted.size in
-    record { size = omega (arith, size, is); each = λ i upto. counted.each i (omega (arith, upto, is)) }
 
 -- A word past the last one does nothing.
 past_word : (code : List ℕ) (i : ℕ) → length code ≤ i → word code i ≡ 0

@@ -8,18 +8,18 @@ use Rattle.shader_flow.proofs.Bounded.{some_below_none, some_below_not}
 use Rattle.served_law.specs.Waits.{waits_at, may_wait}
 use Rattle.shader_waits.specs.Waits.{wait_question, first_wait, NoneWhereServed}
 
-all_none : {F : Type 0} → (questions : ℕ → List (Question F)) (i n : ℕ) → ((k : ℕ) → i ≤ k → k < i + n → first_of (questions k) ≡ None) → first_of (each questions i n) ≡ None
+pub all_none : {F : Type 0} → (questions : ℕ → List (Question F)) (i n : ℕ) → ((k : ℕ) → i ≤ k → k < i + n → first_of (questions k) ≡ None) → first_of (each questions i n) ≡ None
 unfolding each
 all_none questions i zero none = refl
 all_none questions i (suc n) none =
     passes (questions i) (each questions (i + 1) n) (none i (omega arith) (omega arith))
     ∙ all_none questions (i + 1) n (λ k from below. none k (omega (arith, from)) (omega (arith, below)))
 
-asked_none : (b : Bool) (answer : ℕ) → b ≡ false → first_of (Ask b answer ∷ []) ≡ None
+pub asked_none : (b : Bool) (answer : ℕ) → b ≡ false → first_of (Ask b answer ∷ []) ≡ None
 asked_none true answer none = cc
 asked_none false answer none = refl
 
-none_asked : (b : Bool) (answer : ℕ) → first_of (Ask b answer ∷ []) ≡ None → b ≡ false
+pub none_asked : (b : Bool) (answer : ℕ) → first_of (Ask b answer ∷ []) ≡ None → b ≡ false
 none_asked true answer none = cc
 none_asked false answer none = refl
 

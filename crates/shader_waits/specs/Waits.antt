@@ -20,10 +20,3 @@ NoneWhereServed = (code : List ℕ) → (first_wait code ≡ None) ↔ (may_wait
 pub record AreCounts (code : List ℕ) (tmu : ℕ) (counts : List ℕ) : Type 0 where
   pub size : length counts ≡ length code + 1
   pub each : (i : ℕ) → i ≤ length code → slice_index counts i ≡ outstanding code tmu i
-
--- so before the first instructions up to this one, of which it has `now`
-pub record AreCounted (code : List ℕ) (tmu at now : ℕ) (counts : List ℕ) : Type 0 where
-  pub size : length counts ≡ at + 1
-  pub each : (i : ℕ) → i ≤ at → slice_index counts i ≡ outstanding code tmu i
-  pub now_is : now ≡ outstanding code tmu at
-  pub few : now ≤ at

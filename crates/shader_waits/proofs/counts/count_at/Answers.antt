@@ -1,5 +1,5 @@
 -- Past the last word nothing changes.
-use Rattle.std.proofs.Common.{◌≡◌, ◌≤◌, length, sym, arith, ◌∙◌}
+use Rattle.std.proofs.Common.{◌≤◌, length, sym, arith, ◌∙◌}
 use Rattle.shader_waits.proofs.Counted.{past_same}
 use Rattle.shader_waits.proofs.counts.count_at.Goals as goal
 

@@ -1,7 +1,6 @@
 -- One count more is kept.
 use Rattle.std.proofs.Common.{◌≡◌, ◌+◌, [], ◌∷◌, ◌++◌, sym, ap, subst, ◌∙◌}
-use Rattle.shader_waits.specs.Waits.{AreCounted}
-use Rattle.shader_waits.proofs.Counted.{counted_none, counted_more}
+use Rattle.shader_waits.proofs.Counted.{AreCounted, counted_none, counted_more}
 use Rattle.shader_waits.proofs.counts.counts_of.Goals as goal
 
 pub loop-at-init : goal.loop-at-init

@@ -1,4 +1,4 @@
-use Rattle.shader_waits.specs.Waits.{AreCounted}
+use Rattle.shader_waits.proofs.Counted.{AreCounted}
 use Rattle.shader_waits.proofs.counts.counts_of.Given as goal
 
 abbrev pub invariant-loop-at : goal.invariant-loop-at

@@ -1,5 +1,5 @@
 -- An instruction that doesn't wait leaves the answer to those after it; the first that may is the answer.
-use Rattle.std.proofs.Common.{◌≡◌, ◌<◌, ◌≤◌, Some, None, if◌then◌else◌, sym, ap, arith, ◌∙◌}
+use Rattle.std.proofs.Common.{◌≡◌, ◌<◌, Some, None, if◌then◌else◌, sym, ap, arith, ◌∙◌}
 use Rattle.field_words.specs.Questions.{first_of}
 use Rattle.field_words.proofs.Questions.{each_on, each_stop, each_end}
 use Rattle.shader_flow.specs.Flow.{checked_of}
