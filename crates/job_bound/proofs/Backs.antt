@@ -1,9 +1,8 @@
 -- A branch that leads back, of a shader that a handle names: there is one exactly where that shader, and so the file, has a loop. An
 -- instruction that may wait: there is one exactly where a program may.
-use Rattle.std.proofs.Common.{◌≡◌, ℕ, zero, suc, ◌+◌, ◌*◌, ◌<◌, ◌≤◌, Bool, true, false, List, [], ◌∷◌, length, Option, Some, None, refl, arith, ◌∙◌}
+use Rattle.std.proofs.Common.{◌≡◌, ℕ, ◌+◌, ◌*◌, ◌<◌, Bool, false, List, length, Option, Some, None, refl, arith}
 use Rattle.std.specs.Prelude.{slice_index}
-use Rattle.field_words.specs.Questions.{Question, Ask, first_of, each}
-use Rattle.field_words.proofs.Questions.{passes}
+use Rattle.field_words.specs.Questions.{Question, first_of, each}
 use Rattle.field_words.proofs.Nones.{each_none}
 use Rattle.shader_flow.specs.Bounded.{some_below}
 use Rattle.shader_flow.specs.Flow.{end_of, checked_of}
@@ -18,14 +17,7 @@ use Rattle.accepted_ends.specs.Bound.{loops, shader_named, job_loops, file_loops
 use Rattle.job_bound.specs.Back.{branch_question, branches, wait_question, wait_places, asked, handle_places, job_places, file_places, NoneWithoutLoop, NoneWhereServed}
 use Rattle.job_bound.specs.declared.named.Sought.{Sought}
 use Rattle.job_bound.specs.declared.named.Sought.TheVariants.{LeadsBack, MayWait}
-
--- Where no question of an item stands, none stands of all.
-all_none : {F : Type 0} → (questions : ℕ → List (Question F)) (i n : ℕ) → ((k : ℕ) → i ≤ k → k < i + n → first_of (questions k) ≡ None) → first_of (each questions i n) ≡ None
-unfolding each
-all_none questions i zero none = refl
-all_none questions i (suc n) none =
-    passes (questions i) (each questions (i + 1) n) (none i (omega arith) (omega arith))
-    ∙ all_none questions (i + 1) n (λ k from below. none k (omega (arith, from)) (omega (arith, below)))
+use Rattle.shader_waits.proofs.Served.{all_none, asked_none, none_asked}
 
 -- So it is with a test of the items.
 none_from : {F : Type 0} → (questions : ℕ → List (Question F)) (test : ℕ → Bool) (n : ℕ) → ((k : ℕ) → k < n → test k ≡ false → first_of (questions k) ≡ None)
@@ -36,15 +28,6 @@ none_to : {F : Type 0} → (questions : ℕ → List (Question F)) (test : ℕ �
     → first_of (each questions 0 n) ≡ None → some_below n test ≡ false
 none_to questions test n each_so none = some_below_none n test (λ k below. each_so k below (each_none questions 0 n k none (omega arith) (omega (arith, below))))
 
--- an instruction
-one_from : (b : Bool) (answer : ℕ) → b ≡ false → first_of (Ask b answer ∷ []) ≡ None
-one_from true answer none = cc
-one_from false answer none = refl
-
-one_to : (b : Bool) (answer : ℕ) → first_of (Ask b answer ∷ []) ≡ None → b ≡ false
-one_to true answer none = cc
-one_to false answer none = refl
-
 -- a shader has such a place exactly where the test says so
 record Tells (questions : Option (List ℕ) → ℕ → List (Question ℕ)) (test : Option (List ℕ) → Bool) : Type 0 where
   from : (shader : Option (List ℕ)) (place : ℕ) → test shader ≡ false → first_of (questions shader place) ≡ None
@@ -54,25 +37,25 @@ back_from : (shader : Option (List ℕ)) (place : ℕ) → loops shader ≡ fals
 unfolding has_loop
 back_from None place none = refl
 back_from (Some code) place none =
-    none_from (branch_question code place) (goes_back code) (end_of code) (λ k below. one_from (goes_back code k) (place + 8 * k)) none
+    none_from (branch_question code place) (goes_back code) (end_of code) (λ k below. asked_none (goes_back code k) (place + 8 * k)) none
 
 back_to : (shader : Option (List ℕ)) (place : ℕ) → first_of (branches shader place) ≡ None → loops shader ≡ false
 unfolding has_loop
 back_to None place none = refl
 back_to (Some code) place none =
-    none_to (branch_question code place) (goes_back code) (end_of code) (λ k below. one_to (goes_back code k) (place + 8 * k)) none
+    none_to (branch_question code place) (goes_back code) (end_of code) (λ k below. none_asked (goes_back code k) (place + 8 * k)) none
 
 wait_from : (shader : Option (List ℕ)) (place : ℕ) → waits shader ≡ false → first_of (wait_places shader place) ≡ None
 unfolding may_wait
 wait_from None place none = refl
 wait_from (Some code) place none =
-    none_from (wait_question code place) (λ i. waits_at code i) (checked_of code) (λ k below. one_from (waits_at code k) (place + 8 * k)) none
+    none_from (wait_question code place) (λ i. waits_at code i) (checked_of code) (λ k below. asked_none (waits_at code k) (place + 8 * k)) none
 
 wait_to : (shader : Option (List ℕ)) (place : ℕ) → first_of (wait_places shader place) ≡ None → waits shader ≡ false
 unfolding may_wait
 wait_to None place none = refl
 wait_to (Some code) place none =
-    none_to (wait_question code place) (λ i. waits_at code i) (checked_of code) (λ k below. one_to (waits_at code k) (place + 8 * k)) none
+    none_to (wait_question code place) (λ i. waits_at code i) (checked_of code) (λ k below. none_asked (waits_at code k) (place + 8 * k)) none
 
 abbrev tested : Sought → Option (List ℕ) → Bool
 tested LeadsBack shader = loops shader

@@ -1,19 +1,14 @@
 -- The parts of a job's bound.
-use Rattle.std.proofs.Common.{◌≡◌, ℕ, zero, suc, ◌+◌, ◌*◌, ◌<◌, Bool, true, false, ◌||◌, nat_le, ◌++◌, List, [], ◌∷◌, length, Option, Some, None, is_some, if◌then◌else◌, refl, sym, ap, subst, arith, ◌∙◌}
+use Rattle.std.proofs.Common.{◌≡◌, ℕ, zero, suc, ◌+◌, ◌*◌, ◌<◌, Bool, true, false, ◌||◌, nat_le, List, [], length, Option, Some, None, is_some, if◌then◌else◌, refl, sym, ap, subst, arith, ◌∙◌}
 use Rattle.std.specs.List.{range_with_len, sum_by}
 use Rattle.std.proofs.lemmas.List.Sums.{sum_by-cons}
-use Rattle.field_words.specs.Questions.{first_of, each}
-use Rattle.field_words.proofs.Questions.{none_stands}
-use Rattle.field_words.proofs.Nones.{front_none}
-use Rattle.buffer_table.specs.Table.{TableModel}
-use Rattle.bin_walks.specs.Walks.{Kept, nothing_kept, kept_after, Walks}
+use Rattle.bin_walks.specs.Walks.{nothing_kept}
 use Rattle.bin_list.specs.Packets.{packets, passed}
 use Rattle.bin_list.specs.Seen.{seen_before}
-use Rattle.packets.specs.declared.config.Config.{Config}
 use Rattle.job_format.specs.declared.file.Frame.{Frame}
 use Rattle.job_format.specs.Model.{FileModel}
 use Rattle.render_list.specs.Frame.{IsTileSet}
-use Rattle.render_list.specs.Surfaces.{surface_questions, surface_faults, is_outside_grid, frame_questions, whole_questions}
+use Rattle.render_list.specs.Surfaces.{is_outside_grid}
 use Rattle.render_list.specs.Text.{number_where, render_slots}
 use Rattle.job_check.specs.Emit.{memory_of}
 use Rattle.job_check.specs.Jobs.{job_of, has_bin, grid_from, grid_of, slot_of, places_in, bin_list_of}
@@ -25,10 +20,11 @@ use Rattle.accepted_law.specs.Neighbours.{IsFaultless}
 use Rattle.accepted_law.specs.Settled.{Settled, Grounds}
 use Rattle.accepted_law.proofs.BinWalking.{bins_walk_law}
 use Rattle.accepted_law.proofs.Joining.{all_ground}
-use Rattle.accepted_law.proofs.RenderWalking.{frame_setup}
+use Rattle.accepted_law.proofs.RenderWalking.{frame_setup, in_grid}
 use Rattle.ends_law.specs.Left.{AllWhole}
 use Rattle.ends_law.specs.Room.{room_of}
 use Rattle.ends_law.specs.Steps.{bin_steps, render_steps, job_steps}
+use Rattle.ends_law.proofs.Begins.{walks_whole}
 use Rattle.accepted_ends.specs.Bound.{job_bound, longest_of}
 use Rattle.accepted_ends.proofs.Cut.{packets_walk}
 use Rattle.job_bound.specs.Frames.{frame_steps}
@@ -36,25 +32,13 @@ use Rattle.job_bound.proofs.Settled.{settled}
 use Rattle.job_bound.proofs.Tiles.{steps_render}
 use Rattle.job_bound.proofs.Visits.{IsAcross, visits_render}
 
--- The packets of the emitted binner list are whole.
-all_whole : (c : Config) (R : ℕ → List ℕ → Type 0) (kept : Kept) (list : List (List ℕ)) → Walks c R kept list → AllWhole list
-all_whole c R kept [] walks = tt
-all_whole c R kept (packet ∷ list) walks = (record { whole = walks.0.whole; known = walks.0.known }, all_whole c R (kept_after kept packet) list walks.1)
-
 pub list_whole : (f : FileModel) (j : ℕ) → IsFaultless f → j < length f.jobs → AllWhole (packets (bin_list_of f j))
 list_whole f j faultless inside =
     let m : List ℕ = memory_of f in
     let grounds : Grounds f j m = all_ground f faultless.well_formed faultless.fits faultless.none j inside in
     let bin : BinWalks f j m = bins_walk_law f j m grounds in
     let same : packets (bin_list_of f j) ≡ bin.packets = ap packets bin.text ∙ packets_walk (config_for f j) (DrawShaders f j m) nothing_kept bin.packets bin.walks in
-    subst AllWhole (sym same) (all_whole (config_for f j) (DrawShaders f j m) nothing_kept bin.packets bin.walks)
-
--- The tiles of the frame lie in the binner's grid.
-in_grid : (frame : Frame) (grid : Option (ℕ × ℕ)) (table : TableModel) (handles : List ℕ) → first_of (surface_faults frame grid table handles) ≡ None → is_outside_grid frame grid ≡ false
-unfolding surface_faults frame_questions
-in_grid frame grid table handles none =
-    let n = none_stands (frame_questions frame grid) (front_none (frame_questions frame grid) (each (surface_questions frame table handles) 0 6 ++ whole_questions frame) none) in
-    n.1.0
+    subst AllWhole (sym same) (walks_whole (config_for f j) (DrawShaders f j m) nothing_kept bin.packets bin.walks)
 
 across_by : (frame : Frame) (grid : Option (ℕ × ℕ)) → is_outside_grid frame grid ≡ false → IsAcross frame grid
 unfolding is_outside_grid

@@ -71,9 +71,6 @@ programs_more f n programs program all one = record {
       ];
 }
 
-pub programs_none : (f : FileModel) → AreProgramsUpTo f 0 []
-programs_none f = record { count = refl; each = λ b below. absurd (omega (arith, below)) }
-
 -- A handle of a job that was read is the file's, and what is kept of the buffer that it names is kept of what it names.
 pub handle_is : (f : FileModel) (j i : ℕ) (job : JobModel) (number : ℕ) → job ≡ job_of f j → i < length (job_of f j).handles → number ≡ get_or job.handles i number
     → number ≡ slice_index (job_of f j).handles i

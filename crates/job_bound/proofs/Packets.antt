@@ -12,6 +12,7 @@ use Rattle.list_machine.specs.Binner.{work_of, primitive_of}
 use Rattle.ends_law.specs.Left.{IsWhole, AllWhole}
 use Rattle.ends_law.specs.Room.{room_in, room_of}
 use Rattle.ends_law.specs.Steps.{draws, programs_left, work_steps, packet_steps, bin_steps}
+use Rattle.bin_walks.proofs.Walking.{long_indexed}
 
 -- Cutting at most as many packets as there are bytes cuts all.
 cut_same : (n k : ℕ) (bytes : List ℕ) → length bytes ≤ n → length bytes ≤ k → cut n bytes ≡ cut k bytes
@@ -62,10 +63,6 @@ fewer_left bytes some =
 long_by : (packet : List ℕ) (o n : ℕ) → IsWhole packet → opcode packet ≡ o → bin_length o ≡ n → 6 ≤ n → 6 ≤ length packet
 long_by packet o n whole is size enough = let long : length packet ≡ n = whole.whole ∙ ap bin_length is ∙ size in omega (arith, long, enough)
 
-indexed_size : bin_length indexed_primitive_list ≡ 14
-unfolding bin_length
-indexed_size = refl
-
 array_size : bin_length array_primitive_list ≡ 10
 unfolding bin_length
 array_size = refl
@@ -74,7 +71,7 @@ pub long_draw : (packet : List ℕ) → IsWhole packet → draws packet ≡ true
 unfolding draws
 long_draw packet whole is =
     elim (or_cases (opcode packet == indexed_primitive_list) (opcode packet == array_primitive_list) is) [
-      | inl indexed ↦ long_by packet indexed_primitive_list 14 whole (eqb-true (opcode packet) indexed_primitive_list indexed) indexed_size (omega arith)
+      | inl indexed ↦ long_by packet indexed_primitive_list 14 whole (eqb-true (opcode packet) indexed_primitive_list indexed) long_indexed (omega arith)
       | inr array ↦ long_by packet array_primitive_list 10 whole (eqb-true (opcode packet) array_primitive_list array) array_size (omega arith)
     ]
 

@@ -15,10 +15,6 @@ abbrev Rises : ℕ → ℕ → List ℕ → Type 0
 Rises low high [] = low ≤ high
 Rises low high (p ∷ ps) = (low ≤ p) × Rises (p + 1) high ps
 
-rises_up : (low high : ℕ) (ps : List ℕ) → Rises low high ps → low ≤ high
-rises_up low high [] all = all
-rises_up low high (p ∷ ps) all = let rest = rises_up (p + 1) high ps all.1 in omega (arith, all.0, rest)
-
 rises_from : (low less high : ℕ) (ps : List ℕ) → less ≤ low → Rises low high ps → Rises less high ps
 rises_from low less high [] below all = omega (arith, below, all)
 rises_from low less high (p ∷ ps) below all = (omega (arith, below, all.0), all.1)
