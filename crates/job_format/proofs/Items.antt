@@ -55,10 +55,3 @@ all_taken [] zero past = refl
 all_taken [] (suc n) past = refl
 all_taken (x ∷ xs) zero past = absurd (omega (arith, past))
 all_taken (x ∷ xs) (suc n) past = ap (λ t. x ∷ t) (all_taken xs n (omega arith))
-
--- One more item is copied, and both are seen as the same.
-pub one_more_copied : {V W X : Type 0} (seen : V → X) (from : W → X) (items : List W) (k : ℕ) (w : W) (old new : List V) (v : V) → k < length items → w ≡ get_or items k w
-    → new ≡ old ++ v ∷ [] → map seen old ≡ map from (take k items) → seen v ≡ from w → map seen new ≡ map from (take (k + 1) items)
-one_more_copied seen from items k w old new v inside met pushed before one =
-    ap (map seen) pushed ∙ map-append seen old (v ∷ []) ∙ ap (λ front. front ++ seen v ∷ []) before ∙ ap (λ last. map from (take k items) ++ last ∷ []) one
-    ∙ sym (ap (map from) (taken items k w inside met) ∙ map-append from (take k items) (w ∷ []))

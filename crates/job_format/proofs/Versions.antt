@@ -7,10 +7,6 @@ pub buffer_limit_most : (v : ℕ) → buffer_limit v ≤ most_buffers
 unfolding buffer_limit
 buffer_limit_most v = grind arith
 
-pub handle_limit_most : (v : ℕ) → handle_limit v ≤ most_handles
-unfolding handle_limit
-handle_limit_most v = grind arith
-
 -- what passes
 pub version_passes : (v : ℕ) → not (is_version v) ≡ false → (1 ≤ v) × (v ≤ 2)
 unfolding is_version
