@@ -9,7 +9,8 @@ use Rattle.std.proofs.lemmas.Nat.Bits.{bit_at-zero, bit_at-lt, bit_at_and, bit_a
 use Rattle.field_words.specs.Writes.{with_bytes, zeros}
 use Rattle.session_pages.specs.Map.{is_free, held_by}
 use Rattle.session_pages.specs.Marks.{bit_of, mark_of, is_unmarked, IsMarked, AreMarks}
-use Rattle.session_pages.specs.Runs.{page_count}
+use Rattle.session_pages.specs.Runs.{page_count, first_run}
+use Rattle.session_pages.proofs.Walk.{run_same}
 
 -- the lowest bit from one on that is set
 pub record IsFirstSet (word from place : ℕ) : Type 0 where
@@ -154,6 +155,10 @@ free_is false = refl
 
 pub unmarked_is : (owners words : List ℕ) → AreMarks owners words → (page : ℕ) → page < page_count → is_unmarked words page ≡ is_free owners page
 unmarked_is owners words marks page low = ap (λ n. n == 0) (marks page low) ∙ free_is (is_free owners page)
+
+-- So the lowest free run is the same by both.
+pub same_run : (owners words : List ℕ) (pages : ℕ) → AreMarks owners words → first_run (is_unmarked words) pages ≡ first_run (is_free owners) pages
+same_run owners words pages marks = run_same (is_unmarked words) (is_free owners) pages (unmarked_is owners words marks)
 
 -- A page's word and bit.
 pub page_mark : (words : List ℕ) (page from other bit : ℕ) → from ≡ page % 64 → other ≡ page - from + bit → from ≤ bit → bit < 64

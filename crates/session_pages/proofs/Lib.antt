@@ -1,3 +1,5 @@
 pub mod Bits
+pub mod Kept
 pub mod Lowest
+pub mod Starts
 pub mod Walk

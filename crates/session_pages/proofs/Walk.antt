@@ -3,7 +3,7 @@ use Rattle.std.proofs.Common.{◌≡◌, inl, inr, ℕ, zero, suc, ◌+◌, ◌-
 use Rattle.std.proofs.lemmas.Bool.{cases_lt}
 use Rattle.std.proofs.lemmas.Bool.Decides.{nat_tests}
 use Rattle.overflow_slots.specs.Search.{first_where}
-use Rattle.session_pages.specs.Marks.{mark_of, is_unmarked}
+use Rattle.session_pages.specs.Marks.{mark_of, is_unmarked, AreHeldBelow}
 use Rattle.session_pages.specs.Runs.{page_count, all_where, is_run, first_run}
 use Rattle.session_pages.proofs.Lowest.{run_is, no_run, never}
 
@@ -21,13 +21,13 @@ pub record IsAt (words : List ℕ) (pages first page : ℕ) : Type 0 where
   pub none : (start : ℕ) → start < first → is_run (is_unmarked words) pages start ≡ false
   pub free : (other : ℕ) → first ≤ other → other < page → is_unmarked words other ≡ true
 
-pub at_start : (words : List ℕ) (pages : ℕ) → 1 ≤ pages → IsAt words pages 0 0
-at_start words pages some = record {
+pub at_start : (words : List ℕ) (start pages : ℕ) → 1 ≤ pages → AreHeldBelow words start → IsAt words pages start start
+at_start words start pages some held = record {
   begun = omega arith;
-  low = omega arith;
+  low = held.low;
   short = omega (arith, some);
-  none = λ start below. absurd (omega (arith, below));
-  free = λ other from below. absurd (omega (arith, below));
+  none = λ page below. no_run (is_unmarked words) pages page page (omega arith) (omega (arith, some)) (marked words page (held.held page below));
+  free = λ other from below. absurd (omega (arith, from, below));
 }
 
 -- The pages up to `held` are free.

@@ -1,3 +1,4 @@
+pub mod Kept
 pub mod Map
 pub mod Marks
 pub mod Runs

@@ -23,3 +23,8 @@ pub record IsMarked (old new : List ℕ) (first pages : ℕ) (held : Bool) : Typ
 -- the bits are those of the pages' owners
 abbrev pub AreMarks : List ℕ → List ℕ → Type 0
 AreMarks owners words = (page : ℕ) → page < page_count → mark_of words page ≡ bit_of (not (is_free owners page))
+
+-- all pages below this one are held
+pub record AreHeldBelow (words : List ℕ) (start : ℕ) : Type 0 where
+  pub low : start ≤ page_count
+  pub held : (page : ℕ) → page < start → mark_of words page ≡ 1

@@ -6,10 +6,10 @@ ghost use Rattle.phys_mem.specs.Window.{window_of};
 ghost use Rattle.session_pages.specs.Map.{all_free as all_free_map, free_run, with_run, without_run, with_part, place_of, memory_size};
 ghost use Rattle.session_pages.specs.Runs.{page_count};
 
-use crate::marks::{first_run, mark, none_marked};
+use crate::marks::Marks;
+use crate::memory::Memory;
 use crate::owners::{all_free, hold};
 use field_words::{NoMemory, PAGE_SIZE};
-use phys_mem::PhysMem;
 use std::alloc::Global;
 use std::marker::Model;
 
@@ -26,9 +26,9 @@ pub const MEMORY_SIZE: u32 = 21_495_808;
 /// held, so that a look for free pages goes by words.
 #[derive(Drop)]
 pub struct Pages {
-    memory: PhysMem,
+    memory: Memory,
     owners: Vec<u16>,
-    marks: [u64; 64],
+    marks: Marks,
 }
 
 impl Model for Pages {
@@ -54,9 +54,9 @@ impl Pages {
     pub fn new(alloc: Global) -> Result<Pages, NoMemory>
         ensures { IfOk result (λ pages. pages ≡ all_free_map) }
     {
-        let memory = PhysMem::new(alloc, MEMORY_SIZE)?;
+        let memory = Memory::new(alloc)?;
         let owners = all_free(alloc, PAGE_COUNT as usize)?;
-        let marks = none_marked();
+        let marks = Marks::none();
         Ok(Pages {
             memory,
             owners,
@@ -69,7 +69,9 @@ impl Pages {
         ensures value { result ≡ memory_size }
         ensures sized { length self.now.memory ≡ memory_size }
     {
-        self.memory.len()
+        // The memory is as long as it always is.
+        let _ = &self.memory;
+        MEMORY_SIZE
     }
 
     /// Takes the lowest run of so many free pages, and gives its first page. `None` comes exactly where there is no such run, and
@@ -80,9 +82,9 @@ impl Pages {
         ensures inside { IfSome result (λ first. first + pages ≤ page_count) }
         ensures taken { self.new ≡ with_run self.old pages owner result }
     {
-        let first = first_run(&self.marks, pages)?;
+        let first = self.marks.first_run(pages)?;
         hold(&mut self.owners, first, pages, owner);
-        mark(&mut self.marks, first, pages, owner != 0);
+        self.marks.mark(first, pages, owner != 0);
         Some(first)
     }
 
@@ -92,9 +94,9 @@ impl Pages {
         ensures { self.new ≡ without_run self.old first pages }
     {
         let place = place_of_page(first);
-        clear(&mut self.memory, place, PAGE_SIZE * pages);
+        self.memory.clear(place, PAGE_SIZE * pages);
         hold(&mut self.owners, first, pages, 0);
-        mark(&mut self.marks, first, pages, false);
+        self.marks.mark(first, pages, false);
     }
 
     /// Puts these bytes into the memory, from a page's byte `at` on. It takes no memory.
@@ -103,7 +105,7 @@ impl Pages {
         requires inside { place_of first + at + length part.now ≤ memory_size }
         ensures { self.new ≡ with_part self.old first at part.now }
     {
-        self.memory.write_bytes(place_of_page(first) + at, part);
+        self.memory.write(place_of_page(first) + at, part);
     }
 
     /// The `len` bytes from a page's byte `at` on. It may run out of memory.
@@ -112,28 +114,6 @@ impl Pages {
         requires inside { place_of first + at + len ≤ memory_size }
         ensures { IfOk result (λ bytes. bytes.items ≡ window_of self.now.memory (place_of first + at) len) }
     {
-        copied(alloc, &self.memory, place_of_page(first) + at, len)
+        self.memory.read(alloc, place_of_page(first) + at, len)
     }
-}
-
-// Zeros over the `len` bytes from `place` on.
-#[tactic(auto, unfolding(field_words::specs::Writes::zeros))]
-fn clear(memory: &mut PhysMem, place: u32, len: u32)
-    requires { place + len ≤ length memory.old }
-    ensures { memory.new ≡ with_bytes memory.old place (zeros len) }
-{
-    memory.window(place, len).fill(0);
-}
-
-// The `len` bytes from `place` on.
-fn copied(alloc: Global, memory: &PhysMem, place: u32, len: u32) -> Result<Vec<u8>, NoMemory>
-    requires inside { place + len ≤ length memory.now }
-    requires small { place + len ≤ memory_size }
-    ensures { IfOk result (λ bytes. bytes.items ≡ window_of memory.now place len) }
-{
-    let mut bytes = Vec::new(alloc);
-    for index in 0..len {
-        bytes.push(memory.read_byte(place + index))?;
-    }
-    Ok(bytes)
 }

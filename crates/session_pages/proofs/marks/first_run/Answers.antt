@@ -1,6 +1,9 @@
 use Rattle.std.proofs.Common.{sym, arith}
-use Rattle.session_pages.proofs.Walk.{found, moves, skips, none_found}
+use Rattle.session_pages.proofs.Walk.{at_start, found, moves, skips, none_found}
 use Rattle.session_pages.proofs.marks.first_run.Goals as goal
+
+pub loop-page-init : goal.loop-page-init
+loop-page-init c = at_start c.args.words.now c.args.start c.args.pages c.requires.some c.requires.held
 
 pub returns-then-held-first-clause-first : goal.returns-then-held-first-clause-first
 returns-then-held-first-clause-first c =

@@ -23,6 +23,6 @@ invariant_of-self c =
             ∙ (length-with_bytes _ _ _ (cleared_fits _ c.args.first c.args.pages c.place_of_page-place.result c.requires c.place_of_page-place.ensures whole.sized) ∙ whole.sized);
         known = ap length c.hold.ensures ∙ (length-with_bytes _ _ _ (freed_fits _ c.args.first c.args.pages c.requires whole.known) ∙ whole.known);
       },
-      subst (λ owners. AreMarks owners c.mark.new.words) (sym c.hold.ensures)
-          (held_marked c.self.inside.owners.items c.self.inside.marks c.mark.new.words c.args.first c.args.pages 0 whole.known c.requires c.self.invariant.1 c.mark.ensures),
+      subst (λ owners. AreMarks owners c.mark.new.self) (sym c.hold.ensures)
+          (held_marked c.self.inside.owners.items c.self.inside.marks c.mark.new.self c.args.first c.args.pages 0 whole.known c.requires c.self.invariant.1 c.mark.ensures),
     )

@@ -13,6 +13,6 @@ invariant_of-result c = (
     sized = ap length c.in_ok-memory.ensures ∙ length_zeros memory_size;
     known = ap length c.in_ok-owners.ensures ∙ length_zeros page_count;
   },
-  subst (λ owners. AreMarks owners c.none_marked-marks.result) (sym c.in_ok-owners.ensures)
-      (subst (AreMarks (zeros page_count)) (sym c.none_marked-marks.ensures) none_marked),
+  subst (λ owners. AreMarks owners c.none-marks.result) (sym c.in_ok-owners.ensures)
+      (subst (AreMarks (zeros page_count)) (sym c.none-marks.ensures) none_marked),
 )
