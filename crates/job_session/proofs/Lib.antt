@@ -4,6 +4,7 @@ pub mod Digits
 pub mod Entered
 pub mod Held
 pub mod Keeps
+pub mod Live
 pub mod Packed
 pub mod Refusals
 pub mod Runs

@@ -1,5 +1,5 @@
 -- What a session keeps of the shaders in Code buffers, so that no submit asks the rules of shaders of them again.
-use Rattle.std.specs.Prelude.{◌≡◌, ◌≤◌, ◌<◌, ℕ, ◌+◌, ◌*◌, List, [], ◌∷◌, length, slice_index, slice_index_or, Option, None, Some, IfSome}
+use Rattle.std.specs.Prelude.{◌≡◌, ◌≤◌, ◌<◌, ℕ, ◌+◌, ◌*◌, ◌==◌, not, List, [], ◌∷◌, length, slice_index, slice_index_or, Option, None, Some, IfSome}
 use Rattle.field_words.specs.Sizes.{page_size, most_code}
 use Rattle.field_words.specs.Words.{IsBytes}
 use Rattle.field_words.specs.Questions.{first_of}
@@ -12,6 +12,7 @@ use Rattle.job_format.specs.File.{BufferFits, FitsShader}
 use Rattle.job_check.specs.Shaders.{words_of, code_questions, told_of, shader_for}
 use Rattle.job_check.specs.Faults.{shader_questions_in}
 use Rattle.session_pages.specs.Map.{place_of, IsWhole}
+use Rattle.session_pages.specs.Marks.{mark_of, bit_of}
 use Rattle.job_session.specs.declared.kept.Kept.{Kept}
 use Rattle.job_session.specs.Desk.{SlotsFit, slot_count}
 
@@ -53,6 +54,10 @@ pub record IsSession (memory owners firsts counts : List ℕ) (kinds : List Kind
   pub apart : AreApart owners firsts counts
   pub long : length kept ≡ slot_count
   pub are : AreKept memory firsts counts kinds kept
+
+-- of each slot a mark says whether a buffer lives there
+abbrev pub AreLive : List ℕ → List ℕ → Type 0
+AreLive counts marks = (slot : ℕ) → slot < slot_count → mark_of marks slot ≡ bit_of (not (slice_index counts slot == 0))
 
 -- A live buffer in the file of a job: its entry's numbers fit, its contents are as long as the entry says, no rule of shaders stands of
 -- them, and what is told of the shader is what asking would tell.

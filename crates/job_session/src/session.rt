@@ -20,7 +20,7 @@ use super::rules::{check_file, check_shader};
 use buffer_table::{Buffer, Kind};
 use field_words::{MOST_CODE, NoMemory, PAGE_SIZE, Stop};
 use job_check::shader_in;
-use session_pages::{FIRST_PLACE, Pages};
+use session_pages::{FIRST_PLACE, Marks, Pages};
 use std::alloc::Global;
 use std::marker::Model;
 
@@ -35,6 +35,7 @@ pub const MOST_READ: u32 = 256;
 
 /// The memory, and for each slot the first page of its buffer, how many pages it has, and its kind. A client has 64 slots, one for
 /// each id. Of a Code buffer's slot what was told of the shader is kept too, so that no submit asks again: all its bytes are as then.
+/// For each slot a bit says whether a buffer lives there, so that a look for a free id is one look at a word.
 #[derive(Drop)]
 pub struct Session {
     pages: Pages,
@@ -42,31 +43,18 @@ pub struct Session {
     counts: [u32; 512],
     kinds: [Kind; 512],
     kept: Vec<Option<Kept>>,
+    live: Marks,
 }
 
 impl Model for Session {
     ghost use Rattle.job_session.specs.Desk.{Desk};
-    ghost use Rattle.job_session.specs.Kept.{IsSession};
+    ghost use Rattle.job_session.specs.Kept.{IsSession, AreLive};
 
     ghost Value = { Desk };
 
     ghost view = { λ s. record { map = s.pages; firsts = s.firsts; counts = s.counts; kinds = s.kinds } };
 
-    ghost invariant = { λ s. IsSession s.pages.memory s.pages.owners s.firsts s.counts s.kinds s.kept.items };
-}
-
-// The least id that the client doesn't use.
-fn free_id(counts: &[u32; 512], client: u8) -> Option<u32>
-    requires { client < 8 }
-    ensures first { result ≡ least_id counts.now client }
-    ensures inside { IfSome result (λ id. id < 64) }
-{
-    for id in 0..MOST_BUFFERS {
-        if counts[slot(client, id)] == 0 {
-            return Some(id);
-        }
-    }
-    None
+    ghost invariant = { λ s. IsSession s.pages.memory s.pages.owners s.firsts s.counts s.kinds s.kept.items × AreLive s.counts s.live };
 }
 
 // A zero for each slot.
@@ -124,7 +112,23 @@ impl Session {
             counts: none(),
             kinds: plain(),
             kept: nothing_kept(alloc)?,
+            live: Marks::none(),
         })
+    }
+
+    // The least id that the client doesn't use.
+    fn free_id(&self, client: u8) -> Option<u32>
+        requires { client < 8 }
+        ensures first { result ≡ least_id self.now.counts client }
+        ensures inside { IfSome result (λ id. id < 64) }
+    {
+        let first = slot(client, 0) as u32;
+        let free = self.live.next_free(first);
+        if free < first + MOST_BUFFERS {
+            Some(free - first)
+        } else {
+            None
+        }
     }
 
     // A buffer of so many free pages, as they are, by its id. Refused are 4 and 6.
@@ -137,7 +141,7 @@ impl Session {
         ensures kind { IfOk result (λ id. kind_of self.new client id ≡ kind) }
         ensures inside { IfOk result (λ id. id < 64) }
     {
-        let Some(id) = free_id(&self.counts, client) else {
+        let Some(id) = self.free_id(client) else {
             return Err(4);
         };
         let slot = slot(client, id);
@@ -147,6 +151,7 @@ impl Session {
         self.firsts[slot] = first;
         self.counts[slot] = pages;
         self.kinds[slot] = kind;
+        self.live.mark(slot as u32, 1, true);
         Ok(id)
     }
 
@@ -202,6 +207,7 @@ impl Session {
         self.kept[slot] = None;
         self.pages.give_back(self.firsts[slot], self.counts[slot]);
         self.counts[slot] = 0;
+        self.live.mark(slot as u32, 1, false);
         Ok(())
     }
 

@@ -15,9 +15,9 @@ returns-in_ok-copy_of-in-Some-index c =
     let kept = c.in-Some-index.kept in
     let desk : Desk = record { map = s.pages; firsts = s.firsts; counts = s.counts; kinds = s.kinds } in
     let inside = slot_inside c.args.client c.args.id slot c.requires.client c.requires.id c.slot.ensures in
-    let long = c.self.invariant.long in
+    let long = c.self.invariant.0.long in
     let is : kept_in s.kept.items slot ≡ Some kept = kept_there s.kept.items slot c.index.result.now kept (omega (arith, inside, long)) c.index.ensures c.in-Some-index.is in
-    let of_slot = c.self.invariant.are slot kept inside is in
+    let of_slot = c.self.invariant.0.are slot kept inside is in
     let held = kept_held desk c.args.client c.args.id slot kept c.requires.id c.slot.ensures of_slot in
     code_entry c.args.client c.args.place (held_in c.args.self.now c.args.client c.args.id) (record {
       buffer = c.in-Some.buffer;
