@@ -146,6 +146,10 @@ trace_over Chooses Answers favoured start now steps done trace h most over = tra
 pub trace_spent : (Chooses Answers : ℕ → ℕ → ℕ → Type 0) (favoured : Option UnitKind) (start now : State) (steps done : ℕ) (trace : Trace) → Lined Chooses Answers favoured start now done trace.lines.items → done ≤ steps → IsEnded now steps done trace.ending → (events : List Event) × IsTrace Chooses Answers favoured start steps events trace
 trace_spent Chooses Answers favoured start now steps done trace h most ends = trace_with Chooses Answers favoured start now steps done trace h most ends
 
+-- a trace from this state is one from the same
+pub trace_from : (Chooses Answers : ℕ → ℕ → ℕ → Type 0) (favoured : Option UnitKind) (s start : State) (steps : ℕ) (trace : Trace) → s ≡ start → (events : List Event) × IsTrace Chooses Answers favoured s steps events trace → (events : List Event) × IsTrace Chooses Answers favoured start steps events trace
+trace_from Chooses Answers favoured s start steps trace same h = subst (λ was. (events : List Event) × IsTrace Chooses Answers favoured was steps events trace) same h
+
 log_with : (Chooses Answers : ℕ → ℕ → ℕ → Type 0) (favoured : Option UnitKind) (start now : State) (steps done : ℕ) (log : Log) (h : Noted Chooses Answers favoured start now done log.accesses.items) → log.steps ≡ done → done ≤ steps → IsEnded now steps done log.ending → (events : List Event) × IsLog Chooses Answers favoured start steps events log
 log_with Chooses Answers favoured start now steps done log h count most ends = (
   h.events,
@@ -164,6 +168,9 @@ log_over Chooses Answers favoured start now steps done log h count most over = l
 
 pub log_spent : (Chooses Answers : ℕ → ℕ → ℕ → Type 0) (favoured : Option UnitKind) (start now : State) (steps done : ℕ) (log : Log) → Noted Chooses Answers favoured start now done log.accesses.items → log.steps ≡ done → done ≤ steps → IsEnded now steps done log.ending → (events : List Event) × IsLog Chooses Answers favoured start steps events log
 log_spent Chooses Answers favoured start now steps done log h count most ends = log_with Chooses Answers favoured start now steps done log h count most ends
+
+pub log_from : (Chooses Answers : ℕ → ℕ → ℕ → Type 0) (favoured : Option UnitKind) (s start : State) (steps : ℕ) (log : Log) → s ≡ start → (events : List Event) × IsLog Chooses Answers favoured s steps events log → (events : List Event) × IsLog Chooses Answers favoured start steps events log
+log_from Chooses Answers favoured s start steps log same h = subst (λ was. (events : List Event) × IsLog Chooses Answers favoured was steps events log) same h
 
 -- the code's step is one that the script gave
 pub unit_may : (favoured : Option UnitKind) (s : State) (units : List ℕ) (place : ℕ) (unit : Actor) → units ≡ candidates favoured (enabled_units s) → place < length units → unit ≡ unit_at (slice_index units place) → IsTrue (enabled s unit)

@@ -1,3 +1,5 @@
 pub mod Order
 pub mod Going
 pub mod Idle
+pub mod Quiet
+pub mod Watching

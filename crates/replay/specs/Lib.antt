@@ -1,3 +1,4 @@
 pub mod Units
 pub mod Trace
 pub mod Run
+pub mod Watched

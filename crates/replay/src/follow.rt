@@ -8,7 +8,8 @@ ghost use Rattle.replay.specs.Run.{MayChoose, IsBelow, MayAnswer, IsOver, StepsB
 use crate::logged::{Log, Logged, put_step};
 use crate::oracle::Oracle;
 use crate::trace::{Ending, Trace, TraceLine, line_of};
-use crate::units::{UnitKind, candidates, enabled_units, unit_at, word_count};
+use crate::units::{UnitKind, candidates, unit_at, word_count};
+use crate::watched::Watched;
 use arrayvec::ArrayVec;
 use field_words::NoMemory;
 use machine::Machine;
@@ -20,13 +21,13 @@ const MOST_WORDS: usize = 4096;
 
 // The units that may step, or why the run is over. Where one may step the machine isn't finished, so that is asked of the others
 // alone.
-fn look(machine: &Machine) -> Result<ArrayVec<u8, 38>, Ending>
+fn look(machine: &Watched) -> Result<ArrayVec<u8, 38>, Ending>
     ensures goes { IfOk result (λ _. finished machine.now ≡ false) }
     ensures some { IfOk result (λ units. 1 ≤ length units.items) }
     ensures units { IfOk result (λ units. units.items ≡ enabled_units machine.now) }
     ensures over { IfErr result (IsOver machine.now) }
 {
-    let units = enabled_units(machine);
+    let units = machine.units();
     if !units.is_empty() {
         return Ok(units);
     }
@@ -60,7 +61,7 @@ fn take_step<C: Fn(u64, u32) -> u32, F: Fn(u64, u32) -> u32>(
     units: ArrayVec<u8, 38>,
     words: &mut [u32; MOST_WORDS],
     accesses: &mut Accesses,
-    machine: &mut Machine,
+    machine: &mut Watched,
 ) -> TraceLine
     requires goes { finished machine.old ≡ false }
     requires some { 1 ≤ length units.items }
@@ -87,7 +88,7 @@ fn go_on<C: Fn(u64, u32) -> u32, F: Fn(u64, u32) -> u32>(
     step: u64,
     words: &mut [u32; MOST_WORDS],
     accesses: &mut Accesses,
-    machine: &mut Machine,
+    machine: &mut Watched,
 ) -> Result<TraceLine, Ending>
     requires chooses { MayChoose (C.pre oracle.now.choose) }
     requires below { IsBelow (C.post oracle.now.choose) }
@@ -108,7 +109,7 @@ fn follow<C: Fn(u64, u32) -> u32, F: Fn(u64, u32) -> u32>(
     favoured: Option<UnitKind>,
     steps: u32,
     lines: &mut Vec<TraceLine>,
-    machine: &mut Machine,
+    machine: &mut Watched,
 ) -> Result<Ending, NoMemory>
     requires empty { lines.old.items ≡ [] }
     requires few { steps ≤ 1000000 }
@@ -142,7 +143,7 @@ fn follow<C: Fn(u64, u32) -> u32, F: Fn(u64, u32) -> u32>(
 /// it steps whenever one may. It takes its memory first; the machine is dropped at the end.
 pub fn replay<C: Fn(u64, u32) -> u32, F: Fn(u64, u32) -> u32>(
     alloc: Global,
-    mut machine: Machine,
+    machine: Machine,
     oracle: &Oracle<C, F>,
     favoured: Option<UnitKind>,
     steps: u32,
@@ -154,7 +155,8 @@ pub fn replay<C: Fn(u64, u32) -> u32, F: Fn(u64, u32) -> u32>(
     ensures { IfOk result (λ trace. (events : List Event) × IsTrace (C.post oracle.now.choose) (F.post oracle.now.answer) favoured machine steps events trace) }
 {
     let mut lines = Vec::with_capacity(alloc, steps as usize)?;
-    let ending = follow(oracle, favoured, steps, &mut lines, &mut machine)?;
+    let mut watched = Watched::new(machine);
+    let ending = follow(oracle, favoured, steps, &mut lines, &mut watched)?;
     Ok(Trace { lines, ending })
 }
 
@@ -164,7 +166,7 @@ fn note<C: Fn(u64, u32) -> u32, F: Fn(u64, u32) -> u32>(
     favoured: Option<UnitKind>,
     steps: u32,
     kept: &mut Vec<Logged>,
-    machine: &mut Machine,
+    machine: &mut Watched,
 ) -> Result<(u32, Ending), NoMemory>
     requires empty { kept.old.items ≡ [] }
     requires few { steps ≤ 1000000 }
@@ -197,7 +199,7 @@ fn note<C: Fn(u64, u32) -> u32, F: Fn(u64, u32) -> u32>(
 /// Steps the machine as [`replay`] does, and keeps all accesses of the steps. The machine is dropped at the end.
 pub fn log_run<C: Fn(u64, u32) -> u32, F: Fn(u64, u32) -> u32>(
     alloc: Global,
-    mut machine: Machine,
+    machine: Machine,
     oracle: &Oracle<C, F>,
     favoured: Option<UnitKind>,
     steps: u32,
@@ -209,7 +211,8 @@ pub fn log_run<C: Fn(u64, u32) -> u32, F: Fn(u64, u32) -> u32>(
     ensures { IfOk result (λ log. (events : List Event) × IsLog (C.post oracle.now.choose) (F.post oracle.now.answer) favoured machine steps events log) }
 {
     let mut accesses = Vec::new(alloc);
-    let (steps, ending) = note(oracle, favoured, steps, &mut accesses, &mut machine)?;
+    let mut watched = Watched::new(machine);
+    let (steps, ending) = note(oracle, favoured, steps, &mut accesses, &mut watched)?;
     Ok(Log {
         accesses,
         steps,

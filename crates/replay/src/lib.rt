@@ -6,6 +6,7 @@ mod logged;
 mod oracle;
 mod trace;
 mod units;
+mod watched;
 
 pub use follow::{log_run, replay};
 pub use logged::{Log, Logged};

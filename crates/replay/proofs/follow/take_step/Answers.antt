@@ -6,6 +6,15 @@ use Rattle.replay.specs.Units.{unit_at, candidates}
 use Rattle.replay.proofs.Going.{unit_may, steps_by}
 use Rattle.replay.proofs.follow.take_step.Goals as goal
 
+pub step-requires : goal.step-requires
+step-requires g c =
+    let units_are = c.deref.ensures.0 in
+    let units = c.candidates-units.result.items in
+    let chosen = c.candidates-units.ensures.value ∙ ap (candidates c.args.favoured) c.requires.units in
+    let unit_is = c.unit_at-unit.ensures ∙ ap (λ us. unit_at (slice_index us c.pick-place.result)) units_are in
+    let below : c.pick-place.result < length units = omega (arith, c.pick-place.ensures.below, c.len.ensures.value) in
+    unit_may c.args.favoured c.args.machine.now units c.pick-place.result c.unit_at-unit.result chosen below unit_is
+
 pub returns : goal.returns
 returns g c =
     let units_are = c.deref.ensures.0 in
@@ -13,7 +22,6 @@ returns g c =
     let chosen = c.candidates-units.ensures.value ∙ ap (candidates c.args.favoured) c.requires.units in
     let unit_is = c.unit_at-unit.ensures ∙ ap (λ us. unit_at (slice_index us c.pick-place.result)) units_are in
     let below : c.pick-place.result < length units = omega (arith, c.pick-place.ensures.below, c.len.ensures.value) in
-    let may = unit_may c.args.favoured c.args.machine.now units c.pick-place.result c.unit_at-unit.result chosen below unit_is in
     let picked = c.pick-place.ensures.gives in
     let size = c.len.ensures.value in
     let given = c.fill.new.words in
@@ -22,4 +30,4 @@ returns g c =
     let listed = c.step.new.accesses.items in
     steps_by _ _ c.args.favoured c.args.step c.args.machine.now c.step.new.self units c.pick-place.result c.unit_at-unit.result given listed listed c.job_of-job.result c.line_of.result
     c.requires.goes chosen below (subst (λ n. goal.C-post g c.args.oracle.now.choose c.args.step n c.pick-place.result) size picked) unit_is (long ∙ c.word_count.ensures.value) c.fill.ensures.given
-    (c.step.ensures.moved (c.step.ensures.done may)) refl c.job_of-job.ensures (c.line_of.ensures ∙ ap (line_of c.unit_at-unit.result c.job_of-job.result) c.as_slice.ensures.value)
+    c.step.ensures refl c.job_of-job.ensures (c.line_of.ensures ∙ ap (line_of c.unit_at-unit.result c.job_of-job.result) c.as_slice.ensures.value)

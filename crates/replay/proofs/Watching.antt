@@ -1,0 +1,112 @@
+-- Which units a step leaves as they were.
+use Rattle.std.proofs.Common.{◌≡◌, ◌≢◌, ◌<◌, ℕ, zero, suc, ◌+◌, ◌*◌, ◌-◌, ◌/◌, ◌%◌, Bool, true, false, List, [], ◌∷◌, ◌++◌, length, slice_index_or, eqb, refl, sym, ◌∙◌, ap, subst, arith}
+use Rattle.std.proofs.lemmas.Bool.{eqb-true, eqb-false}
+use Rattle.field_words.specs.declared.access.Actor.{Actor}
+use Rattle.field_words.specs.declared.access.Actor.TheVariants.{Binner as TheBinner, Renderer as TheRenderer, Qpu as TheQpu, Tmu as TheTmu}
+use Rattle.machine_plan.specs.Glance.{glanced}
+use Rattle.machine.specs.State.{State, item_at, renderer_job}
+use Rattle.machine.specs.Step.{enabled, step, qpu_may, tmu_may, renderer_may}
+use Rattle.machine.specs.State.{first_where}
+use Rattle.list_machine.specs.Renderer.{has_renderer_work}
+use Rattle.replay.specs.Units.{unit_count, unit_at, enabled_below}
+use Rattle.replay.specs.Watched.{TouchesOne, LeavesOthers, AreAsked, IsElsewhere, StayAsked}
+use Rattle.replay.proofs.Quiet.{leaves_others}
+use Rattle.replay.proofs.Order.{renderer_at, qpu_at, tmu0_at, tmu1_at, units_put, units_past}
+
+renderer_stays : (k : ℕ) (s t : State) → TouchesOne k s t → enabled t TheRenderer ≡ enabled s TheRenderer
+unfolding enabled
+renderer_stays k s t one =
+    ap (λ jobs. glanced (renderer_may (first_where has_renderer_work 0 jobs)) t.memory) one.jobs
+    ∙ ap (λ m. glanced (renderer_may (renderer_job s.units)) m) one.memory
+
+qpu_stays : (k i : ℕ) (s t : State) → TouchesOne k s t → i ≢ k → enabled t (TheQpu i) ≡ enabled s (TheQpu i)
+unfolding enabled
+qpu_stays k i s t one other =
+    ap (λ q. glanced (qpu_may q) t.memory) (one.others i other) ∙ ap (λ m. glanced (qpu_may (item_at s.units.qpus i)) m) one.memory
+
+tmu_stays : (k i j : ℕ) (s t : State) → TouchesOne k s t → i ≢ k → enabled t (TheTmu i j) ≡ enabled s (TheTmu i j)
+unfolding enabled
+tmu_stays k i j s t one other =
+    ap (λ q. glanced (tmu_may q j) t.memory) (one.others i other) ∙ ap (λ m. glanced (tmu_may (item_at s.units.qpus i) j) m) one.memory
+
+-- a unit of processor i
+third_stays : (k i r : ℕ) (s t : State) → TouchesOne k s t → i ≢ k → r < 3 → enabled t (unit_at (3 * i + 2 + r)) ≡ enabled s (unit_at (3 * i + 2 + r))
+third_stays k i zero s t one other few =
+    let e : 3 * i + 2 + 0 ≡ 3 * i + 2 = omega arith in
+    subst (λ unit. enabled t unit ≡ enabled s unit) (qpu_at i ∙ ap unit_at (sym e)) (qpu_stays k i s t one other)
+third_stays k i (suc zero) s t one other few =
+    let e : 3 * i + 2 + 1 ≡ 3 * i + 3 = omega arith in
+    subst (λ unit. enabled t unit ≡ enabled s unit) (tmu0_at i ∙ ap unit_at (sym e)) (tmu_stays k i 0 s t one other)
+third_stays k i (suc (suc zero)) s t one other few =
+    let e : 3 * i + 2 + 2 ≡ 3 * i + 4 = omega arith in
+    subst (λ unit. enabled t unit ≡ enabled s unit) (tmu1_at i ∙ ap unit_at (sym e)) (tmu_stays k i 1 s t one other)
+third_stays k i (suc (suc (suc r))) s t one other few = absurd (omega (arith, few))
+
+-- the three units of a processor
+elsewhere : (k n r : ℕ) → n % 3 ≡ r → r < 3 → n / 3 ≡ k → IsElsewhere k (suc (suc n)) → ⊥
+elsewhere k n zero rest few same where_is = where_is.qpu (omega (arith, rest, same))
+elsewhere k n (suc zero) rest few same where_is = where_is.tmu0 (omega (arith, rest, same))
+elsewhere k n (suc (suc zero)) rest few same where_is = where_is.tmu1 (omega (arith, rest, same))
+elsewhere k n (suc (suc (suc r))) rest few same where_is = absurd (omega (arith, few))
+
+-- a unit with this number, of processor i or of none
+numbered_stays : (k n : ℕ) (s t : State) → TouchesOne k s t → IsElsewhere k n → enabled t (unit_at n) ≡ enabled s (unit_at n)
+numbered_stays k zero s t one where_is = absurd (where_is.binner refl)
+numbered_stays k (suc zero) s t one where_is = subst (λ unit. enabled t unit ≡ enabled s unit) renderer_at (renderer_stays k s t one)
+numbered_stays k (suc (suc n)) s t one where_is =
+    let i = n / 3 in
+    let few : n % 3 < 3 = omega arith in
+    let split : 3 * (n / 3) + 2 + n % 3 ≡ suc (suc n) = omega arith in
+    let other : n / 3 ≢ k = λ same. elsewhere k n (n % 3) refl few same where_is in
+    subst (λ m. enabled t (unit_at m) ≡ enabled s (unit_at m)) split (third_stays k i (n % 3) s t one other few)
+
+stays_by : (unit : Actor) (s t : State) (may : List Bool) → LeavesOthers unit s t → AreAsked s may → StayAsked unit t may
+stays_by TheBinner s t may leaves asked = tt
+stays_by TheRenderer s t may leaves asked = tt
+stays_by (TheQpu k) s t may leaves asked = λ n where_is. asked.each n where_is.below ∙ sym (numbered_stays k n s t leaves where_is)
+stays_by (TheTmu k m) s t may leaves asked = λ n where_is. asked.each n where_is.below ∙ sym (numbered_stays k n s t leaves where_is)
+
+-- what was asked before a step and isn't asked anew is right
+pub stays : (unit : Actor) (words : List ℕ) (s t : State) (may : List Bool) → t ≡ (step s (record { unit = unit; words = words })).state → AreAsked s may → StayAsked unit t may
+stays unit words s t may is asked = subst (λ (w : State). StayAsked unit w may) (sym is) (stays_by unit s (step s (record { unit = unit; words = words })).state may (leaves_others s unit words) asked)
+
+right_by : (new old right : ℕ → Bool) (at : ℕ) → new at ≡ right at → ((i : ℕ) → i ≢ at → new i ≡ old i) → (n : ℕ) → (n ≢ at → old n ≡ right n) → (b : Bool) → eqb n at ≡ b → new n ≡ right n
+right_by new old right at here others n before true is = let same : n ≡ at = eqb-true n at is in ap new same ∙ (here ∙ ap right (sym same))
+right_by new old right at here others n before false is = others n (eqb-false n at is) ∙ before (eqb-false n at is)
+
+-- One that is asked anew is right, and another where it was.
+put_right : (new old right : ℕ → Bool) (at : ℕ) → new at ≡ right at → ((i : ℕ) → i ≢ at → new i ≡ old i) → (n : ℕ) → (n ≢ at → old n ≡ right n) → new n ≡ right n
+put_right new old right at here others n before = right_by new old right at here others n before (eqb n at) refl
+
+-- What is asked anew is right, and so is the rest.
+asked_at : (s : State) (k : ℕ) (old one two three new : List Bool) → k < 12 → ((n : ℕ) → IsElsewhere k n → slice_index_or old n false ≡ enabled s (unit_at n))
+    → slice_index_or one 0 false ≡ enabled s (unit_at 0) → ((i : ℕ) → i ≢ 0 → slice_index_or one i false ≡ slice_index_or old i false)
+    → slice_index_or two (3 * k + 2) false ≡ enabled s (unit_at (3 * k + 2)) → ((i : ℕ) → i ≢ 3 * k + 2 → slice_index_or two i false ≡ slice_index_or one i false)
+    → slice_index_or three (3 * k + 3) false ≡ enabled s (unit_at (3 * k + 3)) → ((i : ℕ) → i ≢ 3 * k + 3 → slice_index_or three i false ≡ slice_index_or two i false)
+    → slice_index_or new (3 * k + 4) false ≡ enabled s (unit_at (3 * k + 4)) → ((i : ℕ) → i ≢ 3 * k + 4 → slice_index_or new i false ≡ slice_index_or three i false)
+    → (n : ℕ) → n < unit_count → slice_index_or new n false ≡ enabled s (unit_at n)
+asked_at s k old one two three new few right h1 o1 h2 o2 h3 o3 h4 o4 n below =
+    put_right (λ i. slice_index_or new i false) (λ i. slice_index_or three i false) (λ i. enabled s (unit_at i)) (3 * k + 4) h4 o4 n (λ d.
+    put_right (λ i. slice_index_or three i false) (λ i. slice_index_or two i false) (λ i. enabled s (unit_at i)) (3 * k + 3) h3 o3 n (λ c.
+    put_right (λ i. slice_index_or two i false) (λ i. slice_index_or one i false) (λ i. enabled s (unit_at i)) (3 * k + 2) h2 o2 n (λ b.
+    put_right (λ i. slice_index_or one i false) (λ i. slice_index_or old i false) (λ i. enabled s (unit_at i)) 0 h1 o1 n (λ a.
+    right n (record { below = below; binner = a; qpu = b; tmu0 = c; tmu1 = d })))))
+
+-- Asked anew after a processor's step.
+pub asked_anew : (s : State) (k : ℕ) (old one two three new : List Bool) → k < 12 → length old ≡ unit_count → ((n : ℕ) → IsElsewhere k n → slice_index_or old n false ≡ enabled s (unit_at n))
+    → length one ≡ length old → slice_index_or one 0 false ≡ enabled s (unit_at 0) → ((i : ℕ) → i ≢ 0 → slice_index_or one i false ≡ slice_index_or old i false)
+    → length two ≡ length one → slice_index_or two (3 * k + 2) false ≡ enabled s (unit_at (3 * k + 2)) → ((i : ℕ) → i ≢ 3 * k + 2 → slice_index_or two i false ≡ slice_index_or one i false)
+    → length three ≡ length two → slice_index_or three (3 * k + 3) false ≡ enabled s (unit_at (3 * k + 3)) → ((i : ℕ) → i ≢ 3 * k + 3 → slice_index_or three i false ≡ slice_index_or two i false)
+    → length new ≡ length three → slice_index_or new (3 * k + 4) false ≡ enabled s (unit_at (3 * k + 4)) → ((i : ℕ) → i ≢ 3 * k + 4 → slice_index_or new i false ≡ slice_index_or three i false)
+    → AreAsked s new
+asked_anew s k old one two three new few long right l1 h1 o1 l2 h2 o2 l3 h3 o3 l4 h4 o4 = record {
+  long = l4 ∙ (l3 ∙ (l2 ∙ (l1 ∙ long)));
+  each = λ n below. asked_at s k old one two three new few right h1 o1 h2 o2 h3 o3 h4 o4 n below;
+}
+
+-- one number further among those that may step
+pub seen_put : (s : State) (may : List Bool) (n : ℕ) (old new : List ℕ) → AreAsked s may → n < unit_count → slice_index_or may n false ≡ true → old ≡ enabled_below s n → new ≡ old ++ n ∷ [] → new ≡ enabled_below s (n + 1)
+seen_put s may n old new asked below here old_is new_is = units_put (λ k. enabled s (unit_at k)) n old new (sym (asked.each n below) ∙ here) old_is new_is
+
+pub seen_past : (s : State) (may : List Bool) (n : ℕ) (old : List ℕ) → AreAsked s may → n < unit_count → slice_index_or may n false ≡ false → old ≡ enabled_below s n → old ≡ enabled_below s (n + 1)
+seen_past s may n old asked below here old_is = units_past (λ k. enabled s (unit_at k)) n old (sym (asked.each n below) ∙ here) old_is

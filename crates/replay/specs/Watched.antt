@@ -1,0 +1,40 @@
+-- What is known of which units may step.
+use Rattle.std.specs.Prelude.{◌≡◌, ◌≢◌, ◌<◌, ℕ, ◌+◌, ◌*◌, Bool, false, List, length, slice_index_or}
+use Rattle.field_words.specs.declared.access.Actor.{Actor}
+use Rattle.field_words.specs.declared.access.Actor.TheVariants.{Binner as TheBinner, Renderer as TheRenderer, Qpu as TheQpu, Tmu as TheTmu}
+use Rattle.machine.specs.State.{State, item_at}
+use Rattle.machine.specs.Step.{enabled}
+use Rattle.replay.specs.Units.{unit_count, unit_at}
+
+-- memory, the jobs and all processors but processor k are as before
+pub record TouchesOne (k : ℕ) (before after : State) : Type 0 where
+  pub memory : after.memory ≡ before.memory
+  pub jobs : after.units.jobs ≡ before.units.jobs
+  pub others : (i : ℕ) → i ≢ k → item_at after.units.qpus i ≡ item_at before.units.qpus i
+
+-- What a step of this unit leaves alone: a processor and its TMUs touch nothing but that processor.
+abbrev pub LeavesOthers : Actor → (before after : State) → Type 0
+LeavesOthers TheBinner before after = Unit {0}
+LeavesOthers TheRenderer before after = Unit {0}
+LeavesOthers (TheQpu k) before after = TouchesOne k before after
+LeavesOthers (TheTmu k n) before after = TouchesOne k before after
+
+-- of each unit by its number whether it may step
+pub record AreAsked (s : State) (may : List Bool) : Type 0 where
+  pub long : length may ≡ unit_count
+  pub each : (n : ℕ) → n < unit_count → slice_index_or may n false ≡ enabled s (unit_at n)
+
+-- unit n is neither the binner nor processor k nor one of its TMUs
+pub record IsElsewhere (k n : ℕ) : Type 0 where
+  pub below : n < unit_count
+  pub binner : n ≢ 0
+  pub qpu : n ≢ 3 * k + 2
+  pub tmu0 : n ≢ 3 * k + 3
+  pub tmu1 : n ≢ 3 * k + 4
+
+-- the same but for the units that a step of this unit may change
+abbrev pub StayAsked : Actor → State → List Bool → Type 0
+StayAsked TheBinner s may = Unit {0}
+StayAsked TheRenderer s may = Unit {0}
+StayAsked (TheQpu k) s may = (n : ℕ) → IsElsewhere k n → slice_index_or may n false ≡ enabled s (unit_at n)
+StayAsked (TheTmu k m) s may = (n : ℕ) → IsElsewhere k n → slice_index_or may n false ≡ enabled s (unit_at n)
