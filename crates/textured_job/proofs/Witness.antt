@@ -1,7 +1,7 @@
 -- The bytes of both files are accepted, and have all that the laws speak of.
-use Rattle.std.proofs.Common.{◌≡◌, ◌≢◌, ◌<◌, ◌≤◌, ◌^◌, ℕ, zero, suc, Bool, true, List, [], ◌∷◌, length, None, refl, sym, ap, subst, arith, ◌∙◌, lit<}
+use Rattle.std.proofs.Common.{◌≡◌, ◌≢◌, ◌<◌, ◌≤◌, ◌^◌, ℕ, Bool, true, List, [], ◌∷◌, length, None, refl, sym, ap, subst, arith, ◌∙◌, lit<}
 use Rattle.std.specs.List.{AllByRecursion}
-use Rattle.std.specs.Prelude.{nat_lt, ◌&&◌, slice_index}
+use Rattle.std.specs.Prelude.{nat_lt, ◌&&◌}
 use Rattle.std.proofs.lemmas.Bool.{and_parts}
 use Rattle.std.proofs.lemmas.Bool.Decides.{nat_tests}
 use Rattle.field_words.specs.Questions.{first_of, answered}
@@ -25,6 +25,7 @@ use Rattle.textured_job.proofs.Cases.{Case, Alone, First, Second, file_in, numbe
 use Rattle.textured_job.proofs.Lists.{bin_there}
 use Rattle.textured_job.proofs.Records.{drawn_is}
 use Rattle.textured_job.proofs.Whole.{input_is, file_none, file_none_of_two, file_none_of_one}
+use Rattle.accepted_law.proofs.ByteTexts.{bytes_cons}
 
 -- each number of the list is below 256
 abbrev all_small : List ℕ → Bool
@@ -33,10 +34,6 @@ all_small (x ∷ xs) = nat_lt x 256 && all_small xs
 
 is_small : (x : ℕ) → nat_lt x 256 ≡ true → x < 256
 is_small x small = grind (arith, nat_tests, small)
-
-bytes_cons : (x : ℕ) (xs : List ℕ) → x < 256 → IsBytes xs → (i : ℕ) → slice_index (x ∷ xs) i < 256
-bytes_cons x xs small rest zero = small
-bytes_cons x xs small rest (suc i) = rest i
 
 bytes_of : (xs : List ℕ) → all_small xs ≡ true → IsBytes xs
 bytes_of [] all = λ i. lit< tt

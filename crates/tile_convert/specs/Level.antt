@@ -18,6 +18,10 @@ unfoldable pub level_questions : ℕ → ℕ → ℕ → ℕ → ℕ → ℕ →
 level_questions p0 p1 p2 p3 size face level =
     answered Texture (texture_questions p0 p1 p2 p3 size) ++ part_questions (texture_of p0 p1 p2 p3) face level
 
+-- the same of the setup words as a row
+abbrev pub level_rules : List ℕ → ℕ → ℕ → ℕ → List (Question LevelFault)
+level_rules p size face level = level_questions (slice_index p 0) (slice_index p 1) (slice_index p 2) (slice_index p 3) size face level
+
 -- The raster is the picture of a level: byte b of pixel (x, y), or of a block of ETC1, is the one at the pixel's place in the
 -- level, which begins where the texture has that level of that face.
 pub record IsLevelPicture (t : TextureModel) (face level : ℕ) (bytes raster : List ℕ) : Type 0 where
@@ -25,3 +29,7 @@ pub record IsLevelPicture (t : TextureModel) (face level : ℕ) (bytes raster : 
   pub pixels : (x y b : ℕ) → x < level_width_of t level → y < level_height_of t level → b < t.cpp
       → slice_index raster (place_in Rows (level_width_of t level) t.cpp x y + b)
       ≡ slice_index bytes (level_place_of t face level + pixel_place_of (tiling_at t level) (level_width_of t level) t.cpp x y + b)
+
+-- that of the texture of these setup words
+abbrev pub IsLevelOf : List ℕ → ℕ → ℕ → List ℕ → List ℕ → Type 0
+IsLevelOf p face level bytes raster = IsLevelPicture (texture_of (slice_index p 0) (slice_index p 1) (slice_index p 2) (slice_index p 3)) face level bytes raster

@@ -35,7 +35,8 @@ fn copy_row(from: Order, to: Order, width: u32, cpp: u32, y: u32, source: &[u8],
     requires pixel { IsPixelSize cpp }
     requires source { HasRow from width cpp y (length source.now) }
     requires target { HasRow to width cpp y (length target.old) }
-    ensures { (old : List ℕ) → IsCopied from to width cpp source.now old target.old 0 y → IsCopied from to width cpp source.now old target.new 0 (y + 1) }
+    ensures { (old : List ℕ) → IsCopied from to width cpp source.now old target.old 0 y
+        → IsCopied from to width cpp source.now old target.new 0 (y + 1) }
 {
     let source_row = row_start(from, width, cpp, y);
     let target_row = row_start(to, width, cpp, y);

@@ -1,9 +1,9 @@
 //! One level of a texture.
-ghost use Rattle.std.specs.Prelude.{◌≡◌, ◌<◌, ◌≤◌, ◌+◌, ◌^◌, false, Some, None, length, take, drop, slice_index, IfOk};
+ghost use Rattle.std.specs.Prelude.{◌≡◌, ◌<◌, ◌≤◌, ◌+◌, ◌^◌, false, Some, None, length, take, drop, IfOk};
 ghost use Rattle.field_words.specs.Questions.{first_of, Answers, NeverHidesFault};
 ghost use Rattle.texture_layouts.specs.Fits.{is_unlisted, IsInBuffer};
-ghost use Rattle.texture_layouts.specs.Setup.{texture_of, faces_of, size_at, level_place_of};
-ghost use Rattle.tile_convert.specs.Level.{part_questions, level_questions, IsLevelPicture};
+ghost use Rattle.texture_layouts.specs.Setup.{faces_of, size_at, level_place_of};
+ghost use Rattle.tile_convert.specs.Level.{part_questions, level_rules, IsLevelPicture, IsLevelOf};
 
 use crate::copy::copied;
 use crate::order::Order;
@@ -43,7 +43,7 @@ fn part_fault(texture: &Texture, face: u32, level: u32) -> Option<LevelFault>
 
 /// The first rule that stands.
 fn level_fault(p: [u32; 4], size: u32, face: u32, level: u32) -> Option<LevelFault>
-    ensures { result ≡ first_of (level_questions (slice_index p 0) (slice_index p 1) (slice_index p 2) (slice_index p 3) size face level) }
+    ensures { result ≡ first_of (level_rules p size face level) }
 {
     match texture_fits(p, size) {
         Err(number) => Some(LevelFault::Texture(number)),
@@ -103,8 +103,8 @@ pub fn extract(
     level: u32,
 ) -> Result<Vec<u8>, Stop<LevelFault>>
     requires { length bytes.now < 2 ^ 32 }
-    ensures picture { Answers (level_questions (slice_index p 0) (slice_index p 1) (slice_index p 2) (slice_index p 3) (length bytes.now) face level) (λ raster. IsLevelPicture (texture_of (slice_index p 0) (slice_index p 1) (slice_index p 2) (slice_index p 3)) face level bytes.now raster.items) result }
-    ensures honest { NeverHidesFault (level_questions (slice_index p 0) (slice_index p 1) (slice_index p 2) (slice_index p 3) (length bytes.now) face level) result }
+    ensures picture { Answers (level_rules p (length bytes.now) face level) (λ rows. IsLevelOf p face level bytes.now rows.items) result }
+    ensures honest { NeverHidesFault (level_rules p (length bytes.now) face level) result }
 {
     let texture = Texture::of(&p);
     match level_fault(p, bytes.len() as u32, face, level) {

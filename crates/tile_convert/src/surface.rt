@@ -26,7 +26,8 @@ pub fn untile(
     requires width_limit { width ≤ 4096 }
     requires height_limit { height ≤ 4096 }
     requires pixel { IsPixelSize cpp }
-    ensures picture { Answers (length_questions bytes.now (size_for tiling width height cpp)) (λ raster. IsPicture tiling width height cpp bytes.now raster.items) result }
+    ensures picture { Answers (length_questions bytes.now (size_for tiling width height cpp))
+        (λ raster. IsPicture tiling width height cpp bytes.now raster.items) result }
     ensures honest { NeverHidesFault (length_questions bytes.now (size_for tiling width height cpp)) result }
 {
     let wanted = picture_size(Order::Surface(tiling), width, height, cpp);
@@ -60,7 +61,8 @@ pub fn tile(
     requires width_limit { width ≤ 4096 }
     requires height_limit { height ≤ 4096 }
     requires pixel { IsPixelSize cpp }
-    ensures surface { Answers (length_questions raster.now (width * height * cpp)) (λ surface. IsSurface tiling width height cpp raster.now surface.items) result }
+    ensures surface { Answers (length_questions raster.now (width * height * cpp))
+        (λ surface. IsSurface tiling width height cpp raster.now surface.items) result }
     ensures honest { NeverHidesFault (length_questions raster.now (width * height * cpp)) result }
 {
     let wanted = picture_size(Order::Rows, width, height, cpp);
