@@ -1,8 +1,8 @@
 -- Where a part goes among spans.
-use Rattle.std.proofs.Common.{◌≡◌, ℕ, zero, suc, ◌+◌, ◌<◌, ◌≤◌, List, [], ◌∷◌, ◌++◌, length, take, drop, get_or, map, refl, sym, ap, subst, ◌∙◌, append_assoc, append-nil, arith}
+use Rattle.std.proofs.Common.{◌≡◌, ℕ, zero, suc, ◌+◌, ◌<◌, ◌≤◌, List, [], ◌∷◌, ◌++◌, length, take, drop, get_or, refl, sym, ap, subst, ◌∙◌, append_assoc, append-nil, arith}
 use Rattle.std.specs.List.{insert}
 use Rattle.field_words.specs.Writes.{Part}
-use Rattle.dumper.specs.Parts.{part_at, part_text, parts_text, part_end, Ascend, inserted}
+use Rattle.dumper.specs.Parts.{part_text, parts_text, part_end, Ascend, inserted}
 use Rattle.dumper.specs.declared.span.Span.{Span}
 use Rattle.dumper.specs.Spans.{part_of, parts_of}
 use Rattle.dumper.proofs.Sorting.{put_before, put_behind}

@@ -1,5 +1,5 @@
 -- Rows of a memory and their texts.
-use Rattle.std.proofs.Common.{◌≡◌, ℕ, zero, suc, ◌+◌, ◌-◌, ◌*◌, ◌^◌, ◌<◌, ◌≤◌, ◌⊎◌, inl, inr, List, [], ◌∷◌, ◌++◌, length, take, drop, get_or, replicate, false, length-drop, refl, sym, ap, ◌∙◌, arith, append-nil, append_assoc, zero-add, add-zero}
+use Rattle.std.proofs.Common.{◌≡◌, ℕ, zero, suc, ◌+◌, ◌-◌, ◌*◌, ◌^◌, ◌<◌, ◌≤◌, List, [], ◌++◌, length, take, drop, replicate, false, refl, sym, ap, ◌∙◌, arith, append-nil, append_assoc, zero-add, add-zero}
 use Rattle.std.specs.Prelude.{codes}
 use Rattle.std.specs.Fmt.{digits, padded_integral, format_spec, char_count}
 use Rattle.std.specs.Int.{to_be_bytes, w32}
@@ -38,11 +38,6 @@ row_alone memory place = append-nil (row_text memory place)
 pub no_rows : (memory : List ℕ) (place : ℕ) → rows_text memory place 0 ≡ []
 unfolding rows_text
 no_rows memory place = refl
-
--- A piece that is too full for one more line has some: an empty one has room.
-pub moves_on : (row next at line room : ℕ) → (row < next) ⊎ (at ≡ 0) → room < at + line → line ≤ room → row < next
-moves_on row next at line room (inl less) full fits = less
-moves_on row next at line room (inr none) full fits = absurd (omega (arith, none, full, fits))
 
 -- the front of a piece with a line put behind it
 pub put_front : (piece line : List ℕ) (at n : ℕ) → length line ≡ n → at + n ≤ length piece → take (at + n) (with_bytes piece at line) ≡ take at piece ++ line

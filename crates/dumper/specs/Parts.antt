@@ -1,5 +1,6 @@
 -- The rows of a memory that is zero but for parts that lie apart are the rows of its parts, by ascending place.
 use Rattle.std.specs.Prelude.{◌≡◌, ℕ, ◌+◌, ◌*◌, ◌/◌, ◌%◌, ◌≤◌, ◌<◌, ◌⊎◌, nat_lt, List, [], ◌∷◌, ◌++◌, length, take, drop, if◌then◌else◌}
+use Rattle.std.specs.List.{insert}
 use Rattle.field_words.specs.Writes.{Part, with_bytes, zeros}
 use Rattle.dumper.specs.Text.{rows_text}
 
@@ -37,6 +38,10 @@ Ascend from size (part ∷ parts) = (from ≤ part.place) × (part.place % 16 �
 unfoldable pub inserted : Part → List Part → List Part
 inserted part [] = part ∷ []
 inserted part (next ∷ parts) = if nat_lt part.place next.place then part ∷ (next ∷ parts) else next ∷ inserted part parts
+
+-- a part that begins at this place goes there among the parts
+abbrev pub GoesAt : ℕ → List Part → ℕ → Type 0
+GoesAt place parts at = (bytes : List ℕ) → inserted (part_at place bytes) parts ≡ insert parts at (part_at place bytes)
 
 unfoldable pub sorted : List Part → List Part
 sorted [] = []

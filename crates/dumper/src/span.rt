@@ -1,7 +1,6 @@
 //! Parts of a memory by ascending place.
-ghost use Rattle.std.specs.Prelude.{◌≡◌, ◌≤◌, length, ℕ, List, OnOk, map};
-ghost use Rattle.std.specs.List.{insert};
-ghost use Rattle.dumper.specs.Parts.{part_at, inserted};
+ghost use Rattle.std.specs.Prelude.{◌≡◌, ◌≤◌, length, OnOk};
+ghost use Rattle.dumper.specs.Parts.{inserted, GoesAt};
 
 use field_words::NoMemory;
 use std::borrow::CowSlice;
@@ -18,7 +17,7 @@ ghost use Rattle.dumper.specs.Spans.{part_of, parts_of};
 /// Where a part at this place goes among ascending ones: before the first that begins behind it.
 fn place_among(spans: &Vec<Span>, place: u32) -> usize
     ensures upto { result ≤ length spans.now.items }
-    ensures place { (bytes : List ℕ) → inserted (part_at place bytes) (parts_of spans.now.items) ≡ insert (parts_of spans.now.items) result (part_at place bytes) }
+    ensures place { GoesAt place (parts_of spans.now.items) result }
 {
     let mut at = 0;
     while at < spans.len() && spans[at].place <= place {

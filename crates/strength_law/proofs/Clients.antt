@@ -1,5 +1,5 @@
 -- What a job may reach is its own client's.
-use Rattle.std.proofs.Common.{◌≡◌, ◌⊎◌, inl, inr, ℕ, ◌<◌, Some, None, List, length, slice_index, sym, subst}
+use Rattle.std.proofs.Common.{◌≡◌, ◌⊎◌, inl, inr, ℕ, ◌<◌, None, length, slice_index, subst}
 use Rattle.field_words.specs.Questions.{first_of}
 use Rattle.buffer_table.specs.Table.{buffer_at}
 use Rattle.buffer_table.proofs.Named.{data_is, code_is}
@@ -8,7 +8,7 @@ use Rattle.job_check.specs.Shaders.{table_of}
 use Rattle.job_check.specs.Jobs.{job_of}
 use Rattle.job_check.specs.Faults.{place_stages}
 use Rattle.accepted_law.specs.Held.{IsSlot, IsNamedCode, IsToReach}
-use Rattle.accepted_law.specs.Holdings.{lists_of, rights_at}
+use Rattle.accepted_law.specs.Holdings.{lists_of}
 use Rattle.accepted_law.proofs.Intervals.{rights_are_held_law}
 use Rattle.accepted_law.proofs.Settling.{handles_clear}
 use Rattle.accepted_law.proofs.Unshared.{of_client, data_number, code_number}

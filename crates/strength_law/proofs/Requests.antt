@@ -1,5 +1,5 @@
 -- A machine whose texture unit is to serve undefined set-up words is not safe.
-use Rattle.std.proofs.Common.{◌≡◌, ◌⊎◌, inl, inr, ℕ, Bool, true, false, List, [], slice_index, refl, subst}
+use Rattle.std.proofs.Common.{◌≡◌, ◌⊎◌, inl, inr, ℕ, Bool, true, false, [], slice_index, refl, subst}
 use Rattle.std.specs.Prelude.{◌||◌}
 use Rattle.field_words.specs.declared.access.Actor.TheVariants.{Tmu as TheTmu}
 use Rattle.machine_plan.specs.declared.who.Who.{Who}

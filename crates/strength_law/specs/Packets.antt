@@ -1,5 +1,5 @@
 -- What safety refuses of a packet: each that the hardware leaves undefined where it stands, and a load outside what its job may reach.
-use Rattle.std.specs.Prelude.{◌≡◌, ◌⊎◌, ℕ, Bool, true, false, List, slice_index, Option, None, Some}
+use Rattle.std.specs.Prelude.{◌≡◌, ◌⊎◌, ℕ, false, List, slice_index, Option, None, Some}
 use Rattle.packets.specs.declared.packet.Packet.{Packet}
 use Rattle.packets.specs.declared.packet.Packet.TheVariants.{StoreTileColor, StoreTileColorAndEnd, StoreTileBuffer, LoadFullResolution, LoadTileBuffer, BranchToSubList, TileCoordinates}
 use Rattle.packets.specs.Opcode.{start_tile_binning, indexed_primitive_list, array_primitive_list}

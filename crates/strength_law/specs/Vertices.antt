@@ -1,7 +1,6 @@
 -- What safety refuses of a list unit at a primitive: what it reads for a vertex, of a record when it starts a program, and of an item of a
 -- tile's list, outside what its job may reach.
-use Rattle.std.specs.Prelude.{◌≡◌, ◌<◌, ◌⊎◌, ℕ, ◌+◌, ◌*◌, ◌%◌, ◌^◌, Bool, IsTrue, true, false, if◌then◌else◌, List, Option, Some}
-use Rattle.field_words.specs.Words.{u32_at}
+use Rattle.std.specs.Prelude.{◌≡◌, ◌<◌, ◌⊎◌, ℕ, ◌+◌, ◌*◌, ◌%◌, ◌^◌, Bool, IsTrue, true, false, if◌then◌else◌, List, Some}
 use Rattle.field_words.specs.declared.access.Actor.TheVariants.{Binner as TheBinner}
 use Rattle.packets.specs.StateWord.{attribute_count, is_extended}
 use Rattle.machine_plan.specs.Choice.{word_at}
@@ -18,6 +17,7 @@ use Rattle.list_machine.specs.Fetch.{index_size, index_in, draws_nothing, record
 use Rattle.list_machine.specs.Lists.{Lists}
 use Rattle.list_machine.specs.Renderer.{item_at}
 use Rattle.list_machine.specs.Start.{code_offset, can_start, is_threaded}
+use Rattle.list_law.specs.Uses.{attribute_at, extension_at}
 use Rattle.qpu_machine.specs.Qpu.{free_in}
 use Rattle.machine.specs.State.{Units, binner_job, renderer_job}
 use Rattle.machine.specs.Step.{ready, turn, enabled}
@@ -89,13 +89,6 @@ pub record HasAttribute (m : List ℕ) (u : Units) (j : ℕ) (primitive : Primit
   pub fetches : Fetches m u j primitive state number
   pub draws : draws_nothing primitive (index_of m primitive number) ≡ false
   pub few : attribute < attribute_count state
-
--- the attribute's bytes in the record, and the word that extends its stride, which is 0 where the record isn't extended
-abbrev pub attribute_at : List ℕ → ℕ → ℕ → List ℕ
-attribute_at m state attribute = bytes_at m (attribute_place state attribute) 8
-
-abbrev pub extension_at : List ℕ → ℕ → ℕ → ℕ
-extension_at m state attribute = if is_extended state then u32_at (bytes_at m (extension_place state attribute) 4) 0 else 0
 
 abbrev pub AttributesPastAreUnsafe : Type 0
 AttributesPastAreUnsafe =

@@ -1,8 +1,8 @@
-use Rattle.std.proofs.Common.{◌≡◌, ◌≤◌, ◌<◌, ◌+◌, ◌*◌, ◌-◌, ◌/◌, ◌++◌, [], length, take, inl, inr, refl, sym, ap, ◌∙◌, arith}
+use Rattle.std.proofs.Common.{◌≡◌, ◌<◌, ◌+◌, ◌*◌, ◌-◌, ◌++◌, [], take, inl, inr, refl, sym, ap, ◌∙◌, arith}
 use Rattle.std.specs.Prelude.{if◌then◌else◌}
 use Rattle.dumper.specs.Text.{is_blank, row_line, row_text, rows_text}
 use Rattle.dumper.specs.Parts.{part_at, part_rows, alone}
-use Rattle.dumper.proofs.Rows.{rows_on, row_alone, no_rows, moves_on}
+use Rattle.dumper.proofs.Rows.{rows_on, row_alone, no_rows}
 use Rattle.dumper.proofs.Alone.{row_text_alone}
 use Rattle.dumper.proofs.lines.put_part.Goals as goal
 
