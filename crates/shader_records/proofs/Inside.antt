@@ -18,6 +18,10 @@ record_words : (b : Bool) (count : ℕ) → (if b then 100 + 4 * count else 36 +
 record_words true count = omega arith
 record_words false count = omega arith
 
+pub record_whole : (state : ℕ) → record_size state % 4 ≡ 0
+unfolding record_size
+record_whole state = record_words (is_extended state) (attribute_count state)
+
 -- the handle of attribute t, and its two words
 pub handle_in : (state t : ℕ) → t < attribute_count state → 12 + 4 * t + 4 ≤ handles_size state
 handle_in state t below = let e = handles_are state in omega (arith, e)

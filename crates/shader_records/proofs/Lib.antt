@@ -3,7 +3,9 @@ pub mod Inside
 pub mod Lengths
 pub mod MemoryFacts
 pub mod RecordFacts
+pub mod RecordWords
 pub mod RecordsInMemory
 pub mod Shaders
+pub mod Spelled
 pub mod Steps
 pub mod StreamFacts

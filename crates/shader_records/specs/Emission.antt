@@ -64,6 +64,10 @@ emitted_word input at state streams i =
     if nat_le (record_size state) (4 * i) then 0
     else (if nat_lt i 9 then shader_word input at state streams i else attribute_word input at state (i - 9))
 
+-- word i of the record's source, and zeros past its end
+unfoldable pub plain_word : InputModel → ℕ → ℕ → ℕ → ℕ
+plain_word input at state i = if nat_le (record_size state) (4 * i) then 0 else record_word input at state i
+
 -- where the streams of a record stand, if the first does at a place
 unfoldable pub stream_place : InputModel → ℕ → ℕ → ℕ → ℕ
 stream_place input at first s = first + given_before input at s

@@ -82,6 +82,10 @@ unfoldable pub stream_offset : InputModel → ℕ → ℕ
 stream_offset input zero = 0
 stream_offset input (suc k) = stream_offset input k + given_before input (record_source input k) 3
 
+-- word k of the bytes from a place on
+unfoldable pub word_from : List ℕ → ℕ → ℕ → ℕ
+word_from bytes from k = u32_at bytes (from + 4 * k)
+
 -- word i of the record whose source begins at a place
 unfoldable pub record_word : InputModel → ℕ → ℕ → ℕ → ℕ
 record_word input at state i = u32_at input.records (at + handles_size state + 4 * i)

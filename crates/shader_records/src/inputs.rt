@@ -1,11 +1,14 @@
 //! What the check is given.
 ghost use Rattle.std.specs.Prelude.{◌≡◌, ◌+◌, ◌*◌, ◌^◌, ◌<◌, ◌≤◌, length, slice_index_or, IfSome, MatchOption, Some, None};
 ghost use Rattle.field_words.specs.Words.{u32_at};
+ghost use Rattle.field_words.specs.WordBytes.{word_bytes};
+ghost use Rattle.field_words.specs.Writes.{with_bytes};
 ghost use Rattle.buffer_table.specs.Table.{buffer_at, most_place};
 ghost use Rattle.qpu_isa.specs.Shader.{shader_view, IsSoundShader};
 ghost use Rattle.shader_records.specs.Inputs.{shaders_view, shader_in, Fits};
-ghost use Rattle.shader_records.specs.Sources.{no_state, state_at, handles_size, code_number, attribute_number, sample_number, shader_used, is_threaded, record_word, place_in, size_in};
+ghost use Rattle.shader_records.specs.Sources.{no_state, state_at, handles_size, code_number, attribute_number, sample_number, shader_used, is_threaded, record_word, word_from, place_in, size_in};
 
+use crate::copies::copy_words;
 use crate::sizes::handles_size;
 use bin_list::State;
 use buffer_table::{Handles, Table, use_code, use_data};
@@ -100,6 +103,26 @@ impl<'a> Inputs<'a> {
         ensures { result ≡ u32_at self.now.uniforms at }
     {
         word_at(self.uniforms, at)
+    }
+
+    /// Puts `count` words of the records, from the place `from` on, at a place of the window.
+    pub(crate) fn copy_records(&self, from: usize, count: usize, out: &mut [u8], at: usize)
+        requires fits { Fits self.now }
+        requires inside { from + 4 * count ≤ length self.now.records }
+        requires room { at + 4 * count ≤ length out.old }
+        ensures { out.new ≡ with_bytes out.old at (word_bytes (word_from self.now.records from) count) }
+    {
+        copy_words(self.records, from, count, out, at);
+    }
+
+    /// The same of the uniforms.
+    pub(crate) fn copy_uniforms(&self, from: usize, count: usize, out: &mut [u8], at: usize)
+        requires fits { Fits self.now }
+        requires inside { from + 4 * count ≤ length self.now.uniforms }
+        requires room { at + 4 * count ≤ length out.old }
+        ensures { out.new ≡ with_bytes out.old at (word_bytes (word_from self.now.uniforms from) count) }
+    {
+        copy_words(self.uniforms, from, count, out, at);
     }
 
     /// The buffer of shader `s`'s code, for the record whose source begins at `at`.

@@ -7,6 +7,7 @@
 #![tactic(auto)]
 
 mod check;
+mod copies;
 mod emit;
 mod fault;
 mod faults;

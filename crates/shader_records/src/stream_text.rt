@@ -10,7 +10,6 @@ ghost use Rattle.shader_records.specs.Rules.{use_questions, IsFineUse};
 ghost use Rattle.shader_records.specs.Emission.{stream_word_of, stream_text, streams_text, moved_first};
 
 use crate::inputs::{Inputs, relocated};
-use crate::record_text::given_by;
 use crate::uniform_rules::first_position;
 use field_words::put_u32;
 use qpu_isa::ShaderInfo;
@@ -50,9 +49,21 @@ fn address_word(info: &ShaderInfo, j: usize) -> usize
     info.address_words[j] as usize
 }
 
+/// Puts at `base` the words of a stream's source as they are.
+#[tactic(auto, unfolding(crate::specs::Sources::source_word, crate::specs::Sources::word_from))]
+fn put_source(inputs: &Inputs, from: usize, info: &ShaderInfo, out: &mut [u8], base: usize)
+    requires fits { Fits inputs.now }
+    requires room { HasUniforms inputs.now from (shader_view info.now) }
+    requires window { base + 4 * info.now.uniforms ≤ length out.old }
+    ensures { out.new ≡ with_bytes out.old base (word_bytes (source_word inputs.now from (shader_view info.now)) info.now.uniforms) }
+{
+    let start = from + 4 * info.samples.len();
+    inputs.copy_uniforms(start, info.uniforms as usize, out, base);
+}
+
 /// Emits at `base` the stream of a shader whose uniforms begin at `from`: the words of its source, each
 /// sample's first moved by its buffer's place, and each address word the stream's own place.
-#[tactic(auto, unfolding(crate::specs::Emission::stream_text), using(crate::proofs::Fine::use_inside, field_words::proofs::WordBytes::no_words))]
+#[tactic(auto, unfolding(crate::specs::Emission::stream_text), using(crate::proofs::Fine::use_inside))]
 fn put_words(
     inputs: &Inputs,
     from: usize,
@@ -67,10 +78,7 @@ fn put_words(
     requires room { base + 4 * info.now.uniforms ≤ length out.old }
     ensures { out.new ≡ with_bytes out.old base (stream_text inputs.now from stream (Some (shader_view info.now))) }
 {
-    for k in 0..info.uniforms as usize {
-        let word = source_word(inputs, from, info, k);
-        put_u32(out, base + 4 * k, word);
-    }
+    put_source(inputs, from, info, out, base);
     for i in 0..info.samples.len() {
         let word = moved_word(inputs, from, info, i);
         put_u32(out, base + 4 * first_position(info, i), word);
@@ -80,22 +88,15 @@ fn put_words(
     }
 }
 
-/// The bytes of uniforms that shader `s` of a record takes.
-#[tactic(auto, using(crate::proofs::Fine::use_inside))]
-fn taken_by(inputs: &Inputs, at: usize, s: usize, from: usize) -> usize
-    requires fits { Fits inputs.now }
-    requires inside { at + 4 * s + 4 ≤ length inputs.now.records }
-    requires fine { IsFineUse inputs.now from (shader_used inputs.now at s) }
-    ensures { result ≡ taken_by (shader_used inputs.now at s) }
-{
-    match inputs.shader_used(at, s) {
-        Some(info) => 4 * (info.samples.len() + info.uniforms as usize),
-        None => 0,
-    }
+/// The bytes of uniforms that shaders take, and the bytes of their streams.
+#[derive(Clone, Copy)]
+pub(crate) struct Amounts {
+    pub(crate) taken: usize,
+    pub(crate) given: usize,
 }
 
 /// Emits the stream of shader `s` of a record, of which there may be none.
-#[tactic(auto, unfolding(crate::specs::Emission::stream_text), using(field_words::proofs::Writes::with_nothing))]
+#[tactic(auto, unfolding(crate::specs::Emission::stream_text), using(field_words::proofs::Writes::with_nothing, crate::proofs::Fine::use_inside))]
 fn put_stream(
     inputs: &Inputs,
     at: usize,
@@ -104,23 +105,24 @@ fn put_stream(
     stream: u32,
     out: &mut [u8],
     base: usize,
-)
+) -> Amounts
     requires fits { Fits inputs.now }
     requires inside { at + 4 * s + 4 ≤ length inputs.now.records }
     requires fine { IsFineUse inputs.now from (shader_used inputs.now at s) }
     requires room { base + given_by (shader_used inputs.now at s) ≤ length out.old }
-    ensures { out.new ≡ with_bytes out.old base (stream_text inputs.now from stream (shader_used inputs.now at s)) }
+    ensures text { out.new ≡ with_bytes out.old base (stream_text inputs.now from stream (shader_used inputs.now at s)) }
+    ensures taken { result.taken ≡ taken_by (shader_used inputs.now at s) }
+    ensures given { result.given ≡ given_by (shader_used inputs.now at s) }
 {
-    if let Some(info) = inputs.shader_used(at, s) {
-        put_words(inputs, from, info, stream, out, base);
+    let Some(info) = inputs.shader_used(at, s) else {
+        return Amounts { taken: 0, given: 0 };
+    };
+    put_words(inputs, from, info, stream, out, base);
+    let given = 4 * info.uniforms as usize;
+    Amounts {
+        taken: 4 * info.samples.len() + given,
+        given,
     }
-}
-
-/// The bytes of uniforms that a record's shaders take, and the bytes of their streams.
-#[derive(Clone, Copy)]
-pub(crate) struct Amounts {
-    pub(crate) taken: usize,
-    pub(crate) given: usize,
 }
 
 /// Emits the streams of a record's shaders, whose uniforms begin at `from`. The first stands at the place
@@ -146,7 +148,7 @@ pub(crate) fn put_streams(
     let mut taken = 0;
     let mut given = 0;
     for s in 0..3usize {
-        put_stream(
+        let amounts = put_stream(
             inputs,
             at,
             s,
@@ -155,8 +157,8 @@ pub(crate) fn put_streams(
             out,
             base + given,
         );
-        taken += taken_by(inputs, at, s, from + taken);
-        given += given_by(inputs, at, s) as usize;
+        taken += amounts.taken;
+        given += amounts.given;
     }
     Amounts { taken, given }
 }

@@ -27,17 +27,14 @@ overflow_add-base c = omega (arith, c.loop-s.invariant.given, given_upto c.args.
 pub overflow_add-from : goal.overflow_add-from
 overflow_add-from c = omega (arith, c.loop-s.invariant.taken, taken_upto c.args.inputs.now c.args.at c.loop-s.s c.loop-s-test.true, c.requires.taken, c.requires.fits.uniforms)
 
-pub overflow_add-from-in-loop-s : goal.overflow_add-from-in-loop-s
-overflow_add-from-in-loop-s c = omega (arith, c.loop-s.invariant.taken, taken_upto c.args.inputs.now c.args.at c.loop-s.s c.loop-s-test.true, c.requires.taken, c.requires.fits.uniforms)
-
-pub put_stream-requires-clause-room : goal.put_stream-requires-clause-room
-put_stream-requires-clause-room c = omega (arith, c.loop-s.invariant.given, c.loop-s.auto.out, given_upto c.args.inputs.now c.args.at c.loop-s.s c.loop-s-test.true, c.requires.room)
+pub put_stream-amounts-requires-clause-room : goal.put_stream-amounts-requires-clause-room
+put_stream-amounts-requires-clause-room c = omega (arith, c.loop-s.invariant.given, c.loop-s.auto.out, given_upto c.args.inputs.now c.args.at c.loop-s.s c.loop-s-test.true, c.requires.room)
 
 pub overflow_add-taken : goal.overflow_add-taken
-overflow_add-taken c = omega (arith, c.loop-s.invariant.taken, c.taken_by-taken.ensures, taken_upto c.args.inputs.now c.args.at c.loop-s.s c.loop-s-test.true, c.requires.taken, c.requires.fits.uniforms)
+overflow_add-taken c = omega (arith, c.loop-s.invariant.taken, c.put_stream-amounts.ensures.taken, taken_upto c.args.inputs.now c.args.at c.loop-s.s c.loop-s-test.true, c.requires.taken, c.requires.fits.uniforms)
 
 pub overflow_add-given : goal.overflow_add-given
-overflow_add-given c = omega (arith, c.loop-s.invariant.given, c.given_by.ensures.value, given_upto c.args.inputs.now c.args.at c.loop-s.s c.loop-s-test.true, c.requires.places)
+overflow_add-given c = omega (arith, c.loop-s.invariant.given, c.put_stream-amounts.ensures.given, given_upto c.args.inputs.now c.args.at c.loop-s.s c.loop-s-test.true, c.requires.places)
 
 pub loop-s-preserved : goal.loop-s-preserved
 loop-s-preserved c =
@@ -54,10 +51,10 @@ loop-s-preserved c =
     let long = length_stream input (from + taken_before input at s) (first + given_before input at s) (shader_used input at s) in
     record {
       text =
-          put_behind c.args.out.now c.args.base c.loop-s.given (streams_text input at from first s) rest c.loop-s.out c.put_stream.new.out c.loop-s.invariant.text
-          (length_streams input at from first s ∙ sym given) (c.put_stream.ensures ∙ ap (λ t. with_bytes c.loop-s.out (c.args.base + c.loop-s.given) t) same)
+          put_behind c.args.out.now c.args.base c.loop-s.given (streams_text input at from first s) rest c.loop-s.out c.put_stream-amounts.new.out c.loop-s.invariant.text
+          (length_streams input at from first s ∙ sym given) (c.put_stream-amounts.ensures.text ∙ ap (λ t. with_bytes c.loop-s.out (c.args.base + c.loop-s.given) t) same)
           (omega (arith, given, long, given_upto input at s c.loop-s-test.true, c.requires.room))
           ∙ ap (λ t. with_bytes c.args.out.now c.args.base t) (sym (streams_more input at from first s));
-      taken = omega (arith, c.loop-s.invariant.taken, c.taken_by-taken.ensures, taken_next input at s);
-      given = omega (arith, given, c.given_by.ensures.value, given_next input at s);
+      taken = omega (arith, c.loop-s.invariant.taken, c.put_stream-amounts.ensures.taken, taken_next input at s);
+      given = omega (arith, given, c.put_stream-amounts.ensures.given, given_next input at s);
     }

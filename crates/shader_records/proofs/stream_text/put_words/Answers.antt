@@ -1,29 +1,30 @@
 use Rattle.std.proofs.Common.{◌≡◌, ◌+◌, ◌*◌, length, sym, ap, ◌∙◌, arith}
 use Rattle.field_words.specs.Writes.{with_bytes}
-use Rattle.field_words.proofs.WordBytes.{same_words, put_next, put_word}
+use Rattle.field_words.proofs.WordBytes.{same_words, put_word}
 use Rattle.std.specs.Int.{to_le_bytes, w32}
 use Rattle.field_words.specs.Writes.{with_bytes}
 use Rattle.qpu_isa.specs.Shader.{shader_view, sample_at, first_position, address_at}
+use Rattle.shader_records.specs.Sources.{source_word}
 use Rattle.shader_records.specs.Emission.{moved_word, addressed_word}
 use Rattle.shader_records.proofs.StreamFacts.{moved_none, moved_here, moved_others, addressed_none, addressed_here, addressed_others}
 use Rattle.shader_records.proofs.stream_text.put_words.Goals as goal
 
-pub loop-k-preserved : goal.loop-k-preserved
-loop-k-preserved c =
+pub loop-i-init : goal.loop-i-init
+loop-i-init c =
     let shader = shader_view c.args.info.now in
-    put_next c.args.out.now c.args.base (moved_word c.args.inputs.now c.args.from shader 0)
-    c.loop-k.k c.loop-k.out c.put_u32.new.bytes c.source_word-word.result c.loop-k.invariant
-    (c.source_word-word.ensures ∙ moved_none c.args.inputs.now c.args.from shader c.loop-k.k) c.put_u32.ensures
-    (omega (arith, c.loop-k-test.true, c.requires.room))
+    c.put_source.ensures
+    ∙ ap (λ t. with_bytes c.args.out.now c.args.base t)
+    (same_words (source_word c.args.inputs.now c.args.from shader) (moved_word c.args.inputs.now c.args.from shader 0) shader.uniforms
+    (λ k below. moved_none c.args.inputs.now c.args.from shader k))
 
 pub loop-i-preserved : goal.loop-i-preserved
 loop-i-preserved c =
     let shader = shader_view c.args.info.now in
     let first = c.first_position.ensures in
     put_word c.args.out.now c.args.base (moved_word c.args.inputs.now c.args.from shader c.loop-i.i) (moved_word c.args.inputs.now c.args.from shader (c.loop-i.i + 1))
-    shader.uniforms (first_position (sample_at shader c.loop-i.i)) c.loop-i.out c.put_u32-in-loop-i.new.bytes c.moved_word-word.result c.loop-i.invariant
+    shader.uniforms (first_position (sample_at shader c.loop-i.i)) c.loop-i.out c.put_u32.new.bytes c.moved_word-word.result c.loop-i.invariant
     (c.moved_word-word.ensures ∙ sym (moved_here c.args.inputs.now c.args.from shader c.loop-i.i))
-    (c.put_u32-in-loop-i.ensures ∙ ap (λ k. with_bytes c.loop-i.out (c.args.base + 4 * k) (to_le_bytes w32 c.moved_word-word.result)) first.value)
+    (c.put_u32.ensures ∙ ap (λ k. with_bytes c.loop-i.out (c.args.base + 4 * k) (to_le_bytes w32 c.moved_word-word.result)) first.value)
     c.requires.room (omega (arith, first.value, first.below))
     (λ k below other. moved_others c.args.inputs.now c.args.from shader c.loop-i.i k other)
 

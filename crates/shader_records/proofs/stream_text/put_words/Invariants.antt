@@ -1,14 +1,10 @@
--- The words of the source so far stand; then all of them, with the samples so far moved; and then with the
--- address words so far.
+-- The words of the source stand, with the samples so far moved; and then with the address words so far.
 use Rattle.std.proofs.Common.{◌≡◌}
 use Rattle.field_words.specs.WordBytes.{word_bytes}
 use Rattle.field_words.specs.Writes.{with_bytes}
 use Rattle.qpu_isa.specs.Shader.{shader_view}
 use Rattle.shader_records.specs.Emission.{moved_word, addressed_word}
 use Rattle.shader_records.proofs.stream_text.put_words.Given as goal
-
-abbrev pub invariant-loop-k : goal.invariant-loop-k
-invariant-loop-k l = l.out ≡ with_bytes l.fn.out l.fn.base (word_bytes (moved_word l.fn.inputs l.fn.from (shader_view l.fn.info) 0) l.k)
 
 abbrev pub invariant-loop-i : goal.invariant-loop-i
 invariant-loop-i l = l.out ≡ with_bytes l.fn.out l.fn.base (word_bytes (moved_word l.fn.inputs l.fn.from (shader_view l.fn.info) l.i) l.fn.info.uniforms)
