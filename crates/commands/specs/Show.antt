@@ -1,15 +1,26 @@
 -- What `show` and `make` answer to all of their input.
-use Rattle.std.specs.Prelude.{◌≡◌, ◌⊎◌, ℕ, List, ◌++◌, Ok, Err, codes}
+use Rattle.std.specs.Prelude.{◌≡◌, ◌⊎◌, ℕ, List, [], ◌++◌, Ok, Err, Option, Some, None, codes}
 use Rattle.std.specs.Fmt.{decimal}
+use Rattle.job_format.specs.declared.rule.Refusal.{Refusal}
+use Rattle.job_check.specs.Whole.{refusal_of}
 use Rattle.job_text.specs.declared.fault.MakeFault.{MakeFault}
 use Rattle.job_text.specs.declared.note.Piece.{Piece}
 use Rattle.job_text.specs.Made.{made}
 use Rattle.job_text.specs.Sentences.{sentence_of}
 use Rattle.job_text.specs.Shown.{shown}
+use Rattle.rule_words.specs.declared.line.Line.{Line}
+use Rattle.rule_words.specs.Line.{line_text, IsLineOf}
 
--- Any bytes are answered with lines, on which all of them stand in order, each once, so that they are the bytes of that text.
+-- The lines of bytes. Where a rule refuses them, the line of its offset is marked, and the line follows that tells the refusal.
+abbrev pub IsShown : List ℕ → Option Refusal → List ℕ → Type 0
+IsShown bytes None text = (pieces : List Piece) × (text ≡ shown bytes pieces None [])
+IsShown bytes (Some refusal) text =
+    (line : Line) × IsLineOf bytes refusal line × ((pieces : List Piece) × (text ≡ shown bytes pieces (Some refusal.offset) (line_text line)))
+
+-- Any bytes are answered with lines, on which all of them stand in order, each once, so that they are the bytes of that text. The mark is
+-- that of the first rule that stands.
 abbrev pub IsShowAnswer : List ℕ → ℕ → List ℕ → Type 0
-IsShowAnswer bytes status text = (status ≡ 0) × (made text ≡ Ok bytes) × ((pieces : List Piece) × (text ≡ shown 0 bytes pieces))
+IsShowAnswer bytes status text = (status ≡ 0) × (made text ≡ Ok bytes) × IsShown bytes (refusal_of bytes) text
 
 -- a line for the first fault of a text
 unfoldable pub mistake_text : MakeFault → List ℕ

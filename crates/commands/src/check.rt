@@ -54,6 +54,18 @@ fn accept<'a>(alloc: Global, bytes: &'a [u8]) -> Result<Accepted<'a>, Stop<Refus
     }
 }
 
+/// The first rule that stands of these bytes, where one does.
+#[tactic(auto, unfolding(job_check::specs::Whole::refusal_of))]
+pub fn refusal_in(alloc: Global, bytes: &[u8]) -> Result<Option<Refusal>, NoMemory>
+    ensures { IfOk result (λ refusal. refusal ≡ refusal_of bytes.now) }
+{
+    match accept(alloc, bytes) {
+        Ok(_) => Ok(None),
+        Err(Stop::Fault(refusal)) => Ok(Some(refusal)),
+        Err(Stop::NoMemory) => Err(NoMemory),
+    }
+}
+
 // What a file's memory has by ascending place: the contents of its buffers, which stay where they are, and its lists, which begin at
 // this place.
 fn spans_of<'a>(

@@ -1,5 +1,5 @@
 -- The text of any bytes is read as these bytes.
-use Rattle.std.proofs.Common.{◌≡◌, ℕ, zero, suc, ◌+◌, ◌*◌, ◌/◌, ◌%◌, ◌<◌, Bool, true, false, List, [], ◌∷◌, ◌++◌, length, take, drop, codes, Ok, Some, None, refl, sym, ◌∙◌, ap, append_assoc, append-nil, arith, eq-eqb}
+use Rattle.std.proofs.Common.{◌≡◌, ℕ, zero, suc, ◌+◌, ◌*◌, ◌/◌, ◌%◌, ◌<◌, Bool, true, false, List, [], ◌∷◌, ◌++◌, length, take, drop, codes, Ok, Option, Some, None, refl, sym, ◌∙◌, ap, append_assoc, append-nil, arith, eq-eqb}
 use Rattle.std.proofs.lemmas.Bool.{eqb-true}
 use Rattle.std.specs.Prelude.{slice_index, ◌==◌, if◌then◌else◌}
 use Rattle.hex.specs.Hex.{encode_lower, encode_with, lower_digits, hex_digit_value}
@@ -10,7 +10,7 @@ use Rattle.job_text.specs.declared.note.Note.{Note}
 use Rattle.job_text.specs.declared.note.Note.TheVariants.{Unread}
 use Rattle.job_text.specs.declared.note.Piece.{Piece}
 use Rattle.job_text.specs.Made.{digits_read, line_read, lines_read, both, made, is_blank}
-use Rattle.job_text.specs.Shown.{remark, line_text, shown}
+use Rattle.job_text.specs.Shown.{remark, is_in, is_past, mark_text, reason_text, line_text, lines_text, shown}
 
 -- no byte is the mark
 abbrev Free : ℕ → List ℕ → Type 0
@@ -78,35 +78,61 @@ digits_back line column (b ∷ bytes) fits =
     rw (digit_not_blank high (b / 16) is_high, is_high, is_low, later) (ap (λ (n : ℕ). Ok (n ∷ bytes)) whole)
 
 -- a line's end behind its last part
-to_end : (a b r rest : List ℕ) → (a ++ (b ++ (r ++ 10 ∷ []))) ++ rest ≡ (a ++ (b ++ r)) ++ 10 ∷ rest
-to_end a b r rest = simp append_assoc
+to_end : (a b r m w rest : List ℕ) → (a ++ (b ++ (r ++ (m ++ 10 ∷ w)))) ++ rest ≡ (a ++ (b ++ (r ++ m))) ++ 10 ∷ (w ++ rest)
+to_end a b r m w rest = simp append_assoc
 
 to_mark : (a r : List ℕ) → a ++ (codes "  # " ++ r) ≡ (a ++ codes "  ") ++ 35 ∷ 32 ∷ r
 to_mark a r = sym (append_assoc a (codes "  ") (35 ∷ 32 ∷ r))
 
-line_again : (n at b : ℕ) (bytes rest : List ℕ) (note : Note) → IsBytes (b ∷ bytes)
-    → lines_read n (lines_of (line_text at (b ∷ bytes) note ++ rest)) ≡ both (Ok (b ∷ bytes)) (lines_read (n + 1) (lines_of rest))
+free_mark : (is : Bool) → Free 10 (mark_text is)
+unfolding mark_text
+free_mark true = (refl, (refl, (refl, (refl, (refl, (refl, (refl, (refl, (refl, (refl, (refl, (refl, (refl, (refl, (refl, (refl, (refl, tt)))))))))))))))))
+free_mark false = tt
+
+line_again : (n at b : ℕ) (bytes rest why : List ℕ) (note : Note) (refused : Option ℕ) → IsBytes (b ∷ bytes)
+    → lines_read n (lines_of (line_text at (b ∷ bytes) note refused why ++ rest))
+    ≡ both (Ok (b ∷ bytes)) (lines_read (n + 1) (lines_of (reason_text (is_in at (length (b ∷ bytes)) refused) why ++ rest)))
 unfolding line_text remark lines_read
-line_again n at b bytes rest note fits =
+line_again n at b bytes rest why note refused fits =
     let digits = encode_lower (b ∷ bytes) in
+    let is = is_in at (length (b ∷ bytes)) refused in
     let r = remark at (b ∷ bytes) note in
-    let line = digits ++ (codes "  # " ++ r) in
-    let no_feed : Free 10 line = free_append 10 digits (codes "  # " ++ r) (free_digits 10 (b ∷ bytes) refl fits) (free_append 10 (codes "  # ") r (refl, (refl, (refl, (refl, tt)))) (free_before 10 _)) in
+    let m = mark_text is in
+    let w = reason_text is why in
+    let line = digits ++ (codes "  # " ++ (r ++ m)) in
+    let free_note : Free 10 (r ++ m) = free_append 10 r m (free_before 10 _) (free_mark is) in
+    let no_feed : Free 10 line =
+    free_append 10 digits (codes "  # " ++ (r ++ m)) (free_digits 10 (b ∷ bytes) refl fits)
+    (free_append 10 (codes "  # ") (r ++ m) (refl, (refl, (refl, (refl, tt)))) free_note) in
     let no_mark : Free 35 (digits ++ codes "  ") = free_append 35 digits (codes "  ") (free_digits 35 (b ∷ bytes) refl fits) (refl, (refl, tt)) in
-    let front : before 35 line ≡ digits ++ codes "  " = ap (before 35) (to_mark digits r) ∙ before_mark 35 (digits ++ codes "  ") (32 ∷ r) no_mark in
+    let front : before 35 line ≡ digits ++ codes "  " = ap (before 35) (to_mark digits (r ++ m)) ∙ before_mark 35 (digits ++ codes "  ") (32 ∷ (r ++ m)) no_mark in
     let read : line_read n line ≡ Ok (b ∷ bytes) = ap (digits_read n 1) front ∙ digits_back n 1 (b ∷ bytes) fits in
-    ap (λ t. lines_read n (lines_of t)) (to_end digits (codes "  # ") r rest)
+    ap (λ t. lines_read n (lines_of t)) (to_end digits (codes "  # ") r m w rest)
+    ∙ ap (lines_read n) (lines_line line (w ++ rest) no_feed)
+    ∙ ap (λ x. both x (lines_read (n + 1) (lines_of (w ++ rest)))) read
+
+-- the reason holds no bytes
+reason_again : (n : ℕ) (is : Bool) (why more rest : List ℕ)
+    → ((m : ℕ) → lines_read m (lines_of rest) ≡ Ok more)
+    → lines_read n (lines_of (reason_text is why ++ rest)) ≡ Ok more
+unfolding reason_text lines_read digits_read before
+reason_again n false why more rest later = later n
+reason_again n true why more rest later =
+    let line = codes "# " ++ before 10 why in
+    let no_feed : Free 10 line = free_append 10 (codes "# ") (before 10 why) (refl, (refl, tt)) (free_before 10 why) in
+    ap (λ t. lines_read n (lines_of t)) (append_assoc line (codes "\n") rest)
     ∙ ap (lines_read n) (lines_line line rest no_feed)
-    ∙ ap (λ x. both x (lines_read (n + 1) (lines_of rest))) read
+    ∙ ap (both (Ok [])) (later (n + 1))
 
 -- the lines of some bytes, and of the bytes behind them
-piece_again : (n at : ℕ) (bytes more rest : List ℕ) (note : Note) → IsBytes bytes
+piece_again : (n at : ℕ) (bytes more rest why : List ℕ) (note : Note) (refused : Option ℕ) → IsBytes bytes
     → ((m : ℕ) → lines_read m (lines_of rest) ≡ Ok more)
-    → lines_read n (lines_of (line_text at bytes note ++ rest)) ≡ Ok (bytes ++ more)
+    → lines_read n (lines_of (line_text at bytes note refused why ++ rest)) ≡ Ok (bytes ++ more)
 unfolding line_text
-piece_again n at [] more rest note fits later = later n
-piece_again n at (b ∷ bytes) more rest note fits later =
-    line_again n at b bytes rest note fits ∙ ap (both (Ok (b ∷ bytes))) (later (n + 1))
+piece_again n at [] more rest why note refused fits later = later n
+piece_again n at (b ∷ bytes) more rest why note refused fits later =
+    line_again n at b bytes rest why note refused fits
+    ∙ ap (both (Ok (b ∷ bytes))) (reason_again (n + 1) (is_in at (length (b ∷ bytes)) refused) why more rest later)
 
 bytes_take : (n : ℕ) (bytes : List ℕ) → IsBytes bytes → IsBytes (take n bytes)
 bytes_take zero bytes fits k = omega arith
@@ -124,17 +150,31 @@ halves zero bytes = refl
 halves (suc n) [] = refl
 halves (suc n) (b ∷ bytes) = ap (λ l. b ∷ l) (halves n bytes)
 
-shown_read : (pieces : List Piece) (n at : ℕ) (bytes : List ℕ) → IsBytes bytes → lines_read n (lines_of (shown at bytes pieces)) ≡ Ok bytes
-unfolding shown lines_read lines_of
-shown_read [] n at bytes fits =
-    ap (λ t. lines_read n (lines_of t)) (sym (append-nil (line_text at bytes Unread)))
-    ∙ piece_again n at bytes [] [] Unread fits (λ m. refl) ∙ ap (λ (l : List ℕ). Ok l) (append-nil bytes)
-shown_read (piece ∷ pieces) n at bytes fits =
+lines_again : (pieces : List Piece) (n at : ℕ) (bytes rest why : List ℕ) (refused : Option ℕ) → IsBytes bytes
+    → ((m : ℕ) → lines_read m (lines_of rest) ≡ Ok [])
+    → lines_read n (lines_of (lines_text at bytes pieces refused why ++ rest)) ≡ Ok bytes
+unfolding lines_text
+lines_again [] n at bytes rest why refused fits later =
+    piece_again n at bytes [] rest why Unread refused fits later ∙ ap (λ (l : List ℕ). Ok l) (append-nil bytes)
+lines_again (piece ∷ pieces) n at bytes rest why refused fits later =
     let front = take piece.size bytes in
     let back = drop piece.size bytes in
-    piece_again n at front back (shown (at + length front) back pieces) piece.note (bytes_take piece.size bytes fits)
-    (λ m. shown_read pieces m (at + length front) back (bytes_drop piece.size bytes fits))
+    let others = lines_text (at + length front) back pieces refused why in
+    ap (λ t. lines_read n (lines_of t)) (append_assoc (line_text at front piece.note refused why) others rest)
+    ∙ piece_again n at front back (others ++ rest) why piece.note refused (bytes_take piece.size bytes fits)
+    (λ m. lines_again pieces m (at + length front) back rest why refused (bytes_drop piece.size bytes fits) later)
     ∙ ap (λ (l : List ℕ). Ok l) (halves piece.size bytes)
 
-pub shown_again : (bytes text : List ℕ) (pieces : List Piece) → IsBytes bytes → text ≡ shown 0 bytes pieces → made text ≡ Ok bytes
-shown_again bytes text pieces fits is = ap made is ∙ shown_read pieces 1 0 bytes fits
+-- the reason at the end holds none either
+last_again : (n : ℕ) (is : Bool) (why : List ℕ) → lines_read n (lines_of (reason_text is why)) ≡ Ok []
+unfolding lines_read lines_of
+last_again n is why =
+    ap (λ t. lines_read n (lines_of t)) (sym (append-nil (reason_text is why))) ∙ reason_again n is why [] [] (λ m. refl)
+
+pub shown_again : (bytes text why : List ℕ) (pieces : List Piece) (refused : Option ℕ) → IsBytes bytes
+    → text ≡ shown bytes pieces refused why → made text ≡ Ok bytes
+unfolding shown
+shown_again bytes text why pieces refused fits is =
+    ap made is
+    ∙ lines_again pieces 1 0 bytes (reason_text (is_past (length bytes) refused) why) why refused fits
+    (λ m. last_again m (is_past (length bytes) refused) why)

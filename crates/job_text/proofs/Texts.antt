@@ -16,8 +16,3 @@ pub in_buffer : (out buffer index : List ℕ)
     → ((((out ++ codes "buffer ") ++ buffer) ++ codes " instruction ") ++ index) ++ codes ": "
     ≡ out ++ (codes "buffer " ++ (buffer ++ (codes " instruction " ++ (index ++ codes ": "))))
 in_buffer out buffer index = simp append_assoc
-
-pub in_buffer_more : (out buffer index text : List ℕ)
-    → (out ++ (codes "buffer " ++ (buffer ++ (codes " instruction " ++ (index ++ codes ": "))))) ++ text
-    ≡ out ++ (codes "buffer " ++ (buffer ++ (codes " instruction " ++ (index ++ (codes ": " ++ text)))))
-in_buffer_more out buffer index text = simp append_assoc

@@ -5,3 +5,4 @@ pub mod Notes
 pub mod Rows
 pub mod Sentences
 pub mod Shown
+pub mod Uniforms

@@ -5,6 +5,7 @@ use Rattle.texture_layouts.specs.declared.surface.Tiling.{Tiling}
 use Rattle.texture_layouts.specs.declared.surface.Tiling.TheVariants.{Raster, T, Lt}
 use Rattle.texture_layouts.specs.declared.format.Style.{Style}
 use Rattle.texture_layouts.specs.Format.{general_style, frame_style}
+use Rattle.texture_layouts.specs.Surface.{size_for}
 use Rattle.job_text.specs.declared.note.Field.{Field}
 use Rattle.job_text.specs.declared.note.Field.TheVariants.{Kind, Flags, HandleIndex, FrameBits, GeneralBits, SurfaceFlags, PrimitiveMode, IndexMode, StateWord, BinnerFlags, RecordFlags}
 
@@ -17,6 +18,17 @@ tiling_name Lt = codes "Lt"
 abbrev pub style_text : Option Style → List ℕ
 style_text None = codes " (no tiling or no format)"
 style_text (Some style) = codes " (" ++ (tiling_name style.tiling ++ (codes " tiling, " ++ (decimal style.cpp ++ codes " bytes a pixel)")))
+
+-- how the pixels of a surface lie, by the bits of its field
+abbrev pub bits_style : Field → ℕ → Option Style
+bits_style FrameBits n = frame_style (n % 65536)
+bits_style GeneralBits n = general_style (n % 65536)
+bits_style field n = None
+
+-- the bytes that a surface of a frame's width and height takes
+abbrev pub size_text : Option Style → ℕ → ℕ → List ℕ
+size_text None width height = []
+size_text (Some style) width height = codes ", " ++ (decimal (size_for style.tiling width height style.cpp) ++ codes " bytes")
 
 -- which primitives the vertices make
 unfoldable pub mode_name : ℕ → List ℕ

@@ -1,5 +1,5 @@
 -- What a line says of its bytes.
-use Rattle.std.specs.Prelude.{ℕ, ◌++◌, List, [], codes, decimal}
+use Rattle.std.specs.Prelude.{ℕ, ◌++◌, List, [], codes, decimal, Option, Some, None}
 use Rattle.field_words.specs.Words.{u32_at}
 use Rattle.std.specs.Prelude.{◌∷◌, ◌==◌, if◌then◌else◌}
 use Rattle.packets.specs.Opcode.{halt, nop, flush, start_tile_binning, increment_semaphore, indexed_primitive_list, array_primitive_list, primitive_list_format, gl_shader_state, configuration_bits, flat_shade_flags, point_size, line_width, rht_x_boundary, depth_offset, clip_window, viewport_offset, clipper_xy_scaling, clipper_z_scaling, tile_binning_mode, buffer_handles}
@@ -156,6 +156,11 @@ surface_fields bits = HandleIndex ∷ Offset ∷ bits ∷ SurfaceFlags ∷ []
 
 abbrev pub clear_fields : List Field
 clear_fields = FirstColor ∷ SecondColor ∷ ClearZ ∷ ClearStencil ∷ Zeros ∷ []
+
+-- the buffer that a handle names, where it names one
+abbrev pub named_text : Option ℕ → List ℕ
+named_text None = []
+named_text (Some buffer) = codes " (buffer " ++ (decimal buffer ++ codes ")")
 
 -- a job's number before what is said of a part of it
 unfoldable pub of_job : ℕ → List ℕ → List ℕ

@@ -5,22 +5,28 @@ use Rattle.script.specs.Lines.{before}
 use Rattle.qpu_asm.specs.Printed.{AsmText}
 use Rattle.qpu_isa.specs.Terms.{is_switch, is_end, writes_s}
 use Rattle.job_text.specs.declared.note.Note.{Note}
-use Rattle.job_text.specs.declared.note.Note.TheVariants.{Number, Named, Handle, Packet, BehindHalt, Records, Uniform, Data, Instruction, Unread}
-use Rattle.job_text.specs.Names.{of_job, part_text, packet_name}
+use Rattle.job_text.specs.declared.note.Note.TheVariants.{Number, Named, Sized, Handle, Packet, BehindHalt, Records, Uniform, Taken, Data, Instruction, Unread}
+use Rattle.job_text.specs.declared.note.Meaning.{Meaning}
+use Rattle.job_text.specs.declared.note.Part.{Part}
+use Rattle.job_text.specs.declared.note.Stage.{Stage}
+use Rattle.job_text.specs.declared.note.Field.{Field}
+use Rattle.job_text.specs.Meanings.{bits_style, size_text}
+use Rattle.job_text.specs.Names.{named_text, of_job, part_text, stage_name, packet_name}
 use Rattle.job_text.specs.Rows.{packet_fields, valued, fields_text}
+use Rattle.job_text.specs.Uniforms.{meaning_text}
 
 -- the same of the number that some bytes are, where numbers count
 unfoldable pub counted : ℕ → List ℕ → ℕ → List ℕ → List ℕ → List ℕ
 counted j name i what bytes = of_job j (name ++ (decimal i ++ (what ++ decimal (u32_at bytes 0))))
 
--- the buffer that a handle names, and the uniform that an instruction takes, where there is one
-abbrev pub named_text : Option ℕ → List ℕ
-named_text None = []
-named_text (Some buffer) = codes " (buffer " ++ (decimal buffer ++ codes ")")
-
+-- the uniform that an instruction takes, where it takes one
 abbrev pub taken_text : Option ℕ → List ℕ
 taken_text None = []
 taken_text (Some uniform) = codes "; takes uniform " ++ decimal uniform
+
+-- which shader takes a uniform, and what it makes of it
+unfoldable pub meant_text : ℕ → Stage → Meaning → List ℕ
+meant_text k stage meaning = codes "; record " ++ (decimal k ++ (codes " " ++ (stage_name stage ++ (codes ": " ++ meaning_text meaning))))
 
 -- the name of a packet, and its fields
 unfoldable pub packet_text : List ℕ → List ℕ
@@ -40,19 +46,33 @@ facts_text word =
 unfoldable pub assembler_text : ℕ → List ℕ
 assembler_text word = before 10 (AsmText (word ∷ []))
 
+-- an instruction, the uniform that it takes, and what it does beside its operations
+unfoldable pub instruction_text : ℕ → Option ℕ → List ℕ
+instruction_text word uniform = assembler_text word ++ (taken_text uniform ++ facts_text word)
+
+-- the number of a buffer's instruction
+unfoldable pub numbered_text : ℕ → ℕ → List ℕ
+numbered_text b i = codes "buffer " ++ (decimal b ++ (codes " instruction " ++ (decimal i ++ codes ": ")))
+
+-- a packet of a job's list, and the buffer of indexes behind it
+unfoldable pub listed_text : ℕ → Option ℕ → List ℕ → List ℕ
+listed_text j buffer packet = of_job j (codes "binner list: " ++ (packet_text packet ++ named_text buffer))
+
+-- a field, and what its part is
+unfoldable pub field_text : Part → Field → List ℕ → List ℕ
+field_text part field bytes = part_text part ++ (codes ": " ++ valued field bytes)
+
 -- what a line says of its bytes
 unfoldable pub note_text : Note → List ℕ → List ℕ
-note_text (Number part field) bytes = part_text part ++ (codes ": " ++ valued field bytes)
-note_text (Named part field buffer) bytes = part_text part ++ (codes ": " ++ (valued field bytes ++ named_text buffer))
+note_text (Number part field) bytes = field_text part field bytes
+note_text (Named part field buffer) bytes = field_text part field bytes ++ named_text buffer
+note_text (Sized part field width height) bytes = field_text part field bytes ++ size_text (bits_style field (u32_at bytes 0)) width height
 note_text (Handle j i) bytes = counted j (codes "handle ") i (codes ": buffer ") bytes
-note_text (Packet j buffer) bytes = of_job j (codes "binner list: " ++ (packet_text bytes ++ named_text buffer))
+note_text (Packet j buffer) bytes = listed_text j buffer bytes
 note_text (BehindHalt j) bytes = of_job j (codes "binner list: behind the halt")
 note_text (Records j) bytes = of_job j (codes "shader records")
 note_text (Uniform j i) bytes = counted j (codes "uniform ") i (codes ": ") bytes
+note_text (Taken j i k stage meaning) bytes = counted j (codes "uniform ") i (codes ": ") bytes ++ meant_text k stage meaning
 note_text (Data b) bytes = codes "buffer " ++ (decimal b ++ codes " content")
-note_text (Instruction b i uniform) bytes =
-    codes "buffer "
-    ++ (decimal b
-    ++ (codes " instruction "
-    ++ (decimal i ++ (codes ": " ++ (assembler_text (u64_at bytes 0) ++ (taken_text uniform ++ facts_text (u64_at bytes 0)))))))
+note_text (Instruction b i uniform) bytes = numbered_text b i ++ instruction_text (u64_at bytes 0) uniform
 note_text Unread bytes = codes "unread"

@@ -1,5 +1,5 @@
--- The text of a file: a line for each of its pieces.
-use Rattle.std.specs.Prelude.{ℕ, ◌+◌, List, [], ◌∷◌, ◌++◌, length, take, drop, codes, decimal}
+-- The text of a file: a line for each of its pieces, and where it is refused a mark and the reason.
+use Rattle.std.specs.Prelude.{ℕ, ◌+◌, ◌&&◌, Bool, false, nat_le, nat_lt, List, [], ◌∷◌, ◌++◌, length, take, drop, codes, decimal, Option, Some, None, if◌then◌else◌}
 use Rattle.hex.specs.Hex.{encode_lower}
 use Rattle.script.specs.Lines.{before}
 use Rattle.job_text.specs.declared.note.Note.{Note}
@@ -11,15 +11,39 @@ use Rattle.job_text.specs.Notes.{note_text}
 unfoldable pub remark : ℕ → List ℕ → Note → List ℕ
 remark at bytes note = before 10 (decimal at ++ (codes " " ++ note_text note bytes))
 
--- the line of some bytes; none where there is no byte
-unfoldable pub line_text : ℕ → List ℕ → Note → List ℕ
-line_text at [] note = []
-line_text at (byte ∷ bytes) note =
-    encode_lower (byte ∷ bytes) ++ (codes "  # " ++ (remark at (byte ∷ bytes) note ++ codes "\n"))
+-- whether the offset of a refusal lies in so many bytes from another on, and whether it lies in none of so many
+unfoldable pub is_in : ℕ → ℕ → Option ℕ → Bool
+is_in at count None = false
+is_in at count (Some offset) = nat_le at offset && nat_lt offset (at + count)
+
+unfoldable pub is_past : ℕ → Option ℕ → Bool
+is_past count None = false
+is_past count (Some offset) = nat_le count offset
+
+-- what stands behind the note on the line of that offset, and on a line of its own below it
+unfoldable pub mark_text : Bool → List ℕ
+mark_text is = if is then codes " <== refused here" else []
+
+unfoldable pub reason_text : Bool → List ℕ → List ℕ
+reason_text is why = if is then codes "# " ++ (before 10 why ++ codes "\n") else []
+
+-- the line of some bytes, and the reason where the refusal's offset lies in them; none where there is no byte
+unfoldable pub line_text : ℕ → List ℕ → Note → Option ℕ → List ℕ → List ℕ
+line_text at [] note refused why = []
+line_text at (byte ∷ bytes) note refused why =
+    encode_lower (byte ∷ bytes)
+    ++ (codes "  # "
+    ++ (remark at (byte ∷ bytes) note
+    ++ (mark_text (is_in at (length (byte ∷ bytes)) refused)
+    ++ (codes "\n" ++ reason_text (is_in at (length (byte ∷ bytes)) refused) why))))
 
 -- the lines of bytes from an offset on, piece by piece
-unfoldable pub shown : ℕ → List ℕ → List Piece → List ℕ
-shown at bytes [] = line_text at bytes Unread
-shown at bytes (piece ∷ pieces) =
-    line_text at (take piece.size bytes) piece.note
-    ++ shown (at + length (take piece.size bytes)) (drop piece.size bytes) pieces
+unfoldable pub lines_text : ℕ → List ℕ → List Piece → Option ℕ → List ℕ → List ℕ
+lines_text at bytes [] refused why = line_text at bytes Unread refused why
+lines_text at bytes (piece ∷ pieces) refused why =
+    line_text at (take piece.size bytes) piece.note refused why
+    ++ lines_text (at + length (take piece.size bytes)) (drop piece.size bytes) pieces refused why
+
+-- The whole text. The reason stands at the end where the refusal's offset is no byte's.
+unfoldable pub shown : List ℕ → List Piece → Option ℕ → List ℕ → List ℕ
+shown bytes pieces refused why = lines_text 0 bytes pieces refused why ++ reason_text (is_past (length bytes) refused) why

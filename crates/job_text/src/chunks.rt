@@ -3,11 +3,11 @@
 use crate::note::{Note, Piece};
 use std::alloc::AllocError;
 
-// The note with a number, where it counts.
+// The note of a piece behind so many others, where it counts.
 fn numbered(note: Note, number: usize) -> Note {
     match note {
-        Note::Handle(job, _) => Note::Handle(job, number),
-        Note::Uniform(job, _) => Note::Uniform(job, number),
+        Note::Handle(job, first) => Note::Handle(job, first.saturating_add(number)),
+        Note::Uniform(job, first) => Note::Uniform(job, first.saturating_add(number)),
         other => other,
     }
 }

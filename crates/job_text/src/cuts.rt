@@ -5,8 +5,10 @@ use crate::code::push_code;
 use crate::list::{buffer_of, push_list, push_records};
 use crate::names::field_size;
 use crate::note::{Field, Note, Part, Piece, Role};
-use field_words::get_u32;
+use crate::streams::{known_shaders, push_uniforms};
+use field_words::{NoMemory, get_u16, get_u32};
 use job_format::{ENTRY_SIZE, HEADER_SIZE, JOB_SIZE};
+use qpu_isa::ShaderInfo;
 use std::alloc::{AllocError, Global};
 
 fn push_fields(out: &mut Vec<Piece>, part: Part, fields: &[Field]) -> Result<(), AllocError> {
@@ -55,23 +57,44 @@ fn bits_of(role: Role) -> Field {
     }
 }
 
-// Appends a surface, of which the buffer is given that its handle names.
+// The width and height of a job's frame, by its entry.
+fn sides_of(entry: &[u8]) -> (u16, u16) {
+    let width = get_u16(entry, 28).unwrap_or(0);
+    let height = get_u16(entry, 30).unwrap_or(0);
+    (width, height)
+}
+
+// The note of a surface's bits, with the frame's sides where the surface is there and isn't in full resolution.
+fn bits_note(part: Part, role: Role, surface: &[u8], sides: (u16, u16)) -> Note {
+    let field = bits_of(role);
+    let flags = get_u16(surface, 10).unwrap_or(0);
+    if word(surface, 0) == u32::MAX || flags % 2 == 1 {
+        return Note::Number(part, field);
+    }
+    Note::Sized(part, field, sides.0, sides.1)
+}
+
+// Appends a surface, which begins the given bytes.
 fn push_surface(
     out: &mut Vec<Piece>,
     job: u32,
     role: Role,
-    buffer: Option<usize>,
+    surface: &[u8],
+    handles: &[u8],
+    sides: (u16, u16),
 ) -> Result<(), AllocError> {
     let part = Part::Surface(job, role);
+    let buffer = buffer_of(handles, word(surface, 0));
     out.push(Piece {
         size: 4,
         note: Note::Named(part, Field::HandleIndex, buffer),
     })?;
-    push_fields(
-        out,
-        part,
-        &[Field::Offset, bits_of(role), Field::SurfaceFlags],
-    )
+    push_fields(out, part, &[Field::Offset])?;
+    out.push(Piece {
+        size: 2,
+        note: bits_note(part, role, surface, sides),
+    })?;
+    push_fields(out, part, &[Field::SurfaceFlags])
 }
 
 fn push_job_fields(out: &mut Vec<Piece>, job: u32) -> Result<(), AllocError> {
@@ -104,25 +127,25 @@ fn push_clear_fields(out: &mut Vec<Piece>, job: u32) -> Result<(), AllocError> {
     push_fields(out, Part::Job(job), &fields)
 }
 
-// Appends the surfaces of a job in the order of these roles, whose bytes and handles are given.
+// Appends the surfaces of a job in the order of these roles, of which the entry and the handles are given.
 fn push_surfaces(
     out: &mut Vec<Piece>,
     job: u32,
-    surfaces: &[u8],
+    entry: &[u8],
     handles: &[u8],
     roles: &[Role],
 ) -> Result<(), AllocError> {
-    let mut rest = surfaces;
+    let sides = sides_of(entry);
+    let mut rest = part_at(entry, 36, 72);
     for role in roles {
-        let buffer = buffer_of(handles, word(rest, 0));
-        push_surface(out, job, *role, buffer)?;
+        push_surface(out, job, *role, rest, handles, sides)?;
         rest = &rest[12.min(rest.len())..];
     }
     Ok(())
 }
 
-// What stands in bytes from an offset on, up to a size.
-fn part_at(bytes: &[u8], start: usize, size: usize) -> &[u8] {
+/// What stands in bytes from an offset on, up to a size.
+pub(crate) fn part_at(bytes: &[u8], start: usize, size: usize) -> &[u8] {
     let (_, rest) = bytes.split_at(start.min(bytes.len()));
     &rest[..size.min(rest.len())]
 }
@@ -148,15 +171,15 @@ fn push_job(
     push_surfaces(
         out,
         job,
-        part_at(bytes, entry.saturating_add(36), 72),
+        part_at(bytes, entry, JOB_SIZE),
         part_at(bytes, start, handles),
         &roles,
     )?;
     push_clear_fields(out, job)
 }
 
-// The number of four bytes.
-fn word(bytes: &[u8], at: usize) -> u32 {
+/// The number of four bytes, or 0 past the end.
+pub(crate) fn word(bytes: &[u8], at: usize) -> u32 {
     get_u32(bytes, at).unwrap_or(0)
 }
 
@@ -251,12 +274,14 @@ fn jobs_end(bytes: &[u8], buffers: u32, jobs: u32) -> usize {
 
 // Appends the pieces of a job's parts, which begin at an offset, and says where they end.
 fn push_part(
+    alloc: Global,
     out: &mut Vec<Piece>,
     bytes: &[u8],
-    buffers: u32,
+    shaders: &[Option<ShaderInfo>],
     job: u32,
     start: usize,
 ) -> Result<usize, AllocError> {
+    let buffers = word(bytes, 28);
     let entry = HEADER_SIZE + ENTRY_SIZE * buffers as usize + JOB_SIZE * job as usize;
     let end = parts_end(bytes, entry, start);
     let handles = 4 * word(bytes, entry.saturating_add(8)) as usize;
@@ -266,23 +291,29 @@ fn push_part(
     let named = part_at(bytes, start, handles);
     let list_start = start.saturating_add(handles);
     let list = part_at(bytes, list_start, bin);
-    let records = part_at(bytes, list_start.saturating_add(bin), records);
+    let records_start = list_start.saturating_add(bin);
+    let stream = part_at(bytes, records_start.saturating_add(records), uniforms);
+    let records = part_at(bytes, records_start, records);
+    let mut starts = Vec::new(alloc);
     push_chunks(out, 4, handles, Note::Handle(job, 0))?;
     push_list(out, job, list, named)?;
-    push_records(out, job, list, named, records)?;
-    push_chunks(out, 4, uniforms, Note::Uniform(job, 0))?;
+    push_records(out, &mut starts, job, list, named, records)?;
+    push_uniforms(alloc, out, job, &starts, named, records, stream, shaders)?;
     Ok(end)
 }
 
 fn push_parts(
+    alloc: Global,
     out: &mut Vec<Piece>,
     bytes: &[u8],
     buffers: u32,
     jobs: u32,
-) -> Result<(), AllocError> {
+) -> Result<(), NoMemory> {
+    let entries = HEADER_SIZE + ENTRY_SIZE * buffers as usize + JOB_SIZE * jobs as usize;
+    let shaders = known_shaders(alloc, bytes, buffers, entries)?;
     let mut at = contents_end(bytes, buffers, jobs);
     for job in 0..jobs {
-        at = push_part(out, bytes, buffers, job, at)?;
+        at = push_part(alloc, out, bytes, &shaders, job, at)?;
     }
     Ok(())
 }
@@ -293,31 +324,34 @@ fn push_unread(out: &mut Vec<Piece>, bytes: &[u8], at: usize) -> Result<(), Allo
 }
 
 // Appends what follows the header.
-fn push_rest(out: &mut Vec<Piece>, bytes: &[u8]) -> Result<(), AllocError> {
+fn push_rest(alloc: Global, out: &mut Vec<Piece>, bytes: &[u8]) -> Result<(), NoMemory> {
     let buffers = word(bytes, 28);
     let jobs = word(bytes, 32);
     let entries = HEADER_SIZE + ENTRY_SIZE * buffers as usize + JOB_SIZE * jobs as usize;
     if entries > bytes.len() {
-        return push_unread(out, bytes, HEADER_SIZE);
+        push_unread(out, bytes, HEADER_SIZE)?;
+        return Ok(());
     }
     push_entries(out, bytes)?;
     let end = jobs_end(bytes, buffers, jobs);
     if end > bytes.len() {
-        return push_unread(out, bytes, entries);
+        push_unread(out, bytes, entries)?;
+        return Ok(());
     }
     push_contents(out, bytes, buffers, entries)?;
-    push_parts(out, bytes, buffers, jobs)?;
-    push_unread(out, bytes, end)
+    push_parts(alloc, out, bytes, buffers, jobs)?;
+    push_unread(out, bytes, end)?;
+    Ok(())
 }
 
 /// The pieces of a file, in order.
-pub(crate) fn pieces(alloc: Global, bytes: &[u8]) -> Result<Vec<Piece>, AllocError> {
+pub(crate) fn pieces(alloc: Global, bytes: &[u8]) -> Result<Vec<Piece>, NoMemory> {
     let mut out = Vec::new(alloc);
     push_header(&mut out)?;
     if bytes.len() < HEADER_SIZE {
         push_unread(&mut out, bytes, HEADER_SIZE)?;
     } else {
-        push_rest(&mut out, bytes)?;
+        push_rest(alloc, &mut out, bytes)?;
     }
     Ok(out)
 }

@@ -17,6 +17,8 @@ mod notes;
 mod numbers;
 mod reading;
 mod rows;
+mod streams;
+mod uniforms;
 mod writing;
 
 pub use fault::{MakeFault, Mistake};

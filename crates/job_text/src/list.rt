@@ -180,9 +180,10 @@ fn push_record(
     Ok(left)
 }
 
-/// Appends the pieces of a job's shader records, which are those of its list's states.
+/// Appends the pieces of a job's shader records, which are those of its list's states, and to `starts` where each begins.
 pub(crate) fn push_records(
     out: &mut Vec<Piece>,
+    starts: &mut Vec<usize>,
     job: u32,
     list: &[u8],
     handles: &[u8],
@@ -198,6 +199,7 @@ pub(crate) fn push_records(
         }
         if *opcode == GL_SHADER_STATE {
             let state = get_u32(behind, 0).unwrap_or(0);
+            starts.push(records.len().saturating_sub(left))?;
             left = push_record(out, left, records, handles, job, record, state)?;
             record = record.saturating_add(1);
         }

@@ -1,14 +1,16 @@
 //! What the number of a field means.
-ghost use Rattle.std.specs.Prelude.{◌≡◌, ◌++◌, ◌%◌, codes, OnOk};
-ghost use Rattle.job_text.specs.Meanings.{tiling_name, style_text, mode_name, index_text, said_of_one, said_of_bit, kind_text, absent_text, extended_text, state_text, field_meaning};
+ghost use Rattle.std.specs.Prelude.{◌≡◌, ◌++◌, ◌%◌, ◌<◌, ◌^◌, codes, OnOk, IfSome};
+ghost use Rattle.texture_layouts.specs.Format.{IsShort};
+ghost use Rattle.texture_layouts.specs.Surface.{size_for};
+ghost use Rattle.job_text.specs.Meanings.{tiling_name, style_text, bits_style, size_text, mode_name, index_text, said_of_one, said_of_bit, kind_text, absent_text, extended_text, state_text, field_meaning};
 
 use crate::note::Field;
 use crate::numbers::put_number;
 use packets::{attribute_count, is_extended};
 use std::alloc::AllocError;
-use texture_layouts::{Style, Tiling, frame_style, general_style};
+use texture_layouts::{Style, Tiling, frame_style, general_style, surface_size};
 
-fn tiling_name(tiling: Tiling) -> &'static str
+pub(crate) fn tiling_name(tiling: Tiling) -> &'static str
     ensures { result.now ≡ tiling_name tiling }
 {
     match tiling {
@@ -29,6 +31,48 @@ fn put_style(out: &mut Vec<u8>, style: Option<Style>) -> Result<(), AllocError>
             out.extend_from_slice(b" tiling, ")?;
             put_number(out, style.cpp as usize)?;
             out.extend_from_slice(b" bytes a pixel)")
+        }
+    }
+}
+
+/// How the pixels of a surface lie, by the bits of its field.
+pub(crate) fn bits_style(field: Field, number: u32) -> Option<Style>
+    ensures value { result ≡ bits_style field number }
+    ensures short { IfSome result (λ style. IsShort style.cpp) }
+{
+    match field {
+        Field::FrameBits => frame_style((number % 65536) as u16),
+        Field::GeneralBits => general_style((number % 65536) as u16),
+        _ => None,
+    }
+}
+
+// The bytes of a surface.
+#[tactic(auto, using(texture_layouts::proofs::Styles::short_pixel))]
+fn style_size(style: Style, width: u16, height: u16) -> u64
+    requires { IsShort style.cpp }
+    ensures value { result ≡ size_for style.tiling width height style.cpp }
+    ensures limit { result < 2 ^ 36 }
+{
+    surface_size(style.tiling, u32::from(width), u32::from(height), style.cpp)
+}
+
+/// Appends the bytes that a surface of a frame's width and height takes.
+pub(crate) fn put_size(
+    out: &mut Vec<u8>,
+    style: Option<Style>,
+    width: u16,
+    height: u16,
+) -> Result<(), AllocError>
+    requires { IfSome style (λ style. IsShort style.cpp) }
+    ensures { OnOk result (out.new.items ≡ out.old.items ++ size_text style width height) }
+{
+    match style {
+        None => Ok(()),
+        Some(style) => {
+            out.extend_from_slice(b", ")?;
+            put_number(out, style_size(style, width, height) as usize)?;
+            out.extend_from_slice(b" bytes")
         }
     }
 }

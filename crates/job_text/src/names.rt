@@ -1,6 +1,6 @@
 //! The names of what a file has.
 ghost use Rattle.std.specs.Prelude.{◌≡◌, ◌++◌, codes, decimal, OnOk};
-ghost use Rattle.job_text.specs.Names.{role_name, stage_name, field_name, field_size, part_text, packet_name, of_job};
+ghost use Rattle.job_text.specs.Names.{named_text, role_name, stage_name, field_name, field_size, part_text, packet_name, of_job};
 
 use crate::note::{Field, Part, Role, Stage};
 use crate::numbers::put_number;
@@ -25,13 +25,28 @@ fn role_name(role: Role) -> &'static str
     }
 }
 
-fn stage_name(stage: Stage) -> &'static str
+/// The name of a shader.
+pub(crate) fn stage_name(stage: Stage) -> &'static str
     ensures { result.now ≡ stage_name stage }
 {
     match stage {
         Stage::Fragment => "fragment shader",
         Stage::Vertex => "vertex shader",
         Stage::Coordinate => "coordinate shader",
+    }
+}
+
+/// Appends the buffer that a handle names, where it names one.
+pub(crate) fn put_named(out: &mut Vec<u8>, buffer: Option<usize>) -> Result<(), AllocError>
+    ensures { OnOk result (out.new.items ≡ out.old.items ++ named_text buffer) }
+{
+    match buffer {
+        None => Ok(()),
+        Some(buffer) => {
+            out.extend_from_slice(b" (buffer ")?;
+            put_number(out, buffer)?;
+            out.extend_from_slice(b")")
+        }
     }
 }
 

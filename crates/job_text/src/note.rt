@@ -118,18 +118,38 @@ pub enum Part {
     Attribute(u32, usize, usize),
 }
 
+/// What a shader makes of a word of its uniforms. The first number counts the shader's samples.
+#[derive(Clone, Copy, Debug, PartialEq, Eq)]
+pub enum Meaning {
+    /// A number that instructions read.
+    Plain,
+    /// The address of the uniforms, which the emission writes.
+    Stream,
+    /// The handle of the buffer that a sample reads, and that buffer.
+    Source(u32, Option<usize>),
+    /// The address that a direct sample adds to.
+    Address(u32),
+    /// The bound of that address.
+    Bound(u32),
+    /// A set-up word of a texture, by its number of the four.
+    Setup(u32, u8, [u32; 4]),
+}
+
 /// What some bytes are. The first number is that of the job, or of the buffer for `Data` and `Instruction`; the second
 /// counts handles, uniforms and instructions. The buffer that a handle names stands last, and the uniform that an instruction
-/// takes.
+/// takes. A surface's bits have the frame's width and height, and a uniform the record, the shader, and what that makes of it,
+/// where these are known.
 #[derive(Clone, Copy, Debug, PartialEq, Eq)]
 pub enum Note {
     Number(Part, Field),
     Named(Part, Field, Option<usize>),
+    Sized(Part, Field, u16, u16),
     Handle(u32, usize),
     Packet(u32, Option<usize>),
     BehindHalt(u32),
     Records(u32),
     Uniform(u32, usize),
+    Taken(u32, usize, usize, Stage, Meaning),
     Data(u32),
     Instruction(u32, usize, Option<usize>),
     Unread,

@@ -1,12 +1,17 @@
 //! What a line says of its bytes.
 ghost use Rattle.std.specs.Prelude.{◌≡◌, ◌++◌, codes, decimal, drop, OnOk};
-ghost use Rattle.job_text.specs.Names.{of_job};
-ghost use Rattle.job_text.specs.Notes.{counted, named_text, taken_text, packet_text, said_if, facts_text, assembler_text, note_text};
+ghost use Rattle.field_words.specs.Words.{u32_at};
+ghost use Rattle.job_text.specs.Meanings.{bits_style, size_text};
+ghost use Rattle.job_text.specs.Names.{named_text};
+ghost use Rattle.job_text.specs.Notes.{counted, taken_text, packet_text, said_if, facts_text, assembler_text, field_text, meant_text, listed_text};
+ghost use Rattle.job_text.specs.Notes.{numbered_text, instruction_text, note_text};
 
-use crate::names::{packet_name, put_of_job, put_part};
-use crate::note::{Field, Note, Part};
+use crate::meanings::{bits_style, put_size};
+use crate::names::{packet_name, put_named, put_of_job, put_part, stage_name};
+use crate::note::{Field, Meaning, Note, Part, Stage};
 use crate::numbers::{byte_at, instruction, number, put_number};
 use crate::rows::{put_packet_fields, put_valued};
+use crate::uniforms::put_use;
 use field_words::NoMemory;
 use qpu_asm::disassemble;
 use qpu_isa::word::{is_end, is_switch};
@@ -14,30 +19,15 @@ use qpu_isa::writes::writes_s;
 use script::cut_at;
 use std::alloc::{AllocError, Global};
 
-#[tactic(auto, unfolding(crate::specs::Notes::note_text))]
+#[tactic(auto, unfolding(crate::specs::Notes::field_text))]
 fn put_field(out: &mut Vec<u8>, part: Part, field: Field, bytes: &[u8]) -> Result<(), AllocError>
-    ensures { OnOk result (out.new.items ≡ out.old.items ++ note_text (Note.Number part field) bytes.now) }
+    ensures { OnOk result (out.new.items ≡ out.old.items ++ field_text part field bytes.now) }
 {
     put_part(out, part)?;
     out.extend_from_slice(b": ")?;
     put_valued(out, field, bytes)
 }
 
-// Appends the buffer that a handle names, where it names one.
-fn put_named(out: &mut Vec<u8>, buffer: Option<usize>) -> Result<(), AllocError>
-    ensures { OnOk result (out.new.items ≡ out.old.items ++ named_text buffer) }
-{
-    match buffer {
-        None => Ok(()),
-        Some(buffer) => {
-            out.extend_from_slice(b" (buffer ")?;
-            put_number(out, buffer)?;
-            out.extend_from_slice(b")")
-        }
-    }
-}
-
-#[tactic(auto, unfolding(crate::specs::Notes::note_text))]
 fn put_handle_field(
     out: &mut Vec<u8>,
     part: Part,
@@ -45,10 +35,27 @@ fn put_handle_field(
     buffer: Option<usize>,
     bytes: &[u8],
 ) -> Result<(), AllocError>
-    ensures { OnOk result (out.new.items ≡ out.old.items ++ note_text (Note.Named part field buffer) bytes.now) }
+    ensures { OnOk result (out.new.items ≡ out.old.items ++ (field_text part field bytes.now ++ named_text buffer)) }
 {
     put_field(out, part, field, bytes)?;
-    put_named(out, buffer)
+    put_named(out, buffer)?;
+    Ok(())
+}
+
+fn put_sized_field(
+    out: &mut Vec<u8>,
+    part: Part,
+    field: Field,
+    width: u16,
+    height: u16,
+    bytes: &[u8],
+) -> Result<(), AllocError>
+    ensures { OnOk result (out.new.items ≡ out.old.items
+        ++ (field_text part field bytes.now ++ size_text (bits_style field (u32_at bytes.now 0)) width height)) }
+{
+    put_field(out, part, field, bytes)?;
+    put_size(out, bits_style(field, number(bytes)), width, height)?;
+    Ok(())
 }
 
 #[tactic(auto, unfolding(crate::specs::Names::of_job, crate::specs::Notes::counted))]
@@ -66,6 +73,43 @@ fn put_counted(
     put_number(out, count)?;
     out.extend_from_slice(what)?;
     put_number(out, number(bytes) as usize)
+}
+
+// Appends which shader takes a uniform, and what it makes of it.
+#[tactic(auto, unfolding(crate::specs::Notes::meant_text))]
+fn put_meant(
+    out: &mut Vec<u8>,
+    number: usize,
+    stage: Stage,
+    meaning: Meaning,
+) -> Result<(), AllocError>
+    ensures { OnOk result (out.new.items ≡ out.old.items ++ meant_text number stage meaning) }
+{
+    out.extend_from_slice(b"; record ")?;
+    put_number(out, number)?;
+    out.extend_from_slice(b" ")?;
+    out.extend_from_slice(stage_name(stage).as_bytes())?;
+    out.extend_from_slice(b": ")?;
+    put_use(out, meaning)?;
+    Ok(())
+}
+
+// Appends a uniform, and what the shader that takes it makes of it.
+fn put_uniform(
+    out: &mut Vec<u8>,
+    job: u32,
+    index: usize,
+    number: usize,
+    stage: Stage,
+    meaning: Meaning,
+    bytes: &[u8],
+) -> Result<(), AllocError>
+    ensures { OnOk result (out.new.items ≡ out.old.items
+        ++ (counted job (codes "uniform ") index (codes ": ") bytes.now ++ meant_text number stage meaning)) }
+{
+    put_counted(out, job, b"uniform ", index, b": ", bytes)?;
+    put_meant(out, number, stage, meaning)?;
+    Ok(())
 }
 
 // Appends the uniform that an instruction takes, where it takes one.
@@ -111,13 +155,14 @@ fn put_assembler(alloc: Global, out: &mut Vec<u8>, word: u64) -> Result<(), NoMe
     Ok(())
 }
 
+#[tactic(auto, unfolding(crate::specs::Notes::instruction_text))]
 fn put_instruction(
     alloc: Global,
     out: &mut Vec<u8>,
     word: u64,
     uniform: Option<usize>,
 ) -> Result<(), NoMemory>
-    ensures { OnOk result (out.new.items ≡ out.old.items ++ (assembler_text word ++ (taken_text uniform ++ facts_text word))) }
+    ensures { OnOk result (out.new.items ≡ out.old.items ++ instruction_text word uniform) }
 {
     put_assembler(alloc, out, word)?;
     put_taken(out, uniform)?;
@@ -125,8 +170,9 @@ fn put_instruction(
     Ok(())
 }
 
+#[tactic(auto, unfolding(crate::specs::Notes::numbered_text))]
 fn put_numbered(out: &mut Vec<u8>, buffer: u32, index: usize) -> Result<(), AllocError>
-    ensures { OnOk result (out.new.items ≡ out.old.items ++ (codes "buffer " ++ (decimal buffer ++ (codes " instruction " ++ (decimal index ++ codes ": "))))) }
+    ensures { OnOk result (out.new.items ≡ out.old.items ++ numbered_text buffer index) }
 {
     out.extend_from_slice(b"buffer ")?;
     put_number(out, buffer as usize)?;
@@ -166,14 +212,14 @@ fn put_packet_text(out: &mut Vec<u8>, packet: &[u8]) -> Result<(), AllocError>
     Ok(())
 }
 
-#[tactic(auto, unfolding(crate::specs::Names::of_job))]
+#[tactic(auto, unfolding(crate::specs::Names::of_job, crate::specs::Notes::listed_text))]
 fn put_packet(
     out: &mut Vec<u8>,
     job: u32,
     buffer: Option<usize>,
     packet: &[u8],
 ) -> Result<(), AllocError>
-    ensures { OnOk result (out.new.items ≡ out.old.items ++ of_job job (codes "binner list: " ++ (packet_text packet.now ++ named_text buffer))) }
+    ensures { OnOk result (out.new.items ≡ out.old.items ++ listed_text job buffer packet.now) }
 {
     put_of_job(out, job, b"binner list: ")?;
     put_packet_text(out, packet)?;
@@ -194,11 +240,17 @@ pub(crate) fn put_note(
     match note {
         Note::Number(part, field) => put_field(out, part, field, bytes)?,
         Note::Named(part, field, buffer) => put_handle_field(out, part, field, buffer, bytes)?,
+        Note::Sized(part, field, width, height) => {
+            put_sized_field(out, part, field, width, height, bytes)?
+        }
         Note::Handle(job, index) => put_counted(out, job, b"handle ", index, b": buffer ", bytes)?,
         Note::Packet(job, buffer) => put_packet(out, job, buffer, bytes)?,
         Note::BehindHalt(job) => put_of_job(out, job, b"binner list: behind the halt")?,
         Note::Records(job) => put_of_job(out, job, b"shader records")?,
         Note::Uniform(job, index) => put_counted(out, job, b"uniform ", index, b": ", bytes)?,
+        Note::Taken(job, index, record, stage, meaning) => {
+            put_uniform(out, job, index, record, stage, meaning, bytes)?
+        }
         Note::Data(buffer) => put_data(out, buffer)?,
         Note::Instruction(buffer, index, uniform) => {
             put_numbered(out, buffer, index)?;

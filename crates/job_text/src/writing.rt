@@ -1,7 +1,7 @@
 //! A file as text.
-ghost use Rattle.std.specs.Prelude.{◌≡◌, ◌≤◌, ◌<◌, ◌^◌, ◌+◌, ◌++◌, length, take, drop, List, IfOk, OnOk, Ok};
+ghost use Rattle.std.specs.Prelude.{◌≡◌, ◌≤◌, ◌<◌, ◌^◌, ◌+◌, ◌++◌, ◌-◌, length, take, drop, List, IfOk, OnOk, Ok};
 ghost use Rattle.job_text.specs.declared.note.Piece.{Piece as PieceModel};
-ghost use Rattle.job_text.specs.Shown.{remark, line_text, shown};
+ghost use Rattle.job_text.specs.Shown.{remark, is_in, is_past, mark_text, reason_text, line_text, lines_text, shown};
 ghost use Rattle.job_text.specs.Made.{made};
 
 use crate::cuts::pieces;
@@ -10,7 +10,7 @@ use crate::notes::put_note;
 use field_words::NoMemory;
 use itoa::Buffer;
 use script::cut_at;
-use std::alloc::Global;
+use std::alloc::{AllocError, Global};
 
 // Appends the offset of the bytes and what they are, up to a line's end.
 #[tactic(auto, unfolding(crate::specs::Shown::remark))]
@@ -32,6 +32,51 @@ fn put_remark(
     Ok(())
 }
 
+// Whether the offset of a refusal lies in so many bytes from another on.
+#[tactic(auto, unfolding(crate::specs::Shown::is_in))]
+fn is_in(at: usize, count: usize, refused: Option<u64>) -> bool
+    ensures { result ≡ is_in at count refused }
+{
+    match refused {
+        None => false,
+        Some(offset) => at as u64 <= offset && offset - (at as u64) < count as u64,
+    }
+}
+
+// Whether the offset of a refusal lies in none of so many bytes.
+#[tactic(auto, unfolding(crate::specs::Shown::is_past))]
+fn is_past(count: usize, refused: Option<u64>) -> bool
+    ensures { result ≡ is_past count refused }
+{
+    match refused {
+        None => false,
+        Some(offset) => count as u64 <= offset,
+    }
+}
+
+#[tactic(auto, unfolding(crate::specs::Shown::mark_text))]
+fn put_mark(out: &mut Vec<u8>, is: bool) -> Result<(), AllocError>
+    ensures { OnOk result (out.new.items ≡ out.old.items ++ mark_text is) }
+{
+    if is {
+        out.extend_from_slice(b" <== refused here")?;
+    }
+    Ok(())
+}
+
+// Appends the line of the reason.
+#[tactic(auto, unfolding(crate::specs::Shown::reason_text))]
+fn put_reason(out: &mut Vec<u8>, is: bool, why: &[u8]) -> Result<(), AllocError>
+    ensures { OnOk result (out.new.items ≡ out.old.items ++ reason_text is why.now) }
+{
+    if is {
+        out.extend_from_slice(b"# ")?;
+        out.extend_from_slice(cut_at(why, b'\n').first)?;
+        out.extend_from_slice(b"\n")?;
+    }
+    Ok(())
+}
+
 // Appends the line of some bytes.
 #[tactic(auto, unfolding(crate::specs::Shown::line_text))]
 fn put_line(
@@ -40,17 +85,22 @@ fn put_line(
     at: usize,
     bytes: &[u8],
     note: Note,
+    refused: Option<u64>,
+    why: &[u8],
 ) -> Result<(), NoMemory>
-    ensures { OnOk result (out.new.items ≡ out.old.items ++ line_text at bytes.now note) }
+    ensures { OnOk result (out.new.items ≡ out.old.items ++ line_text at bytes.now note refused why.now) }
 {
     if bytes.is_empty() {
         return Ok(());
     }
+    let is_here = is_in(at, bytes.len(), refused);
     let digits = hex::encode(alloc, bytes)?;
     out.extend_from_slice(digits.as_bytes())?;
     out.extend_from_slice(b"  # ")?;
     put_remark(alloc, out, at, bytes, note)?;
+    put_mark(out, is_here)?;
     out.extend_from_slice(b"\n")?;
+    put_reason(out, is_here, why)?;
     Ok(())
 }
 
@@ -60,30 +110,40 @@ fn put_lines(
     out: &mut Vec<u8>,
     bytes: &[u8],
     pieces: &[Piece],
+    refused: Option<u64>,
+    why: &[u8],
 ) -> Result<(), NoMemory>
-    ensures { OnOk result (out.new.items ≡ out.old.items ++ shown 0 bytes.now pieces.now) }
+    ensures { OnOk result (out.new.items ≡ out.old.items ++ lines_text 0 bytes.now pieces.now refused why.now) }
 {
     let mut rest = bytes;
     let mut at = 0;
     for piece in pieces {
         let (front, back) = rest.split_at(piece.size.min(rest.len()));
-        put_line(alloc, out, at, front, piece.note)?;
+        put_line(alloc, out, at, front, piece.note, refused, why)?;
         at += front.len();
         rest = back;
     }
-    put_line(alloc, out, at, rest, Note::Unread)
+    put_line(alloc, out, at, rest, Note::Unread, refused, why)
 }
 
 /// Any bytes as lines of text: on each line some of them in hexadecimal, a `#`, their offset and what they are, if they are a
-/// job file. All bytes stand on the lines, in order and each once, so that `make` gives them back. Which lines a file has isn't
-/// pinned: the clauses hold for any cut into pieces. Want of memory is the only error.
-#[tactic(auto, using(crate::proofs::Again::shown_again))]
-pub fn show(alloc: Global, bytes: &[u8]) -> Result<Vec<u8>, NoMemory>
-    ensures text { IfOk result (λ text. (pieces : List PieceModel) × (text.items ≡ shown 0 bytes.now pieces)) }
+/// job file. All bytes stand on the lines, in order and each once, so that `make` gives them back. Where they are refused at an
+/// offset, its line is marked and the reason follows, up to its first line feed, on a line of its own; or it stands at the end,
+/// where the offset is no byte's. Which lines a file has isn't pinned: the clauses hold for any cut into pieces. Want of memory
+/// is the only error.
+#[tactic(auto, unfolding(crate::specs::Shown::shown), using(crate::proofs::Again::shown_again))]
+pub fn show(
+    alloc: Global,
+    bytes: &[u8],
+    refused: Option<u64>,
+    why: &[u8],
+) -> Result<Vec<u8>, NoMemory>
+    ensures text { IfOk result (λ text. (pieces : List PieceModel) × (text.items ≡ shown bytes.now pieces refused why.now)) }
     ensures again { IfOk result (λ text. made text.items ≡ Ok bytes.now) }
 {
     let pieces = pieces(alloc, bytes)?;
     let mut out = Vec::new(alloc);
-    put_lines(alloc, &mut out, bytes, &pieces)?;
+    put_lines(alloc, &mut out, bytes, &pieces, refused, why)?;
+    put_reason(&mut out, is_past(bytes.len(), refused), why)?;
     Ok(out)
 }

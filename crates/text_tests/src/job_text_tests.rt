@@ -5,10 +5,27 @@ use std::test::*;
 
 #[test]
 fn a_line_says_what_its_bytes_are(rt: HostRuntime) -> Result<(), Fail> {
-    let text = show(rt.alloc(), b"VC4J\x02\x00\x00\x00\x0a").map_err(|_| "no memory")?;
+    let text = show(rt.alloc(), b"VC4J\x02\x00\x00\x00\x0a", None, b"").map_err(|_| "no memory")?;
     assert_eq!(rt;
         text.as_slice(),
         b"5643344a  # 0 header: letters 1244939094\n02000000  # 4 header: version 2\n0a  # 8 header: memory size 10\n".as_slice()
+    );
+    Ok(())
+}
+
+#[test]
+fn a_refused_line_is_marked(rt: HostRuntime) -> Result<(), Fail> {
+    let text = show(rt.alloc(), b"VC4J\x03\x00", Some(5), b"F4: why\nand more").map_err(
+        |_| "no memory",
+    )?;
+    assert_eq!(rt;
+        text.as_slice(),
+        b"5643344a  # 0 header: letters 1244939094\n0300  # 4 header: version 3 <== refused here\n# F4: why\n".as_slice()
+    );
+    let text = show(rt.alloc(), b"VC", Some(2), b"F2").map_err(|_| "no memory")?;
+    assert_eq!(rt;
+        text.as_slice(),
+        b"5643  # 0 header: letters 17238\n# F2\n".as_slice()
     );
     Ok(())
 }

@@ -1,8 +1,10 @@
 use Rattle.std.proofs.Common.{decimal}
+use Rattle.job_text.specs.Notes.{numbered_text}
 use Rattle.job_text.proofs.Texts.{in_buffer}
 use Rattle.job_text.proofs.notes.put_numbered.Goals as goal
 
 pub returns : goal.returns
+unfolding numbered_text
 returns c =
     let out = c.args.out.now.items in
     rw (

@@ -1,9 +1,11 @@
 use Rattle.std.proofs.Common.{codes}
-use Rattle.job_text.specs.Notes.{packet_text, named_text}
+use Rattle.job_text.specs.Names.{named_text}
+use Rattle.job_text.specs.Notes.{packet_text, listed_text}
 use Rattle.job_text.proofs.Texts.{of_job_more}
 use Rattle.job_text.proofs.notes.put_packet.Goals as goal
 
 pub returns : goal.returns
+unfolding listed_text
 returns c =
     rw (c.in_ok-put_named.ensures, c.in_ok-put_packet_text.ensures, c.in_ok-put_of_job.ensures)
     (of_job_more c.args.out.now.items c.args.job (codes "binner list: ") (packet_text c.args.packet.now) (named_text c.args.buffer))

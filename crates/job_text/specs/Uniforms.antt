@@ -1,0 +1,40 @@
+-- What a shader makes of a uniform, as it is said behind its number.
+use Rattle.std.specs.Prelude.{ℕ, ◌++◌, ◌==◌, List, codes, decimal, if◌then◌else◌}
+use Rattle.texture_layouts.specs.Fits.{is_unlisted}
+use Rattle.texture_layouts.specs.Setup.{TextureModel, texture_in, faces_of, face_place, level_width_of, level_height_of, tiling_at}
+use Rattle.job_text.specs.declared.note.Meaning.{Meaning}
+use Rattle.job_text.specs.declared.note.Meaning.TheVariants.{Plain, Stream, Source, Address, Bound, Setup}
+use Rattle.job_text.specs.Meanings.{tiling_name}
+use Rattle.job_text.specs.Names.{named_text}
+
+-- how the pixels of a texture lie; nothing of a type that isn't listed
+unfoldable pub pixel_text : TextureModel → List ℕ
+pixel_text t =
+    if is_unlisted t then codes ", no listed type"
+    else codes ", " ++ (tiling_name (tiling_at t 0) ++ (codes " tiling, " ++ (decimal t.cpp ++ codes " bytes a pixel or block")))
+
+-- what the first set-up word says, and what the second
+unfoldable pub base_text : TextureModel → List ℕ
+base_text t =
+    codes "texture base " ++ (decimal (face_place t 0) ++ (codes ", faces " ++ (decimal (faces_of t) ++ (codes ", levels below " ++ decimal t.levels))))
+
+unfoldable pub sides_text : TextureModel → List ℕ
+sides_text t = codes "width " ++ (decimal (level_width_of t 0) ++ (codes ", height " ++ (decimal (level_height_of t 0) ++ pixel_text t)))
+
+-- what the set-up word of a number says, of four
+unfoldable pub setup_text : ℕ → List ℕ → List ℕ
+setup_text n words =
+    if n == 0 then base_text (texture_in words) else (if n == 1 then sides_text (texture_in words) else codes "further set-up word")
+
+-- the number of a sample before what is said of it
+unfoldable pub of_sample : ℕ → List ℕ → List ℕ
+of_sample i text = codes "sample " ++ (decimal i ++ (codes " " ++ text))
+
+-- what a shader makes of the word
+unfoldable pub meaning_text : Meaning → List ℕ
+meaning_text Plain = codes "number"
+meaning_text Stream = codes "address of the uniforms"
+meaning_text (Source i buffer) = of_sample i (codes "handle" ++ named_text buffer)
+meaning_text (Address i) = of_sample i (codes "address")
+meaning_text (Bound i) = of_sample i (codes "bound")
+meaning_text (Setup i n words) = of_sample i (setup_text n words)

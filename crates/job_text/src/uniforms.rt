@@ -1,0 +1,124 @@
+//! What a line says of a uniform.
+ghost use Rattle.std.specs.Prelude.{◌≡◌, ◌++◌, codes, decimal, OnOk};
+ghost use Rattle.texture_layouts.specs.Setup.{texture_in};
+ghost use Rattle.job_text.specs.Names.{named_text};
+ghost use Rattle.job_text.specs.Uniforms.{pixel_text, base_text, sides_text, setup_text, of_sample, meaning_text};
+
+use crate::meanings::tiling_name;
+use crate::names::put_named;
+use crate::note::Meaning;
+use crate::numbers::put_number;
+use std::alloc::AllocError;
+use texture_layouts::Texture;
+
+#[tactic(auto, unfolding(crate::specs::Uniforms::pixel_text))]
+fn put_pixel(out: &mut Vec<u8>, texture: &Texture) -> Result<(), AllocError>
+    ensures { OnOk result (out.new.items ≡ out.old.items ++ pixel_text texture.now) }
+{
+    if texture.is_unlisted() {
+        return out.extend_from_slice(b", no listed type");
+    }
+    let tiling = texture.level_tiling(0);
+    out.extend_from_slice(b", ")?;
+    out.extend_from_slice(tiling_name(tiling).as_bytes())?;
+    out.extend_from_slice(b" tiling, ")?;
+    put_number(out, texture.pixel_bytes() as usize)?;
+    out.extend_from_slice(b" bytes a pixel or block")
+}
+
+#[tactic(auto, unfolding(crate::specs::Uniforms::base_text))]
+fn put_base(out: &mut Vec<u8>, texture: &Texture) -> Result<(), AllocError>
+    ensures { OnOk result (out.new.items ≡ out.old.items ++ base_text texture.now) }
+{
+    out.extend_from_slice(b"texture base ")?;
+    put_number(out, texture.face_place(0) as usize)?;
+    out.extend_from_slice(b", faces ")?;
+    put_number(out, texture.faces() as usize)?;
+    out.extend_from_slice(b", levels below ")?;
+    put_number(out, texture.levels() as usize)?;
+    Ok(())
+}
+
+#[tactic(auto, unfolding(crate::specs::Uniforms::sides_text))]
+fn put_sides(out: &mut Vec<u8>, texture: &Texture) -> Result<(), AllocError>
+    ensures { OnOk result (out.new.items ≡ out.old.items ++ sides_text texture.now) }
+{
+    out.extend_from_slice(b"width ")?;
+    put_number(out, texture.level_width(0) as usize)?;
+    out.extend_from_slice(b", height ")?;
+    put_number(out, texture.level_height(0) as usize)?;
+    put_pixel(out, texture)?;
+    Ok(())
+}
+
+// Appends what the set-up word of a number says.
+#[tactic(auto, unfolding(crate::specs::Uniforms::setup_text))]
+fn put_setup(out: &mut Vec<u8>, number: u8, words: &[u32; 4]) -> Result<(), AllocError>
+    ensures { OnOk result (out.new.items ≡ out.old.items ++ setup_text number words.now) }
+{
+    let texture = Texture::of(words);
+    if number == 0 {
+        return put_base(out, &texture);
+    }
+    if number == 1 {
+        return put_sides(out, &texture);
+    }
+    out.extend_from_slice(b"further set-up word")
+}
+
+fn put_sample(out: &mut Vec<u8>, sample: u32) -> Result<(), AllocError>
+    ensures { OnOk result (out.new.items ≡ out.old.items ++ (codes "sample " ++ (decimal sample ++ codes " "))) }
+{
+    out.extend_from_slice(b"sample ")?;
+    put_number(out, sample as usize)?;
+    out.extend_from_slice(b" ")?;
+    Ok(())
+}
+
+#[tactic(auto, unfolding(crate::specs::Uniforms::of_sample))]
+fn put_source(out: &mut Vec<u8>, sample: u32, buffer: Option<usize>) -> Result<(), AllocError>
+    ensures { OnOk result (out.new.items ≡ out.old.items ++ of_sample sample (codes "handle" ++ named_text buffer)) }
+{
+    put_sample(out, sample)?;
+    out.extend_from_slice(b"handle")?;
+    put_named(out, buffer)?;
+    Ok(())
+}
+
+#[tactic(auto, unfolding(crate::specs::Uniforms::of_sample))]
+fn put_of_sample(out: &mut Vec<u8>, sample: u32, text: &[u8]) -> Result<(), AllocError>
+    ensures { OnOk result (out.new.items ≡ out.old.items ++ of_sample sample text.now) }
+{
+    put_sample(out, sample)?;
+    out.extend_from_slice(text)?;
+    Ok(())
+}
+
+#[tactic(auto, unfolding(crate::specs::Uniforms::of_sample))]
+fn put_set_up(
+    out: &mut Vec<u8>,
+    sample: u32,
+    number: u8,
+    words: &[u32; 4],
+) -> Result<(), AllocError>
+    ensures { OnOk result (out.new.items ≡ out.old.items ++ of_sample sample (setup_text number words.now)) }
+{
+    put_sample(out, sample)?;
+    put_setup(out, number, words)?;
+    Ok(())
+}
+
+/// Appends what a shader makes of a word of its uniforms.
+#[tactic(auto, unfolding(crate::specs::Uniforms::meaning_text))]
+pub(crate) fn put_use(out: &mut Vec<u8>, meaning: Meaning) -> Result<(), AllocError>
+    ensures { OnOk result (out.new.items ≡ out.old.items ++ meaning_text meaning) }
+{
+    match meaning {
+        Meaning::Plain => out.extend_from_slice(b"number"),
+        Meaning::Stream => out.extend_from_slice(b"address of the uniforms"),
+        Meaning::Source(sample, buffer) => put_source(out, sample, buffer),
+        Meaning::Address(sample) => put_of_sample(out, sample, b"address"),
+        Meaning::Bound(sample) => put_of_sample(out, sample, b"bound"),
+        Meaning::Setup(sample, number, words) => put_set_up(out, sample, number, &words),
+    }
+}
