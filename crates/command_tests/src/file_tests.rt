@@ -263,6 +263,25 @@ fn turns_text_into_words_and_back(rt: HostRuntime) -> Result<(), Fail> {
     Ok(())
 }
 
+// A file that ends in its header, as text: the mark, and the line that tells why. And the text as bytes.
+#[test]
+fn shows_where_a_file_is_refused(rt: HostRuntime) -> Result<(), Fail> {
+    let alloc = rt.alloc();
+    let text = b"5643344a  # 0 header: letters 1244939094 <== refused here\n\
+        # vc4check: F2: the file ends before the part's end (header, byte 0); see vc4check explain F2\n";
+    for (command, input, output) in [
+        ("show", b"VC4J".as_slice(), text.as_slice()),
+        ("make", text, b"VC4J"),
+    ] {
+        let mut source = SteadySource::new(input.to_vec(alloc)?);
+        let mut sink = MemSink::new(alloc, 3, 1000, Vec::new(alloc))?;
+        let answer = run(alloc, &words(alloc, &[command])?, &mut source, &mut sink);
+        assert_eq!(rt; answer, 0, "{command}");
+        assert_eq!(rt; sink.bytes(), output, "{command}");
+    }
+    Ok(())
+}
+
 // The examples of two numbers. The source has a byte, which none of them reads.
 #[test]
 fn makes_examples(rt: HostRuntime) -> Result<(), Fail> {

@@ -8,18 +8,23 @@ use Rattle.job_text.specs.Meanings.{tiling_name}
 use Rattle.job_text.specs.Names.{named_text}
 
 -- how the pixels of a texture lie; nothing of a type that isn't listed
+unfoldable pub listed_text : TextureModel → List ℕ
+listed_text t = codes ", " ++ (tiling_name (tiling_at t 0) ++ (codes " tiling, " ++ (decimal t.cpp ++ codes " bytes a pixel or block")))
+
 unfoldable pub pixel_text : TextureModel → List ℕ
-pixel_text t =
-    if is_unlisted t then codes ", no listed type"
-    else codes ", " ++ (tiling_name (tiling_at t 0) ++ (codes " tiling, " ++ (decimal t.cpp ++ codes " bytes a pixel or block")))
+pixel_text t = if is_unlisted t then codes ", no listed type" else listed_text t
+
+-- a number behind its name
+unfoldable pub told : List ℕ → ℕ → List ℕ
+told name n = name ++ decimal n
 
 -- what the first set-up word says, and what the second
 unfoldable pub base_text : TextureModel → List ℕ
 base_text t =
-    codes "texture base " ++ (decimal (face_place t 0) ++ (codes ", faces " ++ (decimal (faces_of t) ++ (codes ", levels below " ++ decimal t.levels))))
+    told (codes "texture base ") (face_place t 0) ++ (told (codes ", faces ") (faces_of t) ++ told (codes ", levels below ") t.levels)
 
 unfoldable pub sides_text : TextureModel → List ℕ
-sides_text t = codes "width " ++ (decimal (level_width_of t 0) ++ (codes ", height " ++ (decimal (level_height_of t 0) ++ pixel_text t)))
+sides_text t = told (codes "width ") (level_width_of t 0) ++ (told (codes ", height ") (level_height_of t 0) ++ pixel_text t)
 
 -- what the set-up word of a number says, of four
 unfoldable pub setup_text : ℕ → List ℕ → List ℕ

@@ -76,10 +76,15 @@ fn set(meanings: &mut [Meaning], at: usize, meaning: Meaning) {
     }
 }
 
+// The word of a number in a stream; 0 past its end.
+fn word_at(stream: &[u8], number: usize) -> u32 {
+    word(stream, number.saturating_mul(4))
+}
+
 // A set-up word of a sample in a stream, in front of which stand so many handles; 0 where there is none.
 fn setup_word(stream: &[u8], before: usize, word: Option<u32>) -> u32 {
     match word {
-        Some(number) => get_u32(stream, 4 * before.saturating_add(number as usize)).unwrap_or(0),
+        Some(number) => word_at(stream, before.saturating_add(number as usize)),
         None => 0,
     }
 }
@@ -128,7 +133,7 @@ fn meanings_of(
     let mut out = Vec::new(alloc);
     let mut number = 0u32;
     for _ in &info.samples {
-        let buffer = buffer_of(handles, word(stream, 4 * out.len()));
+        let buffer = buffer_of(handles, word_at(stream, out.len()));
         out.push(Meaning::Source(number, buffer))?;
         number = number.saturating_add(1);
     }

@@ -1,8 +1,8 @@
 //! What a line says of a uniform.
-ghost use Rattle.std.specs.Prelude.{◌≡◌, ◌++◌, codes, decimal, OnOk};
-ghost use Rattle.texture_layouts.specs.Setup.{texture_in};
+ghost use Rattle.std.specs.Prelude.{◌≡◌, ◌++◌, false, codes, decimal, OnOk};
+ghost use Rattle.texture_layouts.specs.Fits.{is_unlisted};
 ghost use Rattle.job_text.specs.Names.{named_text};
-ghost use Rattle.job_text.specs.Uniforms.{pixel_text, base_text, sides_text, setup_text, of_sample, meaning_text};
+ghost use Rattle.job_text.specs.Uniforms.{listed_text, pixel_text, told, base_text, sides_text, setup_text, of_sample, meaning_text};
 
 use crate::meanings::tiling_name;
 use crate::names::put_named;
@@ -11,6 +11,21 @@ use crate::numbers::put_number;
 use std::alloc::AllocError;
 use texture_layouts::Texture;
 
+// Appends how the pixels of a texture of a listed type lie.
+#[tactic(auto, unfolding(crate::specs::Uniforms::listed_text))]
+fn put_listed(out: &mut Vec<u8>, texture: &Texture) -> Result<(), AllocError>
+    requires { is_unlisted texture.now ≡ false }
+    ensures { OnOk result (out.new.items ≡ out.old.items ++ listed_text texture.now) }
+{
+    let tiling = texture.level_tiling(0);
+    out.extend_from_slice(b", ")?;
+    out.extend_from_slice(tiling_name(tiling).as_bytes())?;
+    out.extend_from_slice(b" tiling, ")?;
+    put_number(out, texture.pixel_bytes() as usize)?;
+    out.extend_from_slice(b" bytes a pixel or block")?;
+    Ok(())
+}
+
 #[tactic(auto, unfolding(crate::specs::Uniforms::pixel_text))]
 fn put_pixel(out: &mut Vec<u8>, texture: &Texture) -> Result<(), AllocError>
     ensures { OnOk result (out.new.items ≡ out.old.items ++ pixel_text texture.now) }
@@ -18,24 +33,25 @@ fn put_pixel(out: &mut Vec<u8>, texture: &Texture) -> Result<(), AllocError>
     if texture.is_unlisted() {
         return out.extend_from_slice(b", no listed type");
     }
-    let tiling = texture.level_tiling(0);
-    out.extend_from_slice(b", ")?;
-    out.extend_from_slice(tiling_name(tiling).as_bytes())?;
-    out.extend_from_slice(b" tiling, ")?;
-    put_number(out, texture.pixel_bytes() as usize)?;
-    out.extend_from_slice(b" bytes a pixel or block")
+    put_listed(out, texture)
+}
+
+#[tactic(auto, unfolding(crate::specs::Uniforms::told))]
+fn put_told(out: &mut Vec<u8>, name: &[u8], number: usize) -> Result<(), AllocError>
+    ensures { OnOk result (out.new.items ≡ out.old.items ++ told name.now number) }
+{
+    out.extend_from_slice(name)?;
+    put_number(out, number)?;
+    Ok(())
 }
 
 #[tactic(auto, unfolding(crate::specs::Uniforms::base_text))]
 fn put_base(out: &mut Vec<u8>, texture: &Texture) -> Result<(), AllocError>
     ensures { OnOk result (out.new.items ≡ out.old.items ++ base_text texture.now) }
 {
-    out.extend_from_slice(b"texture base ")?;
-    put_number(out, texture.face_place(0) as usize)?;
-    out.extend_from_slice(b", faces ")?;
-    put_number(out, texture.faces() as usize)?;
-    out.extend_from_slice(b", levels below ")?;
-    put_number(out, texture.levels() as usize)?;
+    put_told(out, b"texture base ", texture.face_place(0) as usize)?;
+    put_told(out, b", faces ", texture.faces() as usize)?;
+    put_told(out, b", levels below ", texture.levels() as usize)?;
     Ok(())
 }
 
@@ -43,10 +59,8 @@ fn put_base(out: &mut Vec<u8>, texture: &Texture) -> Result<(), AllocError>
 fn put_sides(out: &mut Vec<u8>, texture: &Texture) -> Result<(), AllocError>
     ensures { OnOk result (out.new.items ≡ out.old.items ++ sides_text texture.now) }
 {
-    out.extend_from_slice(b"width ")?;
-    put_number(out, texture.level_width(0) as usize)?;
-    out.extend_from_slice(b", height ")?;
-    put_number(out, texture.level_height(0) as usize)?;
+    put_told(out, b"width ", texture.level_width(0) as usize)?;
+    put_told(out, b", height ", texture.level_height(0) as usize)?;
     put_pixel(out, texture)?;
     Ok(())
 }
