@@ -15,7 +15,8 @@ use Rattle.rule_words.specs.Line.{line_text, IsLineOf}
 abbrev pub IsShown : List ℕ → Option Refusal → List ℕ → Type 0
 IsShown bytes None text = (pieces : List Piece) × (text ≡ shown bytes pieces None [])
 IsShown bytes (Some refusal) text =
-    (line : Line) × IsLineOf bytes refusal line × ((pieces : List Piece) × (text ≡ shown bytes pieces (Some refusal.offset) (line_text line)))
+    (line : Line) × IsLineOf bytes refusal line
+    × ((pieces : List Piece) × (text ≡ shown bytes pieces (Some refusal.offset) (line_text line)))
 
 -- Any bytes are answered with lines, on which all of them stand in order, each once, so that they are the bytes of that text. The mark is
 -- that of the first rule that stands.

@@ -24,11 +24,7 @@ fn mistake_text(alloc: Global, fault: &MakeFault) -> Result<Vec<u8>, AllocError>
 }
 
 // The text of bytes that this rule refuses, or none.
-fn shown_text(
-    alloc: Global,
-    bytes: &[u8],
-    refusal: Option<Refusal>,
-) -> Result<Vec<u8>, NoMemory>
+fn shown_text(alloc: Global, bytes: &[u8], refusal: Option<Refusal>) -> Result<Vec<u8>, NoMemory>
     ensures text { IfOk result (λ text. IsShown bytes.now refusal text.items) }
     ensures again { IfOk result (λ text. made text.items ≡ Ok bytes.now) }
 {

@@ -9,7 +9,7 @@ use Rattle.script.specs.Lines.{before, lines_of, onto_line}
 use Rattle.job_text.specs.declared.note.Note.{Note}
 use Rattle.job_text.specs.declared.note.Note.TheVariants.{Unread}
 use Rattle.job_text.specs.declared.note.Piece.{Piece}
-use Rattle.job_text.specs.Made.{digits_read, line_read, lines_read, both, made, is_blank}
+use Rattle.job_text.specs.Made.{words_of, digits_read, size_named, word_by, word_read, words_read, line_read, lines_read, both, made, is_blank}
 use Rattle.job_text.specs.Shown.{remark, is_in, is_past, mark_text, reason_text, line_text, lines_text, shown}
 
 -- no byte is the mark
@@ -64,18 +64,59 @@ unfolding is_blank
 digit_not_blank d v some =
     rw (digit_free 32 d v refl some (d == 32) refl, digit_free 9 d v refl some (d == 9) refl, digit_free 13 d v refl some (d == 13) refl) refl
 
-digits_back : (line column : ℕ) (bytes : List ℕ) → IsBytes bytes → digits_read line column (encode_lower bytes ++ codes "  ") ≡ Ok bytes
-unfolding encode_with digits_read is_blank
+-- no byte is a blank
+abbrev Solid : List ℕ → Type 0
+Solid [] = Unit {0}
+Solid (byte ∷ bytes) = (is_blank byte ≡ false) × Solid bytes
+
+solid_digits : (bytes : List ℕ) → IsBytes bytes → Solid (encode_lower bytes)
+unfolding encode_with
+solid_digits [] fits = tt
+solid_digits (b ∷ bytes) fits =
+    let small : b < 256 = fits 0 in
+    let high = slice_index lower_digits (b / 16) in
+    let low = slice_index lower_digits (b % 16) in (
+      digit_not_blank high (b / 16) (IsDigits-lower_digits (b / 16) (omega arith)),
+      (digit_not_blank low (b % 16) (IsDigits-lower_digits (b % 16) (omega arith)), solid_digits bytes (λ k. fits (suc k))),
+    )
+
+words_word : (xs rest : List ℕ) → Solid xs → words_of (xs ++ 32 ∷ rest) ≡ xs ∷ words_of rest
+unfolding words_of is_blank
+words_word [] rest solid = refl
+words_word (x ∷ xs) rest (here, solid) = rw here (ap (onto_line x) (words_word xs rest solid))
+
+digits_back : (line column : ℕ) (bytes : List ℕ) → IsBytes bytes → digits_read line column (encode_lower bytes) ≡ Ok bytes
+unfolding encode_with digits_read
 digits_back line column [] fits = refl
 digits_back line column (b ∷ bytes) fits =
     let small : b < 256 = fits 0 in
-    let high = slice_index lower_digits (b / 16) in
-    let low = slice_index lower_digits (b % 16) in
     let is_high = IsDigits-lower_digits (b / 16) (omega arith) in
     let is_low = IsDigits-lower_digits (b % 16) (omega arith) in
     let later = digits_back line (column + 2) bytes (λ k. fits (suc k)) in
     let whole : 16 * (b / 16) + b % 16 ≡ b = omega arith in
-    rw (digit_not_blank high (b / 16) is_high, is_high, is_low, later) (ap (λ (n : ℕ). Ok (n ∷ bytes)) whole)
+    rw (is_high, is_low, later) (ap (λ (n : ℕ). Ok (n ∷ bytes)) whole)
+
+-- what begins with a digit names no number
+no_size : (d v : ℕ) (ds : List ℕ) → hex_digit_value d ≡ Some v → size_named (before 58 (d ∷ ds)) ≡ None
+unfolding before size_named
+no_size d v ds some = rw (digit_free 58 d v refl some (d == 58) refl, digit_free 117 d v refl some (d == 117) refl) refl
+
+word_back : (line column b : ℕ) (bytes : List ℕ) → IsBytes (b ∷ bytes) → word_read line column (encode_lower (b ∷ bytes)) ≡ Ok (b ∷ bytes)
+unfolding word_read encode_with
+word_back line column b bytes fits =
+    let small : b < 256 = fits 0 in
+    let is_high = IsDigits-lower_digits (b / 16) (omega arith) in
+    let none : size_named (before 58 (encode_lower (b ∷ bytes))) ≡ None = no_size (slice_index lower_digits (b / 16)) (b / 16) _ is_high in
+    ap (word_by line column (encode_lower (b ∷ bytes))) none ∙ digits_back line column (b ∷ bytes) fits
+
+-- the digits of a line, behind which two blanks stand
+front_back : (line column b : ℕ) (bytes : List ℕ) → IsBytes (b ∷ bytes) → words_read line column (words_of (encode_lower (b ∷ bytes) ++ codes "  ")) ≡ Ok (b ∷ bytes)
+unfolding words_read words_of word_read digits_read before size_named is_blank
+front_back line column b bytes fits =
+    let digits = encode_lower (b ∷ bytes) in
+    ap (words_read line column) (words_word digits (32 ∷ []) (solid_digits (b ∷ bytes) fits))
+    ∙ ap (λ r. both r (words_read line (column + (length digits + 1)) (words_of (32 ∷ [])))) (word_back line column b bytes fits)
+    ∙ ap (λ (l : List ℕ). Ok l) (append-nil (b ∷ bytes))
 
 -- a line's end behind its last part
 to_end : (a b r m w rest : List ℕ) → (a ++ (b ++ (r ++ (m ++ 10 ∷ w)))) ++ rest ≡ (a ++ (b ++ (r ++ m))) ++ 10 ∷ (w ++ rest)
@@ -106,7 +147,7 @@ line_again n at b bytes rest why note refused fits =
     (free_append 10 (codes "  # ") (r ++ m) (refl, (refl, (refl, (refl, tt)))) free_note) in
     let no_mark : Free 35 (digits ++ codes "  ") = free_append 35 digits (codes "  ") (free_digits 35 (b ∷ bytes) refl fits) (refl, (refl, tt)) in
     let front : before 35 line ≡ digits ++ codes "  " = ap (before 35) (to_mark digits (r ++ m)) ∙ before_mark 35 (digits ++ codes "  ") (32 ∷ (r ++ m)) no_mark in
-    let read : line_read n line ≡ Ok (b ∷ bytes) = ap (digits_read n 1) front ∙ digits_back n 1 (b ∷ bytes) fits in
+    let read : line_read n line ≡ Ok (b ∷ bytes) = ap (λ t. words_read n 1 (words_of t)) front ∙ front_back n 1 b bytes fits in
     ap (λ t. lines_read n (lines_of t)) (to_end digits (codes "  # ") r m w rest)
     ∙ ap (lines_read n) (lines_line line (w ++ rest) no_feed)
     ∙ ap (λ x. both x (lines_read (n + 1) (lines_of (w ++ rest)))) read
@@ -115,7 +156,7 @@ line_again n at b bytes rest why note refused fits =
 reason_again : (n : ℕ) (is : Bool) (why more rest : List ℕ)
     → ((m : ℕ) → lines_read m (lines_of rest) ≡ Ok more)
     → lines_read n (lines_of (reason_text is why ++ rest)) ≡ Ok more
-unfolding reason_text lines_read digits_read before
+unfolding reason_text lines_read words_read words_of before
 reason_again n false why more rest later = later n
 reason_again n true why more rest later =
     let line = codes "# " ++ before 10 why in

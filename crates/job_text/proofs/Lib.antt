@@ -3,3 +3,4 @@ pub mod FieldSteps
 pub mod Pieces
 pub mod Steps
 pub mod Texts
+pub mod WordSteps

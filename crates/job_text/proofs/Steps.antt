@@ -5,7 +5,7 @@ use Rattle.script.specs.Lines.{lines_of}
 use Rattle.field_words.specs.declared.stop.Stop.{Stop}
 use Rattle.field_words.specs.declared.stop.Stop.TheVariants.{Fault, NoMemory}
 use Rattle.job_text.specs.declared.fault.MakeFault.{MakeFault}
-use Rattle.job_text.specs.Made.{is_blank, byte_at, front_digit, both, digits_read, line_read, lines_read, made, IsFaultOf}
+use Rattle.job_text.specs.Made.{byte_at, front_digit, both, words_of, digits_read, word_read, words_read, line_read, lines_read, made, IsFaultOf}
 
 pub both_both : (a b : List ℕ) (r : Result (List ℕ) MakeFault) → both (Ok a) (both (Ok b) r) ≡ both (Ok (a ++ b)) r
 both_both a b (Err fault) = refl
@@ -19,26 +19,21 @@ pub both_none : (r : Result (List ℕ) MakeFault) → both (Ok []) r ≡ r
 both_none (Err fault) = refl
 both_none (Ok bytes) = refl
 
-pub digits_blank : (line column c : ℕ) (others : List ℕ) → is_blank c ≡ true → digits_read line (column + 1) others ≡ digits_read line column (c ∷ others)
-unfolding digits_read
-digits_blank line column c [] blank = rw blank refl
-digits_blank line column c (d ∷ rest) blank = rw blank refl
-
 lone : (line column b : ℕ) (o : Option ℕ) → byte_at line column o None ≡ Ok b → ⊥
 lone line column b None is = cc
 lone line column b (Some high) is = cc
 
-pub digits_byte : (line column c b : ℕ) (others : List ℕ) → is_blank c ≡ false → byte_at line column (hex_digit_value c) (front_digit others) ≡ Ok b
+pub digits_byte : (line column c b : ℕ) (others : List ℕ) → byte_at line column (hex_digit_value c) (front_digit others) ≡ Ok b
     → digits_read line column (c ∷ others) ≡ both (Ok (b ∷ [])) (digits_read line (column + 2) (drop 1 others))
 unfolding digits_read
-digits_byte line column c b [] blank is = absurd (lone line column b (hex_digit_value c) is)
-digits_byte line column c b (d ∷ rest) blank is = rw (blank, is) refl
+digits_byte line column c b [] is = absurd (lone line column b (hex_digit_value c) is)
+digits_byte line column c b (d ∷ rest) is = rw is refl
 
-pub digits_fault : (line column c : ℕ) (others : List ℕ) (fault : MakeFault) → is_blank c ≡ false → byte_at line column (hex_digit_value c) (front_digit others) ≡ Err fault
+pub digits_fault : (line column c : ℕ) (others : List ℕ) (fault : MakeFault) → byte_at line column (hex_digit_value c) (front_digit others) ≡ Err fault
     → digits_read line column (c ∷ others) ≡ Err fault
 unfolding digits_read
-digits_fault line column c [] fault blank is = rw (blank, is) refl
-digits_fault line column c (d ∷ rest) fault blank is = rw (blank, is) refl
+digits_fault line column c [] fault is = rw is refl
+digits_fault line column c (d ∷ rest) fault is = rw is refl
 
 pub byte_more : (line column c b : ℕ) (others : List ℕ) → byte_at line column (hex_digit_value c) (front_digit others) ≡ Ok b → 1 + length (drop 1 others) ≡ length others
 byte_more line column c b [] is = absurd (lone line column b (hex_digit_value c) is)
@@ -50,11 +45,36 @@ unfolding digits_read
 digits_end line column out [] none = ap (λ (l : List ℕ). Ok l) (append-nil out)
 digits_end line column out (c ∷ rest) none = absurd (omega (arith, none))
 
--- one line more
+-- one reading more
 both_line : (out new : List ℕ) (r s : Result (List ℕ) MakeFault) → both (Ok out) r ≡ Ok new → both (Ok new) s ≡ both (Ok out) (both r s)
 both_line out new (Err fault) s is = cc
 both_line out new (Ok bytes) s is = ap (λ x. both x s) (sym is) ∙ sym (both_both out bytes s)
 
+-- one word more
+pub word_step : (line column : ℕ) (out new first rest : List ℕ) (words : List (List ℕ)) → words_of rest ≡ first ∷ words → both (Ok out) (word_read line column first) ≡ Ok new
+    → both (Ok new) (words_read line (column + (length first + 1)) words) ≡ both (Ok out) (words_read line column (words_of rest))
+unfolding words_read
+word_step line column out new first rest words cut is =
+    both_line out new (word_read line column first) (words_read line (column + (length first + 1)) words) is
+    ∙ ap (λ l. both (Ok out) (words_read line column l)) (sym cut)
+
+-- the fault of a word behind words without one is the line's
+pub word_fault : (line column : ℕ) (out old first rest : List ℕ) (all : Result (List ℕ) MakeFault) (words : List (List ℕ)) (stop : Stop MakeFault)
+    → words_of rest ≡ first ∷ words → both (Ok out) (words_read line column (words_of rest)) ≡ both (Ok old) all
+    → IsFaultOf (word_read line column first) stop → IsFaultOf all stop
+unfolding words_read
+word_fault line column out old first rest all words (Fault fault) cut same is =
+    both_err old all fault
+    (sym same ∙ ap (λ l. both (Ok out) (words_read line column l)) cut
+    ∙ ap (λ r. both (Ok out) (both r (words_read line (column + (length first + 1)) words))) is)
+word_fault line column out old first rest all words NoMemory cut same is = tt
+
+pub words_end : (line column : ℕ) (out rest : List ℕ) → length rest ≤ 0 → both (Ok out) (words_read line column (words_of rest)) ≡ Ok out
+unfolding words_read words_of
+words_end line column out [] none = ap (λ (l : List ℕ). Ok l) (append-nil out)
+words_end line column out (c ∷ rest) none = absurd (omega (arith, none))
+
+-- one line more
 pub line_step : (line : ℕ) (out new first rest : List ℕ) (lines : List (List ℕ)) → lines_of rest ≡ first ∷ lines → both (Ok out) (line_read line first) ≡ Ok new
     → both (Ok new) (lines_read (line + 1) lines) ≡ both (Ok out) (lines_read line (lines_of rest))
 unfolding lines_read

@@ -1,15 +1,23 @@
--- The bytes that a text holds: on each line what stands before a `#`, two hexadecimal digits for each byte.
-use Rattle.std.specs.Prelude.{◌≡◌, ℕ, ◌+◌, ◌*◌, ◌==◌, ◌||◌, Bool, List, [], ◌∷◌, ◌++◌, Option, Some, None, Result, Ok, Err, if◌then◌else◌}
+-- The bytes that a text holds: on each line what stands before a `#`, in words. A word is two hexadecimal digits for each byte, or a
+-- number.
+use Rattle.std.specs.Prelude.{◌≡◌, ℕ, ◌+◌, ◌*◌, ◌^◌, ◌==◌, ◌||◌, nat_lt, nat_le, bytes_eq, take, drop, length, Bool, List, [], ◌∷◌, ◌++◌, codes, Option, Some, None, Result, Ok, Err, if◌then◌else◌}
+use Rattle.std.specs.Int.{to_le_bytes, w32}
 use Rattle.hex.specs.Hex.{hex_digit_value}
-use Rattle.script.specs.Lines.{before, lines_of}
+use Rattle.script.specs.Lines.{before, behind, lines_of, onto_line}
+use Rattle.script.specs.Number.{number_within}
 use Rattle.field_words.specs.declared.stop.Stop.{Stop}
 use Rattle.field_words.specs.declared.stop.Stop.TheVariants.{Fault, NoMemory}
 use Rattle.job_text.specs.declared.fault.MakeFault.{MakeFault}
-use Rattle.job_text.specs.declared.fault.Mistake.TheVariants.{WrongCharacter, LoneDigit}
+use Rattle.job_text.specs.declared.fault.Mistake.TheVariants.{WrongCharacter, LoneDigit, WrongNumber}
 
 -- a space, a tab or a carriage return
 unfoldable pub is_blank : ℕ → Bool
 is_blank c = (c == 32) || ((c == 9) || (c == 13))
+
+-- The words of a line, each up to a blank. So they may be empty.
+unfoldable pub words_of : List ℕ → List (List ℕ)
+words_of [] = []
+words_of (c ∷ cs) = if is_blank c then [] ∷ words_of cs else onto_line c (words_of cs)
 
 -- The byte of the two digits at a column. What is no digit is a wrong character, and a digit needs another one right behind it.
 abbrev pub byte_at : (line column : ℕ) → Option ℕ → Option ℕ → Result ℕ MakeFault
@@ -32,17 +40,65 @@ abbrev pub one_byte : Result ℕ MakeFault → Result (List ℕ) MakeFault
 one_byte (Err fault) = Err fault
 one_byte (Ok byte) = Ok (byte ∷ [])
 
--- the bytes of the digits from a column on, between which there may be blanks
+-- the bytes of the digits from a column on
 unfoldable pub digits_read : (line column : ℕ) → List ℕ → Result (List ℕ) MakeFault
 digits_read line column [] = Ok []
-digits_read line column (c ∷ []) = if is_blank c then Ok [] else one_byte (byte_at line column (hex_digit_value c) None)
+digits_read line column (c ∷ []) = one_byte (byte_at line column (hex_digit_value c) None)
 digits_read line column (c ∷ d ∷ rest) =
-    if is_blank c then digits_read line (column + 1) (d ∷ rest)
-    else both (one_byte (byte_at line column (hex_digit_value c) (hex_digit_value d))) (digits_read line (column + 2) rest)
+    both (one_byte (byte_at line column (hex_digit_value c) (hex_digit_value d))) (digits_read line (column + 2) rest)
+
+-- a hexadecimal digit behind a number; None where there is none, or the number then has more than 32 bits
+unfoldable pub with_digit : Option ℕ → Option ℕ → Option ℕ
+with_digit None digit = None
+with_digit (Some n) None = None
+with_digit (Some n) (Some d) = if nat_lt n 268435456 then Some (16 * n + d) else None
+
+unfoldable pub digits_after : Option ℕ → List ℕ → Option ℕ
+digits_after n [] = n
+digits_after n (c ∷ cs) = digits_after (with_digit n (hex_digit_value c)) cs
+
+-- at least one digit
+unfoldable pub hex_number : List ℕ → Option ℕ
+hex_number [] = None
+hex_number (c ∷ cs) = digits_after (Some 0) (c ∷ cs)
+
+-- the number that a text names: decimal, or hexadecimal digits behind `0x`
+unfoldable pub number_named : List ℕ → Option ℕ
+number_named text = if bytes_eq (take 2 text) (codes "0x") then hex_number (drop 2 text) else number_within 4294967295 text
+
+-- how many bytes the number of a word has, by what stands before its colon
+unfoldable pub size_named : List ℕ → Option ℕ
+size_named name =
+    if bytes_eq name (codes "u8") then Some 1
+    else (if bytes_eq name (codes "u16") then Some 2 else (if bytes_eq name (codes "u32") then Some 4 else None))
+
+-- the largest number of so many bytes
+unfoldable pub most_of : ℕ → ℕ
+most_of size = if size == 1 then 255 else (if size == 2 then 65535 else 4294967295)
+
+-- the bytes of a number, of which the least comes first
+unfoldable pub number_read : (line column size : ℕ) → Option ℕ → Result (List ℕ) MakeFault
+number_read line column size None = Err (record { line = line; column = column; mistake = WrongNumber })
+number_read line column size (Some n) =
+    if nat_le n (most_of size) then Ok (take size (to_le_bytes w32 n))
+    else Err (record { line = line; column = column; mistake = WrongNumber })
+
+-- a word at a column: digits, or a number behind `u8:`, `u16:` or `u32:`
+abbrev pub word_by : (line column : ℕ) → List ℕ → Option ℕ → Result (List ℕ) MakeFault
+word_by line column word None = digits_read line column word
+word_by line column word (Some size) = number_read line column size (number_named (behind 58 word))
+
+unfoldable pub word_read : (line column : ℕ) → List ℕ → Result (List ℕ) MakeFault
+word_read line column word = word_by line column word (size_named (before 58 word))
+
+-- the words from a column on
+unfoldable pub words_read : (line column : ℕ) → List (List ℕ) → Result (List ℕ) MakeFault
+words_read line column [] = Ok []
+words_read line column (word ∷ words) = both (word_read line column word) (words_read line (column + (length word + 1)) words)
 
 -- what stands on a line from a `#` on is a note
 abbrev pub line_read : ℕ → List ℕ → Result (List ℕ) MakeFault
-line_read line text = digits_read line 1 (before 35 text)
+line_read line text = words_read line 1 (words_of (before 35 text))
 
 -- the lines from a number on
 unfoldable pub lines_read : ℕ → List (List ℕ) → Result (List ℕ) MakeFault

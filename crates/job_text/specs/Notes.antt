@@ -62,17 +62,25 @@ listed_text j buffer packet = of_job j (codes "binner list: " ++ (packet_text pa
 unfoldable pub field_text : Part → Field → List ℕ → List ℕ
 field_text part field bytes = part_text part ++ (codes ": " ++ valued field bytes)
 
+-- the bits of a surface, and the bytes that it takes in a frame of a width and height
+unfoldable pub sized_text : Part → Field → ℕ → ℕ → List ℕ → List ℕ
+sized_text part field width height bytes = field_text part field bytes ++ size_text (bits_style field (u32_at bytes 0)) width height
+
+-- a uniform, and what the shader that takes it makes of it
+unfoldable pub uniform_text : ℕ → ℕ → ℕ → Stage → Meaning → List ℕ → List ℕ
+uniform_text j i k stage meaning bytes = counted j (codes "uniform ") i (codes ": ") bytes ++ meant_text k stage meaning
+
 -- what a line says of its bytes
 unfoldable pub note_text : Note → List ℕ → List ℕ
 note_text (Number part field) bytes = field_text part field bytes
 note_text (Named part field buffer) bytes = field_text part field bytes ++ named_text buffer
-note_text (Sized part field width height) bytes = field_text part field bytes ++ size_text (bits_style field (u32_at bytes 0)) width height
+note_text (Sized part field width height) bytes = sized_text part field width height bytes
 note_text (Handle j i) bytes = counted j (codes "handle ") i (codes ": buffer ") bytes
 note_text (Packet j buffer) bytes = listed_text j buffer bytes
 note_text (BehindHalt j) bytes = of_job j (codes "binner list: behind the halt")
 note_text (Records j) bytes = of_job j (codes "shader records")
 note_text (Uniform j i) bytes = counted j (codes "uniform ") i (codes ": ") bytes
-note_text (Taken j i k stage meaning) bytes = counted j (codes "uniform ") i (codes ": ") bytes ++ meant_text k stage meaning
+note_text (Taken j i k stage meaning) bytes = uniform_text j i k stage meaning bytes
 note_text (Data b) bytes = codes "buffer " ++ (decimal b ++ codes " content")
 note_text (Instruction b i uniform) bytes = numbered_text b i ++ instruction_text (u64_at bytes 0) uniform
 note_text Unread bytes = codes "unread"

@@ -9,6 +9,8 @@ pub enum Mistake {
     WrongCharacter,
     /// A digit has no other digit right behind it.
     LoneDigit,
+    /// What stands behind `u8:`, `u16:` or `u32:` is no number of so many bits.
+    WrongNumber,
 }
 
 impl Mistake {
@@ -19,6 +21,8 @@ impl Mistake {
         match self {
             Mistake::WrongCharacter => "here stands neither a hexadecimal digit nor a blank",
             Mistake::LoneDigit => "a byte has two hexadecimal digits",
+            Mistake::WrongNumber =>
+                "a number is decimal, or 0x and hexadecimal digits, and fits in its bytes",
         }
     }
 }

@@ -19,6 +19,7 @@ mod reading;
 mod rows;
 mod streams;
 mod uniforms;
+mod words;
 mod writing;
 
 pub use fault::{MakeFault, Mistake};

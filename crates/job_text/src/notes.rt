@@ -1,9 +1,7 @@
 //! What a line says of its bytes.
 ghost use Rattle.std.specs.Prelude.{◌≡◌, ◌++◌, codes, decimal, drop, OnOk};
-ghost use Rattle.field_words.specs.Words.{u32_at};
-ghost use Rattle.job_text.specs.Meanings.{bits_style, size_text};
 ghost use Rattle.job_text.specs.Names.{named_text};
-ghost use Rattle.job_text.specs.Notes.{counted, taken_text, packet_text, said_if, facts_text, assembler_text, field_text, meant_text, listed_text};
+ghost use Rattle.job_text.specs.Notes.{counted, taken_text, packet_text, said_if, facts_text, assembler_text, field_text, sized_text, meant_text, uniform_text, listed_text};
 ghost use Rattle.job_text.specs.Notes.{numbered_text, instruction_text, note_text};
 
 use crate::meanings::{bits_style, put_size};
@@ -42,6 +40,7 @@ fn put_handle_field(
     Ok(())
 }
 
+#[tactic(auto, unfolding(crate::specs::Notes::sized_text))]
 fn put_sized_field(
     out: &mut Vec<u8>,
     part: Part,
@@ -50,8 +49,7 @@ fn put_sized_field(
     height: u16,
     bytes: &[u8],
 ) -> Result<(), AllocError>
-    ensures { OnOk result (out.new.items ≡ out.old.items
-        ++ (field_text part field bytes.now ++ size_text (bits_style field (u32_at bytes.now 0)) width height)) }
+    ensures { OnOk result (out.new.items ≡ out.old.items ++ sized_text part field width height bytes.now) }
 {
     put_field(out, part, field, bytes)?;
     put_size(out, bits_style(field, number(bytes)), width, height)?;
@@ -95,6 +93,7 @@ fn put_meant(
 }
 
 // Appends a uniform, and what the shader that takes it makes of it.
+#[tactic(auto, unfolding(crate::specs::Notes::uniform_text))]
 fn put_uniform(
     out: &mut Vec<u8>,
     job: u32,
@@ -104,8 +103,7 @@ fn put_uniform(
     meaning: Meaning,
     bytes: &[u8],
 ) -> Result<(), AllocError>
-    ensures { OnOk result (out.new.items ≡ out.old.items
-        ++ (counted job (codes "uniform ") index (codes ": ") bytes.now ++ meant_text number stage meaning)) }
+    ensures { OnOk result (out.new.items ≡ out.old.items ++ uniform_text job index number stage meaning bytes.now) }
 {
     put_counted(out, job, b"uniform ", index, b": ", bytes)?;
     put_meant(out, number, stage, meaning)?;

@@ -1,23 +1,18 @@
 //! A text as bytes.
-ghost use Rattle.std.specs.Prelude.{◌≡◌, ◌+◌, ◌≤◌, ◌<◌, ◌∷◌, length, IfOk, IfErr, Ok, MatchResult};
+ghost use Rattle.std.specs.Prelude.{◌≡◌, ◌+◌, ◌≤◌, ◌<◌, ◌^◌, length, IfOk, IfErr, IfSome, Ok, MatchResult};
 ghost use Rattle.field_words.specs.declared.stop.Stop.TheVariants.{Fault};
 ghost use Rattle.hex.specs.Hex.{hex_digit_value};
-ghost use Rattle.job_text.specs.Made.{is_blank, byte_at, front_digit, both, line_read, made, IsFaultOf};
+ghost use Rattle.job_text.specs.Made.{byte_at, front_digit, both, digits_read, number_named, number_read, word_read, line_read, made, IsFaultOf};
 
 use crate::fault::{MakeFault, Mistake};
+use crate::words::{most_of, next_word, number_named, size_named};
 use field_words::Stop;
 use script::{cut_at, next_line};
 use std::alloc::Global;
 
-#[tactic(auto, unfolding(crate::specs::Made::is_blank))]
-fn is_blank(character: u8) -> bool
-    ensures { result ≡ is_blank character }
-{
-    character == b' ' || character == b'\t' || character == b'\r'
-}
-
-fn digit_value(character: u8) -> Option<u8>
-    ensures { result ≡ hex_digit_value character }
+pub(crate) fn digit_value(character: u8) -> Option<u8>
+    ensures value { result ≡ hex_digit_value character }
+    ensures limit { IfSome result (λ value. value < 16) }
 {
     match character {
         b'A'..=b'F' => Some(character - 55),
@@ -58,6 +53,75 @@ fn byte_at(line: usize, column: usize, first: u8, others: &[u8]) -> Result<u8, M
     Ok(16 * high + low)
 }
 
+// Appends the bytes of digits, which begin at a column.
+fn put_digits(
+    out: &mut Vec<u8>,
+    line: usize,
+    column: usize,
+    word: &[u8],
+) -> Result<(), Stop<MakeFault>>
+    requires { column + length word.now < 2 ^ 64 }
+    ensures bytes { IfOk result (λ _. both (Ok out.old.items) (digits_read line column word.now) ≡ Ok out.new.items) }
+    ensures fault { IfErr result (IsFaultOf (digits_read line column word.now)) }
+{
+    let mut rest = word;
+    let mut at = column;
+    while let Some((first, others)) = rest.split_first() {
+        match byte_at(line, at, *first, others) {
+            Ok(byte) => out.push(byte)?,
+            Err(fault) => return Err(Stop::Fault(fault)),
+        }
+        rest = &others[1..];
+        at += 2;
+    }
+    Ok(())
+}
+
+// Appends the bytes of the number that a text names.
+#[tactic(auto, unfolding(crate::specs::Made::number_read))]
+fn put_number(
+    out: &mut Vec<u8>,
+    line: usize,
+    column: usize,
+    size: usize,
+    text: &[u8],
+) -> Result<(), Stop<MakeFault>>
+    requires { size ≤ 4 }
+    ensures bytes { IfOk result (λ _. both (Ok out.old.items) (number_read line column size (number_named text.now)) ≡ Ok out.new.items) }
+    ensures fault { IfErr result (IsFaultOf (number_read line column size (number_named text.now))) }
+{
+    if let Some(number) = number_named(text) {
+        if number <= most_of(size) {
+            out.extend_from_slice(&number.to_le_bytes()[..size])?;
+            return Ok(());
+        }
+    }
+    Err(Stop::Fault(MakeFault {
+        line,
+        column,
+        mistake: Mistake::WrongNumber,
+    }))
+}
+
+// Appends the bytes of a word, which begins at a column.
+#[tactic(auto, unfolding(crate::specs::Made::word_read))]
+fn put_word(
+    out: &mut Vec<u8>,
+    line: usize,
+    column: usize,
+    word: &[u8],
+) -> Result<(), Stop<MakeFault>>
+    requires { column + length word.now < 2 ^ 64 }
+    ensures bytes { IfOk result (λ _. both (Ok out.old.items) (word_read line column word.now) ≡ Ok out.new.items) }
+    ensures fault { IfErr result (IsFaultOf (word_read line column word.now)) }
+{
+    let cut = cut_at(word, b':');
+    match size_named(cut.first) {
+        None => put_digits(out, line, column, word),
+        Some(size) => put_number(out, line, column, size, cut.rest),
+    }
+}
+
 // Appends the bytes of a line.
 fn put_line(out: &mut Vec<u8>, line: usize, text: &[u8]) -> Result<(), Stop<MakeFault>>
     ensures bytes { IfOk result (λ _. both (Ok out.old.items) (line_read line text.now) ≡ Ok out.new.items) }
@@ -65,24 +129,18 @@ fn put_line(out: &mut Vec<u8>, line: usize, text: &[u8]) -> Result<(), Stop<Make
 {
     let mut rest = cut_at(text, b'#').first;
     let mut column = 1;
-    while let Some((first, others)) = rest.split_first() {
-        if is_blank(*first) {
-            rest = others;
-            column += 1;
-        } else {
-            match byte_at(line, column, *first, others) {
-                Ok(byte) => out.push(byte)?,
-                Err(fault) => return Err(Stop::Fault(fault)),
-            }
-            rest = &others[1..];
-            column += 2;
-        }
+    while !rest.is_empty() {
+        let cut = next_word(rest);
+        put_word(out, line, column, cut.first)?;
+        column += cut.first.len() + 1;
+        rest = cut.rest;
     }
     Ok(())
 }
 
-/// The bytes of a text. On each line what stands before a `#` is read: two hexadecimal digits for each byte, in either case,
-/// and blanks between them. What follows a `#` is a note. The fault is the first in the text. Want of memory is the only other error.
+/// The bytes of a text. On each line what stands before a `#` is read: words with blanks between them, each of which is two
+/// hexadecimal digits for each byte, in either case, or a number as `u8:7`, `u16:1920` or `u32:0x4000`, least byte first. What
+/// follows a `#` is a note. The fault is the first in the text. Want of memory is the only other error.
 pub fn make(alloc: Global, text: &[u8]) -> Result<Vec<u8>, Stop<MakeFault>>
     ensures bytes { IfOk result (λ bytes. made text.now ≡ Ok bytes.items) }
     ensures fault { IfErr result (IsFaultOf (made text.now)) }

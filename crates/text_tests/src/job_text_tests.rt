@@ -38,6 +38,34 @@ fn a_text_is_read_up_to_each_note(rt: HostRuntime) -> Result<(), Fail> {
 }
 
 #[test]
+fn numbers_are_words(rt: HostRuntime) -> Result<(), Fail> {
+    let bytes = make(
+        rt.alloc(),
+        b"u8:255 3f40\tu16:1920\r\nu32:0x4000 u32:4294967295 # u8:256",
+    )
+    .map_err(|_| "no bytes")?;
+    assert_eq!(rt;
+        bytes.as_slice(),
+        b"\xff\x3f\x40\x80\x07\x00\x40\x00\x00\xff\xff\xff\xff".as_slice()
+    );
+    for text in [
+        b"00 u8:256".as_slice(),
+        b" \tu16:0x",
+        b"00 u32:0x100000000",
+        b"1f u32",
+        b"ff u8:007",
+    ] {
+        let fault = MakeFault {
+            line: 1,
+            column: if text[0] == b' ' { 3 } else { 4 },
+            mistake: Mistake::WrongNumber,
+        };
+        assert!(rt; make(rt.alloc(), text) == Err(Stop::Fault(fault)));
+    }
+    Ok(())
+}
+
+#[test]
 fn a_fault_has_its_place(rt: HostRuntime) -> Result<(), Fail> {
     let fault = MakeFault {
         line: 2,

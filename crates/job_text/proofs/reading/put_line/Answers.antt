@@ -1,52 +1,27 @@
-use Rattle.std.proofs.Common.{◌+◌, ◌∷◌, [], length, drop, Ok, sym, ap, ◌∙◌, arith}
-use Rattle.std.proofs.lemmas.List.{take_rest}
-use Rattle.job_text.specs.Made.{both, digits_read, line_read}
-use Rattle.job_text.proofs.Steps.{both_both, both_err, digits_blank, digits_byte, digits_fault, digits_end, byte_more}
+use Rattle.std.proofs.Common.{sym, ◌∙◌, arith}
+use Rattle.std.proofs.lemmas.Bool.Decides.{nat_tests}
+use Rattle.std.proofs.lemmas.Result.{err_from_is_err_and}
+use Rattle.job_text.specs.Made.{words_of, line_read}
+use Rattle.job_text.proofs.Steps.{word_step, word_fault, words_end}
 use Rattle.job_text.proofs.reading.put_line.Goals as goal
 
-pub loop-first-preserved-then-is_blank : goal.loop-first-preserved-then-is_blank
-loop-first-preserved-then-is_blank c =
-    let cut = c.in-Some.ensures.cases in
-    let before = c.loop-first.invariant in
-    let blank = sym c.is_blank.ensures ∙ c.if-is_blank.true in
-    record {
-      column = omega (arith, cut.1, before.column);
-      read = ap (both (Ok c.loop-first.out.items)) (digits_blank c.args.line c.loop-first.column c.in-Some.first.now c.in-Some.others.now blank)
-          ∙ ap (λ r. both (Ok c.loop-first.out.items) (digits_read c.args.line c.loop-first.column r)) (sym cut.0)
-          ∙ before.read;
-    }
+pub returns-in_err-put_word-clause-fault : goal.returns-in_err-put_word-clause-fault
+returns-in_err-put_word-clause-fault c =
+    let answer = err_from_is_err_and c.from_residual.result c.from_residual.ensures.1 in
+    rw (answer.1, answer.2)
+    (word_fault c.args.line c.loop-rest.column c.loop-rest.out.items c.args.out.now.items c.next_word-cut.result.first.now c.loop-rest.rest.now
+    (line_read c.args.line c.args.text.now) (words_of c.next_word-cut.result.rest.now) c.in_err-put_word.field-0.0 c.next_word-cut.ensures.words
+    c.loop-rest.invariant.read c.in_err-put_word.ensures.fault)
 
-pub returns-in-Err-clause-fault : goal.returns-in-Err-clause-fault
-returns-in-Err-clause-fault c =
-    let cut = c.in-Some.ensures.cases in
-    let filled = sym c.is_blank.ensures ∙ c.if-is_blank.false in
-    let fault = sym c.byte_at.ensures ∙ c.in-Err.is in
-    both_err c.args.out.now.items (line_read c.args.line c.args.text.now) c.in-Err.fault
-    (sym c.loop-first.invariant.read
-    ∙ ap (λ r. both (Ok c.loop-first.out.items) (digits_read c.args.line c.loop-first.column r)) cut.0
-    ∙ ap (both (Ok c.loop-first.out.items)) (digits_fault c.args.line c.loop-first.column c.in-Some.first.now c.in-Some.others.now c.in-Err.fault filled fault))
-
-pub loop-first-preserved : goal.loop-first-preserved
-loop-first-preserved c =
-    let out = c.loop-first.out.items in
-    let line = c.args.line in
-    let column = c.loop-first.column in
-    let others = c.in-Some.others.now in
-    let byte = c.in-Ok.byte in
-    let cut = c.in-Some.ensures.cases in
-    let filled = sym c.is_blank.ensures ∙ c.if-is_blank.false in
-    let is = sym c.byte_at.ensures ∙ c.in-Ok.is in
-    let rest = take_rest others 1 in
-    record {
-      column = omega (arith, c.loop-first.invariant.column, cut.1, byte_more line column c.in-Some.first.now byte others is, ap length rest);
-      read = rw (c.in_ok-push-in-Ok.ensures.items, rest)
-          (sym (both_both out (byte ∷ []) (digits_read line (column + 2) (drop 1 others)))
-          ∙ ap (both (Ok out)) (sym (digits_byte line column c.in-Some.first.now byte others filled is))
-          ∙ ap (λ r. both (Ok out) (digits_read line column r)) (sym cut.0)
-          ∙ c.loop-first.invariant.read);
-    }
+pub loop-rest-preserved : goal.loop-rest-preserved
+loop-rest-preserved c = record {
+  column = omega (arith, c.loop-rest.invariant.column, c.next_word-cut.ensures.inside, c.next_word-cut.ensures.shorter);
+  read = word_step c.args.line c.loop-rest.column c.loop-rest.out.items c.put_word.new.out.items c.next_word-cut.result.first.now c.loop-rest.rest.now
+      (words_of c.next_word-cut.result.rest.now) c.next_word-cut.ensures.words c.in_ok-put_word.ensures.bytes
+      ∙ c.loop-rest.invariant.read;
+}
 
 pub returns-clause-bytes : goal.returns-clause-bytes
 returns-clause-bytes c =
-    sym c.loop-first.invariant.read
-    ∙ digits_end c.args.line c.loop-first.column c.loop-first.out.items c.loop-first.rest.now (omega (arith, c.in_default.ensures.cases))
+    sym c.loop-rest.invariant.read
+    ∙ words_end c.args.line c.loop-rest.column c.loop-rest.out.items c.loop-rest.rest.now (grind (arith, nat_tests, c.is_empty.ensures, c.loop-rest-test.false))

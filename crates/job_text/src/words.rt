@@ -1,0 +1,107 @@
+//! The words of a line, and numbers as words.
+ghost use Rattle.std.specs.Prelude.{◌≡◌, ◌≤◌, ◌<◌, ◌+◌, ◌∷◌, length, IfSome};
+ghost use Rattle.job_text.specs.Made.{is_blank, words_of, with_digit, hex_number, number_named, size_named, most_of};
+ghost use Rattle.std.specs.Prelude.{Some};
+
+use crate::reading::digit_value;
+use script::{Cut, read_number};
+
+#[tactic(auto, unfolding(crate::specs::Made::is_blank))]
+fn is_blank(character: u8) -> bool
+    ensures { result ≡ is_blank character }
+{
+    character == b' ' || character == b'\t' || character == b'\r'
+}
+
+/// The first word of a text that isn't empty, up to a blank, and what stands behind that.
+pub(crate) fn next_word(text: &[u8]) -> Cut<'_>
+    requires { 0 < length text.now }
+    ensures words { words_of text.now ≡ result.first.now ∷ words_of result.rest.now }
+    ensures inside { length result.first.now + length result.rest.now ≤ length text.now }
+    ensures shorter { length result.rest.now < length text.now }
+{
+    for (at, character) in text.iter().enumerate() {
+        if is_blank(*character) {
+            return Cut {
+                first: &text[..at],
+                rest: &text[at + 1..],
+            };
+        }
+    }
+    Cut {
+        first: text,
+        rest: &[],
+    }
+}
+
+// The number behind a digit more; nothing where it then has more than 32 bits.
+#[tactic(auto, unfolding(crate::specs::Made::with_digit))]
+fn with_digit(number: Option<u32>, digit: Option<u8>) -> Option<u32>
+    requires { IfSome digit (λ d. d < 16) }
+    ensures { result ≡ with_digit number digit }
+{
+    match (number, digit) {
+        (Some(number), Some(digit)) if number < 268_435_456 => {
+            Some(16 * number + u32::from(digit))
+        }
+        _ => None,
+    }
+}
+
+fn hex_number(digits: &[u8]) -> Option<u32>
+    ensures { result ≡ hex_number digits.now }
+{
+    if digits.is_empty() {
+        return None;
+    }
+    let mut number = Some(0);
+    for digit in digits {
+        number = with_digit(number, digit_value(*digit));
+    }
+    number
+}
+
+/// The number that a text names: decimal, or hexadecimal digits behind `0x`.
+#[tactic(auto, unfolding(crate::specs::Made::number_named), using(crate::proofs::WordSteps::first_two, crate::proofs::WordSteps::past_two))]
+pub(crate) fn number_named(text: &[u8]) -> Option<u32>
+    ensures { result ≡ number_named text.now }
+{
+    let (front, rest) = text.split_at(2.min(text.len()));
+    if front == b"0x".as_slice() {
+        return hex_number(rest);
+    }
+    match read_number(text, u64::from(u32::MAX)) {
+        Some(number) => Some(number as u32),
+        None => None,
+    }
+}
+
+/// How many bytes the number of a word has, by what stands before its colon.
+#[tactic(auto, unfolding(crate::specs::Made::size_named))]
+pub(crate) fn size_named(name: &[u8]) -> Option<usize>
+    ensures value { result ≡ size_named name.now }
+    ensures small { IfSome result (λ size. size ≤ 4) }
+{
+    if name == b"u8".as_slice() {
+        return Some(1);
+    }
+    if name == b"u16".as_slice() {
+        return Some(2);
+    }
+    if name == b"u32".as_slice() {
+        return Some(4);
+    }
+    None
+}
+
+/// The largest number of so many bytes.
+#[tactic(auto, unfolding(crate::specs::Made::most_of))]
+pub(crate) fn most_of(size: usize) -> u32
+    ensures { result ≡ most_of size }
+{
+    match size {
+        1 => 255,
+        2 => 65_535,
+        _ => u32::MAX,
+    }
+}
