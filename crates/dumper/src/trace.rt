@@ -15,16 +15,18 @@ use std::alloc::{AllocError, Global};
 /// Room for a step's line as it mostly is.
 const STEP_LINE: usize = 32;
 
+/// Appends a number in decimal.
 #[tactic(auto)]
-fn push_number(out: &mut Vec<u8>, number: u32) -> Result<(), AllocError>
+pub fn push_number(out: &mut Vec<u8>, number: u32) -> Result<(), AllocError>
     ensures { OnOk result (out.new.items ≡ out.old.items ++ decimal number) }
 {
     let mut buffer = Buffer::new();
     out.extend_from_slice(buffer.format(number).as_bytes())
 }
 
+/// Appends a unit's name: `binner`, `renderer`, `qpu3`, or `tmu3.1`.
 #[tactic(auto, unfolding(crate::specs::Trace::unit_text))]
-fn push_unit(out: &mut Vec<u8>, unit: Actor) -> Result<(), AllocError>
+pub fn push_unit(out: &mut Vec<u8>, unit: Actor) -> Result<(), AllocError>
     ensures { OnOk result (out.new.items ≡ out.old.items ++ unit_text unit) }
 {
     match unit {
@@ -43,9 +45,9 @@ fn push_unit(out: &mut Vec<u8>, unit: Actor) -> Result<(), AllocError>
     }
 }
 
-// A place; one that needs more than eight digits takes memory of its own.
+/// Appends a place. One that needs more than eight digits takes memory of its own.
 #[tactic(auto, using(crate::proofs::Digits::place_put))]
-fn push_place(alloc: Global, out: &mut Vec<u8>, place: u64) -> Result<(), AllocError>
+pub fn push_place(alloc: Global, out: &mut Vec<u8>, place: u64) -> Result<(), AllocError>
     ensures { OnOk result (out.new.items ≡ out.old.items ++ place_text place) }
 {
     if place >= 1 << 32 {
@@ -130,8 +132,9 @@ fn ending_name(ending: Ending) -> &'static str
     }
 }
 
+/// The line that says how a run ended, after how many steps.
 #[tactic(auto, unfolding(crate::specs::Trace::ending_text))]
-fn ending_text(alloc: Global, ending: Ending, steps: usize) -> Result<String, AllocError>
+pub fn ending_text(alloc: Global, ending: Ending, steps: usize) -> Result<String, AllocError>
     ensures { IfOk result (λ text. string_bytes text ≡ ending_text ending steps) }
 {
     let name = ending_name(ending);
