@@ -1,0 +1,262 @@
+//! What is told of runs.
+ghost use Rattle.std.specs.Prelude.{◌≡◌, ◌≤◌, ◌<◌, ◌^◌, ◌+◌, IfOk, IsOk};
+ghost use Rattle.field_words.specs.Questions.{Answers};
+ghost use Rattle.job_check.specs.Jobs.{layouts_of};
+ghost use Rattle.job_check.specs.Whole.{all_questions};
+ghost use Rattle.job_format.specs.File.{IsFileOf};
+ghost use Rattle.job_format.specs.Reading.{file_at};
+ghost use Rattle.job_safety.specs.Accepted.{machine_of, IsAccepted};
+ghost use Rattle.seeded_runs.specs.Told.{seed_text, IsStepText, IsAccessText, IsSeedLine, AreSeedLines, IsTold, IsTrialWithin};
+
+use crate::seeded::{log_of, run_of};
+use buffer_table::{Buffer, Regions};
+use dumper::{ending_text, trace_text};
+use field_words::{NoMemory, Stop};
+use job_format::{Refusal, read_parts};
+use job_safety::{Accepted, accept};
+use machine::Machine;
+use relocation::Layout;
+use replay::{Trace, UnitKind};
+use run_text::log_text;
+use std::alloc::{AllocError, Global};
+
+/// What is told of a run, or of many.
+#[derive(Clone, Copy, Debug, PartialEq, Eq)]
+pub enum Look {
+    /// A line for each step.
+    Steps,
+    /// A line for each access.
+    Accesses,
+    /// How the run ended, of each of so many seeds.
+    Seeds(u32),
+}
+
+/// Runs of at most so many steps by the scripts of seeds, from one on. Where a kind of unit is favoured, a unit of it steps whenever one
+/// may.
+#[derive(Clone, Copy, Debug, PartialEq, Eq)]
+pub struct Trial {
+    pub look: Look,
+    pub favoured: Option<UnitKind>,
+    pub steps: u32,
+    pub seed: u64,
+}
+
+// The text of a run's steps.
+fn step_text(
+    alloc: Global,
+    version: u32,
+    machine: Machine,
+    favoured: Option<UnitKind>,
+    steps: u32,
+    seed: u64,
+) -> Result<Vec<u8>, NoMemory>
+    requires few { steps ≤ 1000000 }
+    requires a_version { 1 ≤ version }
+    requires known { version ≤ 2 }
+    ensures { IfOk result (λ text. IsStepText version machine favoured steps seed text.items) }
+{
+    let trace = run_of(alloc, machine, favoured, steps, seed)?;
+    let text = trace_text(alloc, version, &trace)?;
+    Ok(text)
+}
+
+// The text of a run's accesses.
+fn access_text(
+    alloc: Global,
+    regions: &Regions,
+    buffers: &[Buffer],
+    layouts: &[Layout],
+    machine: Machine,
+    favoured: Option<UnitKind>,
+    steps: u32,
+    seed: u64,
+) -> Result<Vec<u8>, NoMemory>
+    requires { steps ≤ 1000000 }
+    ensures { IfOk result (λ text. IsAccessText regions.now buffers.now layouts.now machine favoured steps seed text.items) }
+{
+    let log = log_of(alloc, machine, favoured, steps, seed)?;
+    let text = log_text(alloc, regions, buffers, layouts, &log)?;
+    Ok(text)
+}
+
+#[tactic(auto, unfolding(crate::specs::Told::seed_text))]
+fn seed_text(alloc: Global, seed: u64, trace: &Trace) -> Result<Vec<u8>, AllocError>
+    ensures { IfOk result (λ text. text.items ≡ seed_text seed trace.now) }
+{
+    let ending = ending_text(alloc, trace.ending, trace.lines.len())?;
+    Ok(format!(in alloc; "seed {seed} {ending}")?.into_bytes())
+}
+
+// The line that says how a run ended.
+fn seed_line(
+    alloc: Global,
+    machine: Machine,
+    favoured: Option<UnitKind>,
+    steps: u32,
+    seed: u64,
+) -> Result<Vec<u8>, NoMemory>
+    requires { steps ≤ 1000000 }
+    ensures { IfOk result (λ line. IsSeedLine machine favoured steps seed line.items) }
+{
+    let trace = run_of(alloc, machine, favoured, steps, seed)?;
+    Ok(seed_text(alloc, seed, &trace)?)
+}
+
+// The line of a seed's run of the file's machine.
+#[tactic(auto, using(crate::proofs::Moving::line_moved))]
+fn seed_of(
+    alloc: Global,
+    bytes: &[u8],
+    favoured: Option<UnitKind>,
+    steps: u32,
+    seed: u64,
+) -> Result<Vec<u8>, Stop<Refusal>>
+    requires { steps ≤ 1000000 }
+    ensures answers { Answers (all_questions bytes.now) (λ line. IsSeedLine (machine_of (file_at bytes.now)) favoured steps seed line.items) result }
+    ensures spelled { IsOk result → IsFileOf bytes.now (file_at bytes.now) }
+{
+    match accept(alloc, bytes) {
+        Ok(accepted) => {
+            let machine = accepted.into_machine();
+            Ok(seed_line(alloc, machine, favoured, steps, seed)?)
+        }
+        Err(stop) => Err(stop),
+    }
+}
+
+// A line for each of so many seeds. The file is accepted anew for each, since a run uses its machine up.
+#[tactic(auto, using(crate::proofs::Moving::lines_more))]
+fn seeds_text(
+    alloc: Global,
+    bytes: &[u8],
+    favoured: Option<UnitKind>,
+    steps: u32,
+    seed: u64,
+    count: u32,
+) -> Result<Vec<u8>, Stop<Refusal>>
+    requires few { steps ≤ 1000000 }
+    requires some { 1 ≤ count }
+    requires within { seed + count < 2 ^ 64 }
+    ensures answers { Answers (all_questions bytes.now) (λ text. AreSeedLines (machine_of (file_at bytes.now)) favoured steps seed count text.items) result }
+    ensures spelled { IsOk result → IsFileOf bytes.now (file_at bytes.now) }
+{
+    let mut text = Vec::new(alloc);
+    for n in 0..count {
+        let line = seed_of(alloc, bytes, favoured, steps, seed + u64::from(n))?;
+        text.extend_from_slice(&line)?;
+    }
+    Ok(text)
+}
+
+// The text of the steps of a run of the file's machine.
+#[tactic(auto, using(crate::proofs::Moving::step_moved))]
+fn steps_told(
+    alloc: Global,
+    bytes: &[u8],
+    favoured: Option<UnitKind>,
+    steps: u32,
+    seed: u64,
+) -> Result<Vec<u8>, Stop<Refusal>>
+    requires { steps ≤ 1000000 }
+    ensures answers { Answers (all_questions bytes.now)
+        (λ text. IsStepText (file_at bytes.now).version (machine_of (file_at bytes.now)) favoured steps seed text.items) result }
+    ensures spelled { IsOk result → IsFileOf bytes.now (file_at bytes.now) }
+{
+    match accept(alloc, bytes) {
+        Ok(accepted) => {
+            let version = accepted.version;
+            let text = step_text(
+                alloc,
+                version,
+                accepted.into_machine(),
+                favoured,
+                steps,
+                seed,
+            )?;
+            Ok(text)
+        }
+        Err(stop) => Err(stop),
+    }
+}
+
+// The text of the accesses of a run of an accepted file's machine.
+#[tactic(auto, using(crate::proofs::Moving::access_moved))]
+fn accesses_of(
+    alloc: Global,
+    bytes: &[u8],
+    accepted: Accepted,
+    favoured: Option<UnitKind>,
+    steps: u32,
+    seed: u64,
+) -> Result<Vec<u8>, NoMemory>
+    requires few { steps ≤ 1000000 }
+    requires accepted { IsAccepted (file_at bytes.now) accepted }
+    ensures { IfOk result (λ text. IsAccessText (file_at bytes.now).regions (file_at bytes.now).buffers
+        (layouts_of (file_at bytes.now)) (machine_of (file_at bytes.now)) favoured steps seed text.items) }
+{
+    // No rule of the format stands of an accepted file.
+    let Ok(file) = read_parts(alloc, bytes) else {
+        return Err(NoMemory);
+    };
+    let Accepted {
+        version: _,
+        layouts,
+        lengths: _,
+        machine,
+    } = accepted;
+    access_text(
+        alloc,
+        &file.regions,
+        &file.buffers,
+        &layouts,
+        machine,
+        favoured,
+        steps,
+        seed,
+    )
+}
+
+// The text of the accesses of a run of the file's machine.
+fn accesses_told(
+    alloc: Global,
+    bytes: &[u8],
+    favoured: Option<UnitKind>,
+    steps: u32,
+    seed: u64,
+) -> Result<Vec<u8>, Stop<Refusal>>
+    requires { steps ≤ 1000000 }
+    ensures answers { Answers (all_questions bytes.now) (λ text. IsAccessText (file_at bytes.now).regions (file_at bytes.now).buffers
+        (layouts_of (file_at bytes.now)) (machine_of (file_at bytes.now)) favoured steps seed text.items) result }
+    ensures spelled { IsOk result → IsFileOf bytes.now (file_at bytes.now) }
+{
+    match accept(alloc, bytes) {
+        Ok(accepted) => {
+            let text = accesses_of(alloc, bytes, accepted, favoured, steps, seed)?;
+            Ok(text)
+        }
+        Err(stop) => Err(stop),
+    }
+}
+
+/// What is told of runs of these bytes, a job file, by the script of a seed or of many. `Ok` comes exactly where no rule stands of them.
+///
+/// # Errors
+/// The first rule that stands, by its letter, its number and its place in the bytes; or want of memory.
+pub fn told_text(alloc: Global, trial: Trial, bytes: &[u8]) -> Result<Vec<u8>, Stop<Refusal>>
+    requires { IsTrialWithin trial }
+    ensures answers { Answers (all_questions bytes.now) (λ text. IsTold (file_at bytes.now) trial text.items) result }
+    ensures spelled { IsOk result → IsFileOf bytes.now (file_at bytes.now) }
+{
+    match trial.look {
+        Look::Steps => steps_told(alloc, bytes, trial.favoured, trial.steps, trial.seed),
+        Look::Accesses => accesses_told(alloc, bytes, trial.favoured, trial.steps, trial.seed),
+        Look::Seeds(count) => seeds_text(
+            alloc,
+            bytes,
+            trial.favoured,
+            trial.steps,
+            trial.seed,
+            count,
+        ),
+    }
+}
