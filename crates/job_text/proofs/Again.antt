@@ -9,7 +9,7 @@ use Rattle.script.specs.Lines.{before, lines_of, onto_line}
 use Rattle.job_text.specs.declared.note.Note.{Note}
 use Rattle.job_text.specs.declared.note.Note.TheVariants.{Unread}
 use Rattle.job_text.specs.declared.note.Piece.{Piece}
-use Rattle.job_text.specs.Made.{words_of, digits_read, size_named, word_by, word_read, words_read, line_read, lines_read, both, made, is_blank}
+use Rattle.job_text.specs.Made.{words_of, digits_read, size_named, word_by, word_read, words_read, line_read, part_read, stays_inside, lines_read, both, made, is_blank, past_blanks, says}
 use Rattle.job_text.specs.Shown.{remark, is_in, is_past, mark_text, reason_text, line_text, lines_text, shown}
 
 -- no byte is the mark
@@ -118,6 +118,29 @@ front_back line column b bytes fits =
     ∙ ap (λ r. both r (words_read line (column + (length digits + 1)) (words_of (32 ∷ [])))) (word_back line column b bytes fits)
     ∙ ap (λ (l : List ℕ). Ok l) (append-nil (b ∷ bytes))
 
+no_word : (c d : ℕ) (cs : List ℕ) (t : Bool) → (c == 97) ≡ t → is_blank c ≡ false → (d == 115) ≡ false → says (codes "asm") (c ∷ d ∷ cs) ≡ false
+unfolding says past_blanks
+no_word c d cs true is full other = rw (full, is, other) refl
+no_word c d cs false is full other = rw (full, is) refl
+
+-- a line of digits doesn't say `asm`
+digits_plain : (b : ℕ) (bytes more : List ℕ) → IsBytes (b ∷ bytes) → says (codes "asm") (encode_lower (b ∷ bytes) ++ more) ≡ false
+unfolding encode_with
+digits_plain b bytes more fits =
+    let small : b < 256 = fits 0 in
+    let high = slice_index lower_digits (b / 16) in
+    let low = slice_index lower_digits (b % 16) in
+    let is_high = IsDigits-lower_digits (b / 16) (omega arith) in
+    let is_low = IsDigits-lower_digits (b % 16) (omega arith) in
+    no_word high low (encode_lower bytes ++ more) (high == 97) refl (digit_not_blank high (b / 16) is_high)
+    (digit_free 115 low (b % 16) refl is_low (low == 115) refl)
+
+-- a line that doesn't say `asm` is read by its words
+plain_line : (n : ℕ) (line : List ℕ) (lines : List (List ℕ)) → says (codes "asm") line ≡ false
+    → lines_read n false (line ∷ lines) ≡ both (line_read n line) (lines_read (n + 1) false lines)
+unfolding lines_read part_read stays_inside
+plain_line n line lines is = rw is refl
+
 -- a line's end behind its last part
 to_end : (a b r m w rest : List ℕ) → (a ++ (b ++ (r ++ (m ++ 10 ∷ w)))) ++ rest ≡ (a ++ (b ++ (r ++ m))) ++ 10 ∷ (w ++ rest)
 to_end a b r m w rest = simp append_assoc
@@ -131,9 +154,9 @@ free_mark true = (refl, (refl, (refl, (refl, (refl, (refl, (refl, (refl, (refl, 
 free_mark false = tt
 
 line_again : (n at b : ℕ) (bytes rest why : List ℕ) (note : Note) (refused : Option ℕ) → IsBytes (b ∷ bytes)
-    → lines_read n (lines_of (line_text at (b ∷ bytes) note refused why ++ rest))
-    ≡ both (Ok (b ∷ bytes)) (lines_read (n + 1) (lines_of (reason_text (is_in at (length (b ∷ bytes)) refused) why ++ rest)))
-unfolding line_text remark lines_read
+    → lines_read n false (lines_of (line_text at (b ∷ bytes) note refused why ++ rest))
+    ≡ both (Ok (b ∷ bytes)) (lines_read (n + 1) false (lines_of (reason_text (is_in at (length (b ∷ bytes)) refused) why ++ rest)))
+unfolding line_text remark
 line_again n at b bytes rest why note refused fits =
     let digits = encode_lower (b ∷ bytes) in
     let is = is_in at (length (b ∷ bytes)) refused in
@@ -148,27 +171,29 @@ line_again n at b bytes rest why note refused fits =
     let no_mark : Free 35 (digits ++ codes "  ") = free_append 35 digits (codes "  ") (free_digits 35 (b ∷ bytes) refl fits) (refl, (refl, tt)) in
     let front : before 35 line ≡ digits ++ codes "  " = ap (before 35) (to_mark digits (r ++ m)) ∙ before_mark 35 (digits ++ codes "  ") (32 ∷ (r ++ m)) no_mark in
     let read : line_read n line ≡ Ok (b ∷ bytes) = ap (λ t. words_read n 1 (words_of t)) front ∙ front_back n 1 b bytes fits in
-    ap (λ t. lines_read n (lines_of t)) (to_end digits (codes "  # ") r m w rest)
-    ∙ ap (lines_read n) (lines_line line (w ++ rest) no_feed)
-    ∙ ap (λ x. both x (lines_read (n + 1) (lines_of (w ++ rest)))) read
+    ap (λ t. lines_read n false (lines_of t)) (to_end digits (codes "  # ") r m w rest)
+    ∙ ap (lines_read n false) (lines_line line (w ++ rest) no_feed)
+    ∙ plain_line n line (lines_of (w ++ rest)) (digits_plain b bytes (codes "  # " ++ (r ++ m)) fits)
+    ∙ ap (λ x. both x (lines_read (n + 1) false (lines_of (w ++ rest)))) read
 
 -- the reason holds no bytes
 reason_again : (n : ℕ) (is : Bool) (why more rest : List ℕ)
-    → ((m : ℕ) → lines_read m (lines_of rest) ≡ Ok more)
-    → lines_read n (lines_of (reason_text is why ++ rest)) ≡ Ok more
-unfolding reason_text lines_read words_read words_of before
+    → ((m : ℕ) → lines_read m false (lines_of rest) ≡ Ok more)
+    → lines_read n false (lines_of (reason_text is why ++ rest)) ≡ Ok more
+unfolding reason_text words_read words_of before is_blank
 reason_again n false why more rest later = later n
 reason_again n true why more rest later =
     let line = codes "# " ++ before 10 why in
     let no_feed : Free 10 line = free_append 10 (codes "# ") (before 10 why) (refl, (refl, tt)) (free_before 10 why) in
-    ap (λ t. lines_read n (lines_of t)) (append_assoc line (codes "\n") rest)
-    ∙ ap (lines_read n) (lines_line line rest no_feed)
+    ap (λ t. lines_read n false (lines_of t)) (append_assoc line (codes "\n") rest)
+    ∙ ap (lines_read n false) (lines_line line rest no_feed)
+    ∙ plain_line n line (lines_of rest) (no_word 35 32 (before 10 why) false refl refl refl)
     ∙ ap (both (Ok [])) (later (n + 1))
 
 -- the lines of some bytes, and of the bytes behind them
 piece_again : (n at : ℕ) (bytes more rest why : List ℕ) (note : Note) (refused : Option ℕ) → IsBytes bytes
-    → ((m : ℕ) → lines_read m (lines_of rest) ≡ Ok more)
-    → lines_read n (lines_of (line_text at bytes note refused why ++ rest)) ≡ Ok (bytes ++ more)
+    → ((m : ℕ) → lines_read m false (lines_of rest) ≡ Ok more)
+    → lines_read n false (lines_of (line_text at bytes note refused why ++ rest)) ≡ Ok (bytes ++ more)
 unfolding line_text
 piece_again n at [] more rest why note refused fits later = later n
 piece_again n at (b ∷ bytes) more rest why note refused fits later =
@@ -192,8 +217,8 @@ halves (suc n) [] = refl
 halves (suc n) (b ∷ bytes) = ap (λ l. b ∷ l) (halves n bytes)
 
 lines_again : (pieces : List Piece) (n at : ℕ) (bytes rest why : List ℕ) (refused : Option ℕ) → IsBytes bytes
-    → ((m : ℕ) → lines_read m (lines_of rest) ≡ Ok [])
-    → lines_read n (lines_of (lines_text at bytes pieces refused why ++ rest)) ≡ Ok bytes
+    → ((m : ℕ) → lines_read m false (lines_of rest) ≡ Ok [])
+    → lines_read n false (lines_of (lines_text at bytes pieces refused why ++ rest)) ≡ Ok bytes
 unfolding lines_text
 lines_again [] n at bytes rest why refused fits later =
     piece_again n at bytes [] rest why Unread refused fits later ∙ ap (λ (l : List ℕ). Ok l) (append-nil bytes)
@@ -201,16 +226,16 @@ lines_again (piece ∷ pieces) n at bytes rest why refused fits later =
     let front = take piece.size bytes in
     let back = drop piece.size bytes in
     let others = lines_text (at + length front) back pieces refused why in
-    ap (λ t. lines_read n (lines_of t)) (append_assoc (line_text at front piece.note refused why) others rest)
+    ap (λ t. lines_read n false (lines_of t)) (append_assoc (line_text at front piece.note refused why) others rest)
     ∙ piece_again n at front back (others ++ rest) why piece.note refused (bytes_take piece.size bytes fits)
     (λ m. lines_again pieces m (at + length front) back rest why refused (bytes_drop piece.size bytes fits) later)
     ∙ ap (λ (l : List ℕ). Ok l) (halves piece.size bytes)
 
 -- the reason at the end holds none either
-last_again : (n : ℕ) (is : Bool) (why : List ℕ) → lines_read n (lines_of (reason_text is why)) ≡ Ok []
+last_again : (n : ℕ) (is : Bool) (why : List ℕ) → lines_read n false (lines_of (reason_text is why)) ≡ Ok []
 unfolding lines_read lines_of
 last_again n is why =
-    ap (λ t. lines_read n (lines_of t)) (sym (append-nil (reason_text is why))) ∙ reason_again n is why [] [] (λ m. refl)
+    ap (λ t. lines_read n false (lines_of t)) (sym (append-nil (reason_text is why))) ∙ reason_again n is why [] [] (λ m. refl)
 
 pub shown_again : (bytes text why : List ℕ) (pieces : List Piece) (refused : Option ℕ) → IsBytes bytes
     → text ≡ shown bytes pieces refused why → made text ≡ Ok bytes

@@ -1,4 +1,5 @@
 pub mod Again
+pub mod BlockSteps
 pub mod FieldSteps
 pub mod Pieces
 pub mod Steps

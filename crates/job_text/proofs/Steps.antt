@@ -1,11 +1,11 @@
 -- One step of reading a line, and of printing pieces.
-use Rattle.std.proofs.Common.{◌≡◌, ℕ, ◌+◌, ◌≤◌, true, false, List, [], ◌∷◌, ◌++◌, length, drop, Result, Ok, Err, Option, Some, None, refl, sym, ◌∙◌, ap, append_assoc, append-nil, arith}
+use Rattle.std.proofs.Common.{◌≡◌, ℕ, ◌+◌, ◌≤◌, Bool, true, false, List, [], ◌∷◌, ◌++◌, length, drop, Result, Ok, Err, Option, Some, None, refl, sym, ◌∙◌, ap, append_assoc, append-nil, arith}
 use Rattle.hex.specs.Hex.{hex_digit_value}
 use Rattle.script.specs.Lines.{lines_of}
 use Rattle.field_words.specs.declared.stop.Stop.{Stop}
 use Rattle.field_words.specs.declared.stop.Stop.TheVariants.{Fault, NoMemory}
 use Rattle.job_text.specs.declared.fault.MakeFault.{MakeFault}
-use Rattle.job_text.specs.Made.{byte_at, front_digit, both, words_of, digits_read, word_read, words_read, line_read, lines_read, made, IsFaultOf}
+use Rattle.job_text.specs.Made.{byte_at, front_digit, both, words_of, digits_read, word_read, words_read, line_read, part_read, stays_inside, lines_read, made, IsFaultOf}
 
 pub both_both : (a b : List ℕ) (r : Result (List ℕ) MakeFault) → both (Ok a) (both (Ok b) r) ≡ both (Ok (a ++ b)) r
 both_both a b (Err fault) = refl
@@ -75,23 +75,25 @@ words_end line column out [] none = ap (λ (l : List ℕ). Ok l) (append-nil out
 words_end line column out (c ∷ rest) none = absurd (omega (arith, none))
 
 -- one line more
-pub line_step : (line : ℕ) (out new first rest : List ℕ) (lines : List (List ℕ)) → lines_of rest ≡ first ∷ lines → both (Ok out) (line_read line first) ≡ Ok new
-    → both (Ok new) (lines_read (line + 1) lines) ≡ both (Ok out) (lines_read line (lines_of rest))
+pub line_step : (line : ℕ) (inside : Bool) (out new first rest : List ℕ) (lines : List (List ℕ)) → lines_of rest ≡ first ∷ lines
+    → both (Ok out) (part_read line inside first lines) ≡ Ok new
+    → both (Ok new) (lines_read (line + 1) (stays_inside inside first) lines) ≡ both (Ok out) (lines_read line inside (lines_of rest))
 unfolding lines_read
-line_step line out new first rest lines cut is =
-    both_line out new (line_read line first) (lines_read (line + 1) lines) is ∙ ap (λ l. both (Ok out) (lines_read line l)) (sym cut)
+line_step line inside out new first rest lines cut is =
+    both_line out new (part_read line inside first lines) (lines_read (line + 1) (stays_inside inside first) lines) is
+    ∙ ap (λ l. both (Ok out) (lines_read line inside l)) (sym cut)
 
 -- the fault of a line behind lines without one is the text's
-pub line_fault : (line : ℕ) (out first rest text : List ℕ) (lines : List (List ℕ)) (stop : Stop MakeFault) → lines_of rest ≡ first ∷ lines
-    → both (Ok out) (lines_read line (lines_of rest)) ≡ both (Ok []) (made text)
-    → IsFaultOf (line_read line first) stop → IsFaultOf (made text) stop
+pub line_fault : (line : ℕ) (inside : Bool) (out first rest text : List ℕ) (lines : List (List ℕ)) (stop : Stop MakeFault) → lines_of rest ≡ first ∷ lines
+    → both (Ok out) (lines_read line inside (lines_of rest)) ≡ both (Ok []) (made text)
+    → IsFaultOf (part_read line inside first lines) stop → IsFaultOf (made text) stop
 unfolding lines_read
-line_fault line out first rest text lines (Fault fault) cut same is =
-    sym (both_none (made text)) ∙ sym same ∙ ap (λ l. both (Ok out) (lines_read line l)) cut
-    ∙ ap (λ r. both (Ok out) (both r (lines_read (line + 1) lines))) is
-line_fault line out first rest text lines NoMemory cut same is = tt
+line_fault line inside out first rest text lines (Fault fault) cut same is =
+    sym (both_none (made text)) ∙ sym same ∙ ap (λ l. both (Ok out) (lines_read line inside l)) cut
+    ∙ ap (λ r. both (Ok out) (both r (lines_read (line + 1) (stays_inside inside first) lines))) is
+line_fault line inside out first rest text lines NoMemory cut same is = tt
 
-pub lines_end : (line : ℕ) (out rest : List ℕ) → length rest ≤ 0 → both (Ok out) (lines_read line (lines_of rest)) ≡ Ok out
+pub lines_end : (line : ℕ) (inside : Bool) (out rest : List ℕ) → length rest ≤ 0 → both (Ok out) (lines_read line inside (lines_of rest)) ≡ Ok out
 unfolding lines_read lines_of
-lines_end line out [] none = ap (λ (l : List ℕ). Ok l) (append-nil out)
-lines_end line out (c ∷ rest) none = absurd (omega (arith, none))
+lines_end line inside out [] none = ap (λ (l : List ℕ). Ok l) (append-nil out)
+lines_end line inside out (c ∷ rest) none = absurd (omega (arith, none))

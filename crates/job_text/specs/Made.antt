@@ -1,14 +1,18 @@
 -- The bytes that a text holds: on each line what stands before a `#`, in words. A word is two hexadecimal digits for each byte, or a
--- number.
-use Rattle.std.specs.Prelude.{◌≡◌, ℕ, ◌+◌, ◌*◌, ◌^◌, ◌==◌, ◌||◌, nat_lt, nat_le, bytes_eq, take, drop, length, Bool, List, [], ◌∷◌, ◌++◌, codes, Option, Some, None, Result, Ok, Err, if◌then◌else◌}
-use Rattle.std.specs.Int.{to_le_bytes, w32}
+-- number. The lines between `asm` and `end` are assembler text, which gives the bytes of its instruction words.
+use Rattle.std.specs.Prelude.{◌≡◌, ℕ, ◌+◌, ◌*◌, ◌^◌, ◌==◌, ◌&&◌, ◌||◌, not, nat_lt, nat_le, bytes_eq, take, drop, length, map, Bool, true, false, List, [], ◌∷◌, ◌++◌, codes, Option, Some, None, Result, Ok, Err, if◌then◌else◌}
+use Rattle.std.specs.Int.{to_le_bytes, w32, w64}
+use Rattle.std.specs.List.{flat_map}
 use Rattle.hex.specs.Hex.{hex_digit_value}
 use Rattle.script.specs.Lines.{before, behind, lines_of, onto_line}
 use Rattle.script.specs.Number.{number_within}
 use Rattle.field_words.specs.declared.stop.Stop.{Stop}
 use Rattle.field_words.specs.declared.stop.Stop.TheVariants.{Fault, NoMemory}
+use Rattle.qpu_asm.specs.declared.fault.AsmFault.{AsmFault}
+use Rattle.qpu_asm.specs.Assembly.{Assembled}
+use Rattle.qpu_asm.specs.Place.{fault_place}
 use Rattle.job_text.specs.declared.fault.MakeFault.{MakeFault}
-use Rattle.job_text.specs.declared.fault.Mistake.TheVariants.{WrongCharacter, LoneDigit, WrongNumber}
+use Rattle.job_text.specs.declared.fault.Mistake.TheVariants.{WrongCharacter, LoneDigit, WrongNumber, NoEnd, LongBlock, Assembler}
 
 -- a space, a tab or a carriage return
 unfoldable pub is_blank : ℕ → Bool
@@ -100,14 +104,69 @@ words_read line column (word ∷ words) = both (word_read line column word) (wor
 abbrev pub line_read : ℕ → List ℕ → Result (List ℕ) MakeFault
 line_read line text = words_read line 1 (words_of (before 35 text))
 
--- the lines from a number on
-unfoldable pub lines_read : ℕ → List (List ℕ) → Result (List ℕ) MakeFault
-lines_read line [] = Ok []
-lines_read line (text ∷ texts) = both (line_read line text) (lines_read (line + 1) texts)
+-- what follows the blanks at the front of a text
+unfoldable pub past_blanks : List ℕ → List ℕ
+past_blanks [] = []
+past_blanks (c ∷ cs) = if is_blank c then past_blanks cs else c ∷ cs
+
+abbrev pub is_nothing : List ℕ → Bool
+is_nothing [] = true
+is_nothing (c ∷ cs) = false
+
+-- a line has this word of three letters alone, and perhaps a note
+unfoldable pub says : List ℕ → List ℕ → Bool
+says word text = bytes_eq (take 3 (past_blanks text)) word && is_nothing (past_blanks (before 35 (drop 3 (past_blanks text))))
+
+-- the assembler reads no other blank than a space
+unfoldable pub spaced : ℕ → ℕ
+spaced c = if is_blank c then 32 else c
+
+-- a line for the assembler: without its note
+unfoldable pub asm_line : List ℕ → List ℕ
+asm_line text = map spaced (before 35 text) ++ codes "\n"
+
+-- the assembler text on the lines up to one that says `end`, which must be there, behind an `asm` on the line of this number
+unfoldable pub block_text : ℕ → List (List ℕ) → Result (List ℕ) MakeFault
+block_text line [] = Err (record { line = line; column = 1; mistake = NoEnd })
+block_text line (text ∷ texts) = if says (codes "end") text then Ok [] else both (Ok (asm_line text)) (block_text line texts)
+
+-- the bytes of instruction words, or the assembler's fault: its line is counted from that of `asm` on
+abbrev pub words_made : ℕ → List ℕ → Result (List ℕ) AsmFault → Result (List ℕ) MakeFault
+words_made line text (Ok words) = Ok (flat_map (to_le_bytes w64) words)
+words_made line text (Err fault) =
+    Err (record { line = line + fault.line; column = (fault_place text fault).column; mistake = Assembler fault.kind })
+
+-- the bytes that assembler text gives
+unfoldable pub assembled : ℕ → List ℕ → Result (List ℕ) MakeFault
+assembled line text =
+    if nat_lt (length text) 4294967295 then words_made line text (Assembled text)
+    else Err (record { line = line; column = 1; mistake = LongBlock })
+
+abbrev pub then_assembled : ℕ → Result (List ℕ) MakeFault → Result (List ℕ) MakeFault
+then_assembled line (Err fault) = Err fault
+then_assembled line (Ok text) = assembled line text
+
+-- what `asm` gives on a line, behind which these lines come
+unfoldable pub block_read : ℕ → List (List ℕ) → Result (List ℕ) MakeFault
+block_read line texts = then_assembled line (block_text line texts)
+
+-- What a line gives, behind which these lines come. One of assembler text gives nothing of itself: its bytes are those of `asm`.
+unfoldable pub part_read : ℕ → Bool → List ℕ → List (List ℕ) → Result (List ℕ) MakeFault
+part_read line inside text texts =
+    if inside then Ok [] else (if says (codes "asm") text then block_read line texts else line_read line text)
+
+-- whether the next line is assembler text
+unfoldable pub stays_inside : Bool → List ℕ → Bool
+stays_inside inside text = if inside then not (says (codes "end") text) else says (codes "asm") text
+
+-- the lines from a number on, of which the first may be assembler text
+unfoldable pub lines_read : ℕ → Bool → List (List ℕ) → Result (List ℕ) MakeFault
+lines_read line inside [] = Ok []
+lines_read line inside (text ∷ texts) = both (part_read line inside text texts) (lines_read (line + 1) (stays_inside inside text) texts)
 
 -- the bytes of a whole text, whose lines count from 1, or the first fault in it
 abbrev pub made : List ℕ → Result (List ℕ) MakeFault
-made text = lines_read 1 (lines_of text)
+made text = lines_read 1 false (lines_of text)
 
 -- a fault is the one that was read; want of memory says nothing
 abbrev pub IsFaultOf : Result (List ℕ) MakeFault → Stop MakeFault → Type 0

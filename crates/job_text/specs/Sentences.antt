@@ -1,9 +1,14 @@
 -- What is said of a mistake.
 use Rattle.std.specs.Prelude.{ℕ, List, codes}
+use Rattle.rule_words.specs.declared.name.Family.TheVariants.{Kind}
+use Rattle.rule_words.specs.Names.{sentence_of as rule_sentence}
 use Rattle.job_text.specs.declared.fault.Mistake.{Mistake}
-use Rattle.job_text.specs.declared.fault.Mistake.TheVariants.{WrongCharacter, LoneDigit, WrongNumber}
+use Rattle.job_text.specs.declared.fault.Mistake.TheVariants.{WrongCharacter, LoneDigit, WrongNumber, NoEnd, LongBlock, Assembler}
 
 abbrev pub sentence_of : Mistake → List ℕ
 sentence_of WrongCharacter = codes "here stands neither a hexadecimal digit nor a blank"
 sentence_of LoneDigit = codes "a byte has two hexadecimal digits"
 sentence_of WrongNumber = codes "a number is decimal, or 0x and hexadecimal digits, and fits in its bytes"
+sentence_of NoEnd = codes "no line behind asm says end"
+sentence_of LongBlock = codes "assembler text has fewer than 4294967295 bytes"
+sentence_of (Assembler kind) = rule_sentence (record { family = Kind; number = kind })

@@ -2,6 +2,8 @@
 ghost use Rattle.std.specs.Prelude.{◌≡◌};
 ghost use Rattle.job_text.specs.Sentences.{sentence_of};
 
+use rule_words::{Family, RuleName};
+
 /// What is wrong at a place of a text.
 #[derive(Clone, Copy, Debug, PartialEq, Eq)]
 pub enum Mistake {
@@ -11,6 +13,12 @@ pub enum Mistake {
     LoneDigit,
     /// What stands behind `u8:`, `u16:` or `u32:` is no number of so many bits.
     WrongNumber,
+    /// No line that says `end` comes behind an `asm`.
+    NoEnd,
+    /// The assembler text between `asm` and `end` is too long.
+    LongBlock,
+    /// The assembler's text has a fault of the kind of this number.
+    Assembler(u8),
 }
 
 impl Mistake {
@@ -23,6 +31,13 @@ impl Mistake {
             Mistake::LoneDigit => "a byte has two hexadecimal digits",
             Mistake::WrongNumber =>
                 "a number is decimal, or 0x and hexadecimal digits, and fits in its bytes",
+            Mistake::NoEnd => "no line behind asm says end",
+            Mistake::LongBlock => "assembler text has fewer than 4294967295 bytes",
+            Mistake::Assembler(kind) => RuleName {
+                family: Family::Kind,
+                number: kind,
+            }
+            .sentence(),
         }
     }
 }

@@ -1,9 +1,11 @@
 //! A job file as text for people, and back.
 //!
 //! `show` writes any bytes as lines: some of the bytes in hexadecimal, a `#`, their offset in the file and what they are. `make`
-//! reads what stands before each `#`. So each byte is on one line, and `make` of what `show` wrote is the same bytes.
+//! reads what stands before each `#`. So each byte is on one line, and `make` of what `show` wrote is the same bytes. Between lines
+//! `asm` and `end` it reads assembler text.
 #![tactic(auto)]
 
+mod blocks;
 mod chunks;
 mod code;
 mod cuts;

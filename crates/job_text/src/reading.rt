@@ -2,8 +2,10 @@
 ghost use Rattle.std.specs.Prelude.{◌≡◌, ◌+◌, ◌≤◌, ◌<◌, ◌^◌, length, IfOk, IfErr, IfSome, Ok, MatchResult};
 ghost use Rattle.field_words.specs.declared.stop.Stop.TheVariants.{Fault};
 ghost use Rattle.hex.specs.Hex.{hex_digit_value};
-ghost use Rattle.job_text.specs.Made.{byte_at, front_digit, both, digits_read, number_named, number_read, word_read, line_read, made, IsFaultOf};
+ghost use Rattle.job_text.specs.Made.{byte_at, front_digit, both, digits_read, number_named, number_read, word_read, line_read, part_read, stays_inside, made, IsFaultOf};
+ghost use Rattle.script.specs.Lines.{lines_of};
 
+use crate::blocks::{put_block, says};
 use crate::fault::{MakeFault, Mistake};
 use crate::words::{most_of, next_word, number_named, size_named};
 use field_words::Stop;
@@ -138,9 +140,44 @@ fn put_line(out: &mut Vec<u8>, line: usize, text: &[u8]) -> Result<(), Stop<Make
     Ok(())
 }
 
+// Appends what a line gives, behind which these lines come: nothing if it is assembler text, of which `asm` gave the bytes.
+#[tactic(auto, unfolding(crate::specs::Made::part_read))]
+fn put_part(
+    alloc: Global,
+    out: &mut Vec<u8>,
+    line: usize,
+    inside: bool,
+    text: &[u8],
+    lines: &[u8],
+) -> Result<(), Stop<MakeFault>>
+    requires { line ≤ 2 ^ 63 }
+    ensures bytes { IfOk result (λ _. both (Ok out.old.items) (part_read line inside text.now (lines_of lines.now)) ≡ Ok out.new.items) }
+    ensures fault { IfErr result (IsFaultOf (part_read line inside text.now (lines_of lines.now))) }
+{
+    if inside {
+        return Ok(());
+    }
+    if says(b"asm", text) {
+        return put_block(alloc, out, line, lines);
+    }
+    put_line(out, line, text)
+}
+
+// Whether the line behind this one is assembler text.
+#[tactic(auto, unfolding(crate::specs::Made::stays_inside))]
+fn stays_inside(inside: bool, text: &[u8]) -> bool
+    ensures { result ≡ stays_inside inside text.now }
+{
+    if inside {
+        return !says(b"end", text);
+    }
+    says(b"asm", text)
+}
+
 /// The bytes of a text. On each line what stands before a `#` is read: words with blanks between them, each of which is two
 /// hexadecimal digits for each byte, in either case, or a number as `u8:7`, `u16:1920` or `u32:0x4000`, least byte first. What
-/// follows a `#` is a note. The fault is the first in the text. Want of memory is the only other error.
+/// follows a `#` is a note. Between a line that says `asm` and one that says `end` stands assembler text, which gives the bytes of its
+/// words. The fault is the first in the text. Want of memory is the only other error.
 pub fn make(alloc: Global, text: &[u8]) -> Result<Vec<u8>, Stop<MakeFault>>
     ensures bytes { IfOk result (λ bytes. made text.now ≡ Ok bytes.items) }
     ensures fault { IfErr result (IsFaultOf (made text.now)) }
@@ -148,9 +185,11 @@ pub fn make(alloc: Global, text: &[u8]) -> Result<Vec<u8>, Stop<MakeFault>>
     let mut out = Vec::new(alloc);
     let mut rest = text;
     let mut line = 1;
+    let mut inside = false;
     while !rest.is_empty() {
         let cut = next_line(rest);
-        put_line(&mut out, line, cut.first)?;
+        put_part(alloc, &mut out, line, inside, cut.first, cut.rest)?;
+        inside = stays_inside(inside, cut.first);
         line += 1;
         rest = cut.rest;
     }

@@ -6,8 +6,9 @@ ghost use Rattle.std.specs.Prelude.{Some};
 use crate::reading::digit_value;
 use script::{Cut, read_number};
 
+/// A space, a tab or a carriage return.
 #[tactic(auto, unfolding(crate::specs::Made::is_blank))]
-fn is_blank(character: u8) -> bool
+pub(crate) fn is_blank(character: u8) -> bool
     ensures { result ≡ is_blank character }
 {
     character == b' ' || character == b'\t' || character == b'\r'

@@ -1,6 +1,7 @@
 //! A file as text and back, and texts that are no file.
 use field_words::Stop;
 use job_text::{MakeFault, Mistake, make, show};
+use qpu_asm::assemble;
 use std::test::*;
 
 #[test]
@@ -73,5 +74,55 @@ fn a_fault_has_its_place(rt: HostRuntime) -> Result<(), Fail> {
         mistake: Mistake::LoneDigit,
     };
     assert!(rt; make(rt.alloc(), b"00\n00f #\nx") == Err(Stop::Fault(fault)));
+    Ok(())
+}
+
+const SHADER: &[u8] = b"alu sig=3 # the end\n\tnop\r\nnop\n";
+
+#[test]
+fn assembler_text_gives_its_words(rt: HostRuntime) -> Result<(), Fail> {
+    let words = assemble(rt.alloc(), b"alu sig=3\nnop\nnop\n").map_err(|_| "no words")?;
+    let mut bytes = Vec::new(rt.alloc());
+    bytes.push(0x11).map_err(|_| "no memory")?;
+    for word in &words {
+        bytes.extend_from_slice(&word.to_le_bytes()).map_err(|_| "no memory")?;
+    }
+    bytes.push(0x22).map_err(|_| "no memory")?;
+    let mut text = Vec::new(rt.alloc());
+    for part in [b"11\n asm\t# a shader\r\n".as_slice(), SHADER, b"end\n22"] {
+        text.extend_from_slice(part).map_err(|_| "no memory")?;
+    }
+    let made = make(rt.alloc(), &text).map_err(|_| "no bytes")?;
+    assert_eq!(rt; made.as_slice(), bytes.as_slice());
+    let made = make(rt.alloc(), b"33 asm # no word of a line alone\nasm\nend").is_err();
+    assert!(rt; made);
+    let made = make(rt.alloc(), b"asm\nend").map_err(|_| "no bytes")?;
+    assert!(rt; made.is_empty());
+    Ok(())
+}
+
+#[test]
+fn a_fault_of_the_assembler_has_its_place(rt: HostRuntime) -> Result<(), Fail> {
+    let fault = MakeFault {
+        line: 4,
+        column: 11,
+        mistake: Mistake::Assembler(3),
+    };
+    let made = make(rt.alloc(), b"00\nasm\nnop\nalu sig=3 wa=64 # over\nend\nx");
+    assert!(rt; made == Err(Stop::Fault(fault)));
+    assert_eq!(rt; fault.mistake.sentence(), "a number is over its field");
+    let fault = MakeFault {
+        line: 2,
+        column: 1,
+        mistake: Mistake::NoEnd,
+    };
+    let made = make(rt.alloc(), b"00\nasm\nnop\nend of it\nbr to=x");
+    assert!(rt; made == Err(Stop::Fault(fault)));
+    let fault = MakeFault {
+        line: 1,
+        column: 2,
+        mistake: Mistake::LoneDigit,
+    };
+    assert!(rt; make(rt.alloc(), b"end") == Err(Stop::Fault(fault)));
     Ok(())
 }

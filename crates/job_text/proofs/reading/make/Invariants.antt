@@ -7,7 +7,7 @@ use Rattle.job_text.proofs.reading.make.Given as goal
 abbrev pub invariant-loop-rest : goal.invariant-loop-rest
 invariant-loop-rest l = record {
   line : l.line + length l.rest ≤ length l.fn.text + 1;
-  read : both (Ok l.out.items) (lines_read l.line (lines_of l.rest)) ≡ both (Ok []) (made l.fn.text);
+  read : both (Ok l.out.items) (lines_read l.line l.inside (lines_of l.rest)) ≡ both (Ok []) (made l.fn.text);
 }
 
 abbrev pub decreases-loop-rest : goal.decreases-loop-rest
