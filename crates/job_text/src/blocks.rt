@@ -1,11 +1,10 @@
 //! The lines between `asm` and `end`: assembler text.
-ghost use Rattle.std.specs.Prelude.{◌≡◌, ◌≤◌, ◌<◌, ◌^◌, ◌++◌, Ok, length, map, IfOk, IfErr};
+ghost use Rattle.std.specs.Prelude.{◌≡◌, ◌≤◌, ◌<◌, ◌^◌, ◌-◌, ◌++◌, Ok, Err, length, map, IfOk, IfErr};
 ghost use Rattle.std.specs.List.{flat_map};
 ghost use Rattle.std.specs.Int.{to_le_bytes, w64};
 ghost use Rattle.script.specs.Lines.{before, lines_of};
 ghost use Rattle.qpu_asm.specs.Assembly.{Assembled};
 ghost use Rattle.job_text.specs.Made.{past_blanks, says, spaced, asm_line, both, block_text, words_made, assembled, block_read, IsFaultOf};
-ghost use Rattle.std.specs.Prelude.{Err};
 
 use crate::fault::{MakeFault, Mistake};
 use crate::words::is_blank;

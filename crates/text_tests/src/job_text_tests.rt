@@ -85,7 +85,9 @@ fn assembler_text_gives_its_words(rt: HostRuntime) -> Result<(), Fail> {
     let mut bytes = Vec::new(rt.alloc());
     bytes.push(0x11).map_err(|_| "no memory")?;
     for word in &words {
-        bytes.extend_from_slice(&word.to_le_bytes()).map_err(|_| "no memory")?;
+        bytes
+            .extend_from_slice(&word.to_le_bytes())
+            .map_err(|_| "no memory")?;
     }
     bytes.push(0x22).map_err(|_| "no memory")?;
     let mut text = Vec::new(rt.alloc());
@@ -110,7 +112,10 @@ fn a_fault_of_the_assembler_has_its_place(rt: HostRuntime) -> Result<(), Fail> {
     };
     let made = make(rt.alloc(), b"00\nasm\nnop\nalu sig=3 wa=64 # over\nend\nx");
     assert!(rt; made == Err(Stop::Fault(fault)));
-    assert_eq!(rt; fault.mistake.sentence(), "a number is over its field");
+    assert_eq!(rt;
+        fault.mistake.sentence(),
+        "a number is over its field, however long it is"
+    );
     let fault = MakeFault {
         line: 2,
         column: 1,
@@ -120,7 +125,7 @@ fn a_fault_of_the_assembler_has_its_place(rt: HostRuntime) -> Result<(), Fail> {
     assert!(rt; made == Err(Stop::Fault(fault)));
     let fault = MakeFault {
         line: 1,
-        column: 2,
+        column: 1,
         mistake: Mistake::LoneDigit,
     };
     assert!(rt; make(rt.alloc(), b"end") == Err(Stop::Fault(fault)));

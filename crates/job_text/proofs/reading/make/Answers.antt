@@ -10,19 +10,21 @@ pub returns-in_err-put_part-clause-fault : goal.returns-in_err-put_part-clause-f
 returns-in_err-put_part-clause-fault c =
     let answer = err_from_is_err_and c.from_residual.result c.from_residual.ensures.1 in
     rw (answer.1, answer.2)
-    (line_fault c.loop-rest.line c.loop-rest.inside c.loop-rest.out.items c.next_line-cut.result.first.now c.loop-rest.rest.now c.args.text.now
-    (lines_of c.next_line-cut.result.rest.now) c.in_err-put_part.field-0.0 c.next_line-cut.ensures.lines c.loop-rest.invariant.read
+    (line_fault c.loop-rest.line c.loop-rest.inside c.loop-rest.out.items c.next_line-cut.result.first.now c.loop-rest.rest.now
+    c.args.text.now (lines_of c.next_line-cut.result.rest.now) c.in_err-put_part.field-0.0 c.next_line-cut.ensures.lines c.loop-rest.invariant.read
     c.in_err-put_part.ensures.fault)
 
 pub loop-rest-preserved : goal.loop-rest-preserved
 loop-rest-preserved c = record {
   line = omega (arith, c.loop-rest.invariant.line, c.next_line-cut.ensures.shorter);
-  read = line_step c.loop-rest.line c.loop-rest.inside c.loop-rest.out.items c.put_part.new.out.items c.next_line-cut.result.first.now c.loop-rest.rest.now
-      (lines_of c.next_line-cut.result.rest.now) c.next_line-cut.ensures.lines c.in_ok-put_part.ensures.bytes
-      ∙ c.loop-rest.invariant.read;
+  read = rw c.stays_inside-inside.ensures
+      (line_step c.loop-rest.line c.loop-rest.inside c.loop-rest.out.items c.put_part.new.out.items c.next_line-cut.result.first.now
+      c.loop-rest.rest.now (lines_of c.next_line-cut.result.rest.now) c.next_line-cut.ensures.lines c.in_ok-put_part.ensures.bytes
+      ∙ c.loop-rest.invariant.read);
 }
 
 pub returns-clause-bytes : goal.returns-clause-bytes
 returns-clause-bytes c =
     sym (both_none (made c.args.text.now)) ∙ sym c.loop-rest.invariant.read
-    ∙ lines_end c.loop-rest.line c.loop-rest.inside c.loop-rest.out.items c.loop-rest.rest.now (grind (arith, nat_tests, c.is_empty.ensures, c.loop-rest-test.false))
+    ∙ lines_end c.loop-rest.line c.loop-rest.inside c.loop-rest.out.items c.loop-rest.rest.now
+    (grind (arith, nat_tests, c.is_empty.ensures, c.loop-rest-test.false))
