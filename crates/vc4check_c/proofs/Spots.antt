@@ -1,41 +1,30 @@
--- The contents of one buffer more, and the handles behind them all.
-use Rattle.std.proofs.Common.{◌≡◌, ◌+◌, ◌<◌, ℕ, List, length, map, get_or, take, sum, option_map, sym, ap, arith, Some, ◌∙◌}
-use Rattle.std.specs.List.{slice_get}
-use Rattle.std.proofs.lemmas.List.{length-map}
-use Rattle.std.proofs.lemmas.List.Sums.{sum-map, sum_by_more}
-use Rattle.std.proofs.lemmas.Option.{slice_get_within, slice_get-map, get_or_from_slice_get}
-use Rattle.buffer_table.specs.declared.buffer.Buffer.{Buffer}
-use Rattle.job_check.specs.Offsets.{content_offset, handles_offset, job_offset}
-use Rattle.vc4check_c.specs.declared.submission.GivenBuffer.{GivenBuffer}
-use Rattle.vc4check_c.specs.declared.submission.Submission.{Submission}
-use Rattle.vc4check_c.specs.Submission.{content_in, entry_in, file_of}
+-- A place in a part of a submission's file, as C knows it.
+use Rattle.std.proofs.Common.{◌≡◌, ◌<◌, ◌≤◌, ◌^◌, ℕ, length, sym, ap, refl, arith}
+use Rattle.job_format.specs.Model.{FileModel}
+use Rattle.job_format.specs.Offsets.{most_buffers}
+use Rattle.job_check.specs.declared.places.Part.{Part}
+use Rattle.job_check.specs.declared.places.Part.TheVariants.{Header, BufferEntry, JobEntry, Content, Handles, BinList, Records, Uniforms}
+use Rattle.job_check.specs.Places.{place_start, IsNumbered}
+use Rattle.job_check.specs.Offsets.{job_offset, handles_offset, bin_offset, records_offset, uniforms_offset}
+use Rattle.vc4check_c.specs.Spots.{start_of, part_number}
 
-regrouped : (a b c : ℕ) → a + (b + c) ≡ (a + b) + c
-regrouped a b c = omega arith
+pub start_is : (f : FileModel) (part : Part) (number : ℕ) → IsNumbered f 0 part number → start_of f (part_number part) number ≡ place_start f part number
+unfolding start_of
+start_is f Header number is = refl
+start_is f BufferEntry number is = refl
+start_is f JobEntry number is = ap (job_offset f) (sym is)
+start_is f Content number is = refl
+start_is f Handles number is = ap (handles_offset f) (sym is)
+start_is f BinList number is = ap (bin_offset f) (sym is)
+start_is f Records number is = ap (records_offset f) (sym is)
+start_is f Uniforms number is = ap (uniforms_offset f) (sym is)
 
-abbrev content_bytes : Buffer → ℕ
-content_bytes buffer = buffer.content
-
-sum_more : (buffers : List GivenBuffer) (b : ℕ) (given : GivenBuffer) → slice_get buffers b ≡ Some given
-    → sum (map content_bytes (take (b + 1) (map entry_in buffers))) ≡ sum (map content_bytes (take b (map entry_in buffers))) + length (content_in given)
-unfolding entry_in
-sum_more buffers b given here =
-    let entries = map entry_in buffers in
-    let inside : b < length entries = let many = length-map buffers entry_in in let within = slice_get_within buffers b given here in omega (arith, many, within) in
-    let at : get_or entries b (entry_in given) ≡ entry_in given =
-    get_or_from_slice_get entries b (entry_in given) (entry_in given) (slice_get-map entry_in buffers b ∙ ap (option_map entry_in) here) in
-    sum-map content_bytes (take (b + 1) entries)
-    ∙ sum_by_more content_bytes entries b (entry_in given) inside
-    ∙ ap (λ n. n + content_bytes (get_or entries b (entry_in given))) (sym (sum-map content_bytes (take b entries)))
-    ∙ ap (λ x. sum (map content_bytes (take b entries)) + content_bytes x) at
-
-pub content_more : (s : Submission) (b : ℕ) (given : GivenBuffer) → slice_get s.buffers.now b ≡ Some given
-    → content_offset (file_of s) (b + 1) ≡ content_offset (file_of s) b + length (content_in given)
-unfolding content_offset file_of
-content_more s b given here =
-    ap (λ n. job_offset (file_of s) (length (file_of s).jobs) + n) (sum_more s.buffers.now b given here)
-    ∙ regrouped (job_offset (file_of s) (length (file_of s).jobs)) (sum (map content_bytes (take b (map entry_in s.buffers.now)))) (length (content_in given))
-
-pub handles_behind : (s : Submission) → handles_offset (file_of s) 0 ≡ content_offset (file_of s) (length s.buffers.now)
-unfolding handles_offset file_of
-handles_behind s = let as_many = ap (content_offset (file_of s)) (length-map s.buffers.now entry_in) in omega (arith, as_many)
+pub number_fits : (f : FileModel) (part : Part) (number : ℕ) → length f.buffers ≤ most_buffers → IsNumbered f 0 part number → number < 2 ^ 32
+number_fits f Header number few is = omega (arith, is)
+number_fits f BufferEntry number few is = omega (arith, few, is)
+number_fits f JobEntry number few is = omega (arith, is)
+number_fits f Content number few is = omega (arith, few, is)
+number_fits f Handles number few is = omega (arith, is)
+number_fits f BinList number few is = omega (arith, is)
+number_fits f Records number few is = omega (arith, is)
+number_fits f Uniforms number few is = omega (arith, is)

@@ -111,11 +111,3 @@ well_formed s none =
       few_jobs = omega arith;
       jobs = (job_passes s (entry_offset (length buffers)) (rest_none (entries_questions buffers) (job_questions_of s) rest), tt);
     }
-
-pub few_buffers : (s : Submission) → first_of (own_questions s) ≡ None → length s.buffers.now ≤ most_buffers
-unfolding own_questions
-few_buffers s none = let n = none_stands (own_questions s) none in grind (arith, n.0)
-
-pub job_passes_of : (s : Submission) → first_of (own_questions s) ≡ None → IsJobWellFormed (job_in s)
-unfolding file_of
-job_passes_of s none = (well_formed s none).jobs.0

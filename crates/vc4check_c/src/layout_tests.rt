@@ -5,6 +5,7 @@ use crate::bound::BoundAnswer;
 use crate::job::JobAnswer;
 use crate::jobs::{JobLists, JobsAnswer};
 use crate::shader::{ShaderAnswer, ShaderSample};
+use crate::submission::{GivenBuffer, GivenFrame, GivenSurface, Submission};
 use crate::submit::Verdict;
 use std::alloc::{AllocError, Global};
 use std::fmt::Debug;
@@ -131,5 +132,82 @@ fn answers_on_shaders(rt: HostRuntime) -> Result<(), Fail> {
         words: [0, 1, 2, 3, 4],
     };
     assert!(rt; tells(rt.alloc(), &known, "Known { words: [0, 1, 2, 3, 4] }")?);
+    Ok(())
+}
+
+/// A surface.
+const SURFACE: GivenSurface = GivenSurface {
+    hindex: 0,
+    offset: 1,
+    bits: 2,
+    flags: 3,
+};
+
+const SURFACE_TEXT: &str = "GivenSurface { hindex: 0, offset: 1, bits: 2, flags: 3 }";
+
+/// A frame.
+const FRAME: GivenFrame = GivenFrame {
+    width: 0,
+    height: 1,
+    min_x: 2,
+    min_y: 3,
+    max_x: 4,
+    max_y: 5,
+    surfaces: [SURFACE; 6],
+    clear_color: [6, 7],
+    clear_z: 8,
+    clear_s: 9,
+    pad: [10, 11, 12],
+};
+
+#[test]
+fn frames(rt: HostRuntime) -> Result<(), Fail> {
+    assert!(rt; tells(rt.alloc(), &SURFACE, SURFACE_TEXT)?);
+    let surfaces = [SURFACE_TEXT; 6].join(rt.alloc(), ", ")?;
+    let front =
+        "GivenFrame { width: 0, height: 1, min_x: 2, min_y: 3, max_x: 4, max_y: 5, surfaces: [";
+    let rest = "], clear_color: [6, 7], clear_z: 8, clear_s: 9, pad: [10, 11, 12] }";
+    let text = format!(in rt.alloc(); "{front}{surfaces}{rest}")?;
+    assert!(rt; tells(rt.alloc(), &FRAME, text.as_str())?);
+    Ok(())
+}
+
+#[test]
+fn submissions(rt: HostRuntime) -> Result<(), Fail> {
+    let known = [Known {
+        words: [5, 6, 7, 8, 9],
+    }];
+    let buffer = GivenBuffer {
+        address: 0,
+        size: 1,
+        client: 2,
+        kind: 3,
+        content: &[4],
+        known: &known,
+    };
+    let text =
+        "GivenBuffer { address: 0, size: 1, client: 2, kind: 3, content: [4], known: [Known { words: [5, 6, 7, 8, 9] }] }";
+    assert!(rt; tells(rt.alloc(), &buffer, text)?);
+    let submission = Submission {
+        buffers: &[],
+        handles: &[0],
+        bin: &[1],
+        records: &[2],
+        uniforms: &[3],
+        client: 4,
+        flags: 5,
+        states: 6,
+        end: 7,
+        lists: 8,
+        lists_size: 9,
+        slot: 10,
+        frame: FRAME,
+    };
+    let frame = format!(in rt.alloc(); "{FRAME:?}")?;
+    let front =
+        "Submission { buffers: [], handles: [0], bin: [1], records: [2], uniforms: [3], client: 4, flags: 5, states: 6, ";
+    let rest = "end: 7, lists: 8, lists_size: 9, slot: 10, frame: ";
+    let text = format!(in rt.alloc(); "{front}{rest}{frame} }}")?;
+    assert!(rt; tells(rt.alloc(), &submission, text.as_str())?);
     Ok(())
 }

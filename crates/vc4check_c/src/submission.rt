@@ -21,7 +21,7 @@ use std::alloc::{AllocError, Global};
 /// A buffer: where it lies, its size, its owner, its kind as a number, and of a Code buffer the shader in it with what was kept of it when
 /// it was checked, or no entry.
 #[repr(C)]
-#[derive(Clone, Copy)]
+#[derive(Clone, Copy, Debug)]
 pub struct GivenBuffer<'a> {
     pub address: u32,
     pub size: u32,
@@ -33,7 +33,7 @@ pub struct GivenBuffer<'a> {
 
 /// A surface of the frame, as `Surface` is.
 #[repr(C)]
-#[derive(Clone, Copy)]
+#[derive(Clone, Copy, Debug)]
 pub struct GivenSurface {
     pub hindex: u32,
     pub offset: u32,
@@ -43,7 +43,7 @@ pub struct GivenSurface {
 
 /// The frame, 96 bytes as in a job's entry.
 #[repr(C)]
-#[derive(Clone, Copy)]
+#[derive(Clone, Copy, Debug)]
 pub struct GivenFrame {
     pub width: u16,
     pub height: u16,
@@ -60,7 +60,7 @@ pub struct GivenFrame {
 
 /// One job with all that it names. Places are addresses of the bus, and sizes bytes; `end` is the first address behind the memory.
 #[repr(C)]
-#[derive(Clone, Copy)]
+#[derive(Clone, Copy, Debug)]
 pub struct Submission<'a> {
     pub buffers: &'a [GivenBuffer<'a>],
     pub handles: &'a [u32],
@@ -120,7 +120,7 @@ fn frame_in(given: &GivenFrame, flags: u32) -> Frame
 
 /// The shader in a Code buffer; nothing of a Plain one.
 #[tactic(auto, unfolding(crate::specs::Submission::content_in))]
-pub(crate) fn content_in<'a>(given: &GivenBuffer<'a>) -> &'a [u8]
+fn content_in<'a>(given: &GivenBuffer<'a>) -> &'a [u8]
     ensures { result.now ≡ content_in given.now }
 {
     if given.kind == 1 { given.content } else { &[] }

@@ -92,7 +92,7 @@ pub struct Told {
 }
 
 /// All rules of a submission, and its lists.
-#[tactic(auto, using(field_words::proofs::Questions::passes, field_words::proofs::Questions::stops, crate::proofs::Submissions::few_buffers, crate::proofs::Submissions::job_passes_of))]
+#[tactic(auto, using(field_words::proofs::Questions::passes, field_words::proofs::Questions::stops))]
 fn check(alloc: Global, given: &Submission) -> Result<Region, Stop<Told>>
     requires { AreKnown given.now.buffers.now }
     ensures { Tells given.now result }
@@ -101,7 +101,7 @@ fn check(alloc: Global, given: &Submission) -> Result<Region, Stop<Told>>
         Ok(parts) => match check_file(alloc, given, &parts) {
             Ok(region) => Ok(region),
             Err(Stop::Fault(refusal)) => {
-                let spot = spot_of(given, &refusal);
+                let spot = spot_of(&parts, &refusal);
                 Err(Stop::Fault(Told { refusal, spot }))
             }
             Err(Stop::NoMemory) => Err(Stop::NoMemory),

@@ -1,6 +1,18 @@
--- A submission of whose own numbers no rule stands has a well-formed job.
-use Rattle.vc4check_c.proofs.Submissions.{job_passes_of}
+-- A submission of whose own numbers no rule stands is a well-formed file.
+use Rattle.std.proofs.Common.{length, sym, ap, subst, ◌∙◌, arith}
+use Rattle.std.proofs.lemmas.List.{length-map}
+use Rattle.job_format.specs.File.{IsWellFormed}
+use Rattle.job_format.specs.Parts.{parts_view, job_parts_view}
+use Rattle.vc4check_c.specs.Submission.{file_of}
+use Rattle.vc4check_c.proofs.Submissions.{well_formed}
 use Rattle.vc4check_c.proofs.submit.check.Goals as goal
 
-pub spot_of-spot-requires-clause-job : goal.spot_of-spot-requires-clause-job
-spot_of-spot-requires-clause-job c = job_passes_of c.args.given.now c.in-Ok.ensures.0
+pub spot_of-spot-requires-clause-well_formed : goal.spot_of-spot-requires-clause-well_formed
+spot_of-spot-requires-clause-well_formed c = subst IsWellFormed (sym c.in-Ok.ensures.1) (well_formed c.args.given.now c.in-Ok.ensures.0)
+
+pub spot_of-spot-requires-clause-some : goal.spot_of-spot-requires-clause-some
+spot_of-spot-requires-clause-some c =
+    let whole = subst IsWellFormed (sym c.in-Ok.ensures.1) (well_formed c.args.given.now c.in-Ok.ensures.0) in
+    let some = whole.some_job in
+    let many = length-map c.in-Ok.parts.jobs.items job_parts_view in
+    omega (arith, some, many)
