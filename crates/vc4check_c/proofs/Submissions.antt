@@ -12,7 +12,7 @@ use Rattle.field_words.proofs.Questions.{each_stop, none_stands, stands_none}
 use Rattle.field_words.proofs.Nones.{front_none, rest_none, each_none}
 use Rattle.buffer_table.specs.declared.buffer.Kind.{Kind}
 use Rattle.buffer_table.specs.declared.buffer.Kind.TheVariants.{Plain, Code}
-use Rattle.job_format.specs.Offsets.{entry_offset, most_buffers}
+use Rattle.job_format.specs.Offsets.{entry_offset}
 use Rattle.job_format.specs.File.{FitsShader, IsJobWellFormed, IsWellFormed}
 use Rattle.vc4check_c.specs.declared.submission.GivenBuffer.{GivenBuffer}
 use Rattle.vc4check_c.specs.declared.submission.Submission.{Submission}

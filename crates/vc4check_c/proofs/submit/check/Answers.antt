@@ -1,9 +1,8 @@
 -- A submission of whose own numbers no rule stands is a well-formed file.
-use Rattle.std.proofs.Common.{length, sym, ap, subst, ◌∙◌, arith}
+use Rattle.std.proofs.Common.{sym, subst, arith}
 use Rattle.std.proofs.lemmas.List.{length-map}
 use Rattle.job_format.specs.File.{IsWellFormed}
-use Rattle.job_format.specs.Parts.{parts_view, job_parts_view}
-use Rattle.vc4check_c.specs.Submission.{file_of}
+use Rattle.job_format.specs.Parts.{job_parts_view}
 use Rattle.vc4check_c.proofs.Submissions.{well_formed}
 use Rattle.vc4check_c.proofs.submit.check.Goals as goal
 
