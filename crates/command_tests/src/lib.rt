@@ -8,6 +8,8 @@ mod picture_tests;
 #[cfg(test)]
 mod program_tests;
 #[cfg(test)]
+mod run_tests;
+#[cfg(test)]
 mod session_tests;
 #[cfg(test)]
 mod why_tests;

@@ -62,11 +62,28 @@ fn a_wrong_word_is_named(rt: HostRuntime) -> Result<(), Fail> {
     for (all, wanted) in [
         (
             ["replay", "1000001", "1"].as_slice(),
-            "vc4check: word 2 is wrong: STEPS is a number from 0 to 1000000; usage: vc4check replay STEPS SEED [FILE]",
+            "vc4check: word 2 is wrong: STEPS is a number from 0 to 1000000; \
+            usage: vc4check replay [--favour KIND] [--accesses | --seeds A..B] STEPS [SEED] [FILE]",
         ),
         (
             &["replay", "1", "-1", "job"],
-            "vc4check: word 3 is wrong: SEED is a number from 0 to 18446744073709551615; usage: vc4check replay STEPS SEED [FILE]",
+            "vc4check: word 3 is wrong: SEED is a number from 0 to 18446744073709551615; \
+            usage: vc4check replay [--favour KIND] [--accesses | --seeds A..B] STEPS [SEED] [FILE]",
+        ),
+        (
+            &["replay", "--favour", "cpu", "1", "1"],
+            "vc4check: word 3 is wrong: KIND is qpu, texture, binner or renderer; \
+            usage: vc4check replay [--favour KIND] [--accesses | --seeds A..B] STEPS [SEED] [FILE]",
+        ),
+        (
+            &["replay", "--favour", "qpu", "--seeds", "3..3", "1"],
+            "vc4check: word 5 is wrong: A..B is seeds from A to before B, 1 to 1000 of them; \
+            usage: vc4check replay [--favour KIND] [--accesses | --seeds A..B] STEPS [SEED] [FILE]",
+        ),
+        (
+            &["replay", "--accesses", "1"],
+            "vc4check: a word is missing: SEED is a number from 0 to 18446744073709551615; \
+            usage: vc4check replay [--favour KIND] [--accesses | --seeds A..B] STEPS [SEED] [FILE]",
         ),
         (
             &["slots", "0"],

@@ -1,5 +1,5 @@
 -- The memory of an accepted file is zero but for the contents of its buffers and its lists, which lie apart.
-use Rattle.std.proofs.Common.{◌≡◌, ℕ, zero, suc, ◌+◌, ◌-◌, ◌*◌, ◌/◌, ◌%◌, ◌<◌, ◌≤◌, ◌⊎◌, inl, inr, List, [], ◌∷◌, ◌++◌, length, take, drop, drop-cons, length-append, get_or, map, refl, sym, ap, subst, ◌∙◌, append-nil, arith}
+use Rattle.std.proofs.Common.{◌≡◌, ℕ, zero, suc, ◌+◌, ◌-◌, ◌/◌, ◌%◌, ◌<◌, ◌≤◌, inl, inr, List, [], ◌∷◌, ◌++◌, length, take, drop, drop-cons, length-append, get_or, map, refl, sym, ap, subst, ◌∙◌, append-nil, arith}
 use Rattle.std.specs.Prelude.{codes}
 use Rattle.std.proofs.lemmas.List.{length-map}
 use Rattle.field_words.specs.Writes.{Part, zeros, emitted}
@@ -21,7 +21,7 @@ use Rattle.job_check.proofs.Emission.{placed-append}
 use Rattle.job_check.proofs.Regions.{memory_made}
 use Rattle.job_check.specs.declared.region.Region.{Region}
 use Rattle.dumper.specs.Text.{rows_text, head_text, accepted_text, AreOfVersion}
-use Rattle.dumper.specs.Parts.{part_at, part_rows, part_end, parts_text, inserted, sorted, Ascend, RowsApart, ApartFrom, AllApart}
+use Rattle.dumper.specs.Parts.{part_at, part_end, parts_text, inserted, sorted, Ascend, RowsApart, ApartFrom, AllApart}
 use Rattle.dumper.proofs.Sorting.{rows_of_sorted, emitted_long, ascend_sorted, ascend_more}
 use Rattle.commands.specs.Answer.{image_of}
 use Rattle.commands.specs.Reply.{rest_text}

@@ -10,9 +10,10 @@ use Rattle.job_check.specs.Emit.{memory_of, lengths_of, all_lengths_of}
 use Rattle.job_check.specs.Jobs.{layouts_of}
 use Rattle.dumper.specs.Text.{accepted_text, refused_text}
 use Rattle.commands.specs.declared.command.Command.{Command}
-use Rattle.commands.specs.declared.command.Command.TheVariants.{Check, Replay, Upgrade, Bound, Show, FromText, Asm, Disasm, Shader, ShaderText, Slots, Queue, Session, Untile, Tile, Level}
+use Rattle.commands.specs.declared.command.Command.TheVariants.{Check, Replay, Runs, Drawn, Upgrade, Bound, Show, FromText, Asm, Disasm, Shader, ShaderText, Slots, Queue, Session, Untile, Tile, Level}
 use Rattle.commands.specs.Pictures.{IsUntileAnswer, IsTileAnswer, IsLevelAnswer}
-use Rattle.commands.specs.Replay.{IsReplayAnswer}
+use Rattle.commands.specs.Replay.{IsReplayAnswer, IsTrialAnswer}
+use Rattle.commands.specs.Drawn.{IsDrawnAnswer}
 use Rattle.commands.specs.Scripts.{IsSlotsAnswer, IsQueueAnswer, IsSessionAnswer}
 use Rattle.commands.specs.Bound.{IsBoundAnswer}
 use Rattle.commands.specs.Upgrade.{IsUpgradeAnswer}
@@ -40,6 +41,8 @@ IsCheckAnswer bytes status text = IsVerdict bytes (refusal_of bytes) (file_at by
 abbrev pub IsAnswer : Command → List ℕ → ℕ → List ℕ → Type 0
 IsAnswer Check bytes status text = IsCheckAnswer bytes status text
 IsAnswer (Replay steps seed) bytes status text = IsReplayAnswer steps seed bytes status text
+IsAnswer (Runs trial) bytes status text = IsTrialAnswer trial bytes status text
+IsAnswer Drawn bytes status text = IsDrawnAnswer bytes status text
 IsAnswer Upgrade bytes status text = IsUpgradeAnswer bytes status text
 IsAnswer Bound bytes status text = IsBoundAnswer bytes status text
 IsAnswer Show bytes status text = IsShowAnswer bytes status text

@@ -24,7 +24,7 @@ use Rattle.rule_words.specs.Names.{name_text, sentence_of}
 use Rattle.commands.specs.declared.cause.Cause.{Cause}
 use Rattle.commands.specs.declared.cause.Cause.TheVariants.{Rule, Kind, Mistake, Shader as ShaderCause, Long, Call, Part, Size, Level as LevelCause, Words}
 use Rattle.commands.specs.declared.command.Command.{Command}
-use Rattle.commands.specs.declared.command.Command.TheVariants.{Check, Replay, Upgrade, Bound, Show, FromText, Asm, Disasm, Shader, ShaderText, Slots, Queue, Session, Untile, Tile, Level}
+use Rattle.commands.specs.declared.command.Command.TheVariants.{Check, Replay, Runs, Drawn, Upgrade, Bound, Show, FromText, Asm, Disasm, Shader, ShaderText, Slots, Queue, Session, Untile, Tile, Level}
 use Rattle.shader_check.specs.declared.fault.ShaderFault.{ShaderFault}
 use Rattle.shader_check.specs.Rules.{shader_questions}
 use Rattle.job_queue.specs.Calls.{fault_line as queue_fault}
@@ -167,6 +167,8 @@ level_fault part bytes = first_of (level_questions (slice_index part.setup 0) (s
 abbrev pub IsCause : Command → List ℕ → Option Cause → Type 0
 IsCause Check bytes cause = IsRuleCause bytes (refusal_of bytes) cause
 IsCause (Replay steps seed) bytes cause = IsRuleCause bytes (refusal_of bytes) cause
+IsCause (Runs trial) bytes cause = IsRuleCause bytes (refusal_of bytes) cause
+IsCause Drawn bytes cause = IsRuleCause bytes (refusal_of bytes) cause
 IsCause Upgrade bytes cause = IsRuleCause bytes (first_of (format_rules bytes)) cause
 IsCause Bound bytes cause = IsRuleCause bytes (refusal_of bytes) cause
 IsCause Show bytes cause = cause ≡ None

@@ -2,6 +2,7 @@ pub mod Answer
 pub mod Bands
 pub mod Bound
 pub mod Cause
+pub mod Drawn
 pub mod Headline
 pub mod Image
 pub mod LoneShader
@@ -14,6 +15,7 @@ pub mod Scripts
 pub mod Shader
 pub mod Show
 pub mod Topics
+pub mod Trials
 pub mod Upgrade
 pub mod WordFault
 pub mod Words

@@ -1,5 +1,5 @@
 -- What `replay` answers: a run of the job's machine, by a script that a seed gives.
-use Rattle.std.specs.Prelude.{◌≡◌, ℕ, ◌/◌, ◌%◌, ◌^◌, bit_xor, List, Option, Some, None}
+use Rattle.std.specs.Prelude.{◌≡◌, ℕ, List, Option, Some, None}
 use Rattle.field_words.specs.Questions.{IsFirst}
 use Rattle.job_format.specs.declared.rule.Refusal.{Refusal}
 use Rattle.job_format.specs.File.{IsFileOf}
@@ -10,23 +10,11 @@ use Rattle.job_safety.specs.Accepted.{machine_of}
 use Rattle.machine.specs.Step.{Event}
 use Rattle.replay.specs.declared.trace.Trace.{Trace}
 use Rattle.replay.specs.Run.{IsTrace}
-use Rattle.example_job.specs.Noise.{next_state}
 use Rattle.dumper.specs.Text.{refused_text}
 use Rattle.dumper.specs.Trace.{trace_text}
-
--- the unit that steps at a step, of n that may
-unfoldable pub picked_by : ℕ → ℕ → ℕ → ℕ
-picked_by seed step n = next_state (bit_xor seed step) / 2 ^ 33 % n
-
--- and its choice word k
-unfoldable pub word_by : ℕ → ℕ → ℕ → ℕ
-word_by seed step k = next_state (bit_xor (next_state (bit_xor seed step)) k) / 2 ^ 32
-
-abbrev pub Picks : ℕ → ℕ → ℕ → ℕ → Type 0
-Picks seed step n picked = picked ≡ picked_by seed step n
-
-abbrev pub Gives : ℕ → ℕ → ℕ → ℕ → Type 0
-Gives seed step k word = word ≡ word_by seed step k
+use Rattle.seeded_runs.specs.declared.told.Trial.{Trial}
+use Rattle.seeded_runs.specs.Seeded.{Picks, Gives}
+use Rattle.seeded_runs.specs.Told.{IsTold}
 
 -- The text is that of the run which the script of the seed gives from the machine's start, of at most so many steps.
 pub record IsReplayed (f : FileModel) (steps seed : ℕ) (text : List ℕ) : Type 0 where
@@ -43,3 +31,12 @@ IsReplayVerdict bytes (Some refusal) f steps seed status text = (status ≡ 1) �
 
 abbrev pub IsReplayAnswer : ℕ → ℕ → List ℕ → ℕ → List ℕ → Type 0
 IsReplayAnswer steps seed bytes status text = IsReplayVerdict bytes (refusal_of bytes) (file_at bytes) steps seed status text
+
+-- The same of what is told of runs in another way.
+abbrev pub IsTrialVerdict : List ℕ → Option Refusal → FileModel → Trial → ℕ → List ℕ → Type 0
+IsTrialVerdict bytes None f trial status text = (status ≡ 0) × IsTold f trial text × IsFileOf bytes f
+IsTrialVerdict bytes (Some refusal) f trial status text =
+    (status ≡ 1) × (text ≡ refused_text refusal) × IsFirst (all_questions bytes) refusal
+
+abbrev pub IsTrialAnswer : Trial → List ℕ → ℕ → List ℕ → Type 0
+IsTrialAnswer trial bytes status text = IsTrialVerdict bytes (refusal_of bytes) (file_at bytes) trial status text

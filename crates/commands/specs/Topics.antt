@@ -2,9 +2,9 @@
 use Rattle.std.specs.Prelude.{◌≡◌, ℕ, List, ◌++◌, codes, bytes_eq, Option, Some, None, if◌then◌else◌}
 use Rattle.std.specs.List.{flat_map}
 use Rattle.rule_words.specs.Names.{explained}
-use Rattle.commands.specs.declared.help.TheConstants.{CHECK, REPLAY, UPGRADE, BOUND, SHOW, MAKE, GEN, SLOTS, QUEUE, SESSION, UNTILE, TILE, LEVEL, ASM, DISASM, SHADER, EXPLAIN, HEAD, FOOT, VERSION, VERBS}
+use Rattle.commands.specs.declared.help.TheConstants.{CHECK, REPLAY, PICTURE, UPGRADE, BOUND, SHOW, MAKE, GEN, SLOTS, QUEUE, SESSION, UNTILE, TILE, LEVEL, ASM, DISASM, SHADER, EXPLAIN, HEAD, FOOT, VERSION, VERBS}
 use Rattle.commands.specs.declared.help.Verb.{Verb}
-use Rattle.commands.specs.declared.help.Verb.TheVariants.{Check, Replay, Upgrade, Bound, Show, Make, Gen, Slots, Queue, Session, Untile, Tile, Level, Asm, Disasm, Shader, Explain}
+use Rattle.commands.specs.declared.help.Verb.TheVariants.{Check, Replay, Picture, Upgrade, Bound, Show, Make, Gen, Slots, Queue, Session, Untile, Tile, Level, Asm, Disasm, Shader, Explain}
 use Rattle.commands.specs.declared.help.Topic.{Topic}
 use Rattle.commands.specs.declared.help.Topic.TheVariants.{Program, Command, Version, Rule}
 
@@ -25,17 +25,19 @@ abbrev pub verb_named : List ℕ → Option Verb
 verb_named word =
     if bytes_eq word (codes "check") then Some Check
     else (if bytes_eq word (codes "replay") then Some Replay
+    else (if bytes_eq word (codes "picture") then Some Picture
     else (if bytes_eq word (codes "upgrade") then Some Upgrade
     else (if bytes_eq word (codes "bound") then Some Bound
     else (if bytes_eq word (codes "show") then Some Show
     else (if bytes_eq word (codes "make") then Some Make
     else (if bytes_eq word (codes "gen") then Some Gen
-    else (if bytes_eq word (codes "slots") then Some Slots else other_verb word)))))))
+    else (if bytes_eq word (codes "slots") then Some Slots else other_verb word))))))))
 
 -- a command's line, behind the program's name
 unfoldable pub usage_of : Verb → List ℕ
 usage_of Check = CHECK.0.now
 usage_of Replay = REPLAY.0.now
+usage_of Picture = PICTURE.0.now
 usage_of Upgrade = UPGRADE.0.now
 usage_of Bound = BOUND.0.now
 usage_of Show = SHOW.0.now
@@ -56,6 +58,7 @@ usage_of Explain = EXPLAIN.0.now
 unfoldable pub about_of : Verb → List ℕ
 about_of Check = CHECK.1.now
 about_of Replay = REPLAY.1.now
+about_of Picture = PICTURE.1.now
 about_of Upgrade = UPGRADE.1.now
 about_of Bound = BOUND.1.now
 about_of Show = SHOW.1.now

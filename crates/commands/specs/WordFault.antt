@@ -4,15 +4,16 @@ use Rattle.std.specs.Fmt.{decimal}
 use Rattle.rule_words.specs.Names.{rule_named, kind_named}
 use Rattle.script.specs.Number.{number_within}
 use Rattle.commands.specs.Pictures.{tiling_named, pixel_by, most_side, most_word}
-use Rattle.commands.specs.Words.{most_steps, most_number, most_slots, most_queued}
+use Rattle.commands.specs.Trials.{most_steps, kind_named as unit_named, seeds_named}
+use Rattle.commands.specs.Words.{most_number, most_slots, most_queued}
 use Rattle.commands.specs.Topics.{verb_named, usage_of}
 use Rattle.commands.specs.declared.help.Verb.{Verb}
-use Rattle.commands.specs.declared.help.Verb.TheVariants.{Check, Replay, Upgrade, Bound, Show, Make, Gen, Slots, Queue, Session, Untile, Tile, Level, Asm, Disasm, Shader, Explain}
-use Rattle.commands.specs.declared.word_fault.TheConstants.{COMMANDS, RUN, EXAMPLE, SLOTS, QUEUE, PICTURE, LEVEL, RULE, KIND}
+use Rattle.commands.specs.declared.help.Verb.TheVariants.{Check, Replay, Picture, Upgrade, Bound, Show, Make, Gen, Slots, Queue, Session, Untile, Tile, Level, Asm, Disasm, Shader, Explain}
+use Rattle.commands.specs.declared.word_fault.TheConstants.{COMMANDS, RUN, SEEDS, EXAMPLE, SLOTS, QUEUE, PICTURE, LEVEL, RULE, KIND}
 use Rattle.commands.specs.declared.word_fault.Argument.{Argument}
-use Rattle.commands.specs.declared.word_fault.Argument.TheVariants.{Steps, Seed, Example, SlotCount, Buffers, PictureTiling, Cpp, Width, Height, P0, P1, P2, P3, Face, LevelNumber, Rule, Kind}
+use Rattle.commands.specs.declared.word_fault.Argument.TheVariants.{Steps, Seed, Example, SlotCount, Buffers, PictureTiling, Cpp, Width, Height, P0, P1, P2, P3, Face, LevelNumber, Rule, Kind, Favoured, SeedNumbers}
 use Rattle.commands.specs.declared.word_fault.Values.{Values}
-use Rattle.commands.specs.declared.word_fault.Values.TheVariants.{Number, Tiling, Pixel, RuleName, KindNumber}
+use Rattle.commands.specs.declared.word_fault.Values.TheVariants.{Number, Tiling, Pixel, RuleName, KindNumber, UnitName, Seeds}
 use Rattle.commands.specs.declared.word_fault.WordFault.{WordFault}
 use Rattle.commands.specs.declared.word_fault.WordFault.TheVariants.{Nothing, Unknown, Alone, Wrong, Missing, Surplus}
 
@@ -35,6 +36,8 @@ values_of Face = Number 0 most_word
 values_of LevelNumber = Number 0 most_word
 values_of Rule = RuleName
 values_of Kind = KindNumber
+values_of Favoured = UnitName
+values_of SeedNumbers = Seeds
 
 -- what the usage calls it
 unfoldable pub argument_name : Argument → List ℕ
@@ -55,11 +58,14 @@ argument_name Face = codes "FACE"
 argument_name LevelNumber = codes "LEVEL"
 argument_name Rule = codes "RULE"
 argument_name Kind = codes "RULE"
+argument_name Favoured = codes "KIND"
+argument_name SeedNumbers = codes "A..B"
 
 -- the words that a command takes behind its name, but for a file's
 unfoldable pub arguments_of : Verb → List Argument
 arguments_of Check = []
 arguments_of Replay = RUN
+arguments_of Picture = []
 arguments_of Upgrade = []
 arguments_of Bound = []
 arguments_of Show = []
@@ -87,6 +93,8 @@ is_value Tiling word = is_some (tiling_named word)
 is_value Pixel word = is_some (pixel_by (number_within 8 word))
 is_value RuleName word = is_some (rule_named word)
 is_value KindNumber word = is_some (kind_named word)
+is_value UnitName word = is_some (unit_named word)
+is_value Seeds word = is_some (seeds_named word)
 
 -- The first argument that its word isn't, or for which there is no word; else the last of all words is one too many. Words count from
 -- 1, and the first of these words is the one of this number.
@@ -96,13 +104,32 @@ fault_among verb count at (argument ∷ arguments) [] = Missing verb argument
 fault_among verb count at (argument ∷ arguments) (word ∷ words) =
     if is_value (values_of argument) word then fault_among verb count (at + 1) arguments words else Wrong verb at argument
 
+-- the words of a run, the first of which has this number, may begin by saying how it is told
+unfoldable pub look_fault : Verb → (count at : ℕ) → List (List ℕ) → WordFault
+look_fault verb count at [] = fault_among verb count at RUN []
+look_fault verb count at (word ∷ words) =
+    if bytes_eq word (codes "--accesses") then fault_among verb count (at + 1) RUN words
+    else (if bytes_eq word (codes "--seeds") then fault_among verb count (at + 1) SEEDS words
+    else fault_among verb count at RUN (word ∷ words))
+
+-- and before that, which kind of unit is favoured
+unfoldable pub favour_fault : Verb → ℕ → List (List ℕ) → WordFault
+favour_fault verb count [] = Missing verb Favoured
+favour_fault verb count (word ∷ words) = if is_some (unit_named word) then look_fault verb count 4 words else Wrong verb 3 Favoured
+
+unfoldable pub replay_fault : Verb → ℕ → List (List ℕ) → WordFault
+replay_fault verb count [] = look_fault verb count 2 []
+replay_fault verb count (word ∷ words) =
+    if bytes_eq word (codes "--favour") then favour_fault verb count words else look_fault verb count 2 (word ∷ words)
+
 -- behind a command, `--help` stands alone, and behind `explain` a kind's number may follow `kind`
 abbrev pub fault_behind : List ℕ → Verb → ℕ → List (List ℕ) → WordFault
 fault_behind first verb count [] = fault_among verb count 2 (arguments_of verb) []
 fault_behind first verb count (word ∷ words) =
     if bytes_eq word (codes "--help") then Surplus verb count
+    else (if bytes_eq first (codes "replay") then replay_fault verb count (word ∷ words)
     else (if bytes_eq first (codes "explain") && bytes_eq word (codes "kind") then fault_among verb count 3 KIND words
-    else fault_among verb count 2 (arguments_of verb) (word ∷ words))
+    else fault_among verb count 2 (arguments_of verb) (word ∷ words)))
 
 abbrev pub fault_by : List ℕ → Option Verb → ℕ → List (List ℕ) → WordFault
 fault_by first None count words = if bytes_eq first (codes "--help") || bytes_eq first (codes "--version") then Alone else Unknown
@@ -120,6 +147,8 @@ values_text Tiling = codes "t or lt"
 values_text Pixel = codes "1, 2, 4 or 8"
 values_text RuleName = codes "the name of a rule, such as S24, or kind and a number"
 values_text KindNumber = codes "the number of a kind of the assembler's faults, from 1 to 5"
+values_text UnitName = codes "qpu, texture, binner or renderer"
+values_text Seeds = codes "seeds from A to before B, 1 to 1000 of them"
 
 unfoldable pub argument_text : Argument → List ℕ
 argument_text argument = argument_name argument ++ (codes " is " ++ values_text (values_of argument))

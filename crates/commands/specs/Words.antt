@@ -4,7 +4,7 @@ use Rattle.std.specs.Prelude.{bytes_eq}
 use Rattle.std.specs.declared.alloc.Global.{Global}
 use Rattle.field_words.specs.Sizes.{most_code, most_list}
 use Rattle.commands.specs.declared.command.Command.{Command}
-use Rattle.commands.specs.declared.command.Command.TheVariants.{Check, Replay, Upgrade, Bound, Show, FromText, Asm, Disasm, Shader, ShaderText, Slots, Queue, Session, Untile, Tile, Level}
+use Rattle.commands.specs.declared.command.Command.TheVariants.{Check, Replay, Runs, Drawn, Upgrade, Bound, Show, FromText, Asm, Disasm, Shader, ShaderText, Slots, Queue, Session, Untile, Tile, Level}
 use Rattle.commands.specs.declared.command.Task.{Task}
 use Rattle.commands.specs.declared.command.Task.TheVariants.{Read, Make, Tell}
 use Rattle.commands.specs.declared.help.Verb.{Verb}
@@ -13,6 +13,8 @@ use Rattle.commands.specs.declared.help.Topic.TheVariants.{Program, Command as C
 use Rattle.script.specs.Number.{number_within}
 use Rattle.rule_words.specs.Names.{rule_named, kind_named}
 use Rattle.commands.specs.Topics.{verb_named}
+use Rattle.commands.specs.Trials.{most_steps, trial_named, favour_named, favoured_run, favoured_trial}
+use Rattle.seeded_runs.specs.Told.{IsTrialWithin}
 use Rattle.commands.specs.Pictures.{picture_named, level_named, IsPictureWithin}
 
 abbrev pub texts : List (String Global) → List (List ℕ)
@@ -21,6 +23,7 @@ texts words = map string_bytes words
 abbrev pub command_named : List ℕ → Option Command
 command_named word =
     if bytes_eq word (codes "check") then Some Check
+    else (if bytes_eq word (codes "picture") then Some Drawn
     else (if bytes_eq word (codes "upgrade") then Some Upgrade
     else (if bytes_eq word (codes "bound") then Some Bound
     else (if bytes_eq word (codes "show") then Some Show
@@ -28,7 +31,7 @@ command_named word =
     else (if bytes_eq word (codes "asm") then Some Asm
     else (if bytes_eq word (codes "disasm") then Some Disasm
     else (if bytes_eq word (codes "session") then Some Session
-    else (if bytes_eq word (codes "shader") then Some Shader else None))))))))
+    else (if bytes_eq word (codes "shader") then Some Shader else None)))))))))
 
 -- one word: a command, or a question about the program
 abbrev pub task_alone : List ℕ → Option Task
@@ -79,9 +82,6 @@ task_paired word second =
     else (if bytes_eq word (codes "shader") then option_map Read (shader_named second) else task_numbered word second))
 
 -- a run of at most so many steps, by the script of a seed
-abbrev pub most_steps : ℕ
-most_steps = 1000000
-
 abbrev pub replay_by : Option ℕ → Option ℕ → Option Command
 replay_by None seed = None
 replay_by (Some steps) None = None
@@ -99,11 +99,25 @@ task_tripled word second third =
     if bytes_eq word (codes "explain") then kind_explained second third
     else option_map Read (replay_named word second third)
 
+-- runs that are told in another way
+abbrev pub runs_named : List ℕ → List ℕ → List ℕ → List ℕ → Option Command
+runs_named word look first second = if bytes_eq word (codes "replay") then option_map Runs (trial_named None look first second) else None
+
+abbrev pub favoured_runs : List ℕ → List ℕ → List ℕ → List ℕ → List ℕ → List ℕ → Option Command
+favoured_runs word favour kind look first second =
+    if bytes_eq word (codes "replay") then option_map Runs (favoured_trial (favour_named favour kind) look first second) else None
+
 -- a picture in a tiling, and a level of a texture
 abbrev pub pictured : List ℕ → List ℕ → List ℕ → List ℕ → List ℕ → Option Command
 pictured word tiling cpp width height =
     if bytes_eq word (codes "untile") then option_map Untile (picture_named tiling cpp width height)
     else (if bytes_eq word (codes "tile") then option_map Tile (picture_named tiling cpp width height) else None)
+
+-- five words: a run in which a kind of unit is favoured, or a picture
+abbrev pub five_named : List ℕ → List ℕ → List ℕ → List ℕ → List ℕ → Option Command
+five_named word second third fourth fifth =
+    if bytes_eq word (codes "replay") then option_map Runs (favoured_run (favour_named second third) fourth fifth)
+    else pictured word second third fourth fifth
 
 abbrev pub textured : List ℕ → List ℕ → List ℕ → List ℕ → List ℕ → List ℕ → List ℕ → Option Command
 textured word p0 p1 p2 p3 face level = if bytes_eq word (codes "level") then option_map Level (level_named p0 p1 p2 p3 face level) else None
@@ -112,6 +126,8 @@ textured word p0 p1 p2 p3 face level = if bytes_eq word (codes "level") then opt
 abbrev pub IsWithin : Command → Type 0
 IsWithin Check = Unit {0}
 IsWithin (Replay steps seed) = steps ≤ most_steps
+IsWithin (Runs trial) = IsTrialWithin trial
+IsWithin Drawn = Unit {0}
 IsWithin Upgrade = Unit {0}
 IsWithin Bound = Unit {0}
 IsWithin Show = Unit {0}
@@ -138,7 +154,9 @@ task_of [] = None
 task_of (word ∷ []) = task_alone word
 task_of (word ∷ second ∷ []) = task_paired word second
 task_of (word ∷ second ∷ third ∷ []) = task_tripled word second third
-task_of (word ∷ tiling ∷ cpp ∷ width ∷ height ∷ []) = option_map Read (pictured word tiling cpp width height)
+task_of (word ∷ look ∷ first ∷ second ∷ []) = option_map Read (runs_named word look first second)
+task_of (word ∷ tiling ∷ cpp ∷ width ∷ height ∷ []) = option_map Read (five_named word tiling cpp width height)
+task_of (word ∷ favour ∷ kind ∷ look ∷ first ∷ second ∷ []) = option_map Read (favoured_runs word favour kind look first second)
 task_of (word ∷ p0 ∷ p1 ∷ p2 ∷ p3 ∷ face ∷ level ∷ []) = option_map Read (textured word p0 p1 p2 p3 face level)
 task_of _ = None
 
@@ -165,6 +183,8 @@ most_picture = 25165824
 abbrev pub limit_of : Command → ℕ
 limit_of Check = most_file
 limit_of (Replay steps seed) = most_file
+limit_of (Runs trial) = most_file
+limit_of Drawn = most_file
 limit_of Upgrade = most_file
 limit_of Bound = most_file
 limit_of Show = most_file

@@ -43,8 +43,8 @@ fn accept_parts<'a>(alloc: Global, file: FileParts<'a>) -> Result<Accepted<'a>, 
     Ok(Accepted { file, region })
 }
 
-// All rules of these bytes. Nothing of them is copied but the numbers of entries and frames.
-fn accept<'a>(alloc: Global, bytes: &'a [u8]) -> Result<Accepted<'a>, Stop<Refusal>>
+/// All rules of these bytes. Nothing of them is copied but the numbers of entries and frames.
+pub(crate) fn accept<'a>(alloc: Global, bytes: &'a [u8]) -> Result<Accepted<'a>, Stop<Refusal>>
     ensures answers { Answers (all_questions bytes.now) (IsAccepted (file_at bytes.now)) result }
     ensures spelled { IsOk result → IsFileOf bytes.now (file_at bytes.now) }
 {

@@ -1,13 +1,15 @@
 //! What the program can do, and the words that ask for it.
 ghost use Rattle.std.specs.Prelude.{◌≡◌, ◌≤◌, Some, None, IfSome};
-ghost use Rattle.commands.specs.Words.{texts, command_named, task_alone, task_numbered, shader_named, task_paired, kind_explained, task_tripled, replay_named, pictured, textured, task_of, limit_of, most_file, IsWithin, ReadsWithin, most_slots, slots_by, is_read, names_file};
+ghost use Rattle.commands.specs.Words.{texts, command_named, task_alone, task_numbered, shader_named, task_paired, kind_explained, task_tripled, replay_named, pictured, textured, runs_named, five_named, favoured_runs, task_of, limit_of, most_file, IsWithin, ReadsWithin, most_slots, slots_by, is_read, names_file};
 ghost use Rattle.script.specs.Number.{number_within};
 
 use super::help::{Topic, verb_named};
 use super::pictures::{Picture, TexturePart, level_named, picture_named};
+use super::trial::{favoured_run, favoured_trial, trial_named};
 use field_words::{MOST_CODE, MOST_LIST};
 use rule_words::{kind_named, rule_named};
 use script::read_number;
+use seeded_runs::Trial;
 
 /// The most bytes of a job file: 48 MiB.
 const MOST_FILE: usize = 50_331_648;
@@ -32,6 +34,11 @@ pub enum Command {
     /// `replay <steps> <seed>`: reads a job file and prints what a run of at most so many steps does, by the script of the seed; or
     /// why it is refused.
     Replay { steps: u32, seed: u64 },
+    /// `replay` with `--accesses`, `--seeds A..B` or `--favour KIND`: reads a job file and prints what runs of it do, told in this way; or
+    /// why it is refused.
+    Runs(Trial),
+    /// `picture`: reads a job file and writes a picture of its memory, as SVG; or why it is refused.
+    Drawn,
     /// `upgrade`: reads a job file and writes it with version 2, or prints which rule of the format it breaks.
     Upgrade,
     /// `bound`: reads a job file and prints how many steps its jobs take at most and whether they may wait for a request that isn't there,
@@ -83,6 +90,8 @@ impl Command {
         match self {
             Command::Check
             | Command::Replay { .. }
+            | Command::Runs(_)
+            | Command::Drawn
             | Command::Upgrade
             | Command::Bound
             | Command::Show
@@ -105,6 +114,9 @@ fn command_named(word: &str) -> Option<Command>
 {
     if word == "check" {
         return Some(Command::Check);
+    }
+    if word == "picture" {
+        return Some(Command::Drawn);
     }
     if word == "upgrade" {
         return Some(Command::Upgrade);
@@ -248,6 +260,43 @@ fn pictured(word: &str, tiling: &str, cpp: &str, width: &str, height: &str) -> O
     None
 }
 
+fn five_named(word: &str, second: &str, third: &str, fourth: &str, fifth: &str) -> Option<Command>
+    ensures value { result ≡ five_named word.now second.now third.now fourth.now fifth.now }
+    ensures within { IfSome result IsWithin }
+{
+    if word == "replay" {
+        return Some(Command::Runs(favoured_run(second, third, fourth, fifth)?));
+    }
+    pictured(word, second, third, fourth, fifth)
+}
+
+fn runs_named(word: &str, look: &str, first: &str, second: &str) -> Option<Command>
+    ensures value { result ≡ runs_named word.now look.now first.now second.now }
+    ensures within { IfSome result IsWithin }
+{
+    if word == "replay" {
+        return Some(Command::Runs(trial_named(None, look, first, second)?));
+    }
+    None
+}
+
+fn favoured_runs(
+    word: &str,
+    favour: &str,
+    kind: &str,
+    look: &str,
+    first: &str,
+    second: &str,
+) -> Option<Command>
+    ensures value { result ≡ favoured_runs word.now favour.now kind.now look.now first.now second.now }
+    ensures within { IfSome result IsWithin }
+{
+    if word == "replay" {
+        return Some(Command::Runs(favoured_trial(favour, kind, look, first, second)?));
+    }
+    None
+}
+
 fn textured(
     word: &str,
     p0: &str,
@@ -276,12 +325,26 @@ pub fn task_of(words: &[String]) -> Option<Task>
         [word] => task_alone(word.as_str()),
         [word, second] => task_paired(word.as_str(), second.as_str()),
         [word, second, third] => task_tripled(word.as_str(), second.as_str(), third.as_str()),
-        [word, tiling, cpp, width, height] => Some(Task::Read(pictured(
+        [word, look, first, second] => Some(Task::Read(runs_named(
+            word.as_str(),
+            look.as_str(),
+            first.as_str(),
+            second.as_str(),
+        )?)),
+        [word, tiling, cpp, width, height] => Some(Task::Read(five_named(
             word.as_str(),
             tiling.as_str(),
             cpp.as_str(),
             width.as_str(),
             height.as_str(),
+        )?)),
+        [word, favour, kind, look, first, second] => Some(Task::Read(favoured_runs(
+            word.as_str(),
+            favour.as_str(),
+            kind.as_str(),
+            look.as_str(),
+            first.as_str(),
+            second.as_str(),
         )?)),
         [word, p0, p1, p2, p3, face, level] => Some(Task::Read(textured(
             word.as_str(),

@@ -16,6 +16,7 @@ use std::alloc::{AllocError, Global};
 pub enum Verb {
     Check,
     Replay,
+    Picture,
     Upgrade,
     Bound,
     Show,
@@ -55,9 +56,17 @@ const CHECK: Usage = (
 );
 
 const REPLAY: Usage = (
-    "replay STEPS SEED [FILE]",
+    "replay [--favour KIND] [--accesses | --seeds A..B] STEPS [SEED] [FILE]",
     "Reads a job file of at most 48 MiB and writes a run of the jobs' machine, a line for each step, or the first rule that it breaks.
-STEPS is the most steps of the run, from 0 to 1000000. SEED is a number below 2^64, which says which unit steps next.",
+STEPS is the most steps of the run, from 0 to 1000000. SEED is a number below 2^64, which says which unit steps next.
+With --accesses it writes a line for each access, which says what lies there. With --seeds A..B, in place of SEED, it writes how the run of
+each seed from A to before B ended, of at most 1000. With --favour KIND a unit of this kind steps whenever one may: qpu, texture, binner or
+renderer.",
+);
+
+const PICTURE: Usage = (
+    "picture [FILE]",
+    "Reads a job file of at most 48 MiB and writes a picture of the jobs' memory, as SVG, or the first rule that it breaks.",
 );
 
 const UPGRADE: Usage = (
@@ -159,9 +168,10 @@ const VERSION: &str =
     "vc4check 0.1.0, for job files of versions 1 and 2\nproved with rattle-kit-13f logic dac8208d650f15bf\n";
 
 /// All commands, as `--help` names them.
-const VERBS: [Verb; 17] = [
+const VERBS: [Verb; 18] = [
     Verb::Check,
     Verb::Replay,
+    Verb::Picture,
     Verb::Upgrade,
     Verb::Bound,
     Verb::Show,
@@ -188,6 +198,9 @@ pub fn verb_named(word: &str) -> Option<Verb>
     }
     if word == "replay" {
         return Some(Verb::Replay);
+    }
+    if word == "picture" {
+        return Some(Verb::Picture);
     }
     if word == "upgrade" {
         return Some(Verb::Upgrade);
@@ -252,6 +265,7 @@ impl Verb {
         match self {
             Verb::Check => CHECK.0,
             Verb::Replay => REPLAY.0,
+            Verb::Picture => PICTURE.0,
             Verb::Upgrade => UPGRADE.0,
             Verb::Bound => BOUND.0,
             Verb::Show => SHOW.0,
@@ -278,6 +292,7 @@ impl Verb {
         match self {
             Verb::Check => CHECK.1,
             Verb::Replay => REPLAY.1,
+            Verb::Picture => PICTURE.1,
             Verb::Upgrade => UPGRADE.1,
             Verb::Bound => BOUND.1,
             Verb::Show => SHOW.1,

@@ -7,6 +7,7 @@ mod bounded;
 mod cause;
 mod check;
 mod command;
+mod drawn;
 mod example;
 mod help;
 mod lone_shader;
@@ -20,6 +21,7 @@ mod scripts;
 mod serve;
 mod shader_text;
 mod shown;
+mod trial;
 mod upgrading;
 mod word_fault;
 

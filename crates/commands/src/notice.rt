@@ -10,7 +10,7 @@ pub fn notice_of(status: u8) -> Option<&'static str>
 {
     match status {
         2 => Some(
-            "usage: vc4check COMMAND [WORDS] [FILE], where COMMAND is check, replay, upgrade, bound, show, make, gen, slots, queue, session, untile, tile, level, asm, disasm, shader or explain; vc4check --help says more",
+            "usage: vc4check COMMAND [WORDS] [FILE], where COMMAND is check, replay, picture, upgrade, bound, show, make, gen, slots, queue, session, untile, tile, level, asm, disasm, shader or explain; vc4check --help says more",
         ),
         3 => Some("vc4check: reading the input failed"),
         4 => Some("vc4check: writing the answer failed"),

@@ -1,11 +1,12 @@
 //! Which of the words is wrong, where they ask for nothing that the program does.
 ghost use Rattle.std.specs.Prelude.{◌≡◌, ◌≤◌, ◌<◌, ◌+◌, ◌++◌, Some, None, [], codes, length};
-ghost use Rattle.commands.specs.WordFault.{values_of, argument_name, arguments_of, is_value, fault_among, fault_behind, fault_by, fault_of, values_text, argument_text, surplus_text, word_fault_text};
+ghost use Rattle.commands.specs.WordFault.{values_of, argument_name, arguments_of, is_value, fault_among, look_fault, favour_fault, replay_fault, fault_behind, fault_by, fault_of, values_text, argument_text, surplus_text, word_fault_text};
 ghost use Rattle.commands.specs.Words.{texts};
 
 use super::command::{MOST_QUEUED, MOST_SLOTS, MOST_STEPS};
 use super::help::{Verb, verb_named};
 use super::pictures::{MOST_SIDE, pixel_named, tiling_named};
+use super::trial::{kind_named as unit_named, seeds_named};
 use rule_words::{kind_named, rule_named};
 use script::read_number;
 use std::fmt;
@@ -23,6 +24,10 @@ pub enum Values {
     RuleName,
     /// The number of a kind of the assembler's faults.
     KindNumber,
+    /// A kind of unit.
+    UnitName,
+    /// Seeds from one to before another.
+    Seeds,
 }
 
 /// A word that a command takes behind its name.
@@ -45,6 +50,8 @@ pub enum Argument {
     LevelNumber,
     Rule,
     Kind,
+    Favoured,
+    SeedNumbers,
 }
 
 /// Why words ask for nothing that the program does. It is printed as one line without a line feed, and takes no memory, also to print.
@@ -66,12 +73,14 @@ pub enum WordFault {
 
 /// The commands, as a line names them.
 const COMMANDS: &str =
-    "check, replay, upgrade, bound, show, make, gen, slots, queue, session, untile, tile, level, asm, disasm, shader or explain; vc4check --help says more";
+    "check, replay, picture, upgrade, bound, show, make, gen, slots, queue, session, untile, tile, level, asm, disasm, shader or explain; vc4check --help says more";
 
 /// The greatest number of 32 bits.
 const MOST_WORD: u64 = 4_294_967_295;
 
 const RUN: [Argument; 2] = [Argument::Steps, Argument::Seed];
+
+const SEEDS: [Argument; 2] = [Argument::SeedNumbers, Argument::Steps];
 
 const EXAMPLE: [Argument; 1] = [Argument::Example];
 
@@ -122,6 +131,8 @@ impl Argument {
             | Argument::LevelNumber => Values::Number(0, MOST_WORD),
             Argument::Rule => Values::RuleName,
             Argument::Kind => Values::KindNumber,
+            Argument::Favoured => Values::UnitName,
+            Argument::SeedNumbers => Values::Seeds,
         }
     }
 
@@ -147,6 +158,8 @@ impl Argument {
             Argument::Face => "FACE",
             Argument::LevelNumber => "LEVEL",
             Argument::Rule | Argument::Kind => "RULE",
+            Argument::Favoured => "KIND",
+            Argument::SeedNumbers => "A..B",
         }
     }
 }
@@ -166,6 +179,7 @@ fn arguments_of(verb: Verb) -> &'static [Argument]
         Verb::Level => &LEVEL,
         Verb::Explain => &RULE,
         Verb::Check
+        | Verb::Picture
         | Verb::Upgrade
         | Verb::Bound
         | Verb::Show
@@ -191,6 +205,8 @@ fn is_value(values: Values, word: &str) -> bool
         Values::Pixel => pixel_named(word).is_some(),
         Values::RuleName => rule_named(word.as_bytes()).is_some(),
         Values::KindNumber => kind_named(word.as_bytes()).is_some(),
+        Values::UnitName => unit_named(word).is_some(),
+        Values::Seeds => seeds_named(word).is_some(),
     }
 }
 
@@ -224,6 +240,58 @@ fn fault_among(
     WordFault::Surplus(verb, count)
 }
 
+/// What is wrong with the words of a run from number `first` on, which may begin by saying how it is told.
+#[tactic(auto, unfolding(crate::specs::WordFault::look_fault))]
+fn look_fault(verb: Verb, count: u64, first: u64, words: &[String]) -> WordFault
+    requires { first ≤ 4 }
+    ensures { result ≡ look_fault verb count first (texts words.now) }
+{
+    match words {
+        [] => fault_among(verb, count, first, &RUN, words),
+        [word, more @ ..] => {
+            if word.as_str() == "--accesses" {
+                return fault_among(verb, count, first + 1, &RUN, more);
+            }
+            if word.as_str() == "--seeds" {
+                return fault_among(verb, count, first + 1, &SEEDS, more);
+            }
+            fault_among(verb, count, first, &RUN, words)
+        }
+    }
+}
+
+/// What is wrong with the words behind `--favour`.
+#[tactic(auto, unfolding(crate::specs::WordFault::favour_fault, crate::specs::WordFault::is_value, crate::specs::WordFault::values_of))]
+fn favour_fault(verb: Verb, count: u64, words: &[String]) -> WordFault
+    ensures { result ≡ favour_fault verb count (texts words.now) }
+{
+    match words {
+        [] => WordFault::Missing(verb, Argument::Favoured),
+        [word, more @ ..] => {
+            if unit_named(word.as_str()).is_none() {
+                return WordFault::Wrong(verb, 3, Argument::Favoured);
+            }
+            look_fault(verb, count, 4, more)
+        }
+    }
+}
+
+/// What is wrong with the words behind `replay`.
+#[tactic(auto, unfolding(crate::specs::WordFault::replay_fault))]
+fn replay_fault(verb: Verb, count: u64, words: &[String]) -> WordFault
+    ensures { result ≡ replay_fault verb count (texts words.now) }
+{
+    match words {
+        [] => look_fault(verb, count, 2, words),
+        [word, more @ ..] => {
+            if word.as_str() == "--favour" {
+                return favour_fault(verb, count, more);
+            }
+            look_fault(verb, count, 2, words)
+        }
+    }
+}
+
 /// What is wrong with the words behind a command.
 fn fault_behind(first: &str, verb: Verb, words: &[String]) -> WordFault
     requires { length words.now < 18446744073709551615 }
@@ -235,6 +303,9 @@ fn fault_behind(first: &str, verb: Verb, words: &[String]) -> WordFault
         [word, more @ ..] => {
             if word.as_str() == "--help" {
                 return WordFault::Surplus(verb, count);
+            }
+            if first == "replay" {
+                return replay_fault(verb, count, words);
             }
             if first == "explain" && word.as_str() == "kind" {
                 return fault_among(verb, count, 3, &KIND, more);
@@ -284,6 +355,8 @@ impl fmt::Display for Values {
             Values::KindNumber => {
                 f.write_str("the number of a kind of the assembler's faults, from 1 to 5")
             }
+            Values::UnitName => f.write_str("qpu, texture, binner or renderer"),
+            Values::Seeds => f.write_str("seeds from A to before B, 1 to 1000 of them"),
         }
     }
 }

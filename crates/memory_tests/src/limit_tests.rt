@@ -56,6 +56,9 @@ fn job_files_of_48_mib(rt: HostRuntime) -> Result<(), Fail> {
         ["check"].as_slice(),
         &["bound"],
         &["replay", "10", "1"],
+        &["replay", "--accesses", "10", "1"],
+        &["replay", "--seeds", "1..3", "10"],
+        &["picture"],
         &["upgrade"],
     ] {
         let mut file = hex::decode(alloc, FRONT)?;

@@ -3,7 +3,6 @@ use Rattle.field_words.specs.Questions.{Answers, Refuses, answered}
 use Rattle.field_words.specs.Sizes.{most_memory}
 use Rattle.field_words.proofs.Questions.{answers_later, answered_none}
 use Rattle.job_format.specs.Faults.{format_questions}
-use Rattle.job_format.specs.File.{IsWellFormed}
 use Rattle.job_format.specs.Model.{FileModel}
 use Rattle.job_format.specs.Reading.{file_at}
 use Rattle.job_check.specs.Faults.{file_stages}

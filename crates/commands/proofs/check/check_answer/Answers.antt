@@ -1,10 +1,9 @@
 -- What is printed is the image of the bytes' file.
-use Rattle.std.proofs.Common.{◌++◌, refl, sym, ap, subst, ◌∙◌}
+use Rattle.std.proofs.Common.{refl, sym, ap, subst, ◌∙◌}
 use Rattle.job_check.specs.Whole.{refusal_of}
 use Rattle.job_format.specs.File.{IsWellFormed}
 use Rattle.commands.specs.Answer.{image_of}
 use Rattle.commands.specs.Image.{IsAccepted}
-use Rattle.commands.specs.Reply.{image_text}
 use Rattle.commands.proofs.Checked.{image_answers}
 use Rattle.commands.proofs.check.check_answer.Goals as goal
 

@@ -1,4 +1,4 @@
-use Rattle.std.proofs.Common.{◌≡◌, ◌+◌, ◌∷◌, [], ◌++◌, suc, length, length-append, drop, get_or, map, sym, ap, subst, ◌∙◌, arith}
+use Rattle.std.proofs.Common.{◌≡◌, ◌∷◌, [], ◌++◌, suc, length, length-append, drop, get_or, map, sym, ap, subst, ◌∙◌, arith}
 use Rattle.buffer_table.specs.Table.{no_buffer}
 use Rattle.job_check.specs.Emit.{content_parts}
 use Rattle.dumper.specs.Parts.{part_at, inserted, sorted}

@@ -5,7 +5,8 @@ use Rattle.job_format.specs.Reading.{file_at}
 use Rattle.job_safety.specs.Accepted.{machine_of}
 use Rattle.replay.specs.Run.{IsTrace}
 use Rattle.dumper.specs.Trace.{trace_text}
-use Rattle.commands.specs.Replay.{Picks, Gives, IsReplayed, IsReplayVerdict}
+use Rattle.seeded_runs.specs.Seeded.{Picks, Gives}
+use Rattle.commands.specs.Replay.{IsReplayed, IsReplayVerdict}
 use Rattle.commands.proofs.replayed.replay_answer.Goals as goal
 
 pub returns-in_ok-text-in-Ok-clause-answers : goal.returns-in_ok-text-in-Ok-clause-answers

@@ -1,4 +1,4 @@
-use Rattle.std.proofs.Common.{◌≡◌, ◌<◌, ◌≤◌, ◌+◌, ◌^◌, ◌++◌, suc, length, take, drop, refl, sym, subst, ◌∙◌, arith, add-one}
+use Rattle.std.proofs.Common.{◌<◌, ◌^◌, suc, take, drop, refl, sym, subst, ◌∙◌, arith, add-one}
 use Rattle.std.specs.Io.KnownBytes.{Appends}
 use Rattle.job_io.specs.Traffic.{AppendsFront}
 use Rattle.field_words.specs.Sizes.{most_memory}
