@@ -37,7 +37,8 @@ out/vc4check.pc: install/vc4check.pc.in
 	sed -e 's|@PREFIX@|$(PREFIX)|' -e 's|@VERSION@|$(VERSION)|' $< > $@
 
 install: all
-	install -d $(TO)/bin $(TO)/include $(TO)/lib/pkgconfig $(TO)/share/man/man1 $(TO)/share/man/man3
+	install -d $(TO)/bin $(TO)/include $(TO)/lib/pkgconfig $(TO)/share/man/man1 $(TO)/share/man/man3 \
+	    $(TO)/share/bash-completion/completions
 	install -m 755 $(PROGRAM) $(TO)/bin
 	install -m 644 examples/c/vc4check.h $(TO)/include
 	install -m 644 out/libvc4check.a $(TO)/lib
@@ -47,6 +48,7 @@ install: all
 	install -m 644 out/vc4check.pc $(TO)/lib/pkgconfig
 	install -m 644 install/vc4check.1 $(TO)/share/man/man1
 	install -m 644 install/vc4check.3 $(TO)/share/man/man3
+	install -m 644 install/vc4check.bash $(TO)/share/bash-completion/completions/vc4check
 
 clean:
 	rm -rf out
