@@ -5,3 +5,7 @@
 mod job_bound_tests;
 #[cfg(test)]
 mod job_session_tests;
+#[cfg(test)]
+mod session_pages_tests;
+#[cfg(test)]
+mod shader_waits_tests;

@@ -155,38 +155,3 @@ pub fn trace_text(alloc: Global, version: u32, trace: &Trace) -> Result<Vec<u8>,
     out.extend_from_slice(ending_text(alloc, trace.ending, trace.lines.len())?.as_bytes())?;
     Ok(out)
 }
-
-#[cfg(test)]
-mod tests {
-    use super::*;
-
-    // In version 2 each step's line ends with its job.
-    #[test]
-    fn prints_the_jobs_of_steps(rt: HostRuntime) -> Result<(), NoMemory> {
-        let line = TraceLine {
-            unit: Actor::Tmu(3, 1),
-            job: 7,
-            reads: 2,
-            writes: 0,
-            low: 0x10,
-            high: 0x1234,
-        };
-        let mut lines = Vec::new(rt.alloc());
-        lines.push(line)?;
-        let trace = Trace {
-            lines,
-            ending: Ending::Waiting,
-        };
-        let first = trace_text(rt.alloc(), 1, &trace)?;
-        assert_eq!(rt;
-            first.as_slice(),
-            b"tmu3.1 2 0 00000010 00001234\nwaiting after 1\n".as_slice()
-        );
-        let second = trace_text(rt.alloc(), 2, &trace)?;
-        assert_eq!(rt;
-            second.as_slice(),
-            b"tmu3.1 2 0 00000010 00001234 job 7\nwaiting after 1\n".as_slice()
-        );
-        Ok(())
-    }
-}

@@ -2,6 +2,8 @@
 #![tactic(auto)]
 
 #[cfg(test)]
+mod dumper_tests;
+#[cfg(test)]
 mod hostile_tests;
 #[cfg(test)]
 mod job_tests;

@@ -9,4 +9,6 @@ mod buffer_table_tests;
 #[cfg(test)]
 mod packets_tests;
 #[cfg(test)]
+mod relocation_tests;
+#[cfg(test)]
 mod render_list_tests;

@@ -3,7 +3,11 @@
 #![tactic(auto)]
 
 #[cfg(test)]
+mod phys_mem_tests;
+#[cfg(test)]
 mod qpu_alu_tests;
+#[cfg(test)]
+mod qpu_machine_tests;
 #[cfg(test)]
 mod replay_tests;
 #[cfg(test)]

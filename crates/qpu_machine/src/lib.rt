@@ -16,8 +16,6 @@ mod start;
 mod starting;
 mod state;
 mod step;
-#[cfg(test)]
-mod tests;
 mod texels;
 mod wild;
 

@@ -1,7 +1,7 @@
 //! Worked examples of the rules of textures and of where their levels lie.
 use texture_layouts::{
     Texture, Tiling, direct_fits, level_size, microtile_height, microtile_place, microtile_width,
-    pixel_place, texture_fits,
+    pixel_place, surface_size, texture_fits, tiling_of,
 };
 
 /// The number of the rule that stands, and 0 where none does.
@@ -165,4 +165,17 @@ fn places_of_pixels(rt: HostRuntime) {
     assert_eq!(rt; microtile_place(Tiling::Lt, 10, 8, 4, 1), 64 * 9);
     assert_eq!(rt; microtile_width(8), 2);
     assert_eq!(rt; microtile_height(8), 4);
+}
+
+// Levels of a 33x33 texture, a frame of 1920x1080, and one row of raster pixels over a microtile.
+#[test]
+fn sizes(rt: HostRuntime) {
+    assert_eq!(rt; tiling_of(33, 33, 4), Tiling::T);
+    assert_eq!(rt; surface_size(Tiling::T, 33, 33, 4), 16384);
+    assert_eq!(rt; tiling_of(32, 32, 4), Tiling::T);
+    assert_eq!(rt; surface_size(Tiling::T, 32, 32, 4), 4096);
+    assert_eq!(rt; tiling_of(16, 16, 4), Tiling::Lt);
+    assert_eq!(rt; surface_size(Tiling::Lt, 16, 16, 4), 1024);
+    assert_eq!(rt; surface_size(Tiling::T, 1920, 1080, 4), 8355840);
+    assert_eq!(rt; surface_size(Tiling::Raster, 5, 1, 4), 32);
 }

@@ -12,8 +12,6 @@ mod marks;
 mod memory;
 mod owners;
 mod pages;
-#[cfg(test)]
-mod tests;
 
 pub use marks::Marks;
 pub use pages::{FIRST_PLACE, MEMORY_SIZE, PAGE_COUNT, Pages};

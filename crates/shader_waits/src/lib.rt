@@ -6,8 +6,6 @@
 #![tactic(auto)]
 
 mod counts;
-#[cfg(test)]
-mod tests;
 mod wait;
 
 ghost use Rattle.shader_waits.specs.Waits.{NoneWhereServed};

@@ -102,21 +102,3 @@ fn alignment_down(tiling: Tiling, cpp: u32) -> u64
         Tiling::Lt => microtile_height(cpp) as u64,
     }
 }
-
-#[cfg(test)]
-mod tests {
-    use super::*;
-
-    // Levels of a 33x33 texture, a frame of 1920x1080, and one row of raster pixels over a microtile.
-    #[test]
-    fn sizes(rt: HostRuntime) {
-        assert_eq!(rt; tiling_of(33, 33, 4), Tiling::T);
-        assert_eq!(rt; surface_size(Tiling::T, 33, 33, 4), 16384);
-        assert_eq!(rt; tiling_of(32, 32, 4), Tiling::T);
-        assert_eq!(rt; surface_size(Tiling::T, 32, 32, 4), 4096);
-        assert_eq!(rt; tiling_of(16, 16, 4), Tiling::Lt);
-        assert_eq!(rt; surface_size(Tiling::Lt, 16, 16, 4), 1024);
-        assert_eq!(rt; surface_size(Tiling::T, 1920, 1080, 4), 8355840);
-        assert_eq!(rt; surface_size(Tiling::Raster, 5, 1, 4), 32);
-    }
-}

@@ -2,9 +2,9 @@
 ghost use Rattle.std.specs.Prelude.{◌≤◌, length};
 ghost use Rattle.field_words.specs.Sizes.{most_words};
 
-use crate::find_wait;
 use field_words::NoMemory;
 use shader_flow::flow;
+use shader_waits::find_wait;
 use std::alloc::Global;
 use std::test::Fail;
 

@@ -1,5 +1,5 @@
 //! Pages are taken from the lowest run on, and are zero when they are given back.
-use super::*;
+use session_pages::{MEMORY_SIZE, Pages};
 use std::test::*;
 
 #[test]

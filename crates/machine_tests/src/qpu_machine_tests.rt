@@ -1,13 +1,11 @@
 //! Instructions of small programs.
 ghost use Rattle.std.specs.Prelude.{◌≡◌, []};
 
-use crate::start::IDLE_WORD;
-use crate::state::{Ask, Fate, Leaves, Thread};
-use crate::{is_ready, serve, start_thread, step_thread};
 use arrayvec::ArrayVec;
 use field_words::{Access, Actor, NoMemory, Way};
 use machine_plan::{Launch, Who};
 use phys_mem::PhysMem;
+use qpu_machine::{Ask, Fate, Leaves, Thread, is_ready, serve, start_thread, step_thread};
 use std::alloc::Global;
 
 const QPU: Who = Who {
@@ -134,6 +132,9 @@ fn asks_for_a_texture(rt: HostRuntime) -> Result<(), NoMemory> {
     assert!(rt; thread.uniforms == 0x808 && thread.setups1.is_empty());
     Ok(())
 }
+
+// `nop`
+const IDLE_WORD: u64 = (1 << 60) + (39 << 38) + (39 << 32);
 
 const SWITCH: u64 = IDLE_WORD + (1 << 60);
 
