@@ -15,7 +15,6 @@ use packets::put_present;
 use relocation::Layout;
 
 /// The tiles of row `y`, from left to right.
-#[inline(always)]
 fn put_row(
     out: &mut [u8],
     at: usize,
@@ -39,7 +38,6 @@ fn put_row(
 }
 
 /// All tiles of the set, row by row.
-#[inline(always)]
 fn put_tiles(
     out: &mut [u8],
     at: usize,
@@ -58,25 +56,6 @@ fn put_tiles(
         here = put_row(out, here, frame, setup, tiles, slot, y);
     }
     here
-}
-
-/// The same of copies of the frame and the places, which stay in registers while the list is written.
-fn put_all_tiles(
-    out: &mut [u8],
-    at: usize,
-    frame: &Frame,
-    setup: &Setup,
-    tiles: Option<(u8, u8)>,
-    slot: u32,
-) -> usize
-    requires setup { IsSetupFor frame.now setup.now.places }
-    requires slot { IsSome tiles → slot ≤ most_place }
-    requires room { HasRoom out.old at (all_tile_slots frame.now setup.now.places tiles slot) }
-    ensures { Puts (all_tile_slots frame.now setup.now.places tiles slot) out.old at out.new result }
-{
-    let frame = *frame;
-    let setup = *setup;
-    put_tiles(out, at, &frame, &setup, tiles, slot)
 }
 
 /// The head, and the packets that clear.
@@ -106,7 +85,7 @@ fn put_list(
     ensures { Puts (render_slots frame.now setup.now.places tiles slot) out.old at out.new result }
 {
     let at = put_front(out, at, frame, setup);
-    put_all_tiles(out, at, frame, setup, tiles, slot)
+    put_tiles(out, at, frame, setup, tiles, slot)
 }
 
 /// Writes the renderer list of the frame at its place in `out`, the window of the lists' region, and
