@@ -1,6 +1,6 @@
 -- A text that is changed after it was written.
 use Rattle.std.proofs.Common.{◌<◌, ◌≡◌, ℕ, List, [], ◌∷◌, ◌++◌, length, take, drop, get_or, set, arith, ap, sym, ◌∙◌}
-use Rattle.std.proofs.lemmas.List.{take-append-drop, take-set, drop-set}
+use Rattle.std.proofs.lemmas.List.{take_all, take-append-drop, take-set, drop-set}
 use Rattle.field_words.specs.Writes.{with_bytes}
 
 -- a text of one byte
@@ -12,3 +12,7 @@ one_byte window at (y ∷ []) one fits =
     ∙ ap (λ front. front ++ drop at (set window at y)) (take-set window at y)
     ∙ ap (λ rest. take at window ++ rest) (drop-set window at y fits)
 one_byte window at (y ∷ (z ∷ text)) one fits = absurd (omega arith)
+
+-- so many bytes as there are, are all of them
+pub taken_whole : (text : List ℕ) (n : ℕ) → length text ≡ n → take n text ≡ text
+taken_whole text n long = take_all n text (omega (arith, long))

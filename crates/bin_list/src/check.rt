@@ -54,7 +54,7 @@ fn read_packets(
     ensures put { OnOk result (out.new ≡ with_bytes out.old layout.now.bin (texts given.now layout.now (passed list.now))) }
     ensures memory { result ≡ Err OutOfMemory → MeetsState given.now list.now }
 {
-    let mut states = States::new(alloc);
+    let mut states = States::new(alloc, given.declared);
     let mut seen = Seen::nothing();
     let mut end = layout.bin as usize;
     let mut rest = list;

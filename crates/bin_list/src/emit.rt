@@ -18,21 +18,54 @@ use packets::opcode::{BUFFER_HANDLES, GL_SHADER_STATE, INDEXED_PRIMITIVE_LIST, T
 use relocation::Layout;
 use tile_memory::alloc_offset;
 
-/// Puts bytes at a place of the window, and gives the place behind them.
+/// Puts one byte at a place of the window.
 #[inline]
 #[tactic(auto, using(crate::proofs::Inside::one_byte))]
+fn put_byte(out: &mut [u8], at: usize, bytes: &[u8])
+    requires one { length bytes.now ≡ 1 }
+    requires room { at + 1 ≤ length out.old }
+    ensures { out.new ≡ with_bytes out.old at bytes.now }
+{
+    out[at] = bytes[0];
+}
+
+/// Puts at a place of the window so many bytes as are known before it runs, which is short work.
+#[inline]
+#[tactic(auto, using(crate::proofs::Inside::taken_whole))]
+fn put_known<const N: usize>(out: &mut [u8], at: usize, bytes: &[u8])
+    requires known { length bytes.now ≡ N }
+    requires room { at + N ≤ length out.old }
+    ensures { out.new ≡ with_bytes out.old at bytes.now }
+{
+    out[at..at + N].copy_from_slice(&bytes[..N]);
+}
+
+/// Puts any bytes at a place of the window.
+fn put_any(out: &mut [u8], at: usize, bytes: &[u8])
+    requires room { at + length bytes.now ≤ length out.old }
+    ensures { out.new ≡ with_bytes out.old at bytes.now }
+{
+    out[at..at + bytes.len()].copy_from_slice(bytes);
+}
+
+/// Puts bytes at a place of the window, and gives the place behind them. Most packets have one of a few lengths.
+#[inline]
 pub(crate) fn put(out: &mut [u8], at: usize, bytes: &[u8]) -> usize
     requires room { at + length bytes.now ≤ length out.old }
     ensures text { out.new ≡ with_bytes out.old at bytes.now }
     ensures end { result ≡ at + length bytes.now }
 {
-    if bytes.len() == 1 {
-        out[at] = bytes[0];
-        return at + 1;
+    match bytes.len() {
+        1 => put_byte(out, at, bytes),
+        2 => put_known::<2>(out, at, bytes),
+        4 => put_known::<4>(out, at, bytes),
+        5 => put_known::<5>(out, at, bytes),
+        9 => put_known::<9>(out, at, bytes),
+        10 => put_known::<10>(out, at, bytes),
+        14 => put_known::<14>(out, at, bytes),
+        _ => put_any(out, at, bytes),
     }
-    let end = at + bytes.len();
-    out[at..end].copy_from_slice(bytes);
-    end
+    at + bytes.len()
 }
 
 /// An indexed primitive, with the address of its indexes in memory.

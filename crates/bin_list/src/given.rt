@@ -9,8 +9,8 @@ use std::marker::Model;
 pub(crate) struct Given<'a> {
     pub(crate) size: usize,
     pub(crate) declared: u32,
-    pub(crate) table: &'a Table,
-    pub(crate) handles: &'a Handles,
+    pub(crate) table: &'a Table<'a>,
+    pub(crate) handles: &'a Handles<'a>,
 }
 
 impl<'a> Model for Given<'a> {

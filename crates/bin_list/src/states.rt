@@ -13,12 +13,16 @@ use crate::state::State;
 use packets::opcode::{ARRAY_PRIMITIVE_LIST, GL_SHADER_STATE, INDEXED_PRIMITIVE_LIST};
 use std::alloc::{AllocError, Global};
 
-/// The states before the one in view, and that one.
+/// The states before the one in view, and that one; and how many the job declares.
 #[derive(Drop)]
 pub(crate) struct States {
     done: Vec<State>,
     current: Option<State>,
+    declared: u32,
 }
+
+/// Room for so many states is taken at once, if as many are declared.
+const ROOM: u32 = 256;
 
 /// The greatest index that a packet draws, 0 where it draws none.
 #[tactic(auto, unfolding(crate::specs::States::draws_to, packets::specs::Length::bin_length))]
@@ -48,14 +52,27 @@ fn last_index(first: u32, count: u32) -> u32
 
 impl States {
     /// No states yet.
-    pub(crate) fn new(alloc: Global) -> States
+    pub(crate) fn new(alloc: Global, declared: u32) -> States
         ensures done { result.done.items ≡ [] }
         ensures current { result.current ≡ None }
     {
         States {
             done: Vec::new(alloc),
             current: None,
+            declared,
         }
+    }
+
+    /// Keeps a state that is done. The first takes room for those to come.
+    fn keep(&mut self, state: State) -> Result<(), AllocError>
+        ensures done { OnOk result (self.new.done.items ≡ self.old.done.items ++ state ∷ []) }
+        ensures current { self.new.current ≡ self.old.current }
+    {
+        if self.done.is_empty() {
+            self.done.reserve(self.declared.min(ROOM) as usize)?;
+        }
+        self.done.push(state)?;
+        Ok(())
     }
 
     /// Begins a state, which draws nothing yet.
@@ -65,7 +82,7 @@ impl States {
         ensures memory { OnErr result (IsSome self.old.current) }
     {
         if let Some(state) = self.current {
-            self.done.push(state)?;
+            self.keep(state)?;
         }
         self.current = Some(State { word, max_index: 0 });
         Ok(())
@@ -107,7 +124,11 @@ impl States {
         ensures states { IfOk result (λ states. states.items ≡ all_states self.done.items self.current []) }
         ensures memory { OnErr result (IsSome self.current) }
     {
-        let States { mut done, current } = self;
+        let States {
+            mut done,
+            current,
+            ..
+        } = self;
         if let Some(state) = current {
             done.push(state)?;
         }

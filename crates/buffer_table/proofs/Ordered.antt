@@ -6,7 +6,7 @@ use Rattle.std.proofs.lemmas.Bool.{cases_lt, ltb-false}
 use Rattle.buffer_table.specs.declared.item.Item.{Item}
 use Rattle.buffer_table.specs.declared.places.Order.{Order}
 use Rattle.buffer_table.specs.Table.{shares, item_at}
-use Rattle.buffer_table.specs.Earlier.{item_in, IsAmong, IsOrder, CountsBelow, SharesOrdered, IsApartOrdered, IsInserted}
+use Rattle.buffer_table.specs.Earlier.{item_in, IsAmong, IsOrder, CountsBelow, SharesBuffer, IsApartBuffers, IsInserted}
 use Rattle.buffer_table.proofs.Taken.{ends_before, begins_behind}
 
 -- An item that has no byte of one which begins below it lies behind that one; of one that doesn't begin below it, before.
@@ -112,7 +112,7 @@ apart_behind order items x n i is counts some next from inside = elim (cases_lt 
 
 -- So none of them has.
 pub free_of : (order : Order) (items : List Item) (x : Item) (n : ℕ) → IsOrder order items → CountsBelow order items x.place n → 0 < x.size
-    → (0 < n → shares x (item_in order items (n - 1)) ≡ false) → (n < order.count → shares x (item_in order items n) ≡ false) → IsApartOrdered order items x
+    → (0 < n → shares x (item_in order items (n - 1)) ≡ false) → (n < order.count → shares x (item_in order items n) ≡ false) → IsApartBuffers order.count items x
 free_of order items x n is counts some last next item buffer first =
     let among = is.each item buffer first in
     let apart : shares x (item_in order items among.place) ≡ false = elim (cases_lt among.place n) [
@@ -121,7 +121,7 @@ free_of order items x n is counts some last next item buffer first =
     ] in
     subst (λ m. shares x (item_at items m) ≡ false) among.is apart
 
-pub taken_by : (order : Order) (items : List Item) (x : Item) (i : ℕ) → IsOrder order items → i < order.count → shares x (item_in order items i) ≡ true → SharesOrdered order items x
+pub taken_by : (order : Order) (items : List Item) (x : Item) (i : ℕ) → IsOrder order items → i < order.count → shares x (item_in order items i) ≡ true → SharesBuffer order.count items x
 taken_by order items x i is inside taken = record { item = slice_index order.numbers i; buffer = is.buffers i inside; first = is.first i inside; taken = taken }
 
 -- An entry after an insertion: the new one, or one that stood here or one place before.
@@ -190,7 +190,7 @@ inserted old copied count at number within inside moved same = record {
 -- The next item goes behind those that begin below it.
 pub ordered_more : (old new : Order) (items : List Item) (at : ℕ) → IsOrder old items → CountsBelow old items (item_at items (old.count + 2)).place at
     → IsInserted old.numbers new.numbers old.count at (old.count + 2) → new.count ≡ old.count + 1 → old.count < 1024 → old.count + 3 ≤ length items
-    → 0 < (item_at items (old.count + 2)).size → IsApartOrdered old items (item_at items (old.count + 2)) → IsOrder new items
+    → 0 < (item_at items (old.count + 2)).size → IsApartBuffers old.count items (item_at items (old.count + 2)) → IsOrder new items
 ordered_more old new items at is counts puts more few room some apart =
     let x : Item = item_at items (old.count + 2) in
     let from : (i : ℕ) → i < new.count → ((slice_index new.numbers i ≡ old.count + 2) × (i ≡ at)) ⊎ IsOld old.numbers new.numbers old.count at i =

@@ -1,6 +1,6 @@
 -- A memory table without faults is sound.
 use Rattle.std.proofs.Common.{◌≡◌, ℕ, suc, ◌+◌, ◌-◌, ◌<◌, ◌≤◌, map, min, max, false, List, length, take, get_or, None, sym, ap, subst, arith, ◌∙◌}
-use Rattle.std.proofs.lemmas.List.{get_or-take, get_or-map, get_or_read, get_or_default, length-map}
+use Rattle.std.proofs.lemmas.List.{get_or-take, get_or-map, get_or_default, length-map}
 use Rattle.std.proofs.lemmas.Bool.{ltb-false}
 use Rattle.std.proofs.lemmas.List.Folds.{list_any_at}
 use Rattle.std.proofs.lemmas.Grind.{common_steps}
@@ -67,7 +67,7 @@ sound_within limit memory r buffers low none =
           apart_of memory (item_at items j) (item_at items k) (apart_items memory items j k (at k below) before below) (good j (omega arith)) (good k below);
     }
 
--- The same of a copy of the buffers.
+-- The same where the buffers are told by another name.
 pub sound_copy : (limit memory : ℕ) (r : Regions) (buffers copy : List Buffer) → limit ≤ most_place → first_of (table_within limit memory r buffers) ≡ None → copy ≡ buffers → IsSound memory r copy
 sound_copy limit memory r buffers copy low none same = subst (IsSound memory r) (sym same) (sound_within limit memory r buffers low none)
 
@@ -78,23 +78,25 @@ item_of_buffer r buffers number inside =
     ap (λ k. item_at (items_of r buffers) k) (let e : number + 2 ≡ suc (suc number) = omega arith in e)
     ∙ get_or-map buffer_item buffers number past_end no_item inside
 
--- The entry of a buffer in a sound table, as it was read.
-pub sound_buffer : (t : TableModel) (number : ℕ) (b : Buffer) → IsSound t.memory t.regions t.buffers → number < length t.buffers
-    → b ≡ get_or t.buffers number b → (b ≡ buffer_at t.buffers number) × IsSoundBuffer t.memory b
-unfolding buffer_at
-sound_buffer t number b is_sound inside read =
-    let entry : b ≡ buffer_at t.buffers number = get_or_read t.buffers number b inside read past_end in
+-- The entry of a buffer in a sound table.
+pub sound_buffer : (t : TableModel) (number : ℕ) (b : Buffer) → IsSound t.memory t.regions t.buffers → number < length t.buffers → b ≡ buffer_at t.buffers number
+    → IsSoundBuffer t.memory b
+sound_buffer t number b is_sound inside entry =
     let good : IsSoundItem t.memory (item_at (items_of t.regions t.buffers) (number + 2)) = is_sound.each_item (number + 2) (rw length-map (omega arith)) in
-    (entry, (is_sound.limit, subst (IsSoundItem t.memory) (item_of_buffer t.regions t.buffers number inside ∙ ap buffer_item (sym entry)) good))
+    (is_sound.limit, subst (IsSoundItem t.memory) (item_of_buffer t.regions t.buffers number inside ∙ ap buffer_item (sym entry)) good)
 
 -- The item of a buffer, as its entry is read two before it.
+pub entry_item : (r : Regions) (buffers : List Buffer) (number : ℕ) (d : Buffer) → number < length buffers
+    → item_at (items_of r buffers) (number + 2) ≡ buffer_item (get_or buffers number d)
+unfolding buffer_at
+entry_item r buffers number d below = item_of_buffer r buffers number below ∙ ap buffer_item (get_or_default buffers number past_end d below)
+
 pub item_of_entry : (r : Regions) (buffers : List Buffer) (k : ℕ) (d : Buffer) → 2 ≤ k → k < length buffers + 2
     → item_at (items_of r buffers) k ≡ buffer_item (get_or buffers (k - 2) d)
-unfolding buffer_at
 item_of_entry r buffers k d behind inside =
     let below : k - 2 < length buffers = omega arith in
     let same : k ≡ (k - 2) + 2 = omega arith in
-    ap (item_at (items_of r buffers)) same ∙ item_of_buffer r buffers (k - 2) below ∙ ap buffer_item (get_or_default buffers (k - 2) past_end d below)
+    ap (item_at (items_of r buffers)) same ∙ entry_item r buffers (k - 2) d below
 
 -- how many items there are
 pub length_items : (r : Regions) (buffers : List Buffer) → length (items_of r buffers) ≡ length buffers + 2

@@ -9,8 +9,7 @@ use Rattle.buffer_table.specs.declared.item.Item.{Item}
 use Rattle.buffer_table.specs.Table.{ShareByte, SharingMeansByte, shares, shares_with_first, item_at, no_item, is_off_page}
 use Rattle.buffer_table.specs.Sound.{IsSoundItem}
 use Rattle.buffer_table.specs.Pages.{page_bit, TakesPage, IsFree, Takes, first_page, end_page, IsWhole, IsWholeIn, Owns, AreTaken}
-use Rattle.buffer_table.specs.declared.places.Order.{Order}
-use Rattle.buffer_table.specs.Earlier.{SharesOrdered, IsApartOrdered}
+use Rattle.buffer_table.specs.Earlier.{SharesBuffer, IsApartBuffers}
 
 -- two items that have a page have a byte
 page_shared : (x y : Item) (page : ℕ) → IsWhole x → IsWhole y → first_page x ≤ page → page < end_page x → first_page y ≤ page → page < end_page y → shares x y ≡ true
@@ -133,7 +132,7 @@ regions_settle x items (suc m) inside taken =
     let more = list_any_more (shares x) items (m + 2) no_item (omega (arith, inside)) in
     grind (arith, more, less)
 
--- The regions and the buffers in order are the items before item k.
+-- The regions and the first buffers are the items before item k.
 pub regions_share : (k : ℕ) (x : Item) (items : List Item) → k ≤ length items → shares_with_first x items (min k 2) ≡ true → true ≡ shares_with_first x items k
 regions_share k x items inside taken = elim (cases_lt k 2) [
   | inl few ↦ sym (subst (λ n. shares_with_first x items n ≡ true) (let e : min k 2 ≡ k = omega (arith, few) in e) taken)
@@ -142,13 +141,13 @@ regions_share k x items inside taken = elim (cases_lt k 2) [
       sym (subst (λ n. shares_with_first x items n ≡ true) (let e : k - 2 + 2 ≡ k = omega (arith, many) in e) (regions_settle x items (k - 2) (omega (arith, inside, many)) two))
 ]
 
-pub buffers_share : (order : Order) (k : ℕ) (x : Item) (items : List Item) (ordered : Bool) → order.count ≡ k - 2 → k ≤ length items
-    → shares_with_first x items (min k 2) ≡ false → (ordered ≡ true → SharesOrdered order items x) → (ordered ≡ false → IsApartOrdered order items x)
-    → ordered ≡ shares_with_first x items k
-buffers_share order k x items true counts inside none taken free =
+pub buffers_share : (count k : ℕ) (x : Item) (items : List Item) (found : Bool) → count ≡ k - 2 → k ≤ length items
+    → shares_with_first x items (min k 2) ≡ false → (found ≡ true → SharesBuffer count items x) → (found ≡ false → IsApartBuffers count items x)
+    → found ≡ shares_with_first x items k
+buffers_share count k x items true counts inside none taken free =
     let other = taken refl in
     sym (any_of x items k other.item (omega (arith, other.first, other.buffer, counts)) inside other.taken)
-buffers_share order k x items false counts inside none taken free = elim (cases_lt k 2) [
+buffers_share count k x items false counts inside none taken free = elim (cases_lt k 2) [
   | inl few ↦ sym (subst (λ n. shares_with_first x items n ≡ false) (let e : min k 2 ≡ k = omega (arith, few) in e) none)
   | inr many ↦
       let apart : (j : ℕ) → 2 ≤ j → j < k - 2 + 2 → shares x (item_at items j) ≡ false = λ j from below. free refl j from (omega (arith, below, counts)) in

@@ -2,7 +2,7 @@
 use Rattle.std.specs.Prelude.{◌≡◌, ℕ, ◌+◌, ◌-◌, ◌≤◌, ◌<◌, true, false, List, length, slice_index}
 use Rattle.field_words.specs.Sizes.{most_memory}
 use Rattle.buffer_table.specs.declared.item.Earlier.{Earlier}
-use Rattle.buffer_table.specs.declared.item.Earlier.TheVariants.{Pages, Ordered}
+use Rattle.buffer_table.specs.declared.item.Earlier.TheVariants.{Few, Pages, Ordered}
 use Rattle.buffer_table.specs.declared.item.Item.{Item}
 use Rattle.buffer_table.specs.declared.places.Order.{Order}
 use Rattle.buffer_table.specs.Table.{item_at, shares}
@@ -35,16 +35,16 @@ pub record CountsBelow (order : Order) (items : List Item) (place n : ℕ) : Typ
   pub below : (i : ℕ) → i < n → (item_in order items i).place < place
   pub behind : (i : ℕ) → n ≤ i → i < order.count → place ≤ (item_in order items i).place
 
--- one of its items has a byte of x
-pub record SharesOrdered (order : Order) (items : List Item) (x : Item) : Type 0 where
+-- one of the first `count` buffers has a byte of x
+pub record SharesBuffer (count : ℕ) (items : List Item) (x : Item) : Type 0 where
   pub item : ℕ
   pub buffer : 2 ≤ item
-  pub first : item < order.count + 2
+  pub first : item < count + 2
   pub taken : shares x (item_at items item) ≡ true
 
 -- none of them has
-abbrev pub IsApartOrdered : Order → List Item → Item → Type 0
-IsApartOrdered order items x = (item : ℕ) → 2 ≤ item → item < order.count + 2 → shares x (item_at items item) ≡ false
+abbrev pub IsApartBuffers : ℕ → List Item → Item → Type 0
+IsApartBuffers count items x = (item : ℕ) → 2 ≤ item → item < count + 2 → shares x (item_at items item) ≡ false
 
 -- a number stands at a place, and the numbers from there on, up to the count, stand one further
 pub record IsInserted (old new : List ℕ) (count at number : ℕ) : Type 0 where
@@ -52,7 +52,9 @@ pub record IsInserted (old new : List ℕ) (count at number : ℕ) : Type 0 wher
   pub here : slice_index new at ≡ number
   pub behind : (i : ℕ) → at ≤ i → i < count → slice_index new (i + 1) ≡ slice_index old i
 
--- the pages of the items before item k are taken, in a memory of at most 64 MiB; or those of them that are buffers are in order
+-- nothing is told of the items before item k; or their pages are taken, in a memory of at most 64 MiB; or those of them that are buffers are
+-- in order
 abbrev pub AreEarlier : Earlier → ℕ → List Item → ℕ → Type 0
+AreEarlier Few memory items k = Unit {0}
 AreEarlier (Pages pages) memory items k = (memory ≤ most_memory) × AreTaken pages items k
 AreEarlier (Ordered order) memory items k = (order.count ≡ k - 2) × IsOrder order items

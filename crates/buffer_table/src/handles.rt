@@ -13,16 +13,16 @@ use std::marker::Model;
 
 /// The numbers of the buffers that a job may name, by handle.
 #[derive(Drop)]
-pub struct Handles {
-    numbers: Vec<u32>,
+pub struct Handles<'a> {
+    numbers: &'a [u32],
 }
 
-impl Model for Handles {
+impl<'a> Model for Handles<'a> {
     ghost use Rattle.std.specs.Prelude.{List, ℕ};
 
     ghost Value = { List ℕ };
 
-    ghost view = { λ h. h.numbers.items };
+    ghost view = { λ h. h.numbers.now };
 }
 
 /// Whether a handle is no buffer's number, or names a buffer of another client.
@@ -52,15 +52,15 @@ fn handles_fault(table: &Table, client: u32, numbers: &[u32]) -> Option<u32>
     None
 }
 
-impl Handles {
-    /// The handles of a job of `client`. The fault is the least index at which H1 stands: the
-    /// number is no buffer's, or the buffer belongs to another client. Finding it takes no memory.
+impl<'a> Handles<'a> {
+    /// The handles of a job of `client`, which are lent. The fault is the least index at which H1 stands: the
+    /// number is no buffer's, or the buffer belongs to another client. No memory is taken.
     pub fn make(
-        alloc: Global,
+        _alloc: Global,
         table: &Table,
         client: u32,
-        numbers: &[u32],
-    ) -> Result<Handles, Stop<u32>>
+        numbers: &'a [u32],
+    ) -> Result<Handles<'a>, Stop<u32>>
         requires few { length numbers.now ≤ 1024 }
         ensures made { Answers (handles_questions table.now client numbers.now) (λ h. h ≡ numbers.now) result }
         ensures first { NamesFirst (handles_questions table.now client numbers.now) result }
@@ -70,9 +70,7 @@ impl Handles {
         if let Some(fault) = handles_fault(table, client, numbers) {
             return Err(Stop::Fault(fault));
         }
-        Ok(Handles {
-            numbers: Vec::from_slice(alloc, numbers)?,
-        })
+        Ok(Handles { numbers })
     }
 }
 

@@ -1,7 +1,7 @@
 //! The items of a memory table as intervals, and the rules that each of them keeps.
 ghost use Rattle.std.specs.Prelude.{◌≡◌, ◌+◌, ◌-◌, ◌*◌, ◌<◌, ◌≤◌, true, false, Some, IfNone, length};
 ghost use Rattle.field_words.specs.Questions.{first_of, each};
-ghost use Rattle.buffer_table.specs.Earlier.{AreEarlier, IsOrder};
+ghost use Rattle.buffer_table.specs.Earlier.{AreEarlier, IsOrder, SharesBuffer, IsApartBuffers};
 ghost use Rattle.buffer_table.specs.Pages.{TakesPage, IsFree, Takes, IsWhole, IsWholeIn, first_page, end_page};
 ghost use Rattle.buffer_table.specs.Table.{lists_item, tile_item, buffer_item, is_off_page, shares, shares_with_first, item_questions, items_questions, memory_within, table_within, items_of, item_at, fault};
 
@@ -21,11 +21,16 @@ pub struct Item {
 /// What is known of the items before one, by which is found whether it has a byte of them.
 #[derive(Clone, Copy)]
 enum Earlier {
+    /// Nothing: there are few, and each of them is compared.
+    Few,
     /// The pages that they take, in a memory of at most 64 MiB.
     Pages([u64; WORDS]),
     /// Those of them that are buffers, by ascending place, in any memory.
     Ordered(Order),
 }
+
+/// So many buffers are few.
+const FEW: usize = 16;
 
 /// The size of a page, of which each place and size is a multiple.
 const PAGE: u64 = PAGE_SIZE as u64;
@@ -131,9 +136,11 @@ fn take_item(pages: &mut [u64; WORDS], x: &Item)
 pub(crate) fn shares(x: &Item, y: &Item) -> bool
     ensures { result ≡ shares x.now y.now }
 {
-    let x_end = u128::from(x.place) + u128::from(x.size);
-    let y_end = u128::from(y.place) + u128::from(y.size);
-    u128::from(x.place.max(y.place)) < x_end.min(y_end)
+    if x.place <= y.place {
+        y.size != 0 && y.place - x.place < x.size
+    } else {
+        x.size != 0 && x.place - y.place < y.size
+    }
 }
 
 /// Whether one of the first `count` items has a byte of this one.
@@ -149,10 +156,39 @@ fn shares_with_first(regions: &Regions, buffers: &[Buffer], count: usize, x: &It
     false
 }
 
-/// What is known before the first item. In a memory of at most 64 MiB each page has a bit. A greater one has too many pages.
+/// Whether one of the first `count` buffers has a byte of an item.
+fn shares_buffer(regions: &Regions, buffers: &[Buffer], count: usize, x: &Item) -> bool
+    requires inside { count ≤ length buffers.now }
+    ensures taken { result ≡ true → SharesBuffer count (items_of regions.now buffers.now) x.now }
+    ensures free { result ≡ false → IsApartBuffers count (items_of regions.now buffers.now) x.now }
+{
+    for i in 0..count {
+        if shares(x, &item_of(&buffers[i])) {
+            return true;
+        }
+    }
+    false
+}
+
+/// Whether one of the items before item `k` has a byte of it: first the regions, and then the buffers.
+fn shares_few(regions: &Regions, buffers: &[Buffer], k: usize, x: &Item) -> bool
+    requires inside { k < length buffers.now + 2 }
+    ensures { result ≡ shares_with_first x.now (items_of regions.now buffers.now) k }
+{
+    if shares_with_first(regions, buffers, k.min(2), x) {
+        return true;
+    }
+    shares_buffer(regions, buffers, k.saturating_sub(2), x)
+}
+
+/// What is known before the first item. Few items are compared with one another. Else in a memory of at most 64 MiB each page has a bit; a
+/// greater one has too many pages.
 fn no_earlier(mem_size: u32, regions: &Regions, buffers: &[Buffer]) -> Earlier
     ensures { AreEarlier result mem_size (items_of regions.now buffers.now) 0 }
 {
+    if buffers.len() <= FEW {
+        return Earlier::Few;
+    }
     if mem_size <= MOST_MEMORY {
         return Earlier::Pages([0; WORDS]);
     }
@@ -191,6 +227,7 @@ fn is_shared(
     ensures { result ≡ shares_with_first x.now (items_of regions.now buffers.now) k }
 {
     match earlier {
+        Earlier::Few => shares_few(regions, buffers, k, x),
         Earlier::Pages(pages) => has_page(pages, x),
         Earlier::Ordered(order) => shares_earlier(order, regions, buffers, k, x),
     }
@@ -225,6 +262,7 @@ fn pass_item(earlier: &mut Earlier, mem_size: u32, regions: &Regions, buffers: &
 {
     let x = item_at(regions, buffers, k);
     match earlier {
+        Earlier::Few => {}
         Earlier::Pages(pages) => take_item(pages, &x),
         Earlier::Ordered(order) => pass_ordered(order, regions, buffers, k, &x),
     }

@@ -1,6 +1,6 @@
 //! Buffers by ascending place, as the numbers of their items.
 ghost use Rattle.std.specs.Prelude.{◌≡◌, ◌+◌, ◌-◌, ◌<◌, ◌≤◌, true, false, length};
-ghost use Rattle.buffer_table.specs.Earlier.{IsOrder, IsInserted, item_in, CountsBelow, SharesOrdered, IsApartOrdered};
+ghost use Rattle.buffer_table.specs.Earlier.{IsOrder, IsInserted, item_in, CountsBelow, SharesBuffer, IsApartBuffers};
 ghost use Rattle.buffer_table.specs.Table.{items_of, item_at, shares};
 
 use crate::buffer::{Buffer, Regions};
@@ -87,7 +87,7 @@ fn shares_at(order: &Order, regions: &Regions, buffers: &[Buffer], i: usize, x: 
 fn shares_before(order: &Order, regions: &Regions, buffers: &[Buffer], at: usize, x: &Item) -> bool
     requires ordered { IsOrder order.now (items_of regions.now buffers.now) }
     requires inside { at ≤ order.now.count }
-    ensures taken { result ≡ true → SharesOrdered order.now (items_of regions.now buffers.now) x.now }
+    ensures taken { result ≡ true → SharesBuffer order.now.count (items_of regions.now buffers.now) x.now }
     ensures free { result ≡ false → 0 < at → shares x.now (item_in order.now (items_of regions.now buffers.now) (at - 1)) ≡ false }
 {
     if at == 0 {
@@ -99,7 +99,7 @@ fn shares_before(order: &Order, regions: &Regions, buffers: &[Buffer], at: usize
 /// Whether the first of the others has.
 fn shares_behind(order: &Order, regions: &Regions, buffers: &[Buffer], at: usize, x: &Item) -> bool
     requires ordered { IsOrder order.now (items_of regions.now buffers.now) }
-    ensures taken { result ≡ true → SharesOrdered order.now (items_of regions.now buffers.now) x.now }
+    ensures taken { result ≡ true → SharesBuffer order.now.count (items_of regions.now buffers.now) x.now }
     ensures free { result ≡ false → at < order.now.count → shares x.now (item_in order.now (items_of regions.now buffers.now) at) ≡ false }
 {
     if at >= order.count {
@@ -112,8 +112,8 @@ fn shares_behind(order: &Order, regions: &Regions, buffers: &[Buffer], at: usize
 pub fn shares_ordered(order: &Order, regions: &Regions, buffers: &[Buffer], x: &Item) -> bool
     requires ordered { IsOrder order.now (items_of regions.now buffers.now) }
     requires some { 0 < x.now.size }
-    ensures taken { result ≡ true → SharesOrdered order.now (items_of regions.now buffers.now) x.now }
-    ensures free { result ≡ false → IsApartOrdered order.now (items_of regions.now buffers.now) x.now }
+    ensures taken { result ≡ true → SharesBuffer order.now.count (items_of regions.now buffers.now) x.now }
+    ensures free { result ≡ false → IsApartBuffers order.now.count (items_of regions.now buffers.now) x.now }
 {
     let at = count_below(order, regions, buffers, x.place);
     if shares_before(order, regions, buffers, at, x) {
@@ -139,7 +139,7 @@ pub fn insert(order: &mut Order, regions: &Regions, buffers: &[Buffer], x: &Item
     requires inside { order.old.count < length buffers.now }
     requires few { length buffers.now ≤ 1024 }
     requires some { 0 < x.now.size }
-    requires apart { IsApartOrdered order.old (items_of regions.now buffers.now) x.now }
+    requires apart { IsApartBuffers order.old.count (items_of regions.now buffers.now) x.now }
     ensures ordered { IsOrder order.new (items_of regions.now buffers.now) }
     ensures count { order.new.count ≡ order.old.count + 1 }
 {

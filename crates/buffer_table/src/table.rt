@@ -17,33 +17,42 @@ pub const MOST_PLACE: u32 = 0xff00_0000;
 /// The memory of a job, with its regions and buffers, of which no memory rule stands: all of
 /// them are made of whole pages inside the memory, and no two have a byte in common.
 #[derive(Drop)]
-pub struct Table {
+pub struct Table<'a> {
     memory: u32,
     regions: Regions,
-    buffers: Vec<Buffer>,
+    buffers: &'a [Buffer],
 }
 
-impl Model for Table {
+impl<'a> Model for Table<'a> {
     ghost use Rattle.buffer_table.specs.Table.{TableModel};
     ghost use Rattle.buffer_table.specs.Sound.{IsSound};
 
     ghost Value = { TableModel };
 
-    ghost view = { λ t. record { memory = t.memory; regions = t.regions; buffers = t.buffers.items } };
+    ghost view = { λ t. record { memory = t.memory; regions = t.regions; buffers = t.buffers.now } };
 
-    ghost invariant = { λ t. IsSound t.memory t.regions t.buffers.items };
+    ghost invariant = { λ t. IsSound t.memory t.regions t.buffers.now };
 }
 
-impl Table {
-    /// The table of a memory of `mem_size` bytes, of which there are at most `limit`. The fault is the first of M1 to M5, by item
-    /// and number. Finding it takes no memory.
+/// The entry of a buffer among those of a table.
+#[tactic(auto, unfolding(crate::specs::Table::buffer_at))]
+fn entry_of(buffers: &[Buffer], number: usize) -> Buffer
+    requires { number < length buffers.now }
+    ensures { result ≡ buffer_at buffers.now number }
+{
+    buffers[number]
+}
+
+impl<'a> Table<'a> {
+    /// The table of a memory of `mem_size` bytes, of which there are at most `limit`; its buffers are lent. The fault is the first of
+    /// M1 to M5, by item and number. No memory is taken.
     pub fn make_within(
-        alloc: Global,
+        _alloc: Global,
         limit: u32,
         mem_size: u32,
         regions: Regions,
-        buffers: &Vec<Buffer>,
-    ) -> Result<Table, Stop<TableFault>>
+        buffers: &'a Vec<Buffer>,
+    ) -> Result<Table<'a>, Stop<TableFault>>
         requires limit { limit ≤ most_place }
         requires few { length buffers.now.items ≤ 1024 }
         ensures made { Answers (table_within limit mem_size regions buffers.now.items)
@@ -59,7 +68,7 @@ impl Table {
         Ok(Table {
             memory: mem_size,
             regions,
-            buffers: Vec::from_slice(alloc, buffers)?,
+            buffers,
         })
     }
 
@@ -68,8 +77,8 @@ impl Table {
         alloc: Global,
         mem_size: u32,
         regions: Regions,
-        buffers: &Vec<Buffer>,
-    ) -> Result<Table, Stop<TableFault>>
+        buffers: &'a Vec<Buffer>,
+    ) -> Result<Table<'a>, Stop<TableFault>>
         requires few { length buffers.now.items ≤ 1024 }
         ensures made { Answers (table_questions mem_size regions buffers.now.items)
             (λ t. t ≡ record { memory = mem_size; regions = regions; buffers = buffers.now.items }) result }
@@ -94,7 +103,7 @@ impl Table {
         ensures entry { result ≡ buffer_at self.now.buffers number }
         ensures sound { IsSoundBuffer self.now.memory result }
     {
-        self.buffers[number]
+        entry_of(self.buffers, number)
     }
 }
 

@@ -3,7 +3,7 @@ use Rattle.std.proofs.Common.{◌≡◌, ℕ, suc, ◌+◌, ◌<◌, ◌≤◌, 
 use Rattle.std.proofs.lemmas.List.{get_or_default, length-replicate}
 use Rattle.field_words.specs.Writes.{Part, placed, with_bytes, zeros}
 use Rattle.buffer_table.specs.declared.buffer.Buffer.{Buffer}
-use Rattle.buffer_table.specs.Table.{no_buffer, buffer_at}
+use Rattle.buffer_table.specs.Table.{no_buffer, past_end, buffer_at}
 use Rattle.buffer_table.specs.Sound.{IsSound}
 use Rattle.buffer_table.proofs.Sounds.{sound_buffer}
 use Rattle.job_format.specs.Model.{FileModel}
@@ -34,7 +34,7 @@ pub contents_fit : (f : FileModel) → IsSound f.mem_size f.regions f.buffers �
 unfolding buffer_at
 contents_fit f sound same =
     fits_by f.mem_size f.buffers f.contents
-    (λ k below. let s = sound_buffer (table_of f) k (get_or f.buffers k no_buffer) sound below (get_or_default f.buffers k no_buffer (get_or f.buffers k no_buffer) below) in omega (arith, s.1.1.inside, s.1.1.content)) same
+    (λ k below. let s = sound_buffer (table_of f) k (get_or f.buffers k no_buffer) sound below (get_or_default f.buffers k no_buffer past_end below) in omega (arith, s.1.inside, s.1.content)) same
 
 -- zeros are as many as named
 pub length_zeros : (n : ℕ) → length (zeros n) ≡ n

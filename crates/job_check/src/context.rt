@@ -31,9 +31,9 @@ pub struct Context<'a, 'b> {
     pub file: &'a FileParts<'b>,
     pub number: usize,
     pub job: &'a JobParts<'b>,
-    pub table: &'a Table,
+    pub table: &'a Table<'a>,
     pub shaders: &'a Vec<Option<ShaderInfo>>,
-    pub handles: Handles,
+    pub handles: Handles<'a>,
     pub layout: Layout,
 }
 
@@ -69,7 +69,7 @@ impl<'a, 'b> Context<'a, 'b> {
         file: &'a FileParts<'b>,
         number: usize,
         place: u32,
-        table: &'a Table,
+        table: &'a Table<'a>,
         shaders: &'a Vec<Option<ShaderInfo>>,
     ) -> Result<Context<'a, 'b>, Stop<Refusal>>
         requires well_formed { IsWellFormed (parts_view file.now) }
@@ -83,7 +83,7 @@ impl<'a, 'b> Context<'a, 'b> {
         ensures memory { NeverHidesFault (handles_stage (parts_view file.now) number) result }
     {
         let job = job_at(file, number);
-        match Handles::make(alloc, table, job.client, &job.handles) {
+        match Handles::make(alloc, table, job.client, job.handles.as_slice()) {
             Ok(handles) => Ok(Context {
                 file,
                 number,

@@ -115,7 +115,7 @@ fn parts_size(job: &JobParts) -> u64
     ensures value { result ≡ parts_size (job_parts_view job.now) }
     ensures fits { result ≤ 4194304 }
 {
-    let handles = 4 * job.handles.len() as u64;
+    let handles = 4 * job.handles.as_slice().len() as u64;
     handles + job.bin.len() as u64 + job.records.len() as u64 + job.uniforms.len() as u64
 }
 
@@ -165,7 +165,7 @@ fn handle_count(file: &FileParts, number: usize) -> u64
     ensures value { result ≡ length (job_of (parts_view file.now) number).handles }
     ensures few { result ≤ most_handles }
 {
-    job_at(file, number).handles.len() as u64
+    job_at(file, number).handles.as_slice().len() as u64
 }
 
 /// Where the binner list of the job of this number stands.

@@ -14,13 +14,13 @@ use std::alloc::Global;
 
 /// M: the memory table, of a memory of at most `limit` bytes. Finding a fault takes no memory.
 #[tactic(auto, using(field_words::proofs::Questions::answered_none, field_words::proofs::Questions::answered_some))]
-pub fn table_stage(
+pub fn table_stage<'a>(
     alloc: Global,
     limit: u32,
     mem_size: u32,
     regions: Regions,
-    buffers: &Vec<Buffer>,
-) -> Result<Table, Stop<Refusal>>
+    buffers: &'a Vec<Buffer>,
+) -> Result<Table<'a>, Stop<Refusal>>
     requires limit { limit ≤ most_place }
     requires few { length buffers.now.items ≤ most_buffers }
     ensures answers { Answers (answered table_refused (table_within limit mem_size regions buffers.now.items))

@@ -12,7 +12,7 @@ mod words;
 mod writing;
 
 pub use file::{Frame, Job, JobFile, Surface};
-pub use parts::{FileParts, JobParts};
+pub use parts::{FileParts, JobParts, Numbers};
 pub use reading::{read_job, read_parts};
 pub use rule::{FormatFault, FormatRule, Refusal, Rule, Stage};
 pub use sizes::{

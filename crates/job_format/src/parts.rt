@@ -1,18 +1,37 @@
 //! A job file whose contents and lists are slices: of the file's bytes, or of whatever holds them.
 ghost use Rattle.std.specs.Prelude.{◌≡◌, map, IfOk};
 ghost use Rattle.job_format.specs.Model.{job_view, file_view};
-ghost use Rattle.job_format.specs.Parts.{job_parts_view, parts_view};
+ghost use Rattle.job_format.specs.Parts.{numbers_in, job_parts_view, parts_view};
 
 use crate::file::{Frame, Job, JobFile};
 use buffer_table::{Buffer, Regions};
 use field_words::NoMemory;
 use std::alloc::{AllocError, Global};
 
+/// Numbers of buffers: a slice of whatever holds them, or a list of their own where they were read from bytes.
+#[derive(Debug, Drop)]
+pub enum Numbers<'a> {
+    Lent(&'a [u32]),
+    Own(Vec<u32>),
+}
+
+impl<'a> Numbers<'a> {
+    /// The numbers.
+    pub fn as_slice(&self) -> &[u32]
+        ensures { result.now ≡ numbers_in self.now }
+    {
+        match self {
+            Numbers::Lent(numbers) => numbers,
+            Numbers::Own(numbers) => numbers,
+        }
+    }
+}
+
 /// A job as `Job` is, whose lists are slices.
 #[derive(Debug, Drop)]
 pub struct JobParts<'a> {
     pub client: u32,
-    pub handles: Vec<u32>,
+    pub handles: Numbers<'a>,
     pub bin: &'a [u8],
     pub records: &'a [u8],
     pub declared: u32,
@@ -48,7 +67,7 @@ fn job_of(alloc: Global, job: &JobParts) -> Result<Job, AllocError>
 {
     Ok(Job {
         client: job.client,
-        handles: Vec::from_slice(alloc, &job.handles)?,
+        handles: Vec::from_slice(alloc, job.handles.as_slice())?,
         bin: Vec::from_slice(alloc, job.bin)?,
         records: Vec::from_slice(alloc, job.records)?,
         declared: job.declared,
@@ -96,18 +115,18 @@ fn lent<'a>(alloc: Global, contents: &'a [Vec<u8>]) -> Result<Vec<&'a [u8]>, All
 }
 
 /// A job whose lists are lent.
-fn parts_of_job<'a>(alloc: Global, job: &'a Job) -> Result<JobParts<'a>, AllocError>
-    ensures { IfOk result (λ j. job_parts_view j ≡ job_view job.now) }
+fn parts_of_job<'a>(job: &'a Job) -> JobParts<'a>
+    ensures { job_parts_view result ≡ job_view job.now }
 {
-    Ok(JobParts {
+    JobParts {
         client: job.client,
-        handles: Vec::from_slice(alloc, &job.handles)?,
+        handles: Numbers::Lent(&job.handles),
         bin: &job.bin,
         records: &job.records,
         declared: job.declared,
         uniforms: &job.uniforms,
         frame: job.frame,
-    })
+    }
 }
 
 /// The same of all jobs.
@@ -116,7 +135,7 @@ fn parts_of_jobs<'a>(alloc: Global, jobs: &'a [Job]) -> Result<Vec<JobParts<'a>>
 {
     let mut parts = Vec::with_capacity(alloc, jobs.len())?;
     for job in jobs {
-        parts.push(parts_of_job(alloc, job)?)?;
+        parts.push(parts_of_job(job))?;
     }
     Ok(parts)
 }

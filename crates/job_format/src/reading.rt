@@ -12,7 +12,7 @@ ghost use Rattle.job_format.specs.Reading.{cut, regions_at, entry_at, surface_at
 
 use crate::faults::{content_size, format_fault};
 use crate::file::{Frame, JobFile, Surface};
-use crate::parts::{FileParts, JobParts};
+use crate::parts::{FileParts, JobParts, Numbers};
 use crate::rule::FormatFault;
 use crate::sizes::{entry_offset, job_offset};
 use crate::words::{half, word};
@@ -182,7 +182,7 @@ fn job<'a>(
     let uniforms_size = word(bytes, at + 24) as usize;
     let job = JobParts {
         client: word(bytes, at),
-        handles: words(alloc, bytes, handles, count)?,
+        handles: Numbers::Own(words(alloc, bytes, handles, count)?),
         bin: bytes_at(bytes, bin, bin_size),
         records: bytes_at(bytes, records, records_size),
         declared: word(bytes, at + 20),

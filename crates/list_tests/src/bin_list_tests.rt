@@ -1,5 +1,5 @@
 //! Binner lists, worked by hand.
-ghost use Rattle.std.specs.Prelude.{IfOk};
+ghost use Rattle.std.specs.Prelude.{◌≡◌, length, IfOk};
 ghost use Rattle.buffer_table.specs.Handles.{AreNumbersOf};
 
 use bin_list::{BinInfo, ListFault, check_bin};
@@ -28,12 +28,20 @@ fn buffer(place: u32, kind: Kind) -> Buffer {
     }
 }
 
-fn table(alloc: Global) -> Result<Table, Fail> {
+fn three(alloc: Global) -> Result<Vec<Buffer>, Fail>
+    ensures { IfOk result (λ buffers. length buffers.items ≡ 3) }
+{
     let mut buffers = Vec::new(alloc);
     buffers.push(buffer(0x81000, Kind::Plain))?;
     buffers.push(buffer(0x82000, Kind::Code))?;
     buffers.push(buffer(0x83000, Kind::Plain))?;
-    match Table::make(alloc, 0x84000, REGIONS, &buffers) {
+    Ok(buffers)
+}
+
+fn table<'a>(alloc: Global, buffers: &'a Vec<Buffer>) -> Result<Table<'a>, Fail>
+    requires { length buffers.now.items ≡ 3 }
+{
+    match Table::make(alloc, 0x84000, REGIONS, buffers) {
         Ok(table) => Ok(table),
         Err(_) => Err("no rule of the table stands".into()),
     }
@@ -67,7 +75,8 @@ fn answer(alloc: Global, list: &[u8], declared: u32) -> Result<String, Fail> {
     if list.len() > 128 || declared > 65_536 {
         return Err("the test's window is too small, or there are too many states".into());
     }
-    let table = table(alloc)?;
+    let buffers = three(alloc)?;
+    let table = table(alloc, &buffers)?;
     let handles = match Handles::make(alloc, &table, 1, &[0, 1, 2]) {
         Ok(handles) => handles,
         Err(_) => return Err("all buffers are of client 1".into()),

@@ -1,4 +1,6 @@
 //! Each memory rule, the handles' rule, and what handles name.
+ghost use Rattle.std.specs.Prelude.{◌≤◌};
+
 use buffer_table::{Buffer, Handles, Kind, MOST_PLACE, Regions, Table, use_code, use_data};
 use field_words::Stop;
 use std::alloc::{AllocError, Global};
@@ -179,12 +181,17 @@ fn the_most_buffers(rt: HostRuntime) -> Result<(), Fail> {
     Ok(())
 }
 
-/// The first rule that stands of a memory below 0xFF000000, with the lists' region above its buffers.
+/// The first rule that stands of a memory below 0xFF000000, with the lists' region above its buffers, of which so many others come before
+/// the three, the next one always below the one before.
 fn high_fault_of(
+    rt: &impl Abort,
     alloc: Global,
     memory: u32,
+    others: u32,
     three: [Buffer; 3],
-) -> Result<Option<(u8, u32)>, AllocError> {
+) -> Result<Option<(u8, u32)>, AllocError>
+    requires { others ≤ 64 }
+{
     let regions = Regions {
         lists_place: 0xfe000000,
         lists_size: 0x1000,
@@ -192,9 +199,13 @@ fn high_fault_of(
         tile_slots: 1,
     };
     let mut buffers = Vec::new(alloc);
+    for k in 0..others {
+        buffers.push(at(0xd0040000 - 0x1000 * k))?;
+    }
     buffers.push(three[0])?;
     buffers.push(three[1])?;
     buffers.push(three[2])?;
+    assert!(rt; buffers.len() <= 1024);
     Ok(
         match Table::make_within(alloc, MOST_PLACE, memory, regions, &buffers) {
             Err(Stop::Fault(fault)) => Some((fault.number, fault.item)),
@@ -209,17 +220,46 @@ fn the_rules_at_high_places(rt: HostRuntime) -> Result<(), Fail> {
     let first = at(0xc0080000);
     let second = at(0xc0081000);
     let third = at(0xfe001000);
-    for (memory, buffers, want) in [
-        (0xff000000, [first, second, third], None),
-        (0xff000000, [third, second, first], None),
-        (0xff001000, [first, second, third], Some((1, 0))),
-        (0xfe001000, [first, second, third], Some((3, 5))),
-        (0xff000000, [first, third, first], Some((4, 5))),
-        (0xff000000, [third, first, third], Some((4, 5))),
-        (0xff000000, [first, at(0xfe000000), second], Some((4, 4))),
-        (0xff000000, [at(0xc007f000), second, third], Some((4, 3))),
+    for (memory, others, buffers, want) in [
+        (0xff000000, 0, [first, second, third], None),
+        (0xff000000, 0, [third, second, first], None),
+        (0xff001000, 0, [first, second, third], Some((1, 0))),
+        (0xfe001000, 0, [first, second, third], Some((3, 5))),
+        (0xff000000, 0, [first, third, first], Some((4, 5))),
+        (0xff000000, 0, [third, first, third], Some((4, 5))),
+        (0xff000000, 0, [first, at(0xfe000000), second], Some((4, 4))),
+        (0xff000000, 0, [at(0xc007f000), second, third], Some((4, 3))),
+        // With more than a few buffers.
+        (0xff000000, 30, [first, second, third], None),
+        (0xff000000, 30, [third, second, first], None),
+        (0xfe001000, 30, [first, second, third], Some((3, 35))),
+        (0xff000000, 30, [first, third, first], Some((4, 35))),
+        (
+            0xff000000,
+            30,
+            [third, at(0xd0030000), first],
+            Some((4, 34)),
+        ),
+        (
+            0xff000000,
+            30,
+            [at(0xd0041000), at(0xd0023000), second],
+            Some((4, 34)),
+        ),
+        (
+            0xff000000,
+            30,
+            [at(0xd0041000), at(0xd0022000), second],
+            None,
+        ),
+        (
+            0xff000000,
+            30,
+            [at(0xc007f000), second, third],
+            Some((4, 33)),
+        ),
     ] {
-        assert_eq!(rt; high_fault_of(alloc, memory, buffers)?, want);
+        assert_eq!(rt; high_fault_of(&rt, alloc, memory, others, buffers)?, want);
     }
     Ok(())
 }

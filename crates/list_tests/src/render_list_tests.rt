@@ -1,12 +1,12 @@
 //! Frames, their faults and their lists, worked by hand.
-ghost use Rattle.std.specs.Prelude.{◌<◌};
+ghost use Rattle.std.specs.Prelude.{◌≡◌, ◌<◌, length, IfOk};
 
 use buffer_table::{Buffer, Handles, Kind, Regions, Table, TableFault};
 use field_words::Stop;
 use job_format::{Frame, Surface};
 use relocation::Layout;
 use render_list::{build, check_surfaces, render_size};
-use std::alloc::Global;
+use std::alloc::{AllocError, Global};
 use std::process::Abort;
 use std::test::Fail;
 
@@ -58,13 +58,9 @@ fn with(frame: Frame, k: usize, surface: Surface) -> Frame
 }
 
 /// A Plain buffer of 65,536 bytes at 0x81000, and a Code buffer behind it.
-fn table(alloc: Global) -> Result<Table, Stop<TableFault>> {
-    let regions = Regions {
-        lists_place: 0,
-        lists_size: 4096,
-        tile_place: 4096,
-        tile_slots: 1,
-    };
+fn two(alloc: Global) -> Result<Vec<Buffer>, AllocError>
+    ensures { IfOk result (λ buffers. length buffers.items ≡ 2) }
+{
     let data = Buffer {
         place: 0x81000,
         size: 65536,
@@ -79,14 +75,27 @@ fn table(alloc: Global) -> Result<Table, Stop<TableFault>> {
         kind: Kind::Code,
         content: 0,
     };
-    Table::make(alloc, 0x92000, regions, &vec![in alloc; data, code]?)
+    Ok(vec![in alloc; data, code]?)
+}
+
+fn table<'a>(alloc: Global, buffers: &'a Vec<Buffer>) -> Result<Table<'a>, Stop<TableFault>>
+    requires { length buffers.now.items ≡ 2 }
+{
+    let regions = Regions {
+        lists_place: 0,
+        lists_size: 4096,
+        tile_place: 4096,
+        tile_slots: 1,
+    };
+    Table::make(alloc, 0x92000, regions, buffers)
 }
 
 /// A frame, the binner's grid, and the rule and item of its first fault.
 type Case = (Frame, Option<(u8, u8)>, Option<(u8, u8)>);
 
 fn expect_faults(rt: &impl Abort, alloc: Global, cases: &[Case]) -> Result<(), Fail> {
-    let table = table(alloc)?;
+    let buffers = two(alloc)?;
+    let table = table(alloc, &buffers)?;
     let handles = Handles::make(alloc, &table, 1, &[0, 1])?;
     for (frame, tiles, fault) in cases {
         let found = check_surfaces(frame, *tiles, &table, &handles).err();
@@ -194,7 +203,8 @@ fn built(
     frame: &Frame,
     tiles: Option<(u8, u8)>,
 ) -> Result<(usize, [u8; 128]), Fail> {
-    let table = table(alloc)?;
+    let buffers = two(alloc)?;
+    let table = table(alloc, &buffers)?;
     let handles = Handles::make(alloc, &table, 1, &[0])?;
     let setup = check_surfaces(frame, tiles, &table, &handles)?;
     let size = render_size(frame, tiles.is_some());

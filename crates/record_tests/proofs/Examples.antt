@@ -79,7 +79,7 @@ known_sound one two first second (suc zero) shader is = let e : one ≡ shader =
 known_sound one two first second (suc (suc zero)) shader is = let e : two ≡ shader = cc in subst IsSoundShader e second
 known_sound one two first second (suc (suc (suc n))) shader is = cc
 
-pub three_shaders : (table : TableModel) (one two : ShaderModel) → HasThree table → IsSoundShader one → IsSoundShader two
+pub three_shaders : (table : TableModel) (one two : ShaderModel) → HasThree table.buffers → IsSoundShader one → IsSoundShader two
     → AreShadersOf table (None ∷ Some one ∷ Some two ∷ [])
 three_shaders table one two three first second =
     record {
@@ -90,14 +90,12 @@ three_shaders table one two three first second =
       sound = λ number shader is. known_sound one two first second number shader is;
     }
 
-pub has_three : (items : List Buffer) (b0 b1 b2 : Buffer) → items ≡ b0 ∷ b1 ∷ b2 ∷ [] → b0.kind ≡ Plain → b1.kind ≡ Code → b2.kind ≡ Code
-    → (table : TableModel) → table.buffers ≡ items → HasThree table
+pub has_three : (items : List Buffer) (b0 b1 b2 : Buffer) → items ≡ b0 ∷ b1 ∷ b2 ∷ [] → b0.kind ≡ Plain → b1.kind ≡ Code → b2.kind ≡ Code → HasThree items
 unfolding buffer_at
-has_three items b0 b1 b2 are k0 k1 k2 table is =
-    let all = is ∙ are in
+has_three items b0 b1 b2 are k0 k1 k2 =
     record {
-      count = ap length all;
-      data_first = ap (λ bs. (buffer_at bs 0).kind) all ∙ k0;
-      code_second = ap (λ bs. (buffer_at bs 1).kind) all ∙ k1;
-      code_third = ap (λ bs. (buffer_at bs 2).kind) all ∙ k2;
+      count = ap length are;
+      data_first = ap (λ bs. (buffer_at bs 0).kind) are ∙ k0;
+      code_second = ap (λ bs. (buffer_at bs 1).kind) are ∙ k1;
+      code_third = ap (λ bs. (buffer_at bs 2).kind) are ∙ k2;
     }

@@ -35,14 +35,21 @@ fn buffer(place: u32, kind: Kind) -> Buffer
 
 /// Three buffers of a page: 0 of data, 1 and 2 of code.
 #[tactic(auto, using(crate::proofs::Examples::has_three))]
-fn table(alloc: Global) -> Result<Table, Fail>
-    ensures { IfOk result (λ table. HasThree table) }
+fn three(alloc: Global) -> Result<Vec<Buffer>, Fail>
+    ensures { IfOk result (λ buffers. HasThree buffers.items) }
 {
     let mut buffers = Vec::new(alloc);
     buffers.push(buffer(0x81000, Kind::Plain))?;
     buffers.push(buffer(0x82000, Kind::Code))?;
     buffers.push(buffer(0x83000, Kind::Code))?;
-    match Table::make(alloc, 0x84000, REGIONS, &buffers) {
+    Ok(buffers)
+}
+
+fn table<'a>(alloc: Global, buffers: &'a Vec<Buffer>) -> Result<Table<'a>, Fail>
+    requires { HasThree buffers.now.items }
+    ensures { IfOk result (λ table. HasThree table.buffers) }
+{
+    match Table::make(alloc, 0x84000, REGIONS, buffers) {
         Ok(table) => Ok(table),
         Err(_) => Err("no rule of the table stands".into()),
     }
@@ -103,7 +110,8 @@ fn answer(
     if records.len() > 256 || uniforms.len() > 256 {
         return Err("the test's window is too small".into());
     }
-    let table = table(alloc)?;
+    let buffers = three(alloc)?;
+    let table = table(alloc, &buffers)?;
     let handles = match Handles::make(alloc, &table, 1, &[0, 1, 2]) {
         Ok(handles) => handles,
         Err(_) => return Err("all buffers are of client 1".into()),

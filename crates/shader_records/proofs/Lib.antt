@@ -9,3 +9,4 @@ pub mod Shaders
 pub mod Spelled
 pub mod Steps
 pub mod StreamFacts
+pub mod Vertices

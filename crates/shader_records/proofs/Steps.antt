@@ -1,9 +1,10 @@
 -- Places from one shader, or one state, to the next.
-use Rattle.std.proofs.Common.{◌≡◌, ℕ, zero, suc, ◌+◌, refl, ap, arith}
+use Rattle.std.proofs.Common.{◌≡◌, ℕ, zero, suc, ◌+◌, [], ◌∷◌, slice_index, refl, ap, arith}
 use Rattle.std.proofs.Common.{◌≤◌, ◌<◌}
 use Rattle.shader_records.specs.Inputs.{InputModel}
 use Rattle.shader_records.specs.Sources.{state_at, source_size, record_source, record_offset, uniform_source, stream_offset, shader_used, taken_by, given_by, taken_before, given_before}
 use Rattle.packets.specs.StateWord.{record_room}
+use Rattle.shader_records.specs.Emission.{stream_place}
 
 next : (n : ℕ) → n + 1 ≡ suc n
 next n = omega arith
@@ -56,6 +57,30 @@ uniforms_zero input = refl
 pub streams_zero : (input : InputModel) → stream_offset input 0 ≡ 0
 unfolding stream_offset
 streams_zero input = refl
+
+-- the streams of one shader, of two and of all three
+pub record GivenParts (input : InputModel) (at : ℕ) : Type 0 where
+  pub none : given_before input at 0 ≡ 0
+  pub one : given_before input at 1 ≡ given_by (shader_used input at 0)
+  pub two : given_before input at 2 ≡ given_by (shader_used input at 0) + given_by (shader_used input at 1)
+  pub three : given_before input at 3 ≡ given_by (shader_used input at 0) + given_by (shader_used input at 1) + given_by (shader_used input at 2)
+
+pub given_parts : (input : InputModel) (at : ℕ) → GivenParts input at
+given_parts input at =
+    let z = given_zero input at in
+    let a = given_next input at 0 in
+    let b = given_next input at 1 in
+    let c = given_next input at 2 in
+    record { none = z; one = omega (arith, z, a); two = omega (arith, z, a, b); three = omega (arith, z, a, b, c) }
+
+-- where the three streams of a record stand
+pub streams_each : (input : InputModel) (at first g0 g1 : ℕ) → g0 ≡ given_by (shader_used input at 0) → g1 ≡ given_by (shader_used input at 1) → (s : ℕ) → s < 3
+    → slice_index (first ∷ (first + g0) ∷ (first + (g0 + g1)) ∷ []) s ≡ stream_place input at first s
+unfolding stream_place
+streams_each input at first g0 g1 e0 e1 zero below = let p = given_parts input at in omega (arith, p.none)
+streams_each input at first g0 g1 e0 e1 (suc zero) below = let p = given_parts input at in omega (arith, p.one, e0)
+streams_each input at first g0 g1 e0 e1 (suc (suc zero)) below = let p = given_parts input at in omega (arith, p.two, e0, e1)
+streams_each input at first g0 g1 e0 e1 (suc (suc (suc s))) below = absurd (omega arith)
 
 -- the streams of fewer shaders have no more bytes
 pub given_rises : (input : InputModel) (at s : ℕ) → s < 3 → given_before input at s ≤ given_before input at 3

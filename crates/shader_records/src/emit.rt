@@ -11,7 +11,7 @@ ghost use Rattle.shader_records.specs.Emission.{emitted_records, emitted_uniform
 
 use crate::faults::source_of;
 use crate::inputs::Inputs;
-use crate::record_text::{given_before, put_record};
+use crate::record_text::put_record;
 use crate::sizes::source_size;
 use crate::stream_text::put_streams;
 use packets::record_room;
@@ -31,8 +31,7 @@ pub(crate) fn put_records(inputs: &Inputs, first: u32, out: &mut [u8], base: usi
     let mut done = 0;
     for k in 0..inputs.count() {
         let source = source_of(inputs, k, at);
-        put_record(inputs, source, first + given as u32, out, base + done);
-        given += given_before(inputs, at, 3);
+        given += put_record(inputs, source, first + given as u32, out, base + done);
         at += source_size(source.state);
         done += record_room(source.state) as usize;
     }

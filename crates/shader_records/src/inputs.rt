@@ -6,7 +6,7 @@ ghost use Rattle.field_words.specs.Writes.{with_bytes};
 ghost use Rattle.buffer_table.specs.Table.{buffer_at, most_place};
 ghost use Rattle.qpu_isa.specs.Shader.{shader_view, IsSoundShader};
 ghost use Rattle.shader_records.specs.Inputs.{shaders_view, shader_in, Fits};
-ghost use Rattle.shader_records.specs.Sources.{no_state, state_at, handles_size, code_number, attribute_number, sample_number, shader_used, is_threaded, record_word, word_from, place_in, size_in};
+ghost use Rattle.shader_records.specs.Sources.{no_state, state_at, handles_size, code_number, attribute_number, sample_number, shader_behind, shader_used, is_threaded, record_word, word_from, place_in, size_in};
 
 use crate::copies::copy_words;
 use crate::sizes::handles_size;
@@ -23,8 +23,8 @@ pub(crate) struct Inputs<'a> {
     pub(crate) states: &'a [State],
     pub(crate) records: &'a [u8],
     pub(crate) uniforms: &'a [u8],
-    pub(crate) table: &'a Table,
-    pub(crate) handles: &'a Handles,
+    pub(crate) table: &'a Table<'a>,
+    pub(crate) handles: &'a Handles<'a>,
     pub(crate) shaders: &'a [Option<ShaderInfo>],
 }
 
@@ -178,6 +178,19 @@ impl<'a> Inputs<'a> {
         ensures sound { IfSome result (λ info. IsSoundShader (shader_view info.now)) }
     {
         match self.code_number(at, s) {
+            Some(number) => known(self.shaders, number),
+            None => None,
+        }
+    }
+
+    /// What is known of the shader in a buffer of this number; `None` also of no number.
+    pub(crate) fn shader_in(&self, number: Option<usize>) -> Option<&ShaderInfo>
+        requires fits { Fits self.now }
+        requires below { IfSome number (λ number. number < length self.now.table.buffers) }
+        ensures { let used = shader_behind self.now.shaders number in
+            MatchOption result (used ≡ None) (λ info. used ≡ Some (shader_view info.now)) }
+    {
+        match number {
             Some(number) => known(self.shaders, number),
             None => None,
         }

@@ -1,5 +1,5 @@
 //! The rules of one record.
-ghost use Rattle.std.specs.Prelude.{◌≡◌, ◌++◌, true, ◌+◌, ◌*◌, ◌<◌, ◌≤◌, ◌^◌, length, IfNone};
+ghost use Rattle.std.specs.Prelude.{◌≡◌, ◌++◌, true, not, nat_lt, ◌==◌, ◌&&◌, ◌+◌, ◌*◌, ◌/◌, ◌<◌, ◌≤◌, ◌^◌, length, IfNone};
 ghost use Rattle.field_words.specs.Questions.{first_of, each};
 ghost use Rattle.emitted_facts.specs.Records.{attribute_size, attribute_stride, is_single};
 ghost use Rattle.packets.specs.StateWord.{attribute_count, is_extended};
@@ -177,6 +177,15 @@ fn attribute_stride(inputs: &Inputs, source: Source, t: usize) -> u32
     }
 }
 
+/// Whether the vertex of the greatest index ends past a buffer with so many bytes behind the first. Nothing is divided.
+#[tactic(auto, using(crate::proofs::Vertices::past_by_product))]
+fn is_past(rest: u64, stride: u64, max_index: u32) -> bool
+    requires { stride < 2 ^ 32 }
+    ensures { result ≡ (not (stride == 0) && nat_lt (rest / stride) max_index) }
+{
+    rest < u64::from(max_index) * stride
+}
+
 /// A9 and A10 at an attribute.
 #[tactic(auto, unfolding(crate::specs::Rules::attribute_questions, crate::specs::Rules::is_attribute_past, crate::specs::Rules::has_vertex_past))]
 fn attribute_fault(inputs: &Inputs, source: Source, t: usize) -> Option<RecordFault>
@@ -195,7 +204,7 @@ fn attribute_fault(inputs: &Inputs, source: Source, t: usize) -> Option<RecordFa
         return Some(fault(RecordRule::AttributeOutside, at));
     }
     let stride = u64::from(attribute_stride(inputs, source, t));
-    if stride != 0 && (size - address - bytes) / stride < u64::from(source.max_index) {
+    if is_past(size - address - bytes, stride, source.max_index) {
         return Some(fault(RecordRule::VertexOutside, at));
     }
     None

@@ -1,8 +1,9 @@
 //! Emission of one record.
-ghost use Rattle.std.specs.Prelude.{◌≡◌, ℕ, None, ◌+◌, ◌*◌, ◌/◌, ◌-◌, ◌<◌, ◌≤◌, ◌^◌, length, slice_index};
+ghost use Rattle.std.specs.Prelude.{◌≡◌, ℕ, None, Some, Option, MatchOption, ◌+◌, ◌*◌, ◌/◌, ◌-◌, ◌<◌, ◌≤◌, ◌^◌, length, slice_index};
 ghost use Rattle.field_words.specs.Questions.{first_of};
 ghost use Rattle.field_words.specs.WordBytes.{word_bytes};
 ghost use Rattle.field_words.specs.Writes.{with_bytes};
+ghost use Rattle.qpu_isa.specs.Shader.{ShaderModel, shader_view};
 ghost use Rattle.emitted_facts.specs.Records.{address_word};
 ghost use Rattle.packets.specs.StateWord.{attribute_count, record_size, record_room};
 ghost use Rattle.shader_records.specs.Inputs.{Fits};
@@ -15,6 +16,7 @@ use crate::record_rules::Source;
 use crate::sizes::handles_size;
 use field_words::put_u32;
 use packets::{attribute_count, record_room, record_size};
+use qpu_isa::ShaderInfo;
 
 /// The bytes of so many words.
 fn bytes_of(words: u32) -> u64
@@ -24,59 +26,67 @@ fn bytes_of(words: u32) -> u64
     4 * u64::from(words)
 }
 
-/// The bytes of the stream of shader `s` of a record.
-pub(crate) fn given_by(inputs: &Inputs, at: usize, s: usize) -> u64
-    requires fits { Fits inputs.now }
-    requires inside { at + 4 * s + 4 ≤ length inputs.now.records }
-    ensures value { result ≡ given_by (shader_used inputs.now at s) }
+/// Where the code of a record's shader lies, and the bytes of its stream.
+#[derive(Clone, Copy)]
+struct Start {
+    code: u32,
+    given: u64,
+}
+
+/// The bytes of the stream of a shader, of which there may be none.
+fn given_by(used: Option<&ShaderInfo>) -> u64
+    ensures value { (shader : Option ShaderModel) → MatchOption used.entry (shader ≡ None) (λ info. shader ≡ Some (shader_view info.now)) →
+        result ≡ given_by shader }
     ensures limit { result < 2 ^ 34 }
 {
-    match inputs.shader_used(at, s) {
+    match used {
         Some(info) => bytes_of(info.uniforms),
         None => 0,
     }
 }
 
-/// The bytes of a record's streams before shader `s`.
-#[tactic(auto, using(crate::proofs::Steps::given_zero, crate::proofs::Steps::given_next))]
-pub(crate) fn given_before(inputs: &Inputs, at: usize, count: usize) -> u64
+/// What a record starts as shader `s`.
+#[tactic(auto, unfolding(crate::specs::Sources::shader_used))]
+fn start_of(inputs: &Inputs, at: usize, s: usize) -> Start
     requires fits { Fits inputs.now }
-    requires count { count ≤ 3 }
-    requires inside { at + 12 ≤ length inputs.now.records }
-    ensures value { result ≡ given_before inputs.now at count }
-    ensures limit { result < 2 ^ 36 }
+    requires inside { at + 4 * s + 4 ≤ length inputs.now.records }
+    ensures code { result.code ≡ place_in inputs.now.table (code_number inputs.now at s) }
+    ensures given { result.given ≡ given_by (shader_used inputs.now at s) }
+    ensures limit { result.given < 2 ^ 34 }
 {
-    let mut sum = 0;
-    for s in 0..count {
-        sum += given_by(inputs, at, s);
+    let number = inputs.code_number(at, s);
+    Start {
+        code: inputs.place_of(number),
+        given: given_by(inputs.shader_in(number)),
     }
-    sum
 }
 
-/// Where the streams of a record stand, if the first does at `first`.
-#[tactic(auto, unfolding(crate::specs::Emission::stream_place))]
-fn streams_of(inputs: &Inputs, at: usize, first: u32) -> [u32; 3]
+/// Where the codes and the streams of a record's three shaders lie, and the bytes of all three streams.
+#[derive(Clone, Copy)]
+struct Places {
+    codes: [u32; 3],
+    streams: [u32; 3],
+    given: u64,
+}
+
+/// The places of a record's shaders, if the first stream stands at `first`.
+fn places_of(inputs: &Inputs, at: usize, first: u32) -> Places
     requires fits { Fits inputs.now }
     requires inside { at + 12 ≤ length inputs.now.records }
     requires room { first + given_before inputs.now at 3 < 2 ^ 32 }
-    ensures { AreStreamsOf result (stream_place inputs.now at first) }
+    ensures codes { AreStreamsOf result.codes (λ s. place_in inputs.now.table (code_number inputs.now at s)) }
+    ensures streams { AreStreamsOf result.streams (stream_place inputs.now at first) }
+    ensures given { result.given ≡ given_before inputs.now at 3 }
 {
-    [
-        stream_place(inputs, at, first, 0),
-        stream_place(inputs, at, first, 1),
-        stream_place(inputs, at, first, 2),
-    ]
-}
-
-#[tactic(auto, unfolding(crate::specs::Emission::stream_place), using(crate::proofs::Steps::given_rises))]
-fn stream_place(inputs: &Inputs, at: usize, first: u32, s: usize) -> u32
-    requires fits { Fits inputs.now }
-    requires inside { at + 12 ≤ length inputs.now.records }
-    requires count { s < 3 }
-    requires room { first + given_before inputs.now at 3 < 2 ^ 32 }
-    ensures { result ≡ stream_place inputs.now at first s }
-{
-    first + given_before(inputs, at, s) as u32
+    let fragment = start_of(inputs, at, 0);
+    let vertex = start_of(inputs, at, 1);
+    let coordinate = start_of(inputs, at, 2);
+    let two = fragment.given + vertex.given;
+    Places {
+        codes: [fragment.code, vertex.code, coordinate.code],
+        streams: [first, first + fragment.given as u32, first + two as u32],
+        given: two + coordinate.given,
+    }
 }
 
 /// The address of attribute `t`, moved by its buffer's place.
@@ -110,36 +120,31 @@ fn put_plain(inputs: &Inputs, source: Source, out: &mut [u8], base: usize)
     }
 }
 
-/// The place of shader `s`'s code.
-fn code_place(inputs: &Inputs, at: usize, s: usize) -> u32
-    requires fits { Fits inputs.now }
-    requires inside { at + 4 * s + 4 ≤ length inputs.now.records }
-    ensures { result ≡ place_in inputs.now.table (code_number inputs.now at s) }
-{
-    inputs.place_of(inputs.code_number(at, s))
-}
-
-/// Emits a record at `base`, with zeros up to a multiple of 16. Its streams stand from `first` on.
+/// Emits a record at `base`, with zeros up to a multiple of 16. Its streams stand from `first` on; it gives the bytes of them.
 #[tactic(auto, unfolding(crate::specs::Emission::record_text), using(crate::proofs::Fine::source_inside, crate::proofs::Inside::fixed_in))]
-pub(crate) fn put_record(inputs: &Inputs, source: Source, first: u32, out: &mut [u8], base: usize)
+pub(crate) fn put_record(
+    inputs: &Inputs,
+    source: Source,
+    first: u32,
+    out: &mut [u8],
+    base: usize,
+) -> u64
     requires fits { Fits inputs.now }
     requires fine { IsFineRecord inputs.now source.at source.state source.max_index }
     requires streams { first + given_before inputs.now source.at 3 < 2 ^ 32 }
     requires room { base + record_room source.state ≤ length out.old }
-    ensures { out.new ≡ with_bytes out.old base (record_text inputs.now source.at source.state first) }
+    ensures text { out.new ≡ with_bytes out.old base (record_text inputs.now source.at source.state first) }
+    ensures given { result ≡ given_before inputs.now source.at 3 }
 {
-    let streams = streams_of(inputs, source.at, first);
+    let places = places_of(inputs, source.at, first);
     put_plain(inputs, source, out, base);
     for s in 0..3usize {
-        put_u32(
-            out,
-            base + 4 * (3 * s + 1),
-            code_place(inputs, source.at, s),
-        );
-        put_u32(out, base + 4 * (3 * s + 2), streams[s]);
+        put_u32(out, base + 4 * (3 * s + 1), places.codes[s]);
+        put_u32(out, base + 4 * (3 * s + 2), places.streams[s]);
     }
     for t in 0..attribute_count(source.state) as usize {
         let word = moved_address(inputs, source, t);
         put_u32(out, base + 4 * (9 + 2 * t), word);
     }
+    places.given
 }

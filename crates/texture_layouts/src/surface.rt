@@ -1,5 +1,6 @@
 //! The tilings, and the sizes that surfaces take in memory.
-ghost use Rattle.std.specs.Prelude.{◌≡◌, ◌<◌, ◌≤◌, ◌^◌};
+ghost use Rattle.std.specs.Prelude.{◌≡◌, ◌+◌, ◌<◌, ◌≤◌, ◌^◌};
+ghost use Rattle.field_words.specs.Words.{IsRoundedUp};
 ghost use Rattle.texture_layouts.specs.Surface.{IsPixelSize, microtile_width_of, microtile_height_of, tiling_for, unit_across, unit_down, size_for};
 
 use field_words::round_up;
@@ -45,9 +46,27 @@ pub fn surface_size(tiling: Tiling, width: u32, height: u32, cpp: u32) -> u64
     ensures value { result ≡ size_for tiling width height cpp }
     ensures limit { result < 2 ^ 36 }
 {
-    let across = round_up(width as u64, alignment_across(tiling, cpp));
-    let down = round_up(height as u64, alignment_down(tiling, cpp));
+    let across = aligned(width as u64, alignment_across(tiling, cpp));
+    let down = aligned(height as u64, alignment_down(tiling, cpp));
     across * down * cpp as u64
+}
+
+/// A side as aligned to so many pixels. Each unit that a surface has stands as a number, so that nothing is divided.
+fn aligned(side: u64, unit: u64) -> u64
+    requires positive { 1 ≤ unit }
+    requires room { side + unit < 2 ^ 63 }
+    ensures { IsRoundedUp side unit result }
+{
+    match unit {
+        1 => round_up(side, 1),
+        2 => round_up(side, 2),
+        4 => round_up(side, 4),
+        8 => round_up(side, 8),
+        16 => round_up(side, 16),
+        32 => round_up(side, 32),
+        64 => round_up(side, 64),
+        unit => round_up(side, unit),
+    }
 }
 
 /// A microtile's width in pixels of `cpp` bytes.

@@ -14,7 +14,7 @@ use buffer_table::{Buffer, Kind, Regions};
 use field_words::{MOST_CODE, MOST_LIST, Stop};
 use job_format::{
     ENTRY_SIZE, FileParts, FormatRule, Frame, HEADER_SIZE, JobParts, MOST_BUFFERS, MOST_HANDLES,
-    MOST_STATES, Refusal, Rule, Stage, Surface,
+    MOST_STATES, Numbers, Refusal, Rule, Stage, Surface,
 };
 use std::alloc::{AllocError, Global};
 
@@ -261,18 +261,18 @@ fn contents<'a>(alloc: Global, buffers: &[GivenBuffer<'a>]) -> Result<Vec<&'a [u
 
 /// The job.
 #[tactic(auto, unfolding(crate::specs::Submission::job_in))]
-fn job_in<'a>(alloc: Global, given: &Submission<'a>) -> Result<JobParts<'a>, AllocError>
-    ensures { IfOk result (λ job. job_parts_view job ≡ job_in given.now) }
+fn job_in<'a>(given: &Submission<'a>) -> JobParts<'a>
+    ensures { job_parts_view result ≡ job_in given.now }
 {
-    Ok(JobParts {
+    JobParts {
         client: given.client,
-        handles: Vec::from_slice(alloc, given.handles)?,
+        handles: Numbers::Lent(given.handles),
         bin: given.bin,
         records: given.records,
         declared: given.states,
         uniforms: given.uniforms,
         frame: frame_in(&given.frame, given.flags),
-    })
+    }
 }
 
 /// The entries of the buffers, where nothing is wrong with the submission's own numbers.
@@ -311,6 +311,6 @@ pub(crate) fn parts_in<'a>(
         },
         buffers,
         contents: contents(alloc, given.buffers)?,
-        jobs: vec![in alloc; job_in(alloc, given)?]?,
+        jobs: vec![in alloc; job_in(given)]?,
     })
 }

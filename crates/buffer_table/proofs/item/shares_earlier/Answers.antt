@@ -20,5 +20,5 @@ returns c =
     let inside : c.args.k ≤ length items = omega (arith, length_items c.args.regions.now c.args.buffers.now, c.requires.inside) in
     let told : shares_with_first c.args.x.now items (min c.args.k 2) ≡ c.shares_with_first.result =
     sym (c.shares_with_first.ensures ∙ ap (λ n. shares_with_first c.args.x.now items n) c.min.ensures) in
-    buffers_share c.args.order.now c.args.k c.args.x.now items c.shares_ordered.result c.requires.counts inside (told ∙ c.if-shares_with_first.false)
+    buffers_share c.args.order.now.count c.args.k c.args.x.now items c.shares_ordered.result c.requires.counts inside (told ∙ c.if-shares_with_first.false)
     c.shares_ordered.ensures.taken c.shares_ordered.ensures.free

@@ -1,7 +1,7 @@
 -- The items are in order, with the next one among them.
 use Rattle.std.proofs.Common.{◌<◌, ◌+◌, List, refl, subst, arith}
 use Rattle.buffer_table.specs.declared.item.Item.{Item}
-use Rattle.buffer_table.specs.Earlier.{CountsBelow, IsApartOrdered}
+use Rattle.buffer_table.specs.Earlier.{CountsBelow, IsApartBuffers}
 use Rattle.buffer_table.specs.Table.{items_of}
 use Rattle.buffer_table.proofs.Sounds.{length_items}
 use Rattle.buffer_table.proofs.Ordered.{ordered_more}
@@ -16,4 +16,4 @@ returns-clause-ordered c =
     c.insert_at.ensures refl (omega (arith, c.requires.inside, c.requires.few))
     (omega (arith, length_items c.args.regions.now c.args.buffers.now, c.requires.inside))
     (subst (λ x. 0 < x.size) c.requires.next c.requires.some)
-    (subst (λ x. IsApartOrdered order items x) c.requires.next c.requires.apart)
+    (subst (λ x. IsApartBuffers order.count items x) c.requires.next c.requires.apart)

@@ -35,34 +35,29 @@ overflow_add-base c =
     let inside = state_inside c.args.inputs.now c.loop-k.k c.requires.fine (omega (arith, c.loop-k-test.true, c.count-k-end.ensures)) in
     omega (arith, inside.emitted, c.loop-k.invariant.done, c.requires.fits.records, c.requires.base)
 
-pub put_record-requires-clause-fine : goal.put_record-requires-clause-fine
-put_record-requires-clause-fine c =
+pub put_record-given-requires-clause-fine : goal.put_record-given-requires-clause-fine
+put_record-given-requires-clause-fine c =
     let fine = state_fine c.args.inputs.now c.loop-k.k c.requires.fine (omega (arith, c.loop-k-test.true, c.count-k-end.ensures)) in
     ap (λ s. first_of (record_questions c.args.inputs.now s.at s.state s.max_index)) c.source_of-source.ensures
     ∙ ap (λ at. first_of (record_questions c.args.inputs.now at (state_at c.args.inputs.now c.loop-k.k).word (state_at c.args.inputs.now c.loop-k.k).max_index)) c.loop-k.invariant.at
     ∙ fine.of_record
 
-pub put_record-requires-clause-streams : goal.put_record-requires-clause-streams
-put_record-requires-clause-streams c =
+pub put_record-given-requires-clause-streams : goal.put_record-given-requires-clause-streams
+put_record-given-requires-clause-streams c =
     let inside = state_inside c.args.inputs.now c.loop-k.k c.requires.fine (omega (arith, c.loop-k-test.true, c.count-k-end.ensures)) in
     let same = ap (λ s. given_before c.args.inputs.now s.at 3) c.source_of-source.ensures ∙ ap (λ at. given_before c.args.inputs.now at 3) c.loop-k.invariant.at in
     omega (arith, inside.given, c.loop-k.invariant.given, c.requires.places, same)
 
-pub put_record-requires-clause-room : goal.put_record-requires-clause-room
-put_record-requires-clause-room c =
+pub put_record-given-requires-clause-room : goal.put_record-given-requires-clause-room
+put_record-given-requires-clause-room c =
     let inside = state_inside c.args.inputs.now c.loop-k.k c.requires.fine (omega (arith, c.loop-k-test.true, c.count-k-end.ensures)) in
     let same = ap (λ s. record_room s.state) c.source_of-source.ensures in
     omega (arith, inside.emitted, c.loop-k.invariant.done, c.requires.room, c.loop-k.auto.out, same)
 
-pub given_before-given-requires-clause-inside : goal.given_before-given-requires-clause-inside
-given_before-given-requires-clause-inside c =
-    let inside = state_inside c.args.inputs.now c.loop-k.k c.requires.fine (omega (arith, c.loop-k-test.true, c.count-k-end.ensures)) in
-    omega (arith, inside.handles, c.loop-k.invariant.at)
-
 pub overflow_add-given : goal.overflow_add-given
 overflow_add-given c =
     let inside = state_inside c.args.inputs.now c.loop-k.k c.requires.fine (omega (arith, c.loop-k-test.true, c.count-k-end.ensures)) in
-    omega (arith, inside.given, c.loop-k.invariant.given, c.requires.places, c.given_before-given.ensures.limit)
+    omega (arith, inside.given, c.loop-k.invariant.given, c.requires.places, c.put_record-given.ensures.given, ap (λ s. given_before c.args.inputs.now s.at 3) c.source_of-source.ensures, ap (λ at. given_before c.args.inputs.now at 3) c.loop-k.invariant.at)
 
 pub overflow_add-at : goal.overflow_add-at
 overflow_add-at c =
@@ -88,11 +83,11 @@ loop-k-preserved c =
     ∙ ap (λ at. record_text input at state (first + c.loop-k.given)) c.loop-k.invariant.at
     ∙ ap (λ g. record_text input (record_source input k) state (first + g)) c.loop-k.invariant.given in
     let long = length_record input (record_source input k) state (first + stream_offset input k) in
-    let taken = c.given_before-given.ensures.value ∙ ap (λ at. given_before input at 3) c.loop-k.invariant.at in
+    let taken = c.put_record-given.ensures.given ∙ ap (λ s. given_before input s.at 3) source ∙ ap (λ at. given_before input at 3) c.loop-k.invariant.at in
     record {
       text =
-          put_behind c.args.out.now c.args.base c.loop-k.done (records_text input first k) rest c.loop-k.out c.put_record.new.out c.loop-k.invariant.text
-          (length_records input first k ∙ sym c.loop-k.invariant.done) (c.put_record.ensures ∙ ap (λ t. with_bytes c.loop-k.out (c.args.base + c.loop-k.done) t) same)
+          put_behind c.args.out.now c.args.base c.loop-k.done (records_text input first k) rest c.loop-k.out c.put_record-given.new.out c.loop-k.invariant.text
+          (length_records input first k ∙ sym c.loop-k.invariant.done) (c.put_record-given.ensures.text ∙ ap (λ t. with_bytes c.loop-k.out (c.args.base + c.loop-k.done) t) same)
           (omega (arith, long, inside.emitted, c.loop-k.invariant.done, c.requires.room))
           ∙ ap (λ t. with_bytes c.args.out.now c.args.base t) (sym (records_more input first k));
       at = omega (arith, c.loop-k.invariant.at, c.source_size-at.ensures.value, record_next input k, ap (λ s. source_size s.state) source);

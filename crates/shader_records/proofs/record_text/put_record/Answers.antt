@@ -12,15 +12,10 @@ use Rattle.shader_records.proofs.Inside.{fixed_in, emitted_in, source_is, attrib
 use Rattle.shader_records.proofs.RecordWords.{done_word, done_here, done_past, done_others, code_word, stream_word, flags_stay, address_emitted, others_stay}
 use Rattle.shader_records.proofs.record_text.put_record.Goals as goal
 
-pub streams_of-streams-requires-clause-inside : goal.streams_of-streams-requires-clause-inside
-streams_of-streams-requires-clause-inside c =
+pub places_of-places-requires-clause-inside : goal.places_of-places-requires-clause-inside
+places_of-places-requires-clause-inside c =
     let source = c.args.source in
     omega (arith, source_inside c.args.inputs.now source.at source.state source.max_index c.requires.fine, fixed_in source.state)
-
-pub code_place-requires-clause-inside : goal.code_place-requires-clause-inside
-code_place-requires-clause-inside c =
-    let source = c.args.source in
-    omega (arith, source_inside c.args.inputs.now source.at source.state source.max_index c.requires.fine, fixed_in source.state, c.loop-s-test.true)
 
 pub put_u32-requires : goal.put_u32-requires
 put_u32-requires c =
@@ -64,15 +59,15 @@ loop-s-preserved c =
     let r = source_is source.state in
     let f = fixed_in source.state in
     let next : 3 * s + 3 ≡ 3 * (s + 1) = omega arith in
-    put_word c.args.out.now c.args.base (done (3 * s + 2)) (done (3 * s + 3)) words (3 * s + 2) c.put_u32.new.bytes c.put_u32-in-loop-s.new.bytes (slice_index c.streams_of-streams.result s)
-    (put_word c.args.out.now c.args.base (done (3 * s)) (done (3 * s + 2)) words (3 * s + 1) c.loop-s.out c.put_u32.new.bytes c.code_place.result
+    put_word c.args.out.now c.args.base (done (3 * s + 2)) (done (3 * s + 3)) words (3 * s + 2) c.put_u32.new.bytes c.put_u32-in-loop-s.new.bytes (slice_index c.places_of-places.result.streams s)
+    (put_word c.args.out.now c.args.base (done (3 * s)) (done (3 * s + 2)) words (3 * s + 1) c.loop-s.out c.put_u32.new.bytes (slice_index c.places_of-places.result.codes s)
     c.loop-s.invariant
-    (c.code_place.ensures ∙ sym (code_word input source.at source.state places s below) ∙ sym (done_here input source.at source.state places (3 * s + 2) (3 * s + 1) (omega arith)))
+    (c.places_of-places.ensures.codes.each s below ∙ sym (code_word input source.at source.state places s below) ∙ sym (done_here input source.at source.state places (3 * s + 2) (3 * s + 1) (omega arith)))
     c.put_u32.ensures (omega (arith, c.requires.room)) (omega (arith, e.0, e.2, r, f.1, below))
     (λ k inside other.
     done_others input source.at source.state places (3 * s) (3 * s + 2) (3 * s + 1) k (omega arith)
     (λ j from upto not. flags_stay input source.at source.state places s j below (omega (arith, from, upto, not))) other))
-    (c.streams_of-streams.ensures.each s below ∙ sym (stream_word input source.at source.state places s below) ∙ sym (done_here input source.at source.state places (3 * s + 3) (3 * s + 2) (omega arith)))
+    (c.places_of-places.ensures.streams.each s below ∙ sym (stream_word input source.at source.state places s below) ∙ sym (done_here input source.at source.state places (3 * s + 3) (3 * s + 2) (omega arith)))
     c.put_u32-in-loop-s.ensures (omega (arith, c.requires.room)) (omega (arith, e.0, e.2, r, f.1, below))
     (λ k inside other.
     done_others input source.at source.state places (3 * s + 2) (3 * s + 3) (3 * s + 2) k (omega arith)
@@ -111,9 +106,9 @@ loop-t-preserved c =
     (λ j from upto not. others_stay input source.at source.state places j (omega (arith, from)) (inl (omega (arith, from, upto, not)))) other)
     ∙ ap (λ n. with_bytes c.args.out.now c.args.base (word_bytes (done n) words)) next
 
-pub returns : goal.returns
+pub returns-clause-text : goal.returns-clause-text
 unfolding record_text
-returns c =
+returns-clause-text c =
     let input = c.args.inputs.now in
     let source = c.args.source in
     let places = stream_place input source.at c.args.first in

@@ -8,15 +8,15 @@ use Rattle.buffer_table.proofs.table.Table.make_within.Goals as goal
 
 pub invariant_of-result : goal.invariant_of-result
 invariant_of-result c =
-    sound_copy c.args.limit c.args.mem_size c.args.regions c.args.buffers.now.items c.in_ok-from_slice.field-0.items c.requires.limit
+    sound_copy c.args.limit c.args.mem_size c.args.regions c.args.buffers.now.items c.deref-2.result.now c.requires.limit
     (ap (λ b. first_of (table_within c.args.limit c.args.mem_size c.args.regions b)) (sym c.deref.ensures.value) ∙ sym c.in_default.ensures)
-    (c.in_ok-from_slice.ensures.items ∙ c.deref-2.ensures.value)
+    c.deref-2.ensures.value
 
 pub returns-clause-sound : goal.returns-clause-sound
 returns-clause-sound c =
-    sound_copy c.args.limit c.args.mem_size c.args.regions c.args.buffers.now.items c.in_ok-from_slice.field-0.items c.requires.limit
+    sound_copy c.args.limit c.args.mem_size c.args.regions c.args.buffers.now.items c.deref-2.result.now c.requires.limit
     (ap (λ b. first_of (table_within c.args.limit c.args.mem_size c.args.regions b)) (sym c.deref.ensures.value) ∙ sym c.in_default.ensures)
-    (c.in_ok-from_slice.ensures.items ∙ c.deref-2.ensures.value)
+    c.deref-2.ensures.value
 
 pub returns-in-Some-clause-first : goal.returns-in-Some-clause-first
 returns-in-Some-clause-first c =
