@@ -1,40 +1,24 @@
 -- The configuration of the job's grid is the job's to write.
-use Rattle.std.proofs.Common.{◌≡◌, inl, ℕ, ◌+◌, ◌-◌, ◌*◌, ◌≤◌, Bool, true, false, not, ◌==◌, List, [], ◌∷◌, None, length, refl, sym, subst, arith, lit≤}
-use Rattle.std.proofs.lemmas.Bool.{leb-true, eqb-true, not-false}
-use Rattle.field_words.specs.Sizes.{page_size, slot_size}
-use Rattle.field_words.specs.Words.{rounded_up}
-use Rattle.field_words.proofs.Numbers.{rounded}
-use Rattle.field_words.specs.Questions.{first_of, answered}
-use Rattle.field_words.proofs.Nones.{front_none, rest_none, none_answered}
+use Rattle.std.proofs.Common.{◌≡◌, inl, ℕ, ◌+◌, ◌-◌, ◌*◌, ◌≤◌, Bool, true, false, not, ◌==◌, List, [], ◌∷◌, None, length, refl, arith, lit≤}
+use Rattle.std.proofs.lemmas.{Bool.leb-true, Bool.eqb-true, Bool.not-false, Bool.Decides.nat_tests, Grind.common_steps}
+use Rattle.field_words.specs.{Sizes.page_size, Sizes.slot_size, Words.rounded_up, Questions.first_of}
+use Rattle.field_words.proofs.{Numbers.rounded, Nones.front_none, Nones.rest_none, Nones.none_answered}
 use Rattle.tile_memory.specs.Slots.{alloc_offset, slot_fits}
-use Rattle.bin_list.specs.Packets.{packets, passed}
-use Rattle.bin_list.specs.Seen.{seen_before}
-use Rattle.bin_list.specs.Rules.{GivenModel, given_of, asked, end_questions, questions_of, bin_questions}
-use Rattle.bin_list.specs.Faults.{fault}
-use Rattle.bin_list.proofs.Facts.{has_grid, configured}
-use Rattle.bin_list.proofs.Sound.{started}
+use Rattle.bin_list.specs.{Packets.packets, Packets.passed, Seen.seen_before, Rules.GivenModel, Rules.questions_of, Rules.bin_questions}
+use Rattle.bin_list.proofs.{Facts.has_grid, Facts.configured, Sound.started}
 use Rattle.job_format.specs.Model.{FileModel}
-use Rattle.job_check.specs.Shaders.{table_of}
-use Rattle.job_check.specs.Jobs.{job_of, has_bin, slot_of}
+use Rattle.job_check.specs.{Shaders.table_of, Jobs.job_of, Jobs.has_bin, Jobs.slot_of}
 use Rattle.list_machine.specs.Blocks.{tiles_of}
-use Rattle.list_law.specs.May.{MayWrite}
-use Rattle.list_law.specs.Binning.{Allocates}
+use Rattle.list_law.specs.{May.MayWrite, Binning.Allocates}
 use Rattle.accepted_law.specs.Holdings.{slot_in, job_rights, across_of, down_of, config_for}
-use Rattle.accepted_law.specs.Settled.{Settled}
-use Rattle.accepted_law.specs.Parts.{FilesAllocate}
+use Rattle.accepted_law.specs.{Settled.Settled, Parts.FilesAllocate}
 use Rattle.accepted_law.proofs.ByJob.{rights_are}
 
 -- The grid has room in a slot; where there is no binner list it has no tiles.
 grid_room : (given : GivenModel) (list : List ℕ) → first_of (questions_of given (passed list)) ≡ None
     → slot_fits ((seen_before (passed list)).tiles_x * (seen_before (passed list)).tiles_y) ≡ true
 unfolding questions_of seen_before
-grid_room given list none =
-    let all = passed list in
-    let end = answered (fault given.size) (end_questions (seen_before all)) in
-    let fine = front_none (asked given all) end none in
-    let ends : first_of (end_questions (seen_before all)) ≡ None = none_answered (fault given.size) (end_questions (seen_before all)) (rest_none (asked given all) end none) in
-    let grid = has_grid given all fine (configured given all fine (started (seen_before all) ends)) in
-    grid.room
+grid_room given list none = grind (arith, common_steps, nat_tests, front_none, none_answered, rest_none, has_grid, configured, started)
 
 nothing_fits : slot_fits (0 * 0) ≡ true
 unfolding slot_fits alloc_offset rounded_up
@@ -51,9 +35,7 @@ not_some n is = eqb-true n 0 (not-false (n == 0) is)
 room_by : (f : FileModel) (j : ℕ) (b : Bool) → not (length (job_of f j).bin == 0) ≡ b
     → (b ≡ true → first_of (bin_questions (job_of f j).bin (job_of f j).declared (table_of f) (job_of f j).handles) ≡ None)
     → slot_fits (across_of f j * down_of f j) ≡ true
-room_by f j true is none =
-    let job = job_of f j in
-    grid_room (given_of job.bin job.declared (table_of f) job.handles) job.bin (none refl)
+room_by f j true is none = grind (arith, common_steps, nat_tests, grid_room)
 room_by f j false is none = empty_room (job_of f j).bin (not_some (length (job_of f j).bin) is)
 
 room_of : (f : FileModel) (j : ℕ) → Settled f j → slot_fits (across_of f j * down_of f j) ≡ true
@@ -67,8 +49,7 @@ record HasRoom (tiles : ℕ) : Type 0 where
 has_room : (tiles : ℕ) → slot_fits tiles ≡ true → HasRoom tiles
 unfolding slot_fits alloc_offset
 has_room tiles fits =
-    let near = rounded (48 * tiles) page_size (lit≤ tt) in
-    record { states = near.least; lists = leb-true (alloc_offset tiles + 32 * tiles) slot_size fits }
+    record { states = (rounded (48 * tiles) page_size (lit≤ tt)).least; lists = leb-true (alloc_offset tiles + 32 * tiles) slot_size fits }
 
 lies_in_slot : (f : FileModel) (j p n : ℕ) → slot_of f j ≤ p → p + n ≤ slot_of f j + slot_size → MayWrite (job_rights f j) p n
 unfolding slot_in
@@ -79,14 +60,11 @@ unfolding config_for tiles_of
 allocates f j room =
     let tiles = across_of f j * down_of f j in
     let states = room.states in
-    let lists = room.lists in
     record {
-      states = lies_in_slot f j (slot_of f j) (48 * tiles) (omega arith) (omega (arith, states, lists));
-      all = lies_in_slot f j (slot_of f j + alloc_offset tiles) (slot_size - alloc_offset tiles) (omega arith) (omega (arith, lists));
-      first = omega (arith, lists);
+      states = lies_in_slot f j (slot_of f j) (48 * tiles) (omega arith) (omega (arith, states, room.lists));
+      all = lies_in_slot f j (slot_of f j + alloc_offset tiles) (slot_size - alloc_offset tiles) (omega arith) (omega (arith, room.lists));
+      first = omega (arith, room.lists);
     }
 
 pub files_allocate_law : FilesAllocate
-files_allocate_law f j grounds =
-    subst (λ r. Allocates r (config_for f j)) (sym (rights_are f j grounds.settled.inside))
-    (allocates f j (has_room (across_of f j * down_of f j) (room_of f j grounds.settled)))
+files_allocate_law f j grounds = search (arith, rights_are, allocates, has_room, room_of)

@@ -2,22 +2,17 @@
 use Rattle.std.proofs.Common.{◌≡◌, ℕ, ◌+◌, ◌≤◌, Bool, true, false, if◌then◌else◌, ◌==◌, List, [], ◌∷◌, None, length, refl, ap, arith, length-append}
 use Rattle.std.specs.Int.{to_le_bytes, w32}
 use Rattle.std.proofs.lemmas.Bool.{eqb-true}
-use Rattle.field_words.specs.Words.{u32_at}
-use Rattle.field_words.specs.Questions.{first_of, answered}
-use Rattle.field_words.proofs.Nones.{front_none, rest_none, none_answered}
-use Rattle.field_words.proofs.Writes.{length-with_bytes}
+use Rattle.field_words.specs.{Words.u32_at, Questions.first_of, Questions.answered}
+use Rattle.field_words.proofs.{Nones.front_none, Nones.rest_none, Nones.none_answered, Writes.length-with_bytes}
 use Rattle.relocation.specs.declared.layout.Layout.{Layout}
 use Rattle.packets.specs.Opcode.{indexed_primitive_list, gl_shader_state, tile_binning_mode, buffer_handles}
 use Rattle.packets.specs.Length.{bin_length}
-use Rattle.bin_list.specs.declared.seen.Seen.{Seen}
+use Rattle.bin_list.specs.{declared.seen.Seen.Seen, Faults.fault, Seen.place, Seen.seen_before}
 use Rattle.bin_list.specs.Packets.{opcode, packets, cut, onto, passed}
-use Rattle.bin_list.specs.Seen.{place, seen_before}
 use Rattle.bin_list.specs.Rules.{GivenModel, index_buffer, packet_questions, asked}
-use Rattle.bin_list.specs.Faults.{fault}
 use Rattle.bin_list.specs.Emitted.{index_text, state_text, config_text, packet_text, texts}
 use Rattle.bin_list.proofs.Least.{cut_place}
-use Rattle.bin_walks.proofs.Fine.{cut_fine}
-use Rattle.bin_walks.proofs.Texts.{state_long, config_long}
+use Rattle.bin_walks.proofs.{Fine.cut_fine, Texts.state_long, Texts.config_long}
 use Rattle.bin_walks.proofs.Walking.{long_indexed, long_state, long_config}
 
 index_long : (given : GivenModel) (seen : Seen) (p : List ℕ) → 14 ≤ length p → length (index_text given seen p) ≡ length p

@@ -1,47 +1,30 @@
 -- The emitted binner list walks, and each primitive of it may be drawn.
-use Rattle.std.proofs.Common.{◌≡◌, ◌≤◌, ◌<◌, ℕ, ◌+◌, ◌-◌, ◌%◌, ◌==◌, ◌&&◌, nat_lt, Bool, true, false, List, slice_index, length, Some, None, if◌then◌else◌, refl, ◌∙◌, ap, subst, arith, []}
-use Rattle.std.proofs.lemmas.Bool.{eqb-true}
+use Rattle.std.proofs.Common.{◌≡◌, ◌≤◌, ◌<◌, ℕ, ◌+◌, ◌-◌, ◌%◌, ◌==◌, Bool, true, false, List, slice_index, length, Some, if◌then◌else◌, refl, ◌∙◌, ap, subst, arith, []}
+use Rattle.std.proofs.lemmas.{Bool.eqb-true, Bool.Decides.nat_tests, Grind.common_steps}
 use Rattle.field_words.specs.Words.{u32_at}
 use Rattle.packets.specs.Opcode.{indexed_primitive_list, array_primitive_list}
-use Rattle.buffer_table.specs.Table.{TableModel, buffer_at}
-use Rattle.buffer_table.specs.Handles.{IsData, is_plain, data_of}
+use Rattle.buffer_table.specs.{Table.TableModel, Table.buffer_at, Handles.IsData, Handles.data_of}
 use Rattle.emitted_facts.specs.Facts.{IsIndexedPrimitive, IsPrimitive}
-use Rattle.bin_list.specs.declared.state.State.{State}
-use Rattle.bin_list.specs.Packets.{opcode, packets}
-use Rattle.bin_list.specs.Rules.{index_size, given_of}
-use Rattle.bin_list.specs.States.{last_index, draws_to, states_of}
-use Rattle.bin_list.specs.Emitted.{bin_text}
-use Rattle.bin_list.specs.Fine.{IsLow}
+use Rattle.bin_list.specs.{declared.state.State.State, Emitted.bin_text, Fine.IsLow, States.last_index, States.draws_to, States.states_of}
+use Rattle.bin_list.specs.{Packets.opcode, Packets.packets, Rules.index_size, Rules.given_of}
 use Rattle.bin_walks.specs.Draws.{IsStateAt, AreIndexesInside, IsDrawn}
-use Rattle.bin_walks.proofs.Walking.{draws_indexed}
-use Rattle.bin_walks.specs.Walks.{nothing_kept, Walks}
-use Rattle.bin_walks.specs.Emission.{emission, config_of}
-use Rattle.bin_walks.specs.Law.{IsWalked}
-use Rattle.bin_walks.proofs.Law.{emitted_lists_walk_law}
-use Rattle.shader_records.specs.Named.{IsDataIn}
-use Rattle.shader_records.specs.Sources.{state_at, record_offset}
+use Rattle.bin_walks.proofs.{Walking.draws_indexed, Law.emitted_lists_walk_law}
+use Rattle.bin_walks.specs.{Walks.nothing_kept, Walks.Walks, Law.IsWalked, Emission.emission, Emission.config_of}
+use Rattle.shader_records.specs.{Named.IsDataIn, Sources.state_at, Sources.record_offset}
 use Rattle.job_format.specs.Model.{FileModel}
-use Rattle.job_check.specs.Shaders.{table_of}
-use Rattle.job_check.specs.Jobs.{job_of, input_for, layout_of, states_in, has_bin, bin_list_of}
+use Rattle.job_check.specs.{Shaders.table_of, Jobs.job_of, Jobs.input_for, Jobs.layout_of, Jobs.states_in, Jobs.has_bin, Jobs.bin_list_of}
 use Rattle.job_check.proofs.Layouts.{layout_numbers, layout_low, enough_slots}
 use Rattle.machine_plan.specs.Regions.{Inside}
 use Rattle.list_law.proofs.Start.{Follows, walks_so}
 use Rattle.accepted_law.specs.Holdings.{rights_at, across_of, down_of, config_for}
-use Rattle.accepted_law.specs.Ends.{DrawShaders}
-use Rattle.accepted_law.specs.Settled.{Grounds}
-use Rattle.accepted_law.specs.Parts.{DrawsBegin, BinWalks, BinsWalk}
+use Rattle.accepted_law.specs.{Ends.DrawShaders, Settled.Grounds, Parts.DrawsBegin, Parts.BinWalks, Parts.BinsWalk}
 use Rattle.accepted_law.proofs.States.{StateFound, state_found, place_for, place_whole, place_of, state_of, record_kept, data_inside, attributes_of}
-use Rattle.accepted_law.proofs.Programs.{records_launch_law}
-use Rattle.accepted_law.proofs.Holding.{bin_is}
-use Rattle.accepted_law.proofs.Tables.{buffer_low}
+use Rattle.accepted_law.proofs.{Programs.records_launch_law, Holding.bin_is, Tables.buffer_low}
 
 -- a Plain buffer that a handle names
 data_named : (table : TableModel) (handles : List ℕ) (handle : ℕ) → IsData table handles handle → data_of table handles handle ≡ Some (slice_index handles handle)
 unfolding data_of
-data_named table handles handle is =
-    let inside : nat_lt handle (length handles) ≡ true = grind (arith, is.0.0) in
-    let known : nat_lt (slice_index handles handle) (length table.buffers) ≡ true = grind (arith, is.0.1) in
-    λ i. if (inside i && known i) && is_plain (is.1 i) then Some (slice_index handles handle) else None
+data_named table handles handle is = grind (arith, common_steps, nat_tests)
 
 data_in : (table : TableModel) (handles : List ℕ) (handle : ℕ) → IsData table handles handle
     → IsDataIn table handles (buffer_at table.buffers (slice_index handles handle)).place (buffer_at table.buffers (slice_index handles handle)).size

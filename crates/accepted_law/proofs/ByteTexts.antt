@@ -1,28 +1,20 @@
 -- What is emitted is bytes.
-use Rattle.std.proofs.Common.{ℕ, zero, suc, ◌+◌, ◌-◌, ◌*◌, ◌/◌, ◌%◌, ◌^◌, ◌<◌, Bool, true, false, if◌then◌else◌, ◌==◌, List, [], ◌∷◌, ◌++◌, Option, Some, None, length, take, drop, replicate, slice_index, arith, lit<}
-use Rattle.std.specs.Int.{to_le_bytes, bytes_low_first, byte_at, w16, w32}
-use Rattle.std.specs.List.{AllByRecursion}
+use Rattle.std.proofs.Common.{ℕ, zero, suc, ◌+◌, ◌-◌, ◌*◌, ◌/◌, ◌%◌, ◌^◌, ◌<◌, Bool, true, false, if◌then◌else◌, ◌==◌, List, [], ◌∷◌, ◌++◌, Option, Some, None, length, drop, replicate, slice_index, arith, lit<}
+use Rattle.std.specs.{Int.to_le_bytes, Int.bytes_low_first, Int.byte_at, Int.w16, Int.w32, List.AllByRecursion}
 use Rattle.std.proofs.Math.Nat.{mod-lt}
-use Rattle.field_words.specs.Words.{IsBytes, u32_at}
-use Rattle.field_words.specs.Writes.{Part, placed, with_bytes, zeros}
-use Rattle.field_words.specs.WordBytes.{word_bytes}
+use Rattle.field_words.specs.{Words.IsBytes, WordBytes.word_bytes, Writes.Part, Writes.placed, Writes.with_bytes, Writes.zeros}
 use Rattle.field_words.proofs.Numbers.{front_bytes, rest_bytes}
 use Rattle.relocation.specs.declared.layout.Layout.{Layout}
-use Rattle.packets.specs.declared.packet.Packet.{Packet}
+use Rattle.packets.specs.{declared.packet.Packet.Packet, Length.bin_taken, StateWord.record_room}
 use Rattle.packets.specs.declared.packet.Packet.TheVariants.{WaitOnSemaphore, BranchToSubList, StoreTileColor, StoreTileColorAndEnd, StoreFullResolution, LoadFullResolution, StoreTileBuffer, LoadTileBuffer, TileRenderingMode, ClearColors, TileCoordinates}
-use Rattle.packets.specs.Opcode.{halt, indexed_primitive_list, gl_shader_state, tile_binning_mode, buffer_handles, wait_on_semaphore, branch_to_sub_list, store_tile_color, store_tile_color_and_end, store_full_resolution, load_full_resolution, store_tile_buffer, load_tile_buffer, tile_rendering_mode, clear_colors, tile_coordinates}
-use Rattle.packets.specs.Length.{bin_taken}
+use Rattle.packets.specs.Opcode.{halt, tile_binning_mode, wait_on_semaphore, branch_to_sub_list, store_tile_color, store_tile_color_and_end, store_full_resolution, load_full_resolution, store_tile_buffer, load_tile_buffer, tile_rendering_mode, clear_colors, tile_coordinates}
 use Rattle.packets.specs.Packet.{packet_text as render_packet_text, slots_text}
 use Rattle.tile_memory.specs.Slots.{alloc_offset}
-use Rattle.bin_list.specs.declared.seen.Seen.{Seen}
+use Rattle.bin_list.specs.{declared.seen.Seen.Seen, Rules.GivenModel, Seen.latest, Seen.byte_of}
 use Rattle.bin_list.specs.Packets.{opcode, front_packet, behind, cut, packets, onto, passed}
-use Rattle.bin_list.specs.Seen.{seen_before, latest, byte_of}
-use Rattle.bin_list.specs.Rules.{GivenModel, index_buffer}
 use Rattle.bin_list.specs.Emitted.{index_text, state_text, config_text, packet_text, texts}
 use Rattle.qpu_isa.specs.Shader.{ShaderModel}
 use Rattle.shader_records.specs.Inputs.{InputModel}
-use Rattle.shader_records.specs.Sources.{state_at, record_source, uniform_source, stream_offset, shader_used, taken_before, given_before}
-use Rattle.packets.specs.StateWord.{record_room}
 use Rattle.shader_records.specs.Emission.{emitted_word, stream_place, record_text, records_text, stream_word_of, stream_text, streams_text, uniforms_text}
 use Rattle.render_walks.specs.Walks.{AllFit}
 
@@ -43,9 +35,7 @@ bytes_if false xs ys one two = two
 
 -- Bytes that are written into bytes leave bytes.
 pub bytes_with : (old : List ℕ) (at : ℕ) (new : List ℕ) → IsBytes old → IsBytes new → IsBytes (with_bytes old at new)
-bytes_with old at new old_bytes new_bytes =
-    bytes_append (take at old) (new ++ drop (at + length new) old) (front_bytes at old old_bytes)
-    (bytes_append new (drop (at + length new) old) new_bytes (rest_bytes (at + length new) old old_bytes))
+bytes_with old at new old_bytes new_bytes = search (arith, bytes_append, front_bytes, rest_bytes)
 
 -- zeros, and zeros with parts put into them
 same_bytes : (n : ℕ) → IsBytes (replicate n 0)
@@ -109,18 +99,11 @@ bytes_passed list all = bytes_onto [] (cut (length list) list) tt (bytes_cut (le
 -- What each is emitted as is bytes.
 bytes_index : (given : GivenModel) (seen : Seen) (packet : List ℕ) → IsBytes packet → IsBytes (index_text given seen packet)
 unfolding index_text
-bytes_index given seen packet all =
-    let word : ℕ = (index_buffer given seen).place + u32_at packet 6 in
-    bytes_with packet 6 (to_le_bytes w32 word) all (bytes_word word)
+bytes_index given seen packet all = search (arith, bytes_with, bytes_word)
 
 bytes_state : (layout : Layout) (seen : Seen) (packet : List ℕ) → IsBytes (state_text layout seen packet)
 unfolding state_text
-bytes_state layout seen packet =
-    let word : ℕ = layout.place + layout.records + seen.records + u32_at packet 1 % 16 in
-    bytes_cons gl_shader_state (to_le_bytes w32 word) (lit< tt) (bytes_word word)
-
-flag_small : (n : ℕ) → n % 2 + 68 < 256
-flag_small n = omega arith
+bytes_state layout seen packet = search (arith, bytes_cons, bytes_word)
 
 bytes_config : (layout : Layout) (packet : List ℕ) → IsBytes packet → IsBytes (config_text layout packet)
 unfolding config_text
@@ -136,24 +119,15 @@ bytes_config layout packet all =
     (bytes_append (to_le_bytes w32 layout.slot) sides (bytes_word layout.slot)
     (bytes_cons (slice_index packet 13) (slice_index packet 14 ∷ flags) (all 13)
     (bytes_cons (slice_index packet 14) flags (all 14)
-    (bytes_cons (slice_index packet 15 % 2 + 68) [] (flag_small (slice_index packet 15)) bytes_none))))))
+    (bytes_cons (slice_index packet 15 % 2 + 68) [] (omega arith) bytes_none))))))
 
 bytes_packet : (given : GivenModel) (layout : Layout) (seen : Seen) (packet : List ℕ) → IsBytes packet → IsBytes (packet_text given layout seen packet)
 unfolding packet_text
-bytes_packet given layout seen packet all =
-    let copied : List ℕ = if opcode packet == tile_binning_mode then config_text layout packet else packet in
-    let placed : List ℕ = if opcode packet == gl_shader_state then state_text layout seen packet else copied in
-    let moved : List ℕ = if opcode packet == indexed_primitive_list then index_text given seen packet else placed in
-    bytes_if (opcode packet == buffer_handles) [] moved bytes_none
-    (bytes_if (opcode packet == indexed_primitive_list) (index_text given seen packet) placed (bytes_index given seen packet all)
-    (bytes_if (opcode packet == gl_shader_state) (state_text layout seen packet) copied (bytes_state layout seen packet)
-    (bytes_if (opcode packet == tile_binning_mode) (config_text layout packet) packet (bytes_config layout packet all) all)))
+bytes_packet given layout seen packet all = search (arith, bytes_if, bytes_none, bytes_index, bytes_state, bytes_config)
 
 pub bytes_texts : (given : GivenModel) (layout : Layout) (all : List (List ℕ)) → AllByRecursion IsBytes all → IsBytes (texts given layout all)
 bytes_texts given layout [] each = bytes_none
-bytes_texts given layout (packet ∷ earlier) each =
-    bytes_append (texts given layout earlier) (packet_text given layout (seen_before earlier) packet) (bytes_texts given layout earlier each.1)
-    (bytes_packet given layout (seen_before earlier) packet each.0)
+bytes_texts given layout (packet ∷ earlier) each = search (arith, bytes_append, bytes_texts given layout earlier each.1, bytes_packet)
 
 -- A byte that the last packet of a kind holds is below 256.
 byte_if : (b : Bool) (packet : List ℕ) (other : Option (List ℕ)) (at : ℕ) → IsBytes packet → byte_of at other < 256 → byte_of at (if b then Some packet else other) < 256
@@ -172,9 +146,7 @@ bytes_record input at state first = bytes_words (emitted_word input at state (st
 pub bytes_records : (input : InputModel) (first k : ℕ) → IsBytes (records_text input first k)
 unfolding records_text
 bytes_records input first zero = bytes_none
-bytes_records input first (suc k) =
-    bytes_append (records_text input first k) (record_text input (record_source input k) (state_at input k).word (first + stream_offset input k)) (bytes_records input first k)
-    (bytes_record input (record_source input k) (state_at input k).word (first + stream_offset input k))
+bytes_records input first (suc k) = search (arith, bytes_append, bytes_records input first k, bytes_record)
 
 bytes_stream : (input : InputModel) (from stream : ℕ) (shader : Option ShaderModel) → IsBytes (stream_text input from stream shader)
 unfolding stream_text
@@ -184,17 +156,12 @@ bytes_stream input from stream (Some shader) = bytes_words (stream_word_of input
 bytes_streams : (input : InputModel) (at from first s : ℕ) → IsBytes (streams_text input at from first s)
 unfolding streams_text
 bytes_streams input at from first zero = bytes_none
-bytes_streams input at from first (suc s) =
-    bytes_append (streams_text input at from first s) (stream_text input (from + taken_before input at s) (first + given_before input at s) (shader_used input at s))
-    (bytes_streams input at from first s)
-    (bytes_stream input (from + taken_before input at s) (first + given_before input at s) (shader_used input at s))
+bytes_streams input at from first (suc s) = search (arith, bytes_append, bytes_streams input at from first s, bytes_stream)
 
 pub bytes_uniforms : (input : InputModel) (first k : ℕ) → IsBytes (uniforms_text input first k)
 unfolding uniforms_text
 bytes_uniforms input first zero = bytes_none
-bytes_uniforms input first (suc k) =
-    bytes_append (uniforms_text input first k) (streams_text input (record_source input k) (uniform_source input k) (first + stream_offset input k) 3) (bytes_uniforms input first k)
-    (bytes_streams input (record_source input k) (uniform_source input k) (first + stream_offset input k) 3)
+bytes_uniforms input first (suc k) = search (arith, bytes_append, bytes_uniforms input first k, bytes_streams)
 
 -- A renderer list whose numbers fit their fields is bytes.
 bytes_slot : (packet : Packet) → (AllFit (Some packet ∷ [])) → IsBytes (render_packet_text packet)

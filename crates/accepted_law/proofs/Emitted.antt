@@ -1,21 +1,15 @@
 -- The memory of an accepted file byte by byte. So two neighbours whose jobs of a client hold the same are emitted alike to it.
 use Rattle.std.proofs.Common.{◌≡◌, inl, inr, ℕ, suc, ◌+◌, ◌-◌, ◌<◌, ◌≤◌, Bool, true, false, if◌then◌else◌, List, [], ◌∷◌, ◌++◌, length, slice_index, refl, sym, ap, subst, arith, ◌∙◌}
-use Rattle.std.proofs.lemmas.Bool.{cases_lt}
-use Rattle.std.proofs.lemmas.List.{get_or_past, get_or-replicate}
-use Rattle.field_words.specs.Sizes.{slot_size}
-use Rattle.field_words.specs.Writes.{zeros}
-use Rattle.buffer_table.specs.Table.{buffer_at}
-use Rattle.buffer_table.specs.Handles.{data_of, code_of}
+use Rattle.std.proofs.lemmas.{Bool.cases_lt, List.get_or_past, List.get_or-replicate, Grind.common_steps, Bool.Decides.nat_tests}
+use Rattle.field_words.specs.{Sizes.slot_size, Writes.zeros}
+use Rattle.buffer_table.specs.{Table.buffer_at, Handles.data_of, Handles.code_of}
 use Rattle.buffer_table.proofs.Named.{data_is, code_is}
 use Rattle.job_format.specs.Model.{FileModel}
-use Rattle.job_check.specs.Shaders.{table_of, content_of}
+use Rattle.job_check.specs.{Shaders.table_of, Shaders.content_of, Emit.content_parts, Emit.lengths_of, Emit.memory_of, Emit.PartsFit}
 use Rattle.job_check.specs.Jobs.{job_of, slot_of, layout_of, bin_list_of, records_of, streams_of, render_list_of}
-use Rattle.job_check.specs.Emit.{content_parts, lengths_of, memory_of, PartsFit}
-use Rattle.job_check.proofs.Codes.{content_long}
-use Rattle.job_check.proofs.Emission.{length_zeros}
+use Rattle.job_check.proofs.{Codes.content_long, Emission.length_zeros}
 use Rattle.list_law.proofs.Words.{byte_read}
-use Rattle.machine_plan.specs.Memory.{bytes_at}
-use Rattle.machine_plan.specs.Regions.{Interval, LiesIn, Inside, Rights, rights_of}
+use Rattle.machine_plan.specs.{Memory.bytes_at, Regions.Interval, Regions.LiesIn, Regions.Inside, Regions.Rights, Regions.rights_of}
 use Rattle.qpu_law.specs.Asks.{IsOneOf}
 use Rattle.apart_law.specs.Part.{Client}
 use Rattle.machine_law.specs.Apart.{regions_of}
@@ -23,23 +17,17 @@ use Rattle.machine_law.proofs.Apart.{inside_either}
 use Rattle.accepted_law.specs.Holdings.{interval, plain_of, codes_of, lists_of, slot_in, job_rights, file_rights}
 use Rattle.accepted_law.specs.Settled.{Settled, AreSettled}
 use Rattle.accepted_law.specs.Neighbours.{jobs_of, reach_of, named_at, PlacedAlike, FilledAlike, AreNeighbourFiles, EmittedAlike}
-use Rattle.accepted_law.proofs.ByJob.{rights_are}
-use Rattle.accepted_law.proofs.Fixed.{LiesInOne, in_one}
-use Rattle.accepted_law.proofs.Grounds.{slot_apart, two_apart}
+use Rattle.accepted_law.proofs.{ByJob.rights_are, Intervals.named_by, Grounds.slot_apart, Grounds.two_apart}
+use Rattle.accepted_law.proofs.{Fixed.LiesInOne, Fixed.in_one, Settling.files_settle_law}
 use Rattle.accepted_law.proofs.Holding.{all_parts, four_parts, memory_is, contents_in, all_in, zeros_fit, jobs_miss, misses_four, clear_of, buffer_off_lists, content_byte, holds_all}
-use Rattle.accepted_law.proofs.Intervals.{named_by}
 use Rattle.accepted_law.proofs.Placing.{IsClear, Misses, placed_kept, misses_contents, fit_append}
-use Rattle.accepted_law.proofs.Settling.{files_settle_law}
 use Rattle.accepted_law.proofs.Tables.{buffer_sound, tiles_apart, regions_apart, slot_inside}
 use Rattle.accepted_law.proofs.Unshared.{job_is_of, data_number, code_number}
+use Rattle.relocation.specs.declared.layout.Layout.{Layout}
 
 pub zero_byte : (n q : ℕ) → slice_index (zeros n) q ≡ 0
 unfolding zeros
-zero_byte n q =
-    elim (cases_lt q n) [
-      | inl inside ↦ get_or-replicate n q 0 0 inside
-      | inr past ↦ get_or_past (zeros n) q 0 (omega (arith, past, length_zeros n))
-    ]
+zero_byte n q = grind (arith, common_steps, nat_tests, cases_lt, get_or-replicate, get_or_past, length_zeros)
 
 -- A byte that no part of the memory touches is zero.
 untouched : (f : FileModel) (j q : ℕ) → Settled f j → AreSettled f
@@ -78,21 +66,7 @@ slot_byte f j i s all below =
 -- A buffer holds its contents, and zeros behind them.
 content_clear : (f : FileModel) (j : ℕ) → Settled f j → (number i : ℕ) → number < length f.buffers → i < (buffer_at f.buffers number).size → length (content_of f number) ≤ i
     → (k : ℕ) → k < length f.buffers → IsClear ((buffer_at f.buffers number).place + i) (buffer_at f.buffers k).place (length (content_of f k))
-content_clear f j s number i inside below past k there =
-    let place : ℕ = (buffer_at f.buffers number).place in
-    let apart : (k ≡ number → ⊥) → IsClear (place + i) (buffer_at f.buffers k).place (length (content_of f k)) = λ differ.
-    clear_of place (buffer_at f.buffers number).size (buffer_at f.buffers k).place (buffer_at f.buffers k).size i
-    (two_apart f j s k number there inside differ) (length (content_of f k)) (content_inside f j s k there) below in
-    elim (cases_lt k number) [
-      | inl less ↦ apart (λ same. omega (arith, less, same))
-      | inr from ↦
-          elim (cases_lt number k) [
-            | inl more ↦ apart (λ same. omega (arith, more, same))
-            | inr upto ↦
-                let same : number ≡ k = omega (arith, from, upto) in
-                subst (λ n. IsClear (place + i) (buffer_at f.buffers n).place (length (content_of f n))) same (inr (omega (arith, past)))
-          ]
-    ]
+content_clear f j s number i inside below past k there = search (arith, IsClear, clear_of, two_apart, content_inside, cases_lt)
 
 pub buffer_byte : (f : FileModel) (j : ℕ) → Settled f j → AreSettled f → (number i : ℕ) → number < length f.buffers → i < (buffer_at f.buffers number).size
     → slice_index (memory_of f) ((buffer_at f.buffers number).place + i) ≡ slice_index (content_of f number) i
@@ -122,13 +96,9 @@ slots_same f g j layout = ap (λ l. l.slot) layout
 slot_same : (f g : FileModel) (j p : ℕ) → HoldsAlike f g j → LiesIn p 1 (slot_in f j) → slice_index (memory_of f) p ≡ slice_index (memory_of g) p
 unfolding slot_in
 slot_same f g j p has lies =
-    let slot = slots_same f g j has.places.layout in
-    let from = lies.from in
-    let upto = lies.upto in
-    let here : slot_of f j + (p - slot_of f j) ≡ p = omega (arith, from) in
-    let there : slot_of g j + (p - slot_of f j) ≡ p = omega (arith, from, slot) in
-    let below : p - slot_of f j < slot_size = omega (arith, from, upto) in
-    sym (ap (slice_index (memory_of f)) here) ∙ slot_byte f j (p - slot_of f j) has.one has.all below
+    let there : slot_of g j + (p - slot_of f j) ≡ p = omega (arith, lies.from, slots_same f g j has.places.layout) in
+    let below : p - slot_of f j < slot_size = omega (arith, lies.from, lies.upto) in
+    sym (ap (slice_index (memory_of f)) (omega (arith, lies.from))) ∙ slot_byte f j (p - slot_of f j) has.one has.all below
     ∙ sym (slot_byte g j (p - slot_of f j) has.other has.others below) ∙ ap (slice_index (memory_of g)) there
 
 -- those of the buffers that its handles name,
@@ -171,62 +141,42 @@ buffer_same f g j p place size has at from upto =
     let other : ℕ = slice_index (job_of g j).handles i in
     let many = has.places.handles in
     let alike = has.places.named i at.handle_in in
-    let here : (buffer_at f.buffers one).place + (p - place) ≡ p = omega (arith, from, at.place_is) in
-    let there : (buffer_at g.buffers other).place + (p - place) ≡ p = omega (arith, from, at.place_is, alike.place) in
     let first = buffer_byte f j has.one has.all one (p - place) (has.one.numbers i at.handle_in) (omega (arith, from, upto, at.size_is)) in
     let second = buffer_byte g j has.other has.others other (p - place) (has.other.numbers i (omega (arith, at.handle_in, many))) (omega (arith, from, upto, at.size_is, alike.size)) in
-    sym (ap (slice_index (memory_of f)) here) ∙ first
+    sym (ap (slice_index (memory_of f)) (omega (arith, from, at.place_is))) ∙ first
     ∙ ap (λ content. slice_index content (p - place)) (has.filled.contents i at.handle_in)
-    ∙ sym second ∙ ap (slice_index (memory_of g)) there
+    ∙ sym second ∙ ap (slice_index (memory_of g)) (omega (arith, from, at.place_is, alike.place))
 
 -- and those of its lists.
 text_same : (m k : List ℕ) (p at to : ℕ) (text other : List ℕ) (place size : ℕ) → bytes_at m at (length text) ≡ text → bytes_at k to (length other) ≡ other
     → at ≡ to → text ≡ other → interval at (length text) ≡ interval place size → place ≤ p → p + 1 ≤ place + size → slice_index m p ≡ slice_index k p
 text_same m k p at to text other place size stands stand same_place same_text is from upto =
     let place_is : at ≡ place = ap (λ i. i.place) is in
-    let size_is : length text ≡ size = ap (λ i. i.size) is in
     let here : at + (p - at) ≡ p = omega (arith, from, place_is) in
     let there : to + (p - at) ≡ p = omega (arith, from, place_is, same_place) in
-    let below : p - at < length text = omega (arith, from, upto, place_is, size_is) in
-    let long = ap length same_text in
+    let below : p - at < length text = omega (arith, from, upto, place_is, ap (λ i. i.size) is) in
     let one : slice_index m (at + (p - at)) ≡ slice_index text (p - at) = sym (byte_read m at (length text) (p - at) below) ∙ ap (λ t. slice_index t (p - at)) stands in
     let two : slice_index k (to + (p - at)) ≡ slice_index other (p - at) =
-    sym (byte_read k to (length other) (p - at) (omega (arith, below, long))) ∙ ap (λ t. slice_index t (p - at)) stand in
+    sym (byte_read k to (length other) (p - at) (omega (arith, below, ap length same_text))) ∙ ap (λ t. slice_index t (p - at)) stand in
     sym (ap (slice_index m) here) ∙ one ∙ ap (λ t. slice_index t (p - at)) same_text ∙ sym two ∙ ap (slice_index k) there
 
 list_same : (f g : FileModel) (j p : ℕ) → HoldsAlike f g j → LiesInOne (lists_of f j) p 1 → slice_index (memory_of f) p ≡ slice_index (memory_of g) p
 unfolding lists_of lengths_of
 list_same f g j p has found =
-    let layout = has.places.layout in
     let m = holds_all f j has.one has.all in
     let k = holds_all g j has.other has.others in
-    let same : (at to : ℕ) (text other : List ℕ) → bytes_at (memory_of f) at (length text) ≡ text → bytes_at (memory_of g) to (length other) ≡ other
-    → at ≡ to → text ≡ other → interval at (length text) ≡ interval found.place found.size → slice_index (memory_of f) p ≡ slice_index (memory_of g) p =
-    λ at to text other stands stand places texts is.
-    text_same (memory_of f) (memory_of g) p at to text other found.place found.size stands stand places texts is found.from found.upto in
+    let same : (part : Layout → ℕ) (text other : List ℕ) → bytes_at (memory_of f) ((layout_of f j).place + part (layout_of f j)) (length text) ≡ text
+    → bytes_at (memory_of g) ((layout_of g j).place + part (layout_of g j)) (length other) ≡ other → text ≡ other
+    → interval ((layout_of f j).place + part (layout_of f j)) (length text) ≡ interval found.place found.size → slice_index (memory_of f) p ≡ slice_index (memory_of g) p =
+    λ part text other stands stand texts is.
+    text_same (memory_of f) (memory_of g) p ((layout_of f j).place + part (layout_of f j)) ((layout_of g j).place + part (layout_of g j)) text other found.place found.size
+    stands stand (ap (λ l. l.place + part l) has.places.layout) texts is found.from found.upto in
     elim found.one [
-      | inl is ↦
-          same ((layout_of f j).place + (layout_of f j).bin) ((layout_of g j).place + (layout_of g j).bin) (bin_list_of f j) (bin_list_of g j)
-          m.bin k.bin (ap (λ l. l.place + l.bin) layout) has.filled.bin is
-      | inr more ↦
-          elim more [
-            | inl is ↦
-                same ((layout_of f j).place + (layout_of f j).records) ((layout_of g j).place + (layout_of g j).records) (records_of f j) (records_of g j)
-                m.records k.records (ap (λ l. l.place + l.records) layout) has.filled.records is
-            | inr last ↦
-                elim last [
-                  | inl is ↦
-                      same ((layout_of f j).place + (layout_of f j).uniforms) ((layout_of g j).place + (layout_of g j).uniforms) (streams_of f j) (streams_of g j)
-                      m.uniforms k.uniforms (ap (λ l. l.place + l.uniforms) layout) has.filled.streams is
-                  | inr final ↦
-                      elim final [
-                        | inl is ↦
-                            same ((layout_of f j).place + (layout_of f j).render) ((layout_of g j).place + (layout_of g j).render) (render_list_of f j) (render_list_of g j)
-                            m.render k.render (ap (λ l. l.place + l.render) layout) has.filled.render is
-                        | inr none ↦ absurd none
-                      ]
-                ]
-          ]
+      | inl is ↦ same (λ l. l.bin) (bin_list_of f j) (bin_list_of g j) m.bin k.bin has.filled.bin is
+      | inr (inl is) ↦ same (λ l. l.records) (records_of f j) (records_of g j) m.records k.records has.filled.records is
+      | inr (inr (inl is)) ↦ same (λ l. l.uniforms) (streams_of f j) (streams_of g j) m.uniforms k.uniforms has.filled.streams is
+      | inr (inr (inr (inl is))) ↦ same (λ l. l.render) (render_list_of f j) (render_list_of g j) m.render k.render has.filled.render is
+      | inr (inr (inr (inr none))) ↦ absurd none
     ]
 
 -- So are all that the job may reach.
@@ -278,8 +228,7 @@ reach_same : (c : ℕ) (f g : FileModel) → ((j : ℕ) → jobs_of c f j ≡ tr
 reach_same c f g holds p lies =
     of_all (jobs_of c f) (λ q. slice_index (memory_of f) q ≡ slice_index (memory_of g) q) 0 (file_rights f) p
     (λ j own reached.
-    let same : 0 + j ≡ j = omega arith in
-    let mine : jobs_of c f j ≡ true = sym (ap (jobs_of c f) same) ∙ own in
+    let mine : jobs_of c f j ≡ true = sym (ap (jobs_of c f) (omega arith)) ∙ own in
     region_same f g j p (holds j mine) (subst (λ r. Inside r.region p 1) (rights_are f j (job_is_of c f j mine).inside) reached))
     lies
 

@@ -1,11 +1,10 @@
 -- A byte of a job's lists and code is no job's to write.
-use Rattle.std.proofs.Common.{◌≡◌, ◌≤◌, ◌⊎◌, inl, inr, ℕ, ◌+◌, ◌-◌, List, [], ◌∷◌, ◌++◌, refl, subst, arith}
+use Rattle.std.proofs.Common.{◌≤◌, ◌⊎◌, inl, inr, ℕ, ◌+◌, ◌-◌, List, [], ◌∷◌, ◌++◌, refl, subst, arith}
 use Rattle.job_format.specs.Model.{FileModel}
 use Rattle.machine_plan.specs.Regions.{Interval, Inside, IsOutside}
 use Rattle.qpu_law.specs.Asks.{IsOneOf}
 use Rattle.machine_law.specs.Begins.{IsFixed}
-use Rattle.accepted_law.specs.Held.{AreFixed}
-use Rattle.accepted_law.specs.Holdings.{lists_of, codes_of, file_rights}
+use Rattle.accepted_law.specs.{Held.AreFixed, Holdings.lists_of, Holdings.codes_of, Holdings.file_rights}
 use Rattle.accepted_law.proofs.Intervals.{both_lists, code_held}
 
 -- what lies inside some of them lies inside one
@@ -32,6 +31,5 @@ fixed_byte f j p fixed lies =
     let here = in_one (lists_of f j ++ codes_of f j) p 1 lies in
     let from = here.from in
     let upto = here.upto in
-    let is : here.place + (p - here.place) ≡ p = omega (arith, from) in
-    subst (λ q. IsOutside (file_rights f) q) is
+    subst (λ q. IsOutside (file_rights f) q) (omega (arith, from))
     (fixed_at f j here.place here.size fixed (both_lists (lists_of f j) (codes_of f j) here.place here.size here.one) (p - here.place) (omega (arith, from, upto)))

@@ -1,17 +1,12 @@
 -- What the rules of a frame promise of each of its surfaces: where it lies, and how its pixels do.
 use Rattle.std.proofs.Common.{◌≡◌, ◌≤◌, ◌<◌, ℕ, ◌+◌, ◌*◌, ◌-◌, ◌/◌, ◌%◌, ◌^◌, ◌==◌, ◌&&◌, ◌||◌, not, Bool, true, false, List, Option, Some, None, if◌then◌else◌, refl, sym, ap, subst, arith, ◌∙◌, bit_or}
-use Rattle.std.specs.Prelude.{is_some, IfSome}
+use Rattle.std.specs.{Prelude.is_some, Prelude.IfSome, Int.Bits.or_zero_r}
 use Rattle.std.proofs.lemmas.Nat.{or_shifted, or_shr, or_mod}
-use Rattle.std.specs.Int.Bits.{or_zero_r}
-use Rattle.field_words.specs.Words.{bits_of}
-use Rattle.field_words.specs.Questions.{first_of}
-use Rattle.buffer_table.specs.Table.{TableModel, buffer_at, most_place}
-use Rattle.buffer_table.specs.Handles.{data_of}
+use Rattle.field_words.specs.{Words.bits_of, Questions.first_of}
+use Rattle.buffer_table.specs.{Table.TableModel, Table.buffer_at, Table.most_place, Handles.data_of}
 use Rattle.shader_records.specs.Named.{IsDataIn}
-use Rattle.job_format.specs.declared.file.Frame.{Frame as JobFrame}
-use Rattle.job_format.specs.declared.file.Surface.{Surface}
-use Rattle.texture_layouts.specs.declared.surface.Tiling.{Tiling}
-use Rattle.texture_layouts.specs.declared.format.Style.{Style}
+use Rattle.job_format.specs.declared.file.{Frame.Frame as JobFrame, Surface.Surface}
+use Rattle.texture_layouts.specs.declared.{surface.Tiling.Tiling, format.Style.Style}
 use Rattle.texture_layouts.specs.Format.{tiling_named, buffer_pixel, general_tiling, general_pixel, frame_tiling, frame_pixel, styled, general_style, IsShort}
 use Rattle.texture_layouts.proofs.Styles.{general_short, frame_short}
 use Rattle.render_list.specs.Frame.{place_at, surface_at, is_present, is_full, full_tile, full_place}
@@ -119,11 +114,7 @@ plain_at : (r : Rights) (frame : JobFrame) (k : ℕ) (surface : Surface) (table 
     → IsRoom r place (buffer_size table handles surface) → place + surface.offset ≡ base
     → IsChecked frame k surface table handles → is_full k surface ≡ false → IsPlainAt r frame k surface base
 plain_at r frame k surface table handles place base room is listed plain =
-    let bytes : ℕ = styled_size frame (surface_style k surface) in
-    let inside = plain_inside frame k surface (buffer_size table handles surface) plain listed.plain in
-    plain_by r frame k surface base (surface_style k surface) refl
-    (some_style (surface_tiling k surface) (surface_pixel k surface) (listed_tiling k surface plain listed.tiling) (listed_pixel k surface plain listed.pixel))
-    (surface_short k surface) (room.writes base bytes (omega (arith, is)) (omega (arith, is, inside)))
+    search (arith, plain_inside, plain_by, some_style, listed_tiling, listed_pixel, surface_short)
 
 full_at : (r : Rights) (frame : JobFrame) (k : ℕ) (surface : Surface) (table : TableModel) (handles : List ℕ) (place base : ℕ)
     → IsRoom r place (buffer_size table handles surface) → place + surface.offset ≡ base
@@ -150,11 +141,9 @@ surface_is r frame table handles k base rooms none is =
     subst (IsRoom r place) (sym (size_named table handles surface found.number found.named))
     (rooms place (buffer_at table.buffers found.number).size (record { handle = surface.hindex; number = found.number; named = found.named; place_is = refl; size_is = refl })) in
     let listed : IsChecked frame k surface table handles = is_checked frame table handles k found.here none in
-    let offset : surface.offset % 16 ≡ 0 = offset_whole surface listed.whole in
-    let inside : surface.offset ≤ size = inside_by (is_full k surface) frame k surface size refl listed.plain listed.full in
     record {
-      whole = omega (arith, found.place_is, offset, room.page);
-      low = omega (arith, found.place_is, inside, room.low);
+      whole = omega (arith, found.place_is, offset_whole surface listed.whole, room.page);
+      low = omega (arith, found.place_is, inside_by (is_full k surface) frame k surface size refl listed.plain listed.full, room.low);
       general = never_full k surface listed.bits;
       plain = plain_at r frame k surface table handles place base room found.place_is listed;
       full = full_at r frame k surface table handles place base room found.place_is listed;
@@ -165,9 +154,7 @@ pub aligned_or : (base low : ℕ) → base % 16 ≡ 0 → low < 16 → aligned (
 unfolding aligned
 aligned_or base low whole small =
     let e : base / 16 * 2 ^ 4 ≡ base = omega (arith, whole) in
-    let sum : bit_or base low ≡ base + low = subst (λ n. bit_or n low ≡ n + low) e (or_shifted (base / 16) 4 low small) in
-    let rest : base + low - (base + low) % 16 ≡ base = omega (arith, whole, small) in
-    ap (λ n. n - n % 16) sum ∙ rest
+    ap (λ n. n - n % 16) (subst (λ n. bit_or n low ≡ n + low) e (or_shifted (base / 16) 4 low small)) ∙ (omega (arith, whole, small))
 
 pub aligned_same : (base : ℕ) → base % 16 ≡ 0 → aligned base ≡ base
 unfolding aligned

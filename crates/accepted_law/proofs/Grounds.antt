@@ -1,30 +1,25 @@
 -- What the rights of a job have, and what no job may write.
 use Rattle.std.proofs.Common.{◌≡◌, ◌⊎◌, inl, inr, ℕ, ◌+◌, ◌*◌, ◌%◌, ◌<◌, ◌≤◌, ◌++◌, Some, length, refl, sym, ap, subst, arith, ◌∙◌}
-use Rattle.std.proofs.lemmas.Bool.{cases_lt}
+use Rattle.std.proofs.lemmas.{Bool.cases_lt, Bool.Decides.nat_tests, Grind.common_steps}
 use Rattle.field_words.specs.Sizes.{page_size, slot_size}
 use Rattle.buffer_table.specs.declared.buffer.Kind.TheVariants.{Plain, Code}
-use Rattle.buffer_table.specs.Table.{buffer_at, most_place}
-use Rattle.buffer_table.specs.Handles.{data_of, code_of}
+use Rattle.buffer_table.specs.{Table.buffer_at, Table.most_place, Handles.data_of, Handles.code_of}
 use Rattle.buffer_table.proofs.Named.{data_is, code_is}
 use Rattle.shader_records.specs.Named.{IsDataIn}
 use Rattle.job_format.specs.Model.{FileModel}
 use Rattle.relocation.specs.Layout.{region_end}
-use Rattle.job_check.specs.Shaders.{table_of}
+use Rattle.job_check.specs.{Shaders.table_of, Emit.lengths_of}
 use Rattle.job_check.specs.Jobs.{job_of, slot_of, layout_of, bin_list_of, records_of, streams_of, render_list_of}
-use Rattle.job_check.specs.Emit.{lengths_of}
 use Rattle.job_check.proofs.Layouts.{layout_numbers, begin_from}
 use Rattle.machine_plan.specs.Regions.{Inside, IsOutside}
 use Rattle.qpu_law.specs.Asks.{IsOneOf}
 use Rattle.machine_law.specs.Begins.{IsFixed}
 use Rattle.accepted_law.specs.Holdings.{OfEachJob, interval, plain_of, codes_of, lists_of, slot_in, job_rights, file_rights}
-use Rattle.accepted_law.specs.Settled.{Settled, ListsEnd}
-use Rattle.accepted_law.specs.Parts.{FilesGround}
+use Rattle.accepted_law.specs.{Settled.Settled, Settled.ListsEnd, Parts.FilesGround}
 use Rattle.accepted_law.proofs.Intervals.{one_left, one_right, named_there, named_by}
-use Rattle.accepted_law.proofs.Placing.{IsClear}
+use Rattle.accepted_law.proofs.{Placing.IsClear, Fixed.LiesInOne, Fixed.in_one, Holding.lists_end, Holding.holds_all}
 use Rattle.accepted_law.proofs.Tables.{buffer_sound, buffers_apart, lists_apart, tiles_apart, regions_apart, slot_inside}
 use Rattle.accepted_law.proofs.ByJob.{rights_are, rights_past, in_region, in_writable}
-use Rattle.accepted_law.proofs.Holding.{lists_end, holds_all}
-use Rattle.accepted_law.proofs.Fixed.{LiesInOne, in_one}
 
 -- A Plain buffer of job j.
 record IsPlainAt (f : FileModel) (place size : ℕ) : Type 0 where
@@ -65,12 +60,7 @@ not_clear p place n (inr behind) from upto = omega (arith, behind, upto)
 
 plain_clear : (f : FileModel) (j p : ℕ) → ((number : ℕ) → number < length f.buffers → (buffer_at f.buffers number).kind ≡ Plain → IsClear p (buffer_at f.buffers number).place (buffer_at f.buffers number).size)
     → LiesInOne (plain_of f j) p 1 → ⊥
-plain_clear f j p clear found =
-    let at = plain_at f j found.place found.size found.one in
-    let from = found.from in
-    let upto = found.upto in
-    not_clear p (buffer_at f.buffers at.number).place (buffer_at f.buffers at.number).size (clear at.number at.inside at.kind_is)
-    (omega (arith, from, at.place_is)) (omega (arith, upto, at.place_is, at.size_is))
+plain_clear f j p clear found = grind (arith, common_steps, nat_tests, plain_at, not_clear)
 
 not_written : (f : FileModel) (j p : ℕ) → IsClear p (slot_of f j) slot_size
     → ((number : ℕ) → number < length f.buffers → (buffer_at f.buffers number).kind ≡ Plain → IsClear p (buffer_at f.buffers number).place (buffer_at f.buffers number).size)
@@ -83,11 +73,7 @@ not_written f j p slot clear (inr inside) = plain_clear f j p clear (in_one (pla
 outside_all : (f : FileModel) (p : ℕ) → OfEachJob f (λ j. IsClear p (slot_of f j) slot_size)
     → ((number : ℕ) → number < length f.buffers → (buffer_at f.buffers number).kind ≡ Plain → IsClear p (buffer_at f.buffers number).place (buffer_at f.buffers number).size)
     → IsOutside (file_rights f) p
-outside_all f p slots clear j written =
-    elim (cases_lt j (length f.jobs)) [
-      | inl inside ↦ not_written f j p (slots j inside) clear (subst (λ r. Inside r.writable p 1) (rights_are f j inside) written)
-      | inr past ↦ subst (λ r. Inside r.writable p 1) (rights_past f j past) written
-    ]
+outside_all f p slots clear j written = search (arith, cases_lt, not_written, rights_are, rights_past)
 
 -- A byte of an interval that is apart from another is clear of it.
 clear_in : (place size q n i : ℕ) → (q + n ≤ place) ⊎ (place + size ≤ q) → i < size → IsClear (place + i) q n
@@ -105,9 +91,7 @@ slot_apart f j k place size s there (inl before) = let slot = slot_inside f k s.
 slot_apart f j k place size s there (inr behind) = let slot = slot_inside f k s.well_formed s.sound there in inr (omega (arith, behind, slot.from))
 
 other_kind : (f : FileModel) (one other : ℕ) → (buffer_at f.buffers one).kind ≡ Code → (buffer_at f.buffers other).kind ≡ Plain → one ≡ other → ⊥
-other_kind f one other code plain same =
-    let both : Plain ≡ Code = sym plain ∙ sym (ap (λ n. (buffer_at f.buffers n).kind) same) ∙ code in
-    cc
+other_kind f one other code plain same = cc
 
 pub less_by : (m n : ℕ) → m ≤ n → (m ≡ n → ⊥) → m < n
 less_by m n upto differ = elim (cases_lt m n) [ inl less ↦ less | inr past ↦ absurd (differ (omega (arith, upto, past))) ]
@@ -138,14 +122,7 @@ region_clear place size q n p (inl before) from upto = inl (omega (arith, before
 region_clear place size q n p (inr behind) from upto = inr (omega (arith, behind, from))
 
 region_outside : (f : FileModel) (j : ℕ) → Settled f j → (p : ℕ) → f.regions.lists_place ≤ p → p < region_end f.regions → IsOutside (file_rights f) p
-region_outside f j s p from upto =
-    outside_all f p
-    (λ k job. region_clear f.regions.lists_place f.regions.lists_size (slot_of f k) slot_size p
-    (turned (slot_of f k) slot_size f.regions.lists_place f.regions.lists_size
-    (slot_apart f j k f.regions.lists_place f.regions.lists_size s job
-    (turned f.regions.lists_place f.regions.lists_size f.regions.tile_place (slot_size * f.regions.tile_slots) (regions_apart f.mem_size f.regions f.buffers s.sound)))) from upto)
-    (λ other there plain. region_clear f.regions.lists_place f.regions.lists_size (buffer_at f.buffers other).place (buffer_at f.buffers other).size p
-    (lists_apart f.mem_size f.regions f.buffers s.sound other there) from upto)
+region_outside f j s p from upto = search (arith, outside_all, region_clear, turned, slot_apart, regions_apart, lists_apart)
 
 pub record IsInLists (f : FileModel) (j place size : ℕ) : Type 0 where
   pub from : f.regions.lists_place ≤ place
@@ -167,52 +144,34 @@ lies_by f j offset n place size ends at upto is =
 pub four_lie : (f : FileModel) (j : ℕ) → ListsEnd f j → (place size : ℕ) → IsOneOf (lists_of f j) place size → IsInLists f j place size
 unfolding lists_of lengths_of
 four_lie f j ends place size one =
-    let numbers = layout_numbers f j (layout_of f j) refl in
-    let begins = begin_from f j in
-    let from : f.regions.lists_place ≤ (layout_of f j).place = omega (arith, numbers.0, begins) in
+    let from : f.regions.lists_place ≤ (layout_of f j).place = omega (arith, (layout_numbers f j (layout_of f j) refl).0, begin_from f j) in
     let render : (layout_of f j).render ≤ (layout_of f j).end = omega (arith, ends.render) in
     let uniforms : (layout_of f j).uniforms ≤ (layout_of f j).render = omega (arith, ends.uniforms) in
     let records : (layout_of f j).records ≤ (layout_of f j).uniforms = omega (arith, ends.records) in
-    let region = ends.region in
     let first : (layout_of f j).bin + length (bin_list_of f j) ≤ (layout_of f j).end = omega (arith, ends.bin, records, uniforms, render) in
     let second : (layout_of f j).records + length (records_of f j) ≤ (layout_of f j).end = omega (arith, ends.records, uniforms, render) in
     let third : (layout_of f j).uniforms + length (streams_of f j) ≤ (layout_of f j).end = omega (arith, ends.uniforms, render) in
     elim one [
       | inl is ↦ lies_by f j (layout_of f j).bin (length (bin_list_of f j)) place size ends from first is
-      | inr more ↦
-          elim more [
-            | inl is ↦ lies_by f j (layout_of f j).records (length (records_of f j)) place size ends from second is
-            | inr last ↦
-                elim last [
-                  | inl is ↦ lies_by f j (layout_of f j).uniforms (length (streams_of f j)) place size ends from third is
-                  | inr final ↦
-                      elim final [
-                        | inl is ↦ lies_by f j (layout_of f j).render (length (render_list_of f j)) place size ends from ends.render is
-                        | inr none ↦ absurd none
-                      ]
-                ]
-          ]
+      | inr (inl is) ↦ lies_by f j (layout_of f j).records (length (records_of f j)) place size ends from second is
+      | inr (inr (inl is)) ↦ lies_by f j (layout_of f j).uniforms (length (streams_of f j)) place size ends from third is
+      | inr (inr (inr (inl is))) ↦ lies_by f j (layout_of f j).render (length (render_list_of f j)) place size ends from ends.render is
+      | inr (inr (inr (inr none))) ↦ absurd none
     ]
 
 lists_outside : (f : FileModel) (j : ℕ) → Settled f j → ListsEnd f j → (place size : ℕ) → IsOneOf (lists_of f j) place size → IsFixed (file_rights f) place size
-lists_outside f j s ends place size one =
-    let lie = four_lie f j ends place size one in
-    let from = lie.from in
-    let upto = lie.upto in
-    λ i below. region_outside f j s (place + i) (omega (arith, from)) (omega (arith, upto, below))
+lists_outside f j s ends place size one = search (arith, four_lie, region_outside)
 
 -- a Plain buffer begins at a page and ends in the memory
 plain_page : (f : FileModel) (j : ℕ) → Settled f j → (place size : ℕ) → IsOneOf (plain_of f j) place size → place % page_size ≡ 0
 plain_page f j s place size one =
     let at = plain_at f j place size one in
-    let own = buffer_sound f.mem_size f.regions f.buffers s.sound at.number at.inside in
-    ap (λ p. p % page_size) at.place_is ∙ own.place
+    ap (λ p. p % page_size) at.place_is ∙ (buffer_sound f.mem_size f.regions f.buffers s.sound at.number at.inside).place
 
 plain_low : (f : FileModel) (j : ℕ) → Settled f j → (place size : ℕ) → IsOneOf (plain_of f j) place size → place + size ≤ most_place
 plain_low f j s place size one =
     let at = plain_at f j place size one in
-    let own = buffer_sound f.mem_size f.regions f.buffers s.sound at.number at.inside in
-    omega (arith, at.place_is, at.size_is, own.inside, s.sound.limit)
+    omega (arith, at.place_is, at.size_is, (buffer_sound f.mem_size f.regions f.buffers s.sound at.number at.inside).inside, s.sound.limit)
 
 code_fixed_by : (f : FileModel) (j : ℕ) → Settled f j → (handle number : ℕ) → code_of (table_of f) (job_of f j).handles handle ≡ Some number
     → IsFixed (file_rights f) (buffer_at f.buffers number).place (buffer_at f.buffers number).size

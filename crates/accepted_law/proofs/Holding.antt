@@ -1,58 +1,40 @@
 -- The memory that a settled file is emitted as holds its contents and its lists.
 use Rattle.std.proofs.Common.{◌≡◌, ◌⊎◌, inl, inr, ℕ, zero, suc, ◌+◌, ◌<◌, ◌≤◌, Bool, true, false, List, [], ◌∷◌, ◌++◌, None, length, slice_index, refl, sym, ap, subst, arith, ◌∙◌}
 use Rattle.std.specs.List.{AllByRecursion}
-use Rattle.std.proofs.lemmas.Bool.{cases_lt}
-use Rattle.std.proofs.lemmas.List.{append_assoc}
-use Rattle.field_words.specs.Questions.{first_of, answered}
+use Rattle.std.proofs.lemmas.{Bool.cases_lt, List.append_assoc, Grind.common_steps, Bool.Decides.nat_tests}
+use Rattle.field_words.specs.{Questions.first_of, Words.IsBytes, Writes.Part, Writes.placed, Writes.zeros}
 use Rattle.field_words.proofs.Nones.{front_none}
-use Rattle.field_words.specs.Words.{IsBytes}
-use Rattle.field_words.specs.Writes.{Part, placed, zeros}
-use Rattle.buffer_table.specs.declared.buffer.Buffer.{Buffer}
-use Rattle.buffer_table.specs.Table.{buffer_at}
+use Rattle.buffer_table.specs.{declared.buffer.Buffer.Buffer, Table.buffer_at}
 use Rattle.machine_plan.specs.Memory.{bytes_at}
-use Rattle.bin_list.specs.Packets.{passed}
-use Rattle.bin_list.specs.Seen.{seen_before}
-use Rattle.bin_list.specs.Rules.{given_of, asked, end_questions, questions_of, bin_questions}
-use Rattle.bin_list.specs.Faults.{fault}
-use Rattle.bin_list.specs.Emitted.{bin_text}
+use Rattle.bin_list.specs.{Packets.passed, Emitted.bin_text, Rules.given_of, Rules.asked, Rules.questions_of, Rules.bin_questions}
 use Rattle.shader_records.specs.Emitted.{streams_place}
 use Rattle.render_list.specs.Text.{render_slots, render_text}
 use Rattle.job_format.specs.Model.{FileModel}
 use Rattle.job_check.specs.Shaders.{table_of, content_of}
 use Rattle.job_check.specs.Jobs.{job_of, has_bin, grid_of, slot_of, places_in, input_for, layout_of, bin_list_of, records_of, streams_of, render_list_of}
 use Rattle.job_check.specs.Emit.{PartsFit, content_parts, part, list_parts, later_parts, memory_parts, jobs_parts, memory_of}
-use Rattle.job_check.proofs.Codes.{as_many, content_long}
+use Rattle.job_check.proofs.{Codes.as_many, Codes.content_long, Windows.length_placed}
 use Rattle.job_check.proofs.Layouts.{layout_numbers, lists_inside, layout_apart, begin_from, lists_apart as jobs_apart}
-use Rattle.job_check.proofs.Windows.{length_placed}
 use Rattle.job_check.proofs.Emission.{placed-append, length_zeros, contents_fit}
 use Rattle.job_check.proofs.Views.{no_bin_list, no_records, no_streams, records_within, streams_within, records_are, streams_are, list_length}
 use Rattle.accepted_law.specs.Settled.{Settled, AreSettled, Holds, ListsEnd}
 use Rattle.accepted_law.proofs.ByteTexts.{bytes_none, bytes_zeros, bytes_placed, parts_append, bytes_passed, bytes_texts, bytes_records, bytes_uniforms, bytes_slots}
 use Rattle.accepted_law.proofs.Placing.{bytes_are, IsClear, Misses, misses_append, placed_part, fit_append, contents_parts_fit, content_stands}
-use Rattle.accepted_law.proofs.BinRoom.{list_within}
+use Rattle.accepted_law.proofs.{BinRoom.list_within, RenderWalking.frame_setup, RenderWalking.frame_fits}
 use Rattle.accepted_law.proofs.Tables.{buffer_sound, buffers_apart, lists_apart}
-use Rattle.accepted_law.proofs.RenderWalking.{frame_setup, frame_fits}
 
 -- The emitted lists are no longer than their room.
 rules_of_list : (list : List ℕ) (declared : ℕ) (f : FileModel) (handles : List ℕ) → first_of (bin_questions list declared (table_of f) handles) ≡ None
     → first_of (asked (given_of list declared (table_of f) handles) (passed list)) ≡ None
 unfolding questions_of
-rules_of_list list declared f handles none =
-    let given = given_of list declared (table_of f) handles in
-    front_none (asked given (passed list)) (answered (fault given.size) (end_questions (seen_before (passed list)))) none
+rules_of_list list declared f handles none = grind (arith, common_steps, nat_tests, front_none)
 
 pub bin_is : (f : FileModel) (j : ℕ) → has_bin f j ≡ true → bin_list_of f j ≡ bin_text (job_of f j).bin (job_of f j).declared (table_of f) (job_of f j).handles (layout_of f j)
 unfolding bin_list_of
 bin_is f j some = rw some refl
 
 bin_by : (f : FileModel) (j : ℕ) (b : Bool) → has_bin f j ≡ b → Settled f j → length (bin_list_of f j) ≤ length (job_of f j).bin
-bin_by f j true some s =
-    let job = job_of f j in
-    omega (
-      arith,
-      ap length (bin_is f j some),
-      list_within (given_of job.bin job.declared (table_of f) job.handles) (layout_of f j) job.bin (rules_of_list job.bin job.declared f job.handles (s.bin some)),
-    )
+bin_by f j true some s = grind (arith, common_steps, nat_tests, bin_is, list_within, rules_of_list)
 bin_by f j false none s = omega (arith, ap length (no_bin_list f j none))
 
 records_by : (f : FileModel) (j : ℕ) (b : Bool) → has_bin f j ≡ b → Settled f j → length (records_of f j) ≤ length (job_of f j).records
@@ -76,9 +58,7 @@ lists_end f j s =
 
 -- They are bytes.
 bin_bytes : (f : FileModel) (j : ℕ) (b : Bool) → has_bin f j ≡ b → Settled f j → IsBytes (bin_list_of f j)
-bin_bytes f j true some s =
-    let job = job_of f j in
-    subst IsBytes (sym (bin_is f j some)) (bytes_texts (given_of job.bin job.declared (table_of f) job.handles) (layout_of f j) (passed job.bin) (bytes_passed job.bin s.job_fits.bin))
+bin_bytes f j true some s = search (arith, bin_is, bytes_texts, bytes_passed)
 bin_bytes f j false none s = subst IsBytes (sym (no_bin_list f j none)) bytes_none
 
 records_bytes : (f : FileModel) (j : ℕ) (b : Bool) → has_bin f j ≡ b → IsBytes (records_of f j)
@@ -136,8 +116,7 @@ contents_in f j s = contents_parts_fit f.mem_size f.buffers f.contents (contents
 four_in : (f : FileModel) (j : ℕ) → Settled f j → PartsFit f.mem_size (four_parts f j)
 four_in f j s =
     let ends = lists_end f j s in
-    let inside = lists_inside f s.sound in
-    let last : (layout_of f j).place + (layout_of f j).end ≤ f.mem_size = omega (arith, ends.region, inside) in
+    let last : (layout_of f j).place + (layout_of f j).end ≤ f.mem_size = omega (arith, ends.region, lists_inside f s.sound) in
     let render : (layout_of f j).render ≤ (layout_of f j).end = omega (arith, ends.render) in
     let uniforms : (layout_of f j).uniforms ≤ (layout_of f j).render = omega (arith, ends.uniforms) in
     let records : (layout_of f j).records ≤ (layout_of f j).uniforms = omega (arith, ends.records) in (
@@ -172,9 +151,7 @@ four_bytes f j s = (bin_bytes f j (has_bin f j) refl s, (records_bytes f j (has_
 
 memory_bytes : (f : FileModel) (j : ℕ) → Settled f j → AreSettled f → IsBytes (memory_of f)
 unfolding all_parts
-memory_bytes f j s all =
-    let below = bytes_placed (zeros f.mem_size) (content_parts f.buffers f.contents) (bytes_zeros f.mem_size) (parts_bytes f.buffers f.contents s.fits.contents) in
-    subst IsBytes (sym (lists_behind f)) (bytes_placed (with_contents f) (all_parts f) below (jobs_bytes f (length f.jobs) (λ k inside. four_bytes f k (all k inside))))
+memory_bytes f j s all = search (arith, bytes_placed, bytes_zeros, parts_bytes, lists_behind, jobs_bytes, four_bytes)
 
 -- The parts of job j among those of the first n jobs: those of later jobs lie behind its lists.
 record Split (f : FileModel) (j n : ℕ) : Type 0 where
@@ -259,10 +236,9 @@ clear_of p n q size i (inr behind) m front below = inr (omega (arith, behind, fr
 clear_later : (f : FileModel) (j : ℕ) → Settled f j → (number i : ℕ) → number < length f.buffers → i < (buffer_at f.buffers number).size
     → (k : ℕ) → number < k → k < length f.buffers → IsClear ((buffer_at f.buffers number).place + i) (buffer_at f.buffers k).place (length (content_of f k))
 clear_later f j s number i inside below k less there =
-    let other = buffer_sound f.mem_size f.regions f.buffers s.sound k there in
     clear_of (buffer_at f.buffers number).place (buffer_at f.buffers number).size (buffer_at f.buffers k).place (buffer_at f.buffers k).size i
     (buffers_apart f.mem_size f.regions f.buffers s.sound number k less there) (length (content_of f k))
-    (omega (arith, content_long f k s.well_formed there, other.content)) below
+    (omega (arith, content_long f k s.well_formed there, (buffer_sound f.mem_size f.regions f.buffers s.sound k there).content)) below
 
 -- A byte outside the lists' region is clear of each list of job j; a byte of a buffer is such a one.
 clear_list : (f : FileModel) (j : ℕ) → Settled f j → (q : ℕ) → IsClear q f.regions.lists_place f.regions.lists_size
@@ -274,12 +250,10 @@ pub misses_four : (f : FileModel) (j : ℕ) → Settled f j → (q : ℕ) → Is
 misses_four f j s q off =
     let ends = lists_end f j s in
     let render : (layout_of f j).render ≤ (layout_of f j).end = omega (arith, ends.render) in
-    let uniforms : (layout_of f j).uniforms ≤ (layout_of f j).render = omega (arith, ends.uniforms) in
-    let records : (layout_of f j).records ≤ (layout_of f j).uniforms = omega (arith, ends.records) in
     let clear = clear_list f j s q off in (
-      clear (layout_of f j).bin (length (bin_list_of f j)) (omega (arith, ends.bin, records, uniforms, render)),
+      clear (layout_of f j).bin (length (bin_list_of f j)) (omega (arith, ends.bin, render, ends.uniforms, ends.records)),
       (
-        clear (layout_of f j).records (length (records_of f j)) (omega (arith, ends.records, uniforms, render)),
+        clear (layout_of f j).records (length (records_of f j)) (omega (arith, ends.records, render, ends.uniforms)),
         (clear (layout_of f j).uniforms (length (streams_of f j)) (omega (arith, ends.uniforms, render)), (clear (layout_of f j).render (length (render_list_of f j)) ends.render, tt)),
       ),
     )
@@ -308,8 +282,7 @@ content_byte f j s all number i inside below =
 
 content_stand : (f : FileModel) (j : ℕ) → Settled f j → AreSettled f → (number : ℕ) → number < length f.buffers
     → bytes_at (memory_of f) (buffer_at f.buffers number).place (length (content_of f number)) ≡ content_of f number
-content_stand f j s all number inside =
-    bytes_are (memory_of f) (buffer_at f.buffers number).place (content_of f number) (λ i below. content_byte f j s all number i inside below)
+content_stand f j s all number inside = grind (arith, common_steps, nat_tests, bytes_are, content_byte)
 
 pub holds_all : (f : FileModel) (j : ℕ) → Settled f j → AreSettled f → Holds f j (memory_of f)
 holds_all f j s all =

@@ -1,10 +1,8 @@
 -- The homes of a record's three programs.
-use Rattle.std.proofs.Common.{◌≡◌, ◌≤◌, ◌<◌, ℕ, ◌+◌, ◌*◌, ◌/◌, List, length, slice_index, Some, refl, sym, arith, inl, inr, zero-add, ◌∙◌}
-use Rattle.std.proofs.lemmas.List.FromFn.{get_or-map-range_with_len}
+use Rattle.std.proofs.Common.{◌≡◌, ◌≤◌, ◌<◌, ℕ, ◌+◌, ◌*◌, ◌/◌, List, length, slice_index, Some, refl, sym, arith, inl, inr, ◌∙◌}
+use Rattle.std.proofs.lemmas.{List.FromFn.get_or-map-range_with_len, Grind.common_steps, Bool.Decides.nat_tests}
 use Rattle.field_words.specs.Words.{u32_at, u64_at}
-use Rattle.buffer_table.specs.declared.buffer.Kind.TheVariants.{Code}
-use Rattle.buffer_table.specs.Table.{buffer_at, most_place}
-use Rattle.buffer_table.specs.Handles.{code_of}
+use Rattle.buffer_table.specs.{declared.buffer.Kind.TheVariants.Code, Table.buffer_at, Table.most_place, Handles.code_of}
 use Rattle.buffer_table.proofs.Named.{code_is}
 use Rattle.job_format.specs.Model.{FileModel}
 use Rattle.qpu_isa.specs.Shader.{ShaderModel, sample_at, IsSoundShader}
@@ -14,23 +12,17 @@ use Rattle.uniform_stream.specs.Stream.{uniforms_of}
 use Rattle.shader_records.specs.Named.{IsDataIn}
 use Rattle.shader_records.proofs.StreamFacts.{same_stream}
 use Rattle.job_check.specs.Shaders.{table_of, content_of, words_in, words_of, told_of}
-use Rattle.job_check.specs.Jobs.{job_of, layout_of, streams_of}
-use Rattle.job_check.specs.Emit.{lengths_of}
+use Rattle.job_check.specs.{Jobs.job_of, Jobs.layout_of, Jobs.streams_of, Emit.lengths_of}
 use Rattle.job_check.proofs.Codes.{content_long, length_words, shader_short}
 use Rattle.list_law.proofs.Words.{word_read}
-use Rattle.qpu_law.specs.Asks.{IsOneOf}
-use Rattle.qpu_law.specs.Home.{Home}
-use Rattle.qpu_law.specs.Thread.{IsHome, HasSamples}
-use Rattle.qpu_law.specs.Emitted.{Emits}
-use Rattle.qpu_law.proofs.Reading.{one_inside}
-use Rattle.qpu_law.proofs.Emitting.{streams_serve_law}
+use Rattle.qpu_law.specs.{Asks.IsOneOf, Home.Home, Emitted.Emits, Thread.IsHome, Thread.HasSamples}
+use Rattle.qpu_law.proofs.{Reading.one_inside, Emitting.streams_serve_law}
 use Rattle.machine_law.specs.Begins.{HomeBegins}
 use Rattle.machine_law.proofs.Begins.{fixed_inside}
 use Rattle.accepted_law.specs.Holdings.{plain_of, lists_of, rights_at, file_rights}
 use Rattle.accepted_law.specs.Settled.{Settled, Grounds}
-use Rattle.accepted_law.proofs.Settling.{code_rules}
+use Rattle.accepted_law.proofs.{Settling.code_rules, Uses.buffer_inside, Uses.lists_low}
 use Rattle.accepted_law.proofs.Streams.{number_at, words_from, word_from, words_fit}
-use Rattle.accepted_law.proofs.Uses.{buffer_inside, lists_low}
 
 -- the shader in a buffer, with a stream of a memory
 unfoldable pub home_of : FileModel → List ℕ → ℕ → ℕ → Home
@@ -59,23 +51,18 @@ record IsCodeLow (f : FileModel) (number : ℕ) : Type 0 where
 code_low : (f : FileModel) (j number : ℕ) → Settled f j → number < length f.buffers → (buffer_at f.buffers number).kind ≡ Code → IsCodeLow f number
 code_low f j number settled below code =
     let long = length_words (content_of f number) (length (content_of f number) / 8) in
-    let short = shader_short f number settled.well_formed below code in
-    let content = content_long f number settled.well_formed below in
     let buffer = buffer_inside f number settled.sound below in
-    let limit = settled.sound.limit in
     record {
       words = omega (arith, long);
-      few = omega (arith, long, short);
-      inside = omega (arith, content, buffer.1);
-      upto = omega (arith, buffer.0, limit);
+      few = omega (arith, long, shader_short f number settled.well_formed below code);
+      inside = omega (arith, content_long f number settled.well_formed below, buffer.1);
+      upto = omega (arith, buffer.0, settled.sound.limit);
     }
 
 -- word i is the number of its eight bytes
 word_is : (content : List ℕ) (i : ℕ) → i < length (words_of content) → u64_at content (8 * i) ≡ word (words_of content) i
 unfolding words_in
-word_is content i below =
-    let long = length_words content (length content / 8) in
-    sym (get_or-map-range_with_len (λ i. u64_at content (8 * i)) 0 (length content / 8) i i 0 (omega (arith, below, long)) (zero-add i))
+word_is content i below = grind (arith, common_steps, nat_tests, length_words, get_or-map-range_with_len)
 
 -- Where data have one name they have another, in a stream's samples.
 other_sample : (A B : ℕ → ℕ → Type 0) → ((place size : ℕ) → A place size → B place size) → (shader : ShaderModel) (words : ℕ → ℕ) (i : ℕ) → IsSampleIn A words (sample_at shader i) → IsSampleIn B words (sample_at shader i)
@@ -116,23 +103,18 @@ home_stands f j m handle number stream grounds started =
     let is = code_is (table_of f) (job_of f j).handles handle number started.named in
     let low = code_low f j number grounds.settled is.inside is.kind_is in
     let words = low.words in
-    let inside = low.inside in
     let upto = low.upto in
-    let lists = lists_low f j grounds.settled grounds.ends in
-    let limit = grounds.settled.sound.limit in
-    let room = grounds.ends.uniforms in
     let from = started.from in
     let ends = started.upto in
-    let emits = stream_serves f j m handle number stream grounds started in
     record {
       sound = code_rules content (grounds.settled.codes number is.inside is.kind_is);
       few = low.few;
-      low = omega (arith, words, inside, upto);
-      stream_low = omega (arith, lists, limit, room, ends);
-      addresses = emits.addresses;
+      low = omega (arith, words, low.inside, upto);
+      stream_low = omega (arith, lists_low f j grounds.settled grounds.ends, grounds.settled.sound.limit, grounds.ends.uniforms, ends);
+      addresses = (stream_serves f j m handle number stream grounds started).addresses;
       code_in = λ i below.
           one_inside (rights_at f j).region place (buffer_at f.buffers number).size (place + 8 * i) 8 (grounds.code handle number started.named)
-          (record { from = omega arith; upto = omega (arith, below, words, inside) });
+          (record { from = omega arith; upto = omega (arith, below, words, low.inside) });
       code_is = λ i below. number_at m content place i (grounds.holds.contents number is.inside) (omega (arith, below, words)) ∙ word_is content i below;
       stream_in = λ k below.
           one_inside (rights_at f j).region ((layout_of f j).place + (layout_of f j).uniforms) (length (streams_of f j)) (stream + 4 * k) 4
@@ -145,9 +127,8 @@ home_stands f j m handle number stream grounds started =
 home_samples : (f : FileModel) (j : ℕ) (m : List ℕ) (handle number stream : ℕ) → Grounds f j m → IsStarted f j m handle number stream → HasSamples (plain_of f j) (home_of f m number stream)
 unfolding home_of
 home_samples f j m handle number stream grounds started =
-    let emits = stream_serves f j m handle number stream grounds started in
     record {
-      samples = emits.samples;
+      samples = (stream_serves f j m handle number stream grounds started).samples;
       page = grounds.data_page;
       low = λ place size one. let low = grounds.data_low place size one in omega (arith, low);
       words = λ k. words_fit m stream (uniforms_of (words_of (content_of f number))) k grounds.holds.bytes;

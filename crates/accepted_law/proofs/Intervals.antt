@@ -1,15 +1,12 @@
 -- Intervals of lists, and those of the buffers that handles name. So the rights of a job are no more than what it holds.
 use Rattle.std.proofs.Common.{◌≡◌, ◌⊎◌, inl, inr, ℕ, zero, suc, ◌<◌, List, [], ◌∷◌, ◌++◌, Option, Some, None, refl, sym, ap, subst, arith, ◌∙◌, length}
 use Rattle.std.proofs.lemmas.Bool.{cases_lt}
-use Rattle.buffer_table.specs.declared.buffer.Buffer.{Buffer}
-use Rattle.buffer_table.specs.Table.{buffer_at}
-use Rattle.buffer_table.specs.Handles.{data_of, code_of}
+use Rattle.buffer_table.specs.{declared.buffer.Buffer.Buffer, Table.buffer_at, Handles.data_of, Handles.code_of}
 use Rattle.machine_plan.specs.Regions.{Interval}
 use Rattle.qpu_law.specs.Asks.{IsOneOf}
 use Rattle.shader_records.specs.Named.{IsDataIn}
 use Rattle.job_format.specs.Model.{FileModel}
-use Rattle.job_check.specs.Jobs.{job_of}
-use Rattle.job_check.specs.Shaders.{table_of}
+use Rattle.job_check.specs.{Jobs.job_of, Shaders.table_of}
 use Rattle.accepted_law.specs.Holdings.{buffer_interval, interval_where, named_buffers, plain_of, codes_of, lists_of, slot_in}
 use Rattle.accepted_law.specs.Held.{IsSlot, IsNamedCode, IsToWrite, IsToReach, RightsAreHeld}
 use Rattle.accepted_law.proofs.ByJob.{rights_are}
@@ -34,9 +31,7 @@ both_lists (first ∷ front) rest place size (inr other) =
 where_some : (buffers : List Buffer) (found : Option ℕ) (number : ℕ) → found ≡ Some number
     → IsOneOf (interval_where buffers found) (buffer_at buffers number).place (buffer_at buffers number).size
 where_some buffers None number is = absurd (cc)
-where_some buffers (Some n) number is =
-    let same : n ≡ number = cc in
-    inl (ap (buffer_interval buffers) same)
+where_some buffers (Some n) number is = inl (ap (buffer_interval buffers) cc)
 
 pub named_there : (names : ℕ → Option ℕ) (buffers : List Buffer) (n handle number : ℕ) → handle < n → names handle ≡ Some number
     → IsOneOf (named_buffers names buffers n) (buffer_at buffers number).place (buffer_at buffers number).size

@@ -1,42 +1,26 @@
 -- From the parts to the whole.
 use Rattle.std.proofs.Common.{◌≡◌, inl, inr, ℕ, ◌+◌, ◌<◌, ◌≤◌, List, length, None, refl, arith, [], ◌∷◌, ◌++◌, sym, ap, subst, ◌∙◌}
-use Rattle.std.proofs.lemmas.Bool.{cases_lt}
-use Rattle.std.proofs.lemmas.List.{get_or_past}
+use Rattle.std.proofs.lemmas.{Bool.cases_lt, List.get_or_past}
 use Rattle.field_words.specs.Questions.{first_of}
-use Rattle.job_format.specs.File.{IsWellFormed, Fits}
-use Rattle.job_format.specs.Model.{FileModel}
+use Rattle.job_format.specs.{File.IsWellFormed, File.Fits, Model.FileModel}
 use Rattle.job_check.specs.Jobs.{layout_of, bin_list_of, render_list_of, no_job, job_of, grid_of, slot_of, places_in}
-use Rattle.job_check.specs.Emit.{lengths_of, memory_of}
-use Rattle.job_check.specs.Faults.{place_stages}
-use Rattle.job_check.specs.Shaders.{table_of}
+use Rattle.job_check.specs.{Emit.lengths_of, Emit.memory_of, Faults.place_stages, Shaders.table_of}
 use Rattle.machine_plan.specs.Memory.{bytes_at}
 use Rattle.machine_plan.specs.Regions.{Inside, Rights, IsOutside, HasReadOnly, Agree, joined}
 use Rattle.qpu_law.specs.Asks.{IsOneOf}
 use Rattle.qpu_law.proofs.Reading.{one_inside}
 use Rattle.bin_walks.specs.Walks.{nothing_kept}
 use Rattle.list_law.proofs.Start.{walks_so}
-use Rattle.machine_law.specs.Begins.{TextBegins, IsFixed, DrawBegins, JobBegins}
-use Rattle.machine_law.specs.Jobs.{ArePlain}
-use Rattle.machine_law.specs.Units.{EachAt}
-use Rattle.machine_law.proofs.Sound.{jobs_sound_law}
-use Rattle.machine_law.proofs.Apart.{inside_either}
+use Rattle.machine_law.specs.{Begins.TextBegins, Begins.IsFixed, Begins.DrawBegins, Begins.JobBegins, Jobs.ArePlain, Units.EachAt}
+use Rattle.machine_law.proofs.{Sound.jobs_sound_law, Apart.inside_either}
 use Rattle.render_list.specs.Text.{render_slots}
-use Rattle.buffer_table.specs.declared.buffer.Buffer.{Buffer}
-use Rattle.buffer_table.specs.Table.{buffer_at}
-use Rattle.buffer_table.specs.Handles.{data_of}
+use Rattle.buffer_table.specs.{declared.buffer.Buffer.Buffer, Table.buffer_at, Handles.data_of}
 use Rattle.accepted_law.specs.Holdings.{OfEachJob, lists_of, job_rights, file_rights, rights_at, start_by, start_of, named_buffers, plain_of, codes_of, slot_in, fixed_of, file_starts, config_for, frame_for}
-use Rattle.accepted_law.specs.Ends.{DrawShaders}
-use Rattle.accepted_law.specs.Settled.{Grounds}
-use Rattle.accepted_law.specs.Texts.{BinTextsBegin, RenderTextsBegin}
-use Rattle.accepted_law.specs.Parts.{BinWalks, RenderWalks, FilesBegin}
-use Rattle.accepted_law.specs.Held.{ListsAndCodeAreFixed}
-use Rattle.accepted_law.specs.Whole.{FilesSound}
+use Rattle.accepted_law.specs.{Ends.DrawShaders, Settled.Grounds, Texts.BinTextsBegin, Texts.RenderTextsBegin}
+use Rattle.accepted_law.specs.{Parts.BinWalks, Parts.RenderWalks, Parts.FilesBegin, Held.ListsAndCodeAreFixed, Whole.FilesSound}
 use Rattle.accepted_law.proofs.ByJob.{each_from, rights_are, in_some_job, in_fixed}
-use Rattle.accepted_law.proofs.Settling.{files_settle_law}
-use Rattle.accepted_law.proofs.Grounds.{files_ground_law}
-use Rattle.accepted_law.proofs.Allocating.{files_allocate_law}
-use Rattle.accepted_law.proofs.BinWalking.{bins_walk_law}
-use Rattle.accepted_law.proofs.RenderWalking.{renders_walk_law}
+use Rattle.accepted_law.proofs.{Settling.files_settle_law, Allocating.files_allocate_law}
+use Rattle.accepted_law.proofs.{Grounds.files_ground_law, BinWalking.bins_walk_law, RenderWalking.renders_walk_law}
 
 text_begins : (f : FileModel) (j : ℕ) (m : List ℕ) → Grounds f j m → (place : ℕ) (text : List ℕ) → bytes_at m place (length text) ≡ text → IsOneOf (lists_of f j) place (length text)
     → TextBegins (file_rights f) m j place text
@@ -72,11 +56,7 @@ plain_past f j past = ap (λ job. named_buffers (data_of (table_of f) job.handle
 
 -- Each Plain buffer of a job is an interval of its region.
 plain_there : (f : FileModel) (m : List ℕ) → OfEachJob f (λ j. Grounds f j m) → ArePlain (file_rights f) (plain_of f)
-plain_there f m grounds j place size named =
-    elim (cases_lt j (length f.jobs)) [
-      | inl inside ↦ (grounds j inside).data_reads place size named
-      | inr past ↦ absurd (subst (λ plain. IsOneOf plain place size) (plain_past f j past) named)
-    ]
+plain_there f m grounds j place size named = search (arith, cases_lt, plain_past)
 
 pub all_ground : (f : FileModel) → IsWellFormed f → Fits f → first_of (place_stages f) ≡ None → OfEachJob f (λ j. Grounds f j (memory_of f))
 all_ground f well fits none = files_ground_law f (files_settle_law f well fits none)

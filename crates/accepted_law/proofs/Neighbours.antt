@@ -1,30 +1,22 @@
 -- Two accepted files that are neighbours for a client are the same to it.
-use Rattle.std.proofs.Common.{◌≡◌, ℕ, zero, suc, ◌+◌, ◌<◌, ◌&&◌, Bool, true, false, not, if◌then◌else◌, List, [], ◌∷◌, ◌++◌, Option, Some, None, length, map, slice_index, refl, sym, ap, arith, zero-add, ◌∙◌}
+use Rattle.std.proofs.Common.{◌≡◌, ℕ, zero, suc, ◌<◌, ◌&&◌, Bool, true, false, not, if◌then◌else◌, List, [], ◌∷◌, Option, Some, None, length, map, slice_index, refl, sym, ap, arith, zero-add, ◌∙◌}
 use Rattle.std.specs.List.{range_with_len}
-use Rattle.std.proofs.lemmas.List.FromFn.{length-map-range_with_len, get_or-map-range_with_len}
-use Rattle.std.proofs.lemmas.Option.{slice_get-get_or}
+use Rattle.std.proofs.lemmas.{List.FromFn.length-map-range_with_len, List.FromFn.get_or-map-range_with_len, Option.slice_get-get_or}
 use Rattle.field_words.specs.Sizes.{slot_size}
-use Rattle.buffer_table.specs.declared.buffer.Buffer.{Buffer}
-use Rattle.buffer_table.specs.declared.buffer.Kind.{Kind}
-use Rattle.buffer_table.specs.Table.{TableModel, buffer_at}
+use Rattle.buffer_table.specs.{declared.buffer.Buffer.Buffer, declared.buffer.Kind.Kind, Table.TableModel, Table.buffer_at}
 use Rattle.buffer_table.specs.Handles.{AreNumbersOf, is_plain, is_named, data_of, code_of}
-use Rattle.relocation.specs.declared.layout.Layout.{Layout}
-use Rattle.relocation.specs.declared.layout.Lengths.{Lengths}
+use Rattle.relocation.specs.declared.layout.{Layout.Layout, Lengths.Lengths}
 use Rattle.job_format.specs.Model.{FileModel}
-use Rattle.job_check.specs.Shaders.{table_of}
-use Rattle.job_check.specs.Jobs.{job_of, layout_of}
-use Rattle.job_check.specs.Emit.{lengths_of}
-use Rattle.machine_plan.specs.Regions.{Interval, Rights}
-use Rattle.machine.specs.declared.job.Start.{Start}
-use Rattle.machine.specs.State.{item_at}
+use Rattle.job_check.specs.{Shaders.table_of, Emit.lengths_of, Jobs.job_of, Jobs.layout_of}
+use Rattle.machine_plan.specs.Regions.{Interval}
+use Rattle.machine.specs.{State.item_at}
 use Rattle.machine_law.specs.Apart.{BeginsSoundly, IsUnshared, AreNeighbours}
 use Rattle.machine_law.proofs.Apart.{apart_anywhere_law, apart_with_others_law}
 use Rattle.accepted_law.specs.Holdings.{interval, interval_where, named_buffers, plain_of, codes_of, lists_in, lists_of, slot_in, job_rights, file_rights, start_by, start_of, file_starts}
 use Rattle.accepted_law.specs.Neighbours.{IsFaultless, jobs_of, named_at, StandAlike, PlacedAlike, AreNeighbourFiles, beginning_of, AcceptedApart}
-use Rattle.accepted_law.proofs.ByJob.{rights_are}
+use Rattle.accepted_law.proofs.{ByJob.rights_are, Settling.files_settle_law, Unshared.job_is_of, Unshared.clients_unshared_law}
 use Rattle.accepted_law.proofs.Joining.{files_begin_law, has_read_only, all_begin}
-use Rattle.accepted_law.proofs.Settling.{files_settle_law}
-use Rattle.accepted_law.proofs.Unshared.{job_is_of, clients_unshared_law}
+use Rattle.std.proofs.lemmas.{Grind.common_steps, Bool.Decides.nat_tests}
 
 -- What a handle gives to the Plain buffers of its job, and to the Code buffers, by the buffer that it names alone.
 abbrev given_if : Bool → Buffer → List Interval
@@ -42,29 +34,22 @@ is_there t handles numbers i inside = grind (arith, inside, numbers i inside)
 data_given : (t : TableModel) (handles : List ℕ) → AreNumbersOf t handles → (i : ℕ) → i < length handles
     → interval_where t.buffers (data_of t handles i) ≡ given_if (is_plain (buffer_at t.buffers (slice_index handles i)).kind) (buffer_at t.buffers (slice_index handles i))
 unfolding data_of
-data_given t handles numbers i inside =
-    where_if t.buffers (is_named t handles i) (is_plain (buffer_at t.buffers (slice_index handles i)).kind) (slice_index handles i) (is_there t handles numbers i inside)
+data_given t handles numbers i inside = grind (arith, common_steps, nat_tests, where_if, is_there)
 
 code_given : (t : TableModel) (handles : List ℕ) → AreNumbersOf t handles → (i : ℕ) → i < length handles
     → interval_where t.buffers (code_of t handles i) ≡ given_if (not (is_plain (buffer_at t.buffers (slice_index handles i)).kind)) (buffer_at t.buffers (slice_index handles i))
 unfolding code_of
-code_given t handles numbers i inside =
-    where_if t.buffers (is_named t handles i) (not (is_plain (buffer_at t.buffers (slice_index handles i)).kind)) (slice_index handles i) (is_there t handles numbers i inside)
+code_given t handles numbers i inside = grind (arith, common_steps, nat_tests, where_if, is_there)
 
 -- So buffers that stand alike give the same.
 stand_alike : (test : Kind → Bool) (one other : Buffer) → StandAlike one other → given_if (test one.kind) one ≡ given_if (test other.kind) other
-stand_alike test one other alike =
-    let kinds : given_if (test one.kind) one ≡ given_if (test other.kind) one = ap (λ k. given_if (test k) one) alike.kind in
-    let places : given_if (test other.kind) one ≡ (if test other.kind then interval other.place one.size ∷ [] else []) = ap (λ p. if test other.kind then interval p one.size ∷ [] else []) alike.place in
-    kinds ∙ places ∙ ap (λ n. if test other.kind then interval other.place n ∷ [] else []) alike.size
+stand_alike test one other alike = grind (arith, common_steps, nat_tests)
 
 same_named : (names others : ℕ → Option ℕ) (buffers table : List Buffer) (n : ℕ) → ((i : ℕ) → i < n → interval_where buffers (names i) ≡ interval_where table (others i))
     → named_buffers names buffers n ≡ named_buffers others table n
 unfolding named_buffers
 same_named names others buffers table zero each = refl
-same_named names others buffers table (suc n) each =
-    ap (λ front. front ++ interval_where buffers (names n)) (same_named names others buffers table n (λ i below. each i (omega (arith, below))))
-    ∙ ap (λ last. named_buffers others table n ++ last) (each n (omega arith))
+same_named names others buffers table (suc n) each = grind (arith, common_steps, nat_tests, same_named names others buffers table n)
 
 -- Two files with a job that has the same places in both, and whose handles are numbers of buffers in both.
 record HasJob (f g : FileModel) (j : ℕ) : Type 0 where
@@ -75,24 +60,22 @@ record HasJob (f g : FileModel) (j : ℕ) : Type 0 where
 same_plain : (f g : FileModel) (j : ℕ) → HasJob f g j → plain_of f j ≡ plain_of g j
 unfolding plain_of
 same_plain f g j has =
-    let many = has.places.handles in
     same_named (data_of (table_of f) (job_of f j).handles) (data_of (table_of g) (job_of g j).handles) f.buffers g.buffers (length (job_of f j).handles)
     (λ i below.
     data_given (table_of f) (job_of f j).handles has.one i below
     ∙ stand_alike is_plain (named_at f j i) (named_at g j i) (has.places.named i below)
-    ∙ sym (data_given (table_of g) (job_of g j).handles has.other i (omega (arith, below, many))))
-    ∙ ap (named_buffers (data_of (table_of g) (job_of g j).handles) g.buffers) many
+    ∙ sym (data_given (table_of g) (job_of g j).handles has.other i (omega (arith, below, has.places.handles))))
+    ∙ ap (named_buffers (data_of (table_of g) (job_of g j).handles) g.buffers) has.places.handles
 
 same_codes : (f g : FileModel) (j : ℕ) → HasJob f g j → codes_of f j ≡ codes_of g j
 unfolding codes_of
 same_codes f g j has =
-    let many = has.places.handles in
     same_named (code_of (table_of f) (job_of f j).handles) (code_of (table_of g) (job_of g j).handles) f.buffers g.buffers (length (job_of f j).handles)
     (λ i below.
     code_given (table_of f) (job_of f j).handles has.one i below
     ∙ stand_alike (λ k. not (is_plain k)) (named_at f j i) (named_at g j i) (has.places.named i below)
-    ∙ sym (code_given (table_of g) (job_of g j).handles has.other i (omega (arith, below, many))))
-    ∙ ap (named_buffers (code_of (table_of g) (job_of g j).handles) g.buffers) many
+    ∙ sym (code_given (table_of g) (job_of g j).handles has.other i (omega (arith, below, has.places.handles))))
+    ∙ ap (named_buffers (code_of (table_of g) (job_of g j).handles) g.buffers) has.places.handles
 
 -- The same slot, lists and beginnings.
 same_slot : (f g : FileModel) (j : ℕ) → layout_of f j ≡ layout_of g j → slot_in f j ≡ slot_in g j
@@ -106,26 +89,14 @@ same_lists : (f g : FileModel) (j : ℕ) → PlacedAlike f g j → lists_of f j 
 unfolding lists_of
 same_lists f g j places = by_both lists_in f g j places
 
-abbrev rights_by : Interval → List Interval → List Interval → List Interval → Rights
-rights_by slot plain lists codes = record { region = slot ∷ (plain ++ (lists ++ codes)); writable = slot ∷ plain }
-
 same_rights : (f g : FileModel) (j : ℕ) → HasJob f g j → job_rights f j ≡ job_rights g j
-same_rights f g j has =
-    let slot = same_slot f g j has.places.layout in
-    let plain = same_plain f g j has in
-    let lists = same_lists f g j has.places in
-    let codes = same_codes f g j has in
-    ap (λ s. rights_by s (plain_of f j) (lists_of f j) (codes_of f j)) slot
-    ∙ ap (λ p. rights_by (slot_in g j) p (lists_of f j) (codes_of f j)) plain
-    ∙ ap (λ l. rights_by (slot_in g j) (plain_of g j) l (codes_of f j)) lists
-    ∙ ap (rights_by (slot_in g j) (plain_of g j) (lists_of g j)) codes
+same_rights f g j has = grind (arith, common_steps, nat_tests, same_slot, same_plain, same_lists, same_codes)
 
 start_at : (f : FileModel) (j : ℕ) → j < length f.jobs → item_at (file_starts f) j ≡ Some (start_of f j)
 unfolding file_starts
 start_at f j inside =
-    let starts : List Start = map (start_of f) (range_with_len 0 (length f.jobs)) in
     let long = length-map-range_with_len (start_of f) 0 (length f.jobs) in
-    slice_get-get_or starts j (start_of f j) (omega (arith, inside, long))
+    slice_get-get_or (map (start_of f) (range_with_len 0 (length f.jobs))) j (start_of f j) (omega (arith, inside, long))
     ∙ ap (λ s. Some s) (get_or-map-range_with_len (start_of f) 0 (length f.jobs) j j (start_of f j) inside (zero-add j))
 
 -- A job of the client is one of both files.

@@ -2,21 +2,19 @@
 use Rattle.std.proofs.Common.{◌≡◌, ◌⊎◌, inl, inr, ℕ, zero, suc, ◌+◌, ◌<◌, ◌≤◌, List, [], ◌∷◌, ◌++◌, length, get_or, slice_index, refl, sym, ap, subst, arith, ◌∙◌}
 use Rattle.field_words.specs.Writes.{Part, placed, with_bytes}
 use Rattle.field_words.proofs.Writes.{length-with_bytes, with_bytes-before, with_bytes-behind, with_bytes-inside}
-use Rattle.buffer_table.specs.declared.buffer.Buffer.{Buffer}
-use Rattle.buffer_table.specs.Table.{past_end}
+use Rattle.buffer_table.specs.{declared.buffer.Buffer.Buffer, Table.past_end}
 use Rattle.machine_plan.specs.Memory.{bytes_at}
 use Rattle.job_check.specs.Emit.{PartsFit, ContentsFit, content_parts}
+use Rattle.std.proofs.lemmas.{Grind.common_steps, Bool.Decides.nat_tests}
 
 -- bytes that are those of a text one by one
 pub bytes_are : (m : List ℕ) (place : ℕ) (text : List ℕ) → ((i : ℕ) → i < length text → slice_index m (place + i) ≡ slice_index text i) → bytes_at m place (length text) ≡ text
 unfolding bytes_at
 bytes_are m place [] same = refl
 bytes_are m place (x ∷ text) same =
-    let start : place ≡ place + 0 = omega arith in
-    let here : slice_index m place ≡ x = ap (slice_index m) start ∙ same 0 (omega arith) in
     let rest : bytes_at m (suc place) (length text) ≡ text =
     bytes_are m (suc place) text (λ i below. let e : suc place + i ≡ place + suc i = omega arith in ap (slice_index m) e ∙ same (suc i) (omega (arith, below))) in
-    ap (λ y. y ∷ bytes_at m (suc place) (length text)) here ∙ ap (λ ys. x ∷ ys) rest
+    ap (λ y. y ∷ bytes_at m (suc place) (length text)) (ap (slice_index m) (omega arith) ∙ same 0 (omega arith)) ∙ ap (λ ys. x ∷ ys) rest
 
 -- no byte of the n from a place on is at q
 abbrev pub IsClear : (q place n : ℕ) → Type 0
@@ -50,9 +48,7 @@ placed_kept m (part ∷ parts) q fit misses =
 -- A byte of the first part stands, where no later part touches it.
 pub placed_first : (m : List ℕ) (part : Part) (parts : List Part) (i : ℕ) → PartsFit (length m) (part ∷ parts) → i < length part.bytes → Misses (part.place + i) parts
     → slice_index (placed m (part ∷ parts)) (part.place + i) ≡ slice_index part.bytes i
-placed_first m part parts i fit below misses =
-    placed_kept (with_bytes m part.place part.bytes) parts (part.place + i) (fit_after m part.place part.bytes parts fit.0 fit.1) misses
-    ∙ with_bytes-inside m part.place part.bytes i fit.0 below
+placed_first m part parts i fit below misses = grind (arith, common_steps, nat_tests, placed_kept, fit_after, with_bytes-inside)
 
 -- Parts fit that are those of two lists that do.
 pub fit_append : (size : ℕ) (front rest : List Part) → PartsFit size front → PartsFit size rest → PartsFit size (front ++ rest)

@@ -1,32 +1,21 @@
 -- The three programs that the emitted record of a state names.
-use Rattle.std.proofs.Common.{◌≡◌, ◌≤◌, ◌<◌, ℕ, zero, suc, ◌+◌, ◌*◌, ◌/◌, ◌%◌, ◌==◌, Bool, true, false, not, if◌then◌else◌, List, length, Some, None, refl, sym, ap, subst, arith, inl, inr, ◌∙◌}
-use Rattle.std.proofs.lemmas.Bool.{cases_lt}
-use Rattle.std.proofs.Math.Bool.{not-not}
-use Rattle.field_words.specs.Words.{u32_at}
-use Rattle.field_words.specs.Questions.{first_of}
-use Rattle.buffer_table.specs.declared.buffer.Kind.TheVariants.{Code}
-use Rattle.buffer_table.specs.Table.{buffer_at}
+use Rattle.std.proofs.Common.{◌≡◌, ◌≤◌, ◌<◌, ℕ, zero, suc, ◌+◌, ◌*◌, ◌%◌, ◌==◌, Bool, true, false, not, List, length, Some, None, refl, sym, ap, subst, arith, inl, inr, ◌∙◌}
+use Rattle.std.proofs.{lemmas.Bool.cases_lt, Math.Bool.not-not, lemmas.Grind.common_steps, lemmas.Bool.Decides.nat_tests}
+use Rattle.field_words.specs.{Words.u32_at, Questions.first_of}
+use Rattle.buffer_table.specs.{declared.buffer.Kind.TheVariants.Code, Table.buffer_at}
 use Rattle.buffer_table.proofs.Named.{IsBufferOf, code_is}
 use Rattle.job_format.specs.Model.{FileModel}
 use Rattle.qpu_isa.specs.Shader.{ShaderModel, IsSoundShader}
-use Rattle.emitted_facts.specs.Records.{is_single, code_word, stream_word}
-use Rattle.emitted_facts.specs.Facts.{IsStream}
+use Rattle.emitted_facts.specs.{Records.is_single, Records.code_word, Records.stream_word, Facts.IsStream}
 use Rattle.emitted_facts.proofs.Records.{header_in}
 use Rattle.shader_flow.specs.Flow.{is_threaded}
 use Rattle.uniform_stream.specs.Stream.{uniforms_of}
-use Rattle.shader_records.specs.Inputs.{InputModel, shader_in}
-use Rattle.shader_records.specs.Named.{IsDataIn}
+use Rattle.shader_records.specs.{Inputs.InputModel, Inputs.shader_in, Emitted.streams_place, Named.IsDataIn, Rules.use_questions}
 use Rattle.shader_records.specs.Sources.{state_at, record_source, record_offset, uniform_source, stream_offset, code_number, shader_used, is_threaded as switches, given_by, given_before, taken_before, record_word, place_in}
-use Rattle.packets.specs.StateWord.{record_room}
-use Rattle.shader_records.specs.Rules.{use_questions}
 use Rattle.shader_records.specs.Emission.{shader_word, stream_place, stream_word_of}
-use Rattle.shader_records.specs.Emitted.{streams_place}
-use Rattle.shader_records.proofs.Fine.{state_fine, code_fine, flags_fine}
-use Rattle.shader_records.proofs.Inside.{emitted_in}
-use Rattle.shader_records.proofs.Steps.{given_upto}
-use Rattle.shader_records.proofs.Lengths.{length_uniforms}
+use Rattle.shader_records.proofs.{Fine.state_fine, Fine.code_fine, Fine.flags_fine, StreamFacts.emitted_stream_is, StreamFacts.same_stream}
+use Rattle.shader_records.proofs.{Inside.emitted_in, Steps.given_upto, Lengths.length_uniforms}
 use Rattle.shader_records.proofs.RecordFacts.{known_code, emitted_shader, agree}
-use Rattle.shader_records.proofs.StreamFacts.{emitted_stream_is, same_stream}
 use Rattle.shader_records.proofs.MemoryFacts.{record_in_memory, streams_in_memory}
 use Rattle.job_check.specs.Shaders.{table_of, content_of, words_of, told_of}
 use Rattle.job_check.specs.Jobs.{job_of, has_bin, input_for, layout_of, streams_of}
@@ -34,19 +23,11 @@ use Rattle.job_check.proofs.Views.{streams_are}
 use Rattle.list_machine.specs.Fetch.{record_place}
 use Rattle.list_law.specs.Emitted.{words_in, program_in}
 use Rattle.machine_law.specs.Begins.{LaunchBegins}
-use Rattle.accepted_law.specs.Holdings.{plain_of, file_rights}
-use Rattle.accepted_law.specs.Ends.{IsShaderOf}
-use Rattle.accepted_law.specs.Settled.{Grounds}
-use Rattle.accepted_law.specs.Parts.{RecordsLaunch}
+use Rattle.accepted_law.specs.{Holdings.plain_of, Holdings.file_rights, Ends.IsShaderOf, Settled.Grounds, Parts.RecordsLaunch}
 use Rattle.accepted_law.proofs.Uses.{inputs_are, inputs_low, streams_low, emitted_stand, told_is}
 use Rattle.accepted_law.proofs.Homes.{home_of, IsStarted, home_begins}
 
 -- Words of the record that name its shaders.
-small_word : (state i : ℕ) → i < 9 → 4 * i < record_room state
-small_word state i below =
-    let header = header_in state in
-    let whole = (emitted_in state).0 in
-    omega (arith, header, below, whole)
 
 code_third : (s : ℕ) → ((3 * s + 1) % 3 == 1) ≡ true
 code_third s = grind arith
@@ -59,20 +40,11 @@ stream_last s = grind arith
 
 code_emitted : (input : InputModel) (at state : ℕ) (streams : ℕ → ℕ) (s : ℕ) → shader_word input at state streams (3 * s + 1) ≡ place_in input.table (code_number input at s)
 unfolding shader_word
-code_emitted input at state streams s =
-    let i : ℕ = 3 * s + 1 in
-    let third : i / 3 ≡ s = omega arith in
-    ap (λ b. if b then place_in input.table (code_number input at (i / 3)) else (if i % 3 == 2 then streams (i / 3) else record_word input at state i)) (code_third s)
-    ∙ ap (λ n. place_in input.table (code_number input at n)) third
+code_emitted input at state streams s = grind (arith, common_steps, nat_tests, code_third)
 
 stream_emitted : (input : InputModel) (at state : ℕ) (streams : ℕ → ℕ) (s : ℕ) → shader_word input at state streams (3 * s + 2) ≡ streams s
 unfolding shader_word
-stream_emitted input at state streams s =
-    let i : ℕ = 3 * s + 2 in
-    let third : i / 3 ≡ s = omega arith in
-    ap (λ b. if b then place_in input.table (code_number input at (i / 3)) else (if i % 3 == 2 then streams (i / 3) else record_word input at state i)) (stream_third s)
-    ∙ ap (λ b. if b then streams (i / 3) else record_word input at state i) (stream_last s)
-    ∙ ap streams third
+stream_emitted input at state streams s = grind (arith, common_steps, nat_tests, stream_third, stream_last)
 
 flags_emitted : (input : InputModel) (at state : ℕ) (streams : ℕ → ℕ) → shader_word input at state streams 0 ≡ record_word input at state 0
 unfolding shader_word
@@ -98,7 +70,7 @@ record_has f j m k i grounds some below small =
     let at : ℕ = record_source input k in
     let state : ℕ = (state_at input k).word in
     record_in_memory input ((layout_of f j).place + (layout_of f j).records) first m k i (inputs_low f j grounds.settled) (grounds.settled.records some) below (streams_low f j grounds.settled)
-    (emitted_stand f j m grounds some) (small_word state i small)
+    (emitted_stand f j m grounds some) (omega (arith, header_in state, small, (emitted_in state).0))
     ∙ emitted_shader input at state (stream_place input at (first + stream_offset input k)) i small
 
 -- the streams of states that come before end before those of others
@@ -119,8 +91,7 @@ streams_end : (f : FileModel) (j k : ℕ) → has_bin f j ≡ true → k < lengt
 streams_end f j k some below =
     let input : InputModel = input_for f j in
     let all = ap length (sym (streams_are f j some)) ∙ length_uniforms input (streams_place (layout_of f j)) (length input.states) in
-    let rises = offset_rises input k (length input.states) below in
-    omega (arith, all, rises)
+    omega (arith, all, offset_rises input k (length input.states) below)
 
 -- where the streams of state k begin, and that of its shader s
 abbrev streams_from : FileModel → ℕ → ℕ → ℕ
@@ -136,8 +107,7 @@ stream_takes : (f : FileModel) (j : ℕ) (m : List ℕ) (k s : ℕ) (shader : Sh
 stream_takes f j m k s shader grounds some below small used sound =
     let input : InputModel = input_for f j in
     let first : ℕ = (layout_of f j).place + (layout_of f j).uniforms in
-    let at : ℕ = record_source input k in
-    let source : ℕ = uniform_source input k + taken_before input at s in
+    let source : ℕ = uniform_source input k + taken_before input (record_source input k) s in
     let none = grounds.settled.records some in
     let fine = state_fine input k none below in
     let streams = streams_in_memory input ((layout_of f j).place + (layout_of f j).records) first m k (inputs_are f j grounds.settled) (inputs_low f j grounds.settled) none below (streams_low f j grounds.settled) (emitted_stand f j m grounds some) in
@@ -151,10 +121,7 @@ stream_ends : (f : FileModel) (j k s uniforms : ℕ) → has_bin f j ≡ true �
     → given_by (shader_used (input_for f j) (record_source (input_for f j) k) s) ≡ 4 * uniforms
     → ((layout_of f j).place + (layout_of f j).uniforms ≤ stream_at f j k s) × (stream_at f j k s + 4 * uniforms ≤ (layout_of f j).place + (layout_of f j).uniforms + length (streams_of f j))
 unfolding stream_place
-stream_ends f j k s uniforms some below small given =
-    let ends = streams_end f j k some below in
-    let upto = given_upto (input_for f j) (record_source (input_for f j) k) s small in
-    (omega arith, omega (arith, ends, upto, given))
+stream_ends f j k s uniforms some below small given = grind (arith, common_steps, nat_tests, streams_end, given_upto)
 
 program_told : (f : FileModel) (j : ℕ) (m : List ℕ) (k s number : ℕ) → Grounds f j m → has_bin f j ≡ true → k < length (input_for f j).states → s < 3
     → code_number (input_for f j) (record_source (input_for f j) k) s ≡ Some number
@@ -191,10 +158,7 @@ program_of : (f : FileModel) (j : ℕ) (m : List ℕ) (k s number : ℕ) (shader
     → shader_in (input_for f j).shaders number ≡ Some shader
     → shader_used (input_for f j) (record_source (input_for f j) k) s ≡ Some shader → IsSoundShader shader
     → IsProgram f j m k s
-program_of f j m k s number shader grounds some below small named inside code is used sound =
-    let told : shader ≡ told_of (words_of (content_of f number)) = told_is f j number shader inside code is in
-    program_told f j m k s number grounds some below small named
-    (subst (λ x. shader_used (input_for f j) (record_source (input_for f j) k) s ≡ Some x) told used) (subst IsSoundShader told sound)
+program_of f j m k s number shader grounds some below small named inside code is used sound = search (arith, told_is, program_told)
 
 named_code : (f : FileModel) (j at s number : ℕ) → code_number (input_for f j) at s ≡ Some number → IsBufferOf (table_of f) (job_of f j).handles Code (u32_at (job_of f j).records (at + 4 * s)) number
 unfolding input_for code_number

@@ -1,41 +1,30 @@
 -- The renderer list of a file in which no rule stands walks: its places are a setup for its frame, and its numbers fit their fields.
-use Rattle.std.proofs.Common.{◌≡◌, ℕ, zero, suc, ◌+◌, ◌<◌, ◌≤◌, ◌^◌, Bool, true, false, if◌then◌else◌, List, Option, Some, None, refl, arith, lit<, ◌||◌, nat_le, ◌++◌, inl}
-use Rattle.field_words.specs.Questions.{first_of, each}
-use Rattle.field_words.specs.Words.{IsBytes}
-use Rattle.field_words.proofs.Questions.{none_stands}
-use Rattle.field_words.proofs.Nones.{front_none}
-use Rattle.buffer_table.specs.Table.{TableModel, buffer_at, most_place}
-use Rattle.buffer_table.specs.Handles.{data_of}
-use Rattle.job_format.specs.declared.file.Frame.{Frame}
-use Rattle.job_format.specs.Model.{FileModel}
-use Rattle.packets.specs.Opcode.{tile_binning_mode}
-use Rattle.packets.specs.Packet.{slots_text}
-use Rattle.bin_list.specs.Packets.{passed}
-use Rattle.bin_list.specs.Seen.{seen_before}
+use Rattle.std.proofs.Common.{◌≡◌, ℕ, zero, suc, ◌+◌, ◌<◌, ◌≤◌, ◌^◌, Bool, true, false, if◌then◌else◌, List, Option, Some, None, refl, arith, lit<, inl}
+use Rattle.field_words.specs.{Questions.first_of, Questions.each, Words.IsBytes}
+use Rattle.field_words.proofs.{Questions.none_stands, Nones.front_none}
+use Rattle.buffer_table.specs.{Table.TableModel, Table.buffer_at, Table.most_place, Handles.data_of}
+use Rattle.job_format.specs.{declared.file.Frame.Frame, Model.FileModel}
+use Rattle.packets.specs.{Opcode.tile_binning_mode, Packet.slots_text, declared.config.Config.Config}
+use Rattle.bin_list.specs.{Packets.passed, Seen.seen_before}
 use Rattle.render_list.specs.Frame.{place_at, surface_at, is_present, FitsAt, IsSetupFor, IsTileSet}
-use Rattle.render_list.specs.Surfaces.{surface_questions, surface_faults, place_behind, place_in, places_of, is_outside_grid, frame_questions, whole_questions}
+use Rattle.render_list.specs.Surfaces.{surface_questions, surface_faults, place_behind, place_in, places_of, is_outside_grid, frame_questions}
 use Rattle.render_list.specs.Text.{render_slots, render_text}
 use Rattle.render_list.proofs.Checked.{offset_inside, tiles_inside, set_of, none_at, is_setup}
 use Rattle.render_walks.specs.Walks.{AllFit, PlacesFit, GridFits, WalksTo, OwesFine, at_start}
-use Rattle.render_walks.proofs.Numbers.{render_fits}
-use Rattle.render_walks.proofs.Walking.{render_walks}
+use Rattle.render_walks.proofs.{Numbers.render_fits, Walking.render_walks}
 use Rattle.job_check.specs.Shaders.{table_of}
 use Rattle.job_check.specs.Jobs.{job_of, has_bin, grid_from, grid_of, slot_of, places_in, render_list_of}
 use Rattle.machine_plan.specs.Regions.{Rights, LiesIn}
 use Rattle.qpu_law.specs.Asks.{IsOneOf}
 use Rattle.qpu_law.proofs.Reading.{one_inside}
-use Rattle.packets.specs.declared.config.Config.{Config}
-use Rattle.list_law.specs.May.{MayWrite}
-use Rattle.list_law.specs.Rendering.{MayDo, NoMatter, AllSet}
-use Rattle.list_law.specs.Start.{frame_of}
+use Rattle.list_law.specs.{May.MayWrite, Start.frame_of, Rendering.MayDo, Rendering.NoMatter, Rendering.AllSet}
 use Rattle.list_law.proofs.Start.{walks_to_weaker, head_sets}
-use Rattle.accepted_law.specs.Settled.{Settled, Grounds}
-use Rattle.accepted_law.proofs.Tables.{buffer_low, slot_inside}
-use Rattle.accepted_law.proofs.ByteTexts.{bytes_passed, byte_of_latest}
+use Rattle.accepted_law.specs.{Settled.Settled, Settled.Grounds, Parts.RendersWalk}
+use Rattle.accepted_law.proofs.{Tables.buffer_low, Tables.slot_inside, ByteTexts.bytes_passed, ByteTexts.byte_of_latest}
 use Rattle.accepted_law.specs.Holdings.{plain_of, rights_at, across_of, down_of, config_for, frame_for}
-use Rattle.accepted_law.specs.Parts.{RendersWalk}
 use Rattle.accepted_law.proofs.Frames.{HasRoom, IsSurfaceAt, AreSurfacesAt, surface_is}
 use Rattle.accepted_law.proofs.Tiles.{HasGridFor, names_none_at, tile_fine}
+use Rattle.std.proofs.lemmas.{Grind.common_steps, Bool.Decides.nat_tests}
 
 -- buffers end inside the greatest memory
 abbrev AreLow : TableModel → Type 0
@@ -73,9 +62,7 @@ small_named : (frame : Frame) (table : TableModel) (handles : List ℕ) (k : ℕ
     → first_of (surface_questions frame table handles k) ≡ None → data_of table handles (surface_at frame k).hindex ≡ found
     → place_behind table (surface_at frame k).offset found ≡ Some place → place < 2 ^ 32
 small_named frame table handles k None place low present none named is = cc
-small_named frame table handles k (Some number) place low present none named is =
-    let same : (buffer_at table.buffers number).place + (surface_at frame k).offset ≡ place = cc in
-    omega (arith, same, low number, offset_inside frame table handles k number present none named)
+small_named frame table handles k (Some number) place low present none named is = grind (arith, common_steps, nat_tests, offset_inside)
 
 small_by : (b : Bool) (frame : Frame) (table : TableModel) (handles : List ℕ) (k place : ℕ) → AreLow table → is_present (surface_at frame k) ≡ b
     → first_of (surface_questions frame table handles k) ≡ None
@@ -119,9 +106,7 @@ grid_small f j all = grid_if (has_bin f j) (grid_from (seen_before (passed (job_
 
 slot_low : (f : FileModel) (j : ℕ) → Settled f j → slot_of f j ≤ most_place
 slot_low f j s =
-    let tiles = s.sound.each_item 1 (omega arith) in
-    let slot = slot_inside f j s.well_formed s.sound s.inside in
-    omega (arith, slot.upto, tiles.inside, s.sound.limit)
+    omega (arith, (slot_inside f j s.well_formed s.sound s.inside).upto, (s.sound.each_item 1 (omega arith)).inside, s.sound.limit)
 
 -- The same of a settled file.
 low_of : (f : FileModel) (j : ℕ) → Settled f j → AreLow (table_of f)
@@ -136,9 +121,7 @@ unfolding places_in
 frame_places f j s = places_small (job_of f j).frame (table_of f) (job_of f j).handles (low_of f j s) (none_at (job_of f j).frame (grid_of f j) (table_of f) (job_of f j).handles s.surfaces)
 
 pub frame_fits : (f : FileModel) (j : ℕ) → Settled f j → AllFit (render_slots (job_of f j).frame (places_in f j) (grid_of f j) (slot_of f j))
-frame_fits f j s =
-    render_fits (job_of f j).frame (places_in f j) (grid_of f j) (slot_of f j) s.job_fits.frame (frame_setup f j s) (frame_places f j s) (grid_small f j s.job_fits.bin)
-    (slot_low f j s)
+frame_fits f j s = search (arith, render_fits, frame_setup, frame_places, grid_small, slot_low)
 
 -- The job may write each part of a Plain buffer that its handles name.
 may_write : (f : FileModel) (j : ℕ) (m : List ℕ) (place size p n : ℕ) → Grounds f j m → IsOneOf (plain_of f j) place size → place ≤ p → p + n ≤ place + size → MayWrite (rights_at f j) p n
@@ -162,15 +145,11 @@ surfaces_at r frame grid table handles rooms none =
 -- The tiles of the set are in the binner's grid.
 pub in_grid : (frame : Frame) (grid : Option (ℕ × ℕ)) (table : TableModel) (handles : List ℕ) → first_of (surface_faults frame grid table handles) ≡ None → is_outside_grid frame grid ≡ false
 unfolding surface_faults frame_questions
-in_grid frame grid table handles none =
-    let n = none_stands (frame_questions frame grid) (front_none (frame_questions frame grid) (each (surface_questions frame table handles) 0 6 ++ whole_questions frame) none) in
-    n.1.0
+in_grid frame grid table handles none = grind (arith, common_steps, nat_tests, none_stands, front_none)
 
 tiles_below : (frame : Frame) (across down : ℕ) → is_outside_grid frame (Some (across, down)) ≡ false → (frame.max_x < across) × (frame.max_y < down)
 unfolding is_outside_grid
-tiles_below frame across down none =
-    let outside : (nat_le across frame.max_x || nat_le down frame.max_y) ≡ false = none in
-    (grind (arith, outside), grind (arith, outside))
+tiles_below frame across down none = (grind (arith, none), grind (arith, none))
 
 has_grid : (b : Bool) (f : FileModel) (j : ℕ) (frame : Frame) → is_outside_grid frame (if b then Some (across_of f j, down_of f j) else None) ≡ false
     → HasGridFor (config_for f j) frame (slot_of f j) (if b then Some (across_of f j, down_of f j) else None)
@@ -215,10 +194,7 @@ sets_in f j = head_sets (job_of f j).frame (places_in f j) (grid_of f j) (slot_o
 walks_in : (f : FileModel) (j : ℕ) (m : List ℕ) → Grounds f j m
     → WalksTo (MayDo (rights_at f j) (config_for f j) (frame_for f j)) NoMatter at_start (render_slots (job_of f j).frame (places_in f j) (grid_of f j) (slot_of f j))
 unfolding frame_for
-walks_in f j m grounds =
-    walks_by (rights_at f j) (config_for f j) (job_of f j).frame (places_in f j) (grid_of f j) (slot_of f j)
-    (set_of (job_of f j).frame (grid_of f j) (table_of f) (job_of f j).handles grounds.settled.surfaces)
-    (surfaces_in f j m grounds) (has_grid_for f j grounds.settled)
+walks_in f j m grounds = search (arith, walks_by, set_of, surfaces_in, has_grid_for)
 
 pub renders_walk_law : RendersWalk
 renders_walk_law f j m grounds = record { text = list_text f j; walks = walks_in f j m grounds; fits = frame_fits f j grounds.settled; sets = sets_in f j }

@@ -1,38 +1,27 @@
 -- A file in which no rule stands settles.
-use Rattle.std.proofs.Common.{◌≡◌, ℕ, zero, suc, ◌+◌, ◌%◌, ◌==◌, ◌<◌, ◌≤◌, inl, inr, Bool, true, false, not, if◌then◌else◌, List, [], ◌∷◌, ◌++◌, Some, None, is_some, length, get_or, refl, sym, ap, subst, arith, ◌∙◌}
+use Rattle.std.proofs.Common.{◌≡◌, ℕ, zero, suc, ◌+◌, ◌%◌, ◌==◌, ◌<◌, ◌≤◌, inl, inr, Bool, true, false, not, if◌then◌else◌, List, [], ◌∷◌, ◌++◌, Some, None, is_some, length, get_or, sym, ap, arith, ◌∙◌}
 use Rattle.std.specs.List.{AllByRecursion}
-use Rattle.std.proofs.lemmas.Bool.{ltb-false, cases_lt}
-use Rattle.std.proofs.lemmas.List.{get_or_past}
-use Rattle.field_words.specs.Questions.{Question, Ask, first_of, each, answered}
-use Rattle.field_words.proofs.Questions.{none_stands}
-use Rattle.field_words.proofs.Nones.{front_none, rest_none, each_none, none_answered}
-use Rattle.buffer_table.specs.declared.buffer.Kind.{Kind}
-use Rattle.buffer_table.specs.declared.buffer.Kind.TheVariants.{Plain, Code}
+use Rattle.std.proofs.lemmas.{Bool.ltb-false, Bool.cases_lt, List.get_or_past, Grind.common_steps, Bool.Decides.nat_tests}
+use Rattle.field_words.specs.Questions.{Question, Ask, first_of, each}
+use Rattle.field_words.proofs.{Questions.none_stands, Nones.front_none, Nones.rest_none, Nones.each_none, Nones.none_answered}
+use Rattle.buffer_table.specs.declared.buffer.Kind.{Kind, TheVariants.Plain, TheVariants.Code}
 use Rattle.buffer_table.specs.Table.{most_place, buffer_at, table_within}
-use Rattle.buffer_table.specs.Handles.{AreNumbersOf, handles_questions}
-use Rattle.buffer_table.specs.Sound.{IsSound}
-use Rattle.buffer_table.proofs.Sounds.{sound_within}
-use Rattle.buffer_table.proofs.Named.{are_numbers}
+use Rattle.buffer_table.specs.{Handles.AreNumbersOf, Handles.handles_questions, Sound.IsSound}
+use Rattle.buffer_table.proofs.{Sounds.sound_within, Named.are_numbers}
 use Rattle.bin_list.specs.Rules.{bin_questions}
 use Rattle.qpu_isa.specs.Shader.{ShaderModel, IsSoundShader}
 use Rattle.shader_flow.specs.Flow.{is_threaded}
 use Rattle.uniform_stream.specs.Stream.{uniforms_of, address_words_of}
-use Rattle.shader_check.specs.Info.{samples_of}
-use Rattle.shader_check.specs.Rules.{shader_questions}
-use Rattle.shader_check.proofs.Clean.{clean}
-use Rattle.shader_check.proofs.SoundInfo.{sound as info_sound}
-use Rattle.shader_check.proofs.Indexed.{sound_shader}
-use Rattle.shader_records.specs.Inputs.{AreShadersOf, shader_in}
-use Rattle.shader_records.specs.Rules.{all_questions}
+use Rattle.shader_check.specs.{Info.samples_of, Rules.shader_questions}
+use Rattle.shader_check.proofs.{Clean.clean, Indexed.sound_shader, SoundInfo.sound as info_sound}
+use Rattle.shader_records.specs.{Inputs.AreShadersOf, Inputs.shader_in, Rules.all_questions}
 use Rattle.render_list.specs.Surfaces.{surface_faults}
-use Rattle.job_format.specs.File.{Fits, JobFits}
-use Rattle.job_format.specs.Model.{FileModel, JobModel}
+use Rattle.job_format.specs.{File.Fits, File.JobFits, Model.FileModel, Model.JobModel}
 use Rattle.relocation.specs.Layout.{region_end}
 use Rattle.job_check.specs.Shaders.{table_of, words_of, code_questions, told_of, content_of, shader_for, shaders_of}
 use Rattle.job_check.specs.Jobs.{no_job, job_of, has_bin, grid_of, input_for, layout_of}
-use Rattle.job_check.specs.Faults.{table_refused, table_stage_within, shader_refused, shader_questions_in, shader_stage, shaders_stage, handle_refused, handles_stage, bin_refused, bin_stage, record_refused, records_stage, surface_refused, surfaces_stage, layout_stage, lists_stages, job_stages, stages_within, place_stages}
-use Rattle.job_check.proofs.Codes.{is_code, shader_at, shader_count}
-use Rattle.job_check.proofs.Jobs.{job_limits}
+use Rattle.job_check.specs.Faults.{table_refused, table_stage_within, shader_refused, shader_questions_in, shader_stage, shaders_stage, handle_refused, handles_stage, bin_stage, records_stage, surface_refused, surfaces_stage, layout_stage, lists_stages, job_stages, stages_within, place_stages}
+use Rattle.job_check.proofs.{Codes.is_code, Codes.shader_at, Codes.shader_count, Jobs.job_limits}
 use Rattle.accepted_law.specs.Parts.{FilesSettle}
 
 -- no rule of a stage that is asked where a test is true
@@ -99,9 +88,7 @@ told_sound code none = sound_shader (uniforms_of code) (samples_of code) (addres
 
 sound_for : (kind : Kind) (content : List ℕ) (shader : ShaderModel) → (kind ≡ Code → first_of (code_questions content) ≡ None) → shader_for kind content ≡ Some shader → IsSoundShader shader
 sound_for Plain content shader none is = cc
-sound_for Code content shader none is =
-    let same : told_of (words_of content) ≡ shader = cc in
-    subst IsSoundShader same (told_sound (words_of content) (code_rules content (none refl)))
+sound_for Code content shader none is = search (arith, told_sound, code_rules)
 
 sound_at : (f : FileModel) → first_of (shaders_stage f) ≡ None → (number : ℕ) (shader : ShaderModel) → shader_in (shaders_of f) number ≡ Some shader → IsSoundShader shader
 sound_at f none number shader is =
@@ -128,20 +115,15 @@ handles_clear f j inside none =
 
 handles_none : (f : FileModel) (j : ℕ) → first_of (handles_stage f j) ≡ None → AreNumbersOf (table_of f) (job_of f j).handles
 unfolding handles_stage
-handles_none f j none =
-    are_numbers (table_of f) (job_of f j).client (job_of f j).handles
-    (none_answered (handle_refused f j) (handles_questions (table_of f) (job_of f j).client (job_of f j).handles) none)
+handles_none f j none = search (arith, are_numbers, none_answered)
 
 bin_none : (f : FileModel) (j : ℕ) → first_of (bin_stage f j) ≡ None → has_bin f j ≡ true → first_of (bin_questions (job_of f j).bin (job_of f j).declared (table_of f) (job_of f j).handles) ≡ None
 unfolding bin_stage
-bin_none f j none some =
-    let rules = bin_questions (job_of f j).bin (job_of f j).declared (table_of f) (job_of f j).handles in
-    none_answered (bin_refused f j) rules (asked_if (has_bin f j) (answered (bin_refused f j) rules) some none)
+bin_none f j none some = grind (arith, common_steps, nat_tests, none_answered, asked_if)
 
 records_none : (f : FileModel) (j : ℕ) → first_of (records_stage f j) ≡ None → has_bin f j ≡ true → first_of (all_questions (input_for f j)) ≡ None
 unfolding records_stage
-records_none f j none some =
-    none_answered (record_refused f j) (all_questions (input_for f j)) (asked_if (has_bin f j) (answered (record_refused f j) (all_questions (input_for f j))) some none)
+records_none f j none some = grind (arith, common_steps, nat_tests, none_answered, asked_if)
 
 surfaces_none : (f : FileModel) (j : ℕ) → first_of (surfaces_stage f j) ≡ None → first_of (surface_faults (job_of f j).frame (grid_of f j) (table_of f) (job_of f j).handles) ≡ None
 unfolding surfaces_stage
@@ -149,9 +131,7 @@ surfaces_none f j none = none_answered (surface_refused f j) (surface_faults (jo
 
 lists_fit : (f : FileModel) (j : ℕ) → first_of (layout_stage f j) ≡ None → (layout_of f j).place + (layout_of f j).end ≤ region_end f.regions
 unfolding layout_stage
-lists_fit f j none =
-    let asked = none_stands (layout_stage f j) none in
-    ltb-false (region_end f.regions) ((layout_of f j).place + (layout_of f j).end) asked.0
+lists_fit f j none = ltb-false (region_end f.regions) ((layout_of f j).place + (layout_of f j).end) (none_stands (layout_stage f j) none).0
 
 -- what is true of each job is true of job j
 each_job : (P : JobModel → Type 0) (jobs : List JobModel) (j : ℕ) → AllByRecursion P jobs → j < length jobs → P (get_or jobs j no_job)

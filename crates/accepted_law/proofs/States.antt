@@ -1,7 +1,6 @@
 -- The state that a word in the emitted binner list points to, and where its record stands.
-use Rattle.std.proofs.Common.{◌≡◌, ◌≤◌, ◌<◌, ℕ, zero, suc, ◌+◌, ◌-◌, ◌*◌, ◌%◌, true, List, [], ◌∷◌, length, drop, get_or, if◌then◌else◌, refl, sym, ◌∙◌, ap, subst, arith, inl, inr, length-drop}
-use Rattle.std.proofs.Math.Seq.{drop-cons}
-use Rattle.std.proofs.lemmas.Bool.{cases_lt}
+use Rattle.std.proofs.Common.{◌≡◌, ◌≤◌, ◌<◌, ℕ, zero, suc, ◌+◌, ◌-◌, ◌*◌, ◌%◌, true, List, [], ◌∷◌, length, drop, get_or, refl, sym, ◌∙◌, ap, subst, arith, inl, inr, length-drop}
+use Rattle.std.proofs.{Math.Seq.drop-cons, lemmas.Bool.cases_lt, lemmas.Grind.common_steps, lemmas.Bool.Decides.nat_tests}
 use Rattle.field_words.specs.Words.{u32_at}
 use Rattle.emitted_facts.specs.Facts.{IsAttributeIn, IsRecord}
 use Rattle.packets.specs.StateWord.{attribute_count, record_size, record_room}
@@ -9,19 +8,12 @@ use Rattle.buffer_table.specs.Sound.{IsSound}
 use Rattle.bin_list.specs.declared.state.State.{State}
 use Rattle.bin_walks.specs.Draws.{IsStateAt}
 use Rattle.relocation.specs.declared.layout.Layout.{Layout}
-use Rattle.shader_records.specs.Inputs.{InputModel}
-use Rattle.shader_records.specs.Named.{IsDataIn, IsCodeIn}
+use Rattle.shader_records.specs.{Inputs.InputModel, Emitted.streams_place, Named.IsDataIn, Named.IsCodeIn}
 use Rattle.shader_records.specs.Sources.{no_state, state_at, record_offset}
-use Rattle.shader_records.specs.Emitted.{streams_place}
-use Rattle.shader_records.proofs.Inside.{emitted_in}
-use Rattle.shader_records.proofs.Lengths.{length_records}
-use Rattle.shader_records.proofs.RecordsInMemory.{records_in_memory}
+use Rattle.shader_records.proofs.{Inside.emitted_in, Lengths.length_records, RecordsInMemory.records_in_memory}
 use Rattle.job_format.specs.Model.{FileModel}
-use Rattle.job_check.specs.Shaders.{table_of}
-use Rattle.job_check.specs.Jobs.{job_of, has_bin, input_for, layout_of, records_of}
-use Rattle.job_check.specs.Emit.{lengths_of}
-use Rattle.job_check.proofs.Layouts.{layout_apart, layout_numbers, begin_whole}
-use Rattle.job_check.proofs.Views.{records_are}
+use Rattle.job_check.specs.{Shaders.table_of, Emit.lengths_of, Jobs.job_of, Jobs.has_bin, Jobs.input_for, Jobs.layout_of, Jobs.records_of}
+use Rattle.job_check.proofs.{Layouts.layout_apart, Layouts.layout_numbers, Layouts.begin_whole, Views.records_are}
 use Rattle.machine_plan.specs.Regions.{Interval, Inside}
 use Rattle.list_machine.specs.Fetch.{record_place}
 use Rattle.list_law.specs.Emitted.{words_in, RecordStands}
@@ -30,8 +22,7 @@ use Rattle.qpu_law.specs.Asks.{IsOneOf}
 use Rattle.qpu_law.proofs.Reading.{one_inside}
 use Rattle.machine_law.specs.Begins.{IsFixed}
 use Rattle.machine_law.proofs.Begins.{fixed_inside}
-use Rattle.accepted_law.specs.Holdings.{lists_of, rights_at, file_rights}
-use Rattle.accepted_law.specs.Settled.{Grounds}
+use Rattle.accepted_law.specs.{Holdings.lists_of, Holdings.rights_at, Holdings.file_rights, Settled.Grounds}
 use Rattle.accepted_law.proofs.Uses.{inputs_are, inputs_low, streams_low, emitted_stand}
 
 -- The word points to the record of the state of this number.
@@ -51,8 +42,7 @@ unfolding record_offset
 found_from input layout word state i at [] rest offset none = absurd none
 found_from input layout word state i at (first ∷ later) rest offset (inl here) =
     let below = some_left input.states i first later rest in
-    let cut : first ∷ later ≡ state_at input i ∷ drop (suc i) input.states = rest ∙ drop-cons input.states i no_state below in
-    let one : first ≡ state_at input i = ap (λ states. get_or states 0 no_state) cut in
+    let one : first ≡ state_at input i = ap (λ states. get_or states 0 no_state) (rest ∙ drop-cons input.states i no_state below) in
     record {
       number = i;
       below = below;
@@ -92,11 +82,8 @@ place_for f j k = (layout_of f j).place + (layout_of f j).records + record_offse
 pub place_whole : (f : FileModel) (j k : ℕ) → IsSound f.mem_size f.regions f.buffers → place_for f j k % 16 ≡ 0
 unfolding place_for
 place_whole f j k sound =
-    let numbers = layout_numbers f j (layout_of f j) refl in
-    let begin = begin_whole f j sound in
-    let records = (layout_apart f j).records_aligned in
     let offset = offset_whole (input_for f j) k in
-    omega (arith, numbers.0, begin, records, offset)
+    omega (arith, (layout_numbers f j (layout_of f j) refl).0, begin_whole f j sound, (layout_apart f j).records_aligned, offset)
 
 pub place_of : (word base n : ℕ) → base % 16 ≡ 0 → word ≡ base + n % 16 → record_place word ≡ base
 unfolding record_place
@@ -110,8 +97,7 @@ record_room_in : (f : FileModel) (j k : ℕ) → has_bin f j ≡ true → k < le
 record_room_in f j k has below =
     let long : length (records_of f j) ≡ record_offset (input_for f j) (length (input_for f j).states) =
     ap length (sym (records_are f j has)) ∙ length_records (input_for f j) (streams_place (layout_of f j)) (length (input_for f j).states) in
-    let ends = record_ends (input_for f j) (length (input_for f j).states) k below in
-    omega (arith, long, ends)
+    omega (arith, long, record_ends (input_for f j) (length (input_for f j).states) k below)
 
 records_listed : (f : FileModel) (j : ℕ) → IsOneOf (lists_of f j) ((layout_of f j).place + (layout_of f j).records) (length (records_of f j))
 unfolding lists_of lengths_of
@@ -120,10 +106,7 @@ records_listed f j = inr (inl refl)
 -- The sizes of a record go by the low four bits of its word.
 same_size : (state word : ℕ) → state % 16 ≡ word % 16 → record_size state ≡ record_size word
 unfolding record_size
-same_size state word is =
-    let count = same_count state word is in
-    let extended = same_extended state word is in
-    λ i. if extended i then 100 + 4 * count i else 36 + 8 * count i
+same_size state word is = grind (arith, common_steps, nat_tests, same_count, same_extended)
 
 -- The record of state k, of which a word has the place and the low four bits, stands in memory; no job may write it.
 pub record RecordKept (f : FileModel) (j : ℕ) (m : List ℕ) (word : ℕ) : Type 0 where

@@ -1,15 +1,12 @@
 -- Buffers and regions of a sound memory table.
 use Rattle.std.proofs.Common.{◌≡◌, inl, inr, ℕ, ◌+◌, ◌*◌, ◌<◌, ◌≤◌, List, length, ap, subst, arith}
-use Rattle.std.proofs.lemmas.Bool.{cases_lt}
-use Rattle.std.proofs.lemmas.List.{get_or_past}
+use Rattle.std.proofs.lemmas.{Bool.cases_lt, List.get_or_past}
 use Rattle.field_words.specs.Sizes.{slot_size}
-use Rattle.buffer_table.specs.declared.buffer.Buffer.{Buffer}
-use Rattle.buffer_table.specs.declared.buffer.Regions.{Regions}
+use Rattle.buffer_table.specs.declared.buffer.{Buffer.Buffer, Regions.Regions}
 use Rattle.buffer_table.specs.Table.{items_of, item_at, lists_item, tile_item, buffer_item, buffer_at, past_end, most_place}
 use Rattle.buffer_table.specs.Sound.{IsSound, IsSoundItem, AreApart}
 use Rattle.buffer_table.proofs.Sounds.{item_of_buffer, length_items}
-use Rattle.job_format.specs.File.{IsWellFormed}
-use Rattle.job_format.specs.Model.{FileModel}
+use Rattle.job_format.specs.{File.IsWellFormed, Model.FileModel}
 use Rattle.job_check.specs.Jobs.{slot_of}
 use Rattle.job_check.proofs.Layouts.{enough_slots}
 
@@ -49,14 +46,9 @@ pub record IsSlotInside (f : FileModel) (j : ℕ) : Type 0 where
 
 pub slot_inside : (f : FileModel) (j : ℕ) → IsWellFormed f → IsSound f.mem_size f.regions f.buffers → j < length f.jobs → IsSlotInside f j
 unfolding slot_of
-slot_inside f j well sound inside =
-    let enough = enough_slots f well sound in
-    record { from = omega arith; upto = omega (arith, enough, inside) }
+slot_inside f j well sound inside = record { from = omega arith; upto = omega (arith, enough_slots f well sound, inside) }
 
 -- Each buffer ends inside the greatest memory; past the last one there is none, of no bytes.
-past_low : (b : Buffer) → b ≡ past_end → b.place + b.size ≤ most_place
-past_low b is = omega (arith, ap (λ x. x.place) is, ap (λ x. x.size) is)
-
 past_is : (buffers : List Buffer) (number : ℕ) → length buffers ≤ number → buffer_at buffers number ≡ past_end
 unfolding buffer_at
 past_is buffers number past = get_or_past buffers number past_end past
@@ -66,5 +58,5 @@ pub buffer_low : (memory : ℕ) (r : Regions) (buffers : List Buffer) → IsSoun
 buffer_low memory r buffers sound number =
     elim (cases_lt number (length buffers)) [
       | inl inside ↦ (let s = buffer_sound memory r buffers sound number inside in omega (arith, s.inside, sound.limit))
-      | inr past ↦ past_low (buffer_at buffers number) (past_is buffers number past)
+      | inr past ↦ (omega (arith, ap (λ x. x.place) (past_is buffers number past), ap (λ x. x.size) (past_is buffers number past)))
     ]

@@ -1,28 +1,21 @@
 -- Each packet of a tile may be done, where each surface lies in its buffer and the tile is one of the binner's grid.
-use Rattle.std.proofs.Common.{◌≡◌, ◌≤◌, ◌<◌, inl, inr, ℕ, ◌+◌, ◌*◌, ◌%◌, ◌==◌, ◌&&◌, not, Bool, true, false, List, Option, Some, None, if◌then◌else◌, refl, sym, ap, subst, arith, ◌∙◌, bit_or, lit<}
-use Rattle.std.proofs.Math.Nat.{mul-le-mul_right}
+use Rattle.std.proofs.Common.{◌≡◌, ◌≤◌, ◌<◌, inl, ℕ, ◌+◌, ◌*◌, ◌%◌, ◌==◌, ◌&&◌, Bool, true, false, List, Option, Some, None, if◌then◌else◌, refl, sym, ap, arith, ◌∙◌, bit_or, lit<}
+use Rattle.std.proofs.{Math.Nat.mul-le-mul_right, lemmas.Grind.common_steps, lemmas.Bool.Decides.nat_tests}
 use Rattle.std.specs.Int.Bits.{or_zero_r}
-use Rattle.job_format.specs.declared.file.Frame.{Frame as JobFrame}
-use Rattle.job_format.specs.declared.file.Surface.{Surface}
-use Rattle.packets.specs.declared.packet.Packet.{Packet}
+use Rattle.job_format.specs.declared.file.{Frame.Frame as JobFrame, Surface.Surface}
+use Rattle.packets.specs.declared.{packet.Packet.Packet, config.Config.Config}
 use Rattle.packets.specs.declared.packet.Packet.TheVariants.{WaitOnSemaphore, StoreTileColor, StoreTileColorAndEnd, LoadFullResolution, LoadTileBuffer, TileCoordinates}
 use Rattle.field_words.specs.Words.{bits_of}
-use Rattle.texture_layouts.specs.declared.format.Style.{Style}
-use Rattle.texture_layouts.specs.Format.{general_tiling, general_pixel, frame_tiling, frame_pixel, styled, frame_style, general_style}
+use Rattle.texture_layouts.specs.{declared.format.Style.Style, Format.styled, Format.frame_style, Format.general_style}
 use Rattle.tile_memory.specs.Slots.{alloc_offset}
-use Rattle.machine_plan.specs.Regions.{Rights, Inside}
+use Rattle.machine_plan.specs.Regions.{Rights}
 use Rattle.render_list.specs.Frame.{place_at, surface_at, is_full, full_place, is_first_tile, is_last_tile}
 use Rattle.render_list.specs.Surfaces.{surface_tiling, surface_pixel, surface_style}
 use Rattle.render_list.specs.Text.{number_where, packet_where, idle_store, color_place, color_bits, load_packet, load_slot, wait_slot, list_place, list_slot, full_store, full_store_slot, zs_store, zs_store_slot, color_store, color_store_slot, is_there, more_after_multisample_color, more_after_multisample_zs, some_before_zs, some_before_color, load_slots, list_slots, write_slots, tile_slots}
 use Rattle.render_walks.specs.Walks.{IsSlotFine, AreFine}
 use Rattle.render_walks.proofs.Numbers.{small_where}
-use Rattle.packets.specs.declared.config.Config.{Config}
-use Rattle.list_machine.specs.declared.state.Frame.{Frame}
-use Rattle.list_machine.specs.Blocks.{tiles_of}
-use Rattle.list_machine.specs.Surfaces.{aligned, names_none, whole_size}
-use Rattle.list_law.specs.May.{MayWrite}
-use Rattle.list_law.specs.Rendering.{StoresSurface, LoadsSurface, MayDo}
-use Rattle.list_law.specs.Start.{frame_of}
+use Rattle.list_machine.specs.{declared.state.Frame.Frame, Blocks.tiles_of, Surfaces.names_none}
+use Rattle.list_law.specs.{Start.frame_of, Rendering.StoresSurface, Rendering.LoadsSurface, Rendering.MayDo}
 use Rattle.accepted_law.proofs.Frames.{IsPlainAt, IsSurfaceAt, AreSurfacesAt, aligned_or, aligned_same, style_kept}
 
 -- The machine's frame, by the place of the surface that colour is written to.
@@ -52,8 +45,7 @@ loads r frame color k surface base found is plain = record { style_is = plain.st
 -- All surfaces but the one that colour is written to have general bits.
 general_at : (k : ℕ) (surface : Surface) → (k == 1) ≡ false → surface_style k surface ≡ general_style surface.bits
 unfolding surface_tiling surface_pixel
-general_at k surface other =
-    ap (λ b. styled (if b then frame_tiling surface.bits else general_tiling surface.bits) (if b then frame_pixel surface.bits else general_pixel surface.bits)) other
+general_at k surface other = grind (arith, common_steps, nat_tests)
 
 -- A tile of a surface in full resolution begins at a multiple of 16.
 full_whole : (frame : JobFrame) (base x y : ℕ) → base % 16 ≡ 0 → full_place frame base x y % 16 ≡ 0
@@ -69,14 +61,8 @@ fine_where Fine x y false packet fine = tt
 load_by : (r : Rights) (c : Config) (frame : JobFrame) (color : Option ℕ) (k left_out base x y : ℕ) (full : Bool) → is_full k (surface_at frame k) ≡ full → (k == 1) ≡ false → left_out < 16
     → x ≤ frame.max_x → y ≤ frame.max_y → IsSurfaceAt r frame k base
     → MayDo r c (head frame color) (if full then LoadFullResolution (bit_or (full_place frame base x y) left_out) else LoadTileBuffer (surface_at frame k).bits base) x y
-load_by r c frame color k left_out base x y true is other small right down here =
-    subst (λ a. Inside r.region a whole_size) (sym (aligned_or (full_place frame base x y) left_out (full_whole frame base x y here.whole) small))
-    ((here.full is).writes x y right down).region
-load_by r c frame color k left_out base x y false is other small right down here =
-    let surface : Surface = surface_at frame k in
-    let plain : IsPlainAt r frame k surface base = here.plain is in
-    inr (subst (LoadsSurface r (general_style surface.bits) (head frame color)) (sym (aligned_same base here.whole))
-    (loads r frame color k surface base (general_style surface.bits) (general_at k surface other) plain))
+load_by r c frame color k left_out base x y true is other small right down here = search (arith, aligned_or, full_whole)
+load_by r c frame color k left_out base x y false is other small right down here = search (arith, aligned_same, loads, general_at)
 
 fine_load : (r : Rights) (c : Config) (frame : JobFrame) (color : Option ℕ) (k left_out : ℕ) (place : Option ℕ) (x y : ℕ) → (k == 1) ≡ false → left_out < 16
     → x ≤ frame.max_x → y ≤ frame.max_y → ((base : ℕ) → place ≡ Some base → IsSurfaceAt r frame k base)
@@ -88,10 +74,7 @@ fine_load r c frame color k left_out (Some base) x y other small right down surf
 
 -- The sub-list.
 tile_below : (across down x y : ℕ) → x < across → y < down → y * across + x < across * down
-tile_below across down x y right low =
-    let next : y + 1 ≤ down = omega (arith, low) in
-    let rows : (y + 1) * across ≤ down * across = mul-le-mul_right across next in
-    omega (arith, rows, right)
+tile_below across down x y right low = grind (arith, common_steps, nat_tests, mul-le-mul_right)
 
 fine_list : (r : Rights) (c : Config) (f : Frame) (frame : JobFrame) (grid : Option (ℕ × ℕ)) (slot x y : ℕ) → HasGridFor c frame slot grid → x ≤ frame.max_x → y ≤ frame.max_y
     → IsSlotFine (MayDo r c f) x y (list_slot grid slot x y)
@@ -114,11 +97,7 @@ fine_full : (r : Rights) (c : Config) (f : Frame) (frame : JobFrame) (k left_out
 unfolding full_store
 fine_full r c f frame k left_out None more x y full small right down surfaces = tt
 fine_full r c f frame k left_out (Some base) more x y full small right down surfaces =
-    let here : IsSurfaceAt r frame k base = surfaces base refl in
-    let low : ℕ = left_out + number_where more 4 + number_where (not more && is_last_tile frame x y) 8 in
-    let few : low < 16 = omega (arith, small, small_where more 4, small_where (not more && is_last_tile frame x y) 8) in
-    subst (λ a. MayWrite r a whole_size) (sym (aligned_or (full_place frame base x y) low (full_whole frame base x y here.whole) few))
-    ((here.full full).writes x y right down)
+    search (arith, IsSurfaceAt, small_where, aligned_or, full_whole)
 
 -- The store of depth and stencil, by general bits, of which one says that colour stays.
 zs_style : (more : Bool) (bits : ℕ) → general_style (bit_or bits (number_where more 8192)) ≡ general_style bits
@@ -129,16 +108,7 @@ fine_zs : (r : Rights) (c : Config) (frame : JobFrame) (color place : Option ℕ
     → IsSlotFine (MayDo r c (head frame color)) x y (zs_store_slot frame place more x y)
 unfolding zs_store
 fine_zs r c frame color None more x y surfaces = tt
-fine_zs r c frame color (Some base) more x y surfaces =
-    let here : IsSurfaceAt r frame 3 base = surfaces base refl in
-    let surface : Surface = surface_at frame 3 in
-    let plain : IsPlainAt r frame 3 surface base = here.plain (here.general refl) in
-    let low : ℕ = number_where (not more && is_last_tile frame x y) 8 in
-    let few : low < 16 = omega (arith, small_where (not more && is_last_tile frame x y) 8) in
-    let stored : StoresSurface r (general_style surface.bits) (head frame color) base =
-    stores r frame color 3 surface base (general_style surface.bits) (general_at 3 surface refl) plain in
-    inr (subst (λ s. StoresSurface r s (head frame color) (aligned (bit_or base low))) (sym (zs_style more surface.bits))
-    (subst (StoresSurface r (general_style surface.bits) (head frame color)) (sym (aligned_or base low here.whole few)) stored))
+fine_zs r c frame color (Some base) more x y surfaces = search (arith, IsSurfaceAt, small_where, stores, general_at, zs_style, aligned_or)
 
 -- The store of colour, by the frame's bits.
 color_by : (r : Rights) (c : Config) (f : Frame) (last : Bool) (x y : ℕ) → StoresSurface r (frame_style f.bits) f f.address → MayDo r c f (if last then StoreTileColorAndEnd else StoreTileColor) x y
@@ -151,9 +121,8 @@ unfolding color_store is_full surface_tiling surface_pixel
 fine_color r c frame None x y surfaces = tt
 fine_color r c frame (Some base) x y surfaces =
     let surface : Surface = surface_at frame 1 in
-    let plain : IsPlainAt r frame 1 surface base = (surfaces base refl).plain refl in
     color_by r c (head frame (Some base)) (is_last_tile frame x y) x y
-    (stores r frame (Some base) 1 surface base (frame_style surface.bits) refl plain)
+    (stores r frame (Some base) 1 surface base (frame_style surface.bits) refl ((surfaces base refl).plain refl))
 
 -- a general store that stores nothing names no buffer
 pub names_none_at : (bits : ℕ) → (bits_of bits 2 0 == 0) ≡ true → names_none bits ≡ true

@@ -1,29 +1,20 @@
 -- What a client's jobs may reach is no other client's to write.
-use Rattle.std.proofs.Common.{◌≡◌, ◌⊎◌, inl, inr, ℕ, ◌+◌, ◌-◌, ◌==◌, ◌&&◌, ◌<◌, ◌≤◌, nat_lt, Bool, true, false, not, if◌then◌else◌, List, ◌∷◌, ◌++◌, Some, None, length, slice_index, refl, sym, subst, arith, ◌∙◌}
-use Rattle.std.proofs.lemmas.Bool.{cases_lt, and_parts, ltb-true, eqb-true}
-use Rattle.field_words.specs.Sizes.{slot_size}
-use Rattle.field_words.specs.Questions.{first_of}
-use Rattle.field_words.proofs.Questions.{none_stands}
-use Rattle.field_words.proofs.Nones.{each_none}
+use Rattle.std.proofs.Common.{◌≡◌, ◌⊎◌, inl, inr, ℕ, ◌+◌, ◌-◌, ◌==◌, ◌&&◌, ◌<◌, ◌≤◌, nat_lt, Bool, true, false, not, if◌then◌else◌, List, ◌∷◌, ◌++◌, Some, None, length, slice_index, sym, subst, arith, ◌∙◌}
+use Rattle.std.proofs.lemmas.{Bool.cases_lt, Bool.and_parts, Bool.ltb-true, Bool.eqb-true, Bool.Decides.nat_tests, Grind.common_steps}
+use Rattle.field_words.specs.{Sizes.slot_size, Questions.first_of}
+use Rattle.field_words.proofs.{Questions.none_stands, Nones.each_none}
 use Rattle.buffer_table.specs.Table.{TableModel, buffer_at}
 use Rattle.buffer_table.specs.Handles.{handle_questions, handles_questions, is_named, is_plain, data_of, code_of}
 use Rattle.buffer_table.proofs.Named.{data_is}
 use Rattle.job_format.specs.Model.{FileModel}
-use Rattle.job_check.specs.Shaders.{table_of}
-use Rattle.job_check.specs.Jobs.{job_of, slot_of}
-use Rattle.job_check.specs.Faults.{place_stages}
+use Rattle.job_check.specs.{Shaders.table_of, Faults.place_stages, Jobs.job_of, Jobs.slot_of}
 use Rattle.machine_plan.specs.Regions.{LiesIn, Inside}
 use Rattle.qpu_law.specs.Asks.{IsOneOf}
 use Rattle.accepted_law.specs.Holdings.{plain_of, lists_of, codes_of, slot_in, job_rights}
-use Rattle.accepted_law.specs.Settled.{Settled}
-use Rattle.accepted_law.specs.Neighbours.{IsFaultless, jobs_of, ClientsUnshared}
-use Rattle.accepted_law.proofs.ByJob.{rights_are, rights_past}
-use Rattle.accepted_law.proofs.Fixed.{LiesInOne, in_one, fixed_byte}
-use Rattle.accepted_law.proofs.Grounds.{slot_apart, two_apart, less_by}
-use Rattle.accepted_law.proofs.Intervals.{named_by}
-use Rattle.accepted_law.proofs.Joining.{lists_and_code_fixed_law}
-use Rattle.accepted_law.proofs.Settling.{files_settle_law, handles_clear}
-use Rattle.accepted_law.proofs.Tables.{tiles_apart}
+use Rattle.accepted_law.specs.{Settled.Settled, Neighbours.IsFaultless, Neighbours.jobs_of, Neighbours.ClientsUnshared}
+use Rattle.accepted_law.proofs.{ByJob.rights_are, ByJob.rights_past, Joining.lists_and_code_fixed_law}
+use Rattle.accepted_law.proofs.{Fixed.LiesInOne, Fixed.in_one, Fixed.fixed_byte, Intervals.named_by, Tables.tiles_apart}
+use Rattle.accepted_law.proofs.{Grounds.slot_apart, Grounds.two_apart, Grounds.less_by, Settling.files_settle_law, Settling.handles_clear}
 use Rattle.machine_law.proofs.Apart.{inside_either}
 
 -- Each handle names a buffer of the job's own client.
@@ -33,8 +24,7 @@ unfolding handles_questions handle_questions
 of_client t client numbers none i inside =
     let here : first_of (handle_questions t client numbers i) ≡ None =
     each_none (handle_questions t client numbers) 0 (length numbers) i none (omega arith) (omega (arith, inside)) in
-    let asked = none_stands (handle_questions t client numbers i) here in
-    grind (arith, asked.0)
+    grind (arith, (none_stands (handle_questions t client numbers i) here).0)
 
 chosen : (b : Bool) (x number : ℕ) → (if b then Some x else None) ≡ Some number → x ≡ number
 chosen true x number is = cc
@@ -78,11 +68,7 @@ no_both p place size q n (inr behind) from upto at past = omega (arith, behind, 
 
 slots_apart : (f : FileModel) (j k : ℕ) → (j ≡ k → ⊥) → (slot_of f j + slot_size ≤ slot_of f k) ⊎ (slot_of f k + slot_size ≤ slot_of f j)
 unfolding slot_of
-slots_apart f j k differ =
-    elim (cases_lt j k) [
-      | inl less ↦ inl (omega (arith, less))
-      | inr past ↦ inr (let less : k < j = less_by k j past (λ e. differ (sym e)) in omega (arith, less))
-    ]
+slots_apart f j k differ = grind (arith, common_steps, nat_tests, cases_lt, less_by)
 
 -- A slot and a buffer: the slots of all jobs lie in the tile region.
 slot_and_buffer : (f : FileModel) (j p : ℕ) → Settled f j → (k : ℕ) → k < length f.jobs → (number : ℕ) → number < length f.buffers
@@ -126,9 +112,7 @@ plain_and_plain f j k p two found there =
 
 slot_and_slot : (f : FileModel) (j k p : ℕ) → AreTwo f j k → LiesIn p 1 (slot_in f j) → LiesIn p 1 (slot_in f k) → ⊥
 unfolding slot_in
-slot_and_slot f j k p two one other =
-    let differ : j ≡ k → ⊥ = λ same. two.clients (subst (λ n. (job_of f j).client ≡ (job_of f n).client) same refl) in
-    no_both p (slot_of f j) slot_size (slot_of f k) slot_size (slots_apart f j k differ) one.from one.upto other.from other.upto
+slot_and_slot f j k p two one other = grind (arith, common_steps, nat_tests, no_both, slots_apart)
 
 both_written : (f : FileModel) (j k p : ℕ) → AreTwo f j k → Inside (job_rights f j).writable p 1 → Inside (job_rights f k).writable p 1 → ⊥
 both_written f j k p two (inl one) (inl other) = slot_and_slot f j k p two one other
@@ -170,10 +154,4 @@ reached_unwritten c f j k p file own there differ reached written =
 
 pub clients_unshared_law : ClientsUnshared
 clients_unshared_law c f file j k p mine other reached written =
-    let own = job_is_of c f j mine in
-    elim (cases_lt k (length f.jobs)) [
-      | inl there ↦
-          reached_unwritten c f j k p file own there (other_client c f k there other)
-          (subst (λ r. Inside r.region p 1) (rights_are f j own.inside) reached) (subst (λ r. Inside r.writable p 1) (rights_are f k there) written)
-      | inr past ↦ subst (λ r. Inside r.writable p 1) (rights_past f k past) written
-    ]
+    search (arith, job_is_of, cases_lt, reached_unwritten, other_client, rights_are, rights_past)

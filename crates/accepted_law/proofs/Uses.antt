@@ -1,22 +1,17 @@
 -- Which shader each program of a record is, and where its code and its stream stand.
 use Rattle.std.proofs.Common.{◌≡◌, ◌≤◌, ◌<◌, ℕ, ◌+◌, ◌^◌, true, List, length, Option, Some, None, refl, sym, subst, arith, ◌∙◌}
 use Rattle.field_words.specs.Pieces.{IsPiece}
-use Rattle.buffer_table.specs.declared.buffer.Kind.{Kind}
-use Rattle.buffer_table.specs.declared.buffer.Kind.TheVariants.{Plain, Code}
-use Rattle.buffer_table.specs.Table.{buffer_at}
-use Rattle.buffer_table.specs.Sound.{IsSound}
+use Rattle.buffer_table.specs.declared.buffer.Kind.{Kind, TheVariants.Plain, TheVariants.Code}
+use Rattle.buffer_table.specs.{Table.buffer_at, Sound.IsSound}
 use Rattle.job_format.specs.Model.{FileModel}
 use Rattle.qpu_isa.specs.Shader.{ShaderModel}
-use Rattle.shader_records.specs.Inputs.{AreInputs, shader_in}
-use Rattle.shader_records.specs.Named.{AreInMemory, IsEmittedIn}
+use Rattle.shader_records.specs.{Inputs.AreInputs, Inputs.shader_in, Named.AreInMemory, Named.IsEmittedIn}
 use Rattle.job_check.specs.Shaders.{content_of, words_of, told_of, shader_for, shaders_of}
 use Rattle.job_check.specs.Jobs.{has_bin, input_for, layout_of, records_of, streams_of}
-use Rattle.job_check.proofs.Codes.{shader_at}
-use Rattle.job_check.proofs.Layouts.{layout_apart, lists_inside}
-use Rattle.job_check.proofs.Views.{records_are, streams_are}
+use Rattle.job_check.proofs.{Codes.shader_at, Views.records_are, Views.streams_are, Layouts.layout_apart, Layouts.lists_inside}
 use Rattle.accepted_law.specs.Settled.{Settled, ListsEnd, Grounds}
-use Rattle.accepted_law.proofs.Streams.{piece_at}
-use Rattle.accepted_law.proofs.Tables.{buffer_sound, buffer_low}
+use Rattle.accepted_law.proofs.{Streams.piece_at, Tables.buffer_sound, Tables.buffer_low}
+use Rattle.std.proofs.lemmas.{Grind.common_steps, Bool.Decides.nat_tests}
 
 -- The input of the job's records is one in which all is known that the laws on records ask.
 pub inputs_are : (f : FileModel) (j : ℕ) → Settled f j → AreInputs (input_for f j)
@@ -39,38 +34,25 @@ inputs_low f j settled = record {
 -- The streams begin and end in the memory, so inside the greatest one.
 pub streams_low : (f : FileModel) (j : ℕ) → Settled f j → (layout_of f j).place + (layout_of f j).uniforms + length (input_for f j).uniforms < 2 ^ 32
 unfolding input_for
-streams_low f j settled =
-    let apart = layout_apart f j in
-    let region = lists_inside f settled.sound in
-    let limit = settled.sound.limit in
-    let third = apart.third in
-    let last = apart.last in
-    let fits = settled.lists in
-    omega (arith, third, last, fits, region, limit)
+streams_low f j settled = grind (arith, common_steps, nat_tests, layout_apart, lists_inside)
 
 -- the lists end in the memory
 pub lists_low : (f : FileModel) (j : ℕ) → Settled f j → ListsEnd f j → (layout_of f j).place + (layout_of f j).render ≤ f.mem_size
-lists_low f j settled ends =
-    let region = lists_inside f settled.sound in
-    let last = ends.region in
-    let room = ends.render in
-    omega (arith, region, last, room)
+lists_low f j settled ends = omega (arith, lists_inside f settled.sound, ends.region, ends.render)
 
 -- The memory has what was emitted of the records and their streams.
 pub emitted_stand : (f : FileModel) (j : ℕ) (m : List ℕ) → Grounds f j m → has_bin f j ≡ true
     → IsEmittedIn (input_for f j) ((layout_of f j).place + (layout_of f j).records) ((layout_of f j).place + (layout_of f j).uniforms) m
 emitted_stand f j m grounds some =
-    let ends = grounds.ends in
-    let low = lists_low f j grounds.settled ends in
+    let low = lists_low f j grounds.settled grounds.ends in
     let long = grounds.holds.long in
-    let records_end = ends.records in
-    let uniforms_end = ends.uniforms in
+    let uniforms_end = grounds.ends.uniforms in
     let records_place : ℕ = (layout_of f j).place + (layout_of f j).records in
     let uniforms_place : ℕ = (layout_of f j).place + (layout_of f j).uniforms in
     record {
       records_are =
           subst (λ text. IsPiece m records_place (length text) text) (sym (records_are f j some))
-          (piece_at m records_place (records_of f j) grounds.holds.records (omega (arith, records_end, uniforms_end, low, long)));
+          (piece_at m records_place (records_of f j) grounds.holds.records (omega (arith, grounds.ends.records, uniforms_end, low, long)));
       uniforms_are =
           subst (λ text. IsPiece m uniforms_place (length text) text) (sym (streams_are f j some))
           (piece_at m uniforms_place (streams_of f j) grounds.holds.uniforms (omega (arith, uniforms_end, low, long)));

@@ -7,6 +7,7 @@ pub fn draws_begin()
 {}
 
 /// The emitted binner list walks.
+#[tactic(auto, using(crate::proofs::BinWalking::bins_walk_law))]
 pub fn bins_walk()
     ensures { BinsWalk }
 {}

@@ -5,6 +5,7 @@ ghost use Rattle.accepted_law.specs.Whole.{FilesSound};
 
 /// Each job of an accepted file begins as the laws of the machine's units ask: its two lists walk, and what they draw, load and store
 /// may be drawn, loaded and stored.
+#[tactic(auto, using(crate::proofs::Joining::files_begin_law))]
 pub fn files_begin()
     ensures { FilesBegin }
 {}
@@ -21,6 +22,7 @@ pub fn accepted_files_are_sound()
 /// A memory that is prepared for the jobs of an accepted file, with the bytes of their relocated lists from the lists' place on, and in each
 /// Code buffer that a handle names its shader with zeros behind, has the lists and the code of all jobs as the emitted memory, whatever
 /// all its other bytes are.
+#[tactic(auto, using(crate::proofs::Prepared::prepared_memories_agree_law))]
 pub fn prepared_memories_agree()
     ensures { PreparedMemoriesAgree }
 {}

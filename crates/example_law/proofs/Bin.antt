@@ -1,19 +1,15 @@
 -- No rule stands for the binner list of an example, and what it tells.
 use Rattle.std.proofs.Common.{◌≡◌, ℕ, zero, suc, ◌+◌, ◌*◌, ◌^◌, ◌≤◌, ◌<◌, true, false, List, [], ◌∷◌, None, length, refl, sym, ap, subst, arith, ◌∙◌}
-use Rattle.field_words.specs.Sizes.{slot_size}
+use Rattle.field_words.specs.{Questions.first_of, Words.u32_at, Words.rounded_up}
 use Rattle.std.specs.Prelude.{◌==◌, nat_le}
-use Rattle.std.proofs.lemmas.Nat.{from_le_bytes-to_le_bytes_4}
-use Rattle.field_words.specs.Words.{u32_at, rounded_up}
-use Rattle.field_words.specs.Questions.{first_of}
+use Rattle.std.proofs.lemmas.{Nat.from_le_bytes-to_le_bytes_4, Grind.common_steps, Bool.Decides.nat_tests}
 use Rattle.field_words.proofs.Numbers.{rounded}
 use Rattle.buffer_table.specs.Table.{TableModel}
 use Rattle.packets.specs.Length.{bin_length, bin_taken}
 use Rattle.tile_memory.specs.Slots.{alloc_offset, slot_fits}
-use Rattle.bin_list.specs.declared.seen.Seen.{Seen}
-use Rattle.bin_list.specs.Packets.{packets, passed}
-use Rattle.bin_list.specs.Seen.{seen_before, seen_after}
+use Rattle.bin_list.specs.{declared.seen.Seen.Seen, Packets.packets, Packets.passed}
+use Rattle.bin_list.specs.{Seen.seen_before, Seen.seen_after, States.draws_to, States.greatest, States.states_of}
 use Rattle.packets.specs.StateWord.{attribute_count, is_extended, record_size, record_room}
-use Rattle.bin_list.specs.States.{draws_to, greatest, states_of}
 use Rattle.bin_list.specs.Rules.{GivenModel, cut_questions, flush_questions, start_questions, increment_questions, primitive_questions, array_questions, state_questions, config_questions, kind_questions, packet_questions, end_questions, bin_questions}
 use Rattle.job_check.specs.Jobs.{grid_from}
 use Rattle.example_job.specs.Lists.{config, start, state, triangle, states_from, packets_of, bin_of}
@@ -42,10 +38,7 @@ three j = refl
 -- a tile slot has room for so many tiles
 has_room : (tiles : ℕ) → IsTiles tiles → slot_fits tiles ≡ true
 unfolding slot_fits alloc_offset
-has_room tiles range =
-    let few = range.few in
-    let near = (rounded (48 * tiles) 4096 (omega arith)).near in
-    is_within (rounded_up (48 * tiles) 4096 + 32 * tiles) slot_size (omega arith)
+has_room tiles range = grind (arith, common_steps, nat_tests, rounded, is_within)
 
 -- what is seen after the start: the grid, and so many bytes, states and bytes of records
 abbrev seen_in : (across down at last before_last states records : ℕ) → Seen
@@ -161,18 +154,13 @@ nothing_drawn j (suc n) = refl
 
 drawn : (j n : ℕ) → j < 17476 → greatest (triangle j ∷ states_from (j + 1) n) ≡ j + 2
 unfolding draws_to
-drawn j n few =
-    let first = first_index j (omega arith) in
-    let many = three j in
-    let none = nothing_drawn (j + 1) n in
-    rw (first, many, none) (omega arith)
+drawn j n few = rw (first_index j (omega arith), three j, nothing_drawn (j + 1) n) (omega arith)
 
 told : (j n : ℕ) → j + n ≤ 17476 → states_of (states_from j n) ≡ states_are j n
 unfolding u32_at
 told j zero few = refl
 told j (suc n) few =
-    let most = drawn j n (omega arith) in
-    ap (λ index. record { word = 1; max_index = index } ∷ states_of (states_from (j + 1) n)) most
+    ap (λ index. record { word = 1; max_index = index } ∷ states_of (states_from (j + 1) n)) (drawn j n (omega arith))
     ∙ ap (λ states. record { word = 1; max_index = j + 2 } ∷ states) (told (j + 1) n (omega arith))
 
 pub states_told : (across down count : ℕ) → count ≤ 17476 → states_of (packets (bin_of across down count)) ≡ states_are 0 count

@@ -1,33 +1,22 @@
 -- The numbers of an example are in their ranges.
 use Rattle.std.specs.Prelude.{zero, suc, ◌==◌, nat_le, nat_lt, min, if◌then◌else◌}
-use Rattle.bin_list.specs.declared.state.State.{State}
-use Rattle.bin_list.specs.States.{state}
+use Rattle.bin_list.specs.{declared.state.State.State, declared.seen.Seen.Seen, States.state, Seen.place, Seen.seen_before, Seen.seen_after}
 use Rattle.qpu_isa.specs.Shader.{ShaderModel}
-use Rattle.std.proofs.Common.{◌≡◌, ◌<◌, ◌≤◌, ℕ, ◌+◌, ◌*◌, ◌/◌, ◌%◌, true, false, arith, [], ◌∷◌, None, refl, ◌-◌, Bool, ap, ◌∙◌, List, ◌++◌, length, take, drop, sym, subst, length-append}
-use Rattle.std.proofs.lemmas.Bool.Decides.{nat_tests}
+use Rattle.std.proofs.Common.{◌≡◌, ◌<◌, ◌≤◌, ℕ, ◌+◌, ◌*◌, ◌/◌, ◌%◌, true, false, arith, [], ◌∷◌, None, refl, ◌-◌, Bool, ap, ◌∙◌, List, ◌++◌, length, subst, length-append}
+use Rattle.std.proofs.lemmas.{Bool.Decides.nat_tests, List.take_at, List.drop_at, Grind.common_steps}
 use Rattle.example_law.specs.Laws.{IsInRange}
 use Rattle.example_job.specs.Example.{across_of, down_of, count_of, regions, code_buffer, vertex_buffer, frame_buffer, frame_of}
-use Rattle.field_words.specs.Sizes.{most_memory, most_list}
-use Rattle.field_words.specs.Questions.{first_of, each, answered}
-use Rattle.buffer_table.specs.declared.buffer.Kind.TheVariants.{Plain}
+use Rattle.field_words.specs.{Sizes.most_memory, Sizes.most_list, Pieces.joined, Questions.first_of, Questions.each}
+use Rattle.buffer_table.specs.{declared.buffer.Kind.TheVariants.Plain, Handles.handle_questions, Handles.handles_questions}
 use Rattle.buffer_table.specs.Table.{TableModel, shares, is_off_page, memory_within, item_questions, all_within, table_questions, buffer_at}
-use Rattle.buffer_table.specs.Handles.{handle_questions, handles_questions}
-use Rattle.field_words.specs.Words.{rounded_up}
-use Rattle.field_words.proofs.Numbers.{rounded}
+use Rattle.field_words.proofs.{Numbers.rounded, Questions.passes, Questions.answered_none}
 use Rattle.relocation.specs.Layout.{records_start, uniforms_start, render_start, region_end}
 use Rattle.render_list.specs.Frame.{is_present, is_full}
 use Rattle.render_list.specs.Length.{load_size, loads_size, writes_size, tile_size, render_length}
-use Rattle.job_check.specs.Jobs.{has_tiles, render_room}
-use Rattle.std.proofs.lemmas.List.{take_at, drop_at}
-use Rattle.field_words.specs.Pieces.{joined}
-use Rattle.field_words.proofs.Questions.{passes, answered_none}
-use Rattle.packets.specs.Opcode.{halt}
-use Rattle.packets.specs.Length.{bin_taken}
-use Rattle.bin_list.specs.declared.seen.Seen.{Seen}
+use Rattle.job_check.specs.Jobs.{render_room}
+use Rattle.packets.specs.{Opcode.halt, Length.bin_taken}
 use Rattle.bin_list.specs.Packets.{opcode, front_packet, behind, cut, packets, onto, passed}
-use Rattle.bin_list.specs.Seen.{place, seen_before, seen_after}
 use Rattle.bin_list.specs.Rules.{GivenModel, packet_questions, end_questions, asked, questions_of}
-use Rattle.bin_list.specs.Faults.{fault}
 use Rattle.bin_list.proofs.Walk.{cut_step, cut_nothing, taken_some, seen_step}
 
 -- What the binner list of an example tells, and its shader.
@@ -62,9 +51,7 @@ pub record IsTiles (tiles : ℕ) : Type 0 where
   pub few : tiles ≤ 3743
 
 pub tiles_in : (across down count : ℕ) → IsInRange across down count → IsTiles (across * down)
-tiles_in across down count range =
-    let memory = range.memory in
-    record { some = some_tiles across down range.some_across range.some_down; few = omega arith }
+tiles_in across down count range = record { some = some_tiles across down range.some_across range.some_down; few = omega arith }
 
 -- tests of numbers
 pub is_over : (n m : ℕ) → m < n → nat_le n m ≡ false
@@ -115,7 +102,6 @@ is_before frame end other before = grind (arith, nat_tests)
 room : (tiles : ℕ) → IsTiles tiles → IsRoom (memory_bytes tiles) (16384 * tiles)
 room tiles range =
     let some = range.some in
-    let few = range.few in
     record {
       some = is_some (memory_bytes tiles) (omega arith);
       pages = is_same (memory_bytes tiles % 4096) 0 (omega arith);
@@ -137,8 +123,7 @@ room tiles range =
 table_none : (memory size : ℕ) → IsRoom memory size
     → first_of (table_questions memory regions (code_buffer ∷ vertex_buffer ∷ record { place = 0x581000; size = size; client = 1; kind = Plain; content = 0 } ∷ [])) ≡ None
 unfolding each shares is_off_page memory_within item_questions all_within
-table_none memory size room =
-    rw (room.some, room.pages, room.most, room.lists, room.tile, room.code, room.vertices, room.frame, room.frame_pages, room.frame_some, room.after_lists, room.after_tile, room.after_code, room.after_vertices, room.no_content) refl
+table_none memory size room = grind (arith, common_steps, nat_tests, room)
 
 pub table_no_fault : (tiles : ℕ) → IsTiles tiles → first_of (table_questions (memory_bytes tiles) regions (table_for tiles).buffers) ≡ None
 table_no_fault tiles range = table_none (memory_bytes tiles) (16384 * tiles) (room tiles range)
@@ -152,12 +137,7 @@ handles_no_fault tiles = refl
 -- 12 bytes, and 9 for each tile
 render_is : (across down : ℕ) → 1 ≤ across → 1 ≤ down → render_length (frame_of across down) true ≡ 12 + 9 * (across * down)
 unfolding is_present is_full load_size loads_size writes_size tile_size render_length
-render_is across down some_across some_down =
-    let w : across - 1 + 1 - 0 ≡ across = omega arith in
-    let h : down - 1 + 1 - 0 ≡ down = omega arith in
-    ap (λ n. 11 + (0 + (n * ((across - 1 + 1 - 0) * 9) + 1))) h
-    ∙ ap (λ n. 11 + (0 + (down * (n * 9) + 1))) w
-    ∙ grind arith
+render_is across down some_across some_down = grind (arith, common_steps, nat_tests)
 
 most_if : (b : Bool) (n most : ℕ) → n ≤ most → (if b then n else 0) ≤ most
 most_if true n most under = under
@@ -165,18 +145,11 @@ most_if false n most under = omega arith
 
 pub render_most : (across down : ℕ) → 1 ≤ across → 1 ≤ down → IsTiles (across * down) → render_room (frame_of across down) true ≤ 33699
 unfolding render_room
-render_most across down some_across some_down tiles =
-    let few = tiles.few in
-    let is = render_is across down some_across some_down in
-    most_if (has_tiles (frame_of across down)) (render_length (frame_of across down) true) 33699 (omega arith)
+render_most across down some_across some_down tiles = grind (arith, common_steps, nat_tests, render_is, most_if)
 
 pub lists_fit : (bin records render : ℕ) → bin ≤ 262159 → records ≤ most_list → render ≤ 33699 → nat_lt (region_end regions) (regions.lists_place + (render_start bin records 0 + render)) ≡ false
 unfolding records_start uniforms_start render_start
-lists_fit bin records render bin_most records_most render_most =
-    let one = (rounded bin 16 (omega arith)).near in
-    let two = (rounded (rounded_up bin 16 + records) 16 (omega arith)).near in
-    let three = (rounded (rounded_up (rounded_up bin 16 + records) 16 + 0) 16 (omega arith)).near in
-    is_under (region_end regions) (regions.lists_place + (rounded_up (rounded_up (rounded_up bin 16 + records) 16 + 0) 16 + render)) (omega arith)
+lists_fit bin records render bin_most records_most render_most = grind (arith, common_steps, nat_tests, rounded, is_under)
 
 -- A binner list that is made of whole packets: what it is cut into, what is seen of it, and that no rule stands for it where none
 -- stands for a packet after what is seen before it.
@@ -199,16 +172,11 @@ some_bytes packet whole = let some = taken_some (opcode packet) in let is = whol
 
 front_is : (packet rest : List ℕ) → IsWhole packet → front_packet (packet ++ rest) ≡ packet
 unfolding front_packet
-front_is packet rest whole =
-    ap (λ o. take (bin_taken o) (packet ++ rest)) (opcode_front packet rest (some_bytes packet whole))
-    ∙ take_at packet rest (bin_taken (opcode packet)) whole.taken
+front_is packet rest whole = grind (arith, common_steps, nat_tests, opcode_front, some_bytes, take_at)
 
 behind_is : (packet rest : List ℕ) → IsWhole packet → behind (packet ++ rest) ≡ rest
 unfolding behind
-behind_is packet rest whole =
-    ap (λ o. if o == halt then [] else drop (bin_taken o) (packet ++ rest)) (opcode_front packet rest (some_bytes packet whole))
-    ∙ ap (λ halts. if halts then [] else drop (bin_taken (opcode packet)) (packet ++ rest)) whole.goes_on
-    ∙ drop_at packet rest (bin_taken (opcode packet)) whole.taken
+behind_is packet rest whole = grind (arith, common_steps, nat_tests, opcode_front, some_bytes, drop_at)
 
 pub cut_joined : (fuel : ℕ) (all : List (List ℕ)) → AreWhole all → length (joined all) ≤ fuel → cut fuel (joined all) ≡ all
 cut_joined fuel [] whole enough = cut_nothing fuel [] refl
@@ -217,11 +185,10 @@ cut_joined fuel (packet ∷ later) whole enough =
     let sizes = length-append packet (joined later) in
     let step = cut_step fuel (packet ++ joined later) (omega arith) enough in
     let rest_is = behind_is packet (joined later) whole.0 in
-    let room : length (joined later) ≤ step.0 = subst (λ rest. length rest ≤ step.0) rest_is step.1.enough in
     step.1.is
     ∙ ap (λ p. p ∷ cut step.0 (behind (packet ++ joined later))) (front_is packet (joined later) whole.0)
     ∙ ap (λ rest. packet ∷ cut step.0 rest) rest_is
-    ∙ ap (λ ps. packet ∷ ps) (cut_joined step.0 later whole.1 room)
+    ∙ ap (λ ps. packet ∷ ps) (cut_joined step.0 later whole.1 (subst (λ rest. length rest ≤ step.0) rest_is step.1.enough))
 
 pub packets_joined : (all : List (List ℕ)) → AreWhole all → packets (joined all) ≡ all
 unfolding packets
@@ -248,18 +215,12 @@ Pass given seen (packet ∷ later) = (first_of (packet_questions given seen pack
 asked_none : (given : GivenModel) (earlier later : List (List ℕ)) → first_of (asked given earlier) ≡ None → Pass given (seen_before earlier) later
     → first_of (questions_of given (onto earlier later)) ≡ None
 unfolding questions_of
-asked_none given earlier [] before pass =
-    passes (asked given earlier) (answered (fault given.size) (end_questions (seen_before earlier))) before
-    ∙ answered_none (fault given.size) (end_questions (seen_before earlier)) pass
+asked_none given earlier [] before pass = grind (arith, common_steps, nat_tests, passes, answered_none)
 asked_none given earlier (packet ∷ later) before pass =
-    asked_none given (packet ∷ earlier) later
-    (passes (asked given earlier) (answered (fault (place earlier)) (packet_questions given (seen_before earlier) packet)) before
-    ∙ answered_none (fault (place earlier)) (packet_questions given (seen_before earlier) packet) pass.0)
-    (subst (λ seen. Pass given seen later) (sym (seen_step packet earlier)) pass.1)
+    grind (arith, common_steps, nat_tests, asked_none given (packet ∷ earlier) later, passes, answered_none, seen_step)
 
 pub no_fault : (given : GivenModel) (all : List (List ℕ)) → AreWhole all → Pass given (seen_before []) all → first_of (questions_of given (passed (joined all))) ≡ None
-no_fault given all whole pass =
-    ap (λ before. first_of (questions_of given before)) (passed_joined all whole) ∙ asked_none given [] all refl pass
+no_fault given all whole pass = grind (arith, common_steps, nat_tests, passed_joined, asked_none)
 
 pub seen_joined : (all : List (List ℕ)) → AreWhole all → seen_before (passed (joined all)) ≡ seen_after_all (seen_before []) all
 seen_joined all whole = ap seen_before (passed_joined all whole) ∙ seen_onto [] all

@@ -1,29 +1,22 @@
 -- No rule stands for the shader records of an example, nor for the uniforms of their shaders.
 use Rattle.std.proofs.Common.{◌≡◌, ℕ, ◌+◌, ◌*◌, ◌-◌, false, [], ◌∷◌, Some, None, refl, ap, arith, ◌∙◌, zero, suc, ◌≤◌, ◌<◌, List, ◌++◌, length, drop, replicate, sym}
-use Rattle.std.specs.Prelude.{nat_lt, nat_le, slice_index_or}
-use Rattle.field_words.specs.Words.{rounded_up, u32_at}
-use Rattle.field_words.specs.Questions.{first_of, each}
-use Rattle.field_words.proofs.Numbers.{rounded}
-use Rattle.buffer_table.specs.Table.{buffer_at}
-use Rattle.buffer_table.specs.Handles.{data_of, code_of}
-use Rattle.texture_layouts.specs.Format.{frame_tiling, frame_pixel}
-use Rattle.texture_layouts.specs.Surface.{microtile_width_of, microtile_height_of}
+use Rattle.std.specs.{Prelude.nat_lt, Prelude.nat_le, Prelude.slice_index_or}
+use Rattle.field_words.specs.{Words.rounded_up, Words.u32_at, Pieces.joined, Questions.first_of, Questions.each}
+use Rattle.field_words.proofs.{Numbers.rounded, Questions.passes}
+use Rattle.buffer_table.specs.{Table.buffer_at, Handles.data_of, Handles.code_of}
+use Rattle.texture_layouts.specs.{Format.frame_tiling, Format.frame_pixel, Surface.microtile_width_of, Surface.microtile_height_of}
 use Rattle.render_list.specs.Frame.{is_present, is_multisample, tile_side, is_full}
 use Rattle.render_list.specs.Surfaces.{is_reversed, is_outside_grid, is_outside_frame, frame_questions, has_unknown_flag, has_unknown_bit, is_unnamed, surface_tiling, has_unlisted_tiling, surface_pixel, has_unlisted_format, is_unaligned, buffer_size, plain_end, is_too_large, is_full_with_bits, is_too_large_full, shape_questions, size_questions, surface_questions, is_written, whole_questions, surface_faults}
-use Rattle.example_job.specs.Example.{frame_of}
+use Rattle.example_job.specs.{Example.frame_of, Lists.record_bytes, Lists.records_of}
 use Rattle.example_law.specs.Laws.{IsInRange}
 use Rattle.example_law.proofs.Numbers.{is_over, is_under, table_for, states_are, told}
-use Rattle.std.specs.Int.{from_le_bytes, w32}
-use Rattle.std.proofs.lemmas.List.{drop-drop, drop_at}
-use Rattle.field_words.specs.Pieces.{joined}
-use Rattle.field_words.proofs.Questions.{passes}
+use Rattle.std.proofs.lemmas.{List.drop-drop, List.drop_at, Grind.common_steps, Bool.Decides.nat_tests}
 use Rattle.emitted_facts.specs.Records.{attribute_size, attribute_stride, is_single}
 use Rattle.packets.specs.StateWord.{attribute_count, is_extended, record_size}
 use Rattle.bin_list.specs.States.{state}
 use Rattle.shader_records.specs.Inputs.{InputModel}
 use Rattle.shader_records.specs.Sources.{no_state, state_at, handles_size, source_size, record_source, code_number, attribute_number, shader_used, taken_before, uniform_source, record_word}
 use Rattle.shader_records.specs.Rules.{cut_questions, code_questions, handle_questions, disagrees, fixed_questions, is_attribute_past, has_vertex_past, attribute_questions, names_questions, body_questions, record_questions, use_questions, shader_questions, state_questions, all_questions}
-use Rattle.example_job.specs.Lists.{record_bytes, records_of}
 use Rattle.example_job.proofs.Formed.{records_length}
 
 -- No rule stands for the frame and the surfaces of an example.
@@ -42,21 +35,14 @@ record IsFrame (across down : ℕ) : Type 0 where
 
 -- a whole number of tiles is a whole number of units of 32 pixels
 whole_units : (n : ℕ) → rounded_up (64 * n) 32 ≡ 64 * n
-whole_units n =
-    let up = rounded (64 * n) 32 (omega arith) in
-    let multiple = up.multiple in
-    let least = up.least in
-    let near = up.near in
-    omega arith
+whole_units n = grind (arith, common_steps, nat_tests, rounded)
 
 bytes_are : (across down : ℕ) → 0 + 64 * across * (64 * down) * 4 ≡ 16384 * (across * down)
 bytes_are across down = grind arith
 
 frame_facts : (across down count : ℕ) → IsInRange across down count → IsFrame across down
 frame_facts across down count range =
-    let some_across = range.some_across in
     let wide = range.wide in
-    let some_down = range.some_down in
     let high = range.high in
     record {
       across_order = is_under (across - 1) 0 (omega arith);
@@ -76,8 +62,7 @@ frame_facts across down count range =
 frame_none : (across down : ℕ) → IsFrame across down
     → first_of (surface_faults (frame_of across down) (Some (across, down)) (table_for (across * down)) (0 ∷ 1 ∷ 2 ∷ [])) ≡ None
 unfolding each data_of buffer_at microtile_width_of microtile_height_of is_present is_multisample tile_side is_full is_reversed is_outside_grid is_outside_frame frame_questions has_unknown_flag has_unknown_bit is_unnamed surface_tiling frame_tiling has_unlisted_tiling surface_pixel frame_pixel has_unlisted_format is_unaligned buffer_size plain_end is_too_large is_full_with_bits is_too_large_full shape_questions size_questions surface_questions is_written whole_questions surface_faults
-frame_none across down f =
-    rw (f.across_order, f.down_order, f.across_grid, f.down_grid, f.width, f.height, f.wide, f.high, f.room) refl
+frame_none across down f = rw (f.across_order, f.down_order, f.across_grid, f.down_grid, f.width, f.height, f.wide, f.high, f.room) refl
 
 pub surfaces_no_fault : (across down count : ℕ) → IsInRange across down count
     → first_of (surface_faults (frame_of across down) (Some (across, down)) (table_for (across * down)) (0 ∷ 1 ∷ 2 ∷ [])) ≡ None
@@ -117,10 +102,7 @@ record_begins i count inside = begins i count inside
 -- a word of a record is that of its bytes
 word_in : (bytes : List ℕ) (at p c : ℕ) → (b : BeginsAt bytes at record_bytes) → p ≡ at + c → u32_at bytes p ≡ u32_at (record_bytes ++ b.rest) c
 unfolding u32_at
-word_in bytes at p c b is =
-    ap (λ n. from_le_bytes w32 (drop n bytes)) is
-    ∙ ap (from_le_bytes w32) (sym (drop-drop c at bytes))
-    ∙ ap (λ l. from_le_bytes w32 (drop c l)) b.same
+word_in bytes at p c b is = grind (arith, common_steps, nat_tests, drop-drop)
 
 -- the words that rules ask of a record, each at its place
 record Words (bytes : List ℕ) (at : ℕ) : Type 0 where
@@ -154,8 +136,7 @@ words bytes at b = record {
 record_none : (tiles count at most : ℕ) → Words (records_of count) at → nat_lt (length (records_of count)) (at + 16) ≡ false → nat_lt (length (records_of count)) (at + 60) ≡ false → nat_lt 65535 most ≡ false
     → first_of (record_questions (input tiles count) at 1 most) ≡ None
 unfolding each attribute_count is_extended record_size attribute_size attribute_stride is_single handles_size source_size code_number attribute_number shader_used record_word cut_questions code_questions handle_questions disagrees fixed_questions is_attribute_past has_vertex_past attribute_questions names_questions body_questions record_questions data_of code_of buffer_at
-record_none tiles count at most w handles whole vertices =
-    rw (w.fragment, w.vertex, w.coordinate, w.attribute, w.flags, w.fragment_code, w.vertex_code, w.coordinate_code, w.address, w.shape, handles, whole, vertices) refl
+record_none tiles count at most w handles whole vertices = grind (arith, common_steps, nat_tests)
 
 -- its shaders take no uniforms, so no rule on uniforms stands
 uniforms_none : (tiles count at : ℕ) → Words (records_of count) at → first_of (each (shader_questions (input tiles count) at 0) 0 3) ≡ None
@@ -170,9 +151,7 @@ none_taken tiles count at w = rw (w.fragment, w.vertex, w.coordinate) refl
 state_is : (j n k : ℕ) → k < n → slice_index_or (states_are j n) k no_state ≡ state 1 (j + k + 2)
 state_is j zero k inside = absurd (omega arith)
 state_is j (suc n) zero inside = let same : j + 2 ≡ j + 0 + 2 = omega arith in ap (λ index. state 1 index) same
-state_is j (suc n) (suc k) inside =
-    let further : j + 1 + k + 2 ≡ j + suc k + 2 = omega arith in
-    state_is (j + 1) n k (omega arith) ∙ ap (λ index. state 1 index) further
+state_is j (suc n) (suc k) inside = state_is (j + 1) n k (omega arith) ∙ ap (λ index. state 1 index) (omega arith)
 
 states_length : (j n : ℕ) → length (states_are j n) ≡ n
 states_length j zero = refl
@@ -203,28 +182,23 @@ state_none tiles count k few inside =
     let w = words (records_of count) (60 * k) (record_begins k count inside) in
     let size = records_length count in
     let at_is = source_is tiles count k (omega arith) in
-    let from_is = uniforms_is tiles count k (omega arith) in
-    let told_is = state_is 0 count k inside in
     passes (record_questions i (record_source i k) (state_at i k).word (state_at i k).max_index) (each (shader_questions i (record_source i k) (uniform_source i k)) 0 3)
     (ap (λ at. first_of (record_questions i at (state_at i k).word (state_at i k).max_index)) at_is
-    ∙ ap (λ s. first_of (record_questions i (60 * k) s.word s.max_index)) told_is
+    ∙ ap (λ s. first_of (record_questions i (60 * k) s.word s.max_index)) (state_is 0 count k inside)
     ∙ record_none tiles count (60 * k) (0 + k + 2) w
     (is_under (length (records_of count)) (60 * k + 16) (omega arith))
     (is_under (length (records_of count)) (60 * k + 60) (omega arith))
     (is_under 65535 (0 + k + 2) (omega arith)))
     ∙ (ap (λ at. first_of (each (shader_questions i at (uniform_source i k)) 0 3)) at_is
-    ∙ ap (λ from. first_of (each (shader_questions i (60 * k) from) 0 3)) from_is
+    ∙ ap (λ from. first_of (each (shader_questions i (60 * k) from) 0 3)) (uniforms_is tiles count k (omega arith))
     ∙ uniforms_none tiles count (60 * k) w)
 
 states_none : (tiles count k n : ℕ) → count ≤ 17476 → k + n ≤ count → first_of (each (state_questions (input tiles count)) k n) ≡ None
 unfolding each
 states_none tiles count k zero few inside = refl
 states_none tiles count k (suc n) few inside =
-    passes (state_questions (input tiles count) k) (each (state_questions (input tiles count)) (k + 1) n) (state_none tiles count k few (omega arith))
-    ∙ states_none tiles count (k + 1) n few (omega arith)
+    grind (arith, common_steps, nat_tests, passes, state_none, states_none tiles count (k + 1) n few (omega arith))
 
 pub records_no_fault : (tiles count : ℕ) → count ≤ 17476 → first_of (all_questions (input tiles count)) ≡ None
 unfolding all_questions
-records_no_fault tiles count few =
-    ap (λ n. first_of (each (state_questions (input tiles count)) 0 n)) (states_length 0 count)
-    ∙ states_none tiles count 0 count few (omega arith)
+records_no_fault tiles count few = grind (arith, common_steps, nat_tests, states_length, states_none)

@@ -1,39 +1,28 @@
 -- What is not safe of list units: at a packet that is none, or that doesn't lie in the job's region; and where they write outside what it may.
 use Rattle.std.proofs.Common.{◌≡◌, ◌⊎◌, inl, inr, ℕ, Bool, true, false, List, [], slice_index, Some, None, refl, sym, ap, subst, ◌∙◌, ◌<◌, ◌+◌, ◌==◌, ◌∷◌, arith, ◌≤◌, zero, suc, ◌*◌, length}
 use Rattle.std.specs.Prelude.{Option, if◌then◌else◌, nat_lt}
-use Rattle.std.proofs.lemmas.Bool.Decides.{nat_tests}
-use Rattle.std.proofs.lemmas.List.{length-replicate}
+use Rattle.std.proofs.lemmas.{Bool.Decides.nat_tests, List.length-replicate}
 use Rattle.field_words.specs.declared.access.Actor.TheVariants.{Binner as TheBinner, Renderer as TheRenderer}
-use Rattle.packets.specs.declared.packet.Packet.{Packet}
-use Rattle.packets.specs.Length.{bin_length, bin_taken, render_taken}
+use Rattle.packets.specs.declared.{packet.Packet.Packet, config.Config.Config}
+use Rattle.packets.specs.{Length.bin_length, Length.bin_taken, Length.render_taken, Packet.decoded, Packet.packet_named}
 use Rattle.packets.specs.Opcode.{buffer_handles, wait_on_semaphore, start_tile_binning}
-use Rattle.packets.specs.Packet.{decoded, packet_named}
 use Rattle.packets.specs.declared.packet.Packet.TheVariants.{WaitOnSemaphore, BranchToSubList, StoreTileColor, StoreTileColorAndEnd, StoreFullResolution, LoadFullResolution, StoreTileBuffer, LoadTileBuffer, TileRenderingMode, ClearColors, TileCoordinates}
 use Rattle.bin_list.proofs.Walk.{taken_some}
-use Rattle.machine_plan.specs.declared.launch.Free.{Free}
-use Rattle.machine_plan.specs.declared.who.Who.{Who}
-use Rattle.machine_plan.specs.Memory.{bytes_at, stored}
-use Rattle.machine_plan.specs.Plan.{Plan, Wilds, carried, Writes}
+use Rattle.machine_plan.specs.{declared.launch.Free.Free, declared.who.Who.Who, Plan.Plan, Plan.Wilds, Plan.carried, Plan.Writes}
+use Rattle.machine_plan.specs.{Memory.bytes_at, Memory.stored, World.Safe, World.mapped}
 use Rattle.machine_plan.specs.Regions.{Every, Rights, IsSafeAccess, Inside, rights_of}
-use Rattle.machine_plan.specs.World.{Safe, mapped}
 use Rattle.list_machine.specs.Binner.{is_unknown, packet_plan as bin_packet_plan, read_plan, binner_plan, binner_by, binner_ready, begin_plan, clear_plan, chosen_tile, tile_plan, work_plan}
 use Rattle.list_machine.specs.Lists.{Lists, quiet, past, binner_of, renderer_of, with_block}
 use Rattle.list_machine.specs.Renderer.{beyond, acted, packet_plan as render_packet_plan, plan_in, renderer_plan, may_pass, renderer_ready, act}
-use Rattle.list_machine.proofs.Steps.{first_byte}
-use Rattle.packets.specs.declared.config.Config.{Config}
-use Rattle.list_machine.specs.declared.state.Frame.{Frame}
-use Rattle.list_machine.specs.declared.state.Work.{Work}
-use Rattle.list_machine.specs.declared.surface.Cover.{Cover}
+use Rattle.list_machine.proofs.{Steps.first_byte, Storing.chosen_size}
+use Rattle.list_machine.specs.declared.{state.Frame.Frame, state.Work.Work, surface.Cover.Cover}
 use Rattle.list_machine.specs.Blocks.{tiles_of, block_place, spot_of, is_full, next_place, link_place, zeros, put_here, put_plan}
 use Rattle.texture_layouts.specs.Format.{general_style}
-use Rattle.list_machine.specs.Cover.{cover_for, part_count, part_place, parts_written}
-use Rattle.list_machine.specs.Store.{chosen}
+use Rattle.list_machine.specs.{Cover.cover_for, Cover.part_count, Cover.part_place, Cover.parts_written, Store.chosen}
 use Rattle.list_machine.specs.Surfaces.{names_none, aligned, whole_size, whole_written, cover_written, frame_written, general_written}
-use Rattle.list_machine.proofs.Storing.{chosen_size}
 use Rattle.qpu_machine.specs.Qpu.{free_in}
 use Rattle.machine.specs.State.{Units, Picked, job_start, units_start, binner_job, renderer_job}
-use Rattle.machine.specs.Step.{Event, with_lists, ready, turn, enabled, is_ahead}
-use Rattle.machine.specs.declared.job.Start.{Start}
+use Rattle.machine.specs.{Step.Event, Step.with_lists, Step.ready, Step.turn, Step.enabled, Step.is_ahead, declared.job.Start.Start}
 use Rattle.job_safety.specs.Strength.{IsAtBinPacket, IsAtRenderPacket, BinListsPastAreUnsafe, RenderListsPastAreUnsafe, StrayBinPacketsAreUnsafe, StrayRenderPacketsAreUnsafe, IsStrayRender, StrayStartsAreUnsafe, StatesPastAreUnsafe, IsAtItem, PutsBy, Puts, ItemsPastAreUnsafe, IsPart, StoresFrame, Stores, StoresPastAreUnsafe}
 use Rattle.job_safety.proofs.Steps.{first_step, mapped_accesses}
 
@@ -136,9 +125,7 @@ bin_begins m start others some =
 
 -- what is no packet is no wait
 wait_named : (opcode : ℕ) (bytes : List ℕ) → opcode ≡ wait_on_semaphore → packet_named opcode bytes ≡ None → ⊥
-wait_named opcode bytes is none =
-    let wrong : Some WaitOnSemaphore ≡ None = subst (λ o. packet_named o bytes ≡ None) is none in
-    absurd cc
+wait_named opcode bytes is none = absurd cc
 
 wait_decoded : (m : List ℕ) (place : ℕ) → slice_index m place ≡ wait_on_semaphore → IsStrayRender m place → ⊥
 unfolding decoded bytes_at render_taken
@@ -190,8 +177,7 @@ states_cleared jobs who m s kept config is all =
 pub states_past_law : StatesPastAreUnsafe
 unfolding read_plan bytes_at
 states_past_law jobs m u j lists config at past_it safe =
-    let opcode : ℕ = slice_index m lists.binner.place in
-    let len : ℕ = bin_taken opcode in
+    let len : ℕ = bin_taken (slice_index m lists.binner.place) in
     let packet : List ℕ = bytes_at m lists.binner.place len in
     let is : slice_index packet 0 ≡ start_tile_binning = opcode_is m lists.binner.place ∙ at.opcode_is in
     let all : AllSafe jobs (binner_of j) m (bin_packet_plan (past lists len) packet) = (bin_step jobs m u j lists at.at safe).1 in

@@ -1,13 +1,10 @@
 -- The jobs of an accepted file may run over each memory that is prepared for them.
 use Rattle.field_words.specs.Questions.{answered}
 use Rattle.field_words.proofs.Nones.{front_none, rest_none, none_answered}
-use Rattle.job_format.specs.Faults.{format_questions}
-use Rattle.job_format.specs.Reading.{file_at}
+use Rattle.job_format.specs.{Faults.format_questions, Reading.file_at}
 use Rattle.job_format.proofs.Laws.{none_file}
-use Rattle.job_check.specs.Faults.{place_stages}
-use Rattle.job_check.specs.Whole.{format_refused, questions_within}
-use Rattle.accepted_law.proofs.Joining.{files_sound_law}
-use Rattle.accepted_law.proofs.Prepared.{prepared_memories_agree_law}
+use Rattle.job_check.specs.{Faults.place_stages, Whole.format_refused, Whole.questions_within}
+use Rattle.accepted_law.proofs.{Joining.files_sound_law, Prepared.prepared_memories_agree_law}
 use Rattle.job_safety.specs.Prepared.{PreparedJobsMayRun, PreparedBytesMayRun}
 
 pub prepared_jobs_law : PreparedJobsMayRun

@@ -1,36 +1,23 @@
 -- A file in which no rule stands is safe, and what follows of that.
 use Rattle.std.proofs.Common.{◌≡◌, ◌≤◌, inl, inr, ℕ, zero, suc, ◌+◌, List, ◌++◌, length, map, refl, sym, arith, None}
-use Rattle.field_words.specs.Words.{IsBytes}
-use Rattle.field_words.specs.Questions.{first_of, answered}
+use Rattle.field_words.specs.{Words.IsBytes, Questions.first_of, Questions.answered}
 use Rattle.field_words.proofs.Nones.{front_none, rest_none, none_answered}
-use Rattle.job_format.specs.Model.{FileModel}
-use Rattle.job_format.specs.File.{IsFileOf}
-use Rattle.job_format.specs.Faults.{format_questions}
-use Rattle.job_format.specs.Reading.{file_at}
-use Rattle.job_format.proofs.Laws.{none_file}
-use Rattle.job_format.proofs.Passing.{passes_all}
-use Rattle.job_check.specs.Emit.{memory_of}
-use Rattle.job_check.specs.Faults.{file_stages}
+use Rattle.job_format.specs.{Model.FileModel, File.IsFileOf, Faults.format_questions, Reading.file_at}
+use Rattle.job_format.proofs.{Laws.none_file, Passing.passes_all}
+use Rattle.job_check.specs.{Emit.memory_of, Faults.file_stages}
 use Rattle.job_check.specs.Whole.{format_refused, all_questions, refusal_of, questions_within}
-use Rattle.machine_plan.specs.Others.{Steps}
-use Rattle.machine_plan.specs.Regions.{Inside, IsOutside, IsKept}
+use Rattle.machine_plan.specs.{Others.Steps, Regions.Inside, Regions.IsOutside, Regions.IsKept}
 use Rattle.machine_plan.proofs.Others.{run_others}
-use Rattle.machine.specs.State.{units_start, start_of}
-use Rattle.machine.specs.Step.{ready, turn}
-use Rattle.machine_law.proofs.Sound.{sound_jobs_are_safe_law}
-use Rattle.machine_law.proofs.Apart.{inside_either}
-use Rattle.accepted_law.specs.Held.{AreFixed}
+use Rattle.machine.specs.{State.units_start, State.start_of, Step.ready, Step.turn}
+use Rattle.machine_law.proofs.{Sound.sound_jobs_are_safe_law, Apart.inside_either}
+use Rattle.accepted_law.specs.{Held.AreFixed, Neighbours.IsFaultless}
 use Rattle.accepted_law.specs.Holdings.{OfEachJob, plain_of, codes_of, lists_of, fixed_below, fixed_of, file_rights, file_starts}
-use Rattle.accepted_law.specs.Neighbours.{IsFaultless}
-use Rattle.accepted_law.proofs.Fixed.{fixed_byte}
-use Rattle.accepted_law.proofs.Joining.{files_sound_law, lists_and_code_fixed_law}
-use Rattle.accepted_law.proofs.Neighbours.{accepted_apart_law}
+use Rattle.accepted_law.proofs.{Fixed.fixed_byte, Neighbours.accepted_apart_law, Joining.files_sound_law, Joining.lists_and_code_fixed_law}
 use Rattle.accepted_ends.specs.Law.{FileEnds}
 use Rattle.accepted_ends.proofs.Files.{files_end_by_law}
-use Rattle.job_safety.specs.Clients.{IsApart, BytesApart}
+use Rattle.job_safety.specs.{Clients.IsApart, Clients.BytesApart, Safe.AreSafe, Safe.AreSame}
 use Rattle.job_safety.specs.Files.{IsSafeFile, BytesSafe, PlacedJobsAreSafe}
 use Rattle.job_safety.specs.Follows.{HasListsAndCode, IsSafeAlone, SafeFilesFollow}
-use Rattle.job_safety.specs.Safe.{AreSafe, AreSame}
 use Rattle.job_check.proofs.Wider.{wider_none}
 
 -- A byte of the lists and the code of the first jobs is one that no job may write.

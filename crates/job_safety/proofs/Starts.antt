@@ -2,13 +2,10 @@
 use Rattle.std.proofs.Common.{◌≡◌, ℕ, zero, suc, ◌+◌, ◌<◌, ◌≤◌, List, [], ◌∷◌, ◌++◌, length, get_or, map, take, refl, add-one, sym, ap, arith, ◌∙◌}
 use Rattle.std.specs.List.{range_with_len}
 use Rattle.std.proofs.lemmas.List.FromFn.{length-map-range_with_len}
-use Rattle.job_format.specs.File.{IsWellFormed}
-use Rattle.job_format.specs.Model.{FileModel}
-use Rattle.relocation.specs.declared.layout.Layout.{Layout}
-use Rattle.relocation.specs.declared.layout.Lengths.{Lengths}
-use Rattle.job_check.specs.declared.check.Checked.{Checked}
+use Rattle.job_format.specs.{File.IsWellFormed, Model.FileModel}
+use Rattle.relocation.specs.declared.layout.{Layout.Layout, Lengths.Lengths}
+use Rattle.job_check.specs.{declared.check.Checked.Checked, Jobs.layout_of, Jobs.layouts_of}
 use Rattle.job_check.specs.Emit.{memory_of, lengths_of, all_lengths_of, IsEmitted}
-use Rattle.job_check.specs.Jobs.{layout_of, layouts_of}
 use Rattle.machine.specs.State.{start_of}
 use Rattle.accepted_law.specs.Holdings.{start_by, file_starts}
 use Rattle.job_safety.specs.declared.accepting.Accepted.{Accepted}

@@ -3,25 +3,16 @@ use Rattle.std.proofs.Common.{◌≡◌, ◌<◌, ℕ, zero, suc, ◌-◌, ◌%�
 use Rattle.std.specs.Prelude.{Option, IfSome, nat_lt, slice_index, if◌then◌else◌}
 use Rattle.std.proofs.lemmas.Bool.Decides.{nat_tests}
 use Rattle.field_words.specs.Words.{u32_at}
-use Rattle.field_words.specs.declared.access.Access.{Access}
-use Rattle.field_words.specs.declared.access.Actor.TheVariants.{Qpu as TheQpu, Tmu as TheTmu}
-use Rattle.machine_plan.specs.declared.who.Who.{Who}
-use Rattle.machine_plan.specs.Glance.{glanced}
-use Rattle.machine_plan.specs.Memory.{bytes_at}
-use Rattle.machine_plan.specs.Plan.{Plan, Wilds, carried}
+use Rattle.field_words.specs.declared.access.{Access.Access, Actor.TheVariants.Qpu as TheQpu, Actor.TheVariants.Tmu as TheTmu}
+use Rattle.machine_plan.specs.{declared.who.Who.Who, Memory.bytes_at, Plan.Plan, Plan.Wilds, Plan.carried}
+use Rattle.machine_plan.specs.{Glance.glanced, Runs.reached, World.Safe, World.mapped}
 use Rattle.machine_plan.specs.Regions.{Every, Inside, Rights, rights_of, IsSafeAccess}
-use Rattle.machine_plan.specs.Runs.{reached}
-use Rattle.machine_plan.specs.World.{Safe, mapped}
-use Rattle.machine_plan.proofs.Runs.{every-front}
-use Rattle.machine_plan.proofs.Worlds.{carried_mapped}
-use Rattle.qpu_machine.specs.declared.state.Request.{Request}
-use Rattle.qpu_machine.specs.declared.state.Thread.{Thread}
-use Rattle.qpu_machine.specs.Qpu.{went, plan_by, served, serving}
+use Rattle.machine_plan.proofs.{Runs.every-front, Worlds.carried_mapped}
+use Rattle.qpu_machine.specs.declared.state.{Request.Request, Thread.Thread}
+use Rattle.qpu_machine.specs.{Qpu.went, Qpu.plan_by, Qpu.served, Qpu.serving, Step.thread_plan}
 use Rattle.qpu_machine.specs.Request.{direct_plan, chosen_place, chosen_length, read_at, texture_reads, is_undefined, texture_plan, ask_plan}
-use Rattle.qpu_machine.specs.Step.{thread_plan}
 use Rattle.texture_layouts.specs.Setup.{TextureModel, texture_of}
-use Rattle.machine.specs.State.{Units, State}
-use Rattle.machine.specs.Step.{Event, with_qpu, ready, turn, step, enabled}
+use Rattle.machine.specs.{State.Units, State.State, Step.Event, Step.with_qpu, Step.ready, Step.turn, Step.step, Step.enabled}
 use Rattle.job_safety.specs.Strength.{IsPast, IsActive, CodePastIsUnsafe, IsOldest, DirectReadsPastAreUnsafe, IsChosenPast, TexturesPastAreUnsafe}
 
 -- each access of the first step of a safe machine is safe
@@ -63,10 +54,9 @@ unfolding turn ready
 request_step jobs m u k unit request words at safe =
     let e : Event = record { unit = TheTmu k unit; words = words } in
     let who : Who = record { unit = TheTmu k unit; job = request.job } in
-    let may : IsTrue (glanced (ready u e) m) = rw (at.qpu_is, is_unit unit at.unit_is, at.oldest_is) refl in
     let is : (carried (turn u e).who (turn u e).plan m).accesses ≡ (carried who (ask_plan request.ask words) m).accesses =
     rw (at.qpu_is, at.oldest_is) (mapped_accesses (with_qpu u k) who (serving (Some request) at.qpu unit words) m ∙ mapped_accesses (served at.qpu unit request) who (ask_plan request.ask words) m) in
-    subst (Every (IsSafeAccess jobs)) is (first_step jobs m u e may safe)
+    subst (Every (IsSafeAccess jobs)) is (first_step jobs m u e (rw (at.qpu_is, is_unit unit at.unit_is, at.oldest_is) refl) safe)
 
 -- each word of a direct request
 direct_reads : (jobs : List Rights) (who : Who) (m row found : List ℕ) (i : ℕ) → i < length row → Every (IsSafeAccess jobs) (carried who (direct_plan row found) m).accesses

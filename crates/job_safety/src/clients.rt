@@ -6,6 +6,7 @@ ghost use Rattle.job_safety.specs.Clients.{BytesApart};
 /// same words, from memories with their lists and code that agree where these jobs may reach, what these jobs access is the same, and so
 /// is at the end what they may reach. It doesn't matter what jobs of other clients are there and what they do, nor what others write
 /// meanwhile that isn't this client's.
+#[tactic(auto, using(crate::proofs::Safety::bytes_apart_law))]
 pub fn clients_are_apart()
     ensures { BytesApart }
 {}

@@ -9,12 +9,14 @@ ghost use Rattle.job_safety.specs.Prepared.{PreparedJobsMayRun, PreparedBytesMay
 /// buffers, lists and codes or the tile slot of the job for which it is done, and each write in a Plain buffer or the slot of that job.
 /// Bytes outside what jobs may reach have no effect: over every memory of that length that agrees there, each run has the same events and
 /// accesses, and leaves the same bytes there. And what jobs may write has no byte of the lists and the code of any.
+#[tactic(auto, using(crate::proofs::Safety::bytes_safe_law))]
 pub fn accepted_bytes_are_safe()
     ensures { BytesSafe }
 {}
 
 /// So is each file of which no rule stands under the greatest limit of a memory, 0xFF000000, as a driver has it whose buffers, lists and
 /// slots stand at addresses of the bus.
+#[tactic(auto, using(crate::proofs::Safety::placed_safe_law))]
 pub fn placed_jobs_are_safe()
     ensures { PlacedJobsAreSafe }
 {}

@@ -1,51 +1,26 @@
 -- One step of the binner keeps all that stands.
-use Rattle.std.proofs.Common.{unwrap_or, ◌≡◌, ◌≢◌, ◌≤◌, ◌<◌, ◌⊎◌, inl, inr, ℕ, ◌+◌, ◌*◌, ◌==◌, ◌||◌, Bool, true, false, List, [], ◌∷◌, ◌++◌, length, slice_index, Option, Some, None, IfSome, if◌then◌else◌, refl, sym, ◌∙◌, ap, subst, arith}
+use Rattle.std.proofs.Common.{unwrap_or, ◌≡◌, ◌≢◌, ◌<◌, ◌⊎◌, inl, inr, ℕ, ◌+◌, ◌==◌, ◌||◌, Bool, true, false, List, [], ◌∷◌, ◌++◌, length, slice_index, Option, Some, None, IfSome, if◌then◌else◌, refl, sym, ◌∙◌, ap, subst, arith}
 use Rattle.std.specs.Prelude.{nat_lt}
-use Rattle.std.proofs.lemmas.Grind.{common_steps}
-use Rattle.std.proofs.lemmas.Bool.{and_parts}
-use Rattle.std.proofs.lemmas.Bool.Decides.{nat_tests}
-use Rattle.std.proofs.lemmas.List.{length-replicate}
+use Rattle.std.proofs.lemmas.{Grind.common_steps, List.length-replicate, Bool.and_parts, Bool.Decides.nat_tests}
 use Rattle.std.proofs.Math.Nat.{mod-lt}
-use Rattle.field_words.specs.Pieces.{joined}
-use Rattle.field_words.specs.Words.{u32_at}
-use Rattle.field_words.specs.declared.access.Access.{Access}
-use Rattle.field_words.specs.declared.access.Way.TheVariants.{Read, Write}
-use Rattle.packets.specs.Length.{bin_length, bin_taken}
+use Rattle.field_words.specs.{Pieces.joined, Words.u32_at, declared.access.Access.Access, declared.access.Way.TheVariants.Read}
+use Rattle.packets.specs.{Length.bin_length, Length.bin_taken, declared.config.Config.Config, Config.config_in}
 use Rattle.packets.specs.Opcode.{halt, flush, start_tile_binning, increment_semaphore, indexed_primitive_list, array_primitive_list, gl_shader_state, tile_binning_mode, buffer_handles}
-use Rattle.machine_plan.specs.declared.who.Who.{Who}
-use Rattle.machine_plan.specs.declared.launch.Free.{Free}
-use Rattle.machine_plan.specs.declared.launch.Launch.{Launch}
-use Rattle.machine_plan.specs.Choice.{word_at}
-use Rattle.machine_plan.specs.Glance.{glanced}
-use Rattle.machine_plan.specs.Memory.{bytes_at, stored}
-use Rattle.machine_plan.specs.Plan.{Plan, Done, Wilds, Keeps, access}
-use Rattle.machine_plan.specs.Regions.{Inside, Rights, IsSafeIn}
-use Rattle.machine_plan.specs.World.{mapped}
-use Rattle.machine_plan.proofs.Memory.{inside_part}
-use Rattle.machine_plan.proofs.Plans.{keeps_weaker}
-use Rattle.machine_plan.proofs.Worlds.{keeps_mapped}
+use Rattle.machine_plan.specs.declared.{who.Who.Who, launch.Free.Free, launch.Launch.Launch}
+use Rattle.machine_plan.specs.{World.mapped, Glance.glanced, Memory.bytes_at}
+use Rattle.machine_plan.specs.{Plan.Plan, Plan.Done, Plan.Wilds, Plan.Keeps, Plan.access, Regions.Inside, Regions.Rights, Regions.IsSafeIn}
+use Rattle.machine_plan.proofs.{Memory.inside_part, Safe.read_safe, Plans.keeps_weaker, Worlds.keeps_mapped}
 use Rattle.bin_list.specs.Packets.{opcode}
 use Rattle.bin_walks.specs.Walks.{Kept as Passed, kept_after, Drawing, Tame, Walks}
-use Rattle.list_machine.specs.declared.state.Binner.{Binner}
-use Rattle.packets.specs.declared.config.Config.{Config}
-use Rattle.packets.specs.Config.{config_in}
-use Rattle.list_machine.specs.declared.state.Frame.{Frame}
-use Rattle.list_machine.specs.declared.state.Item.{Item}
-use Rattle.list_machine.specs.declared.state.Kept.{Kept}
-use Rattle.list_machine.specs.declared.state.Program.TheVariants.{Coordinate}
-use Rattle.list_machine.specs.declared.state.Work.{Work}
-use Rattle.list_machine.specs.Lists.{Lists, Turned, quiet, with_binner, with_kept, with_work, past, incremented, flushed, most_items}
-use Rattle.list_machine.specs.Blocks.{tiles_of, has_room, spot_of, item_of, zeros, put_plan}
-use Rattle.list_machine.specs.Fetch.{fetch_plan}
-use Rattle.list_machine.specs.Start.{start_plan, can_start}
+use Rattle.list_machine.specs.declared.state.{Binner.Binner, Item.Item, Kept.Kept, Frame.Frame, Work.Work, Program.TheVariants.Coordinate}
+use Rattle.list_machine.specs.Lists.{Lists, Turned, quiet, with_binner, with_kept, with_work, past, incremented, flushed}
+use Rattle.list_machine.specs.{Blocks.tiles_of, Fetch.fetch_plan, Start.start_plan, Start.can_start}
 use Rattle.list_machine.specs.Binner.{configured, with_word, started, clear_plan, begin_plan, work_of, drawn, draw_plan, halted, is_unknown, packet_plan, read_plan, one_done, fetched_with, not_due, started_with, chosen_tile, tile_plan, item_plan, work_plan, binner_by, binner_plan, item_may, work_may, binner_may, binner_ready}
 use Rattle.list_law.specs.Binning.{passed_of, Allocates, DrawsSo, OnWay, WorkFine, LogFine, IsOnly, NotYet, Only}
 use Rattle.list_law.specs.Lists.{ListsFine, TurnedFine}
-use Rattle.machine_plan.proofs.Safe.{read_safe}
-use Rattle.list_law.proofs.Safe.{write_safe, keeps_if}
+use Rattle.list_law.proofs.{Safe.write_safe, Safe.keeps_if, Logs.same, Logs.not_same, Logs.put_keeps}
 use Rattle.list_law.proofs.Fetching.{AnyEnd, fetch_keeps, start_fine}
 use Rattle.list_law.proofs.Bytes.{none_left, bytes_front, bytes_behind, byte_front, front_inside, behind_inside, behind_ends}
-use Rattle.list_law.proofs.Logs.{same, not_same, put_keeps}
 
 -- The same with another binner.
 pub binner_set : (r : Rights) (K : List ℕ → Type 0) (O : Launch → Type 0) (c : Config) (f : Frame) (s : Lists) (b : Binner) → ListsFine r K O c f s
@@ -68,46 +43,25 @@ pub work_set : (r : Rights) (K : List ℕ → Type 0) (O : Launch → Type 0) (c
     → ListsFine r K O c f (with_work s work)
 work_set r K O c f s work fine one = binner_set r K O c f s (record (s.binner) { work = work }) fine fine.binner one fine.configs fine.closed
 
--- more items
-log_set : (r : Rights) (K : List ℕ → Type 0) (O : Launch → Type 0) (c : Config) (f : Frame) (s : Lists) (blocks : ℕ) (items : List Item) → ListsFine r K O c f s → LogFine r K O c items
-    → ListsFine r K O c f (record s { blocks = blocks; items = items })
-log_set r K O c f s blocks items fine log = record {
+-- The same with more items, another count of the semaphore, and all closed or not.
+pub items_set : (r : Rights) (K : List ℕ → Type 0) (O : Launch → Type 0) (c : Config) (f : Frame) (s : Lists) (pending semaphore : ℕ) (closed : Bool) (blocks : ℕ) (items : List Item)
+    → (fine : ListsFine r K O c f s) → LogFine r K O c items → (semaphore ≡ 0) ⊎ (closed ≡ true) → (fine.waited ≡ true → closed ≡ true) → (closed ≡ true → s.binner.kept.config ≡ Some c)
+    → ListsFine r K O c f (record s { pending = pending; semaphore = semaphore; closed = closed; blocks = blocks; items = items })
+items_set r K O c f s pending semaphore closed blocks items fine log counted passed only = record {
   waited = fine.waited;
   binner = fine.binner;
   work = fine.work;
   configs = fine.configs;
   log = log;
   renderer = fine.renderer;
-  counted = fine.counted;
-  passed = fine.passed;
-  closed = fine.closed;
+  counted = counted;
+  passed = passed;
+  closed = only;
 }
 
-raised : (r : Rights) (K : List ℕ → Type 0) (O : Launch → Type 0) (c : Config) (f : Frame) (s : Lists) → ListsFine r K O c f s → ListsFine r K O c f (incremented s)
-raised r K O c f s fine = record {
-  waited = fine.waited;
-  binner = fine.binner;
-  work = fine.work;
-  configs = fine.configs;
-  log = fine.log;
-  renderer = fine.renderer;
-  counted = fine.counted;
-  passed = fine.passed;
-  closed = fine.closed;
-}
-
-shut : (r : Rights) (K : List ℕ → Type 0) (O : Launch → Type 0) (c : Config) (f : Frame) (s : Lists) → ListsFine r K O c f s → s.binner.kept.config ≡ Some c → ListsFine r K O c f (flushed s)
-shut r K O c f s fine only = record {
-  waited = fine.waited;
-  binner = fine.binner;
-  work = fine.work;
-  configs = fine.configs;
-  log = fine.log;
-  renderer = fine.renderer;
-  counted = inr refl;
-  passed = λ waited. refl;
-  closed = λ on. only;
-}
+log_set : (r : Rights) (K : List ℕ → Type 0) (O : Launch → Type 0) (c : Config) (f : Frame) (s : Lists) (blocks : ℕ) (items : List Item) → ListsFine r K O c f s → LogFine r K O c items
+    → ListsFine r K O c f (record s { blocks = blocks; items = items })
+log_set r K O c f s blocks items fine log = items_set r K O c f s s.pending s.semaphore s.closed blocks items fine log fine.counted fine.passed fine.closed
 
 -- What is kept behind a packet, by which of the three packets it is that tell something.
 abbrev passed_by : Passed → List ℕ → Bool → Bool → Bool → Passed
@@ -132,18 +86,11 @@ pub read_keeps : (who : Who) (L : ℕ → ℕ → Type 0) (G : Access → Type 0
     → bin_taken (slice_index m s.binner.place) ≡ len → bytes_at m s.binner.place len ≡ packet → L s.binner.place 1 → G (access who Read s.binner.place len)
     → Keeps who L G P (packet_plan (past s len) packet) m → Keeps who L G P (read_plan s) m
 unfolding read_plan bytes_at
-read_keeps who L G P s m len packet len_is bytes_is looks reads rest =
-    let place = s.binner.place in
-    let R : List ℕ → Type 0 = λ b. Keeps who L G P (packet_plan (past s len) b) m in
-    let read : G (access who Read place len) × R (bytes_at m place len) = (reads, subst R (sym bytes_is) rest) in
-    let S : ℕ → Type 0 = λ n. G (access who Read place n) × Keeps who L G P (packet_plan (past s n) (bytes_at m place n)) m in
-    (looks, subst S (sym len_is) read)
+read_keeps who L G P s m len packet len_is bytes_is looks reads rest = search (arith)
 
 pub taken_is : (packet : List ℕ) → length packet ≡ bin_length (opcode packet) → bin_length (opcode packet) ≢ 0 → bin_taken (opcode packet) ≡ length packet
 unfolding bin_taken
-taken_is packet whole known =
-    let differs : (bin_length (opcode packet) == 0) ≡ false = grind (arith, common_steps, nat_tests, known) in
-    ap (λ b. if b then 1 else bin_length (opcode packet)) differs ∙ sym whole
+taken_is packet whole known = grind (arith, common_steps, nat_tests)
 
 is_known : (o : ℕ) → bin_length o ≢ 0 → o ≢ buffer_handles → is_unknown o ≡ false
 unfolding is_unknown
@@ -189,21 +136,14 @@ clear_keeps : (who : Who) (r : Rights) (L : ℕ → ℕ → Type 0) (P : List �
     → Allocates r c → config ≡ Some c → ((k : List ℕ) → P k (started s)) → Keeps who L (IsSafeIn r) P (begin_plan s config) m
 unfolding clear_plan
 clear_keeps who r L P c s None m allocates is ends = absurd cc
-clear_keeps who r L P c s (Some one) m allocates is ends =
-    let Q : Config → Type 0 = λ x. IsSafeIn r (access who Write x.states (length (zeros (48 * tiles_of x)))) × P (stored m x.states (zeros (48 * tiles_of x))) (started s) in
-    let e : c ≡ one = sym (ap (λ o. unwrap_or o c) is) in
-    subst Q e (
-      subst (λ n. IsSafeIn r (access who Write c.states n)) (sym (length-replicate {A = ℕ} (48 * tiles_of c) 0)) (write_safe r who c.states (48 * tiles_of c) allocates.states),
-      ends (stored m c.states (zeros (48 * tiles_of c))),
-    )
+clear_keeps who r L P c s (Some one) m allocates is ends = search (arith, length-replicate, write_safe)
 
 -- a primitive is drawn under the state word, behind the start
 draw_keeps_by : (who : Who) (G : Access → Type 0) (L : ℕ → ℕ → Type 0) (P : List ℕ → Lists → Type 0) (s : Lists) (packet m : List ℕ) (on : Bool) (kept : Option ℕ) (word : ℕ)
     → kept ≡ Some word → on ≡ true → P m (with_work s (Some (work_of word packet))) → Keeps who L G P (if on then drawn s kept packet else Wilds) m
 draw_keeps_by who G L P s packet m true None word is begun ends = absurd cc
 draw_keeps_by who G L P s packet m true (Some one) word is begun ends =
-    let e : word ≡ one = sym (ap (λ o. unwrap_or o word) is) in
-    subst (λ w. P m (with_work s (Some (work_of w packet)))) e ends
+    subst (λ w. P m (with_work s (Some (work_of w packet)))) (sym (ap (λ o. unwrap_or o word) is)) ends
 draw_keeps_by who G L P s packet m false kept word is begun ends = absurd cc
 
 draw_keeps : (who : Who) (r : Rights) (K : List ℕ → Type 0) (O : Launch → Type 0) (c : Config) (f : Frame) (L : ℕ → ℕ → Type 0) (s : Lists) (packet m : List ℕ)
@@ -269,9 +209,9 @@ packet_keeps who r K O c f L s packet m allocates fine tame way =
     ] in
     draw_keeps who r K O c f L after packet m drawing rest)
     (λ no_draw. keeps_if who L G P m (o == increment_semaphore) (Done (incremented after)) (plan_flush after packet)
-    (λ on. raised r K O c f after rest)
+    (λ on. items_set r K O c f after (after.pending + 1) after.semaphore after.closed after.blocks after.items rest rest.log rest.counted rest.passed rest.closed)
     (λ no_raise. keeps_if who L G P m (o == flush) (Done (flushed after)) (Done after)
-    (λ on. shut r K O c f after rest (tame.closes (same o flush on)))
+    (λ on. items_set r K O c f after 0 (after.semaphore + after.pending) true after.blocks after.items rest rest.log (inr refl) (λ waited. refl) (λ closed. tame.closes (same o flush on)))
     (λ no_flush. rest))))))))
 
 -- The binner reads its next packet.
@@ -282,17 +222,7 @@ read_step : (who : Who) (r : Rights) (K : List ℕ → Type 0) (O : Launch → T
     → Keeps who (Inside r.region) (IsSafeIn r) (λ k next. ListsFine r K O c f next) (read_plan s) m
 read_step who r K O c f s m [] allocates here fine below ends walks stands reads = absurd (none_left s.binner.place s.binner.end ends below)
 read_step who r K O c f s m (packet ∷ packets) allocates here fine below ends walks stands reads =
-    let place = s.binner.place in
-    let tame : Tame c (DrawsSo r K O) (passed_of s.binner.kept) packet = walks.0 in
-    let bytes : bytes_at m place (length packet) ≡ packet = bytes_front m place packet (joined packets) (stands m here) in
-    let some : 1 ≤ length packet = omega (arith, tame.whole, tame.known) in
-    let first : slice_index m place ≡ opcode packet = byte_front m place packet some bytes in
-    let inside : Inside r.region place (length packet) = front_inside r.region place packet (joined packets) reads in
-    read_keeps who (Inside r.region) (IsSafeIn r) (λ k next. ListsFine r K O c f next) s m (length packet) packet
-    (ap bin_taken first ∙ taken_is packet tame.whole tame.known) bytes
-    (inside_part r.region place (length packet) place 1 inside (omega arith) (omega (arith, some))) (read_safe r who place (length packet) inside)
-    (packet_keeps who r K O c f (Inside r.region) s packet m allocates fine tame
-    (λ after is. way_behind r K O c place s.binner.end s.binner.kept after packet packets ends walks.1 stands reads is))
+    search (arith, bytes_front, front_inside, read_keeps, byte_front, taken_is, inside_part, read_safe, packet_keeps, way_behind)
 
 -- A primitive in work.
 pub ready_item : (due more start item : Bool) → due ≡ false → more ≡ false → (if due then start else (if more then true else item)) ≡ true → item ≡ true
@@ -302,10 +232,7 @@ ready_item false false start item off all ready = ready
 
 pub tile_below : (c : Config) (words : List ℕ) → (chosen_tile c words == tiles_of c) ≡ false → chosen_tile c words < tiles_of c
 unfolding chosen_tile
-tile_below c words off =
-    let low : chosen_tile c words < tiles_of c + 1 = mod-lt (word_at words 0) (omega arith) in
-    let differs = not_same (chosen_tile c words) (tiles_of c) off in
-    omega (arith, low, differs)
+tile_below c words off = grind (arith, common_steps, nat_tests, mod-lt, not_same)
 
 item_keeps : (who : Who) (r : Rights) (K : List ℕ → Type 0) (O : Launch → Type 0) (c : Config) (f : Frame) (L : ℕ → ℕ → Type 0) (s : Lists) (w : Work) (words m : List ℕ) (config : Option Config)
     → Allocates r c → ListsFine r K O c f s → WorkFine r K O w → IsOnly c config → item_may s config ≡ true
@@ -314,16 +241,7 @@ unfolding tile_plan
 item_keeps who r K O c f L s w words m None allocates fine work only ready = fine
 item_keeps who r K O c f L s w words m (Some one) allocates fine work (NotYet e) ready = absurd cc
 item_keeps who r K O c f L s w words m (Some one) allocates fine work (Only e) ready =
-    let is : c ≡ one = sym (ap (λ o. unwrap_or o c) e) in
-    let P = λ (k : List ℕ) (next : Lists). ListsFine r K O c f next in
-    let Q : Config → Type 0 = λ x. item_may s (Some x) ≡ true → Keeps who L (IsSafeIn r) P (item_plan s (Some x) w words) m in
-    let tile : ℕ = chosen_tile c words in
-    let here : Q c = λ may.
-    keeps_if who L (IsSafeIn r) P m (tile == tiles_of c) (Done (with_work s None)) (put_plan s c w tile (spot_of tile s.items))
-    (λ on. work_set r K O c f s None fine tt)
-    (λ off. put_keeps who r K O c L P s w tile m allocates fine.log work (tile_below c words off) (and_parts (has_room c s.blocks) (nat_lt (length s.items) most_items) may).0
-    (λ k place log. (log_set r K O c f s s.blocks (s.items ++ item_of w tile place ∷ []) fine log, log_set r K O c f s (s.blocks + 1) (s.items ++ item_of w tile place ∷ []) fine log))) in
-    subst Q is here ready
+    search (arith, keeps_if, work_set, put_keeps, tile_below, and_parts, log_set)
 
 work_keeps : (who : Who) (r : Rights) (K : List ℕ → Type 0) (O : Launch → Type 0) (c : Config) (f : Frame) (s : Lists) (w : Work) (free : Free) (words m : List ℕ)
     → Allocates r c → K m → ListsFine r K O c f s → WorkFine r K O w → work_may s w free ≡ true

@@ -1,8 +1,7 @@
 -- The bytes of a packet in memory, and those behind it.
 use Rattle.std.proofs.Common.{◌≡◌, ◌≤◌, ◌<◌, ℕ, suc, ◌+◌, List, [], ◌∷◌, ◌++◌, length, slice_index, refl, ◌∙◌, ap, arith}
 use Rattle.std.proofs.lemmas.List.{length-append}
-use Rattle.machine_plan.specs.Memory.{bytes_at}
-use Rattle.machine_plan.specs.Regions.{Interval, Inside}
+use Rattle.machine_plan.specs.{Memory.bytes_at, Regions.Interval, Regions.Inside}
 use Rattle.machine_plan.proofs.Memory.{inside_part}
 
 pub bytes_front : (m : List ℕ) (p : ℕ) (front rest : List ℕ) → bytes_at m p (length (front ++ rest)) ≡ front ++ rest → bytes_at m p (length front) ≡ front
@@ -16,36 +15,24 @@ bytes_front m p (b ∷ front) rest e =
 
 pub bytes_behind : (m : List ℕ) (p : ℕ) (front rest : List ℕ) → bytes_at m p (length (front ++ rest)) ≡ front ++ rest → bytes_at m (p + length front) (length rest) ≡ rest
 unfolding bytes_at
-bytes_behind m p [] rest e =
-    let here : p + 0 ≡ p = omega arith in
-    ap (λ q. bytes_at m q (length rest)) here ∙ e
-bytes_behind m p (b ∷ front) rest e =
-    let behind : bytes_at m (suc p) (length (front ++ rest)) ≡ front ++ rest = cc in
-    let there : p + length (b ∷ front) ≡ suc p + length front = omega arith in
-    ap (λ q. bytes_at m q (length rest)) there ∙ bytes_behind m (suc p) front rest behind
+bytes_behind m p [] rest e = ap (λ q. bytes_at m q (length rest)) (omega arith) ∙ e
+bytes_behind m p (b ∷ front) rest e = ap (λ q. bytes_at m q (length rest)) (omega arith) ∙ bytes_behind m (suc p) front rest cc
 
 -- the first byte
 pub byte_front : (m : List ℕ) (p : ℕ) (text : List ℕ) → 1 ≤ length text → bytes_at m p (length text) ≡ text → slice_index m p ≡ slice_index text 0
 unfolding bytes_at
 byte_front m p [] some e = absurd (omega (arith, some))
-byte_front m p (b ∷ text) some e =
-    let here : slice_index m p ≡ b = cc in
-    here
+byte_front m p (b ∷ text) some e = cc
 
 pub front_inside : (region : List Interval) (p : ℕ) (front rest : List ℕ) → Inside region p (length (front ++ rest)) → Inside region p (length front)
 front_inside region p front rest inside =
-    let long : length (front ++ rest) ≡ length front + length rest = length-append front rest in
-    inside_part region p (length (front ++ rest)) p (length front) inside (omega arith) (omega (arith, long))
+    inside_part region p (length (front ++ rest)) p (length front) inside (omega arith) (omega (arith, length-append front rest))
 
 pub behind_inside : (region : List Interval) (p : ℕ) (front rest : List ℕ) → Inside region p (length (front ++ rest)) → Inside region (p + length front) (length rest)
-behind_inside region p front rest inside =
-    let long : length (front ++ rest) ≡ length front + length rest = length-append front rest in
-    inside_part region p (length (front ++ rest)) (p + length front) (length rest) inside (omega arith) (omega (arith, long))
+behind_inside region p front rest inside = search (arith, length-append, inside_part)
 
 pub behind_ends : (p end : ℕ) (front rest : List ℕ) → p + length (front ++ rest) ≡ end → p + length front + length rest ≡ end
-behind_ends p end front rest ends =
-    let long : length (front ++ rest) ≡ length front + length rest = length-append front rest in
-    omega (arith, long, ends)
+behind_ends p end front rest ends = omega (arith, length-append front rest, ends)
 
 pub none_left : (place end : ℕ) → place + 0 ≡ end → place < end → ⊥
 none_left place end ends below = omega (arith, ends, below)

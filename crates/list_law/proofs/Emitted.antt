@@ -1,75 +1,52 @@
 -- What emission promises is what a fetch and a start need.
 use Rattle.std.proofs.Common.{◌≡◌, ◌≤◌, ◌<◌, ◌⊎◌, inl, inr, ℕ, ◌+◌, ◌*◌, ◌/◌, ◌%◌, ◌^◌, ◌==◌, not, Bool, true, false, List, slice_index, if◌then◌else◌, refl, sym, ◌∙◌, ap, subst, arith}
-use Rattle.std.proofs.Math.Nat.{mul_comm, mul-le-mul_right}
-use Rattle.std.proofs.lemmas.Grind.{common_steps}
-use Rattle.std.proofs.lemmas.Bool.Decides.{nat_tests}
+use Rattle.std.proofs.{Math.Nat.mul_comm, Math.Nat.mul-le-mul_right, lemmas.Grind.common_steps, lemmas.Bool.Decides.nat_tests}
 use Rattle.field_words.specs.Words.{u32_at}
 use Rattle.emitted_facts.specs.Facts.{IsAttributeIn, IsIndexedPrimitive, IsArrayPrimitive, IsPrimitive}
-use Rattle.emitted_facts.specs.Records.{address_word, shape_word, extension_word, attribute_size, attribute_stride, is_single, code_word, stream_word}
+use Rattle.emitted_facts.specs.Records.{address_word, extension_word, attribute_size, attribute_stride, is_single, code_word, stream_word}
 use Rattle.packets.specs.StateWord.{attribute_count, is_extended, record_size}
 use Rattle.emitted_facts.proofs.Records.{entry_in, extension_in, header_in}
-use Rattle.machine_plan.specs.declared.launch.Launch.{Launch}
-use Rattle.machine_plan.specs.Memory.{bytes_at}
-use Rattle.machine_plan.specs.Regions.{Interval, Inside}
+use Rattle.machine_plan.specs.{declared.launch.Launch.Launch, Memory.bytes_at, Regions.Interval, Regions.Inside}
 use Rattle.machine_plan.proofs.Memory.{inside_part}
-use Rattle.list_machine.specs.declared.state.Primitive.{Primitive}
-use Rattle.list_machine.specs.declared.state.Program.{Program}
-use Rattle.list_machine.specs.declared.state.Program.TheVariants.{Fragment, Vertex, Coordinate}
-use Rattle.list_machine.specs.Binner.{primitive_of}
+use Rattle.list_machine.specs.{Binner.primitive_of, Start.code_offset, Start.is_threaded}
+use Rattle.list_machine.specs.declared.state.Program.{Program, TheVariants.Fragment, TheVariants.Vertex, TheVariants.Coordinate}
 use Rattle.list_machine.specs.Fetch.{index_size, record_place, attribute_place, extension_place, data_size, stride_of, data_place}
-use Rattle.list_machine.specs.Start.{code_offset, is_threaded}
 use Rattle.list_law.specs.Uses.{attribute_at, extension_at, Fetches, launched, threaded_by, Programs}
 use Rattle.list_law.specs.Emitted.{words_in, RecordStands, NamedInside, IsStateOf, program_in}
-use Rattle.list_law.proofs.Logs.{same, not_same}
-use Rattle.list_law.proofs.Words.{byte_read, word_read, low_byte, next_byte, low_bit}
+use Rattle.list_law.proofs.{Logs.same, Logs.not_same, Words.byte_read, Words.word_read, Words.low_byte, Words.next_byte, Words.low_bit}
 
 pub same_count : (state word : ℕ) → IsStateOf state word → attribute_count state ≡ attribute_count word
 unfolding attribute_count
-same_count state word is =
-    let e : state % 8 ≡ word % 8 = omega (arith, is) in
-    ap (λ n. if n == 0 then 8 else n) e
+same_count state word is = grind (arith, common_steps, nat_tests)
 
 pub same_extended : (state word : ℕ) → IsStateOf state word → is_extended state ≡ is_extended word
 unfolding is_extended
-same_extended state word is =
-    let e : state / 8 % 2 ≡ word / 8 % 2 = omega (arith, is) in
-    ap (λ n. n == 1) e
+same_extended state word is = ap (λ n. n == 1) (omega (arith, is))
 
 -- What is read of an attribute is what its words say.
 address_is : (m : List ℕ) (word t : ℕ) → u32_at (attribute_at m word t) 0 ≡ words_in m word (address_word t)
 unfolding attribute_place
-address_is m word t =
-    let at : record_place word + 36 + 8 * t ≡ record_place word + 4 * (9 + 2 * t) = omega arith in
-    word_read m (record_place word + 36 + 8 * t) 8 (omega arith) ∙ ap (λ p. u32_at m p) at
+address_is m word t = word_read m (record_place word + 36 + 8 * t) 8 (omega arith) ∙ ap (λ p. u32_at m p) (omega arith)
 
 shape_at : (base t : ℕ) → base + 36 + 8 * t + 4 ≡ base + 4 * (10 + 2 * t)
 shape_at base t = omega arith
 
 first_fits : (region : List Interval) (m : List ℕ) (word t : ℕ) → RecordStands region m word → t < attribute_count word → slice_index m (record_place word + 36 + 8 * t + 4) < 256
 first_fits region m word t stands below =
-    let size = entry_in word t below in
-    let at : record_place word + (36 + 8 * t + 4) ≡ record_place word + 36 + 8 * t + 4 = omega arith in
-    subst (λ p. slice_index m p < 256) at (stands.bytes (36 + 8 * t + 4) (omega (arith, size)))
+    subst (λ p. slice_index m p < 256) (omega arith) (stands.bytes (36 + 8 * t + 4) (omega (arith, entry_in word t below)))
 
 second_fits : (region : List Interval) (m : List ℕ) (word t : ℕ) → RecordStands region m word → t < attribute_count word → slice_index m (record_place word + 36 + 8 * t + 4 + 1) < 256
 second_fits region m word t stands below =
-    let size = entry_in word t below in
-    let at : record_place word + (36 + 8 * t + 5) ≡ record_place word + 36 + 8 * t + 4 + 1 = omega arith in
-    subst (λ p. slice_index m p < 256) at (stands.bytes (36 + 8 * t + 5) (omega (arith, size)))
+    subst (λ p. slice_index m p < 256) (omega arith) (stands.bytes (36 + 8 * t + 5) (omega (arith, entry_in word t below)))
 
 size_is : (region : List Interval) (m : List ℕ) (word t : ℕ) → RecordStands region m word → t < attribute_count word → data_size (attribute_at m word t) ≡ attribute_size (words_in m word) t
 unfolding data_size attribute_size attribute_place
-size_is region m word t stands below =
-    let p : ℕ = record_place word + 36 + 8 * t in
-    let read : slice_index (bytes_at m p 8) 4 ≡ slice_index m (p + 4) = byte_read m p 8 4 (omega arith) in
-    let low : u32_at m (p + 4) % 256 ≡ slice_index m (p + 4) = low_byte m (p + 4) (first_fits region m word t stands below) in
-    ap (λ n. n + 1) (read ∙ sym low ∙ ap (λ q. u32_at m q % 256) (shape_at (record_place word) t))
+size_is region m word t stands below = grind (arith, common_steps, nat_tests, low_byte, first_fits, byte_read, shape_at)
 
 extension_by : (m : List ℕ) (word t : ℕ) (b : Bool) → 256 * ((if b then u32_at (bytes_at m (extension_place word t) 4) 0 else 0) / 256) ≡ (if b then 256 * (words_in m word (extension_word t) / 256) else 0)
 unfolding extension_place
 extension_by m word t true =
-    let at : record_place word + 100 + 4 * t ≡ record_place word + 4 * (25 + t) = omega arith in
-    ap (λ n. 256 * (n / 256)) (word_read m (record_place word + 100 + 4 * t) 4 (omega arith) ∙ ap (λ p. u32_at m p) at)
+    ap (λ n. 256 * (n / 256)) (word_read m (record_place word + 100 + 4 * t) 4 (omega arith) ∙ ap (λ p. u32_at m p) (omega arith))
 extension_by m word t false = refl
 
 stride_is : (region : List Interval) (m : List ℕ) (state word t : ℕ) → RecordStands region m word → IsStateOf state word → t < attribute_count word
@@ -80,10 +57,9 @@ stride_is region m state word t stands is below =
     let next : p + 5 ≡ p + 4 + 1 = omega arith in
     let read : slice_index (bytes_at m p 8) 5 ≡ slice_index m (p + 4 + 1) = byte_read m p 8 5 (omega arith) ∙ ap (λ q. slice_index m q) next in
     let high : u32_at m (p + 4) / 256 % 256 ≡ slice_index m (p + 4 + 1) = next_byte m (p + 4) (first_fits region m word t stands below) (second_fits region m word t stands below) in
-    let low : slice_index (bytes_at m p 8) 5 ≡ words_in m word (shape_word t) / 256 % 256 = read ∙ sym high ∙ ap (λ q. u32_at m q / 256 % 256) (shape_at (record_place word) t) in
     let more : 256 * (extension_at m word t / 256) ≡ (if is_extended state then 256 * (words_in m word (extension_word t) / 256) else 0) =
     extension_by m word t (is_extended word) ∙ ap (λ b. if b then 256 * (words_in m word (extension_word t) / 256) else 0) (sym (same_extended state word is)) in
-    λ i. low i + more i
+    λ i. (read ∙ sym high ∙ ap (λ q. u32_at m q / 256 % 256) (shape_at (record_place word) t)) i + more i
 
 -- The data of a vertex lie where the words say.
 vertex_in : (IsNamed : ℕ → ℕ → Type 0) (region : List Interval) (m : List ℕ) (state word most t index : ℕ) → NamedInside IsNamed region → RecordStands region m word → IsStateOf state word → t < attribute_count word
@@ -91,15 +67,7 @@ vertex_in : (IsNamed : ℕ → ℕ → Type 0) (region : List Interval) (m : Lis
     → Inside region (data_place (attribute_at m word t) (extension_at m word t) index) (data_size (attribute_at m word t))
 unfolding data_place
 vertex_in IsNamed region m state word most t index names stands is below attribute few =
-    let address = address_is m word t in
-    let stride = stride_is region m state word t stands is below in
-    let size = size_is region m word t stands below in
-    let times : index * stride_of (attribute_at m word t) (extension_at m word t) ≡ attribute_stride state (words_in m word) t * index =
-    ap (λ n. index * n) stride ∙ mul_comm index (attribute_stride state (words_in m word) t) in
-    let upto = attribute.upto index few in
-    let from = attribute.from in
-    inside_part region attribute.place attribute.size (u32_at (attribute_at m word t) 0 + index * stride_of (attribute_at m word t) (extension_at m word t)) (data_size (attribute_at m word t))
-    (names attribute.place attribute.size attribute.named) (omega (arith, from, address)) (omega (arith, upto, address, times, size))
+    search (arith, address_is, size_is, stride_is, mul_comm, inside_part)
 
 -- The indexes of a primitive.
 wide_by : (b : Bool) (one two : ℕ) → (if not b then two else one) ≡ (if b then one else two)
@@ -134,25 +102,10 @@ most_in packet on = ap (λ b. if b then u32_at packet 10 else 0) on
 
 index_in : (IsNamed : ℕ → ℕ → Type 0) (region : List Interval) (packet : List ℕ) (most k : ℕ) → NamedInside IsNamed region → IsIndexedPrimitive IsNamed packet most → (primitive_of packet).indexed ≡ true → k < (primitive_of packet).length
     → Inside region ((primitive_of packet).address + k * index_size (primitive_of packet)) (index_size (primitive_of packet))
-index_in IsNamed region packet most k names one on below =
-    let p : Primitive = primitive_of packet in
-    let size : index_size p ≡ (if slice_index packet 1 / 16 == 0 then 1 else 2) = size_in packet on in
-    let next : k + 1 ≤ p.length = omega (arith, below) in
-    let times : (k + 1) * index_size p ≤ p.length * index_size p = mul-le-mul_right (index_size p) next in
-    let all : p.length * index_size p ≡ u32_at packet 2 * (if slice_index packet 1 / 16 == 0 then 1 else 2) = ap (λ n. n * index_size p) (length_in packet) ∙ ap (λ n. u32_at packet 2 * n) size in
-    let from = one.from in
-    let upto = one.upto in
-    let address = address_in packet in
-    inside_part region one.place one.size (p.address + k * index_size p) (index_size p) (names one.place one.size one.named) (omega (arith, from, address)) (omega (arith, upto, address, times, all))
+index_in IsNamed region packet most k names one on below = search (arith, size_in, mul-le-mul_right, length_in, address_in, inside_part)
 
 array_in : (packet : List ℕ) (most k : ℕ) → IsArrayPrimitive packet most → k < (primitive_of packet).length → ((primitive_of packet).address + k) % 2 ^ 32 ≤ most
-array_in packet most k one below =
-    let len = length_in packet in
-    let address = address_in packet in
-    let some : 0 < u32_at packet 2 = omega (arith, len, below) in
-    let greatest = one.greatest some in
-    let less : ((primitive_of packet).address + k) % 2 ^ 32 ≤ (primitive_of packet).address + k = omega arith in
-    omega (arith, less, greatest, len, address, below)
+array_in packet most k one below = grind (arith, common_steps, nat_tests, length_in, address_in)
 
 -- A primitive that was emitted may be fetched under a record that was emitted for it.
 pub emitted_fetches : (IsNamed : ℕ → ℕ → Type 0) (region : List Interval) (m : List ℕ) (state word most : ℕ) (packet : List ℕ)
@@ -167,9 +120,7 @@ emitted_fetches IsNamed region m state word most packet names stands is attribut
       most = most;
       indexes = λ on k below. index_in IsNamed region packet most k names (primitive.indexed (is_indexed packet on)) on below;
       greatest = λ on.
-          let greatest = (primitive.indexed (is_indexed packet on)).greatest in
-          let e = most_in packet on in
-          omega (arith, greatest, e);
+          omega (arith, (primitive.indexed (is_indexed packet on)).greatest, most_in packet on);
       array = λ off k below. array_in packet most k (primitive.array (is_array packet kinds off)) below;
       entries = λ t below.
           let room = entry_in word t below in
@@ -184,28 +135,14 @@ emitted_fetches IsNamed region m state word most packet names stands is attribut
 words_at : (m : List ℕ) (word offset i : ℕ) → offset ≡ 4 * i → u32_at (bytes_at m (record_place word + offset) 4) 0 ≡ words_in m word i
 words_at m word offset i is = word_read m (record_place word + offset) 4 (omega arith) ∙ ap (λ n. u32_at m (record_place word + n)) is
 
-stream_at : (m : List ℕ) (word offset i : ℕ) → offset + 4 ≡ 4 * i → u32_at (bytes_at m (record_place word + offset + 4) 4) 0 ≡ words_in m word i
-stream_at m word offset i is =
-    let at : record_place word + offset + 4 ≡ record_place word + 4 * i = omega (arith, is) in
-    word_read m (record_place word + offset + 4) 4 (omega arith) ∙ ap (λ p. u32_at m p) at
-
 launched_is : (m : List ℕ) (word : ℕ) (program : Program) (threaded : Bool) (s : ℕ) → code_offset program ≡ 4 * code_word s → code_offset program + 4 ≡ 4 * stream_word s → launched m program threaded word ≡ program_in m word threaded s
 launched_is m word program threaded s code stream =
-    let a = words_at m word (code_offset program) (code_word s) code in
-    let b = stream_at m word (code_offset program) (stream_word s) stream in
-    λ i. record { threaded = threaded; code = a i; uniforms = b i }
-
-odd_or_even : (n : ℕ) → (n % 2 == 0) ≡ not (n % 2 == 1)
-odd_or_even n = grind (arith, common_steps, nat_tests)
+    let b = word_read m (record_place word + (code_offset program) + 4) 4 (omega arith) ∙ ap (λ p. u32_at m p) (omega (arith, stream)) in
+    λ i. record { threaded = threaded; code = (words_at m word (code_offset program) (code_word s) code) i; uniforms = b i }
 
 threaded_is : (m : List ℕ) (word : ℕ) → threaded_by m word ≡ not (is_single (words_in m word))
 unfolding is_threaded is_single
-threaded_is m word =
-    let zero_is : record_place word + 0 ≡ record_place word = omega arith in
-    let first : record_place word + 4 * 0 ≡ record_place word = omega arith in
-    let read : slice_index (bytes_at m (record_place word) 2) 0 ≡ slice_index m (record_place word) = byte_read m (record_place word) 2 0 (omega arith) ∙ ap (λ p. slice_index m p) zero_is in
-    let bit : slice_index m (record_place word) % 2 ≡ words_in m word 0 % 2 = sym (low_bit m (record_place word)) ∙ ap (λ p. u32_at m p % 2) (sym first) in
-    ap (λ n. n % 2 == 0) read ∙ ap (λ n. n == 0) bit ∙ odd_or_even (words_in m word 0)
+threaded_is m word = grind (arith, common_steps, nat_tests, byte_read, low_bit)
 
 pub emitted_programs : (region : List Interval) (O : Launch → Type 0) (m : List ℕ) (word : ℕ) → RecordStands region m word
     → O (program_in m word (not (is_single (words_in m word))) 0) → O (program_in m word false 1) → O (program_in m word false 2)

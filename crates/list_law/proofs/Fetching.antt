@@ -1,25 +1,16 @@
 -- Vertices are fetched and programs started safely.
-use Rattle.std.proofs.Common.{◌≡◌, ◌≤◌, ◌<◌, ℕ, zero, suc, ◌+◌, ◌*◌, ◌%◌, ◌^◌, ◌&&◌, Bool, true, false, List, None, IfSome, if◌then◌else◌, refl, subst, arith}
+use Rattle.std.proofs.Common.{◌≡◌, ◌≤◌, ◌<◌, ℕ, zero, suc, ◌+◌, ◌*◌, ◌%◌, ◌^◌, ◌&&◌, Bool, true, false, List, IfSome, if◌then◌else◌, refl, subst, arith}
 use Rattle.std.specs.Prelude.{nat_lt}
-use Rattle.std.proofs.lemmas.Grind.{common_steps}
-use Rattle.std.proofs.lemmas.Bool.Decides.{nat_tests}
+use Rattle.std.proofs.lemmas.{Grind.common_steps, Bool.Decides.nat_tests}
 use Rattle.field_words.specs.Words.{u32_at}
 use Rattle.packets.specs.StateWord.{attribute_count, is_extended}
-use Rattle.machine_plan.specs.declared.who.Who.{Who}
-use Rattle.machine_plan.specs.declared.launch.Free.{Free}
-use Rattle.machine_plan.specs.declared.launch.Launch.{Launch}
-use Rattle.machine_plan.specs.Memory.{bytes_at}
-use Rattle.machine_plan.specs.Plan.{Done, Reads, Keeps}
-use Rattle.machine_plan.specs.Regions.{Inside, Rights, IsSafeIn}
-use Rattle.machine_plan.proofs.Memory.{inside_part}
-use Rattle.machine_plan.proofs.Worlds.{keeps_followed}
-use Rattle.list_machine.specs.declared.state.Primitive.{Primitive}
-use Rattle.list_machine.specs.declared.state.Program.{Program}
-use Rattle.list_machine.specs.declared.state.Program.TheVariants.{Fragment, Vertex, Coordinate}
+use Rattle.machine_plan.specs.declared.{who.Who.Who, launch.Free.Free, launch.Launch.Launch}
+use Rattle.machine_plan.specs.{Memory.bytes_at, Plan.Done, Plan.Reads, Plan.Keeps, Regions.Inside, Regions.Rights, Regions.IsSafeIn}
+use Rattle.machine_plan.proofs.{Memory.inside_part, Safe.read_safe, Worlds.keeps_followed}
+use Rattle.list_machine.specs.{declared.state.Primitive.Primitive, Start.code_offset, Start.launch_plan, Start.start_as, Start.start_plan}
+use Rattle.list_machine.specs.declared.state.Program.{Program, TheVariants.Fragment, TheVariants.Vertex, TheVariants.Coordinate}
 use Rattle.list_machine.specs.Fetch.{index_size, index_in, index_plan, draws_nothing, record_place, attribute_place, extension_place, data_size, data_place, data_plan, extended_plan, attribute_plan, attributes_plan, indexed_plan, fetch_plan}
-use Rattle.list_machine.specs.Start.{code_offset, can_start, launch_plan, start_as, start_plan}
 use Rattle.list_law.specs.Uses.{Fetches, launched, threaded_by, Programs}
-use Rattle.machine_plan.proofs.Safe.{read_safe}
 use Rattle.list_law.proofs.Safe.{keeps_if}
 
 -- any end will do
@@ -74,9 +65,7 @@ indexed_keeps who r m word p index fetches most =
 counts_indexed : (p : Primitive) (index most : ℕ) → p.indexed ≡ true → p.most ≤ most → draws_nothing p index ≡ false → index ≤ most
 unfolding draws_nothing
 counts_indexed p index most indexed greatest off =
-    let test : (true && nat_lt p.most index) ≡ false = subst (λ b. (b && nat_lt p.most index) ≡ false) indexed off in
-    let no : nat_lt p.most index ≡ false = test in
-    grind (arith, common_steps, nat_tests, no, greatest)
+    grind (arith, common_steps, nat_tests, subst (λ b. (b && nat_lt p.most index) ≡ false) indexed off, greatest)
 
 index_keeps_by : (who : Who) (r : Rights) (m : List ℕ) (word : ℕ) (p : Primitive) (k : ℕ) (fetches : Fetches r.region m word p) → k < p.length
     → (b : Bool) → p.indexed ≡ b
@@ -102,25 +91,13 @@ launch_keeps : (who : Who) (r : Rights) (O : Launch → Type 0) (m : List ℕ) (
     → Inside r.region (record_place word) 36 → code_offset program ≤ 28 → O (launched m program threaded word)
     → Keeps who (Inside r.region) (IsSafeIn r) (λ n launch. IfSome launch O) (launch_plan program threaded word) m
 unfolding launch_plan
-launch_keeps who r O m program threaded word header low may =
-    let base = record_place word in (
-      read_safe r who base 2 (inside_part r.region base 36 base 2 header (omega arith) (omega arith)),
-      (
-        read_safe r who (base + code_offset program) 4 (inside_part r.region base 36 (base + code_offset program) 4 header (omega arith) (omega (arith, low))),
-        (
-          read_safe r who (base + code_offset program + 4) 4 (inside_part r.region base 36 (base + code_offset program + 4) 4 header (omega arith) (omega (arith, low))),
-          may,
-        ),
-      ),
-    )
+launch_keeps who r O m program threaded word header low may = search (arith, read_safe, inside_part)
 
 start_keeps_as : (who : Who) (r : Rights) (O : Launch → Type 0) (m : List ℕ) (program : Program) (threaded : Bool) (free : Free) (word : ℕ)
     → Inside r.region (record_place word) 36 → code_offset program ≤ 28 → O (launched m program threaded word)
     → Keeps who (Inside r.region) (IsSafeIn r) (λ n launch. IfSome launch O) (start_as program threaded free word) m
 unfolding start_as
-start_keeps_as who r O m program threaded free word header low may =
-    keeps_if who (Inside r.region) (IsSafeIn r) (λ n launch. IfSome launch O) m (can_start threaded free) (launch_plan program threaded word) (Done None)
-    (λ on. launch_keeps who r O m program threaded word header low may) (λ off. tt)
+start_keeps_as who r O m program threaded free word header low may = search (arith, keeps_if, launch_keeps)
 
 pub start_fine : (who : Who) (r : Rights) (O : Launch → Type 0) (m : List ℕ) (program : Program) (free : Free) (word : ℕ)
     → Programs r.region O m word

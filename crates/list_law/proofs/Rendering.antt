@@ -1,71 +1,41 @@
 -- One step of the renderer keeps all that stands.
-use Rattle.std.proofs.Common.{◌≡◌, ◌≢◌, ◌≤◌, ◌<◌, ◌⊎◌, inl, inr, ℕ, zero, suc, ◌+◌, ◌*◌, ◌-◌, ◌/◌, ◌%◌, ◌==◌, Bool, true, false, min, Option, Some, if◌then◌else◌, refl, sym, subst, arith, ◌&&◌, not, List, [], ◌∷◌, length, drop, slice_index, None, IfSome, ◌∙◌, ap}
-use Rattle.std.specs.Int.{div_ceil}
+use Rattle.std.proofs.Common.{◌≡◌, ◌≢◌, ◌≤◌, ◌<◌, ◌⊎◌, inl, inr, ℕ, zero, suc, ◌+◌, ◌*◌, ◌-◌, ◌/◌, ◌%◌, ◌==◌, Bool, true, false, min, Option, Some, if◌then◌else◌, refl, sym, subst, arith, List, [], ◌∷◌, length, drop, slice_index, None, IfSome, ◌∙◌, ap}
+use Rattle.std.specs.{Int.div_ceil, Prelude.option_map, Prelude.is_some}
 use Rattle.std.proofs.Math.Nat.{mul-le-mul_right, div-add-mod, mod-lt, mul_comm}
-use Rattle.std.proofs.lemmas.Nat.{div_below}
-use Rattle.field_words.specs.Words.{bits_of}
+use Rattle.std.proofs.lemmas.{Nat.div_below, Grind.common_steps, Bool.Decides.nat_tests}
+use Rattle.field_words.specs.{Words.bits_of, declared.access.Way.TheVariants.Write}
 use Rattle.field_words.proofs.Numbers.{rounded}
-use Rattle.texture_layouts.specs.declared.surface.Tiling.{Tiling}
-use Rattle.texture_layouts.specs.declared.surface.Tiling.TheVariants.{Raster, T, Lt}
+use Rattle.texture_layouts.specs.declared.surface.Tiling.{Tiling, TheVariants.Raster, TheVariants.T, TheVariants.Lt}
 use Rattle.texture_layouts.specs.Surface.{microtile_width_of, microtile_height_of, unit_across, unit_down, size_for}
 use Rattle.texture_layouts.specs.Place.{aligned_across, aligned_down, microtiles_across, microtiles_down, microtile_place_of, raster_place}
 use Rattle.texture_layouts.proofs.Places.{width_some, height_some, across_parts, down_exact, microtile_inside}
-use Rattle.machine_plan.specs.Regions.{Inside, Rights, Every, IsSafeIn}
-use Rattle.machine_plan.proofs.Memory.{inside_part}
-use Rattle.list_machine.specs.declared.state.Frame.{Frame}
-use Rattle.texture_layouts.specs.declared.format.Style.{Style}
-use Rattle.list_machine.specs.Store.{tile_side, covered, chosen}
-use Rattle.texture_layouts.specs.Format.{IsShort, general_style, frame_style}
-use Rattle.list_machine.specs.Cover.{raster_cover, tiled_cover, cover_in, cover_by, cover_for, part_count, part_offset, part_place}
+use Rattle.machine_plan.specs.{Regions.Inside, Regions.Rights, Regions.Every, Regions.IsSafeIn, World.mapped}
+use Rattle.machine_plan.proofs.{Memory.inside_part, Safe.read_safe, Plans.keeps_weaker, Worlds.keeps_mapped}
+use Rattle.list_machine.specs.declared.state.{Frame.Frame, Item.Item, Renderer.Renderer, Found.Found, SubList.SubList}
+use Rattle.texture_layouts.specs.{declared.format.Style.Style, Format.IsShort, Format.general_style, Format.frame_style}
+use Rattle.list_machine.specs.{Store.tile_side, Store.covered, Store.chosen, Blocks.tiles_of, Start.start_plan}
+use Rattle.list_machine.specs.Cover.{raster_cover, tiled_cover, cover_in, cover_for, part_count, part_offset, part_place, cover_by}
 use Rattle.texture_layouts.proofs.Styles.{short_pixel}
-use Rattle.list_law.specs.May.{MayWrite}
+use Rattle.list_law.specs.{May.MayWrite, Binning.ItemFine, Lists.ListsFine, Lists.TurnedFine}
 use Rattle.list_law.specs.Rendering.{surface_size, StoresSurface, LoadsSurface, PartsMeet, IsTileList, MayDo, SetsOnly, AllSet, load_packet, view_of, NoMatter, RenderWay}
-use Rattle.list_law.proofs.Logs.{not_same}
-use Rattle.std.specs.Prelude.{nat_lt, nat_le, option_map, is_some}
-use Rattle.std.proofs.lemmas.Grind.{common_steps}
-use Rattle.std.proofs.lemmas.Bool.Decides.{nat_tests}
-use Rattle.field_words.specs.declared.access.Way.TheVariants.{Write}
-use Rattle.packets.specs.declared.packet.Packet.{Packet}
+use Rattle.list_law.proofs.{Logs.not_same, Safe.write_safe, Safe.keeps_if, Fetching.AnyEnd, Fetching.fetch_keeps, Fetching.start_fine}
+use Rattle.packets.specs.declared.{packet.Packet.Packet, config.Config.Config}
 use Rattle.packets.specs.declared.packet.Packet.TheVariants.{WaitOnSemaphore, BranchToSubList, StoreTileColor, StoreTileColorAndEnd, StoreFullResolution, LoadFullResolution, StoreTileBuffer, LoadTileBuffer, TileRenderingMode, ClearColors, TileCoordinates}
-use Rattle.packets.specs.Length.{render_taken}
-use Rattle.packets.specs.Packet.{packet_text, slots_text}
+use Rattle.packets.specs.{Length.render_taken, Packet.packet_text, Packet.slots_text}
 use Rattle.packets.proofs.Laws.{decoded_text, taken_text}
-use Rattle.machine_plan.specs.declared.who.Who.{Who}
-use Rattle.machine_plan.specs.declared.launch.Free.{Free}
-use Rattle.machine_plan.specs.declared.launch.Launch.{Launch}
-use Rattle.machine_plan.specs.Choice.{word_at}
+use Rattle.machine_plan.specs.declared.{who.Who.Who, launch.Free.Free, launch.Launch.Launch}
+use Rattle.machine_plan.specs.{Choice.word_at, Memory.bytes_at, Memory.stored, Plan.Done, Plan.Wilds, Plan.Keeps, Plan.access}
 use Rattle.machine_plan.specs.Glance.{Glance, Now, At, glanced, GlancesIn}
-use Rattle.machine_plan.specs.Memory.{bytes_at, stored}
-use Rattle.machine_plan.specs.Plan.{Done, Wilds, Keeps, access}
-use Rattle.machine_plan.specs.World.{mapped}
-use Rattle.machine_plan.proofs.Plans.{keeps_weaker}
-use Rattle.machine_plan.proofs.Worlds.{keeps_mapped}
 use Rattle.render_walks.specs.Walks.{View, pass, IsDoneAt, Tame, WalksTo, AllFit}
-use Rattle.packets.specs.declared.config.Config.{Config}
-use Rattle.list_machine.specs.declared.state.Found.{Found}
-use Rattle.list_machine.specs.declared.state.Item.{Item}
-use Rattle.list_machine.specs.declared.state.Load.{Load}
-use Rattle.list_machine.specs.declared.state.Load.TheVariants.{Full, General}
-use Rattle.list_machine.specs.declared.state.Program.{Program}
-use Rattle.list_machine.specs.declared.state.Program.TheVariants.{Fragment, Vertex}
-use Rattle.list_machine.specs.declared.state.Renderer.{Renderer}
-use Rattle.list_machine.specs.declared.state.SubList.{SubList}
-use Rattle.list_machine.specs.declared.surface.Cover.{Cover}
+use Rattle.list_machine.specs.declared.{state.Load.Load, state.Load.TheVariants.Full, state.Load.TheVariants.General, surface.Cover.Cover}
+use Rattle.list_machine.specs.declared.state.Program.{Program, TheVariants.Fragment, TheVariants.Vertex}
 use Rattle.list_machine.specs.Lists.{Lists, Turned, turned_to, quiet, with_renderer, with_taken}
-use Rattle.list_machine.specs.Blocks.{tiles_of}
-use Rattle.list_machine.specs.Fetch.{fetch_plan}
-use Rattle.list_machine.specs.Start.{start_plan}
 use Rattle.list_machine.specs.Surfaces.{cover_written, cover_read, aligned, names_none, general_written, general_read, frame_written, whole_size, whole_written, whole_read, waiting_read}
-use Rattle.list_machine.specs.Renderer.{beyond, with_load, at_tile, with_inside, wait_plan, tile_named, enter_plan, tile_by, branch_plan, tile_plan, act, first_of_tile, item_at, at_item, fetched, vertex_plan, program_plan, choice_plan, found_plan, plan_in, renderer_plan, may_pass, ready_in, renderer_ready}
-use Rattle.list_machine.proofs.Storing.{chosen_size}
-use Rattle.list_machine.proofs.Keeping.{packet_keeps, written_keep, read_keep}
-use Rattle.list_machine.proofs.Items.{ready_below}
-use Rattle.list_law.specs.Binning.{ItemFine}
-use Rattle.list_law.specs.Lists.{ListsFine, TurnedFine}
-use Rattle.machine_plan.proofs.Safe.{read_safe}
-use Rattle.list_law.proofs.Safe.{write_safe, keeps_if}
-use Rattle.list_law.proofs.Fetching.{AnyEnd, fetch_keeps, start_fine}
+use Rattle.list_machine.specs.Renderer.{beyond, with_load, with_inside, wait_plan, tile_named, enter_plan, tile_by, branch_plan, tile_plan, act, first_of_tile, item_at, at_item, vertex_plan, program_plan, choice_plan, found_plan, renderer_plan, may_pass, ready_in, renderer_ready}
+use Rattle.list_machine.proofs.{Storing.chosen_size, Items.ready_below, Keeping.packet_keeps, Keeping.written_keep, Keeping.read_keep}
 use Rattle.list_law.proofs.Bytes.{none_left, bytes_front, bytes_behind, byte_front, front_inside, behind_inside, behind_ends}
+use Rattle.list_law.proofs.Binning.{items_set}
+use Rattle.list_machine.specs.{Fetch.fetch_plan, Renderer.at_tile, Renderer.fetched, Renderer.plan_in}
 
 -- What a load or store covers lies in its surface.
 
@@ -140,9 +110,7 @@ some_across (suc across) down i below = omega arith
 
 -- a unit that counts for a length begins in it
 unit_begins : (n unit k : ℕ) → 0 < unit → k < div_ceil n unit → k * unit < n
-unit_begins n unit k some below =
-    let all : unit * (n / unit) + n % unit ≡ n = div-add-mod n unit in
-    unit_by n unit k (n / unit) (n % unit) some all below
+unit_begins n unit k some below = unit_by n unit k (n / unit) (n % unit) some (div-add-mod n unit) below
 
 -- so a unit of a tile that begins in a length is one of the whole units that cover the length
 unit_inside : (length side start unit k first units aligned : ℕ) → 0 < unit → first * unit ≡ start → k < div_ceil (min side (length - start)) unit
@@ -163,9 +131,8 @@ tiled_inside tiling tiled cpp wide high x y side i short sides unit_wide unit_hi
     let across : ℕ = div_ceil (min side (wide - x * side)) mw in
     let down : ℕ = div_ceil (min side (high - y * side)) mh in
     let some : 0 < across = some_across across down i below in
-    let turned : i < down * across = subst (λ n. i < n) (mul_comm across down) below in
     let column : i % across < across = mod-lt i some in
-    let row : i / across < down = div_below i across down some turned in
+    let row : i / across < down = div_below i across down some (subst (λ n. i < n) (mul_comm across down) below) in
     let wide_in : x * side / mw + i % across < microtiles_across tiling wide cpp =
     unit_inside wide side (x * side) mw (i % across) (x * side / mw) (microtiles_across tiling wide cpp) (aligned_across tiling wide cpp) (width_some cpp) (whole_across cpp x side short sides) column (across_parts tiling wide cpp) (rounded wide (unit_across tiling cpp) unit_wide).least in
     let high_in : y * side / mh + i / across < microtiles_down tiling high cpp =
@@ -240,17 +207,8 @@ less n b (inl e) = inl (omega (arith, e))
 less n b (inr e) = inr e
 
 taken_fine : (r : Rights) (K : List ℕ → Type 0) (O : Launch → Type 0) (c : Config) (f : Frame) (s : Lists) → ListsFine r K O c f s → ListsFine r K O c f (with_taken s)
-taken_fine r K O c f s fine = record {
-  waited = fine.waited;
-  binner = fine.binner;
-  work = fine.work;
-  configs = fine.configs;
-  log = fine.log;
-  renderer = fine.renderer;
-  counted = less s.semaphore s.closed fine.counted;
-  passed = fine.passed;
-  closed = fine.closed;
-}
+taken_fine r K O c f s fine =
+    items_set r K O c f s s.pending (s.semaphore - 1) s.closed s.blocks s.items fine fine.log (less s.semaphore s.closed fine.counted) fine.passed fine.closed
 
 still : (r : Rights) (K : List ℕ → Type 0) (O : Launch → Type 0) (c : Config) (f : Frame) (s : Lists) → ListsFine r K O c f s → TurnedFine r K O c f (quiet s)
 still r K O c f s fine = record { lists = fine; launch = tt }
@@ -332,15 +290,7 @@ idle (Some load) e = absurd cc
 
 tile_is : (c : Config) (address tile : ℕ) → address ≡ c.address + 32 * tile → tile < tiles_of c → tile_named c address ≡ Some tile
 unfolding tile_named
-tile_is c address tile is below =
-    let low : nat_le c.address address ≡ true = grind (arith, common_steps, nat_tests, is) in
-    let offset : address - c.address ≡ 32 * tile = omega (arith, is) in
-    let whole : (32 * tile % 32 == 0) ≡ true = grind (arith, common_steps, nat_tests) in
-    let number : 32 * tile / 32 ≡ tile = omega arith in
-    let few : nat_lt tile (tiles_of c) ≡ true = grind (arith, common_steps, nat_tests, below) in
-    ap (λ o. if (nat_le c.address address && o % 32 == 0) && nat_lt (o / 32) (tiles_of c) then Some (o / 32) else None) offset
-    ∙ ap (λ n. if (nat_le c.address address && 32 * tile % 32 == 0) && nat_lt n (tiles_of c) then Some n else None) number
-    ∙ (λ i. if (low i && whole i) && few i then Some tile else None)
+tile_is c address tile is below = grind (arith, common_steps, nat_tests)
 
 branch_keeps : (who : Who) (r : Rights) (L : ℕ → ℕ → Type 0) (P : List ℕ → Lists → Type 0) (c : Config) (s : Lists) (address : ℕ) (m : List ℕ) (config : Option Config) (closed : Bool) (list : IsTileList c address)
     → closed ≡ true → config ≡ Some c → P m (with_inside s (Some (record { tile = list.tile; at = 0 })))
@@ -379,6 +329,13 @@ way_on r K c f renderer waited rest ahead frame inside = record {
   inside = inside;
 }
 
+-- so all stands again, behind a packet
+still_on : (r : Rights) (K : List ℕ → Type 0) (O : Launch → Type 0) (c : Config) (f : Frame) (s : Lists) (fine : ListsFine r K O c f s) (renderer : Renderer) (rest : List (Option Packet))
+    → Ahead r K c f renderer.place renderer.end (view_of renderer fine.waited) rest → IfSome renderer.frame (λ one. one ≡ f) → IfSome renderer.inside (λ sub. (sub.tile < tiles_of c) × (fine.waited ≡ true))
+    → TurnedFine r K O c f (quiet (with_renderer s renderer))
+still_on r K O c f s fine renderer rest ahead frame inside =
+    still r K O c f (with_renderer s renderer) (render_set r K O c f s renderer fine.waited fine (way_on r K c f renderer fine.waited rest ahead frame inside) fine.passed)
+
 raised_when : (n : ℕ) (b : Bool) → (n ≡ 0) ⊎ (b ≡ true) → n ≢ 0 → b ≡ true
 raised_when n b (inl e) some = absurd (some e)
 raised_when n b (inr e) some = e
@@ -411,65 +368,54 @@ act_keeps who r K O c f L s words m (BranchToSubList address) rest fine outside 
     let list : IsTileList c address = tame.1 in
     let sub : SubList = record { tile = list.tile; at = 0 } in
     let renderer : Renderer = behind s.renderer 5 s.renderer.frame s.renderer.x s.renderer.y s.renderer.waiting (Some sub) in
-    let way : RenderWay r K c f renderer fine.waited = way_on r K c f renderer fine.waited rest ahead fine.renderer.frame (list.below, tame.0) in
     branch_keeps who r L (λ k next. TurnedFine r K O c f (quiet next)) c next address m s.binner.kept.config s.closed list closed (fine.closed closed)
-    (still r K O c f (with_renderer s renderer) (render_set r K O c f s renderer fine.waited fine way fine.passed))
+    (still_on r K O c f s fine renderer rest ahead fine.renderer.frame (list.below, tame.0))
 act_keeps who r K O c f L s words m StoreTileColor rest fine outside raised tame sets ahead =
     let next : Lists = beyond s 1 in
-    let way : RenderWay r K c f next.renderer fine.waited = way_on r K c f next.renderer fine.waited rest ahead fine.renderer.frame fine.renderer.inside in
     frame_stored who r L (λ k next. TurnedFine r K O c f (quiet next)) f s.renderer.frame s.renderer.x s.renderer.y words next m (frame_is f s.renderer.frame tame.0 fine.renderer.frame) tame.1
-    (λ k. still r K O c f next (render_set r K O c f s next.renderer fine.waited fine way fine.passed))
+    (λ k. still_on r K O c f s fine next.renderer rest ahead fine.renderer.frame fine.renderer.inside)
 act_keeps who r K O c f L s words m StoreTileColorAndEnd rest fine outside raised tame sets ahead =
     let next : Lists = beyond s 1 in
-    let way : RenderWay r K c f next.renderer fine.waited = way_on r K c f next.renderer fine.waited rest ahead fine.renderer.frame fine.renderer.inside in
     frame_stored who r L (λ k next. TurnedFine r K O c f (quiet next)) f s.renderer.frame s.renderer.x s.renderer.y words next m (frame_is f s.renderer.frame tame.0 fine.renderer.frame) tame.1
-    (λ k. still r K O c f next (render_set r K O c f s next.renderer fine.waited fine way fine.passed))
+    (λ k. still_on r K O c f s fine next.renderer rest ahead fine.renderer.frame fine.renderer.inside)
 act_keeps who r K O c f L s words m (StoreFullResolution address) rest fine outside raised tame sets ahead =
     let next : Lists = beyond s 5 in
-    let way : RenderWay r K c f next.renderer fine.waited = way_on r K c f next.renderer fine.waited rest ahead fine.renderer.frame fine.renderer.inside in
     whole_stored who r L (λ k next. TurnedFine r K O c f (quiet next)) address words next m tame.1
-    (λ k. still r K O c f next (render_set r K O c f s next.renderer fine.waited fine way fine.passed))
+    (λ k. still_on r K O c f s fine next.renderer rest ahead fine.renderer.frame fine.renderer.inside)
 act_keeps who r K O c f L s words m (LoadFullResolution address) rest fine outside raised tame sets ahead =
     let next : Lists = beyond s 5 in
     let load : Load = Full address in
     let renderer : Renderer = behind s.renderer 5 s.renderer.frame s.renderer.x s.renderer.y (Some load) s.renderer.inside in
-    let way : RenderWay r K c f renderer fine.waited = way_on r K c f renderer fine.waited rest ahead fine.renderer.frame fine.renderer.inside in
     wait_keeps who r L (λ k next. TurnedFine r K O c f (quiet next)) next s.renderer.waiting load m (idle s.renderer.waiting tame)
-    (still r K O c f (with_renderer s renderer) (render_set r K O c f s renderer fine.waited fine way fine.passed))
+    (still_on r K O c f s fine renderer rest ahead fine.renderer.frame fine.renderer.inside)
 act_keeps who r K O c f L s words m (StoreTileBuffer bits address) rest fine outside raised tame sets ahead =
     let next : Lists = beyond s 7 in
-    let way : RenderWay r K c f next.renderer fine.waited = way_on r K c f next.renderer fine.waited rest ahead fine.renderer.frame fine.renderer.inside in
     general_stored who r L (λ k next. TurnedFine r K O c f (quiet next)) f s.renderer.frame bits address s.renderer.x s.renderer.y words next m (frame_is f s.renderer.frame tame.0 fine.renderer.frame) tame.1
-    (λ k. still r K O c f next (render_set r K O c f s next.renderer fine.waited fine way fine.passed))
+    (λ k. still_on r K O c f s fine next.renderer rest ahead fine.renderer.frame fine.renderer.inside)
 act_keeps who r K O c f L s words m (LoadTileBuffer bits address) rest fine outside raised tame sets ahead =
     let next : Lists = beyond s 7 in
     let load : Load = General bits address in
     let renderer : Renderer = behind s.renderer 7 s.renderer.frame s.renderer.x s.renderer.y (Some load) s.renderer.inside in
-    let way : RenderWay r K c f renderer fine.waited = way_on r K c f renderer fine.waited rest ahead fine.renderer.frame fine.renderer.inside in
     wait_keeps who r L (λ k next. TurnedFine r K O c f (quiet next)) next s.renderer.waiting load m (idle s.renderer.waiting tame)
-    (still r K O c f (with_renderer s renderer) (render_set r K O c f s renderer fine.waited fine way fine.passed))
+    (still_on r K O c f s fine renderer rest ahead fine.renderer.frame fine.renderer.inside)
 act_keeps who r K O c f L s words m (TileRenderingMode address width height bits) rest fine outside raised tame sets ahead =
     let one : Frame = record { address = address; width = width; height = height; bits = bits } in
     let renderer : Renderer = behind s.renderer 11 (Some one) s.renderer.x s.renderer.y s.renderer.waiting s.renderer.inside in
-    let way : RenderWay r K c f renderer fine.waited = way_on r K c f renderer fine.waited rest ahead sets fine.renderer.inside in
-    still r K O c f (with_renderer s renderer) (render_set r K O c f s renderer fine.waited fine way fine.passed)
+    still_on r K O c f s fine renderer rest ahead sets fine.renderer.inside
 act_keeps who r K O c f L s words m (ClearColors first second z stencil) rest fine outside raised tame sets ahead =
     let next : Lists = beyond s 14 in
-    let way : RenderWay r K c f next.renderer fine.waited = way_on r K c f next.renderer fine.waited rest ahead fine.renderer.frame fine.renderer.inside in
-    still r K O c f next (render_set r K O c f s next.renderer fine.waited fine way fine.passed)
+    still_on r K O c f s fine next.renderer rest ahead fine.renderer.frame fine.renderer.inside
 act_keeps who r K O c f L s words m (TileCoordinates x y) rest fine outside raised tame sets ahead =
     let next : Lists = beyond s 3 in
     let renderer : Renderer = behind s.renderer 3 s.renderer.frame x y None s.renderer.inside in
-    let way : RenderWay r K c f renderer fine.waited = way_on r K c f renderer fine.waited rest ahead fine.renderer.frame fine.renderer.inside in
     waiting_loaded who r c f L (λ k next. TurnedFine r K O c f (quiet next)) s.renderer.frame s.renderer.waiting x y (at_tile next x y) m (frame_is f s.renderer.frame tame.0 fine.renderer.frame) tame.1
-    (still r K O c f (with_renderer s renderer) (render_set r K O c f s renderer fine.waited fine way fine.passed))
+    (still_on r K O c f s fine renderer rest ahead fine.renderer.frame fine.renderer.inside)
 
 -- The renderer reads its next packet.
 waits : (s : Lists) (packet : Packet) → may_pass s (slice_index (packet_text packet) 0) ≡ true → packet ≡ WaitOnSemaphore → s.semaphore ≢ 0
 unfolding may_pass packet_text
 waits s packet passes is none =
-    let here : not (8 == 8 && s.semaphore == 0) ≡ true = subst (λ p. may_pass s (slice_index (packet_text p) 0) ≡ true) is passes in
-    grind (arith, common_steps, nat_tests, here, none)
+    grind (arith, common_steps, nat_tests, subst (λ p. may_pass s (slice_index (packet_text p) 0) ≡ true) is passes, none)
 
 pub some_text : (packet : Packet) → 1 ≤ length (packet_text packet)
 unfolding packet_text
@@ -541,8 +487,7 @@ moved_fine : (r : Rights) (K : List ℕ → Type 0) (O : Launch → Type 0) (c :
     → IfSome inside (λ sub. (sub.tile < tiles_of c) × (fine.waited ≡ true)) → ListsFine r K O c f (with_inside s inside)
 moved_fine r K O c f s inside fine there =
     let way = fine.renderer in
-    let renderer : Renderer = record (s.renderer) { inside = inside } in
-    render_set r K O c f s renderer fine.waited fine
+    render_set r K O c f s (record (s.renderer) { inside = inside }) fine.waited fine
     (record { rest = way.rest; ends = way.ends; walks = way.walks; fit = way.fit; sets = way.sets; stands = way.stands; reads = way.reads; frame = way.frame; inside = there })
     fine.passed
 
@@ -611,9 +556,7 @@ pass_by false s m ready = absurd cc
 
 ready_pass : (s : Lists) (m : List ℕ) → s.renderer.inside ≡ None → glanced (renderer_ready s) m ≡ true → may_pass s (slice_index m s.renderer.place) ≡ true
 unfolding renderer_ready bytes_at
-ready_pass s m outside ready =
-    let here : glanced (ready_in s None) m ≡ true = subst (λ (inside : Option SubList). glanced (ready_in s inside) m ≡ true) outside ready in
-    pass_by (nat_lt s.renderer.place s.renderer.end) s m here
+ready_pass s m outside ready = grind (arith, common_steps, nat_tests, pass_by)
 
 renderer_keeps_by : (who : Who) (r : Rights) (K : List ℕ → Type 0) (O : Launch → Type 0) (c : Config) (f : Frame) (s : Lists) (free : Free) (words m : List ℕ) (inside : Option SubList)
     → K m → ListsFine r K O c f s → glanced (renderer_ready s) m ≡ true → s.renderer.inside ≡ inside
@@ -639,18 +582,10 @@ looks_by : (L : ℕ → ℕ → Type 0) (place : ℕ) (next : List ℕ → Glanc
 looks_by L place next m true later look = (look refl, later (bytes_at m place 1))
 looks_by L place next m false later look = tt
 
-below_is : (place end : ℕ) → nat_lt place end ≡ true → place < end
-below_is place end on = grind (arith, common_steps, nat_tests, on)
-
 looks_in : (r : Rights) (s : Lists) (m : List ℕ) (inside : Option SubList) → (s.renderer.place < s.renderer.end → Inside r.region s.renderer.place 1) → GlancesIn (Inside r.region) (ready_in s inside) m
-looks_in r s m None look =
-    looks_by (Inside r.region) s.renderer.place (λ head. Now (may_pass s (slice_index head 0))) m (nat_lt s.renderer.place s.renderer.end) (λ bytes. tt)
-    (λ on. look (below_is s.renderer.place s.renderer.end on))
+looks_in r s m None look = search (arith, looks_by)
 looks_in r s m (Some sub) look = tt
 
 pub renderer_looks : (r : Rights) (K : List ℕ → Type 0) (O : Launch → Type 0) (c : Config) (f : Frame) (s : Lists) (m : List ℕ) → ListsFine r K O c f s → GlancesIn (Inside r.region) (renderer_ready s) m
 unfolding renderer_ready
-renderer_looks r K O c f s m fine =
-    let way = fine.renderer in
-    let len : ℕ = length (slots_text way.rest) in
-    looks_in r s m s.renderer.inside (λ below. inside_part r.region s.renderer.place len s.renderer.place 1 way.reads (omega arith) (omega (arith, below, way.ends)))
+renderer_looks r K O c f s m fine = search (arith, looks_in, inside_part)

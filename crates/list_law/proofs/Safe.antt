@@ -1,10 +1,7 @@
 -- Safe accesses, and what is kept along a choice.
 use Rattle.std.proofs.Common.{◌≡◌, ℕ, Bool, true, false, List, if◌then◌else◌, refl}
-use Rattle.field_words.specs.declared.access.Access.{Access}
-use Rattle.field_words.specs.declared.access.Way.TheVariants.{Write}
-use Rattle.machine_plan.specs.declared.who.Who.{Who}
-use Rattle.machine_plan.specs.Plan.{Plan, Keeps, access}
-use Rattle.machine_plan.specs.Regions.{Rights, IsSafeIn}
+use Rattle.field_words.specs.declared.access.{Access.Access, Way.TheVariants.Write}
+use Rattle.machine_plan.specs.{declared.who.Who.Who, Regions.Rights, Regions.IsSafeIn, Plan.Plan, Plan.Keeps, Plan.access}
 use Rattle.list_law.specs.May.{MayWrite}
 
 pub write_safe : (r : Rights) (who : Who) (p n : ℕ) → MayWrite r p n → IsSafeIn r (access who Write p n)

@@ -1,26 +1,22 @@
 -- All stands at the start.
-use Rattle.std.proofs.Common.{◌≡◌, ◌⊎◌, inl, inr, ℕ, zero, suc, ◌+◌, Bool, true, false, ◌&&◌, List, [], ◌∷◌, ◌++◌, length, Option, Some, None, if◌then◌else◌, bit_or, refl, arith}
+use Rattle.std.proofs.Common.{◌≡◌, ◌⊎◌, inl, inr, ℕ, zero, suc, ◌+◌, Bool, true, false, List, [], ◌∷◌, ◌++◌, length, Option, Some, None, if◌then◌else◌, bit_or, refl, arith}
 use Rattle.std.proofs.lemmas.Bool.{false≢true}
 use Rattle.field_words.specs.Pieces.{joined}
 use Rattle.job_format.specs.declared.file.Frame.{Frame as JobFrame}
-use Rattle.packets.specs.declared.packet.Packet.{Packet}
+use Rattle.packets.specs.declared.{packet.Packet.Packet, config.Config.Config}
 use Rattle.packets.specs.declared.packet.Packet.TheVariants.{WaitOnSemaphore, BranchToSubList, StoreTileColor, StoreTileColorAndEnd, StoreFullResolution, LoadFullResolution, StoreTileBuffer, LoadTileBuffer, TileRenderingMode, ClearColors, TileCoordinates}
-use Rattle.packets.specs.Opcode.{indexed_primitive_list, array_primitive_list}
-use Rattle.packets.specs.Packet.{slots_text}
+use Rattle.packets.specs.{Opcode.indexed_primitive_list, Opcode.array_primitive_list, Packet.slots_text}
 use Rattle.bin_list.specs.Packets.{opcode}
-use Rattle.machine_plan.specs.declared.launch.Launch.{Launch}
-use Rattle.machine_plan.specs.Regions.{Rights}
+use Rattle.machine_plan.specs.{declared.launch.Launch.Launch, Regions.Rights}
 use Rattle.bin_walks.specs.Walks.{Kept as Passed, kept_after, Drawing, Tame, Walks}
-use Rattle.render_list.specs.Frame.{place_at, surface_at, is_full, full_place, is_first_tile, is_last_tile, tiles_across, tiles_down}
-use Rattle.render_list.specs.Text.{packet_where, idle_store, head_packet, clear_packet, clear_slots, front_slots, load_packet, load_slot, wait_slot, list_slot, full_store, full_store_slot, zs_store, zs_store_slot, color_store, color_store_slot, is_there, more_after_multisample_color, more_after_multisample_zs, some_before_zs, some_before_color, load_slots, list_slots, write_slots, tile_slots, span_slots, row_slots, all_tile_slots, render_slots}
+use Rattle.render_list.specs.Frame.{surface_at, is_full, full_place, is_first_tile, is_last_tile, place_at}
+use Rattle.render_list.specs.Text.{packet_where, head_packet, clear_packet, clear_slots, front_slots, load_packet, load_slot, wait_slot, list_slot, full_store, full_store_slot, zs_store, zs_store_slot, color_store, color_store_slot, load_slots, list_slots, write_slots, tile_slots, span_slots, render_slots}
 use Rattle.render_walks.specs.Walks.{View, pass, IsDoneAt, Tame as Harmless, WalksTo}
-use Rattle.packets.specs.declared.config.Config.{Config}
-use Rattle.list_machine.specs.declared.state.Frame.{Frame}
-use Rattle.list_machine.specs.Lists.{lists_start}
-use Rattle.list_law.specs.Binning.{FitsIn, NotYet}
-use Rattle.list_law.specs.Rendering.{NoMatter, SetsOnly, AllSet}
-use Rattle.list_law.specs.Lists.{ListsFine}
+use Rattle.list_machine.specs.{declared.state.Frame.Frame, Lists.lists_start}
+use Rattle.list_law.specs.{Binning.FitsIn, Binning.NotYet, Lists.ListsFine, Rendering.NoMatter, Rendering.SetsOnly, Rendering.AllSet}
 use Rattle.list_law.specs.Start.{frame_of, BinnerBegins, RendererBegins}
+use Rattle.std.proofs.Common.{◌&&◌}
+use Rattle.render_list.specs.Text.{is_there, more_after_multisample_color, more_after_multisample_zs, some_before_zs, some_before_color}
 
 -- nothing is in a tile's list
 empty_fits : (c : Config) → FitsIn c (record { count = 0; last = 0 })
@@ -145,14 +141,7 @@ sets_color f frame (Some place) x y = (color_by f (is_last_tile frame x y), tt)
 
 sets_loads : (f : Frame) (frame : JobFrame) (places : List (Option ℕ)) (x y : ℕ) → AllSet f (load_slots frame places x y)
 unfolding load_slots
-sets_loads f frame places x y =
-    let both : Bool = is_there places 0 && is_there places 2 in
-    let last = load_slot frame 2 1 (place_at places 2) x y ∷ [] in
-    let third = packet_where both idle_store ∷ last in
-    let second = packet_where both (TileCoordinates x y) ∷ third in
-    sets_next f (load_slot frame 0 2 (place_at places 0) x y) second (sets_load f frame 0 2 (place_at places 0) x y)
-    (sets_next f (packet_where both (TileCoordinates x y)) third (sets_where f both (TileCoordinates x y) tt)
-    (sets_next f (packet_where both idle_store) last (sets_where f both idle_store tt) (sets_load f frame 2 1 (place_at places 2) x y)))
+sets_loads f frame places x y = search (arith, sets_next, sets_load, sets_where)
 
 sets_lists : (f : Frame) (frame : JobFrame) (grid : Option (ℕ × ℕ)) (slot x y : ℕ) → AllSet f (list_slots frame grid slot x y)
 unfolding list_slots
@@ -184,25 +173,12 @@ sets_writes f frame places x y =
 
 sets_tile : (f : Frame) (frame : JobFrame) (places : List (Option ℕ)) (grid : Option (ℕ × ℕ)) (slot y x : ℕ) → AllSet f (tile_slots frame places grid slot y x)
 unfolding tile_slots
-sets_tile f frame places grid slot y x =
-    sets_append f (load_slots frame places x y) (list_slots frame grid slot x y ++ write_slots frame places x y) (sets_loads f frame places x y)
-    (sets_append f (list_slots frame grid slot x y) (write_slots frame places x y) (sets_lists f frame grid slot x y) (sets_writes f frame places x y))
+sets_tile f frame places grid slot y x = search (arith, sets_append, sets_loads, sets_lists, sets_writes)
 
 sets_front : (frame : JobFrame) (places : List (Option ℕ)) → AllSet (frame_of frame places) (front_slots frame places)
 unfolding front_slots head_packet clear_slots clear_packet
-sets_front frame places =
-    let f : Frame = frame_of frame places in
-    let last = packet_where frame.clear (StoreTileBuffer 0 0) ∷ [] in
-    let second = packet_where frame.clear (TileCoordinates 0 0) ∷ last in (
-      refl,
-      sets_next f (packet_where frame.clear (clear_packet frame)) second (sets_where f frame.clear (clear_packet frame) tt)
-          (sets_next f (packet_where frame.clear (TileCoordinates 0 0)) last (sets_where f frame.clear (TileCoordinates 0 0) tt) (sets_where f frame.clear (StoreTileBuffer 0 0) tt)),
-    )
+sets_front frame places = search (arith, sets_next, sets_where)
 
 pub head_sets : (frame : JobFrame) (places : List (Option ℕ)) (grid : Option (ℕ × ℕ)) (slot : ℕ) → AllSet (frame_of frame places) (render_slots frame places grid slot)
 unfolding render_slots
-head_sets frame places grid slot =
-    let f : Frame = frame_of frame places in
-    sets_append f (front_slots frame places) (all_tile_slots frame places grid slot) (sets_front frame places)
-    (sets_span f (row_slots frame places grid slot) frame.min_y (tiles_down frame)
-    (λ y. sets_span f (tile_slots frame places grid slot y) frame.min_x (tiles_across frame) (λ x. sets_tile f frame places grid slot y x)))
+head_sets frame places grid slot = search (arith, sets_append, sets_front, sets_span, sets_tile)

@@ -1,7 +1,7 @@
 -- Words of memory as the bytes that a unit reads.
-use Rattle.std.proofs.Common.{◌≡◌, ◌≤◌, ◌<◌, ℕ, zero, suc, ◌+◌, ◌*◌, ◌/◌, ◌%◌, List, slice_index, drop, sym, ◌∙◌, ap, arith}
+use Rattle.std.proofs.Common.{◌≡◌, ◌≤◌, ◌<◌, ℕ, zero, suc, ◌+◌, ◌*◌, ◌/◌, ◌%◌, List, slice_index, ◌∙◌, ap, arith}
 use Rattle.std.specs.Int.{from_le_bytes, w32}
-use Rattle.std.proofs.lemmas.List.{get_or-drop}
+use Rattle.std.proofs.lemmas.{List.get_or-drop, Grind.common_steps, Bool.Decides.nat_tests}
 use Rattle.field_words.specs.Words.{u32_at}
 use Rattle.machine_plan.specs.Memory.{bytes_at}
 
@@ -15,34 +15,18 @@ value_of xs = omega arith
 
 pub word_value : (m : List ℕ) (p : ℕ) → u32_at m p ≡ value (slice_index m p) (slice_index m (p + 1)) (slice_index m (p + 2)) (slice_index m (p + 3))
 unfolding u32_at
-word_value m p =
-    let zero_is : p + 0 ≡ p = omega arith in
-    let a : slice_index (drop p m) 0 ≡ slice_index m p = get_or-drop p m 0 0 ∙ ap (λ q. slice_index m q) zero_is in
-    let b : slice_index (drop p m) 1 ≡ slice_index m (p + 1) = get_or-drop p m 1 0 in
-    let c : slice_index (drop p m) 2 ≡ slice_index m (p + 2) = get_or-drop p m 2 0 in
-    let d : slice_index (drop p m) 3 ≡ slice_index m (p + 3) = get_or-drop p m 3 0 in
-    value_of (drop p m) ∙ (λ i. value (a i) (b i) (c i) (d i))
+word_value m p = grind (arith, common_steps, nat_tests, get_or-drop, value_of, value)
 
 -- a byte among those that are read
 pub byte_read : (m : List ℕ) (p n i : ℕ) → i < n → slice_index (bytes_at m p n) i ≡ slice_index m (p + i)
 unfolding bytes_at
 byte_read m p zero i below = absurd (omega (arith, below))
-byte_read m p (suc n) zero below =
-    let zero_is : p ≡ p + 0 = omega arith in
-    ap (λ q. slice_index m q) zero_is
-byte_read m p (suc n) (suc i) below =
-    let next : suc p + i ≡ p + suc i = omega arith in
-    byte_read m (suc p) n i (omega (arith, below)) ∙ ap (λ q. slice_index m q) next
+byte_read m p (suc n) zero below = ap (λ q. slice_index m q) (omega arith)
+byte_read m p (suc n) (suc i) below = byte_read m (suc p) n i (omega (arith, below)) ∙ ap (λ q. slice_index m q) (omega arith)
 
 -- the word at the front of those that are read
 pub word_read : (m : List ℕ) (p n : ℕ) → 4 ≤ n → u32_at (bytes_at m p n) 0 ≡ u32_at m p
-word_read m p n long =
-    let zero_is : p + 0 ≡ p = omega arith in
-    let a : slice_index (bytes_at m p n) 0 ≡ slice_index m p = byte_read m p n 0 (omega (arith, long)) ∙ ap (λ q. slice_index m q) zero_is in
-    let b : slice_index (bytes_at m p n) 1 ≡ slice_index m (p + 1) = byte_read m p n 1 (omega (arith, long)) in
-    let c : slice_index (bytes_at m p n) 2 ≡ slice_index m (p + 2) = byte_read m p n 2 (omega (arith, long)) in
-    let d : slice_index (bytes_at m p n) 3 ≡ slice_index m (p + 3) = byte_read m p n 3 (omega (arith, long)) in
-    word_value (bytes_at m p n) 0 ∙ (λ i. value (a i) (b i) (c i) (d i)) ∙ sym (word_value m p)
+word_read m p n long = grind (arith, common_steps, nat_tests, byte_read, word_value, value)
 
 first_of_value : (a b c d : ℕ) → a < 256 → value a b c d % 256 ≡ a
 unfolding value
@@ -50,9 +34,7 @@ first_of_value a b c d fits = omega (arith, fits)
 
 second_of_value : (a b c d : ℕ) → a < 256 → b < 256 → value a b c d / 256 % 256 ≡ b
 unfolding value
-second_of_value a b c d low fits =
-    let up : (a + 256 * b + 65536 * c + 16777216 * d) / 256 ≡ b + 256 * c + 65536 * d = omega (arith, low) in
-    omega (arith, up, fits)
+second_of_value a b c d low fits = omega (arith, fits, low)
 
 even_of_value : (a b c d : ℕ) → value a b c d % 2 ≡ a % 2
 unfolding value

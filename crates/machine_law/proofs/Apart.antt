@@ -1,35 +1,22 @@
 -- Clients are apart: what one client's jobs access, and what its memory ends as, is the same in all runs in which they take the same steps.
 use Rattle.std.proofs.Common.{◌≡◌, ℕ, zero, suc, ◌+◌, ◌⊎◌, inl, inr, Bool, true, false, if◌then◌else◌, List, [], ◌∷◌, ◌++◌, refl, sym, ◌∙◌, ap, subst, arith, IsTrue, map, slice_index, Some, None}
-use Rattle.std.proofs.lemmas.Bool.{false≢true}
+use Rattle.std.proofs.lemmas.{Bool.false≢true, Option.slice_get-map}
 use Rattle.machine_plan.specs.Regions.{Interval, Inside, Rights, rights_of, IsIn, Every, IsSafeAccess, HasReadOnly, Agree, Misses}
 use Rattle.apart_law.specs.Part.{Client, accesses_of, UnitsAlike, StatesAlike}
 use Rattle.machine_law.specs.Apart.{regions_of, IsUnshared, Beginning, AreNeighbours, BeginsSoundly, AreLeft, ClientsApart, ClientsApartAnywhere, ClientsApartWithOthers}
 use Rattle.std.specs.Prelude.{option_map}
-use Rattle.std.proofs.lemmas.Option.{slice_get-map}
 use Rattle.machine_plan.specs.Others.{Happening, Steps, Changes, MayHappen, happen, AllMayHappen, IsLeft}
-use Rattle.machine_plan.specs.Plan.{Keeps}
-use Rattle.machine_plan.specs.Runs.{reached}
-use Rattle.machine_plan.specs.World.{Turn}
-use Rattle.machine_plan.proofs.Memory.{inside_part}
-use Rattle.machine_plan.proofs.Others.{Holds, run_holds, run_others}
+use Rattle.machine_plan.specs.{Plan.Keeps, World.Turn, Runs.reached}
+use Rattle.machine_plan.proofs.{Memory.inside_part, Runs.every-weaker, Others.Holds, Others.run_holds, Others.run_others}
 use Rattle.machine_plan.proofs.Plans.{kept, length-carried, keeps_accesses, keeps_of, keeps_weaker}
-use Rattle.machine_plan.proofs.Runs.{every-weaker}
 use Rattle.machine.specs.State.{Units, State, start_of, job_start}
 use Rattle.machine.specs.Step.{Event, job_of, may, step, ready, turn}
-use Rattle.apart_law.specs.Steps.{StaysIn, StepsAlike}
-use Rattle.apart_law.specs.Tied.{AreTied, RestsFresh}
+use Rattle.apart_law.specs.{Steps.StaysIn, Steps.StepsAlike, Tied.AreTied, Tied.RestsFresh}
 use Rattle.apart_law.specs.Trail.{Entry, entry_of, own_entry, happening_entry, with_entry, entries_of}
-use Rattle.apart_law.proofs.Own.{own_alike_law}
-use Rattle.apart_law.proofs.Parts.{some_same, some_none}
-use Rattle.apart_law.proofs.Silent.{others_silent_law, keep_tied_law}
-use Rattle.apart_law.proofs.Tied.{idle_tied}
-use Rattle.apart_law.proofs.Trails.{AllMay, trails_alike}
-use Rattle.apart_law.proofs.Turns.{turn_job}
-use Rattle.machine_law.specs.Jobs.{facts_of}
-use Rattle.machine_law.specs.Laws.{AreFine}
-use Rattle.machine_law.specs.Units.{QpuFine}
-use Rattle.machine_law.proofs.Begins.{each_begins}
-use Rattle.machine_law.proofs.Owes.{units_owe_law, start_fine}
+use Rattle.apart_law.proofs.{Own.own_alike_law, Tied.idle_tied, Turns.turn_job, Silent.others_silent_law, Silent.keep_tied_law}
+use Rattle.apart_law.proofs.{Parts.some_same, Parts.some_none, Trails.AllMay, Trails.trails_alike}
+use Rattle.machine_law.specs.{Jobs.facts_of, Laws.AreFine, Units.QpuFine}
+use Rattle.machine_law.proofs.{Begins.each_begins, Owes.units_owe_law, Owes.start_fine}
 
 -- The regions of a client's jobs, joined: they have the region of each of its jobs, and nothing else.
 
@@ -58,8 +45,7 @@ rest_in false one rest p n lies = lies
 own_region_from : (mine : Client) (n j k : ℕ) (rights : List Rights) (p size : ℕ) → k ≡ n + j → mine k ≡ true → Inside (rights_of rights j).region p size → Inside (regions_of mine n rights) p size
 own_region_from mine n j k [] p size is own lies = absurd lies
 own_region_from mine n zero k (one ∷ others) p size is own lies =
-    let here : n ≡ k = omega (arith, is) in
-    first_in (mine n) one.region (regions_of mine (n + 1) others) p size (ap mine here ∙ own) lies
+    first_in (mine n) one.region (regions_of mine (n + 1) others) p size (ap mine (omega (arith, is)) ∙ own) lies
 own_region_from mine n (suc j) k (one ∷ others) p size is own lies =
     rest_in (mine n) one.region (regions_of mine (n + 1) others) p size (own_region_from mine (n + 1) j k others p size (omega (arith, is)) own lies)
 
@@ -70,14 +56,10 @@ record LiesInOwn (mine : Client) (n : ℕ) (rights : List Rights) (p size : ℕ)
   pub lies : Inside (rights_of rights j).region p size
 
 next_own : (mine : Client) (n : ℕ) (one : Rights) (others : List Rights) (p size : ℕ) → LiesInOwn mine (n + 1) others p size → LiesInOwn mine n (one ∷ others) p size
-next_own mine n one others p size h =
-    let same : n + suc h.j ≡ n + 1 + h.j = omega arith in
-    record { j = suc h.j; own = ap mine same ∙ h.own; lies = h.lies }
+next_own mine n one others p size h = record { j = suc h.j; own = ap mine (omega arith) ∙ h.own; lies = h.lies }
 
 first_own : (mine : Client) (n : ℕ) (one : Rights) (others : List Rights) (p size : ℕ) → mine n ≡ true → Inside one.region p size → LiesInOwn mine n (one ∷ others) p size
-first_own mine n one others p size own lies =
-    let same : n + 0 ≡ n = omega arith in
-    record { j = 0; own = ap mine same ∙ own; lies = lies }
+first_own mine n one others p size own lies = record { j = 0; own = ap mine (omega arith) ∙ own; lies = lies }
 
 in_own_by : (mine : Client) (n : ℕ) (own : Bool) (one : Rights) (others : List Rights) (p size : ℕ) → mine n ≡ own → (Inside (regions_of mine (n + 1) others) p size → LiesInOwn mine (n + 1) others p size)
     → Inside (if own then one.region ++ regions_of mine (n + 1) others else regions_of mine (n + 1) others) p size → LiesInOwn mine n (one ∷ others) p size
@@ -102,8 +84,7 @@ has_regions mine rights unshared = record {
   covers = λ j p size own lies. covered mine rights j p size own lies;
   apart = λ k p others lies writes.
       let one = in_own mine 0 rights p 1 lies in
-      let same : 0 + one.j ≡ one.j = omega arith in
-      unshared one.j k p (sym (ap mine same) ∙ one.own) others one.lies writes;
+      unshared one.j k p (sym (ap mine (omega arith)) ∙ one.own) others one.lies writes;
 }
 
 -- the same intervals are the client's among its other neighbours
@@ -112,8 +93,7 @@ neighbour_has mine b c near = record {
   covers = λ j p size own lies. covered mine b.rights j p size own (subst (λ (r : Rights). Inside r.region p size) (sym (near.rights j own)) lies);
   apart = λ k p others lies writes.
       let one = in_own mine 0 b.rights p 1 lies in
-      let same : 0 + one.j ≡ one.j = omega arith in
-      let own : mine one.j ≡ true = sym (ap mine same) ∙ one.own in
+      let own : mine one.j ≡ true = sym (ap mine (omega arith)) ∙ one.own in
       near.other_unshared one.j k p own others (subst (λ (r : Rights). Inside r.region p 1) (near.rights one.j own) one.lies) writes;
 }
 
@@ -237,7 +217,6 @@ steps_alike : (mine : Client) (b c : Beginning) → AreNeighbours mine b c
 steps_alike mine b c near =
     let all = regions_of mine 0 b.rights in
     let has = has_regions mine b.rights near.unshared in
-    let also = neighbour_has mine b c near in
     record {
       keeps = λ s one known can. known_after b all near.begins s one known can;
       others_keep = λ t one known can. known_after c all near.other_begins t one known can;
@@ -245,7 +224,7 @@ steps_alike mine b c near =
           let still = silent mine all b near.begins has s one known can none in
           (still.0, states_then mine all (happen turn s one).state s t still.1 alike);
       others_quiet = λ s t one known can alike none.
-          let still = silent mine all c near.other_begins also t one known can none in
+          let still = silent mine all c near.other_begins (neighbour_has mine b c near) t one known can none in
           (still.0, states_then mine all s t (happen turn t one).state alike (states_back mine all (happen turn t one).state t still.1));
       both = λ s t one other x known there can could alike first second. both_alike mine all b near.begins has s t one other c x known can could alike first second;
     }

@@ -1,42 +1,29 @@
 -- What jobs may only read stays: homes, primitives that may be drawn, and the texts of lists. So what jobs begin with is known of their units.
 use Rattle.std.proofs.Common.{◌≡◌, ◌≤◌, ◌<◌, ℕ, ◌+◌, ◌-◌, ◌*◌, List, length, ◌∙◌, ap, subst, arith, ◌%◌, ◌==◌, not, Bool, false, refl, sym, [], ◌∷◌}
 use Rattle.std.specs.Int.{from_le_bytes, w64}
-use Rattle.field_words.specs.Words.{u32_at}
-use Rattle.field_words.specs.Pieces.{joined as joined_bytes}
-use Rattle.machine_plan.specs.Memory.{bytes_at}
+use Rattle.field_words.specs.{Words.u32_at, Pieces.joined as joined_bytes}
+use Rattle.machine_plan.specs.{Memory.bytes_at, declared.launch.Launch.Launch}
 use Rattle.machine_plan.specs.Regions.{Inside, Rights, rights_of, joined, IsOutside, HasReadOnly, Interval}
-use Rattle.machine_plan.proofs.Memory.{inside_part, bytes_same}
-use Rattle.machine_plan.proofs.Safe.{joined_covers}
-use Rattle.machine_plan.specs.declared.launch.Launch.{Launch}
+use Rattle.machine_plan.proofs.{Memory.inside_part, Memory.bytes_same, Safe.joined_covers}
 use Rattle.uniform_stream.specs.Stream.{uniforms_of}
-use Rattle.qpu_law.specs.Home.{Home}
-use Rattle.qpu_law.specs.Thread.{IsHome}
-use Rattle.packets.specs.StateWord.{record_size}
+use Rattle.qpu_law.specs.{Home.Home, Thread.IsHome}
+use Rattle.packets.specs.{StateWord.record_size, Packet.slots_text}
 use Rattle.emitted_facts.specs.Records.{address_word, shape_word, extension_word, is_single, code_word, stream_word}
 use Rattle.emitted_facts.proofs.Records.{entry_in, extension_in, header_in, same_attribute}
-use Rattle.list_machine.specs.Binner.{primitive_of}
-use Rattle.list_machine.specs.Fetch.{record_place}
-use Rattle.list_machine.specs.Lists.{lists_start}
+use Rattle.list_machine.specs.{Binner.primitive_of, Fetch.record_place, Lists.lists_start}
 use Rattle.list_law.specs.Emitted.{words_in, RecordStands, program_in}
-use Rattle.list_law.specs.Uses.{Fetches, Programs}
+use Rattle.list_law.specs.{Uses.Fetches, Uses.Programs, Binning.DrawsSo, Lists.ListsFine}
 use Rattle.list_law.proofs.Emitted.{same_count, same_extended, emitted_fetches, emitted_programs}
-use Rattle.list_law.proofs.Words.{word_read}
-use Rattle.list_law.specs.Binning.{DrawsSo}
-use Rattle.list_law.specs.Lists.{ListsFine}
-use Rattle.list_law.proofs.Start.{lists_begin, walks_so}
-use Rattle.packets.specs.Packet.{slots_text}
+use Rattle.list_law.proofs.{Words.word_read, Start.lists_begin, Start.walks_so}
 use Rattle.bin_walks.specs.Walks.{nothing_kept}
-use Rattle.machine.specs.declared.job.Start.{Start}
-use Rattle.machine.specs.State.{job_start}
+use Rattle.machine.specs.{declared.job.Start.Start, State.job_start}
 use Rattle.machine_law.specs.Begins.{IsFixed, FixedStays, HomesStay, LaunchBegins, DrawBegins, DrawsStay, TextBegins, JobBegins}
-use Rattle.machine_law.specs.Jobs.{LaunchFine, JobFine}
-use Rattle.machine_law.specs.Units.{EachAt}
+use Rattle.machine_law.specs.{Jobs.LaunchFine, Jobs.JobFine, Units.EachAt}
 
 -- a part of what no job may write
 pub fixed_inside : (rights : List Rights) (place size q n : ℕ) → IsFixed rights place size → place ≤ q → q + n ≤ place + size → IsFixed rights q n
 fixed_inside rights place size q n fixed from upto i below =
-    let there : place + (q - place + i) ≡ q + i = omega (arith, from) in
-    subst (λ p. IsOutside rights p) there (fixed (q - place + i) (omega (arith, from, upto, below)))
+    subst (λ p. IsOutside rights p) (omega (arith, from)) (fixed (q - place + i) (omega (arith, from, upto, below)))
 
 pub fixed_stays_law : FixedStays
 fixed_stays_law rights first m place size fixed lies has =

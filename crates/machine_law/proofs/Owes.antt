@@ -5,46 +5,28 @@ use Rattle.machine_plan.specs.Regions.{Every, Inside, Rights, rights_of, IsSafeA
 use Rattle.machine.specs.State.{Picked, first_where, item_at, put_at, Units, binner_job, renderer_job, job_start, units_start}
 use Rattle.apart_law.proofs.Places.{chosen, drop_every, put_every}
 use Rattle.machine_law.specs.Units.{EachAt, Facts, IsFresh, AskOf, QpuFine, ThreadTurned, UnitsFine, ListsTurned, KeepsFor, UnitLaws}
-use Rattle.machine_plan.specs.declared.launch.Launch.{Launch}
-use Rattle.machine_plan.proofs.Runs.{every-append}
-use Rattle.qpu_machine.specs.declared.state.Asked.{Asked}
-use Rattle.qpu_machine.specs.declared.state.Fate.{Fate}
-use Rattle.qpu_machine.specs.declared.state.Fate.TheVariants.{GoesOn, Switches, Ends}
-use Rattle.qpu_machine.specs.declared.state.Qpu.{Qpu}
-use Rattle.qpu_machine.specs.declared.state.Request.{Request}
-use Rattle.qpu_machine.specs.declared.state.Thread.{Thread}
-use Rattle.qpu_machine.specs.Qpu.{active_of, left_by, gives_way, refreshed, woken_slot, queue_with, settled, went, oldest, queue_of, with_result, dropped, given, served, takes_first, takes_other, in_first, in_other, started_in, launched, job_of_thread, queued, ready_by, plan_by, job_of_request, tmu_ready, serving, free_in, idle_qpu}
-use Rattle.qpu_machine.specs.Start.{thread_of}
-use Rattle.qpu_machine.specs.Step.{ThreadTurn, thread_plan, thread_ready}
+use Rattle.machine_plan.specs.declared.{launch.Launch.Launch, launch.Free.Free, who.Who.Who}
+use Rattle.machine_plan.proofs.{Runs.every-append, Safe.safe_of, Worlds.keeps_mapped, Plans.keeps_of, Plans.keeps_weaker}
+use Rattle.qpu_machine.specs.declared.state.{Asked.Asked, Thread.Thread, Qpu.Qpu, Ask.Ask, Request.Request}
+use Rattle.qpu_machine.specs.declared.state.Fate.{Fate, TheVariants.GoesOn, TheVariants.Switches, TheVariants.Ends}
+use Rattle.qpu_machine.specs.Qpu.{active_of, left_by, gives_way, woken_slot, queue_with, settled, went, oldest, queue_of, with_result, dropped, given, served, takes_first, takes_other, in_first, in_other, started_in, launched, job_of_thread, queued, ready_by, plan_by, job_of_request, tmu_ready, serving, free_in, idle_qpu}
+use Rattle.qpu_machine.specs.{Start.thread_of, Request.ask_plan, Step.ThreadTurn, Step.thread_plan, Step.thread_ready}
 use Rattle.std.proofs.lemmas.Bool.{false≢true}
 use Rattle.field_words.specs.declared.access.Actor.{Actor}
 use Rattle.field_words.specs.declared.access.Actor.TheVariants.{Binner as TheBinner, Renderer as TheRenderer, Qpu as TheQpu, Tmu as TheTmu}
-use Rattle.machine_plan.specs.declared.launch.Free.{Free}
-use Rattle.machine_plan.specs.declared.who.Who.{Who}
 use Rattle.machine_plan.specs.Glance.{Glance, Now, glanced, GlancesIn}
-use Rattle.machine_plan.specs.Plan.{Plan, Keeps, access}
-use Rattle.machine_plan.specs.World.{mapped, Owes}
-use Rattle.machine_plan.proofs.Plans.{keeps_of, keeps_weaker}
-use Rattle.machine_plan.proofs.Safe.{safe_of}
-use Rattle.machine_plan.proofs.Worlds.{keeps_mapped}
+use Rattle.machine_plan.specs.{Plan.Plan, Plan.Keeps, Plan.access, World.mapped, World.Owes}
 use Rattle.list_machine.specs.Binner.{has_binner_work, binner_ready, binner_plan}
 use Rattle.list_machine.specs.Lists.{Lists, Turned, binner_of, renderer_of}
 use Rattle.list_machine.specs.Renderer.{has_renderer_work, renderer_ready, renderer_plan}
-use Rattle.qpu_machine.specs.Request.{ask_plan}
-use Rattle.qpu_machine.specs.declared.state.Ask.{Ask}
 use Rattle.machine.specs.Step.{with_launch, with_lists, with_qpu, is_ahead, binner_may, renderer_may, qpu_may, tmu_may, binner_turn, renderer_turn, qpu_turn, tmu_turn, unit_ready, unit_turn, ready, turn}
 use Rattle.machine.specs.declared.job.Start.{Start}
 use Rattle.list_law.specs.Lists.{TurnedFine}
-use Rattle.list_law.proofs.Binning.{binner_keeps}
-use Rattle.list_law.proofs.Rendering.{renderer_keeps, renderer_looks}
+use Rattle.list_law.proofs.{Binning.binner_keeps, Rendering.renderer_keeps, Rendering.renderer_looks}
 use Rattle.shader_flow.specs.Flow.{checked_of}
 use Rattle.shader_flow.proofs.Ends.{checked_of-le}
-use Rattle.qpu_law.specs.Asks.{IsOneOf, IsFineAsk}
-use Rattle.qpu_law.specs.Home.{Home}
-use Rattle.qpu_law.specs.Thread.{IsHome, IsThread, Left}
-use Rattle.qpu_law.proofs.Going.{in_checked}
-use Rattle.qpu_law.proofs.Join.{threads_keep_law}
-use Rattle.qpu_law.proofs.Reading.{fine_asks_are_safe_law}
+use Rattle.qpu_law.specs.{Asks.IsOneOf, Asks.IsFineAsk, Home.Home, Thread.IsHome, Thread.IsThread, Thread.Left}
+use Rattle.qpu_law.proofs.{Going.in_checked, Join.threads_keep_law, Reading.fine_asks_are_safe_law}
 use Rattle.qpu_law.proofs.Starting.{starts_stand_law, results_keep_law}
 use Rattle.machine_law.specs.Jobs.{ArePlain, HomeFine, LaunchFine, ThreadFine, JobFine, facts_of}
 use Rattle.machine_law.specs.Laws.{AreFine, UnitsOwe}
@@ -130,14 +112,10 @@ started_fine f threaded t (q ∷ qpus) thread fresh all =
 pub launched_fine : (f : Facts) (j : ℕ) (launch : Launch) (qpus : List Qpu) → f.OfThread (thread_of j launch) → Every (QpuFine f) qpus → Every (QpuFine f) (launched j launch qpus)
 launched_fine f j launch qpus thread all = started_fine f launch.threaded (thread_of j launch) qpus thread (begins_fresh j launch) all
 
--- a thread that is fresh is the same after it is woken
-refreshed_same : (t : Thread) → IsFresh t → t ≡ refreshed t
-refreshed_same t fresh = ap (λ b. record t { fresh = b }) fresh
-
 woken_fine : (f : Facts) (over : Bool) (slot : Option Thread) → SlotFresh slot → SlotFine f slot → SlotFine f (woken_slot over slot)
 woken_fine f false slot fresh fine = fine
 woken_fine f true None fresh fine = tt
-woken_fine f true (Some t) fresh fine = subst f.OfThread (refreshed_same t fresh) fine
+woken_fine f true (Some t) fresh fine = subst f.OfThread (ap (λ b. record t { fresh = b }) fresh) fine
 
 -- the thread that rests after a step
 rest_first : (over : Bool) (first own : Option Thread) → SlotFresh first → (over ≡ true → SlotFresh own) → SlotFresh (if (if over && is_some first then false else true) then woken_slot over first else own)
@@ -258,11 +236,10 @@ lifts : {R : Type 0} (rights : List Rights) (f : Facts) (who : Who) (put : R →
 lifts rights f who put P puts plan m keeps =
     let one : Rights = rights_of rights who.job in
     let L = Inside one.region in
-    let G = IsSafeIn one in
     let H = IsSafeAccess rights in
     keeps_mapped put who L H (λ k next. UnitsFine f next) plan m
     (keeps_weaker who L L H H (λ k r. P r) (λ k r. UnitsFine f (put r)) (λ p n lies. lies) (λ a safe. safe) (λ k r known. puts r known) plan m
-    (keeps_of who L G H (λ k r. P r) (λ way p n safe. safe_of rights one (access who way p n) refl safe) plan m keeps))
+    (keeps_of who L (IsSafeIn one) H (λ k r. P r) (λ way p n safe. safe_of rights one (access who way p n) refl safe) plan m keeps))
 
 -- what a list unit came to
 launch_fine : (rights : List Rights) (K : List ℕ → Type 0) (f : Facts) → UnitLaws rights K f → (j : ℕ) (launch : Option Launch) (qpus : List Qpu) → IfSome launch (f.OfLaunch j) → Every (QpuFine f) qpus → Every (QpuFine f) (with_launch j launch qpus)
@@ -481,8 +458,7 @@ looks_there : (rights : List Rights) (h : Home) (n : ℕ) (m : List ℕ) (t : Th
 unfolding thread_ready
 looks_there rights h n m t one queued0 queued1 home is =
     let inside : n < checked_of h.code = in_checked h.code n home.sound is.at.inside in
-    let size = checked_of-le h.code in
-    (subst (λ q. Inside one.region q 8) (sym is.at.place) (home.code_in n (omega (arith, inside, size))), tt)
+    (subst (λ q. Inside one.region q 8) (sym is.at.place) (home.code_in n (omega (arith, inside, checked_of-le h.code))), tt)
 
 thread_looks_law : (rights : List Rights) (plains : ℕ → List Interval) (first : List ℕ) (t : Thread) (queued0 queued1 : ℕ) (m : List ℕ) → HasReadOnly rights first m → ThreadFine rights plains first t
     → GlancesIn (Inside (rights_of rights t.job).region) (thread_ready t queued0 queued1) m

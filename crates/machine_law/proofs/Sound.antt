@@ -3,25 +3,17 @@ use Rattle.std.proofs.Common.{◌≡◌, ℕ, Bool, true, false, IsTrue, if◌th
 use Rattle.std.proofs.lemmas.Bool.{false≢true}
 use Rattle.std.specs.Prelude.{IfSome, is_some, nat_lt}
 use Rattle.field_words.specs.declared.access.Actor.TheVariants.{Tmu as TheTmu}
-use Rattle.machine_plan.specs.declared.who.Who.{Who}
-use Rattle.machine_plan.specs.Glance.{Glance, Now, glanced}
-use Rattle.machine_plan.specs.Plan.{Plan, carried}
-use Rattle.machine_plan.specs.Regions.{Interval, Rights}
-use Rattle.machine_plan.specs.World.{mapped}
-use Rattle.machine_plan.proofs.Plans.{keeps_accesses}
+use Rattle.machine_plan.specs.{declared.who.Who.Who, World.mapped, Glance.Glance, Glance.Now, Glance.glanced}
+use Rattle.machine_plan.specs.{Plan.Plan, Plan.carried, Regions.Interval, Regions.Rights}
+use Rattle.machine_plan.proofs.{Plans.keeps_accesses, Worlds.keeps_mapped}
 use Rattle.machine_plan.proofs.Others.{run_holds, safe_law, same_law, safe_alone, same_alone}
-use Rattle.machine_plan.proofs.Worlds.{keeps_mapped}
-use Rattle.qpu_machine.specs.declared.state.Qpu.{Qpu}
-use Rattle.qpu_machine.specs.declared.state.Request.{Request}
+use Rattle.qpu_machine.specs.{declared.state.Qpu.Qpu, declared.state.Request.Request, Request.ask_plan}
 use Rattle.qpu_machine.specs.Qpu.{oldest, queue_of, job_of_request, tmu_ready, served, serving}
-use Rattle.qpu_machine.specs.Request.{ask_plan}
 use Rattle.qpu_law.specs.Asks.{IsReadIn}
 use Rattle.qpu_law.proofs.Reading.{asks_stay_in_law}
 use Rattle.machine.specs.State.{Units, State, units_start, item_at}
 use Rattle.machine.specs.Step.{with_qpu, tmu_may, tmu_turn, tmu_job, enabled, job_of, ready, turn}
-use Rattle.machine_law.specs.Units.{AskOf, QpuFine}
-use Rattle.machine_law.specs.Jobs.{facts_of}
-use Rattle.machine_law.specs.Laws.{AreFine}
+use Rattle.machine_law.specs.{Units.AskOf, Units.QpuFine, Jobs.facts_of, Laws.AreFine}
 use Rattle.machine_law.specs.Sound.{ReadInOne, TexturesReadIn, MachineSound, JobsSound, SoundJobsAreSafe}
 use Rattle.machine_law.proofs.Owes.{item_fine, oldest_fine, queue_of_fine, units_owe_law, start_fine}
 use Rattle.machine_law.proofs.Begins.{each_begins}

@@ -1,11 +1,8 @@
 -- Laws on intervals, and on bytes that are read and written.
 use Rattle.std.proofs.Common.{◌≡◌, ◌≢◌, ◌≤◌, ◌<◌, ℕ, zero, suc, ◌+◌, inl, inr, List, [], ◌∷◌, length, slice_index, slice_set, refl, sym, ◌∙◌, ap, arith, take, drop, ◌++◌, add-one, add-zero, append_assoc}
-use Rattle.std.proofs.lemmas.Grind.{common_steps}
-use Rattle.std.proofs.lemmas.List.{get_or-set_same, get_or-set_other, length-set}
-use Rattle.std.proofs.lemmas.List.Edits.{sets-eq}
+use Rattle.std.proofs.lemmas.{Grind.common_steps, List.get_or-set_same, List.get_or-set_other, List.length-set, List.Edits.sets-eq}
 use Rattle.field_words.specs.Writes.{with_bytes}
-use Rattle.machine_plan.specs.Memory.{bytes_at, stored}
-use Rattle.machine_plan.specs.Regions.{Interval, Inside, Agree}
+use Rattle.machine_plan.specs.{Memory.bytes_at, Memory.stored, Regions.Interval, Regions.Inside, Regions.Agree}
 
 -- a part of what lies inside lies inside
 pub inside_part : (rs : List Interval) (p n q k : ℕ) → Inside rs p n → p ≤ q → q + k ≤ p + n → Inside rs q k
@@ -51,18 +48,15 @@ pub stored_keeps : (bs : List ℕ) (m : List ℕ) (p q : ℕ) → (p ≤ q → q
 unfolding stored
 stored_keeps [] m p q out = refl
 stored_keeps (b ∷ bs) m p q out =
-    let later : suc p ≤ q → q < suc p + length bs → ⊥ = λ low high. out (omega arith) (omega arith) in
     let other : q ≢ p = λ e. out (omega arith) (omega arith) in
-    stored_keeps bs (slice_set m p b) (suc p) q later ∙ get_or-set_other m p q b 0 other
+    stored_keeps bs (slice_set m p b) (suc p) q (λ low high. out (omega arith) (omega arith)) ∙ get_or-set_other m p q b 0 other
 
 -- one more byte
 bytes_suc : (m : List ℕ) (p n : ℕ) → bytes_at m p (suc n) ≡ bytes_at m p n ++ slice_index m (p + n) ∷ []
 unfolding bytes_at
 bytes_suc m p zero = ap (λ q. slice_index m q ∷ []) (sym (add-zero p))
 bytes_suc m p (suc n) =
-    let e : suc p + n ≡ p + suc n = omega arith in
-    let h : bytes_at m (suc p) (suc n) ≡ bytes_at m (suc p) n ++ slice_index m (suc p + n) ∷ [] = bytes_suc m (suc p) n in
-    ap (λ rest. slice_index m p ∷ rest) (h ∙ ap (λ q. bytes_at m (suc p) n ++ slice_index m q ∷ []) e)
+    ap (λ rest. slice_index m p ∷ rest) ((bytes_suc m (suc p) n) ∙ ap (λ q. bytes_at m (suc p) n ++ slice_index m q ∷ []) (omega arith))
 
 pub bytes_more : (m : List ℕ) (p n : ℕ) → bytes_at m p (n + 1) ≡ bytes_at m p n ++ slice_index m (p + n) ∷ []
 bytes_more m p n = rw add-one (bytes_suc m p n)

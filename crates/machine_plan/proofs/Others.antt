@@ -3,17 +3,14 @@
 use Rattle.std.proofs.Common.{◌≡◌, ℕ, Bool, IsTrue, List, [], ◌∷◌, ◌++◌, length, slice_index, map, refl, sym, ◌∙◌, ap, subst}
 use Rattle.std.specs.Prelude.{unwrap_or}
 use Rattle.field_words.specs.declared.access.Access.{Access}
-use Rattle.machine_plan.specs.declared.who.Who.{Who}
-use Rattle.machine_plan.specs.Plan.{Plan, carried, Keeps}
-use Rattle.machine_plan.specs.Glance.{Glance, glanced}
+use Rattle.machine_plan.specs.{declared.who.Who.Who, Glance.Glance, Glance.glanced, Plan.Plan, Plan.carried, Plan.Keeps}
 use Rattle.machine_plan.specs.Regions.{Inside, IsIn, Every, Rights, rights_of, joined, IsSafeAccess, IsOutside, HasReadOnly, Agree}
 use Rattle.machine_plan.specs.Runs.{Allowed, Run, found_by, reached}
 use Rattle.machine_plan.specs.World.{World, Turn, world_may, world_step, Safe, Same, Owes}
 use Rattle.machine_plan.specs.Others.{Happening, Steps, Changes, MayHappen, happen, AllMayHappen, OthersRun, IsLeft, IsSafeAmong, SafeAmong, IsAlike, AreAlike, SameAmong}
 use Rattle.machine_plan.proofs.Plans.{SameBut, footprint, kept, length-carried, keeps_accesses, keeps_looks, keeps_weaker}
 use Rattle.machine_plan.proofs.Runs.{every-append, every-front, every-back}
-use Rattle.machine_plan.proofs.Safe.{joined_covers, all_safe_miss}
-use Rattle.machine_plan.proofs.Worlds.{glance_alike, keeps_result}
+use Rattle.machine_plan.proofs.{Safe.joined_covers, Safe.all_safe_miss, Worlds.glance_alike, Worlds.keeps_result}
 
 -- what is known of a state to which a run comes
 pub record Holds {U : Type 0} (jobs : List Rights) (first : List ℕ) (I : U → Type 0) (w : World U) : Type 0 where
@@ -161,8 +158,6 @@ run_alike ready turn jobs first I owes w v (one ∷ later) (other ∷ others) ho
     let now = happen_alike ready turn jobs first I owes w v one other holds alike may.0 same.0 in
     let begun = happen_holds ready turn jobs first I owes w one holds may.0 in
     let rest = run_alike ready turn jobs first I owes (happen turn w one).state (happen turn v other).state later others begun.0 now.alike may.1 same.1 in
-    let first_same : (happen turn w one).accesses ≡ (happen turn v other).accesses = now.accesses in
-    let rest_same : found_by (happen turn) (happen turn w one).state later ≡ found_by (happen turn) (happen turn v other).state others = rest.accesses in
     record { may = (now.may, rest.may); accesses = cc; alike = rest.alike }
 run_alike ready turn jobs first I owes w v [] (other ∷ others) holds alike may same = absurd same
 run_alike ready turn jobs first I owes w v (one ∷ later) [] holds alike may same = absurd same

@@ -1,10 +1,7 @@
 -- Laws over plans, proved once for all units.
 use Rattle.std.proofs.Common.{◌≡◌, ℕ, List, ◌∷◌, length, slice_index, refl, ◌∙◌, ap, subst}
-use Rattle.field_words.specs.declared.access.Access.{Access}
-use Rattle.field_words.specs.declared.access.Way.{Way}
-use Rattle.field_words.specs.declared.access.Way.TheVariants.{Read, Write, Wild}
-use Rattle.machine_plan.specs.declared.who.Who.{Who}
-use Rattle.machine_plan.specs.Memory.{bytes_at, stored}
+use Rattle.field_words.specs.declared.access.{Access.Access, Way.Way, Way.TheVariants.Read, Way.TheVariants.Write, Way.TheVariants.Wild}
+use Rattle.machine_plan.specs.{declared.who.Who.Who, Memory.bytes_at, Memory.stored}
 use Rattle.machine_plan.specs.Regions.{Interval, Inside, IsIn, Every, Agree, Misses}
 use Rattle.machine_plan.specs.Plan.{Plan, Done, Wilds, Reads, Looks, Writes, Outcome, access, carried, Keeps, LooksIn}
 use Rattle.machine_plan.proofs.Memory.{bytes_agree, stored_agree, stored_keeps, length-stored}
@@ -26,10 +23,8 @@ footprint who rs (Reads p n next) m k agree looks all =
     let P : List ℕ → Type 0 = λ bytes. SameBut rs (carried who (Reads p n next) m) (carried who (Looks p n (λ _. Reads p n (λ _. next bytes))) k) in
     subst P same (record { accesses = ap (λ later. access who Read p n ∷ later) rest.accesses; result = rest.result; memory = rest.memory })
 footprint who rs (Looks p n next) m k agree looks all =
-    let same : bytes_at m p n ≡ bytes_at k p n = bytes_agree rs m k agree p n looks.0 in
-    let rest : SameBut rs (carried who (next (bytes_at m p n)) m) (carried who (next (bytes_at m p n)) k) = footprint who rs (next (bytes_at m p n)) m k agree looks.1 all in
     let P : List ℕ → Type 0 = λ bytes. SameBut rs (carried who (Looks p n next) m) (carried who (next bytes) k) in
-    subst P same rest
+    subst P (bytes_agree rs m k agree p n looks.0) (footprint who rs (next (bytes_at m p n)) m k agree looks.1 all)
 footprint who rs (Writes p bs next) m k agree looks all =
     let rest : SameBut rs (carried who next (stored m p bs)) (carried who next (stored k p bs)) = footprint who rs next (stored m p bs) (stored k p bs) (stored_agree rs bs m k p agree) looks all.1 in
     record { accesses = ap (λ later. access who Write p (length bs) ∷ later) rest.accesses; result = rest.result; memory = rest.memory }

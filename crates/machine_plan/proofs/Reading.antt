@@ -1,21 +1,17 @@
 -- Plans that code carries out read by read.
 use Rattle.std.proofs.Common.{◌≡◌, ℕ, List, [], ◌∷◌, ◌++◌, Option, refl, sym, ◌∙◌, ap, subst, append_assoc, append-nil, Some, None}
-use Rattle.field_words.specs.declared.access.Access.{Access}
-use Rattle.field_words.specs.declared.access.Way.TheVariants.{Read, Wild}
-use Rattle.machine_plan.specs.declared.who.Who.{Who}
-use Rattle.machine_plan.specs.Memory.{bytes_at}
+use Rattle.field_words.specs.declared.access.{Access.Access, Way.TheVariants.Read, Way.TheVariants.Wild}
+use Rattle.machine_plan.specs.{declared.who.Who.Who, Memory.bytes_at}
 use Rattle.machine_plan.specs.Plan.{Plan, Done, Wilds, Reads, Outcome, Shows, access, carried}
 
 -- code that listed a read, and carried out what the plan does with the bytes
 pub shows_read : {R : Type 0} (who : Who) (place len : ℕ) (next : List ℕ → Plan R) (m bytes : List ℕ) (before listed after : List Access) (memory : List ℕ) (result : Option R) → listed ≡ before ++ access who Read place len ∷ [] → bytes ≡ bytes_at m place len
     → Shows (carried who (next bytes) m) listed after memory result → Shows (carried who (Reads place len next) m) before after memory result
 shows_read {R = R} who place len next m bytes before listed after memory result listed_is bytes_is shows =
-    let a : Access = access who Read place len in
-    let P : List ℕ → Type 0 = λ q. Shows (carried who (next q) m) listed after memory result in
-    let g = subst P bytes_is shows in
+    let g = subst (λ q. Shows (carried who (next q) m) listed after memory result) bytes_is shows in
     let o : Outcome R = carried who (next (bytes_at m place len)) m in
     record {
-      accesses = g.accesses ∙ (ap (λ now. now ++ o.accesses) listed_is ∙ append_assoc before (a ∷ []) o.accesses);
+      accesses = g.accesses ∙ (ap (λ now. now ++ o.accesses) listed_is ∙ append_assoc before ((access who Read place len) ∷ []) o.accesses);
       memory_is = g.memory_is;
       result_is = g.result_is;
     }
@@ -33,9 +29,8 @@ left_first whole before = record { accesses = refl; memory = refl; result = refl
 pub left_read : {R : Type 0} (who : Who) (place len : ℕ) (next : List ℕ → Plan R) (m : List ℕ) (whole : Outcome R) (before now : List Access)
     → IsLeft whole (carried who (Reads place len next) m) before now → IsLeft whole (carried who (next (bytes_at m place len)) m) before (now ++ access who Read place len ∷ [])
 left_read {R = R} who place len next m whole before now left =
-    let rest : Outcome R = carried who (next (bytes_at m place len)) m in
     record {
-      accesses = append_assoc now (access who Read place len ∷ []) rest.accesses ∙ left.accesses;
+      accesses = append_assoc now (access who Read place len ∷ []) (carried who (next (bytes_at m place len)) m).accesses ∙ left.accesses;
       memory = left.memory;
       result = left.result;
     }

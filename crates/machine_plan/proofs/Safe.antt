@@ -1,12 +1,9 @@
 -- What safe accesses leave alone.
 use Rattle.std.proofs.Common.{◌≡◌, ℕ, zero, suc, inl, inr, List, [], ◌∷◌, ◌++◌, sym, subst, arith}
-use Rattle.field_words.specs.declared.access.Access.{Access}
-use Rattle.field_words.specs.declared.access.Way.TheVariants.{Read}
-use Rattle.machine_plan.specs.declared.who.Who.{Who}
-use Rattle.machine_plan.specs.Plan.{access}
+use Rattle.field_words.specs.declared.access.{Access.Access, Way.TheVariants.Read}
+use Rattle.machine_plan.specs.{declared.who.Who.Who, Plan.access}
 use Rattle.machine_plan.specs.Regions.{Interval, Inside, Every, Rights, rights_of, joined, IsIn, IsSafeAccess, IsSafeIn, IsOutside, Misses}
-use Rattle.machine_plan.proofs.Memory.{inside_part}
-use Rattle.machine_plan.proofs.Runs.{every-weaker}
+use Rattle.machine_plan.proofs.{Memory.inside_part, Runs.every-weaker}
 
 -- what lies in the first intervals, or in the others, lies in both joined
 inside-front : (rs qs : List Interval) (p n : ℕ) → Inside rs p n → Inside (rs ++ qs) p n

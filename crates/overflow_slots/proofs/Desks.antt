@@ -52,9 +52,6 @@ set_other xs i k x apart = get_or-set_other xs i k x 0 (λ e. apart_by k i apart
 held_same : (r : Run) (job other : ℕ) (helds : List Held) → (other == job) ≡ true → (if other == job then helds else r.held other) ≡ helds
 held_same r job other helds is = rw is refl
 
-held_other : (r : Run) (job other : ℕ) (helds : List Held) → (other == job) ≡ false → (if other == job then helds else r.held other) ≡ r.held other
-held_other r job other helds is = rw is refl
-
 -- a job without a newest slot holds none
 idle : (helds : List Held) (newest used : ℕ) → IsNewest helds newest used → newest ≡ 0 → helds ≡ []
 idle [] newest used is none = refl

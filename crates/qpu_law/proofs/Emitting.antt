@@ -2,19 +2,13 @@
 use Rattle.std.proofs.Common.{◌≡◌, ◌<◌, inl, inr, ℕ, zero, suc, Bool, true, if◌then◌else◌, List, [], ◌∷◌, map, length, sym, ap, subst, arith, ◌∙◌}
 use Rattle.std.specs.Prelude.{slice_index, slice_index_or}
 use Rattle.std.proofs.lemmas.Bool.{cases_eq}
-use Rattle.shader_flow.specs.Bounded.{indexes}
-use Rattle.shader_flow.specs.Flow.{checked_of}
-use Rattle.shader_flow.specs.Pending.{count_of}
+use Rattle.shader_flow.specs.{Bounded.indexes, Flow.checked_of, Pending.count_of}
 use Rattle.uniform_stream.specs.Stream.{writes_address, is_open, address_words_of}
 use Rattle.shader_check.specs.Info.{is_sample, sample_of, samples_of}
-use Rattle.shader_check.proofs.Listed.{Member}
-use Rattle.shader_check.proofs.Members.{member_left, member_right}
-use Rattle.shader_check.proofs.SoundInfo.{address_write_at, asks_parts}
+use Rattle.shader_check.proofs.{Listed.Member, Members.member_left, Members.member_right, SoundInfo.address_write_at, SoundInfo.asks_parts}
 use Rattle.qpu_isa.specs.Shader.{no_sample}
 use Rattle.emitted_facts.specs.Facts.{IsSampleIn}
-use Rattle.qpu_law.specs.Asks.{IsOneOf}
-use Rattle.qpu_law.specs.Stream.{IsAddressCount}
-use Rattle.qpu_law.specs.Emitted.{StreamsServe}
+use Rattle.qpu_law.specs.{Asks.IsOneOf, Emitted.StreamsServe, Stream.IsAddressCount}
 
 -- where a member stands
 record StandsAt {X : Type 0} (xs : List X) (d x : X) : Type 0 where

@@ -1,30 +1,24 @@
 -- Where a thread goes, and what its marks say then.
 use Rattle.std.proofs.Common.{◌≡◌, ◌<◌, ◌≤◌, ℕ, ◌+◌, false, List, length, arith, refl, inl, inr, ◌-◌, Bool, ◌&&◌, ◌||◌, sym, ap, ◌∙◌, ◌≢◌, ◌⊎◌, zero, suc, ◌*◌, ◌/◌, ◌%◌, ◌^◌, true, ◌==◌, not, [], ◌∷◌, Option, Some, None, subst, nat_lt, nat_le, if◌then◌else◌}
 use Rattle.field_words.specs.Questions.{each, answered}
-use Rattle.field_words.proofs.Questions.{none_stands}
+use Rattle.field_words.proofs.{Questions.none_stands, Nones.front_none, Nones.rest_none, Nones.each_none, Nones.none_answered}
 use Rattle.shader_flow.specs.Flow.{end_of, checked_of, word, in_slots, after_switch, is_target, makes_target, is_sound_branch, leads_outside, is_threaded}
 use Rattle.shader_flow.specs.Rules.{s3, s4, s5, s6, s7, s8, s9, s10, s11, s12, s13, s27}
 use Rattle.uniform_stream.specs.Rules.{s14, s15, s17, s18, s19, s20, s21, s22, s23, s25, after_address_write, is_full}
 use Rattle.shader_check.specs.Rules.{s2, s16, s24, s26, index_questions, questions_at, fault_at, whole_questions, shader_questions, uses_upper}
-use Rattle.field_words.proofs.Nones.{front_none, rest_none, each_none, none_answered}
 use Rattle.qpu_law.specs.Home.{HasNoFault, readied, done, Home, IsQuiet, MarkIs, IsAt, IsExact, IsRoot, IsBlank, GoesTo, StaysInCode, ArePending, NeverWild}
 use Rattle.std.specs.Prelude.{unwrap_or}
-use Rattle.qpu_isa.specs.Setups.{kept, takes_with}
-use Rattle.qpu_machine.specs.declared.state.Thread.{Thread}
-use Rattle.qpu_machine.specs.Operands.{add_row, mul_row}
+use Rattle.qpu_isa.specs.{Setups.kept, Word.cond_add_of, Word.cond_mul_of, Word.imm_of, Word.cond_of, Word.relative_of, Word.register_of}
+use Rattle.qpu_machine.specs.declared.state.{Thread.Thread, Mark.Mark}
+use Rattle.qpu_machine.specs.{Operands.add_row, Operands.mul_row, Row.mask_of, Step.executed_with, Step.executed}
 use Rattle.qpu_machine.specs.Writes.{awake, written_at, added, multiplied, written, stored, loaded, went_on, worked, led_to, fate_of, rested, asked, pointer_after, add_address, mul_address}
-use Rattle.qpu_machine.specs.Row.{mask_of}
-use Rattle.qpu_isa.specs.Word.{cond_add_of, cond_mul_of, imm_of, cond_of, relative_of, register_of}
-use Rattle.qpu_machine.specs.Step.{executed_with, executed}
 use Rattle.std.proofs.lemmas.Bool.{or_from, or_parts, le-leb, and_from, or_left, or_right, or_cases, cases_Bool, eqb-true, false_from_ne_true, true≢false, not-false, not_from_false, and_parts, lt-ltb, not_from_true}
-use Rattle.qpu_isa.specs.Terms.{is_branch, is_switch, is_address_write, is_end, target_of, is_relative_address_write, names_forbidden, has_two_tmu_writes, has_conditional_tmu_write, writes_tmu, reads_upper, names_upper}
-use Rattle.shader_flow.specs.Bounded.{is_back, some_below}
-use Rattle.qpu_machine.specs.declared.state.Mark.{Mark}
-use Rattle.std.proofs.lemmas.Grind.{common_steps}
+use Rattle.qpu_isa.specs.Terms.{is_branch, is_switch, is_address_write, is_end, target_of, reads_upper, names_upper}
+use Rattle.shader_flow.specs.{Bounded.is_back, Bounded.some_below, Pending.takes}
+use Rattle.std.proofs.lemmas.{Grind.common_steps, Bool.Decides.nat_tests}
 use Rattle.shader_flow.proofs.Bounded.{some_below_here, some_below_found, some_below_not}
 use Rattle.machine_plan.specs.Choice.{word_at}
 use Rattle.qpu_machine.specs.declared.state.Fate.TheVariants.{Ends, Switches, GoesOn}
-use Rattle.shader_flow.specs.Pending.{pending_of, takes}
 use Rattle.qpu_machine.specs.Wild as wild
 
 -- What no rule's standing says of a checked instruction.
@@ -62,35 +56,31 @@ fine_at code none i inside =
     let all = front_none (each (questions_at code) 0 (checked_of code)) (answered (fault_at (length code)) (whole_questions code)) none in
     let here = each_none (questions_at code) 0 (checked_of code) i all (omega arith) (omega (arith, inside)) in
     let r3 = none_stands (index_questions code i) (none_answered (fault_at i) (index_questions code i) here) in
-    let r8 = r3.1.1.1.1.1 in
-    let r13 = r8.1.1.1.1.1 in
-    let r18 = r13.1.1.1.1.1 in
-    let r23 = r18.1.1.1.1.1 in
     record {
       no3 = r3.0;
       no4 = r3.1.0;
       no5 = r3.1.1.0;
       no6 = r3.1.1.1.0;
       no7 = r3.1.1.1.1.0;
-      no8 = r8.0;
-      no9 = r8.1.0;
-      no10 = r8.1.1.0;
-      no11 = r8.1.1.1.0;
-      no12 = r8.1.1.1.1.0;
-      no13 = r13.0;
-      no14 = r13.1.0;
-      no15 = r13.1.1.0;
-      no16 = r13.1.1.1.0;
-      no17 = r13.1.1.1.1.0;
-      no18 = r18.0;
-      no19 = r18.1.0;
-      no20 = r18.1.1.0;
-      no21 = r18.1.1.1.0;
-      no22 = r18.1.1.1.1.0;
-      no23 = r23.0;
-      no24 = r23.1.0;
-      no25 = r23.1.1.0;
-      no27 = r23.1.1.1.0;
+      no8 = r3.1.1.1.1.1.0;
+      no9 = r3.1.1.1.1.1.1.0;
+      no10 = r3.1.1.1.1.1.1.1.0;
+      no11 = r3.1.1.1.1.1.1.1.1.0;
+      no12 = r3.1.1.1.1.1.1.1.1.1.0;
+      no13 = r3.1.1.1.1.1.1.1.1.1.1.0;
+      no14 = r3.1.1.1.1.1.1.1.1.1.1.1.0;
+      no15 = r3.1.1.1.1.1.1.1.1.1.1.1.1.0;
+      no16 = r3.1.1.1.1.1.1.1.1.1.1.1.1.1.0;
+      no17 = r3.1.1.1.1.1.1.1.1.1.1.1.1.1.1.0;
+      no18 = r3.1.1.1.1.1.1.1.1.1.1.1.1.1.1.1.0;
+      no19 = r3.1.1.1.1.1.1.1.1.1.1.1.1.1.1.1.1.0;
+      no20 = r3.1.1.1.1.1.1.1.1.1.1.1.1.1.1.1.1.1.0;
+      no21 = r3.1.1.1.1.1.1.1.1.1.1.1.1.1.1.1.1.1.1.0;
+      no22 = r3.1.1.1.1.1.1.1.1.1.1.1.1.1.1.1.1.1.1.1.0;
+      no23 = r3.1.1.1.1.1.1.1.1.1.1.1.1.1.1.1.1.1.1.1.1.0;
+      no24 = r3.1.1.1.1.1.1.1.1.1.1.1.1.1.1.1.1.1.1.1.1.1.0;
+      no25 = r3.1.1.1.1.1.1.1.1.1.1.1.1.1.1.1.1.1.1.1.1.1.1.0;
+      no27 = r3.1.1.1.1.1.1.1.1.1.1.1.1.1.1.1.1.1.1.1.1.1.1.1.0;
     }
 
 -- no rule on the whole shader stands
@@ -170,8 +160,7 @@ back_here n k test back none = sym (ap (λ b. b && test (n - k)) (le-leb k n bac
 -- Where a quiet word fails a test, and the instruction k places before fails it, the mark's word fails it.
 pub mark_not : (place : ℕ) (code : List ℕ) (n k : ℕ) (m : Mark) (test : ℕ → Bool) → MarkIs place code n k m
     → (IsQuiet m.word → test m.word ≡ false) → is_back n k (λ j. test (word code j)) ≡ false → test m.word ≡ false
-mark_not place code n k m test (inl exact) quiet none =
-    ap test exact.is ∙ back_here n k (λ j. test (word code j)) exact.back none
+mark_not place code n k m test (inl exact) quiet none = ap test exact.is ∙ back_here n k (λ j. test (word code j)) exact.back none
 mark_not place code n k m test (inr blank) quiet none = quiet blank.quiet
 
 pub no_slots : (h : Home) (n : ℕ) (t : Thread) → IsAt h n t → in_slots h.code n ≡ false → wild.in_slots t ≡ false
@@ -245,23 +234,13 @@ branch_room code b fine is = let none : nat_lt (end_of code) (b + 4) ≡ false =
 
 back_at : (b k : ℕ) (test : ℕ → Bool) → test b ≡ true → is_back (b + k) k test ≡ true
 unfolding is_back
-back_at b k test is =
-    let e : b + k - k ≡ b = omega arith in
-    and_from (nat_le k (b + k)) (test (b + k - k)) (le-leb k (b + k) (omega arith)) (ap test e ∙ is)
+back_at b k test is = and_from (nat_le k (b + k)) (test (b + k - k)) (le-leb k (b + k) (omega arith)) (ap test (omega arith) ∙ is)
 
 slots_at : (code : List ℕ) (b d : ℕ) → (d ≡ 1) ⊎ (d ≡ 2) ⊎ (d ≡ 3) → is_branch (word code b) ≡ true → in_slots code (b + d) ≡ true
 unfolding in_slots
-slots_at code b d (inl one) is =
-    let test : ℕ → Bool = λ k. is_branch (word code k) in
-    or_left (is_back (b + d) 1 test) (is_back (b + d) 2 test || is_back (b + d) 3 test) (subst (λ e. is_back (b + d) e test ≡ true) one (back_at b d test is))
-slots_at code b d (inr (inl two)) is =
-    let test : ℕ → Bool = λ k. is_branch (word code k) in
-    or_right (is_back (b + d) 1 test) (is_back (b + d) 2 test || is_back (b + d) 3 test)
-    (or_left (is_back (b + d) 2 test) (is_back (b + d) 3 test) (subst (λ e. is_back (b + d) e test ≡ true) two (back_at b d test is)))
-slots_at code b d (inr (inr three)) is =
-    let test : ℕ → Bool = λ k. is_branch (word code k) in
-    or_right (is_back (b + d) 1 test) (is_back (b + d) 2 test || is_back (b + d) 3 test)
-    (or_right (is_back (b + d) 2 test) (is_back (b + d) 3 test) (subst (λ e. is_back (b + d) e test ≡ true) three (back_at b d test is)))
+slots_at code b d (inl one) is = grind (arith, common_steps, nat_tests, or_left, back_at)
+slots_at code b d (inr (inl two)) is = grind (arith, common_steps, nat_tests, or_right, or_left, back_at)
+slots_at code b d (inr (inr three)) is = grind (arith, common_steps, nat_tests, or_right, back_at)
 
 which : (d : ℕ) → 0 < d → d ≤ 3 → (d ≡ 1) ⊎ (d ≡ 2) ⊎ (d ≡ 3)
 which zero some few = absurd (omega (arith, some))
@@ -275,8 +254,7 @@ pub slot_quiet : (code : List ℕ) → HasNoFault code → (b j : ℕ) → b < c
 unfolding s4 s13 s17
 slot_quiet code none b j b_in is after near =
     let room : b + 4 ≤ end_of code = branch_room code b (fine_at code none b b_in) is in
-    let j_in : j < checked_of code = omega (arith, checked_is code none, room, near) in
-    let fine = fine_at code none j j_in in
+    let fine = fine_at code none j (omega (arith, checked_is code none, room, near)) in
     let e : b + (j - b) ≡ j = omega (arith, after) in
     let slots : in_slots code j ≡ true = subst (λ i. in_slots code i ≡ true) e (slots_at code b (j - b) (which (j - b) (omega (arith, after)) (omega (arith, near))) is) in
     record {
@@ -289,15 +267,7 @@ slot_quiet code none b j b_in is after near =
 -- A branch of a checked shader is sound.
 pub branch_sound : (code : List ℕ) (b : ℕ) → IsFineAt code b → is_branch (word code b) ≡ true → is_sound_branch code b ≡ true
 unfolding s5 s6 s7 s8 is_sound_branch
-branch_sound code b fine is =
-    let w = word code b in
-    let relative : relative_of w ≡ true = not-false (relative_of w) (behind (is_branch w) (not (relative_of w)) is fine.no6) in
-    let own : register_of w ≡ false = behind (is_branch w) (register_of w) is fine.no5 in
-    let whole : (imm_of w % 8 == 0) ≡ true = not-false (imm_of w % 8 == 0) (behind (is_branch w) (not (imm_of w % 8 == 0)) is fine.no7) in
-    let inside : leads_outside code b ≡ false = behind (imm_of w % 8 == 0) (leads_outside code b) whole (behind (is_branch w) (imm_of w % 8 == 0 && leads_outside code b) is fine.no8) in
-    and_from (is_branch w && (relative_of w && not (register_of w))) (imm_of w % 8 == 0 && not (leads_outside code b))
-    (and_from (is_branch w) (relative_of w && not (register_of w)) is (and_from (relative_of w) (not (register_of w)) relative (not_from_false (register_of w) own)))
-    (and_from (imm_of w % 8 == 0) (not (leads_outside code b)) whole (not_from_false (leads_outside code b) inside))
+branch_sound code b fine is = grind (arith, common_steps, nat_tests, not-false, behind, and_from, not_from_false)
 
 -- What a sound branch says.
 pub record IsSound (code : List ℕ) (b : ℕ) : Type 0 where
@@ -310,10 +280,9 @@ unfolding is_sound_branch leads_outside
 sound_says code b is =
     let w = word code b in
     let halves = and_parts (is_branch w && (relative_of w && not (register_of w))) (imm_of w % 8 == 0 && not (nat_lt (end_of code) (target_of w b))) is in
-    let first = and_parts (is_branch w) (relative_of w && not (register_of w)) halves.0 in
     let second = and_parts (imm_of w % 8 == 0) (not (nat_lt (end_of code) (target_of w b))) halves.1 in
     record {
-      branch = first.0;
+      branch = (and_parts (is_branch w) (relative_of w && not (register_of w)) halves.0).0;
       whole = eqb-true (imm_of w % 8) 0 second.0;
       inside = (let h : not (nat_lt (end_of code) (target_of w b)) ≡ true = second.1 in grind (arith, h));
     }
@@ -341,8 +310,7 @@ unfolding is_target makes_target
 makes_it code none b b_in is =
     let i = target_of (word code b) b in
     let fine = fine_at code none b b_in in
-    let less : b < end_of code = omega (arith, branch_room code b fine is) in
-    some_below_here (end_of code) b (λ k. makes_target code k i) less
+    some_below_here (end_of code) b (λ k. makes_target code k i) (omega (arith, branch_room code b fine is))
     (and_from (is_sound_branch code b) (i == b + 4 || i == target_of (word code b) b) (branch_sound code b fine is)
     (or_right (i == b + 4) (i == target_of (word code b) b) (same_number i)))
 
@@ -350,8 +318,7 @@ pub makes_on : (code : List ℕ) → HasNoFault code → (b : ℕ) → b < check
 unfolding is_target makes_target
 makes_on code none b b_in is =
     let fine = fine_at code none b b_in in
-    let less : b < end_of code = omega (arith, branch_room code b fine is) in
-    some_below_here (end_of code) b (λ k. makes_target code k (b + 4)) less
+    some_below_here (end_of code) b (λ k. makes_target code k (b + 4)) (omega (arith, branch_room code b fine is))
     (and_from (is_sound_branch code b) (b + 4 == b + 4 || b + 4 == target_of (word code b) b) (branch_sound code b fine is)
     (or_left (b + 4 == b + 4) (b + 4 == target_of (word code b) b) (same_number (b + 4))))
 
@@ -362,8 +329,7 @@ place_of_target place b imm target last whole is inside low = omega (arith, whol
 
 led_none : (w : ℕ) (words : List ℕ) (place : ℕ) → is_branch w ≡ false → led_to w words place ≡ None
 unfolding led_to
-led_none w words place other =
-    ap (λ b. if b && (cond_of w == 15 || word_at words 81 % 2 == 1) then Some ((place + 32 + imm_of w) % 2 ^ 32) else None) other
+led_none w words place other = grind (arith, common_steps, nat_tests)
 
 led_if : (b c : Bool) (q p : ℕ) → (if b && c then Some q else None) ≡ Some p → (b ≡ true) × (p ≡ q)
 led_if true true q p is = (refl, cc)
@@ -378,10 +344,9 @@ led_some w words place p is = led_if (is_branch w) (cond_of w == 15 || word_at w
 new_mark : (place : ℕ) (code : List ℕ) (n : ℕ) (words : List ℕ) (at : ℕ) → at ≡ place + 8 * n
     → IsExact place code (n + 1) 1 (record { word = word code n; to = led_to (word code n) words at })
 new_mark place code n words at is =
-    let e : n + 1 - 1 ≡ n = omega arith in
     record {
       back = omega arith;
-      is = ap (word code) (sym e);
+      is = ap (word code) (sym (omega arith));
       leads = λ p led.
           (let told = led_some (word code n) words at p led in
           (told.0, told.1 ∙ (let sums : at + 32 ≡ place + 8 * (n + 1 - 1) + 32 = omega (arith, is) in ap (λ s. (s + imm_of (word code n)) % 2 ^ 32) sums)));
@@ -405,9 +370,7 @@ no_way m None is quiet leads = sym is
 no_way m (Some p) is quiet leads = absurd (true≢false (sym (leads p (sym is)) ∙ quiet))
 
 says_nothing : (place : ℕ) (code : List ℕ) (n k : ℕ) (m : Mark) → MarkIs place code n k m → (k ≤ n → IsQuiet (word code (n - k))) → IsQuiet m.word × (m.to ≡ None)
-says_nothing place code n k m (inl exact) quiet =
-    let q : IsQuiet m.word = subst (λ w. IsQuiet w) (sym exact.is) (quiet exact.back) in
-    (q, no_way m m.to refl q.branch (λ p led. (exact.leads p led).0))
+says_nothing place code n k m (inl exact) quiet = grind (arith, common_steps, nat_tests, no_way)
 says_nothing place code n k m (inr blank) quiet = (blank.quiet, blank.leads)
 
 blank_at : (code : List ℕ) (to k : ℕ) (m : Mark) → is_target code to ≡ true → 0 < k → IsQuiet m.word × (m.to ≡ None) → IsBlank code to k m
@@ -444,8 +407,7 @@ jumps h n words t next p none low at led went =
     let b = n - 3 in
     let told = exact.leads p led in
     let branch : is_branch (word code b) ≡ true = sym (ap is_branch exact.is) ∙ told.0 in
-    let n_in : n < checked_of code = in_checked code n none at.inside in
-    let b_in : b < checked_of code = omega (arith, n_in) in
+    let b_in : b < checked_of code = omega (arith, in_checked code n none at.inside) in
     let fine = fine_at code none b b_in in
     let sound = sound_says code b (branch_sound code b fine branch) in
     let to = target_of (word code b) b in
@@ -520,13 +482,7 @@ front false b later = refl
 
 word_tame : (code : List ℕ) (n : ℕ) → IsFineAt code n → wild.is_word_wild (word code n) ≡ false
 unfolding s3 s27 s14 s15 s20 s21 wild.is_word_wild wild.is_signal_wild wild.is_mode_wild wild.is_name_wild wild.is_tmu_wild
-word_tame code n fine =
-    let w = word code n in
-    or_from (wild.is_signal_wild w || wild.is_mode_wild w) (wild.is_name_wild w || wild.is_tmu_wild w)
-    (or_from (wild.is_signal_wild w) (wild.is_mode_wild w) fine.no3 fine.no27)
-    (or_from (wild.is_name_wild w) (wild.is_tmu_wild w)
-    (or_from (names_forbidden w) (is_relative_address_write w) fine.no14 fine.no15)
-    (or_from (has_two_tmu_writes w) (has_conditional_tmu_write w) fine.no20 fine.no21))
+word_tame code n fine = grind (arith, common_steps, nat_tests, or_from)
 
 branch_tame : (h : Home) (n : ℕ) (t : Thread) → IsFineAt h.code n → IsAt h n t → wild.is_branch_wild t (word h.code n) ≡ false
 unfolding s4 s5 s6 s12 wild.is_branch_wild
@@ -558,10 +514,7 @@ switch_tame h n t inside fine at =
 
 setup_tame : (h : Home) (n : ℕ) (t : Thread) → IsFineAt h.code n → ArePending h.code n t → wild.is_setup_wild t (word h.code n) ≡ false
 unfolding s22 is_full wild.is_setup_wild
-setup_tame h n t fine pending =
-    let w = word h.code n in
-    ap (λ a. (writes_tmu w 0 && nat_le 4 a) || (writes_tmu w 1 && nat_le 4 (length t.setups1.items))) pending.tmu0
-    ∙ (ap (λ b. (writes_tmu w 0 && nat_le 4 (pending_of h.code 0 n)) || (writes_tmu w 1 && nat_le 4 b)) pending.tmu1 ∙ fine.no22)
+setup_tame h n t fine pending = grind (arith, common_steps, nat_tests)
 
 register_tame : (h : Home) (n : ℕ) (t : Thread) → n < checked_of h.code → HasNoFault h.code → IsAt h n t → wild.is_register_wild t (word h.code n) ≡ false
 unfolding s26 uses_upper wild.is_register_wild
@@ -575,17 +528,13 @@ register_tame h n t inside none at =
 -- an instruction takes a uniform where the rules say so
 pub takes_same : (code : List ℕ) (n : ℕ) (t : Thread) → n < checked_of code → ArePending code n t → wild.takes_one t (word code n) ≡ takes code n
 unfolding wild.takes_one takes
-takes_same code n t inside pending =
-    ap (λ a. takes_with (word code n) a (length t.setups1.items)) pending.tmu0
-    ∙ (ap (λ b. takes_with (word code n) (pending_of code 0 n) b) pending.tmu1
-    ∙ sym (ap (λ b. b && takes_with (word code n) (pending_of code 0 n) (pending_of code 1 n)) (lt-ltb n (checked_of code) inside)))
+takes_same code n t inside pending = grind (arith, common_steps, nat_tests, lt-ltb)
 
 uniform_tame : (h : Home) (n : ℕ) (t : Thread) → n < checked_of h.code → IsFineAt h.code n → IsAt h n t → ArePending h.code n t
     → wild.is_uniform_wild t (word h.code n) ≡ false
 unfolding s18 wild.is_uniform_wild
 uniform_tame h n t inside fine at pending =
-    let w = word h.code n in
-    front (wild.takes_one t w) (is_address_write t.last1.word || is_address_write t.last2.word)
+    front (wild.takes_one t (word h.code n)) (is_address_write t.last1.word || is_address_write t.last2.word)
     (λ is. no_address h n t at (behind (takes h.code n) (after_address_write h.code n) (sym (takes_same h.code n t inside pending) ∙ is) fine.no18))
 
 pub never_wild : (h : Home) (n : ℕ) (t : Thread) → HasNoFault h.code → IsAt h n t → ArePending h.code n t → wild.is_wild t (word h.code n) ≡ false

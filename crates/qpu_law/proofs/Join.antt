@@ -1,55 +1,40 @@
 -- A step of a thread keeps what is known of it.
 use Rattle.std.proofs.Common.{◌≡◌, ◌<◌, ◌≤◌, inl, inr, ℕ, zero, suc, ◌+◌, ◌-◌, ◌%◌, ◌^◌, Bool, true, false, ◌&&◌, ◌||◌, ◌==◌, not, Option, Some, None, List, [], ◌∷◌, ◌++◌, map, length, refl, sym, ap, subst, arith, ◌∙◌, nat_lt, if◌then◌else◌, ◌≢◌, ◌⊎◌, ◌*◌}
-use Rattle.std.specs.Prelude.{slice_index, slice_get, unwrap_or}
-use Rattle.std.proofs.lemmas.List.{map-append}
+use Rattle.std.specs.{Prelude.slice_index, Prelude.slice_get, Prelude.unwrap_or, Int.from_le_bytes, Int.w64}
+use Rattle.std.proofs.lemmas.{List.map-append, Grind.common_steps, Bool.Decides.nat_tests}
 use Rattle.std.proofs.lemmas.Bool.{and_from, and_right, or_from, or_cases, or_left, or_right, or_parts, lt-ltb, true≢false, and_parts, not-true}
-use Rattle.field_words.specs.Questions.{first_of}
-use Rattle.qpu_isa.specs.declared.inst.Reg.{Reg}
-use Rattle.qpu_isa.specs.Word.{add_a_of, add_b_of, op_add_of}
+use Rattle.field_words.specs.{Questions.first_of, Words.u32_at}
+use Rattle.qpu_isa.specs.{declared.inst.Reg.Reg, Word.add_a_of, Word.add_b_of, Word.op_add_of}
 use Rattle.qpu_isa.specs.Terms.{writes_s, s_address, names_address, add_names, mul_names, is_add_with_uniform, is_add_packed, first_register, has_small, is_load_imm, is_alu, is_uniform_operand, passes, is_address_write, operand_register}
 use Rattle.qpu_isa.specs.Setups.{is_direct, adds_direct, muls_direct}
-use Rattle.shader_flow.specs.Flow.{word, checked_of, end_of}
-use Rattle.shader_flow.specs.Pending.{count_of, pending_of, takes}
+use Rattle.shader_flow.specs.{Flow.word, Flow.checked_of, Flow.end_of, Pending.count_of, Pending.pending_of, Pending.takes}
 use Rattle.clamp_facts.specs.Facts.{is_clamped, is_immediate}
 use Rattle.clamp_facts.proofs.Clamps.{clamped_found, clamps_parts}
 use Rattle.shader_check.specs.Info.{held, asks, is_sample, sample_tmu, is_direct_sample, clamp_parts, sample_parts, sample_of}
 use Rattle.shader_check.specs.Rules.{s24, direct_by_add, direct_by_mul, is_clamped_write, is_exact_address_write, has_quiet_signal, adds_address}
-use Rattle.shader_check.proofs.Clean.{clean}
-use Rattle.shader_check.proofs.Parts.{directs}
-use Rattle.shader_check.proofs.Positions.{clamp_parts_one}
+use Rattle.shader_check.proofs.{Clean.clean, Parts.directs, Positions.clamp_parts_one, Setups.sets_one, Setups.s_writes}
 use Rattle.shader_check.proofs.Roles.{direct_parts, reads_takes, sets_takes, sum_parts, passed}
-use Rattle.shader_check.proofs.Setups.{sets_one, s_writes}
 use Rattle.emitted_facts.specs.Facts.{word_or_zero, setup}
 use Rattle.machine_plan.specs.Regions.{Interval, Every, LiesIn, Inside, Rights, IsSafeIn}
-use Rattle.machine_plan.specs.Choice.{word_at}
+use Rattle.machine_plan.specs.{Choice.word_at, Memory.bytes_at, declared.who.Who.Who}
 use Rattle.texture_layouts.specs.Fits.{texture_questions}
 use Rattle.qpu_alu.specs.Operation.{add_result_of}
-use Rattle.qpu_machine.specs.declared.state.Ask.TheVariants.{Direct, Texture}
-use Rattle.qpu_machine.specs.declared.state.Asked.{Asked}
-use Rattle.qpu_machine.specs.declared.state.Thread.{Thread}
-use Rattle.qpu_machine.specs.Operands.{operand, immediate_row, sums, add_row, mul_row}
-use Rattle.qpu_machine.specs.Row.{lanes, chosen_row}
+use Rattle.qpu_machine.specs.declared.state.{Ask.TheVariants.Direct, Ask.TheVariants.Texture, Asked.Asked, Thread.Thread}
+use Rattle.qpu_machine.specs.Operands.{operand, sums, add_row, mul_row}
+use Rattle.qpu_machine.specs.{Row.lanes, Wild.takes_one, Wild.is_wild, Step.ThreadTurn, Step.executed, Step.word_plan, Step.thread_plan}
 use Rattle.qpu_machine.specs.Writes.{four, ask_of, asked, awake, past_uniform, switches}
-use Rattle.qpu_law.specs.Asks.{IsWordIn, IsFineAsk, IsOneOf}
+use Rattle.qpu_law.specs.{Asks.IsWordIn, Asks.IsFineAsk, Asks.IsOneOf, Samples.AsksAreFine, Facts.FactsHold}
 use Rattle.qpu_law.specs.Home.{Home, readied, HasNoFault, IsAt, ArePending, Lands, done}
 use Rattle.qpu_law.specs.Stream.{uniform_at, held_words, AreSetups}
 use Rattle.qpu_law.specs.Thread.{IsHome, IsThread, HasSamples, Stands, Left, ThreadsKeep}
-use Rattle.qpu_law.specs.Samples.{AsksAreFine}
 use Rattle.qpu_law.proofs.Going.{asked_is, fine_at, in_checked, fate_is, is_went, ends, stays_in_code_law, checked_is, never_wild, takes_same}
 use Rattle.qpu_law.proofs.Values.{carried_operand, first_is, sum_lane, alu_loads_not, lane_at, immediate_found, facts_on, facts_jump, rows_on, fresh_is}
 use Rattle.qpu_law.proofs.Pointer.{are_pending, IsPast, uniform_is, exact_at, added_at, pointer_goes, setups_on, setups_jump}
-use Rattle.std.specs.Int.{from_le_bytes, w64}
-use Rattle.field_words.specs.Words.{u32_at}
 use Rattle.shader_flow.proofs.Ends.{checked_of-le}
 use Rattle.uniform_stream.specs.Stream.{uniforms_of, writes_address}
 use Rattle.shader_check.proofs.SoundInfo.{address_takes, count_total, total_le}
-use Rattle.machine_plan.specs.declared.who.Who.{Who}
-use Rattle.machine_plan.specs.Memory.{bytes_at}
 use Rattle.machine_plan.specs.Plan.{Plan, Done, Wilds, Reads, Keeps}
 use Rattle.qpu_machine.specs.declared.state.Fate.TheVariants.{Ends, Switches}
-use Rattle.qpu_machine.specs.Step.{ThreadTurn, executed, word_plan, thread_plan}
-use Rattle.qpu_machine.specs.Wild.{takes_one, is_wild}
-use Rattle.qpu_law.specs.Facts.{FactsHold}
 use Rattle.machine_plan.proofs.Safe.{read_safe}
 
 -- What a thread asks for.
@@ -84,9 +69,7 @@ every_lane P f each = (each 0 (omega arith), (each 1 (omega arith), (each 2 (ome
 sum_row : (t : Thread) (w u : ℕ) (words : List ℕ) → is_add_packed w ≡ false → is_load_imm w ≡ false
     → add_row t w u words ≡ sums (op_add_of w) (operand t w (add_a_of w) u words) (operand t w (add_b_of w) u words) words
 unfolding add_row
-sum_row t w u words plain no_load =
-    ap (λ b. if b then chosen_row words 1 else (if is_load_imm w then immediate_row w words 1 else sums (op_add_of w) (operand t w (add_a_of w) u words) (operand t w (add_b_of w) u words) words)) plain
-    ∙ ap (λ b. if b then immediate_row w words 1 else sums (op_add_of w) (operand t w (add_a_of w) u words) (operand t w (add_b_of w) u words) words) no_load
+sum_row t w u words plain no_load = grind (arith, common_steps, nat_tests)
 
 every_sum : (P : ℕ → Type 0) (op : ℕ) (x y words : List ℕ) → ((e : ℕ) → e < 16 → P (slice_index (sums op x y words) e)) → Every P (sums op x y words)
 unfolding sums
@@ -97,8 +80,7 @@ every_sum P op x y words each =
 address_in : (x u source place bound size : ℕ) → x ≤ bound → u ≡ source + place → source + bound + 4 ≤ size → place + size ≤ 2 ^ 32 → place % 4096 ≡ 0
     → (a : ℕ) → a ≡ (x % 2 ^ 32 + u % 2 ^ 32) % 2 ^ 32 → LiesIn (a - a % 4) 4 (record { place = place; size = size })
 address_in x u source place bound size upto u_is room low page a is =
-    let plain : a ≡ x + source + place = omega (arith, upto, u_is, room, low, is) in
-    record { from = omega (arith, plain, page); upto = omega (arith, plain, upto, room) }
+    record { from = omega (arith, page, upto, u_is, room, low, is); upto = omega (arith, upto, room, u_is, low, is) }
 
 -- the parts of a clamped write
 record IsClampedWrite (code : List ℕ) (n : ℕ) : Type 0 where
@@ -123,10 +105,7 @@ sum_alu w is = (and_parts (is_alu w) (op_add_of w == 12) (and_parts (is_alu w &&
 
 direct_words : (h : Home) (n j : ℕ) → is_direct_sample h.code n ≡ true → clamp_parts h.code n ≡ j ∷ [] → (parts_word h n 0 ≡ uniform_at h n) × (parts_word h n 1 ≡ uniform_at h j)
 unfolding parts_word sample_parts
-direct_words h n j direct parts =
-    let is : (if is_direct_sample h.code n then n ∷ clamp_parts h.code n else held h.code (sample_tmu (word h.code n)) n ++ (n ∷ [])) ≡ n ∷ (j ∷ []) =
-    ap (λ b. if b then n ∷ clamp_parts h.code n else held h.code (sample_tmu (word h.code n)) n ++ (n ∷ [])) direct ∙ ap (λ xs. n ∷ xs) parts in
-    (ap (λ xs. word_or_zero (λ c. slice_index h.words c) (slice_get (map (count_of h.code) xs) 0)) is, ap (λ xs. word_or_zero (λ c. slice_index h.words c) (slice_get (map (count_of h.code) xs) 1)) is)
+direct_words h n j direct parts = grind (arith, common_steps, nat_tests)
 
 direct_is : (code : List ℕ) (n : ℕ) → (sample_of code n).direct ≡ is_direct_sample code n
 unfolding sample_of
@@ -146,7 +125,6 @@ direct_fine h buffers region m n u p words t home has is taken sample direct cla
     let s = has.samples n sample in
     let set = setups_are h n in
     let u_is : u ≡ s.source + s.place = taken (reads_takes code n inside (sum_parts w parts.sum).0) ∙ (sym positions.0 ∙ (sym set.first ∙ s.base)) in
-    let bound : setup (λ c. slice_index h.words c) (sample_of code n) 1 ≡ uniform_at h found.0 = set.second ∙ positions.1 in
     let room = s.direct (direct_is code n ∙ direct) in
     let row = sum_row (readied p words t) w u words parts.plain (alu_loads_not w (sum_alu w parts.sum)) in
     let within : Interval = record { place = s.place; size = s.size } in
@@ -154,7 +132,7 @@ direct_fine h buffers region m n u p words t home has is taken sample direct cla
     λ e below.
     (let told = carried_operand h found.0 n u p words t (add_a_of w) parts.reg is.at is.facts carries.0 (first_is w parts.reg parts.first) e below in
     address_in (slice_index (operand (readied p words t) w (add_a_of w) u words) e) u s.source s.place (uniform_at h found.0) s.size (told.clamped carries.1) u_is
-    (omega (arith, room, bound)) (has.low s.place s.size s.named) (has.page s.place s.size s.named)
+    (omega (arith, room, set.second ∙ positions.1)) (has.low s.place s.size s.named) (has.page s.place s.size s.named)
     (slice_index (add_row (readied p words t) w u words) e) (sum_lane (readied p words t) w u words e below parts.plain parts.sum)) in
     record {
       place = s.place;
@@ -167,8 +145,7 @@ direct_fine h buffers region m n u p words t home has is taken sample direct cla
 
 parts_by : (code : List ℕ) (n tmu : ℕ) → is_direct_sample code n ≡ false → sample_tmu (word code n) ≡ tmu → sample_parts code n ≡ held code tmu n ++ (n ∷ [])
 unfolding sample_parts
-parts_by code n tmu direct tmu_is =
-    ap (λ b. if b then n ∷ clamp_parts code n else held code (sample_tmu (word code n)) n ++ (n ∷ [])) direct ∙ ap (λ k. held code k n ++ (n ∷ [])) tmu_is
+parts_by code n tmu direct tmu_is = grind (arith, common_steps, nat_tests)
 
 slot_by : (h : Home) (n k : ℕ) → slice_index (map (uniform_at h) (sample_parts h.code n)) k ≡ parts_word h n k
 unfolding parts_word
@@ -189,7 +166,6 @@ texture_fine h buffers n tmu u items has sample direct tmu_is items_are u_is =
     let all : items ++ (u ∷ []) ≡ map (uniform_at h) (sample_parts code n) =
     ap (λ xs. xs ++ (u ∷ [])) items_are ∙ (ap (λ v. held_words h tmu n ++ (v ∷ [])) u_is ∙ (sym (map-append (uniform_at h) (held code tmu n) (n ∷ [])) ∙ ap (map (uniform_at h)) (sym parts))) in
     let slot : (k : ℕ) → slice_index (items ++ (u ∷ [])) k ≡ parts_word h n k = λ k. ap (λ xs. slice_index xs k) all ∙ slot_by h n k in
-    let zero_is = slot 0 ∙ sym set.first in
     let one_is = slot 1 ∙ sym set.second in
     let two_is = slot 2 ∙ sym set.third in
     let three_is = slot 3 ∙ sym set.fourth in
@@ -199,7 +175,7 @@ texture_fine h buffers n tmu u items has sample direct tmu_is items_are u_is =
       named = s.named;
       reads = record {
         source = s.source;
-        base = zero_is ∙ s.base;
+        base = (slot 0 ∙ sym set.first) ∙ s.base;
         word = subst (λ v. v < 2 ^ 32) (sym (slot 0)) (low_by h n 0 has.words);
         page = has.page s.place s.size s.named;
         rules = ap (λ v. first_of (texture_questions s.source v (slice_index (items ++ (u ∷ [])) 2) (slice_index (items ++ (u ∷ [])) 3) s.size)) one_is
@@ -209,22 +185,13 @@ texture_fine h buffers n tmu u items has sample direct tmu_is items_are u_is =
       };
     }
 
-equal_zero : (size pending : ℕ) (c : Bool) → size ≡ pending → (size == 0) ≡ c → (pending == 0) ≡ c
-equal_zero size pending c same is = ap (λ k. k == 0) (sym same) ∙ is
-
 direct_now : (w tmu pending : ℕ) → writes_s w tmu ≡ true → (pending == 0) ≡ true → is_direct w tmu pending ≡ true
 unfolding writes_s names_address is_direct adds_direct muls_direct
-direct_now w tmu pending writes none =
-    elim (or_cases (add_names w (s_address tmu)) (mul_names w (s_address tmu)) writes) [
-      | inl adds ↦ or_left (add_names w (s_address tmu) && pending == 0) (mul_names w (s_address tmu) && pending == 0) (and_from (add_names w (s_address tmu)) (pending == 0) adds none)
-      | inr muls ↦ or_right (add_names w (s_address tmu) && pending == 0) (mul_names w (s_address tmu) && pending == 0) (and_from (mul_names w (s_address tmu)) (pending == 0) muls none)
-    ]
+direct_now w tmu pending writes none = grind (arith, common_steps, nat_tests, or_cases, or_left, and_from, or_right)
 
 direct_not : (w tmu pending : ℕ) → (pending == 0) ≡ false → is_direct w tmu pending ≡ false
 unfolding is_direct adds_direct muls_direct
-direct_not w tmu pending some =
-    or_from (add_names w (s_address tmu) && pending == 0) (mul_names w (s_address tmu) && pending == 0)
-    (and_right (add_names w (s_address tmu)) (pending == 0) some) (and_right (mul_names w (s_address tmu)) (pending == 0) some)
+direct_not w tmu pending some = grind (arith, common_steps, nat_tests, or_from, and_right)
 
 no_mul : (code : List ℕ) (n : ℕ) → s24 code n ≡ false → direct_by_mul code n ≡ false
 unfolding s24
@@ -256,22 +223,20 @@ ask_by : (h : Home) (buffers region : List Interval) (m : List ℕ) (n u p tmu :
     → IsFineAsk (IsOneOf buffers)
     (if c then Direct (if add_names (word h.code n) (s_address tmu) then add_row (readied p words t) (word h.code n) u words else product) else Texture (four (items ++ (u ∷ []))))
 ask_by h buffers region m n u p tmu words product items t true home has is taken sample small writes tmu_is items_are none =
-    let code = h.code in
-    let w = word code n in
-    let inside : n < checked_of code = in_checked code n home.sound is.at.inside in
-    let direct : is_direct w tmu (pending_of code tmu n) ≡ true = direct_now w tmu (pending_of code tmu n) writes none in
-    let clamp = (direct_parts code n (clean code home.sound n inside) (directs code n tmu small direct)).1 in
-    let muls = no_mul_at code n tmu small (no_mul code n (fine_at code home.sound n inside).no24) in
-    let adds : add_names w (s_address tmu) ≡ true = add_writes w tmu (pending_of code tmu n) writes none muls in
+    let w = word h.code n in
+    let inside : n < checked_of h.code = in_checked h.code n home.sound is.at.inside in
+    let direct : is_direct w tmu (pending_of h.code tmu n) ≡ true = direct_now w tmu (pending_of h.code tmu n) writes none in
+    let clamp = (direct_parts h.code n (clean h.code home.sound n inside) (directs h.code n tmu small direct)).1 in
+    let muls = no_mul_at h.code n tmu small (no_mul h.code n (fine_at h.code home.sound n inside).no24) in
+    let adds : add_names w (s_address tmu) ≡ true = add_writes w tmu (pending_of h.code tmu n) writes none muls in
     subst (λ b. IsFineAsk (IsOneOf buffers) (Direct (if b then add_row (readied p words t) w u words else product))) (sym adds)
-    (direct_fine h buffers region m n u p words t home has is taken sample (direct_sample_is code n tmu tmu_is ∙ direct) clamp)
+    (direct_fine h buffers region m n u p words t home has is taken sample (direct_sample_is h.code n tmu tmu_is ∙ direct) clamp)
 ask_by h buffers region m n u p tmu words product items t false home has is taken sample small writes tmu_is items_are some =
-    let code = h.code in
-    let w = word code n in
-    let inside : n < checked_of code = in_checked code n home.sound is.at.inside in
-    let direct : is_direct w tmu (pending_of code tmu n) ≡ false = direct_not w tmu (pending_of code tmu n) some in
-    let takes_it : takes code n ≡ true = sets_takes code n inside (sets_one code tmu n small (s_writes w tmu writes) direct) in
-    texture_fine h buffers n tmu u items has sample (direct_sample_is code n tmu tmu_is ∙ direct) tmu_is items_are (taken takes_it)
+    let w = word h.code n in
+    let inside : n < checked_of h.code = in_checked h.code n home.sound is.at.inside in
+    let direct : is_direct w tmu (pending_of h.code tmu n) ≡ false = direct_not w tmu (pending_of h.code tmu n) some in
+    let takes_it : takes h.code n ≡ true = sets_takes h.code n inside (sets_one h.code tmu n small (s_writes w tmu writes) direct) in
+    texture_fine h buffers n tmu u items has sample (direct_sample_is h.code n tmu tmu_is ∙ direct) tmu_is items_are (taken takes_it)
 
 ask_fine : (h : Home) (buffers region : List Interval) (m : List ℕ) (n u p tmu : ℕ) (words product items : List ℕ) (t : Thread) → IsHome m region h → HasSamples buffers h → IsThread h n t
     → (takes h.code n ≡ true → u ≡ uniform_at h n) → is_sample h.code n ≡ true → tmu < 2 → writes_s (word h.code n) tmu ≡ true → sample_tmu (word h.code n) ≡ tmu
@@ -382,18 +347,16 @@ facts_goes h n to t next (inr way) facts = facts_jump h to next way.jump.target
 stands_after : (h : Home) (m : List ℕ) (rights : Rights) (n u p : ℕ) (words : List ℕ) (t : Thread) → IsHome m rights.region h → IsThread h n t
     → (takes h.code n ≡ true → u ≡ uniform_at h n) → IsPast h n p t → (done (word h.code n) u p words t).leaves.fate ≢ Ends → Stands h (done (word h.code n) u p words t).thread
 stands_after h m rights n u p words t home is taken past lives =
-    let code = h.code in
-    let next = (done (word code n) u p words t).thread in
-    let inside : n < checked_of code = in_checked code n home.sound is.at.inside in
-    let more : n ≢ end_of code + 2 = λ last. lives (fate_is (word code n) u p words t ∙ ends h n t home.sound is.at last) in
-    let limit = is.at.inside in
-    let on_in : n + 1 < checked_of code = omega (arith, checked_is code home.sound, limit, more) in
+    let next = (done (word h.code n) u p words t).thread in
+    let inside : n < checked_of h.code = in_checked h.code n home.sound is.at.inside in
+    let more : n ≢ end_of h.code + 2 = λ last. lives (fate_is (word h.code n) u p words t ∙ ends h n t home.sound is.at last) in
+    let on_in : n + 1 < checked_of h.code = omega (arith, checked_is h.code home.sound, is.at.inside, more) in
     let goes = stays_in_code_law h n u p words t home.sound home.low is.at lives in
     record {
       index = goes.to;
       is = record {
         at = goes.at;
-        rows = rows_on (word code n) u p words t is.rows;
+        rows = rows_on (word h.code n) u p words t is.rows;
         facts = facts_goes h n goes.to t next goes.way (facts_on h n u p words t inside is.at is.rows is.facts taken);
         setups = setups_goes h n goes.to t next is goes.at home.sound on_in goes.way (setups_on h n u p words t inside taken is.setups);
         pointer = pointer_goes h n goes.to u p words t home.sound home.few home.stream_low on_in
@@ -450,18 +413,15 @@ word_keeps h buffers m rights n words t who home has is =
     let inside : n < checked_of h.code = in_checked h.code n home.sound is.at.inside in
     let pending : ArePending h.code n t = are_pending h n t home.sound (omega (arith, inside)) is.setups in
     let tame : is_wild t w ≡ false = never_wild h n t home.sound is.at pending in
-    let same : takes_one t w ≡ takes h.code n = takes_same h.code n t inside pending in
     let on : Plan ThreadTurn =
     if takes_one t w then Reads t.uniforms 4 (λ bytes. Done (executed w (u32_at bytes 0) words (awake words (past_uniform t)))) else Done (executed w 0 words (awake words t)) in
     subst (λ b. Keeps who (Inside rights.region) (IsSafeIn rights) (λ k turn. Left h buffers t m k turn) (if b then Wilds else on) m) (sym tame)
-    (choice_keeps h buffers m rights n words t who (takes_one t w) home has is (sym same))
+    (choice_keeps h buffers m rights n words t who (takes_one t w) home has is (sym (takes_same h.code n t inside pending)))
 
 pub threads_keep_law : ThreadsKeep
 unfolding thread_plan
 threads_keep_law h buffers m rights n t who words home has is =
-    let inside : n < checked_of h.code = in_checked h.code n home.sound is.at.inside in
-    let size = checked_of-le h.code in
-    let there : n < length h.code = omega (arith, inside, size) in
+    let there : n < length h.code = omega (arith, in_checked h.code n home.sound is.at.inside, checked_of-le h.code) in
     let place = is.at.place in
     let read : from_le_bytes w64 (bytes_at m t.place 8) ≡ word h.code n = ap (λ q. from_le_bytes w64 (bytes_at m q 8)) place ∙ home.code_is n there in (
       read_safe rights who t.place 8 (subst (λ q. Inside rights.region q 8) (sym place) (home.code_in n there)),

@@ -1,36 +1,27 @@
 -- Where a thread's uniform pointer stands.
-use Rattle.std.proofs.Common.{◌≡◌, ◌<◌, ◌≤◌, inl, inr, ◌⊎◌, ℕ, zero, suc, ◌+◌, ◌-◌, Bool, true, false, ◌&&◌, not, List, length, refl, sym, ap, subst, arith, ◌∙◌, nat_lt, nat_le, ◌==◌, ◌||◌, [], ◌∷◌, ◌++◌, map, if◌then◌else◌, ◌*◌, ◌/◌, ◌%◌, ◌^◌, Some, None}
+use Rattle.std.proofs.Common.{◌≡◌, ◌<◌, ◌≤◌, inl, inr, ◌⊎◌, ℕ, zero, suc, ◌+◌, ◌-◌, Bool, true, false, ◌&&◌, not, List, length, refl, sym, ap, subst, arith, ◌∙◌, nat_lt, ◌==◌, ◌||◌, [], ◌∷◌, ◌++◌, map, if◌then◌else◌, ◌*◌, ◌/◌, ◌%◌, ◌^◌, Some, None}
 use Rattle.std.proofs.lemmas.Bool.{cases_Bool, cases_eq, and_from, and_right, lt-ltb, false_from_ne_true, true≢false, or_from, leb-true, and_parts, not_from_false, or_parts, eqb-true, leb-false, not-true, not-false}
 use Rattle.qpu_isa.specs.Terms.{is_backward, is_address_write, writes_s, writes_tmu, is_branch, target_of, add_names, mul_names, names_on_a, names_on_b, is_relative_address_write, is_add_packed}
-use Rattle.shader_flow.specs.Bounded.{some_in, is_back}
-use Rattle.shader_flow.specs.Flow.{word, checked_of, is_target}
+use Rattle.shader_flow.specs.{Bounded.some_in, Bounded.is_back, Flow.word, Flow.checked_of, Flow.is_target}
 use Rattle.shader_flow.specs.Pending.{count_of, takes, pending_of}
 use Rattle.qpu_isa.specs.Setups.{takes_with, kept}
 use Rattle.shader_flow.proofs.Bounded.{some_below_here, some_below_found, some_in_none, some_in_not}
-use Rattle.shader_flow.proofs.Counts.{count_same, count_taken}
-use Rattle.shader_flow.proofs.Ends.{checked_of-le}
+use Rattle.shader_flow.proofs.{Counts.count_same, Counts.count_taken, Ends.checked_of-le}
 use Rattle.uniform_stream.specs.Rules.{s19, s25, s15}
 use Rattle.uniform_stream.specs.Stream.{writes_address, is_known, is_restart, is_open, leaves_open, uniforms_of}
 use Rattle.uniform_stream.proofs.Restarts.{known_not, known_on}
-use Rattle.shader_check.proofs.Clean.{clean}
+use Rattle.shader_check.proofs.{Clean.clean, Held.held_is, Setups.sets_one, Setups.not_sent, Positions.held_next, Roles.sets_takes}
 use Rattle.shader_check.proofs.SoundInfo.{address_takes, address_write_at, IsAddressWord, Written, Open, address_below, count_total, total_le}
 use Rattle.qpu_law.specs.Home.{HasNoFault, Home, ArePending, Jumps, done, Lands, readied}
 use Rattle.qpu_law.specs.Stream.{IsAddressCount, TakesNone, GoesForward, uniform_at, held_words, AreSetups, HoldsAddresses, IsStreamLow, IsRight, IsLost, IsOver, PointerIs}
 use Rattle.qpu_law.proofs.Going.{fine_at, behind, makes_on, setups0_are, setups1_are, is_went, uniforms_are}
-use Rattle.std.proofs.lemmas.List.{map-append, length-map}
-use Rattle.shader_check.specs.Info.{held}
-use Rattle.shader_check.proofs.Positions.{held_next}
-use Rattle.shader_check.proofs.Held.{held_is}
-use Rattle.shader_check.proofs.Setups.{sets_one, not_sent}
-use Rattle.shader_check.proofs.Roles.{sets_takes}
-use Rattle.qpu_machine.specs.declared.state.Thread.{Thread}
+use Rattle.std.proofs.lemmas.{List.map-append, List.length-map, Grind.common_steps, Bool.Decides.nat_tests}
+use Rattle.shader_check.specs.{Info.held, Rules.s16, Rules.is_exact_address_write, Rules.adds_address}
+use Rattle.qpu_machine.specs.declared.state.{Thread.Thread, Mark.Mark}
 use Rattle.std.specs.Prelude.{slice_index}
 use Rattle.field_words.specs.Sizes.{most_words}
-use Rattle.qpu_isa.specs.Word.{ws_of, waddr_add_of, waddr_mul_of, cond_add_of, cond_mul_of, imm_of}
-use Rattle.shader_check.specs.Rules.{s16, is_exact_address_write, adds_address}
-use Rattle.qpu_machine.specs.declared.state.Mark.{Mark}
-use Rattle.qpu_machine.specs.Operands.{add_row, mul_row}
-use Rattle.qpu_machine.specs.Row.{has_lane, mask_of}
+use Rattle.qpu_isa.specs.Word.{ws_of, waddr_add_of, waddr_mul_of, cond_add_of, cond_mul_of}
+use Rattle.qpu_machine.specs.{Operands.add_row, Operands.mul_row, Row.has_lane, Row.mask_of}
 use Rattle.qpu_machine.specs.Writes.{pointer_after, add_address, mul_address}
 
 -- Where a thread comes to a target, its count is an address word's, or no more uniforms are taken.
@@ -63,19 +54,11 @@ none_writes code n none taken = false_from_ne_true (writes_address code n) (λ w
 
 restart_next : (code : List ℕ) (n : ℕ) → writes_address code n ≡ false → is_restart code (n + 1) ≡ false
 unfolding is_restart is_back
-restart_next code n none =
-    let e : n + 1 - 1 ≡ n = omega arith in
-    let first : (n + 1 == 0) ≡ false = grind arith in
-    or_from (n + 1 == 0) (nat_le 1 (n + 1) && writes_address code (n + 1 - 1)) first
-    (and_right (nat_le 1 (n + 1)) (writes_address code (n + 1 - 1)) (ap (writes_address code) e ∙ none))
+restart_next code n none = grind (arith, common_steps, nat_tests, or_from, and_right)
 
 -- a position that isn't known stays so, up to a write of the address
 pub unknown_next : (code : List ℕ) (n : ℕ) → is_known code n ≡ false → writes_address code n ≡ false → is_known code (n + 1) ≡ false
-unknown_next code n unknown none =
-    elim (cases_Bool (is_target code (n + 1))) [
-      | inl target ↦ known_not code (n + 1) target
-      | inr other ↦ known_on code n other (restart_next code n none) ∙ unknown
-    ]
+unknown_next code n unknown none = grind (arith, common_steps, nat_tests, cases_Bool, known_not, known_on, restart_next)
 
 none_from : (code : List ℕ) (n : ℕ) → takes code n ≡ false → TakesNone code (n + 1) → TakesNone code n
 none_from code n here later k from =
@@ -100,8 +83,7 @@ next_taken code none (suc d) n past unknown =
 pub count_flat : (code : List ℕ) (n d : ℕ) → TakesNone code n → count_of code (n + d) ≡ count_of code n
 count_flat code n zero none = let e : n + 0 ≡ n = omega arith in ap (count_of code) e
 count_flat code n (suc d) none =
-    let e : n + suc d ≡ n + d + 1 = omega arith in
-    ap (count_of code) e ∙ (count_same code (n + d) (none (n + d) (omega arith)) ∙ count_flat code n d none)
+    ap (count_of code) (omega arith) ∙ (count_same code (n + d) (none (n + d) (omega arith)) ∙ count_flat code n d none)
 
 -- A backward branch with nothing taken after it leaves the stream open.
 opened_by : (code : List ℕ) (b : ℕ) → HasNoFault code → b < checked_of code → is_backward (word code b) ≡ true → TakesNone code (b + 4) → is_open code ≡ true
@@ -115,16 +97,12 @@ opened_by code b none inside back later =
 pub last_word : (code : List ℕ) (n b : ℕ) → HasNoFault code → n < checked_of code → b < checked_of code → is_backward (word code b) ≡ true → TakesNone code n → n ≤ b + 4 → IsAddressCount code (count_of code n)
 last_word code n b none n_in inside back later near =
     let open_is : is_open code ≡ true = opened_by code b none inside back (λ k from. later k (omega (arith, from, near))) in
-    let size = checked_of-le code in
-    let e : n + (length code - n) ≡ length code = omega (arith, n_in, size) in
+    let e : n + (length code - n) ≡ length code = omega (arith, n_in, checked_of-le code) in
     inr (record { opened = open_is; is = sym (ap (count_of code) e) ∙ count_flat code n (length code - n) later })
 
 found_in : (from to : ℕ) (p : ℕ → Bool) → some_in from to p ≡ true → (k : ℕ) × (from ≤ k) × (k < to) × (p k ≡ true)
 unfolding some_in
-found_in from to p some =
-    let found = some_below_found to (λ k. nat_le from k && p k) some in
-    let parts = and_parts (nat_le from found.0) (p found.0) found.2 in
-    (found.0, leb-true from found.0 parts.0, found.1, parts.1)
+found_in from to p some = grind (arith, common_steps, nat_tests, some_below_found, and_parts, leb-true)
 
 -- nothing from there on, and no way back
 pub record NoMore (code : List ℕ) (n : ℕ) : Type 0 where
@@ -154,8 +132,7 @@ are_pending h n t none inside are = record {
 
 -- A setup write takes a uniform.
 setup_takes : (code : List ℕ) (n tmu : ℕ) → tmu < 2 → n < checked_of code → writes_s (word code n) tmu ≡ false → writes_tmu (word code n) tmu ≡ true → takes code n ≡ true
-setup_takes code n tmu small inside stays writes =
-    sets_takes code n inside (sets_one code tmu n small writes (not_sent (word code n) tmu (pending_of code tmu n) stays))
+setup_takes code n tmu small inside stays writes = grind (arith, common_steps, nat_tests, sets_takes, sets_one, not_sent)
 
 kept_map_by : (f : ℕ → ℕ) (sends writes : Bool) (n u : ℕ) (xs : List ℕ) → (sends ≡ false → writes ≡ true → u ≡ f n)
     → (if sends then [] else (if writes then map f xs ++ (u ∷ []) else map f xs)) ≡ map f (if sends then [] else (if writes then xs ++ (n ∷ []) else xs))
@@ -169,10 +146,7 @@ kept_map f w tmu n u xs is = kept_map_by f (writes_s w tmu) (writes_tmu w tmu) n
 
 one_kept : (h : Home) (n u tmu : ℕ) (items : List ℕ) → tmu < 2 → n < checked_of h.code → (takes h.code n ≡ true → u ≡ uniform_at h n)
     → items ≡ held_words h tmu n → kept (word h.code n) tmu u items ≡ held_words h tmu (n + 1)
-one_kept h n u tmu items small inside taken are =
-    ap (kept (word h.code n) tmu u) are
-    ∙ (kept_map (uniform_at h) (word h.code n) tmu n u (held h.code tmu n) (λ stays writes. taken (setup_takes h.code n tmu small inside stays writes))
-    ∙ ap (map (uniform_at h)) (sym (held_next h.code tmu n inside)))
+one_kept h n u tmu items small inside taken are = grind (arith, common_steps, nat_tests, kept_map, setup_takes, held_next)
 
 pub setups_on : (h : Home) (n u uniforms : ℕ) (words : List ℕ) (t : Thread) → n < checked_of h.code → (takes h.code n ≡ true → u ≡ uniform_at h n)
     → AreSetups h n t → AreSetups h (n + 1) (done (word h.code n) u uniforms words t).thread
@@ -205,8 +179,7 @@ pub setups_jump : (h : Home) (n to : ℕ) (next : Thread) → HasNoFault h.code 
     → Jumps h.code n to → AreSetups h (n + 1) next → AreSetups h to next
 setups_jump h n to next none inside to_in on_in way are =
     let b_in : n - 3 < checked_of h.code = omega (arith, inside) in
-    let from = way.from in
-    let e : n - 3 + 4 ≡ n + 1 = omega (arith, from) in
+    let e : n - 3 + 4 ≡ n + 1 = omega (arith, way.from) in
     let on : is_target h.code (n + 1) ≡ true = subst (λ i. is_target h.code i ≡ true) e (makes_on h.code none (n - 3) b_in way.branch) in
     let same : (tmu : ℕ) → tmu < 2 → held_words h tmu (n + 1) ≡ held_words h tmu to =
     λ tmu small. ap (map (uniform_at h)) (held_none h.code tmu (n + 1) none small on_in on ∙ sym (held_none h.code tmu to none small to_in way.target)) in
@@ -270,13 +243,7 @@ not_relative code n none inside = (fine_at code none n inside).no15
 pub pointer_stays : (code : List ℕ) (n u p : ℕ) (words : List ℕ) (t : Thread) → HasNoFault code → n < checked_of code → is_address_write (word code n) ≡ false
     → (done (word code n) u p words t).thread.uniforms ≡ p
 pointer_stays code n u p words t none inside other =
-    let w = word code n in
-    let unnamed_both = unit_names w other (not_relative code n none inside) in
-    let sum = add_row (readied p words t) w u words in
-    let product = mul_row (readied p words t) w u words in
-    uniforms_are w u p words t
-    ∙ (pointer_kept (mul_address w) (mask_of (cond_mul_of w) words 16) product (pointer_after (add_address w) (mask_of (cond_add_of w) words 0) sum p) (mul_other w unnamed_both.1)
-    ∙ pointer_kept (add_address w) (mask_of (cond_add_of w) words 0) sum p (add_other w unnamed_both.0))
+    grind (arith, common_steps, nat_tests, unit_names, not_relative, uniforms_are, pointer_kept, mul_other, add_other)
 
 -- A write of the address is the add unit's, to all elements.
 pub record IsAdded (w : ℕ) : Type 0 where
@@ -308,8 +275,7 @@ add_forty w is = named_address (is_branch w) (waddr_add_of w) is
 
 set_by : (address mask : ℕ) (value : List ℕ) (uniforms : ℕ) → (address == 40) ≡ true → has_lane mask 0 ≡ true → pointer_after address mask value uniforms ≡ slice_index value 0 % 2 ^ 32
 unfolding pointer_after
-set_by address mask value uniforms is lane =
-    ap (λ b. if b && has_lane mask 0 then slice_index value 0 % 2 ^ 32 else uniforms) is ∙ ap (λ b. if b then slice_index value 0 % 2 ^ 32 else uniforms) lane
+set_by address mask value uniforms is lane = grind (arith, common_steps, nat_tests)
 
 full_mask : (cond : ℕ) (words : List ℕ) (from : ℕ) → cond ≡ 1 → mask_of cond words from ≡ 65535
 unfolding mask_of
@@ -376,14 +342,11 @@ on_by h n u p words t none inside low other past (inl right) =
     elim (cases_Bool (takes h.code n)) [
       | inl taken ↦
           (let next = count_taken h.code n taken in
-          let less = count_total h.code n inside taken in
-          let most = total_le h.code in
           let p_is = past.taken taken in
-          inl (omega (arith, stays, p_is, right, next, less, most, low)))
+          inl (omega (arith, stays, p_is, right, next, count_total h.code n inside taken, total_le h.code, low)))
       | inr untaken ↦
           (let next = count_same h.code n untaken in
-          let p_is = past.untaken untaken in
-          inl (omega (arith, stays, p_is, right, next)))
+          inl (omega (arith, stays, past.untaken untaken, right, next)))
     ]
 on_by h n u p words t none inside low other past (inr lost) =
     let writes : writes_address h.code n ≡ false = no_write h.code n other in
@@ -413,11 +376,7 @@ ahead_by imm b target small short is = omega (arith, small, short, is)
 
 leads_ahead : (code : List ℕ) (b : ℕ) → b < 2 ^ 27 → is_branch (word code b) ≡ true → is_backward (word code b) ≡ false → b + 4 ≤ target_of (word code b) b
 unfolding is_backward target_of
-leads_ahead code b short is none =
-    let w = word code b in
-    let low : nat_le (2 ^ 31) (imm_of w) ≡ false = behind (is_branch w) (nat_le (2 ^ 31) (imm_of w)) is none in
-    let small : imm_of w < 2 ^ 31 = leb-false (2 ^ 31) (imm_of w) low in
-    ahead_by (imm_of w) b (target_of w b) small short refl
+leads_ahead code b short is none = grind (arith, common_steps, nat_tests, leb-false, behind, ahead_by)
 
 landed : (h : Home) (n to root : ℕ) (t next : Thread) → Lands h.code n to t next → root ≤ to → TakesNone h.code root → GoesForward h.code root → IsOver h to next
 landed h n to root t next way from none forward = record {
@@ -435,11 +394,8 @@ settled_jump : (h : Home) (n to : ℕ) (t next : Thread) → HasNoFault h.code �
     → Lands h.code n to t next → IsSettled h (n + 1) next.uniforms → PointerIs h to next
 settled_jump h n to t next none few inside way (inl right) =
     let code = h.code in
-    let from = way.jump.from in
-    let e : n - 3 + 4 ≡ n + 1 = omega (arith, from) in
-    let size = checked_of-le code in
+    let e : n - 3 + 4 ≡ n + 1 = omega (arith, way.jump.from) in
     let b_in : n - 3 < checked_of code = omega (arith, inside) in
-    let short : n - 3 < 2 ^ 27 = omega (arith, b_in, size, few) in
     let unknown : is_known code to ≡ false = known_not code to way.jump.target in
     let lost : IsAddressCount code (count_of code (n + 1)) → PointerIs h to next =
     λ address. inr (inl (record { at = count_of code (n + 1); address = address; is = right; unknown = unknown })) in
@@ -449,9 +405,8 @@ settled_jump h n to t next none few inside way (inl right) =
           elim (cases_Bool (is_backward (word code (n - 3)))) [
             | inl back ↦ lost (last_word code (n + 1) (n - 3) none inside b_in back over.none (omega (arith, e)))
             | inr forward ↦
-                (let ahead = leads_ahead code (n - 3) short way.jump.branch forward in
-                let is = way.jump.is in
-                inr (inr (landed h n to (n + 1) t next way (omega (arith, ahead, e, is)) over.none over.forward)))
+                (let ahead = leads_ahead code (n - 3) (omega (arith, b_in, checked_of-le code, few)) way.jump.branch forward in
+                inr (inr (landed h n to (n + 1) t next way (omega (arith, ahead, e, way.jump.is)) over.none over.forward)))
           ]
     ]
 settled_jump h n to t next none few inside way (inr lost) =
@@ -460,13 +415,10 @@ settled_jump h n to t next none few inside way (inr lost) =
 over_jump : (h : Home) (n to : ℕ) (t next : Thread) → length h.code ≤ most_words → n + 1 < checked_of h.code → Lands h.code n to t next → IsOver h n t → PointerIs h to next
 over_jump h n to t next few inside way over =
     let reached = over.pending way.led way.led_is in
-    let code = h.code in
-    let size = checked_of-le code in
-    let b_in : n - 3 < checked_of code = omega (arith, inside) in
-    let short : n - 3 < 2 ^ 27 = omega (arith, b_in, size, few) in
-    let ahead = leads_ahead code (n - 3) short way.jump.branch (over.forward (n - 3) (omega (arith, reached)) b_in) in
-    let is = way.jump.is in
-    inr (inr (landed h n to over.root t next way (omega (arith, ahead, reached, is)) over.none over.forward))
+    let b_in : n - 3 < checked_of h.code = omega (arith, inside) in
+    let short : n - 3 < 2 ^ 27 = omega (arith, b_in, checked_of-le h.code, few) in
+    let ahead = leads_ahead h.code (n - 3) short way.jump.branch (over.forward (n - 3) (omega (arith, reached)) b_in) in
+    inr (inr (landed h n to over.root t next way (omega (arith, ahead, reached, way.jump.is)) over.none over.forward))
 
 settled_goes : (h : Home) (n to : ℕ) (t next : Thread) → HasNoFault h.code → length h.code ≤ most_words → n + 1 < checked_of h.code
     → (to ≡ n + 1) ⊎ Lands h.code n to t next → IsSettled h (n + 1) next.uniforms → PointerIs h to next

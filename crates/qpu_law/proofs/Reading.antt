@@ -1,30 +1,18 @@
 -- What a TMU reads for a request that is fine.
-use Rattle.std.proofs.Common.{◌≡◌, ◌≤◌, ◌<◌, ℕ, zero, suc, ◌+◌, ◌-◌, ◌*◌, ◌%◌, ◌^◌, ◌&&◌, ◌||◌, ◌==◌, Bool, true, false, if◌then◌else◌, List, [], ◌∷◌, ◌++◌, Option, Some, None, inl, inr, refl, sym, ap, subst, arith, ◌∙◌, nat_lt}
+use Rattle.std.proofs.Common.{◌≡◌, ◌≤◌, ◌<◌, ℕ, zero, suc, ◌+◌, ◌-◌, ◌*◌, ◌%◌, ◌^◌, ◌&&◌, ◌==◌, Bool, true, false, if◌then◌else◌, List, [], ◌∷◌, ◌++◌, Option, Some, None, inl, inr, refl, sym, ap, subst, arith, nat_lt}
 use Rattle.std.specs.Prelude.{slice_index}
-use Rattle.std.proofs.lemmas.Bool.{or_from}
-use Rattle.std.proofs.lemmas.Grind.{common_steps}
-use Rattle.field_words.specs.Questions.{first_of}
+use Rattle.std.proofs.lemmas.{Bool.or_from, Grind.common_steps, Bool.Decides.nat_tests}
+use Rattle.field_words.specs.{Questions.first_of, Words.u32_at, Words.bits_of}
 use Rattle.field_words.proofs.Questions.{none_stands}
-use Rattle.field_words.specs.declared.access.Access.{Access}
-use Rattle.field_words.specs.declared.access.Way.TheVariants.{Read}
-use Rattle.field_words.specs.Words.{u32_at}
-use Rattle.field_words.specs.Words.{bits_of}
-use Rattle.texture_layouts.specs.Level.{level_side_of}
-use Rattle.texture_layouts.specs.Setup.{TextureModel, texture_of, is_cube_word, kind_of, cube_stride_of, type_of, pixels_of, side_of, faces_of, face_place, level_width_of, level_height_of, tiling_at, size_at, size_below}
-use Rattle.texture_layouts.specs.Fits.{has_two_strides, lacks_stride, is_unlisted, has_child_image, texture_questions}
+use Rattle.field_words.specs.declared.access.{Access.Access, Way.TheVariants.Read}
+use Rattle.texture_layouts.specs.{Level.level_side_of, Fits.has_two_strides, Fits.lacks_stride, Fits.is_unlisted, Fits.texture_questions}
+use Rattle.texture_layouts.specs.Setup.{TextureModel, texture_of, is_cube_word, kind_of, cube_stride_of, type_of, pixels_of, side_of, faces_of, level_width_of, level_height_of, tiling_at, size_at, size_below}
 use Rattle.texture_layouts.specs.Fetch.{fetch_size_of, fetch_reach, place_from, fetch_place_of, AreFetchesIn}
-use Rattle.texture_layouts.proofs.Inside.{in_buffer}
-use Rattle.texture_layouts.proofs.Fetches.{fetches_in}
-use Rattle.texture_layouts.proofs.Moved.{texture_moved}
-use Rattle.machine_plan.specs.declared.who.Who.{Who}
-use Rattle.machine_plan.specs.Choice.{word_at}
-use Rattle.machine_plan.specs.Memory.{bytes_at}
-use Rattle.machine_plan.specs.Plan.{Plan, Wilds, access, Keeps}
+use Rattle.texture_layouts.proofs.{Inside.in_buffer, Fetches.fetches_in, Moved.texture_moved}
+use Rattle.machine_plan.specs.{declared.who.Who.Who, Choice.word_at, Memory.bytes_at, Plan.Plan, Plan.Wilds, Plan.access, Plan.Keeps}
 use Rattle.machine_plan.specs.Regions.{Every, Interval, LiesIn, Inside, Rights, IsSafeIn}
-use Rattle.machine_plan.proofs.Safe.{read_safe}
-use Rattle.machine_plan.proofs.Worlds.{keeps_mapped}
-use Rattle.qpu_machine.specs.declared.state.Ask.{Ask}
-use Rattle.qpu_machine.specs.declared.state.Ask.TheVariants.{Direct, Texture}
+use Rattle.machine_plan.proofs.{Safe.read_safe, Worlds.keeps_mapped}
+use Rattle.qpu_machine.specs.declared.state.Ask.{Ask, TheVariants.Direct, TheVariants.Texture}
 use Rattle.qpu_machine.specs.Request.{direct_plan, ask_plan, chosen_level, chosen_face, chosen_x, chosen_y, chosen_place, chosen_length, read_at, texture_reads, is_undefined, texture_plan}
 use Rattle.qpu_law.specs.Asks.{IsWordIn, IsTextureIn, IsAskIn, IsFineAsk, IsReadIn, IsOneOf, AsksStayIn, FineAsksAreSafe}
 
@@ -125,9 +113,7 @@ read_keeps : {R : Type 0} (within : Interval) (place : Option ℕ) (len : ℕ) (
     → Keeps who L G P next m → Keeps who L G P (read_at place len next) m
 read_keeps within None len next read who m L G P usable later = absurd (let e = read.is in cc)
 read_keeps within (Some place) len next read who m L G P usable later =
-    let e = read.is in
-    let same : place ≡ read.at = cc in
-    (usable place len (subst (λ p. LiesIn p len within) (sym same) read.inside), later)
+    (usable place len (subst (λ p. LiesIn p len within) (sym cc) read.inside), later)
 
 reads_keep : (t : TextureModel) (within : Interval) (words : List ℕ) → AreFetchesIn t within.size → HasSides t
     → (who : Who) (m : List ℕ) (L : ℕ → ℕ → Type 0) (G : Access → Type 0)
@@ -161,15 +147,7 @@ defined : (source place p1 p2 p3 size : ℕ) → place % 4096 ≡ 0 → source +
     → is_undefined (source + place) p1 p2 p3 ≡ false
 unfolding is_undefined texture_questions
 defined source place p1 p2 p3 size page word none =
-    let asked = none_stands (texture_questions source p1 p2 p3 size) none in
-    let two : has_two_strides (source + place) p2 p3 ≡ false = strides_move source place p2 p3 page ∙ asked.0 in
-    let lacks : lacks_stride (source + place) p2 p3 ≡ false = lacks_moves source place p2 p3 page ∙ asked.1.0 in
-    let listed : is_unlisted (texture_of (source + place) p1 p2 p3) ≡ false =
-    ap is_unlisted (texture_moved source place p1 p2 p3 page word) ∙ (unlisted_moves (texture_of source p1 p2 p3) place ∙ asked.1.1.0) in
-    let child : has_child_image p2 p3 ≡ false = asked.1.1.1.1.1.0 in
-    or_from (has_two_strides (source + place) p2 p3 || lacks_stride (source + place) p2 p3) (is_unlisted (texture_of (source + place) p1 p2 p3) || has_child_image p2 p3)
-    (or_from (has_two_strides (source + place) p2 p3) (lacks_stride (source + place) p2 p3) two lacks)
-    (or_from (is_unlisted (texture_of (source + place) p1 p2 p3)) (has_child_image p2 p3) listed child)
+    grind (arith, common_steps, nat_tests, none_stands, strides_move, lacks_moves, texture_moved, unlisted_moves, or_from)
 
 texture_keeps : (within : Interval) (p0 p1 p2 p3 : ℕ) → IsTextureIn within p0 p1 p2 p3
     → (who : Who) (words m : List ℕ) (L : ℕ → ℕ → Type 0) (G : Access → Type 0)

@@ -1,40 +1,30 @@
 -- What a register holds after an instruction.
 use Rattle.std.proofs.Common.{◌≡◌, ◌≢◌, ◌<◌, inl, inr, ℕ, ◌+◌, ◌-◌, Bool, true, false, ◌&&◌, ◌||◌, ◌==◌, not, Option, List, [], length, refl, sym, ap, arith, ◌∙◌, nat_lt, nat_le, if◌then◌else◌, ◌≤◌, ◌⊎◌, ◌%◌, ◌^◌, Some, None, subst}
 use Rattle.std.specs.Prelude.{slice_index, slice_index_or, slice_set, unwrap_or}
-use Rattle.std.proofs.Math.Bool.{not-not}
+use Rattle.std.proofs.{Math.Bool.not-not, lemmas.Grind.common_steps, lemmas.Bool.Decides.nat_tests}
 use Rattle.std.proofs.lemmas.Bool.{cases_Bool, and_from, or_parts, eqb-true, eqb-false, lt-ltb, le-leb, agree_below_at, and_parts, not-true, or_cases, true≢false, ltb-true, cases_eq, leb-true, false_from_ne_true, not_from_false}
-use Rattle.std.proofs.lemmas.Grind.{common_steps}
-use Rattle.std.proofs.lemmas.Bool.Decides.{nat_tests}
-use Rattle.std.proofs.lemmas.List.{length-set, get_or-set_same, get_or-set_other, get_or-replicate}
-use Rattle.std.proofs.lemmas.List.FromFn.{get_or-map-range_with_len}
-use Rattle.qpu_isa.specs.declared.inst.Reg.{Reg}
-use Rattle.qpu_isa.specs.declared.inst.Reg.TheVariants.{A, B, Acc}
-use Rattle.qpu_isa.specs.Word.{ws_of, waddr_add_of, waddr_mul_of, cond_add_of, cond_mul_of, raddr_a_of, raddr_b_of, add_a_of, add_b_of, op_add_of, imm_of, mode_of}
-use Rattle.qpu_isa.specs.Terms.{is_branch, add_names, mul_names, add_names_reg, mul_names_reg, names, sets_alone, is_add_packed, is_alu, is_load_imm, has_small, is_plain, is_uniform_operand, loaded_value, is_max_with_zero, is_min_with_uniform, is_add_with_uniform, operand_register, is_accumulator, is_end, is_switch, first_register, passes}
+use Rattle.std.proofs.lemmas.List.{length-set, get_or-set_same, get_or-set_other, get_or-replicate, FromFn.get_or-map-range_with_len}
+use Rattle.qpu_isa.specs.declared.inst.Reg.{Reg, TheVariants.A, TheVariants.B, TheVariants.Acc}
+use Rattle.qpu_isa.specs.Word.{ws_of, waddr_add_of, waddr_mul_of, cond_add_of, cond_mul_of, raddr_a_of, raddr_b_of, add_a_of, add_b_of, op_add_of}
+use Rattle.qpu_isa.specs.Terms.{is_branch, add_names, mul_names, add_names_reg, mul_names_reg, names, sets_alone, is_add_packed, is_alu, is_load_imm, has_small, is_plain, is_uniform_operand, loaded_value, is_max_with_zero, is_min_with_uniform, is_add_with_uniform, operand_register, is_accumulator, is_end, is_switch, first_register}
 use Rattle.qpu_isa.specs.Told.{IsRegister}
-use Rattle.qpu_machine.specs.declared.state.Thread.{Thread}
+use Rattle.qpu_machine.specs.declared.state.{Thread.Thread, Fate.TheVariants.GoesOn, Fate.TheVariants.Switches, Fate.TheVariants.Ends}
 use Rattle.qpu_machine.specs.Operands.{add_row, mul_row, read_a, read_b, small_row, operand, immediate_row, sums}
 use Rattle.qpu_machine.specs.Row.{lanes, has_lane, merged, mask_of, chosen_row, chosen_rows, filled}
 use Rattle.qpu_machine.specs.Step.{executed, executed_with}
 use Rattle.qpu_machine.specs.Writes.{awake, file_after, acc_after, add_address, mul_address, written_at, added, multiplied, written, stored, loaded, r4_after, went_on, worked, rested, fate_of, switches}
-use Rattle.qpu_law.specs.Home.{readied, done, Home, IsAt}
+use Rattle.qpu_law.specs.{Home.readied, Home.done, Home.Home, Home.IsAt, Stream.uniform_at}
 use Rattle.qpu_law.specs.Facts.{row_of, HasRows, IsMade, Tells, FactsHold}
 use Rattle.qpu_alu.specs.Operation.{add_result_of, signed_min, signed_max}
 use Rattle.qpu_alu.proofs.Order.{signed_max_zero, signed_max_zero_first, signed_min-upto}
 use Rattle.machine_plan.specs.Choice.{word_at}
-use Rattle.shader_flow.specs.Flow.{word, is_target, checked_of}
-use Rattle.shader_flow.specs.Bounded.{some_in}
+use Rattle.shader_flow.specs.{Flow.word, Flow.is_target, Flow.checked_of, Bounded.some_in, Pending.takes}
 use Rattle.shader_flow.proofs.Bounded.{some_in_not, some_in_none, some_below_here, some_below_none, some_below_not}
 use Rattle.clamp_facts.specs.Facts.{stays, switches_between, is_delayed, carrier_of, is_max_at, is_not_negative, makes_clamp, made, fact_by, fact_at, is_immediate}
 use Rattle.clamp_facts.proofs.Carriers.{stays_quiet, sets_parts, carried_parts, carrier_found, value_of_made}
-use Rattle.shader_flow.specs.Pending.{takes}
-use Rattle.clamp_facts.specs.declared.fact.Fact.{Fact}
+use Rattle.clamp_facts.specs.{declared.fact.Fact.Fact, Upkeep.IsCarrier, Readings.is_value, Readings.value_in}
 use Rattle.clamp_facts.specs.declared.fact.Fact.TheVariants.{Nothing, Immediate, NotNegative, Clamped}
-use Rattle.clamp_facts.specs.Readings.{is_value, value_in}
-use Rattle.clamp_facts.specs.Upkeep.{IsCarrier}
 use Rattle.shader_check.proofs.Roles.{reads_takes, min_parts, passed}
-use Rattle.qpu_machine.specs.declared.state.Fate.TheVariants.{GoesOn, Switches, Ends}
-use Rattle.qpu_law.specs.Stream.{uniform_at}
 
 pub lane_at : (f : ℕ → ℕ) (e : ℕ) → e < 16 → slice_index (lanes f) e ≡ f e
 lane_at f e below = get_or-map-range_with_len f 0 16 e e 0 below (omega arith)
@@ -53,14 +43,7 @@ merged_full old new e below =
 file_other_by : (on : Bool) (address reg mask : ℕ) (value : List ℕ) (file : List (List ℕ)) → (on && address == reg) ≡ false
     → slice_index_or (if on && nat_lt address 32 then slice_set file address (merged mask (slice_index_or file address []) value) else file) reg [] ≡ slice_index_or file reg []
 file_other_by false address reg mask value file other = refl
-file_other_by true address reg mask value file other =
-    let apart : reg ≢ address = λ same. eqb-false address reg other (sym same) in
-    elim (cases_Bool (nat_lt address 32)) [
-      | inl low ↦
-          ap (λ b. slice_index_or (if b then slice_set file address (merged mask (slice_index_or file address []) value) else file) reg []) low
-          ∙ get_or-set_other file address reg (merged mask (slice_index_or file address []) value) [] apart
-      | inr high ↦ ap (λ b. slice_index_or (if b then slice_set file address (merged mask (slice_index_or file address []) value) else file) reg []) high
-    ]
+file_other_by true address reg mask value file other = grind (arith, common_steps, nat_tests, eqb-false, cases_Bool, get_or-set_other)
 
 file_other : (on : Bool) (address reg mask : ℕ) (value : List ℕ) (file : List (List ℕ)) → (on && address == reg) ≡ false
     → slice_index_or (file_after on address mask value file) reg [] ≡ slice_index_or file reg []
@@ -70,42 +53,22 @@ file_other on address reg mask value file other = file_other_by on address reg m
 file_set : (on : Bool) (address reg mask : ℕ) (value : List ℕ) (file : List (List ℕ)) → on ≡ true → address ≡ reg → reg < 32 → length file ≡ 32
     → slice_index_or (file_after on address mask value file) reg [] ≡ merged mask (slice_index_or file reg []) value
 unfolding file_after
-file_set on address reg mask value file is same low size =
-    ap (λ o. slice_index_or (if o && nat_lt address 32 then slice_set file address (merged mask (slice_index_or file address []) value) else file) reg []) is
-    ∙ (ap (λ a. slice_index_or (if nat_lt a 32 then slice_set file a (merged mask (slice_index_or file a []) value) else file) reg []) same
-    ∙ (ap (λ b. slice_index_or (if b then slice_set file reg (merged mask (slice_index_or file reg []) value) else file) reg []) (lt-ltb reg 32 low)
-    ∙ get_or-set_same file reg (merged mask (slice_index_or file reg []) value) [] (omega (arith, low, size))))
+file_set on address reg mask value file is same low size = grind (arith, common_steps, nat_tests, lt-ltb, get_or-set_same)
 
 file_size : (on : Bool) (address mask : ℕ) (value : List ℕ) (file : List (List ℕ)) → length (file_after on address mask value file) ≡ length file
 unfolding file_after
-file_size on address mask value file =
-    elim (cases_Bool (on && nat_lt address 32)) [
-      | inl low ↦
-          ap (λ b. length (if b then slice_set file address (merged mask (slice_index_or file address []) value) else file)) low
-          ∙ length-set file address (merged mask (slice_index_or file address []) value)
-      | inr high ↦ ap (λ b. length (if b then slice_set file address (merged mask (slice_index_or file address []) value) else file)) high
-    ]
+file_size on address mask value file = grind (arith, common_steps, nat_tests, cases_Bool, length-set)
 
 -- r0 to r3
 acc_other : (address reg mask : ℕ) (value words : List ℕ) (acc : List (List ℕ)) → (address == 32 + reg) ≡ false → reg < 4
     → slice_index_or (acc_after address mask value words acc) reg [] ≡ slice_index_or acc reg []
 unfolding acc_after
-acc_other address reg mask value words acc other low =
-    let apart : address ≢ 32 + reg = eqb-false address (32 + reg) other in
-    grind (arith, nat_tests, get_or-set_other, low, apart)
+acc_other address reg mask value words acc other low = grind (arith, nat_tests, get_or-set_other, low, eqb-false address (32 + reg) other)
 
 acc_set : (address reg mask : ℕ) (value words : List ℕ) (acc : List (List ℕ)) → address ≡ 32 + reg → reg < 4 → length acc ≡ 6
     → slice_index_or (acc_after address mask value words acc) reg [] ≡ merged mask (slice_index_or acc reg []) value
 unfolding acc_after
-acc_set address reg mask value words acc is low size =
-    let tests : (nat_le 32 (32 + reg) && nat_lt (32 + reg) 36) ≡ true = and_from (nat_le 32 (32 + reg)) (nat_lt (32 + reg) 36) (le-leb 32 (32 + reg) (omega arith)) (lt-ltb (32 + reg) 36 (omega (arith, low))) in
-    let back : 32 + reg - 32 ≡ reg = omega arith in
-    ap (λ a. slice_index_or (acc_after a mask value words acc) reg []) is
-    ∙ (ap (λ b. slice_index_or (if b then slice_set acc (32 + reg - 32) (merged mask (slice_index_or acc (32 + reg - 32) []) value)
-    else (if (32 + reg) == 37 then slice_set acc 5 (merged mask (slice_index_or acc 5 []) (chosen_row words 178))
-    else (if nat_le 52 (32 + reg) && nat_lt (32 + reg) 56 then slice_set acc 4 (merged mask (slice_index_or acc 4 []) (chosen_row words 65)) else acc))) reg []) tests
-    ∙ (ap (λ k. slice_index_or (slice_set acc k (merged mask (slice_index_or acc k []) value)) reg []) back
-    ∙ get_or-set_same acc reg (merged mask (slice_index_or acc reg []) value) [] (omega (arith, low, size))))
+acc_set address reg mask value words acc is low size = grind (arith, common_steps, nat_tests, and_from, le-leb, lt-ltb, get_or-set_same)
 
 acc_size : (address mask : ℕ) (value words : List ℕ) (acc : List (List ℕ)) → length (acc_after address mask value words acc) ≡ length acc
 unfolding acc_after
@@ -146,37 +109,25 @@ written_row : (w u p : ℕ) (words : List ℕ) (t : Thread) (reg : Reg) → IsRe
 unfolding executed executed_with rested worked went_on loaded stored written multiplied written_at added awake
 written_row w u p words t (A k) known = refl
 written_row w u p words t (B k) known = refl
-written_row w u p words t (Acc k) known =
-    r4_other w words t.results0.items t.results1.items (multiplied w (mul_row (readied p words t) w u words) words (summed w u p words t)).acc k known
+written_row w u p words t (Acc k) known = grind (arith, common_steps, nat_tests, r4_other)
 
 add_leaves : (w : ℕ) (value words : List ℕ) (t : Thread) (reg : Reg) → IsRegister reg → add_names_reg w reg ≡ false → row_of (added w value words t) reg ≡ row_of t reg
 unfolding added written_at add_names_reg
-add_leaves w value words t (A k) low none =
-    file_other (not (ws_of w)) (add_address w) k (mask_of (cond_add_of w) words 0) value t.a (ap (λ b. not (ws_of w) && b) (add_same w k (below_apart k (omega (arith, low)))) ∙ none)
-add_leaves w value words t (B k) low none =
-    file_other (not (not (ws_of w))) (add_address w) k (mask_of (cond_add_of w) words 0) value t.b
-    (ap (λ b. b && (add_address w == k)) (not-not (ws_of w)) ∙ (ap (λ b. ws_of w && b) (add_same w k (below_apart k (omega (arith, low)))) ∙ none))
-add_leaves w value words t (Acc k) low none =
-    acc_other (add_address w) k (mask_of (cond_add_of w) words 0) value words t.acc (add_same w (32 + k) (below_apart (32 + k) (omega (arith, low))) ∙ none) low
+add_leaves w value words t (A k) low none = grind (arith, common_steps, nat_tests, file_other, add_same, below_apart)
+add_leaves w value words t (B k) low none = grind (arith, common_steps, nat_tests, file_other, not-not, add_same, below_apart)
+add_leaves w value words t (Acc k) low none = grind (arith, common_steps, nat_tests, acc_other, add_same, below_apart)
 
 mul_leaves : (w : ℕ) (value words : List ℕ) (t : Thread) (reg : Reg) → IsRegister reg → mul_names_reg w reg ≡ false → row_of (multiplied w value words t) reg ≡ row_of t reg
 unfolding multiplied written_at mul_names_reg
-mul_leaves w value words t (A k) low none =
-    file_other (ws_of w) (mul_address w) k (mask_of (cond_mul_of w) words 16) value t.a (ap (λ b. ws_of w && b) (mul_same w k (below_apart k (omega (arith, low)))) ∙ none)
-mul_leaves w value words t (B k) low none =
-    file_other (not (ws_of w)) (mul_address w) k (mask_of (cond_mul_of w) words 16) value t.b (ap (λ b. not (ws_of w) && b) (mul_same w k (below_apart k (omega (arith, low)))) ∙ none)
-mul_leaves w value words t (Acc k) low none =
-    acc_other (mul_address w) k (mask_of (cond_mul_of w) words 16) value words t.acc (mul_same w (32 + k) (below_apart (32 + k) (omega (arith, low))) ∙ none) low
+mul_leaves w value words t (A k) low none = grind (arith, common_steps, nat_tests, file_other, mul_same, below_apart)
+mul_leaves w value words t (B k) low none = grind (arith, common_steps, nat_tests, file_other, mul_same, below_apart)
+mul_leaves w value words t (Acc k) low none = grind (arith, common_steps, nat_tests, acc_other, mul_same, below_apart)
 
 -- An instruction that doesn't name a register leaves it as the thread began.
 pub register_same : (w u p : ℕ) (words : List ℕ) (t : Thread) (reg : Reg) → IsRegister reg → names w reg ≡ false
     → row_of (done w u p words t).thread reg ≡ row_of (readied p words t) reg
 unfolding names
-register_same w u p words t reg known none =
-    let parts = or_parts (add_names_reg w reg) (mul_names_reg w reg) none in
-    written_row w u p words t reg known
-    ∙ (mul_leaves w (mul_row (readied p words t) w u words) words (summed w u p words t) reg known parts.1
-    ∙ add_leaves w (add_row (readied p words t) w u words) words (readied p words t) reg known parts.0)
+register_same w u p words t reg known none = grind (arith, common_steps, nat_tests, or_parts, written_row, mul_leaves, add_leaves)
 
 full_mask : (cond : ℕ) (words : List ℕ) → cond ≡ 1 → mask_of cond words 0 ≡ 65535
 unfolding mask_of
@@ -188,14 +139,10 @@ address_is w k other named = eqb-true (add_address w) k (add_same w k other ∙ 
 add_sets : (w : ℕ) (value words : List ℕ) (t : Thread) (reg : Reg) → IsRegister reg → HasRows t → add_names_reg w reg ≡ true
     → row_of (added w value words t) reg ≡ merged (mask_of (cond_add_of w) words 0) (row_of t reg) value
 unfolding added written_at add_names_reg
-add_sets w value words t (A k) low rows named =
-    let parts = and_parts (not (ws_of w)) (add_names w k) named in
-    file_set (not (ws_of w)) (add_address w) k (mask_of (cond_add_of w) words 0) value t.a parts.0 (address_is w k (below_apart k (omega (arith, low))) parts.1) low rows.a
+add_sets w value words t (A k) low rows named = grind (arith, common_steps, nat_tests, and_parts, file_set, address_is, below_apart)
 add_sets w value words t (B k) low rows named =
-    let parts = and_parts (ws_of w) (add_names w k) named in
-    file_set (not (not (ws_of w))) (add_address w) k (mask_of (cond_add_of w) words 0) value t.b (not-not (ws_of w) ∙ parts.0) (address_is w k (below_apart k (omega (arith, low))) parts.1) low rows.b
-add_sets w value words t (Acc k) low rows named =
-    acc_set (add_address w) k (mask_of (cond_add_of w) words 0) value words t.acc (address_is w (32 + k) (below_apart (32 + k) (omega (arith, low))) named) low rows.acc
+    grind (arith, common_steps, nat_tests, and_parts, file_set, not-not, address_is, below_apart)
+add_sets w value words t (Acc k) low rows named = grind (arith, common_steps, nat_tests, acc_set, address_is, below_apart)
 
 chosen_size : (words : List ℕ) → length (chosen_rows words) ≡ 6
 unfolding chosen_rows
@@ -217,11 +164,10 @@ register_set w u p words t reg known rows alone e below =
     let halves = and_parts (add_names_reg w reg && not (mul_names_reg w reg)) (cond_add_of w == 1 && not (is_add_packed w)) alone in
     let first = and_parts (add_names_reg w reg) (not (mul_names_reg w reg)) halves.0 in
     let second = and_parts (cond_add_of w == 1) (not (is_add_packed w)) halves.1 in
-    let none : mul_names_reg w reg ≡ false = not-true (mul_names_reg w reg) first.1 in
     let sum = add_row (readied p words t) w u words in
     let row : row_of (done w u p words t).thread reg ≡ merged 65535 (row_of (readied p words t) reg) sum =
     written_row w u p words t reg known
-    ∙ (mul_leaves w (mul_row (readied p words t) w u words) words (summed w u p words t) reg known none
+    ∙ (mul_leaves w (mul_row (readied p words t) w u words) words (summed w u p words t) reg known (not-true (mul_names_reg w reg) first.1)
     ∙ (add_sets w sum words (readied p words t) reg known (ready_rows p words t rows) first.0
     ∙ ap (λ m. merged m (row_of (readied p words t) reg) sum) (full_mask (cond_add_of w) words (eqb-true (cond_add_of w) 1 second.0)))) in
     ap (λ r. slice_index r e) row ∙ merged_full (row_of (readied p words t) reg) sum e below
@@ -265,18 +211,7 @@ uniform_b false address u other later is = ap (λ b. if b then filled u else lat
 
 pub uniform_operand : (t : Thread) (w sel u : ℕ) (words : List ℕ) → is_uniform_operand w sel ≡ true → operand t w sel u words ≡ filled u
 unfolding is_uniform_operand operand read_a read_b
-uniform_operand t w sel u words is =
-    let parts = and_parts (is_plain w sel) ((sel == 6 && raddr_a_of w == 32) || (sel == 7 && (raddr_b_of w == 32 && not (has_small w)))) is in
-    elim (or_cases (sel == 6 && raddr_a_of w == 32) (sel == 7 && (raddr_b_of w == 32 && not (has_small w))) parts.1) [
-      | inl a ↦
-          (let six : sel ≡ 6 = eqb-true sel 6 (and_parts (sel == 6) (raddr_a_of w == 32) a).0 in
-          ap (λ s. operand t w s u words) six
-          ∙ uniform_a (is_plain w 6) (raddr_a_of w) u (chosen_row words 33) _ (subst (λ s. is_plain w s ≡ true) six parts.0) (and_parts (sel == 6) (raddr_a_of w == 32) a).1)
-      | inr b ↦
-          (let seven : sel ≡ 7 = eqb-true sel 7 (and_parts (sel == 7) (raddr_b_of w == 32 && not (has_small w)) b).0 in
-          ap (λ s. operand t w s u words) seven
-          ∙ uniform_b (has_small w) (raddr_b_of w) u (small_row (raddr_b_of w) words) _ (and_parts (sel == 7) (raddr_b_of w == 32 && not (has_small w)) b).1)
-    ]
+uniform_operand t w sel u words is = grind (arith, common_steps, nat_tests, and_parts, or_cases, eqb-true, uniform_a, uniform_b)
 
 -- an operation's lane
 pub add_lane : (t : Thread) (w u : ℕ) (words : List ℕ) (e : ℕ) → e < 16 → is_add_packed w ≡ false → is_load_imm w ≡ false
@@ -313,14 +248,7 @@ pub sum_lane : (t : Thread) (w u : ℕ) (words : List ℕ) (e : ℕ) → e < 16 
     → slice_index (add_row t w u words) e ≡ (slice_index (operand t w (add_a_of w) u words) e % 2 ^ 32 + u % 2 ^ 32) % 2 ^ 32
 unfolding is_add_with_uniform
 sum_lane t w u words e below plain is =
-    let halves = and_parts (is_alu w && op_add_of w == 12) (is_uniform_operand w (add_b_of w)) is in
-    let first = and_parts (is_alu w) (op_add_of w == 12) halves.0 in
-    let x = slice_index (operand t w (add_a_of w) u words) e % 2 ^ 32 in
-    let y = slice_index (operand t w (add_b_of w) u words) e % 2 ^ 32 in
-    let y_is : slice_index (operand t w (add_b_of w) u words) e ≡ u = ap (λ r. slice_index r e) (uniform_operand t w (add_b_of w) u words halves.1) ∙ filled_at u e below in
-    add_lane t w u words e below plain (alu_loads_not w first.0)
-    ∙ (ap (λ o. unwrap_or (add_result_of o x y) (word_at words (1 + e))) (eqb-true (op_add_of w) 12 first.1)
-    ∙ (sum_of x y (word_at words (1 + e)) ∙ ap (λ v. (x + v % 2 ^ 32) % 2 ^ 32) y_is))
+    grind (arith, common_steps, nat_tests, and_parts, uniform_operand, filled_at, add_lane, alu_loads_not, eqb-true, sum_of)
 
 -- the minimum with a uniform, of a number that isn't negative
 pub min_lane : (t : Thread) (w u : ℕ) (words : List ℕ) (e : ℕ) → e < 16 → is_add_packed w ≡ false → is_min_with_uniform w ≡ true
@@ -331,12 +259,11 @@ min_lane t w u words e below plain is low =
     let first = and_parts (is_alu w) (op_add_of w == 18) halves.0 in
     let x = slice_index (operand t w (add_a_of w) u words) e % 2 ^ 32 in
     let y = slice_index (operand t w (add_b_of w) u words) e % 2 ^ 32 in
-    let y_is : slice_index (operand t w (add_b_of w) u words) e ≡ u = ap (λ r. slice_index r e) (uniform_operand t w (add_b_of w) u words halves.1) ∙ filled_at u e below in
     let lane : slice_index (add_row t w u words) e ≡ signed_min x y =
     add_lane t w u words e below plain (alu_loads_not w first.0)
     ∙ (ap (λ o. unwrap_or (add_result_of o x y) (word_at words (1 + e))) (eqb-true (op_add_of w) 18 first.1) ∙ min_of x y (word_at words (1 + e))) in
     let upto : signed_min x y ≤ y = signed_min-upto x y (omega (arith, low)) (omega arith) in
-    omega (arith, lane, upto, y_is)
+    omega (arith, lane, upto, ap (λ r. slice_index r e) (uniform_operand t w (add_b_of w) u words halves.1) ∙ filled_at u e below)
 
 -- the maximum with the value 0
 zero_by : (small : Bool) (v : ℕ) (words other : List ℕ) → small ≡ true → v ≡ 0 → (if small then small_row v words else other) ≡ filled 0
@@ -346,8 +273,7 @@ zero_by false v words other is none = absurd (true≢false (sym is))
 
 zero_operand : (t : Thread) (w u : ℕ) (words : List ℕ) → has_small w ≡ true → raddr_b_of w ≡ 0 → operand t w 7 u words ≡ filled 0
 unfolding operand read_b small_row
-zero_operand t w u words small zero_is =
-    zero_by (has_small w) (raddr_b_of w) words _ small zero_is
+zero_operand t w u words small zero_is = zero_by (has_small w) (raddr_b_of w) words _ small zero_is
 
 max_zero : (a b : ℕ) → a < 2 ^ 32 → b < 2 ^ 32 → (a ≡ 0) ⊎ (b ≡ 0) → signed_max a b < 2 ^ 31
 max_zero a b a_fits b_fits (inl is) = subst (λ x. signed_max x b < 2 ^ 31) (sym is) (signed_max_zero_first b b_fits)
@@ -384,12 +310,7 @@ loaded_parts false mode imm v is = absurd cc
 pub load_lane : (t : Thread) (w u : ℕ) (words : List ℕ) (e v : ℕ) → e < 16 → is_add_packed w ≡ false → loaded_value w ≡ Some v
     → slice_index (add_row t w u words) e ≡ v
 unfolding add_row immediate_row loaded_value
-load_lane t w u words e v below plain is =
-    let parts = loaded_parts (is_load_imm w) (mode_of w == 0) (imm_of w) v is in
-    ap (λ b. slice_index (if b then chosen_row words 1 else (if is_load_imm w then (if mode_of w == 0 then filled (imm_of w) else chosen_row words 1) else sums (op_add_of w) (operand t w (add_a_of w) u words) (operand t w (add_b_of w) u words) words)) e) plain
-    ∙ (ap (λ b. slice_index (if b then (if mode_of w == 0 then filled (imm_of w) else chosen_row words 1) else sums (op_add_of w) (operand t w (add_a_of w) u words) (operand t w (add_b_of w) u words) words) e) parts.0
-    ∙ (ap (λ b. slice_index (if b then filled (imm_of w) else chosen_row words 1) e) parts.1
-    ∙ (filled_at (imm_of w) e below ∙ parts.2)))
+load_lane t w u words e v below plain is = grind (arith, common_steps, nat_tests, loaded_parts, filled_at)
 
 -- What an instruction computes with, where a fact stands for its register.
 
@@ -403,19 +324,7 @@ untargeted code j n reg made k after upto =
 
 -- the last executed instruction doesn't name it, unless it made it
 pub last_unnamed : (h : Home) (j n : ℕ) (reg : Reg) (t : Thread) → IsAt h n t → IsMade h.code j n reg → n ≢ j + 1 → names t.last1.word reg ≡ false
-last_unnamed h j n reg t at made far =
-    let before = made.before in
-    elim at.mark1 [
-      | inl exact ↦ ap (λ w. names w reg) exact.is ∙ stays_quiet h.code j n (n - 1) reg made.still (omega (arith, before, far)) (omega (arith, before))
-      | inr blank ↦
-          (let from = blank.from in
-          let near = blank.near in
-          let e : blank.root ≡ n = omega (arith, from, near) in
-          elim blank.is [
-            | inl first ↦ absurd (let no : ⊥ = omega (arith, first, e, before) in no)
-            | inr target ↦ absurd (true≢false (sym target ∙ untargeted h.code j n reg made blank.root (omega (arith, e, before)) (omega (arith, e))))
-          ])
-    ]
+last_unnamed h j n reg t at made far = grind (arith, common_steps, nat_tests, stays_quiet, true≢false, untargeted)
 
 -- A readable register is what a plain operand reads.
 pub record IsRead (t : Thread) (reg : Reg) : Type 0 where
@@ -469,11 +378,7 @@ selects_by w sel reg is =
 
 selects : (w sel : ℕ) (reg : Reg) → operand_register w sel ≡ Some reg → (is_plain w sel ≡ true) × Selects w sel reg
 unfolding operand_register
-selects w sel reg is =
-    elim (cases_Bool (is_plain w sel)) [
-      | inr packed ↦ absurd (let no : None ≡ Some reg = sym (ap (λ b. if not b then None else rest_of w sel) packed) ∙ is in cc)
-      | inl plain ↦ (plain, selects_by w sel reg (sym (ap (λ b. if not b then None else rest_of w sel) plain) ∙ is))
-    ]
+selects w sel reg is = grind (arith, common_steps, nat_tests, cases_Bool, selects_by)
 
 known_by : (w sel : ℕ) (reg : Reg) → Selects w sel reg → IsRegister reg
 known_by w sel reg (OfAcc low) = low
@@ -495,22 +400,14 @@ operand_of : (w sel u p : ℕ) (words : List ℕ) (t : Thread) (reg : Reg) → i
     → operand (readied p words t) w sel u words ≡ row_of (readied p words t) reg
 unfolding operand read_a read_b is_accumulator awake
 operand_of w sel u p words t reg plain (OfAcc low) unnamed = grind (arith, nat_tests, low, plain)
-operand_of w sel u p words t reg plain (OfA is low) unnamed =
-    let six : is_plain w 6 ≡ true = subst (λ s. is_plain w s ≡ true) is plain in
-    ap (λ s. operand (readied p words t) w s u words) is
-    ∙ read_a_by (is_plain w 6) (raddr_a_of w) (names t.last1.word (A (raddr_a_of w))) u (slice_index_or t.a (raddr_a_of w) []) (chosen_row words 33) six low (unnamed refl)
-operand_of w sel u p words t reg plain (OfB is low big) unnamed =
-    ap (λ s. operand (readied p words t) w s u words) is
-    ∙ read_b_by (has_small w) (raddr_b_of w) (names t.last1.word (B (raddr_b_of w))) u (slice_index_or t.b (raddr_b_of w) []) (chosen_row words 49) (small_row (raddr_b_of w) words) big low (unnamed refl)
+operand_of w sel u p words t reg plain (OfA is low) unnamed = grind (arith, common_steps, nat_tests, read_a_by)
+operand_of w sel u p words t reg plain (OfB is low big) unnamed = grind (arith, common_steps, nat_tests, read_b_by)
 
 pub operand_is : (w sel u p : ℕ) (words : List ℕ) (t : Thread) (reg : Reg) → operand_register w sel ≡ Some reg → (is_accumulator reg ≡ false → names t.last1.word reg ≡ false)
     → (is_accumulator reg ≡ true → t.fresh ≡ false) → operand (readied p words t) w sel u words ≡ row_of t reg
 operand_is w sel u p words t reg is unnamed woken =
     let parts = selects w sel reg is in
     operand_of w sel u p words t reg parts.0 parts.1 unnamed ∙ ready_row p words t reg woken
-
-pub selects_known : (w sel : ℕ) (reg : Reg) → operand_register w sel ≡ Some reg → IsRegister reg
-selects_known w sel reg is = known_by w sel reg (selects w sel reg is).1
 
 -- Facts on registers, from one instruction to the next.
 
@@ -519,20 +416,17 @@ made_of code j n reg one = let parts = carried_parts code j n reg one.carried in
 
 not_next : (j n : ℕ) (reg : Reg) → is_delayed j n reg ≡ false → is_accumulator reg ≡ false → n ≢ j + 1
 unfolding is_delayed
-not_next j n reg ready file is =
-    let late : (not (is_accumulator reg) && n == j + 1) ≡ true = and_from (not (is_accumulator reg)) (n == j + 1) (not_from_false (is_accumulator reg) file) (grind (arith, nat_tests, is)) in
-    true≢false (sym late ∙ ready)
+not_next j n reg ready file is = grind (arith, common_steps, nat_tests, and_from, not_from_false, true≢false)
 
 -- What carries to an operand says what is read.
 pub carried_operand : (h : Home) (j n u p : ℕ) (words : List ℕ) (t : Thread) (sel : ℕ) (reg : Reg) → IsAt h n t → FactsHold h n t → IsCarrier h.code j n reg
     → operand_register (word h.code n) sel ≡ Some reg → (e : ℕ) → e < 16 → Tells h j (slice_index (operand (readied p words t) (word h.code n) sel u words) e)
 carried_operand h j n u p words t sel reg at facts one is e below =
     let made_there = made_of h.code j n reg one in
-    let known = selects_known (word h.code n) sel reg is in
-    let ready = (carried_parts h.code j n reg one.carried).2 in
+    let known = known_by (word h.code n) sel reg (selects (word h.code n) sel reg is).1 in
     let row : operand (readied p words t) (word h.code n) sel u words ≡ row_of t reg =
     operand_is (word h.code n) sel u p words t reg is
-    (λ file. last_unnamed h j n reg t at made_there (not_next j n reg ready file))
+    (λ file. last_unnamed h j n reg t at made_there (not_next j n reg ((carried_parts h.code j n reg one.carried).2) file))
     (λ acc. facts.kept j reg known made_there acc) in
     subst (λ r. Tells h j (slice_index r e)) (sym row) (facts.told j reg known made_there e below)
 
@@ -546,15 +440,12 @@ not_negative_by code n reg is = is_max_found code n reg (carrier_of code n reg) 
 
 alone_plain : (w : ℕ) (reg : Reg) → sets_alone w reg ≡ true → is_add_packed w ≡ false
 unfolding sets_alone
-alone_plain w reg is =
-    not-true (is_add_packed w) (and_parts (cond_add_of w == 1) (not (is_add_packed w)) (and_parts (add_names_reg w reg && not (mul_names_reg w reg)) (cond_add_of w == 1 && not (is_add_packed w)) is).1).1
+alone_plain w reg is = grind (arith, common_steps, nat_tests, not-true, and_parts)
 
 clamp_parts : (code : List ℕ) (n : ℕ) → makes_clamp code n ≡ true
     → (is_min_with_uniform (word code n) ≡ true) × ((reg : Reg) × (first_register (word code n) ≡ Some reg) × (is_not_negative code n reg ≡ true))
 unfolding makes_clamp
-clamp_parts code n is =
-    let halves = and_parts (is_min_with_uniform (word code n)) (passes (first_register (word code n)) (is_not_negative code n)) is in
-    (halves.0, passed (first_register (word code n)) (is_not_negative code n) halves.1)
+clamp_parts code n is = grind (arith, common_steps, nat_tests, and_parts, passed)
 
 pub first_is : (w : ℕ) (reg : Reg) → first_register w ≡ Some reg → operand_register w (add_a_of w) ≡ Some reg
 unfolding first_register
@@ -570,10 +461,9 @@ made_tells h n u p words t inside at facts taken plain e below =
       not_negative = λ is. max_lane (readied p words t) w u words e below plain is;
       clamped = λ is.
           (let parts = clamp_parts h.code n is in
-          let reg = parts.1.0 in
-          let found = not_negative_by h.code n reg parts.1.2 in
+          let found = not_negative_by h.code n parts.1.0 parts.1.2 in
           let told : Tells h found.0 (slice_index (operand (readied p words t) w (add_a_of w) u words) e) =
-          carried_operand h found.0 n u p words t (add_a_of w) reg at facts found.1 (first_is w reg parts.1.1) e below in
+          carried_operand h found.0 n u p words t (add_a_of w) parts.1.0 at facts found.1 (first_is w parts.1.0 parts.1.1) e below in
           let upto = min_lane (readied p words t) w u words e below plain parts.0 (told.not_negative found.2) in
           let is_taken : u ≡ uniform_at h n = taken (reads_takes h.code n inside (min_parts w parts.0).0) in
           subst (λ v. slice_index (add_row (readied p words t) w u words) e ≤ v) is_taken upto);
@@ -618,10 +508,7 @@ acc_between false a is none = absurd (true≢false (sym is))
 
 none_between : (code : List ℕ) (j n : ℕ) (reg : Reg) → stays code j n reg ≡ true → is_accumulator reg ≡ true → switches_between code j n ≡ false
 unfolding stays
-none_between code j n reg is acc =
-    let one = and_parts (not (some_in (j + 1) n (λ k. names (word code k) reg))) (not (some_in (j + 1) (n + 1) (is_target code)) && not (is_accumulator reg && switches_between code j n)) is in
-    let two = and_parts (not (some_in (j + 1) (n + 1) (is_target code))) (not (is_accumulator reg && switches_between code j n)) one.1 in
-    acc_between (is_accumulator reg) (switches_between code j n) acc two.1
+none_between code j n reg is acc = grind (arith, common_steps, nat_tests, and_parts, acc_between)
 
 switch_between : (code : List ℕ) (j n : ℕ) → 2 ≤ n → j ≤ n → is_switch (word code (n - 2)) ≡ true → switches_between code j (n + 1) ≡ true
 unfolding switches_between
@@ -632,13 +519,7 @@ switch_between code j n two upto is =
 
 no_switch_here : (h : Home) (j n : ℕ) (reg : Reg) (t : Thread) → IsAt h n t → j ≤ n → stays h.code j (n + 1) reg ≡ true → is_accumulator reg ≡ true → is_switch t.last2.word ≡ false
 no_switch_here h j n reg t at upto still acc =
-    elim at.mark2 [
-      | inl exact ↦
-          (let back = exact.back in
-          ap is_switch exact.is ∙ false_from_ne_true (is_switch (word h.code (n - 2)))
-          (λ is. true≢false (sym (switch_between h.code j n back upto is) ∙ none_between h.code j (n + 1) reg still acc)))
-      | inr blank ↦ blank.quiet.switch
-    ]
+    grind (arith, common_steps, nat_tests, false_from_ne_true, true≢false, switch_between, none_between)
 
 fate_by : (end switch : Bool) → switch ≡ false → (switches (if end then Ends else (if switch then Switches else GoesOn)) || false) ≡ false
 fate_by true switch none = refl

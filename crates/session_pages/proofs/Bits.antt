@@ -1,12 +1,12 @@
 -- Bits of words, and pages as bits.
-use Rattle.std.proofs.Common.{◌≡◌, ◌≢◌, ◌⊎◌, inl, inr, ℕ, zero, suc, ◌+◌, ◌-◌, ◌*◌, ◌/◌, ◌%◌, ◌^◌, ◌==◌, ◌≤◌, ◌<◌, Bool, true, false, not, min, List, length, set, bit_and, replicate, slice_index, refl, sym, ◌∙◌, ap, arith}
+use Rattle.std.proofs.Common.{◌≡◌, inl, inr, ℕ, zero, suc, ◌+◌, ◌-◌, ◌*◌, ◌/◌, ◌%◌, ◌^◌, ◌==◌, ◌≤◌, ◌<◌, Bool, true, false, not, min, List, length, bit_and, replicate, slice_index, refl, sym, ◌∙◌, ap, arith}
 use Rattle.std.specs.Int.{bit_at, bit_not, trailing_zeros, w64}
 use Rattle.std.specs.Int.Count.{trailing_of_zero}
 use Rattle.std.proofs.lemmas.Bool.{cases_lt}
 use Rattle.std.proofs.lemmas.Nat.{and_le_l}
-use Rattle.std.proofs.lemmas.List.{get_or-set_same, get_or-set_other, places}
+use Rattle.std.proofs.lemmas.List.{places}
 use Rattle.std.proofs.lemmas.Nat.Bits.{bit_at-zero, bit_at-lt, bit_at_and, bit_at_mask_inside, bit_at_mask_below, bit_at-trailing_zeros, bit_at_not, ones_shl}
-use Rattle.field_words.specs.Writes.{with_bytes, zeros}
+use Rattle.field_words.specs.Writes.{zeros}
 use Rattle.session_pages.specs.Map.{is_free, held_by}
 use Rattle.session_pages.specs.Marks.{bit_of, mark_of, is_unmarked, IsMarked, AreMarks}
 use Rattle.session_pages.specs.Runs.{page_count, first_run}
@@ -63,59 +63,6 @@ first_set_is word from fits small =
     rw mask (lowest word from (bit_and word (2 ^ 64 - 2 ^ from)) small (and_small word (2 ^ 64 - 2 ^ from) fits)
     (λ bit below. bit_at_and word (2 ^ 64 - 2 ^ from) bit ∙ min_zero _ _ (bit_at_mask_below from 64 bit below))
     (λ bit a b. bit_at_and word (2 ^ 64 - 2 ^ from) bit ∙ min_one _ _ (bit_at-lt word bit) (bit_at_mask_inside from 64 bit a b)))
-
--- One page was marked.
-cases_eq : (a b : ℕ) → (a ≡ b) ⊎ (a ≢ b)
-cases_eq a b = elim (cases_lt a b) [
-  | inl less ↦ inr (λ is. absurd (let wrong : ⊥ = omega (arith, less, is) in wrong))
-  | inr more ↦ elim (cases_lt b a) [ inl less ↦ inr (λ is. absurd (let wrong : ⊥ = omega (arith, less, is) in wrong)) | inr most ↦ inl (omega (arith, more, most)) ]
-]
-
-marked_here : (words : List ℕ) (page word other : ℕ) → page / 64 < length words → other ≡ page → mark_of (set words (page / 64) word) other ≡ bit_at word (page % 64)
-marked_here words page word other inside is = rw is (ap (λ w. bit_at w (page % 64)) (get_or-set_same words (page / 64) word 0 inside))
-
-marked_there : (words : List ℕ) (page word other : ℕ) → page / 64 < length words → page ≢ other
-    → ((bit : ℕ) → bit < 64 → bit ≢ page % 64 → bit_at word bit ≡ bit_at (slice_index words (page / 64)) bit)
-    → mark_of (set words (page / 64) word) other ≡ mark_of words other
-marked_there words page word other inside differ others =
-    elim (cases_eq (other / 64) (page / 64)) [
-      | inl at ↦
-          let apart : other % 64 ≢ page % 64 = λ same. differ (omega (arith, at, same)) in
-          ap (λ i. bit_at (slice_index (set words (page / 64) word) i) (other % 64)) at
-          ∙ ap (λ w. bit_at w (other % 64)) (get_or-set_same words (page / 64) word 0 inside)
-          ∙ others (other % 64) (omega arith) apart
-          ∙ sym (ap (λ i. bit_at (slice_index words i) (other % 64)) at)
-      | inr away ↦ ap (λ w. bit_at w (other % 64)) (get_or-set_other words (page / 64) (other / 64) word 0 away)
-    ]
-
-pub mark_one : (words : List ℕ) (page word : ℕ) (held : Bool) → page / 64 < length words → bit_at word (page % 64) ≡ bit_of held
-    → ((bit : ℕ) → bit < 64 → bit ≢ page % 64 → bit_at word bit ≡ bit_at (slice_index words (page / 64)) bit)
-    → IsMarked words (set words (page / 64) word) page 1 held
-mark_one words page word held inside here others = record {
-  inside = λ other from upto. marked_here words page word other inside (omega (arith, from, upto)) ∙ here;
-  before = λ other below. marked_there words page word other inside (λ same. absurd (let wrong : ⊥ = omega (arith, below, same) in wrong)) others;
-  behind = λ other past high. marked_there words page word other inside (λ same. absurd (let wrong : ⊥ = omega (arith, past, same) in wrong)) others;
-}
-
--- Several were, one after the other.
-pub mark_none : (words : List ℕ) (first : ℕ) (held : Bool) → IsMarked words words first 0 held
-mark_none words first held = record {
-  inside = λ page from upto. absurd (omega (arith, from, upto));
-  before = λ page below. refl;
-  behind = λ page past high. refl;
-}
-
-pub mark_more : (old mid new : List ℕ) (first pages page : ℕ) (held : Bool) → page ≡ first + pages → page < page_count
-    → IsMarked old mid first pages held → IsMarked mid new page 1 held → IsMarked old new first (pages + 1) held
-mark_more old mid new first pages page held is low before one = record {
-  inside = λ other from upto.
-      elim (cases_lt other page) [
-        | inl below ↦ one.before other below ∙ before.inside other from (omega (arith, below, is))
-        | inr here ↦ one.inside other here (omega (arith, upto, is))
-      ];
-  before = λ other below. one.before other (omega (arith, below, is)) ∙ before.before other below;
-  behind = λ other past high. one.behind other (omega (arith, past, is)) high ∙ before.behind other (omega (arith, past)) high;
-}
 
 -- The bits stay those of the owners.
 zero_word : (n word : ℕ) → slice_index (replicate n 0) word ≡ 0

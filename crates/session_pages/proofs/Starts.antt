@@ -1,7 +1,7 @@
 -- A page below which all are held, after pages were marked.
-use Rattle.std.proofs.Common.{◌≡◌, inl, inr, ℕ, ◌+◌, ◌≤◌, ◌<◌, Bool, true, false, List, refl, sym, ap, arith, ◌∙◌}
+use Rattle.std.proofs.Common.{◌≡◌, inl, inr, ℕ, ◌+◌, ◌≤◌, Bool, true, List, arith, ◌∙◌}
 use Rattle.std.proofs.lemmas.Bool.{cases_lt}
-use Rattle.session_pages.specs.Marks.{mark_of, bit_of, IsMarked, AreHeldBelow}
+use Rattle.session_pages.specs.Marks.{IsMarked, AreHeldBelow}
 use Rattle.session_pages.specs.Runs.{page_count}
 
 -- Pages below those that were marked stay as they were.

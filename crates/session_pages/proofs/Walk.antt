@@ -1,5 +1,5 @@
 -- The walk over the words of marks.
-use Rattle.std.proofs.Common.{◌≡◌, inl, inr, ℕ, zero, suc, ◌+◌, ◌-◌, ◌%◌, ◌==◌, ◌≤◌, ◌<◌, ◌&&◌, nat_le, Bool, true, false, List, Some, None, refl, sym, ap, arith, ◌∙◌, if◌then◌else◌}
+use Rattle.std.proofs.Common.{◌≡◌, inl, inr, ℕ, zero, suc, ◌+◌, ◌-◌, ◌%◌, ◌==◌, ◌≤◌, ◌<◌, ◌&&◌, nat_le, Bool, true, false, List, Some, None, refl, sym, ap, arith, ◌∙◌}
 use Rattle.std.proofs.lemmas.Bool.{cases_lt}
 use Rattle.std.proofs.lemmas.Bool.Decides.{nat_tests}
 use Rattle.overflow_slots.specs.Search.{first_where}

@@ -1,40 +1,31 @@
 -- The file of two clients and that of one are neighbours for the first client.
 use Rattle.std.proofs.Common.{◌≡◌, ℕ, ◌+◌, ◌<◌, ◌≤◌, zero, suc, true, false, length, slice_index, refl, sym, ap, subst, arith, ◌∙◌}
 use Rattle.std.proofs.lemmas.Bool.{false≢true}
-use Rattle.field_words.specs.WordBytes.{word_bytes}
-use Rattle.field_words.specs.Words.{u32_at, rounded_up}
+use Rattle.field_words.specs.{WordBytes.word_bytes, Words.u32_at, Words.rounded_up}
 use Rattle.packets.specs.Length.{bin_length, bin_taken}
 use Rattle.packets.specs.StateWord.{attribute_count, record_size, record_room, is_extended}
-use Rattle.buffer_table.specs.Table.{buffer_at}
-use Rattle.buffer_table.specs.Handles.{code_of, data_of}
+use Rattle.buffer_table.specs.{Table.buffer_at, Handles.code_of, Handles.data_of}
 use Rattle.bin_list.specs.Packets.{packets, passed, front_packet, behind}
-use Rattle.bin_list.specs.Seen.{seen_before}
-use Rattle.bin_list.specs.Emitted.{packet_text, state_text, config_text}
+use Rattle.bin_list.specs.{Seen.seen_before, Emitted.packet_text, Emitted.state_text, Emitted.config_text}
 use Rattle.shader_records.specs.Emission.{emitted_records, emitted_uniforms, records_text, record_text, emitted_word, shader_word, attribute_word, stream_place, uniforms_text, streams_text, stream_text, addressed_word, moved_word, moved, is_address}
 use Rattle.shader_records.specs.Emitted.{streams_place}
 use Rattle.shader_records.specs.Sources.{record_source, record_offset, handles_size, record_word, source_word, sample_number, uniform_source, stream_offset, taken_before, given_before, shader_used, code_number, attribute_number}
-use Rattle.render_list.specs.Surfaces.{place_in}
-use Rattle.render_list.specs.Text.{render_text}
+use Rattle.render_list.specs.{Surfaces.place_in, Text.render_text}
 use Rattle.shader_records.proofs.Lengths.{length_records, length_uniforms}
-use Rattle.job_format.specs.Model.{FileModel}
-use Rattle.job_format.specs.Reading.{file_at}
+use Rattle.job_format.specs.{Model.FileModel, Reading.file_at}
 use Rattle.job_format.proofs.Laws.{read_again}
-use Rattle.job_check.specs.Shaders.{content_of}
-use Rattle.job_check.specs.Jobs.{job_of, has_bin, grid_of, slot_of, input_for, lists_begin, layout_of, places_in, bin_list_of, records_of, streams_of, render_list_of}
-use Rattle.job_check.specs.Emit.{lengths_of, memory_of}
-use Rattle.job_check.proofs.Views.{list_length, lengths, lengths_are}
+use Rattle.job_check.specs.{Shaders.content_of, Emit.lengths_of, Emit.memory_of}
+use Rattle.job_check.specs.Jobs.{job_of, has_bin, grid_of, slot_of, lists_begin, layout_of, places_in, bin_list_of, records_of, streams_of, render_list_of}
+use Rattle.job_check.proofs.{Views.list_length, Views.lengths, Views.lengths_are, Wider.wider_none}
 use Rattle.accepted_law.specs.Settled.{Settled}
 use Rattle.accepted_law.specs.Neighbours.{jobs_of, named_at, StandAlike, PlacedAlike, FilledAlike, AreNeighbourFiles, AlikeTo}
-use Rattle.accepted_law.proofs.Emitted.{emitted_alike_law}
-use Rattle.accepted_law.proofs.RenderWalking.{frame_setup}
-use Rattle.accepted_law.proofs.Settling.{files_settle_law}
-use Rattle.textured_job.specs.Job.{two_clients, one_client}
-use Rattle.textured_job.specs.Laws.{AreWitnesses, two_clients_bytes, one_client_bytes}
+use Rattle.accepted_law.proofs.{Emitted.emitted_alike_law, RenderWalking.frame_setup, Settling.files_settle_law}
+use Rattle.textured_job.specs.{Job.two_clients, Job.one_client, Laws.AreWitnesses, Laws.two_clients_bytes, Laws.one_client_bytes}
 use Rattle.textured_job.proofs.Cases.{Case, First, Single, file_in, number_in, input_in}
-use Rattle.textured_job.proofs.Lists.{bin_there, grid_is}
-use Rattle.textured_job.proofs.Whole.{input_is, file_none_of_two, file_none_of_one}
+use Rattle.textured_job.proofs.{Lists.bin_there, Lists.grid_is, Whole.input_is, Whole.file_none_of_two, Whole.file_none_of_one}
 use Rattle.textured_job.proofs.Witness.{two_are_file, one_is_file, two_clients_witness, one_client_accepted}
-use Rattle.job_check.proofs.Wider.{wider_none}
+use Rattle.std.proofs.lemmas.Grind.{common_steps}
+use Rattle.std.proofs.lemmas.Bool.Decides.{nat_tests}
 
 -- past the last job there is none of the client
 beyond : (c : ℕ) (f : FileModel) (j : ℕ) → length f.jobs ≤ j → jobs_of c f j ≡ false
@@ -73,11 +64,7 @@ same_bin = refl
 
 records_long : (c : Case) → length (records_of (file_in c) (number_in c)) ≡ record_offset (input_in c) 1
 unfolding records_of
-records_long c =
-    let first : ℕ = streams_place (layout_of (file_in c) (number_in c)) in
-    let emitted : length (emitted_records (input_for (file_in c) (number_in c)) first) ≡ record_offset (input_in c) 1 =
-    ap (λ input. length (emitted_records input first)) (input_is c) ∙ length_records (input_in c) first 1 in
-    rw (bin_there c) emitted
+records_long c = grind (arith, common_steps, nat_tests, file_in, number_in, input_in, input_is, length_records, bin_there)
 
 same_records : record_offset (input_in First) 1 ≡ record_offset (input_in Single) 1
 unfolding record_offset
@@ -85,11 +72,7 @@ same_records = refl
 
 streams_long : (c : Case) → length (streams_of (file_in c) (number_in c)) ≡ stream_offset (input_in c) 1
 unfolding streams_of
-streams_long c =
-    let first : ℕ = streams_place (layout_of (file_in c) (number_in c)) in
-    let emitted : length (emitted_uniforms (input_for (file_in c) (number_in c)) first) ≡ stream_offset (input_in c) 1 =
-    ap (λ input. length (emitted_uniforms input first)) (input_is c) ∙ length_uniforms (input_in c) first 1 in
-    rw (bin_there c) emitted
+streams_long c = grind (arith, common_steps, nat_tests, file_in, number_in, input_in, input_is, length_uniforms, bin_there)
 
 same_streams : stream_offset (input_in First) 1 ≡ stream_offset (input_in Single) 1
 unfolding stream_offset record_source given_before shader_used code_number code_of u32_at buffer_at two_clients one_client
@@ -142,10 +125,7 @@ same_bin_list = refl
 
 records_are : (c : Case) → records_of (file_in c) (number_in c) ≡ emitted_records (input_in c) (streams_place (layout_of (file_in c) (number_in c)))
 unfolding records_of
-records_are c =
-    let first : ℕ = streams_place (layout_of (file_in c) (number_in c)) in
-    let emitted : emitted_records (input_for (file_in c) (number_in c)) first ≡ emitted_records (input_in c) first = ap (λ input. emitted_records input first) (input_is c) in
-    rw (bin_there c) emitted
+records_are c = grind (arith, common_steps, nat_tests, file_in, number_in, bin_there, input_is)
 
 record_same : (first : ℕ) → emitted_records (input_in First) first ≡ emitted_records (input_in Single) first
 unfolding two_clients one_client records_text record_text word_bytes record_room record_size attribute_count is_extended rounded_up handles_size emitted_word shader_word attribute_word stream_place stream_offset record_source given_before shader_used code_number attribute_number code_of data_of record_word u32_at buffer_at
@@ -153,10 +133,7 @@ record_same first = refl
 
 streams_are : (c : Case) → streams_of (file_in c) (number_in c) ≡ emitted_uniforms (input_in c) (streams_place (layout_of (file_in c) (number_in c)))
 unfolding streams_of
-streams_are c =
-    let first : ℕ = streams_place (layout_of (file_in c) (number_in c)) in
-    let emitted : emitted_uniforms (input_for (file_in c) (number_in c)) first ≡ emitted_uniforms (input_in c) first = ap (λ input. emitted_uniforms input first) (input_is c) in
-    rw (bin_there c) emitted
+streams_are c = grind (arith, common_steps, nat_tests, file_in, number_in, bin_there, input_is)
 
 stream_same : (first : ℕ) → emitted_uniforms (input_in First) first ≡ emitted_uniforms (input_in Single) first
 unfolding two_clients one_client uniforms_text streams_text stream_text addressed_word moved_word moved is_address source_word sample_number uniform_source stream_offset record_source taken_before given_before shader_used code_number code_of data_of u32_at buffer_at

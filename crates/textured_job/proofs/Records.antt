@@ -3,13 +3,11 @@ use Rattle.std.proofs.Common.{◌≡◌, Some, None, refl}
 use Rattle.shader_records.specs.Rules.{all_questions, state_questions, record_questions, shader_questions, cut_questions, names_questions, body_questions, use_questions, code_questions, handle_questions, fixed_questions, attribute_questions, sample_questions, disagrees, is_attribute_past, has_vertex_past, first_word_at, setup_questions}
 use Rattle.textured_job.specs.Job.{textured, two_clients, one_client, fragment_told}
 use Rattle.textured_job.proofs.Cases.{Case, Alone, First, Second, Single, input_in}
-use Rattle.field_words.specs.Questions.{each, answered, first_of}
+use Rattle.field_words.specs.{Questions.each, Questions.answered, Questions.first_of, Words.u32_at, Words.rounded_up}
 use Rattle.shader_records.specs.Sources.{record_source, uniform_source, source_size, taken_before, shader_used, handles_size, code_number, attribute_number, record_word, sample_number, source_word}
 use Rattle.emitted_facts.specs.Records.{is_single, attribute_size, attribute_stride}
 use Rattle.packets.specs.StateWord.{attribute_count, record_size, is_extended}
-use Rattle.buffer_table.specs.Handles.{code_of, data_of}
-use Rattle.field_words.specs.Words.{u32_at, rounded_up}
-use Rattle.buffer_table.specs.Table.{buffer_at}
+use Rattle.buffer_table.specs.{Handles.code_of, Handles.data_of, Table.buffer_at}
 use Rattle.texture_layouts.specs.Fits.{direct_questions, texture_questions, has_two_strides, lacks_stride, is_unlisted, has_face_past, has_level_below, has_child_image, is_face_past}
 use Rattle.texture_layouts.specs.Setup.{texture_of, is_cube_word, kind_of, cube_stride_of, base_of, levels_of, side_of, type_of, pixel_bytes_of, faces_of, size_below, stride_of, pixels_of}
 use Rattle.texture_layouts.specs.Level.{level_size_of, image_size_of, level_side_of, level_tiling_of, power_above, power_from}

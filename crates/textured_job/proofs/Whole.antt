@@ -1,7 +1,6 @@
 -- No rule stands for either file.
-use Rattle.std.proofs.Common.{◌≡◌, None, refl, ℕ, List, [], ◌∷◌, ◌++◌, Option, Some, ap, ◌∙◌}
-use Rattle.field_words.specs.Questions.{first_of, each, answered, Question}
-use Rattle.field_words.specs.Words.{u64_at}
+use Rattle.std.proofs.Common.{◌≡◌, None, refl, ℕ, List, [], ◌∷◌, ◌++◌, Option, Some, ◌∙◌}
+use Rattle.field_words.specs.{Questions.first_of, Questions.each, Questions.answered, Questions.Question, Words.u64_at}
 use Rattle.qpu_isa.specs.Setups.{adds_direct, muls_direct, is_direct, adds_setup, muls_setup, has_setup, takes_with, kept}
 use Rattle.qpu_isa.specs.Terms.{is_alu, is_load_imm, is_branch, is_switch, is_end, has_small, add_names, mul_names, names_address, names_on_a, names_on_b, is_address_write, is_relative_address_write, add_names_reg, mul_names_reg, names, is_accumulator, names_forbidden, reads_uniform_of, is_tmu_address, s_address, add_writes_tmu, mul_writes_tmu, writes_tmu, first_tmu, tmu_writes, writes_s, add_is_tmu, mul_is_tmu, has_tmu_write, has_two_tmu_writes, has_conditional_tmu_write, is_add_packed, is_mul_packed, is_plain, is_uniform_operand, operand_register, first_register, is_upper, reads_upper, names_upper, sets_alone, loaded_value, is_max_with_zero, is_min_with_uniform, is_add_with_uniform, target_of, is_backward}
 use Rattle.qpu_isa.specs.Word.{sig_of, unpack_of, pm_of, pack_of, cond_add_of, cond_mul_of, sf_of, ws_of, waddr_add_of, waddr_mul_of, op_mul_of, op_add_of, raddr_a_of, raddr_b_of, add_a_of, add_b_of, mul_a_of, mul_b_of, mode_of, imm_of, spare_of, cond_of, relative_of, register_of, raddr_of}
@@ -18,15 +17,16 @@ use Rattle.job_check.specs.Shaders.{words_in, code_questions, told_of, content_o
 use Rattle.textured_job.specs.Job.{code_bytes, fragment_words, vertex_words, fragment_told, vertex_told, textured, two_clients, one_client}
 use Rattle.field_words.proofs.Questions.{passes, answered_none}
 use Rattle.buffer_table.specs.Table.{buffer_at}
-use Rattle.shader_records.specs.Rules.{all_questions}
-use Rattle.job_format.specs.declared.rule.Refusal.{Refusal}
-use Rattle.job_format.specs.Model.{FileModel}
-use Rattle.job_check.specs.Faults.{table_stage, shader_stage, shader_refused, shaders_stage, handles_stage, bin_stage, record_refused, records_stage, surfaces_stage, layout_stage, lists_stages, job_stages, file_stages, stages_within}
+use Rattle.job_format.specs.{declared.rule.Refusal.Refusal, Model.FileModel}
+use Rattle.job_check.specs.Faults.{shader_stage, shader_refused, shaders_stage, records_stage, lists_stages, job_stages, file_stages, stages_within}
 use Rattle.job_check.specs.Jobs.{job_of, states_in, input_for}
 use Rattle.qpu_isa.specs.Shader.{ShaderModel}
 use Rattle.textured_job.proofs.Cases.{Case, Alone, First, Second, Single, file_in, number_in, input_in}
 use Rattle.textured_job.proofs.Lists.{table_none, table_none_of_two, table_none_of_one, handles_none, bin_there, bin_none, states_are, surfaces_none, layout_none}
 use Rattle.textured_job.proofs.Records.{records_asked}
+use Rattle.std.proofs.lemmas.Grind.{common_steps}
+use Rattle.std.proofs.lemmas.Bool.Decides.{nat_tests}
+use Rattle.std.proofs.Common.{arith}
 
 -- No rule stands for the two shaders, and what is told of them.
 
@@ -49,11 +49,7 @@ vertex_is_told = refl
 -- the shaders of a client, in buffers b and b + 1 of a file
 client_none : (f : FileModel) (b d : ℕ) (rest : List (Question Refusal)) → first_of rest ≡ None
     → first_of (answered (shader_refused f b) (code_questions (code_bytes fragment_words)) ++ (answered (shader_refused f d) (code_questions (code_bytes vertex_words)) ++ rest)) ≡ None
-client_none f b d rest none =
-    let fragment = answered (shader_refused f b) (code_questions (code_bytes fragment_words)) in
-    let vertex = answered (shader_refused f d) (code_questions (code_bytes vertex_words)) in
-    passes fragment (vertex ++ rest) (answered_none (shader_refused f b) (code_questions (code_bytes fragment_words)) fragment_no_fault)
-    ∙ (passes vertex rest (answered_none (shader_refused f d) (code_questions (code_bytes vertex_words)) vertex_no_fault) ∙ none)
+client_none f b d rest none = grind (arith, common_steps, nat_tests, passes, answered_none, fragment_no_fault, vertex_no_fault)
 
 shaders_none : first_of (shaders_stage textured) ≡ None
 unfolding textured shaders_stage shader_stage each answered content_of buffer_at
@@ -61,9 +57,7 @@ shaders_none = client_none textured 0 1 [] refl
 
 shaders_none_of_two : first_of (shaders_stage two_clients) ≡ None
 unfolding two_clients shaders_stage shader_stage each answered content_of buffer_at
-shaders_none_of_two =
-    let second = answered (shader_refused two_clients 4) (code_questions (code_bytes fragment_words)) ++ (answered (shader_refused two_clients 5) (code_questions (code_bytes vertex_words)) ++ []) in
-    client_none two_clients 0 1 second (client_none two_clients 4 5 [] refl)
+shaders_none_of_two = grind (arith, common_steps, nat_tests, client_none)
 
 shaders_none_of_one : first_of (shaders_stage one_client) ≡ None
 unfolding two_clients one_client shaders_stage shader_stage each answered content_of buffer_at
@@ -99,32 +93,17 @@ input_computed Second = refl
 input_computed Single = refl
 
 pub input_is : (c : Case) → input_for (file_in c) (number_in c) ≡ input_in c
-input_is c =
-    input_computed c
-    ∙ ap (λ states. record (input_in c) { states = states; shaders = tells_in c fragment_tells vertex_tells }) (states_are c)
-    ∙ ap (λ fragment. record (input_in c) { shaders = tells_in c fragment vertex_tells }) fragment_is_told
-    ∙ ap (λ vertex. record (input_in c) { shaders = tells_in c fragment_told vertex }) vertex_is_told
-    ∙ ap (λ shaders. record (input_in c) { shaders = shaders }) (told_are c)
+input_is c = grind (arith, common_steps, nat_tests, input_computed, input_in, states_are, fragment_is_told, vertex_is_told, told_are)
 
 records_none : (c : Case) → first_of (records_stage (file_in c) (number_in c)) ≡ None
 unfolding records_stage
-records_none c =
-    let questions = all_questions (input_for (file_in c) (number_in c)) in
-    let none : first_of (answered (record_refused (file_in c) (number_in c)) questions) ≡ None =
-    answered_none (record_refused (file_in c) (number_in c)) questions (ap (λ i. first_of (all_questions i)) (input_is c) ∙ records_asked c) in
-    rw (bin_there c) none
+records_none c = grind (arith, common_steps, nat_tests, file_in, number_in, answered_none, input_is, records_asked, bin_there)
 
 -- all of a job
 job_none : (c : Case) → first_of (job_stages (file_in c) (number_in c)) ≡ None
 unfolding job_stages lists_stages
 job_none c =
-    let f : FileModel = file_in c in
-    let j : ℕ = number_in c in
-    let lists : first_of (lists_stages f j) ≡ None =
-    passes (bin_stage f j) (records_stage f j ++ surfaces_stage f j) (bin_none c)
-    ∙ (passes (records_stage f j) (surfaces_stage f j) (records_none c) ∙ surfaces_none c) in
-    passes (handles_stage f j) (lists_stages f j ++ layout_stage f j) (handles_none c)
-    ∙ (passes (lists_stages f j) (layout_stage f j) lists ∙ layout_none c)
+    grind (arith, common_steps, nat_tests, file_in, number_in, passes, bin_none, records_none, surfaces_none, handles_none, layout_none)
 
 one_job_none : first_of (each (job_stages textured) 0 1) ≡ None
 unfolding each
@@ -142,18 +121,12 @@ single_job_none = passes (job_stages one_client 0) [] (job_none Single)
 
 pub file_none : first_of (file_stages textured) ≡ None
 unfolding stages_within textured
-file_none =
-    passes (table_stage textured) (shaders_stage textured ++ each (job_stages textured) 0 1) table_none
-    ∙ (passes (shaders_stage textured) (each (job_stages textured) 0 1) shaders_none ∙ one_job_none)
+file_none = grind (arith, common_steps, nat_tests, passes, table_none, shaders_none, one_job_none)
 
 pub file_none_of_two : first_of (file_stages two_clients) ≡ None
 unfolding stages_within two_clients
-file_none_of_two =
-    passes (table_stage two_clients) (shaders_stage two_clients ++ each (job_stages two_clients) 0 2) table_none_of_two
-    ∙ (passes (shaders_stage two_clients) (each (job_stages two_clients) 0 2) shaders_none_of_two ∙ two_jobs_none)
+file_none_of_two = grind (arith, common_steps, nat_tests, passes, table_none_of_two, shaders_none_of_two, two_jobs_none)
 
 pub file_none_of_one : first_of (file_stages one_client) ≡ None
 unfolding stages_within two_clients one_client
-file_none_of_one =
-    passes (table_stage one_client) (shaders_stage one_client ++ each (job_stages one_client) 0 1) table_none_of_one
-    ∙ (passes (shaders_stage one_client) (each (job_stages one_client) 0 1) shaders_none_of_one ∙ single_job_none)
+file_none_of_one = grind (arith, common_steps, nat_tests, passes, table_none_of_one, shaders_none_of_one, single_job_none)

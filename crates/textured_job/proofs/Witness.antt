@@ -2,28 +2,20 @@
 use Rattle.std.proofs.Common.{◌≡◌, ◌≢◌, ◌<◌, ◌≤◌, ◌^◌, ℕ, Bool, true, List, [], ◌∷◌, length, None, refl, sym, ap, subst, arith, ◌∙◌, lit<}
 use Rattle.std.specs.List.{AllByRecursion}
 use Rattle.std.specs.Prelude.{nat_lt, ◌&&◌}
-use Rattle.std.proofs.lemmas.Bool.{and_parts}
-use Rattle.std.proofs.lemmas.Bool.Decides.{nat_tests}
-use Rattle.field_words.specs.Questions.{first_of, answered}
-use Rattle.field_words.specs.Words.{IsBytes}
+use Rattle.std.proofs.lemmas.Bool.{and_parts, Decides.nat_tests}
+use Rattle.field_words.specs.{Questions.first_of, Questions.answered, Words.IsBytes}
 use Rattle.field_words.proofs.Questions.{passes, answered_none}
-use Rattle.job_format.specs.Faults.{format_questions}
+use Rattle.job_format.specs.{Faults.format_questions, Model.FileModel, Reading.file_at}
 use Rattle.job_format.specs.File.{BufferFits, SurfaceFits, FrameFits, JobFits, Fits, IsJobWellFormed, IsWellFormed, IsFileOf}
-use Rattle.job_format.specs.Model.{FileModel}
-use Rattle.buffer_table.specs.declared.buffer.Kind.{Kind}
-use Rattle.buffer_table.specs.declared.buffer.Kind.TheVariants.{Plain, Code}
-use Rattle.job_format.specs.Reading.{file_at}
+use Rattle.buffer_table.specs.declared.buffer.Kind.{Kind, TheVariants.Plain, TheVariants.Code}
 use Rattle.job_format.specs.Text.{header_text, buffer_text, surface_text, frame_text, job_text, parts_text, file_text}
 use Rattle.job_format.proofs.Laws.{read_again}
-use Rattle.job_check.specs.Faults.{file_stages}
-use Rattle.job_check.specs.Jobs.{job_of}
-use Rattle.job_check.specs.Whole.{format_refused, refusal_of, questions_within}
+use Rattle.job_check.specs.{Faults.file_stages, Jobs.job_of, Whole.format_refused, Whole.refusal_of, Whole.questions_within}
 use Rattle.shader_records.specs.Sources.{shader_used}
 use Rattle.textured_job.specs.Job.{code_bytes, fragment_words, vertex_words, fragment_told, page, absent, colour_write, frame, bin_list, records, uniforms, job, textured, two_clients, one_client}
 use Rattle.textured_job.specs.Laws.{UsesAll, HasAll, IsAccepted, IsWitness, IsWitnessOfTwo, textured_bytes, two_clients_bytes, one_client_bytes}
 use Rattle.textured_job.proofs.Cases.{Case, Alone, First, Second, file_in, number_in}
-use Rattle.textured_job.proofs.Lists.{bin_there}
-use Rattle.textured_job.proofs.Records.{drawn_is}
+use Rattle.textured_job.proofs.{Lists.bin_there, Records.drawn_is}
 use Rattle.textured_job.proofs.Whole.{input_is, file_none, file_none_of_two, file_none_of_one}
 use Rattle.accepted_law.proofs.ByteTexts.{bytes_cons}
 

@@ -2,9 +2,8 @@
 use Rattle.std.proofs.Common.{refl}
 use Rattle.job_format.specs.Reading.{file_at}
 use Rattle.job_safety.proofs.Safety.{header_there, accepted_is_safe, accepted_is_same, accepted_is_apart, file_ends}
-use Rattle.job_safety.proofs.Starts.{AreOfJobs, are_of_jobs, is_accepted}
+use Rattle.job_safety.proofs.{Starts.AreOfJobs, Starts.are_of_jobs, Starts.is_accepted, accepting.accept.Goals.In-Ok}
 use Rattle.job_safety.proofs.accepting.accept.Goals as goal
-use Rattle.job_safety.proofs.accepting.accept.Goals.{In-Ok}
 
 of_jobs : (c : In-Ok) → AreOfJobs c.in-Ok.checked.layouts.items c.in-Ok.checked.lengths.items
 of_jobs c =

@@ -1,8 +1,7 @@
 -- There is a start for each layout.
 use Rattle.std.proofs.Common.{◌≡◌, ◌∙◌, ap, length, sym, arith}
-use Rattle.job_safety.proofs.Starts.{starts_long}
+use Rattle.job_safety.proofs.{Starts.starts_long, accepting.set_up.Goals.After-deref-3}
 use Rattle.job_safety.proofs.accepting.set_up.Goals as goal
-use Rattle.job_safety.proofs.accepting.set_up.Goals.{After-deref-3}
 
 starts_as_many : (c : After-deref-3) → length c.deref-3.result.now ≡ length c.deref.result.now
 starts_as_many c =
