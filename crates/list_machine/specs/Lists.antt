@@ -1,5 +1,5 @@
 -- What the list units of one job keep, and what a step of one of them comes to.
-use Rattle.std.specs.Prelude.{ℕ, Bool, false, true, ◌+◌, ◌*◌, ◌-◌, ◌^◌, ◌<◌, ◌≤◌, List, [], ◌∷◌, ◌++◌, length, Option, None, if◌then◌else◌}
+use Rattle.std.specs.Prelude.{ℕ, Bool, false, true, ◌+◌, ◌*◌, ◌-◌, ◌^◌, ◌<◌, ◌≤◌, List, [], ◌∷◌, ◌++◌, length, Option, None}
 use Rattle.field_words.specs.declared.access.Actor.TheVariants.{Binner as TheBinner, Renderer as TheRenderer}
 use Rattle.list_machine.specs.State.{Binner, Item, Kept, Launch, Renderer, Who, Work}
 

@@ -1,5 +1,7 @@
 //! The accesses of loads and stores.
-ghost use Rattle.std.specs.Prelude.{◌≡◌, ◌+◌, ◌*◌, ◌≤◌, ◌<◌, ◌^◌, Some, IfSome};
+ghost use Rattle.std.specs.Prelude.{◌≡◌, ◌+◌, ◌*◌, ◌/◌, ◌≤◌, ◌<◌, ◌^◌, true, length, Some, IfSome, flat_map};
+ghost use Rattle.byteorder.specs.Endian.{little_bytes};
+ghost use Rattle.field_words.specs.Writes.{with_bytes};
 ghost use Rattle.arrayvec.specs.ArrayVec.{array_vec_len};
 ghost use Rattle.machine_plan.specs.Memory.{stored};
 ghost use Rattle.machine_plan.specs.Plan.{Done};
@@ -13,6 +15,7 @@ use crate::cover::{cover_for, part_count, part_place};
 use crate::reads::end_wild;
 use crate::state::Load;
 use crate::surface::{Cover, Tile};
+use byteorder::{ByteOrder, LittleEndian};
 use field_words::{Way, field};
 use machine_plan::{Accesses, Who, choice_word, list_access, put_byte};
 use phys_mem::PhysMem;
@@ -31,9 +34,19 @@ fn byte_of_words(words: &[u32], k: u64) -> u8
     ((word >> (8 * (k % 4)) as u32) % 256) as u8
 }
 
-/// Writes `size` chosen bytes at `place`, from byte `from` of the choice words on.
+/// Writes these words at `place`, each little endian.
+fn put_words(memory: &mut PhysMem, place: u32, words: &[u32])
+    requires few { length words.now ≤ 2 ^ 12 }
+    requires inside { place + 4 * length words.now ≤ length memory.old }
+    ensures { memory.new ≡ with_bytes memory.old place (flat_map (little_bytes 4) words.now) }
+{
+    let window = memory.window(place, 4 * words.len() as u32);
+    LittleEndian::write_u32_into(words, window);
+}
+
+/// Writes `size` chosen bytes at `place`, from byte `from` of the choice words on, one by one.
 #[tactic(auto, using(crate::proofs::Storing::chosen_step), unfolding(crate::specs::Store::chosen, machine_plan::specs::Memory::stored))]
-fn store_chosen(memory: &mut PhysMem, place: u64, words: &[u32], from: u64, size: u32)
+fn store_by_bytes(memory: &mut PhysMem, place: u64, words: &[u32], from: u64, size: u32)
     requires few { size ≤ 2 ^ 14 }
     requires near { from ≤ 2 ^ 19 }
     requires room { place ≤ 2 ^ 60 }
@@ -45,6 +58,48 @@ fn store_chosen(memory: &mut PhysMem, place: u64, words: &[u32], from: u64, size
             place + i as u64,
             byte_of_words(words, from + i as u64),
         );
+    }
+}
+
+/// Writes `count` whole choice words at `place`, from word `first` on, all of which are there.
+#[tactic(auto, using(crate::proofs::Words::words_stored))]
+fn store_by_words(memory: &mut PhysMem, place: u64, words: &[u32], first: u64, count: u32)
+    requires few { count ≤ 2 ^ 12 }
+    requires near { first + count ≤ length words.now }
+    requires inside { place + 4 * count ≤ length memory.old }
+    ensures { memory.new ≡ stored memory.old place (chosen words.now (4 * first) (4 * count)) }
+{
+    let _size = memory.len();
+    let first = first as usize;
+    put_words(memory, place as u32, &words[first..first + count as usize]);
+}
+
+/// Whether these bytes of the choice words are whole words, all of which are there and go into the memory.
+fn are_words(memory: &PhysMem, place: u64, words: &[u32], from: u64, size: u32) -> bool
+    requires few { size ≤ 2 ^ 14 }
+    requires near { from ≤ 2 ^ 19 }
+    requires room { place ≤ 2 ^ 60 }
+    ensures whole { result ≡ true → (from ≡ 4 * (from / 4)) × (size ≡ 4 * (size / 4)) }
+    ensures there { result ≡ true → from / 4 + size / 4 ≤ length words.now }
+    ensures inside { result ≡ true → place + size ≤ length memory.now }
+{
+    from % 4 == 0
+        && size % 4 == 0
+        && from / 4 + size as u64 / 4 <= words.len() as u64
+        && place + size as u64 <= memory.len() as u64
+}
+
+/// Writes `size` chosen bytes at `place`, from byte `from` of the choice words on.
+fn store_chosen(memory: &mut PhysMem, place: u64, words: &[u32], from: u64, size: u32)
+    requires few { size ≤ 2 ^ 14 }
+    requires near { from ≤ 2 ^ 19 }
+    requires room { place ≤ 2 ^ 60 }
+    ensures { memory.new ≡ stored memory.old place (chosen words.now from size) }
+{
+    if are_words(memory, place, words, from, size) {
+        store_by_words(memory, place, words, from / 4, size / 4);
+    } else {
+        store_by_bytes(memory, place, words, from, size);
     }
 }
 

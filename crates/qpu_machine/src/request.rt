@@ -11,7 +11,7 @@ ghost use Rattle.texture_layouts.specs.Setup.{texture_of};
 ghost use Rattle.qpu_machine.specs.Request.{direct_plan, texture_reads, is_undefined, ask_plan};
 
 use crate::state::{Ask, Row};
-use crate::texels::{chosen_length, chosen_place};
+use crate::texels::{chosen_length, chosen_place, sizes_below};
 use byteorder::{ByteOrder, LittleEndian};
 use field_words::Way;
 use machine_plan::{Accesses, Who, list_access, read_bytes};
@@ -55,8 +55,9 @@ fn list_texels(
     requires listed { is_unlisted texture.now ≡ false }
     ensures { CarriesOver who (texture_reads texture.now words.now 0 128) memory.now accesses.old accesses.new (if_tame result None) }
 {
+    let sizes = sizes_below(texture);
     for m in 0..128 {
-        match chosen_place(texture, words, m) {
+        match chosen_place(texture, &sizes, words, m) {
             Some(place) => {
                 let len = chosen_length(texture, words, m);
                 list_access(who, Way::Read, place, len, accesses);

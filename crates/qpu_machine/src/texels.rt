@@ -1,7 +1,7 @@
 //! Where the reads of a texture lie.
 ghost use Rattle.std.specs.Prelude.{◌≡◌, ◌<◌, ◌≤◌, false};
 ghost use Rattle.texture_layouts.specs.Fits.{is_unlisted};
-ghost use Rattle.qpu_machine.specs.Request.{chosen_level, chosen_face, chosen_x, chosen_y, chosen_place, chosen_length};
+ghost use Rattle.qpu_machine.specs.Request.{AreBelow, chosen_level, chosen_face, chosen_x, chosen_y, chosen_place, chosen_length};
 
 use machine_plan::choice_word;
 use texture_layouts::Texture;
@@ -12,6 +12,7 @@ fn chosen_level(texture: &Texture, words: &[u32], m: u64) -> u32
     requires { m < 128 }
     ensures value { result ≡ chosen_level texture.now words.now m }
     ensures limit { result ≤ texture.now.levels }
+    ensures few { result ≤ 15 }
 {
     choice_word(words, 4 * m) % (texture.levels() + 1)
 }
@@ -44,9 +45,27 @@ fn chosen_y(texture: &Texture, words: &[u32], m: u64) -> u32
     choice_word(words, 4 * m + 3) % texture.level_height(chosen_level(texture, words, m))
 }
 
-/// Where read `m` of a texture lies; `None` where that is below 0.
+/// For each level of a texture the bytes of the levels from 1 to it, which lie below a face's level 0.
+pub(crate) fn sizes_below(texture: &Texture) -> [u64; 16]
+    requires { is_unlisted texture.now ≡ false }
+    ensures { AreBelow texture.now result }
+{
+    let mut sizes = [0; 16];
+    for level in 0..texture.levels() + 1 {
+        sizes[level as usize] = texture.size_below(level);
+    }
+    sizes
+}
+
+/// Where read `m` of a texture lies, by the bytes of the levels below; `None` where that is below 0.
 #[tactic(auto, unfolding(crate::specs::Request::chosen_place))]
-pub(crate) fn chosen_place(texture: &Texture, words: &[u32], m: u64) -> Option<u64>
+pub(crate) fn chosen_place(
+    texture: &Texture,
+    sizes: &[u64; 16],
+    words: &[u32],
+    m: u64,
+) -> Option<u64>
+    requires sizes { AreBelow texture.now sizes.now }
     requires few { m < 128 }
     requires listed { is_unlisted texture.now ≡ false }
     ensures { result ≡ chosen_place texture.now words.now m }
@@ -55,7 +74,7 @@ pub(crate) fn chosen_place(texture: &Texture, words: &[u32], m: u64) -> Option<u
     let face = chosen_face(texture, words, m);
     let x = chosen_x(texture, words, m);
     let y = chosen_y(texture, words, m);
-    texture.fetch_place(face, level, x, y)
+    texture.fetch_place_above(sizes[level as usize], face, level, x, y)
 }
 
 /// How many bytes read `m` of a texture takes.

@@ -1,6 +1,5 @@
 -- A run that goes one step further.
-use Rattle.std.proofs.Common.{◌≡◌, ◌≤◌, ◌<◌, ℕ, suc, ◌+◌, IsTrue, true, false, List, [], ◌∷◌, ◌++◌, length, slice_index, map, Option, None, Some, refl, sym, ◌∙◌, ap, subst, append-nil, append_assoc, arith}
-use Rattle.std.proofs.lemmas.Grind.{common_steps}
+use Rattle.std.proofs.Common.{◌≡◌, ◌≤◌, ◌<◌, ℕ, suc, ◌+◌, IsTrue, false, List, [], ◌∷◌, ◌++◌, length, slice_index, Option, None, Some, refl, sym, ◌∙◌, ap, subst, append-nil, append_assoc, arith}
 use Rattle.field_words.specs.declared.access.Access.{Access}
 use Rattle.field_words.specs.declared.access.Actor.{Actor}
 use Rattle.std.specs.List.{range_with_len}

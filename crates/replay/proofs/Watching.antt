@@ -1,5 +1,5 @@
 -- Which units a step leaves as they were.
-use Rattle.std.proofs.Common.{◌≡◌, ◌≢◌, ◌<◌, ℕ, zero, suc, ◌+◌, ◌*◌, ◌-◌, ◌/◌, ◌%◌, Bool, true, false, List, [], ◌∷◌, ◌++◌, length, slice_index_or, eqb, refl, sym, ◌∙◌, ap, subst, arith}
+use Rattle.std.proofs.Common.{◌≡◌, ◌≢◌, ◌≤◌, ◌<◌, ℕ, zero, suc, ◌+◌, ◌*◌, ◌/◌, ◌%◌, Bool, true, false, List, ◌∷◌, length, slice_index_or, eqb, refl, sym, ◌∙◌, ap, subst, arith}
 use Rattle.std.proofs.lemmas.Bool.{eqb-true, eqb-false}
 use Rattle.field_words.specs.declared.access.Actor.{Actor}
 use Rattle.field_words.specs.declared.access.Actor.TheVariants.{Binner as TheBinner, Renderer as TheRenderer, Qpu as TheQpu, Tmu as TheTmu}
@@ -8,10 +8,12 @@ use Rattle.machine.specs.State.{State, item_at, renderer_job}
 use Rattle.machine.specs.Step.{enabled, step, qpu_may, tmu_may, renderer_may}
 use Rattle.machine.specs.State.{first_where}
 use Rattle.list_machine.specs.Renderer.{has_renderer_work}
-use Rattle.replay.specs.Units.{unit_count, unit_at, enabled_below}
-use Rattle.replay.specs.Watched.{TouchesOne, LeavesOthers, AreAsked, IsElsewhere, StayAsked}
+use Rattle.std.specs.Prelude.{filter, if◌then◌else◌}
+use Rattle.std.specs.List.{range_with_len}
+use Rattle.replay.specs.Units.{unit_count, unit_at, enabled_units}
+use Rattle.replay.specs.Watched.{TouchesOne, LeavesOthers, IsRight, AreAsked, asked_units, IsBeside, IsElsewhere, StayAsked}
 use Rattle.replay.proofs.Quiet.{leaves_others}
-use Rattle.replay.proofs.Order.{renderer_at, qpu_at, tmu0_at, tmu1_at, units_put, units_past}
+use Rattle.replay.proofs.Order.{renderer_at, qpu_at, tmu0_at, tmu1_at}
 
 renderer_stays : (k : ℕ) (s t : State) → TouchesOne k s t → enabled t TheRenderer ≡ enabled s TheRenderer
 unfolding enabled
@@ -78,35 +80,49 @@ right_by new old right at here others n before false is = others n (eqb-false n 
 put_right : (new old right : ℕ → Bool) (at : ℕ) → new at ≡ right at → ((i : ℕ) → i ≢ at → new i ≡ old i) → (n : ℕ) → (n ≢ at → old n ≡ right n) → new n ≡ right n
 put_right new old right at here others n before = right_by new old right at here others n before (eqb n at) refl
 
--- What is asked anew is right, and so is the rest.
-asked_at : (s : State) (k : ℕ) (old one two three new : List Bool) → k < 12 → ((n : ℕ) → IsElsewhere k n → slice_index_or old n false ≡ enabled s (unit_at n))
-    → slice_index_or one 0 false ≡ enabled s (unit_at 0) → ((i : ℕ) → i ≢ 0 → slice_index_or one i false ≡ slice_index_or old i false)
-    → slice_index_or two (3 * k + 2) false ≡ enabled s (unit_at (3 * k + 2)) → ((i : ℕ) → i ≢ 3 * k + 2 → slice_index_or two i false ≡ slice_index_or one i false)
-    → slice_index_or three (3 * k + 3) false ≡ enabled s (unit_at (3 * k + 3)) → ((i : ℕ) → i ≢ 3 * k + 3 → slice_index_or three i false ≡ slice_index_or two i false)
-    → slice_index_or new (3 * k + 4) false ≡ enabled s (unit_at (3 * k + 4)) → ((i : ℕ) → i ≢ 3 * k + 4 → slice_index_or new i false ≡ slice_index_or three i false)
-    → (n : ℕ) → n < unit_count → slice_index_or new n false ≡ enabled s (unit_at n)
-asked_at s k old one two three new few right h1 o1 h2 o2 h3 o3 h4 o4 n below =
-    put_right (λ i. slice_index_or new i false) (λ i. slice_index_or three i false) (λ i. enabled s (unit_at i)) (3 * k + 4) h4 o4 n (λ d.
-    put_right (λ i. slice_index_or three i false) (λ i. slice_index_or two i false) (λ i. enabled s (unit_at i)) (3 * k + 3) h3 o3 n (λ c.
-    put_right (λ i. slice_index_or two i false) (λ i. slice_index_or one i false) (λ i. enabled s (unit_at i)) (3 * k + 2) h2 o2 n (λ b.
-    put_right (λ i. slice_index_or one i false) (λ i. slice_index_or old i false) (λ i. enabled s (unit_at i)) 0 h1 o1 n (λ a.
-    right n (record { below = below; binner = a; qpu = b; tmu0 = c; tmu1 = d })))))
+-- Three are asked anew.
+pub three_right : (s : State) (k : ℕ) (old one two new : List Bool)
+    → slice_index_or one (3 * k + 2) false ≡ enabled s (unit_at (3 * k + 2)) → ((i : ℕ) → i ≢ 3 * k + 2 → slice_index_or one i false ≡ slice_index_or old i false)
+    → slice_index_or two (3 * k + 3) false ≡ enabled s (unit_at (3 * k + 3)) → ((i : ℕ) → i ≢ 3 * k + 3 → slice_index_or two i false ≡ slice_index_or one i false)
+    → slice_index_or new (3 * k + 4) false ≡ enabled s (unit_at (3 * k + 4)) → ((i : ℕ) → i ≢ 3 * k + 4 → slice_index_or new i false ≡ slice_index_or two i false)
+    → (n : ℕ) → (IsBeside k n → IsRight s old n) → IsRight s new n
+three_right s k old one two new h2 o2 h3 o3 h4 o4 n right =
+    put_right (λ i. slice_index_or new i false) (λ i. slice_index_or two i false) (λ i. enabled s (unit_at i)) (3 * k + 4) h4 o4 n (λ c.
+    put_right (λ i. slice_index_or two i false) (λ i. slice_index_or one i false) (λ i. enabled s (unit_at i)) (3 * k + 3) h3 o3 n (λ b.
+    put_right (λ i. slice_index_or one i false) (λ i. slice_index_or old i false) (λ i. enabled s (unit_at i)) (3 * k + 2) h2 o2 n (λ a.
+    right (record { qpu = a; tmu0 = b; tmu1 = c }))))
 
 -- Asked anew after a processor's step.
-pub asked_anew : (s : State) (k : ℕ) (old one two three new : List Bool) → k < 12 → length old ≡ unit_count → ((n : ℕ) → IsElsewhere k n → slice_index_or old n false ≡ enabled s (unit_at n))
+pub asked_anew : (s : State) (k : ℕ) (old one new : List Bool) → length old ≡ unit_count → ((n : ℕ) → IsElsewhere k n → IsRight s old n)
     → length one ≡ length old → slice_index_or one 0 false ≡ enabled s (unit_at 0) → ((i : ℕ) → i ≢ 0 → slice_index_or one i false ≡ slice_index_or old i false)
-    → length two ≡ length one → slice_index_or two (3 * k + 2) false ≡ enabled s (unit_at (3 * k + 2)) → ((i : ℕ) → i ≢ 3 * k + 2 → slice_index_or two i false ≡ slice_index_or one i false)
-    → length three ≡ length two → slice_index_or three (3 * k + 3) false ≡ enabled s (unit_at (3 * k + 3)) → ((i : ℕ) → i ≢ 3 * k + 3 → slice_index_or three i false ≡ slice_index_or two i false)
-    → length new ≡ length three → slice_index_or new (3 * k + 4) false ≡ enabled s (unit_at (3 * k + 4)) → ((i : ℕ) → i ≢ 3 * k + 4 → slice_index_or new i false ≡ slice_index_or three i false)
+    → length new ≡ length one → ((n : ℕ) → (IsBeside k n → IsRight s one n) → IsRight s new n)
     → AreAsked s new
-asked_anew s k old one two three new few long right l1 h1 o1 l2 h2 o2 l3 h3 o3 l4 h4 o4 = record {
-  long = l4 ∙ (l3 ∙ (l2 ∙ (l1 ∙ long)));
-  each = λ n below. asked_at s k old one two three new few right h1 o1 h2 o2 h3 o3 h4 o4 n below;
+asked_anew s k old one new long right l1 h1 o1 l2 three = record {
+  long = l2 ∙ (l1 ∙ long);
+  each = λ n below. three n (λ beside.
+      put_right (λ i. slice_index_or one i false) (λ i. slice_index_or old i false) (λ i. enabled s (unit_at i)) 0 h1 o1 n (λ a.
+      right n (record { below = below; binner = a; qpu = beside.qpu; tmu0 = beside.tmu0; tmu1 = beside.tmu1 })));
 }
 
--- one number further among those that may step
-pub seen_put : (s : State) (may : List Bool) (n : ℕ) (old new : List ℕ) → AreAsked s may → n < unit_count → slice_index_or may n false ≡ true → old ≡ enabled_below s n → new ≡ old ++ n ∷ [] → new ≡ enabled_below s (n + 1)
-seen_put s may n old new asked below here old_is new_is = units_put (λ k. enabled s (unit_at k)) n old new (sym (asked.each n below) ∙ here) old_is new_is
+-- the units of one processor more
+pub asked_more : (s : State) (k : ℕ) (old new : List Bool) → ((n : ℕ) → n < 3 * k + 2 → IsRight s old n) → ((n : ℕ) → (IsBeside k n → IsRight s old n) → IsRight s new n)
+    → (n : ℕ) → n < 3 * (k + 1) + 2 → IsRight s new n
+asked_more s k old new before three n below =
+    three n (λ beside. before n (let a = beside.qpu in let b = beside.tmu0 in let c = beside.tmu1 in omega (arith, a, b, c, below)))
 
-pub seen_past : (s : State) (may : List Bool) (n : ℕ) (old : List ℕ) → AreAsked s may → n < unit_count → slice_index_or may n false ≡ false → old ≡ enabled_below s n → old ≡ enabled_below s (n + 1)
-seen_past s may n old asked below here old_is = units_past (λ k. enabled s (unit_at k)) n old (sym (asked.each n below) ∙ here) old_is
+-- the first two
+pub asked_two : (s : State) (one two : List Bool) → slice_index_or one 0 false ≡ enabled s (unit_at 0) → slice_index_or two 1 false ≡ enabled s (unit_at 1)
+    → ((i : ℕ) → i ≢ 1 → slice_index_or two i false ≡ slice_index_or one i false) → (n : ℕ) → n < 3 * 0 + 2 → IsRight s two n
+asked_two s one two h0 h1 o1 zero below = o1 0 (λ e. cc) ∙ h0
+asked_two s one two h0 h1 o1 (suc zero) below = h1
+asked_two s one two h0 h1 o1 (suc (suc n)) below = absurd (omega (arith, below))
+
+same_in : (p q : ℕ → Bool) (a n : ℕ) → ((k : ℕ) → a ≤ k → k < a + n → p k ≡ q k) → filter p (range_with_len a n) ≡ filter q (range_with_len a n)
+same_in p q a zero same = refl
+same_in p q a (suc n) same =
+    ap (λ b. if b then a ∷ filter p (range_with_len (a + 1) n) else filter p (range_with_len (a + 1) n)) (same a (omega arith) (omega arith))
+    ∙ ap (λ rest. if q a then a ∷ rest else rest) (same_in p q (a + 1) n (λ k low high. same k (omega (arith, low)) (omega (arith, high))))
+
+-- those that are kept as units that may step are those that may
+pub asked_enabled : (s : State) (may : List Bool) (units : List ℕ) → AreAsked s may → units ≡ asked_units may → units ≡ enabled_units s
+asked_enabled s may units asked kept = kept ∙ same_in (λ n. slice_index_or may n false) (λ n. enabled s (unit_at n)) 0 unit_count (λ k low high. asked.each k (omega (arith, high)))

@@ -1,5 +1,6 @@
 -- What is known of which units may step.
-use Rattle.std.specs.Prelude.{◌≡◌, ◌≢◌, ◌<◌, ℕ, ◌+◌, ◌*◌, Bool, false, List, length, slice_index_or}
+use Rattle.std.specs.Prelude.{◌≡◌, ◌≢◌, ◌<◌, ℕ, ◌+◌, ◌*◌, Bool, false, List, length, filter, slice_index_or}
+use Rattle.std.specs.List.{range_with_len}
 use Rattle.field_words.specs.declared.access.Actor.{Actor}
 use Rattle.field_words.specs.declared.access.Actor.TheVariants.{Binner as TheBinner, Renderer as TheRenderer, Qpu as TheQpu, Tmu as TheTmu}
 use Rattle.machine.specs.State.{State, item_at}
@@ -19,10 +20,24 @@ LeavesOthers TheRenderer before after = Unit {0}
 LeavesOthers (TheQpu k) before after = TouchesOne k before after
 LeavesOthers (TheTmu k n) before after = TouchesOne k before after
 
+-- what is kept of unit n is whether it may step
+abbrev pub IsRight : State → List Bool → ℕ → Type 0
+IsRight s may n = slice_index_or may n false ≡ enabled s (unit_at n)
+
 -- of each unit by its number whether it may step
 pub record AreAsked (s : State) (may : List Bool) : Type 0 where
   pub long : length may ≡ unit_count
-  pub each : (n : ℕ) → n < unit_count → slice_index_or may n false ≡ enabled s (unit_at n)
+  pub each : (n : ℕ) → n < unit_count → IsRight s may n
+
+-- the numbers of those that may, the least first
+abbrev pub asked_units : List Bool → List ℕ
+asked_units may = filter (λ n. slice_index_or may n false) (range_with_len 0 unit_count)
+
+-- unit n is neither processor k nor one of its TMUs
+pub record IsBeside (k n : ℕ) : Type 0 where
+  pub qpu : n ≢ 3 * k + 2
+  pub tmu0 : n ≢ 3 * k + 3
+  pub tmu1 : n ≢ 3 * k + 4
 
 -- unit n is neither the binner nor processor k nor one of its TMUs
 pub record IsElsewhere (k n : ℕ) : Type 0 where
@@ -36,5 +51,5 @@ pub record IsElsewhere (k n : ℕ) : Type 0 where
 abbrev pub StayAsked : Actor → State → List Bool → Type 0
 StayAsked TheBinner s may = Unit {0}
 StayAsked TheRenderer s may = Unit {0}
-StayAsked (TheQpu k) s may = (n : ℕ) → IsElsewhere k n → slice_index_or may n false ≡ enabled s (unit_at n)
-StayAsked (TheTmu k m) s may = (n : ℕ) → IsElsewhere k n → slice_index_or may n false ≡ enabled s (unit_at n)
+StayAsked (TheQpu k) s may = (n : ℕ) → IsElsewhere k n → IsRight s may n
+StayAsked (TheTmu k m) s may = (n : ℕ) → IsElsewhere k n → IsRight s may n

@@ -3,9 +3,8 @@ ghost use Rattle.std.specs.Prelude.{◌≡◌, ◌≢◌, ◌<◌, ℕ, false, l
 ghost use Rattle.machine.specs.Step.{enabled, finished, job_of, step};
 ghost use Rattle.machine_plan.specs.World.{Moves};
 ghost use Rattle.replay.specs.Units.{unit_count, unit_at, enabled_units};
-ghost use Rattle.replay.specs.Watched.{AreAsked, IsElsewhere, StayAsked};
+ghost use Rattle.replay.specs.Watched.{IsRight, AreAsked, asked_units, IsBeside, IsElsewhere, StayAsked};
 
-use crate::units::unit_at;
 use arrayvec::ArrayVec;
 use field_words::Actor;
 use machine::Machine;
@@ -18,68 +17,134 @@ const UNITS: usize = 38;
 /// How many processors a machine has.
 const PROCESSORS: u8 = 12;
 
-/// A machine, and of each unit whether it may step. A step changes that of few units, and only these are asked again.
+/// A machine, and of each unit whether it may step, with the numbers of those that may. A step changes that of few units, and
+/// only these are asked again.
 #[derive(Drop)]
 pub(crate) struct Watched {
     machine: Machine,
     may: [bool; UNITS],
+    units: ArrayVec<u8, UNITS>,
 }
 
 impl Model for Watched {
+    ghost use Rattle.std.specs.Prelude.{◌≡◌};
     ghost use Rattle.machine.specs.State.{State};
-    ghost use Rattle.replay.specs.Watched.{AreAsked};
+    ghost use Rattle.replay.specs.Watched.{AreAsked, asked_units};
 
     ghost Value = { State };
 
     ghost view = { λ w. w.machine };
 
-    ghost invariant = { λ w. AreAsked w.machine w.may };
+    ghost invariant = { λ w. AreAsked w.machine w.may × (w.units.items ≡ asked_units w.may) };
 }
 
-// Asks unit `n`.
-fn ask(machine: &Machine, n: u8, may: &mut [bool; UNITS])
-    requires { n < unit_count }
+// Asks unit `n`, which is this one. False comes only where the answer is as before.
+#[inline]
+fn ask(machine: &Machine, n: u8, unit: Actor, may: &mut [bool; UNITS]) -> bool
+    requires inside { n < unit_count }
+    requires is { unit ≡ unit_at n }
     ensures here { slice_index_or may.new n false ≡ enabled machine.now (unit_at n) }
     ensures others { (i : ℕ) → i ≢ n → slice_index_or may.new i false ≡ slice_index_or may.old i false }
     ensures long { length may.new ≡ length may.old }
+    ensures same { result ≡ false → may.new ≡ may.old }
 {
-    may[n as usize] = machine.enabled(unit_at(n));
+    let now = machine.enabled(unit);
+    if may[n as usize] == now {
+        return false;
+    }
+    may[n as usize] = now;
+    true
 }
 
-// Asks every unit.
+// Whether one of these holds.
+fn one_of(first: bool, second: bool) -> bool
+    ensures { result ≡ false → (first ≡ false) × (second ≡ false) }
+{
+    first || second
+}
+
+// Asks processor `k` and its TMUs. What is right of another unit stays so. False comes only where all answers are as before.
+#[tactic(auto, using(crate::proofs::Order::qpu_at, crate::proofs::Order::tmu0_at, crate::proofs::Order::tmu1_at))]
+fn ask_three(machine: &Machine, k: u8, may: &mut [bool; UNITS]) -> bool
+    requires { k < 12 }
+    ensures right { (n : ℕ) → (IsBeside k n → IsRight machine.now may.old n) → IsRight machine.now may.new n }
+    ensures long { length may.new ≡ length may.old }
+    ensures same { result ≡ false → may.new ≡ may.old }
+{
+    let qpu = ask(machine, 3 * k + 2, Actor::Qpu(k), may);
+    let first = ask(machine, 3 * k + 3, Actor::Tmu(k, 0), may);
+    let second = ask(machine, 3 * k + 4, Actor::Tmu(k, 1), may);
+    one_of(qpu, one_of(first, second))
+}
+
+// Asks every unit. Each kind is asked for itself, so that no number has to be taken apart.
+#[tactic(auto, using(crate::proofs::Order::binner_at, crate::proofs::Order::renderer_at))]
 fn ask_all(machine: &Machine) -> [bool; UNITS]
     ensures { AreAsked machine.now result }
 {
     let mut may = [false; UNITS];
-    for n in 0..UNITS as u8 {
-        ask(machine, n, &mut may);
+    ask(machine, 0, Actor::Binner, &mut may);
+    ask(machine, 1, Actor::Renderer, &mut may);
+    for k in 0..PROCESSORS {
+        ask_three(machine, k, &mut may);
     }
     may
 }
 
-// Asks anew after a step of processor `k` or of one of its TMUs: these, and the binner, which may wait for the processor.
-fn ask_processor(machine: &Machine, k: u8, may: &mut [bool; UNITS])
+// Asks anew after a step of processor `k` or of one of its TMUs: these, and the binner, which may wait for the processor. False comes
+// only where all answers are as before.
+#[tactic(auto, using(crate::proofs::Order::binner_at))]
+fn ask_processor(machine: &Machine, k: u8, may: &mut [bool; UNITS]) -> bool
     requires few { k < 12 }
     requires long { length may.old ≡ unit_count }
-    requires others { (n : ℕ) → IsElsewhere k n → slice_index_or may.old n false ≡ enabled machine.now (unit_at n) }
-    ensures { AreAsked machine.now may.new }
+    requires others { (n : ℕ) → IsElsewhere k n → IsRight machine.now may.old n }
+    ensures asked { AreAsked machine.now may.new }
+    ensures same { result ≡ false → may.new ≡ may.old }
 {
-    ask(machine, 0, may);
-    ask(machine, 3 * k + 2, may);
-    ask(machine, 3 * k + 3, may);
-    ask(machine, 3 * k + 4, may);
+    let binner = ask(machine, 0, Actor::Binner, may);
+    let three = ask_three(machine, k, may);
+    one_of(binner, three)
 }
 
-// Asks anew after a step of this unit.
-fn ask_after(machine: &Machine, unit: Actor, may: &mut [bool; UNITS])
+// Asks anew after a step of this unit. False comes only where all answers are as before.
+fn ask_after(machine: &Machine, unit: Actor, may: &mut [bool; UNITS]) -> bool
     requires long { length may.old ≡ unit_count }
     requires others { StayAsked unit machine.now may.old }
-    ensures { AreAsked machine.now may.new }
+    ensures asked { AreAsked machine.now may.new }
+    ensures same { result ≡ false → may.new ≡ may.old }
 {
     match unit {
         Actor::Qpu(k) if k < PROCESSORS => ask_processor(machine, k, may),
         Actor::Tmu(k, _) if k < PROCESSORS => ask_processor(machine, k, may),
-        _ => *may = ask_all(machine),
+        _ => {
+            *may = ask_all(machine);
+            true
+        }
+    }
+}
+
+// The numbers of the units that may step, the least first.
+#[tactic(auto, using(crate::proofs::Order::units_put, crate::proofs::Order::units_past))]
+fn asked_units(may: &[bool; UNITS]) -> ArrayVec<u8, UNITS>
+    ensures { result.items ≡ asked_units may.now }
+{
+    let mut units = ArrayVec::new();
+    for n in 0..UNITS {
+        if may[n] {
+            units.push(n as u8);
+        }
+    }
+    units
+}
+
+// The same list.
+fn copied(units: &ArrayVec<u8, UNITS>) -> ArrayVec<u8, UNITS>
+    ensures { result.items ≡ units.now.items }
+{
+    let mut copy = ArrayVec::new();
+    match copy.try_extend_from_slice(units.as_slice()) {
+        Ok(()) => copy,
+        Err(_) => copy,
     }
 }
 
@@ -89,21 +154,19 @@ impl Watched {
         ensures { result ≡ machine }
     {
         let may = ask_all(&machine);
-        Watched { machine, may }
+        let units = asked_units(&may);
+        Watched {
+            machine,
+            may,
+            units,
+        }
     }
 
     /// The numbers of the units that may step, the least first.
-    #[tactic(auto, using(crate::proofs::Watching::seen_put, crate::proofs::Watching::seen_past))]
     pub(crate) fn units(&self) -> ArrayVec<u8, UNITS>
         ensures { result.items ≡ enabled_units self.now }
     {
-        let mut units = ArrayVec::new();
-        for n in 0..UNITS {
-            if self.may[n] {
-                units.push(n as u8);
-            }
-        }
-        units
+        copied(&self.units)
     }
 
     /// Whether no unit has any work left.
@@ -127,6 +190,8 @@ impl Watched {
         ensures { Moves (step self.old (record { unit = unit; words = words.now })) accesses.new.items self.new }
     {
         self.machine.step(unit, words, accesses);
-        ask_after(&self.machine, unit, &mut self.may);
+        if ask_after(&self.machine, unit, &mut self.may) {
+            self.units = asked_units(&self.may);
+        }
     }
 }

@@ -1,11 +1,11 @@
 -- The units so far are asked.
-use Rattle.std.proofs.Common.{◌≡◌, ◌<◌, ℕ, false, length, slice_index_or}
-use Rattle.machine.specs.Step.{enabled}
-use Rattle.replay.specs.Units.{unit_count, unit_at}
+use Rattle.std.proofs.Common.{◌≡◌, ◌<◌, ◌+◌, ◌*◌, ℕ, length}
+use Rattle.replay.specs.Units.{unit_count}
+use Rattle.replay.specs.Watched.{IsRight}
 use Rattle.replay.proofs.watched.ask_all.Given as goal
 
-abbrev pub invariant-loop-n : goal.invariant-loop-n
-invariant-loop-n l = record {
+abbrev pub invariant-loop-k : goal.invariant-loop-k
+invariant-loop-k l = record {
   long : length l.may ≡ unit_count;
-  each : (k : ℕ) → k < l.n → slice_index_or l.may k false ≡ enabled l.machine (unit_at k);
+  each : (n : ℕ) → n < 3 * l.k + 2 → IsRight l.machine l.may n;
 }

@@ -1,7 +1,7 @@
 use Rattle.std.proofs.Common.{◌≡◌, ◌+◌, ◌-◌}
 use Rattle.machine_plan.specs.Memory.{stored}
 use Rattle.list_machine.specs.Store.{chosen}
-use Rattle.list_machine.proofs.parts.store_chosen.Given as goal
+use Rattle.list_machine.proofs.parts.store_by_bytes.Given as goal
 
 abbrev pub invariant-loop-i : goal.invariant-loop-i
 invariant-loop-i l =
