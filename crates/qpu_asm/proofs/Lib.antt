@@ -1,6 +1,7 @@
 pub mod Bytes
 pub mod Words
 pub mod Rows
+pub mod Rooms
 pub mod Reading
 pub mod Placing
 pub mod Faults

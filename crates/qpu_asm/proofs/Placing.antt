@@ -1,5 +1,5 @@
 -- Words by column, and rows by name.
-use Rattle.std.proofs.Common.{◌≡◌, ◌≢◌, ℕ, ◌+◌, ◌≤◌, ◌<◌, Bool, true, false, ◌==◌, List, [], ◌∷◌, length, get_or, slice_index, drop, refl, sym, ◌∙◌, ap, arith, ne_eqb, cond, drop-cons, add-one, Result, bytes_eq, suc, subst, min, if◌then◌else◌}
+use Rattle.std.proofs.Common.{◌≡◌, ◌≢◌, ℕ, ◌+◌, ◌≤◌, ◌<◌, Bool, true, false, ◌==◌, List, [], ◌∷◌, length, get_or, slice_index, drop, refl, sym, ◌∙◌, ap, arith, ne_eqb, cond, drop-cons, add-one, Result, suc, subst, min, if◌then◌else◌}
 use Rattle.std.specs.Prelude.{slice_index_or}
 use Rattle.std.specs.List.{slice_split, onto_first}
 use Rattle.script.specs.Lines.{before, behind, lines_of, onto_line}
@@ -7,14 +7,12 @@ use Rattle.qpu_asm.specs.declared.fault.Mistake.{Mistake}
 use Rattle.qpu_asm.specs.declared.table.Row as code
 use Rattle.qpu_asm.specs.Table.{Row}
 use Rattle.qpu_asm.specs.Items.{Spots, is_row, kind_named}
-use Rattle.qpu_asm.specs.Faults.{rows_behind, rows_after, mistakes_in, value_mistakes, item_mistakes}
+use Rattle.qpu_asm.specs.Faults.{rows_behind, rows_after, value_mistakes, item_mistakes}
 use Rattle.qpu_asm.specs.Lines.{is_full, Line, Coded}
-use Rattle.qpu_asm.specs.Place.{Word, words_from, placed_words, wanted_number, wanted_value, wanted_item, is_of, item_place, code_place, words_place}
+use Rattle.qpu_asm.specs.Place.{Word, words_from, placed_words, wanted_item, is_of, item_place, code_place, words_place}
 use Rattle.qpu_asm.specs.declared.place.Opcode.{Opcode}
 use Rattle.std.specs.declared.option.Option.TheVariants.{None, Some}
 use Rattle.qpu_asm.specs.Seen.{row_seen, rows_seen}
-use Rattle.qpu_asm.specs.declared.place.Wanted.TheVariants.{Equals, Target}
-use Rattle.qpu_asm.proofs.Rows.{none_left}
 
 -- a space before the words
 placed_space : (column : ℕ) (bytes : List ℕ) → placed_words column (32 ∷ bytes) ≡ placed_words (column + 1) bytes
@@ -70,47 +68,15 @@ placed_none column [] none = refl
 placed_none column (byte ∷ bytes) none = absurd (omega arith)
 
 -- rows that are read one after another
-pub value_reaches : (name : List ℕ) (read : Row → Result ℕ Mistake) (rest later : List code.Row) (row : code.Row) → rest ≡ row ∷ later
-    → is_row name (row_seen row) ≡ true → mistakes_in (read (row_seen row)) ≡ value_mistakes name read (rows_seen rest)
-unfolding value_mistakes
-value_reaches name read rest later row is here = rw (is, here) refl
-
 pub value_passes : (name : List ℕ) (read : Row → Result ℕ Mistake) (rest later : List code.Row) (row : code.Row) → rest ≡ row ∷ later
     → is_row name (row_seen row) ≡ false → value_mistakes name read (rows_seen later) ≡ value_mistakes name read (rows_seen rest)
 unfolding value_mistakes
 value_passes name read rest later row is other = rw (is, other) refl
 
-pub value_ends : (name : List ℕ) (read : Row → Result ℕ Mistake) (rest : List code.Row) → length rest ≡ 0 → [] ≡ value_mistakes name read (rows_seen rest)
-unfolding value_mistakes
-value_ends name read rest is = rw (none_left rest is) refl
-
-pub behind_reaches : (name : List ℕ) (rest later : List code.Row) (row : code.Row) → rest ≡ row ∷ later → is_row name (row_seen row) ≡ true
-    → rows_seen later ≡ rows_behind name (rows_seen rest)
-unfolding rows_behind
-behind_reaches name rest later row is here = rw (is, here) refl
-
 pub behind_passes : (name : List ℕ) (rest later : List code.Row) (row : code.Row) → rest ≡ row ∷ later → is_row name (row_seen row) ≡ false
     → rows_behind name (rows_seen later) ≡ rows_behind name (rows_seen rest)
 unfolding rows_behind
 behind_passes name rest later row is other = rw (is, other) refl
-
-pub behind_ends : (name : List ℕ) (rest : List code.Row) → length rest ≡ 0 → rows_seen rest ≡ rows_behind name (rows_seen rest)
-unfolding rows_behind
-behind_ends name rest is = rw (none_left rest is) refl
-
-pub wanted_reaches : (name : List ℕ) (rest later : List code.Row) (row : code.Row) → rest ≡ row ∷ later → is_row name (row_seen row) ≡ true
-    → wanted_value name (rows_seen rest) ≡ (if bytes_eq (row_seen row).name name then wanted_number (row_seen row).named (row_seen row).below else Target)
-unfolding wanted_value
-wanted_reaches name rest later row is here = rw (is, here) refl
-
-pub wanted_passes : (name : List ℕ) (rest later : List code.Row) (row : code.Row) → rest ≡ row ∷ later → is_row name (row_seen row) ≡ false
-    → wanted_value name (rows_seen later) ≡ wanted_value name (rows_seen rest)
-unfolding wanted_value
-wanted_passes name rest later row is other = rw (is, other) refl
-
-pub wanted_ends : (name : List ℕ) (rest : List code.Row) → length rest ≡ 0 → Equals ≡ wanted_value name (rows_seen rest)
-unfolding wanted_value
-wanted_ends name rest is = rw (none_left rest is) refl
 
 -- the first line of a text is no longer than the text
 abbrev head_or : List ℕ → List (List ℕ) → List ℕ

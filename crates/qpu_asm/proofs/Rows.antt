@@ -6,8 +6,8 @@ use Rattle.qpu_isa.specs.Fields.{width_of, values_of}
 use Rattle.qpu_asm.specs.declared.table.Row.{Row}
 use Rattle.qpu_asm.specs.Table as table
 use Rattle.qpu_asm.specs.Table.{widths_of, alu_kind, load_imm_kind, branch_kind, nop_kind}
-use Rattle.qpu_asm.specs.Walk.{is_ready, are_ready}
-use Rattle.qpu_asm.specs.Printed.{item_texts, item_text, spaced, rows_text, kind_of}
+use Rattle.qpu_asm.specs.Walk.{is_ready, are_ready, field_text}
+use Rattle.qpu_asm.specs.Printed.{item_texts, spaced, rows_text}
 use Rattle.qpu_asm.specs.Seen.{row_seen, rows_seen}
 
 pub none_left : {A : Type 0} (xs : List A) → length xs ≡ 0 → xs ≡ []
@@ -46,11 +46,20 @@ row_facts row ready =
       label = others.1;
     }
 
+-- the first row
+pub width_by : (rest later : List table.Row) (row : table.Row) → rest ≡ row ∷ later → width_of (widths_of rest) ≡ row.width + width_of (widths_of later)
+unfolding width_of
+width_by rest later row is = ap (λ rows. width_of (widths_of rows)) is
+
+pub ready_by : (rest later : List table.Row) (row : table.Row) → rest ≡ row ∷ later → are_ready rest ≡ true → RowFacts row × (are_ready later ≡ true)
+ready_by rest later row is ready =
+    let parts = ready_parts row later (sym (ap are_ready is) ∙ ready) in
+    (row_facts row parts.0, parts.1)
+
 -- the first row of the code's
 pub width_first : (rest later : List Row) (row : Row) → rest ≡ row ∷ later
     → width_of (widths_of (rows_seen rest)) ≡ row.width + width_of (widths_of (rows_seen later))
-unfolding width_of
-width_first rest later row is = ap (λ rows. width_of (widths_of (rows_seen rows))) is
+width_first rest later row is = width_by (rows_seen rest) (rows_seen later) (row_seen row) (ap rows_seen is)
 
 pub width_none : (rest : List Row) → length rest ≡ 0 → width_of (widths_of (rows_seen rest)) ≡ 0
 unfolding width_of
@@ -58,9 +67,7 @@ width_none rest is = ap (λ rows. width_of (widths_of (rows_seen rows))) (none_l
 
 pub ready_first : (rest later : List Row) (row : Row) → rest ≡ row ∷ later → are_ready (rows_seen rest) ≡ true
     → RowFacts (row_seen row) × (are_ready (rows_seen later) ≡ true)
-ready_first rest later row is ready =
-    let parts = ready_parts (row_seen row) (rows_seen later) (sym (ap (λ rows. are_ready (rows_seen rows)) is) ∙ ready) in
-    (row_facts (row_seen row) parts.0, parts.1)
+ready_first rest later row is ready = ready_by (rows_seen rest) (rows_seen later) (row_seen row) (ap rows_seen is) ready
 
 -- the text of the rows that are left
 text_by : (same : Bool) (item : List ℕ) (items : List (List ℕ)) → spaced (if same then items else item ∷ items) ≡ (if same then [] else 32 ∷ item) ++ spaced items
@@ -68,17 +75,16 @@ unfolding spaced
 text_by true item items = refl
 text_by false item items = refl
 
-pub text_first : (rest later : List Row) (row : Row) (word low value : ℕ) → rest ≡ row ∷ later
-    → low ≡ width_of (widths_of (rows_seen later)) → value ≡ word / 2 ^ low % 2 ^ row.width
-    → rows_text (rows_seen rest) word ≡ (if value == row.fallback then [] else 32 ∷ item_text (row_seen row) value) ++ rows_text (rows_seen later) word
+pub text_first : (rest later : List table.Row) (row : table.Row) (word low width value : ℕ) → rest ≡ row ∷ later → width ≡ row.width
+    → low ≡ width_of (widths_of later) → value ≡ word / 2 ^ low % 2 ^ width
+    → rows_text rest word ≡ field_text row value ++ rows_text later word
 unfolding item_texts values_of
-text_first rest later row word low value is at field = rw (is, field, at) (text_by _ _ _)
+text_first rest later row word low width value is same at field = rw (is, field, same, at) (text_by _ _ _)
 
-pub text_none : (rest : List Row) (word : ℕ) → length rest ≡ 0 → rows_text (rows_seen rest) word ≡ []
+pub text_none : (rest : List table.Row) (word : ℕ) → length rest ≡ 0 → rows_text rest word ≡ []
 unfolding item_texts spaced
-text_none rest word is = ap (λ rows. rows_text (rows_seen rows) word) (none_left rest is)
+text_none rest word is = ap (λ rows. rows_text rows word) (none_left rest is)
 
--- the tables' rows are ready, and fill a word
 pub kind_cases : (P : table.Kind → Type 0) (nop load branch : Bool) → P nop_kind → P load_imm_kind → P branch_kind → P alu_kind
     → P (if nop then nop_kind else (if load then load_imm_kind else (if branch then branch_kind else alu_kind)))
 kind_cases P true load branch a b c d = a
@@ -86,13 +92,26 @@ kind_cases P false true branch a b c d = b
 kind_cases P false false true a b c d = c
 kind_cases P false false false a b c d = d
 
-pub kind_ready : (word : ℕ) → are_ready (kind_of word).rows ≡ true
-unfolding kind_of are_ready is_ready
-kind_ready word = kind_cases (λ kind. are_ready kind.rows ≡ true) _ _ _ refl refl refl refl
+-- the tables' rows are ready, and fit a word
+pub record IsReadyKind (kind : table.Kind) : Type 0 where
+  pub ready : are_ready kind.rows ≡ true
+  pub wide : width_of (widths_of kind.rows) ≤ 64
 
-pub kind_wide : (word : ℕ) → width_of (widths_of (kind_of word).rows) ≤ 64
-unfolding kind_of width_of
-kind_wide word = kind_cases (λ kind. width_of (widths_of kind.rows) ≤ 64) _ _ _ (lit≤ tt) (lit≤ tt) (lit≤ tt) (lit≤ tt)
+pub nop_ready : IsReadyKind nop_kind
+unfolding are_ready is_ready width_of
+nop_ready = record { ready = refl; wide = lit≤ tt }
+
+pub alu_ready : IsReadyKind alu_kind
+unfolding are_ready is_ready width_of
+alu_ready = record { ready = refl; wide = lit≤ tt }
+
+pub load_imm_ready : IsReadyKind load_imm_kind
+unfolding are_ready is_ready width_of
+load_imm_ready = record { ready = refl; wide = lit≤ tt }
+
+pub branch_ready : IsReadyKind branch_kind
+unfolding are_ready is_ready width_of
+branch_ready = record { ready = refl; wide = lit≤ tt }
 
 pub row_below : (row : table.Row) → RowFacts row → row.below ≤ 2 ^ 32
 row_below row facts = le_trans facts.below (pow_mono facts.high)

@@ -2,6 +2,7 @@ pub mod Marks
 pub mod Place
 pub mod Table
 pub mod Seen
+pub mod Sheets
 pub mod Lines
 pub mod Items
 pub mod Labels

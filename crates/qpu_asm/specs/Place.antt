@@ -24,11 +24,14 @@ pub record Word : Type 0 where
   pub column : ℕ
   pub text : List ℕ
 
+abbrev pub word_at : ℕ → List ℕ → Word
+word_at column text = record { column = column; text = text }
+
 -- the words among the parts between spaces, where the first part begins at a column
 unfoldable pub words_from : ℕ → List (List ℕ) → List Word
 words_from column [] = []
 words_from column (part ∷ parts) =
-    if is_full part then record { column = column; text = part } ∷ words_from (column + length part + 1) parts else words_from (column + 1) parts
+    if is_full part then word_at column part ∷ words_from (column + length part + 1) parts else words_from (column + 1) parts
 
 -- the words of a line that begins at a column
 unfoldable pub placed_words : ℕ → List ℕ → List Word

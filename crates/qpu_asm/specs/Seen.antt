@@ -1,18 +1,29 @@
--- The code's tables as the definitions' tables.
-use Rattle.std.specs.Prelude.{List, map}
+-- The code's tables as the definitions' tables, and what it has read as the definitions' words.
+use Rattle.std.specs.Prelude.{ℕ, List, map}
+use Rattle.std.specs.declared.option.Option.{Option}
+use Rattle.std.specs.declared.result.Result.{Result}
+use Rattle.script.specs.declared.lines.Cut.{Cut}
+use Rattle.qpu_asm.specs.declared.fault.AsmFault.{AsmFault}
+use Rattle.qpu_asm.specs.declared.fault.Mistake.{Mistake}
 use Rattle.qpu_asm.specs.declared.lines.Line.{Line}
 use Rattle.qpu_asm.specs.declared.lines.Line.TheVariants as line
 use Rattle.qpu_asm.specs.declared.label.Mark.{Mark}
 use Rattle.qpu_asm.specs.Lines as lines
-use Rattle.qpu_asm.specs.Items.{Spots}
+use Rattle.qpu_asm.specs.Items.{Spots, read_value}
 use Rattle.qpu_asm.specs.Labels.{LabelSpot, spot_among}
 use Rattle.qpu_asm.specs.declared.table.Named.{Named}
 use Rattle.qpu_asm.specs.declared.table.Row.{Row}
 use Rattle.qpu_asm.specs.declared.table.Kind.{Kind}
 use Rattle.qpu_asm.specs.Table as table
+use Rattle.qpu_asm.specs.Printed.{name_of}
+use Rattle.qpu_asm.specs.Walk.{line_words}
 
 abbrev pub named_seen : Named → table.Named
 named_seen named = record { name = named.name.now; value = named.value }
+
+-- the name that a value has among these
+abbrev pub name_among : List Named → ℕ → Option (List ℕ)
+name_among named value = name_of (map named_seen named) value
 
 abbrev pub row_seen : Row → table.Row
 row_seen row = record {
@@ -41,5 +52,16 @@ line_seen (line.Coded cut) = lines.Coded cut.first.now (lines.words_of cut.rest.
 abbrev pub mark_seen : Mark → LabelSpot
 mark_seen mark = record { name = mark.name.now; spot = mark.spot }
 
+abbrev pub labels_seen : List Mark → List LabelSpot
+labels_seen marks = map mark_seen marks
+
 abbrev pub spots_in : List Mark → Spots
-spots_in marks = spot_among (map mark_seen marks)
+spots_in marks = spot_among (labels_seen marks)
+
+-- the value of an item that was cut at its `=`, by the row of its name
+abbrev pub value_seen : List Mark → ℕ → Cut → table.Row → Result ℕ Mistake
+value_seen marks index cut = read_value (spots_in marks) index cut.first.now cut.rest.now
+
+-- the words with that of a line, or the least of the line's faults
+abbrev pub line_put : List Mark → ℕ → List ℕ → Line → Result (List ℕ) AsmFault
+line_put marks number words line = line_words (spots_in marks) number words (line_seen line)

@@ -1,6 +1,6 @@
 -- What the assembler has read after each item and each line: the word so far, or the least fault so far. No part of what the
 -- crate claims.
-use Rattle.std.specs.Prelude.{ℕ, ◌+◌, ◌*◌, ◌^◌, ◌≤◌, ◌≡◌, ◌==◌, Bool, true, not, ◌&&◌, ◌||◌, nat_lt, nat_le, List, [], ◌∷◌, ◌++◌, length, if◌then◌else◌}
+use Rattle.std.specs.Prelude.{ℕ, ◌+◌, ◌*◌, ◌^◌, ◌≤◌, ◌<◌, ◌≡◌, ◌==◌, Bool, true, not, ◌&&◌, ◌||◌, nat_lt, nat_le, List, [], ◌∷◌, ◌++◌, length, take, slice_index_or, if◌then◌else◌}
 use Rattle.std.specs.List.{list_all}
 use Rattle.std.specs.declared.option.Option.{Option}
 use Rattle.std.specs.declared.option.Option.TheVariants.{None, Some}
@@ -16,6 +16,7 @@ use Rattle.qpu_asm.specs.Lines.{Line, Blank, Label, BadLabel, Coded}
 use Rattle.qpu_asm.specs.Items.{Spots, mistake_number, read_value, is_row, has_row, has_value, kind_named}
 use Rattle.qpu_asm.specs.Labels.{is_before}
 use Rattle.qpu_asm.specs.Faults.{fault_on}
+use Rattle.qpu_asm.specs.Printed.{item_text}
 
 -- the one with the lesser number, where there is another
 abbrev pub least_of : Mistake → Option Mistake → Mistake
@@ -38,6 +39,29 @@ is_ready row =
 
 unfoldable pub are_ready : List Row → Bool
 are_ready rows = list_all is_ready rows
+
+-- what a row writes of a value: nothing where it is the default, else its item behind a space
+abbrev pub field_text : Row → ℕ → List ℕ
+field_text row value = if value == row.fallback then [] else 32 ∷ item_text row value
+
+-- what was written: all that went out, and the front of the room
+abbrev pub written : List ℕ → List ℕ → ℕ → List ℕ
+written out room end = out ++ take end room
+
+-- the same with a text behind it
+abbrev pub followed : List ℕ → List ℕ → ℕ → List ℕ → List ℕ
+followed out room end text = out ++ (take end room ++ text)
+
+-- the texts of a row's first values
+unfoldable pub AreTexts : Row → List (List ℕ) → Type 0
+AreTexts row texts = (value : ℕ) (d : List ℕ) → value < length texts → slice_index_or texts value d ≡ field_text row value
+
+-- a kind with the width of its fields, and its rows with their texts
+pub record IsSheet (kind : Kind) (width : ℕ) (rows : List Row) : Type 0 where
+  pub same : rows ≡ kind.rows
+  pub ready : are_ready rows ≡ true
+  pub sum : width ≡ width_of (widths_of rows)
+  pub wide : width ≤ 64
 
 -- the word can take the rows' fields
 pub record IsOpen (word : ℕ) (rows : List Row) : Type 0 where

@@ -4,10 +4,9 @@ ghost use Rattle.field_words.specs.declared.stop.Stop.TheVariants.{Fault};
 ghost use Rattle.qpu_asm.specs.Labels.{is_before};
 ghost use Rattle.qpu_asm.specs.Faults.{fault_on as fault_by, text_faults, AnswersLeast};
 ghost use Rattle.qpu_asm.specs.Assembly.{Assembled, IsFaultOf};
-ghost use Rattle.qpu_asm.specs.Walk.{line_words};
 ghost use Rattle.qpu_asm.specs.Marks.{IsFirstBelow};
 ghost use Rattle.qpu_asm.specs.Lines.{Label};
-ghost use Rattle.qpu_asm.specs.Seen.{line_seen, spots_in};
+ghost use Rattle.qpu_asm.specs.Seen.{line_seen, spots_in, line_put};
 
 use crate::fault::{AsmFault, Mistake};
 use crate::item::read_code;
@@ -48,8 +47,8 @@ fn put_line<'a>(
 ) -> Result<(), Stop<AsmFault>>
     requires room { vec_len words.old < 2 ^ 32 }
     requires first { IsFirstBelow found.now.first_below (spots_in found.now.labels) number (line_seen line) }
-    ensures words { IfOk result (λ _. line_words (spots_in found.now.labels) number words.old.items (line_seen line.entry) ≡ Ok words.new.items) }
-    ensures fault { IfErr result (IsFaultOf (line_words (spots_in found.now.labels) number words.old.items (line_seen line.entry))) }
+    ensures words { IfOk result (λ _. line_put found.now.labels number words.old.items line.entry ≡ Ok words.new.items) }
+    ensures fault { IfErr result (IsFaultOf (line_put found.now.labels number words.old.items line.entry)) }
     ensures more { IfOk result (λ _. vec_len words.new ≤ vec_len words.old + 1) }
 {
     match line {

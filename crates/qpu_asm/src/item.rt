@@ -2,11 +2,11 @@
 ghost use Rattle.std.specs.Prelude.{◌≡◌, ◌≤◌, ◌<◌, ◌*◌, ◌+◌, ◌^◌, ◌∷◌, true, map, MatchOption, IfOk, Some, None, if◌then◌else◌};
 ghost use Rattle.qpu_isa.specs.Fields.{joined};
 ghost use Rattle.qpu_asm.specs.Table.{widths_of, fallbacks_of};
-ghost use Rattle.qpu_asm.specs.Items.{find_named, read_number as number_read, read_plain as plain_read, distance as distance_by, read_target as target_read, read_value as value_read, is_row as row_test, has_row as row_among, kind_named as kind_by};
+ghost use Rattle.qpu_asm.specs.Items.{find_named, read_number as number_read, read_plain as plain_read, distance as distance_by, read_target as target_read, is_row as row_test, has_row as row_among, kind_named as kind_by};
 ghost use Rattle.qpu_asm.specs.Walk.{least_of as least_by, with_fault as faulted, with_value as valued, skip_to as skipped, read_named as named_read, read_item as item_read, closed_word as word_by, kind_code, code_of, is_ready, IsOpen};
 ghost use Rattle.qpu_asm.specs.declared.fault.Mistake.TheVariants.{BadOperand, UnknownWord};
 ghost use Rattle.qpu_asm.specs.Lines.{words_of};
-ghost use Rattle.qpu_asm.specs.Seen.{named_seen, row_seen, rows_seen, kind_seen, spots_in};
+ghost use Rattle.qpu_asm.specs.Seen.{named_seen, row_seen, rows_seen, kind_seen, spots_in, value_seen};
 
 use crate::fault::Mistake;
 use crate::label::{Labels, find_spot};
@@ -208,7 +208,7 @@ fn skip_to<'a>(
     cut: Cut<'a>,
 ) -> Partial
     requires { IsOpen word (rows_seen rows.now) }
-    ensures { result ≡ skipped cut.entry.first.now (value_read (spots_in labels.now) index cut.entry.first.now cut.entry.rest.now) fault word (rows_seen rows.now) }
+    ensures { result ≡ skipped cut.entry.first.now (value_seen labels.now index cut.entry) fault word (rows_seen rows.now) }
 {
     let mut rest = rows;
     let mut word = word;
@@ -297,7 +297,7 @@ pub fn read_value<'a>(
     row: &Row,
 ) -> Result<u64, Mistake>
     requires { row.now.below ≤ 2 ^ 32 }
-    ensures { result ≡ value_read (spots_in labels.now) index cut.entry.first.now cut.entry.rest.now (row_seen row.now) }
+    ensures { result ≡ value_seen labels.now index cut.entry (row_seen row.now) }
 {
     if row.name == cut.first {
         read_plain(row, cut.rest)

@@ -1,10 +1,10 @@
 //! The labels of a text: a mark for each line that defines one, sorted by name.
-ghost use Rattle.std.specs.Prelude.{◌≡◌, ◌<◌, ◌≤◌, ◌^◌, ◌++◌, length, map, min, IfOk, OnOk, IsSorted, Some, None, bytes_eq, if◌then◌else◌};
+ghost use Rattle.std.specs.Prelude.{◌≡◌, ◌<◌, ◌≤◌, ◌^◌, ◌++◌, length, min, IfOk, OnOk, IsSorted, Some, None, bytes_eq, if◌then◌else◌};
 ghost use Rattle.std.specs.Cmp.Lexicographic.{slice_cmp};
 ghost use Rattle.std.specs.Ordering.{nat_cmp, is_lt};
 ghost use Rattle.qpu_asm.specs.Labels.{spots_of, labels_of, label_on, read_lines, size_of};
 ghost use Rattle.qpu_asm.specs.Marks.{mark_cmp, AreFirstBelow, BoundsRepeats, IsStart};
-ghost use Rattle.qpu_asm.specs.Seen.{line_seen, mark_seen, spots_in};
+ghost use Rattle.qpu_asm.specs.Seen.{line_seen, labels_seen, spots_in};
 
 use crate::lines::{Line, read_line};
 use script::next_line;
@@ -82,7 +82,7 @@ fn colons(text: &[u8]) -> usize
 // The marks of a text, line after line.
 fn marks_of(alloc: Global, text: &[u8]) -> Result<Vec<Mark<'_>>, AllocError>
     requires { length text.now < 2 ^ 32 }
-    ensures { IfOk result (λ marks. map mark_seen marks.items ≡ labels_of text.now) }
+    ensures { IfOk result (λ marks. labels_seen marks.items ≡ labels_of text.now) }
 {
     let mut marks = Vec::with_capacity(alloc, colons(text))?;
     let mut rest = text;
@@ -119,7 +119,8 @@ fn size(line: Line<'_>) -> u64
 // Puts a label's line to the marks of the lines above it.
 #[tactic(auto, using(crate::proofs::Sorting::seen_push))]
 fn add_line<'a>(marks: &mut Vec<Mark<'a>>, line: Line<'a>, spot: Spot) -> Result<(), AllocError>
-    ensures { OnOk result (map mark_seen marks.new.items ≡ map mark_seen marks.old.items ++ label_on spot.line spot.index (line_seen line.entry)) }
+    ensures { OnOk result (
+        labels_seen marks.new.items ≡ labels_seen marks.old.items ++ label_on spot.line spot.index (line_seen line.entry)) }
 {
     match line {
         Line::Label(name) => {

@@ -2,17 +2,21 @@
 //!
 //! The text's language is in `specs/`: `Table` (which items an instruction has, from the highest bit down, and their names),
 //! `Lines`, `Items`, `Labels`, `Faults` (all faults of a text), `Assembly` (its words, or the least of its faults) and `Printed`
-//! (the disassembler's text). `Walk`, `Marks` and `Seen` tie the code to these.
+//! (the disassembler's text). `Walk`, `Marks`, `Seen` and `Sheets` tie the code to these.
 #![tactic(auto)]
 
 mod assembler;
 mod disassembler;
 mod fault;
+mod field;
 mod item;
 mod label;
 mod lines;
 mod names;
+mod piece;
 mod place;
+mod sheet;
+mod sheets;
 mod table;
 
 pub use assembler::assemble;

@@ -4,10 +4,10 @@ ghost use Rattle.std.specs.Option.{option_to_list};
 ghost use Rattle.qpu_asm.specs.Walk.{are_ready};
 ghost use Rattle.script.specs.Lines.{lines_of};
 ghost use Rattle.qpu_asm.specs.Faults.{rows_after, rows_behind, item_mistakes, value_mistakes};
-ghost use Rattle.qpu_asm.specs.Items.{read_value as value_read, kind_named as kind_by};
+ghost use Rattle.qpu_asm.specs.Items.{kind_named as kind_by};
 ghost use Rattle.qpu_asm.specs.Lines.{Line as LineModel, read_line as line_read};
-ghost use Rattle.qpu_asm.specs.Place.{placed_words, line_at, opcode_of, wanted_number, wanted_value, wanted_item, is_of, item_place, code_place, words_place, fault_place, items_text, opcode_text, wanted_text};
-ghost use Rattle.qpu_asm.specs.Seen.{line_seen, named_seen, rows_seen, spots_in};
+ghost use Rattle.qpu_asm.specs.Place.{word_at, placed_words, line_at, opcode_of, wanted_number, wanted_value, wanted_item, is_of, item_place, code_place, words_place, fault_place, items_text, opcode_text, wanted_text};
+ghost use Rattle.qpu_asm.specs.Seen.{line_seen, named_seen, rows_seen, spots_in, value_seen};
 
 use crate::fault::{AsmFault, Mistake};
 use crate::item::{has_row, is_row, kind_named, read_value};
@@ -98,7 +98,7 @@ fn skip_spaces(line: &[u8], column: u32) -> Skipped<'_>
 fn next_placed(line: &[u8], column: u32) -> Option<Placed<'_>>
     requires { column + length line.now < 2 ^ 32 }
     ensures words { MatchOption result (placed_words column line.now ≡ []) (λ placed. placed_words column line.now ≡
-        record { column = placed.column; text = placed.cut.first.now } ∷ placed_words placed.next placed.cut.rest.now) }
+        word_at placed.column placed.cut.first.now ∷ placed_words placed.next placed.cut.rest.now) }
     ensures shorter { IfSome result (λ placed. length placed.cut.rest.now < length line.now) }
     ensures inside { IfSome result (λ placed. placed.next + length placed.cut.rest.now ≤ column + length line.now) }
 {
@@ -114,7 +114,8 @@ fn first_placed(line: &[u8], column: u32) -> Placed<'_>
     requires room { column + length line.now < 2 ^ 32 }
     requires some { 0 < length line.now }
     requires word { slice_index line.now 0 ≢ 32 }
-    ensures words { placed_words column line.now ≡ record { column = result.column; text = result.cut.first.now } ∷ placed_words result.next result.cut.rest.now }
+    ensures words { placed_words column line.now ≡
+        word_at result.column result.cut.first.now ∷ placed_words result.next result.cut.rest.now }
     ensures shorter { length result.cut.rest.now < length line.now }
     ensures inside { result.next + length result.cut.rest.now ≤ column + length line.now }
 {
@@ -208,7 +209,7 @@ fn wanted_item(opcode: Opcode, all: &[Row], rows: &[Row], item: &[u8]) -> Wanted
 #[tactic(auto, unfolding(crate::specs::Faults::value_mistakes))]
 fn value_mistake<'a>(labels: &Labels<'a>, cut: Cut<'a>, rows: &[Row]) -> Option<Mistake>
     requires { are_ready (rows_seen rows.now) ≡ true }
-    ensures { option_to_list result ≡ value_mistakes cut.entry.first.now (value_read (spots_in labels.now) 0 cut.entry.first.now cut.entry.rest.now) (rows_seen rows.now) }
+    ensures { option_to_list result ≡ value_mistakes cut.entry.first.now (value_seen labels.now 0 cut.entry) (rows_seen rows.now) }
 {
     let mut rest = rows;
     while let Some((row, later)) = rest.split_first() {

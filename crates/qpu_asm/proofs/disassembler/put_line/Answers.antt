@@ -1,12 +1,13 @@
-use Rattle.std.proofs.Common.{ap, ◌∙◌, ◌≤◌, sym, subst}
-use Rattle.qpu_isa.specs.Fields.{width_of}
-use Rattle.qpu_asm.specs.Table.{widths_of}
-use Rattle.qpu_asm.specs.Walk.{are_ready}
-use Rattle.qpu_asm.proofs.Rows.{kind_ready, kind_wide}
+use Rattle.std.proofs.Common.{◌∙◌, ap, take, ◌++◌, ◌∷◌, []}
+use Rattle.qpu_asm.specs.Printed.{kind_text, line_text}
+use Rattle.qpu_asm.proofs.Rooms.{two_puts}
 use Rattle.qpu_asm.proofs.disassembler.put_line.Goals as goal
 
-pub put_kind-requires-clause-ready : goal.put_kind-requires-clause-ready
-put_kind-requires-clause-ready c = ap (λ kind. are_ready kind.rows) c.kind_of.ensures ∙ kind_ready c.args.word
-
-pub put_kind-requires-clause-wide : goal.put_kind-requires-clause-wide
-put_kind-requires-clause-wide c = subst (λ kind. width_of (widths_of kind.rows) ≤ 64) (sym c.kind_of.ensures) (kind_wide c.args.word)
+pub returns-clause-text : goal.returns-clause-text
+unfolding line_text
+returns-clause-text c =
+    let word = c.args.word in
+    let out = c.args.out.now.items in
+    let front = take c.args.at c.args.room.now in
+    two_puts out front c.put.new.out.items (take c.in_ok-from.from c.put.new.room) _ (kind_text word c.sheet.result.now) (10 ∷ []) c.in_ok-from.ensures.text c.in_ok-end.ensures.text
+    ∙ ap (λ kind. out ++ (front ++ (kind_text word kind ++ 10 ∷ []))) c.sheet.ensures

@@ -1,6 +1,6 @@
 use Rattle.std.proofs.Common.{arith}
 use Rattle.qpu_asm.proofs.Rows.{width_first, width_none}
-use Rattle.qpu_asm.proofs.disassembler.total_width.Goals as goal
+use Rattle.qpu_asm.proofs.sheet.total_width.Goals as goal
 
 pub overflow_add-total : goal.overflow_add-total
 overflow_add-total c = omega (arith, width_first c.loop-row.rest.now c.in-Some.later.now c.in-Some.row.now c.in-Some.ensures.cases.0)

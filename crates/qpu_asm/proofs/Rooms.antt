@@ -1,0 +1,65 @@
+-- Text that is written into a room.
+use Rattle.std.proofs.Common.{◌≡◌, ℕ, ◌+◌, ◌-◌, ◌≤◌, ◌<◌, ◌⊎◌, List, [], ◌∷◌, ◌++◌, length, length-append, take, drop, take-add, slice_index_or, sym, ◌∙◌, ap, arith, append_assoc, inl, inr}
+use Rattle.std.proofs.lemmas.Bool.{cases_lt}
+use Rattle.std.proofs.lemmas.List.{get_or_push, get_or_append_left, take_at, drop_at, take_more, take-append-le, length-take-le, flat_map_more}
+use borrow.Rule.Slice.PartMut.{put_mid, post_of}
+use Rattle.std.specs.List.{flat_map}
+use Rattle.qpu_asm.specs.Table.{Row}
+use Rattle.qpu_asm.specs.Printed.{line_text}
+use Rattle.qpu_asm.specs.Walk.{AreTexts, field_text}
+
+pub texts_none : (row : Row) → AreTexts row []
+unfolding AreTexts
+texts_none row = λ value d below. absurd (omega (arith, below))
+
+by_place : (row : Row) (texts : List (List ℕ)) (text : List ℕ) → AreTexts row texts → text ≡ field_text row (length texts)
+    → (value : ℕ) (d : List ℕ) → value < length (texts ++ text ∷ []) → (value < length texts) ⊎ (length texts ≤ value)
+    → slice_index_or (texts ++ text ∷ []) value d ≡ field_text row value
+unfolding AreTexts
+by_place row texts text are is value d below (inl before) = get_or_append_left texts (text ∷ []) d value before ∙ are value d before
+by_place row texts text are is value d below (inr from) =
+    let here : length texts ≡ value = omega (arith, length-append texts (text ∷ []), below, from) in
+    get_or_push texts text d value here ∙ (is ∙ ap (field_text row) here)
+
+pub texts_more : (row : Row) (texts : List (List ℕ)) (text : List ℕ) → AreTexts row texts → text ≡ field_text row (length texts) → AreTexts row (texts ++ text ∷ [])
+unfolding AreTexts
+texts_more row texts text are is = λ value d below. by_place row texts text are is value d below (cases_lt value (length texts))
+
+-- the front of a room in which a piece was put with all its bytes
+pub put_piece : (room bytes : List ℕ) (at k len : ℕ) → at ≤ length room → len ≤ length bytes
+    → take (at + len) (put_mid at k room bytes) ≡ take at room ++ take len bytes
+put_piece room bytes at k len inside short =
+    let front : length (take at room) ≡ at = length-take-le at room inside in
+    let behind = bytes ++ post_of at k room in
+    take-add at len (take at room ++ behind)
+    ∙ ap (λ l. l ++ take len (drop at (take at room ++ behind))) (take_at (take at room) behind at front)
+    ∙ ap (λ l. take at room ++ take len l) (drop_at (take at room) behind at front)
+    ∙ ap (λ l. take at room ++ l) (take-append-le len bytes (post_of at k room) short)
+
+pub is_kept : (row : Row) (texts : List (List ℕ)) (value : ℕ) (piece : List ℕ) → AreTexts row texts → value < length texts
+    → piece ≡ slice_index_or texts value piece → piece ≡ field_text row value
+unfolding AreTexts
+is_kept row texts value piece are below is = is ∙ are value piece below
+
+-- a text was put behind what went out and what the room has
+pub put_then : (out front new end text rest : List ℕ) → new ++ end ≡ out ++ (front ++ text) → new ++ (end ++ rest) ≡ out ++ (front ++ (text ++ rest))
+put_then out front new end text rest put =
+    sym (append_assoc new end rest)
+    ∙ (ap (λ l. l ++ rest) put
+    ∙ (append_assoc out (front ++ text) rest ∙ ap (λ l. out ++ l) (append_assoc front text rest)))
+
+pub two_puts : (out front new end last text more : List ℕ) → new ++ end ≡ out ++ (front ++ text) → last ≡ new ++ (end ++ more)
+    → last ≡ out ++ (front ++ (text ++ more))
+two_puts out front new end last text more first second = second ∙ put_then out front new end text more first
+
+-- one more line
+pub lines_more : (words : List ℕ) (i d : ℕ) (out front new end : List ℕ) → i < length words → out ++ front ≡ flat_map line_text (take i words)
+    → new ++ end ≡ out ++ (front ++ line_text (slice_index_or words i d)) → new ++ end ≡ flat_map line_text (take (i + 1) words)
+lines_more words i d out front new end below before put =
+    let line = flat_map_more line_text [] (take i words) (slice_index_or words i d) ∙ ap (flat_map line_text) (sym (take_more words i d below)) in
+    put ∙ (sym (append_assoc out front (line_text (slice_index_or words i d)))
+    ∙ (ap (λ l. l ++ line_text (slice_index_or words i d)) before ∙ line))
+
+-- a kept text was put behind what the room has
+pub kept_put : (out front new piece text : List ℕ) → new ≡ front ++ piece → piece ≡ text → out ++ new ≡ out ++ (front ++ text)
+kept_put out front new piece text put is = ap (λ l. out ++ l) (put ∙ ap (λ l. front ++ l) is)

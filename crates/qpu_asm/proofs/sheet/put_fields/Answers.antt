@@ -1,0 +1,48 @@
+use Rattle.std.proofs.Common.{arith, sym, ◌∙◌, ap, ◌++◌, take, append-nil, ◌≡◌, ◌-◌}
+use Rattle.qpu_isa.specs.Fields.{width_of}
+use Rattle.qpu_asm.specs.Table.{widths_of}
+use Rattle.qpu_asm.specs.Walk.{field_text}
+use Rattle.qpu_asm.specs.Printed.{rows_text}
+use Rattle.qpu_asm.proofs.Rows.{width_by, ready_by, text_first, text_none}
+use Rattle.qpu_asm.proofs.Rooms.{put_then}
+use Rattle.qpu_asm.proofs.sheet.put_fields.Goals as goal
+
+pub overflow_sub-low : goal.overflow_sub-low
+overflow_sub-low c =
+    let width = width_by _ _ _ c.in-Some.ensures.cases.0 in
+    let same = c.width-width.ensures in
+    omega arith
+
+pub field_at-requires : goal.field_at-requires
+field_at-requires c =
+    let width = width_by _ _ _ c.in-Some.ensures.cases.0 in
+    let same = c.width-width.ensures in
+    let facts = (ready_by _ _ _ c.in-Some.ensures.cases.0 c.loop-column.invariant.ready).0 in
+    record { inside = omega (arith, facts.low); narrow = omega (arith, facts.high) }
+
+pub loop-column-preserved : goal.loop-column-preserved
+loop-column-preserved c =
+    let first = c.in-Some.ensures.cases.0 in
+    let width = width_by _ _ _ first in
+    let same = c.width-width.ensures in
+    let at : c.loop-column.low - c.width-width.result ≡ width_of (widths_of c.in-Some.later.now) = omega arith in
+    let word = c.args.word in
+    let rest = rows_text c.in-Some.later.now word in
+    let front = take c.loop-column.end c.loop-column.room in
+    record {
+      ready = (ready_by _ _ _ first c.loop-column.invariant.ready).1;
+      low = at;
+      wide = omega arith;
+      end = c.in_ok-end.ensures.end;
+      long = c.put.ensures.long ∙ c.loop-column.invariant.long;
+      text =
+          put_then c.loop-column.out.items front c.put.new.out.items (take c.in_ok-end.end c.put.new.room) (field_text c.in-Some.column.now c.field_at.result) rest
+          c.in_ok-end.ensures.text
+          ∙ (ap (λ text. c.loop-column.out.items ++ (front ++ text)) (sym (text_first _ _ _ word _ _ _ first same at c.field_at.ensures)) ∙ c.loop-column.invariant.text);
+    }
+
+pub returns-clause-text : goal.returns-clause-text
+returns-clause-text c =
+    let front = take c.loop-column.end c.loop-column.room in
+    ap (λ text. c.loop-column.out.items ++ text) (sym (append-nil front))
+    ∙ (ap (λ text. c.loop-column.out.items ++ (front ++ text)) (sym (text_none c.loop-column.rest.now c.args.word c.in_default.ensures.cases)) ∙ c.loop-column.invariant.text)

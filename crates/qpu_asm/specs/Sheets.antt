@@ -1,0 +1,7 @@
+-- The kinds of instructions with the texts of their fields. No part of what the crate claims.
+use Rattle.qpu_asm.specs.declared.sheets.Sheets.{Sheets}
+use Rattle.qpu_asm.specs.Table.{nop_kind, alu_kind, load_imm_kind, branch_kind}
+
+-- a sheet of each kind
+abbrev pub all_sheets : Sheets
+all_sheets = record { nop = nop_kind; alu = alu_kind; load_imm = load_imm_kind; branch = branch_kind }

@@ -1,0 +1,82 @@
+//! Text that is written into a room piece by piece, and taken from it a whole room at a time.
+ghost use Rattle.std.specs.Prelude.{◌≡◌, ◌≤◌, ◌+◌, ◌++◌, length, take, IfSome, IfOk};
+ghost use Rattle.qpu_asm.specs.Walk.{written, followed};
+
+use std::alloc::AllocError;
+use std::marker::Model;
+
+/// A text of at most 16 bytes.
+#[derive(Drop)]
+pub struct Piece {
+    bytes: [u8; 16],
+    len: usize,
+}
+
+impl Model for Piece {
+    ghost use Rattle.std.specs.Prelude.{List, ℕ, take, ◌≤◌};
+
+    ghost Value = { List ℕ };
+
+    ghost view = { λ p. take p.len p.bytes };
+
+    ghost invariant = { λ p. p.len ≤ 16 };
+}
+
+impl Piece {
+    /// The piece of this text, where it isn't too long.
+    pub fn of(text: &[u8]) -> Option<Piece>
+        ensures { IfSome result (λ piece. piece ≡ text.now) }
+    {
+        if text.len() > 16 {
+            return None;
+        }
+        let mut bytes = [0; 16];
+        bytes[..text.len()].copy_from_slice(text);
+        Some(Piece {
+            bytes,
+            len: text.len(),
+        })
+    }
+
+    /// Puts it behind what a room has, and says where it ends. It is written with all 16 bytes, so that no length has to be known first.
+    #[tactic(auto, using(crate::proofs::Rooms::put_piece))]
+    pub fn put(&self, room: &mut [u8], at: usize) -> usize
+        requires { at + 16 ≤ length room.old }
+        ensures text { take result room.new ≡ take at room.old ++ self.now }
+        ensures end { result ≤ length room.new }
+        ensures long { length room.new ≡ length room.old }
+    {
+        room[at..at + 16].copy_from_slice(&self.bytes);
+        at + self.len
+    }
+}
+
+/// Puts a text behind what a room has, and says where it ends. Where it doesn't fit, all goes out, and the room is empty.
+pub fn put_text(
+    out: &mut Vec<u8>,
+    room: &mut [u8],
+    at: usize,
+    text: &[u8],
+) -> Result<usize, AllocError>
+    requires { at ≤ length room.old }
+    ensures text { IfOk result (λ end. written out.new.items room.new end ≡ followed out.old.items room.old at text.now) }
+    ensures end { IfOk result (λ end. end ≤ length room.new) }
+    ensures long { length room.new ≡ length room.old }
+{
+    if text.len() <= room.len() - at {
+        return Ok(put_within(room, at, text));
+    }
+    out.extend_from_slice(&room[..at])?;
+    out.extend_from_slice(text)?;
+    Ok(0)
+}
+
+fn put_within(room: &mut [u8], at: usize, text: &[u8]) -> usize
+    requires { at + length text.now ≤ length room.old }
+    ensures text { take result room.new ≡ take at room.old ++ text.now }
+    ensures end { result ≤ length room.new }
+    ensures long { length room.new ≡ length room.old }
+{
+    room[at..at + text.len()].copy_from_slice(text);
+    at + text.len()
+}
