@@ -9,6 +9,9 @@ _vc4check() {
   case "${COMP_WORDS[1]} $before" in
     "replay --favour") mapfile -t COMPREPLY < <(compgen -W "qpu texture binner renderer" -- "$word") ;;
     replay*) mapfile -t COMPREPLY < <(compgen -W "--favour --accesses --seeds" -- "$word"; compgen -f -- "$word") ;;
+    "picture --favour") mapfile -t COMPREPLY < <(compgen -W "qpu texture binner renderer" -- "$word") ;;
+    "picture --run") mapfile -t COMPREPLY < <(compgen -W "--favour" -- "$word") ;;
+    "picture picture") mapfile -t COMPREPLY < <(compgen -W "--run" -- "$word"; compgen -f -- "$word") ;;
     "shader shader") mapfile -t COMPREPLY < <(compgen -W "--asm" -- "$word"; compgen -f -- "$word") ;;
     "untile untile" | "tile tile") mapfile -t COMPREPLY < <(compgen -W "t lt" -- "$word") ;;
     *) mapfile -t COMPREPLY < <(compgen -f -- "$word") ;;

@@ -5,7 +5,7 @@ use Rattle.replay.specs.declared.units.UnitKind.TheVariants.{Binner, Renderer, Q
 use Rattle.script.specs.Lines.{before, behind}
 use Rattle.script.specs.Number.{number_within}
 use Rattle.seeded_runs.specs.declared.told.Look.{Look}
-use Rattle.seeded_runs.specs.declared.told.Look.TheVariants.{Steps, Accesses, Seeds}
+use Rattle.seeded_runs.specs.declared.told.Look.TheVariants.{Steps, Accesses, Picture, Seeds}
 use Rattle.seeded_runs.specs.declared.told.Trial.{Trial}
 use Rattle.seeded_runs.specs.Told.{most_seeds}
 use Rattle.commands.specs.declared.trial.SeedRange.{SeedRange}
@@ -80,3 +80,14 @@ favoured_run (Some kind) steps seed = one_run Steps (Some kind) steps seed
 abbrev pub favoured_trial : Option UnitKind → (look first second : List ℕ) → Option Trial
 favoured_trial None look first second = None
 favoured_trial (Some kind) look first second = trial_named (Some kind) look first second
+
+-- "--run STEPS SEED" behind `picture`, and with "--favour KIND" before these numbers
+abbrev pub drawn_run : (run steps seed : List ℕ) → Option Trial
+drawn_run run steps seed = if bytes_eq run (codes "--run") then one_run Picture None steps seed else None
+
+abbrev pub drawn_by : Option UnitKind → (steps seed : List ℕ) → Option Trial
+drawn_by None steps seed = None
+drawn_by (Some kind) steps seed = one_run Picture (Some kind) steps seed
+
+abbrev pub favoured_drawn : (run : List ℕ) → Option UnitKind → (steps seed : List ℕ) → Option Trial
+favoured_drawn run favoured steps seed = if bytes_eq run (codes "--run") then drawn_by favoured steps seed else None

@@ -9,7 +9,7 @@ use Rattle.commands.specs.Words.{most_number, most_slots, most_queued}
 use Rattle.commands.specs.Topics.{verb_named, usage_of}
 use Rattle.commands.specs.declared.help.Verb.{Verb}
 use Rattle.commands.specs.declared.help.Verb.TheVariants.{Check, Replay, Picture, Upgrade, Bound, Show, Make, Gen, Slots, Queue, Session, Untile, Tile, Level, Asm, Disasm, Shader, Explain}
-use Rattle.commands.specs.declared.word_fault.TheConstants.{COMMANDS, RUN, SEEDS, EXAMPLE, SLOTS, QUEUE, PICTURE, LEVEL, RULE, KIND}
+use Rattle.commands.specs.declared.word_fault.TheConstants.{COMMANDS, RUN, FAVOURED, SEEDS, EXAMPLE, SLOTS, QUEUE, PICTURE, LEVEL, RULE, KIND}
 use Rattle.commands.specs.declared.word_fault.Argument.{Argument}
 use Rattle.commands.specs.declared.word_fault.Argument.TheVariants.{Steps, Seed, Example, SlotCount, Buffers, PictureTiling, Cpp, Width, Height, P0, P1, P2, P3, Face, LevelNumber, Rule, Kind, Favoured, SeedNumbers}
 use Rattle.commands.specs.declared.word_fault.Values.{Values}
@@ -122,14 +122,21 @@ replay_fault verb count [] = look_fault verb count 2 []
 replay_fault verb count (word ∷ words) =
     if bytes_eq word (codes "--favour") then favour_fault verb count words else look_fault verb count 2 (word ∷ words)
 
+-- the words of a run that is drawn, behind `--run`, may begin by saying which kind of unit is favoured
+unfoldable pub drawn_fault : Verb → ℕ → List (List ℕ) → WordFault
+drawn_fault verb count [] = fault_among verb count 3 RUN []
+drawn_fault verb count (word ∷ words) =
+    if bytes_eq word (codes "--favour") then fault_among verb count 4 FAVOURED words else fault_among verb count 3 RUN (word ∷ words)
+
 -- behind a command, `--help` stands alone, and behind `explain` a kind's number may follow `kind`
 abbrev pub fault_behind : List ℕ → Verb → ℕ → List (List ℕ) → WordFault
 fault_behind first verb count [] = fault_among verb count 2 (arguments_of verb) []
 fault_behind first verb count (word ∷ words) =
     if bytes_eq word (codes "--help") then Surplus verb count
     else (if bytes_eq first (codes "replay") then replay_fault verb count (word ∷ words)
+    else (if bytes_eq first (codes "picture") && bytes_eq word (codes "--run") then drawn_fault verb count words
     else (if bytes_eq first (codes "explain") && bytes_eq word (codes "kind") then fault_among verb count 3 KIND words
-    else fault_among verb count 2 (arguments_of verb) (word ∷ words)))
+    else fault_among verb count 2 (arguments_of verb) (word ∷ words))))
 
 abbrev pub fault_by : List ℕ → Option Verb → ℕ → List (List ℕ) → WordFault
 fault_by first None count words = if bytes_eq first (codes "--help") || bytes_eq first (codes "--version") then Alone else Unknown

@@ -13,7 +13,7 @@ use Rattle.commands.specs.declared.help.Topic.TheVariants.{Program, Command as C
 use Rattle.script.specs.Number.{number_within}
 use Rattle.rule_words.specs.Names.{rule_named, kind_named}
 use Rattle.commands.specs.Topics.{verb_named}
-use Rattle.commands.specs.Trials.{most_steps, trial_named, favour_named, favoured_run, favoured_trial}
+use Rattle.commands.specs.Trials.{most_steps, trial_named, favour_named, favoured_run, favoured_trial, drawn_run, favoured_drawn}
 use Rattle.seeded_runs.specs.Told.{IsTrialWithin}
 use Rattle.commands.specs.Pictures.{picture_named, level_named, IsPictureWithin}
 
@@ -99,13 +99,16 @@ task_tripled word second third =
     if bytes_eq word (codes "explain") then kind_explained second third
     else option_map Read (replay_named word second third)
 
--- runs that are told in another way
+-- runs that are told in another way, or drawn
 abbrev pub runs_named : List ℕ → List ℕ → List ℕ → List ℕ → Option Command
-runs_named word look first second = if bytes_eq word (codes "replay") then option_map Runs (trial_named None look first second) else None
+runs_named word look first second =
+    if bytes_eq word (codes "replay") then option_map Runs (trial_named None look first second)
+    else (if bytes_eq word (codes "picture") then option_map Runs (drawn_run look first second) else None)
 
 abbrev pub favoured_runs : List ℕ → List ℕ → List ℕ → List ℕ → List ℕ → List ℕ → Option Command
-favoured_runs word favour kind look first second =
-    if bytes_eq word (codes "replay") then option_map Runs (favoured_trial (favour_named favour kind) look first second) else None
+favoured_runs word second third fourth fifth sixth =
+    if bytes_eq word (codes "replay") then option_map Runs (favoured_trial (favour_named second third) fourth fifth sixth)
+    else (if bytes_eq word (codes "picture") then option_map Runs (favoured_drawn second (favour_named third fourth) fifth sixth) else None)
 
 -- a picture in a tiling, and a level of a texture
 abbrev pub pictured : List ℕ → List ℕ → List ℕ → List ℕ → List ℕ → Option Command
@@ -156,7 +159,7 @@ task_of (word ∷ second ∷ []) = task_paired word second
 task_of (word ∷ second ∷ third ∷ []) = task_tripled word second third
 task_of (word ∷ look ∷ first ∷ second ∷ []) = option_map Read (runs_named word look first second)
 task_of (word ∷ tiling ∷ cpp ∷ width ∷ height ∷ []) = option_map Read (five_named word tiling cpp width height)
-task_of (word ∷ favour ∷ kind ∷ look ∷ first ∷ second ∷ []) = option_map Read (favoured_runs word favour kind look first second)
+task_of (word ∷ second ∷ third ∷ fourth ∷ fifth ∷ sixth ∷ []) = option_map Read (favoured_runs word second third fourth fifth sixth)
 task_of (word ∷ p0 ∷ p1 ∷ p2 ∷ p3 ∷ face ∷ level ∷ []) = option_map Read (textured word p0 p1 p2 p3 face level)
 task_of _ = None
 

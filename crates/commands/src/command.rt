@@ -5,7 +5,7 @@ ghost use Rattle.script.specs.Number.{number_within};
 
 use super::help::{Topic, verb_named};
 use super::pictures::{Picture, TexturePart, level_named, picture_named};
-use super::trial::{favoured_run, favoured_trial, trial_named};
+use super::trial::{drawn_run, favoured_drawn, favoured_run, favoured_trial, trial_named};
 use field_words::{MOST_CODE, MOST_LIST};
 use rule_words::{kind_named, rule_named};
 use script::read_number;
@@ -34,8 +34,8 @@ pub enum Command {
     /// `replay <steps> <seed>`: reads a job file and prints what a run of at most so many steps does, by the script of the seed; or
     /// why it is refused.
     Replay { steps: u32, seed: u64 },
-    /// `replay` with `--accesses`, `--seeds A..B` or `--favour KIND`: reads a job file and prints what runs of it do, told in this way; or
-    /// why it is refused.
+    /// `replay` with `--accesses`, `--seeds A..B` or `--favour KIND`, and `picture --run`: reads a job file and prints what runs of it do,
+    /// told in this way; or why it is refused.
     Runs(Trial),
     /// `picture`: reads a job file and writes a picture of its memory, as SVG; or why it is refused.
     Drawn,
@@ -277,22 +277,28 @@ fn runs_named(word: &str, look: &str, first: &str, second: &str) -> Option<Comma
     if word == "replay" {
         return Some(Command::Runs(trial_named(None, look, first, second)?));
     }
+    if word == "picture" {
+        return Some(Command::Runs(drawn_run(look, first, second)?));
+    }
     None
 }
 
 fn favoured_runs(
     word: &str,
-    favour: &str,
-    kind: &str,
-    look: &str,
-    first: &str,
     second: &str,
+    third: &str,
+    fourth: &str,
+    fifth: &str,
+    sixth: &str,
 ) -> Option<Command>
-    ensures value { result ≡ favoured_runs word.now favour.now kind.now look.now first.now second.now }
+    ensures value { result ≡ favoured_runs word.now second.now third.now fourth.now fifth.now sixth.now }
     ensures within { IfSome result IsWithin }
 {
     if word == "replay" {
-        return Some(Command::Runs(favoured_trial(favour, kind, look, first, second)?));
+        return Some(Command::Runs(favoured_trial(second, third, fourth, fifth, sixth)?));
+    }
+    if word == "picture" {
+        return Some(Command::Runs(favoured_drawn(second, third, fourth, fifth, sixth)?));
     }
     None
 }
@@ -338,13 +344,13 @@ pub fn task_of(words: &[String]) -> Option<Task>
             width.as_str(),
             height.as_str(),
         )?)),
-        [word, favour, kind, look, first, second] => Some(Task::Read(favoured_runs(
+        [word, second, third, fourth, fifth, sixth] => Some(Task::Read(favoured_runs(
             word.as_str(),
-            favour.as_str(),
-            kind.as_str(),
-            look.as_str(),
-            first.as_str(),
             second.as_str(),
+            third.as_str(),
+            fourth.as_str(),
+            fifth.as_str(),
+            sixth.as_str(),
         )?)),
         [word, p0, p1, p2, p3, face, level] => Some(Task::Read(textured(
             word.as_str(),

@@ -65,8 +65,10 @@ renderer.",
 );
 
 const PICTURE: Usage = (
-    "picture [FILE]",
-    "Reads a job file of at most 48 MiB and writes a picture of the jobs' memory, as SVG, or the first rule that it breaks.",
+    "picture [--run [--favour KIND] STEPS SEED] [FILE]",
+    "Reads a job file of at most 48 MiB and writes a picture of the jobs' memory, as SVG, or the first rule that it breaks.
+With --run the picture shows a run too: how many of its accesses touch each box, and how many each kind of unit makes. STEPS, SEED and KIND
+are as for replay.",
 );
 
 const UPGRADE: Usage = (

@@ -1,8 +1,7 @@
 //! The words that say how runs are told, and which units are favoured.
-ghost use Rattle.std.specs.Prelude.{◌≡◌, ◌≤◌, ◌<◌, ◌^◌, ◌+◌, Some, IfSome};
-ghost use Rattle.seeded_runs.specs.declared.told.Look.TheVariants.{Steps, Accesses};
-ghost use Rattle.seeded_runs.specs.Told.{IsTrialWithin};
-ghost use Rattle.commands.specs.Trials.{kind_named, range_of, behind_dot, seeds_named, one_run, many_runs, trial_named, favour_named, favoured_run, favoured_trial, IsRangeWithin};
+ghost use Rattle.std.specs.Prelude.{◌≡◌, ◌≤◌, ◌<◌, ◌^◌, ◌+◌, ℕ, IfSome};
+ghost use Rattle.seeded_runs.specs.Told.{IsLookWithin, IsTrialWithin};
+ghost use Rattle.commands.specs.Trials.{kind_named, range_of, behind_dot, seeds_named, one_run, many_runs, trial_named, favour_named, favoured_run, favoured_trial, drawn_run, favoured_drawn, IsRangeWithin};
 
 use super::command::MOST_STEPS;
 use replay::UnitKind;
@@ -74,30 +73,16 @@ pub fn seeds_named(word: &str) -> Option<SeedRange>
     range_of(first, past)
 }
 
-// A run whose steps are told, by the words of how many and of its seed.
-fn steps_run(favoured: Option<UnitKind>, steps: &str, seed: &str) -> Option<Trial>
-    ensures value { result ≡ one_run Steps favoured steps.now seed.now }
+// A run that is told in this way, by the words of how many steps and of its seed.
+fn one_run(look: Look, favoured: Option<UnitKind>, steps: &str, seed: &str) -> Option<Trial>
+    requires { (seed : ℕ) → IsLookWithin look seed }
+    ensures value { result ≡ one_run look favoured steps.now seed.now }
     ensures within { IfSome result IsTrialWithin }
 {
     let steps = read_number(steps.as_bytes(), MOST_STEPS)?;
     let seed = read_number(seed.as_bytes(), u64::MAX)?;
     Some(Trial {
-        look: Look::Steps,
-        favoured,
-        steps: steps as u32,
-        seed,
-    })
-}
-
-// A run whose accesses are told, by the same words.
-fn accesses_run(favoured: Option<UnitKind>, steps: &str, seed: &str) -> Option<Trial>
-    ensures value { result ≡ one_run Accesses favoured steps.now seed.now }
-    ensures within { IfSome result IsTrialWithin }
-{
-    let steps = read_number(steps.as_bytes(), MOST_STEPS)?;
-    let seed = read_number(seed.as_bytes(), u64::MAX)?;
-    Some(Trial {
-        look: Look::Accesses,
+        look,
         favoured,
         steps: steps as u32,
         seed,
@@ -131,7 +116,7 @@ pub fn trial_named(
     ensures within { IfSome result IsTrialWithin }
 {
     if look == "--accesses" {
-        return accesses_run(favoured, first, second);
+        return one_run(Look::Accesses, favoured, first, second);
     }
     if look == "--seeds" {
         return many_runs(favoured, first, second);
@@ -155,7 +140,7 @@ pub fn favoured_run(favour: &str, kind: &str, steps: &str, seed: &str) -> Option
     ensures within { IfSome result IsTrialWithin }
 {
     let kind = favour_named(favour, kind)?;
-    steps_run(Some(kind), steps, seed)
+    one_run(Look::Steps, Some(kind), steps, seed)
 }
 
 /// The runs that `--favour KIND` and the words of `trial_named` name. It takes no memory.
@@ -171,4 +156,27 @@ pub fn favoured_trial(
 {
     let kind = favour_named(favour, kind)?;
     trial_named(Some(kind), look, first, second)
+}
+
+/// The run that `--run STEPS SEED` names, which a picture shows. It takes no memory.
+pub fn drawn_run(run: &str, steps: &str, seed: &str) -> Option<Trial>
+    ensures value { result ≡ drawn_run run.now steps.now seed.now }
+    ensures within { IfSome result IsTrialWithin }
+{
+    if run == "--run" {
+        return one_run(Look::Picture, None, steps, seed);
+    }
+    None
+}
+
+/// The run that `--run --favour KIND STEPS SEED` names. It takes no memory.
+pub fn favoured_drawn(run: &str, favour: &str, kind: &str, steps: &str, seed: &str) -> Option<Trial>
+    ensures value { result ≡ favoured_drawn run.now (favour_named favour.now kind.now) steps.now seed.now }
+    ensures within { IfSome result IsTrialWithin }
+{
+    if run == "--run" {
+        let kind = favour_named(favour, kind)?;
+        return one_run(Look::Picture, Some(kind), steps, seed);
+    }
+    None
 }

@@ -1,6 +1,6 @@
 //! Which of the words is wrong, where they ask for nothing that the program does.
 ghost use Rattle.std.specs.Prelude.{◌≡◌, ◌≤◌, ◌<◌, ◌+◌, ◌++◌, Some, None, [], codes, length};
-ghost use Rattle.commands.specs.WordFault.{values_of, argument_name, arguments_of, is_value, fault_among, look_fault, favour_fault, replay_fault, fault_behind, fault_by, fault_of, values_text, argument_text, surplus_text, word_fault_text};
+ghost use Rattle.commands.specs.WordFault.{values_of, argument_name, arguments_of, is_value, fault_among, look_fault, favour_fault, replay_fault, drawn_fault, fault_behind, fault_by, fault_of, values_text, argument_text, surplus_text, word_fault_text};
 ghost use Rattle.commands.specs.Words.{texts};
 
 use super::command::{MOST_QUEUED, MOST_SLOTS, MOST_STEPS};
@@ -79,6 +79,8 @@ const COMMANDS: &str =
 const MOST_WORD: u64 = 4_294_967_295;
 
 const RUN: [Argument; 2] = [Argument::Steps, Argument::Seed];
+
+const FAVOURED: [Argument; 3] = [Argument::Favoured, Argument::Steps, Argument::Seed];
 
 const SEEDS: [Argument; 2] = [Argument::SeedNumbers, Argument::Steps];
 
@@ -292,6 +294,22 @@ fn replay_fault(verb: Verb, count: u64, words: &[String]) -> WordFault
     }
 }
 
+/// What is wrong with the words behind `picture --run`.
+#[tactic(auto, unfolding(crate::specs::WordFault::drawn_fault))]
+fn drawn_fault(verb: Verb, count: u64, words: &[String]) -> WordFault
+    ensures { result ≡ drawn_fault verb count (texts words.now) }
+{
+    match words {
+        [] => fault_among(verb, count, 3, &RUN, words),
+        [word, more @ ..] => {
+            if word.as_str() == "--favour" {
+                return fault_among(verb, count, 4, &FAVOURED, more);
+            }
+            fault_among(verb, count, 3, &RUN, words)
+        }
+    }
+}
+
 /// What is wrong with the words behind a command.
 fn fault_behind(first: &str, verb: Verb, words: &[String]) -> WordFault
     requires { length words.now < 18446744073709551615 }
@@ -306,6 +324,9 @@ fn fault_behind(first: &str, verb: Verb, words: &[String]) -> WordFault
             }
             if first == "replay" {
                 return replay_fault(verb, count, words);
+            }
+            if first == "picture" && word.as_str() == "--run" {
+                return drawn_fault(verb, count, more);
             }
             if first == "explain" && word.as_str() == "kind" {
                 return fault_among(verb, count, 3, &KIND, more);

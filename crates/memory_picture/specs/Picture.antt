@@ -20,12 +20,12 @@ unfoldable pub strip : (memory : ℕ) → Regions → List Buffer → Forest
 strip memory regions buffers =
     Element (codes "g") (worded (codes "id") (codes "strip") ∷ []) (each (box_part memory regions buffers) (box_count memory))
 
--- at every fourth row, the place of its first byte
-unfoldable pub place_part : (memory : ℕ) → ℕ → Forest
-place_part memory n = label 90 (83 + 48 * n) (codes "end") (hex (64 * n * box_size memory))
+-- at every fourth row of a strip that begins at y, the place of its first byte
+unfoldable pub place_part : (y memory : ℕ) → ℕ → Forest
+place_part y memory n = label 90 (y + 11 + 48 * n) (codes "end") (hex (64 * n * box_size memory))
 
-abbrev pub places : ℕ → Forest
-places memory = each (place_part memory) ((box_count memory + 63) / 64)
+abbrev pub places : (y memory : ℕ) → Forest
+places y memory = each (place_part y memory) ((box_count memory + 63) / 64)
 
 -- the title, how many bytes the memory has, and how many a box
 unfoldable pub head : (memory size : ℕ) → Forest
@@ -99,7 +99,7 @@ table buffers = Beside table_head (Beside (each (row_part buffers) (min (length 
 -- all of it
 unfoldable pub memory_parts : (memory : ℕ) → Regions → List Buffer → Forest
 memory_parts memory regions buffers =
-    Beside (head memory (box_size memory)) (Beside (strip memory regions buffers) (Beside (places memory) (Beside legend (table buffers))))
+    Beside (head memory (box_size memory)) (Beside (strip memory regions buffers) (Beside (places 72 memory) (Beside legend (table buffers))))
 
 unfoldable pub memory_picture : (memory : ℕ) → Regions → List Buffer → Forest
 memory_picture memory regions buffers = drawing 490 (codes "Memory of the jobs") (memory_parts memory regions buffers)

@@ -7,4 +7,4 @@ mod picture;
 
 pub use grid::{Shade, box_count, box_size};
 pub use parts::{begin_drawing, end_drawing, push_class, push_label, push_rect};
-pub use picture::{memory_picture, push_memory};
+pub use picture::{memory_picture, push_memory, push_places};

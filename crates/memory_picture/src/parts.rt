@@ -29,21 +29,21 @@ text{fill:#222}
 .code1{fill:#e6550d}
 .code2{fill:#fd8d3c}
 .code3{fill:#fdbe85}
-.pale{opacity:.25}
-.read1{fill:#c6dbef}
-.read2{fill:#9ecae1}
-.read3{fill:#6baed6}
-.read4{fill:#4292c6}
-.read5{fill:#2171b5}
-.read6{fill:#08519c}
-.read7{fill:#08306b}
-.write1{fill:#fdd0a2}
-.write2{fill:#fdae6b}
-.write3{fill:#fd8d3c}
-.write4{fill:#f16913}
-.write5{fill:#d94801}
-.write6{fill:#a63603}
-.write7{fill:#7f2704}
+.pale{opacity:.2;filter:grayscale(1)}
+.read1{fill:#9ecae1}
+.read2{fill:#6baed6}
+.read3{fill:#4292c6}
+.read4{fill:#2171b5}
+.read5{fill:#08519c}
+.read6{fill:#08306b}
+.read7{fill:#041a3b}
+.write1{fill:#fdae6b}
+.write2{fill:#fd8d3c}
+.write3{fill:#f16913}
+.write4{fill:#d94801}
+.write5{fill:#a63603}
+.write6{fill:#7f2704}
+.write7{fill:#471602}
 ";
 
 /// The name of the elements' namespace.

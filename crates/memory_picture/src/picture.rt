@@ -69,21 +69,30 @@ fn push_strip(
 }
 
 #[tactic(auto, unfolding(crate::specs::Picture::place_part))]
-fn push_place(alloc: Global, out: &mut Vec<u8>, memory: u32, n: u64) -> Result<(), AllocError>
-    requires { n < 67108864 }
-    ensures { OnOk result (out.new.items ≡ out.old.items ++ forest_text (place_part memory n)) }
+fn push_place(
+    alloc: Global,
+    out: &mut Vec<u8>,
+    y: u64,
+    memory: u32,
+    n: u64,
+) -> Result<(), AllocError>
+    requires above { y < 2 ^ 32 }
+    requires few { n < 67108864 }
+    ensures { OnOk result (out.new.items ≡ out.old.items ++ forest_text (place_part y memory n)) }
 {
     let words = hex(alloc, 64 * n * box_size(memory))?;
-    push_label(out, 90, 83 + 48 * n, "end", &words)
+    push_label(out, 90, y + 11 + 48 * n, "end", &words)
 }
 
+/// Appends the places of the first bytes of every fourth row, for a strip that begins at this row of the drawing.
 #[tactic(auto, using(crate::proofs::Each::each_more))]
-fn push_places(alloc: Global, out: &mut Vec<u8>, memory: u32) -> Result<(), AllocError>
-    ensures { OnOk result (out.new.items ≡ out.old.items ++ forest_text (places memory)) }
+pub fn push_places(alloc: Global, out: &mut Vec<u8>, y: u64, memory: u32) -> Result<(), AllocError>
+    requires { y < 2 ^ 32 }
+    ensures { OnOk result (out.new.items ≡ out.old.items ++ forest_text (places y memory)) }
 {
     let count = (box_count(memory) + 63) / 64;
     for n in 0..count {
-        push_place(alloc, out, memory, n)?;
+        push_place(alloc, out, y, memory, n)?;
     }
     Ok(())
 }
@@ -287,7 +296,7 @@ pub fn push_memory(
 {
     push_head(alloc, out, u64::from(memory), box_size(memory))?;
     push_strip(out, memory, regions, buffers)?;
-    push_places(alloc, out, memory)?;
+    push_places(alloc, out, 72, memory)?;
     push_legend(out)?;
     push_table(alloc, out, buffers)
 }

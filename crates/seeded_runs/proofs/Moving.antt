@@ -7,7 +7,7 @@ use Rattle.job_safety.specs.Accepted.{machine_of}
 use Rattle.machine.specs.State.{State}
 use Rattle.relocation.specs.declared.layout.Layout.{Layout}
 use Rattle.replay.specs.declared.units.UnitKind.{UnitKind}
-use Rattle.seeded_runs.specs.Told.{IsStepText, IsAccessText, IsSeedLine, AreSeedLines}
+use Rattle.seeded_runs.specs.Told.{IsStepText, IsAccessText, IsPictureText, IsSeedLine, AreSeedLines}
 
 pub step_moved : (version now : ℕ) (machine start : State) (favoured : Option UnitKind) (steps seed : ℕ) (text : List ℕ) → version ≡ now → machine ≡ start → IsStepText version machine favoured steps seed text → IsStepText now start favoured steps seed text
 step_moved version now machine start favoured steps seed text v m told =
@@ -18,6 +18,12 @@ access_moved view f layouts machine favoured steps seed text v l m told =
     subst (λ x. IsAccessText f.regions f.buffers (layouts_of f) x favoured steps seed text) m
     (subst (λ x. IsAccessText f.regions f.buffers x machine favoured steps seed text) l
     (subst (λ (x : FileModel). IsAccessText x.regions x.buffers layouts machine favoured steps seed text) v told))
+
+pub picture_moved : (view f : FileModel) (layouts : List Layout) (machine : State) (favoured : Option UnitKind) (steps seed : ℕ) (text : List ℕ) → view ≡ f → layouts ≡ layouts_of f → machine ≡ machine_of f → IsPictureText view.mem_size view.regions view.buffers layouts machine favoured steps seed text → IsPictureText f.mem_size f.regions f.buffers (layouts_of f) (machine_of f) favoured steps seed text
+picture_moved view f layouts machine favoured steps seed text v l m told =
+    subst (λ x. IsPictureText f.mem_size f.regions f.buffers (layouts_of f) x favoured steps seed text) m
+    (subst (λ x. IsPictureText f.mem_size f.regions f.buffers x machine favoured steps seed text) l
+    (subst (λ (x : FileModel). IsPictureText x.mem_size x.regions x.buffers layouts machine favoured steps seed text) v told))
 
 pub line_moved : (machine start : State) (favoured : Option UnitKind) (steps seed : ℕ) (line : List ℕ) → machine ≡ start → IsSeedLine machine favoured steps seed line → IsSeedLine start favoured steps seed line
 line_moved machine start favoured steps seed line m told = subst (λ x. IsSeedLine x favoured steps seed line) m told

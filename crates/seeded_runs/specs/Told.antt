@@ -1,4 +1,4 @@
--- What is told of runs of an accepted file's machine: the steps, all accesses, or how each of many runs ended.
+-- What is told of runs of an accepted file's machine: the steps, all accesses, a picture of these, or how each of many runs ended.
 use Rattle.std.specs.Prelude.{◌≡◌, ℕ, zero, suc, ◌+◌, ◌≤◌, ◌<◌, ◌^◌, List, [], ◌++◌, length, codes, Option}
 use Rattle.std.specs.Fmt.{decimal}
 use Rattle.buffer_table.specs.declared.buffer.Buffer.{Buffer}
@@ -15,8 +15,10 @@ use Rattle.replay.specs.declared.units.UnitKind.{UnitKind}
 use Rattle.replay.specs.Run.{IsTrace, IsLog}
 use Rattle.dumper.specs.Trace.{trace_text, ending_text}
 use Rattle.run_text.specs.Log.{log_text}
+use Rattle.run_picture.specs.Picture.{run_picture}
+use Rattle.svg.specs.Forest.{forest_text}
 use Rattle.seeded_runs.specs.declared.told.Look.{Look}
-use Rattle.seeded_runs.specs.declared.told.Look.TheVariants.{Steps, Accesses, Seeds}
+use Rattle.seeded_runs.specs.declared.told.Look.TheVariants.{Steps, Accesses, Picture, Seeds}
 use Rattle.seeded_runs.specs.declared.told.Trial.{Trial}
 use Rattle.seeded_runs.specs.Seeded.{Picks, Gives}
 
@@ -33,6 +35,13 @@ pub record IsAccessText (regions : Regions) (buffers : List Buffer) (layouts : L
   pub log : Log
   pub run : IsLog (Picks seed) (Gives seed) favoured machine steps events log
   pub shown : text ≡ log_text regions buffers layouts log
+
+-- The text is the picture of a memory of so many bytes with all accesses of that run.
+pub record IsPictureText (memory : ℕ) (regions : Regions) (buffers : List Buffer) (layouts : List Layout) (machine : State) (favoured : Option UnitKind) (steps seed : ℕ) (text : List ℕ) : Type 0 where
+  pub events : List Event
+  pub log : Log
+  pub run : IsLog (Picks seed) (Gives seed) favoured machine steps events log
+  pub shown : text ≡ forest_text (run_picture memory regions buffers layouts log)
 
 -- "seed 7 finished after 1234"
 unfoldable pub seed_text : ℕ → Trace → List ℕ
@@ -54,6 +63,7 @@ AreSeedLines machine favoured steps seed (suc n) text =
 abbrev pub IsLookText : FileModel → Look → Option UnitKind → (steps seed : ℕ) → List ℕ → Type 0
 IsLookText f Steps favoured steps seed text = IsStepText f.version (machine_of f) favoured steps seed text
 IsLookText f Accesses favoured steps seed text = IsAccessText f.regions f.buffers (layouts_of f) (machine_of f) favoured steps seed text
+IsLookText f Picture favoured steps seed text = IsPictureText f.mem_size f.regions f.buffers (layouts_of f) (machine_of f) favoured steps seed text
 IsLookText f (Seeds count) favoured steps seed text = AreSeedLines (machine_of f) favoured steps seed count text
 
 -- what is told of an accepted file
@@ -67,6 +77,7 @@ most_seeds = 1000
 abbrev pub IsLookWithin : Look → ℕ → Type 0
 IsLookWithin Steps seed = Unit {0}
 IsLookWithin Accesses seed = Unit {0}
+IsLookWithin Picture seed = Unit {0}
 IsLookWithin (Seeds count) seed = (1 ≤ count) × (count ≤ most_seeds) × (seed + count < 2 ^ 64)
 
 -- at most a million steps, and so many seeds that there are

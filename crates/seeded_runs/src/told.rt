@@ -6,7 +6,7 @@ ghost use Rattle.job_check.specs.Whole.{all_questions};
 ghost use Rattle.job_format.specs.File.{IsFileOf};
 ghost use Rattle.job_format.specs.Reading.{file_at};
 ghost use Rattle.job_safety.specs.Accepted.{machine_of, IsAccepted};
-ghost use Rattle.seeded_runs.specs.Told.{seed_text, IsStepText, IsAccessText, IsSeedLine, AreSeedLines, IsTold, IsTrialWithin};
+ghost use Rattle.seeded_runs.specs.Told.{seed_text, IsStepText, IsAccessText, IsPictureText, IsSeedLine, AreSeedLines, IsTold, IsTrialWithin};
 
 use crate::seeded::{log_of, run_of};
 use buffer_table::{Buffer, Regions};
@@ -17,6 +17,7 @@ use job_safety::{Accepted, accept};
 use machine::Machine;
 use relocation::Layout;
 use replay::{Trace, UnitKind};
+use run_picture::run_picture;
 use run_text::log_text;
 use std::alloc::{AllocError, Global};
 
@@ -27,6 +28,8 @@ pub enum Look {
     Steps,
     /// A line for each access.
     Accesses,
+    /// A picture of the memory, with all accesses.
+    Picture,
     /// How the run ended, of each of so many seeds.
     Seeds(u32),
 }
@@ -76,6 +79,26 @@ fn access_text(
 {
     let log = log_of(alloc, machine, favoured, steps, seed)?;
     let text = log_text(alloc, regions, buffers, layouts, &log)?;
+    Ok(text)
+}
+
+// The picture of a run's accesses.
+fn picture_text(
+    alloc: Global,
+    memory: u32,
+    regions: &Regions,
+    buffers: &[Buffer],
+    layouts: &[Layout],
+    machine: Machine,
+    favoured: Option<UnitKind>,
+    steps: u32,
+    seed: u64,
+) -> Result<Vec<u8>, NoMemory>
+    requires { steps ≤ 1000000 }
+    ensures { IfOk result (λ text. IsPictureText memory regions.now buffers.now layouts.now machine favoured steps seed text.items) }
+{
+    let log = log_of(alloc, machine, favoured, steps, seed)?;
+    let text = run_picture(alloc, memory, regions, buffers, layouts, &log)?;
     Ok(text)
 }
 
@@ -238,6 +261,66 @@ fn accesses_told(
     }
 }
 
+// The picture of the accesses of a run of an accepted file's machine.
+#[tactic(auto, using(crate::proofs::Moving::picture_moved))]
+fn picture_of(
+    alloc: Global,
+    bytes: &[u8],
+    accepted: Accepted,
+    favoured: Option<UnitKind>,
+    steps: u32,
+    seed: u64,
+) -> Result<Vec<u8>, NoMemory>
+    requires few { steps ≤ 1000000 }
+    requires accepted { IsAccepted (file_at bytes.now) accepted }
+    ensures { IfOk result (λ text. IsPictureText (file_at bytes.now).mem_size (file_at bytes.now).regions (file_at bytes.now).buffers
+        (layouts_of (file_at bytes.now)) (machine_of (file_at bytes.now)) favoured steps seed text.items) }
+{
+    // No rule of the format stands of an accepted file.
+    let Ok(file) = read_parts(alloc, bytes) else {
+        return Err(NoMemory);
+    };
+    let Accepted {
+        version: _,
+        layouts,
+        lengths: _,
+        machine,
+    } = accepted;
+    picture_text(
+        alloc,
+        file.mem_size,
+        &file.regions,
+        &file.buffers,
+        &layouts,
+        machine,
+        favoured,
+        steps,
+        seed,
+    )
+}
+
+// The picture of the accesses of a run of the file's machine.
+fn picture_told(
+    alloc: Global,
+    bytes: &[u8],
+    favoured: Option<UnitKind>,
+    steps: u32,
+    seed: u64,
+) -> Result<Vec<u8>, Stop<Refusal>>
+    requires { steps ≤ 1000000 }
+    ensures answers { Answers (all_questions bytes.now) (λ text. IsPictureText (file_at bytes.now).mem_size (file_at bytes.now).regions
+        (file_at bytes.now).buffers (layouts_of (file_at bytes.now)) (machine_of (file_at bytes.now)) favoured steps seed text.items) result }
+    ensures spelled { IsOk result → IsFileOf bytes.now (file_at bytes.now) }
+{
+    match accept(alloc, bytes) {
+        Ok(accepted) => {
+            let text = picture_of(alloc, bytes, accepted, favoured, steps, seed)?;
+            Ok(text)
+        }
+        Err(stop) => Err(stop),
+    }
+}
+
 /// What is told of runs of these bytes, a job file, by the script of a seed or of many. `Ok` comes exactly where no rule stands of them.
 ///
 /// # Errors
@@ -250,6 +333,7 @@ pub fn told_text(alloc: Global, trial: Trial, bytes: &[u8]) -> Result<Vec<u8>, S
     match trial.look {
         Look::Steps => steps_told(alloc, bytes, trial.favoured, trial.steps, trial.seed),
         Look::Accesses => accesses_told(alloc, bytes, trial.favoured, trial.steps, trial.seed),
+        Look::Picture => picture_told(alloc, bytes, trial.favoured, trial.steps, trial.seed),
         Look::Seeds(count) => seeds_text(
             alloc,
             bytes,

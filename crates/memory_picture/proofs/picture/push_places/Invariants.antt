@@ -5,4 +5,4 @@ use Rattle.memory_picture.specs.Picture.{place_part}
 use Rattle.memory_picture.proofs.picture.push_places.Given as goal
 
 abbrev pub invariant-loop-n : goal.invariant-loop-n
-invariant-loop-n l = l.out.items ≡ l.fn.out.items ++ forest_text (each (place_part l.memory) l.n)
+invariant-loop-n l = l.out.items ≡ l.fn.out.items ++ forest_text (each (place_part l.y l.memory) l.n)

@@ -1,0 +1,4 @@
+pub mod Counts
+pub mod Heat
+pub mod Table
+pub mod Picture
