@@ -73,3 +73,27 @@ fn draws_a_memory(rt: HostRuntime) -> Result<(), Fail> {
     assert!(rt; text.ends_with(b"</svg>\n"));
     Ok(())
 }
+
+// With a run of it there is more to draw. The words of a run stand behind `--run`.
+#[test]
+fn draws_a_run(rt: HostRuntime) -> Result<(), Fail> {
+    let alloc = rt.alloc();
+    let (status, text) = told(alloc, &["picture", "--run", "10", "1"])?;
+    assert_eq!(rt; status, 0);
+    assert!(rt;
+        text.starts_with(b"<svg xmlns=\"http://www.w3.org/2000/svg\" width=\"960\" height=\"872\"")
+    );
+    assert!(rt; text.ends_with(b"</svg>\n"));
+    let favoured = ["picture", "--run", "--favour", "qpu", "10", "1"];
+    assert_eq!(rt; told(alloc, &favoured)?.1.as_slice(), text.as_slice());
+    for all in [
+        ["picture", "10", "1"].as_slice(),
+        &["picture", "--run", "10"],
+        &["picture", "--accesses", "10", "1"],
+        &["picture", "--favour", "qpu", "--run", "10", "1"],
+        &["picture", "--run", "--favour", "cpu", "10", "1"],
+    ] {
+        assert_eq!(rt; told(alloc, all)?.0, 2);
+    }
+    Ok(())
+}

@@ -86,6 +86,21 @@ fn a_wrong_word_is_named(rt: HostRuntime) -> Result<(), Fail> {
             usage: vc4check replay [--favour KIND] [--accesses | --seeds A..B] STEPS [SEED] [FILE]",
         ),
         (
+            &["picture", "--run", "--favour", "cpu", "1", "1"],
+            "vc4check: word 4 is wrong: KIND is qpu, texture, binner or renderer; \
+            usage: vc4check picture [--run [--favour KIND] STEPS SEED] [FILE]",
+        ),
+        (
+            &["picture", "--run", "x", "1"],
+            "vc4check: word 3 is wrong: STEPS is a number from 0 to 1000000; \
+            usage: vc4check picture [--run [--favour KIND] STEPS SEED] [FILE]",
+        ),
+        (
+            &["picture", "--run"],
+            "vc4check: a word is missing: STEPS is a number from 0 to 1000000; \
+            usage: vc4check picture [--run [--favour KIND] STEPS SEED] [FILE]",
+        ),
+        (
             &["slots", "0"],
             "vc4check: word 2 is wrong: SLOTS is a number from 1 to 32; usage: vc4check slots SLOTS [FILE]",
         ),

@@ -189,3 +189,13 @@ fn replays_a_usual_frame(rt: HostRuntime) -> Result<(), Fail> {
     assert_eq!(rt; wordless.bytes(), b"".as_slice());
     Ok(())
 }
+
+// The picture of that run: a table of how many accesses there were, and no more than 200 KB.
+#[test]
+fn draws_a_usual_frame(rt: HostRuntime) -> Result<(), Fail> {
+    let alloc = rt.alloc();
+    let words = ["picture", "--run", "10000", "1"];
+    let sink = answered(alloc, &words, usual(alloc)?, 200_000)?;
+    assert!(rt; sink.bytes().ends_with(b"</svg>\n"));
+    Ok(())
+}

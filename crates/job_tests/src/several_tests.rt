@@ -46,7 +46,7 @@ pub(crate) const TWO: &str =
 /// What the program prints for these words and bytes, and its status.
 fn answered(alloc: Global, texts: &[&str], bytes: Vec<u8>) -> Result<(u8, MemSink), Fail> {
     let mut source = SteadySource::new(bytes);
-    let mut sink = MemSink::new(alloc, 100_000, 10_000, Vec::new(alloc))?;
+    let mut sink = MemSink::new(alloc, 100_000, 100_000, Vec::new(alloc))?;
     let status = run(alloc, &words(alloc, texts)?, &mut source, &mut sink);
     Ok((status, sink))
 }
@@ -99,6 +99,39 @@ fn replays_two_jobs(rt: HostRuntime) -> Result<(), Fail> {
     let (status, sink) = answered(alloc, &["replay", "10000", "1"], file(alloc, TWO)?)?;
     assert_eq!(rt; status, 0);
     assert!(rt; sink.bytes().ends_with(b" job 1\nfinished after 26\n"));
+    Ok(())
+}
+
+// Whether these words stand somewhere in a text.
+fn has(text: &[u8], part: &[u8]) -> bool {
+    text.windows(part.len()).any(|window| window == part)
+}
+
+// The picture of that run has a number for all its accesses, of which each has a line. Sixteen writes of one buffer's box have the tone of
+// ten and more.
+#[test]
+fn draws_a_run_of_two_jobs(rt: HostRuntime) -> Result<(), Fail> {
+    let alloc = rt.alloc();
+    let all = ["replay", "--accesses", "10000", "1"];
+    let (_, lines) = answered(alloc, &all, file(alloc, TWO)?)?;
+    let count = lines.bytes().iter().filter(|byte| **byte == b'\n').count();
+    assert_eq!(rt; count, 63);
+    let all = ["picture", "--run", "10000", "1"];
+    let (status, sink) = answered(alloc, &all, file(alloc, TWO)?)?;
+    assert_eq!(rt; status, 0);
+    for part in [
+        b"<text x=\"230\" y=\"538\" class=\"end\">26</text>\n".as_slice(),
+        b"<text x=\"424\" y=\"538\" class=\"end\">62</text>\n",
+        b"<text x=\"456\" y=\"538\" class=\"note\">finished</text>\n",
+        b"<text x=\"760\" y=\"630\" class=\"end\">32</text>\n",
+        b"<rect x=\"426\" y=\"904\" width=\"18\" height=\"12\" class=\"write2\"/>\n",
+    ] {
+        assert!(rt; has(sink.bytes(), part));
+    }
+    let all = ["picture", "--run", "--favour", "renderer", "10000", "1"];
+    let (status, sink) = answered(alloc, &all, file(alloc, TWO)?)?;
+    assert_eq!(rt; status, 0);
+    assert!(rt; sink.bytes().ends_with(b"</svg>\n"));
     Ok(())
 }
 
