@@ -66,6 +66,9 @@ impl Column {
         ensures end { IfOk result (λ end. end ≤ length room.new) }
         ensures long { length room.new ≡ length room.old }
     {
+        if value == self.row.fallback {
+            return Ok(at);
+        }
         if let Some(piece) = self.piece(value) {
             if 16 <= room.len() - at {
                 return Ok(piece.put(room, at));
