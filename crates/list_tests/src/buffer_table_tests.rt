@@ -1,6 +1,4 @@
 //! Each memory rule, the handles' rule, and what handles name.
-ghost use Rattle.std.specs.Prelude.{◌≤◌};
-
 use buffer_table::{Buffer, Handles, Kind, MOST_PLACE, Regions, Table, use_code, use_data};
 use field_words::Stop;
 use std::alloc::{AllocError, Global};
@@ -189,9 +187,8 @@ fn high_fault_of(
     memory: u32,
     others: u32,
     three: [Buffer; 3],
-) -> Result<Option<(u8, u32)>, AllocError>
-    requires { others ≤ 64 }
-{
+) -> Result<Option<(u8, u32)>, AllocError> {
+    assert!(rt; others <= 64);
     let regions = Regions {
         lists_place: 0xfe000000,
         lists_size: 0x1000,
