@@ -2,6 +2,7 @@
 
 use field_words::put_u32;
 use job_io::{MemSink, SteadySource};
+use memchr::memmem::find;
 use std::alloc::Global;
 use std::test::Fail;
 use test_runs::{SMALLEST, SMALLEST_TEXT, file, run, words};
@@ -104,7 +105,7 @@ fn replays_two_jobs(rt: HostRuntime) -> Result<(), Fail> {
 
 // Whether these words stand somewhere in a text.
 fn has(text: &[u8], part: &[u8]) -> bool {
-    text.windows(part.len()).any(|window| window == part)
+    find(text, part).is_some()
 }
 
 // The picture of that run has a number for all its accesses, of which each has a line. Sixteen writes of one buffer's box have the tone of
