@@ -1,12 +1,8 @@
 -- A list of packets that walks is cut into these packets again.
 use Rattle.std.proofs.Common.{◌≡◌, ◌≢◌, ◌≤◌, ℕ, ◌+◌, ◌==◌, Bool, false, List, [], ◌∷◌, ◌++◌, length, take, drop, if◌then◌else◌, refl, ◌∙◌, ap, subst, arith}
-use Rattle.std.proofs.lemmas.Grind.{common_steps}
-use Rattle.std.proofs.lemmas.Bool.Decides.{nat_tests}
-use Rattle.std.proofs.lemmas.List.{length-append}
+use Rattle.std.proofs.{lemmas.Grind.common_steps, lemmas.Bool.Decides.nat_tests, lemmas.List.length-append}
 use Rattle.field_words.specs.Pieces.{joined}
-use Rattle.packets.specs.declared.config.Config.{Config}
-use Rattle.packets.specs.Length.{bin_length, bin_taken}
-use Rattle.packets.specs.Opcode.{halt}
+use Rattle.packets.specs.{declared.config.Config.Config, Length.bin_length, Length.bin_taken, Opcode.halt}
 use Rattle.bin_list.specs.Packets.{opcode, front_packet, behind, cut, packets}
 use Rattle.bin_list.proofs.Walk.{cut_step, cut_nothing}
 use Rattle.bin_walks.specs.Walks.{Kept, kept_after, Tame, Walks}

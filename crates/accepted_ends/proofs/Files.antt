@@ -1,29 +1,21 @@
 -- Each job of such a file begins with short programs, and has its share of the file's steps.
 use Rattle.std.proofs.Common.{◌≡◌, ◌≤◌, ◌<◌, ℕ, zero, suc, ◌+◌, ◌-◌, false, List, length, map, sym, ◌∙◌, ap, arith}
-use Rattle.std.specs.List.{range_with_len, sum_by}
 use Rattle.std.proofs.lemmas.List.Sums.{sum_by-cons}
+use Rattle.std.specs.List.{range_with_len, sum_by}
 use Rattle.bin_list.specs.Packets.{packets}
 use Rattle.bin_walks.specs.Walks.{nothing_kept}
 use Rattle.list_law.proofs.Start.{walks_so}
 use Rattle.render_list.specs.Text.{render_slots}
 use Rattle.job_format.specs.Model.{FileModel}
-use Rattle.job_check.specs.Emit.{memory_of}
-use Rattle.job_check.specs.Jobs.{job_of, bin_list_of, places_in, grid_of, slot_of}
-use Rattle.accepted_law.specs.Ends.{DrawShaders}
+use Rattle.job_check.specs.{Emit.memory_of, Jobs.job_of, Jobs.bin_list_of, Jobs.places_in, Jobs.grid_of, Jobs.slot_of}
+use Rattle.accepted_law.specs.{Ends.DrawShaders, Parts.BinWalks, Settled.Grounds}
 use Rattle.accepted_law.specs.Holdings.{plain_of, file_rights, file_starts, start_of, config_for}
-use Rattle.accepted_law.specs.Parts.{BinWalks}
-use Rattle.accepted_law.specs.Settled.{Grounds}
 use Rattle.accepted_law.proofs.BinWalking.{bins_walk_law}
 use Rattle.accepted_law.proofs.Joining.{all_ground, job_begins, files_begin_law, has_read_only}
-use Rattle.ends_law.specs.Ends.{DrawShort, JobShort}
-use Rattle.ends_law.specs.Left.{EachWithin}
-use Rattle.ends_law.specs.Steps.{job_steps}
-use Rattle.ends_law.proofs.Runs.{jobs_end_law}
-use Rattle.ends_law.proofs.Shares.{more_within}
-use Rattle.accepted_ends.specs.Bound.{file_loops, longest_of, job_bound, bound_of}
-use Rattle.accepted_ends.specs.Law.{FilesEndBy}
-use Rattle.accepted_ends.proofs.Cut.{packets_walk}
-use Rattle.accepted_ends.proofs.Shaders.{draws_short}
+use Rattle.ends_law.specs.{Ends.DrawShort, Ends.JobShort, Left.EachWithin, Steps.job_steps}
+use Rattle.ends_law.proofs.{Runs.jobs_end_law, Shares.more_within}
+use Rattle.accepted_ends.specs.{Bound.file_loops, Bound.longest_of, Bound.job_bound, Bound.bound_of, Law.FilesEndBy}
+use Rattle.accepted_ends.proofs.{Cut.packets_walk, Shaders.draws_short}
 
 pub packets_are : (f : FileModel) (j : ℕ) (m : List ℕ) → (bin : BinWalks f j m) → packets (bin_list_of f j) ≡ bin.packets
 packets_are f j m bin = ap packets bin.text ∙ packets_walk (config_for f j) (DrawShaders f j m) nothing_kept bin.packets bin.walks

@@ -4,12 +4,9 @@ use Rattle.std.proofs.lemmas.Bool.{cases_lt}
 use Rattle.buffer_table.proofs.Named.{code_is}
 use Rattle.shader_flow.proofs.Bounded.{some_below_not}
 use Rattle.job_format.specs.Model.{FileModel}
-use Rattle.job_check.specs.Shaders.{table_of}
-use Rattle.job_check.specs.Jobs.{job_of}
-use Rattle.accepted_law.specs.Ends.{IsShaderOf, DrawShaders}
-use Rattle.accepted_law.specs.Holdings.{plain_of, file_rights}
-use Rattle.ends_law.specs.Ends.{DrawShort}
-use Rattle.ends_law.specs.Loops.{IsShort, has_loop, program_steps}
+use Rattle.job_check.specs.{Shaders.table_of, Jobs.job_of}
+use Rattle.accepted_law.specs.{Ends.IsShaderOf, Ends.DrawShaders, Holdings.plain_of, Holdings.file_rights}
+use Rattle.ends_law.specs.{Ends.DrawShort, Loops.IsShort, Loops.has_loop, Loops.program_steps}
 use Rattle.accepted_ends.specs.Bound.{shader_in, shader_named, loops, steps, job_loops, file_loops, greatest_below, job_longest, longest_of}
 
 pub upto_greatest : (n k : ℕ) (number : ℕ → ℕ) → k < n → number k ≤ greatest_below n number

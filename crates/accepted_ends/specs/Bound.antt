@@ -8,8 +8,7 @@ use Rattle.shader_flow.specs.Bounded.{some_below}
 use Rattle.job_format.specs.Model.{FileModel}
 use Rattle.job_check.specs.Shaders.{table_of, content_of, words_of}
 use Rattle.job_check.specs.Jobs.{job_of, bin_list_of, places_in, grid_of, slot_of}
-use Rattle.ends_law.specs.Loops.{has_loop, program_steps}
-use Rattle.ends_law.specs.Steps.{job_steps}
+use Rattle.ends_law.specs.{Loops.has_loop, Loops.program_steps, Steps.job_steps}
 
 -- the shader that handle i of job j names, where it names a Code buffer
 abbrev pub shader_in : FileModel → Option ℕ → Option (List ℕ)

@@ -1,7 +1,7 @@
 -- An emitted binner list is no longer than the one that it comes from.
 use Rattle.std.proofs.Common.{◌≡◌, ℕ, ◌+◌, ◌≤◌, Bool, true, false, if◌then◌else◌, ◌==◌, List, [], ◌∷◌, None, length, refl, ap, arith, length-append}
-use Rattle.std.specs.Int.{to_le_bytes, w32}
 use Rattle.std.proofs.lemmas.Bool.{eqb-true}
+use Rattle.std.specs.Int.{to_le_bytes, w32}
 use Rattle.field_words.specs.{Words.u32_at, Questions.first_of, Questions.answered}
 use Rattle.field_words.proofs.{Nones.front_none, Nones.rest_none, Nones.none_answered, Writes.length-with_bytes}
 use Rattle.relocation.specs.declared.layout.Layout.{Layout}

@@ -8,8 +8,8 @@ use Rattle.emitted_facts.specs.Facts.{IsIndexedPrimitive, IsPrimitive}
 use Rattle.bin_list.specs.{declared.state.State.State, Emitted.bin_text, Fine.IsLow, States.last_index, States.draws_to, States.states_of}
 use Rattle.bin_list.specs.{Packets.opcode, Packets.packets, Rules.index_size, Rules.given_of}
 use Rattle.bin_walks.specs.Draws.{IsStateAt, AreIndexesInside, IsDrawn}
-use Rattle.bin_walks.proofs.{Walking.draws_indexed, Law.emitted_lists_walk_law}
 use Rattle.bin_walks.specs.{Walks.nothing_kept, Walks.Walks, Law.IsWalked, Emission.emission, Emission.config_of}
+use Rattle.bin_walks.proofs.{Walking.draws_indexed, Law.emitted_lists_walk_law}
 use Rattle.shader_records.specs.{Named.IsDataIn, Sources.state_at, Sources.record_offset}
 use Rattle.job_format.specs.Model.{FileModel}
 use Rattle.job_check.specs.{Shaders.table_of, Jobs.job_of, Jobs.input_for, Jobs.layout_of, Jobs.states_in, Jobs.has_bin, Jobs.bin_list_of}

@@ -1,7 +1,7 @@
 -- Lists with an item for each job: the rights of all jobs, and what no job may write.
 use Rattle.std.proofs.Common.{◌≡◌, inl, inr, ℕ, zero, suc, ◌+◌, ◌<◌, ◌≤◌, [], ◌++◌, length, map, sym, subst, arith, zero-add}
-use Rattle.std.specs.List.{range_with_len}
 use Rattle.std.proofs.lemmas.{Bool.cases_lt, List.get_or_past, List.FromFn.length-map-range_with_len, List.FromFn.get_or-map-range_with_len}
+use Rattle.std.specs.List.{range_with_len}
 use Rattle.job_format.specs.Model.{FileModel}
 use Rattle.machine_plan.specs.Regions.{Inside, Rights, joined}
 use Rattle.machine_law.specs.Units.{EachAt}

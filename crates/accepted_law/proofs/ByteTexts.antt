@@ -1,21 +1,21 @@
 -- What is emitted is bytes.
 use Rattle.std.proofs.Common.{ℕ, zero, suc, ◌+◌, ◌-◌, ◌*◌, ◌/◌, ◌%◌, ◌^◌, ◌<◌, Bool, true, false, if◌then◌else◌, ◌==◌, List, [], ◌∷◌, ◌++◌, Option, Some, None, length, drop, replicate, slice_index, arith, lit<}
-use Rattle.std.specs.{Int.to_le_bytes, Int.bytes_low_first, Int.byte_at, Int.w16, Int.w32, List.AllByRecursion}
 use Rattle.std.proofs.Math.Nat.{mod-lt}
+use Rattle.std.specs.{Int.to_le_bytes, Int.bytes_low_first, Int.byte_at, Int.w16, Int.w32, List.AllByRecursion}
 use Rattle.field_words.specs.{Words.IsBytes, WordBytes.word_bytes, Writes.Part, Writes.placed, Writes.with_bytes, Writes.zeros}
 use Rattle.field_words.proofs.Numbers.{front_bytes, rest_bytes}
 use Rattle.relocation.specs.declared.layout.Layout.{Layout}
-use Rattle.packets.specs.{declared.packet.Packet.Packet, Length.bin_taken, StateWord.record_room}
 use Rattle.packets.specs.declared.packet.Packet.TheVariants.{WaitOnSemaphore, BranchToSubList, StoreTileColor, StoreTileColorAndEnd, StoreFullResolution, LoadFullResolution, StoreTileBuffer, LoadTileBuffer, TileRenderingMode, ClearColors, TileCoordinates}
 use Rattle.packets.specs.Opcode.{halt, tile_binning_mode, wait_on_semaphore, branch_to_sub_list, store_tile_color, store_tile_color_and_end, store_full_resolution, load_full_resolution, store_tile_buffer, load_tile_buffer, tile_rendering_mode, clear_colors, tile_coordinates}
+use Rattle.packets.specs.{declared.packet.Packet.Packet, Length.bin_taken, StateWord.record_room}
 use Rattle.packets.specs.Packet.{packet_text as render_packet_text, slots_text}
 use Rattle.tile_memory.specs.Slots.{alloc_offset}
 use Rattle.bin_list.specs.{declared.seen.Seen.Seen, Rules.GivenModel, Seen.latest, Seen.byte_of}
 use Rattle.bin_list.specs.Packets.{opcode, front_packet, behind, cut, packets, onto, passed}
 use Rattle.bin_list.specs.Emitted.{index_text, state_text, config_text, packet_text, texts}
 use Rattle.qpu_isa.specs.Shader.{ShaderModel}
-use Rattle.shader_records.specs.Inputs.{InputModel}
 use Rattle.shader_records.specs.Emission.{emitted_word, stream_place, record_text, records_text, stream_word_of, stream_text, streams_text, uniforms_text}
+use Rattle.shader_records.specs.Inputs.{InputModel}
 use Rattle.render_walks.specs.Walks.{AllFit}
 
 pub bytes_none : IsBytes []

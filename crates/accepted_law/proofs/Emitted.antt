@@ -5,8 +5,8 @@ use Rattle.field_words.specs.{Sizes.slot_size, Writes.zeros}
 use Rattle.buffer_table.specs.{Table.buffer_at, Handles.data_of, Handles.code_of}
 use Rattle.buffer_table.proofs.Named.{data_is, code_is}
 use Rattle.job_format.specs.Model.{FileModel}
-use Rattle.job_check.specs.{Shaders.table_of, Shaders.content_of, Emit.content_parts, Emit.lengths_of, Emit.memory_of, Emit.PartsFit}
 use Rattle.job_check.specs.Jobs.{job_of, slot_of, layout_of, bin_list_of, records_of, streams_of, render_list_of}
+use Rattle.job_check.specs.{Shaders.table_of, Shaders.content_of, Emit.content_parts, Emit.lengths_of, Emit.memory_of, Emit.PartsFit}
 use Rattle.job_check.proofs.{Codes.content_long, Emission.length_zeros}
 use Rattle.list_law.proofs.Words.{byte_read}
 use Rattle.machine_plan.specs.{Memory.bytes_at, Regions.Interval, Regions.LiesIn, Regions.Inside, Regions.Rights, Regions.rights_of}
@@ -15,11 +15,11 @@ use Rattle.apart_law.specs.Part.{Client}
 use Rattle.machine_law.specs.Apart.{regions_of}
 use Rattle.machine_law.proofs.Apart.{inside_either}
 use Rattle.accepted_law.specs.Holdings.{interval, plain_of, codes_of, lists_of, slot_in, job_rights, file_rights}
-use Rattle.accepted_law.specs.Settled.{Settled, AreSettled}
 use Rattle.accepted_law.specs.Neighbours.{jobs_of, reach_of, named_at, PlacedAlike, FilledAlike, AreNeighbourFiles, EmittedAlike}
+use Rattle.accepted_law.specs.Settled.{Settled, AreSettled}
+use Rattle.accepted_law.proofs.Holding.{all_parts, four_parts, memory_is, contents_in, all_in, zeros_fit, jobs_miss, misses_four, clear_of, buffer_off_lists, content_byte, holds_all}
 use Rattle.accepted_law.proofs.{ByJob.rights_are, Intervals.named_by, Grounds.slot_apart, Grounds.two_apart}
 use Rattle.accepted_law.proofs.{Fixed.LiesInOne, Fixed.in_one, Settling.files_settle_law}
-use Rattle.accepted_law.proofs.Holding.{all_parts, four_parts, memory_is, contents_in, all_in, zeros_fit, jobs_miss, misses_four, clear_of, buffer_off_lists, content_byte, holds_all}
 use Rattle.accepted_law.proofs.Placing.{IsClear, Misses, placed_kept, misses_contents, fit_append}
 use Rattle.accepted_law.proofs.Tables.{buffer_sound, tiles_apart, regions_apart, slot_inside}
 use Rattle.accepted_law.proofs.Unshared.{job_is_of, data_number, code_number}

@@ -1,16 +1,16 @@
 -- What the rules of a frame promise of each of its surfaces: where it lies, and how its pixels do.
 use Rattle.std.proofs.Common.{◌≡◌, ◌≤◌, ◌<◌, ℕ, ◌+◌, ◌*◌, ◌-◌, ◌/◌, ◌%◌, ◌^◌, ◌==◌, ◌&&◌, ◌||◌, not, Bool, true, false, List, Option, Some, None, if◌then◌else◌, refl, sym, ap, subst, arith, ◌∙◌, bit_or}
-use Rattle.std.specs.{Prelude.is_some, Prelude.IfSome, Int.Bits.or_zero_r}
 use Rattle.std.proofs.lemmas.Nat.{or_shifted, or_shr, or_mod}
+use Rattle.std.specs.{Prelude.is_some, Prelude.IfSome, Int.Bits.or_zero_r}
 use Rattle.field_words.specs.{Words.bits_of, Questions.first_of}
 use Rattle.buffer_table.specs.{Table.TableModel, Table.buffer_at, Table.most_place, Handles.data_of}
 use Rattle.shader_records.specs.Named.{IsDataIn}
 use Rattle.job_format.specs.declared.file.{Frame.Frame as JobFrame, Surface.Surface}
-use Rattle.texture_layouts.specs.declared.{surface.Tiling.Tiling, format.Style.Style}
 use Rattle.texture_layouts.specs.Format.{tiling_named, buffer_pixel, general_tiling, general_pixel, frame_tiling, frame_pixel, styled, general_style, IsShort}
+use Rattle.texture_layouts.specs.declared.{surface.Tiling.Tiling, format.Style.Style}
 use Rattle.texture_layouts.proofs.Styles.{general_short, frame_short}
-use Rattle.render_list.specs.Frame.{place_at, surface_at, is_present, is_full, full_tile, full_place}
 use Rattle.render_list.specs.Surfaces.{surface_questions, has_unlisted_tiling, has_unlisted_format, is_unaligned, is_full_with_bits, buffer_size, surface_tiling, surface_pixel, surface_style, styled_size, place_behind, place_in}
+use Rattle.render_list.specs.Frame.{place_at, surface_at, is_present, is_full, full_tile, full_place}
 use Rattle.render_list.proofs.Checked.{IsChecked, is_checked, size_named, full_inside, plain_inside, inside_by}
 use Rattle.render_list.proofs.Places.{full_place_grows}
 use Rattle.machine_plan.specs.Regions.{Rights}

@@ -8,17 +8,17 @@ use Rattle.buffer_table.proofs.Named.{data_is, code_is}
 use Rattle.shader_records.specs.Named.{IsDataIn}
 use Rattle.job_format.specs.Model.{FileModel}
 use Rattle.relocation.specs.Layout.{region_end}
-use Rattle.job_check.specs.{Shaders.table_of, Emit.lengths_of}
 use Rattle.job_check.specs.Jobs.{job_of, slot_of, layout_of, bin_list_of, records_of, streams_of, render_list_of}
+use Rattle.job_check.specs.{Shaders.table_of, Emit.lengths_of}
 use Rattle.job_check.proofs.Layouts.{layout_numbers, begin_from}
 use Rattle.machine_plan.specs.Regions.{Inside, IsOutside}
 use Rattle.qpu_law.specs.Asks.{IsOneOf}
 use Rattle.machine_law.specs.Begins.{IsFixed}
 use Rattle.accepted_law.specs.Holdings.{OfEachJob, interval, plain_of, codes_of, lists_of, slot_in, job_rights, file_rights}
 use Rattle.accepted_law.specs.{Settled.Settled, Settled.ListsEnd, Parts.FilesGround}
+use Rattle.accepted_law.proofs.Tables.{buffer_sound, buffers_apart, lists_apart, tiles_apart, regions_apart, slot_inside}
 use Rattle.accepted_law.proofs.Intervals.{one_left, one_right, named_there, named_by}
 use Rattle.accepted_law.proofs.{Placing.IsClear, Fixed.LiesInOne, Fixed.in_one, Holding.lists_end, Holding.holds_all}
-use Rattle.accepted_law.proofs.Tables.{buffer_sound, buffers_apart, lists_apart, tiles_apart, regions_apart, slot_inside}
 use Rattle.accepted_law.proofs.ByJob.{rights_are, rights_past, in_region, in_writable}
 
 -- A Plain buffer of job j.

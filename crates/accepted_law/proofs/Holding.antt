@@ -1,7 +1,7 @@
 -- The memory that a settled file is emitted as holds its contents and its lists.
 use Rattle.std.proofs.Common.{◌≡◌, ◌⊎◌, inl, inr, ℕ, zero, suc, ◌+◌, ◌<◌, ◌≤◌, Bool, true, false, List, [], ◌∷◌, ◌++◌, None, length, slice_index, refl, sym, ap, subst, arith, ◌∙◌}
-use Rattle.std.specs.List.{AllByRecursion}
 use Rattle.std.proofs.lemmas.{Bool.cases_lt, List.append_assoc, Grind.common_steps, Bool.Decides.nat_tests}
+use Rattle.std.specs.List.{AllByRecursion}
 use Rattle.field_words.specs.{Questions.first_of, Words.IsBytes, Writes.Part, Writes.placed, Writes.zeros}
 use Rattle.field_words.proofs.Nones.{front_none}
 use Rattle.buffer_table.specs.{declared.buffer.Buffer.Buffer, Table.buffer_at}
@@ -10,13 +10,13 @@ use Rattle.bin_list.specs.{Packets.passed, Emitted.bin_text, Rules.given_of, Rul
 use Rattle.shader_records.specs.Emitted.{streams_place}
 use Rattle.render_list.specs.Text.{render_slots, render_text}
 use Rattle.job_format.specs.Model.{FileModel}
-use Rattle.job_check.specs.Shaders.{table_of, content_of}
 use Rattle.job_check.specs.Jobs.{job_of, has_bin, grid_of, slot_of, places_in, input_for, layout_of, bin_list_of, records_of, streams_of, render_list_of}
 use Rattle.job_check.specs.Emit.{PartsFit, content_parts, part, list_parts, later_parts, memory_parts, jobs_parts, memory_of}
-use Rattle.job_check.proofs.{Codes.as_many, Codes.content_long, Windows.length_placed}
+use Rattle.job_check.specs.Shaders.{table_of, content_of}
 use Rattle.job_check.proofs.Layouts.{layout_numbers, lists_inside, layout_apart, begin_from, lists_apart as jobs_apart}
-use Rattle.job_check.proofs.Emission.{placed-append, length_zeros, contents_fit}
 use Rattle.job_check.proofs.Views.{no_bin_list, no_records, no_streams, records_within, streams_within, records_are, streams_are, list_length}
+use Rattle.job_check.proofs.{Codes.as_many, Codes.content_long, Windows.length_placed}
+use Rattle.job_check.proofs.Emission.{placed-append, length_zeros, contents_fit}
 use Rattle.accepted_law.specs.Settled.{Settled, AreSettled, Holds, ListsEnd}
 use Rattle.accepted_law.proofs.ByteTexts.{bytes_none, bytes_zeros, bytes_placed, parts_append, bytes_passed, bytes_texts, bytes_records, bytes_uniforms, bytes_slots}
 use Rattle.accepted_law.proofs.Placing.{bytes_are, IsClear, Misses, misses_append, placed_part, fit_append, contents_parts_fit, content_stands}

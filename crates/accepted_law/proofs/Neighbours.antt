@@ -1,7 +1,8 @@
 -- Two accepted files that are neighbours for a client are the same to it.
 use Rattle.std.proofs.Common.{◌≡◌, ℕ, zero, suc, ◌<◌, ◌&&◌, Bool, true, false, not, if◌then◌else◌, List, [], ◌∷◌, Option, Some, None, length, map, slice_index, refl, sym, ap, arith, zero-add, ◌∙◌}
-use Rattle.std.specs.List.{range_with_len}
 use Rattle.std.proofs.lemmas.{List.FromFn.length-map-range_with_len, List.FromFn.get_or-map-range_with_len, Option.slice_get-get_or}
+use Rattle.std.proofs.lemmas.{Grind.common_steps, Bool.Decides.nat_tests}
+use Rattle.std.specs.List.{range_with_len}
 use Rattle.field_words.specs.Sizes.{slot_size}
 use Rattle.buffer_table.specs.{declared.buffer.Buffer.Buffer, declared.buffer.Kind.Kind, Table.TableModel, Table.buffer_at}
 use Rattle.buffer_table.specs.Handles.{AreNumbersOf, is_plain, is_named, data_of, code_of}
@@ -16,7 +17,6 @@ use Rattle.accepted_law.specs.Holdings.{interval, interval_where, named_buffers,
 use Rattle.accepted_law.specs.Neighbours.{IsFaultless, jobs_of, named_at, StandAlike, PlacedAlike, AreNeighbourFiles, beginning_of, AcceptedApart}
 use Rattle.accepted_law.proofs.{ByJob.rights_are, Settling.files_settle_law, Unshared.job_is_of, Unshared.clients_unshared_law}
 use Rattle.accepted_law.proofs.Joining.{files_begin_law, has_read_only, all_begin}
-use Rattle.std.proofs.lemmas.{Grind.common_steps, Bool.Decides.nat_tests}
 
 -- What a handle gives to the Plain buffers of its job, and to the Code buffers, by the buffer that it names alone.
 abbrev given_if : Bool → Buffer → List Interval

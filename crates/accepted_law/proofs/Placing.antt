@@ -1,11 +1,11 @@
 -- Parts that are put into a memory one after the other: what stands there at the end.
 use Rattle.std.proofs.Common.{◌≡◌, ◌⊎◌, inl, inr, ℕ, zero, suc, ◌+◌, ◌<◌, ◌≤◌, List, [], ◌∷◌, ◌++◌, length, get_or, slice_index, refl, sym, ap, subst, arith, ◌∙◌}
+use Rattle.std.proofs.lemmas.{Grind.common_steps, Bool.Decides.nat_tests}
 use Rattle.field_words.specs.Writes.{Part, placed, with_bytes}
 use Rattle.field_words.proofs.Writes.{length-with_bytes, with_bytes-before, with_bytes-behind, with_bytes-inside}
 use Rattle.buffer_table.specs.{declared.buffer.Buffer.Buffer, Table.past_end}
 use Rattle.machine_plan.specs.Memory.{bytes_at}
 use Rattle.job_check.specs.Emit.{PartsFit, ContentsFit, content_parts}
-use Rattle.std.proofs.lemmas.{Grind.common_steps, Bool.Decides.nat_tests}
 
 -- bytes that are those of a text one by one
 pub bytes_are : (m : List ℕ) (place : ℕ) (text : List ℕ) → ((i : ℕ) → i < length text → slice_index m (place + i) ≡ slice_index text i) → bytes_at m place (length text) ≡ text

@@ -10,8 +10,8 @@ use Rattle.emitted_facts.specs.{Records.is_single, Records.code_word, Records.st
 use Rattle.emitted_facts.proofs.Records.{header_in}
 use Rattle.shader_flow.specs.Flow.{is_threaded}
 use Rattle.uniform_stream.specs.Stream.{uniforms_of}
-use Rattle.shader_records.specs.{Inputs.InputModel, Inputs.shader_in, Emitted.streams_place, Named.IsDataIn, Rules.use_questions}
 use Rattle.shader_records.specs.Sources.{state_at, record_source, record_offset, uniform_source, stream_offset, code_number, shader_used, is_threaded as switches, given_by, given_before, taken_before, record_word, place_in}
+use Rattle.shader_records.specs.{Inputs.InputModel, Inputs.shader_in, Emitted.streams_place, Named.IsDataIn, Rules.use_questions}
 use Rattle.shader_records.specs.Emission.{shader_word, stream_place, stream_word_of}
 use Rattle.shader_records.proofs.{Fine.state_fine, Fine.code_fine, Fine.flags_fine, StreamFacts.emitted_stream_is, StreamFacts.same_stream}
 use Rattle.shader_records.proofs.{Inside.emitted_in, Steps.given_upto, Lengths.length_uniforms}

@@ -1,13 +1,14 @@
 -- The renderer list of a file in which no rule stands walks: its places are a setup for its frame, and its numbers fit their fields.
 use Rattle.std.proofs.Common.{◌≡◌, ℕ, zero, suc, ◌+◌, ◌<◌, ◌≤◌, ◌^◌, Bool, true, false, if◌then◌else◌, List, Option, Some, None, refl, arith, lit<, inl}
+use Rattle.std.proofs.lemmas.{Grind.common_steps, Bool.Decides.nat_tests}
 use Rattle.field_words.specs.{Questions.first_of, Questions.each, Words.IsBytes}
 use Rattle.field_words.proofs.{Questions.none_stands, Nones.front_none}
 use Rattle.buffer_table.specs.{Table.TableModel, Table.buffer_at, Table.most_place, Handles.data_of}
 use Rattle.job_format.specs.{declared.file.Frame.Frame, Model.FileModel}
 use Rattle.packets.specs.{Opcode.tile_binning_mode, Packet.slots_text, declared.config.Config.Config}
 use Rattle.bin_list.specs.{Packets.passed, Seen.seen_before}
-use Rattle.render_list.specs.Frame.{place_at, surface_at, is_present, FitsAt, IsSetupFor, IsTileSet}
 use Rattle.render_list.specs.Surfaces.{surface_questions, surface_faults, place_behind, place_in, places_of, is_outside_grid, frame_questions}
+use Rattle.render_list.specs.Frame.{place_at, surface_at, is_present, FitsAt, IsSetupFor, IsTileSet}
 use Rattle.render_list.specs.Text.{render_slots, render_text}
 use Rattle.render_list.proofs.Checked.{offset_inside, tiles_inside, set_of, none_at, is_setup}
 use Rattle.render_walks.specs.Walks.{AllFit, PlacesFit, GridFits, WalksTo, OwesFine, at_start}
@@ -19,12 +20,11 @@ use Rattle.qpu_law.specs.Asks.{IsOneOf}
 use Rattle.qpu_law.proofs.Reading.{one_inside}
 use Rattle.list_law.specs.{May.MayWrite, Start.frame_of, Rendering.MayDo, Rendering.NoMatter, Rendering.AllSet}
 use Rattle.list_law.proofs.Start.{walks_to_weaker, head_sets}
+use Rattle.accepted_law.specs.Holdings.{plain_of, rights_at, across_of, down_of, config_for, frame_for}
 use Rattle.accepted_law.specs.{Settled.Settled, Settled.Grounds, Parts.RendersWalk}
 use Rattle.accepted_law.proofs.{Tables.buffer_low, Tables.slot_inside, ByteTexts.bytes_passed, ByteTexts.byte_of_latest}
-use Rattle.accepted_law.specs.Holdings.{plain_of, rights_at, across_of, down_of, config_for, frame_for}
 use Rattle.accepted_law.proofs.Frames.{HasRoom, IsSurfaceAt, AreSurfacesAt, surface_is}
 use Rattle.accepted_law.proofs.Tiles.{HasGridFor, names_none_at, tile_fine}
-use Rattle.std.proofs.lemmas.{Grind.common_steps, Bool.Decides.nat_tests}
 
 -- buffers end inside the greatest memory
 abbrev AreLow : TableModel → Type 0

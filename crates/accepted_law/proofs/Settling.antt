@@ -1,7 +1,7 @@
 -- A file in which no rule stands settles.
 use Rattle.std.proofs.Common.{◌≡◌, ℕ, zero, suc, ◌+◌, ◌%◌, ◌==◌, ◌<◌, ◌≤◌, inl, inr, Bool, true, false, not, if◌then◌else◌, List, [], ◌∷◌, ◌++◌, Some, None, is_some, length, get_or, sym, ap, arith, ◌∙◌}
-use Rattle.std.specs.List.{AllByRecursion}
 use Rattle.std.proofs.lemmas.{Bool.ltb-false, Bool.cases_lt, List.get_or_past, Grind.common_steps, Bool.Decides.nat_tests}
+use Rattle.std.specs.List.{AllByRecursion}
 use Rattle.field_words.specs.Questions.{Question, Ask, first_of, each}
 use Rattle.field_words.proofs.{Questions.none_stands, Nones.front_none, Nones.rest_none, Nones.each_none, Nones.none_answered}
 use Rattle.buffer_table.specs.declared.buffer.Kind.{Kind, TheVariants.Plain, TheVariants.Code}
@@ -19,8 +19,8 @@ use Rattle.render_list.specs.Surfaces.{surface_faults}
 use Rattle.job_format.specs.{File.Fits, File.JobFits, Model.FileModel, Model.JobModel}
 use Rattle.relocation.specs.Layout.{region_end}
 use Rattle.job_check.specs.Shaders.{table_of, words_of, code_questions, told_of, content_of, shader_for, shaders_of}
-use Rattle.job_check.specs.Jobs.{no_job, job_of, has_bin, grid_of, input_for, layout_of}
 use Rattle.job_check.specs.Faults.{table_refused, table_stage_within, shader_refused, shader_questions_in, shader_stage, shaders_stage, handle_refused, handles_stage, bin_stage, records_stage, surface_refused, surfaces_stage, layout_stage, lists_stages, job_stages, stages_within, place_stages}
+use Rattle.job_check.specs.Jobs.{no_job, job_of, has_bin, grid_of, input_for, layout_of}
 use Rattle.job_check.proofs.{Codes.is_code, Codes.shader_at, Codes.shader_count, Jobs.job_limits}
 use Rattle.accepted_law.specs.Parts.{FilesSettle}
 

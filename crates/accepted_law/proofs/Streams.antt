@@ -1,8 +1,8 @@
 -- Texts and words that stand in memory, and the words of a stream as a list.
 use Rattle.std.proofs.Common.{◌≡◌, ◌≤◌, ◌<◌, ℕ, zero, suc, ◌+◌, ◌*◌, ◌^◌, List, ◌∷◌, map, length, take, drop, slice_index, refl, sym, ap, arith, ◌∙◌}
-use Rattle.std.specs.{Int.from_le_bytes, Int.w64, List.range_with_len}
-use Rattle.std.proofs.lemmas.{Bool.cases_lt, Bool.Decides.nat_tests, Grind.common_steps}
 use Rattle.std.proofs.lemmas.List.{drop_more, get_or-drop, get_or_past, FromFn.length-map-range_with_len, FromFn.get_or-map-range_with_len}
+use Rattle.std.proofs.lemmas.{Bool.cases_lt, Bool.Decides.nat_tests, Grind.common_steps}
+use Rattle.std.specs.{Int.from_le_bytes, Int.w64, List.range_with_len}
 use Rattle.field_words.specs.{Words.IsBytes, Words.u32_at, Words.u64_at, Pieces.IsPiece}
 use Rattle.field_words.proofs.Numbers.{u32_fits}
 use Rattle.machine_plan.specs.Memory.{bytes_at}

@@ -2,8 +2,8 @@
 use Rattle.std.proofs.Common.{◌≡◌, inl, inr, ℕ, ◌+◌, ◌*◌, ◌<◌, ◌≤◌, List, length, ap, subst, arith}
 use Rattle.std.proofs.lemmas.{Bool.cases_lt, List.get_or_past}
 use Rattle.field_words.specs.Sizes.{slot_size}
-use Rattle.buffer_table.specs.declared.buffer.{Buffer.Buffer, Regions.Regions}
 use Rattle.buffer_table.specs.Table.{items_of, item_at, lists_item, tile_item, buffer_item, buffer_at, past_end, most_place}
+use Rattle.buffer_table.specs.declared.buffer.{Buffer.Buffer, Regions.Regions}
 use Rattle.buffer_table.specs.Sound.{IsSound, IsSoundItem, AreApart}
 use Rattle.buffer_table.proofs.Sounds.{item_of_buffer, length_items}
 use Rattle.job_format.specs.{File.IsWellFormed, Model.FileModel}

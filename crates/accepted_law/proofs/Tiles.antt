@@ -3,15 +3,15 @@ use Rattle.std.proofs.Common.{◌≡◌, ◌≤◌, ◌<◌, inl, ℕ, ◌+◌, 
 use Rattle.std.proofs.{Math.Nat.mul-le-mul_right, lemmas.Grind.common_steps, lemmas.Bool.Decides.nat_tests}
 use Rattle.std.specs.Int.Bits.{or_zero_r}
 use Rattle.job_format.specs.declared.file.{Frame.Frame as JobFrame, Surface.Surface}
-use Rattle.packets.specs.declared.{packet.Packet.Packet, config.Config.Config}
 use Rattle.packets.specs.declared.packet.Packet.TheVariants.{WaitOnSemaphore, StoreTileColor, StoreTileColorAndEnd, LoadFullResolution, LoadTileBuffer, TileCoordinates}
+use Rattle.packets.specs.declared.{packet.Packet.Packet, config.Config.Config}
 use Rattle.field_words.specs.Words.{bits_of}
 use Rattle.texture_layouts.specs.{declared.format.Style.Style, Format.styled, Format.frame_style, Format.general_style}
 use Rattle.tile_memory.specs.Slots.{alloc_offset}
 use Rattle.machine_plan.specs.Regions.{Rights}
+use Rattle.render_list.specs.Text.{number_where, packet_where, idle_store, color_place, color_bits, load_packet, load_slot, wait_slot, list_place, list_slot, full_store, full_store_slot, zs_store, zs_store_slot, color_store, color_store_slot, is_there, more_after_multisample_color, more_after_multisample_zs, some_before_zs, some_before_color, load_slots, list_slots, write_slots, tile_slots}
 use Rattle.render_list.specs.Frame.{place_at, surface_at, is_full, full_place, is_first_tile, is_last_tile}
 use Rattle.render_list.specs.Surfaces.{surface_tiling, surface_pixel, surface_style}
-use Rattle.render_list.specs.Text.{number_where, packet_where, idle_store, color_place, color_bits, load_packet, load_slot, wait_slot, list_place, list_slot, full_store, full_store_slot, zs_store, zs_store_slot, color_store, color_store_slot, is_there, more_after_multisample_color, more_after_multisample_zs, some_before_zs, some_before_color, load_slots, list_slots, write_slots, tile_slots}
 use Rattle.render_walks.specs.Walks.{IsSlotFine, AreFine}
 use Rattle.render_walks.proofs.Numbers.{small_where}
 use Rattle.list_machine.specs.{declared.state.Frame.Frame, Blocks.tiles_of, Surfaces.names_none}

@@ -3,8 +3,8 @@ use Rattle.std.proofs.Common.{◌≡◌, ◌⊎◌, inl, inr, ℕ, ◌+◌, ◌-
 use Rattle.std.proofs.lemmas.{Bool.cases_lt, Bool.and_parts, Bool.ltb-true, Bool.eqb-true, Bool.Decides.nat_tests, Grind.common_steps}
 use Rattle.field_words.specs.{Sizes.slot_size, Questions.first_of}
 use Rattle.field_words.proofs.{Questions.none_stands, Nones.each_none}
-use Rattle.buffer_table.specs.Table.{TableModel, buffer_at}
 use Rattle.buffer_table.specs.Handles.{handle_questions, handles_questions, is_named, is_plain, data_of, code_of}
+use Rattle.buffer_table.specs.Table.{TableModel, buffer_at}
 use Rattle.buffer_table.proofs.Named.{data_is}
 use Rattle.job_format.specs.Model.{FileModel}
 use Rattle.job_check.specs.{Shaders.table_of, Faults.place_stages, Jobs.job_of, Jobs.slot_of}

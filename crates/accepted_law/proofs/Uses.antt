@@ -1,5 +1,6 @@
 -- Which shader each program of a record is, and where its code and its stream stand.
 use Rattle.std.proofs.Common.{◌≡◌, ◌≤◌, ◌<◌, ℕ, ◌+◌, ◌^◌, true, List, length, Option, Some, None, refl, sym, subst, arith, ◌∙◌}
+use Rattle.std.proofs.lemmas.{Grind.common_steps, Bool.Decides.nat_tests}
 use Rattle.field_words.specs.Pieces.{IsPiece}
 use Rattle.buffer_table.specs.declared.buffer.Kind.{Kind, TheVariants.Plain, TheVariants.Code}
 use Rattle.buffer_table.specs.{Table.buffer_at, Sound.IsSound}
@@ -11,7 +12,6 @@ use Rattle.job_check.specs.Jobs.{has_bin, input_for, layout_of, records_of, stre
 use Rattle.job_check.proofs.{Codes.shader_at, Views.records_are, Views.streams_are, Layouts.layout_apart, Layouts.lists_inside}
 use Rattle.accepted_law.specs.Settled.{Settled, ListsEnd, Grounds}
 use Rattle.accepted_law.proofs.{Streams.piece_at, Tables.buffer_sound, Tables.buffer_low}
-use Rattle.std.proofs.lemmas.{Grind.common_steps, Bool.Decides.nat_tests}
 
 -- The input of the job's records is one in which all is known that the laws on records ask.
 pub inputs_are : (f : FileModel) (j : ℕ) → Settled f j → AreInputs (input_for f j)

@@ -2,8 +2,7 @@
 use Rattle.std.specs.Prelude.{◌≡◌, ℕ, List, Some}
 use Rattle.buffer_table.specs.Handles.{code_of}
 use Rattle.job_format.specs.Model.{FileModel}
-use Rattle.job_check.specs.Shaders.{table_of, content_of, words_of}
-use Rattle.job_check.specs.Jobs.{job_of}
+use Rattle.job_check.specs.{Shaders.table_of, Shaders.content_of, Shaders.words_of, Jobs.job_of}
 use Rattle.machine_law.specs.Begins.{DrawBegins}
 use Rattle.accepted_law.specs.Holdings.{plain_of, file_rights}
 

@@ -1,15 +1,10 @@
 -- From above: a job may reach nothing but what it holds, and no job may write the lists and the code of any.
 use Rattle.std.specs.Prelude.{◌≡◌, ◌⊎◌, ℕ, None, Some}
-use Rattle.field_words.specs.Sizes.{slot_size}
-use Rattle.field_words.specs.Questions.{first_of}
-use Rattle.buffer_table.specs.Table.{buffer_at}
-use Rattle.buffer_table.specs.Handles.{code_of}
+use Rattle.field_words.specs.{Sizes.slot_size, Questions.first_of}
+use Rattle.buffer_table.specs.{Table.buffer_at, Handles.code_of}
 use Rattle.shader_records.specs.Named.{IsDataIn}
-use Rattle.job_format.specs.File.{IsWellFormed, Fits}
-use Rattle.job_format.specs.Model.{FileModel}
-use Rattle.job_check.specs.Shaders.{table_of}
-use Rattle.job_check.specs.Jobs.{job_of, slot_of}
-use Rattle.job_check.specs.Faults.{place_stages}
+use Rattle.job_format.specs.{File.IsWellFormed, File.Fits, Model.FileModel}
+use Rattle.job_check.specs.{Shaders.table_of, Jobs.job_of, Jobs.slot_of, Faults.place_stages}
 use Rattle.qpu_law.specs.Asks.{IsOneOf}
 use Rattle.machine_law.specs.Begins.{IsFixed}
 use Rattle.accepted_law.specs.Holdings.{OfEachJob, lists_of, file_rights, rights_at}

@@ -2,18 +2,12 @@
 use Rattle.std.specs.Prelude.{ℕ, zero, suc, ◌<◌, ◌+◌, ◌*◌, ◌-◌, List, [], ◌∷◌, ◌++◌, length, map, Option, Some, None}
 use Rattle.std.specs.List.{range_with_len}
 use Rattle.field_words.specs.Sizes.{slot_size}
-use Rattle.buffer_table.specs.declared.buffer.Buffer.{Buffer}
-use Rattle.buffer_table.specs.Table.{buffer_at}
-use Rattle.buffer_table.specs.Handles.{data_of, code_of}
+use Rattle.buffer_table.specs.{declared.buffer.Buffer.Buffer, Table.buffer_at, Handles.data_of, Handles.code_of}
 use Rattle.tile_memory.specs.Slots.{alloc_offset}
-use Rattle.bin_list.specs.Packets.{passed}
-use Rattle.bin_list.specs.Seen.{seen_before}
+use Rattle.bin_list.specs.{Packets.passed, Seen.seen_before}
 use Rattle.job_format.specs.Model.{FileModel}
-use Rattle.relocation.specs.declared.layout.Layout.{Layout}
-use Rattle.relocation.specs.declared.layout.Lengths.{Lengths}
-use Rattle.job_check.specs.Shaders.{table_of}
-use Rattle.job_check.specs.Jobs.{job_of, slot_of, layout_of, places_in}
-use Rattle.job_check.specs.Emit.{lengths_of}
+use Rattle.relocation.specs.{declared.layout.Layout.Layout, declared.layout.Lengths.Lengths}
+use Rattle.job_check.specs.{Shaders.table_of, Jobs.job_of, Jobs.slot_of, Jobs.layout_of, Jobs.places_in, Emit.lengths_of}
 use Rattle.machine_plan.specs.Regions.{Interval, Rights, rights_of}
 use Rattle.packets.specs.declared.config.Config.{Config}
 use Rattle.list_machine.specs.declared.state.Frame.{Frame}

@@ -2,14 +2,10 @@
 -- places, whatever else each has.
 use Rattle.std.specs.Prelude.{◌≡◌, ◌<◌, ℕ, true, ◌&&◌, ◌==◌, nat_lt, List, length, slice_index, None}
 use Rattle.field_words.specs.Questions.{first_of}
-use Rattle.buffer_table.specs.declared.buffer.Buffer.{Buffer}
-use Rattle.buffer_table.specs.Table.{buffer_at}
-use Rattle.job_format.specs.File.{IsWellFormed, Fits}
-use Rattle.job_format.specs.Model.{FileModel}
-use Rattle.job_check.specs.Shaders.{content_of}
+use Rattle.buffer_table.specs.{declared.buffer.Buffer.Buffer, Table.buffer_at}
+use Rattle.job_format.specs.{File.IsWellFormed, File.Fits, Model.FileModel}
+use Rattle.job_check.specs.{Shaders.content_of, Emit.lengths_of, Emit.memory_of, Faults.place_stages}
 use Rattle.job_check.specs.Jobs.{job_of, layout_of, bin_list_of, records_of, streams_of, render_list_of}
-use Rattle.job_check.specs.Emit.{lengths_of, memory_of}
-use Rattle.job_check.specs.Faults.{place_stages}
 use Rattle.machine_plan.specs.Regions.{Interval, Agree}
 use Rattle.apart_law.specs.Part.{Client}
 use Rattle.machine_law.specs.Apart.{Beginning, IsUnshared, regions_of, RunsApart, RunsApartAmong}

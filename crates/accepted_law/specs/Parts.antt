@@ -1,31 +1,21 @@
 -- The parts of what each job of an accepted file begins with.
 use Rattle.std.specs.Prelude.{◌≡◌, ◌<◌, ◌⊎◌, ℕ, ◌+◌, true, false, not, List, length, None}
-use Rattle.field_words.specs.Pieces.{joined}
-use Rattle.field_words.specs.Questions.{first_of}
+use Rattle.field_words.specs.{Pieces.joined, Questions.first_of}
 use Rattle.emitted_facts.specs.Records.{is_single}
-use Rattle.packets.specs.Opcode.{indexed_primitive_list, array_primitive_list}
-use Rattle.packets.specs.Packet.{slots_text}
+use Rattle.packets.specs.{Opcode.indexed_primitive_list, Opcode.array_primitive_list, Packet.slots_text}
 use Rattle.bin_list.specs.Packets.{opcode}
-use Rattle.bin_walks.specs.Draws.{IsDrawn}
-use Rattle.bin_walks.specs.Walks.{nothing_kept, Walks}
+use Rattle.bin_walks.specs.{Draws.IsDrawn, Walks.nothing_kept, Walks.Walks}
 use Rattle.render_list.specs.Text.{render_slots}
 use Rattle.render_walks.specs.Walks.{at_start, WalksTo, AllFit}
 use Rattle.shader_records.specs.Sources.{record_offset}
-use Rattle.job_format.specs.File.{IsWellFormed, Fits}
-use Rattle.job_format.specs.Model.{FileModel}
-use Rattle.job_check.specs.Shaders.{table_of}
+use Rattle.job_format.specs.{File.IsWellFormed, File.Fits, Model.FileModel}
 use Rattle.job_check.specs.Jobs.{job_of, has_bin, grid_of, slot_of, places_in, input_for, layout_of, states_in, bin_list_of, render_list_of}
-use Rattle.job_check.specs.Emit.{memory_of}
-use Rattle.job_check.specs.Faults.{place_stages}
+use Rattle.job_check.specs.{Shaders.table_of, Emit.memory_of, Faults.place_stages}
 use Rattle.list_machine.specs.Fetch.{record_place}
-use Rattle.list_law.specs.Binning.{Allocates}
-use Rattle.list_law.specs.Emitted.{words_in, program_in}
-use Rattle.list_law.specs.Rendering.{MayDo, NoMatter, AllSet}
-use Rattle.machine_law.specs.Begins.{LaunchBegins, JobBegins}
-use Rattle.machine_law.specs.Jobs.{ArePlain}
+use Rattle.list_law.specs.{Binning.Allocates, Emitted.words_in, Emitted.program_in, Rendering.MayDo, Rendering.NoMatter, Rendering.AllSet}
+use Rattle.machine_law.specs.{Begins.LaunchBegins, Begins.JobBegins, Jobs.ArePlain}
 use Rattle.accepted_law.specs.Holdings.{OfEachJob, plain_of, file_rights, rights_at, config_for, frame_for, start_of}
-use Rattle.accepted_law.specs.Ends.{IsShaderOf, DrawShaders}
-use Rattle.accepted_law.specs.Settled.{AreSettled, Grounds}
+use Rattle.accepted_law.specs.{Ends.IsShaderOf, Ends.DrawShaders, Settled.AreSettled, Settled.Grounds}
 
 -- From the file: where no rule stands, all this is known of it, and of the memory that it is emitted as.
 abbrev pub FilesSettle : Type 0

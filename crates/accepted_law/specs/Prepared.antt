@@ -2,17 +2,11 @@
 use Rattle.std.specs.Prelude.{◌≡◌, ℕ, ◌-◌, List, ◌++◌, length, Some}
 use Rattle.field_words.specs.Writes.{zeros}
 use Rattle.phys_mem.specs.Window.{window_of}
-use Rattle.buffer_table.specs.declared.buffer.Buffer.{Buffer}
-use Rattle.buffer_table.specs.Table.{buffer_at}
-use Rattle.buffer_table.specs.Handles.{code_of}
+use Rattle.buffer_table.specs.{declared.buffer.Buffer.Buffer, Table.buffer_at, Handles.code_of}
 use Rattle.job_format.specs.Model.{FileModel}
-use Rattle.job_check.specs.Shaders.{table_of, content_of}
-use Rattle.job_check.specs.Jobs.{job_of}
-use Rattle.job_check.specs.Emit.{memory_of}
-use Rattle.job_check.specs.Region.{region_of}
+use Rattle.job_check.specs.{Shaders.table_of, Shaders.content_of, Jobs.job_of, Emit.memory_of, Region.region_of}
 use Rattle.machine_plan.specs.Regions.{Agree}
-use Rattle.accepted_law.specs.Holdings.{OfEachJob, fixed_of}
-use Rattle.accepted_law.specs.Neighbours.{IsFaultless}
+use Rattle.accepted_law.specs.{Holdings.OfEachJob, Holdings.fixed_of, Neighbours.IsFaultless}
 
 -- a buffer's contents, and zeros behind them up to its end
 abbrev pub filled : List ℕ → ℕ → List ℕ

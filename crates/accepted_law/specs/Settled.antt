@@ -1,22 +1,15 @@
 -- What is known of a file in which no rule stands, stage by stage, and of the memory that it is emitted as.
 use Rattle.std.specs.Prelude.{◌≡◌, ◌≤◌, ◌<◌, ℕ, ◌+◌, ◌%◌, true, List, length, None, Some}
-use Rattle.field_words.specs.Sizes.{page_size, slot_size}
-use Rattle.field_words.specs.Words.{IsBytes}
-use Rattle.field_words.specs.Questions.{first_of}
-use Rattle.buffer_table.specs.declared.buffer.Kind.TheVariants.{Code}
-use Rattle.buffer_table.specs.Table.{buffer_at, most_place}
+use Rattle.field_words.specs.{Sizes.page_size, Sizes.slot_size, Words.IsBytes, Questions.first_of}
+use Rattle.buffer_table.specs.{declared.buffer.Kind.TheVariants.Code, Table.buffer_at, Table.most_place, Sound.IsSound}
 use Rattle.buffer_table.specs.Handles.{AreNumbersOf, code_of}
-use Rattle.buffer_table.specs.Sound.{IsSound}
 use Rattle.bin_list.specs.Rules.{bin_questions}
-use Rattle.shader_records.specs.Inputs.{AreShadersOf}
-use Rattle.shader_records.specs.Rules.{all_questions}
-use Rattle.shader_records.specs.Named.{IsDataIn}
+use Rattle.shader_records.specs.{Inputs.AreShadersOf, Rules.all_questions, Named.IsDataIn}
 use Rattle.render_list.specs.Surfaces.{surface_faults}
-use Rattle.job_format.specs.File.{IsWellFormed, IsJobWellFormed, Fits, JobFits}
-use Rattle.job_format.specs.Model.{FileModel}
+use Rattle.job_format.specs.{File.IsWellFormed, File.IsJobWellFormed, File.Fits, File.JobFits, Model.FileModel}
 use Rattle.relocation.specs.Layout.{region_end}
-use Rattle.job_check.specs.Shaders.{table_of, content_of, code_questions, shaders_of}
 use Rattle.job_check.specs.Jobs.{job_of, has_bin, grid_of, input_for, layout_of, slot_of, bin_list_of, records_of, streams_of, render_list_of}
+use Rattle.job_check.specs.Shaders.{table_of, content_of, code_questions, shaders_of}
 use Rattle.machine_plan.specs.Memory.{bytes_at}
 use Rattle.qpu_law.specs.Asks.{IsOneOf}
 use Rattle.machine_law.specs.Begins.{IsFixed}

@@ -3,10 +3,8 @@ use Rattle.std.specs.Prelude.{◌≡◌, ℕ, List, None}
 use Rattle.field_words.specs.Questions.{first_of}
 use Rattle.machine_plan.specs.Regions.{Agree}
 use Rattle.machine.specs.State.{units_start}
-use Rattle.job_format.specs.File.{IsWellFormed, Fits}
-use Rattle.job_format.specs.Model.{FileModel}
-use Rattle.job_check.specs.Emit.{memory_of}
-use Rattle.job_check.specs.Faults.{place_stages}
+use Rattle.job_format.specs.{File.IsWellFormed, File.Fits, Model.FileModel}
+use Rattle.job_check.specs.{Emit.memory_of, Faults.place_stages}
 use Rattle.machine_law.specs.Sound.{Sound}
 use Rattle.accepted_law.specs.Holdings.{plain_of, fixed_of, file_rights, file_starts}
 

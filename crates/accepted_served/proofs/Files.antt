@@ -4,45 +4,27 @@ use Rattle.std.specs.Prelude.{is_some}
 use Rattle.buffer_table.proofs.Named.{code_is}
 use Rattle.buffer_table.specs.Table.{TableModel}
 use Rattle.relocation.specs.declared.layout.Layout.{Layout}
-use Rattle.bin_list.specs.Packets.{packets, passed}
-use Rattle.bin_list.specs.Rules.{given_of}
-use Rattle.bin_list.specs.Seen.{seen_before}
-use Rattle.bin_list.specs.States.{states_of}
-use Rattle.bin_walks.specs.Draws.{IsDrawn}
-use Rattle.bin_walks.specs.Emission.{emission, config_of}
-use Rattle.bin_walks.specs.Law.{IsWalked}
-use Rattle.bin_walks.specs.Walks.{nothing_kept}
+use Rattle.bin_list.specs.{Packets.packets, Packets.passed, Rules.given_of, Seen.seen_before, States.states_of}
+use Rattle.bin_walks.specs.{Draws.IsDrawn, Emission.emission, Emission.config_of, Law.IsWalked, Walks.nothing_kept}
 use Rattle.bin_walks.proofs.Law.{emitted_lists_walk_law}
 use Rattle.list_law.proofs.Start.{walks_so}
 use Rattle.render_list.specs.Text.{render_slots}
 use Rattle.shader_flow.proofs.Bounded.{some_below_not}
 use Rattle.job_format.specs.Model.{FileModel}
-use Rattle.job_check.specs.Emit.{memory_of}
-use Rattle.job_check.specs.Shaders.{table_of}
 use Rattle.job_check.specs.Jobs.{job_of, layout_of, has_bin, bin_list_of, places_in, grid_from, grid_of, slot_of}
+use Rattle.job_check.specs.{Emit.memory_of, Shaders.table_of}
 use Rattle.machine_law.specs.Units.{EachAt}
-use Rattle.accepted_law.specs.Ends.{IsShaderOf, DrawShaders}
+use Rattle.accepted_law.specs.{Ends.IsShaderOf, Ends.DrawShaders, Parts.BinWalks, Settled.Grounds}
 use Rattle.accepted_law.specs.Holdings.{plain_of, file_rights, file_starts, start_of, config_for}
-use Rattle.accepted_law.specs.Parts.{BinWalks}
-use Rattle.accepted_law.specs.Settled.{Grounds}
-use Rattle.accepted_law.proofs.BinWalking.{bins_walk_law, layout_is_low}
-use Rattle.accepted_law.proofs.ByJob.{each_from}
-use Rattle.accepted_law.proofs.Holding.{bin_is}
+use Rattle.accepted_law.proofs.{BinWalking.bins_walk_law, BinWalking.layout_is_low, ByJob.each_from, Holding.bin_is, Tables.buffer_low}
 use Rattle.accepted_law.proofs.Joining.{all_ground, job_begins, files_begin_law, has_read_only}
-use Rattle.accepted_law.proofs.Tables.{buffer_low}
 use Rattle.accepted_ends.specs.Bound.{shader_named}
-use Rattle.accepted_ends.proofs.Cut.{packets_walk}
-use Rattle.accepted_ends.proofs.Shaders.{named_is}
-use Rattle.accepted_ends.proofs.Files.{packets_are}
+use Rattle.accepted_ends.proofs.{Cut.packets_walk, Shaders.named_is, Files.packets_are}
 use Rattle.ends_law.specs.Steps.{one_if}
-use Rattle.served_law.specs.Finish.{DrawServed, JobMayFinish}
-use Rattle.served_law.specs.Raises.{waits_in, raised_by}
-use Rattle.served_law.specs.Waits.{may_wait}
+use Rattle.served_law.specs.{Finish.DrawServed, Finish.JobMayFinish, Raises.waits_in, Raises.raised_by, Waits.may_wait}
 use Rattle.served_law.proofs.Finish.{jobs_finish_law}
-use Rattle.accepted_served.specs.Law.{FilesFinish}
-use Rattle.accepted_served.specs.Served.{waits, job_waits, file_waits}
-use Rattle.accepted_served.proofs.Raised.{emission_raises}
-use Rattle.accepted_served.proofs.Waited.{render_few}
+use Rattle.accepted_served.specs.{Law.FilesFinish, Served.waits, Served.job_waits, Served.file_waits}
+use Rattle.accepted_served.proofs.{Raised.emission_raises, Waited.render_few}
 
 is_served : (f : FileModel) (j : ℕ) (code : List ℕ) → file_waits f ≡ false → j < length f.jobs → IsShaderOf f j code → may_wait code ≡ false
 unfolding file_waits job_waits

@@ -2,15 +2,12 @@
 use Rattle.std.proofs.Common.{◌≡◌, ◌≤◌, ℕ, ◌+◌, ◌==◌, ◌&&◌, Bool, true, false, List, [], ◌∷◌, None, if◌then◌else◌, refl, sym, ◌∙◌, ap, subst, arith}
 use Rattle.std.proofs.lemmas.Bool.{and_parts, eqb-true}
 use Rattle.field_words.specs.Questions.{first_of, answered}
-use Rattle.field_words.proofs.Questions.{none_stands}
-use Rattle.field_words.proofs.Nones.{rest_none, none_answered}
+use Rattle.field_words.proofs.{Questions.none_stands, Nones.rest_none, Nones.none_answered}
 use Rattle.relocation.specs.declared.layout.Layout.{Layout}
 use Rattle.packets.specs.Opcode.{flush, increment_semaphore, buffer_handles, indexed_primitive_list, gl_shader_state, tile_binning_mode}
 use Rattle.buffer_table.specs.Table.{TableModel}
-use Rattle.bin_list.specs.declared.seen.Seen.{Seen}
-use Rattle.bin_list.specs.Emitted.{packet_text, index_text, state_text, config_text}
-use Rattle.bin_list.specs.Faults.{fault}
-use Rattle.bin_list.specs.Packets.{opcode, packets, passed, onto}
+use Rattle.bin_list.specs.{declared.seen.Seen.Seen, Emitted.packet_text, Emitted.index_text, Emitted.state_text, Emitted.config_text}
+use Rattle.bin_list.specs.{Faults.fault, Packets.opcode, Packets.packets, Packets.passed, Packets.onto}
 use Rattle.bin_list.specs.Rules.{GivenModel, given_of, asked, end_questions, questions_of, bin_questions}
 use Rattle.bin_list.specs.Seen.{seen_before, last_opcode, before_last}
 use Rattle.bin_walks.specs.Emission.{emission}

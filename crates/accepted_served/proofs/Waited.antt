@@ -1,13 +1,10 @@
 -- A renderer list waits for the semaphore once at most, and only with a binner list.
 use Rattle.std.proofs.Common.{◌≡◌, ◌≤◌, ◌<◌, ℕ, zero, suc, ◌+◌, ◌==◌, ◌&&◌, Bool, true, false, List, [], ◌∷◌, ◌++◌, Option, Some, None, if◌then◌else◌, refl, ap, arith}
-use Rattle.std.specs.Prelude.{bit_or, is_some}
-use Rattle.std.specs.List.{flat_map, range_with_len}
-use Rattle.std.proofs.lemmas.Grind.{common_steps}
-use Rattle.std.proofs.lemmas.List.Concat.{flat_map-cons}
-use Rattle.std.proofs.lemmas.Bool.Decides.{nat_tests}
+use Rattle.std.proofs.{lemmas.Grind.common_steps, lemmas.List.Concat.flat_map-cons, lemmas.Bool.Decides.nat_tests}
+use Rattle.std.specs.{Prelude.bit_or, Prelude.is_some, List.flat_map, List.range_with_len}
 use Rattle.job_format.specs.declared.file.Frame.{Frame}
-use Rattle.packets.specs.declared.packet.Packet.{Packet}
 use Rattle.packets.specs.declared.packet.Packet.TheVariants.{WaitOnSemaphore, StoreTileColor, StoreTileColorAndEnd, StoreTileBuffer, LoadFullResolution, LoadTileBuffer, TileCoordinates}
+use Rattle.packets.specs.declared.packet.Packet.{Packet}
 use Rattle.render_list.specs.Frame.{color_read, zs_read, zs_write, multisample_color, multisample_zs, color_write, place_at, is_full, surface_at, full_place, is_first_tile, is_last_tile, tiles_across, tiles_down}
 use Rattle.render_list.specs.Text.{packet_where, head_packet, clear_packet, clear_slots, front_slots, without_color, without_zs, load_packet, load_slot, idle_store, wait_slot, list_slot, full_store, full_store_slot, zs_store, zs_store_slot, color_store, color_store_slot, is_there, more_after_multisample_zs, more_after_multisample_color, some_before_zs, some_before_color, coordinates_slot, load_slots, list_slots, write_slots, tile_slots, span_slots, row_slots, all_tile_slots, render_slots}
 use Rattle.ends_law.specs.Steps.{one_if}

@@ -3,10 +3,8 @@ use Rattle.std.specs.Prelude.{◌≡◌, false, List, ℕ, None}
 use Rattle.field_words.specs.Questions.{first_of}
 use Rattle.machine_plan.specs.Regions.{Agree}
 use Rattle.machine.specs.State.{units_start}
-use Rattle.job_format.specs.File.{IsWellFormed, Fits}
-use Rattle.job_format.specs.Model.{FileModel}
-use Rattle.job_check.specs.Emit.{memory_of}
-use Rattle.job_check.specs.Faults.{place_stages}
+use Rattle.job_format.specs.{File.IsWellFormed, File.Fits, Model.FileModel}
+use Rattle.job_check.specs.{Emit.memory_of, Faults.place_stages}
 use Rattle.accepted_law.specs.Holdings.{fixed_of, file_rights, file_starts}
 use Rattle.served_law.specs.Finish.{Finishes}
 use Rattle.accepted_served.specs.Served.{file_waits}

@@ -1,35 +1,25 @@
 -- From two states that are alike to a client, two steps for jobs of it that have the same entry are alike.
 use Rattle.std.proofs.Common.{◌≡◌, ℕ, ◌==◌, Bool, true, false, IsTrue, if◌then◌else◌, List, [], ◌∷◌, Option, Some, None, refl, sym, ◌∙◌, ap, subst}
-use Rattle.std.specs.Prelude.{is_some, nat_lt}
 use Rattle.std.proofs.lemmas.Bool.{false≢true}
-use Rattle.field_words.specs.declared.access.Actor.{Actor}
+use Rattle.std.specs.Prelude.{is_some, nat_lt}
 use Rattle.field_words.specs.declared.access.Actor.TheVariants.{Binner as TheBinner, Renderer as TheRenderer, Qpu as TheQpu, Tmu as TheTmu}
-use Rattle.machine_plan.specs.declared.launch.Free.{Free}
-use Rattle.machine_plan.specs.declared.who.Who.{Who}
-use Rattle.machine_plan.specs.Glance.{Now, glanced}
-use Rattle.machine_plan.specs.Plan.{Plan, Outcome, carried}
-use Rattle.machine_plan.specs.Regions.{Interval}
-use Rattle.machine_plan.specs.World.{mapped, turned}
+use Rattle.field_words.specs.declared.access.Actor.{Actor}
+use Rattle.machine_plan.specs.{declared.launch.Free.Free, declared.who.Who.Who, Glance.Now, Glance.glanced, Regions.Interval}
+use Rattle.machine_plan.specs.{Plan.Plan, Plan.Outcome, Plan.carried, World.mapped, World.turned}
 use Rattle.machine_plan.proofs.Plans.{SameBut}
-use Rattle.list_machine.specs.Binner.{has_binner_work, binner_plan}
 use Rattle.list_machine.specs.Lists.{Lists, Turned, quiet, binner_of, renderer_of, binner_ended, renderer_ended}
-use Rattle.list_machine.specs.Renderer.{has_renderer_work, renderer_plan}
-use Rattle.qpu_machine.specs.declared.state.Asked.{Asked}
-use Rattle.qpu_machine.specs.declared.state.Qpu.{Qpu}
-use Rattle.qpu_machine.specs.declared.state.Request.{Request}
-use Rattle.qpu_machine.specs.declared.state.Thread.{Thread}
+use Rattle.list_machine.specs.{Binner.has_binner_work, Binner.binner_plan, Renderer.has_renderer_work, Renderer.renderer_plan}
 use Rattle.qpu_machine.specs.Qpu.{active_of, job_of_thread, left_by, gives_way, settled, went, stopped, ready_by, queue_of, oldest, job_of_request, dropped, served, free_in}
-use Rattle.qpu_machine.specs.Request.{ask_plan}
-use Rattle.qpu_machine.specs.Step.{thread_plan}
-use Rattle.machine.specs.State.{Units, State, Picked, first_where, item_at, binner_job, renderer_job}
+use Rattle.qpu_machine.specs.{declared.state.Asked.Asked, declared.state.Qpu.Qpu, declared.state.Request.Request, Request.ask_plan}
+use Rattle.qpu_machine.specs.{declared.state.Thread.Thread, Step.thread_plan}
 use Rattle.machine.specs.Step.{Event, with_lists, with_qpu, binner_may, renderer_may, qpu_may, tmu_may, binner_turn, renderer_turn, qpu_turn, tmu_turn, unit_ready, unit_turn, number_or_zero, qpu_job, tmu_job, unit_job, job_of, may, step, ready, turn}
-use Rattle.apart_law.specs.Part.{Client, Part, seen, requests_of, part_of, UnitsAlike, StatesAlike}
+use Rattle.machine.specs.State.{Units, State, Picked, first_where, item_at, binner_job, renderer_job}
 use Rattle.apart_law.specs.Trail.{is_second, active_in, slot_for, launch_in, binner_starts, renderer_starts, starts_in, entry_of}
+use Rattle.apart_law.specs.Part.{Client, Part, seen, requests_of, part_of, UnitsAlike, StatesAlike}
 use Rattle.apart_law.specs.Steps.{StaysIn, GaveAlike, OwnStepsAreAlike}
 use Rattle.apart_law.proofs.Parts.{some_same, sees, chosen_of, own_request, part_settled, settled_part, part_dropped, dropped_part, part_served, served_part}
-use Rattle.apart_law.proofs.Places.{put_alike, map_alike, map_at, one_first}
+use Rattle.apart_law.proofs.{Places.put_alike, Places.map_alike, Places.map_at, Places.one_first, Slots.launches_alike}
 use Rattle.apart_law.proofs.Plans.{mapped_twice, Stays, stays_before, same_over, turns_alike}
-use Rattle.apart_law.proofs.Slots.{launches_alike}
 use Rattle.apart_law.proofs.Starting.{DoesSame, binner_does_same, renderer_does_same}
 use Rattle.apart_law.proofs.Turns.{thread_turn, request_turn}
 

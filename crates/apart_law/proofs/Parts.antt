@@ -1,16 +1,12 @@
 -- A client's part of a processor after what a step does to it: the same by the part alone where the step is for a job of the client, and
 -- the part as it was where it is for another's.
 use Rattle.std.proofs.Common.{◌≡◌, ℕ, Bool, true, false, if◌then◌else◌, List, [], ◌∷◌, ◌++◌, Option, Some, None, refl, sym, ◌∙◌, ap, append-nil}
+use Rattle.std.proofs.{lemmas.Bool.false≢true, lemmas.List.Elements.filter-append}
 use Rattle.std.specs.Prelude.{IfSome, drop, ◌==◌, option_map, unwrap_or, is_none}
-use Rattle.std.proofs.lemmas.Bool.{false≢true}
-use Rattle.std.proofs.lemmas.List.Elements.{filter-append}
-use Rattle.qpu_machine.specs.declared.state.Asked.{Asked}
-use Rattle.qpu_machine.specs.declared.state.Qpu.{Qpu}
-use Rattle.qpu_machine.specs.declared.state.Request.{Request}
-use Rattle.qpu_machine.specs.declared.state.Thread.{Thread}
 use Rattle.qpu_machine.specs.Qpu.{active_of, refreshed, woken_slot, queue_with, settled, oldest, queue_of, with_result, dropped, given, served, slot_of, in_first, in_other}
-use Rattle.apart_law.specs.Part.{Client, Part, seen, requests_of, part_of}
-use Rattle.apart_law.specs.Tied.{RestsFresh, IsTied}
+use Rattle.qpu_machine.specs.{declared.state.Asked.Asked, declared.state.Qpu.Qpu, declared.state.Request.Request}
+use Rattle.qpu_machine.specs.declared.state.Thread.{Thread}
+use Rattle.apart_law.specs.{Part.Client, Part.Part, Part.seen, Part.requests_of, Part.part_of, Tied.RestsFresh, Tied.IsTied}
 
 pub some_same : {X : Type 0} (x y : X) → Some x ≡ Some y → x ≡ y
 some_same x y e = ap (λ o. unwrap_or o x) e

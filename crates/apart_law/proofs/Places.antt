@@ -1,9 +1,7 @@
 -- Items of lists by their numbers: where one is put, and the first of which a test is true.
 use Rattle.std.proofs.Common.{◌≡◌, ◌≢◌, ◌≤◌, ◌<◌, ℕ, zero, suc, ◌+◌, Bool, true, false, if◌then◌else◌, List, [], ◌∷◌, map, Some, refl, sym, ◌∙◌, ap, subst, arith}
+use Rattle.std.proofs.{lemmas.Bool.false≢true, lemmas.List.map-set, lemmas.Option.slice_get-map}
 use Rattle.std.specs.Prelude.{drop, option_map}
-use Rattle.std.proofs.lemmas.Bool.{false≢true}
-use Rattle.std.proofs.lemmas.List.{map-set}
-use Rattle.std.proofs.lemmas.Option.{slice_get-map}
 use Rattle.machine_plan.specs.Regions.{Every}
 use Rattle.machine.specs.State.{Picked, first_where, item_at, put_at}
 use Rattle.apart_law.proofs.Parts.{some_same, some_none}

@@ -1,18 +1,15 @@
 -- What a plan comes to, whatever it reads; and turns that come to what is alike.
 use Rattle.std.proofs.Common.{◌≡◌, ℕ, false, if◌then◌else◌, List, [], ◌∷◌, length, Option, Some, None, refl, sym, ◌∙◌, ap, subst}
 use Rattle.std.specs.Prelude.{option_map, unwrap_or}
-use Rattle.field_words.specs.declared.access.Access.{Access}
 use Rattle.field_words.specs.declared.access.Way.TheVariants.{Read, Write, Wild}
-use Rattle.machine_plan.specs.declared.who.Who.{Who}
-use Rattle.machine_plan.specs.Memory.{bytes_at, stored}
+use Rattle.field_words.specs.declared.access.Access.{Access}
 use Rattle.machine_plan.specs.Plan.{Plan, Done, Wilds, Reads, Looks, Writes, Outcome, access, carried, Keeps}
+use Rattle.machine_plan.specs.{declared.who.Who.Who, Memory.bytes_at, Memory.stored, World.mapped, World.settled, World.turned}
 use Rattle.machine_plan.specs.Regions.{Interval, Inside, IsIn, Agree}
-use Rattle.machine_plan.specs.World.{mapped, settled, turned}
 use Rattle.machine_plan.proofs.Plans.{SameBut, footprint, keeps_looks, keeps_accesses}
 use Rattle.machine_plan.proofs.Worlds.{handed, carried_mapped}
 use Rattle.machine.specs.State.{Units, State}
-use Rattle.apart_law.specs.Part.{Client, accesses_of, UnitsAlike}
-use Rattle.apart_law.specs.Steps.{GaveAlike}
+use Rattle.apart_law.specs.{Part.Client, Part.accesses_of, Part.UnitsAlike, Steps.GaveAlike}
 
 -- the plan comes to P, if it comes to anything
 abbrev pub ComesTo : {R : Type 0} → Who → (R → Type 0) → Plan R → List ℕ → Type 0

@@ -2,23 +2,16 @@
 use Rattle.std.proofs.Common.{◌≡◌, ◌≢◌, ℕ, ◌==◌, true, false, List, Some, None, refl, sym, ◌∙◌, ap, subst, ◌∷◌, []}
 use Rattle.std.proofs.lemmas.Bool.{false≢true}
 use Rattle.machine_plan.specs.Regions.{Every}
-use Rattle.qpu_machine.specs.declared.state.Fate.{Fate}
 use Rattle.qpu_machine.specs.declared.state.Fate.TheVariants.{GoesOn, Switches, Ends}
-use Rattle.qpu_machine.specs.declared.state.Qpu.{Qpu}
-use Rattle.qpu_machine.specs.declared.state.Request.{Request}
-use Rattle.qpu_machine.specs.declared.state.Thread.{Thread}
 use Rattle.qpu_machine.specs.Qpu.{active_of, left_by, gives_way, went, stopped, oldest, queue_of, dropped, served}
-use Rattle.qpu_machine.specs.Step.{ThreadTurn}
-use Rattle.machine.specs.State.{Units, item_at}
-use Rattle.machine.specs.Step.{with_qpu, unit_turn, job_of, turn}
-use Rattle.apart_law.specs.Part.{Client, seen, part_of, UnitsAlike}
-use Rattle.apart_law.specs.Steps.{OthersStepsAreSilent, StepsKeepTied}
+use Rattle.qpu_machine.specs.{declared.state.Fate.Fate, declared.state.Qpu.Qpu, declared.state.Request.Request, Step.ThreadTurn}
+use Rattle.qpu_machine.specs.declared.state.Thread.{Thread}
+use Rattle.machine.specs.{State.Units, State.item_at, Step.with_qpu, Step.unit_turn, Step.job_of, Step.turn}
+use Rattle.apart_law.specs.{Part.Client, Part.seen, Part.part_of, Part.UnitsAlike, Steps.OthersStepsAreSilent, Steps.StepsKeepTied}
 use Rattle.apart_law.specs.Tied.{IsTied, QpuTied, AreTied, RestsFresh}
 use Rattle.apart_law.proofs.Parts.{some_same, some_none, sees_none, other_settled, other_dropped, other_served}
-use Rattle.apart_law.proofs.Places.{chosen, put_elsewhere, map_same, every_at, put_every}
-use Rattle.apart_law.proofs.Plans.{none_told}
-use Rattle.apart_law.proofs.Slots.{launches_silent}
-use Rattle.apart_law.proofs.Tied.{IsOf, settled_tied, dropped_tied, served_tied, launches_tied}
+use Rattle.apart_law.proofs.{Places.chosen, Places.put_elsewhere, Places.map_same, Places.every_at, Places.put_every, Plans.none_told}
+use Rattle.apart_law.proofs.{Slots.launches_silent, Tied.IsOf, Tied.settled_tied, Tied.dropped_tied, Tied.served_tied, Tied.launches_tied}
 use Rattle.apart_law.proofs.Turns.{AllTurns, unit_left, job_is}
 
 -- a job of the client is none of another's

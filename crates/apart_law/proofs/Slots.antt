@@ -1,19 +1,13 @@
 -- A program starts: in the client's parts where it is one of its jobs', by the slot alone, and in none of them where it is another's.
 use Rattle.std.proofs.Common.{◌≡◌, ℕ, Bool, true, false, if◌then◌else◌, List, [], ◌∷◌, map, slice_index_or, slice_set, Option, Some, None, refl, sym, ◌∙◌, ap, subst}
+use Rattle.std.proofs.{lemmas.Bool.and_parts, lemmas.Bool.false≢true, lemmas.List.map-set, Math.ListN.get_or-map}
 use Rattle.std.specs.Prelude.{is_none}
-use Rattle.std.proofs.lemmas.Bool.{and_parts, false≢true}
-use Rattle.std.proofs.lemmas.List.{map-set}
-use Rattle.std.proofs.Math.ListN.{get_or-map}
-use Rattle.machine_plan.specs.declared.launch.Launch.{Launch}
-use Rattle.machine_plan.specs.declared.launch.Slot.{Slot}
-use Rattle.qpu_machine.specs.declared.state.Qpu.{Qpu}
-use Rattle.qpu_machine.specs.declared.state.Thread.{Thread}
+use Rattle.machine_plan.specs.{declared.launch.Launch.Launch, declared.launch.Slot.Slot}
 use Rattle.qpu_machine.specs.Qpu.{takes_first, takes_other, in_first, in_other, in_slot, started_in, slot_from, idle_qpu}
-use Rattle.qpu_machine.specs.Start.{thread_of}
+use Rattle.qpu_machine.specs.{declared.state.Qpu.Qpu, declared.state.Thread.Thread, Start.thread_of}
 use Rattle.qpu_machine.proofs.Starts.{Finds, finds, found_in}
 use Rattle.machine.specs.Step.{with_launch}
-use Rattle.apart_law.specs.Part.{Client, Part, seen, part_of}
-use Rattle.apart_law.specs.Trail.{slot_for}
+use Rattle.apart_law.specs.{Part.Client, Part.Part, Part.seen, Part.part_of, Trail.slot_for}
 use Rattle.apart_law.proofs.Parts.{part_in, in_first_part, in_other_part, sees_none}
 
 -- the parts, where this is put in a slot

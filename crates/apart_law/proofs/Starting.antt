@@ -1,29 +1,19 @@
 -- Which threads are free bears on a list unit's step by the slot alone in which a program starts.
 use Rattle.std.proofs.Common.{◌≡◌, ℕ, ◌==◌, Bool, true, false, if◌then◌else◌, List, Option, Some, None, refl, sym, ◌∙◌, ap}
-use Rattle.std.specs.Prelude.{is_some, option_map, ◌%◌}
 use Rattle.std.proofs.lemmas.Bool.{false≢true}
+use Rattle.std.specs.Prelude.{is_some, option_map, ◌%◌}
 use Rattle.field_words.specs.declared.access.Way.TheVariants.{Read}
-use Rattle.machine_plan.specs.declared.launch.Free.{Free}
-use Rattle.machine_plan.specs.declared.launch.Launch.{Launch}
-use Rattle.machine_plan.specs.declared.launch.Slot.{Slot}
-use Rattle.machine_plan.specs.declared.who.Who.{Who}
-use Rattle.machine_plan.specs.Choice.{word_at}
-use Rattle.machine_plan.specs.Memory.{bytes_at}
+use Rattle.machine_plan.specs.{declared.launch.Free.Free, declared.launch.Launch.Launch, declared.launch.Slot.Slot, declared.who.Who.Who}
+use Rattle.machine_plan.specs.{Choice.word_at, Memory.bytes_at, World.mapped}
 use Rattle.machine_plan.specs.Plan.{Plan, Done, Outcome, access, after_access, carried}
-use Rattle.machine_plan.specs.World.{mapped}
 use Rattle.machine_plan.proofs.Worlds.{handed, carried_mapped}
-use Rattle.list_machine.specs.declared.state.Found.{Found}
-use Rattle.list_machine.specs.declared.state.Program.{Program}
 use Rattle.list_machine.specs.declared.state.Program.TheVariants.{Fragment, Vertex, Coordinate}
-use Rattle.list_machine.specs.declared.state.SubList.{SubList}
-use Rattle.list_machine.specs.declared.state.Work.{Work}
-use Rattle.list_machine.specs.Binner.{binner_plan, binner_by, work_plan, started_with}
-use Rattle.list_machine.specs.Lists.{Lists, Turned, turned_to}
 use Rattle.list_machine.specs.Renderer.{renderer_plan, plan_in, found_plan, choice_plan, program_plan, at_item, item_at}
+use Rattle.list_machine.specs.{declared.state.Found.Found, declared.state.Program.Program, declared.state.SubList.SubList}
+use Rattle.list_machine.specs.{declared.state.Work.Work, Binner.binner_plan, Binner.binner_by, Binner.work_plan, Binner.started_with}
+use Rattle.list_machine.specs.{Lists.Lists, Lists.Turned, Lists.turned_to, Fetch.record_place}
 use Rattle.list_machine.specs.Start.{can_start, launch_plan, start_as, start_plan, is_threaded}
-use Rattle.list_machine.specs.Fetch.{record_place}
-use Rattle.qpu_machine.specs.declared.state.Qpu.{Qpu}
-use Rattle.qpu_machine.specs.Qpu.{slot_from, free_in}
+use Rattle.qpu_machine.specs.{declared.state.Qpu.Qpu, Qpu.slot_from, Qpu.free_in}
 use Rattle.apart_law.specs.Trail.{slot_for, launch_in}
 
 -- a program can start where a slot is found for it

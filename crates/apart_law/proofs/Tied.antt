@@ -1,22 +1,15 @@
 -- What a step of each unit leaves, said over any property of what all units keep; and requests stay tied to the threads of their jobs.
 use Rattle.std.proofs.Common.{◌≡◌, ℕ, zero, suc, ◌+◌, ◌==◌, Bool, true, false, not, if◌then◌else◌, List, [], ◌∷◌, ◌++◌, replicate, Option, Some, None, refl, sym, ◌∙◌, ap, arith}
+use Rattle.std.proofs.{lemmas.Bool.and_parts, lemmas.Bool.false≢true, lemmas.List.Sums.sum_by-cons, lemmas.Grind.common_steps}
 use Rattle.std.specs.Prelude.{IfSome, drop, option_map}
-use Rattle.std.proofs.lemmas.Bool.{and_parts, false≢true}
-use Rattle.std.proofs.lemmas.List.Sums.{sum_by-cons}
-use Rattle.std.proofs.lemmas.Grind.{common_steps}
-use Rattle.machine_plan.specs.declared.launch.Launch.{Launch}
-use Rattle.machine_plan.specs.Regions.{Every}
+use Rattle.machine_plan.specs.{declared.launch.Launch.Launch, Regions.Every}
 use Rattle.machine_plan.proofs.Runs.{every-append, every-weaker}
-use Rattle.qpu_machine.specs.declared.state.Asked.{Asked}
-use Rattle.qpu_machine.specs.declared.state.Qpu.{Qpu}
-use Rattle.qpu_machine.specs.declared.state.Request.{Request}
-use Rattle.qpu_machine.specs.declared.state.Thread.{Thread}
 use Rattle.qpu_machine.specs.Qpu.{active_of, is_of, queued, has_none, refreshed, woken_slot, queue_with, settled, with_result, dropped, given, served, slot_of, takes_first, takes_other, in_first, in_other, started_in, idle_qpu}
-use Rattle.qpu_machine.specs.Start.{thread_of}
+use Rattle.qpu_machine.specs.{declared.state.Asked.Asked, declared.state.Qpu.Qpu, declared.state.Request.Request, Start.thread_of}
+use Rattle.qpu_machine.specs.declared.state.Thread.{Thread}
 use Rattle.machine.specs.Step.{with_launch}
 use Rattle.apart_law.specs.Tied.{IsTied, QpuTied, AreTied}
-use Rattle.apart_law.proofs.Parts.{some_same, some_none}
-use Rattle.apart_law.proofs.Places.{chosen, drop_every}
+use Rattle.apart_law.proofs.{Parts.some_same, Parts.some_none, Places.chosen, Places.drop_every}
 
 -- a slot's thread is of this job, where one runs
 abbrev pub IsOf : ℕ → Option Thread → Type 0

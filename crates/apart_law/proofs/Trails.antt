@@ -1,14 +1,10 @@
 -- Two runs whose trails are equal: step by step, the steps that leave no entry on either side first.
 use Rattle.std.proofs.Common.{◌≡◌, true, List, [], ◌∷◌, ◌++◌, Option, Some, None, refl, sym, ◌∙◌, ap}
-use Rattle.std.specs.Prelude.{drop, slice_index_or}
-use Rattle.std.specs.List.{list_any}
-use Rattle.std.proofs.lemmas.Bool.{false≢true}
-use Rattle.std.proofs.lemmas.List.Elements.{filter-append}
+use Rattle.std.proofs.{lemmas.Bool.false≢true, lemmas.List.Elements.filter-append}
+use Rattle.std.specs.{Prelude.drop, Prelude.slice_index_or, List.list_any}
 use Rattle.field_words.specs.declared.access.Access.{Access}
 use Rattle.machine_plan.specs.Runs.{Moved, found_by, reached}
-use Rattle.apart_law.specs.Part.{Client, accesses_of}
-use Rattle.apart_law.specs.Steps.{StepsAlike}
-use Rattle.apart_law.specs.Trail.{with_entry, entries_of}
+use Rattle.apart_law.specs.{Part.Client, Part.accesses_of, Steps.StepsAlike, Trail.with_entry, Trail.entries_of}
 
 -- each event in turn may be
 abbrev pub AllMay : {S E : Type 0} → (S → E → Moved S) → (S → E → Type 0) → S → List E → Type 0

@@ -1,29 +1,20 @@
 -- What a step of each unit leaves, said over any property of what all units keep, by the job that it was for.
 use Rattle.std.proofs.Common.{◌≡◌, ℕ, Bool, true, false, if◌then◌else◌, List, Option, Some, None, refl, ◌∙◌}
-use Rattle.std.specs.Prelude.{unwrap_or}
-use Rattle.std.specs.Int.{from_le_bytes, w64}
-use Rattle.field_words.specs.Words.{u32_at}
-use Rattle.field_words.specs.declared.access.Actor.{Actor}
+use Rattle.std.specs.{Prelude.unwrap_or, Int.from_le_bytes, Int.w64}
 use Rattle.field_words.specs.declared.access.Actor.TheVariants.{Binner as TheBinner, Renderer as TheRenderer, Qpu as TheQpu, Tmu as TheTmu}
-use Rattle.machine_plan.specs.declared.who.Who.{Who}
-use Rattle.machine_plan.specs.Memory.{bytes_at}
-use Rattle.machine_plan.specs.Plan.{Plan, Done, Wilds, Reads, carried}
+use Rattle.field_words.specs.{Words.u32_at, declared.access.Actor.Actor}
+use Rattle.machine_plan.specs.{declared.who.Who.Who, Memory.bytes_at, Plan.Plan, Plan.Done, Plan.Wilds, Plan.Reads, Plan.carried}
 use Rattle.machine_plan.specs.World.{Turn, mapped}
-use Rattle.machine_plan.proofs.Plans.{keeps_weaker}
-use Rattle.machine_plan.proofs.Worlds.{keeps_mapped}
-use Rattle.list_machine.specs.Binner.{binner_plan}
+use Rattle.machine_plan.proofs.{Plans.keeps_weaker, Worlds.keeps_mapped}
 use Rattle.list_machine.specs.Lists.{Lists, Turned, quiet, binner_of, renderer_of, binner_ended, renderer_ended}
-use Rattle.list_machine.specs.Renderer.{renderer_plan}
-use Rattle.qpu_machine.specs.declared.state.Qpu.{Qpu}
-use Rattle.qpu_machine.specs.declared.state.Request.{Request}
-use Rattle.qpu_machine.specs.declared.state.Thread.{Thread}
+use Rattle.list_machine.specs.{Binner.binner_plan, Renderer.renderer_plan}
 use Rattle.qpu_machine.specs.Qpu.{active_of, job_of_thread, plan_by, went, stopped, stopped_by, queue_of, oldest, job_of_request, dropped, served, serving, free_in}
-use Rattle.qpu_machine.specs.Request.{ask_plan}
+use Rattle.qpu_machine.specs.Writes.{awake, past_uniform, written_at, added, multiplied, written, stored, loaded, went_on, worked, rested}
+use Rattle.qpu_machine.specs.{declared.state.Qpu.Qpu, declared.state.Request.Request, declared.state.Thread.Thread, Request.ask_plan}
 use Rattle.qpu_machine.specs.Step.{ThreadTurn, executed, executed_with, word_plan, thread_plan}
 use Rattle.qpu_machine.specs.Wild.{takes_one, is_wild}
-use Rattle.qpu_machine.specs.Writes.{awake, past_uniform, written_at, added, multiplied, written, stored, loaded, went_on, worked, rested}
-use Rattle.machine.specs.State.{Units, State, Picked, item_at, binner_job, renderer_job}
 use Rattle.machine.specs.Step.{Event, job_of, turn, with_lists, with_qpu, binner_turn, renderer_turn, qpu_turn, tmu_turn, unit_turn, number_or_zero, qpu_job, tmu_job, unit_job}
+use Rattle.machine.specs.State.{Units, State, Picked, item_at, binner_job, renderer_job}
 use Rattle.apart_law.proofs.Plans.{ComesTo, comes_to, comes_to_any}
 
 -- an instruction leaves its thread to its job

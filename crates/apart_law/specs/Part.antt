@@ -1,11 +1,8 @@
 -- A client's part of what the machine keeps, and what it is for two states to be alike to a client.
-use Rattle.std.specs.Prelude.{◌≡◌, ℕ, Bool, true, if◌then◌else◌, List, map, Option, Some, None}
-use Rattle.std.specs.List.{filter}
+use Rattle.std.specs.Prelude.{◌≡◌, ℕ, Bool, true, if◌then◌else◌, List, map, Option, Some, None, filter}
 use Rattle.field_words.specs.declared.access.Access.{Access}
 use Rattle.machine_plan.specs.Regions.{Interval, Agree}
-use Rattle.qpu_machine.specs.declared.state.Qpu.{Qpu}
-use Rattle.qpu_machine.specs.declared.state.Request.{Request}
-use Rattle.qpu_machine.specs.declared.state.Thread.{Thread}
+use Rattle.qpu_machine.specs.{declared.state.Qpu.Qpu, declared.state.Request.Request, declared.state.Thread.Thread}
 use Rattle.machine.specs.State.{Units, State, item_at}
 
 -- which job numbers are a client's

@@ -1,15 +1,9 @@
 -- One step of the machine, to a client: a step for another client's job leaves its part alone, and a step for its own job does the same
 -- from all states that are alike to it.
 use Rattle.std.specs.Prelude.{◌≡◌, ℕ, IsTrue, true, false, List, [], Option, Some, None}
-use Rattle.machine_plan.specs.Plan.{Keeps}
-use Rattle.machine_plan.specs.Regions.{Interval, Inside, IsIn, Every}
-use Rattle.machine_plan.specs.Runs.{Moved}
-use Rattle.machine_plan.specs.World.{Turn}
-use Rattle.machine.specs.State.{Units, State}
-use Rattle.machine.specs.Step.{Event, job_of, may, step, turn}
-use Rattle.apart_law.specs.Part.{Client, accesses_of, UnitsAlike, StatesAlike}
-use Rattle.apart_law.specs.Trail.{entry_of}
-use Rattle.apart_law.specs.Tied.{AreTied, RestsFresh}
+use Rattle.machine_plan.specs.{Plan.Keeps, Regions.Interval, Regions.Inside, Regions.IsIn, Regions.Every, Runs.Moved, World.Turn}
+use Rattle.machine.specs.{State.Units, State.State, Step.Event, Step.job_of, Step.may, Step.step, Step.turn}
+use Rattle.apart_law.specs.{Part.Client, Part.accesses_of, Part.UnitsAlike, Part.StatesAlike, Trail.entry_of, Tied.AreTied, Tied.RestsFresh}
 
 -- A step for another client's job has no access of the client's, and leaves its part of what the units keep.
 abbrev pub OthersStepsAreSilent : Type 0

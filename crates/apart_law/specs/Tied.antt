@@ -2,9 +2,7 @@
 -- rests is fresh.
 use Rattle.std.specs.Prelude.{◌≡◌, true, IfSome, List}
 use Rattle.machine_plan.specs.Regions.{Every}
-use Rattle.qpu_machine.specs.declared.state.Qpu.{Qpu}
-use Rattle.qpu_machine.specs.declared.state.Request.{Request}
-use Rattle.qpu_machine.specs.Qpu.{resting_of, slot_of}
+use Rattle.qpu_machine.specs.{declared.state.Qpu.Qpu, declared.state.Request.Request, Qpu.resting_of, Qpu.slot_of}
 
 -- The request is of the job of the thread that asked, or that thread has ended and none runs there.
 abbrev pub IsTied : Qpu → Request → Type 0

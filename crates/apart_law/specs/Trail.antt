@@ -1,17 +1,11 @@
 -- A client's trail of a run: one entry for each step that a unit takes for one of its jobs, in order.
 use Rattle.std.specs.Prelude.{ℕ, Bool, false, if◌then◌else◌, List, [], ◌∷◌, Option, Some, None}
-use Rattle.field_words.specs.declared.access.Actor.{Actor}
 use Rattle.field_words.specs.declared.access.Actor.TheVariants.{Binner as TheBinner, Renderer as TheRenderer, Qpu as TheQpu, Tmu as TheTmu}
-use Rattle.machine_plan.specs.declared.launch.Launch.{Launch}
-use Rattle.machine_plan.specs.declared.launch.Slot.{Slot}
+use Rattle.field_words.specs.declared.access.Actor.{Actor}
+use Rattle.machine_plan.specs.{declared.launch.Launch.Launch, declared.launch.Slot.Slot, Plan.carried, Runs.Moved}
 use Rattle.machine_plan.specs.Others.{Happening, Steps, Changes, happen}
-use Rattle.machine_plan.specs.Plan.{carried}
-use Rattle.machine_plan.specs.Runs.{Moved}
-use Rattle.list_machine.specs.Binner.{binner_plan}
-use Rattle.list_machine.specs.Lists.{Lists, Turned, binner_of, renderer_of}
-use Rattle.list_machine.specs.Renderer.{renderer_plan}
-use Rattle.qpu_machine.specs.declared.state.Qpu.{Qpu}
-use Rattle.qpu_machine.specs.Qpu.{slot_from, free_in}
+use Rattle.list_machine.specs.{Binner.binner_plan, Lists.Lists, Lists.Turned, Lists.binner_of, Lists.renderer_of, Renderer.renderer_plan}
+use Rattle.qpu_machine.specs.{declared.state.Qpu.Qpu, Qpu.slot_from, Qpu.free_in}
 use Rattle.machine.specs.State.{State, Picked, item_at, binner_job, renderer_job}
 use Rattle.machine.specs.Step.{Event, job_of, step, turn}
 use Rattle.apart_law.specs.Part.{Client}

@@ -1,17 +1,13 @@
 -- Steps whose entries are the same but for one part, by computing, and where what they give differs.
 use Rattle.std.proofs.Common.{◌==◌, inl, Bool, false, List, [], ◌∷◌, refl, arith, ap}
-use Rattle.std.specs.Prelude.{is_some}
-use Rattle.std.specs.List.{list_any}
 use Rattle.std.proofs.lemmas.Bool.{true≢false}
-use Rattle.field_words.specs.Words.{u16_at, u32_at, rounded_up}
-use Rattle.field_words.specs.declared.access.Access.{Access}
+use Rattle.std.specs.{Prelude.is_some, List.list_any}
+use Rattle.field_words.specs.{Words.u16_at, Words.u32_at, Words.rounded_up, declared.access.Access.Access}
 use Rattle.machine_plan.specs.Memory.{bytes_at, stored}
 use Rattle.list_machine.specs.Blocks.{tiles_of, further_offset, block_place, has_room, is_full, next_place, link_place, put_here, put_plan}
-use Rattle.list_machine.specs.Fetch.{record_place}
-use Rattle.list_machine.specs.Start.{launch_plan, start_as, start_plan, is_threaded}
 use Rattle.list_machine.specs.Binner.{binner_ready, binner_plan, is_due, one_done, not_due, chosen_tile, tile_plan, work_plan, work_may}
-use Rattle.qpu_machine.specs.Qpu.{takes_first, takes_other, in_first, in_other}
-use Rattle.qpu_machine.specs.Start.{thread_of}
+use Rattle.list_machine.specs.{Fetch.record_place, Start.launch_plan, Start.start_as, Start.start_plan, Start.is_threaded}
+use Rattle.qpu_machine.specs.{Qpu.takes_first, Qpu.takes_other, Qpu.in_first, Qpu.in_other, Start.thread_of}
 use Rattle.machine.specs.Step.{enabled, ready, turn, job_of}
 use Rattle.apart_law.specs.Part.{Part}
 use Rattle.apart_needs.specs.Entries.{WordsAreNeeded, SlotsAreNeeded}

@@ -2,26 +2,18 @@
 use Rattle.std.proofs.Common.{◌≤◌, inl, inr, ◌==◌, ℕ, zero, suc, ◌+◌, [], ◌∷◌, Some, refl, arith, ap}
 use Rattle.std.proofs.lemmas.Bool.{false≢true}
 use Rattle.field_words.specs.Words.{u16_at, u32_at, rounded_up}
-use Rattle.packets.specs.Length.{render_taken}
-use Rattle.packets.specs.Packet.{decoded, packet_text}
-use Rattle.packets.specs.declared.config.Config.{Config}
+use Rattle.packets.specs.{Length.render_taken, Packet.decoded, Packet.packet_text, declared.config.Config.Config}
 use Rattle.packets.specs.declared.packet.Packet.TheVariants.{StoreTileColor, TileRenderingMode}
-use Rattle.texture_layouts.specs.Surface.{microtile_width_of, microtile_height_of}
+use Rattle.texture_layouts.specs.{Surface.microtile_width_of, Surface.microtile_height_of, declared.surface.Tiling.TheVariants.Raster}
 use Rattle.texture_layouts.specs.Place.{microtiles_across, microtile_number, microtile_place_of, raster_place}
 use Rattle.texture_layouts.specs.Format.{general_tiling, general_pixel, frame_tiling, frame_pixel}
-use Rattle.texture_layouts.specs.declared.surface.Tiling.TheVariants.{Raster}
-use Rattle.machine_plan.specs.Memory.{bytes_at, stored}
-use Rattle.machine_plan.specs.Regions.{Inside, rights_of}
-use Rattle.machine_plan.specs.Runs.{reached}
-use Rattle.list_machine.specs.declared.state.Frame.{Frame}
-use Rattle.list_machine.specs.Blocks.{tiles_of}
-use Rattle.list_machine.specs.Store.{tile_side, covered, chosen_byte, chosen}
-use Rattle.list_machine.specs.Cover.{raster_cover, tiled_cover, part_place, parts_written, parts_read}
+use Rattle.machine_plan.specs.{Memory.bytes_at, Memory.stored, Regions.Inside, Regions.rights_of, Runs.reached}
 use Rattle.list_machine.specs.Surfaces.{cover_written, cover_read, aligned, names_none, general_written, general_read, frame_written, whole_written, whole_read}
+use Rattle.list_machine.specs.{declared.state.Frame.Frame, Blocks.tiles_of, Store.tile_side, Store.covered, Store.chosen_byte, Store.chosen}
+use Rattle.list_machine.specs.Cover.{raster_cover, tiled_cover, part_place, parts_written, parts_read}
 use Rattle.list_machine.specs.Renderer.{tile_plan, packet_plan, renderer_plan, may_pass, renderer_ready}
 use Rattle.machine.specs.Step.{step, enabled, ready, turn, job_of}
-use Rattle.machine_law.specs.Apart.{EndAlike, BeginsSoundly, regions_of}
-use Rattle.machine_law.specs.Begins.{IsFixed, JobBegins}
+use Rattle.machine_law.specs.{Apart.EndAlike, Apart.BeginsSoundly, Apart.regions_of, Begins.IsFixed, Begins.JobBegins}
 use Rattle.apart_needs.specs.Sharing.{client, shared_memory, shared_rights, shared, sharing, stores, stored_accesses, SharingIsSeen}
 
 -- no tiles, and the frame of four pixels

@@ -2,16 +2,11 @@
 -- own jobs takes a step. Job 0 is the client's, and has nothing to do. Job 1 is another one's, and draws into the client's bytes.
 use Rattle.std.specs.Prelude.{◌≡◌, ℕ, ◌==◌, List, [], ◌∷◌}
 use Rattle.field_words.specs.declared.access.Access.{Access}
-use Rattle.machine_plan.specs.Regions.{Interval, Rights}
-use Rattle.machine_plan.specs.Runs.{reached}
-use Rattle.machine.specs.declared.job.Start.{Start}
-use Rattle.machine.specs.State.{State, start_of}
-use Rattle.machine.specs.Step.{Event, IsRun, step}
-use Rattle.apart_law.specs.Part.{Client}
-use Rattle.apart_law.specs.Trail.{trail_of}
+use Rattle.machine_plan.specs.{Regions.Interval, Regions.Rights, Runs.reached}
+use Rattle.machine.specs.{declared.job.Start.Start, State.State, State.start_of, Step.Event, Step.IsRun, Step.step}
+use Rattle.apart_law.specs.{Part.Client, Trail.trail_of}
 use Rattle.machine_law.specs.Apart.{Beginning, BeginsSoundly, EndAlike, regions_of}
-use Rattle.worked_steps.specs.Types.{TheRenderer}
-use Rattle.worked_steps.specs.Rows.{render_reads, render_writes}
+use Rattle.worked_steps.specs.{Types.TheRenderer, Rows.render_reads, Rows.render_writes}
 
 -- job 0 alone is the client's
 abbrev pub client : Client

@@ -1,20 +1,14 @@
 -- What follows where no rule of a list stands.
 use Rattle.std.proofs.Common.{◌≡◌, ℕ, ◌+◌, ◌*◌, ◌<◌, ◌≤◌, Bool, true, false, List, [], ◌∷◌, Option, Some, None, length, refl, sym, ap, arith, ◌∙◌}
+use Rattle.std.proofs.{lemmas.List.Elements.All-cons, lemmas.Bool.eqb-true}
 use Rattle.std.specs.Prelude.{if◌then◌else◌, ◌==◌, All, slice_index}
-use Rattle.std.proofs.lemmas.List.Elements.{All-cons}
-use Rattle.std.proofs.lemmas.Bool.{eqb-true}
-use Rattle.field_words.specs.Words.{u32_at}
-use Rattle.field_words.specs.Questions.{first_of, answered}
-use Rattle.field_words.proofs.Questions.{none_stands}
-use Rattle.field_words.proofs.Nones.{front_none, rest_none, none_answered}
+use Rattle.field_words.specs.{Words.u32_at, Questions.first_of, Questions.answered}
+use Rattle.field_words.proofs.{Questions.none_stands, Nones.front_none, Nones.rest_none, Nones.none_answered}
 use Rattle.packets.specs.Opcode.{start_tile_binning, gl_shader_state, tile_binning_mode}
 use Rattle.tile_memory.specs.Slots.{slot_fits}
-use Rattle.bin_list.specs.declared.seen.Seen.{Seen}
-use Rattle.bin_list.specs.declared.state.State.{State}
-use Rattle.bin_list.specs.Packets.{opcode, onto}
-use Rattle.bin_list.specs.Seen.{latest, is_there, byte_of, states_in, seen_before}
-use Rattle.bin_list.specs.Faults.{fault}
 use Rattle.bin_list.specs.Rules.{GivenModel, cut_questions, kind_questions, start_questions, state_questions, config_questions, packet_questions, asked}
+use Rattle.bin_list.specs.{declared.seen.Seen.Seen, declared.state.State.State, Packets.opcode, Packets.onto, Faults.fault}
+use Rattle.bin_list.specs.Seen.{latest, is_there, byte_of, states_in, seen_before}
 use Rattle.bin_list.specs.States.{greatest, state, states_of}
 
 -- Where no rule of the list stands, none of a front of it does.

@@ -4,14 +4,11 @@ use Rattle.std.specs.Prelude.{if◌then◌else◌, ◌==◌}
 use Rattle.field_words.specs.Questions.{Question, Ask, answered}
 use Rattle.field_words.proofs.Least.{IsOrder, Rises, pairs, wider, rises_append, rises_answered}
 use Rattle.packets.specs.Opcode.{flush, start_tile_binning, increment_semaphore, indexed_primitive_list, array_primitive_list, gl_shader_state, tile_binning_mode}
-use Rattle.bin_list.specs.declared.fault.ListFault.{ListFault}
-use Rattle.bin_list.specs.declared.rule.BinRule.{BinRule}
 use Rattle.bin_list.specs.declared.rule.BinRule.TheVariants.{UnknownOpcode, CutOff, NoEnd}
-use Rattle.bin_list.specs.declared.seen.Seen.{Seen}
-use Rattle.bin_list.specs.Faults.{number_of, fault, IsUpTo}
-use Rattle.bin_list.specs.Packets.{opcode, front_packet, behind, cut, packets, onto, passed}
-use Rattle.bin_list.specs.Seen.{place, seen_before}
 use Rattle.bin_list.specs.Rules.{GivenModel, cut_questions, flush_questions, start_questions, increment_questions, primitive_questions, index_questions, array_questions, state_questions, config_questions, kind_questions, packet_questions, end_questions, asked, questions_of}
+use Rattle.bin_list.specs.{declared.fault.ListFault.ListFault, declared.rule.BinRule.BinRule, declared.seen.Seen.Seen}
+use Rattle.bin_list.specs.{Faults.number_of, Faults.fault, Faults.IsUpTo, Seen.place, Seen.seen_before}
+use Rattle.bin_list.specs.Packets.{opcode, front_packet, behind, cut, packets, onto, passed}
 use Rattle.bin_list.proofs.Walk.{front_some, front_behind}
 
 pub order : IsOrder IsUpTo

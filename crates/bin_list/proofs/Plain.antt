@@ -1,21 +1,14 @@
 -- Packets that are only copied.
 use Rattle.std.proofs.Common.{◌≡◌, ℕ, false, List, [], ◌∷◌, ◌++◌, Option, Some, None, length, sym, ap, arith, ◌∙◌}
-use Rattle.std.specs.Prelude.{nat_lt}
 use Rattle.std.proofs.Math.Nat.{zero-max}
+use Rattle.std.specs.Prelude.{nat_lt}
 use Rattle.field_words.specs.Questions.{Question, first_of}
 use Rattle.field_words.proofs.Questions.{passes}
 use Rattle.relocation.specs.declared.layout.Layout.{Layout}
 use Rattle.packets.specs.Length.{bin_length}
-use Rattle.bin_list.specs.declared.rule.BinRule.{BinRule}
-use Rattle.bin_list.specs.declared.seen.Seen.{Seen}
-use Rattle.bin_list.specs.declared.state.State.{State}
-use Rattle.bin_list.specs.Packets.{opcode}
-use Rattle.bin_list.specs.Seen.{seen_after, seen_past}
-use Rattle.bin_list.specs.Rules.{GivenModel, cut_questions, kind_questions, packet_questions}
-use Rattle.bin_list.specs.Fine.{IsPlain}
-use Rattle.bin_list.specs.States.{draws_to}
-use Rattle.bin_list.specs.Collected.{states_to_come, all_states}
-use Rattle.bin_list.specs.Emitted.{packet_text}
+use Rattle.bin_list.specs.{declared.rule.BinRule.BinRule, declared.seen.Seen.Seen, declared.state.State.State, Packets.opcode, Fine.IsPlain}
+use Rattle.bin_list.specs.{Seen.seen_after, Seen.seen_past, States.draws_to, Collected.states_to_come, Collected.all_states}
+use Rattle.bin_list.specs.{Rules.GivenModel, Rules.cut_questions, Rules.kind_questions, Rules.packet_questions, Emitted.packet_text}
 
 plain_kind : (given : GivenModel) (seen : Seen) (p : List ℕ) → IsPlain p → kind_questions given seen p ≡ []
 unfolding kind_questions

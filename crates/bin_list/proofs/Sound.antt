@@ -4,13 +4,8 @@ use Rattle.std.specs.Prelude.{All}
 use Rattle.field_words.specs.Questions.{first_of}
 use Rattle.field_words.proofs.Questions.{none_stands}
 use Rattle.tile_memory.specs.Slots.{slot_fits}
-use Rattle.bin_list.specs.declared.info.BinInfo.{BinInfo}
-use Rattle.bin_list.specs.declared.seen.Seen.{Seen}
-use Rattle.bin_list.specs.Packets.{packets, passed}
-use Rattle.bin_list.specs.Seen.{seen_before}
-use Rattle.bin_list.specs.Rules.{GivenModel, end_questions, asked}
-use Rattle.bin_list.specs.States.{states_of}
-use Rattle.bin_list.specs.Told.{IsSoundInfo}
+use Rattle.bin_list.specs.{declared.info.BinInfo.BinInfo, declared.seen.Seen.Seen, Packets.packets, Packets.passed, Seen.seen_before}
+use Rattle.bin_list.specs.{Rules.GivenModel, Rules.end_questions, Rules.asked, States.states_of, Told.IsSoundInfo}
 use Rattle.bin_list.proofs.Facts.{IsGrid, has_grid, configured, few_states, counted, low_words}
 
 pub started : (seen : Seen) → first_of (end_questions seen) ≡ None → seen.started ≡ true

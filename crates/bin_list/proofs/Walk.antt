@@ -1,29 +1,18 @@
 -- The walk over a list, packet by packet.
 use Rattle.std.proofs.Common.{◌≡◌, ◌≢◌, ◌⊎◌, inl, inr, ℕ, zero, suc, ◌+◌, ◌≤◌, ◌<◌, Bool, true, false, List, [], ◌∷◌, ◌++◌, Option, Some, None, IsSome, length, take, drop, refl, sym, ap, subst, arith, ◌∙◌, length-append}
+use Rattle.std.proofs.{lemmas.List.places, lemmas.Bool.eqb-false, lemmas.Bool.eqb-true}
 use Rattle.std.specs.Prelude.{if◌then◌else◌, ◌==◌}
-use Rattle.std.proofs.lemmas.List.{places}
-use Rattle.std.proofs.lemmas.Bool.{eqb-false, eqb-true}
-use Rattle.field_words.specs.Questions.{first_of, answered}
+use Rattle.field_words.specs.{Questions.first_of, Questions.answered, Writes.with_bytes}
 use Rattle.field_words.proofs.Questions.{passes, stops, answered_none, answered_some}
+use Rattle.field_words.proofs.Writes.{length-with_bytes, with_nothing, with_two}
 use Rattle.relocation.specs.declared.layout.Layout.{Layout}
-use Rattle.packets.specs.Opcode.{halt, gl_shader_state}
-use Rattle.packets.specs.Length.{bin_length, bin_taken}
-use Rattle.bin_list.specs.declared.fault.ListFault.{ListFault}
-use Rattle.bin_list.specs.declared.seen.Seen.{Seen}
-use Rattle.bin_list.specs.declared.state.State.{State}
+use Rattle.packets.specs.{Opcode.halt, Opcode.gl_shader_state, Length.bin_length, Length.bin_taken}
+use Rattle.bin_list.specs.{declared.fault.ListFault.ListFault, declared.seen.Seen.Seen, declared.state.State.State, Faults.fault}
 use Rattle.bin_list.specs.Packets.{opcode, front_packet, behind, cut, packets, onto, passed}
 use Rattle.bin_list.specs.Seen.{is_there, byte_of, word_of, place, states_in, seen_before, seen_after}
-use Rattle.bin_list.specs.declared.check.Read.{Read}
-use Rattle.bin_list.specs.declared.rule.BinRule.{BinRule}
-use Rattle.bin_list.specs.Faults.{fault}
-use Rattle.bin_list.specs.Rules.{GivenModel, packet_questions, asked}
-use Rattle.bin_list.specs.Fine.{IsBounded}
-use Rattle.bin_list.specs.States.{states_of}
-use Rattle.bin_list.specs.Collected.{all_states}
-use Rattle.bin_list.specs.Emitted.{packet_text, texts}
+use Rattle.bin_list.specs.{declared.check.Read.Read, declared.rule.BinRule.BinRule, Rules.GivenModel, Rules.packet_questions, Rules.asked}
+use Rattle.bin_list.specs.{Fine.IsBounded, States.states_of, Collected.all_states, Emitted.packet_text, Emitted.texts}
 use Rattle.bin_list.specs.Info.{IsRead, MeetsState}
-use Rattle.field_words.specs.Writes.{with_bytes}
-use Rattle.field_words.proofs.Writes.{length-with_bytes, with_nothing, with_two}
 
 -- A packet takes a byte at least.
 one_or : (b : Bool) (n : ℕ) → (n == 0) ≡ b → 1 ≤ (if b then 1 else n)

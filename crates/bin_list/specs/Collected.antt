@@ -1,7 +1,6 @@
 -- The states of a list while it is read: those that are done, the one in view, and those of the packets to come.
 use Rattle.std.specs.Prelude.{ℕ, max, List, ◌∷◌, ◌++◌, Option, Some, None}
-use Rattle.bin_list.specs.declared.state.State.{State}
-use Rattle.bin_list.specs.States.{state, greatest, states_of}
+use Rattle.bin_list.specs.{declared.state.State.State, States.state, States.greatest, States.states_of}
 
 abbrev pub with_index : ℕ → Option State → Option State
 with_index index None = None

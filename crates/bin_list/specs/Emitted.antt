@@ -1,16 +1,12 @@
 -- The binner list that the hardware is given, packet by packet.
 use Rattle.std.specs.Prelude.{ℕ, ◌+◌, ◌-◌, ◌*◌, ◌%◌, ◌==◌, List, [], ◌∷◌, ◌++◌, slice_index, if◌then◌else◌}
 use Rattle.std.specs.Int.{to_le_bytes, w32}
-use Rattle.field_words.specs.Sizes.{slot_size}
-use Rattle.field_words.specs.Words.{u32_at}
-use Rattle.field_words.specs.Writes.{with_bytes}
+use Rattle.field_words.specs.{Sizes.slot_size, Words.u32_at, Writes.with_bytes}
 use Rattle.buffer_table.specs.Table.{TableModel}
 use Rattle.relocation.specs.declared.layout.Layout.{Layout}
 use Rattle.packets.specs.Opcode.{indexed_primitive_list, gl_shader_state, tile_binning_mode, buffer_handles}
 use Rattle.tile_memory.specs.Slots.{alloc_offset}
-use Rattle.bin_list.specs.declared.seen.Seen.{Seen}
-use Rattle.bin_list.specs.Packets.{opcode, passed}
-use Rattle.bin_list.specs.Seen.{seen_before}
+use Rattle.bin_list.specs.{declared.seen.Seen.Seen, Packets.opcode, Packets.passed, Seen.seen_before}
 use Rattle.bin_list.specs.Rules.{GivenModel, given_of, index_buffer}
 
 -- the address of the indexes, an offset in their buffer, becomes a place in memory

@@ -1,9 +1,8 @@
 -- The rules of a binner list by number, and the order of faults.
 use Rattle.std.specs.Prelude.{ℕ}
 use Rattle.field_words.specs.Least.{NotAfter}
-use Rattle.bin_list.specs.declared.fault.ListFault.{ListFault}
-use Rattle.bin_list.specs.declared.rule.BinRule.{BinRule}
 use Rattle.bin_list.specs.declared.rule.BinRule.TheVariants.{UnknownOpcode, CutOff, FlushNotLast, SecondStart, StartWithoutConfig, IncrementNotLast, PrimitiveWithoutState, PrimitiveWithoutStart, NoIndexBuffer, IndexesOutside, IndexOverflow, UndeclaredState, StateBits, SecondConfig, NoTiles, ConfigFlags, TooManyTiles, NoStart, NoEnd}
+use Rattle.bin_list.specs.{declared.fault.ListFault.ListFault, declared.rule.BinRule.BinRule}
 
 abbrev pub number_of : BinRule → ℕ
 number_of UnknownOpcode = 1

@@ -1,16 +1,12 @@
 -- What a packet without faults promises to its emission.
 use Rattle.std.specs.Prelude.{◌≡◌, ◌≤◌, ℕ, ◌+◌, ◌*◌, ◌<◌, ◌^◌, ◌==◌, false, List, length, slice_index}
-use Rattle.field_words.specs.Words.{u32_at}
-use Rattle.field_words.specs.Sizes.{most_list, slot_size}
-use Rattle.buffer_table.specs.Handles.{IsData}
-use Rattle.buffer_table.specs.Table.{most_place}
+use Rattle.field_words.specs.{Words.u32_at, Sizes.most_list, Sizes.slot_size}
+use Rattle.buffer_table.specs.{Handles.IsData, Table.most_place}
 use Rattle.packets.specs.Opcode.{flush, start_tile_binning, increment_semaphore, indexed_primitive_list, array_primitive_list, gl_shader_state, tile_binning_mode, buffer_handles}
 use Rattle.packets.specs.Length.{bin_length}
 use Rattle.tile_memory.specs.Slots.{alloc_offset}
 use Rattle.relocation.specs.declared.layout.Layout.{Layout}
-use Rattle.bin_list.specs.declared.seen.Seen.{Seen}
-use Rattle.bin_list.specs.Packets.{opcode}
-use Rattle.bin_list.specs.Rules.{GivenModel, index_buffer}
+use Rattle.bin_list.specs.{declared.seen.Seen.Seen, Packets.opcode, Rules.GivenModel, Rules.index_buffer}
 
 -- The packet is whole; indexes are read from a Plain buffer, and begin inside it; the indexes of an array primitive fit a
 -- word; a tile slot has room for the grid; a shader state is one of those that the job declares.

@@ -1,7 +1,6 @@
 -- A binner list, cut into packets. A packet is a list of bytes: its opcode, and then its fields.
 use Rattle.std.specs.Prelude.{ℕ, zero, suc, ◌==◌, List, [], ◌∷◌, length, take, drop, slice_index, if◌then◌else◌}
-use Rattle.packets.specs.Opcode.{halt}
-use Rattle.packets.specs.Length.{bin_taken}
+use Rattle.packets.specs.{Opcode.halt, Length.bin_taken}
 
 abbrev pub opcode : List ℕ → ℕ
 opcode packet = slice_index packet 0

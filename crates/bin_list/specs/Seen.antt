@@ -4,8 +4,7 @@ use Rattle.std.specs.Prelude.{ℕ, ◌+◌, Bool, true, false, ◌==◌, List, [
 use Rattle.field_words.specs.Words.{u32_at}
 use Rattle.packets.specs.StateWord.{record_room}
 use Rattle.packets.specs.Opcode.{start_tile_binning, gl_shader_state, tile_binning_mode, buffer_handles}
-use Rattle.bin_list.specs.declared.seen.Seen.{Seen}
-use Rattle.bin_list.specs.Packets.{opcode}
+use Rattle.bin_list.specs.{declared.seen.Seen.Seen, Packets.opcode}
 
 -- the last packet with this opcode
 abbrev pub latest : ℕ → List (List ℕ) → Option (List ℕ)

@@ -2,8 +2,7 @@
 use Rattle.std.specs.Prelude.{ℕ, ◌+◌, ◌-◌, max, ◌==◌, List, [], ◌∷◌, if◌then◌else◌}
 use Rattle.field_words.specs.Words.{u32_at}
 use Rattle.packets.specs.Opcode.{indexed_primitive_list, array_primitive_list, gl_shader_state}
-use Rattle.bin_list.specs.declared.state.State.{State}
-use Rattle.bin_list.specs.Packets.{opcode}
+use Rattle.bin_list.specs.{declared.state.State.State, Packets.opcode}
 
 -- the last of the indexes from the first on; 0 where there are none
 abbrev pub last_index : (first count : ℕ) → ℕ

@@ -1,18 +1,15 @@
 -- What a packet promises of which no rule stands.
 use Rattle.std.proofs.Common.{◌≡◌, ◌≢◌, ℕ, ◌+◌, ◌*◌, ◌<◌, ◌≤◌, ◌^◌, Bool, true, false, List, ◌++◌, None, length, is_some, refl, sym, ap, arith, ◌∙◌, nat_lt}
-use Rattle.std.specs.Prelude.{if◌then◌else◌, ◌==◌}
 use Rattle.std.proofs.lemmas.Bool.{eqb-false, eqb-true}
-use Rattle.field_words.specs.Words.{u32_at}
-use Rattle.field_words.specs.Questions.{first_of}
-use Rattle.field_words.proofs.Questions.{none_stands}
+use Rattle.std.specs.Prelude.{if◌then◌else◌, ◌==◌}
+use Rattle.field_words.specs.{Words.u32_at, Questions.first_of}
+use Rattle.field_words.proofs.{Questions.none_stands, Nones.front_none, Nones.rest_none}
 use Rattle.buffer_table.specs.Handles.{IsData, data_of}
 use Rattle.buffer_table.proofs.Named.{data_named}
-use Rattle.field_words.proofs.Nones.{front_none, rest_none}
 use Rattle.packets.specs.Opcode.{flush, indexed_primitive_list, array_primitive_list, tile_binning_mode}
 use Rattle.packets.specs.Length.{bin_length, bin_taken}
-use Rattle.bin_list.specs.declared.seen.Seen.{Seen}
-use Rattle.bin_list.specs.Packets.{opcode}
 use Rattle.bin_list.specs.Rules.{GivenModel, cut_questions, kind_questions, flush_questions, primitive_questions, index_buffer, index_size, indexes_end, index_questions, array_questions, config_questions, packet_questions}
+use Rattle.bin_list.specs.{declared.seen.Seen.Seen, Packets.opcode}
 use Rattle.bin_list.proofs.Facts.{kind_none, kind_config}
 
 pub cut_fine : (given : GivenModel) (seen : Seen) (p : List ℕ) → first_of (packet_questions given seen p) ≡ None

@@ -1,22 +1,14 @@
 -- The law.
 use Rattle.std.proofs.Common.{◌≡◌, true, ◌&&◌, [], None, length, refl, arith}
-use Rattle.std.specs.Prelude.{◌==◌}
 use Rattle.std.proofs.lemmas.Bool.{eqb-true, and_parts, false≢true}
+use Rattle.std.specs.Prelude.{◌==◌}
 use Rattle.field_words.specs.Questions.{first_of, answered}
-use Rattle.field_words.proofs.Questions.{none_stands}
-use Rattle.field_words.proofs.Nones.{front_none, rest_none, none_answered}
+use Rattle.field_words.proofs.{Questions.none_stands, Nones.front_none, Nones.rest_none, Nones.none_answered}
 use Rattle.packets.specs.Opcode.{flush, increment_semaphore}
-use Rattle.bin_list.specs.declared.seen.Seen.{Seen}
-use Rattle.bin_list.specs.Packets.{packets, passed, onto, cut}
-use Rattle.bin_list.specs.Seen.{seen_before}
-use Rattle.bin_list.specs.Rules.{given_of, asked, end_questions, questions_of}
-use Rattle.bin_list.specs.Faults.{fault}
-use Rattle.bin_list.specs.States.{states_of}
-use Rattle.bin_list.proofs.Facts.{configured}
-use Rattle.bin_list.proofs.Least.{cut_place}
-use Rattle.bin_walks.specs.Walks.{nothing_kept}
-use Rattle.bin_walks.specs.Emission.{config_of}
-use Rattle.bin_walks.specs.Law.{EmittedListsWalk}
+use Rattle.bin_list.specs.{declared.seen.Seen.Seen, Packets.packets, Packets.passed, Packets.onto, Packets.cut, Seen.seen_before}
+use Rattle.bin_list.specs.{Rules.given_of, Rules.asked, Rules.end_questions, Rules.questions_of, Faults.fault, States.states_of}
+use Rattle.bin_list.proofs.{Facts.configured, Least.cut_place}
+use Rattle.bin_walks.specs.{Walks.nothing_kept, Emission.config_of, Law.EmittedListsWalk}
 use Rattle.bin_walks.proofs.Walking.{texts_joined, walk_on, are_cut, Known, Goes}
 
 ends_with : (seen : Seen) → first_of (end_questions seen) ≡ None → (seen.started ≡ true) × (seen.last ≡ flush)

@@ -1,21 +1,13 @@
 -- Bytes of a packet, read back from what it is emitted as.
 use Rattle.std.proofs.Common.{◌≡◌, ℕ, ◌+◌, ◌-◌, ◌*◌, ◌%◌, ◌<◌, ◌≤◌, ◌^◌, List, [], ◌∷◌, ◌++◌, length, refl, sym, ap, arith, ◌∙◌}
-use Rattle.field_words.specs.Sizes.{slot_size}
-use Rattle.std.specs.Prelude.{slice_index}
-use Rattle.std.specs.Int.{from_le_bytes, to_le_bytes, w32}
 use Rattle.std.proofs.lemmas.Nat.{from_le_bytes-to_le_bytes_4}
-use Rattle.field_words.specs.Words.{u32_at}
-use Rattle.field_words.specs.Writes.{with_bytes}
+use Rattle.field_words.specs.{Sizes.slot_size, Words.u32_at, Writes.with_bytes}
+use Rattle.std.specs.{Prelude.slice_index, Int.from_le_bytes, Int.to_le_bytes, Int.w32}
 use Rattle.field_words.proofs.Numbers.{from_front_4}
 use Rattle.relocation.specs.declared.layout.Layout.{Layout}
-use Rattle.packets.specs.Opcode.{gl_shader_state, tile_binning_mode}
+use Rattle.packets.specs.{Opcode.gl_shader_state, Opcode.tile_binning_mode, declared.config.Config.Config, Config.config_in}
 use Rattle.tile_memory.specs.Slots.{alloc_offset}
-use Rattle.bin_list.specs.declared.seen.Seen.{Seen}
-use Rattle.bin_list.specs.Packets.{opcode}
-use Rattle.bin_list.specs.Rules.{index_size}
-use Rattle.bin_list.specs.Emitted.{state_text, config_text}
-use Rattle.packets.specs.declared.config.Config.{Config}
-use Rattle.packets.specs.Config.{config_in}
+use Rattle.bin_list.specs.{declared.seen.Seen.Seen, Packets.opcode, Rules.index_size, Emitted.state_text, Emitted.config_text}
 use Rattle.bin_walks.specs.Emission.{config_of}
 use Rattle.buffer_table.specs.Table.{most_place}
 

@@ -1,38 +1,27 @@
 -- The walk over the emitted list.
 use Rattle.std.proofs.Common.{◌≡◌, ◌≢◌, inl, inr, ℕ, zero, suc, ◌+◌, ◌*◌, ◌%◌, ◌<◌, ◌≤◌, ◌^◌, max, Bool, true, false, List, [], ◌∷◌, ◌++◌, Option, Some, None, length, refl, sym, ap, subst, arith, ◌∙◌, append_assoc, append-nil, take, drop, get_or, eq-eqb}
-use Rattle.field_words.specs.Sizes.{most_list, slot_size}
-use Rattle.std.specs.Prelude.{if◌then◌else◌, ◌==◌, slice_index}
-use Rattle.std.specs.Int.{to_le_bytes, w32}
-use Rattle.std.proofs.lemmas.Bool.{eqb-true, false≢true}
-use Rattle.field_words.specs.Words.{u32_at}
-use Rattle.field_words.specs.Questions.{first_of}
-use Rattle.field_words.specs.Pieces.{joined}
-use Rattle.field_words.specs.Writes.{with_bytes}
+use Rattle.std.proofs.{lemmas.Bool.eqb-true, lemmas.Bool.false≢true, lemmas.List.places}
+use Rattle.field_words.specs.{Sizes.most_list, Sizes.slot_size, Words.u32_at, Questions.first_of, Pieces.joined, Writes.with_bytes}
+use Rattle.std.specs.{Prelude.if◌then◌else◌, Prelude.◌==◌, Prelude.slice_index, Int.to_le_bytes, Int.w32}
 use Rattle.field_words.proofs.Numbers.{rounded}
 use Rattle.buffer_table.specs.Table.{buffer_at, most_place}
 use Rattle.relocation.specs.declared.layout.Layout.{Layout}
 use Rattle.packets.specs.Opcode.{halt, flush, start_tile_binning, indexed_primitive_list, array_primitive_list, gl_shader_state, tile_binning_mode, buffer_handles}
-use Rattle.packets.specs.Length.{bin_length, bin_taken}
-use Rattle.tile_memory.specs.Slots.{alloc_offset, slot_fits}
-use Rattle.bin_list.specs.declared.seen.Seen.{Seen}
-use Rattle.bin_list.specs.declared.state.State.{State}
-use Rattle.bin_list.specs.Packets.{opcode, front_packet, behind, cut, onto}
-use Rattle.bin_list.specs.Seen.{latest, is_there, byte_of, last_opcode, place, states_in, records_in, seen_before}
+use Rattle.packets.specs.{Length.bin_length, Length.bin_taken, declared.config.Config.Config, Config.config_in}
 use Rattle.packets.specs.StateWord.{attribute_count, is_extended, record_size, record_room}
+use Rattle.tile_memory.specs.Slots.{alloc_offset, slot_fits}
+use Rattle.bin_list.specs.Seen.{latest, is_there, byte_of, last_opcode, place, states_in, records_in, seen_before}
+use Rattle.bin_list.specs.{declared.seen.Seen.Seen, declared.state.State.State, Fine.IsLow}
+use Rattle.bin_list.specs.Packets.{opcode, front_packet, behind, cut, onto}
 use Rattle.bin_list.specs.Rules.{GivenModel, index_buffer, index_size, packet_questions, asked}
-use Rattle.bin_list.specs.Fine.{IsLow}
 use Rattle.bin_list.specs.States.{draws_to, greatest, state, states_of}
 use Rattle.bin_list.specs.Emitted.{index_text, state_text, config_text, packet_text, texts}
 use Rattle.bin_list.proofs.Facts.{onto_none, packet_none, start_fine, config_fine, state_fine}
-use Rattle.std.proofs.lemmas.List.{places}
 use Rattle.bin_list.proofs.Walk.{front_some, taken_some}
-use Rattle.packets.specs.declared.config.Config.{Config}
-use Rattle.packets.specs.Config.{config_in}
-use Rattle.bin_walks.specs.Walks.{Kept, kept_after, Drawing, Tame, Walks}
-use Rattle.bin_walks.specs.Emission.{emission, config_of}
+use Rattle.bin_walks.specs.{Walks.Kept, Walks.kept_after, Walks.Drawing, Walks.Tame, Walks.Walks, Emission.emission, Emission.config_of}
 use Rattle.bin_walks.specs.Draws.{IsStateAt, IsDrawn}
-use Rattle.bin_walks.proofs.Fine.{cut_fine, taken_is, flush_fine, indexed_fine, array_fine, config_first}
 use Rattle.bin_walks.proofs.Texts.{addressed, state_opcode, state_long, state_word, config_opcode, config_long, config_read}
+use Rattle.bin_walks.proofs.Fine.{cut_fine, taken_is, flush_fine, indexed_fine, array_fine, config_first}
 
 -- The emitted list is its packets joined.
 joined_if : (b : Bool) (x : List ℕ) (xs : List (List ℕ)) → joined (if b then xs else x ∷ xs) ≡ (if b then [] else x) ++ joined xs

@@ -1,15 +1,10 @@
 -- Which primitives an emitted list may draw.
 use Rattle.std.specs.Prelude.{◌≡◌, ◌⊎◌, ◌≤◌, ◌<◌, ℕ, ◌+◌, ◌*◌, ◌%◌, ◌^◌, List, [], ◌∷◌, slice_index}
 use Rattle.field_words.specs.Words.{u32_at}
-use Rattle.buffer_table.specs.Table.{TableModel, buffer_at}
-use Rattle.buffer_table.specs.Handles.{IsData}
+use Rattle.buffer_table.specs.{Table.TableModel, Table.buffer_at, Handles.IsData}
 use Rattle.relocation.specs.declared.layout.Layout.{Layout}
-use Rattle.packets.specs.Opcode.{indexed_primitive_list, array_primitive_list}
-use Rattle.bin_list.specs.declared.state.State.{State}
-use Rattle.bin_list.specs.Packets.{opcode}
-use Rattle.packets.specs.StateWord.{record_room}
-use Rattle.bin_list.specs.Rules.{index_size}
-use Rattle.bin_list.specs.States.{draws_to}
+use Rattle.packets.specs.{Opcode.indexed_primitive_list, Opcode.array_primitive_list, StateWord.record_room}
+use Rattle.bin_list.specs.{declared.state.State.State, Packets.opcode, Rules.index_size, States.draws_to}
 
 -- the state whose record is emitted where a word points; records stand one after another, the first of these at an offset
 -- from the records' place

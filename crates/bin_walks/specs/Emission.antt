@@ -2,13 +2,9 @@
 use Rattle.std.specs.Prelude.{ℕ, ◌*◌, ◌+◌, ◌-◌, ◌==◌, List, [], ◌∷◌, if◌then◌else◌}
 use Rattle.field_words.specs.Sizes.{slot_size}
 use Rattle.relocation.specs.declared.layout.Layout.{Layout}
-use Rattle.packets.specs.Opcode.{buffer_handles}
+use Rattle.packets.specs.{Opcode.buffer_handles, declared.config.Config.Config}
 use Rattle.tile_memory.specs.Slots.{alloc_offset}
-use Rattle.bin_list.specs.Packets.{opcode}
-use Rattle.bin_list.specs.Seen.{seen_before}
-use Rattle.bin_list.specs.Rules.{GivenModel}
-use Rattle.bin_list.specs.Emitted.{packet_text}
-use Rattle.packets.specs.declared.config.Config.{Config}
+use Rattle.bin_list.specs.{Packets.opcode, Seen.seen_before, Rules.GivenModel, Emitted.packet_text}
 
 -- what these packets are emitted as, behind those before them, which come the nearest first; buffer handles are dropped
 abbrev pub emission : GivenModel → Layout → List (List ℕ) → List (List ℕ) → List (List ℕ)

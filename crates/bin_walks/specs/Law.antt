@@ -1,19 +1,11 @@
 -- The law: an emitted list walks.
 use Rattle.std.specs.Prelude.{◌≡◌, ◌≤◌, ◌<◌, ℕ, ◌+◌, List, [], length, None}
-use Rattle.field_words.specs.Questions.{first_of}
-use Rattle.field_words.specs.Pieces.{joined}
+use Rattle.field_words.specs.{Questions.first_of, Pieces.joined, Sizes.most_list}
 use Rattle.buffer_table.specs.Table.{TableModel, most_place, buffer_at}
 use Rattle.relocation.specs.declared.layout.Layout.{Layout}
-use Rattle.bin_list.specs.Packets.{packets, passed}
-use Rattle.bin_list.specs.Seen.{seen_before}
-use Rattle.bin_list.specs.Rules.{given_of, bin_questions}
-use Rattle.bin_list.specs.Fine.{IsLow}
-use Rattle.bin_list.specs.States.{states_of}
-use Rattle.bin_list.specs.Emitted.{bin_text}
-use Rattle.bin_walks.specs.Walks.{nothing_kept, Walks}
-use Rattle.bin_walks.specs.Emission.{emission, config_of}
-use Rattle.bin_walks.specs.Draws.{IsDrawn}
-use Rattle.field_words.specs.Sizes.{most_list}
+use Rattle.bin_list.specs.{Packets.packets, Packets.passed, Seen.seen_before, Rules.given_of, Rules.bin_questions, Fine.IsLow}
+use Rattle.bin_list.specs.{States.states_of, Emitted.bin_text}
+use Rattle.bin_walks.specs.{Walks.nothing_kept, Walks.Walks, Emission.emission, Emission.config_of, Draws.IsDrawn}
 
 pub record IsWalked (list : List ℕ) (declared : ℕ) (table : TableModel) (handles : List ℕ) (layout : Layout) : Type 0 where
   pub text : bin_text list declared table handles layout ≡ joined (emission (given_of list declared table handles) layout [] (packets list))

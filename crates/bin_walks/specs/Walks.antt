@@ -2,9 +2,7 @@
 use Rattle.std.specs.Prelude.{◌≡◌, ◌≢◌, ℕ, Bool, true, false, ◌==◌, List, [], ◌∷◌, length, Option, Some, None, if◌then◌else◌}
 use Rattle.field_words.specs.Words.{u32_at}
 use Rattle.packets.specs.Opcode.{halt, flush, start_tile_binning, indexed_primitive_list, array_primitive_list, gl_shader_state, tile_binning_mode, buffer_handles}
-use Rattle.packets.specs.Length.{bin_length}
-use Rattle.packets.specs.declared.config.Config.{Config}
-use Rattle.packets.specs.Config.{config_in}
+use Rattle.packets.specs.{Length.bin_length, declared.config.Config.Config, Config.config_in}
 use Rattle.bin_list.specs.Packets.{opcode}
 
 -- what the binner keeps of the packets that it went past

@@ -1,9 +1,8 @@
 -- Pages as bits of words.
 use Rattle.std.proofs.Common.{◌≡◌, ◌≢◌, ◌⊎◌, inl, inr, ℕ, zero, suc, replicate, ◌+◌, ◌-◌, ◌*◌, ◌/◌, ◌%◌, ◌^◌, ◌≤◌, ◌<◌, min, max, List, length, set, bit_and, bit_or, slice_index, refl, sym, ◌∙◌, ap, subst, arith}
-use Rattle.std.specs.Int.{bit_at, w64}
-use Rattle.std.proofs.lemmas.Bool.{cases_lt}
-use Rattle.std.proofs.lemmas.List.{get_or-set_same, get_or-set_other}
 use Rattle.std.proofs.lemmas.Nat.Bits.{bit_at-zero, bit_at-lt, bit_at_and, bit_at_or, bit_at_ones, bit_at_ones_above, bit_at_mask_inside, bit_at_mask_below, bit_at-trailing_zeros, ones_shl, ones_shr}
+use Rattle.std.proofs.{lemmas.Bool.cases_lt, lemmas.List.get_or-set_same, lemmas.List.get_or-set_other}
+use Rattle.std.specs.Int.{bit_at, w64}
 use Rattle.buffer_table.specs.Pages.{page_bit, TakesPage, low_bit, high_bit, word_mask}
 
 zero_one : (a : ℕ) → a ≡ 0 → a ≡ 1 → ⊥

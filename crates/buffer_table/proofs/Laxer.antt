@@ -1,12 +1,9 @@
 -- A memory table without faults under a limit is one under any greater limit.
-use Rattle.std.proofs.Common.{◌≡◌, ℕ, ◌≤◌, List, None, arith, ◌∙◌}
-use Rattle.std.proofs.lemmas.Bool.Decides.{nat_tests}
+use Rattle.std.proofs.{Common.◌≡◌, Common.ℕ, Common.◌≤◌, Common.List, Common.None, Common.arith, Common.◌∙◌, lemmas.Bool.Decides.nat_tests}
 use Rattle.std.proofs.lemmas.Grind.{common_steps}
 use Rattle.field_words.specs.Questions.{first_of}
-use Rattle.field_words.proofs.Questions.{none_stands, passes}
-use Rattle.field_words.proofs.Nones.{front_none, rest_none}
-use Rattle.buffer_table.specs.declared.buffer.Buffer.{Buffer}
-use Rattle.buffer_table.specs.declared.buffer.Regions.{Regions}
+use Rattle.field_words.proofs.{Questions.none_stands, Questions.passes, Nones.front_none, Nones.rest_none}
+use Rattle.buffer_table.specs.{declared.buffer.Buffer.Buffer, declared.buffer.Regions.Regions}
 use Rattle.buffer_table.specs.Table.{items_of, memory_within, items_questions, all_within, table_within}
 
 memory_laxer : (small large memory : ℕ) → small ≤ large → first_of (memory_within small memory) ≡ None → first_of (memory_within large memory) ≡ None

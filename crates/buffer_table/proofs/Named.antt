@@ -2,12 +2,10 @@
 use Rattle.std.proofs.Common.{◌≡◌, ◌<◌, ℕ, Bool, true, false, not, ◌&&◌, nat_lt, if◌then◌else◌, List, length, slice_index, Some, None, is_some, refl, ap, subst, arith}
 use Rattle.std.proofs.lemmas.Bool.{and_parts, ltb-true}
 use Rattle.field_words.specs.Questions.{first_of}
-use Rattle.field_words.proofs.Questions.{none_stands}
-use Rattle.field_words.proofs.Nones.{each_none}
-use Rattle.buffer_table.specs.declared.buffer.Kind.{Kind}
-use Rattle.buffer_table.specs.declared.buffer.Kind.TheVariants.{Plain, Code}
-use Rattle.buffer_table.specs.Table.{TableModel, buffer_at}
+use Rattle.field_words.proofs.{Questions.none_stands, Nones.each_none}
 use Rattle.buffer_table.specs.Handles.{handle_questions, handles_questions, AreNumbersOf, IsNamed, IsData, IsCode, is_plain, is_named, data_of, code_of}
+use Rattle.buffer_table.specs.{declared.buffer.Kind.Kind, declared.buffer.Kind.TheVariants.Plain, declared.buffer.Kind.TheVariants.Code}
+use Rattle.buffer_table.specs.Table.{TableModel, buffer_at}
 
 pub are_numbers : (t : TableModel) (client : ℕ) (numbers : List ℕ) → first_of (handles_questions t client numbers) ≡ None → AreNumbersOf t numbers
 unfolding handles_questions handle_questions

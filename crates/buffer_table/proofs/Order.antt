@@ -1,14 +1,10 @@
 -- The rules of a memory table are asked by item, and at an item by number.
 use Rattle.std.proofs.Common.{◌≡◌, ℕ, ◌+◌, List, length, Some, inl, inr, refl, arith}
-use Rattle.field_words.specs.Questions.{first_of, each}
-use Rattle.field_words.specs.Least.{IsLeast}
+use Rattle.field_words.specs.{Questions.first_of, Questions.each, Least.IsLeast}
 use Rattle.field_words.proofs.Least.{IsOrder, Rises, pairs, least, rises_append, rises_each}
-use Rattle.buffer_table.specs.declared.buffer.Buffer.{Buffer}
-use Rattle.buffer_table.specs.declared.buffer.Regions.{Regions}
-use Rattle.buffer_table.specs.declared.buffer.TableFault.{TableFault}
-use Rattle.buffer_table.specs.declared.buffer.TableRule.TheVariants.{MemorySize}
-use Rattle.buffer_table.specs.declared.item.Item.{Item}
 use Rattle.buffer_table.specs.Table.{items_of, fault, IsUpTo, memory_within, item_questions, all_within, table_within}
+use Rattle.buffer_table.specs.{declared.buffer.Buffer.Buffer, declared.buffer.Regions.Regions, declared.buffer.TableFault.TableFault}
+use Rattle.buffer_table.specs.{declared.buffer.TableRule.TheVariants.MemorySize, declared.item.Item.Item}
 
 order : IsOrder IsUpTo
 order = pairs (λ (f : TableFault). (f.item, f.number))

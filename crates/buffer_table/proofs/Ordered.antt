@@ -1,12 +1,9 @@
 -- Items by ascending place: which of them may have a byte of another one, and where that one goes.
 use Rattle.std.proofs.Common.{◌≡◌, ◌⊎◌, inl, inr, ℕ, ◌+◌, ◌-◌, ◌≤◌, ◌<◌, max, min, true, false, List, length, set, get_or, get_or-set_same, get_or-set_other, refl, sym, ap, ◌∙◌, subst, arith}
-use Rattle.std.specs.Prelude.{slice_index}
-use Rattle.std.specs.List.{CopiedTo, SameBelow}
 use Rattle.std.proofs.lemmas.Bool.{cases_lt, ltb-false}
-use Rattle.buffer_table.specs.declared.item.Item.{Item}
-use Rattle.buffer_table.specs.declared.places.Order.{Order}
-use Rattle.buffer_table.specs.Table.{shares, item_at}
+use Rattle.std.specs.{Prelude.slice_index, List.CopiedTo, List.SameBelow}
 use Rattle.buffer_table.specs.Earlier.{item_in, IsAmong, IsOrder, CountsBelow, SharesBuffer, IsApartBuffers, IsInserted}
+use Rattle.buffer_table.specs.{declared.item.Item.Item, declared.places.Order.Order, Table.shares, Table.item_at}
 use Rattle.buffer_table.proofs.Taken.{ends_before, begins_behind}
 
 -- An item that has no byte of one which begins below it lies behind that one; of one that doesn't begin below it, before.

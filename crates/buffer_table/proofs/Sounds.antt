@@ -1,16 +1,11 @@
 -- A memory table without faults is sound.
 use Rattle.std.proofs.Common.{◌≡◌, ℕ, suc, ◌+◌, ◌-◌, ◌<◌, ◌≤◌, map, min, max, false, List, length, take, get_or, None, sym, ap, subst, arith, ◌∙◌}
 use Rattle.std.proofs.lemmas.List.{get_or-take, get_or-map, get_or_default, length-map}
-use Rattle.std.proofs.lemmas.Bool.{ltb-false}
-use Rattle.std.proofs.lemmas.List.Folds.{list_any_at}
-use Rattle.std.proofs.lemmas.Grind.{common_steps}
+use Rattle.std.proofs.{lemmas.Bool.ltb-false, lemmas.List.Folds.list_any_at, lemmas.Grind.common_steps}
 use Rattle.field_words.specs.Questions.{first_of, each}
-use Rattle.field_words.proofs.Questions.{none_stands}
-use Rattle.field_words.proofs.Nones.{front_none, rest_none, each_none}
-use Rattle.buffer_table.specs.declared.buffer.Buffer.{Buffer}
-use Rattle.buffer_table.specs.declared.buffer.Regions.{Regions}
-use Rattle.buffer_table.specs.declared.item.Item.{Item}
+use Rattle.field_words.proofs.{Questions.none_stands, Nones.front_none, Nones.rest_none, Nones.each_none}
 use Rattle.buffer_table.specs.Table.{TableModel, items_of, item_at, no_item, buffer_at, past_end, buffer_item, shares, shares_with_first, is_off_page, most_place, memory_within, item_questions, all_within, table_within}
+use Rattle.buffer_table.specs.{declared.buffer.Buffer.Buffer, declared.buffer.Regions.Regions, declared.item.Item.Item}
 use Rattle.buffer_table.specs.Sound.{IsSoundItem, IsSound, IsSoundBuffer, AreApart}
 
 -- An item that passes M2 to M5.

@@ -1,15 +1,12 @@
 -- An item shares a byte with an earlier one exactly where one of its pages is taken.
 use Rattle.std.proofs.Common.{◌≡◌, ◌⊎◌, inl, inr, ℕ, suc, zero, ◌+◌, ◌-◌, ◌/◌, ◌≤◌, ◌<◌, max, min, Bool, true, false, List, length, take, get_or, refl, sym, ◌∙◌, ap, subst, arith}
-use Rattle.std.proofs.lemmas.Bool.{cases_Bool, cases_lt, ltb-true}
-use Rattle.std.proofs.lemmas.Bool.Decides.{nat_tests}
+use Rattle.std.proofs.{lemmas.Bool.cases_Bool, lemmas.Bool.cases_lt, lemmas.Bool.ltb-true, lemmas.Bool.Decides.nat_tests}
 use Rattle.std.proofs.lemmas.List.{get_or-take, length-take-le, get_or_default}
 use Rattle.std.proofs.lemmas.List.Folds.{list_any_at, list_any_more, list_any_none}
 use Rattle.field_words.specs.Sizes.{page_size, most_memory}
-use Rattle.buffer_table.specs.declared.item.Item.{Item}
 use Rattle.buffer_table.specs.Table.{ShareByte, SharingMeansByte, shares, shares_with_first, item_at, no_item, is_off_page}
-use Rattle.buffer_table.specs.Sound.{IsSoundItem}
 use Rattle.buffer_table.specs.Pages.{page_bit, TakesPage, IsFree, Takes, first_page, end_page, IsWhole, IsWholeIn, Owns, AreTaken}
-use Rattle.buffer_table.specs.Earlier.{SharesBuffer, IsApartBuffers}
+use Rattle.buffer_table.specs.{declared.item.Item.Item, Sound.IsSoundItem, Earlier.SharesBuffer, Earlier.IsApartBuffers}
 
 -- two items that have a page have a byte
 page_shared : (x y : Item) (page : ℕ) → IsWhole x → IsWhole y → first_page x ≤ page → page < end_page x → first_page y ≤ page → page < end_page y → shares x y ≡ true

@@ -1,12 +1,9 @@
 -- What is known of the items before one, by which is found whether it has a byte of them. No part of what the crate claims.
 use Rattle.std.specs.Prelude.{◌≡◌, ℕ, ◌+◌, ◌-◌, ◌≤◌, ◌<◌, true, false, List, length, slice_index}
 use Rattle.field_words.specs.Sizes.{most_memory}
-use Rattle.buffer_table.specs.declared.item.Earlier.{Earlier}
 use Rattle.buffer_table.specs.declared.item.Earlier.TheVariants.{Few, Pages, Ordered}
-use Rattle.buffer_table.specs.declared.item.Item.{Item}
-use Rattle.buffer_table.specs.declared.places.Order.{Order}
+use Rattle.buffer_table.specs.{declared.item.Earlier.Earlier, declared.item.Item.Item, declared.places.Order.Order, Pages.AreTaken}
 use Rattle.buffer_table.specs.Table.{item_at, shares}
-use Rattle.buffer_table.specs.Pages.{AreTaken}
 
 -- the item that stands at a place of an order
 abbrev pub item_in : Order → List Item → ℕ → Item

@@ -2,8 +2,7 @@
 use Rattle.std.specs.Prelude.{◌≡◌, ℕ, ◌+◌, ◌-◌, ◌*◌, ◌/◌, ◌%◌, ◌^◌, ◌≤◌, ◌<◌, ◌⊎◌, min, max, List, bit_and, slice_index}
 use Rattle.std.specs.Int.{bit_at}
 use Rattle.field_words.specs.Sizes.{page_size, most_memory}
-use Rattle.buffer_table.specs.declared.item.Item.{Item}
-use Rattle.buffer_table.specs.Table.{item_at}
+use Rattle.buffer_table.specs.{declared.item.Item.Item, Table.item_at}
 
 -- the bit of a page
 unfoldable pub page_bit : List ℕ → ℕ → ℕ

@@ -1,9 +1,8 @@
 -- The rules of a memory table, and of a job's handles, by number.
 use Rattle.std.specs.Prelude.{ℕ}
-use Rattle.buffer_table.specs.declared.buffer.HandleRule.{HandleRule}
-use Rattle.buffer_table.specs.declared.buffer.HandleRule.TheVariants.{ForeignBuffer}
-use Rattle.buffer_table.specs.declared.buffer.TableRule.{TableRule}
 use Rattle.buffer_table.specs.declared.buffer.TableRule.TheVariants.{MemorySize, OffPage, OutsideMemory, SharedByte, TooMuchContent}
+use Rattle.buffer_table.specs.{declared.buffer.HandleRule.HandleRule, declared.buffer.HandleRule.TheVariants.ForeignBuffer}
+use Rattle.buffer_table.specs.declared.buffer.TableRule.{TableRule}
 
 abbrev pub rule_number : TableRule → ℕ
 rule_number MemorySize = 1

@@ -1,9 +1,7 @@
 -- What a memory table without faults promises.
 use Rattle.std.specs.Prelude.{◌≡◌, ◌⊎◌, ℕ, ◌+◌, ◌%◌, ◌≤◌, ◌<◌, List, length}
 use Rattle.field_words.specs.Sizes.{page_size}
-use Rattle.buffer_table.specs.declared.buffer.Buffer.{Buffer}
-use Rattle.buffer_table.specs.declared.buffer.Regions.{Regions}
-use Rattle.buffer_table.specs.declared.item.Item.{Item}
+use Rattle.buffer_table.specs.{declared.buffer.Buffer.Buffer, declared.buffer.Regions.Regions, declared.item.Item.Item}
 use Rattle.buffer_table.specs.Table.{most_place, items_of, item_at, buffer_item}
 
 -- whole pages inside the memory, at least one, with room for the content

@@ -1,17 +1,12 @@
 -- The rules of a memory table, and what they promise.
 use Rattle.std.specs.Prelude.{◌≡◌, ◌↔◌, ℕ, true, ◌+◌, ◌*◌, ◌%◌, ◌≤◌, ◌<◌, min, max, Bool, not, ◌||◌, nat_lt, ◌==◌, List, [], ◌∷◌, ◌++◌, length, map, take, slice_index_or, Some}
 use Rattle.std.specs.List.{list_any}
-use Rattle.field_words.specs.Questions.{Question, Ask, first_of, each}
-use Rattle.field_words.specs.Least.{IsLeast, NotAfter}
+use Rattle.field_words.specs.{Questions.Question, Questions.Ask, Questions.first_of, Questions.each, Least.IsLeast, Least.NotAfter}
 use Rattle.field_words.specs.Sizes.{page_size, slot_size, most_memory}
-use Rattle.buffer_table.specs.declared.buffer.Kind.TheVariants.{Plain, Code}
-use Rattle.buffer_table.specs.declared.buffer.Buffer.{Buffer}
-use Rattle.buffer_table.specs.declared.buffer.Regions.{Regions}
-use Rattle.buffer_table.specs.declared.buffer.TableFault.{TableFault}
-use Rattle.buffer_table.specs.declared.buffer.TableRule.{TableRule}
 use Rattle.buffer_table.specs.declared.buffer.TableRule.TheVariants.{MemorySize, OffPage, OutsideMemory, SharedByte, TooMuchContent}
-use Rattle.buffer_table.specs.declared.item.Item.{Item}
-use Rattle.buffer_table.specs.Rules.{rule_number}
+use Rattle.buffer_table.specs.{declared.buffer.Kind.TheVariants.Plain, declared.buffer.Kind.TheVariants.Code, declared.buffer.Buffer.Buffer}
+use Rattle.buffer_table.specs.{declared.buffer.Regions.Regions, declared.buffer.TableFault.TableFault, declared.buffer.TableRule.TableRule}
+use Rattle.buffer_table.specs.{declared.item.Item.Item, Rules.rule_number}
 
 -- 0xFF000000: the greatest limit of a memory. All that is added to a place below it stays below 2^32.
 abbrev pub most_place : ℕ

@@ -1,15 +1,12 @@
 -- At most one instruction made what is in a register.
 use Rattle.std.proofs.Common.{◌≡◌, ◌<◌, ◌+◌, ℕ, Bool, true, false, not, ◌&&◌, List, Option, Some, None, if◌then◌else◌, refl, sym, ap, subst, inl, inr, arith, ◌∙◌, nat_lt}
 use Rattle.std.proofs.lemmas.Bool.{cases_order, cases_Bool, and_parts, and_from, not-true, true≢false, ltb-true, false_from_ne_true}
-use Rattle.qpu_isa.specs.declared.inst.Reg.{Reg}
 use Rattle.qpu_isa.specs.Terms.{names, sets_alone, is_accumulator, is_load_imm, has_small, loaded_value, is_max_with_zero}
-use Rattle.shader_flow.specs.Bounded.{some_in}
-use Rattle.shader_flow.specs.Flow.{word, checked_of, is_target}
-use Rattle.shader_flow.specs.Pending.{count_of}
+use Rattle.qpu_isa.specs.declared.inst.Reg.{Reg}
+use Rattle.shader_flow.specs.{Bounded.some_in, Flow.word, Flow.checked_of, Flow.is_target, Pending.count_of}
 use Rattle.shader_flow.proofs.Bounded.{some_in_none, some_in_not, last_below_one, last_below_found}
-use Rattle.clamp_facts.specs.declared.fact.Fact.TheVariants.{Nothing}
 use Rattle.clamp_facts.specs.Facts.{sets, stays, switches_between, maker_of, is_delayed, carries, if_readable, carrier_of, makes_clamp, made, fact_made, fact_by, fact_at, is_max_at, is_not_negative}
-use Rattle.clamp_facts.specs.Readings.{is_from_zero, value_in}
+use Rattle.clamp_facts.specs.{declared.fact.Fact.TheVariants.Nothing, Readings.is_from_zero, Readings.value_in}
 use Rattle.clamp_facts.specs.Upkeep.{IsLastNaming, IsCarrier}
 
 -- what sets a register alone names it

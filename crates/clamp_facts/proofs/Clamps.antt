@@ -1,16 +1,12 @@
 -- The clamp that holds, and what is known by it.
 use Rattle.std.proofs.Common.{◌≡◌, ℕ, Bool, true, false, ◌&&◌, List, Option, Some, None, refl, sym, ap, subst, ◌∙◌, nat_lt}
-use Rattle.std.proofs.Common.{arith}
-use Rattle.std.proofs.lemmas.Bool.Decides.{nat_tests}
-use Rattle.clamp_facts.specs.declared.fact.Fact.TheVariants.{Clamped}
 use Rattle.std.proofs.lemmas.Bool.{and_parts, and_from, true≢false, lt-ltb, ltb-true, false_from_ne_true}
-use Rattle.qpu_isa.specs.declared.inst.Reg.{Reg}
-use Rattle.qpu_isa.specs.Terms.{first_register, passes, is_alu, is_load_imm, has_small, loaded_value, is_max_with_zero, is_min_with_uniform}
-use Rattle.shader_flow.specs.Flow.{word}
-use Rattle.shader_flow.specs.Pending.{count_of}
+use Rattle.std.proofs.{Common.arith, lemmas.Bool.Decides.nat_tests}
 use Rattle.clamp_facts.specs.Facts.{carries, carrier_of, clamps, makes_clamp, is_not_negative, made, fact_made, fact_by, fact_at, is_clamped}
-use Rattle.clamp_facts.specs.Readings.{clamp_in, has_bound}
-use Rattle.clamp_facts.specs.Upkeep.{IsCarrier}
+use Rattle.clamp_facts.specs.{declared.fact.Fact.TheVariants.Clamped, Readings.clamp_in, Readings.has_bound, Upkeep.IsCarrier}
+use Rattle.qpu_isa.specs.Terms.{first_register, passes, is_alu, is_load_imm, has_small, loaded_value, is_max_with_zero, is_min_with_uniform}
+use Rattle.qpu_isa.specs.declared.inst.Reg.{Reg}
+use Rattle.shader_flow.specs.{Flow.word, Pending.count_of}
 use Rattle.clamp_facts.proofs.Carriers.{carrier_one, carrier_is, carrier_found}
 
 pub clamps_one : (code : List ℕ) (j i : ℕ) (reg : Reg) → IsCarrier code j i reg → makes_clamp code j ≡ true → clamps code j i reg ≡ true

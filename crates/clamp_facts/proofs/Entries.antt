@@ -1,22 +1,17 @@
 -- The table's entries, by the registers that an instruction names.
 use Rattle.std.proofs.Common.{◌≡◌, ◌≢◌, ◌≤◌, ◌<◌, ◌+◌, ◌-◌, ◌==◌, ℕ, zero, suc, Bool, true, false, not, ◌&&◌, ◌||◌, List, Option, Some, None, length, replicate, get_or, set, get_or-set_other, get_or-set_same, if◌then◌else◌, refl, sym, ap, subst, inl, inr, arith, ◌∙◌, nat_lt}
-use Rattle.std.proofs.Math.ListN.{length-set}
 use Rattle.std.proofs.lemmas.Bool.{cases_Bool, and_left, and_right, or_left, or_right, true≢false, false_from_ne_true, eqb-true, eqb-false, ltb-true, ltb-false, lt-ltb}
-use Rattle.std.proofs.lemmas.Bool.Decides.{nat_tests}
+use Rattle.std.proofs.{Math.ListN.length-set, lemmas.Bool.Decides.nat_tests}
 use Rattle.field_words.specs.Sizes.{most_words}
-use Rattle.qpu_isa.specs.declared.inst.Reg.{Reg}
-use Rattle.qpu_isa.specs.declared.inst.Reg.TheVariants.{A, B, Acc}
-use Rattle.qpu_isa.specs.Word.{ws_of, waddr_add_of, waddr_mul_of, cond_add_of}
 use Rattle.qpu_isa.specs.Terms.{is_branch, names, add_names_reg, mul_names_reg, add_names, mul_names, sets_alone, is_accumulator, is_add_packed, is_switch}
+use Rattle.qpu_isa.specs.{declared.inst.Reg.Reg, Word.ws_of, Word.waddr_add_of, Word.waddr_mul_of, Word.cond_add_of}
+use Rattle.qpu_isa.specs.declared.inst.Reg.TheVariants.{A, B, Acc}
 use Rattle.qpu_isa.specs.Told.{IsRegister, is_named}
-use Rattle.shader_flow.specs.Bounded.{is_back}
-use Rattle.shader_flow.specs.Flow.{word, checked_of, is_target}
-use Rattle.clamp_facts.specs.declared.fact.Fact.{Fact}
-use Rattle.clamp_facts.specs.declared.fact.Fact.TheVariants.{Nothing}
-use Rattle.clamp_facts.specs.declared.fact.Entry.{Entry}
+use Rattle.shader_flow.specs.{Bounded.is_back, Flow.word, Flow.checked_of, Flow.is_target}
 use Rattle.clamp_facts.specs.Facts.{sets, maker_of, made, fact_at, fact_by, carrier_of, if_readable, is_delayed}
 use Rattle.clamp_facts.specs.Table.{Table, no_entry, entry_of, with_entry, blank_table, without_accumulators, seen}
 use Rattle.clamp_facts.specs.Upkeep.{Keeps, IsTableOf, register_at, add_register, mul_register, setter, maker_added, maker_written}
+use Rattle.clamp_facts.specs.{declared.fact.Fact.Fact, declared.fact.Fact.TheVariants.Nothing, declared.fact.Entry.Entry}
 use Rattle.clamp_facts.proofs.Keeping.{is_cut, maker_cut, maker_next}
 
 -- the same register

@@ -1,13 +1,10 @@
 -- Keeping the table: what one instruction changes of who made what stands in a register.
 use Rattle.std.proofs.Common.{◌≡◌, ◌≤◌, ◌<◌, ◌+◌, ◌-◌, ℕ, Bool, true, false, not, ◌&&◌, ◌||◌, List, Some, None, if◌then◌else◌, refl, sym, ap, subst, inl, inr, arith, ◌∙◌, nat_le}
 use Rattle.std.proofs.lemmas.Bool.{cases_lt, cases_Bool, and_parts, and_from, and_left, and_right, or_left, or_right, or_cases, true≢false, false_from_ne_true, le-leb, leb-true}
-use Rattle.qpu_isa.specs.declared.inst.Reg.{Reg}
-use Rattle.qpu_isa.specs.Terms.{names, is_accumulator, is_switch}
-use Rattle.shader_flow.specs.Bounded.{some_in, some_below, is_back, last_below}
-use Rattle.shader_flow.specs.Flow.{word, is_target}
+use Rattle.qpu_isa.specs.{declared.inst.Reg.Reg, Terms.names, Terms.is_accumulator, Terms.is_switch}
+use Rattle.shader_flow.specs.{Bounded.some_in, Bounded.some_below, Bounded.is_back, Bounded.last_below, Flow.word, Flow.is_target}
 use Rattle.shader_flow.proofs.Bounded.{some_below-suc, some_below_here, some_below_none, some_below_found, some_in_none, same_tests, last_below-suc, last_below_none, last_below_same}
-use Rattle.clamp_facts.specs.Facts.{sets, stays, switches_between, maker_of}
-use Rattle.clamp_facts.specs.Upkeep.{setter, maker_written}
+use Rattle.clamp_facts.specs.{Facts.sets, Facts.stays, Facts.switches_between, Facts.maker_of, Upkeep.setter, Upkeep.maker_written}
 use Rattle.clamp_facts.proofs.Carriers.{sets_names}
 
 -- what stands in the register can't be told past the instruction at i

@@ -1,15 +1,11 @@
 -- What is known of a register's value, from an instruction that set it before.
-use Rattle.std.specs.Prelude.{ℕ, ◌+◌, ◌==◌, Bool, true, false, not, ◌&&◌, List, nat_lt, nat_le, if◌then◌else◌}
-use Rattle.std.specs.declared.option.Option.{Option}
-use Rattle.std.specs.declared.option.Option.TheVariants.{None, Some}
-use Rattle.qpu_isa.specs.declared.inst.Reg.{Reg}
+use Rattle.std.specs.Prelude.{ℕ, ◌+◌, ◌==◌, Bool, true, false, not, ◌&&◌, List, nat_lt, nat_le, if◌then◌else◌, Option, None, Some}
 use Rattle.qpu_isa.specs.Terms.{names, sets_alone, is_accumulator, is_switch, first_register, passes, loaded_value, is_max_with_zero, is_min_with_uniform}
-use Rattle.shader_flow.specs.Bounded.{some_below, some_in, last_below}
-use Rattle.shader_flow.specs.Flow.{word, checked_of, is_target}
+use Rattle.qpu_isa.specs.declared.inst.Reg.{Reg}
+use Rattle.shader_flow.specs.{Bounded.some_below, Bounded.some_in, Bounded.last_below, Flow.word, Flow.checked_of, Flow.is_target}
 use Rattle.shader_flow.specs.Pending.{count_of}
-use Rattle.clamp_facts.specs.declared.fact.Fact.{Fact}
 use Rattle.clamp_facts.specs.declared.fact.Fact.TheVariants.{Nothing, Immediate, NotNegative, Clamped}
-use Rattle.clamp_facts.specs.Readings.{is_value, has_bound}
+use Rattle.clamp_facts.specs.{declared.fact.Fact.Fact, Readings.is_value, Readings.has_bound}
 
 -- a checked instruction at j sets the whole register, by its add unit alone
 unfoldable pub sets : List ℕ → ℕ → Reg → Bool

@@ -1,9 +1,7 @@
 -- What a fact says.
-use Rattle.std.specs.Prelude.{ℕ, ◌==◌, Bool, true, false}
-use Rattle.std.specs.declared.option.Option.{Option}
-use Rattle.std.specs.declared.option.Option.TheVariants.{None, Some}
-use Rattle.clamp_facts.specs.declared.fact.Fact.{Fact}
+use Rattle.std.specs.Prelude.{ℕ, ◌==◌, Bool, true, false, Option, None, Some}
 use Rattle.clamp_facts.specs.declared.fact.Fact.TheVariants.{Nothing, Immediate, NotNegative, Clamped}
+use Rattle.clamp_facts.specs.declared.fact.Fact.{Fact}
 
 -- the value that it says
 abbrev pub value_in : Fact → Option ℕ

@@ -2,10 +2,7 @@
 use Rattle.std.specs.Prelude.{ℕ, List, replicate, slice_index_or, slice_set, if◌then◌else◌}
 use Rattle.qpu_isa.specs.declared.inst.Reg.{Reg}
 use Rattle.qpu_isa.specs.declared.inst.Reg.TheVariants.{A, B, Acc}
-use Rattle.clamp_facts.specs.declared.fact.Fact.{Fact}
-use Rattle.clamp_facts.specs.declared.fact.Fact.TheVariants.{Nothing}
-use Rattle.clamp_facts.specs.declared.fact.Entry.{Entry}
-use Rattle.clamp_facts.specs.Facts.{is_delayed}
+use Rattle.clamp_facts.specs.{declared.fact.Fact.Fact, declared.fact.Fact.TheVariants.Nothing, declared.fact.Entry.Entry, Facts.is_delayed}
 
 -- the entries of A0 to A31, B0 to B31 and r0 to r3
 pub record Table : Type 0 where

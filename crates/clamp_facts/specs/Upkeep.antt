@@ -1,20 +1,12 @@
 -- How the walk keeps the table, and how the searches look back. No part of what the crate claims.
-use Rattle.std.specs.Prelude.{◌≡◌, ◌≤◌, ◌<◌, ℕ, ◌-◌, Bool, true, false, not, List, length, nat_lt, if◌then◌else◌}
-use Rattle.std.specs.declared.option.Option.{Option}
-use Rattle.std.specs.declared.option.Option.TheVariants.{None, Some}
+use Rattle.std.specs.Prelude.{◌≡◌, ◌≤◌, ◌<◌, ℕ, ◌-◌, Bool, true, false, not, List, length, nat_lt, if◌then◌else◌, Option, None, Some}
 use Rattle.field_words.specs.Sizes.{most_words}
-use Rattle.qpu_isa.specs.declared.inst.Reg.{Reg}
+use Rattle.qpu_isa.specs.{declared.inst.Reg.Reg, Word.ws_of, Word.waddr_add_of, Word.waddr_mul_of, Told.IsRegister}
 use Rattle.qpu_isa.specs.declared.inst.Reg.TheVariants.{A, B, Acc}
-use Rattle.qpu_isa.specs.Word.{ws_of, waddr_add_of, waddr_mul_of}
 use Rattle.qpu_isa.specs.Terms.{is_branch, names, sets_alone, add_names_reg}
-use Rattle.qpu_isa.specs.Told.{IsRegister}
-use Rattle.shader_flow.specs.Flow.{word}
-use Rattle.shader_flow.specs.Pending.{count_of}
-use Rattle.clamp_facts.specs.declared.fact.Fact.{Fact}
-use Rattle.clamp_facts.specs.declared.fact.Fact.TheVariants.{Nothing}
-use Rattle.clamp_facts.specs.declared.fact.Entry.{Entry}
-use Rattle.clamp_facts.specs.Facts.{sets, maker_of, made, carries}
-use Rattle.clamp_facts.specs.Table.{Table, entry_of}
+use Rattle.shader_flow.specs.{Flow.word, Pending.count_of}
+use Rattle.clamp_facts.specs.{declared.fact.Fact.Fact, declared.fact.Fact.TheVariants.Nothing, declared.fact.Entry.Entry}
+use Rattle.clamp_facts.specs.{Facts.sets, Facts.maker_of, Facts.made, Facts.carries, Table.Table, Table.entry_of}
 
 -- an entry for what an instruction made, or for what none made
 abbrev pub Keeps : List ℕ → Option ℕ → Entry → Type 0

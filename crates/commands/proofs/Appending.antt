@@ -1,9 +1,7 @@
 -- Texts that are appended one after the other.
 use Rattle.std.proofs.Common.{◌≡◌, ℕ, ◌+◌, List, [], ◌++◌, length, take, drop, None, Some, refl, sym, ap, ◌∙◌, append_assoc, append-nil, length-append, subst, arith}
-use Rattle.std.proofs.lemmas.List.{take-append-le, take_at, drop_at}
-use Rattle.std.proofs.Math.Seq.{take-add}
-use Rattle.std.specs.Prelude.{Option, Result, Ok, Err, OnErr}
-use Rattle.std.specs.Io.KnownBytes.{Appends}
+use Rattle.std.proofs.{lemmas.List.take-append-le, lemmas.List.take_at, lemmas.List.drop_at, Math.Seq.take-add}
+use Rattle.std.specs.{Prelude.Option, Prelude.Result, Prelude.Ok, Prelude.Err, Prelude.OnErr, Io.KnownBytes.Appends}
 use Rattle.job_io.specs.Traffic.{AppendsFront}
 
 pub none_appended : (held : Option (List ℕ)) → Appends held held []

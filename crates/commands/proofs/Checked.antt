@@ -1,13 +1,9 @@
 -- What `check` answers of an accepted file, and `gen` of an example.
 use Rattle.std.proofs.Common.{◌≡◌, ◌≤◌, ℕ, List, length, get_or, None, refl, sym, ap, subst, ◌∙◌}
-use Rattle.job_format.specs.File.{IsFileOf}
-use Rattle.job_format.specs.Reading.{file_at}
-use Rattle.job_format.specs.Text.{file_text}
+use Rattle.job_format.specs.{File.IsFileOf, Reading.file_at, Text.file_text}
 use Rattle.job_format.proofs.Laws.{read_again}
-use Rattle.relocation.specs.declared.layout.Layout.{Layout}
-use Rattle.relocation.specs.declared.layout.Lengths.{Lengths}
-use Rattle.job_check.specs.Emit.{memory_of, all_lengths_of, IsEmitted}
-use Rattle.job_check.specs.Whole.{refusal_of}
+use Rattle.relocation.specs.{declared.layout.Layout.Layout, declared.layout.Lengths.Lengths}
+use Rattle.job_check.specs.{Emit.memory_of, Emit.all_lengths_of, Emit.IsEmitted, Whole.refusal_of}
 use Rattle.job_check.proofs.Counted.{as_many_lengths, first_lengths}
 use Rattle.dumper.specs.Example.{example_text}
 use Rattle.example_job.specs.Example.{example}

@@ -1,8 +1,7 @@
 -- As many words as no command has ask for nothing.
-use Rattle.std.proofs.lemmas.List.{length-map}
 use Rattle.std.proofs.Common.{◌≡◌, ◌≢◌, ◌≤◌, List, [], ◌∷◌, None, length, refl, arith}
-use Rattle.std.specs.Prelude.{String, string_bytes}
-use Rattle.std.specs.declared.alloc.Global.{Global}
+use Rattle.std.proofs.lemmas.List.{length-map}
+use Rattle.std.specs.{Prelude.String, Prelude.string_bytes, declared.alloc.Global.Global}
 use Rattle.commands.specs.Words.{texts, task_of}
 
 pub no_task : (words : List (String Global)) → 4 ≤ length words → length words ≢ 4 → length words ≢ 5 → length words ≢ 6

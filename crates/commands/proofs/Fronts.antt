@@ -1,14 +1,11 @@
 -- A picture's first bands, one band more, and the rest that a failure leaves out.
 use Rattle.std.proofs.Common.{◌≡◌, ℕ, ◌+◌, ◌-◌, ◌%◌, ◌<◌, ◌≤◌, inl, inr, min, List, [], ◌++◌, length, take, drop, append-nil, length-drop, refl, sym, ap, subst, arith, ◌∙◌}
-use Rattle.std.proofs.Math.Nat.{add-mod_right}
-use Rattle.std.proofs.Math.Seq.{take-add, take-append_seam}
-use Rattle.std.proofs.lemmas.Bool.{cases_lt}
+use Rattle.std.proofs.{Math.Nat.add-mod_right, Math.Seq.take-add, Math.Seq.take-append_seam, lemmas.Bool.cases_lt}
 use Rattle.std.proofs.lemmas.List.{length-take-le, take_all}
 use Rattle.texture_layouts.specs.Surface.{IsPixelSize}
 use Rattle.texture_layouts.proofs.Places.{height_some}
 use Rattle.tile_convert.specs.Picture.{size_in, band_height_of, IsCopy}
-use Rattle.tile_convert.proofs.Bands.{bands_join, size_joined, size_in_le, nothing_copied}
-use Rattle.tile_convert.proofs.Exists.{copy_exists}
+use Rattle.tile_convert.proofs.{Bands.bands_join, Bands.size_joined, Bands.size_in_le, Bands.nothing_copied, Exists.copy_exists}
 use Rattle.commands.specs.declared.bands.Conversion.{Conversion}
 use Rattle.commands.specs.Bands.{source_size, target_size, room_of, IsBand, IsConverted}
 

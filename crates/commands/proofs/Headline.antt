@@ -1,16 +1,11 @@
 -- What was accepted may run.
 use Rattle.std.proofs.Common.{◌≡◌, ℕ, List, None, Some, IfSome, refl, sym, subst, arith, ◌∙◌}
-use Rattle.std.specs.Prelude.{Option}
-use Rattle.std.specs.Io.KnownBytes.{Appends}
-use Rattle.job_format.specs.declared.rule.Refusal.{Refusal}
-use Rattle.job_format.specs.Reading.{file_at}
+use Rattle.std.specs.{Prelude.Option, Io.KnownBytes.Appends}
+use Rattle.job_format.specs.{declared.rule.Refusal.Refusal, Reading.file_at}
 use Rattle.job_check.specs.Whole.{refusal_of}
 use Rattle.headline.proofs.Uses.{may_run}
-use Rattle.commands.specs.declared.command.Command.{Command}
-use Rattle.commands.specs.declared.command.Command.TheVariants.{Check}
-use Rattle.commands.specs.Answer.{image_of, IsVerdict, IsAnswer}
-use Rattle.commands.specs.Headline.{IsSafelyAccepted}
-use Rattle.commands.specs.Run.{IsAnswered}
+use Rattle.commands.specs.{declared.command.Command.Command, declared.command.Command.TheVariants.Check, Headline.IsSafelyAccepted}
+use Rattle.commands.specs.{Answer.image_of, Answer.IsVerdict, Answer.IsAnswer, Run.IsAnswered}
 
 -- status 0 comes only where no rule stands
 by_verdict : (bytes : List ℕ) (found : Option Refusal) (status : ℕ) (text : List ℕ) (before now : Option (List ℕ)) → refusal_of bytes ≡ found → status ≡ 0

@@ -1,30 +1,20 @@
 -- The memory of an accepted file is zero but for the contents of its buffers and its lists, which lie apart.
 use Rattle.std.proofs.Common.{◌≡◌, ℕ, zero, suc, ◌+◌, ◌-◌, ◌/◌, ◌%◌, ◌<◌, ◌≤◌, inl, inr, List, [], ◌∷◌, ◌++◌, length, take, drop, drop-cons, length-append, get_or, map, refl, sym, ap, subst, ◌∙◌, append-nil, arith}
-use Rattle.std.specs.Prelude.{codes}
 use Rattle.std.proofs.lemmas.List.{length-map}
+use Rattle.std.specs.Prelude.{codes}
 use Rattle.field_words.specs.Writes.{Part, zeros, emitted}
-use Rattle.buffer_table.specs.declared.buffer.Buffer.{Buffer}
-use Rattle.buffer_table.specs.declared.item.Item.{Item}
+use Rattle.buffer_table.specs.{declared.buffer.Buffer.Buffer, declared.item.Item.Item, Sound.IsSound, Sound.IsSoundItem, Sound.AreApart}
 use Rattle.buffer_table.specs.Table.{no_buffer, item_at, items_of, lists_item, buffer_item}
-use Rattle.buffer_table.specs.Sound.{IsSound, IsSoundItem, AreApart}
 use Rattle.buffer_table.proofs.Sounds.{item_of_entry}
-use Rattle.job_format.specs.Model.{FileModel}
-use Rattle.job_format.specs.File.{IsWellFormed}
-use Rattle.relocation.specs.Layout.{region_end}
-use Rattle.relocation.specs.declared.layout.Layout.{Layout}
-use Rattle.relocation.specs.declared.layout.Lengths.{Lengths}
-use Rattle.job_check.specs.Emit.{content_parts, memory_of, all_lengths_of}
-use Rattle.job_check.specs.Jobs.{layouts_of}
-use Rattle.job_check.specs.Region.{region_of, IsRegion}
-use Rattle.job_check.proofs.Counted.{as_many_layouts, as_many_lengths}
-use Rattle.job_check.proofs.Emission.{placed-append}
-use Rattle.job_check.proofs.Regions.{memory_made}
+use Rattle.job_format.specs.{Model.FileModel, File.IsWellFormed}
+use Rattle.relocation.specs.{Layout.region_end, declared.layout.Layout.Layout, declared.layout.Lengths.Lengths}
+use Rattle.job_check.specs.{Emit.content_parts, Emit.memory_of, Emit.all_lengths_of, Jobs.layouts_of, Region.region_of, Region.IsRegion}
 use Rattle.job_check.specs.declared.region.Region.{Region}
-use Rattle.dumper.specs.Text.{rows_text, head_text, accepted_text, AreOfVersion}
+use Rattle.job_check.proofs.{Counted.as_many_layouts, Counted.as_many_lengths, Emission.placed-append, Regions.memory_made}
 use Rattle.dumper.specs.Parts.{part_at, part_end, parts_text, inserted, sorted, Ascend, RowsApart, ApartFrom, AllApart}
+use Rattle.dumper.specs.Text.{rows_text, head_text, accepted_text, AreOfVersion}
 use Rattle.dumper.proofs.Sorting.{rows_of_sorted, emitted_long, ascend_sorted, ascend_more}
-use Rattle.commands.specs.Answer.{image_of}
-use Rattle.commands.specs.Reply.{rest_text}
+use Rattle.commands.specs.{Answer.image_of, Reply.rest_text}
 
 -- Parts in items that lie apart lie in rows apart.
 part_inside : (memory : ℕ) (x : Item) (bytes : List ℕ) → IsSoundItem memory x → length bytes ≤ x.size → part_end (part_at x.place bytes) ≤ x.place + x.size

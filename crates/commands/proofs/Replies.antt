@@ -1,10 +1,9 @@
 -- A reply that is printed is an answer that is given.
 use Rattle.std.proofs.Common.{ℕ, List}
 use Rattle.std.specs.Prelude.{Option}
-use Rattle.commands.specs.declared.reply.Reply.{Reply}
-use Rattle.commands.specs.declared.reply.Reply.TheVariants as reply
+use Rattle.commands.specs.{declared.reply.Reply.Reply, Run.IsAnswered, Run.IsCut}
 use Rattle.commands.specs.Reply.{image_text, reply_status, IsReplyOf, AppendsReply, AppendsReplyFront}
-use Rattle.commands.specs.Run.{IsAnswered, IsCut}
+use Rattle.commands.specs.declared.reply.Reply.TheVariants as reply
 
 pub reply_answers : (given : Reply) (IsReply : ℕ → List ℕ → Type 0) (bytes : List ℕ) (before now : Option (List ℕ)) → IsReplyOf IsReply bytes given
     → AppendsReply given bytes before now → IsAnswered IsReply (reply_status given) before now

@@ -1,19 +1,14 @@
 -- The same file as version 2 keeps all but its version.
 use Rattle.std.proofs.Common.{◌≡◌, ℕ, List, refl}
-use Rattle.field_words.specs.declared.stop.Stop.{Stop}
-use Rattle.field_words.specs.declared.stop.Stop.TheVariants.{Fault, NoMemory}
+use Rattle.field_words.specs.{declared.stop.Stop.Stop, declared.stop.Stop.TheVariants.Fault, declared.stop.Stop.TheVariants.NoMemory}
 use Rattle.field_words.specs.Questions.{Refuses}
 use Rattle.field_words.proofs.Questions.{answered_some}
-use Rattle.job_format.specs.declared.rule.FormatFault.{FormatFault}
-use Rattle.job_format.specs.Faults.{format_questions}
-use Rattle.job_check.specs.Whole.{format_refused, format_stopped}
-use Rattle.job_format.specs.Model.{FileModel}
-use Rattle.job_format.specs.File.{upgraded}
+use Rattle.job_format.specs.{declared.rule.FormatFault.FormatFault, Faults.format_questions, Model.FileModel, File.upgraded}
 use Rattle.job_format.specs.Reading.{file_at}
-use Rattle.job_format.proofs.Laws.{none_file}
-use Rattle.job_check.specs.Shaders.{content_of, shader_of, shaders_up_to}
 use Rattle.job_check.specs.Jobs.{job_of, slot_of, places_in, has_bin, grid_of, lists_room, lists_begin, layout_of, states_in, input_for, bin_list_of, records_of, streams_of, render_list_of}
+use Rattle.job_check.specs.{Whole.format_refused, Whole.format_stopped, Shaders.content_of, Shaders.shader_of, Shaders.shaders_up_to}
 use Rattle.job_check.specs.Emit.{lengths_of}
+use Rattle.job_format.proofs.Laws.{none_file}
 use Rattle.job_check.proofs.Alike.{file_again, upgrade}
 use Rattle.accepted_law.specs.Holdings.{plain_of, codes_of, lists_of, slot_in, file_rights, fixed_below, fixed_of, file_starts}
 use Rattle.commands.specs.Upgrade.{format_rules, UpgradeKeepsAll}

@@ -1,27 +1,14 @@
 -- What a command answers: a status and a text.
 use Rattle.std.specs.Prelude.{◌≡◌, ℕ, List, length, Option, Some, None}
 use Rattle.field_words.specs.Questions.{IsFirst}
-use Rattle.job_format.specs.declared.rule.Refusal.{Refusal}
-use Rattle.job_format.specs.File.{IsFileOf}
-use Rattle.job_format.specs.Model.{FileModel}
-use Rattle.job_format.specs.Reading.{file_at}
-use Rattle.job_check.specs.Whole.{all_questions, refusal_of}
-use Rattle.job_check.specs.Emit.{memory_of, lengths_of, all_lengths_of}
-use Rattle.job_check.specs.Jobs.{layouts_of}
-use Rattle.dumper.specs.Text.{accepted_text, refused_text}
-use Rattle.commands.specs.declared.command.Command.{Command}
+use Rattle.job_format.specs.{declared.rule.Refusal.Refusal, File.IsFileOf, Model.FileModel, Reading.file_at, Text.file_text}
+use Rattle.job_check.specs.{Whole.all_questions, Whole.refusal_of, Emit.memory_of, Emit.lengths_of, Emit.all_lengths_of, Jobs.layouts_of}
+use Rattle.dumper.specs.{Text.accepted_text, Text.refused_text, Example.example_text}
 use Rattle.commands.specs.declared.command.Command.TheVariants.{Check, Replay, Runs, Drawn, Upgrade, Bound, Show, FromText, Asm, Disasm, Shader, ShaderText, Slots, Queue, Session, Untile, Tile, Level}
-use Rattle.commands.specs.Pictures.{IsUntileAnswer, IsTileAnswer, IsLevelAnswer}
-use Rattle.commands.specs.Replay.{IsReplayAnswer, IsTrialAnswer}
-use Rattle.commands.specs.Drawn.{IsDrawnAnswer}
-use Rattle.commands.specs.Scripts.{IsSlotsAnswer, IsQueueAnswer, IsSessionAnswer}
-use Rattle.commands.specs.Bound.{IsBoundAnswer}
-use Rattle.commands.specs.Upgrade.{IsUpgradeAnswer}
-use Rattle.commands.specs.Show.{IsShowAnswer, IsMakeAnswer}
-use Rattle.commands.specs.Shader.{IsAsmAnswer, IsDisasmAnswer}
-use Rattle.commands.specs.LoneShader.{IsShaderAnswer, IsShaderTextAnswer}
-use Rattle.job_format.specs.Text.{file_text}
-use Rattle.dumper.specs.Example.{example_text}
+use Rattle.commands.specs.{declared.command.Command.Command, Pictures.IsUntileAnswer, Pictures.IsTileAnswer, Pictures.IsLevelAnswer}
+use Rattle.commands.specs.{Replay.IsReplayAnswer, Replay.IsTrialAnswer, Drawn.IsDrawnAnswer, Bound.IsBoundAnswer, Upgrade.IsUpgradeAnswer}
+use Rattle.commands.specs.{Scripts.IsSlotsAnswer, Scripts.IsQueueAnswer, Scripts.IsSessionAnswer, Show.IsShowAnswer, Show.IsMakeAnswer}
+use Rattle.commands.specs.{Shader.IsAsmAnswer, Shader.IsDisasmAnswer, LoneShader.IsShaderAnswer, LoneShader.IsShaderTextAnswer}
 use Rattle.example_job.specs.Example.{example}
 
 -- what is printed of an accepted file: its emitted memory, and where the lists of each job lie there

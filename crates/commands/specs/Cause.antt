@@ -1,42 +1,26 @@
 -- Why a command refuses, as a person is told: a function of the refusal and of what was read.
-use Rattle.std.specs.Prelude.{◌≡◌, ℕ, ◌*◌, ◌%◌, ◌==◌, Bool, true, false, List, ◌++◌, codes, length, nat_le, slice_index, Option, Some, None, Result, Ok, Err, if◌then◌else◌}
-use Rattle.std.specs.Fmt.{decimal}
-use Rattle.field_words.specs.Questions.{first_of}
-use Rattle.field_words.specs.Sizes.{most_words}
+use Rattle.std.specs.Prelude.{◌≡◌, ℕ, ◌*◌, ◌%◌, ◌==◌, Bool, true, false, List, ◌++◌, codes, length, nat_le, slice_index, Option, Some, None, Result, Ok, Err, if◌then◌else◌, decimal}
+use Rattle.field_words.specs.{Questions.first_of, Sizes.most_words}
 use Rattle.job_format.specs.declared.rule.Refusal.{Refusal}
-use Rattle.job_check.specs.Shaders.{code_questions}
-use Rattle.job_check.specs.Whole.{refusal_of}
-use Rattle.job_text.specs.declared.fault.MakeFault.{MakeFault}
-use Rattle.job_text.specs.Made.{made}
-use Rattle.job_text.specs.Sentences.{sentence_of as mistake_of}
-use Rattle.qpu_asm.specs.declared.fault.AsmFault.{AsmFault}
-use Rattle.qpu_asm.specs.Assembly.{Assembled}
-use Rattle.qpu_asm.specs.Place.{fault_place, wanted_text}
-use Rattle.qpu_asm.specs.declared.place.FaultPlace.{FaultPlace}
-use Rattle.qpu_asm.specs.declared.place.Opcode.TheVariants.{Nop}
-use Rattle.qpu_asm.specs.declared.place.Wanted.{Wanted}
+use Rattle.job_check.specs.{Shaders.code_questions, Whole.refusal_of}
+use Rattle.job_text.specs.{declared.fault.MakeFault.MakeFault, Made.made, Sentences.sentence_of as mistake_of}
+use Rattle.qpu_asm.specs.{declared.fault.AsmFault.AsmFault, Assembly.Assembled, Place.fault_place, Place.wanted_text}
+use Rattle.qpu_asm.specs.{declared.place.FaultPlace.FaultPlace, declared.place.Opcode.TheVariants.Nop, declared.place.Wanted.Wanted}
 use Rattle.qpu_asm.specs.declared.place.Wanted.TheVariants.{Item}
-use Rattle.rule_words.specs.declared.line.Line.{Line}
 use Rattle.rule_words.specs.declared.name.Family.TheVariants.{Kind as KindFamily, S as ShaderFamily, U as TextureFamily, V as LevelFamily}
-use Rattle.rule_words.specs.declared.name.RuleName.{RuleName}
-use Rattle.rule_words.specs.Line.{line_text, IsLineOf}
+use Rattle.rule_words.specs.{declared.line.Line.Line, declared.name.RuleName.RuleName, Line.line_text, Line.IsLineOf}
 use Rattle.rule_words.specs.Names.{name_text, sentence_of}
-use Rattle.commands.specs.declared.cause.Cause.{Cause}
 use Rattle.commands.specs.declared.cause.Cause.TheVariants.{Rule, Kind, Mistake, Shader as ShaderCause, Long, Call, Part, Size, Level as LevelCause, Words}
-use Rattle.commands.specs.declared.command.Command.{Command}
 use Rattle.commands.specs.declared.command.Command.TheVariants.{Check, Replay, Runs, Drawn, Upgrade, Bound, Show, FromText, Asm, Disasm, Shader, ShaderText, Slots, Queue, Session, Untile, Tile, Level}
-use Rattle.shader_check.specs.declared.fault.ShaderFault.{ShaderFault}
-use Rattle.shader_check.specs.Rules.{shader_questions}
+use Rattle.commands.specs.{declared.cause.Cause.Cause, declared.command.Command.Command, declared.pictures.TexturePart.TexturePart}
+use Rattle.commands.specs.{Upgrade.format_rules, WordFault.word_fault_text}
+use Rattle.shader_check.specs.{declared.fault.ShaderFault.ShaderFault, Rules.shader_questions}
 use Rattle.job_queue.specs.Calls.{fault_line as queue_fault}
 use Rattle.job_session.specs.Calls.{fault_line as session_fault}
 use Rattle.overflow_slots.specs.Calls.{fault_line as slots_fault}
 use Rattle.texture_layouts.specs.Surface.{size_for}
-use Rattle.tile_convert.specs.Level.{level_questions}
-use Rattle.tile_convert.specs.declared.level.LevelFault.{LevelFault}
 use Rattle.tile_convert.specs.declared.level.LevelFault.TheVariants.{Texture, Face, Level as NoLevel}
-use Rattle.commands.specs.declared.pictures.TexturePart.{TexturePart}
-use Rattle.commands.specs.Upgrade.{format_rules}
-use Rattle.commands.specs.WordFault.{word_fault_text}
+use Rattle.tile_convert.specs.{Level.level_questions, declared.level.LevelFault.LevelFault}
 
 -- the name of a kind of the assembler's faults
 abbrev pub kind_of : AsmFault → RuleName

@@ -1,10 +1,7 @@
 -- What `picture` answers: the picture of a file's memory.
 use Rattle.std.specs.Prelude.{◌≡◌, ℕ, List, Option, Some, None}
 use Rattle.field_words.specs.Questions.{IsFirst}
-use Rattle.job_format.specs.declared.rule.Refusal.{Refusal}
-use Rattle.job_format.specs.File.{IsFileOf}
-use Rattle.job_format.specs.Model.{FileModel}
-use Rattle.job_format.specs.Reading.{file_at}
+use Rattle.job_format.specs.{declared.rule.Refusal.Refusal, File.IsFileOf, Model.FileModel, Reading.file_at}
 use Rattle.job_check.specs.Whole.{all_questions, refusal_of}
 use Rattle.dumper.specs.Text.{refused_text}
 use Rattle.memory_picture.specs.Picture.{memory_picture}

@@ -5,11 +5,9 @@
 -- The second half of this, which speaks of bytes alone, is `MayRun` (headline, specs/MayRun). `file_at` (job_format, specs/Reading) is the
 -- file that the bytes hold. `memory_of`, `layouts_of` and `all_lengths_of` (job_check, specs/Emit, Jobs) are the memory that it is emitted
 -- as, and by job where its lists lie there and how long they are; `accepted_text` (dumper, specs/Text) prints these three.
-use Rattle.std.specs.Prelude.{ℕ, List, Option}
-use Rattle.std.specs.Io.KnownBytes.{Appends}
+use Rattle.std.specs.{Prelude.ℕ, Prelude.List, Prelude.Option, Io.KnownBytes.Appends}
 use Rattle.job_format.specs.Reading.{file_at}
-use Rattle.job_check.specs.Emit.{memory_of, all_lengths_of}
-use Rattle.job_check.specs.Jobs.{layouts_of}
+use Rattle.job_check.specs.{Emit.memory_of, Emit.all_lengths_of, Jobs.layouts_of}
 use Rattle.dumper.specs.Text.{accepted_text}
 use Rattle.headline.specs.MayRun.{MayRun}
 

@@ -2,8 +2,7 @@
 use Rattle.std.specs.Prelude.{◌≡◌, ◌≤◌}
 use Rattle.field_words.specs.Sizes.{most_memory}
 use Rattle.buffer_table.specs.Sound.{IsSound}
-use Rattle.job_format.specs.Model.{FileModel}
-use Rattle.job_format.specs.Parts.{parts_view}
+use Rattle.job_format.specs.{Model.FileModel, Parts.parts_view}
 use Rattle.job_check.specs.Region.{IsRegion}
 use Rattle.commands.specs.declared.check.Accepted.{Accepted}
 

@@ -1,16 +1,10 @@
 -- What `shader` answers: what a shader takes and reads, or the rule that refuses it, of the words that the input spells or assembles to.
-use Rattle.std.specs.Prelude.{◌≡◌, ◌⊎◌, ℕ, ◌≤◌, ◌<◌, Bool, List, [], ◌++◌, codes, length, Option, Some, None, Ok, Err, if◌then◌else◌}
-use Rattle.std.specs.Fmt.{decimal}
-use Rattle.std.specs.List.{flat_map}
-use Rattle.field_words.specs.Questions.{Question, IsFirst, first_of}
-use Rattle.field_words.specs.Sizes.{most_words}
+use Rattle.std.specs.Prelude.{◌≡◌, ◌⊎◌, ℕ, ◌≤◌, ◌<◌, Bool, List, [], ◌++◌, codes, length, Option, Some, None, Ok, Err, if◌then◌else◌, decimal, flat_map}
+use Rattle.field_words.specs.{Questions.Question, Questions.IsFirst, Questions.first_of, Sizes.most_words}
 use Rattle.job_check.specs.Shaders.{words_of, code_questions, told_of}
-use Rattle.qpu_asm.specs.declared.fault.AsmFault.{AsmFault}
-use Rattle.qpu_asm.specs.Assembly.{Assembled}
-use Rattle.qpu_isa.specs.declared.inst.Sample.{Sample}
-use Rattle.qpu_isa.specs.Shader.{ShaderModel}
-use Rattle.shader_check.specs.declared.fault.ShaderFault.{ShaderFault}
-use Rattle.shader_check.specs.Rules.{shader_questions}
+use Rattle.qpu_asm.specs.{declared.fault.AsmFault.AsmFault, Assembly.Assembled}
+use Rattle.qpu_isa.specs.{declared.inst.Sample.Sample, Shader.ShaderModel}
+use Rattle.shader_check.specs.{declared.fault.ShaderFault.ShaderFault, Rules.shader_questions}
 use Rattle.commands.specs.Shader.{fault_text}
 
 -- the uniforms that a sample's set-up words are

@@ -1,18 +1,13 @@
 -- Pictures: the words that name one, and what commands on them answer.
-use Rattle.std.specs.Prelude.{◌≡◌, ◌≢◌, ◌⊎◌, ℕ, ◌≤◌, ◌*◌, ◌==◌, ◌||◌, List, [], ◌∷◌, ◌++◌, codes, length, slice_index, bytes_eq, Option, Some, None, if◌then◌else◌}
-use Rattle.std.specs.Fmt.{decimal}
+use Rattle.std.specs.Prelude.{◌≡◌, ◌≢◌, ◌⊎◌, ℕ, ◌≤◌, ◌*◌, ◌==◌, ◌||◌, List, [], ◌∷◌, ◌++◌, codes, length, slice_index, bytes_eq, Option, Some, None, if◌then◌else◌, decimal}
 use Rattle.field_words.specs.Questions.{first_of}
 use Rattle.script.specs.Number.{number_within}
-use Rattle.texture_layouts.specs.declared.surface.Tiling.{Tiling}
+use Rattle.texture_layouts.specs.{declared.surface.Tiling.Tiling, Surface.IsPixelSize, Surface.size_for, Setup.texture_of}
 use Rattle.texture_layouts.specs.declared.surface.Tiling.TheVariants.{T, Lt}
-use Rattle.texture_layouts.specs.Surface.{IsPixelSize, size_for}
-use Rattle.texture_layouts.specs.Setup.{texture_of}
-use Rattle.tile_convert.specs.declared.level.LevelFault.{LevelFault}
 use Rattle.tile_convert.specs.declared.level.LevelFault.TheVariants.{Texture, Face, Level}
-use Rattle.tile_convert.specs.Level.{level_questions, IsLevelPicture}
+use Rattle.tile_convert.specs.{declared.level.LevelFault.LevelFault, Level.level_questions, Level.IsLevelPicture}
 use Rattle.tile_convert.specs.Picture.{IsPicture, IsSurface}
-use Rattle.commands.specs.declared.pictures.Picture.{Picture}
-use Rattle.commands.specs.declared.pictures.TexturePart.{TexturePart}
+use Rattle.commands.specs.{declared.pictures.Picture.Picture, declared.pictures.TexturePart.TexturePart}
 
 abbrev pub tiling_named : List ℕ → Option Tiling
 tiling_named word = if bytes_eq word (codes "t") then Some T else (if bytes_eq word (codes "lt") then Some Lt else None)

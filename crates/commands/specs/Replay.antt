@@ -1,20 +1,13 @@
 -- What `replay` answers: a run of the job's machine, by a script that a seed gives.
 use Rattle.std.specs.Prelude.{◌≡◌, ℕ, List, Option, Some, None}
 use Rattle.field_words.specs.Questions.{IsFirst}
-use Rattle.job_format.specs.declared.rule.Refusal.{Refusal}
-use Rattle.job_format.specs.File.{IsFileOf}
-use Rattle.job_format.specs.Model.{FileModel}
-use Rattle.job_format.specs.Reading.{file_at}
+use Rattle.job_format.specs.{declared.rule.Refusal.Refusal, File.IsFileOf, Model.FileModel, Reading.file_at}
 use Rattle.job_check.specs.Whole.{all_questions, refusal_of}
 use Rattle.job_safety.specs.Accepted.{machine_of}
 use Rattle.machine.specs.Step.{Event}
-use Rattle.replay.specs.declared.trace.Trace.{Trace}
-use Rattle.replay.specs.Run.{IsTrace}
-use Rattle.dumper.specs.Text.{refused_text}
-use Rattle.dumper.specs.Trace.{trace_text}
-use Rattle.seeded_runs.specs.declared.told.Trial.{Trial}
-use Rattle.seeded_runs.specs.Seeded.{Picks, Gives}
-use Rattle.seeded_runs.specs.Told.{IsTold}
+use Rattle.replay.specs.{declared.trace.Trace.Trace, Run.IsTrace}
+use Rattle.dumper.specs.{Text.refused_text, Trace.trace_text}
+use Rattle.seeded_runs.specs.{declared.told.Trial.Trial, Seeded.Picks, Seeded.Gives, Told.IsTold}
 
 -- The text is that of the run which the script of the seed gives from the machine's start, of at most so many steps.
 pub record IsReplayed (f : FileModel) (steps seed : ℕ) (text : List ℕ) : Type 0 where

@@ -3,14 +3,10 @@
 use Rattle.std.specs.Prelude.{ℕ, List, ◌++◌, length, codes, Option, None, ⊤}
 use Rattle.std.specs.Io.KnownBytes.{Appends}
 use Rattle.job_io.specs.Traffic.{AppendsFront}
-use Rattle.field_words.specs.Sizes.{most_memory}
-use Rattle.field_words.specs.Writes.{Part}
-use Rattle.dumper.specs.Parts.{parts_text, Ascend}
-use Rattle.dumper.specs.Spans.{parts_of}
+use Rattle.field_words.specs.{Sizes.most_memory, Writes.Part}
+use Rattle.dumper.specs.{Parts.parts_text, Parts.Ascend, Spans.parts_of}
 use Rattle.commands.specs.Bands.{IsReady, IsConverted, AppendsConverted, AppendsConvertedFront}
-use Rattle.commands.specs.declared.cause.Cause.{Cause}
-use Rattle.commands.specs.declared.reply.Image.{Image}
-use Rattle.commands.specs.declared.reply.Reply.{Reply}
+use Rattle.commands.specs.{declared.cause.Cause.Cause, declared.reply.Image.Image, declared.reply.Reply.Reply}
 use Rattle.commands.specs.declared.reply.Reply.TheVariants as reply
 
 -- the rows of parts by ascending place, and the last line

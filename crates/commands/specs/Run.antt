@@ -1,6 +1,5 @@
 -- What a command leaves behind. `IsReply status text` is the command's own relation: what it answers to its input.
-use Rattle.std.specs.Prelude.{ℕ, List, Option}
-use Rattle.std.specs.Io.KnownBytes.{Appends}
+use Rattle.std.specs.{Prelude.ℕ, Prelude.List, Prelude.Option, Io.KnownBytes.Appends}
 use Rattle.job_io.specs.Traffic.{AppendsFront}
 
 -- The answer has this status, and its text was appended to a sink.

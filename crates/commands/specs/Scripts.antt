@@ -1,12 +1,8 @@
 -- What a script is answered: a line for each of its lines, or the first line that is no call.
-use Rattle.std.specs.Prelude.{◌≡◌, ◌⊎◌, ℕ, List, ◌++◌, codes, Option, None, Some}
-use Rattle.std.specs.Fmt.{decimal}
-use Rattle.overflow_slots.specs.Text.{replies as slots_replies}
-use Rattle.overflow_slots.specs.Calls.{fault_line as slots_fault}
-use Rattle.job_queue.specs.Text.{replies as queue_replies}
-use Rattle.job_queue.specs.Calls.{fault_line as queue_fault}
-use Rattle.job_session.specs.Text.{replies as session_replies}
-use Rattle.job_session.specs.Calls.{fault_line as session_fault}
+use Rattle.std.specs.Prelude.{◌≡◌, ◌⊎◌, ℕ, List, ◌++◌, codes, Option, None, Some, decimal}
+use Rattle.overflow_slots.specs.{Text.replies as slots_replies, Calls.fault_line as slots_fault}
+use Rattle.job_queue.specs.{Text.replies as queue_replies, Calls.fault_line as queue_fault}
+use Rattle.job_session.specs.{Text.replies as session_replies, Calls.fault_line as session_fault}
 
 -- a line for the first line of a script that is no call
 unfoldable pub malformed_text : ℕ → List ℕ

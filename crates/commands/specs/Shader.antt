@@ -1,12 +1,8 @@
 -- What `asm` and `disasm` answer to all of their input.
 use Rattle.std.specs.Prelude.{◌≡◌, ◌≢◌, ◌⊎◌, ℕ, ◌%◌, List, ◌++◌, Ok, Err, codes, length}
-use Rattle.std.specs.List.{flat_map}
-use Rattle.std.specs.Fmt.{decimal}
-use Rattle.std.specs.Int.{to_le_bytes, w64}
+use Rattle.std.specs.{List.flat_map, Fmt.decimal, Int.to_le_bytes, Int.w64}
 use Rattle.job_check.specs.Shaders.{words_of}
-use Rattle.qpu_asm.specs.declared.fault.AsmFault.{AsmFault}
-use Rattle.qpu_asm.specs.Assembly.{Assembled}
-use Rattle.qpu_asm.specs.Printed.{AsmText}
+use Rattle.qpu_asm.specs.{declared.fault.AsmFault.AsmFault, Assembly.Assembled, Printed.AsmText}
 
 -- words as bytes, 8 each, the lowest first
 unfoldable pub bytes_of : List ℕ → List ℕ

@@ -1,15 +1,9 @@
 -- What `show` and `make` answer to all of their input.
-use Rattle.std.specs.Prelude.{◌≡◌, ◌⊎◌, ℕ, List, [], ◌++◌, Ok, Err, Option, Some, None, codes}
-use Rattle.std.specs.Fmt.{decimal}
+use Rattle.std.specs.Prelude.{◌≡◌, ◌⊎◌, ℕ, List, [], ◌++◌, Ok, Err, Option, Some, None, codes, decimal}
 use Rattle.job_format.specs.declared.rule.Refusal.{Refusal}
 use Rattle.job_check.specs.Whole.{refusal_of}
-use Rattle.job_text.specs.declared.fault.MakeFault.{MakeFault}
-use Rattle.job_text.specs.declared.note.Piece.{Piece}
-use Rattle.job_text.specs.Made.{made}
-use Rattle.job_text.specs.Sentences.{sentence_of}
-use Rattle.job_text.specs.Shown.{shown}
-use Rattle.rule_words.specs.declared.line.Line.{Line}
-use Rattle.rule_words.specs.Line.{line_text, IsLineOf}
+use Rattle.job_text.specs.{declared.fault.MakeFault.MakeFault, declared.note.Piece.Piece, Made.made, Sentences.sentence_of, Shown.shown}
+use Rattle.rule_words.specs.{declared.line.Line.Line, Line.line_text, Line.IsLineOf}
 
 -- The lines of bytes. Where a rule refuses them, the line of its offset is marked, and the line follows that tells the refusal.
 abbrev pub IsShown : List ℕ → Option Refusal → List ℕ → Type 0

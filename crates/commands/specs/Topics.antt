@@ -1,12 +1,10 @@
 -- What the program says of itself and of rules.
-use Rattle.std.specs.Prelude.{◌≡◌, ℕ, List, ◌++◌, codes, bytes_eq, Option, Some, None, if◌then◌else◌}
-use Rattle.std.specs.List.{flat_map}
+use Rattle.std.specs.Prelude.{◌≡◌, ℕ, List, ◌++◌, codes, bytes_eq, Option, Some, None, if◌then◌else◌, flat_map}
 use Rattle.rule_words.specs.Names.{explained}
 use Rattle.commands.specs.declared.help.TheConstants.{CHECK, REPLAY, PICTURE, UPGRADE, BOUND, SHOW, MAKE, GEN, SLOTS, QUEUE, SESSION, UNTILE, TILE, LEVEL, ASM, DISASM, SHADER, EXPLAIN, HEAD, FOOT, VERSION, VERBS}
-use Rattle.commands.specs.declared.help.Verb.{Verb}
 use Rattle.commands.specs.declared.help.Verb.TheVariants.{Check, Replay, Picture, Upgrade, Bound, Show, Make, Gen, Slots, Queue, Session, Untile, Tile, Level, Asm, Disasm, Shader, Explain}
-use Rattle.commands.specs.declared.help.Topic.{Topic}
 use Rattle.commands.specs.declared.help.Topic.TheVariants.{Program, Command, Version, Rule}
+use Rattle.commands.specs.{declared.help.Verb.Verb, declared.help.Topic.Topic}
 
 -- the command that a word names
 abbrev pub other_verb : List ℕ → Option Verb

@@ -1,13 +1,10 @@
 -- The words that say how runs are told, and which units are favoured.
 use Rattle.std.specs.Prelude.{ℕ, ◌≤◌, ◌<◌, ◌+◌, ◌-◌, ◌^◌, ◌==◌, ◌&&◌, nat_le, nat_lt, List, [], ◌∷◌, codes, bytes_eq, Option, Some, None, if◌then◌else◌}
-use Rattle.replay.specs.declared.units.UnitKind.{UnitKind}
 use Rattle.replay.specs.declared.units.UnitKind.TheVariants.{Binner, Renderer, Qpu, Tmu}
-use Rattle.script.specs.Lines.{before, behind}
-use Rattle.script.specs.Number.{number_within}
-use Rattle.seeded_runs.specs.declared.told.Look.{Look}
+use Rattle.replay.specs.declared.units.UnitKind.{UnitKind}
+use Rattle.script.specs.{Lines.before, Lines.behind, Number.number_within}
 use Rattle.seeded_runs.specs.declared.told.Look.TheVariants.{Steps, Accesses, Picture, Seeds}
-use Rattle.seeded_runs.specs.declared.told.Trial.{Trial}
-use Rattle.seeded_runs.specs.Told.{most_seeds}
+use Rattle.seeded_runs.specs.{declared.told.Look.Look, declared.told.Trial.Trial, Told.most_seeds}
 use Rattle.commands.specs.declared.trial.SeedRange.{SeedRange}
 
 -- the most steps of a run

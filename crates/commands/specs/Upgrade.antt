@@ -1,16 +1,9 @@
 -- What `upgrade` answers: the same file as version 2.
 use Rattle.std.specs.Prelude.{◌≡◌, ℕ, List, Option, Some, None}
-use Rattle.field_words.specs.Words.{IsBytes}
-use Rattle.field_words.specs.Questions.{Question, IsFirst, first_of, answered}
-use Rattle.job_format.specs.declared.rule.Refusal.{Refusal}
-use Rattle.job_format.specs.Faults.{format_questions}
-use Rattle.job_format.specs.File.{IsFileOf, upgraded}
-use Rattle.job_format.specs.Model.{FileModel}
-use Rattle.job_format.specs.Reading.{file_at}
-use Rattle.job_format.specs.Text.{file_text}
-use Rattle.job_check.specs.Emit.{memory_of, all_lengths_of}
-use Rattle.job_check.specs.Jobs.{layouts_of}
-use Rattle.job_check.specs.Whole.{format_refused, refusal_of}
+use Rattle.field_words.specs.{Words.IsBytes, Questions.Question, Questions.IsFirst, Questions.first_of, Questions.answered}
+use Rattle.job_format.specs.{declared.rule.Refusal.Refusal, Faults.format_questions, File.IsFileOf, File.upgraded, Model.FileModel}
+use Rattle.job_format.specs.{Reading.file_at, Text.file_text}
+use Rattle.job_check.specs.{Emit.memory_of, Emit.all_lengths_of, Jobs.layouts_of, Whole.format_refused, Whole.refusal_of}
 use Rattle.accepted_law.specs.Holdings.{plain_of, fixed_of, file_rights, file_starts}
 use Rattle.dumper.specs.Text.{refused_text}
 

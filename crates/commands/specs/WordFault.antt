@@ -1,21 +1,16 @@
 -- Why words ask for nothing that the program does, as a person is told: which word is wrong, and what it may be.
-use Rattle.std.specs.Prelude.{ℕ, ◌+◌, ◌&&◌, ◌||◌, Bool, false, is_some, nat_le, List, [], ◌∷◌, ◌++◌, codes, length, bytes_eq, Option, Some, None, if◌then◌else◌}
-use Rattle.std.specs.Fmt.{decimal}
+use Rattle.std.specs.Prelude.{ℕ, ◌+◌, ◌&&◌, ◌||◌, Bool, false, is_some, nat_le, List, [], ◌∷◌, ◌++◌, codes, length, bytes_eq, Option, Some, None, if◌then◌else◌, decimal}
 use Rattle.rule_words.specs.Names.{rule_named, kind_named}
 use Rattle.script.specs.Number.{number_within}
-use Rattle.commands.specs.Pictures.{tiling_named, pixel_by, most_side, most_word}
-use Rattle.commands.specs.Trials.{most_steps, kind_named as unit_named, seeds_named}
-use Rattle.commands.specs.Words.{most_number, most_slots, most_queued}
-use Rattle.commands.specs.Topics.{verb_named, usage_of}
-use Rattle.commands.specs.declared.help.Verb.{Verb}
 use Rattle.commands.specs.declared.help.Verb.TheVariants.{Check, Replay, Picture, Upgrade, Bound, Show, Make, Gen, Slots, Queue, Session, Untile, Tile, Level, Asm, Disasm, Shader, Explain}
 use Rattle.commands.specs.declared.word_fault.TheConstants.{COMMANDS, RUN, FAVOURED, SEEDS, EXAMPLE, SLOTS, QUEUE, PICTURE, LEVEL, RULE, KIND}
-use Rattle.commands.specs.declared.word_fault.Argument.{Argument}
 use Rattle.commands.specs.declared.word_fault.Argument.TheVariants.{Steps, Seed, Example, SlotCount, Buffers, PictureTiling, Cpp, Width, Height, P0, P1, P2, P3, Face, LevelNumber, Rule, Kind, Favoured, SeedNumbers}
-use Rattle.commands.specs.declared.word_fault.Values.{Values}
 use Rattle.commands.specs.declared.word_fault.Values.TheVariants.{Number, Tiling, Pixel, RuleName, KindNumber, UnitName, Seeds}
-use Rattle.commands.specs.declared.word_fault.WordFault.{WordFault}
 use Rattle.commands.specs.declared.word_fault.WordFault.TheVariants.{Nothing, Unknown, Alone, Wrong, Missing, Surplus}
+use Rattle.commands.specs.{Pictures.tiling_named, Pictures.pixel_by, Pictures.most_side, Pictures.most_word, declared.help.Verb.Verb}
+use Rattle.commands.specs.{Trials.most_steps, Trials.kind_named as unit_named, Trials.seeds_named, Topics.verb_named, Topics.usage_of}
+use Rattle.commands.specs.{Words.most_number, Words.most_slots, Words.most_queued, declared.word_fault.Argument.Argument}
+use Rattle.commands.specs.{declared.word_fault.Values.Values, declared.word_fault.WordFault.WordFault}
 
 -- what an argument may be
 unfoldable pub values_of : Argument → Values

@@ -1,21 +1,16 @@
 -- The words after the program's name.
 use Rattle.std.specs.Prelude.{ℕ, ◌≤◌, ◌==◌, ◌-◌, ◌^◌, ◌&&◌, not, Bool, true, false, is_some, take, length, List, [], ◌∷◌, codes, map, String, string_bytes, Option, Some, None, option_map, if◌then◌else◌}
-use Rattle.std.specs.Prelude.{bytes_eq}
-use Rattle.std.specs.declared.alloc.Global.{Global}
+use Rattle.std.specs.{Prelude.bytes_eq, declared.alloc.Global.Global}
 use Rattle.field_words.specs.Sizes.{most_code, most_list}
-use Rattle.commands.specs.declared.command.Command.{Command}
 use Rattle.commands.specs.declared.command.Command.TheVariants.{Check, Replay, Runs, Drawn, Upgrade, Bound, Show, FromText, Asm, Disasm, Shader, ShaderText, Slots, Queue, Session, Untile, Tile, Level}
-use Rattle.commands.specs.declared.command.Task.{Task}
 use Rattle.commands.specs.declared.command.Task.TheVariants.{Read, Make, Tell}
-use Rattle.commands.specs.declared.help.Verb.{Verb}
-use Rattle.rule_words.specs.declared.name.RuleName.{RuleName}
 use Rattle.commands.specs.declared.help.Topic.TheVariants.{Program, Command as CommandTopic, Version, Rule}
-use Rattle.script.specs.Number.{number_within}
-use Rattle.rule_words.specs.Names.{rule_named, kind_named}
-use Rattle.commands.specs.Topics.{verb_named}
 use Rattle.commands.specs.Trials.{most_steps, trial_named, favour_named, favoured_run, favoured_trial, drawn_run, favoured_drawn}
-use Rattle.seeded_runs.specs.Told.{IsTrialWithin}
+use Rattle.commands.specs.{declared.command.Command.Command, declared.command.Task.Task, declared.help.Verb.Verb, Topics.verb_named}
 use Rattle.commands.specs.Pictures.{picture_named, level_named, IsPictureWithin}
+use Rattle.rule_words.specs.{declared.name.RuleName.RuleName, Names.rule_named, Names.kind_named}
+use Rattle.script.specs.Number.{number_within}
+use Rattle.seeded_runs.specs.Told.{IsTrialWithin}
 
 abbrev pub texts : List (String Global) → List (List ℕ)
 texts words = map string_bytes words

@@ -1,8 +1,7 @@
 -- The rows of a part alone in a memory are rows of its bytes.
 use Rattle.std.proofs.Common.{◌≡◌, ℕ, ◌+◌, ◌-◌, ◌*◌, ◌<◌, ◌≤◌, List, [], ◌++◌, length, take, drop, sym, ap, arith}
+use Rattle.std.proofs.{lemmas.List.places, lemmas.Grind.same_number_lists}
 use Rattle.std.specs.Prelude.{if◌then◌else◌}
-use Rattle.std.proofs.lemmas.List.{places}
-use Rattle.std.proofs.lemmas.Grind.{same_number_lists}
 use Rattle.field_words.specs.Writes.{with_bytes, zeros}
 use Rattle.dumper.specs.Text.{row_at, row_text, row_line, is_blank}
 use Rattle.dumper.specs.Parts.{part_at, part_rows, part_end, alone, row_in}

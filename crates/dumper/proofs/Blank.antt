@@ -1,10 +1,7 @@
 -- A number of sixteen bytes is zero where all of them are.
 use Rattle.std.proofs.Common.{◌≡◌, ℕ, zero, suc, ◌+◌, ◌&&◌, List, [], ◌∷◌, length, refl, sym, ap, ◌∙◌, arith, zero-add}
-use Rattle.std.specs.Prelude.{◌==◌}
-use Rattle.std.specs.List.{list_all}
-use Rattle.std.specs.Int.{from_le_bytes, w128}
-use Rattle.std.proofs.Math.Nat.{suc-add}
-use Rattle.std.proofs.Math.Dec.{eqb-suc-zero}
+use Rattle.std.proofs.{Math.Nat.suc-add, Math.Dec.eqb-suc-zero}
+use Rattle.std.specs.{Prelude.◌==◌, List.list_all, Int.from_le_bytes, Int.w128}
 use Rattle.dumper.specs.Text.{is_blank}
 
 -- A sum is zero where both parts are.

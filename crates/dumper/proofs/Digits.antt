@@ -1,13 +1,12 @@
 -- A place's eight digits are those of its four bytes, the highest first.
 use Rattle.std.proofs.lemmas.List.{places, set_at, take_more, length-take, length-drop, length-append, append_assoc}
+use Rattle.std.proofs.Common.{slice_set, get_or, take, drop, ◌*◌, ◌≡◌, ℕ, zero, suc, ◌+◌, ◌-◌, ◌/◌, ◌%◌, ◌^◌, ◌<◌, ◌≤◌, List, [], ◌∷◌, ◌++◌, length, replicate, codes, false, refl, sym, ap, ◌∙◌, arith}
+use Rattle.std.proofs.Math.Dec.{eqb-suc-zero}
 use Rattle.field_words.proofs.Pieces.{drop_drop}
 use Rattle.field_words.specs.Writes.{with_bytes}
 use Rattle.hex.proofs.HexLemmas.{length-encode_with}
-use Rattle.std.proofs.Common.{slice_set, get_or, take, drop, ◌*◌, ◌≡◌, ℕ, zero, suc, ◌+◌, ◌-◌, ◌/◌, ◌%◌, ◌^◌, ◌<◌, ◌≤◌, List, [], ◌∷◌, ◌++◌, length, replicate, codes, false, refl, sym, ap, ◌∙◌, arith}
-use Rattle.std.specs.Prelude.{◌==◌, slice_index, if◌then◌else◌}
-use Rattle.std.specs.Fmt.{digits, digits_onto, digit_glyph}
+use Rattle.std.specs.{Prelude.◌==◌, Prelude.slice_index, Prelude.if◌then◌else◌, Fmt.digits, Fmt.digits_onto, Fmt.digit_glyph}
 use Rattle.std.specs.Int.{to_be_bytes, w32}
-use Rattle.std.proofs.Math.Dec.{eqb-suc-zero}
 use Rattle.hex.specs.Hex.{encode_lower, encode_with, lower_digits}
 use Rattle.dumper.specs.Text.{place_text}
 

@@ -2,11 +2,9 @@
 use Rattle.std.proofs.Common.{◌≡◌, ℕ, zero, suc, ◌+◌, ◌<◌, ◌≤◌, List, [], ◌∷◌, ◌++◌, length, take, drop, get_or, refl, sym, ap, subst, ◌∙◌, append_assoc, append-nil, arith}
 use Rattle.std.specs.List.{insert}
 use Rattle.field_words.specs.Writes.{Part}
-use Rattle.dumper.specs.Parts.{part_text, parts_text, part_end, Ascend, inserted}
-use Rattle.dumper.specs.declared.span.Span.{Span}
+use Rattle.dumper.specs.{Parts.part_text, Parts.parts_text, Parts.part_end, Parts.Ascend, Parts.inserted, declared.span.Span.Span}
 use Rattle.dumper.specs.Spans.{part_of, parts_of}
-use Rattle.dumper.proofs.Sorting.{put_before, put_behind}
-use Rattle.dumper.proofs.Stretches.{ascend_upto}
+use Rattle.dumper.proofs.{Sorting.put_before, Sorting.put_behind, Stretches.ascend_upto}
 
 -- Past a span that begins no later.
 pub passed_on : (spans : List Span) (at : ℕ) (x : Span) (part : Part) → at < length spans → x ≡ get_or spans at x → x.place ≤ part.place

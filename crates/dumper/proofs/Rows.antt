@@ -1,11 +1,7 @@
 -- Rows of a memory and their texts.
 use Rattle.std.proofs.Common.{◌≡◌, ℕ, zero, suc, ◌+◌, ◌-◌, ◌*◌, ◌^◌, ◌<◌, ◌≤◌, List, [], ◌++◌, length, take, drop, replicate, false, refl, sym, ap, ◌∙◌, arith, append-nil, append_assoc, zero-add, add-zero}
-use Rattle.std.specs.Prelude.{codes}
-use Rattle.std.specs.Fmt.{digits, padded_integral, format_spec, char_count}
-use Rattle.std.specs.Int.{to_be_bytes, w32}
-use Rattle.std.proofs.lemmas.List.{length-take-le, take_at, drop_at}
-use Rattle.std.proofs.Math.Seq.{take-add}
-use Rattle.std.proofs.Math.Nat.{suc-add}
+use Rattle.std.proofs.{lemmas.List.length-take-le, lemmas.List.take_at, lemmas.List.drop_at, Math.Seq.take-add, Math.Nat.suc-add}
+use Rattle.std.specs.{Prelude.codes, Fmt.digits, Fmt.padded_integral, Fmt.format_spec, Fmt.char_count, Int.to_be_bytes, Int.w32}
 use Rattle.field_words.specs.Writes.{with_bytes}
 use Rattle.hex.specs.Hex.{encode_lower, encode_with, lower_digits}
 use Rattle.hex.proofs.HexLemmas.{length-encode_with}

@@ -1,13 +1,11 @@
 -- Parts that lie apart may be put in any order; in order of place they ascend.
 use Rattle.std.proofs.Common.{◌≡◌, ℕ, ◌+◌, ◌/◌, ◌%◌, ◌<◌, ◌≤◌, ◌⊎◌, inl, inr, List, [], ◌∷◌, length, refl, sym, ap, subst, ◌∙◌, arith}
+use Rattle.std.proofs.{lemmas.List.places, lemmas.Bool.cases_lt, lemmas.Bool.lt-ltb, lemmas.Bool.le-ltb, lemmas.Grind.same_number_lists}
 use Rattle.std.specs.Prelude.{if◌then◌else◌}
-use Rattle.std.proofs.lemmas.List.{places}
-use Rattle.std.proofs.lemmas.Bool.{cases_lt, lt-ltb, le-ltb}
-use Rattle.std.proofs.lemmas.Grind.{same_number_lists}
 use Rattle.field_words.specs.Writes.{Part, placed, with_bytes, zeros, emitted}
 use Rattle.field_words.proofs.Writes.{length-with_bytes, length_zeros}
-use Rattle.dumper.specs.Text.{rows_text}
 use Rattle.dumper.specs.Parts.{part_end, parts_text, Ascend, inserted, sorted, RowsApart, ApartFrom, AllApart}
+use Rattle.dumper.specs.Text.{rows_text}
 use Rattle.dumper.proofs.Stretches.{part_fits, zero_at, length_placed, rows_of_parts}
 
 pub put_before : (part next : Part) (parts : List Part) → part.place < next.place → inserted part (next ∷ parts) ≡ part ∷ (next ∷ parts)

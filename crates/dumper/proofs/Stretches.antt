@@ -1,10 +1,7 @@
 -- Rows of two memories that are the same there, rows of zeros, and the rows of a memory that is zero but for ascending parts.
 use Rattle.std.proofs.Common.{◌≡◌, ℕ, zero, suc, ◌+◌, ◌-◌, ◌*◌, ◌/◌, ◌%◌, ◌<◌, ◌≤◌, List, [], ◌∷◌, ◌++◌, length, take, drop, get_or, true, inl, inr, ◌&&◌, refl, sym, ap, subst, ◌∙◌, arith}
-use Rattle.std.specs.Prelude.{◌==◌, if◌then◌else◌}
-use Rattle.std.proofs.lemmas.List.{places, get_or_past}
-use Rattle.std.proofs.lemmas.Bool.{cases_lt}
-use Rattle.std.proofs.lemmas.Grind.{same_number_lists}
-use Rattle.std.specs.List.{list_all}
+use Rattle.std.proofs.{lemmas.List.places, lemmas.List.get_or_past, lemmas.Bool.cases_lt, lemmas.Grind.same_number_lists}
+use Rattle.std.specs.{Prelude.◌==◌, Prelude.if◌then◌else◌, List.list_all}
 use Rattle.field_words.specs.Writes.{Part, placed, with_bytes, zeros}
 use Rattle.field_words.proofs.Writes.{length-with_bytes, with_bytes-before, with_bytes-behind, with_bytes-inside, length_zeros}
 use Rattle.dumper.specs.Text.{row_at, row_text, row_line, rows_text, is_blank}

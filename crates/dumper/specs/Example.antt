@@ -1,7 +1,5 @@
 -- The text of `gen`: what became of an example job.
-use Rattle.std.specs.Prelude.{ℕ, List, ◌++◌, codes}
-use Rattle.std.specs.Fmt.{decimal}
-use Rattle.std.specs.List.{sum}
+use Rattle.std.specs.{Prelude.ℕ, Prelude.List, Prelude.◌++◌, Prelude.codes, Fmt.decimal, List.sum}
 use Rattle.relocation.specs.declared.layout.Lengths.{Lengths}
 
 -- a line of a name and a number

@@ -1,6 +1,5 @@
 -- The rows of a memory that is zero but for parts that lie apart are the rows of its parts, by ascending place.
-use Rattle.std.specs.Prelude.{◌≡◌, ℕ, ◌+◌, ◌*◌, ◌/◌, ◌%◌, ◌≤◌, ◌<◌, ◌⊎◌, nat_lt, List, [], ◌∷◌, ◌++◌, length, take, drop, if◌then◌else◌}
-use Rattle.std.specs.List.{insert}
+use Rattle.std.specs.Prelude.{◌≡◌, ℕ, ◌+◌, ◌*◌, ◌/◌, ◌%◌, ◌≤◌, ◌<◌, ◌⊎◌, nat_lt, List, [], ◌∷◌, ◌++◌, length, take, drop, if◌then◌else◌, insert}
 use Rattle.field_words.specs.Writes.{Part, with_bytes, zeros}
 use Rattle.dumper.specs.Text.{rows_text}
 

@@ -1,6 +1,5 @@
 -- Spans as parts of a memory.
-use Rattle.std.specs.Prelude.{List, map}
-use Rattle.std.specs.Cow.{cow_slice_items}
+use Rattle.std.specs.{Prelude.List, Prelude.map, Cow.cow_slice_items}
 use Rattle.field_words.specs.Writes.{Part}
 use Rattle.dumper.specs.declared.span.Span.{Span}
 

@@ -1,12 +1,9 @@
 -- The texts of `check`: of an accepted file, and of a refusal.
 use Rattle.std.specs.Prelude.{◌≡◌, ◌≤◌, ℕ, zero, suc, ◌+◌, ◌-◌, ◌/◌, ◌==◌, Bool, List, [], ◌++◌, length, take, drop, replicate, slice_index_or, codes, false, if◌then◌else◌}
-use Rattle.std.specs.List.{list_all}
-use Rattle.std.specs.Fmt.{digits, decimal}
+use Rattle.std.specs.{List.list_all, Fmt.digits, Fmt.decimal}
 use Rattle.hex.specs.Hex.{encode_lower}
-use Rattle.job_format.specs.declared.rule.Refusal.{Refusal}
-use Rattle.job_format.specs.Rules.{rule_text}
-use Rattle.relocation.specs.declared.layout.Layout.{Layout}
-use Rattle.relocation.specs.declared.layout.Lengths.{Lengths}
+use Rattle.job_format.specs.{declared.rule.Refusal.Refusal, Rules.rule_text}
+use Rattle.relocation.specs.{declared.layout.Layout.Layout, declared.layout.Lengths.Lengths}
 
 -- a place: eight hexadecimal digits, and more where it needs more
 unfoldable pub place_text : ℕ → List ℕ

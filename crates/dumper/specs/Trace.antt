@@ -1,13 +1,9 @@
 -- The text of `replay`: what the units did, step by step.
-use Rattle.std.specs.Prelude.{ℕ, ◌+◌, ◌==◌, ◌&&◌, List, ◌++◌, length, codes, if◌then◌else◌}
-use Rattle.std.specs.Fmt.{decimal}
-use Rattle.std.specs.List.{flat_map}
-use Rattle.field_words.specs.declared.access.Actor.{Actor}
+use Rattle.std.specs.Prelude.{ℕ, ◌+◌, ◌==◌, ◌&&◌, List, ◌++◌, length, codes, if◌then◌else◌, decimal, flat_map}
 use Rattle.field_words.specs.declared.access.Actor.TheVariants.{Binner, Renderer, Qpu, Tmu}
-use Rattle.replay.specs.declared.trace.Ending.{Ending}
+use Rattle.field_words.specs.declared.access.Actor.{Actor}
 use Rattle.replay.specs.declared.trace.Ending.TheVariants.{Finished, Waiting, Spent}
-use Rattle.replay.specs.declared.trace.Trace.{Trace}
-use Rattle.replay.specs.declared.trace.TraceLine.{TraceLine}
+use Rattle.replay.specs.{declared.trace.Ending.Ending, declared.trace.Trace.Trace, declared.trace.TraceLine.TraceLine}
 use Rattle.dumper.specs.Text.{place_text}
 
 -- a unit's name

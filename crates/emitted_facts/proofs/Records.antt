@@ -1,7 +1,7 @@
 -- How long a record is, what lies in it, and what of it its words determine.
 use Rattle.std.proofs.Common.{◌≡◌, ℕ, ◌+◌, ◌*◌, ◌/◌, ◌%◌, ◌<◌, ◌≤◌, Bool, true, false, if◌then◌else◌, refl, ap, arith, ◌∙◌}
-use Rattle.emitted_facts.specs.Facts.{IsAttributeIn}
 use Rattle.emitted_facts.specs.Records.{attribute_size, attribute_stride, address_word, shape_word, extension_word}
+use Rattle.emitted_facts.specs.Facts.{IsAttributeIn}
 use Rattle.packets.specs.StateWord.{attribute_count, is_extended, record_size}
 
 pub count_limits : (state : ℕ) → (1 ≤ attribute_count state) × (attribute_count state ≤ 8)

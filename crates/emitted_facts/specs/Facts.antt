@@ -4,11 +4,9 @@
 -- which places hold the code of a shader of which so much is known: who emits and who runs say it in
 -- their own ways. Words of a stream or a record are given by number, and those of memory by place.
 use Rattle.std.specs.Prelude.{◌≡◌, ℕ, ◌+◌, ◌*◌, ◌/◌, ◌==◌, ◌<◌, ◌≤◌, true, false, not, List, length, Option, Some, None, slice_index, if◌then◌else◌}
-use Rattle.field_words.specs.Questions.{first_of}
-use Rattle.field_words.specs.Words.{u32_at}
-use Rattle.qpu_isa.specs.declared.inst.Sample.{Sample}
+use Rattle.field_words.specs.{Questions.first_of, Words.u32_at}
+use Rattle.qpu_isa.specs.{declared.inst.Sample.Sample, Shader.ShaderModel, Shader.sample_at, Shader.position, Shader.address_at}
 use Rattle.texture_layouts.specs.Fits.{texture_questions}
-use Rattle.qpu_isa.specs.Shader.{ShaderModel, sample_at, position, address_at}
 use Rattle.emitted_facts.specs.Records.{attribute_size, attribute_stride, is_single, address_word}
 use Rattle.packets.specs.StateWord.{attribute_count}
 

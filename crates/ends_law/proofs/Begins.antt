@@ -1,31 +1,20 @@
 -- What jobs whose programs are short begin with: all that is left of them, at their start.
 use Rattle.std.proofs.Common.{◌≡◌, ◌≤◌, ◌<◌, ℕ, zero, suc, ◌+◌, ◌-◌, ◌*◌, ◌==◌, not, Bool, true, false, List, [], ◌∷◌, length, map, replicate, Option, refl, sym, ap, subst, arith}
 use Rattle.field_words.specs.Pieces.{joined as joined_bytes}
-use Rattle.packets.specs.declared.config.Config.{Config}
-use Rattle.packets.specs.declared.packet.Packet.{Packet}
-use Rattle.packets.specs.Packet.{slots_text}
+use Rattle.packets.specs.{declared.config.Config.Config, declared.packet.Packet.Packet, Packet.slots_text}
 use Rattle.emitted_facts.specs.Records.{is_single, code_word, stream_word}
 use Rattle.emitted_facts.proofs.Records.{header_in}
 use Rattle.bin_walks.specs.Walks.{Kept, nothing_kept, kept_after, Walks}
-use Rattle.machine_plan.specs.declared.launch.Launch.{Launch}
-use Rattle.machine_plan.specs.Regions.{Interval, Rights, rights_of, HasReadOnly}
+use Rattle.machine_plan.specs.{declared.launch.Launch.Launch, Regions.Interval, Regions.Rights, Regions.rights_of, Regions.HasReadOnly}
 use Rattle.list_machine.specs.Lists.{lists_start}
-use Rattle.list_law.specs.Binning.{DrawsSo}
-use Rattle.list_law.specs.Emitted.{words_in, program_in}
-use Rattle.list_law.specs.Lists.{ListsFine}
-use Rattle.list_law.specs.Uses.{Programs}
-use Rattle.list_law.proofs.Emitted.{emitted_programs}
-use Rattle.list_law.proofs.Logs.{same}
-use Rattle.list_law.proofs.Start.{lists_begin, walks_so}
+use Rattle.list_law.specs.{Binning.DrawsSo, Emitted.words_in, Emitted.program_in, Lists.ListsFine, Uses.Programs}
+use Rattle.list_law.proofs.{Emitted.emitted_programs, Logs.same, Start.lists_begin, Start.walks_so}
 use Rattle.qpu_machine.specs.Qpu.{idle_qpu}
-use Rattle.machine.specs.declared.job.Start.{Start}
-use Rattle.machine.specs.State.{job_start, units_start}
+use Rattle.machine.specs.{declared.job.Start.Start, State.job_start, State.units_start}
 use Rattle.machine_law.specs.Begins.{LaunchBegins}
 use Rattle.machine_law.proofs.Begins.{homes_stay_law, fetches_stay, single_stays, word_stays, record_stays, text_stays}
-use Rattle.ends_law.specs.Ends.{DrawShort, JobShort}
+use Rattle.ends_law.specs.{Ends.DrawShort, Ends.JobShort, Loops.IsShort, Room.room_of}
 use Rattle.ends_law.specs.Left.{EachWithin, LaunchShort, QpuLeft, AllWhole, JobEnds, UnitsLeft}
-use Rattle.ends_law.specs.Loops.{IsShort}
-use Rattle.ends_law.specs.Room.{room_of}
 use Rattle.ends_law.specs.Steps.{one_if, times, most_times, most_visits, all_entered, job_steps}
 use Rattle.ends_law.proofs.Rooms.{counted_none}
 

@@ -1,47 +1,30 @@
 -- One step of the binner leaves less.
 use Rattle.std.proofs.Common.{◌≡◌, ◌≢◌, ◌≤◌, ◌<◌, ℕ, ◌+◌, ◌-◌, ◌*◌, ◌/◌, ◌%◌, ◌==◌, ◌||◌, Bool, true, false, List, [], ◌∷◌, ◌++◌, length, slice_index, Option, Some, None, if◌then◌else◌, refl, sym, ◌∙◌, ap, subst, arith}
-use Rattle.std.specs.Prelude.{nat_lt, max, is_some}
-use Rattle.std.proofs.lemmas.Grind.{common_steps}
-use Rattle.std.proofs.lemmas.Bool.{and_parts}
-use Rattle.std.proofs.lemmas.Bool.Decides.{nat_tests}
-use Rattle.std.proofs.lemmas.List.{length-append}
+use Rattle.std.proofs.{lemmas.Grind.common_steps, lemmas.Bool.and_parts, lemmas.Bool.Decides.nat_tests, lemmas.List.length-append}
 use Rattle.std.proofs.Math.Nat.{mul-le-mul_left}
+use Rattle.std.specs.Prelude.{nat_lt, max, is_some}
 use Rattle.field_words.specs.Pieces.{joined as joined_bytes}
-use Rattle.packets.specs.declared.config.Config.{Config}
-use Rattle.packets.specs.Length.{bin_length, bin_taken}
 use Rattle.packets.specs.Opcode.{halt, flush, start_tile_binning, increment_semaphore, indexed_primitive_list, array_primitive_list, gl_shader_state, tile_binning_mode}
+use Rattle.packets.specs.{declared.config.Config.Config, Length.bin_length, Length.bin_taken, Config.config_in}
 use Rattle.bin_list.specs.Packets.{opcode}
-use Rattle.machine_plan.specs.declared.who.Who.{Who}
-use Rattle.machine_plan.specs.declared.launch.Free.{Free}
-use Rattle.machine_plan.specs.declared.launch.Launch.{Launch}
-use Rattle.machine_plan.specs.Glance.{glanced}
-use Rattle.machine_plan.specs.Memory.{bytes_at, stored}
-use Rattle.machine_plan.specs.Plan.{Done, Wilds, Writes}
-use Rattle.machine_plan.specs.World.{mapped}
-use Rattle.machine_plan.proofs.Plans.{keeps_weaker}
-use Rattle.machine_plan.proofs.Worlds.{keeps_mapped}
-use Rattle.list_machine.specs.declared.state.Item.{Item}
-use Rattle.list_machine.specs.declared.state.Program.TheVariants.{Coordinate}
-use Rattle.list_machine.specs.declared.state.Spot.{Spot}
-use Rattle.list_machine.specs.declared.state.SubList.{SubList}
-use Rattle.list_machine.specs.declared.state.Work.{Work}
+use Rattle.machine_plan.specs.{declared.who.Who.Who, declared.launch.Free.Free, declared.launch.Launch.Launch, Glance.glanced, World.mapped}
+use Rattle.machine_plan.specs.{Memory.bytes_at, Memory.stored, Plan.Done, Plan.Wilds, Plan.Writes}
+use Rattle.machine_plan.proofs.{Plans.keeps_weaker, Worlds.keeps_mapped}
 use Rattle.list_machine.specs.Lists.{Lists, Turned, quiet, past, incremented, flushed, with_work, with_item, with_block, most_items}
 use Rattle.list_machine.specs.Blocks.{tiles_of, has_room, spot_of, item_of, zeros, is_full, block_place, next_place, link_place, put_here, put_plan}
-use Rattle.list_machine.specs.Fetch.{fetch_plan}
-use Rattle.list_machine.specs.Start.{start_plan, can_start}
 use Rattle.list_machine.specs.Binner.{configured, with_word, started, clear_plan, begin_plan, work_of, drawn, draw_plan, halted, is_unknown, packet_plan, read_plan, is_due, one_done, fetched_with, not_due, started_with, chosen_tile, tile_plan, item_plan, work_plan, binner_by, binner_plan, item_may, work_may, binner_may, binner_ready}
-use Rattle.packets.specs.Config.{config_in}
+use Rattle.list_machine.specs.{declared.state.Item.Item, declared.state.Program.TheVariants.Coordinate, declared.state.Spot.Spot}
+use Rattle.list_machine.specs.{declared.state.SubList.SubList, declared.state.Work.Work, Fetch.fetch_plan}
+use Rattle.list_machine.specs.Start.{start_plan, can_start}
 use Rattle.list_law.specs.Binning.{IsOnly}
 use Rattle.list_law.proofs.Binning.{read_keeps, taken_is, ready_item, plan_flush, plan_raise, plan_draw, plan_word, plan_start, plan_config, plan_halt, tile_below}
-use Rattle.list_law.proofs.Bytes.{none_left, bytes_front, bytes_behind, byte_front, behind_ends}
-use Rattle.list_law.proofs.Logs.{same}
+use Rattle.list_law.proofs.{Bytes.none_left, Bytes.bytes_front, Bytes.bytes_behind, Bytes.byte_front, Bytes.behind_ends, Logs.same}
 use Rattle.list_law.proofs.Safe.{keeps_if}
+use Rattle.ends_law.specs.Steps.{one_if, programs_left, work_steps, work_left, draws, packet_steps, bin_steps, render_steps, all_entered}
 use Rattle.ends_law.specs.Left.{visits, AllWhole, ListsLeft, JobLeft}
 use Rattle.ends_law.specs.Room.{items_within, room_in, room_of, room_by, Counted}
-use Rattle.ends_law.specs.Steps.{one_if, programs_left, work_steps, work_left, draws, packet_steps, bin_steps, render_steps, all_entered}
-use Rattle.ends_law.proofs.Plans.{AnyLook, AnyAccess, Comes, comes_any}
+use Rattle.ends_law.proofs.{Plans.AnyLook, Plans.AnyAccess, Plans.Comes, Plans.comes_any, Visits.visits_more}
 use Rattle.ends_law.proofs.Rooms.{counted_here, counted_further, only_is, few_within}
-use Rattle.ends_law.proofs.Visits.{visits_more}
 
 -- what a program that is started takes
 abbrev pub launch_steps : ℕ → Option Launch → ℕ

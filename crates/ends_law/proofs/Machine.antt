@@ -2,41 +2,29 @@
 use Rattle.std.proofs.Common.{◌≡◌, ◌≤◌, ℕ, ◌+◌, ◌-◌, ◌*◌, true, IsTrue, if◌then◌else◌, List, Option, Some, None, IfSome, refl, subst, arith}
 use Rattle.std.proofs.lemmas.Bool.{false≢true}
 use Rattle.std.specs.Prelude.{is_some, nat_lt}
-use Rattle.field_words.specs.declared.access.Actor.{Actor}
 use Rattle.field_words.specs.declared.access.Actor.TheVariants.{Binner as TheBinner, Renderer as TheRenderer, Qpu as TheQpu, Tmu as TheTmu}
-use Rattle.machine_plan.specs.declared.launch.Free.{Free}
-use Rattle.machine_plan.specs.declared.launch.Launch.{Launch}
-use Rattle.machine_plan.specs.declared.who.Who.{Who}
-use Rattle.machine_plan.specs.Glance.{glanced}
-use Rattle.machine_plan.specs.Plan.{Plan, Keeps}
+use Rattle.field_words.specs.declared.access.Actor.{Actor}
 use Rattle.machine_plan.specs.Regions.{Inside, Rights, rights_of, IsSafeAccess, IsSafeIn, HasReadOnly}
-use Rattle.machine_plan.specs.World.{mapped}
-use Rattle.machine_plan.proofs.Plans.{keeps_weaker}
-use Rattle.machine_plan.proofs.Worlds.{keeps_mapped, keeps_result}
+use Rattle.machine_plan.specs.{declared.launch.Free.Free, declared.launch.Launch.Launch, declared.who.Who.Who, Glance.glanced, World.mapped}
+use Rattle.machine_plan.specs.Plan.{Plan, Keeps}
+use Rattle.machine_plan.proofs.{Plans.keeps_weaker, Worlds.keeps_mapped, Worlds.keeps_result}
 use Rattle.list_machine.specs.Binner.{has_binner_work, binner_ready, binner_plan}
 use Rattle.list_machine.specs.Lists.{Lists, Turned, binner_of, renderer_of}
 use Rattle.list_machine.specs.Renderer.{has_renderer_work, renderer_ready, renderer_plan}
 use Rattle.list_law.specs.Lists.{TurnedFine}
-use Rattle.list_law.proofs.Binning.{binner_keeps}
-use Rattle.list_law.proofs.Rendering.{renderer_keeps}
-use Rattle.qpu_machine.specs.declared.state.Qpu.{Qpu}
-use Rattle.qpu_machine.specs.declared.state.Request.{Request}
-use Rattle.qpu_machine.specs.declared.state.Thread.{Thread}
+use Rattle.list_law.proofs.{Binning.binner_keeps, Rendering.renderer_keeps}
 use Rattle.qpu_machine.specs.Qpu.{active_of, job_of_thread, ready_by, plan_by, went, queue_of, oldest, job_of_request, tmu_ready, served, serving, free_in}
-use Rattle.qpu_machine.specs.Request.{ask_plan}
+use Rattle.qpu_machine.specs.{declared.state.Qpu.Qpu, declared.state.Request.Request, declared.state.Thread.Thread, Request.ask_plan}
 use Rattle.qpu_machine.specs.Step.{ThreadTurn, thread_plan}
-use Rattle.machine.specs.State.{Units, Picked, item_at, put_at, binner_job, renderer_job}
 use Rattle.machine.specs.Step.{with_launch, with_lists, with_qpu, is_ahead, binner_may, renderer_may, qpu_may, tmu_may, binner_turn, renderer_turn, qpu_turn, tmu_turn, unit_ready, unit_turn, ready, turn}
+use Rattle.machine.specs.State.{Units, Picked, item_at, put_at, binner_job, renderer_job}
 use Rattle.machine_law.specs.Laws.{AreFine}
-use Rattle.machine_law.proofs.Owes.{units_owe_law, not_held}
-use Rattle.machine_law.proofs.Sound.{there_on}
+use Rattle.machine_law.proofs.{Owes.units_owe_law, Owes.not_held, Sound.there_on}
 use Rattle.ends_law.specs.Left.{EachWithin, LaunchShort, QpuLeft, JobEnds, UnitsLeft, StepLess, StepsLess}
-use Rattle.ends_law.specs.Stays.{stays, renderer_stays, unit_stays}
-use Rattle.ends_law.specs.Steps.{one_if}
-use Rattle.ends_law.proofs.Binner.{ListsLess, launch_steps, binner_goes}
-use Rattle.ends_law.proofs.Plans.{AnyLook, AnyAccess, Comes, comes_any, keeps_both}
+use Rattle.ends_law.specs.{Stays.stays, Stays.renderer_stays, Stays.unit_stays, Steps.one_if}
 use Rattle.ends_law.proofs.Processors.{SlotLeft, QpuLess, active_left, went_left, served_left, launched_left}
-use Rattle.ends_law.proofs.Renderer.{renderer_goes}
+use Rattle.ends_law.proofs.{Binner.ListsLess, Binner.launch_steps, Binner.binner_goes, Renderer.renderer_goes}
+use Rattle.ends_law.proofs.Plans.{AnyLook, AnyAccess, Comes, comes_any, keeps_both}
 use Rattle.ends_law.proofs.Shares.{more_within, Hole, hole_at, PickedHole, picked_hole}
 use Rattle.ends_law.proofs.Threads.{ThreadGoes, thread_goes}
 

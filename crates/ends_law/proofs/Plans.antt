@@ -1,8 +1,7 @@
 -- What a plan comes to, whatever it looks at and accesses.
 use Rattle.std.proofs.Common.{ℕ, List}
 use Rattle.field_words.specs.declared.access.Access.{Access}
-use Rattle.machine_plan.specs.declared.who.Who.{Who}
-use Rattle.machine_plan.specs.Memory.{bytes_at, stored}
+use Rattle.machine_plan.specs.{declared.who.Who.Who, Memory.bytes_at, Memory.stored}
 use Rattle.machine_plan.specs.Plan.{Plan, Done, Wilds, Reads, Looks, Writes, Keeps}
 
 abbrev pub AnyLook : ℕ → ℕ → Type 0

@@ -1,25 +1,15 @@
 -- What is left of a processor: after a step of its thread, after one of a texture unit, and where a program starts in it.
 use Rattle.std.proofs.Common.{◌≡◌, ◌≢◌, ◌≤◌, ℕ, ◌+◌, ◌-◌, ◌==◌, Bool, true, false, if◌then◌else◌, List, [], ◌∷◌, ◌++◌, length, Option, Some, None, IfSome, refl, subst, arith}
+use Rattle.std.proofs.{lemmas.Grind.common_steps, lemmas.Bool.Decides.nat_tests, lemmas.List.length-append}
 use Rattle.std.specs.Prelude.{drop, is_some, option_map}
-use Rattle.std.proofs.lemmas.Grind.{common_steps}
-use Rattle.std.proofs.lemmas.Bool.Decides.{nat_tests}
-use Rattle.std.proofs.lemmas.List.{length-append}
-use Rattle.machine_plan.specs.declared.launch.Launch.{Launch}
-use Rattle.machine_plan.specs.Regions.{Rights}
+use Rattle.machine_plan.specs.{declared.launch.Launch.Launch, Regions.Rights}
 use Rattle.apart_law.proofs.Places.{chosen}
-use Rattle.qpu_machine.specs.declared.state.Asked.{Asked}
-use Rattle.qpu_machine.specs.declared.state.Fate.{Fate}
 use Rattle.qpu_machine.specs.declared.state.Fate.TheVariants.{GoesOn, Switches, Ends}
-use Rattle.qpu_machine.specs.declared.state.Qpu.{Qpu}
-use Rattle.qpu_machine.specs.declared.state.Request.{Request}
-use Rattle.qpu_machine.specs.declared.state.Thread.{Thread}
 use Rattle.qpu_machine.specs.Qpu.{active_of, left_by, gives_way, refreshed, woken_slot, queue_with, settled, went, oldest, queue_of, with_result, dropped, given, served, takes_first, takes_other, in_first, in_other, started_in, launched}
-use Rattle.qpu_machine.specs.Start.{thread_of}
-use Rattle.qpu_machine.specs.Step.{ThreadTurn}
-use Rattle.ends_law.specs.Left.{EachWithin, LaunchShort, ThreadLeft, QpuLeft}
-use Rattle.ends_law.specs.Steps.{one_if}
-use Rattle.ends_law.proofs.Shares.{more_within}
-use Rattle.ends_law.proofs.Threads.{ThreadGoes, thread_begins}
+use Rattle.qpu_machine.specs.{declared.state.Asked.Asked, declared.state.Fate.Fate, declared.state.Qpu.Qpu, declared.state.Request.Request}
+use Rattle.qpu_machine.specs.{declared.state.Thread.Thread, Start.thread_of, Step.ThreadTurn}
+use Rattle.ends_law.specs.{Left.EachWithin, Left.LaunchShort, Left.ThreadLeft, Left.QpuLeft, Steps.one_if}
+use Rattle.ends_law.proofs.{Shares.more_within, Threads.ThreadGoes, Threads.thread_begins}
 
 abbrev pub SlotLeft : List Rights → (List ℕ → Type 0) → ℕ → Option Thread → Type 0
 SlotLeft rights K n slot = IfSome slot (ThreadLeft rights K n)

@@ -1,56 +1,34 @@
 -- One step of the renderer leaves less, unless it stays at an item.
 use Rattle.std.proofs.Common.{◌≡◌, ◌≤◌, ◌<◌, ℕ, ◌+◌, ◌-◌, ◌*◌, ◌/◌, ◌%◌, ◌==◌, ◌&&◌, not, Bool, true, false, List, [], ◌∷◌, ◌++◌, length, slice_index, Option, Some, None, if◌then◌else◌, refl, sym, ◌∙◌, ap, subst, arith}
+use Rattle.std.proofs.{lemmas.Grind.common_steps, lemmas.Bool.Decides.nat_tests}
 use Rattle.std.specs.Prelude.{nat_lt, nat_le, is_some, unwrap_or}
-use Rattle.std.proofs.lemmas.Grind.{common_steps}
-use Rattle.std.proofs.lemmas.Bool.Decides.{nat_tests}
 use Rattle.field_words.specs.Pieces.{joined as joined_bytes}
-use Rattle.packets.specs.declared.config.Config.{Config}
-use Rattle.packets.specs.declared.packet.Packet.{Packet}
 use Rattle.packets.specs.declared.packet.Packet.TheVariants.{WaitOnSemaphore, BranchToSubList, StoreTileColor, StoreTileColorAndEnd, StoreFullResolution, LoadFullResolution, StoreTileBuffer, LoadTileBuffer, TileRenderingMode, ClearColors, TileCoordinates}
-use Rattle.packets.specs.Length.{render_taken}
+use Rattle.packets.specs.{declared.config.Config.Config, declared.packet.Packet.Packet, Length.render_taken}
 use Rattle.packets.specs.Packet.{packet_text, slots_text}
 use Rattle.packets.proofs.Laws.{decoded_text, taken_text}
 use Rattle.render_walks.specs.Walks.{AllFit}
-use Rattle.machine_plan.specs.declared.who.Who.{Who}
-use Rattle.machine_plan.specs.declared.launch.Free.{Free}
-use Rattle.machine_plan.specs.Choice.{word_at}
-use Rattle.machine_plan.specs.Glance.{glanced}
-use Rattle.machine_plan.specs.Memory.{bytes_at}
-use Rattle.machine_plan.specs.Plan.{Done, Wilds}
-use Rattle.machine_plan.specs.World.{mapped}
-use Rattle.machine_plan.proofs.Plans.{keeps_weaker}
-use Rattle.machine_plan.proofs.Worlds.{keeps_mapped}
+use Rattle.machine_plan.specs.{declared.who.Who.Who, declared.launch.Free.Free, Choice.word_at, Glance.glanced, Memory.bytes_at}
+use Rattle.machine_plan.specs.{Plan.Done, Plan.Wilds, World.mapped}
+use Rattle.machine_plan.proofs.{Plans.keeps_weaker, Worlds.keeps_mapped}
 use Rattle.texture_layouts.specs.Format.{general_style, frame_style}
-use Rattle.list_machine.specs.declared.state.Found.{Found}
-use Rattle.list_machine.specs.declared.state.Frame.{Frame}
-use Rattle.list_machine.specs.declared.state.Item.{Item}
-use Rattle.list_machine.specs.declared.state.Load.{Load}
-use Rattle.list_machine.specs.declared.state.Load.TheVariants.{Full, General}
-use Rattle.list_machine.specs.declared.state.Program.{Program}
-use Rattle.list_machine.specs.declared.state.Program.TheVariants.{Fragment, Vertex}
-use Rattle.list_machine.specs.declared.state.SubList.{SubList}
-use Rattle.list_machine.specs.declared.state.Work.{Work}
-use Rattle.list_machine.specs.declared.surface.Cover.{Cover}
-use Rattle.list_machine.specs.Lists.{Lists, Turned, turned_to, quiet}
-use Rattle.list_machine.specs.Blocks.{tiles_of}
-use Rattle.list_machine.specs.Cover.{cover_for, part_count}
-use Rattle.list_machine.specs.Fetch.{fetch_plan}
-use Rattle.list_machine.specs.Start.{start_plan}
 use Rattle.list_machine.specs.Surfaces.{cover_written, cover_read, aligned, names_none, general_written, general_read, frame_written, whole_written, whole_read, waiting_read}
 use Rattle.list_machine.specs.Renderer.{beyond, with_inside, wait_plan, tile_named, enter_plan, tile_by, branch_plan, tile_plan, at_tile, with_load, act, item_at, at_item, fetched, vertex_plan, program_plan, choice_plan, found_plan, plan_in, renderer_plan, renderer_ready}
-use Rattle.list_machine.proofs.Items.{ready_below}
-use Rattle.list_machine.proofs.Keeping.{packet_keeps, written_keep, read_keep}
-use Rattle.list_law.proofs.Bytes.{none_left, bytes_front, bytes_behind, byte_front, behind_ends}
-use Rattle.list_law.proofs.Logs.{same}
-use Rattle.list_law.proofs.Rendering.{some_text}
-use Rattle.list_law.proofs.Safe.{keeps_if}
-use Rattle.ends_law.specs.Left.{is_inside, visits, AllWhole, ListsLeft, JobLeft}
-use Rattle.ends_law.specs.Room.{room_of, room_by, Counted}
-use Rattle.ends_law.specs.Stays.{is_at_item, stays}
+use Rattle.list_machine.specs.{declared.state.Found.Found, declared.state.Frame.Frame, declared.state.Item.Item, declared.state.Load.Load}
+use Rattle.list_machine.specs.{declared.state.Load.TheVariants.Full, declared.state.Load.TheVariants.General, declared.state.Work.Work}
+use Rattle.list_machine.specs.{declared.state.Program.Program, declared.state.SubList.SubList, declared.surface.Cover.Cover}
+use Rattle.list_machine.specs.{declared.state.Program.TheVariants.Fragment, declared.state.Program.TheVariants.Vertex, Blocks.tiles_of}
+use Rattle.list_machine.specs.{Lists.Lists, Lists.Turned, Lists.turned_to, Lists.quiet, Cover.cover_for, Cover.part_count, Fetch.fetch_plan}
+use Rattle.list_machine.specs.Start.{start_plan}
+use Rattle.list_machine.proofs.{Items.ready_below, Keeping.packet_keeps, Keeping.written_keep, Keeping.read_keep}
+use Rattle.list_law.proofs.{Bytes.none_left, Bytes.bytes_front, Bytes.bytes_behind, Bytes.byte_front, Bytes.behind_ends, Logs.same}
+use Rattle.list_law.proofs.{Rendering.some_text, Safe.keeps_if}
 use Rattle.ends_law.specs.Steps.{one_if, work_left, bin_steps, render_steps, times, entered, all_entered}
+use Rattle.ends_law.specs.{Left.is_inside, Left.visits, Left.AllWhole, Left.ListsLeft, Left.JobLeft, Stays.is_at_item, Stays.stays}
+use Rattle.ends_law.specs.Room.{room_of, room_by, Counted}
+use Rattle.ends_law.proofs.Visits.{stands_at, visits_left, visits_on, visits_past, visits_entered, entered_often}
 use Rattle.ends_law.proofs.Binner.{ListsLess, quiet_less, launch_at_most}
 use Rattle.ends_law.proofs.Plans.{AnyLook, AnyAccess, Comes, comes_any}
-use Rattle.ends_law.proofs.Visits.{stands_at, visits_left, visits_on, visits_past, visits_entered, entered_often}
 
 -- Loads and stores come to what the renderer then keeps.
 cover_stored : (who : Who) (P : Lists → Type 0) (cover : Option Cover) (words : List ℕ) (s : Lists) (m : List ℕ) → P s → Comes who P (cover_written cover words (Done s)) m

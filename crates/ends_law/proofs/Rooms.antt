@@ -1,15 +1,10 @@
 -- The tile lists have room for no more items than their allocation says.
 use Rattle.std.proofs.Common.{◌≡◌, ◌≢◌, ◌≤◌, ◌<◌, inl, inr, ℕ, zero, suc, ◌+◌, ◌*◌, ◌%◌, ◌==◌, Bool, true, false, if◌then◌else◌, List, [], ◌∷◌, ◌++◌, length, Some, refl, sym, ◌∙◌, ap, subst, arith}
+use Rattle.std.proofs.{lemmas.Bool.cases_lt, lemmas.Grind.common_steps, lemmas.Bool.Decides.nat_tests, lemmas.List.length-append}
 use Rattle.std.specs.Prelude.{unwrap_or}
-use Rattle.std.proofs.lemmas.Bool.{cases_lt}
-use Rattle.std.proofs.lemmas.Grind.{common_steps}
-use Rattle.std.proofs.lemmas.Bool.Decides.{nat_tests}
-use Rattle.std.proofs.lemmas.List.{length-append}
 use Rattle.packets.specs.declared.config.Config.{Config}
-use Rattle.list_machine.specs.declared.state.Item.{Item}
-use Rattle.list_machine.specs.declared.state.Spot.{Spot}
 use Rattle.list_machine.specs.Blocks.{tiles_of, further_offset, has_room, no_spot, one_more, spot_of, is_full}
-use Rattle.list_machine.specs.Lists.{most_items}
+use Rattle.list_machine.specs.{declared.state.Item.Item, declared.state.Spot.Spot, Lists.most_items}
 use Rattle.list_law.specs.Binning.{IsOnly, NotYet, Only}
 use Rattle.list_law.proofs.Logs.{spot_last}
 use Rattle.ends_law.specs.Room.{items_within, on_tiles, further_of, Counted}

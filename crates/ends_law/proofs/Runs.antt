@@ -4,21 +4,12 @@ use Rattle.std.proofs.lemmas.Grind.{common_steps}
 use Rattle.machine_plan.specs.Others.{Happening, Steps, Changes, AllMayHappen}
 use Rattle.machine_plan.specs.Regions.{Interval, Rights, HasReadOnly}
 use Rattle.machine_plan.proofs.Others.{Holds, run_holds}
-use Rattle.machine.specs.declared.job.Start.{Start}
-use Rattle.machine.specs.State.{State, units_start}
-use Rattle.machine.specs.Step.{Event, ready, turn, step}
-use Rattle.machine_law.specs.Begins.{JobBegins}
-use Rattle.machine_law.specs.Jobs.{ArePlain}
-use Rattle.machine_law.specs.Laws.{AreFine}
-use Rattle.machine_law.specs.Units.{EachAt}
-use Rattle.machine_law.proofs.Begins.{each_begins}
-use Rattle.machine_law.proofs.Owes.{units_owe_law, start_fine}
-use Rattle.ends_law.specs.Ends.{JobShort, JobsEnd}
-use Rattle.ends_law.specs.Left.{EachWithin, UnitsLeft}
+use Rattle.machine.specs.{declared.job.Start.Start, State.State, State.units_start, Step.Event, Step.ready, Step.turn, Step.step}
+use Rattle.machine_law.specs.{Begins.JobBegins, Jobs.ArePlain, Laws.AreFine, Units.EachAt}
+use Rattle.machine_law.proofs.{Begins.each_begins, Owes.units_owe_law, Owes.start_fine}
+use Rattle.ends_law.specs.{Ends.JobShort, Ends.JobsEnd, Left.EachWithin, Left.UnitsLeft, Steps.one_if}
 use Rattle.ends_law.specs.Stays.{unit_stays, step_count, stay_count}
-use Rattle.ends_law.specs.Steps.{one_if}
-use Rattle.ends_law.proofs.Begins.{start_left}
-use Rattle.ends_law.proofs.Machine.{steps_less_law}
+use Rattle.ends_law.proofs.{Begins.start_left, Machine.steps_less_law}
 
 one_more : (w n rest stay steps stays : ℕ) → rest + 1 ≤ n + (1 + w) * stay → steps ≤ rest + (1 + w) * stays → 1 + steps ≤ n + (1 + w) * (stay + stays)
 one_more w n rest stay steps stays less later =

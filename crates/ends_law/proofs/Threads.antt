@@ -1,36 +1,22 @@
 -- A thread of a shader without loops goes forward.
 use Rattle.std.proofs.Common.{◌≡◌, ◌≢◌, ◌≤◌, ◌<◌, inl, inr, ℕ, zero, suc, ◌+◌, ◌-◌, ◌%◌, ◌^◌, ◌&&◌, ◌||◌, Bool, true, false, List, length, Some, None, if◌then◌else◌, sym, ◌∙◌, ap, subst, arith}
-use Rattle.std.specs.Int.{from_le_bytes, w64}
-use Rattle.std.specs.Prelude.{nat_lt, is_some}
-use Rattle.std.proofs.lemmas.Bool.{cases_lt}
-use Rattle.std.proofs.lemmas.Grind.{common_steps}
-use Rattle.std.proofs.lemmas.Bool.Decides.{nat_tests}
+use Rattle.std.proofs.{lemmas.Bool.cases_lt, lemmas.Grind.common_steps, lemmas.Bool.Decides.nat_tests}
+use Rattle.std.specs.{Int.from_le_bytes, Int.w64, Prelude.nat_lt, Prelude.is_some}
 use Rattle.field_words.specs.Words.{u32_at}
 use Rattle.qpu_isa.specs.Terms.{is_branch, target_of, writes_s}
 use Rattle.shader_flow.specs.Flow.{word, end_of, checked_of}
-use Rattle.shader_flow.proofs.Bounded.{some_below_not}
-use Rattle.shader_flow.proofs.Ends.{checked_of-le}
-use Rattle.machine_plan.specs.declared.launch.Launch.{Launch}
-use Rattle.machine_plan.specs.declared.who.Who.{Who}
-use Rattle.machine_plan.specs.Memory.{bytes_at}
+use Rattle.shader_flow.proofs.{Bounded.some_below_not, Ends.checked_of-le}
+use Rattle.machine_plan.specs.{declared.launch.Launch.Launch, declared.who.Who.Who, Memory.bytes_at, Regions.Rights, Regions.rights_of}
 use Rattle.machine_plan.specs.Plan.{Plan, Done, Wilds, Reads}
-use Rattle.machine_plan.specs.Regions.{Rights, rights_of}
 use Rattle.list_law.proofs.Safe.{keeps_if}
-use Rattle.qpu_machine.specs.declared.state.Asked.{Asked}
-use Rattle.qpu_machine.specs.Operands.{add_row, mul_row}
-use Rattle.qpu_machine.specs.declared.state.Fate.TheVariants.{Ends}
-use Rattle.qpu_machine.specs.declared.state.Thread.{Thread}
-use Rattle.qpu_machine.specs.Start.{thread_of}
+use Rattle.qpu_machine.specs.{declared.state.Asked.Asked, Operands.add_row, Operands.mul_row, declared.state.Fate.TheVariants.Ends}
+use Rattle.qpu_machine.specs.{declared.state.Thread.Thread, Start.thread_of, Wild.takes_one, Wild.is_wild}
 use Rattle.qpu_machine.specs.Step.{ThreadTurn, executed, executed_with, word_plan, thread_plan}
-use Rattle.qpu_machine.specs.Wild.{takes_one, is_wild}
 use Rattle.qpu_machine.specs.Writes.{awake, past_uniform, ask_of, asked}
-use Rattle.qpu_law.specs.Home.{Home, Jumps, GoesTo, done}
-use Rattle.qpu_law.specs.Thread.{IsHome}
-use Rattle.qpu_law.proofs.Going.{in_checked, is_went, stays_in_code_law}
-use Rattle.qpu_law.proofs.Starting.{starts_stand_law}
-use Rattle.ends_law.specs.Left.{LaunchShort, ThreadLeft}
+use Rattle.qpu_law.specs.{Home.Home, Home.Jumps, Home.GoesTo, Home.done, Thread.IsHome}
+use Rattle.qpu_law.proofs.{Going.in_checked, Going.is_went, Going.stays_in_code_law, Starting.starts_stand_law}
+use Rattle.ends_law.specs.{Left.LaunchShort, Left.ThreadLeft, Steps.one_if}
 use Rattle.ends_law.specs.Loops.{goes_back, has_loop, instruction_steps, steps_before, program_steps}
-use Rattle.ends_law.specs.Steps.{one_if}
 use Rattle.ends_law.proofs.Plans.{AnyLook, AnyAccess, Comes}
 
 -- a branch that doesn't lead back

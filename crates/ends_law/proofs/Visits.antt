@@ -1,16 +1,12 @@
 -- How often the renderer still goes past the items of the tile lists.
 use Rattle.std.proofs.Common.{◌≡◌, ◌≤◌, ℕ, zero, suc, ◌+◌, ◌*◌, ◌==◌, ◌&&◌, Bool, true, false, if◌then◌else◌, List, [], ◌∷◌, ◌++◌, Option, Some, None, refl, sym, ◌∙◌, ap, subst, arith}
+use Rattle.std.proofs.{lemmas.Grind.common_steps, lemmas.Bool.Decides.nat_tests}
 use Rattle.std.specs.Prelude.{drop, nat_le, unwrap_or}
-use Rattle.std.proofs.lemmas.Grind.{common_steps}
-use Rattle.std.proofs.lemmas.Bool.Decides.{nat_tests}
 use Rattle.packets.specs.declared.config.Config.{Config}
-use Rattle.list_machine.specs.declared.state.Found.{Found}
-use Rattle.list_machine.specs.declared.state.Item.{Item}
-use Rattle.list_machine.specs.declared.state.SubList.{SubList}
+use Rattle.list_machine.specs.{declared.state.Found.Found, declared.state.Item.Item, declared.state.SubList.SubList}
 use Rattle.list_machine.specs.Renderer.{first_of_tile, item_at}
 use Rattle.list_law.proofs.Logs.{same}
-use Rattle.ends_law.specs.Left.{is_before, is_inside, visits}
-use Rattle.ends_law.specs.Steps.{one_if, times}
+use Rattle.ends_law.specs.{Left.is_before, Left.is_inside, Left.visits, Steps.one_if, Steps.times}
 
 -- the renderer stands in a tile's list, at this item or before it
 abbrev pub stands_at : ℕ → ℕ → Option SubList

@@ -1,18 +1,11 @@
 -- The law: a run of jobs without loops has no more steps than their lists and programs say, beside those in which the renderer stays.
 use Rattle.std.specs.Prelude.{◌≤◌, ℕ, ◌+◌, ◌*◌, List}
 use Rattle.field_words.specs.declared.access.Access.{Access}
-use Rattle.machine_plan.specs.Others.{Happening, OthersRun}
-use Rattle.machine_plan.specs.Regions.{Interval, Rights, HasReadOnly}
+use Rattle.machine_plan.specs.{Others.Happening, Others.OthersRun, Regions.Interval, Regions.Rights, Regions.HasReadOnly}
 use Rattle.bin_walks.specs.Walks.{nothing_kept, Walks}
-use Rattle.machine.specs.declared.job.Start.{Start}
-use Rattle.machine.specs.State.{Units, State, units_start}
-use Rattle.machine.specs.Step.{Event, ready, turn}
-use Rattle.machine_law.specs.Begins.{DrawBegins, JobBegins}
-use Rattle.machine_law.specs.Jobs.{ArePlain}
-use Rattle.ends_law.specs.Left.{EachWithin}
-use Rattle.ends_law.specs.Loops.{IsShort}
-use Rattle.ends_law.specs.Stays.{step_count, stay_count}
-use Rattle.ends_law.specs.Steps.{job_steps}
+use Rattle.machine.specs.{declared.job.Start.Start, State.Units, State.State, State.units_start, Step.Event, Step.ready, Step.turn}
+use Rattle.machine_law.specs.{Begins.DrawBegins, Begins.JobBegins, Jobs.ArePlain}
+use Rattle.ends_law.specs.{Left.EachWithin, Loops.IsShort, Stays.step_count, Stays.stay_count, Steps.job_steps}
 
 -- the primitive may be drawn, and the shaders of its three programs are short
 pub record DrawShort (rights : List Rights) (plains : ℕ → List Interval) (first : List ℕ) (w j word : ℕ) (packet : List ℕ) : Type 0 where

@@ -1,33 +1,20 @@
 -- How many steps are left: of each thread, processor and job, and of all units together.
 use Rattle.std.specs.Prelude.{◌≡◌, ◌≤◌, ◌≢◌, ℕ, ◌+◌, ◌-◌, ◌*◌, ◌==◌, ◌&&◌, Bool, false, nat_le, List, [], ◌∷◌, length, Option, Some, None, IfSome, IsTrue, is_some}
 use Rattle.field_words.specs.Pieces.{joined as joined_bytes}
-use Rattle.machine_plan.specs.declared.launch.Launch.{Launch}
-use Rattle.machine_plan.specs.Memory.{bytes_at}
+use Rattle.machine_plan.specs.{declared.launch.Launch.Launch, Memory.bytes_at}
 use Rattle.machine_plan.specs.Regions.{Interval, Rights, rights_of, HasReadOnly}
-use Rattle.packets.specs.declared.config.Config.{Config}
-use Rattle.packets.specs.declared.packet.Packet.{Packet}
-use Rattle.packets.specs.Length.{bin_length}
-use Rattle.packets.specs.Packet.{slots_text}
+use Rattle.packets.specs.{declared.config.Config.Config, declared.packet.Packet.Packet, Length.bin_length, Packet.slots_text}
 use Rattle.bin_list.specs.Packets.{opcode}
 use Rattle.render_walks.specs.Walks.{AllFit}
-use Rattle.list_machine.specs.declared.state.Frame.{Frame}
-use Rattle.list_machine.specs.declared.state.Item.{Item}
-use Rattle.list_machine.specs.declared.state.SubList.{SubList}
+use Rattle.list_machine.specs.{declared.state.Frame.Frame, declared.state.Item.Item, declared.state.SubList.SubList, Lists.Lists}
 use Rattle.list_machine.specs.declared.state.Work.{Work}
-use Rattle.list_machine.specs.Lists.{Lists}
-use Rattle.list_law.specs.Binning.{Allocates}
-use Rattle.list_law.specs.Lists.{ListsFine}
-use Rattle.qpu_machine.specs.declared.state.Qpu.{Qpu}
-use Rattle.qpu_machine.specs.declared.state.Thread.{Thread}
-use Rattle.qpu_law.specs.Home.{Home, IsAt}
-use Rattle.qpu_law.specs.Thread.{IsHome}
+use Rattle.list_law.specs.{Binning.Allocates, Lists.ListsFine}
+use Rattle.qpu_machine.specs.{declared.state.Qpu.Qpu, declared.state.Thread.Thread}
+use Rattle.qpu_law.specs.{Home.Home, Home.IsAt, Thread.IsHome}
 use Rattle.shader_flow.specs.Flow.{is_threaded}
-use Rattle.machine.specs.State.{Units, State}
-use Rattle.machine.specs.Step.{Event, may, step}
-use Rattle.machine_law.specs.Jobs.{ArePlain}
-use Rattle.machine_law.specs.Laws.{AreFine}
-use Rattle.ends_law.specs.Loops.{IsShort, has_loop, steps_before, program_steps}
-use Rattle.ends_law.specs.Room.{room_of, room_by, Counted}
+use Rattle.machine.specs.{State.Units, State.State, Step.Event, Step.may, Step.step}
+use Rattle.machine_law.specs.{Jobs.ArePlain, Laws.AreFine}
+use Rattle.ends_law.specs.{Loops.IsShort, Loops.has_loop, Loops.steps_before, Loops.program_steps, Room.room_of, Room.room_by, Room.Counted}
 use Rattle.ends_law.specs.Stays.{unit_stays}
 use Rattle.ends_law.specs.Steps.{one_if, work_left, bin_steps, render_steps, times, all_entered}
 

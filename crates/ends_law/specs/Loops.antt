@@ -1,8 +1,7 @@
 -- Shaders without loops, and the most steps that a program of one takes.
 use Rattle.std.specs.Prelude.{◌≡◌, ◌≤◌, ℕ, zero, suc, ◌+◌, Bool, false, ◌&&◌, ◌||◌, if◌then◌else◌, List, nat_lt}
 use Rattle.qpu_isa.specs.Terms.{is_branch, target_of, writes_s}
-use Rattle.shader_flow.specs.Bounded.{some_below}
-use Rattle.shader_flow.specs.Flow.{word, end_of, checked_of}
+use Rattle.shader_flow.specs.{Bounded.some_below, Flow.word, Flow.end_of, Flow.checked_of}
 
 -- The branch at i leads back: into its own slots, to itself or to before it.
 unfoldable pub goes_back : List ℕ → ℕ → Bool

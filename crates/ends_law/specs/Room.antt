@@ -1,12 +1,8 @@
 -- For how many items the tile lists of a job have room.
 use Rattle.std.specs.Prelude.{◌≤◌, ℕ, zero, suc, ◌+◌, ◌-◌, ◌*◌, ◌/◌, ◌==◌, min, max, if◌then◌else◌, List, [], ◌∷◌, length, Option, Some, None}
-use Rattle.packets.specs.declared.config.Config.{Config}
-use Rattle.packets.specs.Config.{config_in}
-use Rattle.packets.specs.Opcode.{tile_binning_mode}
+use Rattle.packets.specs.{declared.config.Config.Config, Config.config_in, Opcode.tile_binning_mode}
 use Rattle.bin_list.specs.Packets.{opcode}
-use Rattle.list_machine.specs.declared.state.Item.{Item}
-use Rattle.list_machine.specs.Blocks.{tiles_of, further_offset, spot_of}
-use Rattle.list_machine.specs.Lists.{most_items}
+use Rattle.list_machine.specs.{declared.state.Item.Item, Blocks.tiles_of, Blocks.further_offset, Blocks.spot_of, Lists.most_items}
 
 -- One in the first block of each tile and seven in each further block that lies in the allocation, and never more than a job may have.
 unfoldable pub items_within : Config → ℕ

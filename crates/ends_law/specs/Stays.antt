@@ -1,15 +1,11 @@
 -- The steps in which the renderer stays at an item. How often it does is the hardware's: it fetches a vertex or starts a program as
 -- often as the pixels ask for it that a primitive covers.
 use Rattle.std.specs.Prelude.{ℕ, ◌+◌, ◌%◌, ◌==◌, ◌&&◌, not, Bool, false, is_some, List, [], ◌∷◌, Option, Some, None}
-use Rattle.field_words.specs.declared.access.Actor.{Actor}
 use Rattle.field_words.specs.declared.access.Actor.TheVariants.{Binner as TheBinner, Renderer as TheRenderer, Qpu as TheQpu, Tmu as TheTmu}
-use Rattle.machine_plan.specs.Choice.{word_at}
-use Rattle.machine_plan.specs.Others.{Happening, Steps, Changes}
-use Rattle.list_machine.specs.declared.state.SubList.{SubList}
-use Rattle.list_machine.specs.Lists.{Lists}
-use Rattle.list_machine.specs.Renderer.{item_at}
-use Rattle.machine.specs.State.{Units, State, Picked, renderer_job}
-use Rattle.machine.specs.Step.{Event, step}
+use Rattle.field_words.specs.declared.access.Actor.{Actor}
+use Rattle.machine_plan.specs.{Choice.word_at, Others.Happening, Others.Steps, Others.Changes}
+use Rattle.list_machine.specs.{declared.state.SubList.SubList, Lists.Lists, Renderer.item_at}
+use Rattle.machine.specs.{State.Units, State.State, State.Picked, State.renderer_job, Step.Event, Step.step}
 use Rattle.ends_law.specs.Steps.{one_if}
 
 abbrev pub is_at_item : Lists → Option SubList → Bool

@@ -1,11 +1,9 @@
 -- How many steps the two lists of a job take at most, where no program that is started takes more than w.
 use Rattle.std.specs.Prelude.{ℕ, ◌+◌, ◌-◌, ◌*◌, ◌/◌, ◌==◌, ◌||◌, Bool, nat_lt, max, if◌then◌else◌, List, [], ◌∷◌, ◌++◌, length, Option, Some, None}
-use Rattle.packets.specs.declared.packet.Packet.{Packet}
 use Rattle.packets.specs.declared.packet.Packet.TheVariants.{WaitOnSemaphore, BranchToSubList, StoreTileColor, StoreTileColorAndEnd, StoreFullResolution, LoadFullResolution, StoreTileBuffer, LoadTileBuffer, TileRenderingMode, ClearColors, TileCoordinates}
-use Rattle.packets.specs.Opcode.{indexed_primitive_list, array_primitive_list}
+use Rattle.packets.specs.{declared.packet.Packet.Packet, Opcode.indexed_primitive_list, Opcode.array_primitive_list}
 use Rattle.bin_list.specs.Packets.{opcode}
-use Rattle.list_machine.specs.declared.state.Work.{Work}
-use Rattle.list_machine.specs.Binner.{work_of}
+use Rattle.list_machine.specs.{declared.state.Work.Work, Binner.work_of}
 use Rattle.ends_law.specs.Room.{room_of}
 
 abbrev pub one_if : Bool → ℕ

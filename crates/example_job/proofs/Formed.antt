@@ -2,8 +2,7 @@
 use Rattle.std.proofs.Common.{◌≡◌, ◌≤◌, ℕ, suc, zero, ◌+◌, ◌*◌, [], ◌∷◌, length, replicate, arith, refl, ap}
 use Rattle.field_words.specs.Pieces.{joined}
 use Rattle.job_format.specs.File.{IsWellFormed, IsJobWellFormed}
-use Rattle.example_job.specs.Noise.{next_state, noise}
-use Rattle.example_job.specs.Lists.{states_from, bin_of, record_bytes, records_of}
+use Rattle.example_job.specs.{Noise.next_state, Noise.noise, Lists.states_from, Lists.bin_of, Lists.record_bytes, Lists.records_of}
 use Rattle.example_job.specs.Example.{job_of, file_of, vertex_bytes}
 
 pub noise_length : (x n : ℕ) → length (noise x n) ≡ n

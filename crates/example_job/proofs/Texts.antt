@@ -1,8 +1,7 @@
 -- The texts of an example as its loops write them: what stands already and what is left are together the whole.
 use Rattle.std.proofs.Common.{◌≡◌, ◌<◌, ◌≤◌, ℕ, suc, zero, ◌+◌, ◌-◌, ◌/◌, ◌^◌, List, [], ◌∷◌, ◌++◌, replicate, arith, sym, ◌∙◌, ap, append_assoc, append-nil}
 use Rattle.field_words.specs.Pieces.{joined}
-use Rattle.example_job.specs.Noise.{next_state, noise}
-use Rattle.example_job.specs.Lists.{state, triangle, states_from, record_bytes}
+use Rattle.example_job.specs.{Noise.next_state, Noise.noise, Lists.state, Lists.triangle, Lists.states_from, Lists.record_bytes}
 
 -- a piece goes over from what is left to what stands
 gone_over : (out piece rest now all : List ℕ) → now ≡ piece ++ rest → out ++ now ≡ all → (out ++ piece) ++ rest ≡ all

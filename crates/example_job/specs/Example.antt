@@ -1,13 +1,9 @@
 -- The example job of a number: a frame of 1 to 30 by 1 to 17 tiles, with 1 to 4,000 triangles.
 use Rattle.std.specs.Prelude.{ℕ, ◌+◌, ◌*◌, ◌/◌, ◌%◌, ◌^◌, ◌-◌, false, List, [], ◌∷◌}
-use Rattle.buffer_table.specs.declared.buffer.Buffer.{Buffer}
-use Rattle.buffer_table.specs.declared.buffer.Kind.TheVariants.{Plain, Code}
+use Rattle.buffer_table.specs.{declared.buffer.Buffer.Buffer, declared.buffer.Kind.TheVariants.Plain, declared.buffer.Kind.TheVariants.Code}
 use Rattle.buffer_table.specs.declared.buffer.Regions.{Regions}
-use Rattle.job_format.specs.declared.file.Frame.{Frame}
-use Rattle.job_format.specs.declared.file.Surface.{Surface}
-use Rattle.job_format.specs.Model.{JobModel, FileModel}
-use Rattle.example_job.specs.Noise.{noise}
-use Rattle.example_job.specs.Lists.{bin_of, records_of}
+use Rattle.job_format.specs.{declared.file.Frame.Frame, declared.file.Surface.Surface, Model.JobModel, Model.FileModel}
+use Rattle.example_job.specs.{Noise.noise, Lists.bin_of, Lists.records_of}
 
 -- how many tiles the frame is across and down, and how many triangles it has
 unfoldable pub across_of : ℕ → ℕ

@@ -1,16 +1,16 @@
 -- No rule stands for the binner list of an example, and what it tells.
 use Rattle.std.proofs.Common.{◌≡◌, ℕ, zero, suc, ◌+◌, ◌*◌, ◌^◌, ◌≤◌, ◌<◌, true, false, List, [], ◌∷◌, None, length, refl, sym, ap, subst, arith, ◌∙◌}
+use Rattle.std.proofs.lemmas.{Nat.from_le_bytes-to_le_bytes_4, Grind.common_steps, Bool.Decides.nat_tests}
 use Rattle.field_words.specs.{Questions.first_of, Words.u32_at, Words.rounded_up}
 use Rattle.std.specs.Prelude.{◌==◌, nat_le}
-use Rattle.std.proofs.lemmas.{Nat.from_le_bytes-to_le_bytes_4, Grind.common_steps, Bool.Decides.nat_tests}
 use Rattle.field_words.proofs.Numbers.{rounded}
 use Rattle.buffer_table.specs.Table.{TableModel}
 use Rattle.packets.specs.Length.{bin_length, bin_taken}
+use Rattle.packets.specs.StateWord.{attribute_count, is_extended, record_size, record_room}
 use Rattle.tile_memory.specs.Slots.{alloc_offset, slot_fits}
+use Rattle.bin_list.specs.Rules.{GivenModel, cut_questions, flush_questions, start_questions, increment_questions, primitive_questions, array_questions, state_questions, config_questions, kind_questions, packet_questions, end_questions, bin_questions}
 use Rattle.bin_list.specs.{declared.seen.Seen.Seen, Packets.packets, Packets.passed}
 use Rattle.bin_list.specs.{Seen.seen_before, Seen.seen_after, States.draws_to, States.greatest, States.states_of}
-use Rattle.packets.specs.StateWord.{attribute_count, is_extended, record_size, record_room}
-use Rattle.bin_list.specs.Rules.{GivenModel, cut_questions, flush_questions, start_questions, increment_questions, primitive_questions, array_questions, state_questions, config_questions, kind_questions, packet_questions, end_questions, bin_questions}
 use Rattle.job_check.specs.Jobs.{grid_from}
 use Rattle.example_job.specs.Lists.{config, start, state, triangle, states_from, packets_of, bin_of}
 use Rattle.example_job.proofs.Formed.{bin_length as bytes_of_bin}

@@ -1,22 +1,22 @@
 -- No rule stands for the shader records of an example, nor for the uniforms of their shaders.
 use Rattle.std.proofs.Common.{◌≡◌, ℕ, ◌+◌, ◌*◌, ◌-◌, false, [], ◌∷◌, Some, None, refl, ap, arith, ◌∙◌, zero, suc, ◌≤◌, ◌<◌, List, ◌++◌, length, drop, replicate, sym}
+use Rattle.std.proofs.lemmas.{List.drop-drop, List.drop_at, Grind.common_steps, Bool.Decides.nat_tests}
 use Rattle.std.specs.{Prelude.nat_lt, Prelude.nat_le, Prelude.slice_index_or}
 use Rattle.field_words.specs.{Words.rounded_up, Words.u32_at, Pieces.joined, Questions.first_of, Questions.each}
 use Rattle.field_words.proofs.{Numbers.rounded, Questions.passes}
 use Rattle.buffer_table.specs.{Table.buffer_at, Handles.data_of, Handles.code_of}
 use Rattle.texture_layouts.specs.{Format.frame_tiling, Format.frame_pixel, Surface.microtile_width_of, Surface.microtile_height_of}
-use Rattle.render_list.specs.Frame.{is_present, is_multisample, tile_side, is_full}
 use Rattle.render_list.specs.Surfaces.{is_reversed, is_outside_grid, is_outside_frame, frame_questions, has_unknown_flag, has_unknown_bit, is_unnamed, surface_tiling, has_unlisted_tiling, surface_pixel, has_unlisted_format, is_unaligned, buffer_size, plain_end, is_too_large, is_full_with_bits, is_too_large_full, shape_questions, size_questions, surface_questions, is_written, whole_questions, surface_faults}
+use Rattle.render_list.specs.Frame.{is_present, is_multisample, tile_side, is_full}
 use Rattle.example_job.specs.{Example.frame_of, Lists.record_bytes, Lists.records_of}
 use Rattle.example_law.specs.Laws.{IsInRange}
 use Rattle.example_law.proofs.Numbers.{is_over, is_under, table_for, states_are, told}
-use Rattle.std.proofs.lemmas.{List.drop-drop, List.drop_at, Grind.common_steps, Bool.Decides.nat_tests}
 use Rattle.emitted_facts.specs.Records.{attribute_size, attribute_stride, is_single}
 use Rattle.packets.specs.StateWord.{attribute_count, is_extended, record_size}
 use Rattle.bin_list.specs.States.{state}
-use Rattle.shader_records.specs.Inputs.{InputModel}
 use Rattle.shader_records.specs.Sources.{no_state, state_at, handles_size, source_size, record_source, code_number, attribute_number, shader_used, taken_before, uniform_source, record_word}
 use Rattle.shader_records.specs.Rules.{cut_questions, code_questions, handle_questions, disagrees, fixed_questions, is_attribute_past, has_vertex_past, attribute_questions, names_questions, body_questions, record_questions, use_questions, shader_questions, state_questions, all_questions}
+use Rattle.shader_records.specs.Inputs.{InputModel}
 use Rattle.example_job.proofs.Formed.{records_length}
 
 -- No rule stands for the frame and the surfaces of an example.

@@ -1,5 +1,6 @@
 -- No rule stands for an example, stage by stage.
 use Rattle.std.proofs.Common.{◌≡◌, ℕ, ◌*◌, ◌≤◌, Bool, true, false, List, [], ◌∷◌, Some, None, length, refl, ap, arith, ◌∙◌}
+use Rattle.std.proofs.lemmas.{Grind.common_steps, Bool.Decides.nat_tests}
 use Rattle.std.specs.Prelude.{if◌then◌else◌}
 use Rattle.field_words.specs.Questions.{Question, Ask, first_of, each, answered}
 use Rattle.field_words.proofs.Questions.{passes, answered_none}
@@ -8,17 +9,16 @@ use Rattle.job_format.specs.{declared.rule.Refusal.Refusal, File.IsWellFormed, F
 use Rattle.job_format.proofs.Laws.{read_again}
 use Rattle.render_list.specs.Surfaces.{surface_faults}
 use Rattle.job_check.specs.Jobs.{job_of, has_bin, grid_of, render_room, lists_begin, layout_of, states_in, input_for}
-use Rattle.job_check.specs.Shaders.{words_in, told_of, content_of, shader_of, shaders_up_to}
 use Rattle.job_check.specs.Faults.{table_stage, shader_stage, shaders_stage, handles_stage, bin_stage, records_stage, surface_refused, surfaces_stage, layout_stage, lists_stages, job_stages, file_stages, table_stage_within, stages_within}
+use Rattle.job_check.specs.Shaders.{words_in, told_of, content_of, shader_of, shaders_up_to}
 use Rattle.job_check.specs.Whole.{refusal_of, all_questions as file_questions, questions_within}
-use Rattle.example_job.specs.Lists.{records_of}
 use Rattle.example_job.specs.Example.{vertex_bytes, file_of, example, across_of, down_of, count_of, frame_of, shader}
+use Rattle.example_job.specs.Lists.{records_of}
 use Rattle.example_job.proofs.Formed.{noise_length, bin_length, records_length}
 use Rattle.example_law.proofs.Numbers.{states_are, in_range, IsTiles, tiles_in, is_some, memory_bytes, table_for, table_no_fault, handles_no_fault, render_most, lists_fit}
-use Rattle.example_law.specs.Laws.{IsInRange, IsFaultless}
 use Rattle.example_law.proofs.{Shader.shader_no_fault, Shader.shader_told, Bin.bin_no_fault, Bin.grid_is, Bin.states_told}
 use Rattle.example_law.proofs.Records.{input, records_no_fault, surfaces_no_fault}
-use Rattle.std.proofs.lemmas.{Grind.common_steps, Bool.Decides.nat_tests}
+use Rattle.example_law.specs.Laws.{IsInRange, IsFaultless}
 
 few_in : {across down count : ℕ} → IsInRange across down count → count ≤ 17476
 few_in range = let few = range.records in omega arith

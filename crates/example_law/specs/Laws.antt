@@ -1,11 +1,8 @@
 -- What is so of each example, and of each file that is made as they are.
 use Rattle.std.specs.Prelude.{◌≡◌, ◌≤◌, ℕ, ◌+◌, ◌*◌, List, None}
-use Rattle.field_words.specs.Sizes.{most_memory, most_list}
-use Rattle.field_words.specs.Questions.{first_of}
-use Rattle.job_format.specs.Model.{FileModel}
-use Rattle.job_format.specs.File.{IsWellFormed, IsFileOf}
-use Rattle.job_check.specs.Faults.{file_stages}
-use Rattle.job_check.specs.Whole.{refusal_of}
+use Rattle.field_words.specs.{Sizes.most_memory, Sizes.most_list, Questions.first_of}
+use Rattle.job_format.specs.{Model.FileModel, File.IsWellFormed, File.IsFileOf}
+use Rattle.job_check.specs.{Faults.file_stages, Whole.refusal_of}
 use Rattle.example_job.specs.Example.{frame_bytes, file_of, example}
 
 -- A frame of so many tiles of 64 by 64 pixels across and down, with so many triangles: it is at most 4,096 pixels wide and high, its

@@ -1,7 +1,6 @@
 -- In a list whose answers rise, the first rule that stands is the least that does.
 use Rattle.std.proofs.Common.{◌≡◌, ◌≤◌, inl, inr, ℕ, zero, suc, ◌+◌, true, false, List, [], ◌∷◌, ◌++◌, Some, None, Result, Ok, Err, refl, subst, arith}
-use Rattle.field_words.specs.declared.stop.Stop.{Stop}
-use Rattle.field_words.specs.declared.stop.Stop.TheVariants.{Fault, NoMemory}
+use Rattle.field_words.specs.{declared.stop.Stop.Stop, declared.stop.Stop.TheVariants.Fault, declared.stop.Stop.TheVariants.NoMemory}
 use Rattle.field_words.specs.Questions.{Question, Ask, first_of, each, answered, Answers}
 use Rattle.field_words.specs.Least.{Stands, NotAfter, IsLeast, NamesLeast}
 

@@ -1,7 +1,6 @@
 -- Where no question of a list stands, none of its parts does.
 use Rattle.std.proofs.Common.{◌≡◌, ℕ, zero, suc, ◌+◌, ◌<◌, ◌≤◌, true, false, List, [], ◌∷◌, ◌++◌, None, refl, sym, ap, arith, ◌∙◌}
-use Rattle.std.proofs.Common.{inl, inr}
-use Rattle.std.proofs.Math.Nat.{eq-or-lt_of_le}
+use Rattle.std.proofs.{Common.inl, Common.inr, Math.Nat.eq-or-lt_of_le}
 use Rattle.field_words.specs.Questions.{Question, Ask, first_of, each, answered}
 use Rattle.field_words.proofs.Questions.{passes}
 

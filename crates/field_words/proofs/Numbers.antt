@@ -1,12 +1,9 @@
 -- Numbers and their bytes, in both directions.
 use Rattle.std.proofs.Common.{◌≡◌, ℕ, zero, suc, lit<, ◌+◌, ◌/◌, ◌%◌, ◌^◌, ◌<◌, ◌≤◌, List, [], ◌∷◌, length, take, drop, get_or, min, refl, sym, ap, arith, ◌∙◌}
-use Rattle.std.specs.Int.{from_le_bytes, to_le_bytes, w16, w32}
 use Rattle.std.proofs.lemmas.Nat.{le_bytes_2, le_bytes_4, from_le_bytes-to_le_bytes_2, from_le_bytes-to_le_bytes_4}
-use Rattle.std.proofs.lemmas.List.{places, get_or-drop}
-use Rattle.std.proofs.Math.Nat.{mul-mod_left}
-use Rattle.std.proofs.lemmas.Grind.{div_ceil_times}
-use Rattle.field_words.specs.Words.{u16_at, u32_at, IsBytes, IsRoundedUp, rounded_up}
-use Rattle.field_words.specs.Pieces.{IsPiece}
+use Rattle.std.proofs.{lemmas.List.places, lemmas.List.get_or-drop, Math.Nat.mul-mod_left, lemmas.Grind.div_ceil_times}
+use Rattle.std.specs.Int.{from_le_bytes, to_le_bytes, w16, w32}
+use Rattle.field_words.specs.{Words.u16_at, Words.u32_at, Words.IsBytes, Words.IsRoundedUp, Words.rounded_up, Pieces.IsPiece}
 
 -- Only the first two or four bytes count.
 pub from_front_2 : (xs : List ℕ) → from_le_bytes w16 (take 2 xs) ≡ from_le_bytes w16 xs

@@ -1,8 +1,7 @@
 -- Laws on rules that are asked in an order.
 use Rattle.std.proofs.Common.{◌≡◌, ℕ, zero, suc, ◌+◌, ◌-◌, ◌<◌, ◌≤◌, true, false, List, [], ◌∷◌, ◌++◌, Some, None, Result, Ok, Err, refl, sym, ap, arith, ◌∙◌}
 use Rattle.field_words.specs.Questions.{Question, Ask, first_of, NoneStands, IsFirst, each, answered, Refuses, Answers, NamesFirst}
-use Rattle.field_words.specs.declared.stop.Stop.{Stop}
-use Rattle.field_words.specs.declared.stop.Stop.TheVariants.{Fault, NoMemory}
+use Rattle.field_words.specs.{declared.stop.Stop.Stop, declared.stop.Stop.TheVariants.Fault, declared.stop.Stop.TheVariants.NoMemory}
 
 -- Where no question of the front stands, the rest decides.
 pub passes : {F : Type 0} → (front rest : List (Question F)) → first_of front ≡ None → first_of (front ++ rest) ≡ first_of rest

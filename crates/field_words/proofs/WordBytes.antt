@@ -1,13 +1,9 @@
 -- Words written one after the other into a window, and single words among them changed.
 use Rattle.std.proofs.Common.{inl, inr, ◌≡◌, ℕ, zero, suc, ◌+◌, ◌*◌, ◌<◌, ◌≤◌, List, ◌++◌, length, take, drop, refl, sym, ap, subst, arith, ◌∙◌, length-append, length-drop}
+use Rattle.std.proofs.{lemmas.List.places, lemmas.List.drop-append-le, lemmas.List.take-append-le, lemmas.Grind.same_number_lists}
+use Rattle.std.proofs.{lemmas.Bool.cases_lt, Math.Seq.drop-append_seam, Math.Seq.take-length}
 use Rattle.std.specs.Int.{to_le_bytes, w32}
-use Rattle.std.proofs.lemmas.List.{places, drop-append-le, take-append-le}
-use Rattle.std.proofs.lemmas.Grind.{same_number_lists}
-use Rattle.std.proofs.lemmas.Bool.{cases_lt}
-use Rattle.std.proofs.Math.Seq.{drop-append_seam, take-length}
-use Rattle.field_words.specs.Pieces.{IsPiece}
-use Rattle.field_words.specs.Writes.{with_bytes}
-use Rattle.field_words.specs.WordBytes.{word_bytes}
+use Rattle.field_words.specs.{Pieces.IsPiece, Writes.with_bytes, WordBytes.word_bytes}
 use Rattle.field_words.proofs.Writes.{with_inner, with_nothing, with_two}
 
 pub length_word : (word : ℕ) → length (to_le_bytes w32 word) ≡ 4

@@ -1,7 +1,6 @@
 -- What a write changes and what it leaves alone.
 use Rattle.std.proofs.Common.{◌≡◌, ℕ, ◌+◌, ◌<◌, ◌≤◌, List, [], ◌++◌, length, get_or, arith}
-use Rattle.std.proofs.lemmas.List.{places, length-replicate}
-use Rattle.std.proofs.lemmas.Grind.{same_number_lists}
+use Rattle.std.proofs.{lemmas.List.places, lemmas.List.length-replicate, lemmas.Grind.same_number_lists}
 use Rattle.field_words.specs.Writes.{with_bytes, zeros}
 
 pub length_zeros : (n : ℕ) → length (zeros n) ≡ n

@@ -1,7 +1,6 @@
 -- The first rule that stands, as a sentence about the set of all that stand: it is the least in an order of the answers.
 use Rattle.std.specs.Prelude.{◌≡◌, ◌<◌, ◌≤◌, ◌⊎◌, ℕ, true, List, [], ◌∷◌, Result, Ok, Err}
-use Rattle.field_words.specs.Questions.{Question, Ask}
-use Rattle.field_words.specs.declared.stop.Stop.{Stop}
+use Rattle.field_words.specs.{Questions.Question, Questions.Ask, declared.stop.Stop.Stop}
 use Rattle.field_words.specs.declared.stop.Stop.TheVariants.{Fault, NoMemory}
 
 -- a rule of the list stands, with this answer

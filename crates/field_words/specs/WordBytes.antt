@@ -1,6 +1,5 @@
 -- Numbers as bytes, little endian.
-use Rattle.std.specs.Prelude.{ℕ, zero, suc, List, [], ◌++◌}
-use Rattle.std.specs.Int.{to_le_bytes, w16, w32}
+use Rattle.std.specs.{Prelude.ℕ, Prelude.zero, Prelude.suc, Prelude.List, Prelude.[], Prelude.◌++◌, Int.to_le_bytes, Int.w16, Int.w32}
 
 -- a number of two or of four bytes
 abbrev pub half : ℕ → List ℕ

@@ -1,35 +1,28 @@
 -- What the headline says of the two files, computed: the lengths of the emitted lists first.
 use Rattle.std.proofs.Common.{◌≡◌, ℕ, zero, suc, Option, List, [], ◌∷◌, ◌++◌, length, map, Some, refl, ap, ◌∙◌}
-use Rattle.buffer_table.specs.Table.{buffer_at}
-use Rattle.buffer_table.specs.Handles.{data_of, code_of}
-use Rattle.field_words.specs.Words.{rounded_up, u32_at}
+use Rattle.buffer_table.specs.{Table.buffer_at, Handles.data_of, Handles.code_of}
+use Rattle.field_words.specs.{Words.rounded_up, Words.u32_at, WordBytes.word_bytes}
 use Rattle.job_format.specs.Model.{FileModel}
-use Rattle.shader_records.specs.Inputs.{InputModel}
+use Rattle.shader_records.specs.Emission.{records_text, record_text, uniforms_text, streams_text, stream_text, emitted_records, emitted_uniforms}
+use Rattle.shader_records.specs.{Inputs.InputModel, Sources.shader_used, Sources.code_number, Sources.record_source, Emitted.streams_place}
 use Rattle.relocation.specs.declared.layout.Lengths.{Lengths}
 use Rattle.relocation.specs.Layout.{records_start, uniforms_start, render_start, begins_after}
-use Rattle.bin_list.specs.Emitted.{index_text, state_text, config_text, packet_text}
+use Rattle.bin_list.specs.{Emitted.index_text, Emitted.state_text, Emitted.config_text, Emitted.packet_text, Seen.seen_before}
 use Rattle.bin_list.specs.Packets.{passed, packets, front_packet, behind}
-use Rattle.bin_list.specs.Seen.{seen_before}
-use Rattle.packets.specs.Length.{bin_length, bin_taken}
+use Rattle.packets.specs.{Length.bin_length, Length.bin_taken, Packet.packet_text as render_packet}
 use Rattle.packets.specs.StateWord.{record_room, record_size, is_extended, attribute_count}
 use Rattle.tile_memory.specs.Slots.{alloc_offset}
-use Rattle.render_list.specs.Length.{render_length, tile_size, loads_size, writes_size, load_size}
 use Rattle.render_list.specs.Frame.{is_present, is_full, is_multisample, tile_side, is_first_tile, is_last_tile}
-use Rattle.render_list.specs.Surfaces.{place_in}
 use Rattle.render_list.specs.Text.{head_packet, clear_slots, front_slots, list_place, color_store, more_after_multisample_zs, more_after_multisample_color, some_before_zs, some_before_color, load_slots, list_slots, write_slots, tile_slots, span_slots, render_slots, render_text}
-use Rattle.packets.specs.Packet.{packet_text as render_packet}
-use Rattle.field_words.specs.WordBytes.{word_bytes}
-use Rattle.shader_records.specs.Emission.{records_text, record_text, uniforms_text, streams_text, stream_text, emitted_records, emitted_uniforms}
-use Rattle.shader_records.specs.Sources.{shader_used, code_number, record_source}
+use Rattle.render_list.specs.Length.{render_length, tile_size, loads_size, writes_size, load_size}
+use Rattle.render_list.specs.Surfaces.{place_in}
 use Rattle.job_check.specs.Jobs.{job_of, slot_of, has_bin, has_tiles, grid_of, lists_begin, lists_room, layout_of, places_in, render_room, bin_list_of, input_for, records_of, streams_of, render_list_of}
 use Rattle.job_check.specs.Emit.{lengths_of}
 use Rattle.machine_plan.specs.Regions.{Interval, Rights}
 use Rattle.accepted_law.specs.Holdings.{named_buffers, plain_of, codes_of, lists_of, lists_in, slot_in, file_rights, fixed_below, fixed_of, start_by, file_starts}
 use Rattle.textured_job.specs.Job.{frame, textured, two_clients, one_client}
-use Rattle.textured_job.proofs.Lists.{grid_is}
-use Rattle.textured_job.proofs.Whole.{input_is}
-use Rattle.shader_records.specs.Emitted.{streams_place}
 use Rattle.textured_job.proofs.Cases.{Case, Alone, First, Second, Single, file_in, number_in, input_in}
+use Rattle.textured_job.proofs.{Lists.grid_is, Whole.input_is}
 use Rattle.headline.specs.Numbers.{Numbers, intervals, rights, start, all_fixed, numbers_of, alone, first, second}
 
 -- The lengths of a job's emitted lists are those of what its sources, its input and its grid come to.

@@ -1,29 +1,21 @@
 -- The headline, proved and used: what it comes to for the two files.
 use Rattle.std.proofs.Common.{◌≡◌, ◌≤◌, ◌<◌, ◌⊎◌, inl, inr, ℕ, zero, suc, ◌+◌, List, [], ◌∷◌, length, map, None, sym, subst, arith, ◌∙◌}
 use Rattle.std.specs.List.{AllByRecursion}
-use Rattle.field_words.specs.declared.access.Access.{Access}
-use Rattle.job_format.specs.Model.{FileModel}
-use Rattle.job_format.specs.File.{IsFileOf}
-use Rattle.job_format.specs.Reading.{file_at}
+use Rattle.field_words.specs.{declared.access.Access.Access, declared.access.Actor.TheVariants.Tmu as TheTmu}
+use Rattle.job_format.specs.{Model.FileModel, File.IsFileOf, Reading.file_at}
 use Rattle.job_format.proofs.Laws.{read_again}
-use Rattle.job_check.specs.Emit.{memory_of}
-use Rattle.job_check.specs.Whole.{refusal_of}
+use Rattle.job_check.specs.{Emit.memory_of, Whole.refusal_of}
 use Rattle.machine_plan.specs.Regions.{Every, Inside, IsIn, rights_of, IsSafeAccess, IsSafeIn, IsOutside, Agree}
-use Rattle.field_words.specs.declared.access.Actor.TheVariants.{Tmu as TheTmu}
-use Rattle.machine.specs.State.{units_start}
-use Rattle.machine.specs.Step.{job_of, step}
+use Rattle.machine.specs.{State.units_start, Step.job_of, Step.step}
 use Rattle.machine_law.specs.Sound.{ReadInOne, Sound}
 use Rattle.accepted_law.specs.Holdings.{OfEachJob, plain_of, fixed_of, file_rights, file_starts}
 use Rattle.accepted_law.specs.Held.{AreFixed}
-use Rattle.job_safety.specs.Files.{IsSafeFile}
-use Rattle.job_safety.specs.Safe.{AreSound}
+use Rattle.job_safety.specs.{Files.IsSafeFile, Safe.AreSound}
 use Rattle.job_safety.proofs.Safety.{bytes_spell, file_is_safe, fixed_upto, file_ends}
-use Rattle.textured_job.specs.Job.{textured, two_clients}
-use Rattle.textured_job.specs.Laws.{IsAccepted, textured_bytes, two_clients_bytes}
+use Rattle.textured_job.specs.{Job.textured, Job.two_clients, Laws.IsAccepted, Laws.textured_bytes, Laws.two_clients_bytes}
 use Rattle.textured_job.proofs.Witness.{is_file, two_are_file, textured_witness, two_clients_witness}
-use Rattle.headline.specs.Ends.{AcceptedEnd}
-use Rattle.headline.specs.MayRun.{MayRun, AcceptedMayRun}
 use Rattle.headline.specs.Numbers.{Span, Numbers, alone, first, second, written, reached, numbers_of, LiesInOne, KeepsTo, Misses, intervals, rights, start, all_fixed, KeepAnywhere, InNumbers}
+use Rattle.headline.specs.{Ends.AcceptedEnd, MayRun.MayRun, MayRun.AcceptedMayRun}
 use Rattle.headline.proofs.Stages.{AreOf, alone_is, two_are}
 
 pub may_run : (bytes : List ℕ) → IsFileOf bytes (file_at bytes) → refusal_of bytes ≡ None → MayRun bytes

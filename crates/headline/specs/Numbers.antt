@@ -1,17 +1,14 @@
 -- What the headline comes to for two files, in numbers that a reader can compare with what `check` prints of them: that of the textured
 -- job alone, and that of two such jobs, of clients 1 and 2.
 use Rattle.std.specs.Prelude.{◌≡◌, ◌≢◌, ◌≤◌, ◌<◌, ◌⊎◌, ℕ, ◌+◌, List, [], ◌∷◌, ◌++◌, map, length, slice_index, slice_index_or}
-use Rattle.field_words.specs.Sizes.{slot_size}
 use Rattle.std.specs.List.{AllByRecursion}
-use Rattle.field_words.specs.declared.access.Access.{Access}
+use Rattle.field_words.specs.{Sizes.slot_size, declared.access.Access.Access}
 use Rattle.field_words.specs.declared.access.Way.TheVariants.{Write, Wild}
 use Rattle.job_format.specs.Model.{FileModel}
 use Rattle.job_check.specs.Emit.{memory_of}
 use Rattle.machine_plan.specs.Others.{Happening, OthersRun, IsLeft, SameAmong}
 use Rattle.machine_plan.specs.Regions.{Interval, Inside, Rights, Agree}
-use Rattle.machine.specs.declared.job.Start.{Start}
-use Rattle.machine.specs.State.{State, units_start, start_of}
-use Rattle.machine.specs.Step.{Event, ready, turn}
+use Rattle.machine.specs.{declared.job.Start.Start, State.State, State.units_start, State.start_of, Step.Event, Step.ready, Step.turn}
 use Rattle.machine_law.specs.Sound.{TexturesReadIn}
 use Rattle.textured_job.specs.Job.{textured, two_clients}
 

@@ -4,12 +4,10 @@ use Rattle.std.proofs.Common.{◌≡◌, ℕ, ◌+◌, ◌*◌, ◌<◌, Bool, f
 use Rattle.std.specs.Prelude.{slice_index}
 use Rattle.field_words.specs.Questions.{Question, first_of, each}
 use Rattle.field_words.proofs.Nones.{each_none}
-use Rattle.shader_flow.specs.Bounded.{some_below}
-use Rattle.shader_flow.specs.Flow.{end_of, checked_of}
+use Rattle.shader_flow.specs.{Bounded.some_below, Flow.end_of, Flow.checked_of}
 use Rattle.shader_flow.proofs.Bounded.{some_below_none, some_below_not}
 use Rattle.job_format.specs.Model.{FileModel}
-use Rattle.job_check.specs.Jobs.{job_of}
-use Rattle.job_check.specs.Offsets.{content_offset}
+use Rattle.job_check.specs.{Jobs.job_of, Offsets.content_offset}
 use Rattle.ends_law.specs.Loops.{goes_back, has_loop}
 use Rattle.served_law.specs.Waits.{waits_at, may_wait}
 use Rattle.accepted_served.specs.Served.{waits, job_waits, file_waits}

@@ -2,20 +2,15 @@
 use Rattle.std.proofs.Common.{◌≡◌, ℕ, ◌+◌, List, Option, Some, None, refl, subst, arith}
 use Rattle.machine_plan.specs.Regions.{Rights}
 use Rattle.machine.specs.State.{Units, units_start}
-use Rattle.job_format.specs.File.{IsFileOf}
-use Rattle.job_format.specs.Model.{FileModel}
-use Rattle.job_format.specs.Reading.{file_at}
+use Rattle.job_format.specs.{File.IsFileOf, Model.FileModel, Reading.file_at}
 use Rattle.job_check.specs.Whole.{refusal_of}
-use Rattle.accepted_law.specs.Holdings.{file_rights, file_starts}
-use Rattle.accepted_law.specs.Neighbours.{IsFaultless}
+use Rattle.accepted_law.specs.{Holdings.file_rights, Holdings.file_starts, Neighbours.IsFaultless}
 use Rattle.job_safety.proofs.Safety.{bytes_spell, faultless}
 use Rattle.ends_law.specs.Ends.{Ends}
 use Rattle.accepted_ends.specs.Bound.{longest_of, bound_of}
 use Rattle.accepted_ends.proofs.Files.{files_end_by_law}
 use Rattle.accepted_served.proofs.Files.{files_finish_law}
-use Rattle.job_bound.specs.Back.{first_place}
-use Rattle.job_bound.specs.Bound.{bound_by, bound_in}
-use Rattle.job_bound.specs.Law.{RunsWithin, BoundHolds, EndHolds}
+use Rattle.job_bound.specs.{Back.first_place, Bound.bound_by, Bound.bound_in, Law.RunsWithin, Law.BoundHolds, Law.EndHolds}
 use Rattle.job_bound.specs.declared.bound.Bound.TheVariants.{Steps}
 use Rattle.job_bound.specs.declared.named.Sought.TheVariants.{LeadsBack, MayWait}
 use Rattle.job_bound.proofs.Backs.{none_without_loop, none_where_served}

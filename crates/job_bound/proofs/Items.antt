@@ -1,36 +1,22 @@
 -- The parts of a job's bound.
 use Rattle.std.proofs.Common.{◌≡◌, ℕ, zero, suc, ◌+◌, ◌*◌, ◌<◌, Bool, true, false, ◌||◌, nat_le, List, [], length, Option, Some, None, is_some, if◌then◌else◌, refl, sym, ap, subst, arith, ◌∙◌}
-use Rattle.std.specs.List.{range_with_len, sum_by}
 use Rattle.std.proofs.lemmas.List.Sums.{sum_by-cons}
+use Rattle.std.specs.List.{range_with_len, sum_by}
 use Rattle.bin_walks.specs.Walks.{nothing_kept}
-use Rattle.bin_list.specs.Packets.{packets, passed}
-use Rattle.bin_list.specs.Seen.{seen_before}
-use Rattle.job_format.specs.declared.file.Frame.{Frame}
-use Rattle.job_format.specs.Model.{FileModel}
-use Rattle.render_list.specs.Frame.{IsTileSet}
-use Rattle.render_list.specs.Surfaces.{is_outside_grid}
-use Rattle.render_list.specs.Text.{number_where, render_slots}
-use Rattle.job_check.specs.Emit.{memory_of}
+use Rattle.bin_list.specs.{Packets.packets, Packets.passed, Seen.seen_before}
+use Rattle.job_format.specs.{declared.file.Frame.Frame, Model.FileModel}
+use Rattle.render_list.specs.{Frame.IsTileSet, Surfaces.is_outside_grid, Text.number_where, Text.render_slots}
+use Rattle.job_check.specs.{Emit.memory_of, Shaders.table_of}
 use Rattle.job_check.specs.Jobs.{job_of, has_bin, grid_from, grid_of, slot_of, places_in, bin_list_of}
-use Rattle.job_check.specs.Shaders.{table_of}
-use Rattle.accepted_law.specs.Ends.{DrawShaders}
-use Rattle.accepted_law.specs.Holdings.{config_for}
-use Rattle.accepted_law.specs.Parts.{BinWalks}
-use Rattle.accepted_law.specs.Neighbours.{IsFaultless}
+use Rattle.accepted_law.specs.{Ends.DrawShaders, Holdings.config_for, Parts.BinWalks, Neighbours.IsFaultless}
 use Rattle.accepted_law.specs.Settled.{Settled, Grounds}
-use Rattle.accepted_law.proofs.BinWalking.{bins_walk_law}
-use Rattle.accepted_law.proofs.Joining.{all_ground}
-use Rattle.accepted_law.proofs.RenderWalking.{frame_setup, in_grid}
-use Rattle.ends_law.specs.Left.{AllWhole}
-use Rattle.ends_law.specs.Room.{room_of}
-use Rattle.ends_law.specs.Steps.{bin_steps, render_steps, job_steps}
+use Rattle.accepted_law.proofs.{BinWalking.bins_walk_law, Joining.all_ground, RenderWalking.frame_setup, RenderWalking.in_grid}
+use Rattle.ends_law.specs.{Left.AllWhole, Room.room_of, Steps.bin_steps, Steps.render_steps, Steps.job_steps}
 use Rattle.ends_law.proofs.Begins.{walks_whole}
 use Rattle.accepted_ends.specs.Bound.{job_bound, longest_of}
 use Rattle.accepted_ends.proofs.Cut.{packets_walk}
 use Rattle.job_bound.specs.Frames.{frame_steps}
-use Rattle.job_bound.proofs.Settled.{settled}
-use Rattle.job_bound.proofs.Tiles.{steps_render}
-use Rattle.job_bound.proofs.Visits.{IsAcross, visits_render}
+use Rattle.job_bound.proofs.{Settled.settled, Tiles.steps_render, Visits.IsAcross, Visits.visits_render}
 
 pub list_whole : (f : FileModel) (j : ℕ) → IsFaultless f → j < length f.jobs → AllWhole (packets (bin_list_of f j))
 list_whole f j faultless inside =

@@ -1,27 +1,17 @@
 -- The emitted binner list of a job is a part of the region of all lists.
 use Rattle.std.proofs.Common.{◌≡◌, ℕ, zero, suc, ◌+◌, ◌<◌, ◌≤◌, List, [], ◌∷◌, length, get_or, take, drop, zero-add, inl, inr, refl, sym, ap, subst, arith, ◌∙◌}
-use Rattle.std.proofs.lemmas.Bool.{cases_lt}
-use Rattle.std.proofs.lemmas.List.{places, same_lists}
-use Rattle.std.proofs.lemmas.List.FromFn.{get_or-map-range_with_len}
-use Rattle.field_words.specs.Sizes.{most_list}
-use Rattle.field_words.specs.Words.{rounded_up}
-use Rattle.field_words.specs.Writes.{with_bytes, zeros}
+use Rattle.std.proofs.{lemmas.Bool.cases_lt, lemmas.List.places, lemmas.List.same_lists, lemmas.List.FromFn.get_or-map-range_with_len}
+use Rattle.field_words.specs.{Sizes.most_list, Words.rounded_up, Writes.with_bytes, Writes.zeros}
 use Rattle.buffer_table.specs.declared.buffer.Buffer.{Buffer}
-use Rattle.relocation.specs.declared.layout.Layout.{Layout}
-use Rattle.relocation.specs.declared.layout.Lengths.{Lengths}
-use Rattle.relocation.specs.Layout.{region_end, records_start}
+use Rattle.relocation.specs.{declared.layout.Layout.Layout, declared.layout.Lengths.Lengths, Layout.region_end, Layout.records_start}
 use Rattle.job_format.specs.Model.{FileModel}
-use Rattle.job_check.specs.Jobs.{job_of, layout_of, layouts_of, bin_list_of}
 use Rattle.job_check.specs.Emit.{PartsFit, ContentsFit, lengths_of, all_lengths_of, content_parts, fresh_memory_of, memory_of}
+use Rattle.job_check.specs.Jobs.{job_of, layout_of, layouts_of, bin_list_of}
 use Rattle.job_check.specs.Region.{region_size, region_from, regions_parts, region_of}
-use Rattle.job_check.proofs.Emission.{contents_fit}
-use Rattle.job_check.proofs.Layouts.{lists_inside, lists_apart}
+use Rattle.job_check.proofs.{Emission.contents_fit, Layouts.lists_inside, Layouts.lists_apart, Windows.length_placed}
 use Rattle.job_check.proofs.Regions.{zeros_long, size_more, from_is, memory_made}
-use Rattle.job_check.proofs.Windows.{length_placed}
-use Rattle.accepted_law.specs.Neighbours.{IsFaultless}
-use Rattle.accepted_law.specs.Settled.{Settled, Grounds}
-use Rattle.accepted_law.proofs.Joining.{all_ground}
-use Rattle.accepted_law.proofs.Streams.{piece_at}
+use Rattle.accepted_law.specs.{Neighbours.IsFaultless, Settled.Settled, Settled.Grounds}
+use Rattle.accepted_law.proofs.{Joining.all_ground, Streams.piece_at}
 use Rattle.job_bound.proofs.Settled.{settled}
 
 -- The memory before any list is as long as the file says.

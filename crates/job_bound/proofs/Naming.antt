@@ -1,21 +1,13 @@
 -- The shaders in buffers, and those that handles name.
 use Rattle.std.proofs.Common.{◌≡◌, ℕ, suc, ◌+◌, ◌<◌, ◌≤◌, true, ◌&&◌, not, max, List, [], ◌∷◌, ◌++◌, length, get_or, take, Some, None, refl, sym, ap, subst, arith, ◌∙◌, if◌then◌else◌, inl, inr, length-append}
+use Rattle.std.proofs.{lemmas.Bool.Decides.nat_tests, lemmas.Grind.common_steps, lemmas.List.get_or_append_left, lemmas.List.get_or_default}
+use Rattle.std.proofs.{Math.Seq.get_or-append_seam, lemmas.Bool.cases_lt, lemmas.List.Sums.sum_by_more, lemmas.List.Sums.sum-map}
 use Rattle.std.specs.Prelude.{slice_index}
-use Rattle.std.proofs.lemmas.Bool.Decides.{nat_tests}
-use Rattle.std.proofs.lemmas.Grind.{common_steps}
-use Rattle.std.proofs.lemmas.List.{get_or_append_left, get_or_default}
-use Rattle.std.proofs.Math.Seq.{get_or-append_seam}
-use Rattle.std.proofs.lemmas.Bool.{cases_lt}
-use Rattle.std.proofs.lemmas.List.Sums.{sum_by_more, sum-map}
-use Rattle.buffer_table.specs.declared.buffer.Buffer.{Buffer}
-use Rattle.buffer_table.specs.declared.buffer.Kind.{Kind}
+use Rattle.buffer_table.specs.{declared.buffer.Buffer.Buffer, declared.buffer.Kind.Kind, Table.buffer_at, Table.past_end}
 use Rattle.buffer_table.specs.declared.buffer.Kind.TheVariants.{Plain, Code}
-use Rattle.buffer_table.specs.Table.{buffer_at, past_end}
 use Rattle.buffer_table.specs.Handles.{AreNumbersOf, is_plain, is_named, code_of}
 use Rattle.job_format.specs.Model.{FileModel, JobModel}
-use Rattle.job_check.specs.Jobs.{job_of}
-use Rattle.job_check.specs.Offsets.{content_offset}
-use Rattle.job_check.specs.Shaders.{table_of, content_of}
+use Rattle.job_check.specs.{Jobs.job_of, Offsets.content_offset, Shaders.table_of, Shaders.content_of}
 use Rattle.accepted_ends.specs.Bound.{shader_in, shader_named, greatest_below}
 use Rattle.job_bound.specs.Bound.{code_for, code_in, IsProgramOf, AreProgramsUpTo, no_program}
 use Rattle.job_bound.specs.declared.programs.Program.{Program}

@@ -1,16 +1,12 @@
 -- The packets of a binner list, one after the other, and the steps that they take.
 use Rattle.std.proofs.Common.{◌≡◌, ℕ, zero, suc, ◌+◌, ◌-◌, ◌*◌, ◌/◌, ◌≤◌, Bool, true, false, ◌==◌, nat_lt, max, List, [], ◌∷◌, length, inl, inr, refl, sym, ap, subst, arith, ◌∙◌, if◌then◌else◌}
-use Rattle.std.proofs.lemmas.Bool.{or_cases, eqb-true}
-use Rattle.std.proofs.lemmas.Bool.Decides.{nat_tests}
-use Rattle.std.proofs.lemmas.Grind.{common_steps}
+use Rattle.std.proofs.{lemmas.Bool.or_cases, lemmas.Bool.eqb-true, lemmas.Bool.Decides.nat_tests, lemmas.Grind.common_steps}
 use Rattle.field_words.specs.Words.{u32_at}
-use Rattle.packets.specs.Opcode.{indexed_primitive_list, array_primitive_list}
-use Rattle.packets.specs.Length.{bin_length}
+use Rattle.packets.specs.{Opcode.indexed_primitive_list, Opcode.array_primitive_list, Length.bin_length}
 use Rattle.bin_list.specs.Packets.{opcode, front_packet, behind, cut, packets}
 use Rattle.bin_list.proofs.Walk.{front_behind, front_some, cut_nothing}
 use Rattle.list_machine.specs.Binner.{work_of, primitive_of}
-use Rattle.ends_law.specs.Left.{IsWhole, AllWhole}
-use Rattle.ends_law.specs.Room.{room_in, room_of}
+use Rattle.ends_law.specs.{Left.IsWhole, Left.AllWhole, Room.room_in, Room.room_of}
 use Rattle.ends_law.specs.Steps.{draws, programs_left, work_steps, packet_steps, bin_steps}
 use Rattle.bin_walks.proofs.Walking.{long_indexed}
 

@@ -1,12 +1,11 @@
 -- A renderer list goes into the own list of each tile once.
 use Rattle.std.proofs.Common.{◌≡◌, ℕ, zero, suc, ◌+◌, ◌*◌, ◌<◌, ◌≤◌, Bool, true, false, ◌==◌, List, [], ◌∷◌, ◌++◌, length, Option, Some, None, is_some, refl, sym, ap, subst, arith, ◌∙◌, eq-eqb, length-append}
+use Rattle.std.proofs.{lemmas.Bool.Decides.nat_tests, lemmas.Grind.common_steps}
 use Rattle.std.specs.List.{flat_map, range_with_len}
-use Rattle.std.proofs.lemmas.Bool.Decides.{nat_tests}
-use Rattle.std.proofs.lemmas.Grind.{common_steps}
 use Rattle.job_format.specs.declared.file.Frame.{Frame}
 use Rattle.packets.specs.declared.packet.Packet.{Packet}
-use Rattle.render_list.specs.Frame.{tiles_across, tiles_down, IsTileSet, ArePlacesOf}
 use Rattle.render_list.specs.Text.{number_where, list_place, front_slots, tile_slots, span_slots, row_slots, all_tile_slots, render_slots}
+use Rattle.render_list.specs.Frame.{tiles_across, tiles_down, IsTileSet, ArePlacesOf}
 use Rattle.ends_law.specs.Steps.{one_if, all_entered, times, most_times, most_visits}
 use Rattle.job_bound.proofs.Tiles.{quiet_front, entered_two, tile_entered}
 

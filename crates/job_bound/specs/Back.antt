@@ -4,8 +4,7 @@ use Rattle.std.specs.Prelude.{◌≡◌, ◌↔◌, ℕ, ◌+◌, ◌*◌, false
 use Rattle.field_words.specs.Questions.{Question, Ask, first_of, each}
 use Rattle.shader_flow.specs.Flow.{end_of, checked_of}
 use Rattle.job_format.specs.Model.{FileModel}
-use Rattle.job_check.specs.Jobs.{job_of}
-use Rattle.job_check.specs.Offsets.{content_offset}
+use Rattle.job_check.specs.{Jobs.job_of, Offsets.content_offset}
 use Rattle.ends_law.specs.Loops.{goes_back}
 use Rattle.served_law.specs.Waits.{waits_at}
 use Rattle.accepted_ends.specs.Bound.{shader_named, file_loops}

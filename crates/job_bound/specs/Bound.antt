@@ -1,16 +1,12 @@
 -- What the bound of a file is, and how it is printed.
-use Rattle.std.specs.Prelude.{◌≡◌, ◌<◌, ◌≤◌, ℕ, ◌+◌, ◌++◌, List, length, Option, Some, None, codes, slice_index_or}
-use Rattle.std.specs.Fmt.{decimal}
+use Rattle.std.specs.Prelude.{◌≡◌, ◌<◌, ◌≤◌, ℕ, ◌+◌, ◌++◌, List, length, Option, Some, None, codes, slice_index_or, decimal}
 use Rattle.field_words.specs.Questions.{first_of}
-use Rattle.buffer_table.specs.declared.buffer.Kind.{Kind}
-use Rattle.buffer_table.specs.declared.buffer.Kind.TheVariants.{Plain, Code}
+use Rattle.buffer_table.specs.{declared.buffer.Kind.Kind, declared.buffer.Kind.TheVariants.Plain, declared.buffer.Kind.TheVariants.Code}
 use Rattle.buffer_table.specs.Table.{buffer_at}
 use Rattle.job_format.specs.Model.{FileModel}
-use Rattle.job_check.specs.Offsets.{content_offset}
-use Rattle.job_check.specs.Shaders.{words_of, content_of}
+use Rattle.job_check.specs.{Offsets.content_offset, Shaders.words_of, Shaders.content_of}
 use Rattle.accepted_ends.specs.Bound.{steps, longest_of, bound_of}
-use Rattle.job_bound.specs.Back.{branches, wait_places, first_place}
-use Rattle.job_bound.specs.declared.bound.Bound.{Bound}
+use Rattle.job_bound.specs.{Back.branches, Back.wait_places, Back.first_place, declared.bound.Bound.Bound}
 use Rattle.job_bound.specs.declared.bound.Bound.TheVariants.{Steps, Loops}
 use Rattle.job_bound.specs.declared.named.Sought.TheVariants.{LeadsBack, MayWait}
 use Rattle.job_bound.specs.declared.programs.Program.{Program}

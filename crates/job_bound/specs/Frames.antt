@@ -2,8 +2,7 @@
 -- has the same packets, but for the one before the first tile that waits for the binner.
 use Rattle.std.specs.Prelude.{ℕ, ◌+◌, ◌*◌, ◌||◌, Bool, false}
 use Rattle.job_format.specs.declared.file.Frame.{Frame}
-use Rattle.render_list.specs.Frame.{surface_at, is_present, tiles_across, tiles_down}
-use Rattle.render_list.specs.Text.{number_where}
+use Rattle.render_list.specs.{Frame.surface_at, Frame.is_present, Frame.tiles_across, Frame.tiles_down, Text.number_where}
 
 -- the two loads, and two packets between them
 unfoldable pub loads_steps : Bool → Bool → ℕ

@@ -1,19 +1,14 @@
 -- What the numbers that are printed mean.
 use Rattle.std.specs.Prelude.{◌≡◌, ◌≤◌, ℕ, ◌+◌, ◌*◌, List, Option, None}
-use Rattle.field_words.specs.declared.access.Access.{Access}
-use Rattle.field_words.specs.Words.{IsBytes}
-use Rattle.machine_plan.specs.Others.{Happening, OthersRun}
-use Rattle.machine_plan.specs.Regions.{Rights, Agree}
-use Rattle.machine.specs.State.{Units, State, units_start}
-use Rattle.machine.specs.Step.{Event, ready, turn}
+use Rattle.field_words.specs.{declared.access.Access.Access, Words.IsBytes}
+use Rattle.machine_plan.specs.{Others.Happening, Others.OthersRun, Regions.Rights, Regions.Agree}
+use Rattle.machine.specs.{State.Units, State.State, State.units_start, Step.Event, Step.ready, Step.turn}
 use Rattle.job_format.specs.Reading.{file_at}
-use Rattle.job_check.specs.Emit.{memory_of}
-use Rattle.job_check.specs.Whole.{refusal_of}
+use Rattle.job_check.specs.{Emit.memory_of, Whole.refusal_of}
 use Rattle.accepted_law.specs.Holdings.{fixed_of, file_rights, file_starts}
 use Rattle.ends_law.specs.Stays.{step_count, stay_count}
 use Rattle.served_law.specs.Finish.{Finishes}
-use Rattle.job_bound.specs.Bound.{bound_in}
-use Rattle.job_bound.specs.declared.bound.Bound.TheVariants.{Steps}
+use Rattle.job_bound.specs.{Bound.bound_in, declared.bound.Bound.TheVariants.Steps}
 
 -- Each run from these units over this memory, whichever unit steps next, whatever words answer it, and also while others write, has at most
 -- so many steps, and so many more for each in which a renderer stays at an item.

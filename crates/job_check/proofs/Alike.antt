@@ -1,21 +1,16 @@
 -- A file and the same file as version 2 have the same rules after the format, and the same memory.
 use Rattle.std.proofs.Common.{◌≡◌, ℕ, List, None, refl, sym, ap, arith, lit<, ◌∙◌}
-use Rattle.field_words.specs.Words.{IsBytes}
-use Rattle.field_words.specs.Questions.{first_of, answered}
+use Rattle.field_words.specs.{Words.IsBytes, Questions.first_of, Questions.answered}
 use Rattle.field_words.proofs.Questions.{passes, answered_none}
-use Rattle.job_format.specs.Faults.{format_questions}
-use Rattle.job_format.specs.File.{IsFileOf, IsWellFormed, Fits, upgraded}
-use Rattle.job_format.specs.Model.{FileModel}
-use Rattle.job_format.specs.Reading.{file_at}
-use Rattle.job_format.specs.Text.{file_text}
+use Rattle.job_format.specs.{Faults.format_questions, File.IsFileOf, File.IsWellFormed, File.Fits, File.upgraded, Model.FileModel}
+use Rattle.job_format.specs.{Reading.file_at, Text.file_text}
 use Rattle.job_format.proofs.Laws.{none_file, read_again}
-use Rattle.job_check.specs.Shaders.{content_of, shader_of, shaders_up_to}
 use Rattle.job_check.specs.Offsets.{job_offset, content_offset, shader_offset, handles_offset, bin_offset, records_offset, uniforms_offset}
 use Rattle.job_check.specs.Jobs.{job_of, slot_of, places_in, has_bin, grid_of, lists_room, lists_begin, layout_of, layouts_of, states_in, input_for, bin_list_of, records_of, streams_of, render_list_of}
 use Rattle.job_check.specs.Faults.{shader_stage, shaders_stage, handles_stage, bin_stage, part_offset, records_stage, surfaces_stage, layout_stage, lists_stages, job_stages, file_stages, stages_within, table_stage_within}
 use Rattle.job_check.specs.Emit.{lengths_of, all_lengths_of, list_parts, later_parts, memory_parts, jobs_parts, memory_of}
+use Rattle.job_check.specs.{Shaders.content_of, Shaders.shader_of, Shaders.shaders_up_to, Upgrade.AreAlike, Upgrade.UpgradeChangesNothing}
 use Rattle.job_check.specs.Whole.{format_refused, refusal_of, questions_within}
-use Rattle.job_check.specs.Upgrade.{AreAlike, UpgradeChangesNothing}
 use Rattle.job_check.proofs.Layouts.{slots_for}
 
 -- No definition below these reads the version.

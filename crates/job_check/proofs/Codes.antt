@@ -1,17 +1,12 @@
 -- Words out of bytes, and shaders by buffer, one more at a time.
 use Rattle.std.proofs.Common.{◌≡◌, ℕ, zero, suc, not, Some, None, IfSome, is_some, Option, ◌+◌, ◌*◌, ◌<◌, ◌≤◌, List, [], ◌∷◌, ◌++◌, length, get_or, map, refl, sym, ap, subst, arith, zero-add, ◌∙◌}
-use Rattle.std.specs.List.{AllByRecursion}
-use Rattle.std.proofs.lemmas.List.{length-map, get_or-map}
 use Rattle.std.proofs.lemmas.List.FromFn.{map-range_with_len_more, length-map-range_with_len, get_or-map-range_with_len}
-use Rattle.field_words.specs.Words.{u64_at}
-use Rattle.field_words.specs.Sizes.{most_code}
-use Rattle.buffer_table.specs.declared.buffer.Kind.{Kind}
-use Rattle.buffer_table.specs.declared.buffer.Kind.TheVariants.{Plain, Code}
-use Rattle.buffer_table.specs.declared.buffer.Buffer.{Buffer}
-use Rattle.buffer_table.specs.Table.{past_end, buffer_at}
-use Rattle.buffer_table.specs.Handles.{is_plain}
-use Rattle.job_format.specs.File.{IsWellFormed, FitsShader}
-use Rattle.job_format.specs.Model.{FileModel}
+use Rattle.std.proofs.lemmas.List.{length-map, get_or-map}
+use Rattle.std.specs.List.{AllByRecursion}
+use Rattle.field_words.specs.{Words.u64_at, Sizes.most_code}
+use Rattle.buffer_table.specs.{declared.buffer.Kind.Kind, declared.buffer.Kind.TheVariants.Plain, declared.buffer.Kind.TheVariants.Code}
+use Rattle.buffer_table.specs.{declared.buffer.Buffer.Buffer, Table.past_end, Table.buffer_at, Handles.is_plain}
+use Rattle.job_format.specs.{File.IsWellFormed, File.FitsShader, Model.FileModel}
 use Rattle.qpu_isa.specs.Shader.{ShaderModel, IsSoundShader}
 use Rattle.shader_records.specs.Inputs.{shader_in}
 use Rattle.job_check.specs.Shaders.{words_in, content_of, shader_for, shader_of, shaders_up_to, shaders_of, AreShadersIn}

@@ -2,10 +2,8 @@
 use Rattle.std.proofs.Common.{◌≡◌, ◌≤◌, length, get_or, zero-add, arith}
 use Rattle.std.proofs.lemmas.List.FromFn.{length-map-range_with_len, get_or-map-range_with_len}
 use Rattle.job_format.specs.Model.{FileModel}
-use Rattle.relocation.specs.declared.layout.Layout.{Layout}
-use Rattle.relocation.specs.declared.layout.Lengths.{Lengths}
-use Rattle.job_check.specs.Emit.{lengths_of, all_lengths_of}
-use Rattle.job_check.specs.Jobs.{layout_of, layouts_of}
+use Rattle.relocation.specs.{declared.layout.Layout.Layout, declared.layout.Lengths.Lengths}
+use Rattle.job_check.specs.{Emit.lengths_of, Emit.all_lengths_of, Jobs.layout_of, Jobs.layouts_of}
 
 pub as_many_layouts : (f : FileModel) → length (layouts_of f) ≡ length f.jobs
 unfolding layouts_of

@@ -2,13 +2,10 @@
 use Rattle.std.proofs.Common.{◌≡◌, ℕ, suc, ◌+◌, ◌<◌, ◌≤◌, List, [], ◌∷◌, ◌++◌, length, get_or, map, refl, sym, ap, subst, arith, ◌∙◌}
 use Rattle.std.proofs.lemmas.List.{get_or_default, length-replicate}
 use Rattle.field_words.specs.Writes.{Part, placed, with_bytes, zeros}
-use Rattle.buffer_table.specs.declared.buffer.Buffer.{Buffer}
-use Rattle.buffer_table.specs.Table.{no_buffer, past_end, buffer_at}
-use Rattle.buffer_table.specs.Sound.{IsSound}
+use Rattle.buffer_table.specs.{declared.buffer.Buffer.Buffer, Table.no_buffer, Table.past_end, Table.buffer_at, Sound.IsSound}
 use Rattle.buffer_table.proofs.Sounds.{sound_buffer}
 use Rattle.job_format.specs.Model.{FileModel}
-use Rattle.job_check.specs.Shaders.{table_of}
-use Rattle.job_check.specs.Emit.{ContentsFit}
+use Rattle.job_check.specs.{Shaders.table_of, Emit.ContentsFit}
 
 -- Parts put one after the other: first those in front, then the rest.
 pub placed-append : (memory : List ℕ) (front rest : List Part) → placed memory (front ++ rest) ≡ placed (placed memory front) rest

@@ -1,14 +1,9 @@
 -- The jobs of a file.
 use Rattle.std.proofs.Common.{◌≡◌, ℕ, zero, suc, ◌+◌, ◌<◌, List, [], ◌∷◌, length, get_or, map, sym, ap, subst, arith, ◌∙◌, sum_by, take}
-use Rattle.std.proofs.lemmas.List.Sums.{sum_by_more}
+use Rattle.std.proofs.{lemmas.List.Sums.sum_by_more, lemmas.List.get_or-map, lemmas.List.length-map}
 use Rattle.std.specs.List.{AllByRecursion}
-use Rattle.std.proofs.lemmas.List.{get_or-map, length-map}
-use Rattle.job_format.specs.declared.parts.JobParts.{JobParts}
-use Rattle.job_format.specs.File.{IsJobWellFormed}
-use Rattle.job_format.specs.Model.{FileModel, JobModel}
-use Rattle.job_format.specs.Parts.{job_parts_view}
-use Rattle.job_check.specs.Jobs.{job_of, no_job}
-use Rattle.job_check.specs.Offsets.{parts_size}
+use Rattle.job_format.specs.{declared.parts.JobParts.JobParts, File.IsJobWellFormed, Model.FileModel, Model.JobModel, Parts.job_parts_view}
+use Rattle.job_check.specs.{Jobs.job_of, Jobs.no_job, Offsets.parts_size}
 
 -- the job that is read is the file's
 pub job_is : {X : Type 0} (view : X → JobModel) (jobs : List X) (f : FileModel) (j : ℕ) (job : X) → f.jobs ≡ map view jobs → j < length jobs → job ≡ get_or jobs j job → view job ≡ job_of f j

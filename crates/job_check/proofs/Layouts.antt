@@ -1,22 +1,16 @@
 -- The layouts of the jobs: their numbers, what fits where, and that the lists of each job lie behind those of the jobs before it.
 use Rattle.std.proofs.Common.{◌≡◌, ℕ, zero, suc, ◌+◌, ◌%◌, ◌<◌, ◌≤◌, Bool, List, length, Option, ◌⊎◌, inl, inr, refl, sym, subst, arith, lit≤, ◌*◌}
 use Rattle.std.proofs.lemmas.Bool.{cases_lt}
-use Rattle.field_words.specs.Words.{rounded_up}
+use Rattle.field_words.specs.{Words.rounded_up, Sizes.most_list}
 use Rattle.field_words.proofs.Numbers.{rounded}
-use Rattle.buffer_table.specs.Table.{TableModel, most_place}
-use Rattle.buffer_table.specs.Sound.{IsSound}
-use Rattle.job_format.specs.declared.file.Frame.{Frame}
-use Rattle.job_format.specs.File.{IsWellFormed, IsJobWellFormed}
-use Rattle.job_format.specs.Model.{FileModel, JobModel}
+use Rattle.buffer_table.specs.{Table.TableModel, Table.most_place, Sound.IsSound}
+use Rattle.job_format.specs.{declared.file.Frame.Frame, File.IsWellFormed, File.IsJobWellFormed, Model.FileModel, Model.JobModel}
 use Rattle.qpu_isa.specs.Shader.{ShaderModel}
-use Rattle.relocation.specs.declared.layout.Layout.{Layout}
 use Rattle.relocation.specs.Layout.{records_start, uniforms_start, render_start, region_end, begins_after, StandApart}
-use Rattle.render_list.specs.Frame.{IsTileSet}
-use Rattle.render_list.specs.Length.{render_length}
+use Rattle.relocation.specs.declared.layout.Layout.{Layout}
+use Rattle.render_list.specs.{Frame.IsTileSet, Length.render_length}
 use Rattle.job_check.specs.Jobs.{job_of, slot_of, has_bin, has_tiles, render_room, lists_room, lists_begin, layout_of}
-use Rattle.job_check.specs.Context.{InView, IsContext}
-use Rattle.job_check.specs.Emit.{InOrder}
-use Rattle.field_words.specs.Sizes.{most_list}
+use Rattle.job_check.specs.{Context.InView, Context.IsContext, Emit.InOrder}
 
 -- a set of tiles has its length as room
 pub room_is : (frame : Frame) (has_bin : Bool) → IsTileSet frame → render_room frame has_bin ≡ render_length frame has_bin

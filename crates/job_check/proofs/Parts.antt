@@ -1,7 +1,6 @@
 -- Putting the contents of buffers one after the other.
 use Rattle.std.proofs.Common.{◌≡◌, ℕ, ◌+◌, ◌<◌, ◌≤◌, List, [], ◌∷◌, length, get_or, map, drop, sym, ap, subst, ◌∙◌}
-use Rattle.std.proofs.lemmas.List.{drop_more}
-use Rattle.std.proofs.Math.Seq.{drop-length}
+use Rattle.std.proofs.{lemmas.List.drop_more, Math.Seq.drop-length}
 use Rattle.field_words.specs.Writes.{with_bytes}
 use Rattle.field_words.proofs.Writes.{length-with_bytes}
 use Rattle.buffer_table.specs.declared.buffer.Buffer.{Buffer}

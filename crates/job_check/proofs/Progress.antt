@@ -1,27 +1,19 @@
 -- The check of the jobs, one after the other: what stands once no rule of the first n does.
 use Rattle.std.proofs.Common.{◌≡◌, ℕ, suc, ◌+◌, ◌-◌, ◌<◌, ◌≤◌, List, [], ◌∷◌, ◌++◌, length, map, None, refl, sym, ap, subst, arith, ◌∙◌, zero-add}
-use Rattle.std.specs.List.{AllByRecursion, range_with_len}
 use Rattle.std.proofs.lemmas.List.FromFn.{map-range_with_len_more}
-use Rattle.field_words.specs.declared.stop.Stop.{Stop}
-use Rattle.field_words.specs.declared.stop.Stop.TheVariants.{Fault, NoMemory}
-use Rattle.field_words.specs.Questions.{first_of, each, Refuses}
-use Rattle.field_words.specs.Writes.{placed, emitted, zeros}
+use Rattle.std.specs.List.{AllByRecursion, range_with_len}
+use Rattle.field_words.specs.{declared.stop.Stop.Stop, declared.stop.Stop.TheVariants.Fault, declared.stop.Stop.TheVariants.NoMemory}
+use Rattle.field_words.specs.{Questions.first_of, Questions.each, Questions.Refuses, Writes.placed, Writes.emitted, Writes.zeros}
 use Rattle.field_words.proofs.Questions.{each_on, each_stop, each_end}
 use Rattle.buffer_table.specs.Sound.{IsSound}
-use Rattle.job_format.specs.declared.rule.Refusal.{Refusal}
-use Rattle.job_format.specs.Model.{FileModel}
-use Rattle.relocation.specs.declared.layout.Layout.{Layout}
-use Rattle.relocation.specs.declared.layout.Lengths.{Lengths}
-use Rattle.relocation.specs.Layout.{region_end, begins_after}
-use Rattle.job_check.specs.declared.region.Region.{Region}
-use Rattle.job_check.specs.Jobs.{lists_room, lists_begin, layout_of, layouts_of}
-use Rattle.job_check.specs.Faults.{job_stages}
+use Rattle.job_format.specs.{declared.rule.Refusal.Refusal, Model.FileModel}
+use Rattle.relocation.specs.{declared.layout.Layout.Layout, declared.layout.Lengths.Lengths, Layout.region_end, Layout.begins_after}
 use Rattle.job_check.specs.Emit.{PartsFit, list_parts, lengths_of, all_lengths_of, InOrder, IsInside, IsPlacedFor}
 use Rattle.job_check.specs.Region.{region_size, region_from, region_parts, regions_parts, region_of, IsRegion}
-use Rattle.job_check.proofs.Emission.{placed-append}
-use Rattle.job_check.proofs.Layouts.{layout_order, next_inside}
+use Rattle.job_check.specs.{declared.region.Region.Region, Jobs.lists_room, Jobs.lists_begin, Jobs.layout_of, Jobs.layouts_of}
+use Rattle.job_check.specs.Faults.{job_stages}
 use Rattle.job_check.proofs.Regions.{emitted_grown, fit_more, fit_moved, fit_append, size_more, size_before, from_is, zeros_long}
-use Rattle.job_check.proofs.Windows.{length_placed}
+use Rattle.job_check.proofs.{Emission.placed-append, Layouts.layout_order, Layouts.next_inside, Windows.length_placed}
 
 pub record SoFar (f : FileModel) (n : ℕ) (bytes : List ℕ) (layouts : List Layout) (lengths : List Lengths) (place : ℕ) : Type 0 where
   pub asked : first_of (each (job_stages f) n (length f.jobs - n)) ≡ first_of (each (job_stages f) 0 (length f.jobs))

@@ -5,20 +5,17 @@ use Rattle.std.proofs.lemmas.List.{places, same_lists, length-map, length-append
 use Rattle.field_words.specs.Writes.{Part, placed, with_bytes, zeros, emitted}
 use Rattle.field_words.proofs.Writes.{length-with_bytes}
 use Rattle.phys_mem.specs.Window.{window_of, with_window}
-use Rattle.buffer_table.specs.declared.buffer.Buffer.{Buffer}
-use Rattle.buffer_table.specs.declared.item.Item.{Item}
+use Rattle.buffer_table.specs.{declared.buffer.Buffer.Buffer, declared.item.Item.Item, Sound.IsSound, Sound.AreApart}
 use Rattle.buffer_table.specs.Table.{no_buffer, item_at, items_of, buffer_item}
-use Rattle.buffer_table.specs.Sound.{IsSound, AreApart}
 use Rattle.buffer_table.proofs.Sounds.{item_of_entry}
 use Rattle.job_format.specs.Model.{FileModel}
 use Rattle.relocation.specs.Layout.{region_end}
-use Rattle.job_check.specs.Jobs.{lists_begin, layout_of, lists_room}
 use Rattle.job_check.specs.Emit.{PartsFit, moved, list_parts, memory_parts, jobs_parts, memory_of, content_parts}
+use Rattle.job_check.specs.Jobs.{lists_begin, layout_of, lists_room}
 use Rattle.job_check.specs.Region.{region_size, region_from, region_parts, regions_parts, region_of}
-use Rattle.job_check.proofs.Emission.{placed-append}
-use Rattle.job_check.proofs.Layouts.{begin_from, next_begins, lists_inside}
-use Rattle.phys_mem.proofs.Parts.{window_long}
+use Rattle.job_check.proofs.{Emission.placed-append, Layouts.begin_from, Layouts.next_begins, Layouts.lists_inside}
 use Rattle.job_check.proofs.Windows.{window_placed, length_placed}
+use Rattle.phys_mem.proofs.Parts.{window_long}
 
 -- Writes into a list don't touch what is behind it.
 write_grown : (m behind : List ℕ) (at : ℕ) (bytes : List ℕ) → at + length bytes ≤ length m → with_bytes (m ++ behind) at bytes ≡ with_bytes m at bytes ++ behind

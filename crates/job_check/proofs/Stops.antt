@@ -1,15 +1,10 @@
 -- A fault of the format is the first rule of all that stands, and want of memory hides none.
 use Rattle.std.proofs.Common.{ℕ, List, Err}
-use Rattle.field_words.specs.Questions.{Refuses, NeverHidesFault, answered}
-use Rattle.field_words.specs.declared.stop.Stop.{Stop}
+use Rattle.field_words.specs.{Questions.Refuses, Questions.NeverHidesFault, Questions.answered, declared.stop.Stop.Stop}
 use Rattle.field_words.specs.declared.stop.Stop.TheVariants.{Fault, NoMemory}
 use Rattle.field_words.proofs.Questions.{answered_none, answered_some, stops}
-use Rattle.job_format.specs.declared.rule.FormatFault.{FormatFault}
-use Rattle.job_format.specs.Faults.{format_questions}
-use Rattle.job_format.specs.Reading.{file_at}
-use Rattle.job_format.specs.declared.file.JobFile.{JobFile}
-use Rattle.job_check.specs.Faults.{stages_within}
-use Rattle.job_check.specs.Whole.{questions_within, format_refused, format_stopped}
+use Rattle.job_format.specs.{declared.rule.FormatFault.FormatFault, Faults.format_questions, Reading.file_at, declared.file.JobFile.JobFile}
+use Rattle.job_check.specs.{Faults.stages_within, Whole.questions_within, Whole.format_refused, Whole.format_stopped}
 
 pub stopped : (limit : ℕ) (bytes : List ℕ) (stop : Stop FormatFault) → Refuses (format_questions bytes) stop → Refuses (questions_within limit bytes) (format_stopped stop)
 unfolding questions_within

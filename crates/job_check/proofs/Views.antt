@@ -2,46 +2,26 @@
 use Rattle.std.proofs.Common.{◌≡◌, ℕ, ◌+◌, ◌≤◌, Bool, true, false, List, [], ◌++◌, length, take, drop, is_some, Some, None, Option, refl, sym, ap, subst, arith, add-zero, ◌∙◌}
 use Rattle.std.proofs.lemmas.List.{take-append-drop}
 use Rattle.std.specs.Prelude.{if◌then◌else◌}
-use Rattle.field_words.specs.Writes.{placed, with_bytes}
-use Rattle.field_words.specs.declared.stop.Stop.{Stop}
+use Rattle.field_words.specs.{Writes.placed, Writes.with_bytes, declared.stop.Stop.Stop}
 use Rattle.field_words.specs.Questions.{first_of, answered, Refuses}
 use Rattle.field_words.proofs.Questions.{answered_none, answered_some}
 use Rattle.phys_mem.specs.Window.{window_of, with_window}
 use Rattle.buffer_table.specs.Table.{TableModel}
-use Rattle.job_format.specs.declared.file.Frame.{Frame}
-use Rattle.job_format.specs.declared.rule.Refusal.{Refusal}
-use Rattle.job_format.specs.Model.{FileModel, JobModel}
-use Rattle.relocation.specs.declared.layout.Layout.{Layout}
-use Rattle.relocation.specs.declared.layout.Lengths.{Lengths}
-use Rattle.relocation.specs.Layout.{region_end}
-use Rattle.render_list.specs.Frame.{IsTileSet, IsSetupFor}
-use Rattle.render_list.specs.Length.{render_length}
-use Rattle.render_list.specs.Text.{render_text}
+use Rattle.job_format.specs.{declared.file.Frame.Frame, declared.rule.Refusal.Refusal, Model.FileModel, Model.JobModel}
+use Rattle.relocation.specs.{declared.layout.Layout.Layout, declared.layout.Lengths.Lengths, Layout.region_end}
+use Rattle.render_list.specs.{Frame.IsTileSet, Frame.IsSetupFor, Length.render_length, Text.render_text}
 use Rattle.render_list.proofs.Length.{length_render}
-use Rattle.bin_list.specs.declared.info.BinInfo.{BinInfo}
-use Rattle.bin_list.specs.declared.state.State.{State}
-use Rattle.bin_list.specs.declared.fault.ListFault.{ListFault}
-use Rattle.bin_list.specs.Packets.{packets, passed}
-use Rattle.bin_list.specs.Seen.{seen_before}
-use Rattle.bin_list.specs.States.{states_of}
-use Rattle.bin_list.specs.Emitted.{bin_text}
-use Rattle.bin_list.specs.Info.{IsInfo}
-use Rattle.bin_list.specs.Rules.{bin_questions}
+use Rattle.bin_list.specs.{declared.info.BinInfo.BinInfo, declared.state.State.State, declared.fault.ListFault.ListFault, Seen.seen_before}
+use Rattle.bin_list.specs.{Packets.packets, Packets.passed, States.states_of, Emitted.bin_text, Info.IsInfo, Rules.bin_questions}
 use Rattle.qpu_isa.specs.Shader.{ShaderModel}
-use Rattle.shader_records.specs.declared.fault.RecordFault.{RecordFault}
-use Rattle.shader_records.specs.Inputs.{InputModel}
-use Rattle.shader_records.specs.Rules.{all_questions}
+use Rattle.shader_records.specs.{declared.fault.RecordFault.RecordFault, Inputs.InputModel, Rules.all_questions, Emitted.streams_place}
 use Rattle.shader_records.specs.Emission.{emitted_records, emitted_uniforms}
-use Rattle.shader_records.specs.Emitted.{streams_place}
 use Rattle.shader_records.proofs.Lengths.{length_records, length_uniforms, offset_le, stream_le, record_end, uniform_end}
-use Rattle.job_check.specs.Shaders.{table_of}
 use Rattle.job_check.specs.Jobs.{job_of, has_bin, grid_from, grid_of, slot_of, places_in, render_list_of, layout_of, states_in, input_for, bin_list_of, records_of, streams_of}
 use Rattle.job_check.specs.Faults.{bin_refused, bin_stage, record_refused, records_stage, surfaces_stage, lists_stages}
-use Rattle.job_check.specs.Context.{InView, IsContext}
+use Rattle.job_check.specs.{Shaders.table_of, Context.InView, Context.IsContext, Told.IsBinOf}
 use Rattle.job_check.specs.Emit.{PartsFit, list_parts, later_parts, moved, memory_parts, lengths_of}
-use Rattle.job_check.specs.Told.{IsBinOf}
-use Rattle.job_check.proofs.Layouts.{room_is, layout_numbers, layout_apart, lists_inside}
-use Rattle.job_check.proofs.Windows.{window_placed}
+use Rattle.job_check.proofs.{Layouts.room_is, Layouts.layout_numbers, Layouts.layout_apart, Layouts.lists_inside, Windows.window_placed}
 
 -- there is a grid exactly where there is a binner list
 some_if : {X : Type 0} (b : Bool) (x : X) → is_some (if b then Some x else None) ≡ b

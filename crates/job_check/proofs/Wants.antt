@@ -1,16 +1,13 @@
 -- What want of memory hides.
 use Rattle.std.proofs.Common.{◌≡◌, ℕ, zero, suc, ◌+◌, ◌<◌, Bool, true, false, List, ◌++◌, length, Result, Ok, Err, Option, None, Some, if◌then◌else◌, refl, sym, ap, arith, ◌∙◌, append_assoc, append-nil}
-use Rattle.field_words.specs.declared.stop.Stop.{Stop}
-use Rattle.field_words.specs.declared.stop.Stop.TheVariants.{Fault, NoMemory}
+use Rattle.field_words.specs.{declared.stop.Stop.Stop, declared.stop.Stop.TheVariants.Fault, declared.stop.Stop.TheVariants.NoMemory}
 use Rattle.field_words.specs.Questions.{Question, first_of, each, answered, NeverHidesFault}
 use Rattle.field_words.proofs.Questions.{passes}
-use Rattle.buffer_table.specs.declared.buffer.Kind.{Kind}
-use Rattle.buffer_table.specs.declared.buffer.Kind.TheVariants.{Plain, Code}
-use Rattle.job_format.specs.declared.rule.Refusal.{Refusal}
+use Rattle.buffer_table.specs.{declared.buffer.Kind.Kind, declared.buffer.Kind.TheVariants.Plain, declared.buffer.Kind.TheVariants.Code}
 use Rattle.buffer_table.specs.Table.{buffer_at}
-use Rattle.job_format.specs.Model.{FileModel}
-use Rattle.job_check.specs.Shaders.{content_of, code_questions}
+use Rattle.job_format.specs.{declared.rule.Refusal.Refusal, Model.FileModel}
 use Rattle.job_check.specs.Faults.{shader_refused, shader_questions_in, shader_stage, whole_questions_in, whole_stage, HidesNoShader}
+use Rattle.job_check.specs.Shaders.{content_of, code_questions}
 
 -- where no question stands, want of memory hides none
 pub never_hidden : {X F : Type 0} (questions : List (Question F)) (result : Result X (Stop F)) → first_of questions ≡ None → NeverHidesFault questions result

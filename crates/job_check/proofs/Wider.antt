@@ -1,9 +1,7 @@
 -- A job file in which no rule stands is one in which none stands under the greatest limit of a memory.
 use Rattle.std.proofs.Common.{◌≡◌, ◌++◌, None, arith, ◌∙◌}
-use Rattle.field_words.specs.Questions.{first_of}
-use Rattle.field_words.specs.Sizes.{most_memory}
-use Rattle.field_words.proofs.Questions.{passes, answered_none}
-use Rattle.field_words.proofs.Nones.{front_none, rest_none, none_answered}
+use Rattle.field_words.specs.{Questions.first_of, Sizes.most_memory}
+use Rattle.field_words.proofs.{Questions.passes, Questions.answered_none, Nones.front_none, Nones.rest_none, Nones.none_answered}
 use Rattle.buffer_table.specs.Table.{most_place, table_within}
 use Rattle.buffer_table.proofs.Laxer.{laxer}
 use Rattle.job_format.specs.Model.{FileModel}

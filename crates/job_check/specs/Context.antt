@@ -1,16 +1,11 @@
 -- A job in view: a file in whose memory table and shaders no rule stands, and one of its jobs, each of whose handles names a buffer
 -- of the job's client, and whose lists begin in the lists' region or where it ends.
 use Rattle.std.specs.Prelude.{◌≡◌, ℕ, ◌<◌, ◌≤◌, List, length, Option}
-use Rattle.buffer_table.specs.Table.{TableModel}
-use Rattle.buffer_table.specs.Handles.{AreNumbersOf}
-use Rattle.buffer_table.specs.Sound.{IsSound}
-use Rattle.job_format.specs.File.{IsWellFormed, IsJobWellFormed}
-use Rattle.job_format.specs.Model.{FileModel, JobModel}
-use Rattle.relocation.specs.declared.layout.Layout.{Layout}
-use Rattle.relocation.specs.Layout.{region_end}
+use Rattle.buffer_table.specs.{Table.TableModel, Handles.AreNumbersOf, Sound.IsSound}
+use Rattle.job_format.specs.{File.IsWellFormed, File.IsJobWellFormed, Model.FileModel, Model.JobModel}
+use Rattle.relocation.specs.{declared.layout.Layout.Layout, Layout.region_end}
 use Rattle.qpu_isa.specs.Shader.{ShaderModel}
-use Rattle.job_check.specs.Shaders.{table_of, AreShadersIn}
-use Rattle.job_check.specs.Jobs.{job_of, lists_begin, layout_of}
+use Rattle.job_check.specs.{Shaders.table_of, Shaders.AreShadersIn, Jobs.job_of, Jobs.lists_begin, Jobs.layout_of}
 
 -- what contracts see: the file, and the job's number
 pub record InView : Type 0 where

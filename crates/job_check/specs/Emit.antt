@@ -1,15 +1,12 @@
 -- The memory of an accepted file: zeros, but for the contents of each buffer at its place and the lists of each job in the lists' region.
 use Rattle.std.specs.Prelude.{◌≡◌, ℕ, zero, suc, ◌+◌, ◌%◌, ◌≤◌, ◌<◌, List, [], ◌∷◌, ◌++◌, length, map}
 use Rattle.std.specs.List.{AllByRecursion, range_with_len}
-use Rattle.field_words.specs.Sizes.{most_memory}
-use Rattle.field_words.specs.Writes.{Part, emitted}
+use Rattle.field_words.specs.{Sizes.most_memory, Writes.Part, Writes.emitted}
 use Rattle.buffer_table.specs.declared.buffer.Buffer.{Buffer}
 use Rattle.job_format.specs.Model.{FileModel}
-use Rattle.relocation.specs.declared.layout.Layout.{Layout}
-use Rattle.relocation.specs.declared.layout.Lengths.{Lengths}
-use Rattle.job_check.specs.declared.check.Checked.{Checked}
-use Rattle.job_check.specs.declared.region.Lists.{Lists}
+use Rattle.relocation.specs.{declared.layout.Layout.Layout, declared.layout.Lengths.Lengths}
 use Rattle.job_check.specs.Jobs.{layout_of, end_of, layouts_of, bin_list_of, records_of, streams_of, render_list_of}
+use Rattle.job_check.specs.{declared.check.Checked.Checked, declared.region.Lists.Lists}
 
 -- contents at the places of their buffers
 unfoldable pub content_parts : List Buffer → List (List ℕ) → List Part

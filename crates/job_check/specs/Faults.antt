@@ -1,30 +1,21 @@
 -- All rules that can refuse a file that was read, in the order of refusal: the memory table, the shaders by buffer,
 -- and then job by job its handles, its binner list, its shader records with their uniforms, its frame and surfaces, and its layout.
 use Rattle.std.specs.Prelude.{◌≡◌, ℕ, Bool, not, ◌+◌, ◌*◌, ◌%◌, ◌==◌, ◌<◌, nat_lt, List, [], ◌∷◌, ◌++◌, length, None, Result, Ok, Err, if◌then◌else◌}
-use Rattle.field_words.specs.Questions.{Question, Ask, first_of, each, answered}
-use Rattle.field_words.specs.declared.stop.Stop.{Stop}
-use Rattle.field_words.specs.declared.stop.Stop.TheVariants.{Fault, NoMemory}
-use Rattle.buffer_table.specs.declared.buffer.TableFault.{TableFault}
-use Rattle.buffer_table.specs.declared.buffer.Kind.{Kind}
+use Rattle.field_words.specs.{Questions.Question, Questions.Ask, Questions.first_of, Questions.each, Questions.answered, Sizes.most_memory}
+use Rattle.field_words.specs.{declared.stop.Stop.Stop, declared.stop.Stop.TheVariants.Fault, declared.stop.Stop.TheVariants.NoMemory}
+use Rattle.buffer_table.specs.{declared.buffer.TableFault.TableFault, declared.buffer.Kind.Kind, Handles.handles_questions}
 use Rattle.buffer_table.specs.declared.buffer.Kind.TheVariants.{Plain, Code}
 use Rattle.buffer_table.specs.Table.{most_place, table_within, buffer_at}
-use Rattle.buffer_table.specs.Handles.{handles_questions}
-use Rattle.job_format.specs.declared.rule.Stage.{Stage}
 use Rattle.job_format.specs.declared.rule.Stage.TheVariants.{M, S, H, B, G, X}
-use Rattle.job_format.specs.declared.rule.Refusal.{Refusal}
-use Rattle.job_format.specs.Model.{FileModel}
-use Rattle.render_list.specs.declared.fault.RenderFault.{RenderFault}
-use Rattle.render_list.specs.Surfaces.{surface_faults}
-use Rattle.bin_list.specs.declared.fault.ListFault.{ListFault}
-use Rattle.bin_list.specs.Rules.{bin_questions}
+use Rattle.job_format.specs.{declared.rule.Stage.Stage, declared.rule.Refusal.Refusal, Model.FileModel}
+use Rattle.render_list.specs.{declared.fault.RenderFault.RenderFault, Surfaces.surface_faults}
+use Rattle.bin_list.specs.{declared.fault.ListFault.ListFault, Rules.bin_questions}
 use Rattle.relocation.specs.Layout.{region_end}
-use Rattle.shader_records.specs.declared.fault.RecordFault.{RecordFault}
-use Rattle.shader_records.specs.Rules.{all_questions}
-use Rattle.job_check.specs.Jobs.{job_of, has_bin, grid_of, input_for, layout_of, end_of}
-use Rattle.shader_check.specs.declared.fault.ShaderFault.{ShaderFault}
-use Rattle.job_check.specs.Shaders.{table_of, content_of, code_questions}
+use Rattle.shader_records.specs.{declared.fault.RecordFault.RecordFault, Rules.all_questions}
 use Rattle.job_check.specs.Offsets.{item_offset, shader_offset, job_offset, handles_offset, bin_offset, records_offset, uniforms_offset, surface_offset, layout_offset}
-use Rattle.field_words.specs.Sizes.{most_memory}
+use Rattle.job_check.specs.Jobs.{job_of, has_bin, grid_of, input_for, layout_of, end_of}
+use Rattle.job_check.specs.Shaders.{table_of, content_of, code_questions}
+use Rattle.shader_check.specs.declared.fault.ShaderFault.{ShaderFault}
 
 -- a refusal by a rule, at a place in the file
 abbrev pub refused : Stage → ℕ → ℕ → Refusal

@@ -1,24 +1,14 @@
 -- The jobs of a file, and where the lists of each go.
 use Rattle.std.specs.Prelude.{ℕ, zero, suc, ◌+◌, ◌==◌, Bool, not, ◌&&◌, false, nat_le, List, [], length, map, slice_index_or, Option, Some, None, if◌then◌else◌}
-use Rattle.bin_list.specs.declared.seen.Seen.{Seen}
-use Rattle.bin_list.specs.declared.state.State.{State}
-use Rattle.bin_list.specs.Packets.{packets, passed}
-use Rattle.bin_list.specs.States.{states_of}
-use Rattle.bin_list.specs.Seen.{seen_before}
-use Rattle.bin_list.specs.Emitted.{bin_text}
-use Rattle.shader_records.specs.Inputs.{InputModel}
-use Rattle.shader_records.specs.Emission.{emitted_records, emitted_uniforms}
-use Rattle.shader_records.specs.Emitted.{streams_place}
+use Rattle.std.specs.List.{range_with_len}
+use Rattle.bin_list.specs.{declared.seen.Seen.Seen, declared.state.State.State, Packets.packets, Packets.passed, States.states_of}
+use Rattle.bin_list.specs.{Seen.seen_before, Emitted.bin_text}
+use Rattle.shader_records.specs.{Inputs.InputModel, Emission.emitted_records, Emission.emitted_uniforms, Emitted.streams_place}
 use Rattle.job_check.specs.Shaders.{table_of, shaders_of}
 use Rattle.tile_memory.specs.Slots.{slot_place}
-use Rattle.std.specs.List.{range_with_len}
-use Rattle.job_format.specs.declared.file.Frame.{Frame}
-use Rattle.job_format.specs.Model.{FileModel, JobModel}
-use Rattle.relocation.specs.declared.layout.Layout.{Layout}
-use Rattle.relocation.specs.Layout.{layout_at, lists_end, begins_after}
-use Rattle.render_list.specs.Surfaces.{places_of}
-use Rattle.render_list.specs.Text.{render_text}
-use Rattle.render_list.specs.Length.{render_length}
+use Rattle.job_format.specs.{declared.file.Frame.Frame, Model.FileModel, Model.JobModel}
+use Rattle.relocation.specs.{declared.layout.Layout.Layout, Layout.layout_at, Layout.lists_end, Layout.begins_after}
+use Rattle.render_list.specs.{Surfaces.places_of, Text.render_text, Length.render_length}
 
 -- job j; past the end a job of nothing
 abbrev pub no_frame : Frame

@@ -1,8 +1,7 @@
 -- Where the things that rules speak of stand in the file: header, buffer entries, job entries,
 -- contents, and then each job's parts, its handles first.
 use Rattle.std.specs.Prelude.{ℕ, ◌+◌, ◌-◌, ◌*◌, ◌==◌, length, map, sum, sum_by, take, if◌then◌else◌}
-use Rattle.job_format.specs.Offsets.{entry_offset, job_size}
-use Rattle.job_format.specs.Model.{FileModel, JobModel}
+use Rattle.job_format.specs.{Offsets.entry_offset, Offsets.job_size, Model.FileModel, Model.JobModel}
 use Rattle.job_check.specs.Jobs.{job_of}
 use Rattle.shader_check.specs.declared.fault.ShaderFault.{ShaderFault}
 

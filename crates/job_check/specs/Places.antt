@@ -1,12 +1,10 @@
 -- Where a refusal stands, as a part of the file and an offset in that part: what a caller needs who has the parts and no file.
 use Rattle.std.specs.Prelude.{◌≡◌, ◌≤◌, ℕ, ◌==◌, length, if◌then◌else◌}
-use Rattle.job_format.specs.declared.rule.Stage.{Stage}
 use Rattle.job_format.specs.declared.rule.Stage.TheVariants.{F, M, S, H, B, A, U, G, X}
-use Rattle.job_format.specs.Offsets.{entry_offset}
-use Rattle.job_format.specs.Model.{FileModel}
-use Rattle.job_check.specs.declared.places.Part.{Part}
+use Rattle.job_format.specs.{declared.rule.Stage.Stage, Offsets.entry_offset, Model.FileModel}
 use Rattle.job_check.specs.declared.places.Part.TheVariants.{Header, BufferEntry, JobEntry, Content, Handles, BinList, Records, Uniforms}
 use Rattle.job_check.specs.Offsets.{job_offset, content_offset, handles_offset, bin_offset, records_offset, uniforms_offset}
+use Rattle.job_check.specs.declared.places.Part.{Part}
 
 -- The part that a rule speaks of. A shader without words is told at its buffer's entry, and uniforms that are cut off (A8) where they
 -- end; the rules on the memory and its regions are told in the header.

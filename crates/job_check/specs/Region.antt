@@ -1,18 +1,13 @@
 -- The lists of all jobs of a file as one stretch of bytes, from where the lists of job 0 begin to where those of the last job end: zeros,
 -- but for the lists. Where the file is accepted, this is what the memory holds there.
 use Rattle.std.specs.Prelude.{◌≡◌, ℕ, zero, suc, ◌+◌, ◌-◌, ◌≤◌, List, [], ◌++◌, length, None}
-use Rattle.std.specs.List.{AllByRecursion}
-use Rattle.field_words.specs.Questions.{first_of}
-use Rattle.field_words.specs.Writes.{Part, emitted}
+use Rattle.std.specs.{List.AllByRecursion, Prelude.Option}
+use Rattle.field_words.specs.{Questions.first_of, Writes.Part, Writes.emitted}
 use Rattle.job_format.specs.Model.{FileModel}
 use Rattle.qpu_isa.specs.Shader.{ShaderModel}
-use Rattle.std.specs.Prelude.{Option}
 use Rattle.relocation.specs.Layout.{region_end}
-use Rattle.job_check.specs.declared.region.Region.{Region}
-use Rattle.job_check.specs.Shaders.{AreShadersIn}
-use Rattle.job_check.specs.Jobs.{layout_of, end_of, layouts_of}
-use Rattle.job_check.specs.Faults.{shaders_stage}
-use Rattle.job_check.specs.Emit.{PartsFit, IsInside, list_parts, moved, all_lengths_of}
+use Rattle.job_check.specs.{declared.region.Region.Region, Shaders.AreShadersIn, Jobs.layout_of, Jobs.end_of, Jobs.layouts_of}
+use Rattle.job_check.specs.{Faults.shaders_stage, Emit.PartsFit, Emit.IsInside, Emit.list_parts, Emit.moved, Emit.all_lengths_of}
 
 -- how many bytes the lists of the first n jobs take, with what lies between them
 unfoldable pub region_size : FileModel → ℕ → ℕ

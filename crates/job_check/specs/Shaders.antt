@@ -1,19 +1,15 @@
 -- The shaders of a file. Each Code buffer holds one, whether or not a job names it: the words that its contents spell.
 use Rattle.std.specs.Prelude.{◌≡◌, ℕ, ◌*◌, ◌/◌, ◌%◌, ◌==◌, not, List, [], ◌∷◌, length, map, slice_index_or, Option, Some, None}
 use Rattle.std.specs.List.{range_with_len}
-use Rattle.field_words.specs.Words.{u64_at}
-use Rattle.field_words.specs.Questions.{Question, Ask}
-use Rattle.buffer_table.specs.declared.buffer.Kind.{Kind}
-use Rattle.buffer_table.specs.declared.buffer.Kind.TheVariants.{Plain, Code}
+use Rattle.field_words.specs.{Words.u64_at, Questions.Question, Questions.Ask}
+use Rattle.buffer_table.specs.{declared.buffer.Kind.Kind, declared.buffer.Kind.TheVariants.Plain, declared.buffer.Kind.TheVariants.Code}
 use Rattle.buffer_table.specs.Table.{TableModel, buffer_at}
 use Rattle.job_format.specs.Model.{FileModel}
 use Rattle.qpu_isa.specs.Shader.{ShaderModel}
 use Rattle.shader_records.specs.Inputs.{AreShadersOf}
 use Rattle.shader_flow.specs.Flow.{is_threaded}
 use Rattle.uniform_stream.specs.Stream.{uniforms_of, address_words_of}
-use Rattle.shader_check.specs.declared.fault.ShaderFault.{ShaderFault}
-use Rattle.shader_check.specs.Info.{samples_of}
-use Rattle.shader_check.specs.Rules.{shader_questions}
+use Rattle.shader_check.specs.{declared.fault.ShaderFault.ShaderFault, Info.samples_of, Rules.shader_questions}
 
 -- the memory, the regions and the buffers of a file
 abbrev pub table_of : FileModel → TableModel

@@ -1,12 +1,9 @@
 -- What the stages tell of the lists of a job.
 use Rattle.std.specs.Prelude.{◌≡◌, ℕ, length, Some}
-use Rattle.bin_list.specs.Info.{MeetsState}
-use Rattle.bin_list.specs.Rules.{given_of}
-use Rattle.bin_list.specs.declared.info.BinInfo.{BinInfo}
+use Rattle.bin_list.specs.{Info.MeetsState, Rules.given_of, declared.info.BinInfo.BinInfo}
 use Rattle.shader_records.specs.declared.info.RecordInfo.{RecordInfo}
 use Rattle.job_format.specs.Model.{FileModel}
-use Rattle.job_check.specs.Shaders.{table_of}
-use Rattle.job_check.specs.Jobs.{job_of, grid_of, states_in, bin_list_of, records_of, streams_of}
+use Rattle.job_check.specs.{Shaders.table_of, Jobs.job_of, Jobs.grid_of, Jobs.states_in, Jobs.bin_list_of, Jobs.records_of, Jobs.streams_of}
 
 -- what is told of the binner list of job j: the grid, the states, and the length of the list that the hardware is given
 pub record IsBinOf (f : FileModel) (j : ℕ) (info : BinInfo) : Type 0 where

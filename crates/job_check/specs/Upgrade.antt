@@ -1,17 +1,9 @@
 -- A file and the same file as version 2 are alike in all but the version and the rules of the format: no other rule asks the version,
 -- and no entry moves.
 use Rattle.std.specs.Prelude.{◌≡◌, ℕ, List, None}
-use Rattle.field_words.specs.Words.{IsBytes}
-use Rattle.field_words.specs.Questions.{first_of}
-use Rattle.job_format.specs.Faults.{format_questions}
-use Rattle.job_format.specs.File.{upgraded}
-use Rattle.job_format.specs.Model.{FileModel}
-use Rattle.job_format.specs.Reading.{file_at}
-use Rattle.job_format.specs.Text.{file_text}
-use Rattle.job_check.specs.Jobs.{layouts_of}
-use Rattle.job_check.specs.Faults.{file_stages}
-use Rattle.job_check.specs.Emit.{memory_of, all_lengths_of}
-use Rattle.job_check.specs.Whole.{refusal_of}
+use Rattle.field_words.specs.{Words.IsBytes, Questions.first_of}
+use Rattle.job_format.specs.{Faults.format_questions, File.upgraded, Model.FileModel, Reading.file_at, Text.file_text}
+use Rattle.job_check.specs.{Jobs.layouts_of, Faults.file_stages, Emit.memory_of, Emit.all_lengths_of, Whole.refusal_of}
 
 -- The same rules with the same places in the file, and where none stands the same memory, layouts and lengths.
 pub record AreAlike (f g : FileModel) : Type 0 where

@@ -1,16 +1,11 @@
 -- All rules of a file, from its bytes on.
 use Rattle.std.specs.Prelude.{ℕ, ◌++◌, List, Option}
-use Rattle.field_words.specs.declared.stop.Stop.{Stop}
-use Rattle.field_words.specs.declared.stop.Stop.TheVariants.{Fault, NoMemory}
-use Rattle.field_words.specs.Questions.{Question, first_of, answered}
-use Rattle.job_format.specs.declared.rule.FormatFault.{FormatFault}
-use Rattle.job_format.specs.declared.rule.Refusal.{Refusal}
-use Rattle.job_format.specs.declared.rule.Stage.TheVariants.{F}
-use Rattle.job_format.specs.Faults.{format_questions}
-use Rattle.job_format.specs.Reading.{file_at}
+use Rattle.field_words.specs.{declared.stop.Stop.Stop, declared.stop.Stop.TheVariants.Fault, declared.stop.Stop.TheVariants.NoMemory}
+use Rattle.field_words.specs.{Questions.Question, Questions.first_of, Questions.answered, Sizes.most_memory}
+use Rattle.job_format.specs.{declared.rule.FormatFault.FormatFault, declared.rule.Refusal.Refusal, declared.rule.Stage.TheVariants.F}
+use Rattle.job_format.specs.{Faults.format_questions, Reading.file_at}
 use Rattle.job_check.specs.Faults.{refused, stages_within}
 use Rattle.buffer_table.specs.Table.{most_place}
-use Rattle.field_words.specs.Sizes.{most_memory}
 
 -- F: the format of the file
 abbrev pub format_refused : FormatFault → Refusal

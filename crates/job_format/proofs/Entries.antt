@@ -1,13 +1,9 @@
 -- A buffer's entry and its text, in both directions.
 use Rattle.std.proofs.Common.{◌≡◌, ℕ, zero, suc, ◌+◌, ◌<◌, ◌≤◌, ◌^◌, List, [], ◌∷◌, length, lit<, refl, sym, ap, subst, arith, ◌∙◌, add-zero}
-use Rattle.field_words.specs.Words.{IsBytes, u32_at}
-use Rattle.field_words.specs.Pieces.{IsPiece}
-use Rattle.buffer_table.specs.declared.buffer.Kind.{Kind}
-use Rattle.buffer_table.specs.declared.buffer.Kind.TheVariants.{Plain, Code}
+use Rattle.field_words.specs.{Words.IsBytes, Words.u32_at, Pieces.IsPiece}
+use Rattle.buffer_table.specs.{declared.buffer.Kind.Kind, declared.buffer.Kind.TheVariants.Plain, declared.buffer.Kind.TheVariants.Code}
 use Rattle.buffer_table.specs.declared.buffer.Buffer.{Buffer}
-use Rattle.job_format.specs.Text.{kind_number, buffer_text}
-use Rattle.job_format.specs.File.{BufferFits}
-use Rattle.job_format.specs.Reading.{kind_of, entry_at}
+use Rattle.job_format.specs.{Text.kind_number, Text.buffer_text, File.BufferFits, Reading.kind_of, Reading.entry_at}
 use Rattle.job_format.proofs.Fields.{Field, Word, text_of_all, AllFit, piece_of, read_back}
 
 abbrev buffer_fields : Buffer → List Field

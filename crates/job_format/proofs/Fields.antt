@@ -1,8 +1,7 @@
 -- Fields that stand one after the other: from what is read to the text, and back.
 use Rattle.std.proofs.Common.{◌≡◌, ℕ, ◌+◌, ◌<◌, ◌≤◌, ◌^◌, List, [], ◌∷◌, ◌++◌, length, take, drop, get_or, refl, sym, ap, subst, arith, ◌∙◌, add_assoc, add-zero, length-append, length-drop, get_or-drop}
 use Rattle.std.specs.Int.{to_le_bytes, w16, w32}
-use Rattle.field_words.specs.Words.{IsBytes, u16_at, u32_at}
-use Rattle.field_words.specs.Pieces.{IsPiece}
+use Rattle.field_words.specs.{Words.IsBytes, Words.u16_at, Words.u32_at, Pieces.IsPiece}
 use Rattle.field_words.proofs.Pieces.{join_two, front_piece, rest_piece}
 use Rattle.field_words.proofs.Numbers.{u16_piece, u32_piece, u16_of_piece, u32_of_piece}
 

@@ -1,15 +1,13 @@
 -- A file that is read from bytes has numbers that fit, and is well formed where no rule stands.
 use Rattle.std.proofs.Common.{◌≡◌, ℕ, zero, suc, ◌+◌, ◌*◌, ◌%◌, ◌<◌, ◌≤◌, ◌^◌, List, ◌∷◌, length, map, drop, refl, sym, ap, subst, arith, ◌∙◌}
 use Rattle.std.specs.List.{AllByRecursion, range_with_len}
-use Rattle.field_words.specs.Sizes.{most_list, most_code}
-use Rattle.field_words.specs.Words.{IsBytes, u32_at}
+use Rattle.field_words.specs.{Sizes.most_list, Sizes.most_code, Words.IsBytes, Words.u32_at}
 use Rattle.field_words.proofs.Numbers.{u16_fits, u32_fits, front_bytes, rest_bytes}
 use Rattle.job_format.specs.Offsets.{most_buffers, most_handles, most_jobs, most_first, most_states, version_in, buffer_count, job_count, entry_offset, job_offset, job_word, content_size, content_offset, handles_offset, bin_offset, records_offset, uniforms_offset}
 use Rattle.job_format.specs.Reading.{cut, kind_of, regions_at, surface_at, entry_at, frame_at, words_at, buffers_at, contents_at, job_at, jobs_at, file_at}
 use Rattle.job_format.specs.File.{BufferFits, SurfaceFits, FrameFits, JobFits, Fits, FitsShader, IsJobWellFormed, IsFirstVersion, IsWellFormed, IsFileOf}
-use Rattle.job_format.proofs.Passing.{Passes}
-use Rattle.job_format.proofs.Standing.{content_ends}
 use Rattle.job_format.proofs.Found.{length_buffers, length_jobs, length_cut, contents_in, job_reads, file_text_found}
+use Rattle.job_format.proofs.{Passing.Passes, Standing.content_ends}
 
 -- a fact of each item of a range
 all_in : {A : Type 0} (P : A → Type 0) (f : ℕ → A) (a n : ℕ) → ((k : ℕ) → a ≤ k → k < a + n → P (f k)) → AllByRecursion P (map f (range_with_len a n))

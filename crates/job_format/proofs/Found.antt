@@ -1,24 +1,16 @@
 -- Where no rule of the format stands, the bytes are the text of the file that they hold.
 use Rattle.std.proofs.Common.{◌≡◌, ℕ, zero, suc, ◌+◌, ◌*◌, ◌<◌, ◌≤◌, ◌==◌, List, [], ◌∷◌, ◌++◌, length, drop, refl, sym, ap, subst, arith, ◌∙◌, add-one, append_assoc, length-drop}
+use Rattle.std.proofs.{lemmas.List.append-nil, lemmas.List.length-take-le, lemmas.List.FromFn.length-map-range_with_len}
 use Rattle.std.specs.List.{flat_map}
-use Rattle.std.proofs.lemmas.List.{append-nil, length-take-le}
-use Rattle.std.proofs.lemmas.List.FromFn.{length-map-range_with_len}
-use Rattle.field_words.specs.Words.{IsBytes, u32_at}
-use Rattle.field_words.specs.Pieces.{IsPiece, joined}
-use Rattle.field_words.proofs.Pieces.{join_two}
-use Rattle.field_words.proofs.Numbers.{u32_piece}
-use Rattle.job_format.specs.Model.{FileModel}
-use Rattle.field_words.specs.WordBytes.{word}
-use Rattle.job_format.specs.Text.{flag, header_text, buffer_text, job_text, parts_text, file_text}
+use Rattle.field_words.specs.{Words.IsBytes, Words.u32_at, Pieces.IsPiece, Pieces.joined, WordBytes.word}
+use Rattle.field_words.proofs.{Pieces.join_two, Numbers.u32_piece}
 use Rattle.job_format.specs.Offsets.{buffer_count, job_count, entry_offset, job_offset, job_word, content_size, content_offset, handles_offset, bin_offset, records_offset, uniforms_offset, end_offset}
 use Rattle.job_format.specs.Reading.{cut, regions_at, entry_at, frame_at, words_at, buffers_at, contents_at, job_at, jobs_at, file_at}
-use Rattle.job_format.proofs.Entries.{buffer_piece}
-use Rattle.job_format.proofs.Heads.{HeaderReads, JobReads, header_piece, job_piece}
-use Rattle.job_format.proofs.Items.{flat_map_last}
+use Rattle.job_format.specs.{Model.FileModel, Text.flag, Text.header_text, Text.buffer_text, Text.job_text, Text.parts_text, Text.file_text}
 use Rattle.job_format.proofs.Listed.{words_none, words_more, buffers_none, buffers_more, contents_none, contents_more, jobs_none, jobs_more}
-use Rattle.job_format.proofs.Passing.{Passes}
 use Rattle.job_format.proofs.Standing.{content_offset_first, content_offset_step, handles_offset_first, handles_offset_step, parts_end}
-use Rattle.job_format.proofs.Tails.{IsTail, four_joined, tail_join, tail_end, tail_whole}
+use Rattle.job_format.proofs.{Entries.buffer_piece, Heads.HeaderReads, Heads.JobReads, Heads.header_piece, Heads.job_piece, Passing.Passes}
+use Rattle.job_format.proofs.{Items.flat_map_last, Tails.IsTail, Tails.four_joined, Tails.tail_join, Tails.tail_end, Tails.tail_whole}
 
 pub length_buffers : (bytes : List ℕ) (n : ℕ) → length (buffers_at bytes n) ≡ n
 unfolding buffers_at

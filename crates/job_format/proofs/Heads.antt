@@ -1,16 +1,10 @@
 -- The header and the job's entry, with its frame, and their texts, in both directions.
 use Rattle.std.proofs.Common.{◌≡◌, ℕ, zero, suc, ◌+◌, ◌*◌, ◌<◌, ◌≤◌, ◌^◌, Bool, true, false, ◌==◌, List, [], ◌∷◌, ◌++◌, length, get_or, lit<, refl, sym, ap, subst, arith, ◌∙◌, add-zero, append_assoc}
 use Rattle.std.specs.List.{flat_map, AllByRecursion}
-use Rattle.field_words.specs.Words.{IsBytes, u16_at, u32_at}
-use Rattle.field_words.specs.Pieces.{IsPiece}
-use Rattle.job_format.specs.declared.file.Surface.{Surface}
-use Rattle.job_format.specs.declared.file.Frame.{Frame}
-use Rattle.job_format.specs.Model.{JobModel, FileModel}
-use Rattle.field_words.specs.WordBytes.{half, word}
+use Rattle.field_words.specs.{Words.IsBytes, Words.u16_at, Words.u32_at, Pieces.IsPiece, WordBytes.half, WordBytes.word}
+use Rattle.job_format.specs.{declared.file.Surface.Surface, declared.file.Frame.Frame, Model.JobModel, Model.FileModel, Faults.magic}
 use Rattle.job_format.specs.Text.{flag, header_text, job_text, frame_text, surface_text}
-use Rattle.job_format.specs.File.{SurfaceFits, FrameFits, JobFits, Fits}
-use Rattle.job_format.specs.Faults.{magic}
-use Rattle.job_format.specs.Reading.{surface_at, frame_at}
+use Rattle.job_format.specs.{File.SurfaceFits, File.FrameFits, File.JobFits, File.Fits, Reading.surface_at, Reading.frame_at}
 use Rattle.job_format.proofs.Fields.{Field, Word, Half, Byte, widths, text_of_all, text_long, AreRead, AllFit, piece_of, read_back}
 
 abbrev header_fields : FileModel → List Field

@@ -1,9 +1,7 @@
 -- Items of a list that a loop meets in turn.
 use Rattle.std.proofs.Common.{◌≡◌, ℕ, zero, suc, ◌+◌, ◌<◌, ◌≤◌, List, [], ◌∷◌, ◌++◌, length, map, take, get_or, refl, sym, ap, subst, arith, ◌∙◌, add-one, append_assoc}
+use Rattle.std.proofs.{lemmas.List.append-nil, lemmas.List.map-append, lemmas.Grind.flat_map-append, Math.Seq.take-suc}
 use Rattle.std.specs.List.{flat_map, AllByRecursion}
-use Rattle.std.proofs.lemmas.List.{append-nil, map-append}
-use Rattle.std.proofs.lemmas.Grind.{flat_map-append}
-use Rattle.std.proofs.Math.Seq.{take-suc}
 use Rattle.field_words.specs.Pieces.{joined}
 
 -- what holds of each holds of the one that is met

@@ -1,18 +1,10 @@
 -- What the answer of the reader says of the bytes.
 use Rattle.std.proofs.Common.{◌≡◌, ◌↔◌, ℕ, List, Result, Ok, Err, Some, None, IfOk, sym, ◌∙◌, subst}
-use Rattle.field_words.specs.declared.stop.Stop.{Stop}
-use Rattle.field_words.specs.declared.stop.Stop.TheVariants.{Fault, NoMemory}
-use Rattle.field_words.specs.Words.{IsBytes}
-use Rattle.field_words.specs.Questions.{first_of, Answers}
-use Rattle.job_format.specs.declared.rule.FormatFault.{FormatFault}
-use Rattle.job_format.specs.Model.{FileModel}
-use Rattle.job_format.specs.Faults.{format_questions}
-use Rattle.job_format.specs.File.{IsFileOf, Reads}
+use Rattle.field_words.specs.{declared.stop.Stop.Stop, declared.stop.Stop.TheVariants.Fault, declared.stop.Stop.TheVariants.NoMemory}
+use Rattle.field_words.specs.{Words.IsBytes, Questions.first_of, Questions.Answers}
+use Rattle.job_format.specs.{declared.rule.FormatFault.FormatFault, Model.FileModel, Faults.format_questions, File.IsFileOf, File.Reads}
 use Rattle.job_format.specs.Reading.{file_at}
-use Rattle.job_format.proofs.Passing.{passes_all}
-use Rattle.job_format.proofs.Fitting.{is_file}
-use Rattle.job_format.proofs.Nones.{format_none}
-use Rattle.job_format.proofs.Only.{only_file}
+use Rattle.job_format.proofs.{Passing.passes_all, Fitting.is_file, Nones.format_none, Only.only_file}
 
 -- A file's text holds the file, and has no fault of the format.
 pub read_again : (bytes : List ℕ) (f : FileModel) → IsFileOf bytes f → (first_of (format_questions bytes) ≡ None) × (file_at bytes ≡ f)

@@ -1,10 +1,9 @@
 -- Lists that are read item by item: none, and one more.
 use Rattle.std.proofs.Common.{◌≡◌, ℕ, ◌+◌, ◌*◌, List, [], ◌∷◌, ◌++◌, map, refl, ap, ◌∙◌, zero-add}
-use Rattle.std.proofs.lemmas.List.{map-append}
-use Rattle.std.proofs.lemmas.List.FromFn.{map-range_with_len_more}
+use Rattle.std.proofs.{lemmas.List.map-append, lemmas.List.FromFn.map-range_with_len_more}
 use Rattle.field_words.specs.Words.{u32_at}
-use Rattle.job_format.specs.Offsets.{entry_offset, content_size, content_offset}
 use Rattle.job_format.specs.Reading.{cut, entry_at, words_at, buffers_at, contents_at, job_at, jobs_at}
+use Rattle.job_format.specs.Offsets.{entry_offset, content_size, content_offset}
 
 pub words_none : (bytes : List ℕ) (at : ℕ) → words_at bytes at 0 ≡ []
 unfolding words_at

@@ -1,13 +1,11 @@
 -- Where the bytes are a file, no rule of the format stands.
 use Rattle.std.proofs.Common.{◌≡◌, ℕ, zero, suc, ◌+◌, ◌<◌, ◌≤◌, List, ◌++◌, length, None, refl, arith, ◌∙◌}
 use Rattle.std.proofs.lemmas.Bool.{le-ltb}
-use Rattle.field_words.specs.Words.{u32_at}
-use Rattle.field_words.specs.Questions.{Question, first_of, each}
+use Rattle.field_words.specs.{Words.u32_at, Questions.Question, Questions.first_of, Questions.each}
 use Rattle.field_words.proofs.Questions.{passes, stands_none}
 use Rattle.job_format.specs.Faults.{header_questions, entry_questions, buffer_questions, job_entry_questions, job_questions, content_questions, parts_questions, end_questions, last_questions, rest_questions, jobs_and_rest_questions, body_questions, format_questions}
 use Rattle.job_format.specs.Offsets.{version_in, slot_count, buffer_count, job_count, entry_offset, job_offset, handles_offset, bin_offset, records_offset, uniforms_offset, end_offset}
-use Rattle.job_format.proofs.Found.{contents_in}
-use Rattle.job_format.proofs.Passing.{HeaderPasses, EntryPasses, JobPasses, Passes}
+use Rattle.job_format.proofs.{Found.contents_in, Passing.HeaderPasses, Passing.EntryPasses, Passing.JobPasses, Passing.Passes}
 use Rattle.job_format.proofs.Standing.{content_ends, handles_offset_step, parts_end}
 use Rattle.job_format.proofs.Versions.{version_none, buffers_none, handles_none, jobs_none, slots_none}
 

@@ -1,24 +1,19 @@
 -- The text of a file that fits and is well formed: no rule of the format stands, and it holds that file.
 use Rattle.std.proofs.Common.{◌≡◌, ℕ, zero, suc, ◌+◌, ◌*◌, ◌%◌, ◌<◌, ◌≤◌, ◌^◌, Bool, true, false, List, [], ◌∷◌, ◌++◌, length, map, drop, get_or, refl, sym, ap, subst, arith, ◌∙◌, append_assoc}
-use Rattle.std.specs.List.{flat_map, AllByRecursion, range_with_len}
 use Rattle.std.proofs.lemmas.List.{append-nil}
-use Rattle.field_words.specs.Sizes.{most_list, most_code}
-use Rattle.field_words.specs.Words.{u32_at}
-use Rattle.field_words.specs.Pieces.{IsPiece, joined}
+use Rattle.std.specs.List.{flat_map, AllByRecursion, range_with_len}
+use Rattle.field_words.specs.{Sizes.most_list, Sizes.most_code, Words.u32_at, Pieces.IsPiece, Pieces.joined, WordBytes.word}
 use Rattle.field_words.proofs.Numbers.{u32_of_piece}
-use Rattle.buffer_table.specs.declared.buffer.Kind.{Kind}
-use Rattle.buffer_table.specs.declared.buffer.Kind.TheVariants.{Plain, Code}
+use Rattle.buffer_table.specs.{declared.buffer.Kind.Kind, declared.buffer.Kind.TheVariants.Plain, declared.buffer.Kind.TheVariants.Code}
 use Rattle.buffer_table.specs.declared.buffer.Buffer.{Buffer}
-use Rattle.job_format.specs.Model.{JobModel, FileModel}
-use Rattle.field_words.specs.WordBytes.{word}
 use Rattle.job_format.specs.Text.{flag, kind_number, header_text, buffer_text, job_text, parts_text, file_text}
 use Rattle.job_format.specs.Offsets.{most_buffers, most_handles, most_jobs, most_first, most_states, version_in, slot_count, buffer_count, job_count, entry_offset, job_offset, job_word, content_size, content_offset, handles_offset, bin_offset, records_offset, uniforms_offset, end_offset}
 use Rattle.job_format.specs.Reading.{cut, regions_at, entry_at, words_at, buffers_at, contents_at, job_at, jobs_at, file_at}
+use Rattle.job_format.specs.Model.{JobModel, FileModel}
 use Rattle.job_format.specs.File.{BufferFits, JobFits, FitsShader, IsJobWellFormed, IsFileOf}
-use Rattle.job_format.proofs.Entries.{buffer_back}
-use Rattle.job_format.proofs.Heads.{HeaderReads, JobReads, SizesFit, header_back, job_back, job_long}
-use Rattle.job_format.proofs.Passing.{HeaderPasses, EntryPasses, JobPasses, Passes}
 use Rattle.job_format.proofs.Standing.{content_offset_first, content_offset_step, handles_offset_first, handles_offset_step}
+use Rattle.job_format.proofs.{Entries.buffer_back, Passing.HeaderPasses, Passing.EntryPasses, Passing.JobPasses, Passing.Passes}
+use Rattle.job_format.proofs.Heads.{HeaderReads, JobReads, SizesFit, header_back, job_back, job_long}
 use Rattle.job_format.proofs.Tails.{IsTail, four_joined, tail_front, tail_rest, end_of_tail, whole_tail}
 
 buffer_long : (b : Buffer) → length (buffer_text b) ≡ 20

@@ -1,16 +1,12 @@
 -- What each part of a file has where no rule of the format stands.
 use Rattle.std.proofs.Common.{◌≡◌, ℕ, ◌+◌, ◌-◌, ◌%◌, ◌<◌, ◌≤◌, List, length, None, get_or, refl, ap, arith}
-use Rattle.field_words.specs.Sizes.{most_list, most_code}
-use Rattle.field_words.specs.Words.{u32_at}
-use Rattle.field_words.specs.Questions.{Question, first_of, each}
-use Rattle.field_words.proofs.Questions.{none_stands}
-use Rattle.field_words.proofs.Nones.{front_none, rest_none, each_none}
+use Rattle.field_words.specs.{Sizes.most_list, Sizes.most_code, Words.u32_at, Questions.Question, Questions.first_of, Questions.each}
+use Rattle.field_words.proofs.{Questions.none_stands, Nones.front_none, Nones.rest_none, Nones.each_none}
 use Rattle.job_format.specs.Faults.{magic, header_questions, entry_questions, buffer_questions, job_entry_questions, job_questions, content_questions, parts_questions, end_questions, last_questions, rest_questions, jobs_and_rest_questions, body_questions, format_questions}
-use Rattle.job_format.specs.declared.rule.FormatFault.{FormatFault}
 use Rattle.job_format.specs.Offsets.{most_buffers, most_handles, most_jobs, most_first, most_states, version_in, slot_count, buffer_count, job_count, entry_offset, job_offset, handles_offset, end_offset}
-use Rattle.job_format.specs.Whole.{HasParts}
-use Rattle.job_format.proofs.Standing.{handles_offset_step}
+use Rattle.job_format.specs.{declared.rule.FormatFault.FormatFault, Whole.HasParts}
 use Rattle.job_format.proofs.Versions.{version_passes, buffers_pass, handles_pass, jobs_pass, slots_pass}
+use Rattle.job_format.proofs.Standing.{handles_offset_step}
 
 -- the header's facts
 pub record HeaderPasses (bytes : List ℕ) : Type 0 where

@@ -1,7 +1,6 @@
 -- The rest of a file from a place on, as a text.
 use Rattle.std.proofs.Common.{◌≡◌, ℕ, ◌+◌, ◌-◌, ◌≤◌, List, [], ◌++◌, length, take, drop, sym, ap, arith, ◌∙◌, append_assoc, length-append, length-drop}
-use Rattle.std.proofs.lemmas.List.{take-append-drop}
-use Rattle.std.proofs.Math.Seq.{drop-length}
+use Rattle.std.proofs.{lemmas.List.take-append-drop, Math.Seq.drop-length}
 use Rattle.field_words.specs.Pieces.{IsPiece}
 use Rattle.field_words.proofs.Pieces.{drop_drop, front_of, rest_of}
 

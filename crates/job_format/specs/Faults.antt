@@ -2,14 +2,10 @@
 -- first whether the file ends before it does, then its fields by offset.
 use Rattle.std.specs.Prelude.{ℕ, Bool, ◌+◌, ◌%◌, not, ◌&&◌, ◌||◌, nat_lt, ◌==◌, List, [], ◌∷◌, ◌++◌, length, slice_index, codes, if◌then◌else◌}
 use Rattle.std.specs.Int.{from_le_bytes, w32}
-use Rattle.field_words.specs.Words.{u32_at}
-use Rattle.field_words.specs.Sizes.{most_list, most_code}
-use Rattle.field_words.specs.Questions.{Question, Ask, each}
-use Rattle.job_format.specs.declared.rule.FormatFault.{FormatFault}
-use Rattle.job_format.specs.declared.rule.FormatRule.{FormatRule}
+use Rattle.field_words.specs.{Words.u32_at, Sizes.most_list, Sizes.most_code, Questions.Question, Questions.Ask, Questions.each}
 use Rattle.job_format.specs.declared.rule.FormatRule.TheVariants.{NotAJobFile, EndsEarly, BytesFollow, OverLimit, WithoutMeaning, LacksSlots}
-use Rattle.job_format.specs.Rules.{format_rule_number}
 use Rattle.job_format.specs.Offsets.{header_size, entry_size, job_size, most_jobs, most_states, buffer_limit, handle_limit, version_in, slot_count, buffer_count, job_count, entry_offset, job_offset, content_size, content_offset, handles_offset, bin_offset, records_offset, uniforms_offset, end_offset}
+use Rattle.job_format.specs.{declared.rule.FormatFault.FormatFault, declared.rule.FormatRule.FormatRule, Rules.format_rule_number}
 
 -- a fault by a rule at an offset in the file
 abbrev pub fault : FormatRule → ℕ → FormatFault

@@ -1,20 +1,13 @@
 -- When bytes are a job file: they are its text, its numbers fit their fields, and it is well formed.
 use Rattle.std.specs.Prelude.{◌≡◌, ℕ, ◌%◌, ◌≤◌, ◌<◌, ◌^◌, List, length, map, Result, Ok, Err}
 use Rattle.std.specs.List.{AllByRecursion}
-use Rattle.field_words.specs.Words.{IsBytes}
-use Rattle.field_words.specs.Sizes.{most_list, most_code}
-use Rattle.buffer_table.specs.declared.buffer.Kind.{Kind}
-use Rattle.buffer_table.specs.declared.buffer.Kind.TheVariants.{Plain, Code}
-use Rattle.buffer_table.specs.declared.buffer.Buffer.{Buffer}
-use Rattle.buffer_table.specs.declared.buffer.Regions.{Regions}
-use Rattle.field_words.specs.declared.stop.Stop.{Stop}
+use Rattle.field_words.specs.{Words.IsBytes, Sizes.most_list, Sizes.most_code, declared.stop.Stop.Stop}
 use Rattle.field_words.specs.declared.stop.Stop.TheVariants.{Fault, NoMemory}
-use Rattle.job_format.specs.declared.rule.FormatFault.{FormatFault}
-use Rattle.job_format.specs.declared.file.Surface.{Surface}
-use Rattle.job_format.specs.declared.file.Frame.{Frame}
-use Rattle.job_format.specs.Model.{JobModel, FileModel}
+use Rattle.buffer_table.specs.{declared.buffer.Kind.Kind, declared.buffer.Kind.TheVariants.Plain, declared.buffer.Kind.TheVariants.Code}
+use Rattle.buffer_table.specs.{declared.buffer.Buffer.Buffer, declared.buffer.Regions.Regions}
+use Rattle.job_format.specs.{declared.rule.FormatFault.FormatFault, declared.file.Surface.Surface, declared.file.Frame.Frame}
+use Rattle.job_format.specs.{Model.JobModel, Model.FileModel, Text.file_text}
 use Rattle.job_format.specs.Offsets.{most_buffers, most_handles, most_jobs, most_first, most_states}
-use Rattle.job_format.specs.Text.{file_text}
 
 -- Each number fits the bytes that hold it.
 pub record RegionsFit (r : Regions) : Type 0 where

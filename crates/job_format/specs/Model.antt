@@ -1,10 +1,7 @@
 -- A job file without where it lies in memory.
 use Rattle.std.specs.Prelude.{ℕ, List, map}
-use Rattle.buffer_table.specs.declared.buffer.Buffer.{Buffer}
-use Rattle.buffer_table.specs.declared.buffer.Regions.{Regions}
-use Rattle.job_format.specs.declared.file.Frame.{Frame}
-use Rattle.job_format.specs.declared.file.Job.{Job}
-use Rattle.job_format.specs.declared.file.JobFile.{JobFile}
+use Rattle.buffer_table.specs.{declared.buffer.Buffer.Buffer, declared.buffer.Regions.Regions}
+use Rattle.job_format.specs.{declared.file.Frame.Frame, declared.file.Job.Job, declared.file.JobFile.JobFile}
 
 pub record JobModel : Type 0 where
   pub client : ℕ

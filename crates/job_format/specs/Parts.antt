@@ -1,9 +1,7 @@
 -- A job file whose contents and lists are slices, without where it lies in memory.
 use Rattle.std.specs.Prelude.{ℕ, List, map}
-use Rattle.job_format.specs.declared.parts.Numbers.{Numbers}
+use Rattle.job_format.specs.{declared.parts.Numbers.Numbers, declared.parts.JobParts.JobParts, declared.parts.FileParts.FileParts}
 use Rattle.job_format.specs.declared.parts.Numbers.TheVariants.{Lent, Own}
-use Rattle.job_format.specs.declared.parts.JobParts.{JobParts}
-use Rattle.job_format.specs.declared.parts.FileParts.{FileParts}
 use Rattle.job_format.specs.Model.{JobModel, FileModel}
 
 abbrev pub numbers_in : Numbers → List ℕ

@@ -3,14 +3,10 @@
 use Rattle.std.specs.Prelude.{ℕ, ◌+◌, ◌*◌, ◌==◌, List, [], ◌∷◌, map, take, drop, slice_index, if◌then◌else◌}
 use Rattle.std.specs.List.{range_with_len}
 use Rattle.field_words.specs.Words.{u16_at, u32_at}
-use Rattle.buffer_table.specs.declared.buffer.Kind.{Kind}
-use Rattle.buffer_table.specs.declared.buffer.Kind.TheVariants.{Plain, Code}
-use Rattle.buffer_table.specs.declared.buffer.Buffer.{Buffer}
-use Rattle.buffer_table.specs.declared.buffer.Regions.{Regions}
-use Rattle.job_format.specs.declared.file.Surface.{Surface}
-use Rattle.job_format.specs.declared.file.Frame.{Frame}
-use Rattle.job_format.specs.Model.{JobModel, FileModel}
+use Rattle.buffer_table.specs.{declared.buffer.Kind.Kind, declared.buffer.Kind.TheVariants.Plain, declared.buffer.Kind.TheVariants.Code}
+use Rattle.buffer_table.specs.{declared.buffer.Buffer.Buffer, declared.buffer.Regions.Regions}
 use Rattle.job_format.specs.Offsets.{version_in, buffer_count, job_count, entry_offset, job_offset, job_word, content_size, content_offset, handles_offset, bin_offset, records_offset, uniforms_offset}
+use Rattle.job_format.specs.{declared.file.Surface.Surface, declared.file.Frame.Frame, Model.JobModel, Model.FileModel}
 
 -- n bytes from a place on
 abbrev pub cut : List ℕ → ℕ → ℕ → List ℕ

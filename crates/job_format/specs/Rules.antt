@@ -1,11 +1,8 @@
 -- The rules of the format by number, and how a rule is printed: its letter, and its number in decimal.
-use Rattle.std.specs.Prelude.{ℕ, List, ◌++◌, codes}
-use Rattle.std.specs.Fmt.{decimal}
-use Rattle.job_format.specs.declared.rule.FormatRule.{FormatRule}
+use Rattle.std.specs.{Prelude.ℕ, Prelude.List, Prelude.◌++◌, Prelude.codes, Fmt.decimal}
 use Rattle.job_format.specs.declared.rule.FormatRule.TheVariants.{NotAJobFile, EndsEarly, BytesFollow, OverLimit, WithoutMeaning, LacksSlots}
-use Rattle.job_format.specs.declared.rule.Stage.{Stage}
 use Rattle.job_format.specs.declared.rule.Stage.TheVariants.{F, M, S, H, B, A, U, G, X}
-use Rattle.job_format.specs.declared.rule.Rule.{Rule}
+use Rattle.job_format.specs.{declared.rule.FormatRule.FormatRule, declared.rule.Stage.Stage, declared.rule.Rule.Rule}
 
 abbrev pub format_rule_number : FormatRule → ℕ
 format_rule_number NotAJobFile = 1

@@ -1,15 +1,10 @@
 -- The text of a job file: its parts, one after the other. All numbers are little
 -- endian.
-use Rattle.std.specs.Prelude.{ℕ, Bool, true, false, List, [], ◌∷◌, ◌++◌, length, codes}
-use Rattle.std.specs.List.{flat_map}
-use Rattle.field_words.specs.Pieces.{joined}
-use Rattle.field_words.specs.WordBytes.{half, word}
-use Rattle.buffer_table.specs.declared.buffer.Kind.{Kind}
-use Rattle.buffer_table.specs.declared.buffer.Kind.TheVariants.{Plain, Code}
+use Rattle.std.specs.Prelude.{ℕ, Bool, true, false, List, [], ◌∷◌, ◌++◌, length, codes, flat_map}
+use Rattle.field_words.specs.{Pieces.joined, WordBytes.half, WordBytes.word}
+use Rattle.buffer_table.specs.{declared.buffer.Kind.Kind, declared.buffer.Kind.TheVariants.Plain, declared.buffer.Kind.TheVariants.Code}
 use Rattle.buffer_table.specs.declared.buffer.Buffer.{Buffer}
-use Rattle.job_format.specs.declared.file.Surface.{Surface}
-use Rattle.job_format.specs.declared.file.Frame.{Frame}
-use Rattle.job_format.specs.Model.{JobModel, FileModel}
+use Rattle.job_format.specs.{declared.file.Surface.Surface, declared.file.Frame.Frame, Model.JobModel, Model.FileModel}
 
 -- 36 bytes: the magic, the version, the memory's size, the two regions, the counts
 unfoldable pub header_text : FileModel → List ℕ

@@ -1,9 +1,8 @@
 -- Bytes that go on in steps.
 use Rattle.std.proofs.Common.{◌≡◌, ◌≤◌, ℕ, ◌+◌, ◌-◌, List, ◌++◌, length, take, drop, None, Some, sym, ap, ◌∙◌, append_assoc, length-drop, arith}
-use Rattle.std.proofs.Math.Seq.{take-add}
 use Rattle.std.proofs.lemmas.List.{take_rest, take_at, length-take-le, take-append-drop, drop-drop}
-use Rattle.std.specs.Io.KnownBytes.{Appends}
-use Rattle.std.specs.Prelude.{Option}
+use Rattle.std.proofs.Math.Seq.{take-add}
+use Rattle.std.specs.{Io.KnownBytes.Appends, Prelude.Option}
 
 -- what is left at a place, after its first bytes were copied to the front of a buffer
 pub given_front : (bytes front rest : List ℕ) (at n : ℕ) → at + n ≤ length bytes

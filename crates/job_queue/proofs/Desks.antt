@@ -1,15 +1,12 @@
 -- The queue stands for the past, call by call.
 use Rattle.std.proofs.Common.{◌≡◌, ℕ, zero, suc, ◌+◌, ◌%◌, ◌≤◌, ◌<◌, ◌==◌, Bool, true, false, max, nat_lt, List, [], ◌∷◌, ◌++◌, length, get_or, replicate, refl, sym, ◌∙◌, ap, arith, None, Ok, Err, eq-eqb, ne_eqb, get_or-set_other, get_or-set_same, length-append, if◌then◌else◌}
-use Rattle.std.proofs.lemmas.Bool.{false≢true, le-leb, lt-leb}
-use Rattle.std.proofs.Math.Bool.{or-false}
-use Rattle.std.proofs.lemmas.List.{length-replicate}
+use Rattle.std.proofs.{lemmas.Bool.false≢true, lemmas.Bool.le-leb, lemmas.Bool.lt-leb, Math.Bool.or-false, lemmas.List.length-replicate}
 use Rattle.std.proofs.lemmas.Bool.Decides.{nat_tests}
 use Rattle.std.specs.Prelude.{slice_index, slice_set}
-use Rattle.job_queue.specs.declared.queue.QueueFault.{QueueFault}
 use Rattle.job_queue.specs.declared.queue.QueueFault.TheVariants.{Full, Binning, NoJob, Waits, NotBinning, NotBinned}
-use Rattle.job_queue.specs.Past as past
 use Rattle.job_queue.specs.Past.{Job, Past, none_yet, is_in, meet, last_before, last_writer, reads_of, first_unknown, submit_answer, start_answer, bin_answer, render_answer, after_submit, after_start, after_bin, after_render}
-use Rattle.job_queue.specs.Desk.{Desk, Agrees, greatest, written}
+use Rattle.job_queue.specs.{declared.queue.QueueFault.QueueFault, Desk.Desk, Desk.Agrees, Desk.greatest, Desk.written}
+use Rattle.job_queue.specs.Past as past
 use Rattle.job_queue.proofs.Writers.{greatest_is, all_before, with_last, writer_last, writer_old, written_at, written_size}
 
 -- an item inside of a list is the same whatever stands for one outside

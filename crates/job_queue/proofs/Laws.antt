@@ -1,11 +1,9 @@
 -- Binning of a job starts only after each earlier writer of what it reads has rendered.
 use Rattle.std.proofs.Common.{◌≡◌, ℕ, zero, suc, ◌+◌, ◌-◌, ◌≤◌, ◌<◌, ◌==◌, Bool, true, false, nat_lt, List, [], ◌∷◌, length, refl, sym, ◌∙◌, ap, subst, arith, Result, Ok, Err, if◌then◌else◌}
-use Rattle.std.proofs.lemmas.Bool.{false≢true, lt-ltb, ltb-false}
-use Rattle.std.proofs.lemmas.Bool.Decides.{nat_tests}
-use Rattle.job_queue.specs.declared.queue.QueueFault.{QueueFault}
+use Rattle.std.proofs.{lemmas.Bool.false≢true, lemmas.Bool.lt-ltb, lemmas.Bool.ltb-false, lemmas.Bool.Decides.nat_tests}
 use Rattle.job_queue.specs.declared.queue.QueueFault.TheVariants.{Binning, NoJob, Waits}
 use Rattle.job_queue.specs.Past.{Job, Past, is_in, meet, last_before, last_writer, reads_of, writes_of, start_answer}
-use Rattle.job_queue.specs.Laws.{StartsLate}
+use Rattle.job_queue.specs.{declared.queue.QueueFault.QueueFault, Laws.StartsLate}
 
 -- what was found is never lost for an earlier one
 keeps_by : (reads : List ℕ) (n : ℕ) (job : Job) (jobs : List Job) (number found : ℕ) (below here : Bool) → nat_lt number n ≡ below → meet reads job.writes ≡ here

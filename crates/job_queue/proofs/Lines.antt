@@ -1,12 +1,10 @@
 -- How many jobs a line brings.
 use Rattle.std.proofs.Common.{ℕ, ◌+◌, ◌≤◌, List, [], ◌∷◌, length, length-append, arith, Option, None, Some, Result, Ok, Err}
-use Rattle.job_queue.specs.declared.queue.QueueFault.{QueueFault}
-use Rattle.job_queue.specs.declared.call.Call.{Call}
 use Rattle.job_queue.specs.declared.call.Call.TheVariants.{Submit, Start, Bin, Render}
+use Rattle.job_queue.specs.Past.{Job, Past, none_yet, submit_answer, start_answer, bin_answer, render_answer, after_submit, after_start, after_bin, after_render}
+use Rattle.job_queue.specs.{declared.queue.QueueFault.QueueFault, declared.call.Call.Call, Text.after_call}
 use Rattle.job_queue.specs.Calls.{buffers_of, reads_word, writes_word}
 use Rattle.job_queue.specs.Past as past
-use Rattle.job_queue.specs.Past.{Job, Past, none_yet, submit_answer, start_answer, bin_answer, render_answer, after_submit, after_start, after_bin, after_render}
-use Rattle.job_queue.specs.Text.{after_call}
 
 -- a line brings at most one job
 submit_few : (p : Past) (job : Job) (answer : Result ℕ QueueFault) → length (past.with_job p job answer).jobs ≤ length p.jobs + 1

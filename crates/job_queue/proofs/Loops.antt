@@ -1,11 +1,8 @@
 -- Buffers of a job, one after the other.
 use Rattle.std.proofs.Common.{◌≡◌, ℕ, ◌+◌, ◌≤◌, ◌<◌, Bool, true, false, max, nat_lt, List, [], ◌∷◌, ◌++◌, length, get_or, drop, refl, sym, ◌∙◌, ap, arith, drop-cons, add-one, Option, Some, None, if◌then◌else◌}
-use Rattle.std.proofs.lemmas.Bool.Decides.{nat_tests}
-use Rattle.std.proofs.lemmas.Bool.{lt-ltb, le-ltb}
-use Rattle.std.proofs.lemmas.List.{drop_all}
+use Rattle.std.proofs.{lemmas.Bool.Decides.nat_tests, lemmas.Bool.lt-ltb, lemmas.Bool.le-ltb, lemmas.List.drop_all}
 use Rattle.std.specs.Prelude.{slice_index, slice_set}
-use Rattle.job_queue.specs.Past.{first_unknown}
-use Rattle.job_queue.specs.Desk.{greatest, written}
+use Rattle.job_queue.specs.{Past.first_unknown, Desk.greatest, Desk.written}
 
 -- the items from one place on
 pub from_here : (xs : List ℕ) (i : ℕ) → i < length xs → drop i xs ≡ get_or xs i 0 ∷ drop (i + 1) xs

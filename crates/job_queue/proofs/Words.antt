@@ -1,9 +1,7 @@
 -- Numbers parted by commas.
 use Rattle.std.proofs.Common.{◌≡◌, ℕ, suc, ◌≤◌, ◌<◌, ◌==◌, ◌&&◌, Bool, true, false, List, [], ◌∷◌, ◌++◌, length, refl, sym, ◌∙◌, ap, append_assoc, append-nil, arith, eq-eqb, Option, Some, None, is_some, if◌then◌else◌}
-use Rattle.std.proofs.lemmas.Bool.{false≢true}
-use Rattle.std.proofs.lemmas.Bool.Decides.{nat_tests}
-use Rattle.script.specs.Lines.{before, behind, onto_line}
-use Rattle.script.specs.Number.{number_within, is_number}
+use Rattle.std.proofs.{lemmas.Bool.false≢true, lemmas.Bool.Decides.nat_tests}
+use Rattle.script.specs.{Lines.before, Lines.behind, Lines.onto_line, Number.number_within, Number.is_number}
 use Rattle.job_queue.specs.Calls.{parts_of, are_all_numbers, numbers_in, onto_numbers, last_number}
 
 whole_by : (byte : ℕ) (bytes : List ℕ) (b : Bool) → (byte == 44) ≡ b → (length (before 44 bytes) ≡ length bytes → (parts_of bytes ≡ before 44 bytes ∷ []) × (behind 44 bytes ≡ []))

@@ -1,7 +1,6 @@
 -- The last writer of what a job reads, when a job comes.
 use Rattle.std.proofs.Common.{◌≡◌, ℕ, zero, suc, ◌+◌, ◌-◌, ◌≤◌, ◌<◌, ◌==◌, Bool, true, false, ◌||◌, max, nat_lt, List, [], ◌∷◌, ◌++◌, length, get_or, set, refl, sym, ◌∙◌, ap, arith, None, get_or-set_other, get_or-set_same, length-set, if◌then◌else◌}
-use Rattle.std.proofs.lemmas.Bool.Decides.{nat_tests}
-use Rattle.std.proofs.lemmas.Bool.{lt-ltb, le-ltb, eqb-true, eqb-false}
+use Rattle.std.proofs.{lemmas.Bool.Decides.nat_tests, lemmas.Bool.lt-ltb, lemmas.Bool.le-ltb, lemmas.Bool.eqb-true, lemmas.Bool.eqb-false}
 use Rattle.std.specs.Prelude.{slice_index, slice_set}
 use Rattle.job_queue.specs.Past.{Job, is_in, meet, last_before, last_writer, reads_of, first_unknown}
 use Rattle.job_queue.specs.Desk.{greatest, written}

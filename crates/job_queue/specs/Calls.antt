@@ -1,9 +1,8 @@
 -- The lines of a script, and the calls that they are.
 use Rattle.std.specs.Prelude.{ℕ, is_some, ◌==◌, ◌||◌, ◌&&◌, Bool, true, bytes_eq, codes, List, [], ◌∷◌, Option, Some, None, if◌then◌else◌}
-use Rattle.script.specs.Lines.{before, behind, first_malformed, onto_line}
-use Rattle.script.specs.Number.{number_within}
-use Rattle.job_queue.specs.declared.call.Call.{Call}
+use Rattle.script.specs.{Lines.before, Lines.behind, Lines.first_malformed, Lines.onto_line, Number.number_within}
 use Rattle.job_queue.specs.declared.call.Call.TheVariants.{Submit, Start, Bin, Render}
+use Rattle.job_queue.specs.declared.call.Call.{Call}
 
 abbrev pub last_number : ℕ
 last_number = 4294967295

@@ -1,7 +1,7 @@
 -- What a list of answered calls did: every job that was submitted, and how many of them were started, binned and rendered.
 use Rattle.std.specs.Prelude.{ℕ, ◌+◌, ◌-◌, ◌==◌, Bool, false, ◌||◌, nat_le, nat_lt, List, [], ◌∷◌, ◌++◌, length, Option, Some, None, Result, Ok, Err, if◌then◌else◌}
-use Rattle.job_queue.specs.declared.queue.QueueFault.{QueueFault}
 use Rattle.job_queue.specs.declared.queue.QueueFault.TheVariants.{Unknown, Full, Binning, NoJob, Waits, NotBinning, NotBinned}
+use Rattle.job_queue.specs.declared.queue.QueueFault.{QueueFault}
 
 pub record Job : Type 0 where
   pub reads : List ℕ

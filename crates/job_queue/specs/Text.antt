@@ -1,15 +1,12 @@
 -- What a script is answered: a line for each of its calls.
-use Rattle.std.specs.Prelude.{ℕ, List, [], ◌++◌, codes, Option, Some, None, Result, Ok, Err}
-use Rattle.std.specs.Fmt.{decimal}
+use Rattle.std.specs.Prelude.{ℕ, List, [], ◌++◌, codes, Option, Some, None, Result, Ok, Err, decimal}
 use Rattle.field_words.specs.declared.stop.Stop.{Stop}
-use Rattle.script.specs.Lines.{lines_of}
-use Rattle.script.specs.Replies.{replies_from, IsScriptFault as IsFaultOf}
-use Rattle.job_queue.specs.declared.queue.QueueFault.{QueueFault}
+use Rattle.script.specs.{Lines.lines_of, Replies.replies_from, Replies.IsScriptFault as IsFaultOf}
 use Rattle.job_queue.specs.declared.queue.QueueFault.TheVariants.{Unknown, Full, Binning, NoJob, Waits, NotBinning, NotBinned}
-use Rattle.job_queue.specs.declared.call.Call.{Call}
 use Rattle.job_queue.specs.declared.call.Call.TheVariants.{Submit, Start, Bin, Render}
-use Rattle.job_queue.specs.Calls.{call_of, buffers_of, reads_word, writes_word, fault_line}
 use Rattle.job_queue.specs.Past.{Past, none_yet, submit_answer, start_answer, bin_answer, render_answer, after_submit, after_start, after_bin, after_render}
+use Rattle.job_queue.specs.{declared.queue.QueueFault.QueueFault, declared.call.Call.Call}
+use Rattle.job_queue.specs.Calls.{call_of, buffers_of, reads_word, writes_word, fault_line}
 
 unfoldable pub refused_line : QueueFault → List ℕ
 refused_line (Unknown buffer) = codes "refused Q1\n"

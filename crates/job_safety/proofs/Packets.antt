@@ -1,25 +1,25 @@
 -- What is not safe of list units: at a packet that is none, or that doesn't lie in the job's region; and where they write outside what it may.
 use Rattle.std.proofs.Common.{◌≡◌, ◌⊎◌, inl, inr, ℕ, Bool, true, false, List, [], slice_index, Some, None, refl, sym, ap, subst, ◌∙◌, ◌<◌, ◌+◌, ◌==◌, ◌∷◌, arith, ◌≤◌, zero, suc, ◌*◌, length}
-use Rattle.std.specs.Prelude.{Option, if◌then◌else◌, nat_lt}
 use Rattle.std.proofs.lemmas.{Bool.Decides.nat_tests, List.length-replicate}
+use Rattle.std.specs.Prelude.{Option, if◌then◌else◌, nat_lt}
 use Rattle.field_words.specs.declared.access.Actor.TheVariants.{Binner as TheBinner, Renderer as TheRenderer}
+use Rattle.packets.specs.declared.packet.Packet.TheVariants.{WaitOnSemaphore, BranchToSubList, StoreTileColor, StoreTileColorAndEnd, StoreFullResolution, LoadFullResolution, StoreTileBuffer, LoadTileBuffer, TileRenderingMode, ClearColors, TileCoordinates}
 use Rattle.packets.specs.declared.{packet.Packet.Packet, config.Config.Config}
 use Rattle.packets.specs.{Length.bin_length, Length.bin_taken, Length.render_taken, Packet.decoded, Packet.packet_named}
 use Rattle.packets.specs.Opcode.{buffer_handles, wait_on_semaphore, start_tile_binning}
-use Rattle.packets.specs.declared.packet.Packet.TheVariants.{WaitOnSemaphore, BranchToSubList, StoreTileColor, StoreTileColorAndEnd, StoreFullResolution, LoadFullResolution, StoreTileBuffer, LoadTileBuffer, TileRenderingMode, ClearColors, TileCoordinates}
 use Rattle.bin_list.proofs.Walk.{taken_some}
 use Rattle.machine_plan.specs.{declared.launch.Free.Free, declared.who.Who.Who, Plan.Plan, Plan.Wilds, Plan.carried, Plan.Writes}
 use Rattle.machine_plan.specs.{Memory.bytes_at, Memory.stored, World.Safe, World.mapped}
 use Rattle.machine_plan.specs.Regions.{Every, Rights, IsSafeAccess, Inside, rights_of}
 use Rattle.list_machine.specs.Binner.{is_unknown, packet_plan as bin_packet_plan, read_plan, binner_plan, binner_by, binner_ready, begin_plan, clear_plan, chosen_tile, tile_plan, work_plan}
-use Rattle.list_machine.specs.Lists.{Lists, quiet, past, binner_of, renderer_of, with_block}
 use Rattle.list_machine.specs.Renderer.{beyond, acted, packet_plan as render_packet_plan, plan_in, renderer_plan, may_pass, renderer_ready, act}
-use Rattle.list_machine.proofs.{Steps.first_byte, Storing.chosen_size}
-use Rattle.list_machine.specs.declared.{state.Frame.Frame, state.Work.Work, surface.Cover.Cover}
 use Rattle.list_machine.specs.Blocks.{tiles_of, block_place, spot_of, is_full, next_place, link_place, zeros, put_here, put_plan}
-use Rattle.texture_layouts.specs.Format.{general_style}
-use Rattle.list_machine.specs.{Cover.cover_for, Cover.part_count, Cover.part_place, Cover.parts_written, Store.chosen}
 use Rattle.list_machine.specs.Surfaces.{names_none, aligned, whole_size, whole_written, cover_written, frame_written, general_written}
+use Rattle.list_machine.specs.Lists.{Lists, quiet, past, binner_of, renderer_of, with_block}
+use Rattle.list_machine.specs.declared.{state.Frame.Frame, state.Work.Work, surface.Cover.Cover}
+use Rattle.list_machine.specs.{Cover.cover_for, Cover.part_count, Cover.part_place, Cover.parts_written, Store.chosen}
+use Rattle.list_machine.proofs.{Steps.first_byte, Storing.chosen_size}
+use Rattle.texture_layouts.specs.Format.{general_style}
 use Rattle.qpu_machine.specs.Qpu.{free_in}
 use Rattle.machine.specs.State.{Units, Picked, job_start, units_start, binner_job, renderer_job}
 use Rattle.machine.specs.{Step.Event, Step.with_lists, Step.ready, Step.turn, Step.enabled, Step.is_ahead, declared.job.Start.Start}

@@ -10,8 +10,8 @@ use Rattle.machine_plan.specs.{Others.Steps, Regions.Inside, Regions.IsOutside, 
 use Rattle.machine_plan.proofs.Others.{run_others}
 use Rattle.machine.specs.{State.units_start, State.start_of, Step.ready, Step.turn}
 use Rattle.machine_law.proofs.{Sound.sound_jobs_are_safe_law, Apart.inside_either}
-use Rattle.accepted_law.specs.{Held.AreFixed, Neighbours.IsFaultless}
 use Rattle.accepted_law.specs.Holdings.{OfEachJob, plain_of, codes_of, lists_of, fixed_below, fixed_of, file_rights, file_starts}
+use Rattle.accepted_law.specs.{Held.AreFixed, Neighbours.IsFaultless}
 use Rattle.accepted_law.proofs.{Fixed.fixed_byte, Neighbours.accepted_apart_law, Joining.files_sound_law, Joining.lists_and_code_fixed_law}
 use Rattle.accepted_ends.specs.Law.{FileEnds}
 use Rattle.accepted_ends.proofs.Files.{files_end_by_law}

@@ -1,7 +1,7 @@
 -- The beginnings of the lists of all jobs, one after the other.
 use Rattle.std.proofs.Common.{◌≡◌, ℕ, zero, suc, ◌+◌, ◌<◌, ◌≤◌, List, [], ◌∷◌, ◌++◌, length, get_or, map, take, refl, add-one, sym, ap, arith, ◌∙◌}
-use Rattle.std.specs.List.{range_with_len}
 use Rattle.std.proofs.lemmas.List.FromFn.{length-map-range_with_len}
+use Rattle.std.specs.List.{range_with_len}
 use Rattle.job_format.specs.{File.IsWellFormed, Model.FileModel}
 use Rattle.relocation.specs.declared.layout.{Layout.Layout, Lengths.Lengths}
 use Rattle.job_check.specs.{declared.check.Checked.Checked, Jobs.layout_of, Jobs.layouts_of}

@@ -1,16 +1,16 @@
 -- A step of a processor or a texture unit that reaches outside is not safe.
 use Rattle.std.proofs.Common.{◌≡◌, ◌<◌, ℕ, zero, suc, ◌-◌, ◌%◌, Bool, IsTrue, true, false, List, [], ◌∷◌, ◌++◌, length, Some, None, refl, ap, subst, ◌∙◌, arith}
-use Rattle.std.specs.Prelude.{Option, IfSome, nat_lt, slice_index, if◌then◌else◌}
 use Rattle.std.proofs.lemmas.Bool.Decides.{nat_tests}
-use Rattle.field_words.specs.Words.{u32_at}
+use Rattle.std.specs.Prelude.{Option, IfSome, nat_lt, slice_index, if◌then◌else◌}
 use Rattle.field_words.specs.declared.access.{Access.Access, Actor.TheVariants.Qpu as TheQpu, Actor.TheVariants.Tmu as TheTmu}
+use Rattle.field_words.specs.Words.{u32_at}
 use Rattle.machine_plan.specs.{declared.who.Who.Who, Memory.bytes_at, Plan.Plan, Plan.Wilds, Plan.carried}
 use Rattle.machine_plan.specs.{Glance.glanced, Runs.reached, World.Safe, World.mapped}
 use Rattle.machine_plan.specs.Regions.{Every, Inside, Rights, rights_of, IsSafeAccess}
 use Rattle.machine_plan.proofs.{Runs.every-front, Worlds.carried_mapped}
+use Rattle.qpu_machine.specs.Request.{direct_plan, chosen_place, chosen_length, read_at, texture_reads, is_undefined, texture_plan, ask_plan}
 use Rattle.qpu_machine.specs.declared.state.{Request.Request, Thread.Thread}
 use Rattle.qpu_machine.specs.{Qpu.went, Qpu.plan_by, Qpu.served, Qpu.serving, Step.thread_plan}
-use Rattle.qpu_machine.specs.Request.{direct_plan, chosen_place, chosen_length, read_at, texture_reads, is_undefined, texture_plan, ask_plan}
 use Rattle.texture_layouts.specs.Setup.{TextureModel, texture_of}
 use Rattle.machine.specs.{State.Units, State.State, Step.Event, Step.with_qpu, Step.ready, Step.turn, Step.step, Step.enabled}
 use Rattle.job_safety.specs.Strength.{IsPast, IsActive, CodePastIsUnsafe, IsOldest, DirectReadsPastAreUnsafe, IsChosenPast, TexturesPastAreUnsafe}

@@ -1,13 +1,9 @@
 -- The machine of an accepted job file.
 use Rattle.std.specs.Prelude.{◌≡◌, ℕ, List, [], ◌∷◌}
 use Rattle.job_format.specs.Model.{FileModel}
-use Rattle.relocation.specs.declared.layout.Layout.{Layout}
-use Rattle.relocation.specs.declared.layout.Lengths.{Lengths}
-use Rattle.job_check.specs.declared.check.Checked.{Checked}
-use Rattle.job_check.specs.Emit.{memory_of, all_lengths_of}
-use Rattle.job_check.specs.Jobs.{layouts_of}
-use Rattle.machine.specs.declared.job.Start.{Start}
-use Rattle.machine.specs.State.{State, start_of}
+use Rattle.relocation.specs.{declared.layout.Layout.Layout, declared.layout.Lengths.Lengths}
+use Rattle.job_check.specs.{declared.check.Checked.Checked, Emit.memory_of, Emit.all_lengths_of, Jobs.layouts_of}
+use Rattle.machine.specs.{declared.job.Start.Start, State.State, State.start_of}
 use Rattle.accepted_law.specs.Holdings.{start_by, file_starts}
 use Rattle.job_safety.specs.declared.accepting.Accepted.{Accepted}
 

@@ -1,8 +1,7 @@
 -- Clients of accepted files are apart.
 use Rattle.std.specs.Prelude.{◌≡◌, ℕ, List, None}
 use Rattle.field_words.specs.Words.{IsBytes}
-use Rattle.job_format.specs.Model.{FileModel}
-use Rattle.job_format.specs.Reading.{file_at}
+use Rattle.job_format.specs.{Model.FileModel, Reading.file_at}
 use Rattle.job_check.specs.Whole.{refusal_of}
 use Rattle.accepted_law.specs.Neighbours.{AreNeighbourFiles, AreApart}
 

@@ -1,17 +1,12 @@
 -- What is so of each file in which no rule stands.
 use Rattle.std.specs.Prelude.{◌≡◌, List, ℕ, None}
-use Rattle.field_words.specs.Words.{IsBytes}
-use Rattle.job_format.specs.Model.{FileModel}
-use Rattle.job_format.specs.Reading.{file_at}
-use Rattle.job_check.specs.Emit.{memory_of}
-use Rattle.job_check.specs.Whole.{refusal_of}
+use Rattle.field_words.specs.{Words.IsBytes, Questions.first_of}
+use Rattle.job_format.specs.{Model.FileModel, Reading.file_at, File.IsWellFormed, File.Fits}
+use Rattle.job_check.specs.{Emit.memory_of, Whole.refusal_of, Faults.place_stages}
 use Rattle.machine_plan.specs.Regions.{Agree}
 use Rattle.accepted_law.specs.Held.{AreFixed}
 use Rattle.accepted_law.specs.Holdings.{OfEachJob, plain_of, fixed_of, file_rights, file_starts}
 use Rattle.job_safety.specs.Safe.{AreSound}
-use Rattle.job_format.specs.File.{IsWellFormed, Fits}
-use Rattle.field_words.specs.Questions.{first_of}
-use Rattle.job_check.specs.Faults.{place_stages}
 
 -- From each memory of the emitted one's length that has the emitted lists of all jobs, and the Code buffers that their handles name, as
 -- the emitted one, whatever all its other bytes are, the jobs are sound, each with its own rights and from the beginnings of its lists.

@@ -3,15 +3,12 @@ use Rattle.std.specs.Prelude.{List, ℕ}
 use Rattle.field_words.specs.declared.access.Access.{Access}
 use Rattle.job_format.specs.Model.{FileModel}
 use Rattle.job_check.specs.Emit.{memory_of}
-use Rattle.machine_plan.specs.Others.{Happening, OthersRun, IsLeft}
-use Rattle.machine_plan.specs.Regions.{IsOutside, IsKept, Agree}
+use Rattle.machine_plan.specs.{Others.Happening, Others.OthersRun, Others.IsLeft, Regions.IsOutside, Regions.IsKept, Regions.Agree}
 use Rattle.machine_plan.specs.World.{IsSafeRun}
-use Rattle.machine.specs.State.{State, start_of}
-use Rattle.machine.specs.Step.{Event, ready, turn, IsRun}
+use Rattle.machine.specs.{State.State, State.start_of, Step.Event, Step.ready, Step.turn, Step.IsRun}
 use Rattle.machine_law.specs.Sound.{TexturesReadIn}
 use Rattle.accepted_law.specs.Holdings.{plain_of, fixed_of, file_rights, file_starts}
-use Rattle.job_safety.specs.Safe.{AreSafe, AreSame}
-use Rattle.job_safety.specs.Files.{IsSafeFile}
+use Rattle.job_safety.specs.{Safe.AreSafe, Safe.AreSame, Files.IsSafeFile}
 
 -- the memory has the lists and the code of all jobs as they are emitted
 abbrev pub HasListsAndCode : FileModel → List ℕ → Type 0

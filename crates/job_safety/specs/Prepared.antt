@@ -1,14 +1,9 @@
 -- What an accepted call says of a memory that the caller prepares: every run of the jobs there is safe.
 use Rattle.std.specs.Prelude.{◌≡◌, ℕ, List, None}
-use Rattle.field_words.specs.Questions.{first_of}
-use Rattle.field_words.specs.Words.{IsBytes}
-use Rattle.job_format.specs.File.{IsWellFormed, Fits}
-use Rattle.job_format.specs.Model.{FileModel}
-use Rattle.job_format.specs.Reading.{file_at}
-use Rattle.job_check.specs.Faults.{place_stages}
-use Rattle.job_check.specs.Whole.{place_questions}
-use Rattle.accepted_law.specs.Holdings.{plain_of, file_rights, file_starts}
-use Rattle.accepted_law.specs.Prepared.{IsPrepared}
+use Rattle.field_words.specs.{Questions.first_of, Words.IsBytes}
+use Rattle.job_format.specs.{File.IsWellFormed, File.Fits, Model.FileModel, Reading.file_at}
+use Rattle.job_check.specs.{Faults.place_stages, Whole.place_questions}
+use Rattle.accepted_law.specs.{Holdings.plain_of, Holdings.file_rights, Holdings.file_starts, Prepared.IsPrepared}
 use Rattle.job_safety.specs.Safe.{AreSound}
 
 -- The jobs of a file may run over a memory: from the beginnings of their lists, each with its own rights, they are sound there. So every run

@@ -1,10 +1,7 @@
 -- What it is for jobs to be sound in the machine, and what it is to be safe and to depend on nothing but what they hold.
 use Rattle.std.specs.Prelude.{ℕ, List}
-use Rattle.machine_plan.specs.Regions.{Interval, Rights, joined}
-use Rattle.machine_plan.specs.World.{Safe, Same}
-use Rattle.machine.specs.declared.job.Start.{Start}
-use Rattle.machine.specs.State.{units_start}
-use Rattle.machine.specs.Step.{ready, turn}
+use Rattle.machine_plan.specs.{Regions.Interval, Regions.Rights, Regions.joined, World.Safe, World.Same}
+use Rattle.machine.specs.{declared.job.Start.Start, State.units_start, Step.ready, Step.turn}
 use Rattle.machine_law.specs.Sound.{Sound}
 
 -- The jobs are sound over this memory, where these are their Plain buffers. In every run from the start state, whatever its events, in

@@ -3,33 +3,19 @@
 -- writes outside what its job may write.
 use Rattle.std.specs.Prelude.{◌≡◌, ◌≤◌, ◌<◌, ◌⊎◌, ℕ, ◌-◌, ◌*◌, ◌%◌, Bool, true, false, IsTrue, List, ◌∷◌, length, slice_index, Option, IfSome, Some, None}
 use Rattle.field_words.specs.declared.access.Actor.TheVariants.{Binner as TheBinner, Renderer as TheRenderer, Qpu as TheQpu}
-use Rattle.packets.specs.declared.packet.Packet.{Packet}
 use Rattle.packets.specs.declared.packet.Packet.TheVariants.{StoreTileColor, StoreTileColorAndEnd, StoreFullResolution, StoreTileBuffer}
-use Rattle.packets.specs.Length.{bin_length, bin_taken, render_taken}
-use Rattle.packets.specs.Opcode.{start_tile_binning, buffer_handles}
-use Rattle.packets.specs.Packet.{decoded}
-use Rattle.machine_plan.specs.Memory.{bytes_at}
-use Rattle.machine_plan.specs.Regions.{Inside, Rights, rights_of}
-use Rattle.machine_plan.specs.World.{Safe}
-use Rattle.packets.specs.declared.config.Config.{Config}
-use Rattle.list_machine.specs.declared.state.Frame.{Frame}
-use Rattle.list_machine.specs.declared.state.Work.{Work}
-use Rattle.list_machine.specs.declared.surface.Cover.{Cover}
-use Rattle.list_machine.specs.Binner.{chosen_tile}
+use Rattle.packets.specs.{declared.packet.Packet.Packet, Length.bin_length, Length.bin_taken, Length.render_taken, Packet.decoded}
+use Rattle.packets.specs.{Opcode.start_tile_binning, Opcode.buffer_handles, declared.config.Config.Config}
+use Rattle.machine_plan.specs.{Memory.bytes_at, Regions.Inside, Regions.Rights, Regions.rights_of, World.Safe}
+use Rattle.list_machine.specs.{declared.state.Frame.Frame, declared.state.Work.Work, declared.surface.Cover.Cover, Binner.chosen_tile}
 use Rattle.list_machine.specs.Blocks.{tiles_of, block_place, spot_of, is_full, next_place, link_place}
-use Rattle.texture_layouts.specs.Format.{general_style, frame_style}
-use Rattle.list_machine.specs.Cover.{cover_for, part_count, part_place}
-use Rattle.list_machine.specs.Lists.{Lists}
+use Rattle.list_machine.specs.{Cover.cover_for, Cover.part_count, Cover.part_place, Lists.Lists}
 use Rattle.list_machine.specs.Surfaces.{aligned, names_none, whole_size}
-use Rattle.qpu_machine.specs.declared.state.Ask.TheVariants.{Direct, Texture}
-use Rattle.qpu_machine.specs.declared.state.Qpu.{Qpu}
-use Rattle.qpu_machine.specs.declared.state.Request.{Request}
-use Rattle.qpu_machine.specs.declared.state.Thread.{Thread}
-use Rattle.qpu_machine.specs.Qpu.{active_of, oldest, queue_of}
+use Rattle.texture_layouts.specs.{Format.general_style, Format.frame_style, Setup.TextureModel, Setup.texture_of}
+use Rattle.qpu_machine.specs.{declared.state.Ask.TheVariants.Direct, declared.state.Ask.TheVariants.Texture, declared.state.Qpu.Qpu}
+use Rattle.qpu_machine.specs.{declared.state.Request.Request, declared.state.Thread.Thread, Qpu.active_of, Qpu.oldest, Qpu.queue_of}
 use Rattle.qpu_machine.specs.Request.{chosen_place, chosen_length}
-use Rattle.texture_layouts.specs.Setup.{TextureModel, texture_of}
-use Rattle.machine.specs.declared.job.Start.{Start}
-use Rattle.machine.specs.State.{Units, item_at, binner_job, renderer_job}
+use Rattle.machine.specs.{declared.job.Start.Start, State.Units, State.item_at, State.binner_job, State.renderer_job}
 use Rattle.machine.specs.Step.{ready, turn, enabled}
 use Rattle.job_safety.specs.Safe.{AreSafe}
 

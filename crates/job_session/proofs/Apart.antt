@@ -3,9 +3,8 @@ use Rattle.std.proofs.Common.{◌≡◌, ◌==◌, ℕ, Bool, true, false, refl,
 use Rattle.std.proofs.lemmas.Bool.Decides.{nat_tests}
 use Rattle.job_format.specs.declared.rule.Refusal.{Refusal}
 use Rattle.job_session.specs.Own.{Held, Refused, Rules, Outcome, Answered, NewBuffer, outcome, own_reply, own_after, own_replies}
-use Rattle.job_session.specs.Places.{least_place}
 use Rattle.job_session.specs.Session.{Call, Past, none_yet, reply_by, past_by, placed_reply, placed_past, pages_of, outcome_of, reply_to, after, replies_to, commands_of}
-use Rattle.job_session.specs.Laws.{NoneIsFull, RepliesAreOwn, OthersAreUnseen}
+use Rattle.job_session.specs.{Places.least_place, Laws.NoneIsFull, Laws.RepliesAreOwn, Laws.OthersAreUnseen}
 
 equal : (k n : ℕ) → (k == n) ≡ true → k ≡ n
 equal k n is = grind (arith, nat_tests)

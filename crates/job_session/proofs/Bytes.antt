@@ -1,8 +1,7 @@
 -- Bytes of pages, and what writes leave of them.
 use Rattle.std.proofs.Common.{◌≡◌, ℕ, ◌+◌, ◌-◌, ◌<◌, ◌≤◌, ◌&&◌, nat_le, nat_lt, Bool, true, false, List, length, slice_index, replicate, take, drop, arith, refl, sym, ◌∙◌, subst}
-use Rattle.std.proofs.lemmas.Bool.Decides.{nat_tests}
 use Rattle.std.proofs.lemmas.List.{places, drop-take, take-take, drop-drop, get_or-replicate}
-use Rattle.std.proofs.lemmas.Grind.{same_number_lists}
+use Rattle.std.proofs.{lemmas.Bool.Decides.nat_tests, lemmas.Grind.same_number_lists}
 use Rattle.field_words.specs.Writes.{with_bytes, zeros}
 use Rattle.field_words.proofs.Writes.{with_bytes-before, with_bytes-behind}
 use Rattle.phys_mem.specs.Window.{window_of}

@@ -1,10 +1,8 @@
 -- Words that are hex.
 use Rattle.std.proofs.Common.{◌≡◌, ℕ, ◌*◌, ◌%◌, ◌≤◌, ◌<◌, ◌↔◌, ◌&&◌, Bool, true, false, nat_lt, nat_le, List, length, refl, sym, ◌∙◌, ap, arith, Result, Ok, Err, IsTrue}
-use Rattle.std.proofs.lemmas.Bool.{false≢true, and_parts}
-use Rattle.std.proofs.lemmas.Bool.Decides.{nat_tests}
+use Rattle.std.proofs.{lemmas.Bool.false≢true, lemmas.Bool.and_parts, lemmas.Bool.Decides.nat_tests}
 use Rattle.std.specs.List.{AllPass}
-use Rattle.hex.specs.Hex.{decode_of, is_hex_digit}
-use Rattle.hex.specs.declared.error.FromHexError.{FromHexError}
+use Rattle.hex.specs.{Hex.decode_of, Hex.is_hex_digit, declared.error.FromHexError.FromHexError}
 use Rattle.hex.proofs.HexLemmas.{decode_of-ok, decode_of-digits}
 use Rattle.job_session.specs.Calls.{decoded, hex_bytes, is_hex, is_code}
 

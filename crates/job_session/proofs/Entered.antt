@@ -1,30 +1,21 @@
 -- A client's live buffers one by one, and what they come to together.
 use Rattle.std.proofs.Common.{◌≡◌, ℕ, zero, suc, ◌+◌, ◌-◌, ◌<◌, ◌≤◌, List, [], ◌∷◌, ◌++◌, length, map, get_or, Option, None, Some, IfSome, refl, sym, ◌∙◌, ap, subst, arith, append_assoc, append-nil}
-use Rattle.std.specs.List.{AllByRecursion}
 use Rattle.std.proofs.lemmas.List.{ext_get_or, length-map, map-append}
 use Rattle.std.proofs.lemmas.List.FromFn.{length-map-range_with_len, get_or-map-range_with_len}
-use Rattle.field_words.specs.Words.{IsBytes}
-use Rattle.field_words.specs.Pieces.{joined}
-use Rattle.field_words.specs.Questions.{Question, first_of, each}
+use Rattle.std.specs.List.{AllByRecursion}
+use Rattle.field_words.specs.{Words.IsBytes, Pieces.joined, Questions.Question, Questions.first_of, Questions.each}
 use Rattle.field_words.proofs.Questions.{passes, answered_none}
-use Rattle.buffer_table.specs.declared.buffer.Buffer.{Buffer}
-use Rattle.buffer_table.specs.declared.buffer.Kind.TheVariants.{Plain, Code}
+use Rattle.buffer_table.specs.{declared.buffer.Buffer.Buffer, declared.buffer.Kind.TheVariants.Plain, declared.buffer.Kind.TheVariants.Code}
 use Rattle.buffer_table.specs.Table.{buffer_at, past_end}
 use Rattle.qpu_isa.specs.Shader.{ShaderModel, IsSoundShader}
 use Rattle.shader_records.specs.Inputs.{shader_option, shaders_view}
-use Rattle.job_format.specs.File.{BufferFits, FitsShader}
-use Rattle.job_format.specs.Model.{FileModel}
+use Rattle.job_format.specs.{File.BufferFits, File.FitsShader, Model.FileModel}
 use Rattle.job_check.specs.Shaders.{words_of, told_of, code_questions, content_of, shader_for, shader_of, shaders_up_to, shaders_of}
-use Rattle.job_check.specs.Faults.{shader_questions_in, shader_refused, shader_stage, shaders_stage}
-use Rattle.job_check.specs.Region.{AreChecked}
+use Rattle.job_check.specs.{Faults.shader_questions_in, Faults.shader_refused, Faults.shader_stage, Faults.shaders_stage, Region.AreChecked}
 use Rattle.job_check.proofs.Codes.{AllSound, are_shaders}
-use Rattle.job_session.specs.Own.{Held}
-use Rattle.job_session.specs.Submit.{content_of as given_of, laid, laid_in, contents_at}
-use Rattle.job_session.specs.declared.kept.Entry.{Entry}
-use Rattle.job_session.specs.declared.kept.Entries.{Entries}
-use Rattle.job_session.specs.Found.{IsEntryOf, AreListed}
-use Rattle.job_session.specs.Kept.{IsToldOf, IsKeptOf, IsEntry, AreEntries}
-use Rattle.job_session.specs.declared.kept.Kept.{Kept}
+use Rattle.job_session.specs.{Own.Held, Submit.content_of as given_of, Submit.laid, Submit.laid_in, Submit.contents_at}
+use Rattle.job_session.specs.{declared.kept.Entry.Entry, declared.kept.Entries.Entries, Found.IsEntryOf, Found.AreListed}
+use Rattle.job_session.specs.{Kept.IsToldOf, Kept.IsKeptOf, Kept.IsEntry, Kept.AreEntries, declared.kept.Kept.Kept}
 use Rattle.job_session.specs.Desk.{Desk, slot_of, kind_of, bytes_of, held_in}
 use Rattle.job_session.proofs.Held.{held_some}
 

@@ -1,12 +1,9 @@
 -- What a slot holds.
 use Rattle.std.proofs.Common.{◌≡◌, ℕ, ◌+◌, ◌*◌, ◌≤◌, ◌<◌, ◌&&◌, Bool, true, false, not, nat_lt, List, [], ◌++◌, length, drop, append-nil, refl, sym, ◌∙◌, ap, arith, eq-eqb, ne_eqb, None, Some}
-use Rattle.std.proofs.lemmas.Bool.Decides.{nat_tests}
-use Rattle.std.proofs.Common.{length-take-le, length-drop}
+use Rattle.std.proofs.{lemmas.Bool.Decides.nat_tests, Common.length-take-le, Common.length-drop}
 use Rattle.phys_mem.specs.Window.{window_of}
-use Rattle.buffer_table.specs.declared.buffer.Kind.{Kind}
-use Rattle.buffer_table.specs.declared.buffer.Kind.TheVariants.{Plain, Code}
-use Rattle.session_pages.specs.Map.{memory_size, place_of}
-use Rattle.session_pages.specs.Runs.{page_count}
+use Rattle.buffer_table.specs.{declared.buffer.Kind.Kind, declared.buffer.Kind.TheVariants.Plain, declared.buffer.Kind.TheVariants.Code}
+use Rattle.session_pages.specs.{Map.memory_size, Map.place_of, Runs.page_count}
 use Rattle.std.specs.Prelude.{slice_index, slice_index_or}
 use Rattle.job_session.specs.Desk.{Desk, SlotsFit, slot_of, first_page, page_total, kind_of, bytes_of, held_in}
 use Rattle.job_session.specs.Submit.{content_of, laid_in, contents_at}

@@ -1,22 +1,18 @@
 -- What is kept of slots stays true: no two buffers have a page in common, so a write changes the bytes of one slot alone.
 use Rattle.std.proofs.Common.{◌≡◌, ◌⊎◌, inl, inr, ℕ, ◌+◌, ◌*◌, ◌<◌, ◌≤◌, ◌==◌, nat_le, Bool, true, false, List, length, slice_index, slice_index_or, slice_set, replicate, get_or, Option, None, Some, refl, sym, ◌∙◌, ap, subst, arith}
-use Rattle.std.proofs.lemmas.Bool.Decides.{nat_tests}
 use Rattle.std.proofs.lemmas.List.{get_or-set_same, get_or-set_other, get_or-replicate, get_or_default, length-set, length-replicate}
-use Rattle.field_words.specs.Sizes.{page_size}
-use Rattle.field_words.specs.Writes.{with_bytes, zeros}
+use Rattle.std.proofs.lemmas.Bool.Decides.{nat_tests}
+use Rattle.field_words.specs.{Sizes.page_size, Writes.with_bytes, Writes.zeros}
 use Rattle.field_words.proofs.Writes.{length_zeros, length-with_bytes}
-use Rattle.buffer_table.specs.declared.buffer.Kind.{Kind}
-use Rattle.buffer_table.specs.declared.buffer.Kind.TheVariants.{Plain, Code}
+use Rattle.buffer_table.specs.{declared.buffer.Kind.Kind, declared.buffer.Kind.TheVariants.Plain, declared.buffer.Kind.TheVariants.Code}
 use Rattle.phys_mem.specs.Window.{window_of}
 use Rattle.overflow_slots.proofs.Searches.{equal, apart_by, first_found}
-use Rattle.session_pages.specs.Runs.{page_count}
-use Rattle.session_pages.specs.Map.{memory_size, place_of, held_by, IsWhole}
-use Rattle.job_session.specs.declared.kept.Kept.{Kept}
-use Rattle.job_session.specs.Own.{most_buffers}
+use Rattle.session_pages.specs.{Runs.page_count, Map.memory_size, Map.place_of, Map.held_by, Map.IsWhole}
+use Rattle.job_session.specs.{declared.kept.Kept.Kept, Own.most_buffers}
 use Rattle.job_session.specs.Desk.{SlotsFit, slot_count, slot_of, is_vacant, least_id}
 use Rattle.job_session.specs.Kept.{AreApart, AreKept, IsKeptOf, IsToldOf, IsSession, kept_in, slot_bytes}
-use Rattle.job_session.proofs.Slots.{none_fit}
 use Rattle.job_session.proofs.Bytes.{is_within, is_inside, is_outside, within_yes, held_inside, held_outside, length_held, window_same, written_apart}
+use Rattle.job_session.proofs.Slots.{none_fit}
 
 -- two runs without a common page lie one before the other
 runs_apart : (f c g d : ℕ) → 1 ≤ c → 1 ≤ d → ((page : ℕ) → f ≤ page → page < f + c → g ≤ page → page < g + d → ⊥) → (f + c ≤ g) ⊎ (g + d ≤ f)

@@ -1,16 +1,12 @@
 -- The marks of the slots in which buffers live.
 use Rattle.std.proofs.Common.{◌≡◌, inl, inr, ℕ, ◌+◌, ◌-◌, ◌*◌, ◌/◌, ◌%◌, ◌==◌, ◌<◌, ◌≤◌, Bool, true, false, not, List, length, slice_index, slice_set, replicate, Some, None, refl, sym, ◌∙◌, ap, arith}
-use Rattle.std.specs.Int.{bit_at}
-use Rattle.std.proofs.lemmas.Bool.{cases_lt}
-use Rattle.std.proofs.lemmas.Bool.Decides.{nat_tests}
+use Rattle.std.proofs.{lemmas.Bool.cases_lt, lemmas.Bool.Decides.nat_tests, lemmas.Nat.Bits.bit_at-zero}
 use Rattle.std.proofs.lemmas.List.{get_or-set_same, get_or-set_other, get_or-replicate}
-use Rattle.std.proofs.lemmas.Nat.Bits.{bit_at-zero}
+use Rattle.std.specs.Int.{bit_at}
 use Rattle.overflow_slots.proofs.Searches.{equal, apart_by}
 use Rattle.session_pages.specs.Marks.{mark_of, bit_of, IsMarked}
 use Rattle.session_pages.proofs.Lowest.{first_is, first_never}
-use Rattle.job_session.specs.Own.{most_buffers}
-use Rattle.job_session.specs.Desk.{slot_count, slot_of, is_vacant, least_id}
-use Rattle.job_session.specs.Kept.{AreLive}
+use Rattle.job_session.specs.{Own.most_buffers, Desk.slot_count, Desk.slot_of, Desk.is_vacant, Desk.least_id, Kept.AreLive}
 
 pub none_live : (counts marks : List ℕ) → counts ≡ replicate slot_count 0 → marks ≡ replicate 64 0 → AreLive counts marks
 none_live counts marks empty clear = λ slot below.

@@ -1,8 +1,8 @@
 -- The walk over a client's ids: its live buffers, and what they hold.
 use Rattle.std.proofs.Common.{◌≡◌, ℕ, zero, suc, ◌+◌, ◌-◌, ◌≤◌, ◌<◌, List, [], ◌∷◌, ◌++◌, length, refl, sym, ◌∙◌, ap, arith, append_assoc, append-nil, length-append, Option, None, Some}
 use Rattle.buffer_table.specs.declared.buffer.Buffer.{Buffer}
-use Rattle.job_session.specs.Own.{Held}
 use Rattle.job_session.specs.Submit.{laid, laid_in, laid_at, size_of, contents_at, packed, contents_from}
+use Rattle.job_session.specs.Own.{Held}
 
 packed_step : (client : ℕ) (own : ℕ → Option Held) (id place : ℕ) → id < 64
     → packed client own id (64 - id) place ≡ laid_at client place (own id) ++ packed client own (id + 1) (64 - (id + 1)) (place + size_of (own id))

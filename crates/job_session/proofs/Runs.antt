@@ -2,8 +2,7 @@
 use Rattle.std.proofs.Common.{◌≡◌, ◌<◌, ◌≤◌, ◌==◌, ◌&&◌, ◌+◌, nat_le, ℕ, zero, suc, Bool, true, false, List, slice_index, Some, refl, arith}
 use Rattle.std.proofs.lemmas.Bool.Decides.{nat_tests}
 use Rattle.overflow_slots.proofs.Searches.{equal, first_found}
-use Rattle.session_pages.specs.Runs.{page_count, all_where, is_run, first_run}
-use Rattle.session_pages.specs.Map.{PageMap, free_run, is_free}
+use Rattle.session_pages.specs.{Runs.page_count, Runs.all_where, Runs.is_run, Runs.first_run, Map.PageMap, Map.free_run, Map.is_free}
 
 pub both_true : (a b : Bool) → (a && b) ≡ true → (a ≡ true) × (b ≡ true)
 both_true true true is = (refl, refl)

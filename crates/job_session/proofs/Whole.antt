@@ -1,33 +1,23 @@
 -- The file of a client's job is the text of its live buffers and of its job, as the job's own bytes spell it.
 use Rattle.std.proofs.Common.{◌≡◌, ℕ, zero, suc, ◌+◌, ◌<◌, ◌≤◌, ◌^◌, false, nat_lt, List, [], ◌∷◌, ◌++◌, length, map, take, drop, Option, None, Some, Ok, Err, refl, sym, ◌∙◌, ap, subst, arith, append_assoc, append-nil, length-append}
-use Rattle.std.specs.List.{flat_map, AllByRecursion}
 use Rattle.std.proofs.lemmas.Bool.Decides.{nat_tests}
-use Rattle.field_words.specs.Words.{u32_at}
-use Rattle.field_words.specs.Pieces.{joined}
-use Rattle.field_words.specs.Questions.{first_of, answered}
+use Rattle.std.specs.List.{flat_map, AllByRecursion}
+use Rattle.field_words.specs.{Words.u32_at, Pieces.joined, Questions.first_of, Questions.answered}
 use Rattle.field_words.proofs.Questions.{passes, answered_none}
 use Rattle.buffer_table.specs.declared.buffer.Buffer.{Buffer}
 use Rattle.qpu_isa.specs.Shader.{ShaderModel}
 use Rattle.shader_records.specs.Inputs.{shaders_view}
-use Rattle.job_format.specs.declared.rule.Refusal.{Refusal}
-use Rattle.job_format.specs.Faults.{format_questions}
-use Rattle.job_format.specs.Model.{JobModel, FileModel}
-use Rattle.job_format.specs.Offsets.{buffer_count, job_count}
+use Rattle.job_format.specs.{declared.rule.Refusal.Refusal, Faults.format_questions, Model.JobModel, Model.FileModel}
+use Rattle.job_format.specs.{Offsets.buffer_count, Offsets.job_count, File.JobFits, File.IsJobWellFormed, File.IsWellFormed, File.IsFileOf}
 use Rattle.job_format.specs.Reading.{buffers_at, contents_at, jobs_at, file_at}
 use Rattle.job_format.specs.Text.{header_text, buffer_text, job_text, parts_text, file_text}
-use Rattle.job_format.specs.File.{JobFits, IsJobWellFormed, IsWellFormed, IsFileOf}
-use Rattle.job_format.proofs.Laws.{read_again}
-use Rattle.job_format.proofs.Heads.{job_long}
-use Rattle.job_check.specs.Faults.{file_stages}
-use Rattle.job_check.specs.Whole.{questions_within, refusal_of, format_refused}
+use Rattle.job_format.proofs.{Laws.read_again, Heads.job_long}
+use Rattle.job_check.specs.{Faults.file_stages, Whole.questions_within, Whole.refusal_of, Whole.format_refused}
 use Rattle.session_pages.specs.Map.{first_place}
-use Rattle.job_session.specs.declared.denied.Denied.TheVariants.{Job}
-use Rattle.job_session.specs.declared.kept.Entries.{Entries}
-use Rattle.job_session.specs.Own.{Held}
+use Rattle.job_session.specs.{declared.denied.Denied.TheVariants.Job, declared.kept.Entries.Entries, Own.Held, Kept.AreEntries}
 use Rattle.job_session.specs.Submit.{header_of, with_client, job_bytes, all_contents, packed, file_of}
 use Rattle.job_session.specs.Desk.{Desk, held_in, job_answer, submit_answer}
 use Rattle.job_session.specs.Found.{AreAll, IsJobOf, file_with, file_in}
-use Rattle.job_session.specs.Kept.{AreEntries}
 use Rattle.job_session.proofs.Entered.{all_fit, all_bytes, all_few, all_long}
 
 -- the one job, in the file of a client without buffers

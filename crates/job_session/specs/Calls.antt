@@ -1,15 +1,11 @@
 -- The lines of a script, and the calls that they are.
 use Rattle.std.specs.Prelude.{ℕ, ◌≤◌, ◌<◌, is_some, Bool, ◌&&◌, nat_lt, nat_le, bytes_eq, codes, List, [], length, Option, Some, None, Result, Ok, Err, if◌then◌else◌}
 use Rattle.field_words.specs.Sizes.{most_code}
-use Rattle.hex.specs.Hex.{decode_of}
-use Rattle.hex.specs.declared.error.FromHexError.{FromHexError}
-use Rattle.script.specs.Lines.{before, behind, first_malformed}
-use Rattle.script.specs.Number.{number_within}
-use Rattle.job_session.specs.declared.call.Line.{Line}
-use Rattle.job_session.specs.declared.call.Request.{Request}
+use Rattle.hex.specs.{Hex.decode_of, declared.error.FromHexError.FromHexError}
+use Rattle.script.specs.{Lines.before, Lines.behind, Lines.first_malformed, Number.number_within}
 use Rattle.job_session.specs.declared.call.Request.TheVariants.{Create as AsksCreate, Code as AsksCode, Write as AsksWrite, Read as AsksRead, Free as AsksFree, Submit as AsksSubmit}
+use Rattle.job_session.specs.{declared.call.Line.Line, declared.call.Request.Request, Session.Call}
 use Rattle.job_session.specs.Own.{Command, Create, Make, Write, Read, Free, Submit}
-use Rattle.job_session.specs.Session.{Call}
 
 abbrev pub last_client : ℕ
 last_client = 7

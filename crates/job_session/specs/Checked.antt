@@ -1,14 +1,10 @@
 -- The rules of shaders and of jobs in a session: those of the checker of job files.
 use Rattle.std.specs.Prelude.{ℕ, ◌*◌, List, Option}
 use Rattle.field_words.specs.Questions.{first_of, answered}
-use Rattle.job_format.specs.declared.rule.Refusal.{Refusal}
-use Rattle.job_format.specs.declared.rule.Stage.TheVariants.{S}
+use Rattle.job_format.specs.{declared.rule.Refusal.Refusal, declared.rule.Stage.TheVariants.S}
 use Rattle.shader_check.specs.declared.fault.ShaderFault.{ShaderFault}
-use Rattle.job_check.specs.Faults.{refused}
-use Rattle.job_check.specs.Shaders.{code_questions}
-use Rattle.job_check.specs.Whole.{refusal_of}
-use Rattle.job_session.specs.Own.{Rules}
-use Rattle.job_session.specs.Submit.{file_of}
+use Rattle.job_check.specs.{Faults.refused, Shaders.code_questions, Whole.refusal_of}
+use Rattle.job_session.specs.{Own.Rules, Submit.file_of}
 
 -- a shader's fault stands at the byte of its instruction
 abbrev pub at_instruction : ShaderFault → Refusal

@@ -1,19 +1,16 @@
 -- What a session keeps, and what calls answer and leave, by page map and slots alone. Each client has 64 slots.
 use Rattle.std.specs.Prelude.{◌≡◌, ◌≤◌, ◌<◌, ℕ, ◌+◌, ◌*◌, ◌==◌, Bool, true, not, ◌&&◌, ◌||◌, nat_lt, List, length, slice_index, slice_index_or, slice_set, replicate, Option, Some, None, Result, Ok, Err, is_ok, if◌then◌else◌}
 use Rattle.std.specs.Int.{div_ceil}
-use Rattle.field_words.specs.Sizes.{page_size}
-use Rattle.buffer_table.specs.declared.buffer.Kind.{Kind}
-use Rattle.buffer_table.specs.declared.buffer.Kind.TheVariants.{Plain, Code}
+use Rattle.field_words.specs.{Sizes.page_size, declared.stop.Stop.Stop}
+use Rattle.field_words.specs.declared.stop.Stop.TheVariants.{Fault, NoMemory}
+use Rattle.buffer_table.specs.{declared.buffer.Kind.Kind, declared.buffer.Kind.TheVariants.Plain, declared.buffer.Kind.TheVariants.Code}
 use Rattle.job_format.specs.declared.rule.Refusal.{Refusal}
 use Rattle.overflow_slots.specs.Search.{first_where}
 use Rattle.phys_mem.specs.Window.{window_of}
 use Rattle.session_pages.specs.Runs.{page_count}
 use Rattle.session_pages.specs.Map.{PageMap, all_free, free_run, with_run, without_run, with_part, place_of}
-use Rattle.field_words.specs.declared.stop.Stop.{Stop}
-use Rattle.field_words.specs.declared.stop.Stop.TheVariants.{Fault, NoMemory}
-use Rattle.job_session.specs.declared.denied.Denied.{Denied}
+use Rattle.job_session.specs.{declared.denied.Denied.Denied, Own.Held, Own.most_buffers, Own.most_pages, Own.most_read}
 use Rattle.job_session.specs.declared.denied.Denied.TheVariants.{Session, Job}
-use Rattle.job_session.specs.Own.{Held, most_buffers, most_pages, most_read}
 use Rattle.job_session.specs.Checked.{shader_refusal, session_rules}
 
 -- The map of pages; and for each slot its buffer's first page, how many pages it has, where 0 says that no buffer lives there, and

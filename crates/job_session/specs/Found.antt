@@ -1,20 +1,14 @@
 -- A client's live buffers as the file of a job has them, and the file that they and a job are.
 use Rattle.std.specs.Prelude.{◌≡◌, ◌≤◌, ℕ, List, length, map, Option, None, Some}
-use Rattle.std.specs.List.{flat_map, AllByRecursion}
-use Rattle.std.specs.Prelude.{◌++◌}
+use Rattle.std.specs.{List.flat_map, List.AllByRecursion, Prelude.◌++◌}
 use Rattle.field_words.specs.Pieces.{joined}
 use Rattle.buffer_table.specs.declared.buffer.Buffer.{Buffer}
 use Rattle.shader_records.specs.Inputs.{shader_option, shaders_view}
-use Rattle.job_format.specs.Model.{JobModel, FileModel}
-use Rattle.job_format.specs.Text.{job_text, parts_text}
-use Rattle.job_format.specs.File.{JobFits, IsJobWellFormed}
+use Rattle.job_format.specs.{Model.JobModel, Model.FileModel, Text.job_text, Text.parts_text, File.JobFits, File.IsJobWellFormed}
 use Rattle.session_pages.specs.Map.{first_place, memory_size}
-use Rattle.job_session.specs.declared.kept.Entry.{Entry as KeptEntry}
-use Rattle.job_session.specs.declared.kept.Entries.{Entries}
-use Rattle.job_session.specs.declared.kept.Found.{Found}
 use Rattle.job_session.specs.declared.kept.Found.TheVariants.{Nothing, Unknown, Entry}
-use Rattle.job_session.specs.Own.{Held, most_buffers}
-use Rattle.job_session.specs.Submit.{laid_in, contents_at, packed, all_contents}
+use Rattle.job_session.specs.{declared.kept.Entry.Entry as KeptEntry, declared.kept.Entries.Entries, declared.kept.Found.Found}
+use Rattle.job_session.specs.{Own.Held, Own.most_buffers, Submit.laid_in, Submit.contents_at, Submit.packed, Submit.all_contents}
 use Rattle.job_session.specs.Kept.{IsEntry, AreEntries}
 
 -- the entry of a live buffer at this place

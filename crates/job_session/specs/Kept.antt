@@ -1,20 +1,14 @@
 -- What a session keeps of the shaders in Code buffers, so that no submit asks the rules of shaders of them again.
 use Rattle.std.specs.Prelude.{◌≡◌, ◌≤◌, ◌<◌, ℕ, ◌+◌, ◌*◌, ◌==◌, not, List, [], ◌∷◌, length, slice_index, slice_index_or, Option, None, Some, IfSome}
-use Rattle.field_words.specs.Sizes.{page_size, most_code}
-use Rattle.field_words.specs.Words.{IsBytes}
-use Rattle.field_words.specs.Questions.{first_of}
-use Rattle.buffer_table.specs.declared.buffer.Buffer.{Buffer}
-use Rattle.buffer_table.specs.declared.buffer.Kind.{Kind}
+use Rattle.field_words.specs.{Sizes.page_size, Sizes.most_code, Words.IsBytes, Questions.first_of}
+use Rattle.buffer_table.specs.{declared.buffer.Buffer.Buffer, declared.buffer.Kind.Kind}
 use Rattle.buffer_table.specs.declared.buffer.Kind.TheVariants.{Plain, Code}
 use Rattle.phys_mem.specs.Window.{window_of}
 use Rattle.qpu_isa.specs.Shader.{ShaderModel, shader_view, IsSoundShader}
 use Rattle.job_format.specs.File.{BufferFits, FitsShader}
-use Rattle.job_check.specs.Shaders.{words_of, code_questions, told_of, shader_for}
-use Rattle.job_check.specs.Faults.{shader_questions_in}
-use Rattle.session_pages.specs.Map.{place_of, IsWhole}
-use Rattle.session_pages.specs.Marks.{mark_of, bit_of}
-use Rattle.job_session.specs.declared.kept.Kept.{Kept}
-use Rattle.job_session.specs.Desk.{SlotsFit, slot_count}
+use Rattle.job_check.specs.{Shaders.words_of, Shaders.code_questions, Shaders.told_of, Shaders.shader_for, Faults.shader_questions_in}
+use Rattle.session_pages.specs.{Map.place_of, Map.IsWhole, Marks.mark_of, Marks.bit_of}
+use Rattle.job_session.specs.{declared.kept.Kept.Kept, Desk.SlotsFit, Desk.slot_count}
 
 -- the pages of each slot's buffer are held by the slot, so no two buffers have a page in common
 abbrev pub AreApart : List ℕ → List ℕ → List ℕ → Type 0

@@ -1,10 +1,8 @@
 -- One client's buffers by its own commands alone: no pages, no memory, no other client.
 use Rattle.std.specs.Prelude.{ℕ, ◌+◌, ◌*◌, ◌-◌, ◌==◌, Bool, true, false, ◌||◌, nat_lt, List, [], ◌∷◌, ◌++◌, length, take, drop, Option, Some, None, if◌then◌else◌}
 use Rattle.std.specs.Int.{div_ceil}
-use Rattle.field_words.specs.Sizes.{page_size}
-use Rattle.field_words.specs.Writes.{with_bytes, zeros}
-use Rattle.buffer_table.specs.declared.buffer.Kind.{Kind}
-use Rattle.buffer_table.specs.declared.buffer.Kind.TheVariants.{Plain, Code}
+use Rattle.field_words.specs.{Sizes.page_size, Writes.with_bytes, Writes.zeros}
+use Rattle.buffer_table.specs.{declared.buffer.Kind.Kind, declared.buffer.Kind.TheVariants.Plain, declared.buffer.Kind.TheVariants.Code}
 use Rattle.overflow_slots.specs.Search.{first_where}
 
 abbrev pub most_buffers : ℕ

@@ -1,11 +1,10 @@
 -- What a call is answered from a desk on, and the desk that it leaves.
 use Rattle.std.specs.Prelude.{ℕ, length, List, Result, Ok, Err}
 use Rattle.job_format.specs.declared.rule.Refusal.{Refusal}
-use Rattle.job_session.specs.declared.denied.Denied.{Denied}
-use Rattle.job_session.specs.declared.denied.Denied.TheVariants.{Session, Job}
 use Rattle.job_session.specs.Own.{Command, Create, Make, Write, Read, Free, Submit, Reply, Id, Done, Bytes, Accepted, Refused, Broken}
-use Rattle.job_session.specs.Session.{Call}
 use Rattle.job_session.specs.Desk.{Desk, create_answer, created, code_answer, made, write_answer, written, read_answer, free_answer, freed, submit_answer}
+use Rattle.job_session.specs.{declared.denied.Denied.Denied, Session.Call}
+use Rattle.job_session.specs.declared.denied.Denied.TheVariants.{Session, Job}
 
 abbrev pub created_reply : Result ℕ ℕ → Reply Refusal
 created_reply (Ok id) = Id id

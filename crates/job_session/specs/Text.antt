@@ -1,17 +1,11 @@
 -- What a script is answered: a line for each of its calls.
-use Rattle.std.specs.Prelude.{ℕ, List, [], ◌++◌, codes, Option, Some, None}
-use Rattle.std.specs.Fmt.{decimal}
+use Rattle.std.specs.Prelude.{ℕ, List, [], ◌++◌, codes, Option, Some, None, decimal}
 use Rattle.field_words.specs.declared.stop.Stop.{Stop}
 use Rattle.hex.specs.Hex.{encode_lower}
-use Rattle.job_format.specs.declared.rule.Refusal.{Refusal}
-use Rattle.job_format.specs.Rules.{rule_text}
-use Rattle.script.specs.Lines.{lines_of}
-use Rattle.script.specs.Replies.{replies_from, IsScriptFault as IsFaultOf}
-use Rattle.job_session.specs.Own.{Command, Reply, Id, Done, Bytes, Accepted, Refused, Broken}
-use Rattle.job_session.specs.Session.{Call}
-use Rattle.job_session.specs.Desk.{Desk, empty}
-use Rattle.job_session.specs.Replies.{command_reply, desk_after}
-use Rattle.job_session.specs.Calls.{call_of, fault_line}
+use Rattle.job_format.specs.{declared.rule.Refusal.Refusal, Rules.rule_text}
+use Rattle.script.specs.{Lines.lines_of, Replies.replies_from, Replies.IsScriptFault as IsFaultOf}
+use Rattle.job_session.specs.{Own.Command, Own.Reply, Own.Id, Own.Done, Own.Bytes, Own.Accepted, Own.Refused, Own.Broken, Session.Call}
+use Rattle.job_session.specs.{Desk.Desk, Desk.empty, Replies.command_reply, Replies.desk_after, Calls.call_of, Calls.fault_line}
 
 -- a rule of shaders or of jobs is named with its place
 unfoldable pub reply_line : Reply Refusal → List ℕ

@@ -6,11 +6,9 @@ use Rattle.hex.specs.Hex.{encode_lower, encode_with, lower_digits, hex_digit_val
 use Rattle.hex.proofs.HexLemmas.{IsDigits-lower_digits}
 use Rattle.field_words.specs.Words.{IsBytes}
 use Rattle.script.specs.Lines.{before, lines_of, onto_line}
-use Rattle.job_text.specs.declared.note.Note.{Note}
-use Rattle.job_text.specs.declared.note.Note.TheVariants.{Unread}
-use Rattle.job_text.specs.declared.note.Piece.{Piece}
 use Rattle.job_text.specs.Made.{words_of, digits_read, size_named, word_by, word_read, words_read, line_read, part_read, stays_inside, lines_read, both, made, is_blank, past_blanks, says}
 use Rattle.job_text.specs.Shown.{remark, is_in, is_past, mark_text, reason_text, line_text, lines_text, shown}
+use Rattle.job_text.specs.{declared.note.Note.Note, declared.note.Note.TheVariants.Unread, declared.note.Piece.Piece}
 
 -- no byte is the mark
 abbrev Free : ℕ → List ℕ → Type 0

@@ -2,8 +2,7 @@
 use Rattle.std.proofs.Common.{◌≡◌, ℕ, ◌≤◌, ◌<◌, min, true, false, List, [], ◌∷◌, ◌++◌, length, take, drop, codes, Result, Ok, Err, refl, sym, ◌∙◌, ap, append-nil, arith}
 use Rattle.std.proofs.lemmas.List.{take_min, drop_min}
 use Rattle.script.specs.Lines.{lines_of}
-use Rattle.job_text.specs.declared.fault.MakeFault.{MakeFault}
-use Rattle.job_text.specs.declared.fault.Mistake.TheVariants.{NoEnd}
+use Rattle.job_text.specs.{declared.fault.MakeFault.MakeFault, declared.fault.Mistake.TheVariants.NoEnd}
 use Rattle.job_text.specs.Made.{is_blank, past_blanks, is_nothing, says, asm_line, both, block_text}
 use Rattle.job_text.proofs.Steps.{both_both, both_none}
 

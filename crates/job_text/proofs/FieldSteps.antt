@@ -1,9 +1,7 @@
 -- One field after the other.
 use Rattle.std.proofs.Common.{◌≡◌, ℕ, ◌+◌, ◌≤◌, ◌<◌, min, List, ◌++◌, length, get_or, take, drop, codes, sym, ap, ◌∙◌, append_assoc, append-nil}
 use Rattle.std.proofs.lemmas.List.{drop_more, drop_all, take_min, drop_min}
-use Rattle.job_text.specs.declared.note.Field.{Field}
-use Rattle.job_text.specs.Names.{field_size}
-use Rattle.job_text.specs.Rows.{valued, fields_text}
+use Rattle.job_text.specs.{declared.note.Field.Field, Names.field_size, Rows.valued, Rows.fields_text}
 
 pub field_step : (out rest front back mid new : List ℕ) (i : ℕ) (fields : List Field) (none : Field) → i < length fields
     → front ≡ take (min (field_size (get_or fields i none)) (length rest)) rest

@@ -1,9 +1,7 @@
 -- One piece after the other.
 use Rattle.std.proofs.Common.{◌≡◌, ℕ, ◌+◌, ◌≤◌, ◌<◌, min, List, ◌++◌, length, get_or, take, drop, Option, refl, append_assoc}
 use Rattle.std.proofs.lemmas.List.{drop_more, drop_all, take_min, drop_min}
-use Rattle.job_text.specs.declared.note.Note.TheVariants.{Unread}
-use Rattle.job_text.specs.declared.note.Piece.{Piece}
-use Rattle.job_text.specs.Shown.{line_text, lines_text}
+use Rattle.job_text.specs.{declared.note.Note.TheVariants.Unread, declared.note.Piece.Piece, Shown.line_text, Shown.lines_text}
 
 pub piece_step : (out rest front back new why : List ℕ) (refused : Option ℕ) (at i : ℕ) (pieces : List Piece) (none : Piece) → i < length pieces
     → front ≡ take (min (get_or pieces i none).size (length rest)) rest

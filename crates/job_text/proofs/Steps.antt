@@ -2,10 +2,9 @@
 use Rattle.std.proofs.Common.{◌≡◌, ℕ, ◌+◌, ◌≤◌, Bool, List, [], ◌∷◌, ◌++◌, length, drop, Result, Ok, Err, Option, Some, None, refl, sym, ◌∙◌, ap, append_assoc, append-nil, arith}
 use Rattle.hex.specs.Hex.{hex_digit_value}
 use Rattle.script.specs.Lines.{lines_of}
-use Rattle.field_words.specs.declared.stop.Stop.{Stop}
-use Rattle.field_words.specs.declared.stop.Stop.TheVariants.{Fault, NoMemory}
-use Rattle.job_text.specs.declared.fault.MakeFault.{MakeFault}
+use Rattle.field_words.specs.{declared.stop.Stop.Stop, declared.stop.Stop.TheVariants.Fault, declared.stop.Stop.TheVariants.NoMemory}
 use Rattle.job_text.specs.Made.{byte_at, front_digit, both, words_of, digits_read, word_read, words_read, part_read, stays_inside, lines_read, made, IsFaultOf}
+use Rattle.job_text.specs.declared.fault.MakeFault.{MakeFault}
 
 pub both_both : (a b : List ℕ) (r : Result (List ℕ) MakeFault) → both (Ok a) (both (Ok b) r) ≡ both (Ok (a ++ b)) r
 both_both a b (Err fault) = refl

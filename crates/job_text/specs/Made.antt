@@ -1,18 +1,13 @@
 -- The bytes that a text holds: on each line what stands before a `#`, in words. A word is two hexadecimal digits for each byte, or a
 -- number. The lines between `asm` and `end` are assembler text, which gives the bytes of its instruction words.
 use Rattle.std.specs.Prelude.{◌≡◌, ℕ, ◌+◌, ◌*◌, ◌^◌, ◌==◌, ◌&&◌, ◌||◌, not, nat_lt, nat_le, bytes_eq, take, drop, length, map, Bool, true, false, List, [], ◌∷◌, ◌++◌, codes, Option, Some, None, Result, Ok, Err, if◌then◌else◌}
-use Rattle.std.specs.Int.{to_le_bytes, w32, w64}
-use Rattle.std.specs.List.{flat_map}
+use Rattle.std.specs.{Int.to_le_bytes, Int.w32, Int.w64, List.flat_map}
 use Rattle.hex.specs.Hex.{hex_digit_value}
-use Rattle.script.specs.Lines.{before, behind, lines_of, onto_line}
-use Rattle.script.specs.Number.{number_within}
-use Rattle.field_words.specs.declared.stop.Stop.{Stop}
-use Rattle.field_words.specs.declared.stop.Stop.TheVariants.{Fault, NoMemory}
-use Rattle.qpu_asm.specs.declared.fault.AsmFault.{AsmFault}
-use Rattle.qpu_asm.specs.Assembly.{Assembled}
-use Rattle.qpu_asm.specs.Place.{fault_place}
-use Rattle.job_text.specs.declared.fault.MakeFault.{MakeFault}
+use Rattle.script.specs.{Lines.before, Lines.behind, Lines.lines_of, Lines.onto_line, Number.number_within}
+use Rattle.field_words.specs.{declared.stop.Stop.Stop, declared.stop.Stop.TheVariants.Fault, declared.stop.Stop.TheVariants.NoMemory}
+use Rattle.qpu_asm.specs.{declared.fault.AsmFault.AsmFault, Assembly.Assembled, Place.fault_place}
 use Rattle.job_text.specs.declared.fault.Mistake.TheVariants.{WrongCharacter, LoneDigit, WrongNumber, NoEnd, LongBlock, Assembler}
+use Rattle.job_text.specs.declared.fault.MakeFault.{MakeFault}
 
 -- a space, a tab or a carriage return
 unfoldable pub is_blank : ℕ → Bool

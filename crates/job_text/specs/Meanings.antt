@@ -1,13 +1,11 @@
 -- What a field's number means, as it is said behind the number.
 use Rattle.std.specs.Prelude.{ℕ, ◌++◌, List, [], codes, decimal, ◌==◌, ◌%◌, ◌/◌, Option, Some, None, if◌then◌else◌}
 use Rattle.packets.specs.StateWord.{attribute_count, is_extended}
-use Rattle.texture_layouts.specs.declared.surface.Tiling.{Tiling}
 use Rattle.texture_layouts.specs.declared.surface.Tiling.TheVariants.{Raster, T, Lt}
-use Rattle.texture_layouts.specs.declared.format.Style.{Style}
-use Rattle.texture_layouts.specs.Format.{general_style, frame_style}
+use Rattle.texture_layouts.specs.{declared.surface.Tiling.Tiling, declared.format.Style.Style, Format.general_style, Format.frame_style}
 use Rattle.texture_layouts.specs.Surface.{size_for}
-use Rattle.job_text.specs.declared.note.Field.{Field}
 use Rattle.job_text.specs.declared.note.Field.TheVariants.{Kind, Flags, HandleIndex, FrameBits, GeneralBits, SurfaceFlags, PrimitiveMode, IndexMode, StateWord, BinnerFlags, RecordFlags}
+use Rattle.job_text.specs.declared.note.Field.{Field}
 
 abbrev pub tiling_name : Tiling → List ℕ
 tiling_name Raster = codes "raster"

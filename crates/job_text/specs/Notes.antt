@@ -4,16 +4,11 @@ use Rattle.field_words.specs.Words.{u32_at, u64_at}
 use Rattle.script.specs.Lines.{before}
 use Rattle.qpu_asm.specs.Printed.{AsmText}
 use Rattle.qpu_isa.specs.Terms.{is_switch, is_end, writes_s}
-use Rattle.job_text.specs.declared.note.Note.{Note}
 use Rattle.job_text.specs.declared.note.Note.TheVariants.{Number, Named, Sized, Handle, Packet, BehindHalt, Records, Uniform, Taken, Data, Instruction, Unread}
-use Rattle.job_text.specs.declared.note.Meaning.{Meaning}
-use Rattle.job_text.specs.declared.note.Part.{Part}
-use Rattle.job_text.specs.declared.note.Stage.{Stage}
-use Rattle.job_text.specs.declared.note.Field.{Field}
-use Rattle.job_text.specs.Meanings.{bits_style, size_text}
+use Rattle.job_text.specs.{declared.note.Note.Note, declared.note.Meaning.Meaning, declared.note.Part.Part, declared.note.Stage.Stage}
+use Rattle.job_text.specs.{declared.note.Field.Field, Meanings.bits_style, Meanings.size_text, Uniforms.meaning_text}
 use Rattle.job_text.specs.Names.{named_text, of_job, part_text, stage_name, packet_name}
 use Rattle.job_text.specs.Rows.{packet_fields, valued, fields_text}
-use Rattle.job_text.specs.Uniforms.{meaning_text}
 
 -- the same of the number that some bytes are, where numbers count
 unfoldable pub counted : ℕ → List ℕ → ℕ → List ℕ → List ℕ → List ℕ

@@ -2,10 +2,8 @@
 use Rattle.std.specs.Prelude.{ℕ, List, [], ◌∷◌, ◌++◌, take, drop, codes, decimal, ◌==◌, if◌then◌else◌}
 use Rattle.field_words.specs.Words.{u32_at}
 use Rattle.packets.specs.Opcode.{indexed_primitive_list, array_primitive_list, primitive_list_format, gl_shader_state, configuration_bits, flat_shade_flags, point_size, line_width, rht_x_boundary, depth_offset, clip_window, viewport_offset, clipper_xy_scaling, clipper_z_scaling, tile_binning_mode, buffer_handles}
-use Rattle.job_text.specs.declared.note.Field.{Field}
 use Rattle.job_text.specs.declared.fields.TheConstants.{INDEXED_PRIMITIVE_LIST_FIELDS, ARRAY_PRIMITIVE_LIST_FIELDS, PRIMITIVE_LIST_FORMAT_FIELDS, GL_SHADER_STATE_FIELDS, CONFIGURATION_BITS_FIELDS, FLAT_SHADE_FLAGS_FIELDS, VALUE_FIELDS, RHT_X_BOUNDARY_FIELDS, DEPTH_OFFSET_FIELDS, CLIP_WINDOW_FIELDS, VIEWPORT_OFFSET_FIELDS, CLIPPER_XY_SCALING_FIELDS, CLIPPER_Z_SCALING_FIELDS, TILE_BINNING_MODE_FIELDS, BUFFER_HANDLES_FIELDS}
-use Rattle.job_text.specs.Names.{field_name, field_size}
-use Rattle.job_text.specs.Meanings.{field_meaning}
+use Rattle.job_text.specs.{declared.note.Field.Field, Names.field_name, Names.field_size, Meanings.field_meaning}
 
 -- the fields behind a packet's opcode, in order
 unfoldable pub packet_fields : ℕ → List Field

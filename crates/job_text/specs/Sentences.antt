@@ -1,9 +1,8 @@
 -- What is said of a mistake.
 use Rattle.std.specs.Prelude.{ℕ, List, codes}
-use Rattle.rule_words.specs.declared.name.Family.TheVariants.{Kind}
-use Rattle.rule_words.specs.Names.{sentence_of as rule_sentence}
-use Rattle.job_text.specs.declared.fault.Mistake.{Mistake}
+use Rattle.rule_words.specs.{declared.name.Family.TheVariants.Kind, Names.sentence_of as rule_sentence}
 use Rattle.job_text.specs.declared.fault.Mistake.TheVariants.{WrongCharacter, LoneDigit, WrongNumber, NoEnd, LongBlock, Assembler}
+use Rattle.job_text.specs.declared.fault.Mistake.{Mistake}
 
 abbrev pub sentence_of : Mistake → List ℕ
 sentence_of WrongCharacter = codes "here stands neither a hexadecimal digit nor a blank"

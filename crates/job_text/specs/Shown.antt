@@ -2,10 +2,7 @@
 use Rattle.std.specs.Prelude.{ℕ, ◌+◌, ◌&&◌, Bool, false, nat_le, nat_lt, List, [], ◌∷◌, ◌++◌, length, take, drop, codes, decimal, Option, Some, None, if◌then◌else◌}
 use Rattle.hex.specs.Hex.{encode_lower}
 use Rattle.script.specs.Lines.{before}
-use Rattle.job_text.specs.declared.note.Note.{Note}
-use Rattle.job_text.specs.declared.note.Note.TheVariants.{Unread}
-use Rattle.job_text.specs.declared.note.Piece.{Piece}
-use Rattle.job_text.specs.Notes.{note_text}
+use Rattle.job_text.specs.{declared.note.Note.Note, declared.note.Note.TheVariants.Unread, declared.note.Piece.Piece, Notes.note_text}
 
 -- the offset of the bytes, and what they are, up to a line's end
 unfoldable pub remark : ℕ → List ℕ → Note → List ℕ

@@ -1,11 +1,9 @@
 -- What a shader makes of a uniform, as it is said behind its number.
 use Rattle.std.specs.Prelude.{ℕ, ◌++◌, ◌==◌, List, codes, decimal, if◌then◌else◌}
-use Rattle.texture_layouts.specs.Fits.{is_unlisted}
 use Rattle.texture_layouts.specs.Setup.{TextureModel, texture_in, faces_of, face_place, level_width_of, level_height_of, tiling_at}
-use Rattle.job_text.specs.declared.note.Meaning.{Meaning}
+use Rattle.texture_layouts.specs.Fits.{is_unlisted}
 use Rattle.job_text.specs.declared.note.Meaning.TheVariants.{Plain, Stream, Source, Address, Bound, Setup}
-use Rattle.job_text.specs.Meanings.{tiling_name}
-use Rattle.job_text.specs.Names.{named_text}
+use Rattle.job_text.specs.{declared.note.Meaning.Meaning, Meanings.tiling_name, Names.named_text}
 
 -- how the pixels of a texture lie; nothing of a type that isn't listed
 unfoldable pub listed_text : TextureModel → List ℕ

@@ -1,11 +1,11 @@
 -- One step of the binner keeps all that stands.
 use Rattle.std.proofs.Common.{unwrap_or, ◌≡◌, ◌≢◌, ◌<◌, ◌⊎◌, inl, inr, ℕ, ◌+◌, ◌==◌, ◌||◌, Bool, true, false, List, [], ◌∷◌, ◌++◌, length, slice_index, Option, Some, None, IfSome, if◌then◌else◌, refl, sym, ◌∙◌, ap, subst, arith}
-use Rattle.std.specs.Prelude.{nat_lt}
 use Rattle.std.proofs.lemmas.{Grind.common_steps, List.length-replicate, Bool.and_parts, Bool.Decides.nat_tests}
 use Rattle.std.proofs.Math.Nat.{mod-lt}
+use Rattle.std.specs.Prelude.{nat_lt}
 use Rattle.field_words.specs.{Pieces.joined, Words.u32_at, declared.access.Access.Access, declared.access.Way.TheVariants.Read}
-use Rattle.packets.specs.{Length.bin_length, Length.bin_taken, declared.config.Config.Config, Config.config_in}
 use Rattle.packets.specs.Opcode.{halt, flush, start_tile_binning, increment_semaphore, indexed_primitive_list, array_primitive_list, gl_shader_state, tile_binning_mode, buffer_handles}
+use Rattle.packets.specs.{Length.bin_length, Length.bin_taken, declared.config.Config.Config, Config.config_in}
 use Rattle.machine_plan.specs.declared.{who.Who.Who, launch.Free.Free, launch.Launch.Launch}
 use Rattle.machine_plan.specs.{World.mapped, Glance.glanced, Memory.bytes_at}
 use Rattle.machine_plan.specs.{Plan.Plan, Plan.Done, Plan.Wilds, Plan.Keeps, Plan.access, Regions.Inside, Regions.Rights, Regions.IsSafeIn}
@@ -14,13 +14,13 @@ use Rattle.bin_list.specs.Packets.{opcode}
 use Rattle.bin_walks.specs.Walks.{Kept as Passed, kept_after, Drawing, Tame, Walks}
 use Rattle.list_machine.specs.declared.state.{Binner.Binner, Item.Item, Kept.Kept, Frame.Frame, Work.Work, Program.TheVariants.Coordinate}
 use Rattle.list_machine.specs.Lists.{Lists, Turned, quiet, with_binner, with_kept, with_work, past, incremented, flushed}
-use Rattle.list_machine.specs.{Blocks.tiles_of, Fetch.fetch_plan, Start.start_plan, Start.can_start}
 use Rattle.list_machine.specs.Binner.{configured, with_word, started, clear_plan, begin_plan, work_of, drawn, draw_plan, halted, is_unknown, packet_plan, read_plan, one_done, fetched_with, not_due, started_with, chosen_tile, tile_plan, item_plan, work_plan, binner_by, binner_plan, item_may, work_may, binner_may, binner_ready}
+use Rattle.list_machine.specs.{Blocks.tiles_of, Fetch.fetch_plan, Start.start_plan, Start.can_start}
 use Rattle.list_law.specs.Binning.{passed_of, Allocates, DrawsSo, OnWay, WorkFine, LogFine, IsOnly, NotYet, Only}
 use Rattle.list_law.specs.Lists.{ListsFine, TurnedFine}
+use Rattle.list_law.proofs.Bytes.{none_left, bytes_front, bytes_behind, byte_front, front_inside, behind_inside, behind_ends}
 use Rattle.list_law.proofs.{Safe.write_safe, Safe.keeps_if, Logs.same, Logs.not_same, Logs.put_keeps}
 use Rattle.list_law.proofs.Fetching.{AnyEnd, fetch_keeps, start_fine}
-use Rattle.list_law.proofs.Bytes.{none_left, bytes_front, bytes_behind, byte_front, front_inside, behind_inside, behind_ends}
 
 -- The same with another binner.
 pub binner_set : (r : Rights) (K : List ℕ → Type 0) (O : Launch → Type 0) (c : Config) (f : Frame) (s : Lists) (b : Binner) → ListsFine r K O c f s

@@ -1,15 +1,15 @@
 -- Vertices are fetched and programs started safely.
 use Rattle.std.proofs.Common.{◌≡◌, ◌≤◌, ◌<◌, ℕ, zero, suc, ◌+◌, ◌*◌, ◌%◌, ◌^◌, ◌&&◌, Bool, true, false, List, IfSome, if◌then◌else◌, refl, subst, arith}
-use Rattle.std.specs.Prelude.{nat_lt}
 use Rattle.std.proofs.lemmas.{Grind.common_steps, Bool.Decides.nat_tests}
+use Rattle.std.specs.Prelude.{nat_lt}
 use Rattle.field_words.specs.Words.{u32_at}
 use Rattle.packets.specs.StateWord.{attribute_count, is_extended}
 use Rattle.machine_plan.specs.declared.{who.Who.Who, launch.Free.Free, launch.Launch.Launch}
 use Rattle.machine_plan.specs.{Memory.bytes_at, Plan.Done, Plan.Reads, Plan.Keeps, Regions.Inside, Regions.Rights, Regions.IsSafeIn}
 use Rattle.machine_plan.proofs.{Memory.inside_part, Safe.read_safe, Worlds.keeps_followed}
-use Rattle.list_machine.specs.{declared.state.Primitive.Primitive, Start.code_offset, Start.launch_plan, Start.start_as, Start.start_plan}
 use Rattle.list_machine.specs.declared.state.Program.{Program, TheVariants.Fragment, TheVariants.Vertex, TheVariants.Coordinate}
 use Rattle.list_machine.specs.Fetch.{index_size, index_in, index_plan, draws_nothing, record_place, attribute_place, extension_place, data_size, data_place, data_plan, extended_plan, attribute_plan, attributes_plan, indexed_plan, fetch_plan}
+use Rattle.list_machine.specs.{declared.state.Primitive.Primitive, Start.code_offset, Start.launch_plan, Start.start_as, Start.start_plan}
 use Rattle.list_law.specs.Uses.{Fetches, launched, threaded_by, Programs}
 use Rattle.list_law.proofs.Safe.{keeps_if}
 

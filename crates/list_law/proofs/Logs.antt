@@ -6,9 +6,9 @@ use Rattle.machine_plan.specs.declared.{who.Who.Who, launch.Launch.Launch}
 use Rattle.machine_plan.specs.{Memory.stored, Regions.Rights, Regions.IsSafeIn, Plan.Keeps, Plan.access}
 use Rattle.machine_plan.proofs.{Memory.inside_part, Runs.every-append}
 use Rattle.packets.specs.declared.config.Config.{Config}
+use Rattle.list_machine.specs.Blocks.{tiles_of, further_offset, block_place, has_room, no_spot, one_more, spotted, spot_in, spot_of, is_full, next_place, link_place, item_of, zeros, put_here, put_plan}
 use Rattle.list_machine.specs.declared.state.{Item.Item, Spot.Spot, Work.Work}
 use Rattle.list_machine.specs.Lists.{Lists, with_item, with_block}
-use Rattle.list_machine.specs.Blocks.{tiles_of, further_offset, block_place, has_room, no_spot, one_more, spotted, spot_in, spot_of, is_full, next_place, link_place, item_of, zeros, put_here, put_plan}
 use Rattle.list_law.specs.{May.MayWrite, Binning.Allocates, Binning.ItemFine, Binning.FitsIn, Binning.LogFine, Binning.WorkFine}
 use Rattle.list_law.proofs.Safe.{write_safe, keeps_if}
 

@@ -1,41 +1,41 @@
 -- One step of the renderer keeps all that stands.
 use Rattle.std.proofs.Common.{◌≡◌, ◌≢◌, ◌≤◌, ◌<◌, ◌⊎◌, inl, inr, ℕ, zero, suc, ◌+◌, ◌*◌, ◌-◌, ◌/◌, ◌%◌, ◌==◌, Bool, true, false, min, Option, Some, if◌then◌else◌, refl, sym, subst, arith, List, [], ◌∷◌, length, drop, slice_index, None, IfSome, ◌∙◌, ap}
-use Rattle.std.specs.{Int.div_ceil, Prelude.option_map, Prelude.is_some}
 use Rattle.std.proofs.Math.Nat.{mul-le-mul_right, div-add-mod, mod-lt, mul_comm}
 use Rattle.std.proofs.lemmas.{Nat.div_below, Grind.common_steps, Bool.Decides.nat_tests}
+use Rattle.std.specs.{Int.div_ceil, Prelude.option_map, Prelude.is_some}
 use Rattle.field_words.specs.{Words.bits_of, declared.access.Way.TheVariants.Write}
 use Rattle.field_words.proofs.Numbers.{rounded}
 use Rattle.texture_layouts.specs.declared.surface.Tiling.{Tiling, TheVariants.Raster, TheVariants.T, TheVariants.Lt}
 use Rattle.texture_layouts.specs.Surface.{microtile_width_of, microtile_height_of, unit_across, unit_down, size_for}
 use Rattle.texture_layouts.specs.Place.{aligned_across, aligned_down, microtiles_across, microtiles_down, microtile_place_of, raster_place}
-use Rattle.texture_layouts.proofs.Places.{width_some, height_some, across_parts, down_exact, microtile_inside}
-use Rattle.machine_plan.specs.{Regions.Inside, Regions.Rights, Regions.Every, Regions.IsSafeIn, World.mapped}
-use Rattle.machine_plan.proofs.{Memory.inside_part, Safe.read_safe, Plans.keeps_weaker, Worlds.keeps_mapped}
-use Rattle.list_machine.specs.declared.state.{Frame.Frame, Item.Item, Renderer.Renderer, Found.Found, SubList.SubList}
 use Rattle.texture_layouts.specs.{declared.format.Style.Style, Format.IsShort, Format.general_style, Format.frame_style}
-use Rattle.list_machine.specs.{Store.tile_side, Store.covered, Store.chosen, Blocks.tiles_of, Start.start_plan}
-use Rattle.list_machine.specs.Cover.{raster_cover, tiled_cover, cover_in, cover_for, part_count, part_offset, part_place, cover_by}
+use Rattle.texture_layouts.proofs.Places.{width_some, height_some, across_parts, down_exact, microtile_inside}
 use Rattle.texture_layouts.proofs.Styles.{short_pixel}
-use Rattle.list_law.specs.{May.MayWrite, Binning.ItemFine, Lists.ListsFine, Lists.TurnedFine}
-use Rattle.list_law.specs.Rendering.{surface_size, StoresSurface, LoadsSurface, PartsMeet, IsTileList, MayDo, SetsOnly, AllSet, load_packet, view_of, NoMatter, RenderWay}
-use Rattle.list_law.proofs.{Logs.not_same, Safe.write_safe, Safe.keeps_if, Fetching.AnyEnd, Fetching.fetch_keeps, Fetching.start_fine}
-use Rattle.packets.specs.declared.{packet.Packet.Packet, config.Config.Config}
-use Rattle.packets.specs.declared.packet.Packet.TheVariants.{WaitOnSemaphore, BranchToSubList, StoreTileColor, StoreTileColorAndEnd, StoreFullResolution, LoadFullResolution, StoreTileBuffer, LoadTileBuffer, TileRenderingMode, ClearColors, TileCoordinates}
-use Rattle.packets.specs.{Length.render_taken, Packet.packet_text, Packet.slots_text}
-use Rattle.packets.proofs.Laws.{decoded_text, taken_text}
+use Rattle.machine_plan.specs.{Regions.Inside, Regions.Rights, Regions.Every, Regions.IsSafeIn, World.mapped}
 use Rattle.machine_plan.specs.declared.{who.Who.Who, launch.Free.Free, launch.Launch.Launch}
 use Rattle.machine_plan.specs.{Choice.word_at, Memory.bytes_at, Memory.stored, Plan.Done, Plan.Wilds, Plan.Keeps, Plan.access}
 use Rattle.machine_plan.specs.Glance.{Glance, Now, At, glanced, GlancesIn}
-use Rattle.render_walks.specs.Walks.{View, pass, IsDoneAt, Tame, WalksTo, AllFit}
+use Rattle.machine_plan.proofs.{Memory.inside_part, Safe.read_safe, Plans.keeps_weaker, Worlds.keeps_mapped}
+use Rattle.list_machine.specs.declared.state.{Frame.Frame, Item.Item, Renderer.Renderer, Found.Found, SubList.SubList}
+use Rattle.list_machine.specs.Cover.{raster_cover, tiled_cover, cover_in, cover_for, part_count, part_offset, part_place, cover_by}
 use Rattle.list_machine.specs.declared.{state.Load.Load, state.Load.TheVariants.Full, state.Load.TheVariants.General, surface.Cover.Cover}
 use Rattle.list_machine.specs.declared.state.Program.{Program, TheVariants.Fragment, TheVariants.Vertex}
-use Rattle.list_machine.specs.Lists.{Lists, Turned, turned_to, quiet, with_renderer, with_taken}
 use Rattle.list_machine.specs.Surfaces.{cover_written, cover_read, aligned, names_none, general_written, general_read, frame_written, whole_size, whole_written, whole_read, waiting_read}
 use Rattle.list_machine.specs.Renderer.{beyond, with_load, with_inside, wait_plan, tile_named, enter_plan, tile_by, branch_plan, tile_plan, act, first_of_tile, item_at, at_item, vertex_plan, program_plan, choice_plan, found_plan, renderer_plan, may_pass, ready_in, renderer_ready}
-use Rattle.list_machine.proofs.{Storing.chosen_size, Items.ready_below, Keeping.packet_keeps, Keeping.written_keep, Keeping.read_keep}
-use Rattle.list_law.proofs.Bytes.{none_left, bytes_front, bytes_behind, byte_front, front_inside, behind_inside, behind_ends}
-use Rattle.list_law.proofs.Binning.{items_set}
+use Rattle.list_machine.specs.{Store.tile_side, Store.covered, Store.chosen, Blocks.tiles_of, Start.start_plan}
+use Rattle.list_machine.specs.Lists.{Lists, Turned, turned_to, quiet, with_renderer, with_taken}
 use Rattle.list_machine.specs.{Fetch.fetch_plan, Renderer.at_tile, Renderer.fetched, Renderer.plan_in}
+use Rattle.list_law.specs.Rendering.{surface_size, StoresSurface, LoadsSurface, PartsMeet, IsTileList, MayDo, SetsOnly, AllSet, load_packet, view_of, NoMatter, RenderWay}
+use Rattle.list_law.specs.{May.MayWrite, Binning.ItemFine, Lists.ListsFine, Lists.TurnedFine}
+use Rattle.list_law.proofs.Bytes.{none_left, bytes_front, bytes_behind, byte_front, front_inside, behind_inside, behind_ends}
+use Rattle.list_law.proofs.{Logs.not_same, Safe.write_safe, Safe.keeps_if, Fetching.AnyEnd, Fetching.fetch_keeps, Fetching.start_fine}
+use Rattle.list_law.proofs.Binning.{items_set}
+use Rattle.packets.specs.declared.packet.Packet.TheVariants.{WaitOnSemaphore, BranchToSubList, StoreTileColor, StoreTileColorAndEnd, StoreFullResolution, LoadFullResolution, StoreTileBuffer, LoadTileBuffer, TileRenderingMode, ClearColors, TileCoordinates}
+use Rattle.packets.specs.declared.{packet.Packet.Packet, config.Config.Config}
+use Rattle.packets.specs.{Length.render_taken, Packet.packet_text, Packet.slots_text}
+use Rattle.packets.proofs.Laws.{decoded_text, taken_text}
+use Rattle.render_walks.specs.Walks.{View, pass, IsDoneAt, Tame, WalksTo, AllFit}
+use Rattle.list_machine.proofs.{Storing.chosen_size, Items.ready_below, Keeping.packet_keeps, Keeping.written_keep, Keeping.read_keep}
 
 -- What a load or store covers lies in its surface.
 

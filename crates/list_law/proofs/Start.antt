@@ -1,22 +1,21 @@
 -- All stands at the start.
 use Rattle.std.proofs.Common.{◌≡◌, ◌⊎◌, inl, inr, ℕ, zero, suc, ◌+◌, Bool, true, false, List, [], ◌∷◌, ◌++◌, length, Option, Some, None, if◌then◌else◌, bit_or, refl, arith}
-use Rattle.std.proofs.lemmas.Bool.{false≢true}
+use Rattle.std.proofs.{lemmas.Bool.false≢true, Common.◌&&◌}
 use Rattle.field_words.specs.Pieces.{joined}
 use Rattle.job_format.specs.declared.file.Frame.{Frame as JobFrame}
-use Rattle.packets.specs.declared.{packet.Packet.Packet, config.Config.Config}
 use Rattle.packets.specs.declared.packet.Packet.TheVariants.{WaitOnSemaphore, BranchToSubList, StoreTileColor, StoreTileColorAndEnd, StoreFullResolution, LoadFullResolution, StoreTileBuffer, LoadTileBuffer, TileRenderingMode, ClearColors, TileCoordinates}
+use Rattle.packets.specs.declared.{packet.Packet.Packet, config.Config.Config}
 use Rattle.packets.specs.{Opcode.indexed_primitive_list, Opcode.array_primitive_list, Packet.slots_text}
 use Rattle.bin_list.specs.Packets.{opcode}
 use Rattle.machine_plan.specs.{declared.launch.Launch.Launch, Regions.Rights}
 use Rattle.bin_walks.specs.Walks.{Kept as Passed, kept_after, Drawing, Tame, Walks}
-use Rattle.render_list.specs.Frame.{surface_at, is_full, full_place, is_first_tile, is_last_tile, place_at}
 use Rattle.render_list.specs.Text.{packet_where, head_packet, clear_packet, clear_slots, front_slots, load_packet, load_slot, wait_slot, list_slot, full_store, full_store_slot, zs_store, zs_store_slot, color_store, color_store_slot, load_slots, list_slots, write_slots, tile_slots, span_slots, render_slots}
+use Rattle.render_list.specs.Text.{is_there, more_after_multisample_color, more_after_multisample_zs, some_before_zs, some_before_color}
+use Rattle.render_list.specs.Frame.{surface_at, is_full, full_place, is_first_tile, is_last_tile, place_at}
 use Rattle.render_walks.specs.Walks.{View, pass, IsDoneAt, Tame as Harmless, WalksTo}
 use Rattle.list_machine.specs.{declared.state.Frame.Frame, Lists.lists_start}
 use Rattle.list_law.specs.{Binning.FitsIn, Binning.NotYet, Lists.ListsFine, Rendering.NoMatter, Rendering.SetsOnly, Rendering.AllSet}
 use Rattle.list_law.specs.Start.{frame_of, BinnerBegins, RendererBegins}
-use Rattle.std.proofs.Common.{◌&&◌}
-use Rattle.render_list.specs.Text.{is_there, more_after_multisample_color, more_after_multisample_zs, some_before_zs, some_before_color}
 
 -- nothing is in a tile's list
 empty_fits : (c : Config) → FitsIn c (record { count = 0; last = 0 })

@@ -1,7 +1,7 @@
 -- Words of memory as the bytes that a unit reads.
 use Rattle.std.proofs.Common.{◌≡◌, ◌≤◌, ◌<◌, ℕ, zero, suc, ◌+◌, ◌*◌, ◌/◌, ◌%◌, List, slice_index, ◌∙◌, ap, arith}
-use Rattle.std.specs.Int.{from_le_bytes, w32}
 use Rattle.std.proofs.lemmas.{List.get_or-drop, Grind.common_steps, Bool.Decides.nat_tests}
+use Rattle.std.specs.Int.{from_le_bytes, w32}
 use Rattle.field_words.specs.Words.{u32_at}
 use Rattle.machine_plan.specs.Memory.{bytes_at}
 

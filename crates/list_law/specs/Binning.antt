@@ -4,19 +4,12 @@
 -- who emit it.
 use Rattle.std.specs.Prelude.{◌≡◌, ◌≤◌, ◌<◌, ℕ, ◌+◌, ◌*◌, ◌-◌, ◌%◌, List, length, Option, Some, None}
 use Rattle.field_words.specs.Pieces.{joined}
-use Rattle.machine_plan.specs.declared.launch.Launch.{Launch}
-use Rattle.machine_plan.specs.Memory.{bytes_at}
-use Rattle.machine_plan.specs.Regions.{Inside, Rights, Every}
+use Rattle.machine_plan.specs.{declared.launch.Launch.Launch, Memory.bytes_at, Regions.Inside, Regions.Rights, Regions.Every}
 use Rattle.bin_walks.specs.Walks.{Walks, Kept as Passed}
 use Rattle.packets.specs.declared.config.Config.{Config}
-use Rattle.list_machine.specs.declared.state.Item.{Item}
-use Rattle.list_machine.specs.declared.state.Kept.{Kept}
-use Rattle.list_machine.specs.declared.state.Spot.{Spot}
-use Rattle.list_machine.specs.declared.state.Work.{Work}
-use Rattle.list_machine.specs.Binner.{primitive_of}
-use Rattle.list_machine.specs.Blocks.{tiles_of, spot_of}
-use Rattle.list_law.specs.May.{MayWrite}
-use Rattle.list_law.specs.Uses.{MayUse}
+use Rattle.list_machine.specs.{declared.state.Item.Item, declared.state.Kept.Kept, declared.state.Spot.Spot, declared.state.Work.Work}
+use Rattle.list_machine.specs.{Binner.primitive_of, Blocks.tiles_of, Blocks.spot_of}
+use Rattle.list_law.specs.{May.MayWrite, Uses.MayUse}
 
 -- what the binner keeps, in the words of those who emit lists
 abbrev pub passed_of : Kept → Passed

@@ -1,13 +1,10 @@
 -- From what emission promises of a shader record and a primitive to what a fetch and a start need.
 use Rattle.std.specs.Prelude.{◌≡◌, ◌<◌, ◌⊎◌, ℕ, ◌+◌, ◌*◌, ◌%◌, Bool, false, not, IsTrue, List, slice_index}
 use Rattle.field_words.specs.Words.{u32_at}
-use Rattle.emitted_facts.specs.Facts.{IsAttributeIn, IsPrimitive}
-use Rattle.emitted_facts.specs.Records.{is_single, code_word, stream_word}
+use Rattle.emitted_facts.specs.{Facts.IsAttributeIn, Facts.IsPrimitive, Records.is_single, Records.code_word, Records.stream_word}
 use Rattle.packets.specs.StateWord.{attribute_count, record_size}
-use Rattle.machine_plan.specs.declared.launch.Launch.{Launch}
-use Rattle.machine_plan.specs.Regions.{Interval, Inside}
-use Rattle.list_machine.specs.Binner.{primitive_of}
-use Rattle.list_machine.specs.Fetch.{record_place}
+use Rattle.machine_plan.specs.{declared.launch.Launch.Launch, Regions.Interval, Regions.Inside}
+use Rattle.list_machine.specs.{Binner.primitive_of, Fetch.record_place}
 use Rattle.list_law.specs.Uses.{Fetches, Programs}
 
 -- the words of the record of a state word in memory, by number

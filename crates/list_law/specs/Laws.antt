@@ -1,27 +1,14 @@
 -- The laws of a job's list units.
 use Rattle.std.specs.Prelude.{◌≡◌, ◌<◌, ℕ, Bool, true, IsTrue, List, Option, Some, IfSome}
-use Rattle.machine_plan.specs.declared.who.Who.{Who}
-use Rattle.machine_plan.specs.declared.launch.Free.{Free}
-use Rattle.machine_plan.specs.declared.launch.Launch.{Launch}
-use Rattle.machine_plan.specs.Glance.{glanced, GlancesIn}
-use Rattle.machine_plan.specs.Plan.{Keeps}
-use Rattle.machine_plan.specs.Regions.{Inside, Rights, IsSafeIn, HasReadOnly}
+use Rattle.machine_plan.specs.{declared.who.Who.Who, declared.launch.Free.Free, declared.launch.Launch.Launch, Plan.Keeps}
+use Rattle.machine_plan.specs.{Glance.glanced, Glance.GlancesIn, Regions.Inside, Regions.Rights, Regions.IsSafeIn, Regions.HasReadOnly}
 use Rattle.packets.specs.declared.config.Config.{Config}
-use Rattle.list_machine.specs.declared.state.Frame.{Frame}
-use Rattle.list_machine.specs.declared.state.Primitive.{Primitive}
-use Rattle.list_machine.specs.declared.state.Program.{Program}
-use Rattle.texture_layouts.specs.declared.format.Style.{Style}
-use Rattle.list_machine.specs.Lists.{Lists}
-use Rattle.list_machine.specs.Fetch.{fetch_plan}
-use Rattle.list_machine.specs.Start.{start_plan}
-use Rattle.list_machine.specs.Binner.{binner_plan, binner_ready}
-use Rattle.list_machine.specs.Cover.{cover_for}
+use Rattle.list_machine.specs.{declared.state.Frame.Frame, declared.state.Primitive.Primitive, declared.state.Program.Program, Lists.Lists}
+use Rattle.list_machine.specs.{Fetch.fetch_plan, Start.start_plan, Binner.binner_plan, Binner.binner_ready, Cover.cover_for}
 use Rattle.list_machine.specs.Renderer.{renderer_plan, renderer_ready}
-use Rattle.list_law.specs.May.{MayWrite}
-use Rattle.list_law.specs.Uses.{Fetches, Programs}
-use Rattle.list_law.specs.Binning.{Allocates}
+use Rattle.texture_layouts.specs.declared.format.Style.{Style}
+use Rattle.list_law.specs.{May.MayWrite, Uses.Fetches, Uses.Programs, Binning.Allocates, Lists.ListsFine, Lists.TurnedFine}
 use Rattle.list_law.specs.Rendering.{StoresSurface, LoadsSurface, PartsMeet}
-use Rattle.list_law.specs.Lists.{ListsFine, TurnedFine}
 
 -- A fetch of one of a primitive's vertices does safe reads alone, where each of its vertices may be fetched.
 abbrev pub FetchKeeps : Type 0

@@ -1,12 +1,9 @@
 -- What stands of all that a job's list units keep.
 use Rattle.std.specs.Prelude.{◌≡◌, ◌⊎◌, ℕ, Bool, true, List, Some, IfSome}
-use Rattle.machine_plan.specs.declared.launch.Launch.{Launch}
-use Rattle.machine_plan.specs.Regions.{Rights}
+use Rattle.machine_plan.specs.{declared.launch.Launch.Launch, Regions.Rights}
 use Rattle.packets.specs.declared.config.Config.{Config}
-use Rattle.list_machine.specs.declared.state.Frame.{Frame}
-use Rattle.list_machine.specs.Lists.{Lists, Turned}
-use Rattle.list_law.specs.Binning.{OnWay, WorkFine, LogFine, IsOnly}
-use Rattle.list_law.specs.Rendering.{RenderWay}
+use Rattle.list_machine.specs.{declared.state.Frame.Frame, Lists.Lists, Lists.Turned}
+use Rattle.list_law.specs.{Binning.OnWay, Binning.WorkFine, Binning.LogFine, Binning.IsOnly, Rendering.RenderWay}
 
 -- `waited` says whether the renderer waited for the binner, which no unit keeps. The semaphore isn't zero only where the
 -- tile lists are closed, the renderer has waited only there, and they are closed only under the job's configuration.

@@ -3,24 +3,14 @@
 -- The job has one frame f. The rest of the renderer's list is said as packets that walk, by the definitions of those who
 -- write it.
 use Rattle.std.specs.Prelude.{◌≡◌, ◌<◌, ◌⊎◌, ℕ, ◌+◌, ◌*◌, Bool, true, List, [], ◌∷◌, length, Option, Some, None, option_map, is_some, IfSome}
-use Rattle.packets.specs.declared.packet.Packet.{Packet}
 use Rattle.packets.specs.declared.packet.Packet.TheVariants.{WaitOnSemaphore, BranchToSubList, StoreTileColor, StoreTileColorAndEnd, StoreFullResolution, LoadFullResolution, StoreTileBuffer, LoadTileBuffer, TileRenderingMode, ClearColors, TileCoordinates}
-use Rattle.packets.specs.Packet.{slots_text}
-use Rattle.machine_plan.specs.Memory.{bytes_at}
-use Rattle.machine_plan.specs.Regions.{Inside, Rights}
-use Rattle.texture_layouts.specs.Surface.{size_for}
+use Rattle.packets.specs.{declared.packet.Packet.Packet, Packet.slots_text, declared.config.Config.Config}
+use Rattle.machine_plan.specs.{Memory.bytes_at, Regions.Inside, Regions.Rights}
+use Rattle.texture_layouts.specs.{Surface.size_for, declared.format.Style.Style, Format.IsShort, Format.frame_style, Format.general_style}
 use Rattle.render_walks.specs.Walks.{View, WalksTo, AllFit}
-use Rattle.packets.specs.declared.config.Config.{Config}
-use Rattle.list_machine.specs.declared.state.Frame.{Frame}
-use Rattle.list_machine.specs.declared.state.Load.{Load}
-use Rattle.list_machine.specs.declared.state.Load.TheVariants.{Full, General}
-use Rattle.list_machine.specs.declared.state.Renderer.{Renderer}
-use Rattle.texture_layouts.specs.declared.format.Style.{Style}
-use Rattle.list_machine.specs.Blocks.{tiles_of}
-use Rattle.list_machine.specs.declared.surface.Cover.{Cover}
-use Rattle.texture_layouts.specs.Format.{IsShort, frame_style, general_style}
-use Rattle.list_machine.specs.Cover.{part_count, part_place}
-use Rattle.list_machine.specs.Surfaces.{aligned, names_none, whole_size}
+use Rattle.list_machine.specs.{declared.state.Frame.Frame, declared.state.Load.Load, declared.state.Renderer.Renderer, Blocks.tiles_of}
+use Rattle.list_machine.specs.{declared.state.Load.TheVariants.Full, declared.state.Load.TheVariants.General, declared.surface.Cover.Cover}
+use Rattle.list_machine.specs.{Cover.part_count, Cover.part_place, Surfaces.aligned, Surfaces.names_none, Surfaces.whole_size}
 use Rattle.list_law.specs.May.{MayWrite}
 
 -- the bytes of a surface that is as large as the frame

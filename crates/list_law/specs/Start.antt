@@ -2,22 +2,13 @@
 use Rattle.std.specs.Prelude.{◌≡◌, ℕ, Bool, List, Option, length}
 use Rattle.field_words.specs.Pieces.{joined}
 use Rattle.job_format.specs.declared.file.Frame.{Frame as JobFrame}
-use Rattle.packets.specs.Packet.{slots_text}
-use Rattle.machine_plan.specs.declared.launch.Launch.{Launch}
-use Rattle.machine_plan.specs.Memory.{bytes_at}
-use Rattle.machine_plan.specs.Regions.{Inside, Rights, HasReadOnly}
-use Rattle.packets.specs.declared.packet.Packet.{Packet}
+use Rattle.packets.specs.{Packet.slots_text, declared.packet.Packet.Packet, declared.config.Config.Config}
+use Rattle.machine_plan.specs.{declared.launch.Launch.Launch, Memory.bytes_at, Regions.Inside, Regions.Rights, Regions.HasReadOnly}
 use Rattle.bin_walks.specs.Walks.{nothing_kept, Walks}
-use Rattle.render_list.specs.Frame.{place_at}
-use Rattle.render_list.specs.Text.{color_place, color_bits, render_slots}
+use Rattle.render_list.specs.{Frame.place_at, Text.color_place, Text.color_bits, Text.render_slots}
 use Rattle.render_walks.specs.Walks.{at_start, WalksTo, AllFit}
-use Rattle.packets.specs.declared.config.Config.{Config}
-use Rattle.list_machine.specs.declared.state.Frame.{Frame}
-use Rattle.list_machine.specs.Lists.{lists_start}
-use Rattle.list_law.specs.Binning.{DrawsSo}
-use Rattle.list_law.specs.Rendering.{MayDo, NoMatter, AllSet}
-use Rattle.list_law.specs.Lists.{ListsFine}
-use Rattle.list_law.specs.Laws.{Passes}
+use Rattle.list_machine.specs.{declared.state.Frame.Frame, Lists.lists_start}
+use Rattle.list_law.specs.{Binning.DrawsSo, Rendering.MayDo, Rendering.NoMatter, Rendering.AllSet, Lists.ListsFine, Laws.Passes}
 
 -- the frame that the head of a job's renderer list sets
 abbrev pub frame_of : JobFrame → List (Option ℕ) → Frame

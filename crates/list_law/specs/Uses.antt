@@ -4,13 +4,10 @@
 use Rattle.std.specs.Prelude.{◌≡◌, ◌≤◌, ◌<◌, ℕ, ◌+◌, ◌*◌, ◌%◌, ◌^◌, Bool, true, false, List, if◌then◌else◌}
 use Rattle.field_words.specs.Words.{u32_at}
 use Rattle.packets.specs.StateWord.{attribute_count, is_extended}
-use Rattle.machine_plan.specs.declared.launch.Launch.{Launch}
-use Rattle.machine_plan.specs.Memory.{bytes_at}
-use Rattle.machine_plan.specs.Regions.{Interval, Inside, Rights}
-use Rattle.list_machine.specs.declared.state.Primitive.{Primitive}
-use Rattle.list_machine.specs.declared.state.Program.{Program}
+use Rattle.machine_plan.specs.{declared.launch.Launch.Launch, Memory.bytes_at, Regions.Interval, Regions.Inside, Regions.Rights}
 use Rattle.list_machine.specs.declared.state.Program.TheVariants.{Fragment, Vertex, Coordinate}
 use Rattle.list_machine.specs.Fetch.{index_size, record_place, attribute_place, extension_place, data_size, data_place}
+use Rattle.list_machine.specs.{declared.state.Primitive.Primitive, declared.state.Program.Program}
 use Rattle.list_machine.specs.Start.{code_offset, launch_of, is_threaded}
 
 -- the bytes of an attribute, and the word that extends its stride, 0 where the record has none

@@ -1,23 +1,16 @@
 -- Code that carried out the binner's step.
 use Rattle.std.proofs.Common.{◌≡◌, ◌≤◌, ℕ, ◌*◌, nat_lt, List, [], ◌∷◌, ◌++◌, length, slice_index, Bool, true, false, if◌then◌else◌, Option, Some, None, refl, sym, ◌∙◌, ap, subst, arith}
-use Rattle.std.specs.Prelude.{option_map}
 use Rattle.std.proofs.lemmas.Bool.Decides.{nat_tests}
-use Rattle.machine_plan.specs.Turn.{if_tame}
-use Rattle.packets.specs.Length.{bin_taken}
-use Rattle.machine_plan.specs.Memory.{bytes_at, stored}
-use Rattle.machine_plan.specs.Plan.{Plan, Reads, Shows, access, carried}
+use Rattle.std.specs.Prelude.{option_map}
+use Rattle.machine_plan.specs.{Turn.if_tame, Memory.bytes_at, Memory.stored, Plan.Plan, Plan.Reads, Plan.Shows, Plan.access, Plan.carried}
 use Rattle.machine_plan.specs.World.{mapped}
-use Rattle.machine_plan.proofs.Memory.{length-bytes_at}
-use Rattle.machine_plan.proofs.Reading.{shows_read}
-use Rattle.machine_plan.proofs.Worlds.{shows_mapped}
+use Rattle.packets.specs.Length.{bin_taken}
+use Rattle.machine_plan.proofs.{Memory.length-bytes_at, Reading.shows_read, Worlds.shows_mapped}
 use Rattle.list_machine.specs.State.{Access, Config, Coordinate, Free, Launch, Read, Who, Work, Write}
-use Rattle.list_machine.specs.Lists.{Lists, Turned, quiet, turned_to, with_work, past}
-use Rattle.list_machine.specs.Fetch.{fetch_plan}
-use Rattle.list_machine.specs.Start.{start_plan}
-use Rattle.list_machine.specs.Blocks.{tiles_of, zeros}
 use Rattle.list_machine.specs.Binner.{started, clear_plan, packet_plan, read_plan, fetched_with, started_with, one_done, not_due, item_plan, work_plan, binner_plan, binner_by}
-use Rattle.list_machine.proofs.Putting.{length-zeros}
-use Rattle.list_machine.proofs.Steps.{first_byte}
+use Rattle.list_machine.specs.{Lists.Lists, Lists.Turned, Lists.quiet, Lists.turned_to, Lists.with_work, Lists.past, Fetch.fetch_plan}
+use Rattle.list_machine.specs.{Start.start_plan, Blocks.tiles_of, Blocks.zeros}
+use Rattle.list_machine.proofs.{Putting.length-zeros, Steps.first_byte}
 
 -- the states were cleared
 pub clear_shows : (who : Who) (s after : Lists) (c : Config) (tiles : ℕ) (m k : List ℕ) (before listed : List Access) → tiles ≡ tiles_of c → listed ≡ before ++ access who Write c.states (48 * tiles) ∷ [] → k ≡ stored m c.states (zeros (48 * tiles)) → after ≡ started s

@@ -2,8 +2,7 @@
 use Rattle.std.proofs.Common.{◌≡◌, ◌≤◌, ◌<◌, ℕ, ◌+◌, ◌*◌, ◌/◌, ◌%◌, ◌^◌, inl, inr, arith}
 use Rattle.std.proofs.Math.Nat.{mul-le-mul, div-le_self, div-add-mod, le_refl}
 use Rattle.std.specs.Int.{div_ceil}
-use Rattle.texture_layouts.specs.Surface.{microtile_width_of, microtile_height_of}
-use Rattle.texture_layouts.specs.Format.{IsShort}
+use Rattle.texture_layouts.specs.{Surface.microtile_width_of, Surface.microtile_height_of, Format.IsShort}
 
 pub wide_unit : (cpp : ℕ) → IsShort cpp → 4 ≤ microtile_width_of cpp
 unfolding microtile_width_of

@@ -3,13 +3,12 @@ use Rattle.std.proofs.Common.{◌≡◌, ◌≤◌, ◌<◌, ℕ, suc, ◌+◌, 
 use Rattle.std.proofs.Math.Nat.{mul-le-mul}
 use Rattle.packets.specs.StateWord.{attribute_count, is_extended}
 use Rattle.field_words.specs.Words.{u32_at}
-use Rattle.machine_plan.specs.Memory.{bytes_at}
-use Rattle.machine_plan.specs.Plan.{Plan, Done, Reads, Outcome, Shows, access, carried}
+use Rattle.machine_plan.specs.{Memory.bytes_at, Plan.Plan, Plan.Done, Plan.Reads, Plan.Outcome, Plan.Shows, Plan.access, Plan.carried}
 use Rattle.machine_plan.specs.World.{followed}
 use Rattle.machine_plan.proofs.Reading.{IsLeft, left_first, left_done, shows_read}
-use Rattle.list_machine.specs.State.{Access, Primitive, Read, Who}
-use Rattle.list_machine.specs.Fetch.{index_size, index_in, index_plan, attribute_place, extension_place, data_plan, extended_plan, attribute_plan, attributes_plan, indexed_plan, fetch_plan}
 use Rattle.machine_plan.proofs.Joining.{left_followed, shows_followed}
+use Rattle.list_machine.specs.Fetch.{index_size, index_in, index_plan, attribute_place, extension_place, data_plan, extended_plan, attribute_plan, attributes_plan, indexed_plan, fetch_plan}
+use Rattle.list_machine.specs.State.{Access, Primitive, Read, Who}
 
 pub data_limit : (address index stride : ℕ) → address < 2 ^ 32 → index < 2 ^ 32 → stride < 2 ^ 32 → address + index * stride < 2 ^ 64
 data_limit address index stride low few near =

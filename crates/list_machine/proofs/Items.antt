@@ -1,18 +1,12 @@
 -- Laws on the renderer's step in a tile's list.
 use Rattle.std.proofs.Common.{◌≡◌, ◌≢◌, ◌≤◌, ◌<◌, ℕ, suc, ◌+◌, ◌%◌, ◌==◌, Bool, true, false, List, [], ◌∷◌, length, drop, Option, Some, None, if◌then◌else◌, refl, sym, ◌∙◌, ap, subst, arith, drop-cons, get_or}
-use Rattle.std.proofs.lemmas.Grind.{common_steps}
-use Rattle.std.proofs.lemmas.Bool.Decides.{nat_tests}
+use Rattle.std.proofs.{lemmas.Grind.common_steps, lemmas.Bool.Decides.nat_tests}
 use Rattle.std.specs.Prelude.{option_map}
-use Rattle.machine_plan.specs.Choice.{word_at}
-use Rattle.machine_plan.specs.Glance.{glanced}
-use Rattle.machine_plan.specs.Plan.{Plan, Done, Shows, carried}
-use Rattle.machine_plan.specs.World.{mapped}
+use Rattle.machine_plan.specs.{Choice.word_at, Glance.glanced, Plan.Plan, Plan.Done, Plan.Shows, Plan.carried, World.mapped}
 use Rattle.machine_plan.proofs.Worlds.{shows_mapped}
-use Rattle.list_machine.specs.State.{Access, Found, Free, Item, Launch, Program, SubList, Who}
-use Rattle.list_machine.specs.Lists.{Lists, turned_to, quiet}
-use Rattle.list_machine.specs.Fetch.{fetch_plan}
-use Rattle.list_machine.specs.Start.{start_plan}
 use Rattle.list_machine.specs.Renderer.{first_of_tile, renderer_ready, ready_in, fetched, vertex_plan, program_plan, packet_plan}
+use Rattle.list_machine.specs.State.{Access, Found, Free, Item, Launch, Program, SubList, Who}
+use Rattle.list_machine.specs.{Lists.Lists, Lists.turned_to, Lists.quiet, Fetch.fetch_plan, Start.start_plan}
 
 item_first : (i : ℕ) (items : List Item) (d : Item) → i < length items → drop i items ≡ get_or items i d ∷ drop (i + 1) items
 item_first i items d below =

@@ -1,16 +1,11 @@
 -- What is kept along a step of the renderer.
 use Rattle.std.proofs.Common.{◌≡◌, ◌≤◌, ◌<◌, ℕ, zero, suc, ◌+◌, ◌*◌, List, slice_index, Option, Some, None, sym, subst, arith}
-use Rattle.packets.specs.declared.packet.Packet.{Packet}
-use Rattle.packets.specs.Length.{render_taken}
-use Rattle.packets.specs.Packet.{decoded}
-use Rattle.machine_plan.specs.Memory.{bytes_at, stored}
-use Rattle.machine_plan.specs.Plan.{Done, Keeps, access}
+use Rattle.packets.specs.{declared.packet.Packet.Packet, Length.render_taken, Packet.decoded}
+use Rattle.machine_plan.specs.{Memory.bytes_at, Memory.stored, Plan.Done, Plan.Keeps, Plan.access}
 use Rattle.machine_plan.proofs.Worlds.{keeps_mapped}
-use Rattle.list_machine.specs.State.{Access, Cover, Free, Read, SubList, Who, Write}
-use Rattle.list_machine.specs.Lists.{Lists, Turned, quiet}
-use Rattle.list_machine.specs.Store.{chosen}
-use Rattle.list_machine.specs.Cover.{part_place, parts_written, parts_read}
 use Rattle.list_machine.specs.Renderer.{beyond, act, acted, packet_plan, plan_in, renderer_plan}
+use Rattle.list_machine.specs.{State.Access, State.Cover, State.Free, State.Read, State.SubList, State.Who, State.Write, Store.chosen}
+use Rattle.list_machine.specs.{Lists.Lists, Lists.Turned, Lists.quiet, Cover.part_place, Cover.parts_written, Cover.parts_read}
 use Rattle.list_machine.proofs.Storing.{chosen_size}
 
 -- The step of a renderer that is in no tile's list, by the packet at its place.

@@ -2,10 +2,8 @@
 use Rattle.std.proofs.Common.{◌≡◌, ◌≤◌, ◌<◌, ℕ, zero, suc, ◌+◌, ◌-◌, ◌*◌, List, [], ◌∷◌, ◌++◌, length, Some, ◌∙◌, ap, subst, arith}
 use Rattle.machine_plan.specs.Memory.{stored}
 use Rattle.machine_plan.specs.Plan.{Plan, Done, Reads, Writes, Outcome, Shows, access, carried}
-use Rattle.machine_plan.proofs.Joining.{left_write}
-use Rattle.machine_plan.proofs.Reading.{IsLeft, left_read, left_done}
-use Rattle.list_machine.specs.State.{Access, Cover, Read, Who, Write}
-use Rattle.list_machine.specs.Store.{chosen}
+use Rattle.machine_plan.proofs.{Joining.left_write, Reading.IsLeft, Reading.left_read, Reading.left_done}
+use Rattle.list_machine.specs.{State.Access, State.Cover, State.Read, State.Who, State.Write, Store.chosen}
 use Rattle.list_machine.specs.Cover.{part_place, parts_written, parts_read}
 use Rattle.list_machine.proofs.Storing.{chosen_size}
 

@@ -1,7 +1,6 @@
 -- The items of tile lists lie near.
 use Rattle.std.proofs.Common.{◌≤◌, ℕ, ◌+◌, ◌*◌, ◌^◌, List, [], ◌∷◌, ◌++◌, length, arith}
-use Rattle.list_machine.specs.State.{Item}
-use Rattle.list_machine.specs.Lists.{AreNear}
+use Rattle.list_machine.specs.{State.Item, Lists.AreNear}
 
 near_from : (n : ℕ) (items : List Item) (item : Item) → AreNear n items → item.place ≤ 2 ^ 34 + 16 * (n + length items) → AreNear n (items ++ item ∷ [])
 near_from n [] item near here = (omega (arith, here), tt)

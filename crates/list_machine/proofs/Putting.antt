@@ -1,14 +1,10 @@
 -- Laws on tile lists and their blocks.
 use Rattle.std.proofs.Common.{◌≡◌, ◌≤◌, ◌<◌, ℕ, zero, suc, ◌+◌, ◌-◌, ◌*◌, ◌^◌, List, [], ◌∷◌, ◌++◌, length, slice_set, refl, sym, ◌∙◌, ap, subst, arith, Bool, true, false, if◌then◌else◌, ◌==◌, Option, Some, nat_lt}
-use Rattle.std.proofs.Math.Nat.{mul-le-mul}
-use Rattle.std.proofs.lemmas.Bool.Decides.{nat_tests}
-use Rattle.std.proofs.lemmas.Grind.{common_steps}
-use Rattle.machine_plan.specs.Memory.{stored}
-use Rattle.machine_plan.specs.Plan.{Writes, Shows, access, carried}
-use Rattle.list_machine.specs.State.{Access, Config, Item, Spot, Who, Work, Write}
-use Rattle.list_machine.specs.Lists.{Lists, most_items, AreNear, with_item, with_block}
+use Rattle.std.proofs.{Math.Nat.mul-le-mul, lemmas.Bool.Decides.nat_tests, lemmas.Grind.common_steps}
+use Rattle.machine_plan.specs.{Memory.stored, Plan.Writes, Plan.Shows, Plan.access, Plan.carried}
 use Rattle.list_machine.specs.Blocks.{spotted, one_more, spot_in, spot_of, no_spot, further_offset, has_room, block_place, is_full, next_place, link_place, item_of, zeros, put_here, put_plan}
-use Rattle.list_machine.specs.Binner.{item_may}
+use Rattle.list_machine.specs.{State.Access, State.Config, State.Item, State.Spot, State.Who, State.Work, State.Write, Binner.item_may}
+use Rattle.list_machine.specs.Lists.{Lists, most_items, AreNear, with_item, with_block}
 use Rattle.machine_plan.proofs.Joining.{shows_wrote}
 
 pub tiles_limit : (x y : ℕ) → x < 256 → y < 256 → x * y ≤ 65025

@@ -1,15 +1,9 @@
 -- Laws on the renderer's step as the code carries it out.
 use Rattle.std.proofs.Common.{◌≡◌, ◌≤◌, ℕ, Bool, zero, suc, ◌++◌, ◌∷◌, [], List, length, slice_index, refl, sym, ◌∙◌, ap, subst, arith}
-use Rattle.packets.specs.Length.{render_taken}
-use Rattle.packets.specs.Packet.{decoded}
-use Rattle.machine_plan.specs.Memory.{bytes_at}
-use Rattle.machine_plan.specs.Plan.{Plan, Reads, Shows, access, carried}
-use Rattle.machine_plan.specs.Turn.{if_tame}
-use Rattle.list_machine.specs.State.{Access, Read, Who}
-use Rattle.machine_plan.proofs.Memory.{length-bytes_at}
-use Rattle.machine_plan.proofs.Reading.{shows_read}
-use Rattle.list_machine.specs.Lists.{Lists}
-use Rattle.list_machine.specs.Renderer.{beyond, acted, packet_plan}
+use Rattle.packets.specs.{Length.render_taken, Packet.decoded}
+use Rattle.machine_plan.specs.{Memory.bytes_at, Plan.Plan, Plan.Reads, Plan.Shows, Plan.access, Plan.carried, Turn.if_tame}
+use Rattle.list_machine.specs.{State.Access, State.Read, State.Who, Lists.Lists, Renderer.beyond, Renderer.acted, Renderer.packet_plan}
+use Rattle.machine_plan.proofs.{Memory.length-bytes_at, Reading.shows_read}
 
 pub first_byte : (m : List ℕ) (p n : ℕ) → 1 ≤ n → slice_index (bytes_at m p n) 0 ≡ slice_index m p
 unfolding bytes_at

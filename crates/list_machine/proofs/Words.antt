@@ -1,9 +1,7 @@
 -- Chosen bytes that are whole words.
 use Rattle.std.proofs.Common.{◌≡◌, ◌≤◌, ℕ, zero, suc, ◌+◌, ◌*◌, ◌/◌, ◌%◌, ◌^◌, List, [], ◌∷◌, ◌++◌, length, slice_index, slice_set, take, drop, refl, sym, ap, ◌∙◌, arith, drop-cons, append_assoc}
-use Rattle.std.proofs.lemmas.List.Edits.{sets-eq}
-use Rattle.std.proofs.Math.Seq.{sets}
-use Rattle.std.specs.List.{flat_map}
-use Rattle.std.specs.Int.{byte_at}
+use Rattle.std.proofs.{lemmas.List.Edits.sets-eq, Math.Seq.sets}
+use Rattle.std.specs.{List.flat_map, Int.byte_at}
 use Rattle.byteorder.specs.Endian.{little_bytes}
 use Rattle.field_words.specs.Writes.{with_bytes}
 use Rattle.machine_plan.specs.Memory.{stored}

@@ -1,16 +1,12 @@
 -- One step of the binner.
 use Rattle.std.specs.Prelude.{ℕ, ◌+◌, ◌*◌, ◌/◌, ◌%◌, ◌==◌, ◌||◌, ◌&&◌, nat_lt, not, Bool, true, false, is_some, if◌then◌else◌, List, length, slice_index, Option, Some, None}
 use Rattle.field_words.specs.Words.{u32_at}
-use Rattle.packets.specs.Length.{bin_length, bin_taken}
-use Rattle.packets.specs.Config.{config_in}
 use Rattle.packets.specs.Opcode.{halt, flush, start_tile_binning, increment_semaphore, indexed_primitive_list, array_primitive_list, gl_shader_state, tile_binning_mode, buffer_handles}
-use Rattle.machine_plan.specs.Choice.{word_at}
-use Rattle.machine_plan.specs.Glance.{Glance, Now}
+use Rattle.packets.specs.{Length.bin_length, Length.bin_taken, Config.config_in}
+use Rattle.machine_plan.specs.{Choice.word_at, Glance.Glance, Glance.Now, World.mapped}
 use Rattle.machine_plan.specs.Plan.{Plan, Done, Wilds, Reads, Looks, Writes}
-use Rattle.machine_plan.specs.World.{mapped}
-use Rattle.list_machine.specs.State.{Config, Coordinate, Free, Launch, Primitive, Work}
 use Rattle.list_machine.specs.Lists.{Lists, Turned, turned_to, quiet, with_kept, with_work, with_place, past, incremented, flushed, most_items}
-use Rattle.list_machine.specs.Fetch.{fetch_plan}
+use Rattle.list_machine.specs.{State.Config, State.Coordinate, State.Free, State.Launch, State.Primitive, State.Work, Fetch.fetch_plan}
 use Rattle.list_machine.specs.Start.{can_start, start_plan}
 use Rattle.list_machine.specs.Blocks.{tiles_of, has_room, spot_of, zeros, put_plan}
 

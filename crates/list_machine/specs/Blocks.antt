@@ -6,8 +6,7 @@
 use Rattle.std.specs.Prelude.{ℕ, ◌+◌, ◌*◌, ◌%◌, ◌==◌, nat_le, Bool, if◌then◌else◌, List, [], ◌∷◌, replicate}
 use Rattle.field_words.specs.Words.{rounded_up}
 use Rattle.machine_plan.specs.Plan.{Plan, Done, Writes}
-use Rattle.list_machine.specs.State.{Config, Item, Spot, Work}
-use Rattle.list_machine.specs.Lists.{Lists, with_item, with_block}
+use Rattle.list_machine.specs.{State.Config, State.Item, State.Spot, State.Work, Lists.Lists, Lists.with_item, Lists.with_block}
 
 -- how many tiles a config has
 unfoldable pub tiles_of : Config → ℕ

@@ -1,14 +1,11 @@
 -- What a load or store by bits covers of a surface, and the accesses that it does.
 use Rattle.std.specs.Prelude.{◌≤◌, ℕ, zero, suc, ◌+◌, ◌*◌, ◌/◌, ◌%◌, ◌^◌, ◌==◌, if◌then◌else◌, List, Option, Some, None}
 use Rattle.std.specs.Int.{div_ceil}
-use Rattle.texture_layouts.specs.declared.surface.Tiling.{Tiling}
 use Rattle.texture_layouts.specs.declared.surface.Tiling.TheVariants.{Raster, T, Lt}
-use Rattle.texture_layouts.specs.declared.format.Style.{Style}
+use Rattle.texture_layouts.specs.{declared.surface.Tiling.Tiling, declared.format.Style.Style, Place.raster_place, Place.microtile_place_of}
 use Rattle.texture_layouts.specs.Surface.{IsPixelSize, microtile_width_of, microtile_height_of}
-use Rattle.texture_layouts.specs.Place.{raster_place, microtile_place_of}
 use Rattle.machine_plan.specs.Plan.{Plan, Reads, Writes}
-use Rattle.list_machine.specs.State.{Cover, Frame}
-use Rattle.list_machine.specs.Store.{tile_side, covered, chosen}
+use Rattle.list_machine.specs.{State.Cover, State.Frame, Store.tile_side, Store.covered, Store.chosen}
 
 -- In raster a part is a covered row: its covered pixels, side by side. Without one there are no parts.
 unfoldable pub raster_cover : ℕ → Frame → ℕ → ℕ → ℕ → Cover

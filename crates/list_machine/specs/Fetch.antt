@@ -2,8 +2,7 @@
 use Rattle.std.specs.Prelude.{ℕ, zero, suc, ◌+◌, ◌*◌, ◌-◌, ◌/◌, ◌%◌, ◌^◌, ◌&&◌, nat_lt, Bool, if◌then◌else◌, List, slice_index}
 use Rattle.field_words.specs.Words.{u16_at, u32_at}
 use Rattle.packets.specs.StateWord.{attribute_count, is_extended}
-use Rattle.machine_plan.specs.Plan.{Plan, Done, Reads}
-use Rattle.machine_plan.specs.World.{followed}
+use Rattle.machine_plan.specs.{Plan.Plan, Plan.Done, Plan.Reads, World.followed}
 use Rattle.list_machine.specs.State.{Primitive}
 
 -- the bytes of an index

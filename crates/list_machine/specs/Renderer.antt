@@ -1,19 +1,12 @@
 -- One step of the renderer.
 use Rattle.std.specs.Prelude.{ℕ, ◌+◌, ◌-◌, ◌/◌, ◌%◌, ◌==◌, ◌&&◌, ◌||◌, not, nat_lt, nat_le, Bool, true, false, is_some, if◌then◌else◌, List, [], ◌∷◌, drop, slice_index, Option, Some, None}
-use Rattle.packets.specs.declared.packet.Packet.{Packet}
 use Rattle.packets.specs.declared.packet.Packet.TheVariants.{WaitOnSemaphore, BranchToSubList, StoreTileColor, StoreTileColorAndEnd, StoreFullResolution, LoadFullResolution, StoreTileBuffer, LoadTileBuffer, TileRenderingMode, ClearColors, TileCoordinates}
-use Rattle.packets.specs.Length.{render_taken}
-use Rattle.packets.specs.Opcode.{wait_on_semaphore}
-use Rattle.packets.specs.Packet.{decoded}
-use Rattle.machine_plan.specs.Choice.{word_at}
-use Rattle.machine_plan.specs.Glance.{Glance, Now, At}
+use Rattle.packets.specs.{declared.packet.Packet.Packet, Length.render_taken, Opcode.wait_on_semaphore, Packet.decoded}
+use Rattle.machine_plan.specs.{Choice.word_at, Glance.Glance, Glance.Now, Glance.At, World.mapped}
 use Rattle.machine_plan.specs.Plan.{Plan, Done, Wilds, Reads, Looks}
-use Rattle.machine_plan.specs.World.{mapped}
 use Rattle.list_machine.specs.State.{Config, Found, Fragment, Frame, Free, Full, General, Item, Load, Program, SubList, Vertex}
 use Rattle.list_machine.specs.Lists.{Lists, Turned, turned_to, quiet, with_renderer, with_taken}
-use Rattle.list_machine.specs.Fetch.{fetch_plan}
-use Rattle.list_machine.specs.Start.{start_plan}
-use Rattle.list_machine.specs.Blocks.{tiles_of}
+use Rattle.list_machine.specs.{Fetch.fetch_plan, Start.start_plan, Blocks.tiles_of}
 use Rattle.list_machine.specs.Surfaces.{general_written, frame_written, whole_written, waiting_read}
 
 -- the renderer has gone past a packet of this length

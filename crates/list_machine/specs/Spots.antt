@@ -1,7 +1,6 @@
 -- What is kept of each tile's list beside the items of all lists: how many it has, and where its last one lies.
 use Rattle.std.specs.Prelude.{◌≡◌, ◌<◌, ℕ, List, length, slice_index_or}
-use Rattle.list_machine.specs.State.{Item, Spot}
-use Rattle.list_machine.specs.Blocks.{no_spot, spot_of}
+use Rattle.list_machine.specs.{State.Item, State.Spot, Blocks.no_spot, Blocks.spot_of}
 
 -- as many tiles as a grid may have, and the one behind them
 abbrev pub most_tiles : ℕ

@@ -2,8 +2,7 @@
 use Rattle.std.specs.Prelude.{ℕ, ◌+◌, ◌%◌, ◌==◌, Bool, false, is_some, if◌then◌else◌, List, slice_index, Option, Some, None}
 use Rattle.field_words.specs.Words.{u32_at}
 use Rattle.machine_plan.specs.Plan.{Plan, Done, Reads, Looks}
-use Rattle.list_machine.specs.State.{Coordinate, Fragment, Free, Launch, Program, Vertex}
-use Rattle.list_machine.specs.Fetch.{record_place}
+use Rattle.list_machine.specs.{State.Coordinate, State.Fragment, State.Free, State.Launch, State.Program, State.Vertex, Fetch.record_place}
 
 -- where a record holds the place of a program's code; that of its uniforms comes behind it
 abbrev pub code_offset : Program → ℕ

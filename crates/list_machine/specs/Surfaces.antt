@@ -2,10 +2,9 @@
 use Rattle.std.specs.Prelude.{ℕ, Bool, ◌==◌, ◌-◌, ◌%◌, if◌then◌else◌, List, Option, Some, None}
 use Rattle.field_words.specs.Words.{bits_of}
 use Rattle.machine_plan.specs.Plan.{Plan, Wilds, Reads, Writes}
-use Rattle.list_machine.specs.State.{Cover, Frame, Full, General, Load}
-use Rattle.list_machine.specs.Store.{chosen}
-use Rattle.texture_layouts.specs.Format.{general_style, frame_style}
+use Rattle.list_machine.specs.{State.Cover, State.Frame, State.Full, State.General, State.Load, Store.chosen}
 use Rattle.list_machine.specs.Cover.{cover_for, part_count, parts_written, parts_read}
+use Rattle.texture_layouts.specs.Format.{general_style, frame_style}
 
 -- all parts of a cover are written, or read; without a cover that is wild
 unfoldable pub cover_written : {R : Type 0} → Option Cover → List ℕ → Plan R → Plan R

@@ -1,9 +1,7 @@
 -- Items of lists by their numbers: the code's calls, and the definitions.
 use Rattle.std.proofs.Common.{◌≡◌, ◌≤◌, ◌<◌, ℕ, suc, ◌+◌, Bool, true, false, if◌then◌else◌, List, [], ◌∷◌, length, slice_index_or, Option, None, Some, refl, sym, ◌∙◌, ap, arith}
-use Rattle.std.specs.Prelude.{option_map, position, nat_lt, IfSome}
-use Rattle.std.proofs.lemmas.List.Quantifiers.{position-Some}
-use Rattle.std.specs.List.{position_or_len}
-use Rattle.std.proofs.lemmas.Grind.{common_steps}
+use Rattle.std.proofs.{lemmas.List.Quantifiers.position-Some, lemmas.Grind.common_steps}
+use Rattle.std.specs.{Prelude.option_map, Prelude.position, Prelude.nat_lt, Prelude.IfSome, List.position_or_len}
 use Rattle.list_machine.specs.Lists.{Lists}
 use Rattle.machine.specs.State.{Picked, first_where, picked_in, no_job}
 

@@ -1,26 +1,16 @@
 -- Code that carried out a unit's plan took the machine's turn, unit by unit.
 use Rattle.std.proofs.Common.{◌≡◌, ◌<◌, ◌≤◌, ℕ, zero, suc, Bool, true, false, IsTrue, if◌then◌else◌, List, [], ◌∷◌, length, slice_index_or, slice_set, Option, Some, None, refl, sym, ◌∙◌, ap, subst, arith}
+use Rattle.std.proofs.{lemmas.List.length-set, lemmas.Option.slice_get_read, lemmas.Grind.common_steps}
 use Rattle.std.specs.Prelude.{option_map, unwrap_or}
-use Rattle.std.proofs.lemmas.List.{length-set}
-use Rattle.std.proofs.lemmas.Option.{slice_get_read}
-use Rattle.field_words.specs.declared.access.Access.{Access}
-use Rattle.field_words.specs.declared.access.Actor.{Actor}
+use Rattle.field_words.specs.{declared.access.Access.Access, declared.access.Actor.Actor}
 use Rattle.field_words.specs.declared.access.Actor.TheVariants.{Qpu as TheQpu, Tmu as TheTmu}
-use Rattle.machine_plan.specs.declared.launch.Free.{Free}
-use Rattle.machine_plan.specs.declared.launch.Launch.{Launch}
-use Rattle.machine_plan.specs.declared.who.Who.{Who}
-use Rattle.machine_plan.specs.Glance.{glanced, Now}
-use Rattle.std.proofs.lemmas.Grind.{common_steps}
-use Rattle.machine_plan.specs.Plan.{Plan, Shows, carried}
-use Rattle.machine_plan.specs.Turn.{if_tame}
-use Rattle.machine_plan.specs.World.{Moves, Turn, turned, mapped}
+use Rattle.machine_plan.specs.{declared.launch.Free.Free, declared.launch.Launch.Launch, declared.who.Who.Who, Glance.glanced, Glance.Now}
+use Rattle.machine_plan.specs.{Plan.Plan, Plan.Shows, Plan.carried, Turn.if_tame, World.Moves, World.Turn, World.turned, World.mapped}
 use Rattle.machine_plan.specs.Runs.{Moved}
 use Rattle.machine_plan.proofs.Worlds.{unit_done}
-use Rattle.list_machine.specs.Lists.{Lists, Turned, turned_to, quiet}
-use Rattle.list_machine.specs.Binner.{binner_ready}
-use Rattle.qpu_machine.specs.declared.state.Qpu.{Qpu}
+use Rattle.list_machine.specs.{Lists.Lists, Lists.Turned, Lists.turned_to, Lists.quiet, Binner.binner_ready}
 use Rattle.qpu_machine.specs.Qpu.{active_of, job_of_thread, qpu_plan, qpu_stopped, queue_of, oldest, job_of_request, tmu_plan, dropped, free_in, idle_qpu}
-use Rattle.qpu_machine.specs.Bounds.{IsBounded}
+use Rattle.qpu_machine.specs.{declared.state.Qpu.Qpu, Bounds.IsBounded}
 use Rattle.machine.specs.State.{Units, State, item_at, put_at, job_at, AreWhole}
 use Rattle.machine.specs.Step.{qpu_may, tmu_may, with_launch, with_lists, with_qpu, qpu_turn, tmu_turn}
 use Rattle.qpu_machine.proofs.Starts.{inside_any, set_bounded}

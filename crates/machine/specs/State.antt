@@ -2,12 +2,8 @@
 use Rattle.std.specs.Prelude.{◌≡◌, ◌≤◌, ◌<◌, ℕ, ◌+◌, Bool, if◌then◌else◌, List, [], ◌∷◌, length, map, replicate, slice_index_or, Option, None, Some}
 pub use Rattle.std.specs.Prelude.{slice_get as item_at, slice_set as put_at}
 use Rattle.machine_plan.specs.World.{World}
-use Rattle.list_machine.specs.Binner.{has_binner_work}
-use Rattle.list_machine.specs.Lists.{Lists, lists_start}
-use Rattle.list_machine.specs.Renderer.{has_renderer_work}
-use Rattle.qpu_machine.specs.declared.state.Qpu.{Qpu}
-use Rattle.qpu_machine.specs.Bounds.{AreBounded}
-use Rattle.qpu_machine.specs.Qpu.{idle_qpu}
+use Rattle.list_machine.specs.{Binner.has_binner_work, Lists.Lists, Lists.lists_start, Renderer.has_renderer_work}
+use Rattle.qpu_machine.specs.{declared.state.Qpu.Qpu, Bounds.AreBounded, Qpu.idle_qpu}
 use Rattle.machine.specs.declared.job.Start.{Start}
 
 -- All that the machine keeps beside memory: for each job what its list units keep, and the processors,

@@ -2,20 +2,20 @@
 use Rattle.std.proofs.Common.{◌≡◌, ℕ, zero, suc, ◌+◌, ◌⊎◌, inl, inr, Bool, true, false, if◌then◌else◌, List, [], ◌∷◌, ◌++◌, refl, sym, ◌∙◌, ap, subst, arith, IsTrue, map, slice_index, Some, None}
 use Rattle.std.proofs.lemmas.{Bool.false≢true, Option.slice_get-map}
 use Rattle.machine_plan.specs.Regions.{Interval, Inside, Rights, rights_of, IsIn, Every, IsSafeAccess, HasReadOnly, Agree, Misses}
-use Rattle.apart_law.specs.Part.{Client, accesses_of, UnitsAlike, StatesAlike}
-use Rattle.machine_law.specs.Apart.{regions_of, IsUnshared, Beginning, AreNeighbours, BeginsSoundly, AreLeft, ClientsApart, ClientsApartAnywhere, ClientsApartWithOthers}
-use Rattle.std.specs.Prelude.{option_map}
 use Rattle.machine_plan.specs.Others.{Happening, Steps, Changes, MayHappen, happen, AllMayHappen, IsLeft}
 use Rattle.machine_plan.specs.{Plan.Keeps, World.Turn, Runs.reached}
+use Rattle.apart_law.specs.Part.{Client, accesses_of, UnitsAlike, StatesAlike}
+use Rattle.apart_law.specs.{Steps.StaysIn, Steps.StepsAlike, Tied.AreTied, Tied.RestsFresh}
+use Rattle.apart_law.specs.Trail.{Entry, entry_of, own_entry, happening_entry, with_entry, entries_of}
+use Rattle.machine_law.specs.Apart.{regions_of, IsUnshared, Beginning, AreNeighbours, BeginsSoundly, AreLeft, ClientsApart, ClientsApartAnywhere, ClientsApartWithOthers}
+use Rattle.machine_law.specs.{Jobs.facts_of, Laws.AreFine, Units.QpuFine}
+use Rattle.std.specs.Prelude.{option_map}
 use Rattle.machine_plan.proofs.{Memory.inside_part, Runs.every-weaker, Others.Holds, Others.run_holds, Others.run_others}
 use Rattle.machine_plan.proofs.Plans.{kept, length-carried, keeps_accesses, keeps_of, keeps_weaker}
 use Rattle.machine.specs.State.{Units, State, start_of, job_start}
 use Rattle.machine.specs.Step.{Event, job_of, may, step, ready, turn}
-use Rattle.apart_law.specs.{Steps.StaysIn, Steps.StepsAlike, Tied.AreTied, Tied.RestsFresh}
-use Rattle.apart_law.specs.Trail.{Entry, entry_of, own_entry, happening_entry, with_entry, entries_of}
 use Rattle.apart_law.proofs.{Own.own_alike_law, Tied.idle_tied, Turns.turn_job, Silent.others_silent_law, Silent.keep_tied_law}
 use Rattle.apart_law.proofs.{Parts.some_same, Parts.some_none, Trails.AllMay, Trails.trails_alike}
-use Rattle.machine_law.specs.{Jobs.facts_of, Laws.AreFine, Units.QpuFine}
 use Rattle.machine_law.proofs.{Begins.each_begins, Owes.units_owe_law, Owes.start_fine}
 
 -- The regions of a client's jobs, joined: they have the region of each of its jobs, and nothing else.

@@ -2,8 +2,8 @@
 use Rattle.std.proofs.Common.{◌≡◌, ◌≤◌, ◌<◌, ℕ, ◌+◌, ◌-◌, ◌*◌, List, length, ◌∙◌, ap, subst, arith, ◌%◌, ◌==◌, not, Bool, false, refl, sym, [], ◌∷◌}
 use Rattle.std.specs.Int.{from_le_bytes, w64}
 use Rattle.field_words.specs.{Words.u32_at, Pieces.joined as joined_bytes}
-use Rattle.machine_plan.specs.{Memory.bytes_at, declared.launch.Launch.Launch}
 use Rattle.machine_plan.specs.Regions.{Inside, Rights, rights_of, joined, IsOutside, HasReadOnly, Interval}
+use Rattle.machine_plan.specs.{Memory.bytes_at, declared.launch.Launch.Launch}
 use Rattle.machine_plan.proofs.{Memory.inside_part, Memory.bytes_same, Safe.joined_covers}
 use Rattle.uniform_stream.specs.Stream.{uniforms_of}
 use Rattle.qpu_law.specs.{Home.Home, Thread.IsHome}

@@ -1,26 +1,28 @@
 -- All units of the machine owe what makes runs safe, from what each owes for one job, which the units' laws give.
 use Rattle.std.proofs.Common.{◌≡◌, ℕ, zero, suc, ◌+◌, Bool, List, [], ◌∷◌, Option, Some, subst, arith, ◌≢◌, true, false, if◌then◌else◌, ◌++◌, None, refl, ap, IsTrue, ◌<◌, map, replicate, sym}
+use Rattle.std.proofs.lemmas.Bool.{false≢true}
 use Rattle.std.specs.Prelude.{IfSome, drop, ◌==◌, ◌&&◌, ◌||◌, is_some, is_none, option_map, nat_lt}
 use Rattle.machine_plan.specs.Regions.{Every, Inside, Rights, rights_of, IsSafeAccess, IsSafeIn, HasReadOnly, Interval}
+use Rattle.machine_plan.specs.declared.{launch.Launch.Launch, launch.Free.Free, who.Who.Who}
+use Rattle.machine_plan.specs.Glance.{Glance, Now, glanced, GlancesIn}
+use Rattle.machine_plan.specs.{Plan.Plan, Plan.Keeps, Plan.access, World.mapped, World.Owes}
 use Rattle.machine.specs.State.{Picked, first_where, item_at, put_at, Units, binner_job, renderer_job, job_start, units_start}
+use Rattle.machine.specs.Step.{with_launch, with_lists, with_qpu, is_ahead, binner_may, renderer_may, qpu_may, tmu_may, binner_turn, renderer_turn, qpu_turn, tmu_turn, unit_ready, unit_turn, ready, turn}
+use Rattle.machine.specs.declared.job.Start.{Start}
 use Rattle.apart_law.proofs.Places.{chosen, drop_every, put_every}
 use Rattle.machine_law.specs.Units.{EachAt, Facts, IsFresh, AskOf, QpuFine, ThreadTurned, UnitsFine, ListsTurned, KeepsFor, UnitLaws}
-use Rattle.machine_plan.specs.declared.{launch.Launch.Launch, launch.Free.Free, who.Who.Who}
+use Rattle.machine_law.specs.Jobs.{ArePlain, HomeFine, LaunchFine, ThreadFine, JobFine, facts_of}
+use Rattle.machine_law.specs.Laws.{AreFine, UnitsOwe}
 use Rattle.machine_plan.proofs.{Runs.every-append, Safe.safe_of, Worlds.keeps_mapped, Plans.keeps_of, Plans.keeps_weaker}
 use Rattle.qpu_machine.specs.declared.state.{Asked.Asked, Thread.Thread, Qpu.Qpu, Ask.Ask, Request.Request}
 use Rattle.qpu_machine.specs.declared.state.Fate.{Fate, TheVariants.GoesOn, TheVariants.Switches, TheVariants.Ends}
 use Rattle.qpu_machine.specs.Qpu.{active_of, left_by, gives_way, woken_slot, queue_with, settled, went, oldest, queue_of, with_result, dropped, given, served, takes_first, takes_other, in_first, in_other, started_in, launched, job_of_thread, queued, ready_by, plan_by, job_of_request, tmu_ready, serving, free_in, idle_qpu}
 use Rattle.qpu_machine.specs.{Start.thread_of, Request.ask_plan, Step.ThreadTurn, Step.thread_plan, Step.thread_ready}
-use Rattle.std.proofs.lemmas.Bool.{false≢true}
-use Rattle.field_words.specs.declared.access.Actor.{Actor}
 use Rattle.field_words.specs.declared.access.Actor.TheVariants.{Binner as TheBinner, Renderer as TheRenderer, Qpu as TheQpu, Tmu as TheTmu}
-use Rattle.machine_plan.specs.Glance.{Glance, Now, glanced, GlancesIn}
-use Rattle.machine_plan.specs.{Plan.Plan, Plan.Keeps, Plan.access, World.mapped, World.Owes}
+use Rattle.field_words.specs.declared.access.Actor.{Actor}
 use Rattle.list_machine.specs.Binner.{has_binner_work, binner_ready, binner_plan}
 use Rattle.list_machine.specs.Lists.{Lists, Turned, binner_of, renderer_of}
 use Rattle.list_machine.specs.Renderer.{has_renderer_work, renderer_ready, renderer_plan}
-use Rattle.machine.specs.Step.{with_launch, with_lists, with_qpu, is_ahead, binner_may, renderer_may, qpu_may, tmu_may, binner_turn, renderer_turn, qpu_turn, tmu_turn, unit_ready, unit_turn, ready, turn}
-use Rattle.machine.specs.declared.job.Start.{Start}
 use Rattle.list_law.specs.Lists.{TurnedFine}
 use Rattle.list_law.proofs.{Binning.binner_keeps, Rendering.renderer_keeps, Rendering.renderer_looks}
 use Rattle.shader_flow.specs.Flow.{checked_of}
@@ -28,8 +30,6 @@ use Rattle.shader_flow.proofs.Ends.{checked_of-le}
 use Rattle.qpu_law.specs.{Asks.IsOneOf, Asks.IsFineAsk, Home.Home, Thread.IsHome, Thread.IsThread, Thread.Left}
 use Rattle.qpu_law.proofs.{Going.in_checked, Join.threads_keep_law, Reading.fine_asks_are_safe_law}
 use Rattle.qpu_law.proofs.Starting.{starts_stand_law, results_keep_law}
-use Rattle.machine_law.specs.Jobs.{ArePlain, HomeFine, LaunchFine, ThreadFine, JobFine, facts_of}
-use Rattle.machine_law.specs.Laws.{AreFine, UnitsOwe}
 
 -- What is known of each item of a list, by its place and by its number.
 

@@ -4,14 +4,10 @@ use Rattle.std.specs.Prelude.{◌≡◌, ℕ, ◌+◌, true, false, if◌then◌
 use Rattle.field_words.specs.declared.access.Access.{Access}
 use Rattle.machine_plan.specs.Others.{Happening, OthersRun, IsLeft}
 use Rattle.machine_plan.specs.Regions.{Interval, Inside, Rights, rights_of, HasReadOnly, Agree}
-use Rattle.machine.specs.declared.job.Start.{Start}
-use Rattle.machine.specs.State.{State, start_of, item_at}
+use Rattle.machine.specs.{declared.job.Start.Start, State.State, State.start_of, State.item_at}
 use Rattle.machine.specs.Step.{Event, IsRun, ready, turn}
-use Rattle.apart_law.specs.Part.{Client, accesses_of}
-use Rattle.apart_law.specs.Trail.{trail_of, trail_among}
-use Rattle.machine_law.specs.Begins.{JobBegins}
-use Rattle.machine_law.specs.Jobs.{ArePlain}
-use Rattle.machine_law.specs.Units.{EachAt}
+use Rattle.apart_law.specs.{Part.Client, Part.accesses_of, Trail.trail_of, Trail.trail_among}
+use Rattle.machine_law.specs.{Begins.JobBegins, Jobs.ArePlain, Units.EachAt}
 
 -- the regions of the client's jobs, joined, where the list is numbered from n on
 abbrev pub regions_of : Client → ℕ → List Rights → List Interval

@@ -1,27 +1,19 @@
 -- What jobs begin with, said of the first memory alone: no job may write their lists, their code and their streams.
 use Rattle.std.specs.Prelude.{◌≡◌, ◌<◌, ◌⊎◌, ℕ, ◌+◌, ◌*◌, false, not, List, Option, length, slice_index}
 use Rattle.field_words.specs.Pieces.{joined as joined_bytes}
-use Rattle.packets.specs.declared.packet.Packet.{Packet}
-use Rattle.packets.specs.Packet.{slots_text}
-use Rattle.emitted_facts.specs.Facts.{IsAttributeIn, IsPrimitive}
-use Rattle.emitted_facts.specs.Records.{is_single}
-use Rattle.packets.specs.StateWord.{attribute_count, record_size}
-use Rattle.machine_plan.specs.declared.launch.Launch.{Launch}
-use Rattle.machine_plan.specs.Memory.{bytes_at}
+use Rattle.packets.specs.{declared.packet.Packet.Packet, Packet.slots_text, StateWord.attribute_count, StateWord.record_size}
+use Rattle.packets.specs.declared.config.Config.{Config}
+use Rattle.emitted_facts.specs.{Facts.IsAttributeIn, Facts.IsPrimitive, Records.is_single}
 use Rattle.machine_plan.specs.Regions.{Interval, Inside, Rights, rights_of, joined, IsOutside, HasReadOnly}
+use Rattle.machine_plan.specs.{declared.launch.Launch.Launch, Memory.bytes_at}
 use Rattle.shader_flow.specs.Flow.{is_threaded}
 use Rattle.uniform_stream.specs.Stream.{uniforms_of}
-use Rattle.packets.specs.declared.config.Config.{Config}
-use Rattle.list_machine.specs.declared.state.Frame.{Frame}
+use Rattle.list_machine.specs.{declared.state.Frame.Frame, Fetch.record_place}
 use Rattle.bin_walks.specs.Walks.{nothing_kept, Walks}
 use Rattle.render_walks.specs.Walks.{at_start, WalksTo, AllFit}
-use Rattle.list_law.specs.Binning.{DrawsSo, Allocates}
-use Rattle.list_machine.specs.Fetch.{record_place}
+use Rattle.list_law.specs.{Binning.DrawsSo, Binning.Allocates, Rendering.MayDo, Rendering.NoMatter, Rendering.AllSet}
 use Rattle.list_law.specs.Emitted.{words_in, RecordStands, IsStateOf, program_in}
-use Rattle.list_law.specs.Rendering.{MayDo, NoMatter, AllSet}
-use Rattle.qpu_law.specs.Asks.{IsOneOf}
-use Rattle.qpu_law.specs.Home.{Home}
-use Rattle.qpu_law.specs.Thread.{IsHome, HasSamples}
+use Rattle.qpu_law.specs.{Asks.IsOneOf, Home.Home, Thread.IsHome, Thread.HasSamples}
 use Rattle.machine.specs.declared.job.Start.{Start}
 use Rattle.machine_law.specs.Jobs.{LaunchFine, HomeFine}
 

@@ -1,17 +1,12 @@
 -- What the jobs of a machine begin with, and what is known then of all that its units keep.
 use Rattle.std.specs.Prelude.{◌≡◌, ℕ, List}
-use Rattle.machine_plan.specs.declared.launch.Launch.{Launch}
-use Rattle.machine_plan.specs.Regions.{Interval, Rights, rights_of, HasReadOnly}
+use Rattle.machine_plan.specs.{declared.launch.Launch.Launch, Regions.Interval, Regions.Rights, Regions.rights_of, Regions.HasReadOnly}
 use Rattle.shader_flow.specs.Flow.{is_threaded}
 use Rattle.packets.specs.declared.config.Config.{Config}
-use Rattle.list_machine.specs.declared.state.Frame.{Frame}
-use Rattle.list_machine.specs.Lists.{Lists}
+use Rattle.list_machine.specs.{declared.state.Frame.Frame, Lists.Lists}
 use Rattle.qpu_machine.specs.declared.state.Thread.{Thread}
-use Rattle.list_law.specs.Binning.{Allocates}
-use Rattle.list_law.specs.Lists.{ListsFine}
-use Rattle.qpu_law.specs.Asks.{IsOneOf, IsFineAsk}
-use Rattle.qpu_law.specs.Home.{Home}
-use Rattle.qpu_law.specs.Thread.{IsHome, HasSamples, Stands}
+use Rattle.list_law.specs.{Binning.Allocates, Lists.ListsFine}
+use Rattle.qpu_law.specs.{Asks.IsOneOf, Asks.IsFineAsk, Home.Home, Thread.IsHome, Thread.HasSamples, Thread.Stands}
 use Rattle.machine_law.specs.Units.{Facts}
 
 -- Plain buffers by job: each is one of the intervals of its job's region.

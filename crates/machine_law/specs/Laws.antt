@@ -1,11 +1,8 @@
 -- What the units of the machine owe.
 use Rattle.std.specs.Prelude.{ℕ, List}
-use Rattle.machine_plan.specs.Regions.{Interval, Rights}
-use Rattle.machine_plan.specs.World.{Owes}
-use Rattle.machine.specs.State.{Units}
-use Rattle.machine.specs.Step.{ready, turn}
-use Rattle.machine_law.specs.Jobs.{ArePlain, facts_of}
-use Rattle.machine_law.specs.Units.{UnitsFine}
+use Rattle.machine_plan.specs.{Regions.Interval, Regions.Rights, World.Owes}
+use Rattle.machine.specs.{State.Units, Step.ready, Step.turn}
+use Rattle.machine_law.specs.{Jobs.ArePlain, Jobs.facts_of, Units.UnitsFine}
 
 -- What the units know by these facts.
 abbrev pub AreFine : List Rights → (ℕ → List Interval) → List ℕ → Units → Type 0

@@ -1,18 +1,12 @@
 -- The law of the whole machine: what jobs with such beginnings are, while others may write all but what jobs may only read.
 use Rattle.std.specs.Prelude.{ℕ, IsTrue, List}
-use Rattle.field_words.specs.declared.access.Access.{Access}
-use Rattle.field_words.specs.declared.access.Actor.TheVariants.{Tmu as TheTmu}
-use Rattle.machine_plan.specs.Others.{Happening, OthersRun, SafeAmong, SameAmong}
+use Rattle.field_words.specs.{declared.access.Access.Access, declared.access.Actor.TheVariants.Tmu as TheTmu}
+use Rattle.machine_plan.specs.{Others.Happening, Others.OthersRun, Others.SafeAmong, Others.SameAmong, World.Safe, World.Same}
 use Rattle.machine_plan.specs.Regions.{Every, Interval, Rights, joined, HasReadOnly}
-use Rattle.machine_plan.specs.World.{Safe, Same}
 use Rattle.qpu_law.specs.Asks.{IsOneOf, IsReadIn}
-use Rattle.machine.specs.declared.job.Start.{Start}
-use Rattle.machine.specs.State.{Units, State, units_start}
+use Rattle.machine.specs.{declared.job.Start.Start, State.Units, State.State, State.units_start}
 use Rattle.machine.specs.Step.{Event, enabled, job_of, step, ready, turn}
-use Rattle.machine_law.specs.Units.{EachAt}
-use Rattle.machine_law.specs.Jobs.{ArePlain}
-use Rattle.machine_law.specs.Laws.{AreFine}
-use Rattle.machine_law.specs.Begins.{JobBegins}
+use Rattle.machine_law.specs.{Units.EachAt, Jobs.ArePlain, Laws.AreFine, Begins.JobBegins}
 
 -- Each of the accesses reads inside one of these buffers, and all inside the same one.
 pub record ReadInOne (buffers : List Interval) (found : List Access) : Type 0 where

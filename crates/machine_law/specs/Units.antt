@@ -1,23 +1,13 @@
 -- What each unit of the machine owes, said over any facts of what the units keep.
 use Rattle.std.specs.Prelude.{◌≡◌, ◌≢◌, ℕ, ◌+◌, true, List, [], ◌∷◌, Option, Some, IfSome}
-use Rattle.machine_plan.specs.declared.launch.Free.{Free}
-use Rattle.machine_plan.specs.declared.launch.Launch.{Launch}
-use Rattle.machine_plan.specs.declared.who.Who.{Who}
+use Rattle.machine_plan.specs.{declared.launch.Free.Free, declared.launch.Launch.Launch, declared.who.Who.Who, Plan.Plan, Plan.Keeps}
 use Rattle.machine_plan.specs.Glance.{glanced, GlancesIn}
-use Rattle.machine_plan.specs.Plan.{Plan, Keeps}
 use Rattle.machine_plan.specs.Regions.{Every, Inside, Rights, rights_of, IsSafeIn}
-use Rattle.list_machine.specs.Binner.{binner_ready, binner_plan}
-use Rattle.list_machine.specs.Lists.{Lists, Turned, binner_of, renderer_of}
+use Rattle.list_machine.specs.{Binner.binner_ready, Binner.binner_plan, Lists.Lists, Lists.Turned, Lists.binner_of, Lists.renderer_of}
 use Rattle.list_machine.specs.Renderer.{renderer_ready, renderer_plan}
-use Rattle.qpu_machine.specs.declared.state.Ask.{Ask}
-use Rattle.qpu_machine.specs.declared.state.Asked.{Asked}
-use Rattle.qpu_machine.specs.declared.state.Fate.TheVariants.{Ends, Switches}
-use Rattle.qpu_machine.specs.declared.state.Qpu.{Qpu}
-use Rattle.qpu_machine.specs.declared.state.Request.{Request}
-use Rattle.qpu_machine.specs.declared.state.Thread.{Thread}
-use Rattle.qpu_machine.specs.Qpu.{resting_of, with_result}
-use Rattle.qpu_machine.specs.Request.{ask_plan}
-use Rattle.qpu_machine.specs.Start.{thread_of}
+use Rattle.qpu_machine.specs.{declared.state.Ask.Ask, declared.state.Asked.Asked, declared.state.Qpu.Qpu, declared.state.Request.Request}
+use Rattle.qpu_machine.specs.{declared.state.Fate.TheVariants.Ends, declared.state.Fate.TheVariants.Switches, declared.state.Thread.Thread}
+use Rattle.qpu_machine.specs.{Qpu.resting_of, Qpu.with_result, Request.ask_plan, Start.thread_of}
 use Rattle.qpu_machine.specs.Step.{ThreadTurn, thread_plan, thread_ready}
 use Rattle.machine.specs.State.{Units}
 

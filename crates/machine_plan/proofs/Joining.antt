@@ -1,8 +1,8 @@
 -- Code that carried out a plan part by part.
 use Rattle.std.proofs.Common.{◌≡◌, ℕ, List, [], ◌∷◌, ◌++◌, length, Option, Some, None, refl, sym, ◌∙◌, ap, subst, append_assoc}
 use Rattle.field_words.specs.declared.access.{Access.Access, Way.TheVariants.Read, Way.TheVariants.Write}
-use Rattle.machine_plan.specs.{declared.who.Who.Who, World.followed, Memory.bytes_at, Memory.stored}
 use Rattle.machine_plan.specs.Plan.{Plan, Done, Wilds, Reads, Looks, Writes, Outcome, Shows, access, after_access, carried}
+use Rattle.machine_plan.specs.{declared.who.Who.Who, World.followed, Memory.bytes_at, Memory.stored}
 use Rattle.machine_plan.proofs.Reading.{IsLeft}
 
 -- an outcome, and then what comes of its result and memory

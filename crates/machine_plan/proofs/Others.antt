@@ -3,11 +3,11 @@
 use Rattle.std.proofs.Common.{◌≡◌, ℕ, Bool, IsTrue, List, [], ◌∷◌, ◌++◌, length, slice_index, map, refl, sym, ◌∙◌, ap, subst}
 use Rattle.std.specs.Prelude.{unwrap_or}
 use Rattle.field_words.specs.declared.access.Access.{Access}
-use Rattle.machine_plan.specs.{declared.who.Who.Who, Glance.Glance, Glance.glanced, Plan.Plan, Plan.carried, Plan.Keeps}
 use Rattle.machine_plan.specs.Regions.{Inside, IsIn, Every, Rights, rights_of, joined, IsSafeAccess, IsOutside, HasReadOnly, Agree}
+use Rattle.machine_plan.specs.Others.{Happening, Steps, Changes, MayHappen, happen, AllMayHappen, OthersRun, IsLeft, IsSafeAmong, SafeAmong, IsAlike, AreAlike, SameAmong}
+use Rattle.machine_plan.specs.{declared.who.Who.Who, Glance.Glance, Glance.glanced, Plan.Plan, Plan.carried, Plan.Keeps}
 use Rattle.machine_plan.specs.Runs.{Allowed, Run, found_by, reached}
 use Rattle.machine_plan.specs.World.{World, Turn, world_may, world_step, Safe, Same, Owes}
-use Rattle.machine_plan.specs.Others.{Happening, Steps, Changes, MayHappen, happen, AllMayHappen, OthersRun, IsLeft, IsSafeAmong, SafeAmong, IsAlike, AreAlike, SameAmong}
 use Rattle.machine_plan.proofs.Plans.{SameBut, footprint, kept, length-carried, keeps_accesses, keeps_looks, keeps_weaker}
 use Rattle.machine_plan.proofs.Runs.{every-append, every-front, every-back}
 use Rattle.machine_plan.proofs.{Safe.joined_covers, Safe.all_safe_miss, Worlds.glance_alike, Worlds.keeps_result}

@@ -1,9 +1,9 @@
 -- Laws over plans, proved once for all units.
 use Rattle.std.proofs.Common.{◌≡◌, ℕ, List, ◌∷◌, length, slice_index, refl, ◌∙◌, ap, subst}
 use Rattle.field_words.specs.declared.access.{Access.Access, Way.Way, Way.TheVariants.Read, Way.TheVariants.Write, Way.TheVariants.Wild}
+use Rattle.machine_plan.specs.Plan.{Plan, Done, Wilds, Reads, Looks, Writes, Outcome, access, carried, Keeps, LooksIn}
 use Rattle.machine_plan.specs.{declared.who.Who.Who, Memory.bytes_at, Memory.stored}
 use Rattle.machine_plan.specs.Regions.{Interval, Inside, IsIn, Every, Agree, Misses}
-use Rattle.machine_plan.specs.Plan.{Plan, Done, Wilds, Reads, Looks, Writes, Outcome, access, carried, Keeps, LooksIn}
 use Rattle.machine_plan.proofs.Memory.{bytes_agree, stored_agree, stored_keeps, length-stored}
 
 -- two outcomes are the same but for memories that agree on the intervals

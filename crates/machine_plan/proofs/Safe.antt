@@ -1,8 +1,8 @@
 -- What safe accesses leave alone.
 use Rattle.std.proofs.Common.{◌≡◌, ℕ, zero, suc, inl, inr, List, [], ◌∷◌, ◌++◌, sym, subst, arith}
 use Rattle.field_words.specs.declared.access.{Access.Access, Way.TheVariants.Read}
-use Rattle.machine_plan.specs.{declared.who.Who.Who, Plan.access}
 use Rattle.machine_plan.specs.Regions.{Interval, Inside, Every, Rights, rights_of, joined, IsIn, IsSafeAccess, IsSafeIn, IsOutside, Misses}
+use Rattle.machine_plan.specs.{declared.who.Who.Who, Plan.access}
 use Rattle.machine_plan.proofs.{Memory.inside_part, Runs.every-weaker}
 
 -- what lies in the first intervals, or in the others, lies in both joined

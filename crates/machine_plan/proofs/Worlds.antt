@@ -2,8 +2,8 @@
 use Rattle.std.proofs.Common.{◌≡◌, ℕ, List, [], ◌∷◌, ◌++◌, length, Option, refl, sym, ◌∙◌, ap}
 use Rattle.std.specs.Prelude.{option_map, unwrap_or}
 use Rattle.field_words.specs.declared.access.{Access.Access, Way.TheVariants.Read, Way.TheVariants.Write, Way.TheVariants.Wild}
-use Rattle.machine_plan.specs.{declared.who.Who.Who, Memory.bytes_at, Memory.stored, Regions.Interval, Regions.Inside, Regions.Agree}
 use Rattle.machine_plan.specs.Plan.{Plan, Done, Wilds, Reads, Looks, Writes, Outcome, Shows, access, carried, Keeps}
+use Rattle.machine_plan.specs.{declared.who.Who.Who, Memory.bytes_at, Memory.stored, Regions.Interval, Regions.Inside, Regions.Agree}
 use Rattle.machine_plan.specs.Glance.{Glance, Now, At, glanced, GlancesIn}
 use Rattle.machine_plan.specs.World.{mapped, followed, World, turned, Moves}
 use Rattle.machine_plan.proofs.Memory.{bytes_agree}

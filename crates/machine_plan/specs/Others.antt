@@ -2,9 +2,8 @@
 -- may only read. What it is for jobs to be safe among them, and to depend on nothing else.
 use Rattle.std.specs.Prelude.{◌≡◌, ℕ, Bool, IsTrue, List, [], ◌∷◌, length, slice_index}
 use Rattle.field_words.specs.declared.access.Access.{Access}
-use Rattle.machine_plan.specs.Glance.{Glance}
 use Rattle.machine_plan.specs.Regions.{Interval, Every, Rights, joined, IsSafeAccess, IsOutside, HasReadOnly, Agree}
-use Rattle.machine_plan.specs.Runs.{Moved, found_by, reached}
+use Rattle.machine_plan.specs.{Glance.Glance, Runs.Moved, Runs.found_by, Runs.reached}
 use Rattle.machine_plan.specs.World.{World, Turn, world_may, world_step}
 
 -- What happens next: a unit steps, or somebody else leaves this memory.

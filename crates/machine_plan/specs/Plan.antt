@@ -1,11 +1,9 @@
 -- A step of a unit as a plan: what it reads, looks at and writes in turn, and what it comes to.
 -- Laws over plans are proved once and serve every unit.
 use Rattle.std.specs.Prelude.{◌≡◌, ℕ, List, [], ◌∷◌, ◌++◌, length, Option, Some, None}
-use Rattle.field_words.specs.declared.access.Access.{Access}
-use Rattle.field_words.specs.declared.access.Way.{Way}
 use Rattle.field_words.specs.declared.access.Way.TheVariants.{Read, Write, Wild}
-use Rattle.machine_plan.specs.declared.who.Who.{Who}
-use Rattle.machine_plan.specs.Memory.{bytes_at, stored}
+use Rattle.field_words.specs.{declared.access.Access.Access, declared.access.Way.Way}
+use Rattle.machine_plan.specs.{declared.who.Who.Who, Memory.bytes_at, Memory.stored}
 
 -- A plan that comes to an R. To look at memory is no access. Where the hardware leaves undefined
 -- what happens, the plan ends wild.

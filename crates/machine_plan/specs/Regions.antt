@@ -1,7 +1,6 @@
 -- Intervals of memory, what a job may reach, and when an access is safe.
 use Rattle.std.specs.Prelude.{◌≡◌, ◌≢◌, ◌≤◌, ◌<◌, ℕ, ◌+◌, ◌⊎◌, List, [], ◌∷◌, ◌++◌, length, slice_index, slice_index_or}
-use Rattle.field_words.specs.declared.access.Access.{Access}
-use Rattle.field_words.specs.declared.access.Way.TheVariants.{Write, Wild}
+use Rattle.field_words.specs.{declared.access.Access.Access, declared.access.Way.TheVariants.Write, declared.access.Way.TheVariants.Wild}
 
 -- P of each item
 abbrev pub Every : {X : Type 0} → (X → Type 0) → List X → Type 0

@@ -1,9 +1,8 @@
 -- What code leaves that carries out a plan.
 use Rattle.std.specs.Prelude.{ℕ, Bool, if◌then◌else◌, List, Option, Some, None}
 use Rattle.arrayvec.specs.ArrayVec.{ArrayVec}
-use Rattle.machine_plan.specs.Plan.{Plan, carried, Shows}
+use Rattle.machine_plan.specs.{Plan.Plan, Plan.carried, Plan.Shows, declared.who.Who.Who}
 use Rattle.field_words.specs.declared.access.Access.{Access}
-use Rattle.machine_plan.specs.declared.who.Who.{Who}
 
 -- the result of a step that may be wild
 abbrev pub if_tame : {R : Type 0} → Bool → R → Option R

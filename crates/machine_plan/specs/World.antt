@@ -3,11 +3,9 @@
 -- said here once, and what the units owe for it.
 use Rattle.std.specs.Prelude.{◌≡◌, ℕ, Bool, IsTrue, List, unwrap_or}
 use Rattle.field_words.specs.declared.access.Access.{Access}
-use Rattle.machine_plan.specs.declared.who.Who.{Who}
 use Rattle.machine_plan.specs.Plan.{Plan, Done, Wilds, Reads, Looks, Writes, Outcome, carried, Keeps}
-use Rattle.machine_plan.specs.Glance.{Glance, glanced, GlancesIn}
 use Rattle.machine_plan.specs.Regions.{Interval, Inside, Every, Rights, rights_of, IsSafeAccess, IsKept, HasReadOnly, Agree}
-use Rattle.machine_plan.specs.Runs.{Moved, Run}
+use Rattle.machine_plan.specs.{declared.who.Who.Who, Glance.Glance, Glance.glanced, Glance.GlancesIn, Runs.Moved, Runs.Run}
 
 -- the plan with its result handed on
 abbrev pub mapped : {R T : Type 0} → (R → T) → Plan R → Plan T

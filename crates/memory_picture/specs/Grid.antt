@@ -1,13 +1,10 @@
 -- The boxes of the strip: each stands for the same number of pages, and no memory takes more than 512.
-use Rattle.std.specs.Prelude.{ℕ, ◌+◌, ◌-◌, ◌*◌, ◌/◌, ◌%◌, ◌==◌, ◌&&◌, nat_lt, Bool, List, [], ◌∷◌, codes, if◌then◌else◌}
-use Rattle.std.specs.List.{fold}
+use Rattle.std.specs.Prelude.{ℕ, ◌+◌, ◌-◌, ◌*◌, ◌/◌, ◌%◌, ◌==◌, ◌&&◌, nat_lt, Bool, List, [], ◌∷◌, codes, if◌then◌else◌, fold}
 use Rattle.field_words.specs.Sizes.{page_size, slot_size}
-use Rattle.buffer_table.specs.declared.buffer.Buffer.{Buffer}
-use Rattle.buffer_table.specs.declared.buffer.Kind.{Kind}
+use Rattle.buffer_table.specs.{declared.buffer.Buffer.Buffer, declared.buffer.Kind.Kind, declared.buffer.Regions.Regions}
 use Rattle.buffer_table.specs.declared.buffer.Kind.TheVariants.{Plain, Code as CodeKind}
-use Rattle.buffer_table.specs.declared.buffer.Regions.{Regions}
-use Rattle.memory_picture.specs.declared.grid.Shade.{Shade}
 use Rattle.memory_picture.specs.declared.grid.Shade.TheVariants.{Free, Slots, Lists, Several, Data, Code}
+use Rattle.memory_picture.specs.declared.grid.Shade.{Shade}
 
 -- 512 boxes of one page hold 2 MiB; a larger memory has larger boxes
 unfoldable pub box_size : ℕ → ℕ

@@ -1,11 +1,7 @@
 -- The picture of a memory: its strip of boxes, sixteen in a row; where rows begin; what boxes show; and the first of its buffers.
-use Rattle.std.specs.Prelude.{ℕ, ◌+◌, ◌-◌, ◌*◌, ◌/◌, ◌%◌, min, nat_lt, List, [], ◌∷◌, ◌++◌, length, codes, if◌then◌else◌}
-use Rattle.std.specs.Fmt.{decimal}
-use Rattle.buffer_table.specs.declared.buffer.Buffer.{Buffer}
-use Rattle.buffer_table.specs.declared.buffer.Kind.{Kind}
+use Rattle.std.specs.Prelude.{ℕ, ◌+◌, ◌-◌, ◌*◌, ◌/◌, ◌%◌, min, nat_lt, List, [], ◌∷◌, ◌++◌, length, codes, if◌then◌else◌, decimal}
+use Rattle.buffer_table.specs.{declared.buffer.Buffer.Buffer, declared.buffer.Kind.Kind, declared.buffer.Regions.Regions, Table.buffer_at}
 use Rattle.buffer_table.specs.declared.buffer.Kind.TheVariants.{Plain, Code}
-use Rattle.buffer_table.specs.declared.buffer.Regions.{Regions}
-use Rattle.buffer_table.specs.Table.{buffer_at}
 use Rattle.svg.specs.Forest.{Forest, Nothing, Element, Beside, worded}
 use Rattle.memory_picture.specs.Grid.{box_size, box_count, shade_of, shade_in, class_of}
 use Rattle.memory_picture.specs.Parts.{rect, label, hex, each, drawing}

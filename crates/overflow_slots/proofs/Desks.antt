@@ -3,12 +3,11 @@ use Rattle.std.proofs.Common.{get_or-set_other, get_or-set_same, length-set, ◌
 use Rattle.std.proofs.lemmas.Bool.Decides.{nat_tests}
 use Rattle.std.specs.Prelude.{slice_index, slice_set}
 use Rattle.overflow_slots.specs.declared.call.Call.TheVariants.{Begin, Take, Overflow, End}
-use Rattle.overflow_slots.specs.declared.pool.Block.{Block}
-use Rattle.overflow_slots.specs.Search.{count_where}
+use Rattle.overflow_slots.specs.SlotRun.{Held, Run, start, holds, is_free, least_free, free_count, front, slot_answer, is_running, has_room, begin_answer, take_answer, overflow_answer, end_answer, after}
+use Rattle.overflow_slots.specs.{declared.pool.Block.Block, Search.count_where}
+use Rattle.overflow_slots.specs.Desk.{Desk, IsNewest, Agrees, free_slot, with_slot, AreFreed}
 use Rattle.tile_memory.specs.Slots.{slot_fits}
 use Rattle.overflow_slots.specs.SlotRun as run
-use Rattle.overflow_slots.specs.SlotRun.{Held, Run, start, holds, is_free, least_free, free_count, front, slot_answer, is_running, has_room, begin_answer, take_answer, overflow_answer, end_answer, after}
-use Rattle.overflow_slots.specs.Desk.{Desk, IsNewest, Agrees, free_slot, with_slot, AreFreed}
 use Rattle.overflow_slots.proofs.Searches.{equal, apart_by, first_found, first_same, count_same, any_none, any_is}
 
 -- a slot without an owner is one that no job holds

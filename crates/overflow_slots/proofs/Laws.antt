@@ -1,16 +1,12 @@
 -- No slot belongs to two jobs, and blocks lie apart, after any list of calls.
 use Rattle.std.proofs.Common.{inl, inr, ◌≡◌, ◌⊎◌, ℕ, ◌+◌, ◌≤◌, ◌<◌, ◌==◌, Bool, true, false, not, ◌||◌, List, [], ◌∷◌, refl, sym, ◌∙◌, ap, subst, arith, Option, None, Some, Result, Ok, Err, if◌then◌else◌, eq-eqb}
+use Rattle.std.proofs.{lemmas.Bool.false≢true, lemmas.Bool.Decides.nat_tests}
 use Rattle.field_words.specs.Sizes.{slot_size}
-use Rattle.std.proofs.lemmas.Bool.{false≢true}
-use Rattle.std.proofs.lemmas.Bool.Decides.{nat_tests}
-use Rattle.overflow_slots.specs.declared.pool.Block.{Block}
-use Rattle.overflow_slots.specs.declared.call.Call.{Call}
 use Rattle.overflow_slots.specs.declared.call.Call.TheVariants.{Begin, Take, Overflow, End}
-use Rattle.overflow_slots.specs.Calls.{IsInRange}
-use Rattle.overflow_slots.specs.Search.{any_where}
 use Rattle.overflow_slots.specs.SlotRun.{Held, Run, holds, is_free, least_free, front, start, after, run_of, with, slot_answer, has_room, begin_answer, take_answer, take_answer_of, overflow_answer, overflow_answer_of, end_answer, with_slot, with_block, with_end, is_running}
-use Rattle.tile_memory.specs.Slots.{slot_fits}
 use Rattle.overflow_slots.specs.Laws.{NoneShared, LiesInOne, EachLies, AreApart, IsApartFrom, AllApart, EachApart, IsOrdered, AllInRange, StaysOrdered}
+use Rattle.overflow_slots.specs.{declared.pool.Block.Block, declared.call.Call.Call, Calls.IsInRange, Search.any_where}
+use Rattle.tile_memory.specs.Slots.{slot_fits}
 use Rattle.overflow_slots.proofs.Searches.{equal, apart_by, any_is, first_found}
 
 -- a job's slots differ, and what is used of each has its front

@@ -1,9 +1,8 @@
 -- The lines of a script, and the calls that they are.
 use Rattle.std.specs.Prelude.{ℕ, is_some, ◌≤◌, ◌<◌, Bool, bytes_eq, codes, List, Option, Some, None, if◌then◌else◌}
-use Rattle.script.specs.Lines.{before, behind, first_malformed}
-use Rattle.script.specs.Number.{number_within}
-use Rattle.overflow_slots.specs.declared.call.Call.{Call}
+use Rattle.script.specs.{Lines.before, Lines.behind, Lines.first_malformed, Number.number_within}
 use Rattle.overflow_slots.specs.declared.call.Call.TheVariants.{Begin, Take, Overflow, End}
+use Rattle.overflow_slots.specs.declared.call.Call.{Call}
 
 -- the greatest job, and the most tiles of one
 abbrev pub last_job : ℕ

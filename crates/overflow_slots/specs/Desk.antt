@@ -1,8 +1,6 @@
 -- The book that the code keeps, and when it stands for what a list of calls did.
 use Rattle.std.specs.Prelude.{◌≡◌, ◌≤◌, ◌<◌, ℕ, ◌+◌, ◌==◌, List, [], ◌∷◌, Option, Some, None, length, slice_index, slice_set, if◌then◌else◌}
-use Rattle.overflow_slots.specs.declared.call.Call.{Call}
-use Rattle.overflow_slots.specs.SlotRun.{Held, Run, holds, after}
-use Rattle.overflow_slots.specs.Search.{first_where}
+use Rattle.overflow_slots.specs.{declared.call.Call.Call, SlotRun.Held, SlotRun.Run, SlotRun.holds, SlotRun.after, Search.first_where}
 
 -- For each slot who holds it: 0, or the job's number and one. For each job 0, or its newest slot's number and one; and how many
 -- bytes of that slot are used.

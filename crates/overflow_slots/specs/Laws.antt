@@ -2,9 +2,7 @@
 -- bytes that the slot's front takes.
 use Rattle.std.specs.Prelude.{◌≡◌, ◌≤◌, ◌<◌, ◌⊎◌, ℕ, ◌+◌, true, List, [], ◌∷◌}
 use Rattle.field_words.specs.Sizes.{slot_size}
-use Rattle.overflow_slots.specs.declared.pool.Block.{Block}
-use Rattle.overflow_slots.specs.declared.call.Call.{Call}
-use Rattle.overflow_slots.specs.Calls.{IsInRange}
+use Rattle.overflow_slots.specs.{declared.pool.Block.Block, declared.call.Call.Call, Calls.IsInRange}
 use Rattle.overflow_slots.specs.SlotRun.{Held, Run, holds, start, run_of, block_size}
 
 -- no slot belongs to two jobs

@@ -1,11 +1,9 @@
 -- What a list of calls does, in lists and sets: each running job has a list of slots, and a list of the blocks that it was given.
 use Rattle.std.specs.Prelude.{ℕ, ◌+◌, ◌*◌, ◌==◌, Bool, true, false, not, ◌||◌, nat_le, List, [], ◌∷◌, Option, Some, None, Result, Ok, Err, if◌then◌else◌}
-use Rattle.field_words.specs.Sizes.{slot_size}
-use Rattle.field_words.specs.Words.{rounded_up}
+use Rattle.field_words.specs.{Sizes.slot_size, Words.rounded_up}
 use Rattle.tile_memory.specs.Slots.{alloc_offset, slot_fits}
-use Rattle.overflow_slots.specs.declared.pool.Block.{Block}
-use Rattle.overflow_slots.specs.declared.call.Call.{Call}
 use Rattle.overflow_slots.specs.declared.call.Call.TheVariants.{Begin, Take, Overflow, End}
+use Rattle.overflow_slots.specs.{declared.pool.Block.Block, declared.call.Call.Call}
 use Rattle.overflow_slots.specs.Search.{first_where, count_where, any_where}
 
 -- the jobs that a pool knows: 0 to 31

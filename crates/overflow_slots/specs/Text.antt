@@ -1,14 +1,10 @@
 -- What a script is answered: a line for each of its calls.
-use Rattle.std.specs.Prelude.{ℕ, List, [], ◌++◌, codes, Option, Some, None, Result, Ok, Err}
-use Rattle.std.specs.Fmt.{decimal}
+use Rattle.std.specs.Prelude.{ℕ, List, [], ◌++◌, codes, Option, Some, None, Result, Ok, Err, decimal}
 use Rattle.field_words.specs.declared.stop.Stop.{Stop}
-use Rattle.script.specs.Lines.{lines_of}
-use Rattle.script.specs.Replies.{replies_from, IsScriptFault as IsFaultOf}
-use Rattle.overflow_slots.specs.declared.pool.Block.{Block}
-use Rattle.overflow_slots.specs.declared.call.Call.{Call}
+use Rattle.script.specs.{Lines.lines_of, Replies.replies_from, Replies.IsScriptFault as IsFaultOf}
 use Rattle.overflow_slots.specs.declared.call.Call.TheVariants.{Begin, Take, Overflow, End}
-use Rattle.overflow_slots.specs.Calls.{call_of, fault_line}
 use Rattle.overflow_slots.specs.SlotRun.{Run, start, after, begin_answer, take_answer, overflow_answer, end_answer}
+use Rattle.overflow_slots.specs.{declared.pool.Block.Block, declared.call.Call.Call, Calls.call_of, Calls.fault_line}
 
 unfoldable pub refused_line : ℕ → List ℕ
 refused_line refusal = codes "refused O" ++ (decimal refusal ++ codes "\n")

@@ -1,7 +1,6 @@
 -- Texts of slots.
 use Rattle.std.proofs.Common.{◌≡◌, ℕ, ◌+◌, ◌<◌, List, [], ◌∷◌, ◌++◌, length, drop, get_or, Option, Some, None, refl, sym, ap, ◌∙◌, append_assoc, add-one, drop-cons}
-use Rattle.packets.specs.declared.packet.Packet.{Packet}
-use Rattle.packets.specs.Packet.{packet_text, slots_text}
+use Rattle.packets.specs.{declared.packet.Packet.Packet, Packet.packet_text, Packet.slots_text}
 
 -- the first of them stands before the others
 pub slots_cons : (slot : Option Packet) (slots : List (Option Packet)) → slots_text (slot ∷ slots) ≡ slots_text (slot ∷ []) ++ slots_text slots

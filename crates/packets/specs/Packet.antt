@@ -1,10 +1,9 @@
 -- The packets of a renderer list, and their bytes.
 use Rattle.std.specs.Prelude.{◌<◌, ◌^◌, ℕ, ◌==◌, List, [], ◌∷◌, ◌++◌, Option, Some, None, if◌then◌else◌, slice_index}
-use Rattle.field_words.specs.Words.{u16_at, u32_at}
-use Rattle.field_words.specs.WordBytes.{half, word}
-use Rattle.packets.specs.declared.packet.Packet.{Packet}
+use Rattle.field_words.specs.{Words.u16_at, Words.u32_at, WordBytes.half, WordBytes.word}
 use Rattle.packets.specs.declared.packet.Packet.TheVariants.{WaitOnSemaphore, BranchToSubList, StoreTileColor, StoreTileColorAndEnd, StoreFullResolution, LoadFullResolution, StoreTileBuffer, LoadTileBuffer, TileRenderingMode, ClearColors, TileCoordinates}
 use Rattle.packets.specs.Opcode.{wait_on_semaphore, branch_to_sub_list, store_tile_color, store_tile_color_and_end, store_full_resolution, load_full_resolution, store_tile_buffer, load_tile_buffer, tile_rendering_mode, clear_colors, tile_coordinates}
+use Rattle.packets.specs.declared.packet.Packet.{Packet}
 
 -- the opcode, and behind it the fields in order
 unfoldable pub packet_text : Packet → List ℕ

@@ -26,8 +26,7 @@ use denote.Struct.Field.{u8-field}
 use denote.Struct.Laws.{u8-laws, u8-copy}
 use Rattle.std.specs.Allocator.{block_with_items}
 use Rattle.std_alloc.specs.Vec.Ownership.{lodged, owns_if}
-use Rattle.std_alloc.proofs.VecSteps.El.{El, no_al}
-use Rattle.std_alloc.proofs.VecSteps.Opens.{is_live}
+use Rattle.std_alloc.proofs.{VecSteps.El.El, VecSteps.El.no_al, VecSteps.Opens.is_live}
 use Rattle.std_alloc.proofs.VecSteps.Rows as rows
 use Rattle.std_collections.proofs.TreeMemory.Lodging.{Lodges, at_lodge}
 

@@ -1,6 +1,5 @@
 -- A window that keeps its length leaves all other bytes as they are.
-use Rattle.std.proofs.Common.{◌≡◌, ℕ, ◌+◌, ◌≤◌, List, length, arith}
-use Rattle.std.proofs.lemmas.Grind.{common_steps}
+use Rattle.std.proofs.{Common.◌≡◌, Common.ℕ, Common.◌+◌, Common.◌≤◌, Common.List, Common.length, Common.arith, lemmas.Grind.common_steps}
 use Rattle.field_words.specs.Writes.{with_bytes}
 use Rattle.phys_mem.specs.Window.{with_window}
 

@@ -1,9 +1,6 @@
 -- What lies in a block while a part of it is lent.
-use Rattle.std.specs.Prelude.{ℕ, List}
-use Rattle.std.specs.Borrow.{Lends, MutBor, Fml, Array, u8}
-use Rattle.phys_mem.specs.declared.contents.Contents.{Contents}
-use Rattle.phys_mem.specs.contracts.contents.Contents.{the_row}
-use Rattle.phys_mem.specs.Window.{with_window}
+use Rattle.std.specs.{Prelude.ℕ, Prelude.List, Borrow.Lends, Borrow.MutBor, Borrow.Fml, Borrow.Array, Borrow.u8}
+use Rattle.phys_mem.specs.{declared.contents.Contents.Contents, contracts.contents.Contents.the_row, Window.with_window}
 
 abbrev pub with_inside : Contents → ℕ → List ℕ → Contents
 with_inside c from inside = record { at = c.at; bytes = with_window c.bytes from inside }

@@ -3,12 +3,9 @@ use Rattle.std.proofs.Common.{◌≡◌, ℕ, zero, suc, ◌+◌, ◌*◌, ◌==
 use Rattle.std.specs.List.{range_with_len}
 use Rattle.field_words.specs.Questions.{Ask, first_of, each, answered}
 use Rattle.field_words.proofs.Questions.{passes}
-use Rattle.buffer_table.specs.declared.buffer.Buffer.{Buffer}
-use Rattle.buffer_table.specs.declared.buffer.Kind.{Kind}
-use Rattle.buffer_table.specs.Table.{buffer_at}
+use Rattle.buffer_table.specs.{declared.buffer.Buffer.Buffer, declared.buffer.Kind.Kind, Table.buffer_at}
 use Rattle.job_format.specs.declared.rule.Stage.TheVariants.{H, B, G, X, S}
-use Rattle.job_format.specs.Offsets.{entry_offset, job_size}
-use Rattle.job_format.specs.Model.{FileModel}
+use Rattle.job_format.specs.{Offsets.entry_offset, Offsets.job_size, Model.FileModel}
 use Rattle.relocation.specs.Layout.{region_end, begins_after}
 use Rattle.shader_check.specs.declared.fault.ShaderFault.{ShaderFault}
 use Rattle.shader_records.specs.Rules.{all_questions}
@@ -18,8 +15,7 @@ use Rattle.job_check.specs.Offsets.{job_offset, content_offset, shader_offset, p
 use Rattle.job_check.specs.Faults.{refused, table_stage, shader_questions_in, shader_stage, shaders_stage, handles_stage, bin_stage, part_offset, records_stage, surfaces_stage, layout_stage, lists_stages, job_stages, jobs_stages, stages_within}
 use Rattle.places_law.specs.Moved.{placeless, moved, PlacesAreFree}
 use Rattle.places_law.proofs.Tables.{AreAlike, entry_placeless, contents_placeless, count_placeless, kind_same, each_same, handles_same}
-use Rattle.places_law.proofs.Lists.{bin_same, surfaces_same}
-use Rattle.places_law.proofs.Records.{records_same}
+use Rattle.places_law.proofs.{Lists.bin_same, Lists.surfaces_same, Records.records_same}
 
 abbrev SamePlaceless : FileModel → List Buffer → Type 0
 SamePlaceless f buffers = map placeless buffers ≡ map placeless f.buffers

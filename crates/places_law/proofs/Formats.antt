@@ -1,15 +1,13 @@
 -- The rules of the format read no place, and what a file holds beside its buffers' places is the same.
 use Rattle.std.proofs.Common.{◌≡◌, ℕ, zero, suc, ◌+◌, ◌*◌, ◌<◌, ◌≤◌, ◌==◌, nat_lt, List, [], ◌∷◌, ◌++◌, map, take, drop, slice_index, arith, refl, sym, ◌∙◌, ap}
-use Rattle.std.specs.List.{range_with_len}
-use Rattle.std.specs.Int.{from_le_bytes, w16, w32}
 use Rattle.std.proofs.lemmas.List.{get_or-drop}
-use Rattle.field_words.specs.Words.{u16_at, u32_at}
-use Rattle.field_words.specs.Questions.{Question, Ask, each}
+use Rattle.std.specs.{List.range_with_len, Int.from_le_bytes, Int.w16, Int.w32}
+use Rattle.field_words.specs.{Words.u16_at, Words.u32_at, Questions.Question, Questions.Ask, Questions.each}
 use Rattle.buffer_table.specs.declared.buffer.Buffer.{Buffer}
-use Rattle.job_format.specs.declared.rule.FormatRule.TheVariants.{EndsEarly, BytesFollow}
 use Rattle.job_format.specs.Offsets.{job_size, version_in, buffer_count, job_count, entry_offset, job_offset, job_word, content_size, content_offset, handles_offset, bin_offset, records_offset, uniforms_offset, end_offset}
 use Rattle.job_format.specs.Reading.{cut, kind_of, regions_at, entry_at, surface_at, frame_at, words_at, buffers_at, contents_at, job_at, jobs_at, file_at}
 use Rattle.job_format.specs.Faults.{fault, header_questions, entry_questions, job_entry_questions, buffer_questions, job_questions, content_questions, parts_questions, end_questions, format_questions}
+use Rattle.job_format.specs.declared.rule.FormatRule.TheVariants.{EndsEarly, BytesFollow}
 use Rattle.places_law.specs.Moved.{placeless, moved}
 use Rattle.places_law.proofs.Words.{SameEntry, ReadAlike}
 

@@ -1,17 +1,15 @@
 -- The rules of shader records and uniforms read no place.
 use Rattle.std.proofs.Common.{◌≡◌, ℕ, zero, suc, ◌+◌, ◌*◌, ◌==◌, ◌&&◌, not, nat_lt, List, [], ◌∷◌, ◌++◌, length, is_some, Option, Some, None, refl, ◌∙◌, ap}
-use Rattle.field_words.specs.Words.{u32_at}
-use Rattle.field_words.specs.Questions.{Question, Ask, each, answered}
+use Rattle.field_words.specs.{Words.u32_at, Questions.Question, Questions.Ask, Questions.each, Questions.answered}
 use Rattle.buffer_table.specs.Table.{TableModel}
 use Rattle.qpu_isa.specs.Shader.{ShaderModel, sample_at}
 use Rattle.packets.specs.StateWord.{attribute_count}
 use Rattle.emitted_facts.specs.Records.{attribute_size, attribute_stride, is_single, address_word}
-use Rattle.shader_records.specs.declared.fault.RecordFault.{RecordFault}
 use Rattle.shader_records.specs.declared.rule.RecordRule.TheVariants.{NoCode, NoData, ThreadsDisagree, ThreadedVertex, CodeWordSet, AttributeOutside, VertexOutside, NoTexture}
-use Rattle.shader_records.specs.Faults.{number_of, record_fault, uniform_fault, sample_fault}
-use Rattle.shader_records.specs.Inputs.{InputModel}
 use Rattle.shader_records.specs.Sources.{state_at, handles_size, source_size, record_source, uniform_source, code_number, attribute_number, shader_behind, shader_used, is_threaded, taken_by, taken_before, record_word, sample_number, source_word, size_in}
 use Rattle.shader_records.specs.Rules.{cut_questions, code_questions, handle_questions, disagrees, fixed_questions, is_attribute_past, has_vertex_past, attribute_questions, names_questions, body_questions, record_questions, setup_questions, first_word_at, sample_questions, use_questions, shader_questions, state_questions, all_questions}
+use Rattle.shader_records.specs.{declared.fault.RecordFault.RecordFault, Inputs.InputModel}
+use Rattle.shader_records.specs.Faults.{number_of, record_fault, uniform_fault, sample_fault}
 use Rattle.places_law.proofs.Tables.{AreAlike, data_same, code_same, size_same, each_same}
 
 -- the input with this table

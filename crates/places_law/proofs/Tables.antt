@@ -1,8 +1,7 @@
 -- What is read of a memory table whose buffers lie at other places.
 use Rattle.std.proofs.Common.{◌≡◌, ℕ, zero, suc, ◌&&◌, ◌||◌, ◌==◌, not, nat_lt, nat_le, if◌then◌else◌, List, [], ◌∷◌, length, map, take, slice_index, Some, None, refl, ap}
 use Rattle.field_words.specs.Questions.{Question, Ask, each}
-use Rattle.buffer_table.specs.declared.buffer.Buffer.{Buffer}
-use Rattle.buffer_table.specs.Table.{TableModel, buffer_at}
+use Rattle.buffer_table.specs.{declared.buffer.Buffer.Buffer, Table.TableModel, Table.buffer_at}
 use Rattle.buffer_table.specs.Handles.{handle_questions, handles_questions, is_plain, data_of, code_of}
 use Rattle.places_law.specs.Moved.{placeless}
 

@@ -2,15 +2,10 @@
 use Rattle.std.proofs.Common.{◌≡◌, ℕ, List, ◌++◌, length, Option, Some, None, refl, sym, ◌∙◌, ap}
 use Rattle.field_words.specs.Questions.{Question, first_of, answered}
 use Rattle.field_words.proofs.Questions.{passes, stops}
-use Rattle.job_format.specs.declared.rule.Refusal.{Refusal}
-use Rattle.job_format.specs.Model.{FileModel}
-use Rattle.job_format.specs.Reading.{file_at}
-use Rattle.job_format.specs.Faults.{format_questions}
-use Rattle.job_check.specs.Faults.{table_stage, file_stages}
-use Rattle.job_check.specs.Whole.{format_refused, questions_within, refusal_of}
+use Rattle.job_format.specs.{declared.rule.Refusal.Refusal, Model.FileModel, Reading.file_at, Faults.format_questions}
+use Rattle.job_check.specs.{Faults.table_stage, Faults.file_stages, Whole.format_refused, Whole.questions_within, Whole.refusal_of}
 use Rattle.places_law.specs.Moved.{MovedAreAlike}
-use Rattle.places_law.proofs.Words.{ReadAlike, read_alike}
-use Rattle.places_law.proofs.Formats.{format_same, file_buffers, file_moved}
+use Rattle.places_law.proofs.{Words.ReadAlike, Words.read_alike, Formats.format_same, Formats.file_buffers, Formats.file_moved}
 use Rattle.places_law.proofs.Files.{places_are_free}
 
 -- rules behind the same front

@@ -1,10 +1,8 @@
 -- What is read of the bytes of two files that differ in places alone.
 use Rattle.std.proofs.Common.{◌≡◌, ℕ, zero, suc, ◌+◌, ◌-◌, ◌*◌, ◌<◌, ◌≤◌, List, [], ◌∷◌, ◌++◌, length, map, drop, slice_index, arith, refl, sym, ◌∙◌, ap, subst}
-use Rattle.std.specs.List.{flat_map}
-use Rattle.std.specs.Int.{from_le_bytes, w32}
 use Rattle.std.proofs.lemmas.List.{places, append_assoc, length-append, get_or-drop}
-use Rattle.field_words.specs.Words.{u32_at}
-use Rattle.field_words.specs.WordBytes.{word}
+use Rattle.std.specs.{List.flat_map, Int.from_le_bytes, Int.w32}
+use Rattle.field_words.specs.{Words.u32_at, WordBytes.word}
 use Rattle.field_words.proofs.Pieces.{drop_drop, rest_of}
 use Rattle.buffer_table.specs.declared.buffer.Buffer.{Buffer}
 use Rattle.job_format.specs.Offsets.{header_size, entry_size, buffer_count, entry_offset}

@@ -1,14 +1,9 @@
 -- A file whose buffers lie at other places.
-use Rattle.std.specs.Prelude.{◌≡◌, ℕ, List, ◌++◌, length, map, None}
-use Rattle.std.specs.List.{flat_map}
+use Rattle.std.specs.{Prelude.◌≡◌, Prelude.ℕ, Prelude.List, Prelude.◌++◌, Prelude.length, Prelude.map, Prelude.None, List.flat_map}
 use Rattle.field_words.specs.Questions.{first_of}
 use Rattle.buffer_table.specs.declared.buffer.Buffer.{Buffer}
-use Rattle.job_format.specs.Model.{FileModel}
-use Rattle.job_format.specs.Offsets.{header_size, buffer_count}
-use Rattle.job_format.specs.Reading.{file_at}
-use Rattle.job_format.specs.Text.{buffer_text}
-use Rattle.job_check.specs.Faults.{table_stage, file_stages}
-use Rattle.job_check.specs.Whole.{refusal_of}
+use Rattle.job_format.specs.{Model.FileModel, Offsets.header_size, Offsets.buffer_count, Reading.file_at, Text.buffer_text}
+use Rattle.job_check.specs.{Faults.table_stage, Faults.file_stages, Whole.refusal_of}
 
 -- a buffer's entry without its place
 abbrev pub placeless : Buffer → Buffer

@@ -1,8 +1,8 @@
 -- The laws by which an address is clamped.
 use Rattle.std.proofs.Common.{◌≡◌, ℕ, suc, ◌-◌, ◌^◌, ◌<◌, ◌≤◌, arith, inl, inr, sym, ap, ◌∙◌, ℤ, pos, negsuc, if◌then◌else◌}
-use Rattle.std.specs.Int.{w32, cast_signed, cast_unsigned, int_min}
 use Rattle.std.proofs.lemmas.Bool.{cases_lt, le-ltb}
 use Rattle.std.proofs.lemmas.Int.{ints, clamps, to_z_pos, of_z-to_z}
+use Rattle.std.specs.Int.{w32, cast_signed, cast_unsigned, int_min}
 use Rattle.qpu_alu.specs.Operation.{signed_min, signed_max}
 
 -- The greater of a number and 0 isn't negative.

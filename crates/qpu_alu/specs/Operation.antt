@@ -4,8 +4,8 @@
 use Rattle.std.specs.Prelude.{ℕ, ◌+◌, ◌-◌, ◌*◌, ◌/◌, ◌%◌, ◌^◌, ◌==◌, min, max, bit_and, bit_or, bit_xor, List, [], ◌∷◌, Option, Some, None, if◌then◌else◌}
 use Rattle.std.specs.Int.{int_min, int_max, w32, cast_signed, cast_unsigned, rotate_right, leading_zeros, to_le_bytes, from_le_bytes}
 use Rattle.std.specs.Int.Signed.{shr_z}
-use Rattle.qpu_alu.specs.declared.bytes.ByteOperation.{ByteOperation}
 use Rattle.qpu_alu.specs.declared.bytes.ByteOperation.TheVariants.{Add, Subtract, Least, Greatest}
+use Rattle.qpu_alu.specs.declared.bytes.ByteOperation.{ByteOperation}
 
 -- the lesser and the greater of two words as signed numbers
 unfoldable pub signed_min : ℕ → ℕ → ℕ

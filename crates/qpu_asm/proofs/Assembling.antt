@@ -3,13 +3,10 @@ use Rattle.std.proofs.Common.{◌≡◌, ℕ, ◌+◌, ◌≤◌, List, [], ◌�
 use Rattle.field_words.specs.declared.stop.Stop.{Stop}
 use Rattle.field_words.specs.declared.stop.Stop.TheVariants as stop
 use Rattle.script.specs.Lines.{lines_of}
-use Rattle.qpu_asm.specs.declared.fault.AsmFault.{AsmFault}
+use Rattle.qpu_asm.specs.{declared.fault.AsmFault.AsmFault, Items.Spots, Assembly.Assembled, Assembly.IsFaultOf}
 use Rattle.qpu_asm.specs.Lines.{Line, Blank, Label, BadLabel, Coded, read_line}
-use Rattle.qpu_asm.specs.Items.{Spots}
 use Rattle.qpu_asm.specs.Labels.{LabelSpot, size_of, label_on, labels_from, read_lines, spots_of}
-use Rattle.qpu_asm.specs.Assembly.{Assembled, IsFaultOf}
-use Rattle.qpu_asm.specs.Walk.{line_words, lines_words}
-use Rattle.qpu_asm.specs.Marks.{IsFirstBelow, AreFirstBelow}
+use Rattle.qpu_asm.specs.{Walk.line_words, Walk.lines_words, Marks.IsFirstBelow, Marks.AreFirstBelow}
 use Rattle.qpu_asm.proofs.Faults.{text_assembles}
 
 pub same_everywhere : {A B : Type 0} (f g : A → B) → ((x : A) → f x ≡ g x) → f ≡ g

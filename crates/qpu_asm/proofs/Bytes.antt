@@ -1,8 +1,7 @@
 -- Tests on each byte of a list.
 use Rattle.std.proofs.Common.{◌≡◌, ℕ, ◌+◌, ◌<◌, Bool, true, false, ◌==◌, List, [], ◌∷◌, length, get_or, take, refl, sym, bytes_eq, eqb-true, eq-eqb}
-use Rattle.std.proofs.lemmas.Bool.{and_parts, false≢true}
+use Rattle.std.proofs.{lemmas.Bool.and_parts, lemmas.Bool.false≢true, lemmas.List.Folds.list_all_more, lemmas.List.Folds.list_all_at}
 use Rattle.std.specs.List.{list_all}
-use Rattle.std.proofs.lemmas.List.Folds.{list_all_more, list_all_at}
 
 pub all_more : (test : ℕ → Bool) (bytes : List ℕ) (i : ℕ) → i < length bytes → list_all test (take i bytes) ≡ true
     → test (get_or bytes i 0) ≡ true → list_all test (take (i + 1) bytes) ≡ true

@@ -1,22 +1,18 @@
 -- The walk over a text's lines ends with what the text assembles to.
 use Rattle.std.proofs.Common.{◌≡◌, inl, inr, ℕ, ◌+◌, ◌*◌, ◌^◌, ◌<◌, Bool, true, false, nat_lt, nat_le, ◌==◌, List, [], ◌∷◌, ◌++◌, length, map, refl, sym, ◌∙◌, ap, subst, arith, Option, None, Some, Result, Ok, Err, IfErr, append_assoc, append-nil, length-append, eq-eqb, if◌then◌else◌}
-use Rattle.std.proofs.lemmas.Bool.{cases_Bool}
-use Rattle.std.proofs.lemmas.Bool.Decides.{nat_tests}
-use Rattle.field_words.specs.Least.{Stands, IsLeast}
-use Rattle.field_words.specs.declared.stop.Stop.{Stop}
+use Rattle.std.proofs.{lemmas.Bool.cases_Bool, lemmas.Bool.Decides.nat_tests}
+use Rattle.field_words.specs.{Least.Stands, Least.IsLeast, declared.stop.Stop.Stop}
 use Rattle.field_words.specs.declared.stop.Stop.TheVariants.{Fault, NoMemory}
 use Rattle.qpu_isa.specs.Fields.{joined}
 use Rattle.script.specs.Lines.{before, behind}
-use Rattle.qpu_asm.specs.declared.fault.AsmFault.{AsmFault}
-use Rattle.qpu_asm.specs.declared.fault.Mistake.{Mistake}
-use Rattle.qpu_asm.specs.declared.fault.Mistake.TheVariants.{UnknownWord}
-use Rattle.qpu_asm.specs.Table.{Row, Kind, widths_of, fallbacks_of}
-use Rattle.qpu_asm.specs.Lines.{Line, Blank, Label, BadLabel, Coded}
 use Rattle.qpu_asm.specs.Items.{Spots, mistake_number, read_value, is_row, has_row, has_value, kind_named}
-use Rattle.qpu_asm.specs.Labels.{size_of, is_before, read_lines, spots_of}
 use Rattle.qpu_asm.specs.Faults.{rows_behind, rows_after, mistakes_in, value_mistakes, named_mistakes, item_mistakes, items_mistakes, kind_mistakes, line_mistakes, fault_on, lines_faults, text_faults, IsUpTo, standing, AnswersLeast}
 use Rattle.qpu_asm.specs.Assembly.{value_or, row_values, kind_word, code_word, words_on, words_from, text_words, is_up_to, least_fault, words_or_least, Assembled, IsFaultOf}
 use Rattle.qpu_asm.specs.Walk.{least_of, Partial, with_value, skip_to, read_named, read_item, read_items, word_or_fault, closed_word, kind_code, option_code, code_of, with_word, line_words, if_words, lines_words}
+use Rattle.qpu_asm.specs.{declared.fault.AsmFault.AsmFault, declared.fault.Mistake.Mistake, declared.fault.Mistake.TheVariants.UnknownWord}
+use Rattle.qpu_asm.specs.Table.{Row, Kind, widths_of, fallbacks_of}
+use Rattle.qpu_asm.specs.Lines.{Line, Blank, Label, BadLabel, Coded}
+use Rattle.qpu_asm.specs.Labels.{size_of, is_before, read_lines, spots_of}
 
 -- the least of a mistake so far and others
 least_after : Option Mistake → List Mistake → Option Mistake

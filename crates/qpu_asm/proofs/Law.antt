@@ -1,32 +1,20 @@
 -- Assembling what was printed gives the same words.
 use Rattle.std.proofs.Common.{◌≡◌, ℕ, suc, inl, inr, ◌+◌, ◌*◌, ◌/◌, ◌%◌, ◌^◌, ◌≤◌, ◌<◌, Bool, true, false, not, ◌==◌, ◌&&◌, nat_le, List, [], ◌∷◌, ◌++◌, length, map, get_or, refl, sym, ◌∙◌, ap, subst, arith, eqb-true, leb-true, lt-ltb, drop, filter, mod-lt, pow_pos, decimal, Option, None, Some, Ok, IfSome, bytes_eq, if◌then◌else◌, All, append_assoc, append-nil, length-append}
-use Rattle.std.specs.List.{list_all, slice_split}
-use Rattle.std.specs.Char.{is_ascii_digit}
-use Rattle.std.specs.Str.{all_ascii_digits}
 use Rattle.std.proofs.lemmas.Bool.{and_parts, and_from, not-true, false≢true, cases_Bool, eqb-false}
-use Rattle.std.proofs.lemmas.Bool.Decides.{nat_tests}
-use Rattle.std.proofs.lemmas.List.Folds.{list_all-append}
-use Rattle.std.proofs.lemmas.List.Sums.{AllPass-from_list_all}
-use Rattle.std.proofs.lemmas.List.Splits.{slice_split_at, slice_split_none}
-use Rattle.std.proofs.Math.Nat.{div-eq_of_lt}
-use Rattle.script.specs.Lines.{before, behind, lines_of}
-use Rattle.script.specs.Number.{is_number}
-use Rattle.qpu_isa.specs.Word.{sig_of}
-use Rattle.qpu_isa.specs.Fields.{joined, width_of, values_of}
-use Rattle.qpu_isa.proofs.Fields.{joined-values_of}
-use Rattle.qpu_isa.proofs.Words.{above-sig}
+use Rattle.std.proofs.{lemmas.Bool.Decides.nat_tests, lemmas.List.Folds.list_all-append, lemmas.List.Sums.AllPass-from_list_all}
+use Rattle.std.proofs.{lemmas.List.Splits.slice_split_at, lemmas.List.Splits.slice_split_none, Math.Nat.div-eq_of_lt}
+use Rattle.std.specs.{List.list_all, List.slice_split, Char.is_ascii_digit, Str.all_ascii_digits}
+use Rattle.script.specs.{Lines.before, Lines.behind, Lines.lines_of, Number.is_number}
+use Rattle.qpu_isa.specs.{Word.sig_of, Fields.joined, Fields.width_of, Fields.values_of}
+use Rattle.qpu_isa.proofs.{Fields.joined-values_of, Words.above-sig}
 use Rattle.qpu_asm.specs.Table.{Named, Row, Kind, widths_of, nop_kind, alu_kind, load_imm_kind, branch_kind, alu_rows}
-use Rattle.qpu_asm.specs.Lines.{Coded, is_full, words_of, read_line, line_of, is_comment, ends_label}
 use Rattle.qpu_asm.specs.Items.{has_value, Spots, find_named, or_number, read_number, read_plain, read_value, is_row, has_row, kind_named}
 use Rattle.qpu_asm.specs.Walk.{Partial, skip_to, read_named, read_item, read_items, closed_word, kind_code, code_of, option_code, lines_words, line_words, with_word, if_words}
-use Rattle.qpu_asm.specs.Labels.{read_lines, spots_of}
 use Rattle.qpu_asm.specs.Printed.{name_of, or_decimal, value_text, item_text, item_texts, kind_of, spaced, kind_text, line_text, AsmText, PrintedReturns}
-use Rattle.qpu_asm.proofs.Bytes.{bytes_itself, bytes_same}
-use Rattle.qpu_asm.proofs.Words.{kept_full}
-use Rattle.qpu_asm.proofs.Rows.{kind_cases}
-use Rattle.qpu_asm.proofs.Assembling.{words_end}
-use Rattle.qpu_asm.proofs.Faults.{text_assembles}
-use Rattle.qpu_asm.proofs.Decimals.{decimal_digits, decimal_value, decimal_number}
+use Rattle.qpu_asm.specs.Lines.{Coded, is_full, words_of, read_line, line_of, is_comment, ends_label}
+use Rattle.qpu_asm.specs.Labels.{read_lines, spots_of}
+use Rattle.qpu_asm.proofs.{Bytes.bytes_itself, Bytes.bytes_same, Words.kept_full, Rows.kind_cases, Assembling.words_end}
+use Rattle.qpu_asm.proofs.{Faults.text_assembles, Decimals.decimal_digits, Decimals.decimal_value, Decimals.decimal_number}
 
 -- without such a byte
 lacks : ℕ → List ℕ → Bool

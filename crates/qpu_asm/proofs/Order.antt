@@ -2,8 +2,7 @@
 use Rattle.std.proofs.Common.{refl, sym}
 use Rattle.qpu_isa.specs.Fields.{joined}
 use Rattle.qpu_isa.proofs.Words.{alu_values-alu_of, load_imm_values-load_imm_of, branch_values-branch_of}
-use Rattle.qpu_asm.specs.Table.{nop_word}
-use Rattle.qpu_asm.specs.Printed.{FieldsInOrder}
+use Rattle.qpu_asm.specs.{Table.nop_word, Printed.FieldsInOrder}
 
 pub in_order : FieldsInOrder
 unfolding nop_word joined

@@ -1,18 +1,13 @@
 -- Words by column, and rows by name.
 use Rattle.std.proofs.Common.{◌≡◌, ◌≢◌, ℕ, ◌+◌, ◌≤◌, ◌<◌, Bool, true, false, ◌==◌, List, [], ◌∷◌, length, get_or, slice_index, drop, refl, sym, ◌∙◌, ap, arith, ne_eqb, cond, drop-cons, add-one, Result, suc, subst, min, if◌then◌else◌}
-use Rattle.std.specs.Prelude.{slice_index_or}
-use Rattle.std.specs.List.{slice_split, onto_first}
-use Rattle.script.specs.Lines.{before, behind, lines_of, onto_line}
-use Rattle.qpu_asm.specs.declared.fault.Mistake.{Mistake}
-use Rattle.qpu_asm.specs.declared.table.Row as code
-use Rattle.qpu_asm.specs.Table.{Row}
-use Rattle.qpu_asm.specs.Items.{Spots, is_row, kind_named}
-use Rattle.qpu_asm.specs.Faults.{rows_behind, rows_after, value_mistakes, item_mistakes}
-use Rattle.qpu_asm.specs.Lines.{is_full, Line, Coded}
-use Rattle.qpu_asm.specs.Place.{Word, words_from, placed_words, wanted_item, is_of, item_place, code_place, words_place}
-use Rattle.qpu_asm.specs.declared.place.Opcode.{Opcode}
+use Rattle.std.specs.{Prelude.slice_index_or, List.slice_split, List.onto_first}
 use Rattle.std.specs.declared.option.Option.TheVariants.{None, Some}
-use Rattle.qpu_asm.specs.Seen.{row_seen, rows_seen}
+use Rattle.script.specs.Lines.{before, behind, lines_of, onto_line}
+use Rattle.qpu_asm.specs.Place.{Word, words_from, placed_words, wanted_item, is_of, item_place, code_place, words_place}
+use Rattle.qpu_asm.specs.{declared.fault.Mistake.Mistake, Table.Row, Items.Spots, Items.is_row, Items.kind_named}
+use Rattle.qpu_asm.specs.{Faults.rows_behind, Faults.rows_after, Faults.value_mistakes, Faults.item_mistakes, declared.place.Opcode.Opcode}
+use Rattle.qpu_asm.specs.{Lines.is_full, Lines.Line, Lines.Coded, Seen.row_seen, Seen.rows_seen}
+use Rattle.qpu_asm.specs.declared.table.Row as code
 
 -- a space before the words
 placed_space : (column : ℕ) (bytes : List ℕ) → placed_words column (32 ∷ bytes) ≡ placed_words (column + 1) bytes

@@ -1,18 +1,15 @@
 -- Items one after another.
 use Rattle.std.proofs.Common.{◌≡◌, ℕ, ◌+◌, ◌*◌, ◌^◌, ◌≤◌, ◌<◌, Bool, true, false, ◌==◌, ◌&&◌, ◌||◌, not, nat_lt, List, [], ◌∷◌, length, refl, sym, ◌∙◌, ap, subst, arith, Option, None, Some, Result, Ok, Err, IfOk, IfSome, lit≤, if◌then◌else◌, ltb-true, eqb-true, pow-add, pow_pos, mul-le-mul_right, mul_assoc, mul-le-mul_left, bytes_eq}
-use Rattle.std.specs.List.{list_all}
 use Rattle.std.proofs.lemmas.Bool.{and_parts, false≢true}
+use Rattle.std.specs.List.{list_all}
 use Rattle.qpu_isa.specs.Fields.{joined, width_of}
 use Rattle.script.specs.Number.{number_of, is_number}
-use Rattle.qpu_asm.specs.declared.label.Spot.{Spot}
-use Rattle.qpu_asm.specs.declared.fault.Mistake.{Mistake}
-use Rattle.qpu_asm.specs.declared.fault.Mistake.TheVariants.{BadOperand, OutOfRange}
-use Rattle.qpu_asm.specs.declared.table.Row as code
 use Rattle.qpu_asm.specs.Table.{Row, Named, widths_of, fallbacks_of, nop_kind, alu_kind, load_imm_kind, branch_kind}
-use Rattle.qpu_asm.specs.Lines.{is_name}
 use Rattle.qpu_asm.specs.Items.{Spots, read_value, read_plain, or_number, read_number, find_named, read_target, distance, distance_to, is_row, kind_named}
+use Rattle.qpu_asm.specs.{declared.label.Spot.Spot, declared.fault.Mistake.Mistake, Lines.is_name, Seen.row_seen, Seen.rows_seen}
+use Rattle.qpu_asm.specs.declared.fault.Mistake.TheVariants.{BadOperand, OutOfRange}
 use Rattle.qpu_asm.specs.Walk.{IsOpen, is_ready, are_ready, skip_to, with_value}
-use Rattle.qpu_asm.specs.Seen.{row_seen, rows_seen}
+use Rattle.qpu_asm.specs.declared.table.Row as code
 use Rattle.qpu_asm.proofs.Rows.{RowFacts, row_facts, ready_parts, none_left}
 
 -- the room for a row's field and those after it

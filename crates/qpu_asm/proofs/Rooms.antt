@@ -1,12 +1,10 @@
 -- Text that is written into a room.
 use Rattle.std.proofs.Common.{◌≡◌, ℕ, ◌+◌, ◌-◌, ◌≤◌, ◌<◌, ◌⊎◌, List, [], ◌∷◌, ◌++◌, length, length-append, take, drop, take-add, slice_index_or, sym, ◌∙◌, ap, arith, append_assoc, inl, inr}
-use Rattle.std.proofs.lemmas.Bool.{cases_lt}
 use Rattle.std.proofs.lemmas.List.{get_or_push, get_or_append_left, take_at, drop_at, take_more, take-append-le, length-take-le, flat_map_more}
+use Rattle.std.proofs.lemmas.Bool.{cases_lt}
 use borrow.Rule.Slice.PartMut.{put_mid, post_of}
 use Rattle.std.specs.List.{flat_map}
-use Rattle.qpu_asm.specs.Table.{Row}
-use Rattle.qpu_asm.specs.Printed.{line_text}
-use Rattle.qpu_asm.specs.Walk.{AreTexts, field_text}
+use Rattle.qpu_asm.specs.{Table.Row, Printed.line_text, Walk.AreTexts, Walk.field_text}
 
 pub texts_none : (row : Row) → AreTexts row []
 unfolding AreTexts

@@ -1,14 +1,12 @@
 -- Rows one after another.
 use Rattle.std.proofs.Common.{◌≡◌, ℕ, ◌+◌, ◌/◌, ◌%◌, ◌^◌, ◌≤◌, ◌<◌, Bool, true, false, ◌==◌, ◌&&◌, ◌||◌, not, nat_lt, nat_le, List, [], ◌∷◌, ◌++◌, length, refl, sym, ◌∙◌, ap, arith, ltb-true, leb-true, if◌then◌else◌, lit≤, le_trans, pow_mono}
-use Rattle.std.specs.List.{list_all}
 use Rattle.std.proofs.lemmas.Bool.{and_parts}
+use Rattle.std.specs.List.{list_all}
 use Rattle.qpu_isa.specs.Fields.{width_of, values_of}
-use Rattle.qpu_asm.specs.declared.table.Row.{Row}
-use Rattle.qpu_asm.specs.Table as table
-use Rattle.qpu_asm.specs.Table.{widths_of, alu_kind, load_imm_kind, branch_kind, nop_kind}
-use Rattle.qpu_asm.specs.Walk.{is_ready, are_ready, field_text}
-use Rattle.qpu_asm.specs.Printed.{item_texts, spaced, rows_text}
+use Rattle.qpu_asm.specs.{declared.table.Row.Row, Table.widths_of, Table.alu_kind, Table.load_imm_kind, Table.branch_kind, Table.nop_kind}
+use Rattle.qpu_asm.specs.{Walk.is_ready, Walk.are_ready, Walk.field_text, Printed.item_texts, Printed.spaced, Printed.rows_text}
 use Rattle.qpu_asm.specs.Seen.{row_seen, rows_seen}
+use Rattle.qpu_asm.specs.Table as table
 
 pub none_left : {A : Type 0} (xs : List A) → length xs ≡ 0 → xs ≡ []
 none_left [] is = refl

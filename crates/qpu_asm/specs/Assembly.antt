@@ -1,20 +1,12 @@
 -- What a text assembles to: its words where it has no fault, else the least of all its faults.
-use Rattle.std.specs.Prelude.{ℕ, ◌+◌, ◌==◌, ◌≡◌, Bool, ◌&&◌, ◌||◌, nat_lt, nat_le, List, [], ◌∷◌, ◌++◌, if◌then◌else◌}
-use Rattle.std.specs.declared.option.Option.{Option}
-use Rattle.std.specs.declared.option.Option.TheVariants.{None, Some}
-use Rattle.std.specs.declared.result.Result.{Result}
-use Rattle.std.specs.declared.result.Result.TheVariants.{Ok, Err}
+use Rattle.std.specs.Prelude.{ℕ, ◌+◌, ◌==◌, ◌≡◌, Bool, ◌&&◌, ◌||◌, nat_lt, nat_le, List, [], ◌∷◌, ◌++◌, if◌then◌else◌, Option, None, Some, Result, Ok, Err}
 use Rattle.field_words.specs.declared.stop.Stop.{Stop}
 use Rattle.field_words.specs.declared.stop.Stop.TheVariants as stop
 use Rattle.qpu_isa.specs.Fields.{joined}
 use Rattle.script.specs.Lines.{before, behind}
-use Rattle.qpu_asm.specs.declared.fault.AsmFault.{AsmFault}
-use Rattle.qpu_asm.specs.declared.fault.Mistake.{Mistake}
-use Rattle.qpu_asm.specs.Table.{Row, Kind, widths_of}
-use Rattle.qpu_asm.specs.Lines.{Line, Blank, Label, BadLabel, Coded}
-use Rattle.qpu_asm.specs.Items.{Spots, read_value, is_row, kind_named}
-use Rattle.qpu_asm.specs.Labels.{size_of, read_lines, spots_of}
-use Rattle.qpu_asm.specs.Faults.{text_faults}
+use Rattle.qpu_asm.specs.{declared.fault.AsmFault.AsmFault, declared.fault.Mistake.Mistake, Table.Row, Table.Kind, Table.widths_of}
+use Rattle.qpu_asm.specs.{Lines.Line, Lines.Blank, Lines.Label, Lines.BadLabel, Lines.Coded, Faults.text_faults}
+use Rattle.qpu_asm.specs.{Items.Spots, Items.read_value, Items.is_row, Items.kind_named, Labels.size_of, Labels.read_lines, Labels.spots_of}
 
 abbrev pub value_or : ℕ → Result ℕ Mistake → ℕ
 value_or fallback (Ok value) = value

@@ -1,21 +1,12 @@
 -- All faults of a text: each line's and each item's by its own sentence, whatever other faults stand before it.
-use Rattle.std.specs.Prelude.{ℕ, ◌≡◌, ◌+◌, true, ◌&&◌, List, [], ◌∷◌, ◌++◌, map, if◌then◌else◌}
-use Rattle.std.specs.declared.option.Option.{Option}
-use Rattle.std.specs.declared.option.Option.TheVariants.{None, Some}
-use Rattle.std.specs.declared.result.Result.{Result}
-use Rattle.std.specs.declared.result.Result.TheVariants.{Ok, Err}
-use Rattle.field_words.specs.Questions.{Question, Ask}
-use Rattle.field_words.specs.Least.{NotAfter, IsLeast}
-use Rattle.field_words.specs.declared.stop.Stop.{Stop}
+use Rattle.std.specs.Prelude.{ℕ, ◌≡◌, ◌+◌, true, ◌&&◌, List, [], ◌∷◌, ◌++◌, map, if◌then◌else◌, Option, None, Some, Result, Ok, Err}
+use Rattle.field_words.specs.{Questions.Question, Questions.Ask, Least.NotAfter, Least.IsLeast, declared.stop.Stop.Stop}
 use Rattle.field_words.specs.declared.stop.Stop.TheVariants.{Fault, NoMemory}
 use Rattle.script.specs.Lines.{before, behind}
-use Rattle.qpu_asm.specs.declared.fault.AsmFault.{AsmFault}
-use Rattle.qpu_asm.specs.declared.fault.Mistake.{Mistake}
 use Rattle.qpu_asm.specs.declared.fault.Mistake.TheVariants.{UnknownWord, BadOperand, LabelTwice}
-use Rattle.qpu_asm.specs.Table.{Row, Kind}
-use Rattle.qpu_asm.specs.Lines.{Line, Blank, Label, BadLabel, Coded}
 use Rattle.qpu_asm.specs.Items.{Spots, mistake_number, read_value, is_row, has_row, has_value, kind_named}
-use Rattle.qpu_asm.specs.Labels.{size_of, is_before, read_lines, spots_of}
+use Rattle.qpu_asm.specs.{declared.fault.AsmFault.AsmFault, declared.fault.Mistake.Mistake, Table.Row, Table.Kind, Lines.Line, Lines.Blank}
+use Rattle.qpu_asm.specs.{Lines.Label, Lines.BadLabel, Lines.Coded, Labels.size_of, Labels.is_before, Labels.read_lines, Labels.spots_of}
 
 -- the rows behind the one of that name
 unfoldable pub rows_behind : List ℕ → List Row → List Row

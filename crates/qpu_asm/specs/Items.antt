@@ -1,18 +1,10 @@
 -- The items of an instruction: what each one names, and its value.
-use Rattle.std.specs.Prelude.{ℕ, ◌+◌, ◌-◌, ◌*◌, ◌%◌, ◌^◌, Bool, ◌&&◌, ◌||◌, nat_lt, List, [], ◌∷◌, length, codes, if◌then◌else◌}
-use Rattle.std.specs.List.{list_any}
-use Rattle.std.specs.Str.{bytes_eq}
-use Rattle.std.specs.declared.option.Option.{Option}
-use Rattle.std.specs.declared.option.Option.TheVariants.{None, Some}
-use Rattle.std.specs.declared.result.Result.{Result}
-use Rattle.std.specs.declared.result.Result.TheVariants.{Ok, Err}
-use Rattle.script.specs.Lines.{before}
-use Rattle.script.specs.Number.{is_number, number_of}
-use Rattle.qpu_asm.specs.declared.label.Spot.{Spot}
-use Rattle.qpu_asm.specs.declared.fault.Mistake.{Mistake}
+use Rattle.std.specs.Prelude.{ℕ, ◌+◌, ◌-◌, ◌*◌, ◌%◌, ◌^◌, Bool, ◌&&◌, ◌||◌, nat_lt, List, [], ◌∷◌, length, codes, if◌then◌else◌, Option, Result, None, Some, Ok, Err}
+use Rattle.std.specs.{List.list_any, Str.bytes_eq}
+use Rattle.script.specs.{Lines.before, Number.is_number, Number.number_of}
 use Rattle.qpu_asm.specs.declared.fault.Mistake.TheVariants.{UnknownWord, BadOperand, OutOfRange, UnknownLabel, LabelTwice}
+use Rattle.qpu_asm.specs.{declared.label.Spot.Spot, declared.fault.Mistake.Mistake, Lines.is_name}
 use Rattle.qpu_asm.specs.Table.{Named, Row, Kind, nop_kind, alu_kind, load_imm_kind, branch_kind}
-use Rattle.qpu_asm.specs.Lines.{is_name}
 
 -- where each label stands, where it stands anywhere
 abbrev pub Spots : Type 0

@@ -1,11 +1,7 @@
 -- The labels of a text, and where each one stands.
-use Rattle.std.specs.Prelude.{ℕ, ◌+◌, Bool, false, nat_lt, List, [], ◌∷◌, ◌++◌, map, if◌then◌else◌}
-use Rattle.std.specs.Str.{bytes_eq}
-use Rattle.std.specs.declared.option.Option.{Option}
-use Rattle.std.specs.declared.option.Option.TheVariants.{None, Some}
+use Rattle.std.specs.Prelude.{ℕ, ◌+◌, Bool, false, nat_lt, List, [], ◌∷◌, ◌++◌, map, if◌then◌else◌, Option, None, Some, bytes_eq}
 use Rattle.script.specs.Lines.{lines_of}
-use Rattle.qpu_asm.specs.declared.label.Spot.{Spot}
-use Rattle.qpu_asm.specs.Lines.{Line, Blank, Label, BadLabel, Coded, read_line}
+use Rattle.qpu_asm.specs.{declared.label.Spot.Spot, Lines.Line, Lines.Blank, Lines.Label, Lines.BadLabel, Lines.Coded, Lines.read_line}
 use Rattle.qpu_asm.specs.Items.{Spots}
 
 -- an instruction's line takes one index

@@ -1,7 +1,6 @@
 -- Lines and words of a text.
 use Rattle.std.specs.Prelude.{ℕ, ◌-◌, ◌==◌, Bool, true, false, ◌&&◌, ◌||◌, List, [], ◌∷◌, filter, length, take, slice_index, if◌then◌else◌}
-use Rattle.std.specs.List.{slice_split, list_all}
-use Rattle.std.specs.Char.{is_ascii_alphabetic, is_ascii_digit}
+use Rattle.std.specs.{List.slice_split, List.list_all, Char.is_ascii_alphabetic, Char.is_ascii_digit}
 
 unfoldable pub is_full : List ℕ → Bool
 is_full [] = false

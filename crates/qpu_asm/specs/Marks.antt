@@ -1,13 +1,8 @@
 -- The labels of a text as a list of marks, in the text's order and sorted. No part of what the crate claims.
 use Rattle.std.specs.Prelude.{◌≡◌, ℕ, ◌+◌, ◌<◌, ◌≤◌, ◌⊎◌, true, false, List, [], ◌∷◌, slice_index_or, length}
-use Rattle.std.specs.Cmp.Lexicographic.{slice_cmp}
-use Rattle.std.specs.Ordering.{nat_cmp, ordering_then, is_lt}
-use Rattle.std.specs.declared.cmp.Ordering.{Ordering}
-use Rattle.qpu_asm.specs.declared.label.Spot.{Spot}
-use Rattle.qpu_asm.specs.declared.label.Mark.{Mark}
+use Rattle.std.specs.{Cmp.Lexicographic.slice_cmp, Ordering.nat_cmp, Ordering.ordering_then, Ordering.is_lt, declared.cmp.Ordering.Ordering}
+use Rattle.qpu_asm.specs.{declared.label.Spot.Spot, declared.label.Mark.Mark, Items.Spots, Labels.is_before}
 use Rattle.qpu_asm.specs.Lines.{Line, Blank, Label, BadLabel, Coded}
-use Rattle.qpu_asm.specs.Items.{Spots}
-use Rattle.qpu_asm.specs.Labels.{is_before}
 
 -- the order of marks: by name, by line, by index
 abbrev pub spot_cmp : Spot → Spot → Ordering

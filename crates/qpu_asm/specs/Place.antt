@@ -1,23 +1,14 @@
 -- Where on its line a fault of a text stands, and what was expected there.
-use Rattle.std.specs.Prelude.{ℕ, ◌+◌, ◌-◌, ◌==◌, Bool, false, List, [], ◌∷◌, ◌++◌, codes, length, slice_index_or, if◌then◌else◌}
-use Rattle.std.specs.Fmt.{decimal}
-use Rattle.std.specs.List.{slice_split, flat_map}
-use Rattle.std.specs.Str.{bytes_eq}
-use Rattle.std.specs.declared.option.Option.{Option}
-use Rattle.std.specs.declared.option.Option.TheVariants.{None, Some}
+use Rattle.std.specs.Prelude.{ℕ, ◌+◌, ◌-◌, ◌==◌, Bool, false, List, [], ◌∷◌, ◌++◌, codes, length, slice_index_or, if◌then◌else◌, Option, None, Some}
+use Rattle.std.specs.{Fmt.decimal, List.slice_split, List.flat_map, Str.bytes_eq}
 use Rattle.script.specs.Lines.{lines_of, before}
-use Rattle.qpu_asm.specs.declared.fault.AsmFault.{AsmFault}
-use Rattle.qpu_asm.specs.declared.fault.Mistake.{Mistake}
-use Rattle.qpu_asm.specs.declared.place.FaultPlace.{FaultPlace}
-use Rattle.qpu_asm.specs.declared.place.Opcode.{Opcode}
 use Rattle.qpu_asm.specs.declared.place.Opcode.TheVariants.{Nop, Alu, Li, Br}
-use Rattle.qpu_asm.specs.declared.place.Wanted.{Wanted}
 use Rattle.qpu_asm.specs.declared.place.Wanted.TheVariants.{FirstWord, LabelLine, NewLabel, Equals, Item, Order, Number, Operation, Target}
-use Rattle.qpu_asm.specs.Table.{Named, Row, Kind, alu_rows, load_imm_rows, branch_rows}
-use Rattle.qpu_asm.specs.Lines.{is_full, Line, Blank, Label, BadLabel, Coded, read_line}
-use Rattle.qpu_asm.specs.Items.{Spots, mistake_number, is_row, has_row, has_value, kind_named}
-use Rattle.qpu_asm.specs.Labels.{spots_of}
-use Rattle.qpu_asm.specs.Faults.{rows_after, item_mistakes}
+use Rattle.qpu_asm.specs.{declared.fault.AsmFault.AsmFault, declared.fault.Mistake.Mistake, declared.place.FaultPlace.FaultPlace}
+use Rattle.qpu_asm.specs.{declared.place.Opcode.Opcode, declared.place.Wanted.Wanted, Labels.spots_of, Table.Named, Table.Row, Table.Kind}
+use Rattle.qpu_asm.specs.{Table.alu_rows, Table.load_imm_rows, Table.branch_rows, Lines.is_full, Lines.Line, Lines.Blank, Lines.Label}
+use Rattle.qpu_asm.specs.{Lines.BadLabel, Lines.Coded, Lines.read_line, Items.Spots, Items.mistake_number, Items.is_row, Items.has_row}
+use Rattle.qpu_asm.specs.{Items.has_value, Items.kind_named, Faults.rows_after, Faults.item_mistakes}
 
 -- a word of a line, and the column of its first byte; columns count bytes from 1
 pub record Word : Type 0 where

@@ -1,11 +1,6 @@
 -- The disassembler's text: one line a word.
-use Rattle.std.specs.Prelude.{ℕ, ◌≡◌, ◌<◌, ◌^◌, ◌==◌, List, [], ◌∷◌, ◌++◌, decimal, All, if◌then◌else◌}
-use Rattle.std.specs.declared.option.Option.{Option}
-use Rattle.std.specs.declared.option.Option.TheVariants.{None, Some}
-use Rattle.std.specs.declared.result.Result.TheVariants.{Ok}
-use Rattle.std.specs.List.{flat_map}
-use Rattle.qpu_isa.specs.Word.{sig_of}
-use Rattle.qpu_isa.specs.Inst.{alu_of, load_imm_of, branch_of}
+use Rattle.std.specs.Prelude.{ℕ, ◌≡◌, ◌<◌, ◌^◌, ◌==◌, List, [], ◌∷◌, ◌++◌, decimal, All, if◌then◌else◌, Option, None, Some, Ok, flat_map}
+use Rattle.qpu_isa.specs.{Word.sig_of, Inst.alu_of, Inst.load_imm_of, Inst.branch_of}
 use Rattle.qpu_isa.specs.Fields.{values_of, alu_values, load_imm_values, branch_values}
 use Rattle.qpu_asm.specs.Table.{Named, Row, Kind, widths_of, nop_word, nop_kind, alu_kind, load_imm_kind, branch_kind}
 use Rattle.qpu_asm.specs.Assembly.{Assembled}

@@ -1,22 +1,12 @@
 -- The code's tables as the definitions' tables, and what it has read as the definitions' words.
-use Rattle.std.specs.Prelude.{ℕ, List, map}
-use Rattle.std.specs.declared.option.Option.{Option}
-use Rattle.std.specs.declared.result.Result.{Result}
+use Rattle.std.specs.Prelude.{ℕ, List, map, Option, Result}
 use Rattle.script.specs.declared.lines.Cut.{Cut}
-use Rattle.qpu_asm.specs.declared.fault.AsmFault.{AsmFault}
-use Rattle.qpu_asm.specs.declared.fault.Mistake.{Mistake}
-use Rattle.qpu_asm.specs.declared.lines.Line.{Line}
+use Rattle.qpu_asm.specs.{declared.fault.AsmFault.AsmFault, declared.fault.Mistake.Mistake, declared.lines.Line.Line, Printed.name_of}
+use Rattle.qpu_asm.specs.{declared.label.Mark.Mark, Items.Spots, Items.read_value, Labels.LabelSpot, Labels.spot_among, Walk.line_words}
+use Rattle.qpu_asm.specs.{declared.table.Named.Named, declared.table.Row.Row, declared.table.Kind.Kind}
 use Rattle.qpu_asm.specs.declared.lines.Line.TheVariants as line
-use Rattle.qpu_asm.specs.declared.label.Mark.{Mark}
 use Rattle.qpu_asm.specs.Lines as lines
-use Rattle.qpu_asm.specs.Items.{Spots, read_value}
-use Rattle.qpu_asm.specs.Labels.{LabelSpot, spot_among}
-use Rattle.qpu_asm.specs.declared.table.Named.{Named}
-use Rattle.qpu_asm.specs.declared.table.Row.{Row}
-use Rattle.qpu_asm.specs.declared.table.Kind.{Kind}
 use Rattle.qpu_asm.specs.Table as table
-use Rattle.qpu_asm.specs.Printed.{name_of}
-use Rattle.qpu_asm.specs.Walk.{line_words}
 
 abbrev pub named_seen : Named → table.Named
 named_seen named = record { name = named.name.now; value = named.value }

@@ -1,6 +1,5 @@
 -- The kinds of instructions with the texts of their fields. No part of what the crate claims.
-use Rattle.qpu_asm.specs.declared.sheets.Sheets.{Sheets}
-use Rattle.qpu_asm.specs.Table.{nop_kind, alu_kind, load_imm_kind, branch_kind}
+use Rattle.qpu_asm.specs.{declared.sheets.Sheets.Sheets, Table.nop_kind, Table.alu_kind, Table.load_imm_kind, Table.branch_kind}
 
 -- a sheet of each kind
 abbrev pub all_sheets : Sheets

@@ -1,22 +1,14 @@
 -- What the assembler has read after each item and each line: the word so far, or the least fault so far. No part of what the
 -- crate claims.
-use Rattle.std.specs.Prelude.{ℕ, ◌+◌, ◌*◌, ◌^◌, ◌≤◌, ◌<◌, ◌≡◌, ◌==◌, Bool, true, not, ◌&&◌, ◌||◌, nat_lt, nat_le, List, [], ◌∷◌, ◌++◌, length, take, slice_index_or, if◌then◌else◌}
+use Rattle.std.specs.Prelude.{ℕ, ◌+◌, ◌*◌, ◌^◌, ◌≤◌, ◌<◌, ◌≡◌, ◌==◌, Bool, true, not, ◌&&◌, ◌||◌, nat_lt, nat_le, List, [], ◌∷◌, ◌++◌, length, take, slice_index_or, if◌then◌else◌, Option, Result, None, Some, Ok, Err}
 use Rattle.std.specs.List.{list_all}
-use Rattle.std.specs.declared.option.Option.{Option}
-use Rattle.std.specs.declared.option.Option.TheVariants.{None, Some}
-use Rattle.std.specs.declared.result.Result.{Result}
-use Rattle.std.specs.declared.result.Result.TheVariants.{Ok, Err}
 use Rattle.qpu_isa.specs.Fields.{joined, width_of}
 use Rattle.script.specs.Lines.{before, behind}
-use Rattle.qpu_asm.specs.declared.fault.AsmFault.{AsmFault}
-use Rattle.qpu_asm.specs.declared.fault.Mistake.{Mistake}
 use Rattle.qpu_asm.specs.declared.fault.Mistake.TheVariants.{UnknownWord, BadOperand, LabelTwice}
-use Rattle.qpu_asm.specs.Table.{Row, Kind, fallbacks_of, widths_of}
-use Rattle.qpu_asm.specs.Lines.{Line, Blank, Label, BadLabel, Coded}
 use Rattle.qpu_asm.specs.Items.{Spots, mistake_number, read_value, is_row, has_row, has_value, kind_named}
-use Rattle.qpu_asm.specs.Labels.{is_before}
-use Rattle.qpu_asm.specs.Faults.{fault_on}
-use Rattle.qpu_asm.specs.Printed.{item_text}
+use Rattle.qpu_asm.specs.{declared.fault.AsmFault.AsmFault, declared.fault.Mistake.Mistake, Labels.is_before, Faults.fault_on}
+use Rattle.qpu_asm.specs.{Table.Row, Table.Kind, Table.fallbacks_of, Table.widths_of, Printed.item_text}
+use Rattle.qpu_asm.specs.Lines.{Line, Blank, Label, BadLabel, Coded}
 
 -- the one with the lesser number, where there is another
 abbrev pub least_of : Mistake → Option Mistake → Mistake

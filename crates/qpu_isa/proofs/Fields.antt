@@ -1,7 +1,6 @@
 -- The fields of a word, joined, give the word again.
 use Rattle.std.proofs.Common.{◌≡◌, ℕ, ◌+◌, ◌*◌, ◌/◌, ◌%◌, ◌^◌, List, [], ◌∷◌, sym, ◌∙◌, ap, arith}
-use Rattle.std.proofs.Math.Nat.{div-one, div-div-eq-div-mul, div-add-mod}
-use Rattle.std.proofs.lemmas.Nat.{pow-add}
+use Rattle.std.proofs.{Math.Nat.div-one, Math.Nat.div-div-eq-div-mul, Math.Nat.div-add-mod, lemmas.Nat.pow-add}
 use Rattle.qpu_isa.specs.Fields.{width_of, values_of, joined}
 
 -- a quotient is the quotient above it, and the field between them

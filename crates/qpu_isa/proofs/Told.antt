@@ -2,16 +2,13 @@
 use Rattle.std.proofs.Common.{◌≡◌, ℕ, ◌<◌, ◌^◌, inl, inr, refl, ap, arith, Bool, true, false, not, ◌==◌, ◌&&◌, ◌||◌, nat_lt, nat_le, if◌then◌else◌}
 use Rattle.std.proofs.lemmas.Bool.Decides.{nat_tests}
 use Rattle.std.proofs.lemmas.Bool.{eqb-true, cases_Bool, leb-true, leb-false}
-use Rattle.std.specs.declared.option.Option.{Option}
-use Rattle.std.specs.declared.option.Option.TheVariants.{None, Some}
-use Rattle.qpu_isa.specs.declared.inst.Inst.{Inst}
-use Rattle.qpu_isa.specs.declared.inst.Inst.TheVariants as kind
-use Rattle.qpu_isa.specs.declared.inst.Reg.{Reg}
-use Rattle.qpu_isa.specs.declared.inst.Reg.TheVariants.{A, B, Acc}
-use Rattle.qpu_isa.specs.Word.{imm_of, sig_of, ws_of, waddr_add_of, waddr_mul_of}
-use Rattle.qpu_isa.specs.Inst.{alu_of, load_imm_of, branch_of, inst_of}
+use Rattle.std.specs.{declared.option.Option.Option, declared.option.Option.TheVariants.None, declared.option.Option.TheVariants.Some}
 use Rattle.qpu_isa.specs.Terms.{reads_uniform_of, is_alu, is_branch, has_small, names, add_names_reg, mul_names_reg, add_names, mul_names, is_tmu_address, add_writes_tmu, mul_writes_tmu, first_tmu, target_of}
 use Rattle.qpu_isa.specs.Told.{takes_uniform, names_written, is_named, tmu_written, tmu_at, first_given, TermsAgree, TargetsAreSums}
+use Rattle.qpu_isa.specs.{declared.inst.Inst.Inst, declared.inst.Reg.Reg, Inst.alu_of, Inst.load_imm_of, Inst.branch_of, Inst.inst_of}
+use Rattle.qpu_isa.specs.declared.inst.Reg.TheVariants.{A, B, Acc}
+use Rattle.qpu_isa.specs.Word.{imm_of, sig_of, ws_of, waddr_add_of, waddr_mul_of}
+use Rattle.qpu_isa.specs.declared.inst.Inst.TheVariants as kind
 
 -- the instruction that a word is, by the two tests of its signal
 chosen : ℕ → Bool → Bool → Inst

@@ -1,14 +1,11 @@
 -- Each word is the word of its fields.
 use Rattle.std.proofs.Common.{◌≡◌, ℕ, ◌/◌, ◌%◌, ◌^◌, ◌<◌, refl, sym, ◌∙◌, ap, arith, Bool, true, false, ◌==◌, if◌then◌else◌, eqb-true}
-use Rattle.std.proofs.lemmas.Bool.Decides.{nat_tests}
-use Rattle.std.proofs.Math.Nat.{div-eq_of_lt}
-use Rattle.qpu_isa.specs.declared.inst.Alu.{Alu}
-use Rattle.qpu_isa.specs.declared.inst.LoadImm.{LoadImm}
-use Rattle.qpu_isa.specs.declared.inst.Branch.{Branch}
+use Rattle.std.proofs.{lemmas.Bool.Decides.nat_tests, Math.Nat.div-eq_of_lt}
 use Rattle.qpu_isa.specs.Word.{sig_of, unpack_of, pm_of, pack_of, cond_add_of, cond_mul_of, sf_of, ws_of, waddr_add_of, waddr_mul_of, op_mul_of, op_add_of, raddr_a_of, raddr_b_of, add_a_of, add_b_of, mul_a_of, mul_b_of, mode_of, imm_of, spare_of, cond_of, relative_of, register_of, raddr_of}
-use Rattle.qpu_isa.specs.declared.inst.Inst.TheVariants as kind
 use Rattle.qpu_isa.specs.Inst.{WordsReturn, alu_of, load_imm_of, branch_of, inst_of, word_of, alu_word, load_imm_word, branch_word, bit}
 use Rattle.qpu_isa.specs.Fields.{width_of, values_of, joined, alu_widths, load_imm_widths, branch_widths, alu_values, load_imm_values, branch_values}
+use Rattle.qpu_isa.specs.{declared.inst.Alu.Alu, declared.inst.LoadImm.LoadImm, declared.inst.Branch.Branch}
+use Rattle.qpu_isa.specs.declared.inst.Inst.TheVariants as kind
 use Rattle.qpu_isa.proofs.Fields.{joined-values_of}
 
 pub alu_word-joined : (alu : Alu) → alu_word alu ≡ joined 0 alu_widths (alu_values alu)

@@ -1,9 +1,6 @@
 -- A word as a row of fields without gaps, from the highest bit down: only the widths matter.
 use Rattle.std.specs.Prelude.{ℕ, ◌+◌, ◌*◌, ◌/◌, ◌%◌, ◌^◌, List, [], ◌∷◌}
-use Rattle.qpu_isa.specs.declared.inst.Alu.{Alu}
-use Rattle.qpu_isa.specs.declared.inst.LoadImm.{LoadImm}
-use Rattle.qpu_isa.specs.declared.inst.Branch.{Branch}
-use Rattle.qpu_isa.specs.Inst.{bit}
+use Rattle.qpu_isa.specs.{declared.inst.Alu.Alu, declared.inst.LoadImm.LoadImm, declared.inst.Branch.Branch, Inst.bit}
 
 -- how many bits fields of these widths take
 unfoldable pub width_of : List ℕ → ℕ

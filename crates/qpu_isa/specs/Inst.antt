@@ -1,11 +1,8 @@
 -- Instructions and words: which fields a word has, and which word has these fields.
 use Rattle.std.specs.Prelude.{ℕ, ◌+◌, ◌*◌, ◌^◌, ◌<◌, ◌≡◌, ◌==◌, Bool, if◌then◌else◌}
-use Rattle.qpu_isa.specs.declared.inst.Alu.{Alu}
-use Rattle.qpu_isa.specs.declared.inst.LoadImm.{LoadImm}
-use Rattle.qpu_isa.specs.declared.inst.Branch.{Branch}
-use Rattle.qpu_isa.specs.declared.inst.Inst.{Inst}
-use Rattle.qpu_isa.specs.declared.inst.Inst.TheVariants as kind
 use Rattle.qpu_isa.specs.Word.{sig_of, unpack_of, pm_of, pack_of, cond_add_of, cond_mul_of, sf_of, ws_of, waddr_add_of, waddr_mul_of, op_mul_of, op_add_of, raddr_a_of, raddr_b_of, add_a_of, add_b_of, mul_a_of, mul_b_of, mode_of, imm_of, spare_of, cond_of, relative_of, register_of, raddr_of}
+use Rattle.qpu_isa.specs.{declared.inst.Alu.Alu, declared.inst.LoadImm.LoadImm, declared.inst.Branch.Branch, declared.inst.Inst.Inst}
+use Rattle.qpu_isa.specs.declared.inst.Inst.TheVariants as kind
 
 -- the fields of a word, by its signal
 unfoldable pub alu_of : ℕ → Alu

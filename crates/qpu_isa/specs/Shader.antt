@@ -1,8 +1,7 @@
 -- What is known of a shader: how many uniforms it takes, where its samples' set-up words and its
 -- address words stand among them, and whether it switches threads.
 use Rattle.std.specs.Prelude.{◌≡◌, ℕ, ◌<◌, ◌≤◌, Bool, false, List, [], length, is_some, true, Option, Some, None, slice_index, slice_index_or}
-use Rattle.qpu_isa.specs.declared.inst.Sample.{Sample}
-use Rattle.qpu_isa.specs.declared.inst.ShaderInfo.{ShaderInfo}
+use Rattle.qpu_isa.specs.{declared.inst.Sample.Sample, declared.inst.ShaderInfo.ShaderInfo}
 
 -- a shader's info, its vectors as lists
 pub record ShaderModel : Type 0 where

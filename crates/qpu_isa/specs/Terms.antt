@@ -1,10 +1,8 @@
 -- What the rules on shaders and the machine say of one instruction, each a test or a number of its word.
-use Rattle.std.specs.Prelude.{ℕ, ◌+◌, ◌*◌, ◌/◌, ◌%◌, ◌^◌, ◌==◌, Bool, true, false, not, ◌&&◌, ◌||◌, nat_lt, nat_le, if◌then◌else◌}
-use Rattle.std.specs.declared.option.Option.{Option}
-use Rattle.std.specs.declared.option.Option.TheVariants.{None, Some}
+use Rattle.std.specs.Prelude.{ℕ, ◌+◌, ◌*◌, ◌/◌, ◌%◌, ◌^◌, ◌==◌, Bool, true, false, not, ◌&&◌, ◌||◌, nat_lt, nat_le, if◌then◌else◌, Option, None, Some}
+use Rattle.qpu_isa.specs.Word.{sig_of, unpack_of, pm_of, pack_of, cond_add_of, cond_mul_of, ws_of, waddr_add_of, waddr_mul_of, op_add_of, raddr_a_of, raddr_b_of, add_a_of, add_b_of, mode_of, imm_of}
 use Rattle.qpu_isa.specs.declared.inst.Reg.{Reg}
 use Rattle.qpu_isa.specs.declared.inst.Reg.TheVariants.{A, B, Acc}
-use Rattle.qpu_isa.specs.Word.{sig_of, unpack_of, pm_of, pack_of, cond_add_of, cond_mul_of, ws_of, waddr_add_of, waddr_mul_of, op_add_of, raddr_a_of, raddr_b_of, add_a_of, add_b_of, mode_of, imm_of}
 
 -- the kinds of instructions by their signals
 unfoldable pub is_alu : ℕ → Bool

@@ -1,14 +1,9 @@
 -- What the calls tell of an instruction: whether it takes a uniform, which TMU it writes, which registers it names.
-use Rattle.std.specs.Prelude.{ℕ, ◌+◌, ◌/◌, ◌^◌, ◌≡◌, ◌<◌, ◌==◌, ◌↔◌, Bool, false, not, ◌&&◌, ◌||◌, nat_lt, nat_le, if◌then◌else◌}
-use Rattle.std.specs.declared.option.Option.{Option}
-use Rattle.std.specs.declared.option.Option.TheVariants.{None, Some}
-use Rattle.qpu_isa.specs.declared.inst.Inst.{Inst}
-use Rattle.qpu_isa.specs.Inst.{inst_of}
-use Rattle.qpu_isa.specs.Word.{imm_of}
+use Rattle.std.specs.Prelude.{ℕ, ◌+◌, ◌/◌, ◌^◌, ◌≡◌, ◌<◌, ◌==◌, ◌↔◌, Bool, false, not, ◌&&◌, ◌||◌, nat_lt, nat_le, if◌then◌else◌, Option, None, Some}
+use Rattle.qpu_isa.specs.{declared.inst.Inst.Inst, Inst.inst_of, Word.imm_of, declared.inst.Reg.Reg}
 use Rattle.qpu_isa.specs.Terms.{reads_uniform_of, names, first_tmu, target_of}
-use Rattle.qpu_isa.specs.declared.inst.Inst.TheVariants as kind
-use Rattle.qpu_isa.specs.declared.inst.Reg.{Reg}
 use Rattle.qpu_isa.specs.declared.inst.Reg.TheVariants.{A, B, Acc}
+use Rattle.qpu_isa.specs.declared.inst.Inst.TheVariants as kind
 
 -- An ALU instruction reads a uniform by address 32; with signal 13 the read of file B is a value.
 unfoldable pub takes_uniform : Inst → Bool

@@ -1,7 +1,7 @@
 -- From the lists of an emitted stream to the instructions.
 use Rattle.std.proofs.Common.{◌≡◌, ◌<◌, inl, inr, ℕ, zero, suc, Bool, true, if◌then◌else◌, List, [], ◌∷◌, map, length, sym, ap, subst, arith, ◌∙◌}
-use Rattle.std.specs.Prelude.{slice_index, slice_index_or}
 use Rattle.std.proofs.lemmas.Bool.{cases_eq}
+use Rattle.std.specs.Prelude.{slice_index, slice_index_or}
 use Rattle.shader_flow.specs.{Bounded.indexes, Flow.checked_of, Pending.count_of}
 use Rattle.uniform_stream.specs.Stream.{writes_address, is_open, address_words_of}
 use Rattle.shader_check.specs.Info.{is_sample, sample_of, samples_of}

@@ -1,24 +1,24 @@
 -- Where a thread goes, and what its marks say then.
 use Rattle.std.proofs.Common.{◌≡◌, ◌<◌, ◌≤◌, ℕ, ◌+◌, false, List, length, arith, refl, inl, inr, ◌-◌, Bool, ◌&&◌, ◌||◌, sym, ap, ◌∙◌, ◌≢◌, ◌⊎◌, zero, suc, ◌*◌, ◌/◌, ◌%◌, ◌^◌, true, ◌==◌, not, [], ◌∷◌, Option, Some, None, subst, nat_lt, nat_le, if◌then◌else◌}
+use Rattle.std.proofs.lemmas.Bool.{or_from, or_parts, le-leb, and_from, or_left, or_right, or_cases, cases_Bool, eqb-true, false_from_ne_true, true≢false, not-false, not_from_false, and_parts, lt-ltb, not_from_true}
+use Rattle.std.proofs.lemmas.{Grind.common_steps, Bool.Decides.nat_tests}
 use Rattle.field_words.specs.Questions.{each, answered}
 use Rattle.field_words.proofs.{Questions.none_stands, Nones.front_none, Nones.rest_none, Nones.each_none, Nones.none_answered}
 use Rattle.shader_flow.specs.Flow.{end_of, checked_of, word, in_slots, after_switch, is_target, makes_target, is_sound_branch, leads_outside, is_threaded}
 use Rattle.shader_flow.specs.Rules.{s3, s4, s5, s6, s7, s8, s9, s10, s11, s12, s13, s27}
+use Rattle.shader_flow.specs.{Bounded.is_back, Bounded.some_below, Pending.takes}
 use Rattle.uniform_stream.specs.Rules.{s14, s15, s17, s18, s19, s20, s21, s22, s23, s25, after_address_write, is_full}
 use Rattle.shader_check.specs.Rules.{s2, s16, s24, s26, index_questions, questions_at, fault_at, whole_questions, shader_questions, uses_upper}
 use Rattle.qpu_law.specs.Home.{HasNoFault, readied, done, Home, IsQuiet, MarkIs, IsAt, IsExact, IsRoot, IsBlank, GoesTo, StaysInCode, ArePending, NeverWild}
 use Rattle.std.specs.Prelude.{unwrap_or}
+use Rattle.qpu_isa.specs.Terms.{is_branch, is_switch, is_address_write, is_end, target_of, reads_upper, names_upper}
 use Rattle.qpu_isa.specs.{Setups.kept, Word.cond_add_of, Word.cond_mul_of, Word.imm_of, Word.cond_of, Word.relative_of, Word.register_of}
+use Rattle.qpu_machine.specs.Writes.{awake, written_at, added, multiplied, written, stored, loaded, went_on, worked, led_to, fate_of, rested, asked, pointer_after, add_address, mul_address}
+use Rattle.qpu_machine.specs.declared.state.Fate.TheVariants.{Ends, Switches, GoesOn}
 use Rattle.qpu_machine.specs.declared.state.{Thread.Thread, Mark.Mark}
 use Rattle.qpu_machine.specs.{Operands.add_row, Operands.mul_row, Row.mask_of, Step.executed_with, Step.executed}
-use Rattle.qpu_machine.specs.Writes.{awake, written_at, added, multiplied, written, stored, loaded, went_on, worked, led_to, fate_of, rested, asked, pointer_after, add_address, mul_address}
-use Rattle.std.proofs.lemmas.Bool.{or_from, or_parts, le-leb, and_from, or_left, or_right, or_cases, cases_Bool, eqb-true, false_from_ne_true, true≢false, not-false, not_from_false, and_parts, lt-ltb, not_from_true}
-use Rattle.qpu_isa.specs.Terms.{is_branch, is_switch, is_address_write, is_end, target_of, reads_upper, names_upper}
-use Rattle.shader_flow.specs.{Bounded.is_back, Bounded.some_below, Pending.takes}
-use Rattle.std.proofs.lemmas.{Grind.common_steps, Bool.Decides.nat_tests}
 use Rattle.shader_flow.proofs.Bounded.{some_below_here, some_below_found, some_below_not}
 use Rattle.machine_plan.specs.Choice.{word_at}
-use Rattle.qpu_machine.specs.declared.state.Fate.TheVariants.{Ends, Switches, GoesOn}
 use Rattle.qpu_machine.specs.Wild as wild
 
 -- What no rule's standing says of a checked instruction.

@@ -1,11 +1,11 @@
 -- A step of a thread keeps what is known of it.
 use Rattle.std.proofs.Common.{◌≡◌, ◌<◌, ◌≤◌, inl, inr, ℕ, zero, suc, ◌+◌, ◌-◌, ◌%◌, ◌^◌, Bool, true, false, ◌&&◌, ◌||◌, ◌==◌, not, Option, Some, None, List, [], ◌∷◌, ◌++◌, map, length, refl, sym, ap, subst, arith, ◌∙◌, nat_lt, if◌then◌else◌, ◌≢◌, ◌⊎◌, ◌*◌}
-use Rattle.std.specs.{Prelude.slice_index, Prelude.slice_get, Prelude.unwrap_or, Int.from_le_bytes, Int.w64}
-use Rattle.std.proofs.lemmas.{List.map-append, Grind.common_steps, Bool.Decides.nat_tests}
 use Rattle.std.proofs.lemmas.Bool.{and_from, and_right, or_from, or_cases, or_left, or_right, or_parts, lt-ltb, true≢false, and_parts, not-true}
+use Rattle.std.proofs.lemmas.{List.map-append, Grind.common_steps, Bool.Decides.nat_tests}
+use Rattle.std.specs.{Prelude.slice_index, Prelude.slice_get, Prelude.unwrap_or, Int.from_le_bytes, Int.w64}
 use Rattle.field_words.specs.{Questions.first_of, Words.u32_at}
-use Rattle.qpu_isa.specs.{declared.inst.Reg.Reg, Word.add_a_of, Word.add_b_of, Word.op_add_of}
 use Rattle.qpu_isa.specs.Terms.{writes_s, s_address, names_address, add_names, mul_names, is_add_with_uniform, is_add_packed, first_register, has_small, is_load_imm, is_alu, is_uniform_operand, passes, is_address_write, operand_register}
+use Rattle.qpu_isa.specs.{declared.inst.Reg.Reg, Word.add_a_of, Word.add_b_of, Word.op_add_of}
 use Rattle.qpu_isa.specs.Setups.{is_direct, adds_direct, muls_direct}
 use Rattle.shader_flow.specs.{Flow.word, Flow.checked_of, Flow.end_of, Pending.count_of, Pending.pending_of, Pending.takes}
 use Rattle.clamp_facts.specs.Facts.{is_clamped, is_immediate}
@@ -14,15 +14,18 @@ use Rattle.shader_check.specs.Info.{held, asks, is_sample, sample_tmu, is_direct
 use Rattle.shader_check.specs.Rules.{s24, direct_by_add, direct_by_mul, is_clamped_write, is_exact_address_write, has_quiet_signal, adds_address}
 use Rattle.shader_check.proofs.{Clean.clean, Parts.directs, Positions.clamp_parts_one, Setups.sets_one, Setups.s_writes}
 use Rattle.shader_check.proofs.Roles.{direct_parts, reads_takes, sets_takes, sum_parts, passed}
+use Rattle.shader_check.proofs.SoundInfo.{address_takes, count_total, total_le}
 use Rattle.emitted_facts.specs.Facts.{word_or_zero, setup}
 use Rattle.machine_plan.specs.Regions.{Interval, Every, LiesIn, Inside, Rights, IsSafeIn}
 use Rattle.machine_plan.specs.{Choice.word_at, Memory.bytes_at, declared.who.Who.Who}
+use Rattle.machine_plan.specs.Plan.{Plan, Done, Wilds, Reads, Keeps}
 use Rattle.texture_layouts.specs.Fits.{texture_questions}
 use Rattle.qpu_alu.specs.Operation.{add_result_of}
 use Rattle.qpu_machine.specs.declared.state.{Ask.TheVariants.Direct, Ask.TheVariants.Texture, Asked.Asked, Thread.Thread}
 use Rattle.qpu_machine.specs.Operands.{operand, sums, add_row, mul_row}
 use Rattle.qpu_machine.specs.{Row.lanes, Wild.takes_one, Wild.is_wild, Step.ThreadTurn, Step.executed, Step.word_plan, Step.thread_plan}
 use Rattle.qpu_machine.specs.Writes.{four, ask_of, asked, awake, past_uniform, switches}
+use Rattle.qpu_machine.specs.declared.state.Fate.TheVariants.{Ends, Switches}
 use Rattle.qpu_law.specs.{Asks.IsWordIn, Asks.IsFineAsk, Asks.IsOneOf, Samples.AsksAreFine, Facts.FactsHold}
 use Rattle.qpu_law.specs.Home.{Home, readied, HasNoFault, IsAt, ArePending, Lands, done}
 use Rattle.qpu_law.specs.Stream.{uniform_at, held_words, AreSetups}
@@ -32,9 +35,6 @@ use Rattle.qpu_law.proofs.Values.{carried_operand, first_is, sum_lane, alu_loads
 use Rattle.qpu_law.proofs.Pointer.{are_pending, IsPast, uniform_is, exact_at, added_at, pointer_goes, setups_on, setups_jump}
 use Rattle.shader_flow.proofs.Ends.{checked_of-le}
 use Rattle.uniform_stream.specs.Stream.{uniforms_of, writes_address}
-use Rattle.shader_check.proofs.SoundInfo.{address_takes, count_total, total_le}
-use Rattle.machine_plan.specs.Plan.{Plan, Done, Wilds, Reads, Keeps}
-use Rattle.qpu_machine.specs.declared.state.Fate.TheVariants.{Ends, Switches}
 use Rattle.machine_plan.proofs.Safe.{read_safe}
 
 -- What a thread asks for.

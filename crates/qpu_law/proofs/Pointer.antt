@@ -1,28 +1,28 @@
 -- Where a thread's uniform pointer stands.
 use Rattle.std.proofs.Common.{◌≡◌, ◌<◌, ◌≤◌, inl, inr, ◌⊎◌, ℕ, zero, suc, ◌+◌, ◌-◌, Bool, true, false, ◌&&◌, not, List, length, refl, sym, ap, subst, arith, ◌∙◌, nat_lt, ◌==◌, ◌||◌, [], ◌∷◌, ◌++◌, map, if◌then◌else◌, ◌*◌, ◌/◌, ◌%◌, ◌^◌, Some, None}
 use Rattle.std.proofs.lemmas.Bool.{cases_Bool, cases_eq, and_from, and_right, lt-ltb, false_from_ne_true, true≢false, or_from, leb-true, and_parts, not_from_false, or_parts, eqb-true, leb-false, not-true, not-false}
+use Rattle.std.proofs.lemmas.{List.map-append, List.length-map, Grind.common_steps, Bool.Decides.nat_tests}
 use Rattle.qpu_isa.specs.Terms.{is_backward, is_address_write, writes_s, writes_tmu, is_branch, target_of, add_names, mul_names, names_on_a, names_on_b, is_relative_address_write, is_add_packed}
+use Rattle.qpu_isa.specs.Setups.{takes_with, kept}
+use Rattle.qpu_isa.specs.Word.{ws_of, waddr_add_of, waddr_mul_of, cond_add_of, cond_mul_of}
 use Rattle.shader_flow.specs.{Bounded.some_in, Bounded.is_back, Flow.word, Flow.checked_of, Flow.is_target}
 use Rattle.shader_flow.specs.Pending.{count_of, takes, pending_of}
-use Rattle.qpu_isa.specs.Setups.{takes_with, kept}
 use Rattle.shader_flow.proofs.Bounded.{some_below_here, some_below_found, some_in_none, some_in_not}
 use Rattle.shader_flow.proofs.{Counts.count_same, Counts.count_taken, Ends.checked_of-le}
-use Rattle.uniform_stream.specs.Rules.{s19, s25, s15}
 use Rattle.uniform_stream.specs.Stream.{writes_address, is_known, is_restart, is_open, leaves_open, uniforms_of}
+use Rattle.uniform_stream.specs.Rules.{s19, s25, s15}
 use Rattle.uniform_stream.proofs.Restarts.{known_not, known_on}
-use Rattle.shader_check.proofs.{Clean.clean, Held.held_is, Setups.sets_one, Setups.not_sent, Positions.held_next, Roles.sets_takes}
 use Rattle.shader_check.proofs.SoundInfo.{address_takes, address_write_at, IsAddressWord, Written, Open, address_below, count_total, total_le}
-use Rattle.qpu_law.specs.Home.{HasNoFault, Home, ArePending, Jumps, done, Lands, readied}
+use Rattle.shader_check.proofs.{Clean.clean, Held.held_is, Setups.sets_one, Setups.not_sent, Positions.held_next, Roles.sets_takes}
 use Rattle.qpu_law.specs.Stream.{IsAddressCount, TakesNone, GoesForward, uniform_at, held_words, AreSetups, HoldsAddresses, IsStreamLow, IsRight, IsLost, IsOver, PointerIs}
+use Rattle.qpu_law.specs.Home.{HasNoFault, Home, ArePending, Jumps, done, Lands, readied}
 use Rattle.qpu_law.proofs.Going.{fine_at, behind, makes_on, setups0_are, setups1_are, is_went, uniforms_are}
-use Rattle.std.proofs.lemmas.{List.map-append, List.length-map, Grind.common_steps, Bool.Decides.nat_tests}
 use Rattle.shader_check.specs.{Info.held, Rules.s16, Rules.is_exact_address_write, Rules.adds_address}
 use Rattle.qpu_machine.specs.declared.state.{Thread.Thread, Mark.Mark}
-use Rattle.std.specs.Prelude.{slice_index}
-use Rattle.field_words.specs.Sizes.{most_words}
-use Rattle.qpu_isa.specs.Word.{ws_of, waddr_add_of, waddr_mul_of, cond_add_of, cond_mul_of}
 use Rattle.qpu_machine.specs.{Operands.add_row, Operands.mul_row, Row.has_lane, Row.mask_of}
 use Rattle.qpu_machine.specs.Writes.{pointer_after, add_address, mul_address}
+use Rattle.std.specs.Prelude.{slice_index}
+use Rattle.field_words.specs.Sizes.{most_words}
 
 -- Where a thread comes to a target, its count is an address word's, or no more uniforms are taken.
 

@@ -1,19 +1,19 @@
 -- What a TMU reads for a request that is fine.
 use Rattle.std.proofs.Common.{◌≡◌, ◌≤◌, ◌<◌, ℕ, zero, suc, ◌+◌, ◌-◌, ◌*◌, ◌%◌, ◌^◌, ◌&&◌, ◌==◌, Bool, true, false, if◌then◌else◌, List, [], ◌∷◌, ◌++◌, Option, Some, None, inl, inr, refl, sym, ap, subst, arith, nat_lt}
-use Rattle.std.specs.Prelude.{slice_index}
 use Rattle.std.proofs.lemmas.{Bool.or_from, Grind.common_steps, Bool.Decides.nat_tests}
+use Rattle.std.specs.Prelude.{slice_index}
 use Rattle.field_words.specs.{Questions.first_of, Words.u32_at, Words.bits_of}
-use Rattle.field_words.proofs.Questions.{none_stands}
 use Rattle.field_words.specs.declared.access.{Access.Access, Way.TheVariants.Read}
-use Rattle.texture_layouts.specs.{Level.level_side_of, Fits.has_two_strides, Fits.lacks_stride, Fits.is_unlisted, Fits.texture_questions}
+use Rattle.field_words.proofs.Questions.{none_stands}
 use Rattle.texture_layouts.specs.Setup.{TextureModel, texture_of, is_cube_word, kind_of, cube_stride_of, type_of, pixels_of, side_of, faces_of, level_width_of, level_height_of, tiling_at, size_at, size_below}
+use Rattle.texture_layouts.specs.{Level.level_side_of, Fits.has_two_strides, Fits.lacks_stride, Fits.is_unlisted, Fits.texture_questions}
 use Rattle.texture_layouts.specs.Fetch.{fetch_size_of, fetch_reach, place_from, fetch_place_of, AreFetchesIn}
 use Rattle.texture_layouts.proofs.{Inside.in_buffer, Fetches.fetches_in, Moved.texture_moved}
 use Rattle.machine_plan.specs.{declared.who.Who.Who, Choice.word_at, Memory.bytes_at, Plan.Plan, Plan.Wilds, Plan.access, Plan.Keeps}
 use Rattle.machine_plan.specs.Regions.{Every, Interval, LiesIn, Inside, Rights, IsSafeIn}
 use Rattle.machine_plan.proofs.{Safe.read_safe, Worlds.keeps_mapped}
-use Rattle.qpu_machine.specs.declared.state.Ask.{Ask, TheVariants.Direct, TheVariants.Texture}
 use Rattle.qpu_machine.specs.Request.{direct_plan, ask_plan, chosen_level, chosen_face, chosen_x, chosen_y, chosen_place, chosen_length, read_at, texture_reads, is_undefined, texture_plan}
+use Rattle.qpu_machine.specs.declared.state.Ask.{Ask, TheVariants.Direct, TheVariants.Texture}
 use Rattle.qpu_law.specs.Asks.{IsWordIn, IsTextureIn, IsAskIn, IsFineAsk, IsReadIn, IsOneOf, AsksStayIn, FineAsksAreSafe}
 
 -- A direct request reads at each of its addresses.

@@ -1,13 +1,13 @@
 -- A program's start.
 use Rattle.std.proofs.Common.{◌≡◌, ◌<◌, inl, inr, ℕ, List, refl, subst, arith}
-use Rattle.qpu_isa.specs.{Word.sig_of, Word.ws_of, Word.waddr_add_of, Word.waddr_mul_of, Told.IsRegister}
 use Rattle.qpu_isa.specs.Terms.{is_branch, is_switch, is_end, is_address_write, names_on_a, add_names, mul_names}
+use Rattle.qpu_isa.specs.declared.inst.Reg.{Reg, TheVariants.A, TheVariants.B, TheVariants.Acc}
+use Rattle.qpu_isa.specs.{Word.sig_of, Word.ws_of, Word.waddr_add_of, Word.waddr_mul_of, Told.IsRegister}
 use Rattle.shader_flow.specs.Pending.{count_of}
 use Rattle.shader_check.specs.Info.{held}
 use Rattle.qpu_machine.specs.{Start.idle, Start.thread_of, Qpu.with_result, declared.state.Thread.Thread}
 use Rattle.qpu_law.specs.{Home.Home, Home.IsQuiet, Home.IsBlank, Facts.row_of, Facts.IsMade, Facts.Tells, Facts.FactsHold}
 use Rattle.qpu_law.specs.{Stream.PointerIs, Thread.ResultsKeep, Samples.StartsStand}
-use Rattle.qpu_isa.specs.declared.inst.Reg.{Reg, TheVariants.A, TheVariants.B, TheVariants.Acc}
 use Rattle.std.specs.Prelude.{slice_index, Option}
 
 idle_quiet : IsQuiet idle.word

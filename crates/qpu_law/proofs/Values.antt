@@ -1,18 +1,18 @@
 -- What a register holds after an instruction.
 use Rattle.std.proofs.Common.{◌≡◌, ◌≢◌, ◌<◌, inl, inr, ℕ, ◌+◌, ◌-◌, Bool, true, false, ◌&&◌, ◌||◌, ◌==◌, not, Option, List, [], length, refl, sym, ap, arith, ◌∙◌, nat_lt, nat_le, if◌then◌else◌, ◌≤◌, ◌⊎◌, ◌%◌, ◌^◌, Some, None, subst}
-use Rattle.std.specs.Prelude.{slice_index, slice_index_or, slice_set, unwrap_or}
-use Rattle.std.proofs.{Math.Bool.not-not, lemmas.Grind.common_steps, lemmas.Bool.Decides.nat_tests}
 use Rattle.std.proofs.lemmas.Bool.{cases_Bool, and_from, or_parts, eqb-true, eqb-false, lt-ltb, le-leb, agree_below_at, and_parts, not-true, or_cases, true≢false, ltb-true, cases_eq, leb-true, false_from_ne_true, not_from_false}
 use Rattle.std.proofs.lemmas.List.{length-set, get_or-set_same, get_or-set_other, get_or-replicate, FromFn.get_or-map-range_with_len}
+use Rattle.std.proofs.{Math.Bool.not-not, lemmas.Grind.common_steps, lemmas.Bool.Decides.nat_tests}
+use Rattle.std.specs.Prelude.{slice_index, slice_index_or, slice_set, unwrap_or}
 use Rattle.qpu_isa.specs.declared.inst.Reg.{Reg, TheVariants.A, TheVariants.B, TheVariants.Acc}
 use Rattle.qpu_isa.specs.Word.{ws_of, waddr_add_of, waddr_mul_of, cond_add_of, cond_mul_of, raddr_a_of, raddr_b_of, add_a_of, add_b_of, op_add_of}
 use Rattle.qpu_isa.specs.Terms.{is_branch, add_names, mul_names, add_names_reg, mul_names_reg, names, sets_alone, is_add_packed, is_alu, is_load_imm, has_small, is_plain, is_uniform_operand, loaded_value, is_max_with_zero, is_min_with_uniform, is_add_with_uniform, operand_register, is_accumulator, is_end, is_switch, first_register}
 use Rattle.qpu_isa.specs.Told.{IsRegister}
 use Rattle.qpu_machine.specs.declared.state.{Thread.Thread, Fate.TheVariants.GoesOn, Fate.TheVariants.Switches, Fate.TheVariants.Ends}
 use Rattle.qpu_machine.specs.Operands.{add_row, mul_row, read_a, read_b, small_row, operand, immediate_row, sums}
+use Rattle.qpu_machine.specs.Writes.{awake, file_after, acc_after, add_address, mul_address, written_at, added, multiplied, written, stored, loaded, r4_after, went_on, worked, rested, fate_of, switches}
 use Rattle.qpu_machine.specs.Row.{lanes, has_lane, merged, mask_of, chosen_row, chosen_rows, filled}
 use Rattle.qpu_machine.specs.Step.{executed, executed_with}
-use Rattle.qpu_machine.specs.Writes.{awake, file_after, acc_after, add_address, mul_address, written_at, added, multiplied, written, stored, loaded, r4_after, went_on, worked, rested, fate_of, switches}
 use Rattle.qpu_law.specs.{Home.readied, Home.done, Home.Home, Home.IsAt, Stream.uniform_at}
 use Rattle.qpu_law.specs.Facts.{row_of, HasRows, IsMade, Tells, FactsHold}
 use Rattle.qpu_alu.specs.Operation.{add_result_of, signed_min, signed_max}
@@ -21,9 +21,9 @@ use Rattle.machine_plan.specs.Choice.{word_at}
 use Rattle.shader_flow.specs.{Flow.word, Flow.is_target, Flow.checked_of, Bounded.some_in, Pending.takes}
 use Rattle.shader_flow.proofs.Bounded.{some_in_not, some_in_none, some_below_here, some_below_none, some_below_not}
 use Rattle.clamp_facts.specs.Facts.{stays, switches_between, is_delayed, carrier_of, is_max_at, is_not_negative, makes_clamp, made, fact_by, fact_at, is_immediate}
-use Rattle.clamp_facts.proofs.Carriers.{stays_quiet, sets_parts, carried_parts, carrier_found, value_of_made}
-use Rattle.clamp_facts.specs.{declared.fact.Fact.Fact, Upkeep.IsCarrier, Readings.is_value, Readings.value_in}
 use Rattle.clamp_facts.specs.declared.fact.Fact.TheVariants.{Nothing, Immediate, NotNegative, Clamped}
+use Rattle.clamp_facts.specs.{declared.fact.Fact.Fact, Upkeep.IsCarrier, Readings.is_value, Readings.value_in}
+use Rattle.clamp_facts.proofs.Carriers.{stays_quiet, sets_parts, carried_parts, carrier_found, value_of_made}
 use Rattle.shader_check.proofs.Roles.{reads_takes, min_parts, passed}
 
 pub lane_at : (f : ℕ → ℕ) (e : ℕ) → e < 16 → slice_index (lanes f) e ≡ f e

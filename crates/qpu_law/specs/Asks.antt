@@ -2,15 +2,11 @@
 --
 -- IsNamed says which intervals of memory (place and size) are data that the job may read.
 use Rattle.std.specs.Prelude.{◌≡◌, ℕ, ◌+◌, ◌-◌, ◌%◌, ◌<◌, ◌^◌, ◌⊎◌, List, [], ◌∷◌, None, slice_index}
-use Rattle.field_words.specs.Questions.{first_of}
-use Rattle.field_words.specs.declared.access.Access.{Access}
-use Rattle.field_words.specs.declared.access.Way.TheVariants.{Read}
+use Rattle.field_words.specs.{Questions.first_of, declared.access.Access.Access, declared.access.Way.TheVariants.Read}
 use Rattle.texture_layouts.specs.Fits.{texture_questions}
-use Rattle.machine_plan.specs.declared.who.Who.{Who}
-use Rattle.machine_plan.specs.Plan.{Keeps}
+use Rattle.machine_plan.specs.{declared.who.Who.Who, Plan.Keeps}
 use Rattle.machine_plan.specs.Regions.{Every, Interval, LiesIn, Inside, Rights, IsSafeIn}
-use Rattle.qpu_machine.specs.declared.state.Ask.{Ask}
-use Rattle.qpu_machine.specs.declared.state.Ask.TheVariants.{Direct, Texture}
+use Rattle.qpu_machine.specs.{declared.state.Ask.Ask, declared.state.Ask.TheVariants.Direct, declared.state.Ask.TheVariants.Texture}
 use Rattle.qpu_machine.specs.Request.{ask_plan}
 
 -- the word that an address stands in lies in the interval

@@ -1,14 +1,11 @@
 -- What is known of a thread's registers.
 use Rattle.std.specs.Prelude.{◌≡◌, ◌≤◌, ◌<◌, ℕ, ◌^◌, true, false, length, Some, slice_index, slice_index_or, List, []}
-use Rattle.qpu_isa.specs.declared.inst.Reg.{Reg}
+use Rattle.qpu_isa.specs.{declared.inst.Reg.Reg, Terms.is_accumulator, Terms.loaded_value, Terms.is_max_with_zero, Told.IsRegister}
 use Rattle.qpu_isa.specs.declared.inst.Reg.TheVariants.{A, B, Acc}
-use Rattle.qpu_isa.specs.Terms.{is_accumulator, loaded_value, is_max_with_zero}
-use Rattle.qpu_isa.specs.Told.{IsRegister}
 use Rattle.shader_flow.specs.Flow.{word}
 use Rattle.clamp_facts.specs.Facts.{sets, stays, makes_clamp}
 use Rattle.qpu_machine.specs.declared.state.Thread.{Thread}
-use Rattle.qpu_law.specs.Home.{Home}
-use Rattle.qpu_law.specs.Stream.{uniform_at}
+use Rattle.qpu_law.specs.{Home.Home, Stream.uniform_at}
 
 -- the row of 16 that a register holds
 abbrev pub row_of : Thread → Reg → List ℕ

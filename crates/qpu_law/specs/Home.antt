@@ -1,17 +1,11 @@
 -- What a thread runs, and what is known before each of its instructions.
 use Rattle.std.specs.Prelude.{◌≡◌, ◌≢◌, ◌≤◌, ◌<◌, ℕ, ◌+◌, ◌-◌, ◌*◌, ◌%◌, ◌^◌, ◌⊎◌, true, false, List, length, Some, None}
 use Rattle.field_words.specs.Questions.{first_of}
-use Rattle.qpu_isa.specs.Word.{imm_of}
-use Rattle.qpu_isa.specs.Terms.{is_branch, is_switch, is_end, is_address_write, target_of}
-use Rattle.shader_flow.specs.Flow.{word, end_of, is_target, is_threaded}
-use Rattle.shader_flow.specs.Pending.{pending_of}
+use Rattle.qpu_isa.specs.{Word.imm_of, Terms.is_branch, Terms.is_switch, Terms.is_end, Terms.is_address_write, Terms.target_of}
+use Rattle.shader_flow.specs.{Flow.word, Flow.end_of, Flow.is_target, Flow.is_threaded, Pending.pending_of}
 use Rattle.shader_check.specs.Rules.{shader_questions}
-use Rattle.qpu_machine.specs.declared.state.Mark.{Mark}
-use Rattle.qpu_machine.specs.declared.state.Thread.{Thread}
-use Rattle.qpu_machine.specs.declared.state.Fate.TheVariants.{Ends}
-use Rattle.qpu_machine.specs.Step.{ThreadTurn, executed}
-use Rattle.qpu_machine.specs.Wild.{is_wild}
-use Rattle.qpu_machine.specs.Writes.{awake}
+use Rattle.qpu_machine.specs.{declared.state.Mark.Mark, declared.state.Thread.Thread, declared.state.Fate.TheVariants.Ends, Wild.is_wild}
+use Rattle.qpu_machine.specs.{Step.ThreadTurn, Step.executed, Writes.awake}
 
 -- A shader, where its words stand in memory, its stream of uniforms, and where that stands.
 pub record Home : Type 0 where

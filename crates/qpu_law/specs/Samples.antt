@@ -1,16 +1,10 @@
 -- What a thread asks for: each request is fine.
 use Rattle.std.specs.Prelude.{◌≡◌, ℕ, List, Some, true}
-use Rattle.machine_plan.specs.declared.launch.Launch.{Launch}
-use Rattle.machine_plan.specs.Regions.{Interval}
-use Rattle.shader_flow.specs.Flow.{word, is_threaded}
-use Rattle.qpu_machine.specs.declared.state.Asked.{Asked}
-use Rattle.qpu_machine.specs.declared.state.Thread.{Thread}
-use Rattle.qpu_machine.specs.Start.{thread_of}
-use Rattle.qpu_law.specs.Asks.{IsOneOf, IsFineAsk}
-use Rattle.qpu_law.specs.Home.{Home, done}
-use Rattle.qpu_law.specs.Stream.{uniform_at}
+use Rattle.machine_plan.specs.{declared.launch.Launch.Launch, Regions.Interval}
+use Rattle.shader_flow.specs.{Flow.word, Flow.is_threaded, Pending.takes}
+use Rattle.qpu_machine.specs.{declared.state.Asked.Asked, declared.state.Thread.Thread, Start.thread_of}
+use Rattle.qpu_law.specs.{Asks.IsOneOf, Asks.IsFineAsk, Home.Home, Home.done, Stream.uniform_at}
 use Rattle.qpu_law.specs.Thread.{IsHome, IsThread, HasSamples}
-use Rattle.shader_flow.specs.Pending.{takes}
 
 -- The law that what such a thread asks for is fine, where the instruction took the stream's uniform.
 abbrev pub AsksAreFine : Type 0

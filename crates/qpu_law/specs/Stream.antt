@@ -1,8 +1,7 @@
 -- The uniform stream of a thread: where its pointer stands, and which setup words it keeps.
 use Rattle.std.specs.Prelude.{◌≡◌, ◌≤◌, ◌<◌, ◌⊎◌, ℕ, ◌+◌, ◌*◌, ◌^◌, true, false, List, map, length, Some, slice_index}
 use Rattle.qpu_isa.specs.Terms.{is_backward}
-use Rattle.shader_flow.specs.Flow.{word, checked_of}
-use Rattle.shader_flow.specs.Pending.{count_of, takes}
+use Rattle.shader_flow.specs.{Flow.word, Flow.checked_of, Pending.count_of, Pending.takes}
 use Rattle.uniform_stream.specs.Stream.{writes_address, is_known, is_open, uniforms_of}
 use Rattle.shader_check.specs.Info.{held}
 use Rattle.qpu_machine.specs.declared.state.Thread.{Thread}

@@ -1,25 +1,17 @@
 -- A thread of a job: what is known before each of its instructions, and the law that a step keeps it.
 use Rattle.std.specs.Prelude.{◌≡◌, ◌≢◌, ◌≤◌, ◌<◌, ℕ, ◌+◌, ◌*◌, ◌%◌, ◌^◌, true, List, Option, Some, length, slice_index}
 use Rattle.std.specs.Int.{from_le_bytes, w64}
-use Rattle.field_words.specs.Sizes.{most_words}
-use Rattle.field_words.specs.Words.{u32_at}
+use Rattle.field_words.specs.{Sizes.most_words, Words.u32_at}
 use Rattle.shader_flow.specs.Flow.{word}
 use Rattle.uniform_stream.specs.Stream.{uniforms_of}
-use Rattle.machine_plan.specs.declared.who.Who.{Who}
-use Rattle.machine_plan.specs.Memory.{bytes_at}
-use Rattle.machine_plan.specs.Plan.{Keeps}
+use Rattle.machine_plan.specs.{declared.who.Who.Who, Memory.bytes_at, Plan.Keeps}
 use Rattle.machine_plan.specs.Regions.{Interval, Inside, Rights, IsSafeIn}
-use Rattle.qpu_machine.specs.declared.state.Fate.TheVariants.{Ends, Switches}
-use Rattle.qpu_machine.specs.declared.state.Asked.{Asked}
-use Rattle.qpu_machine.specs.Qpu.{with_result}
+use Rattle.qpu_machine.specs.{declared.state.Fate.TheVariants.Ends, declared.state.Fate.TheVariants.Switches, declared.state.Asked.Asked}
+use Rattle.qpu_machine.specs.{Qpu.with_result, declared.state.Thread.Thread, Step.ThreadTurn, Step.thread_plan}
 use Rattle.emitted_facts.specs.Facts.{IsSampleIn}
 use Rattle.shader_check.specs.Info.{is_sample, sample_of}
-use Rattle.qpu_law.specs.Asks.{IsOneOf, IsFineAsk}
-use Rattle.qpu_machine.specs.declared.state.Thread.{Thread}
-use Rattle.qpu_machine.specs.Step.{ThreadTurn, thread_plan}
-use Rattle.qpu_law.specs.Home.{Home, HasNoFault, IsLow, IsAt}
+use Rattle.qpu_law.specs.{Asks.IsOneOf, Asks.IsFineAsk, Home.Home, Home.HasNoFault, Home.IsLow, Home.IsAt, Facts.HasRows, Facts.FactsHold}
 use Rattle.qpu_law.specs.Stream.{AreSetups, HoldsAddresses, IsStreamLow, PointerIs}
-use Rattle.qpu_law.specs.Facts.{HasRows, FactsHold}
 
 -- A shader in which no rule stands, of at most 8,192 words, and a stream whose address words are its own place, stand in this
 -- memory and in this region.

@@ -1,14 +1,13 @@
 -- The loops that carry out a request.
 use Rattle.std.proofs.Common.{◌≡◌, ◌≤◌, ◌<◌, ℕ, suc, ◌+◌, ◌-◌, ◌%◌, List, [], ◌∷◌, ◌++◌, length, take, drop, slice_index, slice_set, Option, Some, None, Bool, true, false, if◌then◌else◌, refl, sym, ◌∙◌, ap, subst, arith, drop-cons}
-use Rattle.std.proofs.lemmas.List.{take_more_set}
-use Rattle.std.proofs.lemmas.Grind.{common_steps}
+use Rattle.std.proofs.{lemmas.List.take_more_set, lemmas.Grind.common_steps}
 use Rattle.field_words.specs.Words.{u32_at}
+use Rattle.qpu_machine.specs.Request.{direct_plan, chosen_place, chosen_length, read_at, texture_reads, is_undefined, texture_plan}
 use Rattle.qpu_machine.specs.State.{Access, Read, Who, Wild}
 use Rattle.machine_plan.specs.Memory.{bytes_at}
 use Rattle.machine_plan.specs.Plan.{Plan, Done, Wilds, Reads, Outcome, Shows, access, carried}
 use Rattle.machine_plan.proofs.Reading.{IsLeft, left_read, left_done, left_wild}
 use Rattle.texture_layouts.specs.Setup.{TextureModel, texture_of}
-use Rattle.qpu_machine.specs.Request.{direct_plan, chosen_place, chosen_length, read_at, texture_reads, is_undefined, texture_plan}
 
 -- what a direct request has left to do past element e, with what it found before
 abbrev pub DirectLeft : Who → List ℕ → List ℕ → List ℕ → List Access → List Access → ℕ → Type 0

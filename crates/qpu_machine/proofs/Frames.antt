@@ -1,7 +1,7 @@
 -- What the units' writes leave alone.
 use Rattle.std.proofs.Common.{◌≡◌, ℕ, List, refl}
-use Rattle.qpu_machine.specs.State.{Fate, Thread}
 use Rattle.qpu_machine.specs.Writes.{written_at, added, multiplied, written, stored, loaded, awake, past_uniform, rested}
+use Rattle.qpu_machine.specs.State.{Fate, Thread}
 
 -- the writes of the two units touch neither place nor setup words
 pub record Keeps (t next : Thread) : Type 0 where

@@ -1,8 +1,6 @@
 -- Loops that fill a row.
 use Rattle.std.proofs.Common.{◌≡◌, ◌≤◌, ◌<◌, ℕ, ◌+◌, List, length, slice_index, slice_set, ◌∙◌, arith}
-use Rattle.std.proofs.lemmas.List.{length-set}
-use Rattle.std.proofs.lemmas.List.Edits.{fill_by_more}
-use Rattle.std.proofs.lemmas.List.FromFn.{fill_by_all}
+use Rattle.std.proofs.{lemmas.List.length-set, lemmas.List.Edits.fill_by_more, lemmas.List.FromFn.fill_by_all}
 use Rattle.qpu_machine.specs.Row.{lanes}
 
 -- a row of 16 of which the elements below n are f's

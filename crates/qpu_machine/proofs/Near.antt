@@ -4,8 +4,7 @@ use Rattle.std.proofs.lemmas.Grind.{common_steps}
 use Rattle.std.specs.Int.{from_le_bytes, w64}
 use Rattle.qpu_isa.specs.Word.{sig_of}
 use Rattle.machine_plan.specs.Memory.{bytes_at}
-use Rattle.qpu_machine.specs.State.{Leaves, Thread}
-use Rattle.qpu_machine.specs.Wild.{is_signal_wild, is_word_wild, is_wild}
+use Rattle.qpu_machine.specs.{State.Leaves, State.Thread, Wild.is_signal_wild, Wild.is_word_wild, Wild.is_wild}
 
 zero_is_wild : (t : Thread) → is_wild t 0 ≡ true
 unfolding is_wild is_word_wild is_signal_wild sig_of

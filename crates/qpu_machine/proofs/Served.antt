@@ -1,12 +1,11 @@
 -- The step of a TMU: the thread that gets a result has room, and the code's step is the definition's.
 use Rattle.std.proofs.Common.{◌≡◌, ◌≢◌, ◌≤◌, ◌<◌, ℕ, zero, suc, ◌+◌, ◌==◌, not, Bool, true, false, if◌then◌else◌, List, [], ◌∷◌, ◌++◌, drop, length, Option, None, Some, refl, sym, ◌∙◌, ap, subst, arith}
-use Rattle.std.specs.Prelude.{option_map}
 use Rattle.std.proofs.lemmas.Grind.{common_steps}
+use Rattle.std.specs.Prelude.{option_map}
 use Rattle.machine_plan.specs.Plan.{Shows, carried}
 use Rattle.machine_plan.proofs.Worlds.{shows_mapped}
-use Rattle.qpu_machine.specs.State.{Access, Qpu, Request, Thread, Who}
-use Rattle.qpu_machine.specs.Request.{ask_plan}
 use Rattle.qpu_machine.specs.Qpu.{is_of, queued, queue_of, oldest, slot_of, with_result, dropped, given, served, serving, tmu_plan}
+use Rattle.qpu_machine.specs.{State.Access, State.Qpu, State.Request, State.Thread, State.Who, Request.ask_plan}
 use Rattle.qpu_machine.specs.Bounds.{IsNear, finished0, finished1, IsFew, IsBounded}
 use Rattle.qpu_machine.proofs.Settling.{one_if, queued_first}
 

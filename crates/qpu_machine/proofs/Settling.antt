@@ -1,22 +1,17 @@
 -- The step of a processor: its queues have room, and the code's step is the definition's.
 use Rattle.std.proofs.Common.{◌≡◌, ◌≤◌, ◌<◌, ℕ, suc, ◌+◌, ◌==◌, ◌&&◌, ◌||◌, not, nat_le, Bool, true, false, if◌then◌else◌, IsTrue, List, [], ◌∷◌, ◌++◌, length, ◌^◌, Option, None, Some, IfSome, refl, sym, ◌∙◌, ap, subst, arith}
-use Rattle.std.specs.Prelude.{option_map, is_some}
-use Rattle.std.specs.Int.{from_le_bytes, w64}
 use Rattle.std.proofs.lemmas.Grind.{common_steps}
+use Rattle.std.specs.{Prelude.option_map, Prelude.is_some, Int.from_le_bytes, Int.w64}
 use Rattle.arrayvec.specs.ArrayVec.{ArrayVec}
 use Rattle.field_words.specs.Words.{u32_at}
-use Rattle.machine_plan.specs.Memory.{bytes_at}
-use Rattle.machine_plan.specs.Plan.{carried}
-use Rattle.machine_plan.specs.Turn.{CarriesOver, if_tame}
-use Rattle.machine_plan.specs.Glance.{glanced}
+use Rattle.machine_plan.specs.{Memory.bytes_at, Plan.carried, Turn.CarriesOver, Turn.if_tame, Glance.glanced}
 use Rattle.machine_plan.proofs.Worlds.{shows_mapped}
 use Rattle.qpu_isa.specs.Terms.{writes_s}
 use Rattle.qpu_machine.specs.State.{Access, Ask, Asked, Ends, Fate, GoesOn, Leaves, Qpu, Request, Switches, Thread, Who}
-use Rattle.qpu_machine.specs.Operands.{add_row, mul_row}
 use Rattle.qpu_machine.specs.Writes.{awake, past_uniform, written_at, added, multiplied, written, stored, loaded, went_on, worked, rested, results_after, asked, ask_of, loads}
-use Rattle.qpu_machine.specs.Wild.{takes_one, is_wild}
 use Rattle.qpu_machine.specs.Step.{ThreadTurn, turn_of, executed_with, executed, thread_plan, is_held_by, is_held, thread_ready}
 use Rattle.qpu_machine.specs.Qpu.{active_of, job_of_thread, resting_of, is_of, queued, ready_by, qpu_ready, left_by, kept_by, gives_way, woken_slot, queue_with, settled, with_active, left_slot, gives_way_by, asked_by, settled_by, went, stopped, plan_by, qpu_plan, stopped_by, qpu_stopped}
+use Rattle.qpu_machine.specs.{Operands.add_row, Operands.mul_row, Wild.takes_one, Wild.is_wild}
 use Rattle.qpu_machine.specs.Bounds.{IsNear, finished0, finished1, IsFew, IsBounded, SlotSteps}
 use Rattle.qpu_machine.proofs.Shown.{by_tests, plan_is}
 

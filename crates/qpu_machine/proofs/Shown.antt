@@ -2,13 +2,10 @@
 use Rattle.std.proofs.Common.{◌≡◌, ℕ, List, [], ◌∷◌, ◌++◌, Bool, true, false, if◌then◌else◌, Some, None, Option, refl, sym, ◌∙◌, ap, subst, append-nil}
 use Rattle.std.specs.Int.{from_le_bytes, w64}
 use Rattle.field_words.specs.Words.{u32_at}
-use Rattle.machine_plan.specs.Memory.{bytes_at}
-use Rattle.machine_plan.specs.Plan.{Plan, Done, Wilds, Reads, Shows, access, carried}
+use Rattle.machine_plan.specs.{Memory.bytes_at, Plan.Plan, Plan.Done, Plan.Wilds, Plan.Reads, Plan.Shows, Plan.access, Plan.carried}
 use Rattle.machine_plan.proofs.Reading.{shows_read}
-use Rattle.qpu_machine.specs.State.{Access, Read, Thread, Who, Wild}
-use Rattle.qpu_machine.specs.Writes.{awake, past_uniform}
-use Rattle.qpu_machine.specs.Wild.{takes_one, is_wild}
-use Rattle.qpu_machine.specs.Step.{ThreadTurn, executed, word_plan, thread_plan}
+use Rattle.qpu_machine.specs.{State.Access, State.Read, State.Thread, State.Who, State.Wild, Writes.awake, Writes.past_uniform}
+use Rattle.qpu_machine.specs.{Wild.takes_one, Wild.is_wild, Step.ThreadTurn, Step.executed, Step.word_plan, Step.thread_plan}
 
 -- the plan of an instruction by the two tests
 abbrev pub by_tests : Bool → Bool → Thread → ℕ → List ℕ → Plan ThreadTurn

@@ -1,12 +1,9 @@
 -- Where a program starts.
 use Rattle.std.proofs.Common.{◌≡◌, ◌≢◌, ◌≤◌, ◌<◌, ℕ, suc, ◌+◌, ◌-◌, ◌==◌, ◌&&◌, eqb, Bool, true, false, if◌then◌else◌, ◌⊎◌, inl, inr, List, [], ◌∷◌, length, slice_index_or, slice_set, Option, None, Some, refl, sym, ◌∙◌, ap, subst, arith, ◌^◌}
-use Rattle.std.proofs.lemmas.Grind.{common_steps}
-use Rattle.std.proofs.lemmas.List.{get_or-set_same, get_or-set_other, length-set}
-use Rattle.std.proofs.lemmas.Bool.{and_parts}
-use Rattle.std.proofs.lemmas.Bool.Decides.{eqb_tells}
-use Rattle.qpu_machine.specs.State.{Launch, Qpu, Slot, Thread}
-use Rattle.qpu_machine.specs.Start.{thread_of}
+use Rattle.std.proofs.{lemmas.Grind.common_steps, lemmas.List.get_or-set_same, lemmas.List.get_or-set_other, lemmas.List.length-set}
+use Rattle.std.proofs.{lemmas.Bool.and_parts, lemmas.Bool.Decides.eqb_tells}
 use Rattle.qpu_machine.specs.Qpu.{queued, has_none, takes_first, takes_other, in_first, in_other, in_slot, started_in, launched, slot_from, idle_qpu}
+use Rattle.qpu_machine.specs.{State.Launch, State.Qpu, State.Slot, State.Thread, Start.thread_of}
 use Rattle.qpu_machine.specs.Bounds.{IsNear, IsFew, IsBounded, AreBounded}
 
 -- the search goes on past a processor that takes nothing

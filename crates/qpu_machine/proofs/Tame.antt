@@ -2,8 +2,7 @@
 use Rattle.std.proofs.Common.{◌≡◌, ◌<◌, ℕ, ◌&&◌, ◌||◌, Bool, nat_le, true, false, length, arith}
 use Rattle.std.proofs.lemmas.Grind.{common_steps}
 use Rattle.qpu_isa.specs.Terms.{writes_tmu}
-use Rattle.qpu_machine.specs.State.{Thread}
-use Rattle.qpu_machine.specs.Wild.{is_setup_wild, is_use_wild, is_wild}
+use Rattle.qpu_machine.specs.{State.Thread, Wild.is_setup_wild, Wild.is_use_wild, Wild.is_wild}
 
 below_four : (one other : Bool) (n m : ℕ) → ((one && nat_le 4 n) || (other && nat_le 4 m)) ≡ false → one ≡ true → n < 4
 below_four one other n m none writes = grind (arith, common_steps, none, writes)

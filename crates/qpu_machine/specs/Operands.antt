@@ -1,12 +1,11 @@
 -- What the two units compute with, and what they come to.
 use Rattle.std.specs.Prelude.{ℕ, ◌+◌, ◌-◌, ◌%◌, ◌^◌, ◌==◌, ◌||◌, ◌&&◌, not, Bool, nat_lt, nat_le, if◌then◌else◌, List, [], slice_index, slice_index_or, unwrap_or}
-use Rattle.qpu_isa.specs.declared.inst.Reg.TheVariants.{A, B}
 use Rattle.qpu_isa.specs.Word.{raddr_a_of, raddr_b_of, add_a_of, add_b_of, mul_a_of, mul_b_of, op_add_of, op_mul_of, mode_of, imm_of}
+use Rattle.qpu_isa.specs.declared.inst.Reg.TheVariants.{A, B}
 use Rattle.qpu_isa.specs.Terms.{is_plain, has_small, is_load_imm, is_add_packed, is_mul_packed, names}
 use Rattle.qpu_alu.specs.Operation.{add_result_of, mul_result_of}
 use Rattle.machine_plan.specs.Choice.{word_at}
-use Rattle.qpu_machine.specs.State.{Thread}
-use Rattle.qpu_machine.specs.Row.{lanes, filled, chosen_row}
+use Rattle.qpu_machine.specs.{State.Thread, Row.lanes, Row.filled, Row.chosen_row}
 
 -- The read of file A: a register, unless the thread's instruction directly before named it; the
 -- uniform by address 32; zeros by 39. Else it is free, and so where it is unpacked on its way.

@@ -1,14 +1,9 @@
 -- A shader processor with its two threads and the queues of its two TMUs: its own step, that of a TMU,
 -- and where a program can start.
-use Rattle.std.specs.Prelude.{ℕ, ◌+◌, ◌==◌, ◌&&◌, ◌||◌, not, Bool, true, false, if◌then◌else◌, List, [], ◌∷◌, ◌++◌, drop, length, Option, None, Some, is_some, is_none, option_map}
-use Rattle.std.specs.List.{count_by}
-use Rattle.machine_plan.specs.Glance.{Glance, Now}
-use Rattle.machine_plan.specs.Plan.{Plan, Done}
-use Rattle.machine_plan.specs.World.{mapped}
+use Rattle.std.specs.Prelude.{ℕ, ◌+◌, ◌==◌, ◌&&◌, ◌||◌, not, Bool, true, false, if◌then◌else◌, List, [], ◌∷◌, ◌++◌, drop, length, Option, None, Some, is_some, is_none, option_map, count_by}
+use Rattle.machine_plan.specs.{Glance.Glance, Glance.Now, Plan.Plan, Plan.Done, World.mapped}
 use Rattle.qpu_machine.specs.State.{Asked, Ends, Fate, Free, GoesOn, Launch, Leaves, Qpu, Request, Slot, Switches, Thread}
-use Rattle.qpu_machine.specs.Request.{ask_plan}
-use Rattle.qpu_machine.specs.Start.{thread_of}
-use Rattle.qpu_machine.specs.Step.{ThreadTurn, thread_plan, thread_ready}
+use Rattle.qpu_machine.specs.{Request.ask_plan, Start.thread_of, Step.ThreadTurn, Step.thread_plan, Step.thread_ready}
 
 -- the thread that is active, where it runs, and the other one
 abbrev pub active_of : Qpu → Option Thread

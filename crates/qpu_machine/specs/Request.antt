@@ -4,9 +4,7 @@ use Rattle.field_words.specs.Words.{u32_at}
 use Rattle.texture_layouts.specs.Setup.{TextureModel, texture_of, faces_of, level_width_of, level_height_of, tiling_at, size_below}
 use Rattle.texture_layouts.specs.Fetch.{fetch_place_of, fetch_size_of}
 use Rattle.texture_layouts.specs.Fits.{has_two_strides, lacks_stride, is_unlisted, has_child_image}
-use Rattle.machine_plan.specs.Choice.{word_at}
-use Rattle.machine_plan.specs.Plan.{Plan, Done, Wilds, Reads}
-use Rattle.machine_plan.specs.World.{mapped}
+use Rattle.machine_plan.specs.{Choice.word_at, Plan.Plan, Plan.Done, Plan.Wilds, Plan.Reads, World.mapped}
 use Rattle.qpu_machine.specs.State.{Ask, Direct, Texture}
 
 -- A direct request reads for each element the word at its address without the low two bits, and they

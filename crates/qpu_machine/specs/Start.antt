@@ -1,7 +1,6 @@
 -- A thread that has just been started.
 use Rattle.std.specs.Prelude.{ℕ, ◌+◌, ◌*◌, ◌^◌, true, [], None, replicate}
-use Rattle.qpu_machine.specs.State.{Launch, Mark, Thread}
-use Rattle.qpu_machine.specs.Row.{filled}
+use Rattle.qpu_machine.specs.{State.Launch, State.Mark, State.Thread, Row.filled}
 
 -- Before a program's first instruction stand instructions that do nothing: signal 1, and both units
 -- write to 39.

@@ -3,12 +3,9 @@ use Rattle.std.specs.Prelude.{ℕ, ◌+◌, ◌==◌, ◌&&◌, ◌||◌, not, B
 use Rattle.std.specs.Int.{from_le_bytes, w64}
 use Rattle.field_words.specs.Words.{u32_at}
 use Rattle.qpu_isa.specs.Terms.{writes_s}
-use Rattle.machine_plan.specs.Plan.{Plan, Done, Wilds, Reads}
-use Rattle.machine_plan.specs.Glance.{Glance, Now, At}
-use Rattle.qpu_machine.specs.State.{Leaves, Thread}
-use Rattle.qpu_machine.specs.Operands.{add_row, mul_row}
+use Rattle.machine_plan.specs.{Plan.Plan, Plan.Done, Plan.Wilds, Plan.Reads, Glance.Glance, Glance.Now, Glance.At}
+use Rattle.qpu_machine.specs.{State.Leaves, State.Thread, Operands.add_row, Operands.mul_row, Wild.takes_one, Wild.is_wild}
 use Rattle.qpu_machine.specs.Writes.{awake, past_uniform, worked, fate_of, rested, asked, loads}
-use Rattle.qpu_machine.specs.Wild.{takes_one, is_wild}
 
 -- what an instruction comes to: the thread after it, a request that it made, and the thread's fate
 pub record ThreadTurn : Type 0 where

@@ -1,9 +1,8 @@
 -- Where the hardware leaves undefined what an instruction does. "Slots" and "one or two after" count
 -- the instructions that the thread executes.
 use Rattle.std.specs.Prelude.{ℕ, ◌==◌, ◌&&◌, ◌||◌, not, Bool, nat_le, length}
-use Rattle.qpu_isa.specs.Word.{sig_of, mode_of, relative_of, register_of}
 use Rattle.qpu_isa.specs.Terms.{is_branch, is_switch, is_load_imm, is_address_write, is_relative_address_write, names_forbidden, has_two_tmu_writes, has_conditional_tmu_write, writes_tmu, reads_upper, names_upper}
-use Rattle.qpu_isa.specs.Setups.{takes_with}
+use Rattle.qpu_isa.specs.{Word.sig_of, Word.mode_of, Word.relative_of, Word.register_of, Setups.takes_with}
 use Rattle.qpu_machine.specs.State.{Thread}
 
 -- it takes a uniform, with the setup words that the thread keeps

@@ -1,8 +1,7 @@
 -- What an instruction writes, field by field of the thread.
 use Rattle.std.specs.Prelude.{ℕ, ◌+◌, ◌-◌, ◌%◌, ◌^◌, ◌==◌, ◌&&◌, ◌||◌, not, Bool, true, false, nat_lt, nat_le, if◌then◌else◌, List, [], ◌∷◌, ◌++◌, drop, length, Option, Some, None, slice_index, slice_index_or, slice_set, unwrap_or}
 use Rattle.qpu_isa.specs.Word.{sig_of, ws_of, waddr_add_of, waddr_mul_of, cond_add_of, cond_mul_of, cond_of, imm_of}
-use Rattle.qpu_isa.specs.Terms.{is_branch, is_switch, is_end, add_names, writes_s, s_address}
-use Rattle.qpu_isa.specs.Setups.{kept}
+use Rattle.qpu_isa.specs.{Terms.is_branch, Terms.is_switch, Terms.is_end, Terms.add_names, Terms.writes_s, Terms.s_address, Setups.kept}
 use Rattle.machine_plan.specs.Choice.{word_at}
 use Rattle.qpu_machine.specs.State.{Ask, Asked, Direct, Ends, Fate, GoesOn, Switches, Texture, Thread}
 use Rattle.qpu_machine.specs.Row.{chosen_row, chosen_rows, has_lane, merged, mask_of}

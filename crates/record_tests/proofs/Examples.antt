@@ -1,11 +1,9 @@
 -- The shaders of the tests are sound, and belong to their table.
 use Rattle.std.proofs.Common.{◌≡◌, ℕ, zero, suc, ◌<◌, Bool, not, List, [], ◌∷◌, length, Some, None, is_some, refl, sym, ap, arith, ◌∙◌, subst}
-use Rattle.buffer_table.specs.declared.buffer.Buffer.{Buffer}
-use Rattle.buffer_table.specs.declared.buffer.Kind.TheVariants.{Plain, Code}
-use Rattle.buffer_table.specs.Table.{TableModel, buffer_at}
-use Rattle.buffer_table.specs.Handles.{is_plain}
-use Rattle.qpu_isa.specs.declared.inst.Sample.{Sample}
+use Rattle.buffer_table.specs.{declared.buffer.Buffer.Buffer, declared.buffer.Kind.TheVariants.Plain, declared.buffer.Kind.TheVariants.Code}
+use Rattle.buffer_table.specs.{Table.TableModel, Table.buffer_at, Handles.is_plain}
 use Rattle.qpu_isa.specs.Shader.{ShaderModel, sample_at, position, first_position, address_at, IsSoundSample, IsSoundShader}
+use Rattle.qpu_isa.specs.declared.inst.Sample.{Sample}
 use Rattle.shader_records.specs.Inputs.{AreShadersOf, shader_in}
 use Rattle.record_tests.specs.Examples.{HasThree}
 

@@ -1,7 +1,6 @@
 -- The buffers of the tests.
 use Rattle.std.specs.Prelude.{◌≡◌, List, length}
-use Rattle.buffer_table.specs.declared.buffer.Buffer.{Buffer}
-use Rattle.buffer_table.specs.declared.buffer.Kind.TheVariants.{Plain, Code}
+use Rattle.buffer_table.specs.{declared.buffer.Buffer.Buffer, declared.buffer.Kind.TheVariants.Plain, declared.buffer.Kind.TheVariants.Code}
 use Rattle.buffer_table.specs.Table.{buffer_at}
 
 -- one buffer of data, and two of code

@@ -1,6 +1,5 @@
 -- Words put into a window, one after the other.
-use Rattle.std.specs.Prelude.{ℕ, ◌+◌, ◌≤◌, List, [], ◌∷◌}
-use Rattle.std.specs.Int.{to_le_bytes, w32}
+use Rattle.std.specs.{Prelude.ℕ, Prelude.◌+◌, Prelude.◌≤◌, Prelude.List, Prelude.[], Prelude.◌∷◌, Int.to_le_bytes, Int.w32}
 use Rattle.field_words.specs.Writes.{with_bytes}
 use Rattle.relocation.specs.declared.patch.Patch.{Patch}
 

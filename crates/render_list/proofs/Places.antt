@@ -1,6 +1,5 @@
 -- Where the tiles of a set lie.
-use Rattle.std.proofs.Common.{ℕ, ◌≤◌, List, Option, Some, None, arith}
-use Rattle.std.proofs.Math.Nat.{mul-le-mul_left}
+use Rattle.std.proofs.{Common.ℕ, Common.◌≤◌, Common.List, Common.Option, Common.Some, Common.None, Common.arith, Math.Nat.mul-le-mul_left}
 use Rattle.std.specs.Int.{div_ceil}
 use Rattle.job_format.specs.declared.file.Frame.{Frame}
 use Rattle.render_list.specs.Frame.{place_at, full_tile, full_place, FitsAt, TileFits, IsSetupFor}

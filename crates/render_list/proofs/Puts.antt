@@ -1,14 +1,11 @@
 -- Slots that are written one behind the other.
 use Rattle.std.proofs.Common.{◌≡◌, ℕ, ◌+◌, ◌≤◌, Bool, true, false, ◌||◌, ◌&&◌, List, [], ◌∷◌, ◌++◌, length, Option, Some, None, is_some, refl, sym, ap, subst, ◌∙◌}
 use Rattle.field_words.specs.Writes.{with_bytes}
-use Rattle.packets.specs.declared.packet.Packet.{Packet}
-use Rattle.packets.specs.Packet.{slots_text}
-use Rattle.packets.proofs.Slots.{slots_append}
-use Rattle.packets.proofs.Underway.{IsUnderway, begins, next_room, goes_on, ends}
-use Rattle.packets.specs.declared.packet.Packet.TheVariants.{TileCoordinates}
+use Rattle.packets.specs.{declared.packet.Packet.Packet, Packet.slots_text, declared.packet.Packet.TheVariants.TileCoordinates}
+use Rattle.packets.proofs.{Slots.slots_append, Underway.IsUnderway, Underway.begins, Underway.next_room, Underway.goes_on, Underway.ends}
 use Rattle.job_format.specs.declared.file.Frame.{Frame}
-use Rattle.render_list.specs.Frame.{place_at}
 use Rattle.render_list.specs.Text.{packet_where, full_store_slot, zs_store_slot, color_store_slot, more_after_multisample_color, more_after_multisample_zs, some_before_zs, some_before_color, write_slots, HasRoom, Puts}
+use Rattle.render_list.specs.Frame.{place_at}
 
 -- Of a list's slots, which were to stand at a place of the window, these are left to be written.
 pub record IsLeft (window : List ℕ) (at : ℕ) (whole : List (Option Packet)) (out : List ℕ) (here : ℕ) (rest : List (Option Packet)) : Type 0 where

@@ -2,8 +2,7 @@
 use Rattle.std.proofs.Common.{◌≡◌, ℕ, zero, suc, ◌+◌, ◌-◌, ◌<◌, ◌≤◌, List, [], ◌++◌, length, Option, ap, arith, ◌∙◌, length-append}
 use Rattle.std.specs.List.{flat_map, range_with_len}
 use Rattle.job_format.specs.declared.file.Frame.{Frame}
-use Rattle.packets.specs.declared.packet.Packet.{Packet}
-use Rattle.packets.specs.Packet.{slots_text}
+use Rattle.packets.specs.{declared.packet.Packet.Packet, Packet.slots_text}
 use Rattle.packets.proofs.Slots.{slots_append}
 use Rattle.render_list.specs.Text.{span_slots, front_slots, all_tile_slots, render_slots}
 

@@ -2,8 +2,7 @@
 -- tile of a full-resolution surface lies.
 use Rattle.std.specs.Prelude.{◌≡◌, ◌≤◌, ◌<◌, ◌^◌, ℕ, is_some, IsTrue, ◌+◌, ◌*◌, ◌-◌, ◌%◌, ◌==◌, ◌||◌, ◌&&◌, not, Bool, true, false, List, Option, Some, None, if◌then◌else◌, slice_index_or}
 use Rattle.std.specs.Int.{div_ceil}
-use Rattle.job_format.specs.declared.file.Frame.{Frame}
-use Rattle.job_format.specs.declared.file.Surface.{Surface}
+use Rattle.job_format.specs.{declared.file.Frame.Frame, declared.file.Surface.Surface}
 
 -- The surfaces by their place in the frame, which is one less than the item's number in a fault.
 abbrev pub color_read : ℕ

@@ -2,8 +2,7 @@
 -- the byte before the first tile that waits for the binner.
 use Rattle.std.specs.Prelude.{ℕ, ◌+◌, ◌*◌, ◌||◌, Bool, false, if◌then◌else◌}
 use Rattle.job_format.specs.declared.file.Frame.{Frame}
-use Rattle.render_list.specs.Frame.{surface_at, is_present, is_full, tiles_across, tiles_down}
-use Rattle.render_list.specs.Text.{number_where}
+use Rattle.render_list.specs.{Frame.surface_at, Frame.is_present, Frame.is_full, Frame.tiles_across, Frame.tiles_down, Text.number_where}
 
 -- a load in full resolution has 5 bytes, another 7
 unfoldable pub load_size : Frame → ℕ → ℕ

@@ -3,18 +3,13 @@
 use Rattle.std.specs.Prelude.{ℕ, ◌+◌, ◌-◌, ◌*◌, ◌%◌, Bool, false, not, ◌&&◌, ◌||◌, nat_lt, nat_le, ◌==◌, bit_and, List, [], ◌∷◌, ◌++◌, map, Option, Some, None, is_some, if◌then◌else◌}
 use Rattle.std.specs.List.{range_with_len}
 use Rattle.field_words.specs.Questions.{Question, Ask, each}
-use Rattle.buffer_table.specs.Table.{TableModel, buffer_at}
-use Rattle.buffer_table.specs.Handles.{data_of}
-use Rattle.job_format.specs.declared.file.Frame.{Frame}
-use Rattle.job_format.specs.declared.file.Surface.{Surface}
-use Rattle.texture_layouts.specs.declared.surface.Tiling.{Tiling}
-use Rattle.texture_layouts.specs.declared.format.Style.{Style}
+use Rattle.buffer_table.specs.{Table.TableModel, Table.buffer_at, Handles.data_of}
+use Rattle.job_format.specs.{declared.file.Frame.Frame, declared.file.Surface.Surface}
+use Rattle.texture_layouts.specs.{declared.surface.Tiling.Tiling, declared.format.Style.Style, Surface.size_for}
 use Rattle.texture_layouts.specs.Format.{general_tiling, general_pixel, frame_tiling, frame_pixel, styled}
-use Rattle.texture_layouts.specs.Surface.{size_for}
-use Rattle.render_list.specs.declared.fault.RenderFault.{RenderFault}
-use Rattle.render_list.specs.declared.fault.FrameRule.{FrameRule}
 use Rattle.render_list.specs.declared.fault.FrameRule.TheVariants.{Reversed, OutsideGrid, OutsideFrame, UnknownFlag, UnknownBit, Unnamed, UnlistedTiling, UnlistedFormat, Unaligned, TooLarge, FullWithBits, TooLargeFull, NothingWritten}
 use Rattle.render_list.specs.Frame.{color_write, zs_write, multisample_color, multisample_zs, surface_at, is_present, is_full, tile_side, full_tile}
+use Rattle.render_list.specs.{declared.fault.RenderFault.RenderFault, declared.fault.FrameRule.FrameRule}
 
 -- the number of a rule G
 abbrev pub number_of : FrameRule → ℕ

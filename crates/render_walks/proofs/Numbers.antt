@@ -4,8 +4,8 @@ use Rattle.std.proofs.lemmas.Nat.{or_of_16, or_of_32}
 use Rattle.std.specs.List.{AllByRecursion}
 use Rattle.field_words.proofs.Numbers.{rounded}
 use Rattle.job_format.specs.{declared.file.Frame.Frame, declared.file.Surface.Surface, File.SurfaceFits, File.FrameFits}
-use Rattle.packets.specs.{declared.packet.Packet.Packet, Packet.Fits}
 use Rattle.packets.specs.declared.packet.Packet.TheVariants.{WaitOnSemaphore, StoreTileColor, StoreTileColorAndEnd, LoadFullResolution, StoreTileBuffer, LoadTileBuffer, TileCoordinates}
+use Rattle.packets.specs.{declared.packet.Packet.Packet, Packet.Fits}
 use Rattle.tile_memory.specs.Slots.{alloc_offset}
 use Rattle.render_list.specs.Frame.{place_at, surface_at, no_surface, is_full, full_place, is_first_tile, is_last_tile, tiles_across, tiles_down, FitsAt, TileFits, IsSetupFor}
 use Rattle.render_list.specs.Text.{number_where, packet_where, idle_store, color_place, color_bits, head_packet, clear_packet, clear_slots, front_slots, load_packet, load_slot, wait_slot, list_place, list_slot, full_store, full_store_slot, zs_store, zs_store_slot, color_store, color_store_slot, is_there, more_after_multisample_color, more_after_multisample_zs, some_before_zs, some_before_color, load_slots, list_slots, write_slots, tile_slots, span_slots, row_slots, all_tile_slots, render_slots}

@@ -1,11 +1,9 @@
 -- How a renderer goes through the slots of a list, packet by packet.
 use Rattle.std.specs.Prelude.{◌≡◌, ◌≤◌, ◌<◌, ◌^◌, ℕ, Bool, true, false, List, [], ◌∷◌, Option, Some, None}
 use Rattle.job_format.specs.declared.file.Frame.{Frame}
-use Rattle.packets.specs.declared.packet.Packet.{Packet}
 use Rattle.packets.specs.declared.packet.Packet.TheVariants.{WaitOnSemaphore, BranchToSubList, StoreTileColor, StoreTileColorAndEnd, StoreFullResolution, LoadFullResolution, StoreTileBuffer, LoadTileBuffer, TileRenderingMode, ClearColors, TileCoordinates}
-use Rattle.packets.specs.Packet.{Fits}
-use Rattle.render_list.specs.Frame.{place_at}
-use Rattle.render_list.specs.Text.{tile_slots}
+use Rattle.packets.specs.{declared.packet.Packet.Packet, Packet.Fits}
+use Rattle.render_list.specs.{Frame.place_at, Text.tile_slots}
 
 -- What a renderer keeps from packet to packet, as far as a later packet needs it: whether a frame is
 -- set, the tile, the load that waits for the next coordinates, and whether it waited for the binner.

@@ -1,24 +1,15 @@
 -- A run that goes one step further.
 use Rattle.std.proofs.Common.{◌≡◌, ◌≤◌, ◌<◌, ℕ, suc, ◌+◌, IsTrue, false, List, [], ◌∷◌, ◌++◌, length, slice_index, Option, None, Some, refl, sym, ◌∙◌, ap, subst, append-nil, append_assoc, arith}
-use Rattle.field_words.specs.declared.access.Access.{Access}
-use Rattle.field_words.specs.declared.access.Actor.{Actor}
-use Rattle.std.specs.List.{range_with_len}
-use Rattle.std.specs.Prelude.{All, filter}
 use Rattle.std.proofs.lemmas.List.Elements.{filter_passes, All-filter}
-use Rattle.machine_plan.specs.Runs.{Allowed, reached}
-use Rattle.machine_plan.specs.World.{Moves}
-use Rattle.machine.specs.State.{State}
-use Rattle.machine.specs.Step.{Event, enabled, may, ready, step, job_of, finished}
-use Rattle.replay.specs.declared.logged.Log.{Log}
-use Rattle.replay.specs.declared.logged.Logged.{Logged}
-use Rattle.replay.specs.declared.trace.Ending.{Ending}
+use Rattle.field_words.specs.{declared.access.Access.Access, declared.access.Actor.Actor}
+use Rattle.std.specs.{List.range_with_len, Prelude.All, Prelude.filter}
+use Rattle.machine_plan.specs.{Runs.Allowed, Runs.reached, World.Moves}
+use Rattle.machine.specs.{State.State, Step.Event, Step.enabled, Step.may, Step.ready, Step.step, Step.job_of, Step.finished}
 use Rattle.replay.specs.declared.trace.Ending.TheVariants.{Finished, Waiting, Spent}
-use Rattle.replay.specs.declared.trace.Trace.{Trace}
-use Rattle.replay.specs.declared.trace.TraceLine.{TraceLine}
-use Rattle.replay.specs.declared.units.UnitKind.{UnitKind}
 use Rattle.replay.specs.Units.{unit_count, unit_at, word_count, enabled_units, is_of, preferred, candidates}
-use Rattle.replay.specs.Trace.{line_of}
 use Rattle.replay.specs.Run.{IsTurn, Follows, lines_of, numbered, accesses_of, IsEnded, IsOver, StepsBy, IsTrace, IsLog}
+use Rattle.replay.specs.{declared.logged.Log.Log, declared.logged.Logged.Logged, declared.trace.Ending.Ending, declared.trace.Trace.Trace}
+use Rattle.replay.specs.{declared.trace.TraceLine.TraceLine, declared.units.UnitKind.UnitKind, Trace.line_of}
 
 -- a unit among those that may step may step, also among the favoured ones
 all_may : (s : State) → All (λ n. IsTrue (enabled s (unit_at n))) (enabled_units s)

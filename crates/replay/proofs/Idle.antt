@@ -1,17 +1,13 @@
 -- A machine that is finished has no unit that may step.
 use Rattle.std.proofs.Common.{◌≡◌, ℕ, zero, suc, Bool, true, false, ◌&&◌, List, [], ◌∷◌, length, None, Some, IfSome, refl, sym, ap, ◌∙◌, arith}
-use Rattle.std.proofs.Math.Dec.{eqb-suc-zero}
-use Rattle.std.proofs.lemmas.Bool.{and_parts}
-use Rattle.std.proofs.lemmas.Bool.Decides.{nat_tests}
+use Rattle.std.proofs.{Math.Dec.eqb-suc-zero, lemmas.Bool.and_parts, lemmas.Bool.Decides.nat_tests}
 use Rattle.std.specs.Prelude.{Option, is_none, is_some, ◌==◌, nat_lt, if◌then◌else◌, filter}
 use Rattle.std.specs.List.{list_all, range_with_len}
-use Rattle.field_words.specs.declared.access.Actor.{Actor}
 use Rattle.field_words.specs.declared.access.Actor.TheVariants.{Binner as TheBinner, Renderer as TheRenderer, Qpu as TheQpu, Tmu as TheTmu}
+use Rattle.field_words.specs.declared.access.Actor.{Actor}
 use Rattle.machine_plan.specs.Glance.{glanced, Now}
 use Rattle.list_machine.specs.Lists.{Lists}
-use Rattle.qpu_machine.specs.declared.state.Qpu.{Qpu}
-use Rattle.qpu_machine.specs.declared.state.Thread.{Thread}
-use Rattle.qpu_machine.specs.declared.state.Request.{Request}
+use Rattle.qpu_machine.specs.{declared.state.Qpu.Qpu, declared.state.Thread.Thread, declared.state.Request.Request}
 use Rattle.qpu_machine.specs.Qpu.{ready_by, oldest, tmu_ready, is_idle}
 use Rattle.machine.specs.State.{State, Units, Picked, item_at, binner_job, renderer_job}
 use Rattle.machine.specs.Step.{binner_may, renderer_may, qpu_may, tmu_may, enabled, finished, ready}

@@ -1,10 +1,8 @@
 -- The units that may step, one number further.
 use Rattle.std.proofs.Common.{◌≡◌, ℕ, zero, suc, ◌+◌, ◌*◌, ◌<◌, Bool, true, false, if◌then◌else◌, List, [], ◌∷◌, ◌++◌, length, take, slice_index, sym, ◌∙◌, ap, append-nil, refl, arith}
-use Rattle.std.specs.Prelude.{filter, ◌==◌}
-use Rattle.std.specs.List.{range_with_len}
-use Rattle.std.proofs.lemmas.List.Elements.{filter-append, filter_more}
-use Rattle.std.proofs.lemmas.Bool.Decides.{nat_tests}
+use Rattle.std.proofs.{lemmas.List.Elements.filter-append, lemmas.List.Elements.filter_more, lemmas.Bool.Decides.nat_tests}
 use Rattle.std.proofs.Math.Dec.{eqb-suc-zero}
+use Rattle.std.specs.{Prelude.filter, Prelude.◌==◌, List.range_with_len}
 use Rattle.field_words.specs.declared.access.Actor.TheVariants.{Binner as TheBinner, Renderer as TheRenderer, Qpu as TheQpu, Tmu as TheTmu}
 use Rattle.replay.specs.Units.{unit_at, preferred}
 

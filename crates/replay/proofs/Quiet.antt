@@ -1,28 +1,19 @@
 -- A processor and its TMUs write nothing in memory, and touch that processor alone.
 use Rattle.std.proofs.Common.{◌≡◌, ◌≢◌, ℕ, zero, suc, ◌+◌, Bool, true, false, if◌then◌else◌, List, [], ◌∷◌, ◌++◌, slice_index, Option, Some, None, refl, sym, ap, subst}
-use Rattle.std.specs.Prelude.{option_map, unwrap_or}
-use Rattle.std.specs.Int.{from_le_bytes, w64}
-use Rattle.field_words.specs.Words.{u32_at}
-use Rattle.field_words.specs.declared.access.Actor.{Actor}
+use Rattle.std.specs.{Prelude.option_map, Prelude.unwrap_or, Int.from_le_bytes, Int.w64}
 use Rattle.field_words.specs.declared.access.Actor.TheVariants.{Binner as TheBinner, Renderer as TheRenderer, Qpu as TheQpu, Tmu as TheTmu}
+use Rattle.field_words.specs.{Words.u32_at, declared.access.Actor.Actor}
 use Rattle.texture_layouts.specs.Setup.{TextureModel, texture_of}
-use Rattle.machine_plan.specs.declared.who.Who.{Who}
-use Rattle.machine_plan.specs.Memory.{bytes_at}
+use Rattle.machine_plan.specs.{declared.who.Who.Who, Memory.bytes_at, World.mapped, World.turned}
 use Rattle.machine_plan.specs.Plan.{Plan, Done, Wilds, Reads, Looks, Writes, carried}
-use Rattle.machine_plan.specs.World.{mapped, turned}
 use Rattle.machine_plan.proofs.Worlds.{carried_mapped}
-use Rattle.qpu_machine.specs.declared.state.Ask.{Ask}
-use Rattle.qpu_machine.specs.declared.state.Ask.TheVariants.{Direct, Texture}
-use Rattle.qpu_machine.specs.declared.state.Qpu.{Qpu}
-use Rattle.qpu_machine.specs.declared.state.Request.{Request}
-use Rattle.qpu_machine.specs.declared.state.Thread.{Thread}
 use Rattle.qpu_machine.specs.Qpu.{active_of, job_of_thread, job_of_request, went, plan_by, qpu_plan, qpu_stopped, queue_of, oldest, served, serving, tmu_plan, dropped}
 use Rattle.qpu_machine.specs.Request.{direct_plan, read_at, chosen_place, chosen_length, texture_reads, is_undefined, texture_plan, ask_plan}
-use Rattle.qpu_machine.specs.Step.{ThreadTurn, word_plan, thread_plan, executed}
-use Rattle.qpu_machine.specs.Writes.{awake, past_uniform}
+use Rattle.qpu_machine.specs.{declared.state.Ask.Ask, declared.state.Ask.TheVariants.Direct, declared.state.Ask.TheVariants.Texture}
+use Rattle.qpu_machine.specs.{declared.state.Qpu.Qpu, declared.state.Request.Request, declared.state.Thread.Thread}
+use Rattle.qpu_machine.specs.{Step.ThreadTurn, Step.word_plan, Step.thread_plan, Step.executed, Writes.awake, Writes.past_uniform}
 use Rattle.qpu_machine.specs.Wild.{is_wild, takes_one}
-use Rattle.machine.specs.State.{State, item_at, put_at}
-use Rattle.machine.specs.Step.{with_qpu, qpu_turn, tmu_turn, step, turn}
+use Rattle.machine.specs.{State.State, State.item_at, State.put_at, Step.with_qpu, Step.qpu_turn, Step.tmu_turn, Step.step, Step.turn}
 use Rattle.replay.specs.Watched.{TouchesOne, LeavesOthers}
 
 -- a plan without a write

@@ -1,19 +1,16 @@
 -- Which units a step leaves as they were.
 use Rattle.std.proofs.Common.{◌≡◌, ◌≢◌, ◌≤◌, ◌<◌, ℕ, zero, suc, ◌+◌, ◌*◌, ◌/◌, ◌%◌, Bool, true, false, List, ◌∷◌, length, slice_index_or, eqb, refl, sym, ◌∙◌, ap, subst, arith}
 use Rattle.std.proofs.lemmas.Bool.{eqb-true, eqb-false}
-use Rattle.field_words.specs.declared.access.Actor.{Actor}
 use Rattle.field_words.specs.declared.access.Actor.TheVariants.{Binner as TheBinner, Renderer as TheRenderer, Qpu as TheQpu, Tmu as TheTmu}
+use Rattle.field_words.specs.declared.access.Actor.{Actor}
 use Rattle.machine_plan.specs.Glance.{glanced}
-use Rattle.machine.specs.State.{State, item_at, renderer_job}
+use Rattle.machine.specs.{State.State, State.item_at, State.renderer_job, State.first_where}
 use Rattle.machine.specs.Step.{enabled, step, qpu_may, tmu_may, renderer_may}
-use Rattle.machine.specs.State.{first_where}
 use Rattle.list_machine.specs.Renderer.{has_renderer_work}
-use Rattle.std.specs.Prelude.{filter, if◌then◌else◌}
-use Rattle.std.specs.List.{range_with_len}
-use Rattle.replay.specs.Units.{unit_count, unit_at, enabled_units}
+use Rattle.std.specs.{Prelude.filter, Prelude.if◌then◌else◌, List.range_with_len}
 use Rattle.replay.specs.Watched.{TouchesOne, LeavesOthers, IsRight, AreAsked, asked_units, IsBeside, IsElsewhere, StayAsked}
-use Rattle.replay.proofs.Quiet.{leaves_others}
-use Rattle.replay.proofs.Order.{renderer_at, qpu_at, tmu0_at, tmu1_at}
+use Rattle.replay.specs.Units.{unit_count, unit_at, enabled_units}
+use Rattle.replay.proofs.{Quiet.leaves_others, Order.renderer_at, Order.qpu_at, Order.tmu0_at, Order.tmu1_at}
 
 renderer_stays : (k : ℕ) (s t : State) → TouchesOne k s t → enabled t TheRenderer ≡ enabled s TheRenderer
 unfolding enabled

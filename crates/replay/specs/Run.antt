@@ -3,17 +3,11 @@
 use Rattle.std.specs.Prelude.{◌≡◌, ◌≢◌, ◌≤◌, ◌<◌, ℕ, ◌+◌, ◌^◌, true, false, IsTrue, List, [], ◌∷◌, ◌++◌, length, map, slice_index, Option}
 use Rattle.field_words.specs.declared.access.Access.{Access}
 use Rattle.machine_plan.specs.Runs.{found_by, reached}
-use Rattle.machine.specs.State.{State}
-use Rattle.machine.specs.Step.{Event, enabled, finished, job_of, step, IsRun}
-use Rattle.replay.specs.declared.logged.Log.{Log}
-use Rattle.replay.specs.declared.logged.Logged.{Logged}
-use Rattle.replay.specs.declared.trace.Ending.{Ending}
+use Rattle.machine.specs.{State.State, Step.Event, Step.enabled, Step.finished, Step.job_of, Step.step, Step.IsRun}
 use Rattle.replay.specs.declared.trace.Ending.TheVariants.{Finished, Waiting, Spent}
-use Rattle.replay.specs.declared.trace.Trace.{Trace}
-use Rattle.replay.specs.declared.trace.TraceLine.{TraceLine}
-use Rattle.replay.specs.declared.units.UnitKind.{UnitKind}
+use Rattle.replay.specs.{declared.logged.Log.Log, declared.logged.Logged.Logged, declared.trace.Ending.Ending, declared.trace.Trace.Trace}
+use Rattle.replay.specs.{declared.trace.TraceLine.TraceLine, declared.units.UnitKind.UnitKind, Trace.line_of}
 use Rattle.replay.specs.Units.{unit_at, word_count, enabled_units, candidates}
-use Rattle.replay.specs.Trace.{line_of}
 
 -- what is asked of closures that give a script: at each step below 2^64 one may be picked of each number but 0, which is below
 -- it, and each of 4,096 words may be asked for

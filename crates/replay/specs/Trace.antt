@@ -1,10 +1,7 @@
 -- What is kept of a step.
-use Rattle.std.specs.Prelude.{ℕ, ◌+◌, ◌-◌, ◌^◌, ◌==◌, ◌&&◌, min, max, if◌then◌else◌, List}
-use Rattle.std.specs.List.{fold}
-use Rattle.field_words.specs.declared.access.Access.{Access}
-use Rattle.field_words.specs.declared.access.Actor.{Actor}
-use Rattle.field_words.specs.declared.access.Way.{Way}
+use Rattle.std.specs.Prelude.{ℕ, ◌+◌, ◌-◌, ◌^◌, ◌==◌, ◌&&◌, min, max, if◌then◌else◌, List, fold}
 use Rattle.field_words.specs.declared.access.Way.TheVariants.{Read, Write, Wild}
+use Rattle.field_words.specs.{declared.access.Access.Access, declared.access.Actor.Actor, declared.access.Way.Way}
 use Rattle.replay.specs.declared.trace.TraceLine.{TraceLine}
 
 -- the line of a step that did nothing yet

@@ -1,12 +1,11 @@
 -- The units in the order of a script, how many words a step of each gets, and which are favoured.
 use Rattle.std.specs.Prelude.{ℕ, ◌-◌, ◌/◌, ◌%◌, ◌==◌, Bool, true, false, if◌then◌else◌, List, [], ◌∷◌, filter, Option, Some, None}
 use Rattle.std.specs.List.{range_with_len}
-use Rattle.field_words.specs.declared.access.Actor.{Actor}
 use Rattle.field_words.specs.declared.access.Actor.TheVariants.{Binner as TheBinner, Renderer as TheRenderer, Qpu as TheQpu, Tmu as TheTmu}
-use Rattle.machine.specs.State.{State}
-use Rattle.machine.specs.Step.{enabled}
-use Rattle.replay.specs.declared.units.UnitKind.{UnitKind}
+use Rattle.field_words.specs.declared.access.Actor.{Actor}
+use Rattle.machine.specs.{State.State, Step.enabled}
 use Rattle.replay.specs.declared.units.UnitKind.TheVariants.{Binner, Renderer, Qpu, Tmu}
+use Rattle.replay.specs.declared.units.UnitKind.{UnitKind}
 
 -- binner, renderer, and twelve processors with two TMUs each
 abbrev pub unit_count : ℕ

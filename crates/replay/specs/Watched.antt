@@ -1,10 +1,9 @@
 -- What is known of which units may step.
 use Rattle.std.specs.Prelude.{◌≡◌, ◌≢◌, ◌<◌, ℕ, ◌+◌, ◌*◌, Bool, false, List, length, filter, slice_index_or}
 use Rattle.std.specs.List.{range_with_len}
-use Rattle.field_words.specs.declared.access.Actor.{Actor}
 use Rattle.field_words.specs.declared.access.Actor.TheVariants.{Binner as TheBinner, Renderer as TheRenderer, Qpu as TheQpu, Tmu as TheTmu}
-use Rattle.machine.specs.State.{State, item_at}
-use Rattle.machine.specs.Step.{enabled}
+use Rattle.field_words.specs.declared.access.Actor.{Actor}
+use Rattle.machine.specs.{State.State, State.item_at, Step.enabled}
 use Rattle.replay.specs.Units.{unit_count, unit_at}
 
 -- memory, the jobs and all processors but processor k are as before

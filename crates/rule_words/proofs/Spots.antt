@@ -1,7 +1,6 @@
 -- A spot counts bytes, so it covers its offset.
 use Rattle.std.proofs.Common.{◌≡◌, ◌+◌, ◌*◌, ◌<◌, ◌≤◌, ℕ, List, subst, sym, arith}
-use Rattle.rule_words.specs.Place.{start_of, unit_of, IsSpot, Covers}
-use Rattle.rule_words.specs.declared.place.Place.{Place}
+use Rattle.rule_words.specs.{Place.start_of, Place.unit_of, Place.IsSpot, Place.Covers, declared.place.Place.Place}
 
 -- of a unit of one byte
 ones : (start at offset unit : ℕ) → unit ≡ 1 → start + at ≡ offset → (start + unit * at ≤ offset) × (offset < start + unit * (at + 1))

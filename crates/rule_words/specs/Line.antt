@@ -1,14 +1,9 @@
 -- How a place and a refusal are told to a person, in one line.
-use Rattle.std.specs.Prelude.{◌≡◌, ℕ, Bool, true, false, List, ◌++◌, codes, if◌then◌else◌}
-use Rattle.std.specs.Fmt.{decimal}
-use Rattle.job_format.specs.Rules.{rule_text}
-use Rattle.job_format.specs.declared.rule.Refusal.{Refusal}
-use Rattle.rule_words.specs.declared.place.Thing.{Thing}
+use Rattle.std.specs.Prelude.{◌≡◌, ℕ, Bool, true, false, List, ◌++◌, codes, if◌then◌else◌, decimal}
+use Rattle.job_format.specs.{Rules.rule_text, declared.rule.Refusal.Refusal}
 use Rattle.rule_words.specs.declared.place.Thing.TheVariants.{File, Header, Entry, JobEntry, Surface, Contents, Shader, Handles, Handle, BinnerList, Records, Uniforms}
-use Rattle.rule_words.specs.declared.place.Place.{Place}
-use Rattle.rule_words.specs.declared.line.Line.{Line}
+use Rattle.rule_words.specs.{declared.place.Thing.Thing, declared.place.Place.Place, declared.line.Line.Line, Place.place_at, Place.Covers}
 use Rattle.rule_words.specs.Names.{name_of, sentence_of}
-use Rattle.rule_words.specs.Place.{place_at, Covers}
 
 -- there is one header and one file
 unfoldable pub is_one : Thing → Bool

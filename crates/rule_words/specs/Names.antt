@@ -1,22 +1,15 @@
 -- The names of rules, and what the program says of each.
 use Rattle.std.specs.Prelude.{ℕ, ◌==◌, ◌-◌, List, [], ◌∷◌, ◌++◌, codes, map, slice_get, Option, Some, None, is_some, if◌then◌else◌}
-use Rattle.std.specs.Borrow.{Bor}
-use Rattle.std.specs.Char.{to_ascii_uppercase}
-use Rattle.std.specs.Fmt.{decimal}
+use Rattle.std.specs.{Borrow.Bor, Char.to_ascii_uppercase, Fmt.decimal}
 use Rattle.script.specs.Number.{number_within}
-use Rattle.job_format.specs.declared.rule.Rule.{Rule}
-use Rattle.job_format.specs.declared.rule.Stage.{Stage}
 use Rattle.job_format.specs.declared.rule.Stage.TheVariants.{F as StageF, M as StageM, S as StageS, H as StageH, B as StageB, A as StageA, U as StageU, G as StageG, X as StageX}
+use Rattle.job_format.specs.{declared.rule.Rule.Rule, declared.rule.Stage.Stage}
 use Rattle.rule_words.specs.declared.answers.TheConstants.{SLOTS, QUEUE, SESSION, LEVELS, ASSEMBLER}
 use Rattle.rule_words.specs.declared.format.TheConstants.{FORMAT, TABLE, HANDLES, LAYOUT}
-use Rattle.rule_words.specs.declared.lists.TheConstants.{LISTS}
-use Rattle.rule_words.specs.declared.records.TheConstants.{RECORDS, TEXTURES}
-use Rattle.rule_words.specs.declared.shaders.TheConstants.{SHADERS}
-use Rattle.rule_words.specs.declared.surfaces.TheConstants.{SURFACES}
-use Rattle.rule_words.specs.declared.name.Family.{Family}
 use Rattle.rule_words.specs.declared.name.Family.TheVariants.{F, M, S, H, B, A, U, G, X, O, Q, J, V, Kind}
-use Rattle.rule_words.specs.declared.name.RuleName.{RuleName}
-use Rattle.rule_words.specs.declared.words.Words.{Words}
+use Rattle.rule_words.specs.{declared.lists.TheConstants.LISTS, declared.shaders.TheConstants.SHADERS, declared.name.Family.Family}
+use Rattle.rule_words.specs.{declared.records.TheConstants.RECORDS, declared.records.TheConstants.TEXTURES, declared.name.RuleName.RuleName}
+use Rattle.rule_words.specs.{declared.surfaces.TheConstants.SURFACES, declared.words.Words.Words}
 
 -- the family of a stage of the check
 unfoldable pub family_of : Stage → Family

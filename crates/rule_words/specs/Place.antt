@@ -2,13 +2,10 @@
 -- refusal is told by.
 use Rattle.std.specs.Prelude.{ℕ, ◌≡◌, ◌+◌, ◌-◌, ◌*◌, ◌/◌, ◌%◌, ◌<◌, ◌≤◌, ◌⊎◌, ◌==◌, ◌&&◌, ◌||◌, not, Bool, false, nat_lt, nat_le, List, [], ◌∷◌, ◌++◌, codes, length, bytes_eq, Option, Some, None, Result, IfOk, IfErr, if◌then◌else◌}
 use Rattle.field_words.specs.Questions.{Question, Ask, each, first_of}
-use Rattle.job_format.specs.Rules.{letter}
-use Rattle.job_format.specs.declared.rule.Refusal.{Refusal}
-use Rattle.job_format.specs.declared.rule.Rule.{Rule}
 use Rattle.job_format.specs.Offsets.{header_size, entry_size, job_size, buffer_count, job_count, job_word, content_size, entry_offset, job_offset, content_offset, handles_offset, bin_offset, records_offset, uniforms_offset}
-use Rattle.rule_words.specs.declared.place.Thing.{Thing}
+use Rattle.job_format.specs.{Rules.letter, declared.rule.Refusal.Refusal, declared.rule.Rule.Rule}
 use Rattle.rule_words.specs.declared.place.Thing.TheVariants.{File, Header, Entry, JobEntry, Surface, Contents, Shader, Handles, Handle, BinnerList, Records, Uniforms}
-use Rattle.rule_words.specs.declared.place.Place.{Place}
+use Rattle.rule_words.specs.{declared.place.Thing.Thing, declared.place.Place.Place}
 
 -- The offset at which the thing of a buffer or job begins. Surfaces are counted from 1, and the first begins 36 bytes into the entry.
 unfoldable pub start_of : List ℕ → Thing → ℕ → ℕ

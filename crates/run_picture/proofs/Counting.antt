@@ -1,15 +1,11 @@
 -- Which boxes an access touches; and one access more.
 use Rattle.std.proofs.Common.{◌≡◌, ◌<◌, ◌≤◌, ◌⊎◌, inl, inr, ℕ, suc, ◌+◌, ◌*◌, ◌-◌, ◌/◌, ◌%◌, Bool, true, false, List, length, take, slice_index_or, refl, sym, ◌∙◌, ap, arith, if◌then◌else◌}
-use Rattle.std.specs.Prelude.{◌&&◌, nat_le, nat_lt}
-use Rattle.std.specs.List.{count_by, range_with_len}
-use Rattle.std.specs.Prelude.{map, min}
-use Rattle.std.proofs.lemmas.List.FromFn.{fill_by_all}
-use Rattle.memory_picture.specs.Grid.{overlaps}
-use Rattle.std.proofs.Math.Nat.{suc-mul, mod-add-div', add-mul-div_right}
-use Rattle.std.proofs.lemmas.Nat.{div_below, le-div}
+use Rattle.std.proofs.{lemmas.List.FromFn.fill_by_all, Math.Nat.suc-mul, Math.Nat.mod-add-div', Math.Nat.add-mul-div_right}
+use Rattle.std.proofs.{lemmas.Nat.div_below, lemmas.Nat.le-div, lemmas.List.take_all}
 use Rattle.std.proofs.lemmas.Bool.{lt-ltb, le-ltb, le-leb, lt-leb, cases_lt}
-use Rattle.std.proofs.lemmas.List.{take_all}
 use Rattle.std.proofs.lemmas.List.Sums.{count_by_more_yes, count_by_more_no, count_by-le-length}
+use Rattle.std.specs.{Prelude.◌&&◌, Prelude.nat_le, Prelude.nat_lt, List.count_by, List.range_with_len, Prelude.map, Prelude.min}
+use Rattle.memory_picture.specs.Grid.{overlaps}
 
 first_by : (place size n : ℕ) → 1 ≤ size → (place < suc n * size) ⊎ (suc n * size ≤ place) → nat_lt place (suc n * size) ≡ nat_le (place / size) n
 first_by place size n some (inl below) =

@@ -1,7 +1,7 @@
 -- A drawing that was opened, filled and closed.
 use Rattle.std.proofs.Common.{◌≡◌, ℕ, List, [], ◌++◌, ap, ◌∙◌, append_assoc, arith}
-use Rattle.std.specs.Prelude.{codes}
 use Rattle.std.proofs.lemmas.Grind.{common_steps}
+use Rattle.std.specs.Prelude.{codes}
 use Rattle.svg.specs.Forest.{Forest, forest_text}
 use Rattle.memory_picture.specs.Parts.{drawing, opening}
 

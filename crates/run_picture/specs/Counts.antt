@@ -1,22 +1,16 @@
 -- How many of a run's accesses each box of the picture takes, and how many each kind of unit makes to each kind of region.
 use Rattle.std.specs.Prelude.{ℕ, ◌+◌, ◌*◌, ◌==◌, ◌&&◌, Bool, true, false, List, map}
 use Rattle.std.specs.List.{count_by, range_with_len}
-use Rattle.buffer_table.specs.declared.buffer.Buffer.{Buffer}
-use Rattle.buffer_table.specs.declared.buffer.Kind.{Kind}
+use Rattle.buffer_table.specs.{declared.buffer.Buffer.Buffer, declared.buffer.Kind.Kind, declared.buffer.Regions.Regions, Table.buffer_at}
 use Rattle.buffer_table.specs.declared.buffer.Kind.TheVariants.{Plain, Code}
-use Rattle.buffer_table.specs.declared.buffer.Regions.{Regions}
-use Rattle.buffer_table.specs.Table.{buffer_at}
-use Rattle.field_words.specs.declared.access.Access.{Access}
-use Rattle.field_words.specs.declared.access.Actor.{Actor}
 use Rattle.field_words.specs.declared.access.Actor.TheVariants.{Binner, Renderer, Qpu, Tmu}
-use Rattle.field_words.specs.declared.access.Way.{Way}
 use Rattle.field_words.specs.declared.access.Way.TheVariants.{Read, Write, Wild}
+use Rattle.field_words.specs.{declared.access.Access.Access, declared.access.Actor.Actor, declared.access.Way.Way}
 use Rattle.relocation.specs.declared.layout.Layout.{Layout}
 use Rattle.replay.specs.declared.logged.Logged.{Logged}
 use Rattle.memory_picture.specs.Grid.{overlaps}
-use Rattle.run_text.specs.declared.spot.Spot.{Spot as TheSpot}
 use Rattle.run_text.specs.declared.spot.Spot.TheVariants.{Slot, BinList, Records, Uniforms, RenderList, Spare, InBuffer, Nowhere}
-use Rattle.run_text.specs.Spot.{spot_of}
+use Rattle.run_text.specs.{declared.spot.Spot.Spot as TheSpot, Spot.spot_of}
 
 abbrev pub is_way : Way → Way → Bool
 is_way Read Read = true

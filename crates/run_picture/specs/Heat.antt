@@ -1,6 +1,5 @@
 -- The heat: a strip of boxes for reads and one for writes, which shows how many accesses touch each box; over the memory's strip, paled.
-use Rattle.std.specs.Prelude.{ℕ, ◌+◌, ◌-◌, ◌*◌, ◌/◌, ◌%◌, ◌^◌, ◌==◌, min, List, [], ◌∷◌, ◌++◌, length, slice_index_or, codes, if◌then◌else◌}
-use Rattle.std.specs.Fmt.{decimal}
+use Rattle.std.specs.Prelude.{ℕ, ◌+◌, ◌-◌, ◌*◌, ◌/◌, ◌%◌, ◌^◌, ◌==◌, min, List, [], ◌∷◌, ◌++◌, length, slice_index_or, codes, if◌then◌else◌, decimal}
 use Rattle.svg.specs.Forest.{Forest, Nothing, Leaf, Beside, worded, numbered}
 use Rattle.memory_picture.specs.Parts.{rect, label, each}
 

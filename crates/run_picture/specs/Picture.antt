@@ -1,19 +1,13 @@
 -- The picture of a run: that of the memory; how far the run went; who touched what; and how often each box was touched.
-use Rattle.std.specs.Prelude.{ℕ, ◌+◌, ◌*◌, ◌/◌, max, List, length, codes}
-use Rattle.std.specs.Fmt.{decimal}
-use Rattle.buffer_table.specs.declared.buffer.Buffer.{Buffer}
-use Rattle.buffer_table.specs.declared.buffer.Regions.{Regions}
+use Rattle.std.specs.Prelude.{ℕ, ◌+◌, ◌*◌, ◌/◌, max, List, length, codes, decimal}
+use Rattle.buffer_table.specs.{declared.buffer.Buffer.Buffer, declared.buffer.Regions.Regions}
 use Rattle.field_words.specs.declared.access.Way.TheVariants.{Read, Write}
 use Rattle.relocation.specs.declared.layout.Layout.{Layout}
 use Rattle.replay.specs.declared.logged.Log.{Log}
 use Rattle.dumper.specs.Trace.{ending_name}
 use Rattle.svg.specs.Forest.{Forest, Beside}
-use Rattle.memory_picture.specs.Grid.{box_size, box_count}
-use Rattle.memory_picture.specs.Parts.{label, drawing}
-use Rattle.memory_picture.specs.Picture.{places, memory_parts}
-use Rattle.run_picture.specs.Counts.{box_counts, cell_counts}
-use Rattle.run_picture.specs.Heat.{heat_top, heat}
-use Rattle.run_picture.specs.Table.{unit_table}
+use Rattle.memory_picture.specs.{Grid.box_size, Grid.box_count, Parts.label, Parts.drawing, Picture.places, Picture.memory_parts}
+use Rattle.run_picture.specs.{Counts.box_counts, Counts.cell_counts, Heat.heat_top, Heat.heat, Table.unit_table}
 
 -- how many steps and accesses the run had, and how it ended
 unfoldable pub run_numbers : Log → Forest

@@ -1,6 +1,5 @@
 -- The table of a run: how many reads and writes each kind of unit makes to each kind of region.
-use Rattle.std.specs.Prelude.{ℕ, ◌+◌, ◌*◌, ◌==◌, List, ◌++◌, slice_index_or, codes, if◌then◌else◌}
-use Rattle.std.specs.Fmt.{decimal}
+use Rattle.std.specs.Prelude.{ℕ, ◌+◌, ◌*◌, ◌==◌, List, ◌++◌, slice_index_or, codes, if◌then◌else◌, decimal}
 use Rattle.svg.specs.Forest.{Forest, Beside}
 use Rattle.memory_picture.specs.Parts.{rect, label, each}
 

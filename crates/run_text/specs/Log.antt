@@ -1,19 +1,13 @@
 -- The text of all accesses of a run.
-use Rattle.std.specs.Prelude.{ℕ, false, List, ◌++◌, codes}
-use Rattle.std.specs.Fmt.{decimal, digits}
-use Rattle.std.specs.List.{flat_map}
-use Rattle.buffer_table.specs.declared.buffer.Buffer.{Buffer}
-use Rattle.buffer_table.specs.declared.buffer.Regions.{Regions}
-use Rattle.field_words.specs.declared.access.Way.{Way}
+use Rattle.std.specs.{Prelude.ℕ, Prelude.false, Prelude.List, Prelude.◌++◌, Prelude.codes, Fmt.decimal, Fmt.digits, List.flat_map}
+use Rattle.buffer_table.specs.{declared.buffer.Buffer.Buffer, declared.buffer.Regions.Regions}
 use Rattle.field_words.specs.declared.access.Way.TheVariants.{Read, Write, Wild}
+use Rattle.field_words.specs.declared.access.Way.{Way}
 use Rattle.relocation.specs.declared.layout.Layout.{Layout}
-use Rattle.replay.specs.declared.logged.Log.{Log as TheLog}
-use Rattle.replay.specs.declared.logged.Logged.{Logged}
-use Rattle.dumper.specs.Text.{place_text}
-use Rattle.dumper.specs.Trace.{unit_text, ending_text}
-use Rattle.run_text.specs.declared.spot.Spot.{Spot as TheSpot}
+use Rattle.replay.specs.{declared.logged.Log.Log as TheLog, declared.logged.Logged.Logged}
+use Rattle.dumper.specs.{Text.place_text, Trace.unit_text, Trace.ending_text}
 use Rattle.run_text.specs.declared.spot.Spot.TheVariants.{Slot, BinList, Records, Uniforms, RenderList, Spare, InBuffer, Nowhere}
-use Rattle.run_text.specs.Spot.{spot_of}
+use Rattle.run_text.specs.{declared.spot.Spot.Spot as TheSpot, Spot.spot_of}
 
 -- so many bytes into a thing: "buffer 3 + 0x40"
 unfoldable pub offset_text : (name : List ℕ) → (number offset : ℕ) → List ℕ

@@ -1,11 +1,10 @@
 -- What lies at a place of the memory of an accepted file: a tile slot, a list of a job, or a buffer.
 use Rattle.std.specs.Prelude.{ℕ, ◌+◌, ◌-◌, ◌*◌, ◌/◌, ◌%◌, ◌&&◌, nat_le, nat_lt, Bool, List, [], ◌∷◌, if◌then◌else◌}
 use Rattle.field_words.specs.Sizes.{slot_size}
-use Rattle.buffer_table.specs.declared.buffer.Buffer.{Buffer}
-use Rattle.buffer_table.specs.declared.buffer.Regions.{Regions}
+use Rattle.buffer_table.specs.{declared.buffer.Buffer.Buffer, declared.buffer.Regions.Regions}
 use Rattle.relocation.specs.declared.layout.Layout.{Layout}
-use Rattle.run_text.specs.declared.spot.Spot.{Spot as TheSpot}
 use Rattle.run_text.specs.declared.spot.Spot.TheVariants.{Slot, BinList, Records, Uniforms, RenderList, Spare, InBuffer, Nowhere}
+use Rattle.run_text.specs.declared.spot.Spot.{Spot as TheSpot}
 
 -- the place is one of so many bytes
 abbrev pub is_in : (begin size place : ℕ) → Bool

@@ -1,7 +1,6 @@
 -- The lines of a script, one after the other.
 use Rattle.std.proofs.Common.{◌≡◌, ℕ, ◌+◌, ◌≤◌, Bool, true, false, List, [], ◌∷◌, ◌++◌, length, refl, sym, ◌∙◌, ap, append_assoc, append-nil, arith, None, Some}
-use Rattle.script.specs.Lines.{lines_of, malformed_from}
-use Rattle.script.specs.Replies.{replies_from}
+use Rattle.script.specs.{Lines.lines_of, Lines.malformed_from, Replies.replies_from}
 
 pub malformed_here : (formed : List ℕ → Bool) (lines later : List (List ℕ)) (first : List ℕ) (number : ℕ) → lines ≡ first ∷ later → formed first ≡ false
     → malformed_from formed number lines ≡ Some number

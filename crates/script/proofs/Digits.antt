@@ -1,9 +1,7 @@
 -- Numbers that stop at a limit, and their digits.
 use Rattle.std.proofs.Common.{◌≡◌, ℕ, ◌+◌, ◌*◌, ◌-◌, ◌≤◌, ◌<◌, ◌==◌, ◌&&◌, not, Bool, true, false, min, List, [], ◌∷◌, length, get_or, drop, refl, sym, ◌∙◌, ap, arith, drop-cons, add-one}
-use Rattle.std.specs.Char.{is_ascii_digit}
-use Rattle.std.specs.Str.{all_ascii_digits}
-use Rattle.std.proofs.lemmas.Bool.{and_parts}
-use Rattle.std.proofs.lemmas.List.{drop_all}
+use Rattle.std.proofs.{lemmas.Bool.and_parts, lemmas.List.drop_all}
+use Rattle.std.specs.{Char.is_ascii_digit, Str.all_ascii_digits}
 use Rattle.script.specs.Number.{number_after, is_number}
 
 -- the digits from one place on

@@ -1,7 +1,6 @@
 -- What the lines of a script are answered, by whoever answers them one after the other.
 use Rattle.std.specs.Prelude.{◌≡◌, ℕ, List, [], ◌∷◌, ◌++◌, Option, Some}
-use Rattle.field_words.specs.declared.stop.Stop.{Stop}
-use Rattle.field_words.specs.declared.stop.Stop.TheVariants.{Fault, NoMemory}
+use Rattle.field_words.specs.{declared.stop.Stop.Stop, declared.stop.Stop.TheVariants.Fault, declared.stop.Stop.TheVariants.NoMemory}
 
 -- Each line is answered by what the lines before it left, which is a value of any type: `reply` is its answer, `after` what it leaves.
 unfoldable pub replies_from : {P : Type 0} → (P → List ℕ → List ℕ) → (P → List ℕ → P) → P → List (List ℕ) → List ℕ

@@ -1,26 +1,18 @@
 -- What is told of runs of an accepted file's machine: the steps, all accesses, a picture of these, or how each of many runs ended.
-use Rattle.std.specs.Prelude.{◌≡◌, ℕ, zero, suc, ◌+◌, ◌≤◌, ◌<◌, ◌^◌, List, [], ◌++◌, length, codes, Option}
-use Rattle.std.specs.Fmt.{decimal}
-use Rattle.buffer_table.specs.declared.buffer.Buffer.{Buffer}
-use Rattle.buffer_table.specs.declared.buffer.Regions.{Regions}
+use Rattle.std.specs.Prelude.{◌≡◌, ℕ, zero, suc, ◌+◌, ◌≤◌, ◌<◌, ◌^◌, List, [], ◌++◌, length, codes, Option, decimal}
+use Rattle.buffer_table.specs.{declared.buffer.Buffer.Buffer, declared.buffer.Regions.Regions}
 use Rattle.job_format.specs.Model.{FileModel}
 use Rattle.job_check.specs.Jobs.{layouts_of}
 use Rattle.job_safety.specs.Accepted.{machine_of}
-use Rattle.machine.specs.State.{State}
-use Rattle.machine.specs.Step.{Event}
+use Rattle.machine.specs.{State.State, Step.Event}
 use Rattle.relocation.specs.declared.layout.Layout.{Layout}
-use Rattle.replay.specs.declared.logged.Log.{Log}
-use Rattle.replay.specs.declared.trace.Trace.{Trace}
-use Rattle.replay.specs.declared.units.UnitKind.{UnitKind}
-use Rattle.replay.specs.Run.{IsTrace, IsLog}
+use Rattle.replay.specs.{declared.logged.Log.Log, declared.trace.Trace.Trace, declared.units.UnitKind.UnitKind, Run.IsTrace, Run.IsLog}
 use Rattle.dumper.specs.Trace.{trace_text, ending_text}
 use Rattle.run_text.specs.Log.{log_text}
 use Rattle.run_picture.specs.Picture.{run_picture}
 use Rattle.svg.specs.Forest.{forest_text}
-use Rattle.seeded_runs.specs.declared.told.Look.{Look}
 use Rattle.seeded_runs.specs.declared.told.Look.TheVariants.{Steps, Accesses, Picture, Seeds}
-use Rattle.seeded_runs.specs.declared.told.Trial.{Trial}
-use Rattle.seeded_runs.specs.Seeded.{Picks, Gives}
+use Rattle.seeded_runs.specs.{declared.told.Look.Look, declared.told.Trial.Trial, Seeded.Picks, Seeded.Gives}
 
 -- The text is that of the run which the script of the seed gives from this state, of at most so many steps.
 pub record IsStepText (version : ℕ) (machine : State) (favoured : Option UnitKind) (steps seed : ℕ) (text : List ℕ) : Type 0 where

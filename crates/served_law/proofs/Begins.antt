@@ -1,29 +1,21 @@
 -- What jobs whose shaders are served begin with.
 use Rattle.std.proofs.Common.{◌≡◌, ◌<◌, ℕ, zero, suc, ◌+◌, not, Bool, false, List, [], ◌∷◌, length, map, replicate, refl, sym, ap, subst, arith}
 use Rattle.field_words.specs.Pieces.{joined as joined_bytes}
-use Rattle.packets.specs.declared.config.Config.{Config}
-use Rattle.packets.specs.Packet.{slots_text}
+use Rattle.packets.specs.{declared.config.Config.Config, Packet.slots_text}
 use Rattle.emitted_facts.specs.Records.{is_single, code_word, stream_word}
 use Rattle.emitted_facts.proofs.Records.{header_in}
 use Rattle.bin_walks.specs.Walks.{Kept, nothing_kept, kept_after, Walks}
 use Rattle.machine_plan.specs.declared.launch.Launch.{Launch}
 use Rattle.machine_plan.specs.Regions.{Every, Interval, Rights, rights_of, HasReadOnly}
 use Rattle.list_machine.specs.Lists.{lists_start}
-use Rattle.list_law.specs.Binning.{DrawsSo}
-use Rattle.list_law.specs.Emitted.{words_in, program_in}
-use Rattle.list_law.specs.Lists.{ListsFine}
-use Rattle.list_law.specs.Uses.{Programs}
-use Rattle.list_law.proofs.Emitted.{emitted_programs}
-use Rattle.list_law.proofs.Start.{lists_begin, walks_so}
+use Rattle.list_law.specs.{Binning.DrawsSo, Emitted.words_in, Emitted.program_in, Lists.ListsFine, Uses.Programs}
+use Rattle.list_law.proofs.{Emitted.emitted_programs, Start.lists_begin, Start.walks_so}
 use Rattle.qpu_machine.specs.Qpu.{idle_qpu}
-use Rattle.machine.specs.declared.job.Start.{Start}
-use Rattle.machine.specs.State.{job_start, units_start}
-use Rattle.machine_law.specs.Begins.{LaunchBegins, JobBegins}
-use Rattle.machine_law.specs.Units.{EachAt}
+use Rattle.machine.specs.{declared.job.Start.Start, State.job_start, State.units_start}
+use Rattle.machine_law.specs.{Begins.LaunchBegins, Begins.JobBegins, Units.EachAt}
 use Rattle.machine_law.proofs.Begins.{homes_stay_law, fetches_stay, single_stays, word_stays, record_stays, text_stays}
-use Rattle.served_law.specs.Finish.{DrawServed, JobMayFinish}
+use Rattle.served_law.specs.{Finish.DrawServed, Finish.JobMayFinish, Waits.may_wait}
 use Rattle.served_law.specs.Known.{LaunchServed, QpuServed, AllGo, JobServed, UnitsServed}
-use Rattle.served_law.specs.Waits.{may_wait}
 
 -- a program that may be started in each run
 launch_served : (rights : List Rights) (plains : ℕ → List Interval) (first : List ℕ) (j : ℕ) (launch : Launch) → (begins : LaunchBegins rights plains first j launch) → may_wait begins.home.code ≡ false → LaunchServed rights (HasReadOnly rights first) j launch

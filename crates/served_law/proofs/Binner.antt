@@ -1,38 +1,24 @@
 -- One step of the binner keeps how often the semaphore is raised.
 use Rattle.std.proofs.Common.{◌≡◌, ◌≢◌, ◌≤◌, ◌<◌, ℕ, ◌+◌, ◌==◌, ◌||◌, Bool, true, false, List, [], ◌∷◌, ◌++◌, length, slice_index, Option, Some, None, if◌then◌else◌, refl, ◌∙◌, ap, subst, arith}
+use Rattle.std.proofs.{lemmas.Grind.common_steps, lemmas.Bool.Decides.nat_tests}
 use Rattle.std.specs.Prelude.{nat_lt}
-use Rattle.std.proofs.lemmas.Grind.{common_steps}
-use Rattle.std.proofs.lemmas.Bool.Decides.{nat_tests}
 use Rattle.field_words.specs.Pieces.{joined as joined_bytes}
-use Rattle.packets.specs.declared.config.Config.{Config}
-use Rattle.packets.specs.Length.{bin_length, bin_taken}
 use Rattle.packets.specs.Opcode.{halt, flush, start_tile_binning, increment_semaphore, indexed_primitive_list, array_primitive_list, gl_shader_state, tile_binning_mode}
+use Rattle.packets.specs.{declared.config.Config.Config, Length.bin_length, Length.bin_taken}
 use Rattle.bin_list.specs.Packets.{opcode}
-use Rattle.machine_plan.specs.declared.who.Who.{Who}
-use Rattle.machine_plan.specs.declared.launch.Free.{Free}
-use Rattle.machine_plan.specs.Glance.{glanced}
-use Rattle.machine_plan.specs.Memory.{bytes_at, stored}
-use Rattle.machine_plan.specs.Plan.{Plan, Done, Wilds, Writes}
-use Rattle.machine_plan.specs.World.{mapped}
-use Rattle.machine_plan.proofs.Plans.{keeps_weaker}
-use Rattle.machine_plan.proofs.Worlds.{keeps_mapped}
-use Rattle.list_machine.specs.declared.state.Item.{Item}
-use Rattle.list_machine.specs.declared.state.Program.TheVariants.{Coordinate}
-use Rattle.list_machine.specs.declared.state.Spot.{Spot}
-use Rattle.list_machine.specs.declared.state.Work.{Work}
+use Rattle.machine_plan.specs.{declared.who.Who.Who, declared.launch.Free.Free, Glance.glanced, Memory.bytes_at, Memory.stored}
+use Rattle.machine_plan.specs.{Plan.Plan, Plan.Done, Plan.Wilds, Plan.Writes, World.mapped}
+use Rattle.machine_plan.proofs.{Plans.keeps_weaker, Worlds.keeps_mapped}
 use Rattle.list_machine.specs.Lists.{Lists, Turned, quiet, past, incremented, flushed, with_work, with_item, with_block}
 use Rattle.list_machine.specs.Blocks.{tiles_of, spot_of, item_of, zeros, is_full, block_place, next_place, link_place, put_here, put_plan}
-use Rattle.list_machine.specs.Fetch.{fetch_plan}
-use Rattle.list_machine.specs.Start.{start_plan}
 use Rattle.list_machine.specs.Binner.{configured, with_word, started, begin_plan, draw_plan, halted, is_unknown, packet_plan, read_plan, fetched_with, started_with, chosen_tile, tile_plan, item_plan, work_plan, binner_by, binner_plan, binner_may, binner_ready}
+use Rattle.list_machine.specs.{declared.state.Item.Item, declared.state.Program.TheVariants.Coordinate, declared.state.Spot.Spot}
+use Rattle.list_machine.specs.{declared.state.Work.Work, Fetch.fetch_plan, Start.start_plan}
 use Rattle.list_law.proofs.Binning.{read_keeps, taken_is, plan_flush, plan_raise, plan_draw, plan_word, plan_start, plan_config, plan_halt}
-use Rattle.list_law.proofs.Bytes.{none_left, bytes_front, bytes_behind, byte_front, behind_ends}
-use Rattle.list_law.proofs.Logs.{same}
+use Rattle.list_law.proofs.{Bytes.none_left, Bytes.bytes_front, Bytes.bytes_behind, Bytes.byte_front, Bytes.behind_ends, Logs.same}
 use Rattle.list_law.proofs.Safe.{keeps_if}
-use Rattle.ends_law.proofs.Binner.{drawn_goes, begin_goes}
-use Rattle.ends_law.proofs.Plans.{AnyLook, AnyAccess, Comes, comes_any}
-use Rattle.served_law.specs.Known.{AllGo, ListsMeet, JobMeets}
-use Rattle.served_law.specs.Raises.{waits_in, raised_by}
+use Rattle.ends_law.proofs.{Binner.drawn_goes, Binner.begin_goes, Plans.AnyLook, Plans.AnyAccess, Plans.Comes, Plans.comes_any}
+use Rattle.served_law.specs.{Known.AllGo, Known.ListsMeet, Known.JobMeets, Raises.waits_in, Raises.raised_by}
 
 abbrev pub TurnedMeets : (List ℕ → Type 0) → Turned → Type 0
 TurnedMeets K turned = JobMeets K turned.lists

@@ -1,53 +1,30 @@
 -- Where no unit may step, all is finished, or the binner's job waits for room.
 use Rattle.std.proofs.Common.{◌≡◌, ◌≤◌, ◌<◌, ◌⊎◌, inl, inr, ℕ, zero, suc, ◌+◌, ◌==◌, ◌&&◌, ◌||◌, not, Bool, true, false, if◌then◌else◌, List, [], ◌∷◌, ◌++◌, length, slice_index, Option, Some, None, IfSome, refl, sym, ◌∙◌, ap, subst, arith}
-use Rattle.std.specs.Prelude.{is_some, is_none, nat_lt}
-use Rattle.std.specs.List.{list_all}
-use Rattle.std.proofs.lemmas.Bool.{and_parts, true≢false, false≢true}
-use Rattle.std.proofs.lemmas.Grind.{common_steps}
-use Rattle.std.proofs.lemmas.Bool.Decides.{nat_tests}
-use Rattle.std.proofs.lemmas.List.{length-append}
-use Rattle.field_words.specs.Pieces.{joined as joined_bytes}
+use Rattle.std.proofs.{lemmas.Bool.and_parts, lemmas.Bool.true≢false, lemmas.Bool.false≢true, lemmas.Grind.common_steps}
+use Rattle.std.proofs.{lemmas.Bool.Decides.nat_tests, lemmas.List.length-append}
+use Rattle.std.specs.{Prelude.is_some, Prelude.is_none, Prelude.nat_lt, List.list_all}
 use Rattle.field_words.specs.declared.access.Actor.TheVariants.{Binner as TheBinner, Renderer as TheRenderer, Qpu as TheQpu, Tmu as TheTmu}
-use Rattle.packets.specs.declared.packet.Packet.{Packet}
-use Rattle.packets.specs.Opcode.{wait_on_semaphore}
-use Rattle.packets.specs.Packet.{packet_text, slots_text}
-use Rattle.machine_plan.specs.declared.launch.Free.{Free}
-use Rattle.machine_plan.specs.Glance.{Now, At, glanced}
-use Rattle.machine_plan.specs.Memory.{bytes_at}
+use Rattle.field_words.specs.Pieces.{joined as joined_bytes}
+use Rattle.packets.specs.{declared.packet.Packet.Packet, Opcode.wait_on_semaphore, Packet.packet_text, Packet.slots_text}
 use Rattle.machine_plan.specs.Regions.{Every, Interval, Inside, Rights, rights_of, IsSafeAccess, HasReadOnly}
-use Rattle.machine_plan.specs.World.{Owes}
+use Rattle.machine_plan.specs.{declared.launch.Free.Free, Glance.Now, Glance.At, Glance.glanced, Memory.bytes_at, World.Owes}
 use Rattle.machine_plan.proofs.Others.{Holds, run_holds}
-use Rattle.list_machine.specs.declared.state.SubList.{SubList}
-use Rattle.list_machine.specs.declared.state.Work.{Work}
-use Rattle.list_machine.specs.Lists.{Lists}
-use Rattle.list_machine.specs.Start.{can_start}
+use Rattle.list_machine.specs.{declared.state.SubList.SubList, declared.state.Work.Work, Lists.Lists, Start.can_start}
 use Rattle.list_machine.specs.Binner.{has_binner_work, item_may, work_may, binner_may as may_bin, binner_ready}
 use Rattle.list_machine.specs.Renderer.{has_renderer_work, may_pass, ready_in, renderer_ready}
-use Rattle.list_law.proofs.Bytes.{none_left, bytes_front, byte_front}
-use Rattle.list_law.proofs.Rendering.{some_text}
-use Rattle.apart_law.proofs.Parts.{some_same}
-use Rattle.apart_law.proofs.Places.{first_is}
-use Rattle.qpu_machine.specs.declared.state.Qpu.{Qpu}
-use Rattle.qpu_machine.specs.declared.state.Request.{Request}
-use Rattle.qpu_machine.specs.declared.state.Thread.{Thread}
+use Rattle.list_law.proofs.{Bytes.none_left, Bytes.bytes_front, Bytes.byte_front, Rendering.some_text}
+use Rattle.apart_law.proofs.{Parts.some_same, Places.first_is}
 use Rattle.qpu_machine.specs.Qpu.{active_of, queued, ready_by, qpu_ready, oldest, takes_first, takes_other, slot_from, free_in, is_idle}
-use Rattle.qpu_machine.specs.Step.{thread_ready}
+use Rattle.qpu_machine.specs.{declared.state.Qpu.Qpu, declared.state.Request.Request, declared.state.Thread.Thread, Step.thread_ready}
 use Rattle.machine.specs.State.{Units, State, Picked, first_where, item_at, binner_job, renderer_job, units_start}
 use Rattle.machine.specs.Step.{is_ahead, binner_may, renderer_may, qpu_may, tmu_may, unit_turn, ready, turn, enabled, finished}
-use Rattle.machine_law.specs.Jobs.{ArePlain}
-use Rattle.machine_law.specs.Laws.{AreFine}
-use Rattle.machine_law.specs.Units.{EachAt}
-use Rattle.machine_law.proofs.Begins.{each_begins}
-use Rattle.machine_law.proofs.Owes.{units_owe_law, start_fine}
+use Rattle.machine_law.specs.{Jobs.ArePlain, Laws.AreFine, Units.EachAt}
+use Rattle.machine_law.proofs.{Begins.each_begins, Owes.units_owe_law, Owes.start_fine}
 use Rattle.ends_law.proofs.Plans.{keeps_both}
-use Rattle.served_law.specs.Finish.{WaitsForRoom, UnitsWait, IsStill, JobsFinish}
+use Rattle.served_law.specs.{Finish.WaitsForRoom, Finish.UnitsWait, Finish.IsStill, Finish.JobsFinish, Raises.waits_in, Raises.raised_by}
 use Rattle.served_law.specs.Known.{ThreadServed, QpuServed, AllGo, JobServed, UnitsServed}
-use Rattle.served_law.specs.Raises.{waits_in, raised_by}
-use Rattle.served_law.proofs.Begins.{each_begin, start_served}
-use Rattle.served_law.proofs.Machine.{unit_serves}
-use Rattle.served_law.proofs.Processors.{SlotServed, active_served}
-use Rattle.served_law.proofs.Renderer.{byte_waits}
-use Rattle.served_law.proofs.Threads.{thread_may, first_off}
+use Rattle.served_law.proofs.{Begins.each_begin, Begins.start_served, Machine.unit_serves, Processors.SlotServed, Processors.active_served}
+use Rattle.served_law.proofs.{Renderer.byte_waits, Threads.thread_may, Threads.first_off}
 
 zero_is : (n : ℕ) → (n == 0) ≡ true → n ≡ 0
 zero_is n on = grind (arith, common_steps, nat_tests, on)

@@ -1,41 +1,30 @@
 -- One step of the machine keeps what is known, whichever unit steps.
 use Rattle.std.proofs.Common.{◌≡◌, ℕ, zero, suc, true, IsTrue, List, [], ◌∷◌, length, Option, Some, None, IfSome, refl, ap, arith}
 use Rattle.std.proofs.lemmas.Bool.{false≢true}
-use Rattle.field_words.specs.declared.access.Actor.{Actor}
 use Rattle.field_words.specs.declared.access.Actor.TheVariants.{Binner as TheBinner, Renderer as TheRenderer, Qpu as TheQpu, Tmu as TheTmu}
-use Rattle.machine_plan.specs.declared.launch.Free.{Free}
-use Rattle.machine_plan.specs.declared.launch.Launch.{Launch}
-use Rattle.machine_plan.specs.declared.who.Who.{Who}
-use Rattle.machine_plan.specs.Glance.{glanced}
-use Rattle.machine_plan.specs.Plan.{Plan}
+use Rattle.field_words.specs.declared.access.Actor.{Actor}
+use Rattle.machine_plan.specs.{declared.launch.Free.Free, declared.launch.Launch.Launch, declared.who.Who.Who, Glance.glanced, Plan.Plan}
 use Rattle.machine_plan.specs.Regions.{Every, Inside, Rights, rights_of, IsSafeAccess, HasReadOnly}
 use Rattle.machine_plan.specs.World.{mapped}
-use Rattle.machine_plan.proofs.Plans.{keeps_weaker}
-use Rattle.machine_plan.proofs.Worlds.{keeps_mapped, keeps_result}
+use Rattle.machine_plan.proofs.{Plans.keeps_weaker, Worlds.keeps_mapped, Worlds.keeps_result}
 use Rattle.apart_law.proofs.Places.{put_every}
 use Rattle.list_machine.specs.Binner.{has_binner_work, binner_ready, binner_plan}
 use Rattle.list_machine.specs.Lists.{Lists, Turned, binner_of, renderer_of}
 use Rattle.list_machine.specs.Renderer.{has_renderer_work, renderer_ready, renderer_plan}
 use Rattle.list_law.specs.Lists.{TurnedFine}
-use Rattle.list_law.proofs.Binning.{binner_keeps}
-use Rattle.list_law.proofs.Rendering.{renderer_keeps}
-use Rattle.qpu_machine.specs.declared.state.Qpu.{Qpu}
-use Rattle.qpu_machine.specs.declared.state.Request.{Request}
-use Rattle.qpu_machine.specs.declared.state.Thread.{Thread}
+use Rattle.list_law.proofs.{Binning.binner_keeps, Rendering.renderer_keeps}
 use Rattle.qpu_machine.specs.Qpu.{active_of, job_of_thread, queued, ready_by, plan_by, went, queue_of, oldest, job_of_request, served, serving, free_in}
-use Rattle.qpu_machine.specs.Request.{ask_plan}
+use Rattle.qpu_machine.specs.{declared.state.Qpu.Qpu, declared.state.Request.Request, declared.state.Thread.Thread, Request.ask_plan}
 use Rattle.qpu_machine.specs.Step.{ThreadTurn, thread_plan}
-use Rattle.machine.specs.State.{Units, Picked, item_at, put_at, binner_job, renderer_job}
 use Rattle.machine.specs.Step.{with_launch, with_lists, with_qpu, is_ahead, binner_may, renderer_may, qpu_may, tmu_may, binner_turn, renderer_turn, qpu_turn, tmu_turn, unit_ready, unit_turn, ready, turn}
+use Rattle.machine.specs.State.{Units, Picked, item_at, put_at, binner_job, renderer_job}
 use Rattle.machine_law.specs.Laws.{AreFine}
 use Rattle.machine_law.proofs.Owes.{PickedFine, item_fine, put_each, first_fine, units_owe_law, not_held}
 use Rattle.ends_law.proofs.Plans.{AnyLook, AnyAccess, Comes, comes_any, keeps_both}
 use Rattle.ends_law.proofs.Machine.{comes_by, comes_mapped}
 use Rattle.served_law.specs.Known.{LaunchServed, QpuServed, JobServed, UnitsServed, StepsServe}
-use Rattle.served_law.proofs.Threads.{ThreadGoes, thread_goes}
 use Rattle.served_law.proofs.Processors.{SlotServed, active_served, went_served, served_served, launched_served, launched_long}
-use Rattle.served_law.proofs.Binner.{TurnedMeets, binner_meets}
-use Rattle.served_law.proofs.Renderer.{renderer_meets}
+use Rattle.served_law.proofs.{Threads.ThreadGoes, Threads.thread_goes, Binner.TurnedMeets, Binner.binner_meets, Renderer.renderer_meets}
 
 -- What a step of a list unit of job j came to is known again, and so is the program that it starts.
 record JobTurned (rights : List Rights) (K : List ℕ → Type 0) (j : ℕ) (turned : Turned) : Type 0 where

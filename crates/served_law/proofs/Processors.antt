@@ -1,21 +1,14 @@
 -- What is known of a processor: after a step of its thread, after one of a texture unit, and where a program starts in it.
 use Rattle.std.proofs.Common.{◌≡◌, ◌≢◌, ℕ, suc, ◌+◌, ◌==◌, ◌&&◌, ◌||◌, not, Bool, true, false, if◌then◌else◌, List, [], ◌∷◌, ◌++◌, length, Option, Some, None, IfSome, refl, sym, ◌∙◌, ap, subst, arith}
-use Rattle.std.specs.Prelude.{drop, is_some, is_none, option_map}
-use Rattle.std.proofs.lemmas.Bool.{and_parts, true≢false}
-use Rattle.std.proofs.lemmas.List.{length-append}
+use Rattle.std.proofs.{lemmas.Bool.and_parts, lemmas.Bool.true≢false, lemmas.List.length-append}
 use Rattle.std.proofs.lemmas.List.Sums.{sum_by-cons, sum_by_push}
-use Rattle.machine_plan.specs.declared.launch.Launch.{Launch}
-use Rattle.machine_plan.specs.Regions.{Every, Rights}
+use Rattle.std.specs.Prelude.{drop, is_some, is_none, option_map}
+use Rattle.machine_plan.specs.{declared.launch.Launch.Launch, Regions.Every, Regions.Rights}
 use Rattle.apart_law.proofs.Places.{chosen}
-use Rattle.qpu_machine.specs.declared.state.Asked.{Asked}
-use Rattle.qpu_machine.specs.declared.state.Fate.{Fate}
 use Rattle.qpu_machine.specs.declared.state.Fate.TheVariants.{GoesOn, Switches, Ends}
-use Rattle.qpu_machine.specs.declared.state.Qpu.{Qpu}
-use Rattle.qpu_machine.specs.declared.state.Request.{Request}
-use Rattle.qpu_machine.specs.declared.state.Thread.{Thread}
 use Rattle.qpu_machine.specs.Qpu.{active_of, is_of, queued, left_by, gives_way, woken_slot, queue_with, settled, went, oldest, queue_of, with_result, dropped, given, served, has_none, is_beside, takes_first, takes_other, in_first, in_other, started_in, launched}
-use Rattle.qpu_machine.specs.Start.{thread_of}
-use Rattle.qpu_machine.specs.Step.{ThreadTurn}
+use Rattle.qpu_machine.specs.{declared.state.Asked.Asked, declared.state.Fate.Fate, declared.state.Qpu.Qpu, declared.state.Request.Request}
+use Rattle.qpu_machine.specs.{declared.state.Thread.Thread, Start.thread_of, Step.ThreadTurn}
 use Rattle.ends_law.specs.Steps.{one_if}
 use Rattle.list_law.proofs.Logs.{same}
 use Rattle.served_law.specs.Known.{LaunchServed, ThreadServed, is_led, QpuServed}

@@ -1,44 +1,27 @@
 -- One step of the renderer keeps how often it waits for the semaphore.
 use Rattle.std.proofs.Common.{◌≡◌, ◌≤◌, ◌<◌, ℕ, ◌+◌, ◌-◌, ◌%◌, ◌==◌, ◌&&◌, not, Bool, true, false, List, [], ◌∷◌, length, slice_index, Option, Some, None, if◌then◌else◌, refl, sym, ◌∙◌, ap, subst, arith}
+use Rattle.std.proofs.{lemmas.Grind.common_steps, lemmas.Bool.true≢false, lemmas.Bool.Decides.nat_tests}
 use Rattle.std.specs.Prelude.{nat_lt}
-use Rattle.std.proofs.lemmas.Grind.{common_steps}
-use Rattle.std.proofs.lemmas.Bool.{true≢false}
-use Rattle.std.proofs.lemmas.Bool.Decides.{nat_tests}
-use Rattle.packets.specs.declared.packet.Packet.{Packet}
 use Rattle.packets.specs.declared.packet.Packet.TheVariants.{WaitOnSemaphore, BranchToSubList, StoreTileColor, StoreTileColorAndEnd, StoreFullResolution, LoadFullResolution, StoreTileBuffer, LoadTileBuffer, TileRenderingMode, ClearColors, TileCoordinates}
-use Rattle.packets.specs.Length.{render_taken}
-use Rattle.packets.specs.Opcode.{wait_on_semaphore}
+use Rattle.packets.specs.{declared.packet.Packet.Packet, Length.render_taken, Opcode.wait_on_semaphore}
 use Rattle.packets.specs.Packet.{packet_text, slots_text}
 use Rattle.packets.proofs.Laws.{decoded_text, taken_text}
 use Rattle.render_walks.specs.Walks.{AllFit}
-use Rattle.machine_plan.specs.declared.who.Who.{Who}
-use Rattle.machine_plan.specs.declared.launch.Free.{Free}
-use Rattle.machine_plan.specs.Choice.{word_at}
-use Rattle.machine_plan.specs.Glance.{Now, At, glanced}
-use Rattle.machine_plan.specs.Memory.{bytes_at}
-use Rattle.machine_plan.specs.Plan.{Done, Wilds}
-use Rattle.machine_plan.specs.World.{mapped}
+use Rattle.machine_plan.specs.{declared.who.Who.Who, declared.launch.Free.Free, Choice.word_at, Glance.Now, Glance.At, Glance.glanced}
+use Rattle.machine_plan.specs.{Memory.bytes_at, Plan.Done, Plan.Wilds, World.mapped}
 use Rattle.machine_plan.proofs.Worlds.{keeps_mapped}
-use Rattle.list_machine.specs.declared.state.Found.{Found}
-use Rattle.list_machine.specs.declared.state.Item.{Item}
-use Rattle.list_machine.specs.declared.state.Load.TheVariants.{Full, General}
-use Rattle.list_machine.specs.declared.state.Program.{Program}
-use Rattle.list_machine.specs.declared.state.Program.TheVariants.{Fragment, Vertex}
-use Rattle.list_machine.specs.declared.state.SubList.{SubList}
-use Rattle.list_machine.specs.Lists.{Lists, Turned, turned_to, quiet, with_taken}
-use Rattle.list_machine.specs.Fetch.{fetch_plan}
-use Rattle.list_machine.specs.Start.{start_plan}
-use Rattle.list_machine.specs.Surfaces.{whole_written}
 use Rattle.list_machine.specs.Renderer.{beyond, with_inside, enter_plan, tile_by, branch_plan, tile_plan, at_tile, act, item_at, at_item, fetched, vertex_plan, program_plan, choice_plan, found_plan, plan_in, renderer_plan, may_pass, ready_in, renderer_ready}
-use Rattle.list_machine.proofs.Items.{ready_below}
-use Rattle.list_machine.proofs.Keeping.{packet_keeps}
-use Rattle.list_law.proofs.Bytes.{none_left, bytes_front, bytes_behind, byte_front, behind_ends}
+use Rattle.list_machine.specs.{declared.state.Found.Found, declared.state.Item.Item, declared.state.Program.Program, Fetch.fetch_plan}
+use Rattle.list_machine.specs.{declared.state.Load.TheVariants.Full, declared.state.Load.TheVariants.General, Start.start_plan}
+use Rattle.list_machine.specs.declared.state.Program.TheVariants.{Fragment, Vertex}
+use Rattle.list_machine.specs.{declared.state.SubList.SubList, Lists.Lists, Lists.Turned, Lists.turned_to, Lists.quiet, Lists.with_taken}
+use Rattle.list_machine.specs.Surfaces.{whole_written}
+use Rattle.list_machine.proofs.{Items.ready_below, Keeping.packet_keeps}
+use Rattle.list_law.proofs.{Bytes.none_left, Bytes.bytes_front, Bytes.bytes_behind, Bytes.byte_front, Bytes.behind_ends, Safe.keeps_if}
 use Rattle.list_law.proofs.Rendering.{some_text}
-use Rattle.list_law.proofs.Safe.{keeps_if}
 use Rattle.ends_law.proofs.Plans.{AnyLook, AnyAccess, Comes, comes_any}
 use Rattle.ends_law.proofs.Renderer.{frame_stored, general_stored, waiting_loaded, wait_goes}
-use Rattle.served_law.specs.Known.{ListsMeet, JobMeets}
-use Rattle.served_law.specs.Raises.{waits_of, waits_in, raised_by}
+use Rattle.served_law.specs.{Known.ListsMeet, Known.JobMeets, Raises.waits_of, Raises.waits_in, Raises.raised_by}
 use Rattle.served_law.proofs.Binner.{TurnedMeets}
 
 -- The renderer goes into a tile's list.

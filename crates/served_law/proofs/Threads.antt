@@ -1,40 +1,25 @@
 -- A thread of a shader that is served keeps count of what it has outstanding, and is never held up but by a queued request.
 use Rattle.std.proofs.Common.{◌≡◌, ◌≢◌, ◌≤◌, ◌<◌, inl, inr, ℕ, zero, suc, ◌+◌, ◌-◌, ◌%◌, ◌^◌, ◌==◌, ◌&&◌, ◌||◌, not, Bool, true, false, List, [], ◌∷◌, length, Option, Some, None, if◌then◌else◌, refl, sym, ◌∙◌, ap, subst, arith}
-use Rattle.std.specs.Int.{from_le_bytes, w64}
-use Rattle.std.specs.Prelude.{nat_le, drop}
-use Rattle.std.proofs.lemmas.Bool.{false_from_ne_true, not-true, true≢false}
-use Rattle.std.proofs.lemmas.Grind.{common_steps}
+use Rattle.std.proofs.{lemmas.Bool.false_from_ne_true, lemmas.Bool.not-true, lemmas.Bool.true≢false, lemmas.Grind.common_steps}
 use Rattle.std.proofs.lemmas.Bool.Decides.{nat_tests}
+use Rattle.std.specs.{Int.from_le_bytes, Int.w64, Prelude.nat_le, Prelude.drop}
 use Rattle.field_words.specs.Words.{u32_at}
-use Rattle.qpu_isa.specs.Word.{waddr_add_of, waddr_mul_of}
 use Rattle.qpu_isa.specs.Terms.{is_branch, target_of, writes_s, s_address, names_address, add_names, mul_names, add_is_tmu, mul_is_tmu, has_two_tmu_writes}
+use Rattle.qpu_isa.specs.Word.{waddr_add_of, waddr_mul_of}
 use Rattle.shader_flow.specs.Flow.{word, end_of, checked_of}
-use Rattle.shader_flow.proofs.Bounded.{some_below_not}
-use Rattle.shader_flow.proofs.Ends.{checked_of-le}
+use Rattle.shader_flow.proofs.{Bounded.some_below_not, Ends.checked_of-le}
 use Rattle.uniform_stream.specs.Rules.{s20}
-use Rattle.machine_plan.specs.declared.launch.Launch.{Launch}
-use Rattle.machine_plan.specs.declared.who.Who.{Who}
-use Rattle.machine_plan.specs.Glance.{glanced}
-use Rattle.machine_plan.specs.Memory.{bytes_at}
-use Rattle.machine_plan.specs.Plan.{Plan, Done, Wilds, Reads}
-use Rattle.machine_plan.specs.Regions.{Rights, rights_of}
-use Rattle.list_law.proofs.Safe.{keeps_if}
-use Rattle.list_law.proofs.Logs.{same}
-use Rattle.qpu_machine.specs.declared.state.Asked.{Asked}
-use Rattle.qpu_machine.specs.Operands.{add_row, mul_row}
-use Rattle.qpu_machine.specs.declared.state.Fate.TheVariants.{Ends}
-use Rattle.qpu_machine.specs.declared.state.Thread.{Thread}
-use Rattle.qpu_machine.specs.Start.{thread_of}
+use Rattle.machine_plan.specs.{declared.launch.Launch.Launch, declared.who.Who.Who, Glance.glanced, Memory.bytes_at}
+use Rattle.machine_plan.specs.{Plan.Plan, Plan.Done, Plan.Wilds, Plan.Reads, Regions.Rights, Regions.rights_of}
+use Rattle.list_law.proofs.{Safe.keeps_if, Logs.same}
 use Rattle.qpu_machine.specs.Step.{ThreadTurn, executed, executed_with, word_plan, thread_plan, is_held_by, is_held, thread_ready}
-use Rattle.qpu_machine.specs.Wild.{takes_one, is_wild}
 use Rattle.qpu_machine.specs.Writes.{awake, past_uniform, rested, worked, went_on, loaded, stored, written, multiplied, added, written_at, ask_of, asked, loads, results_after}
-use Rattle.qpu_law.specs.Home.{Home, HasNoFault, Jumps, GoesTo, done, readied}
-use Rattle.qpu_law.specs.Thread.{IsHome}
-use Rattle.qpu_law.proofs.Going.{fine_at, in_checked, is_went, stays_in_code_law}
-use Rattle.qpu_law.proofs.Starting.{starts_stand_law}
+use Rattle.qpu_machine.specs.{declared.state.Asked.Asked, Operands.add_row, Operands.mul_row, declared.state.Fate.TheVariants.Ends}
+use Rattle.qpu_machine.specs.{declared.state.Thread.Thread, Start.thread_of, Wild.takes_one, Wild.is_wild}
+use Rattle.qpu_law.specs.{Home.Home, Home.HasNoFault, Home.Jumps, Home.GoesTo, Home.done, Home.readied, Thread.IsHome}
+use Rattle.qpu_law.proofs.{Going.fine_at, Going.in_checked, Going.is_went, Going.stays_in_code_law, Starting.starts_stand_law}
 use Rattle.ends_law.specs.Steps.{one_if}
-use Rattle.ends_law.proofs.Plans.{AnyLook, AnyAccess, Comes}
-use Rattle.ends_law.proofs.Threads.{not_both}
+use Rattle.ends_law.proofs.{Plans.AnyLook, Plans.AnyAccess, Plans.Comes, Threads.not_both}
 use Rattle.served_law.specs.Known.{LaunchServed, ThreadServed}
 use Rattle.served_law.specs.Waits.{outstanding_after, outstanding, waits_for, forks, waits_at, may_wait}
 

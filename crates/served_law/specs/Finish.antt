@@ -1,23 +1,15 @@
 -- The law: where no unit may step, the jobs have finished, or one waits for room in its tile lists.
 use Rattle.std.specs.Prelude.{◌≡◌, ◌≤◌, ◌⊎◌, ℕ, true, false, nat_lt, List, Some}
 use Rattle.std.specs.List.{list_all}
-use Rattle.field_words.specs.declared.access.Access.{Access}
-use Rattle.field_words.specs.declared.access.Actor.{Actor}
-use Rattle.machine_plan.specs.Others.{Happening, OthersRun}
-use Rattle.machine_plan.specs.Regions.{Interval, Rights, HasReadOnly}
+use Rattle.field_words.specs.{declared.access.Access.Access, declared.access.Actor.Actor}
+use Rattle.machine_plan.specs.{Others.Happening, Others.OthersRun, Regions.Interval, Regions.Rights, Regions.HasReadOnly}
 use Rattle.bin_walks.specs.Walks.{nothing_kept, Walks}
-use Rattle.list_machine.specs.declared.state.Work.{Work}
-use Rattle.list_machine.specs.Lists.{Lists}
-use Rattle.list_machine.specs.Binner.{item_may}
+use Rattle.list_machine.specs.{declared.state.Work.Work, Lists.Lists, Binner.item_may}
 use Rattle.qpu_machine.specs.Qpu.{is_idle}
-use Rattle.machine.specs.declared.job.Start.{Start}
-use Rattle.machine.specs.State.{Units, State, Picked, units_start, binner_job}
+use Rattle.machine.specs.{declared.job.Start.Start, State.Units, State.State, State.Picked, State.units_start, State.binner_job}
 use Rattle.machine.specs.Step.{Event, ready, turn, enabled, finished}
-use Rattle.machine_law.specs.Begins.{DrawBegins, JobBegins}
-use Rattle.machine_law.specs.Jobs.{ArePlain}
-use Rattle.machine_law.specs.Units.{EachAt}
-use Rattle.served_law.specs.Raises.{waits_in, raised_by}
-use Rattle.served_law.specs.Waits.{may_wait}
+use Rattle.machine_law.specs.{Begins.DrawBegins, Begins.JobBegins, Jobs.ArePlain, Units.EachAt}
+use Rattle.served_law.specs.{Raises.waits_in, Raises.raised_by, Waits.may_wait}
 
 -- A primitive is in work of which all vertices and programs are done, and the tile lists have no room for a further item.
 pub record WaitsForRoom (s : Lists) : Type 0 where

@@ -1,33 +1,19 @@
 -- What is known of threads, processors and jobs whose shaders wait for nothing but queued requests.
 use Rattle.std.specs.Prelude.{◌≡◌, ◌≢◌, ◌≤◌, ℕ, ◌+◌, ◌||◌, Bool, true, false, List, [], ◌∷◌, length, Option, IfSome, IsTrue, is_some, is_none, if◌then◌else◌}
 use Rattle.field_words.specs.Pieces.{joined as joined_bytes}
-use Rattle.machine_plan.specs.declared.launch.Launch.{Launch}
-use Rattle.machine_plan.specs.Memory.{bytes_at}
+use Rattle.machine_plan.specs.{declared.launch.Launch.Launch, Memory.bytes_at}
 use Rattle.machine_plan.specs.Regions.{Interval, Every, Rights, rights_of, HasReadOnly}
-use Rattle.packets.specs.declared.config.Config.{Config}
-use Rattle.packets.specs.declared.packet.Packet.{Packet}
-use Rattle.packets.specs.Length.{bin_length}
-use Rattle.packets.specs.Opcode.{halt}
-use Rattle.packets.specs.Packet.{slots_text}
+use Rattle.packets.specs.{declared.config.Config.Config, declared.packet.Packet.Packet, Length.bin_length, Opcode.halt, Packet.slots_text}
 use Rattle.bin_list.specs.Packets.{opcode}
 use Rattle.render_walks.specs.Walks.{AllFit}
-use Rattle.list_machine.specs.declared.state.Frame.{Frame}
-use Rattle.list_machine.specs.Lists.{Lists}
-use Rattle.list_law.specs.Binning.{Allocates}
-use Rattle.list_law.specs.Lists.{ListsFine}
-use Rattle.qpu_machine.specs.declared.state.Qpu.{Qpu}
-use Rattle.qpu_machine.specs.declared.state.Thread.{Thread}
-use Rattle.qpu_machine.specs.Qpu.{queued}
-use Rattle.qpu_law.specs.Home.{Home, IsAt}
-use Rattle.qpu_law.specs.Thread.{IsHome}
+use Rattle.list_machine.specs.{declared.state.Frame.Frame, Lists.Lists}
+use Rattle.list_law.specs.{Binning.Allocates, Lists.ListsFine}
+use Rattle.qpu_machine.specs.{declared.state.Qpu.Qpu, declared.state.Thread.Thread, Qpu.queued}
+use Rattle.qpu_law.specs.{Home.Home, Home.IsAt, Thread.IsHome}
 use Rattle.shader_flow.specs.Flow.{is_threaded}
-use Rattle.machine.specs.State.{Units, State}
-use Rattle.machine.specs.Step.{Event, may, step}
-use Rattle.machine_law.specs.Jobs.{ArePlain}
-use Rattle.machine_law.specs.Laws.{AreFine}
-use Rattle.machine_law.specs.Units.{EachAt}
-use Rattle.served_law.specs.Raises.{waits_in, raised_by}
-use Rattle.served_law.specs.Waits.{outstanding, may_wait}
+use Rattle.machine.specs.{State.Units, State.State, Step.Event, Step.may, Step.step}
+use Rattle.machine_law.specs.{Jobs.ArePlain, Laws.AreFine, Units.EachAt}
+use Rattle.served_law.specs.{Raises.waits_in, Raises.raised_by, Waits.outstanding, Waits.may_wait}
 
 -- Job j may start the program: it is that of a shader that waits for nothing else, whose words stand in each memory of K.
 pub record LaunchServed (rights : List Rights) (K : List ℕ → Type 0) (j : ℕ) (launch : Launch) : Type 0 where

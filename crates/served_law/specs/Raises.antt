@@ -1,8 +1,7 @@
 -- How often a renderer's list waits for the semaphore, and how often the binner's raises it.
 use Rattle.std.specs.Prelude.{ℕ, ◌+◌, ◌==◌, if◌then◌else◌, List, [], ◌∷◌, Option, Some, None}
-use Rattle.packets.specs.Opcode.{increment_semaphore, flush}
-use Rattle.packets.specs.declared.packet.Packet.{Packet}
 use Rattle.packets.specs.declared.packet.Packet.TheVariants.{WaitOnSemaphore, BranchToSubList, StoreTileColor, StoreTileColorAndEnd, StoreFullResolution, LoadFullResolution, StoreTileBuffer, LoadTileBuffer, TileRenderingMode, ClearColors, TileCoordinates}
+use Rattle.packets.specs.{Opcode.increment_semaphore, Opcode.flush, declared.packet.Packet.Packet}
 use Rattle.bin_list.specs.Packets.{opcode}
 
 abbrev pub waits_of : Packet → ℕ

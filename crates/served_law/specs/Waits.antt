@@ -1,8 +1,7 @@
 -- Shaders that wait for no request of a texture unit (TMU) but one that is queued.
 use Rattle.std.specs.Prelude.{ℕ, zero, suc, ◌+◌, ◌-◌, ◌==◌, Bool, not, ◌&&◌, ◌||◌, List, nat_le}
 use Rattle.qpu_isa.specs.Terms.{is_branch, target_of, writes_s}
-use Rattle.shader_flow.specs.Bounded.{some_below}
-use Rattle.shader_flow.specs.Flow.{word, checked_of}
+use Rattle.shader_flow.specs.{Bounded.some_below, Flow.word, Flow.checked_of}
 use Rattle.qpu_machine.specs.Writes.{loads}
 use Rattle.ends_law.specs.Steps.{one_if}
 

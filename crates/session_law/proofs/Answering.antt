@@ -1,30 +1,22 @@
 -- Calls answer and leave what the calls before them say, from a new session on.
-use Rattle.job_session.proofs.Held.{held_none}
-use Rattle.std.proofs.lemmas.Bool.Decides.{nat_tests}
-use Rattle.job_session.specs.Places.{covers, is_used}
-use Rattle.buffer_table.specs.declared.buffer.Kind.TheVariants.{Plain}
+use Rattle.job_session.proofs.{Held.held_none, Apart.replies_are_own, Bytes.is_within, Bytes.within_none, Bytes.zero_at}
 use Rattle.std.proofs.Common.{ne_eqb, ◌≡◌, ℕ, ◌+◌, ◌<◌, ◌==◌, not, nat_lt, Bool, true, false, if◌then◌else◌, List, [], ◌∷◌, ◌++◌, length, get_or, slice_index, replicate, None, arith, refl, sym, ◌∙◌, ap, subst}
-use Rattle.std.proofs.lemmas.List.{get_or-replicate, length-replicate}
+use Rattle.std.proofs.{lemmas.Bool.Decides.nat_tests, lemmas.List.get_or-replicate, lemmas.List.length-replicate}
+use Rattle.job_session.specs.Own.{Command, Create, Make, Write, Read, Free, Submit, Reply, own_replies, outcome, most_buffers}
+use Rattle.job_session.specs.Desk.{Desk, SlotsFit, slot_count, slot_of, empty, first_page, page_total, held_in}
+use Rattle.job_session.specs.{Places.covers, Places.is_used, Checked.session_rules, Laws.NoneIsFull}
+use Rattle.job_session.specs.Session.{Call, Past, none_yet, reply_to, after, replies_to}
+use Rattle.job_session.specs.Replies.{desk_reply, desk_after, command_reply, command_after}
+use Rattle.buffer_table.specs.declared.buffer.Kind.TheVariants.{Plain}
 use Rattle.field_words.specs.Writes.{zeros}
 use Rattle.field_words.proofs.Writes.{length_zeros}
 use Rattle.job_format.specs.declared.rule.Refusal.{Refusal}
-use Rattle.session_pages.specs.Runs.{page_count}
-use Rattle.session_pages.specs.Map.{memory_size, place_of}
-use Rattle.job_session.specs.Own.{Command, Create, Make, Write, Read, Free, Submit, Reply, own_replies, outcome, most_buffers}
-use Rattle.job_session.specs.Session.{Call, Past, none_yet, reply_to, after, replies_to}
-use Rattle.job_session.specs.Checked.{session_rules}
-use Rattle.job_session.specs.Desk.{Desk, SlotsFit, slot_count, slot_of, empty, first_page, page_total, held_in}
-use Rattle.job_session.specs.Replies.{desk_reply, desk_after, command_reply, command_after}
+use Rattle.session_pages.specs.{Runs.page_count, Map.memory_size, Map.place_of}
+use Rattle.session_law.specs.Laws.{NewSessionsAgree, CallsAreAnswered, HistoriesAgree, SessionsGoOn, RepliesAreOfHistories, ClientsAreApart, OthersChangeNothing}
 use Rattle.session_law.specs.Agree.{IsKey, client_count, place_in, owner_at, Agrees}
 use Rattle.session_law.specs.History.{AreKnown, desk_left, past_left, desk_replies_to}
-use Rattle.job_session.specs.Laws.{NoneIsFull}
-use Rattle.session_law.specs.Laws.{NewSessionsAgree, CallsAreAnswered, HistoriesAgree, SessionsGoOn, RepliesAreOfHistories, ClientsAreApart, OthersChangeNothing}
-use Rattle.job_session.proofs.Apart.{replies_are_own}
-use Rattle.job_session.proofs.Bytes.{is_within, within_none, zero_at}
-use Rattle.session_law.proofs.Changing.{held_past, slot_below}
+use Rattle.session_law.proofs.{Changing.held_past, Changing.slot_below, Creating.create_meets, Coding.code_meets}
 use Rattle.session_law.proofs.Outcomes.{Meets, write_meets, read_meets, free_meets, submit_meets}
-use Rattle.session_law.proofs.Creating.{create_meets}
-use Rattle.session_law.proofs.Coding.{code_meets}
 
 -- a new session
 record IsNew (desk : Desk) (bytes pages slots : ℕ) : Type 0 where

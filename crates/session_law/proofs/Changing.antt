@@ -1,18 +1,15 @@
 -- One slot changes, with the pages that it has or gets: all others stay as they are.
 use Rattle.overflow_slots.proofs.Searches.{equal, apart_by}
-use Rattle.job_session.proofs.Held.{held_some}
+use Rattle.job_session.proofs.{Held.held_some, Bytes.is_within, Bytes.window_same}
 use Rattle.std.proofs.Common.{ne_eqb, ◌≡◌, ◌⊎◌, inl, inr, ℕ, ◌+◌, ◌*◌, ◌/◌, ◌%◌, ◌<◌, ◌≤◌, ◌==◌, ◌&&◌, not, nat_lt, Bool, true, false, if◌then◌else◌, List, slice_index, Option, Some, None, arith, refl, sym, ◌∙◌, ap, subst}
 use Rattle.std.proofs.lemmas.Bool.Decides.{nat_tests}
 use Rattle.field_words.specs.Sizes.{page_size}
 use Rattle.buffer_table.specs.declared.buffer.Kind.{Kind}
-use Rattle.session_pages.specs.Runs.{page_count}
-use Rattle.session_pages.specs.Map.{place_of}
-use Rattle.job_session.specs.Own.{Held, most_buffers, with_buffer}
-use Rattle.job_session.specs.Places.{Place, covers, is_used}
-use Rattle.job_session.specs.Session.{Past, with_own}
+use Rattle.session_pages.specs.{Runs.page_count, Map.place_of}
 use Rattle.job_session.specs.Desk.{Desk, slot_count, slot_of, first_page, page_total, kind_of, bytes_of, held_in}
+use Rattle.job_session.specs.{Own.Held, Own.most_buffers, Own.with_buffer, Places.Place, Places.covers, Places.is_used}
+use Rattle.job_session.specs.Session.{Past, with_own}
 use Rattle.session_law.specs.Agree.{IsKey, IsSized, place_in, owner_at, client_count, AreListed, Agrees}
-use Rattle.job_session.proofs.Bytes.{is_within, window_same}
 
 pub slot_below : (client id : ℕ) → IsKey client id → slot_of client id < slot_count
 slot_below client id key = omega (arith, key.known, key.small)

@@ -1,25 +1,19 @@
 -- What `code` answers and leaves.
 use Rattle.std.proofs.Common.{eq-eqb, ◌≡◌, ℕ, ◌-◌, ◌*◌, ◌<◌, ◌≤◌, ◌==◌, Bool, true, false, List, ◌∷◌, ◌++◌, length, Option, Some, None, arith, refl, sym, ◌∙◌, ap, subst}
-use Rattle.std.proofs.lemmas.List.{places, length-append}
-use Rattle.std.proofs.lemmas.Grind.{same_number_lists}
-use Rattle.field_words.specs.Sizes.{page_size}
-use Rattle.field_words.specs.Writes.{with_bytes, zeros}
+use Rattle.std.proofs.{lemmas.List.places, lemmas.List.length-append, lemmas.Grind.same_number_lists}
+use Rattle.field_words.specs.{Sizes.page_size, Writes.with_bytes, Writes.zeros}
 use Rattle.field_words.proofs.Writes.{length_zeros}
 use Rattle.buffer_table.specs.declared.buffer.Kind.TheVariants.{Code}
 use Rattle.job_format.specs.declared.rule.Refusal.{Refusal}
 use Rattle.session_pages.specs.Map.{free_run}
-use Rattle.job_session.specs.Own.{Held, Make, NewBuffer, with_buffer, new_by, make_by, padded}
-use Rattle.job_session.specs.Places.{Place, least_place}
-use Rattle.job_session.specs.Session.{Past, with_own, pages_of}
-use Rattle.job_session.specs.Checked.{shader_refusal, session_rules}
 use Rattle.job_session.specs.Desk.{Desk, page_total, bytes_of, least_id, placed_id, created_id, denied_id, made_id, code_answer, made, pages_for, with_written}
-use Rattle.job_session.specs.Replies.{made_reply}
+use Rattle.job_session.specs.{Own.Held, Own.Make, Own.NewBuffer, Own.with_buffer, Own.new_by, Own.make_by, Own.padded, Replies.made_reply}
+use Rattle.job_session.specs.{Places.Place, Places.least_place, Session.Past, Session.with_own, Session.pages_of}
+use Rattle.job_session.specs.Checked.{shader_refusal, session_rules}
 use Rattle.session_law.specs.Agree.{IsKey, client_count, Agrees}
 use Rattle.session_law.proofs.Making.{HasRoom, make_agrees, made_at, made_pages, made_kind, make_bytes, new_place, zero_buffer}
-use Rattle.session_law.proofs.Writing.{Lies, write_agrees, written_buffer}
-use Rattle.session_law.proofs.Rooms.{same_id, same_room, id_found, room_found}
-use Rattle.session_law.proofs.Outcomes.{Meets, same_agrees}
-use Rattle.session_law.proofs.Shaders.{shader_some}
+use Rattle.session_law.proofs.{Writing.Lies, Writing.write_agrees, Writing.written_buffer, Outcomes.Meets, Outcomes.same_agrees}
+use Rattle.session_law.proofs.{Rooms.same_id, Rooms.same_room, Rooms.id_found, Rooms.room_found, Shaders.shader_some}
 
 -- the shader's pages hold it
 pub pages_hold : (bytes : List ℕ) → length bytes ≤ page_size * pages_for bytes

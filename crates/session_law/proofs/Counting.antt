@@ -4,10 +4,7 @@ use Rattle.std.proofs.Common.{◌≡◌, ℕ, zero, suc, ◌+◌, ◌-◌, ◌<�
 use Rattle.std.proofs.lemmas.Bool.Decides.{nat_tests}
 use Rattle.overflow_slots.specs.Search.{count_where}
 use Rattle.session_pages.specs.Runs.{page_count}
-use Rattle.job_session.specs.Own.{most_buffers}
-use Rattle.job_session.specs.Places.{covers}
-use Rattle.job_session.specs.Session.{Past}
-use Rattle.job_session.specs.Desk.{Desk, slot_of, first_page, page_total}
+use Rattle.job_session.specs.{Own.most_buffers, Places.covers, Session.Past, Desk.Desk, Desk.slot_of, Desk.first_page, Desk.page_total}
 use Rattle.session_law.specs.Agree.{IsKey, client_count, place_in, owner_at, Agrees}
 use Rattle.job_session.proofs.Bytes.{is_within}
 use Rattle.session_law.proofs.Changing.{slot_below}

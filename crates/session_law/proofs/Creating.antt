@@ -3,18 +3,14 @@ use Rattle.std.proofs.Common.{◌≡◌, ℕ, ◌*◌, ◌<◌, ◌≤◌, ◌==
 use Rattle.std.proofs.lemmas.Bool.Decides.{nat_tests}
 use Rattle.field_words.specs.Sizes.{page_size}
 use Rattle.field_words.proofs.Writes.{length_zeros}
-use Rattle.buffer_table.specs.declared.buffer.Kind.{Kind}
-use Rattle.buffer_table.specs.declared.buffer.Kind.TheVariants.{Plain}
+use Rattle.buffer_table.specs.{declared.buffer.Kind.Kind, declared.buffer.Kind.TheVariants.Plain}
 use Rattle.session_pages.specs.Map.{free_run}
-use Rattle.job_session.specs.Own.{Create, NewBuffer, most_pages, with_buffer, new_by, create_of}
-use Rattle.job_session.specs.Places.{least_place}
-use Rattle.job_session.specs.Session.{Past, with_own, pages_of}
+use Rattle.job_session.specs.{Own.Create, Own.NewBuffer, Own.most_pages, Own.with_buffer, Own.new_by, Own.create_of, Places.least_place}
+use Rattle.job_session.specs.{Session.Past, Session.with_own, Session.pages_of, Replies.created_reply}
 use Rattle.job_session.specs.Desk.{Desk, page_total, least_id, placed_id, created_id, create_answer, created}
-use Rattle.job_session.specs.Replies.{created_reply}
 use Rattle.session_law.specs.Agree.{IsKey, client_count, Agrees}
 use Rattle.session_law.proofs.Making.{make_agrees, made_at, new_place, zero_buffer}
-use Rattle.session_law.proofs.Rooms.{same_id, same_room, id_found, room_found}
-use Rattle.session_law.proofs.Outcomes.{Meets, same_agrees}
+use Rattle.session_law.proofs.{Rooms.same_id, Rooms.same_room, Rooms.id_found, Rooms.room_found, Outcomes.Meets, Outcomes.same_agrees}
 
 pub zero_pages : (kind : Kind) (pages : ℕ) → pages_of (zero_buffer kind pages) ≡ pages
 zero_pages kind pages = omega (arith, length_zeros (page_size * pages))

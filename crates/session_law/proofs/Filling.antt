@@ -2,26 +2,19 @@
 use Rattle.std.proofs.Common.{◌≡◌, ◌↔◌, ℕ, zero, suc, take, drop, ◌+◌, ◌<◌, ◌≤◌, ◌==◌, ◌||◌, not, nat_le, nat_lt, Bool, true, false, if◌then◌else◌, List, length, Option, Some, None, arith, refl, sym, ◌∙◌, ap}
 use Rattle.std.proofs.lemmas.Bool.Decides.{nat_tests}
 use Rattle.field_words.specs.Writes.{with_bytes}
-use Rattle.buffer_table.specs.declared.buffer.Kind.{Kind}
-use Rattle.buffer_table.specs.declared.buffer.Kind.TheVariants.{Plain, Code}
+use Rattle.buffer_table.specs.{declared.buffer.Kind.Kind, declared.buffer.Kind.TheVariants.Plain, declared.buffer.Kind.TheVariants.Code}
 use Rattle.job_format.specs.declared.rule.Refusal.{Refusal}
 use Rattle.session_pages.proofs.Lowest.{all_are, run_never, first_is}
 use Rattle.overflow_slots.specs.Search.{first_where}
 use Rattle.overflow_slots.proofs.Searches.{first_found}
 use Rattle.session_pages.specs.Runs.{page_count, all_where, is_run, first_run}
 use Rattle.job_session.specs.Own.{Held, Command, Create, Make, Write, Read, Free, Submit, Reply, Done, Bytes, Refused, Answered, most_buffers, most_pages, most_read, with_buffer, free_if, is_free_id, new_by, create_of, make_by, write_by, write_in, read_by, free_by, submit_by, outcome}
-use Rattle.job_session.specs.Places.{Place, is_used, least_place}
-use Rattle.job_session.specs.Session.{Past, pages_of, placed_reply, reply_by, reply_to}
-use Rattle.job_session.specs.Checked.{shader_refusal, session_rules}
-use Rattle.job_session.specs.Desk.{pages_for}
-use Rattle.session_law.specs.Full.{IsRoom, HasNoRoom, IsFullFor}
-use Rattle.session_law.specs.Laws.{FullIsExact, PlacesAreLowest}
+use Rattle.job_session.specs.{Places.Place, Places.is_used, Places.least_place, Checked.shader_refusal, Checked.session_rules}
+use Rattle.job_session.specs.{Session.Past, Session.pages_of, Session.placed_reply, Session.reply_by, Session.reply_to, Desk.pages_for}
+use Rattle.session_law.specs.{Full.IsRoom, Full.HasNoRoom, Full.IsFullFor, Laws.FullIsExact, Laws.PlacesAreLowest}
 use Rattle.job_session.proofs.Runs.{both_true, all_found}
-use Rattle.session_law.proofs.Making.{zero_buffer}
-use Rattle.session_law.proofs.Creating.{zero_pages}
-use Rattle.session_law.proofs.Coding.{shader_buffer, padded_pages, some_pages}
-use Rattle.session_law.proofs.Shaders.{shader_some}
-use Rattle.session_law.proofs.Answering.{calls_are_answered}
+use Rattle.session_law.proofs.{Making.zero_buffer, Creating.zero_pages, Coding.shader_buffer, Coding.padded_pages, Coding.some_pages}
+use Rattle.session_law.proofs.{Shaders.shader_some, Answering.calls_are_answered}
 
 -- a number that passes is found, or one before it
 none_by : (p : ℕ → Bool) (from n k : ℕ) → from ≤ k → k < from + suc n → p k ≡ true

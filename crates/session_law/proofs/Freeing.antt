@@ -1,22 +1,17 @@
 -- A buffer's pages are given back.
 use Rattle.overflow_slots.proofs.Searches.{equal, apart_by}
+use Rattle.job_session.proofs.Bytes.{is_within, is_inside, within_none, held_inside, held_outside, length_held, written_apart, zero_at}
 use Rattle.job_session.proofs.Held.{held_none}
 use Rattle.std.proofs.Common.{ne_eqb, ◌≡◌, inl, inr, ℕ, ◌+◌, ◌-◌, ◌*◌, ◌<◌, ◌≤◌, ◌==◌, ◌&&◌, not, Bool, true, false, List, length, slice_index, slice_set, None, arith, refl, sym, ◌∙◌, ap, subst}
 use Rattle.std.proofs.lemmas.List.{get_or-set_same, get_or-set_other, length-set}
-use Rattle.field_words.specs.Sizes.{page_size}
-use Rattle.field_words.specs.Writes.{with_bytes, zeros}
+use Rattle.field_words.specs.{Sizes.page_size, Writes.with_bytes, Writes.zeros}
 use Rattle.field_words.proofs.Writes.{length_zeros, length-with_bytes, with_bytes-inside}
-use Rattle.session_pages.specs.Runs.{page_count}
-use Rattle.session_pages.specs.Map.{place_of, without_run}
-use Rattle.job_session.specs.Own.{with_buffer}
-use Rattle.job_session.specs.Places.{covers, is_used, without}
-use Rattle.job_session.specs.Session.{Past, with_own}
+use Rattle.session_pages.specs.{Runs.page_count, Map.place_of, Map.without_run}
+use Rattle.job_session.specs.{Own.with_buffer, Places.covers, Places.is_used, Places.without, Session.Past, Session.with_own}
 use Rattle.job_session.specs.Desk.{Desk, SlotsFit, slot_count, slot_of, first_page, page_total}
 use Rattle.session_law.specs.Agree.{IsKey, IsSized, place_in, owner_at, Agrees}
-use Rattle.job_session.proofs.Bytes.{is_within, is_inside, within_none, held_inside, held_outside, length_held, written_apart, zero_at}
 use Rattle.session_law.proofs.Changing.{IsChange, change_agrees, slot_below, same_slot}
-use Rattle.session_law.proofs.Listing.{listed_without, used_without}
-use Rattle.session_law.proofs.Writing.{own_page, room_in, before_page}
+use Rattle.session_law.proofs.{Listing.listed_without, Listing.used_without, Writing.own_page, Writing.room_in, Writing.before_page}
 
 -- the desk without the slot's buffer
 abbrev pub freed_at : Desk → ℕ → ℕ → Desk

@@ -1,26 +1,18 @@
 -- Buffers lie in their places, and all other pages are zero.
 use Rattle.overflow_slots.proofs.Searches.{equal}
 use Rattle.std.proofs.Common.{◌≡◌, ℕ, zero, suc, ◌+◌, ◌*◌, ◌<◌, ◌≤◌, ◌==◌, ◌||◌, not, Bool, true, false, List, [], ◌∷◌, length, slice_index_or, Option, Some, None, arith, refl, sym, ◌∙◌, ap, subst}
-use Rattle.std.specs.List.{Contains}
 use Rattle.std.proofs.lemmas.Bool.Decides.{nat_tests}
+use Rattle.std.specs.List.{Contains}
 use Rattle.field_words.specs.Sizes.{page_size}
 use Rattle.phys_mem.specs.Window.{window_of}
-use Rattle.session_pages.specs.Runs.{page_count}
-use Rattle.session_pages.specs.Map.{place_of}
-use Rattle.job_session.specs.Own.{Held}
-use Rattle.job_session.specs.Places.{Place, covers, is_used}
-use Rattle.job_session.specs.Session.{Past, none_yet}
+use Rattle.session_pages.specs.{Runs.page_count, Map.place_of}
 use Rattle.job_session.specs.Desk.{Desk, slot_of, first_page, page_total, kind_of, bytes_of, is_live, empty}
+use Rattle.job_session.specs.{Own.Held, Places.Place, Places.covers, Places.is_used, Session.Past, Session.none_yet}
 use Rattle.session_law.specs.Agree.{IsKey, client_count, place_in, owner_at, AreListed, IsListed, Agrees}
-use Rattle.session_law.specs.History.{desk_left, past_left}
-use Rattle.session_law.specs.Kept.{LiesAt, HasPlace, IsLive, IsKept}
-use Rattle.session_law.specs.Laws.{MemoryIsKept}
+use Rattle.session_law.specs.{History.desk_left, History.past_left, Kept.LiesAt, Kept.HasPlace, Kept.IsLive, Kept.IsKept, Laws.MemoryIsKept}
 use Rattle.job_session.proofs.Bytes.{within_yes, window_length}
-use Rattle.session_law.proofs.Changing.{same_slot, slot_below, held_live}
-use Rattle.session_law.proofs.Listing.{listed_some}
-use Rattle.session_law.proofs.Writing.{own_page, room_in}
-use Rattle.session_law.proofs.Outcomes.{live_key, live_held, dead_held}
-use Rattle.session_law.proofs.Answering.{histories_agree}
+use Rattle.session_law.proofs.{Changing.same_slot, Changing.slot_below, Changing.held_live, Listing.listed_some, Answering.histories_agree}
+use Rattle.session_law.proofs.{Writing.own_page, Writing.room_in, Outcomes.live_key, Outcomes.live_held, Outcomes.dead_held}
 
 -- some place covers a used page
 record Covering (desk : Desk) (places : List Place) (page : ℕ) : Type 0 where

@@ -1,23 +1,14 @@
 -- A memory table in which no rule stands: its buffers are whole pages behind the lists' region and the tile slot, and share none.
 use Rattle.std.proofs.Common.{◌≡◌, ◌⊎◌, inl, inr, ℕ, zero, suc, ◌+◌, ◌*◌, ◌%◌, ◌^◌, ◌<◌, ◌≤◌, ◌||◌, nat_lt, max, min, false, List, [], ◌∷◌, ◌++◌, length, map, take, slice_index_or, None, arith, refl, sym, ◌∙◌, ap, subst}
-use Rattle.std.specs.List.{flat_map, list_any, range_with_len}
-use Rattle.std.specs.Int.{from_le_bytes, w32}
-use Rattle.std.proofs.lemmas.Bool.Decides.{nat_tests}
-use Rattle.std.proofs.lemmas.List.{append_assoc}
-use Rattle.std.proofs.lemmas.Nat.{from_le_bytes-to_le_bytes_4}
-use Rattle.field_words.specs.Sizes.{page_size}
-use Rattle.field_words.specs.Words.{u32_at}
-use Rattle.field_words.specs.WordBytes.{word}
+use Rattle.std.proofs.{lemmas.Bool.Decides.nat_tests, lemmas.List.append_assoc, lemmas.Nat.from_le_bytes-to_le_bytes_4}
+use Rattle.std.specs.{List.flat_map, List.list_any, List.range_with_len, Int.from_le_bytes, Int.w32}
+use Rattle.field_words.specs.{Sizes.page_size, Words.u32_at, WordBytes.word}
 use Rattle.field_words.specs.Questions.{Question, first_of, each, answered}
 use Rattle.field_words.proofs.Questions.{passes, answered_none}
-use Rattle.buffer_table.specs.declared.buffer.Buffer.{Buffer}
-use Rattle.buffer_table.specs.declared.buffer.Kind.{Kind}
-use Rattle.buffer_table.specs.declared.buffer.Kind.TheVariants.{Plain, Code}
-use Rattle.buffer_table.specs.declared.buffer.Regions.{Regions}
-use Rattle.buffer_table.specs.declared.item.Item.{Item}
 use Rattle.buffer_table.specs.Table.{buffer_at, buffer_item, items_of, lists_item, tile_item, item_at, no_item, shares, is_off_page, memory_within, item_questions, all_within, table_questions}
-use Rattle.job_format.specs.Offsets.{entry_offset, buffer_count}
-use Rattle.job_format.specs.Text.{buffer_text, kind_number}
+use Rattle.buffer_table.specs.{declared.buffer.Buffer.Buffer, declared.buffer.Kind.Kind, declared.buffer.Regions.Regions}
+use Rattle.buffer_table.specs.{declared.buffer.Kind.TheVariants.Plain, declared.buffer.Kind.TheVariants.Code, declared.item.Item.Item}
+use Rattle.job_format.specs.{Offsets.entry_offset, Offsets.buffer_count, Text.buffer_text, Text.kind_number}
 use Rattle.job_format.specs.Reading.{kind_of, entry_at, buffers_at, regions_at, file_at}
 use Rattle.job_check.specs.Faults.{table_refused, table_stage, table_stage_within}
 use Rattle.session_pages.specs.Map.{first_place, memory_size}

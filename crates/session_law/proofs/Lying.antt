@@ -1,31 +1,23 @@
 -- A submit's answer is also that of the file with the client's buffers where they lie.
-use Rattle.job_session.proofs.Held.{held_none}
+use Rattle.job_session.proofs.{Held.held_none, Bytes.within_yes, Bytes.window_length}
 use Rattle.std.proofs.Common.{◌≡◌, ◌⊎◌, inl, inr, ℕ, zero, suc, ◌+◌, ◌*◌, ◌%◌, ◌<◌, ◌≤◌, nat_le, Bool, true, false, List, [], ◌∷◌, ◌++◌, length, map, Option, Some, None, arith, refl, sym, ◌∙◌, ap}
-use Rattle.std.specs.List.{flat_map}
 use Rattle.std.proofs.lemmas.Bool.Decides.{nat_tests}
-use Rattle.field_words.specs.Sizes.{page_size}
-use Rattle.field_words.specs.Questions.{first_of}
-use Rattle.buffer_table.specs.declared.buffer.Buffer.{Buffer}
-use Rattle.buffer_table.specs.declared.buffer.Kind.{Kind}
+use Rattle.std.specs.List.{flat_map}
+use Rattle.field_words.specs.{Sizes.page_size, Questions.first_of}
+use Rattle.buffer_table.specs.{declared.buffer.Buffer.Buffer, declared.buffer.Kind.Kind}
 use Rattle.buffer_table.specs.declared.buffer.Kind.TheVariants.{Plain, Code}
-use Rattle.job_format.specs.Text.{buffer_text}
-use Rattle.job_format.specs.Reading.{file_at}
+use Rattle.job_format.specs.{Text.buffer_text, Reading.file_at}
 use Rattle.job_check.specs.Faults.{table_stage}
 use Rattle.session_pages.specs.Map.{first_place, memory_size, place_of}
-use Rattle.job_session.specs.Own.{Held, most_buffers}
-use Rattle.job_session.specs.Session.{Past}
 use Rattle.job_session.specs.Submit.{content_of, laid, laid_at, size_of, packed, contents_from, with_client, header_of, job_bytes, file_of}
 use Rattle.job_session.specs.Desk.{Desk, slot_of, first_page, page_total, kind_of, bytes_of, held_in, job_answer}
+use Rattle.job_session.specs.{Own.Held, Own.most_buffers, Session.Past}
 use Rattle.places_law.specs.Moved.{placeless, AreMoved}
-use Rattle.places_law.proofs.Tables.{count_placeless}
-use Rattle.places_law.proofs.Wholes.{moved_are_alike}
-use Rattle.session_law.specs.Agree.{IsKey, client_count, Agrees}
-use Rattle.session_law.specs.Lying.{lying, lying_file, SubmitsAreOfPlaces}
-use Rattle.job_session.proofs.Bytes.{within_yes, window_length}
-use Rattle.session_law.proofs.Changing.{slot_below, held_live}
-use Rattle.session_law.proofs.Writing.{room_in}
-use Rattle.session_law.proofs.Counting.{pages_sum, slots_clash, few_pages}
+use Rattle.places_law.proofs.{Tables.count_placeless, Wholes.moved_are_alike}
+use Rattle.session_law.specs.{Agree.IsKey, Agree.client_count, Agree.Agrees, Lying.lying, Lying.lying_file, Lying.SubmitsAreOfPlaces}
 use Rattle.session_law.proofs.Laying.{IsWellPlaced, AreApart, ApartFrom, AreLaid, head_count, table_stands}
+use Rattle.session_law.proofs.{Changing.slot_below, Changing.held_live, Writing.room_in}
+use Rattle.session_law.proofs.Counting.{pages_sum, slots_clash, few_pages}
 
 -- what a slot with pages holds
 abbrev pub slot_held : Desk → ℕ → ℕ → Held

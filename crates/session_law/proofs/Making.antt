@@ -2,17 +2,12 @@
 use Rattle.overflow_slots.proofs.Searches.{equal, apart_by}
 use Rattle.std.proofs.Common.{ne_eqb, eq-eqb, ◌≡◌, inl, inr, ℕ, ◌+◌, ◌*◌, ◌/◌, ◌%◌, ◌<◌, ◌≤◌, ◌==◌, ◌||◌, not, Bool, true, false, List, ◌∷◌, length, slice_index, slice_set, Some, arith, refl, sym, ◌∙◌, ap, subst}
 use Rattle.std.proofs.lemmas.List.{get_or-set_same, get_or-set_other, length-set}
-use Rattle.field_words.specs.Sizes.{page_size}
-use Rattle.field_words.specs.Writes.{zeros}
+use Rattle.field_words.specs.{Sizes.page_size, Writes.zeros}
 use Rattle.field_words.proofs.Writes.{length_zeros}
-use Rattle.buffer_table.specs.declared.buffer.Kind.{Kind}
-use Rattle.buffer_table.specs.declared.buffer.Kind.TheVariants.{Plain}
-use Rattle.session_pages.specs.Runs.{page_count}
-use Rattle.session_pages.specs.Map.{place_of}
-use Rattle.job_session.specs.Own.{Held, with_buffer}
-use Rattle.job_session.specs.Places.{Place, covers, is_used}
-use Rattle.job_session.specs.Session.{Past, with_own}
+use Rattle.buffer_table.specs.{declared.buffer.Kind.Kind, declared.buffer.Kind.TheVariants.Plain}
+use Rattle.session_pages.specs.{Runs.page_count, Map.place_of}
 use Rattle.job_session.specs.Desk.{Desk, SlotsFit, slot_count, slot_of, first_page, page_total, kind_of, bytes_of, held_in, with_place}
+use Rattle.job_session.specs.{Own.Held, Own.with_buffer, Places.Place, Places.covers, Places.is_used, Session.Past, Session.with_own}
 use Rattle.session_law.specs.Agree.{IsKey, IsSized, place_in, owner_at, AreListed, Agrees}
 use Rattle.job_session.proofs.Bytes.{is_within, within_none, held_inside, held_outside, length_held, window_is, zero_at}
 use Rattle.session_law.proofs.Changing.{IsChange, change_agrees, slot_below, same_slot, held_live, page_small, page_covered, byte_page}

@@ -2,25 +2,19 @@
 use Rattle.overflow_slots.proofs.Searches.{equal}
 use Rattle.std.proofs.Common.{ne_eqb, ◌≡◌, ℕ, ◌+◌, ◌*◌, ◌<◌, ◌≤◌, ◌==◌, ◌&&◌, ◌||◌, not, nat_lt, Bool, true, false, if◌then◌else◌, List, [], ◌∷◌, length, take, drop, Option, Some, None, Ok, Err, arith, refl, sym, ◌∙◌, ap, subst}
 use Rattle.std.proofs.lemmas.Bool.Decides.{nat_tests}
-use Rattle.field_words.specs.Sizes.{page_size}
-use Rattle.field_words.specs.Writes.{with_bytes}
-use Rattle.buffer_table.specs.declared.buffer.Kind.{Kind}
-use Rattle.buffer_table.specs.declared.buffer.Kind.TheVariants.{Plain, Code}
+use Rattle.field_words.specs.{Sizes.page_size, Writes.with_bytes}
+use Rattle.buffer_table.specs.{declared.buffer.Kind.Kind, declared.buffer.Kind.TheVariants.Plain, declared.buffer.Kind.TheVariants.Code}
 use Rattle.job_format.specs.declared.rule.Refusal.{Refusal}
 use Rattle.phys_mem.specs.Window.{window_of}
 use Rattle.session_pages.specs.Map.{place_of}
 use Rattle.job_session.specs.Own.{Held, Write, Read, Free, Submit, Reply, Done, Bytes, Refused, Outcome, Answered, most_buffers, most_read, with_buffer, write_by, read_by, free_by, submit_by}
-use Rattle.job_session.specs.Own.{write_in as own_write_in}
-use Rattle.job_session.specs.Places.{Place, is_of, without}
-use Rattle.job_session.specs.Session.{Call, Past, with_own, reply_by, past_by}
-use Rattle.job_session.specs.Checked.{session_rules}
 use Rattle.job_session.specs.Desk.{Desk, first_page, page_total, kind_of, bytes_of, held_in, is_live, lies_in, write_in, write_answer, written, read_answer, free_answer, freed, job_answer, submit_answer}
+use Rattle.job_session.specs.{Own.write_in as own_write_in, Places.Place, Places.is_of, Places.without, Checked.session_rules}
+use Rattle.job_session.specs.Session.{Call, Past, with_own, reply_by, past_by}
 use Rattle.job_session.specs.Replies.{done_reply, read_reply, submitted_reply}
 use Rattle.session_law.specs.Agree.{IsKey, client_count, AreListed, IsListed, Agrees}
-use Rattle.job_session.proofs.Bytes.{window_length, read_window}
-use Rattle.job_session.proofs.Runs.{both_true}
-use Rattle.session_law.proofs.Listing.{is_of_key, listed_some}
-use Rattle.session_law.proofs.Writing.{Lies, write_agrees, room_in}
+use Rattle.job_session.proofs.{Bytes.window_length, Bytes.read_window, Runs.both_true}
+use Rattle.session_law.proofs.{Listing.is_of_key, Listing.listed_some, Writing.Lies, Writing.write_agrees, Writing.room_in}
 use Rattle.session_law.proofs.Freeing.{free_agrees}
 
 -- nothing changes

@@ -3,17 +3,12 @@ use Rattle.std.proofs.Common.{◌≡◌, ◌<◌, ◌≤◌, ◌==◌, ◌&&◌,
 use Rattle.std.proofs.lemmas.Bool.Decides.{nat_tests}
 use Rattle.overflow_slots.specs.Search.{first_where}
 use Rattle.overflow_slots.proofs.Searches.{equal, first_found, first_same}
-use Rattle.session_pages.specs.Runs.{page_count, all_where, is_run, first_run}
-use Rattle.session_pages.specs.Map.{free_run, is_free}
-use Rattle.job_session.specs.Own.{Held, most_buffers, free_if, is_free_id}
-use Rattle.job_session.specs.Places.{least_place, is_used}
-use Rattle.job_session.specs.Session.{Past}
+use Rattle.session_pages.specs.{Runs.page_count, Runs.all_where, Runs.is_run, Runs.first_run, Map.free_run, Map.is_free}
+use Rattle.job_session.specs.{Own.Held, Own.most_buffers, Own.free_if, Own.is_free_id, Places.least_place, Places.is_used, Session.Past}
 use Rattle.job_session.specs.Desk.{Desk, page_total, kind_of, bytes_of, held_in, is_vacant, least_id}
 use Rattle.session_law.specs.Agree.{IsKey, client_count, owner_at, Agrees}
-use Rattle.job_session.proofs.Bytes.{is_inside}
-use Rattle.session_law.proofs.Changing.{held_if, held_is}
-use Rattle.job_session.proofs.Runs.{run_found}
-use Rattle.session_law.proofs.Making.{HasRoom}
+use Rattle.job_session.proofs.{Bytes.is_inside, Runs.run_found}
+use Rattle.session_law.proofs.{Changing.held_if, Changing.held_is, Making.HasRoom}
 
 free_by : (b v : Bool) (held : Held) → b ≡ true → free_if (held_if (b && not v) held) ≡ v
 free_by true true held is = refl

@@ -1,19 +1,14 @@
 -- A script is answered as the history of its calls says.
 use Rattle.std.proofs.Common.{◌≡◌, ℕ, ◌<◌, ◌≤◌, ◌&&◌, nat_le, Bool, true, false, if◌then◌else◌, List, [], ◌∷◌, ◌++◌, Option, Some, None, arith, refl, ap}
 use Rattle.std.proofs.lemmas.Bool.Decides.{nat_tests}
-use Rattle.script.specs.Lines.{before, behind, lines_of}
-use Rattle.script.specs.Number.{number_of, is_number, number_within}
+use Rattle.script.specs.{Lines.before, Lines.behind, Lines.lines_of, Number.number_of, Number.is_number, Number.number_within}
 use Rattle.script.specs.Replies.{replies_from}
-use Rattle.job_session.specs.Own.{Command}
-use Rattle.job_session.specs.Session.{Call, Past, none_yet}
-use Rattle.job_session.specs.Desk.{Desk, empty}
+use Rattle.job_session.specs.{Own.Command, Session.Call, Session.Past, Session.none_yet, Desk.Desk, Desk.empty, Replies.desk_reply}
 use Rattle.job_session.specs.Calls.{last_client, call_by, call_of, command_named}
 use Rattle.job_session.specs.Text.{reply_line, call_reply, call_after, line_reply, line_after, replies}
 use Rattle.std.specs.List.{flat_map}
-use Rattle.job_session.specs.Replies.{desk_reply}
-use Rattle.session_law.specs.History.{AreKnown, desk_replies}
-use Rattle.session_law.specs.Agree.{client_count, Agrees}
 use Rattle.session_law.specs.Scripts.{told_of, past_with, told_reply, told_after, onto_calls, calls_in, ScriptsAreOfHistories, ScriptsAreOfCalls}
+use Rattle.session_law.specs.{History.AreKnown, History.desk_replies, Agree.client_count, Agree.Agrees}
 use Rattle.session_law.proofs.Answering.{calls_are_answered, new_sessions_agree}
 use Rattle.job_session.proofs.Runs.{both_true}
 

@@ -2,8 +2,7 @@
 use Rattle.std.proofs.Common.{◌≡◌, ℕ, ◌≤◌, List, [], ◌∷◌, length, Some, None, arith, refl, sym, ◌∙◌}
 use Rattle.field_words.specs.Questions.{each, answered}
 use Rattle.job_format.specs.declared.rule.Stage.TheVariants.{S}
-use Rattle.job_check.specs.Faults.{refused}
-use Rattle.job_check.specs.Shaders.{code_questions, words_in}
+use Rattle.job_check.specs.{Faults.refused, Shaders.code_questions, Shaders.words_in}
 use Rattle.shader_flow.specs.Flow.{checked_of, end_of}
 use Rattle.shader_check.specs.Rules.{shader_questions, whole_questions, s1, fault_at}
 use Rattle.job_session.specs.Checked.{shader_refusal}

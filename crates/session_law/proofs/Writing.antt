@@ -1,18 +1,14 @@
 -- Bytes are written into a buffer.
 use Rattle.overflow_slots.proofs.Searches.{equal}
 use Rattle.std.proofs.Common.{◌≡◌, inr, ℕ, ◌+◌, ◌*◌, ◌<◌, ◌≤◌, ◌==◌, true, false, List, length, slice_index, Some, arith, refl, sym, ◌∙◌, ap}
-use Rattle.field_words.specs.Sizes.{page_size}
-use Rattle.field_words.specs.Writes.{with_bytes}
+use Rattle.field_words.specs.{Sizes.page_size, Writes.with_bytes}
 use Rattle.field_words.proofs.Writes.{length-with_bytes}
-use Rattle.session_pages.specs.Runs.{page_count}
-use Rattle.session_pages.specs.Map.{place_of}
-use Rattle.job_session.specs.Own.{Held, with_buffer}
-use Rattle.job_session.specs.Session.{Past, with_own}
+use Rattle.session_pages.specs.{Runs.page_count, Map.place_of}
 use Rattle.job_session.specs.Desk.{Desk, slot_of, first_page, page_total, kind_of, bytes_of, held_in, with_written}
+use Rattle.job_session.specs.{Own.Held, Own.with_buffer, Session.Past, Session.with_own}
 use Rattle.session_law.specs.Agree.{IsKey, IsSized, owner_at, Agrees}
 use Rattle.job_session.proofs.Bytes.{is_within, is_outside, window_written, written_apart}
-use Rattle.session_law.proofs.Changing.{IsChange, change_agrees, slot_below, held_live}
-use Rattle.session_law.proofs.Listing.{listed_same}
+use Rattle.session_law.proofs.{Changing.IsChange, Changing.change_agrees, Changing.slot_below, Changing.held_live, Listing.listed_same}
 
 -- a buffer has pages, and the bytes end in them
 pub record Lies (desk : Desk) (client id at : ℕ) (part : List ℕ) : Type 0 where

@@ -1,11 +1,8 @@
 -- What a desk holds is what the calls before left: each client's buffers, where they lie, and zero pages everywhere else.
 use Rattle.std.specs.Prelude.{◌≡◌, ◌≤◌, ◌<◌, ℕ, ◌+◌, ◌==◌, not, List, [], ◌∷◌, length, slice_index}
 use Rattle.field_words.specs.Sizes.{page_size}
-use Rattle.session_pages.specs.Runs.{page_count}
-use Rattle.session_pages.specs.Map.{place_of, IsWhole}
-use Rattle.job_session.specs.Own.{most_buffers}
-use Rattle.job_session.specs.Places.{Place, covers, is_used}
-use Rattle.job_session.specs.Session.{Past}
+use Rattle.session_pages.specs.{Runs.page_count, Map.place_of, Map.IsWhole}
+use Rattle.job_session.specs.{Own.most_buffers, Places.Place, Places.covers, Places.is_used, Session.Past}
 use Rattle.job_session.specs.Desk.{Desk, SlotsFit, slot_count, slot_of, first_page, page_total, held_in}
 
 -- clients are numbered from 0 to 7

@@ -2,10 +2,7 @@
 use Rattle.std.specs.Prelude.{◌≡◌, ◌≤◌, ◌<◌, ℕ, ◌+◌, false, List, None}
 use Rattle.session_pages.specs.Runs.{page_count}
 use Rattle.job_session.specs.Own.{Command, Create, Make, Write, Read, Free, Submit, most_buffers, most_pages}
-use Rattle.job_session.specs.Places.{Place, is_used}
-use Rattle.job_session.specs.Session.{Past}
-use Rattle.job_session.specs.Checked.{shader_refusal}
-use Rattle.job_session.specs.Desk.{pages_for}
+use Rattle.job_session.specs.{Places.Place, Places.is_used, Session.Past, Checked.shader_refusal, Desk.pages_for}
 
 -- so many pages from one on lie in no live buffer
 pub record IsRoom (places : List Place) (pages first : ℕ) : Type 0 where

@@ -1,10 +1,7 @@
 -- Calls one after the other: what they leave, and what one client is replied.
 use Rattle.std.specs.Prelude.{ℕ, ◌<◌, ◌==◌, List, [], ◌∷◌, if◌then◌else◌}
 use Rattle.job_format.specs.declared.rule.Refusal.{Refusal}
-use Rattle.job_session.specs.Own.{Reply}
-use Rattle.job_session.specs.Session.{Call, Past, after}
-use Rattle.job_session.specs.Checked.{session_rules}
-use Rattle.job_session.specs.Desk.{Desk}
+use Rattle.job_session.specs.{Own.Reply, Session.Call, Session.Past, Session.after, Checked.session_rules, Desk.Desk}
 use Rattle.job_session.specs.Replies.{desk_reply, desk_after}
 use Rattle.session_law.specs.Agree.{client_count}
 

@@ -1,14 +1,9 @@
 -- What the memory holds after calls.
-use Rattle.std.specs.Prelude.{◌≡◌, ◌<◌, ℕ, ◌+◌, ◌*◌, true, false, List, length, slice_index, Some}
-use Rattle.std.specs.List.{Contains}
+use Rattle.std.specs.Prelude.{◌≡◌, ◌<◌, ℕ, ◌+◌, ◌*◌, true, false, List, length, slice_index, Some, Contains}
 use Rattle.field_words.specs.Sizes.{page_size}
 use Rattle.phys_mem.specs.Window.{window_of}
-use Rattle.session_pages.specs.Runs.{page_count}
-use Rattle.session_pages.specs.Map.{place_of}
-use Rattle.job_session.specs.Own.{Held}
-use Rattle.job_session.specs.Places.{Place, covers, is_used}
-use Rattle.job_session.specs.Session.{Past}
-use Rattle.job_session.specs.Desk.{Desk}
+use Rattle.session_pages.specs.{Runs.page_count, Map.place_of}
+use Rattle.job_session.specs.{Own.Held, Places.Place, Places.covers, Places.is_used, Session.Past, Desk.Desk}
 use Rattle.session_law.specs.Agree.{client_count}
 
 -- a buffer's bytes are all those of its pages

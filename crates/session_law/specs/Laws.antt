@@ -1,17 +1,11 @@
 -- The calls of a session answer and leave what the calls before them, of all clients, say.
 use Rattle.std.specs.Prelude.{◌≡◌, ◌≤◌, ◌<◌, ◌↔◌, ℕ, List, [], ◌∷◌, ◌++◌, Some, None}
 use Rattle.job_format.specs.declared.rule.Refusal.{Refusal}
-use Rattle.job_session.specs.Own.{Refused, own_replies}
 use Rattle.job_session.specs.Session.{Call, Past, none_yet, reply_to, after, replies_to, commands_of}
-use Rattle.job_session.specs.Places.{Place, least_place}
-use Rattle.job_session.specs.Checked.{session_rules}
-use Rattle.job_session.specs.Laws.{NoneIsFull}
-use Rattle.job_session.specs.Desk.{Desk, empty}
-use Rattle.job_session.specs.Replies.{desk_reply, desk_after}
-use Rattle.session_law.specs.Agree.{client_count, Agrees}
+use Rattle.job_session.specs.{Own.Refused, Own.own_replies, Places.Place, Places.least_place, Checked.session_rules, Laws.NoneIsFull}
+use Rattle.job_session.specs.{Desk.Desk, Desk.empty, Replies.desk_reply, Replies.desk_after}
+use Rattle.session_law.specs.{Agree.client_count, Agree.Agrees, Kept.IsKept, Full.IsFullFor, Full.IsLowestRoom}
 use Rattle.session_law.specs.History.{AreKnown, desk_left, past_left, desk_replies_to}
-use Rattle.session_law.specs.Kept.{IsKept}
-use Rattle.session_law.specs.Full.{IsFullFor, IsLowestRoom}
 
 -- no call was made of a new session
 abbrev pub NewSessionsAgree : Type 0

@@ -1,14 +1,11 @@
 -- The file in which a client's job is checked, with its buffers where they lie.
-use Rattle.std.specs.Prelude.{◌≡◌, ◌<◌, ℕ, zero, suc, ◌+◌, List, [], ◌++◌, length}
-use Rattle.std.specs.List.{flat_map}
+use Rattle.std.specs.Prelude.{◌≡◌, ◌<◌, ℕ, zero, suc, ◌+◌, List, [], ◌++◌, length, flat_map}
 use Rattle.buffer_table.specs.declared.buffer.Buffer.{Buffer}
 use Rattle.job_format.specs.Text.{buffer_text}
 use Rattle.job_check.specs.Whole.{refusal_of}
 use Rattle.session_pages.specs.Map.{place_of}
-use Rattle.job_session.specs.Own.{most_buffers}
-use Rattle.job_session.specs.Session.{Past}
+use Rattle.job_session.specs.{Own.most_buffers, Session.Past, Desk.Desk, Desk.first_page, Desk.held_in, Desk.job_answer, Desk.submit_answer}
 use Rattle.job_session.specs.Submit.{laid_at, contents_from, with_client, header_of, job_bytes}
-use Rattle.job_session.specs.Desk.{Desk, first_page, held_in, job_answer, submit_answer}
 use Rattle.session_law.specs.Agree.{client_count, Agrees}
 
 -- the client's live buffers of n ids from one on, each at the place of its first page

@@ -1,13 +1,8 @@
 -- What a script is answered, by the history of its calls.
-use Rattle.std.specs.Prelude.{◌≡◌, ℕ, List, [], ◌∷◌, Option, Some, None}
-use Rattle.std.specs.List.{flat_map}
-use Rattle.script.specs.Lines.{lines_of}
-use Rattle.script.specs.Replies.{replies_from}
-use Rattle.job_session.specs.Session.{Call, Past, none_yet, reply_to, after}
-use Rattle.job_session.specs.Checked.{session_rules}
-use Rattle.job_session.specs.Desk.{empty}
-use Rattle.job_session.specs.Calls.{call_of}
-use Rattle.job_session.specs.Text.{reply_line, replies}
+use Rattle.std.specs.Prelude.{◌≡◌, ℕ, List, [], ◌∷◌, Option, Some, None, flat_map}
+use Rattle.script.specs.{Lines.lines_of, Replies.replies_from}
+use Rattle.job_session.specs.{Session.Call, Session.Past, Session.none_yet, Session.reply_to, Session.after, Checked.session_rules}
+use Rattle.job_session.specs.{Desk.empty, Calls.call_of, Text.reply_line, Text.replies}
 use Rattle.session_law.specs.History.{AreKnown, desk_replies}
 
 -- the line that answers a line, which may be no call, and the calls up to it

@@ -1,14 +1,10 @@
 -- Bits of words, and pages as bits.
 use Rattle.std.proofs.Common.{◌≡◌, inl, inr, ℕ, zero, suc, ◌+◌, ◌-◌, ◌*◌, ◌/◌, ◌%◌, ◌^◌, ◌==◌, ◌≤◌, ◌<◌, Bool, true, false, not, min, List, length, bit_and, replicate, slice_index, refl, sym, ◌∙◌, ap, arith}
-use Rattle.std.specs.Int.{bit_at, bit_not, trailing_zeros, w64}
-use Rattle.std.specs.Int.Count.{trailing_of_zero}
-use Rattle.std.proofs.lemmas.Bool.{cases_lt}
-use Rattle.std.proofs.lemmas.Nat.{and_le_l}
-use Rattle.std.proofs.lemmas.List.{places}
 use Rattle.std.proofs.lemmas.Nat.Bits.{bit_at-zero, bit_at-lt, bit_at_and, bit_at_mask_inside, bit_at_mask_below, bit_at-trailing_zeros, bit_at_not, ones_shl}
+use Rattle.std.proofs.{lemmas.Bool.cases_lt, lemmas.Nat.and_le_l, lemmas.List.places}
+use Rattle.std.specs.{Int.bit_at, Int.bit_not, Int.trailing_zeros, Int.w64, Int.Count.trailing_of_zero}
 use Rattle.field_words.specs.Writes.{zeros}
-use Rattle.session_pages.specs.Map.{is_free, held_by}
-use Rattle.session_pages.specs.Marks.{bit_of, mark_of, is_unmarked, IsMarked, AreMarks}
+use Rattle.session_pages.specs.{Map.is_free, Map.held_by, Marks.bit_of, Marks.mark_of, Marks.is_unmarked, Marks.IsMarked, Marks.AreMarks}
 use Rattle.session_pages.specs.Runs.{page_count, first_run}
 use Rattle.session_pages.proofs.Walk.{run_same}
 

@@ -1,7 +1,6 @@
 -- Bytes that are kept, and the zeros around them.
 use Rattle.std.proofs.Common.{◌≡◌, ℕ, ◌+◌, ◌-◌, ◌<◌, ◌≤◌, List, [], ◌++◌, length, take, drop, min, replicate, Bool, true, false, if◌then◌else◌, ap, ◌∙◌, arith}
-use Rattle.std.proofs.lemmas.List.{places}
-use Rattle.std.proofs.lemmas.Grind.{same_number_lists, common_steps}
+use Rattle.std.proofs.{lemmas.List.places, lemmas.Grind.same_number_lists, lemmas.Grind.common_steps}
 use Rattle.field_words.specs.Writes.{with_bytes, zeros}
 use Rattle.phys_mem.specs.Window.{window_of}
 use Rattle.session_pages.specs.Kept.{zeros_around}

@@ -1,8 +1,7 @@
 -- A page below which all are held, after pages were marked.
 use Rattle.std.proofs.Common.{◌≡◌, inl, inr, ℕ, ◌+◌, ◌≤◌, Bool, true, List, arith, ◌∙◌}
 use Rattle.std.proofs.lemmas.Bool.{cases_lt}
-use Rattle.session_pages.specs.Marks.{IsMarked, AreHeldBelow}
-use Rattle.session_pages.specs.Runs.{page_count}
+use Rattle.session_pages.specs.{Marks.IsMarked, Marks.AreHeldBelow, Runs.page_count}
 
 -- Pages below those that were marked stay as they were.
 pub lower : (old new : List ℕ) (start first pages next : ℕ) (held : Bool) → AreHeldBelow old start → IsMarked old new first pages held

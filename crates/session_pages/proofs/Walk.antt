@@ -1,7 +1,6 @@
 -- The walk over the words of marks.
 use Rattle.std.proofs.Common.{◌≡◌, inl, inr, ℕ, zero, suc, ◌+◌, ◌-◌, ◌%◌, ◌==◌, ◌≤◌, ◌<◌, ◌&&◌, nat_le, Bool, true, false, List, Some, None, refl, sym, ap, arith, ◌∙◌}
-use Rattle.std.proofs.lemmas.Bool.{cases_lt}
-use Rattle.std.proofs.lemmas.Bool.Decides.{nat_tests}
+use Rattle.std.proofs.{lemmas.Bool.cases_lt, lemmas.Bool.Decides.nat_tests}
 use Rattle.overflow_slots.specs.Search.{first_where}
 use Rattle.session_pages.specs.Marks.{mark_of, is_unmarked, AreHeldBelow}
 use Rattle.session_pages.specs.Runs.{page_count, all_where, is_run, first_run}

@@ -1,7 +1,6 @@
 -- The memory and who holds each page, and what the calls leave.
 use Rattle.std.specs.Prelude.{◌≡◌, ℕ, ◌+◌, ◌*◌, ◌==◌, Bool, List, length, replicate, slice_index, Option, Some, None}
-use Rattle.field_words.specs.Sizes.{page_size}
-use Rattle.field_words.specs.Writes.{with_bytes, zeros}
+use Rattle.field_words.specs.{Sizes.page_size, Writes.with_bytes, Writes.zeros}
 use Rattle.session_pages.specs.Runs.{page_count, first_run}
 
 -- where the pages begin: behind the region of lists, of 0x400000 bytes, and one tile slot

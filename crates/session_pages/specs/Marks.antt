@@ -1,8 +1,7 @@
 -- A bit for each page, in words of 64 pages: 1 says that the page is held.
 use Rattle.std.specs.Prelude.{◌≡◌, ◌≤◌, ◌<◌, ℕ, ◌+◌, ◌/◌, ◌%◌, ◌==◌, Bool, true, false, not, List, slice_index}
 use Rattle.std.specs.Int.{bit_at}
-use Rattle.session_pages.specs.Runs.{page_count}
-use Rattle.session_pages.specs.Map.{is_free}
+use Rattle.session_pages.specs.{Runs.page_count, Map.is_free}
 
 abbrev pub bit_of : Bool → ℕ
 bit_of false = 0

@@ -1,16 +1,14 @@
 -- The file of a submit is bytes.
 use Rattle.std.proofs.Common.{lit<, ◌≡◌, ℕ, zero, suc, ◌+◌, ◌*◌, Bool, true, false, List, [], ◌∷◌, ◌++◌, Option, Some, None, length, take, drop, nat_lt, codes, refl, subst, if◌then◌else◌}
 use Rattle.std.specs.List.{flat_map}
-use Rattle.field_words.specs.Words.{IsBytes}
-use Rattle.field_words.specs.WordBytes.{word}
+use Rattle.field_words.specs.{Words.IsBytes, WordBytes.word}
 use Rattle.field_words.proofs.Numbers.{front_bytes, rest_bytes}
-use Rattle.buffer_table.specs.declared.buffer.Buffer.{Buffer}
-use Rattle.buffer_table.specs.declared.buffer.Kind.{Kind}
+use Rattle.buffer_table.specs.{declared.buffer.Buffer.Buffer, declared.buffer.Kind.Kind}
 use Rattle.buffer_table.specs.declared.buffer.Kind.TheVariants.{Plain, Code}
 use Rattle.job_format.specs.Text.{buffer_text, kind_number}
 use Rattle.session_pages.specs.Map.{memory_size, place_of}
-use Rattle.job_session.specs.Own.{Held}
 use Rattle.job_session.specs.Submit.{content_of, contents_at, contents_from, with_client, header_of, job_bytes}
+use Rattle.job_session.specs.Own.{Held}
 use Rattle.job_session.specs.Desk.{Desk, held_in, is_live, kind_of, bytes_of, first_page, page_total}
 use Rattle.session_law.specs.Lying.{lying, lying_file}
 use Rattle.accepted_law.proofs.ByteTexts.{bytes_none, bytes_cons, bytes_append, bytes_if, bytes_word}

@@ -1,25 +1,19 @@
 -- What the file of a submit has as the contents of a client's buffers: the bytes of their pages.
 use Rattle.std.proofs.Common.{length-take-le, ◌≡◌, ◌⊎◌, inl, inr, ℕ, zero, suc, ◌+◌, ◌-◌, ◌*◌, ◌<◌, ◌≤◌, nat_lt, Bool, true, false, List, [], ◌∷◌, ◌++◌, Option, Some, None, length, take, drop, arith, refl, sym, ◌∙◌, ap, subst, zero-add}
-use Rattle.std.specs.Prelude.{slice_index_or}
-use Rattle.std.specs.List.{flat_map}
-use Rattle.std.proofs.lemmas.Bool.Decides.{nat_tests}
-use Rattle.std.proofs.lemmas.List.{append_assoc, length-append}
+use Rattle.std.proofs.{lemmas.Bool.Decides.nat_tests, lemmas.List.append_assoc, lemmas.List.length-append}
 use Rattle.std.proofs.lemmas.List.FromFn.{get_or-map-range_with_len}
+use Rattle.std.specs.{Prelude.slice_index_or, List.flat_map}
 use Rattle.field_words.specs.Words.{u32_at}
-use Rattle.buffer_table.specs.declared.buffer.Buffer.{Buffer}
-use Rattle.buffer_table.specs.Table.{buffer_at, past_end}
+use Rattle.buffer_table.specs.{declared.buffer.Buffer.Buffer, Table.buffer_at, Table.past_end}
 use Rattle.job_format.specs.Offsets.{entry_offset, buffer_count, job_count, job_offset, content_size, content_offset}
-use Rattle.job_format.specs.Reading.{cut, entry_at, buffers_at, contents_at, file_at}
-use Rattle.job_format.specs.Text.{buffer_text}
+use Rattle.job_format.specs.{Reading.cut, Reading.entry_at, Reading.buffers_at, Reading.contents_at, Reading.file_at, Text.buffer_text}
 use Rattle.job_check.specs.Shaders.{content_of as content_in}
 use Rattle.session_pages.specs.Map.{place_of}
-use Rattle.job_session.specs.Own.{Held, most_buffers}
-use Rattle.job_session.specs.Session.{Past}
 use Rattle.job_session.specs.Submit.{content_of, laid, laid_at, contents_at as gives, contents_from, with_client, header_of, job_bytes}
+use Rattle.job_session.specs.{Own.Held, Own.most_buffers, Session.Past}
 use Rattle.job_session.specs.Desk.{Desk, first_page, kind_of, bytes_of, held_in}
 use Rattle.places_law.proofs.Words.{drop_past, flat_long}
-use Rattle.session_law.specs.Agree.{client_count, Agrees}
-use Rattle.session_law.specs.Lying.{lying, lying_file}
+use Rattle.session_law.specs.{Agree.client_count, Agree.Agrees, Lying.lying, Lying.lying_file}
 use Rattle.session_law.proofs.Laying.{AreLaid, file_with, count_back, buffers_back, header_long}
 use Rattle.session_law.proofs.Lying.{HasHeld, HasNone, slot_held, slot_is, lying_laid, lying_few}
 

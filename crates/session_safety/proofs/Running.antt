@@ -1,45 +1,27 @@
 -- The job of an accepted submit may run over the session's memory.
 use Rattle.std.proofs.Common.{◌≡◌, ℕ, ◌+◌, ◌-◌, ◌*◌, ◌<◌, ◌≤◌, List, ◌++◌, Option, Some, None, Ok, length, drop, append-nil, arith, refl, sym, ◌∙◌, ap, subst}
-use Rattle.field_words.specs.Sizes.{page_size}
-use Rattle.field_words.specs.Questions.{first_of, answered}
-use Rattle.field_words.proofs.Nones.{front_none, none_answered}
-use Rattle.field_words.specs.Writes.{with_bytes, zeros}
-use Rattle.field_words.proofs.Writes.{length-with_bytes, with_bytes-behind}
+use Rattle.field_words.specs.{Sizes.page_size, Questions.first_of, Questions.answered, Writes.with_bytes, Writes.zeros}
+use Rattle.field_words.proofs.{Nones.front_none, Nones.none_answered, Writes.length-with_bytes, Writes.with_bytes-behind}
 use Rattle.phys_mem.specs.Window.{window_of}
-use Rattle.buffer_table.specs.declared.buffer.Buffer.{Buffer}
-use Rattle.buffer_table.specs.declared.buffer.Kind.{Kind}
-use Rattle.buffer_table.specs.declared.buffer.Kind.TheVariants.{Code}
-use Rattle.buffer_table.specs.declared.buffer.Regions.{Regions}
-use Rattle.buffer_table.specs.Table.{buffer_at}
+use Rattle.buffer_table.specs.{declared.buffer.Buffer.Buffer, declared.buffer.Kind.Kind, declared.buffer.Kind.TheVariants.Code}
+use Rattle.buffer_table.specs.{declared.buffer.Regions.Regions, Table.buffer_at}
 use Rattle.buffer_table.proofs.Named.{code_is}
-use Rattle.job_format.specs.declared.rule.Refusal.{Refusal}
-use Rattle.job_format.specs.Faults.{format_questions}
-use Rattle.job_format.specs.Reading.{file_at}
+use Rattle.job_format.specs.{declared.rule.Refusal.Refusal, Faults.format_questions, Reading.file_at}
 use Rattle.job_format.proofs.Passing.{passes_all}
-use Rattle.job_check.specs.Faults.{file_stages}
-use Rattle.job_check.specs.Jobs.{job_of}
-use Rattle.job_check.specs.Region.{region_of}
-use Rattle.job_check.specs.Shaders.{table_of, content_of as content_in}
+use Rattle.job_check.specs.{Faults.file_stages, Jobs.job_of, Region.region_of, Shaders.table_of, Shaders.content_of as content_in}
 use Rattle.job_check.specs.Whole.{format_refused, all_questions, refusal_of, questions_within}
-use Rattle.accepted_law.specs.Neighbours.{IsFaultless}
-use Rattle.accepted_law.specs.Prepared.{filled, HasContent, IsPrepared}
+use Rattle.accepted_law.specs.{Neighbours.IsFaultless, Prepared.filled, Prepared.HasContent, Prepared.IsPrepared}
 use Rattle.accepted_law.proofs.Prepared.{region_within}
-use Rattle.job_safety.proofs.Prepared.{prepared_jobs_law}
-use Rattle.job_safety.proofs.Safety.{bytes_spell, faultless}
+use Rattle.job_safety.proofs.{Prepared.prepared_jobs_law, Safety.bytes_spell, Safety.faultless}
 use Rattle.session_pages.specs.Map.{memory_size, place_of}
-use Rattle.job_session.specs.Own.{most_buffers}
-use Rattle.job_session.specs.Session.{Past}
-use Rattle.job_session.specs.Submit.{content_of, laid, with_client}
+use Rattle.job_session.specs.{Own.most_buffers, Session.Past, Submit.content_of, Submit.laid, Submit.with_client}
 use Rattle.job_session.specs.Desk.{Desk, first_page, page_total, kind_of, bytes_of, job_answer}
-use Rattle.session_law.specs.Agree.{IsKey, client_count, Agrees}
-use Rattle.session_law.specs.Lying.{lying, lying_file}
+use Rattle.session_law.specs.{Agree.IsKey, Agree.client_count, Agree.Agrees, Lying.lying, Lying.lying_file}
 use Rattle.job_session.proofs.Bytes.{window_length, window_same}
-use Rattle.session_law.proofs.Laying.{regions, regions_back, size_back}
-use Rattle.session_law.proofs.Lying.{slot_held, submits_are_of_places}
+use Rattle.session_law.proofs.{Laying.regions, Laying.regions_back, Laying.size_back, Lying.slot_held, Lying.submits_are_of_places}
 use Rattle.session_law.proofs.Writing.{room_in}
 use Rattle.session_safety.specs.Running.{file_in, lists_in, with_lists, IsAccepted, IsReady, SubmitsMayRun, ReadyMemoriesMayRun}
-use Rattle.session_safety.proofs.Bytes.{file_bytes}
-use Rattle.session_safety.proofs.Contents.{IsLying, front_take, lies, whole_entry}
+use Rattle.session_safety.proofs.{Bytes.file_bytes, Contents.IsLying, Contents.front_take, Contents.lies, Contents.whole_entry}
 
 -- No rule of the file stands.
 none_by : (refusal : Option Refusal) → job_answer refusal ≡ Ok tt → refusal ≡ None

@@ -1,20 +1,15 @@
 -- The memory in which the job of an accepted submit may run.
 use Rattle.std.specs.Prelude.{◌≡◌, ◌<◌, ℕ, ◌*◌, List, length, Ok}
-use Rattle.field_words.specs.Sizes.{page_size}
-use Rattle.field_words.specs.Words.{IsBytes}
-use Rattle.field_words.specs.Writes.{with_bytes}
+use Rattle.field_words.specs.{Sizes.page_size, Words.IsBytes, Writes.with_bytes}
 use Rattle.phys_mem.specs.Window.{window_of}
 use Rattle.buffer_table.specs.declared.buffer.Kind.TheVariants.{Code}
-use Rattle.job_format.specs.Model.{FileModel}
-use Rattle.job_format.specs.Reading.{file_at}
+use Rattle.job_format.specs.{Model.FileModel, Reading.file_at}
 use Rattle.job_check.specs.Region.{region_of}
 use Rattle.job_safety.specs.Prepared.{MayRunOver}
 use Rattle.session_pages.specs.Map.{place_of, memory_size}
-use Rattle.job_session.specs.Own.{most_buffers}
-use Rattle.job_session.specs.Session.{Past}
+use Rattle.job_session.specs.{Own.most_buffers, Session.Past}
 use Rattle.job_session.specs.Desk.{Desk, first_page, page_total, kind_of, bytes_of, submit_answer}
-use Rattle.session_law.specs.Agree.{client_count, Agrees}
-use Rattle.session_law.specs.Lying.{lying_file}
+use Rattle.session_law.specs.{Agree.client_count, Agree.Agrees, Lying.lying_file}
 
 -- the file of a submit with the client's buffers where they lie, and the relocated lists of its job
 abbrev pub file_in : Desk → ℕ → List ℕ → FileModel

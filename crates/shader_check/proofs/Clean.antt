@@ -1,8 +1,7 @@
 -- An accepted shader breaks no rule at any checked instruction.
 use Rattle.std.proofs.Common.{◌≡◌, ◌<◌, ℕ, false, List, length, None, arith}
 use Rattle.field_words.specs.Questions.{first_of, each, answered}
-use Rattle.field_words.proofs.Questions.{none_stands}
-use Rattle.field_words.proofs.Nones.{front_none, each_none, none_answered}
+use Rattle.field_words.proofs.{Questions.none_stands, Nones.front_none, Nones.each_none, Nones.none_answered}
 use Rattle.shader_flow.specs.Flow.{checked_of}
 use Rattle.uniform_stream.specs.Rules.{s20, s22, s23}
 use Rattle.shader_check.specs.Rules.{s16, s24, index_questions, questions_at, fault_at, whole_questions, shader_questions}

@@ -1,17 +1,12 @@
 -- What a TMU keeps in an accepted shader: as many setup words as are pending, one instruction each, all since its last request.
 use Rattle.std.proofs.Common.{◌≡◌, ◌≤◌, ◌<◌, ◌+◌, ℕ, zero, suc, true, false, List, [], ◌∷◌, ◌++◌, length, if◌then◌else◌, sym, ap, subst, inl, inr, arith, ◌∙◌, length-append}
 use Rattle.std.proofs.lemmas.Bool.{cases_Bool}
-use Rattle.qpu_isa.specs.Terms.{writes_s, writes_tmu}
-use Rattle.shader_flow.specs.Flow.{word, checked_of}
-use Rattle.shader_flow.specs.Pending.{pending_of}
+use Rattle.qpu_isa.specs.{Terms.writes_s, Terms.writes_tmu, Setups.kept}
+use Rattle.shader_flow.specs.{Flow.word, Flow.checked_of, Pending.pending_of}
 use Rattle.shader_flow.proofs.Counts.{pending_zero, pending_sent, pending_kept}
-use Rattle.qpu_isa.specs.Setups.{kept}
 use Rattle.shader_check.specs.Info.{held}
-use Rattle.shader_check.proofs.Listed.{Member}
-use Rattle.shader_check.proofs.Clean.{IsCleanAt, IsClean}
-use Rattle.shader_check.proofs.Members.{member_append}
-use Rattle.shader_check.proofs.Positions.{held_next}
 use Rattle.shader_check.proofs.Setups.{SetsUp, Numbered, numbered_push, sets_one, not_sent, one_word, no_word}
+use Rattle.shader_check.proofs.{Listed.Member, Clean.IsCleanAt, Clean.IsClean, Members.member_append, Positions.held_next}
 
 pub record KeptIs (code : List ℕ) (t i : ℕ) (xs : List ℕ) (p : ℕ) : Type 0 where
   pub size : length xs ≡ p

@@ -1,9 +1,8 @@
 -- What is sound by members of lists is sound by index.
 use Rattle.std.proofs.Common.{◌≡◌, ◌≤◌, ◌<◌, ℕ, zero, suc, Bool, true, List, [], ◌∷◌, ◌++◌, map, drop, length, Option, Some, None, get_or, is_some, slice_get, refl, sym, ap, subst, inl, inr, arith, ◌∙◌}
 use Rattle.std.proofs.lemmas.List.{length-map}
-use Rattle.qpu_isa.specs.declared.inst.Sample.{Sample}
 use Rattle.qpu_isa.specs.Shader.{ShaderModel, no_sample, position, or_zero, first_position, IsSoundShader}
-use Rattle.qpu_isa.specs.Shader.{IsSoundSample as IsSampleSound}
+use Rattle.qpu_isa.specs.{declared.inst.Sample.Sample, Shader.IsSoundSample as IsSampleSound}
 use Rattle.shader_check.specs.Info.{padded}
 use Rattle.shader_check.proofs.Listed.{Member, AllDifferent, numbers, first_number, written, IsSoundSample, IsSound}
 use Rattle.shader_check.proofs.Members.{member_left, member_right}

@@ -1,16 +1,13 @@
 -- The rules on a shader are asked by index, and at an index by number.
 use Rattle.std.proofs.Common.{◌≡◌, ◌≤◌, ◌+◌, ℕ, true, List, [], ◌∷◌, ◌++◌, length, Err, inl, inr, refl, arith, nat_le}
 use Rattle.std.proofs.lemmas.Bool.{and_parts, leb-true}
-use Rattle.field_words.specs.declared.stop.Stop.{Stop}
+use Rattle.field_words.specs.{declared.stop.Stop.Stop, Least.NamesLeast}
 use Rattle.field_words.specs.Questions.{Question, Ask, each, answered, Refuses}
-use Rattle.field_words.specs.Least.{NamesLeast}
 use Rattle.field_words.proofs.Least.{IsOrder, Rises, pairs, wider, rises_append, rises_each, rises_answered, names_least}
 use Rattle.shader_flow.specs.Flow.{checked_of}
 use Rattle.shader_flow.proofs.Ends.{checked_of-le}
-use Rattle.shader_check.specs.declared.fault.ShaderFault.{ShaderFault}
-use Rattle.shader_check.specs.Merge.{rises}
+use Rattle.shader_check.specs.{declared.fault.ShaderFault.ShaderFault, Merge.rises, Least.IsUpTo}
 use Rattle.shader_check.specs.Rules.{index_questions, whole_questions, fault_at, questions_at, shader_questions}
-use Rattle.shader_check.specs.Least.{IsUpTo}
 
 pub order : IsOrder IsUpTo
 order = pairs (λ (f : ShaderFault). (f.index, f.number))

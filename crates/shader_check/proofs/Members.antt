@@ -1,7 +1,6 @@
 -- Members of lists of indexes, and of what is made of them.
 use Rattle.std.proofs.Common.{◌≡◌, ◌<◌, ◌⊎◌, ℕ, zero, suc, Bool, true, List, [], ◌∷◌, ◌++◌, map, if◌then◌else◌, refl, sym, ap, subst, inl, inr, arith, ◌∙◌}
-use Rattle.std.proofs.lemmas.Bool.{cases_Bool}
-use Rattle.std.proofs.lemmas.List.{map-append, append-nil}
+use Rattle.std.proofs.{lemmas.Bool.cases_Bool, lemmas.List.map-append, lemmas.List.append-nil}
 use Rattle.shader_flow.specs.Bounded.{indexes}
 use Rattle.shader_check.proofs.Listed.{Member, AllDifferent}
 

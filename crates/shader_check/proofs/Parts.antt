@@ -1,22 +1,16 @@
 -- The instructions that take a sample's uniforms: the first, and one to three more.
 use Rattle.std.proofs.Common.{◌≡◌, ◌≤◌, ◌<◌, ◌+◌, ◌-◌, ℕ, zero, suc, true, false, ◌||◌, List, [], ◌∷◌, ◌++◌, length, if◌then◌else◌, refl, sym, ap, subst, inl, inr, arith, ◌∙◌, length-append}
-use Rattle.std.proofs.lemmas.Bool.Decides.{nat_tests}
-use Rattle.std.proofs.lemmas.Bool.{cases_Bool, eqb-false}
+use Rattle.std.proofs.{lemmas.Bool.Decides.nat_tests, lemmas.Bool.cases_Bool, lemmas.Bool.eqb-false}
 use Rattle.qpu_isa.specs.Terms.{writes_s, writes_tmu, is_address_write, is_min_with_uniform, is_add_with_uniform}
-use Rattle.shader_flow.specs.Flow.{word, checked_of}
 use Rattle.qpu_isa.specs.Setups.{is_direct}
-use Rattle.shader_flow.specs.Pending.{pending_of, takes}
+use Rattle.shader_flow.specs.{Flow.word, Flow.checked_of, Pending.pending_of, Pending.takes}
 use Rattle.uniform_stream.specs.Rules.{s22, is_full}
-use Rattle.clamp_facts.proofs.Carriers.{sets_parts, carried_parts}
-use Rattle.clamp_facts.proofs.Clamps.{clamped_found, clamps_parts, clamp_min}
+use Rattle.clamp_facts.proofs.{Carriers.sets_parts, Carriers.carried_parts, Clamps.clamped_found, Clamps.clamps_parts, Clamps.clamp_min}
 use Rattle.shader_check.specs.Rules.{direct_by_add, direct_by_mul}
 use Rattle.shader_check.specs.Info.{held, asks, sample_tmu, is_direct_sample, clamp_parts, sample_parts}
-use Rattle.shader_check.proofs.Listed.{Member}
-use Rattle.shader_check.proofs.Clean.{IsCleanAt, IsClean}
-use Rattle.shader_check.proofs.Members.{member_append}
-use Rattle.shader_check.proofs.Positions.{clamp_parts_one}
 use Rattle.shader_check.proofs.Roles.{sum_parts, min_parts, sum_or_min, reads_takes, sets_takes, sets_or_reads, address_parts, direct_parts, clamped_parts, address_or_direct}
 use Rattle.shader_check.proofs.Setups.{SetsUp, Numbered, numbered_member, sets_one, not_kept, s_writes, one_tmu}
+use Rattle.shader_check.proofs.{Listed.Member, Clean.IsCleanAt, Clean.IsClean, Members.member_append, Positions.clamp_parts_one}
 use Rattle.shader_check.proofs.Held.{held_is, held_after}
 
 -- the first of the instruction at i's sample: itself, where it is direct, or a setup write of number 0

@@ -2,15 +2,12 @@
 use Rattle.std.proofs.Common.{◌≡◌, ◌<◌, ◌+◌, ℕ, Bool, true, false, not, ◌&&◌, ◌||◌, List, None, map, refl, sym, ap, ◌∙◌}
 use Rattle.std.proofs.lemmas.Bool.{and_left}
 use Rattle.field_words.specs.Questions.{first_of}
-use Rattle.qpu_isa.specs.Terms.{is_address_write, writes_s}
-use Rattle.qpu_isa.specs.Setups.{adds_direct, muls_direct}
-use Rattle.shader_flow.specs.Bounded.{indexes}
-use Rattle.shader_flow.specs.Flow.{word, checked_of}
-use Rattle.shader_flow.specs.Pending.{pending_of}
+use Rattle.qpu_isa.specs.{Terms.is_address_write, Terms.writes_s, Setups.adds_direct, Setups.muls_direct}
+use Rattle.shader_flow.specs.{Bounded.indexes, Flow.word, Flow.checked_of, Pending.pending_of}
 use Rattle.uniform_stream.specs.Quiet.{writes_registers}
 use Rattle.uniform_stream.proofs.QuietWrites.{no_address_write, no_send, no_write, no_add_direct, no_mul_direct}
-use Rattle.shader_check.specs.Info.{held, asks, is_sample, sample_of}
 use Rattle.shader_check.specs.Rules.{is_exact_address_write, s16, direct_by_add, direct_by_mul, is_clamped_write, s24, fact_questions}
+use Rattle.shader_check.specs.Info.{held, asks, is_sample, sample_of}
 use Rattle.shader_check.proofs.Positions.{held_same, samples_same}
 
 neither : (a b : Bool) → a ≡ false → b ≡ false → (a || b) ≡ false

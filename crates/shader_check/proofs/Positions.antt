@@ -1,19 +1,13 @@
 -- What a TMU keeps after one more instruction, and the clamp of a direct sample.
 use Rattle.std.proofs.Common.{◌≡◌, ◌<◌, ◌+◌, ℕ, suc, Bool, true, false, List, [], ◌∷◌, ◌++◌, map, Option, Some, None, slice_get, if◌then◌else◌, refl, sym, ap, arith, ◌∙◌, nat_lt}
-use Rattle.std.proofs.lemmas.Bool.{and_from, and_right, lt-ltb}
-use Rattle.std.proofs.lemmas.List.{map-append}
-use Rattle.qpu_isa.specs.declared.inst.Reg.{Reg}
+use Rattle.std.proofs.{lemmas.Bool.and_from, lemmas.Bool.and_right, lemmas.Bool.lt-ltb, lemmas.List.map-append}
+use Rattle.qpu_isa.specs.{declared.inst.Reg.Reg, Setups.kept, declared.inst.Sample.Sample}
 use Rattle.qpu_isa.specs.Terms.{writes_s, writes_tmu, first_register, loaded_value, is_max_with_zero}
-use Rattle.shader_flow.specs.Flow.{word, checked_of}
-use Rattle.clamp_facts.specs.declared.fact.Fact.TheVariants.{Clamped}
+use Rattle.shader_flow.specs.{Flow.word, Flow.checked_of, Bounded.indexes, Pending.count_of}
+use Rattle.clamp_facts.specs.{declared.fact.Fact.TheVariants.Clamped, Readings.clamp_in, Readings.bound_in}
 use Rattle.clamp_facts.specs.Facts.{makes_clamp, made, fact_made, fact_by, fact_at, carrier_of}
-use Rattle.clamp_facts.specs.Readings.{clamp_in, bound_in}
-use Rattle.qpu_isa.specs.Setups.{kept}
 use Rattle.shader_check.specs.Info.{held, clamp_list, clamp_parts, padded, sample_tmu, sample_parts, sample_of, is_direct_sample, asks, is_sample}
-use Rattle.shader_flow.specs.Bounded.{indexes}
 use Rattle.shader_flow.proofs.Bounded.{indexes_here, indexes_not}
-use Rattle.shader_flow.specs.Pending.{count_of}
-use Rattle.qpu_isa.specs.declared.inst.Sample.{Sample}
 use Rattle.std.specs.Option.{option_to_list}
 
 pub held_next : (code : List ℕ) (tmu i : ℕ) → i < checked_of code → held code tmu (i + 1) ≡ kept (word code i) tmu i (held code tmu i)

@@ -1,14 +1,10 @@
 -- A checked instruction of an accepted shader takes its uniform for one thing alone: an address write, a direct read, a clamp
 -- or a setup word.
 use Rattle.std.proofs.Common.{◌≡◌, ◌≤◌, ◌<◌, ◌+◌, ◌-◌, ℕ, zero, suc, Bool, true, Option, Some, None, refl, ◌||◌, List, sym, ap, inl, inr, arith}
-use Rattle.std.proofs.lemmas.Bool.Decides.{nat_tests}
-use Rattle.std.proofs.lemmas.Bool.{cases_order, true≢false}
-use Rattle.qpu_isa.specs.Word.{add_b_of, op_add_of}
-use Rattle.qpu_isa.specs.declared.inst.Reg.{Reg}
+use Rattle.std.proofs.{lemmas.Bool.Decides.nat_tests, lemmas.Bool.cases_order, lemmas.Bool.true≢false}
 use Rattle.qpu_isa.specs.Terms.{is_alu, is_uniform_operand, s_address, reads_uniform_of, is_add_with_uniform, is_min_with_uniform, is_address_write, add_names, first_register, passes}
-use Rattle.shader_flow.specs.Flow.{word, checked_of}
-use Rattle.qpu_isa.specs.Setups.{adds_direct, takes_with, has_setup}
-use Rattle.shader_flow.specs.Pending.{pending_of, count_of, takes}
+use Rattle.qpu_isa.specs.{Word.add_b_of, Word.op_add_of, declared.inst.Reg.Reg, Setups.adds_direct, Setups.takes_with, Setups.has_setup}
+use Rattle.shader_flow.specs.{Flow.word, Flow.checked_of, Pending.pending_of, Pending.count_of, Pending.takes}
 use Rattle.uniform_stream.specs.Rules.{s23}
 use Rattle.shader_flow.proofs.Counts.{count_next, count_taken}
 use Rattle.clamp_facts.specs.Facts.{is_clamped}

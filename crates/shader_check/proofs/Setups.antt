@@ -1,15 +1,12 @@
 -- The setup words that a TMU keeps: one instruction each, numbered from 0.
 use Rattle.std.proofs.Common.{◌≡◌, ◌≤◌, ◌<◌, ◌+◌, ◌*◌, ◌==◌, ℕ, zero, suc, true, false, ◌||◌, List, [], ◌∷◌, ◌++◌, length, subst, inl, inr, arith}
 use Rattle.std.proofs.lemmas.Bool.Decides.{nat_tests}
-use Rattle.qpu_isa.specs.Word.{waddr_add_of, waddr_mul_of}
 use Rattle.qpu_isa.specs.Terms.{add_names, mul_names, names_address, writes_s, s_address, writes_tmu, add_writes_tmu, mul_writes_tmu, is_tmu_address, tmu_writes, add_is_tmu, mul_is_tmu, has_two_tmu_writes}
-use Rattle.shader_flow.specs.Flow.{word, checked_of}
+use Rattle.qpu_isa.specs.Word.{waddr_add_of, waddr_mul_of}
 use Rattle.qpu_isa.specs.Setups.{has_setup, adds_setup, muls_setup, adds_direct, muls_direct, is_direct}
-use Rattle.shader_flow.specs.Pending.{pending_of}
+use Rattle.shader_flow.specs.{Flow.word, Flow.checked_of, Pending.pending_of}
 use Rattle.uniform_stream.specs.Rules.{s20}
-use Rattle.shader_check.proofs.Listed.{Member}
-use Rattle.shader_check.proofs.Clean.{IsCleanAt}
-use Rattle.shader_check.proofs.Roles.{sets}
+use Rattle.shader_check.proofs.{Listed.Member, Clean.IsCleanAt, Roles.sets}
 
 -- the instruction at k has the setup write number m of a request to this TMU
 pub record SetsUp (code : List ℕ) (tmu k m : ℕ) : Type 0 where

@@ -1,22 +1,18 @@
 -- The info of an accepted shader is sound.
 use Rattle.std.proofs.Common.{◌≡◌, ◌≤◌, ◌<◌, ℕ, true, List, [], ◌∷◌, map, drop, length, None, slice_index, if◌then◌else◌, refl, sym, ap, subst, inl, inr, arith, ◌∙◌, nat_lt}
-use Rattle.std.proofs.lemmas.Bool.{and_parts, cases_Bool, ltb-true}
-use Rattle.std.proofs.lemmas.List.{length-map}
-use Rattle.qpu_isa.specs.declared.inst.Sample.{Sample}
-use Rattle.qpu_isa.specs.Terms.{is_address_write}
-use Rattle.shader_flow.specs.Bounded.{indexes}
-use Rattle.shader_flow.specs.Flow.{word, checked_of}
+use Rattle.std.proofs.{lemmas.Bool.and_parts, lemmas.Bool.cases_Bool, lemmas.Bool.ltb-true, lemmas.List.length-map}
+use Rattle.qpu_isa.specs.{declared.inst.Sample.Sample, Terms.is_address_write}
+use Rattle.shader_flow.specs.{Bounded.indexes, Flow.word, Flow.checked_of, Pending.count_of, Pending.takes}
 use Rattle.shader_flow.proofs.Ends.{checked_of-le}
-use Rattle.shader_flow.specs.Pending.{count_of, takes}
 use Rattle.uniform_stream.specs.Stream.{writes_address, is_open, address_words_of, uniforms_of}
 use Rattle.shader_check.specs.Info.{padded, asks, is_sample, sample_parts, sample_of, samples_of}
-use Rattle.field_words.specs.Questions.{first_of}
 use Rattle.shader_check.specs.Rules.{shader_questions}
+use Rattle.field_words.specs.Questions.{first_of}
 use Rattle.shader_check.proofs.Listed.{Member, AllDifferent, numbers, first_number, written, IsSoundSample, IsSound}
-use Rattle.shader_check.proofs.Clean.{IsCleanAt, IsClean, clean}
 use Rattle.shader_check.proofs.Members.{member_append, member_map, member_indexes, different_append, different_indexes}
-use Rattle.shader_check.proofs.Roles.{count_less, count_one, sum_parts, reads_takes, address_parts}
 use Rattle.shader_check.proofs.Parts.{HeadIs, RestIs, PartsAre, parts_are, head_takes, rest_takes, rest_or_address, head_or_address, rest_or_head, heads_apart}
+use Rattle.shader_check.proofs.Clean.{IsCleanAt, IsClean, clean}
+use Rattle.shader_check.proofs.Roles.{count_less, count_one, sum_parts, reads_takes, address_parts}
 
 -- up to four numbers come back
 pub numbers_padded : (ns : List ℕ) → length ns ≤ 4 → numbers (padded ns) ≡ ns

@@ -2,8 +2,7 @@
 use Rattle.std.proofs.Common.{◌≡◌, ◌≤◌, ℕ, Bool, true, false, List, [], ◌∷◌, Option, Some, None, min, if◌then◌else◌, refl, sym, ap, inl, inr, arith, ◌∙◌, nat_lt, nat_le}
 use Rattle.std.proofs.lemmas.Bool.{and_parts, leb-true, cases_Bool}
 use Rattle.field_words.specs.Questions.{Question, Ask, first_of}
-use Rattle.shader_check.specs.Merge.{lesser, rises, inserted, merged}
-use Rattle.shader_check.specs.Rules.{index_questions, fact_questions}
+use Rattle.shader_check.specs.{Merge.lesser, Merge.rises, Merge.inserted, Merge.merged, Rules.index_questions, Rules.fact_questions}
 use Rattle.shader_flow.specs.Rules.{flow_questions}
 use Rattle.uniform_stream.specs.Rules.{stream_questions}
 

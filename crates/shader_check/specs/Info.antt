@@ -1,18 +1,11 @@
 -- What an accepted shader takes and reads.
-use Rattle.std.specs.Prelude.{◌≡◌, ℕ, zero, suc, Bool, ◌&&◌, ◌||◌, List, [], ◌∷◌, ◌++◌, map, Option, Some, None, slice_get, nat_lt, if◌then◌else◌}
-use Rattle.std.specs.Option.{option_to_list}
-use Rattle.qpu_isa.specs.declared.inst.Reg.{Reg}
-use Rattle.qpu_isa.specs.declared.inst.Sample.{Sample}
-use Rattle.qpu_isa.specs.declared.inst.ShaderInfo.{ShaderInfo}
-use Rattle.qpu_isa.specs.Terms.{writes_s, first_register}
-use Rattle.qpu_isa.specs.Setups.{is_direct, kept}
-use Rattle.shader_flow.specs.Bounded.{indexes}
-use Rattle.shader_flow.specs.Flow.{word, checked_of, is_threaded}
-use Rattle.shader_flow.specs.Pending.{count_of, pending_of}
+use Rattle.std.specs.Prelude.{◌≡◌, ℕ, zero, suc, Bool, ◌&&◌, ◌||◌, List, [], ◌∷◌, ◌++◌, map, Option, Some, None, slice_get, nat_lt, if◌then◌else◌, option_to_list}
+use Rattle.qpu_isa.specs.{declared.inst.Reg.Reg, declared.inst.Sample.Sample, declared.inst.ShaderInfo.ShaderInfo}
+use Rattle.qpu_isa.specs.{Terms.writes_s, Terms.first_register, Setups.is_direct, Setups.kept}
+use Rattle.shader_flow.specs.{Bounded.indexes, Flow.word, Flow.checked_of, Flow.is_threaded, Pending.count_of, Pending.pending_of}
 use Rattle.shader_flow.specs.Site.{SiteModel}
 use Rattle.uniform_stream.specs.Stream.{uniforms_of, address_words_of}
-use Rattle.clamp_facts.specs.Facts.{fact_at}
-use Rattle.clamp_facts.specs.Readings.{clamp_in}
+use Rattle.clamp_facts.specs.{Facts.fact_at, Readings.clamp_in}
 
 -- the instructions whose setup words a TMU keeps before the instruction at i, upwards
 unfoldable pub held : List ℕ → ℕ → ℕ → List ℕ

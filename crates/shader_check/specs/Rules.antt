@@ -1,12 +1,10 @@
 -- The rules on facts and on the whole shader, and all rules in the order of refusal.
 use Rattle.std.specs.Prelude.{ℕ, ◌+◌, ◌*◌, ◌==◌, Bool, not, ◌&&◌, ◌||◌, List, [], ◌∷◌, ◌++◌, length, nat_le}
 use Rattle.field_words.specs.Questions.{Question, Ask, each, answered}
-use Rattle.qpu_isa.specs.Word.{sig_of, ws_of, cond_add_of}
 use Rattle.qpu_isa.specs.Terms.{add_names, has_small, is_address_write, is_add_packed, is_add_with_uniform, first_register, passes, reads_upper, names_upper}
-use Rattle.qpu_isa.specs.Setups.{adds_direct, muls_direct}
-use Rattle.shader_flow.specs.Bounded.{some_below}
-use Rattle.shader_flow.specs.Flow.{word, end_of, checked_of, is_threaded}
+use Rattle.qpu_isa.specs.{Word.sig_of, Word.ws_of, Word.cond_add_of, Setups.adds_direct, Setups.muls_direct}
 use Rattle.shader_flow.specs.Rules.{s3, s4, s5, s6, s7, s8, s9, s10, s11, s12, s13, s27}
+use Rattle.shader_flow.specs.{Bounded.some_below, Flow.word, Flow.end_of, Flow.checked_of, Flow.is_threaded}
 use Rattle.shader_flow.specs.Pending.{pending_of, count_of}
 use Rattle.uniform_stream.specs.Rules.{s14, s15, s17, s18, s19, s20, s21, s22, s23, s25}
 use Rattle.clamp_facts.specs.Facts.{is_immediate, is_clamped}

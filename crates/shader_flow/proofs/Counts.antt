@@ -2,8 +2,7 @@
 use Rattle.std.proofs.Common.{◌≡◌, ◌≤◌, ◌<◌, ◌+◌, ℕ, zero, suc, true, false, List, if◌then◌else◌, refl, ap, arith, ◌∙◌, nat_lt}
 use Rattle.std.proofs.lemmas.Bool.{lt-ltb, le-ltb}
 use Rattle.qpu_isa.specs.Terms.{writes_s, tmu_writes}
-use Rattle.shader_flow.specs.Flow.{word, checked_of}
-use Rattle.shader_flow.specs.Pending.{pending_of, count_of, takes}
+use Rattle.shader_flow.specs.{Flow.word, Flow.checked_of, Pending.pending_of, Pending.count_of, Pending.takes}
 
 pub pending_zero : (code : List ℕ) (tmu : ℕ) → pending_of code tmu 0 ≡ 0
 unfolding pending_of

@@ -1,7 +1,6 @@
 -- Laws on the program end.
 use Rattle.std.proofs.Common.{◌≡◌, ◌≤◌, ◌<◌, ℕ, suc, ◌+◌, true, false, List, [], ◌∷◌, length, drop, get_or, if◌then◌else◌, ap, arith, ◌∙◌}
-use Rattle.std.proofs.Math.Seq.{drop-cons}
-use Rattle.std.proofs.Math.ListN.{drop_of_length-le}
+use Rattle.std.proofs.{Math.Seq.drop-cons, Math.ListN.drop_of_length-le}
 use Rattle.qpu_isa.specs.Terms.{is_end}
 use Rattle.shader_flow.specs.Flow.{end_of, checked_of}
 

@@ -1,10 +1,8 @@
 -- Where a shader may go: its end, its checked instructions, and the targets of its branches. A shader is its list of words.
 use Rattle.std.specs.Prelude.{◌≡◌, ◌≤◌, ◌<◌, ℕ, suc, ◌+◌, ◌%◌, ◌==◌, Bool, false, not, ◌&&◌, ◌||◌, List, [], ◌∷◌, length, min, nat_lt, slice_index, slice_index_or, if◌then◌else◌}
 use Rattle.field_words.specs.Sizes.{most_words}
-use Rattle.qpu_isa.specs.Word.{imm_of, relative_of, register_of}
-use Rattle.qpu_isa.specs.Terms.{is_end, is_branch, is_switch, target_of}
-use Rattle.shader_flow.specs.declared.state.Flow.{Flow}
-use Rattle.shader_flow.specs.Bounded.{some_below, is_back}
+use Rattle.qpu_isa.specs.{Word.imm_of, Word.relative_of, Word.register_of, Terms.is_end, Terms.is_branch, Terms.is_switch, Terms.target_of}
+use Rattle.shader_flow.specs.{declared.state.Flow.Flow, Bounded.some_below, Bounded.is_back}
 
 -- the instruction at an index
 abbrev pub word : List ℕ → ℕ → ℕ

@@ -1,7 +1,6 @@
 -- The setup words that a texture unit keeps, and the uniforms that a shader takes.
 use Rattle.std.specs.Prelude.{ℕ, zero, suc, ◌+◌, Bool, ◌&&◌, List, nat_lt, if◌then◌else◌}
-use Rattle.qpu_isa.specs.Terms.{tmu_writes, writes_s}
-use Rattle.qpu_isa.specs.Setups.{takes_with}
+use Rattle.qpu_isa.specs.{Terms.tmu_writes, Terms.writes_s, Setups.takes_with}
 use Rattle.shader_flow.specs.Flow.{word, checked_of}
 
 -- How many setup words a TMU keeps before the instruction at i: its writes of that TMU since the last write of S. What stands

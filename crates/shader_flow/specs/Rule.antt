@@ -1,7 +1,7 @@
 -- The numbers of the rules on shaders.
 use Rattle.std.specs.Prelude.{ℕ}
-use Rattle.shader_flow.specs.declared.rule.ShaderRule.{ShaderRule}
 use Rattle.shader_flow.specs.declared.rule.ShaderRule.TheVariants.{NoWords, NoEnd, Signal, BranchInSlots, BranchByRegister, BranchAbsolute, BranchUnaligned, BranchOutside, SlotsPastEnd, BranchWrites, SwitchAfterSwitch, BranchAfterSwitch, SwitchMisplaced, ForbiddenRegister, RelativeAddress, InexactAddress, AddressInSlots, UniformTooEarly, PositionUnknown, TwoUnitsWrite, ConditionalWrite, FullUnit, UniformTakenTwice, UnclampedRead, TargetAmidSetup, UpperRegisters, LoadMode}
+use Rattle.shader_flow.specs.declared.rule.ShaderRule.{ShaderRule}
 
 abbrev pub number_of : ShaderRule → ℕ
 number_of NoWords = 1

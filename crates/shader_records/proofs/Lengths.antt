@@ -1,17 +1,13 @@
 -- How long what is emitted is.
 use Rattle.std.proofs.Common.{◌≡◌, ℕ, zero, suc, ◌+◌, ◌/◌, ◌<◌, ◌≤◌, List, ◌++◌, length, Option, Some, None, refl, sym, ap, arith, ◌∙◌, length-append}
-use Rattle.field_words.specs.Writes.{with_bytes}
-use Rattle.field_words.proofs.WordBytes.{length_words}
-use Rattle.field_words.proofs.Writes.{with_nothing, with_two}
-use Rattle.field_words.specs.Questions.{first_of}
+use Rattle.field_words.specs.{Writes.with_bytes, Questions.first_of}
+use Rattle.field_words.proofs.{WordBytes.length_words, Writes.with_nothing, Writes.with_two}
 use Rattle.qpu_isa.specs.Shader.{ShaderModel}
-use Rattle.shader_records.specs.Inputs.{InputModel}
 use Rattle.shader_records.specs.Sources.{state_at, source_size, record_source, record_offset, uniform_source, stream_offset, shader_used, taken_by, given_by, taken_before, given_before}
-use Rattle.packets.specs.StateWord.{record_room}
-use Rattle.shader_records.specs.Rules.{use_questions, all_questions}
 use Rattle.shader_records.specs.Emission.{emitted_word, stream_place, record_text, records_text, stream_word_of, stream_text, streams_text, uniforms_text}
-use Rattle.shader_records.proofs.Fine.{source_inside, use_inside, state_fine}
-use Rattle.shader_records.proofs.Inside.{fixed_in, emitted_in}
+use Rattle.shader_records.specs.{Inputs.InputModel, Rules.use_questions, Rules.all_questions}
+use Rattle.packets.specs.StateWord.{record_room}
+use Rattle.shader_records.proofs.{Fine.source_inside, Fine.use_inside, Fine.state_fine, Inside.fixed_in, Inside.emitted_in}
 
 -- A text put behind another.
 pub put_behind : (window : List ℕ) (at n : ℕ) (front rest out out2 : List ℕ) → out ≡ with_bytes window at front → length front ≡ n → out2 ≡ with_bytes out (at + n) rest

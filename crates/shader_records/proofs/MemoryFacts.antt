@@ -1,27 +1,18 @@
 -- What is emitted, read back from the bytes of memory.
 use Rattle.std.proofs.Common.{◌≡◌, ℕ, zero, suc, ◌+◌, ◌*◌, ◌/◌, ◌^◌, ◌<◌, List, [], ◌++◌, length, Option, Some, None, refl, sym, ap, subst, arith, ◌∙◌, inl, inr, append_assoc, length-append, take, drop}
+use Rattle.std.proofs.{lemmas.Bool.cases_lt, lemmas.List.append-nil, lemmas.List.length-take-le, lemmas.List.take-append-drop}
 use Rattle.std.specs.Int.{to_le_bytes, w32}
-use Rattle.std.proofs.lemmas.Bool.{cases_lt}
-use Rattle.std.proofs.lemmas.List.{append-nil, length-take-le, take-append-drop}
-use Rattle.field_words.specs.Words.{u32_at}
-use Rattle.field_words.specs.Pieces.{IsPiece}
-use Rattle.field_words.specs.WordBytes.{word_bytes}
-use Rattle.field_words.specs.Questions.{first_of}
-use Rattle.field_words.proofs.Pieces.{front_piece, rest_piece}
-use Rattle.field_words.proofs.WordBytes.{word_piece}
-use Rattle.field_words.proofs.Numbers.{u32_of_piece}
+use Rattle.field_words.specs.{Words.u32_at, Pieces.IsPiece, WordBytes.word_bytes, Questions.first_of}
+use Rattle.field_words.proofs.{Pieces.front_piece, Pieces.rest_piece, WordBytes.word_piece, Numbers.u32_of_piece}
 use Rattle.qpu_isa.specs.Shader.{ShaderModel, IsSoundShader}
-use Rattle.shader_records.specs.Inputs.{InputModel, AreInputs}
 use Rattle.shader_records.specs.Sources.{state_at, record_source, record_offset, uniform_source, stream_offset, code_number, shader_behind, shader_used, taken_before, given_before}
-use Rattle.packets.specs.StateWord.{record_room}
 use Rattle.shader_records.specs.Emission.{emitted_word, stream_place, record_text, records_text, stream_word_of, stream_text, streams_text, uniforms_text, emitted_records, emitted_uniforms, HasStreams}
-use Rattle.shader_records.specs.Named.{AreInMemory, IsEmittedIn}
+use Rattle.shader_records.specs.{Inputs.InputModel, Inputs.AreInputs, Named.AreInMemory, Named.IsEmittedIn}
 use Rattle.shader_records.specs.Rules.{use_questions, all_questions}
-use Rattle.shader_records.proofs.Fine.{IsStateFine, state_fine}
-use Rattle.shader_records.proofs.Steps.{given_rises}
-use Rattle.shader_records.proofs.Inside.{emitted_in}
-use Rattle.shader_records.proofs.StreamFacts.{stream_fits, word_fits}
+use Rattle.packets.specs.StateWord.{record_room}
 use Rattle.shader_records.proofs.Lengths.{IsStateInside, state_inside, length_streams, length_records, length_uniforms}
+use Rattle.shader_records.proofs.{Fine.IsStateFine, Fine.state_fine, Steps.given_rises, Inside.emitted_in}
+use Rattle.shader_records.proofs.StreamFacts.{stream_fits, word_fits}
 
 -- A text that stands among others, which go before it and behind it.
 pub record StandsIn (whole text : List ℕ) (at : ℕ) : Type 0 where

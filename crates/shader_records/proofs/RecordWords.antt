@@ -4,9 +4,9 @@ use Rattle.std.proofs.lemmas.Bool.{cases_lt}
 use Rattle.field_words.specs.Words.{u32_at}
 use Rattle.packets.specs.StateWord.{attribute_count, record_size}
 use Rattle.emitted_facts.proofs.Records.{header_in, entry_in}
-use Rattle.shader_records.specs.Inputs.{InputModel}
 use Rattle.shader_records.specs.Sources.{handles_size, code_number, attribute_number, record_word, word_from, place_in}
 use Rattle.shader_records.specs.Emission.{shader_word, attribute_word, emitted_word, plain_word, moved_address}
+use Rattle.shader_records.specs.Inputs.{InputModel}
 
 if_below : (i n x y : ℕ) → i < n → (if nat_lt i n then x else y) ≡ x
 if_below i n x y below = grind (arith, below)

@@ -1,20 +1,15 @@
 -- A memory that has what was emitted has the records of all states.
 use Rattle.std.proofs.Common.{not, ◌≡◌, ℕ, ◌+◌, ◌*◌, ◌%◌, ◌==◌, ◌^◌, ◌<◌, List, length, None, refl, sym, ap, subst, arith, ◌∙◌}
-use Rattle.field_words.specs.Words.{u32_at}
-use Rattle.field_words.specs.Questions.{first_of}
+use Rattle.field_words.specs.{Words.u32_at, Questions.first_of}
 use Rattle.qpu_isa.specs.Shader.{ShaderModel}
 use Rattle.emitted_facts.specs.Records.{is_single, address_word, shape_word, extension_word}
-use Rattle.packets.specs.StateWord.{record_size}
 use Rattle.emitted_facts.specs.Facts.{IsStream, IsUse, IsRecord}
+use Rattle.packets.specs.StateWord.{record_size}
 use Rattle.emitted_facts.proofs.Records.{entry_in, extension_in, header_in, same_attribute}
-use Rattle.shader_records.specs.Inputs.{InputModel, AreInputs}
-use Rattle.shader_records.specs.Named.{IsDataIn, IsCodeIn, AreInMemory, IsEmittedIn}
 use Rattle.shader_records.specs.Sources.{state_at, record_source, record_offset, uniform_source, stream_offset}
-use Rattle.shader_records.specs.Rules.{all_questions}
-use Rattle.shader_records.specs.Emission.{emitted_word, stream_place}
-use Rattle.shader_records.proofs.Fine.{state_fine}
-use Rattle.shader_records.proofs.Inside.{emitted_in}
-use Rattle.shader_records.proofs.RecordFacts.{emitted_record_is}
+use Rattle.shader_records.specs.{Inputs.InputModel, Inputs.AreInputs, Named.IsDataIn, Named.IsCodeIn, Named.AreInMemory, Named.IsEmittedIn}
+use Rattle.shader_records.specs.{Rules.all_questions, Emission.emitted_word, Emission.stream_place}
+use Rattle.shader_records.proofs.{Fine.state_fine, Inside.emitted_in, RecordFacts.emitted_record_is}
 use Rattle.shader_records.proofs.MemoryFacts.{streams_in_memory, record_in_memory}
 
 same_use : (IsNamed : ℕ → ℕ → Type 0) (IsShader : ℕ → ShaderModel → Type 0) (memory : ℕ → ℕ) (code code2 stream stream2 : ℕ) → code ≡ code2 → stream ≡ stream2

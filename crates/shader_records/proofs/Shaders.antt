@@ -1,7 +1,6 @@
 -- What is known of the shader in a buffer, by the list of what is known of each.
 use Rattle.std.proofs.Common.{◌≡◌, ℕ, zero, suc, ◌<◌, List, [], ◌∷◌, length, Option, Some, None, get_or, sym, ap, arith, ◌∙◌}
-use Rattle.qpu_isa.specs.declared.inst.ShaderInfo.{ShaderInfo}
-use Rattle.qpu_isa.specs.Shader.{shader_view}
+use Rattle.qpu_isa.specs.{declared.inst.ShaderInfo.ShaderInfo, Shader.shader_view}
 use Rattle.shader_records.specs.Inputs.{shader_option, shaders_view, shader_in}
 
 known_of : (shaders : List (Option ShaderInfo)) (number : ℕ) (o : Option ShaderInfo) → number < length shaders → o ≡ get_or shaders number o

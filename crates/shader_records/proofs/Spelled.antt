@@ -1,10 +1,8 @@
 -- Words that are copied as they are.
 use Rattle.std.proofs.Common.{◌≡◌, ℕ, zero, suc, ◌+◌, ◌*◌, ◌≤◌, List, ◌++◌, length, take, drop, refl, sym, ap, arith, ◌∙◌}
+use Rattle.std.proofs.{lemmas.List.places, lemmas.Grind.same_number_lists}
 use Rattle.std.specs.Int.{to_le_bytes, w32}
-use Rattle.std.proofs.lemmas.List.{places}
-use Rattle.std.proofs.lemmas.Grind.{same_number_lists}
-use Rattle.field_words.specs.Words.{u32_at, IsBytes}
-use Rattle.field_words.specs.WordBytes.{word_bytes}
+use Rattle.field_words.specs.{Words.u32_at, Words.IsBytes, WordBytes.word_bytes}
 use Rattle.field_words.proofs.Numbers.{u32_piece}
 use Rattle.shader_records.specs.Sources.{word_from}
 

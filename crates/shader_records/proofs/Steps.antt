@@ -1,10 +1,9 @@
 -- Places from one shader, or one state, to the next.
 use Rattle.std.proofs.Common.{◌≡◌, ℕ, zero, suc, ◌+◌, [], ◌∷◌, slice_index, refl, ap, arith}
 use Rattle.std.proofs.Common.{◌≤◌, ◌<◌}
-use Rattle.shader_records.specs.Inputs.{InputModel}
 use Rattle.shader_records.specs.Sources.{state_at, source_size, record_source, record_offset, uniform_source, stream_offset, shader_used, taken_by, given_by, taken_before, given_before}
+use Rattle.shader_records.specs.{Inputs.InputModel, Emission.stream_place}
 use Rattle.packets.specs.StateWord.{record_room}
-use Rattle.shader_records.specs.Emission.{stream_place}
 
 next : (n : ℕ) → n + 1 ≡ suc n
 next n = omega arith

@@ -1,25 +1,21 @@
 -- An emitted stream is what whoever runs it counts on.
 use Rattle.std.proofs.Common.{◌≡◌, ℕ, suc, ◌+◌, ◌^◌, ◌==◌, ◌<◌, ◌≤◌, Bool, true, false, ◌||◌, length, Option, Some, None, is_some, if◌then◌else◌, add-zero, refl, sym, ap, arith, ◌∙◌, zero, ◌*◌, ◌/◌, ◌%◌, ◌-◌, ◌&&◌, nat_lt, nat_le, not, List, inl, inr}
 use Rattle.std.proofs.lemmas.Bool.{ltb-false, eqb-true, ltb-true, cases_lt}
-use Rattle.field_words.specs.Questions.{first_of}
-use Rattle.field_words.proofs.Questions.{none_stands}
+use Rattle.field_words.specs.{Questions.first_of, Words.u32_at}
+use Rattle.field_words.proofs.{Questions.none_stands, Numbers.u32_fits}
+use Rattle.qpu_isa.specs.Shader.{ShaderModel, or_zero, sample_at, first_position, position, address_at, IsSoundShader, IsSoundSample}
 use Rattle.qpu_isa.specs.declared.inst.Sample.{Sample}
 use Rattle.texture_layouts.specs.Setup.{base_of, texture_of, faces_of, size_below}
 use Rattle.texture_layouts.specs.Fits.{texture_questions, direct_questions}
 use Rattle.texture_layouts.proofs.Inside.{in_buffer}
-use Rattle.qpu_isa.specs.Shader.{ShaderModel, or_zero, sample_at, first_position, position, address_at, IsSoundShader, IsSoundSample}
 use Rattle.emitted_facts.specs.Facts.{setup, word_or_zero, IsSampleIn, IsStream}
-use Rattle.shader_records.specs.Inputs.{InputModel}
 use Rattle.shader_records.specs.Sources.{sample_number, source_word, place_in, size_in, handles_size, code_number, attribute_number, record_word}
-use Rattle.shader_records.specs.Rules.{setup_questions, use_questions, record_questions}
 use Rattle.shader_records.specs.Emission.{moved, moved_word, is_address, addressed_word, stream_word_of, shader_word, attribute_word, emitted_word}
-use Rattle.shader_records.proofs.Fine.{sample_fine, address_fits}
-use Rattle.field_words.proofs.Numbers.{u32_fits}
-use Rattle.packets.specs.StateWord.{attribute_count, record_size}
+use Rattle.shader_records.specs.{Inputs.InputModel, Rules.setup_questions, Rules.use_questions, Rules.record_questions}
 use Rattle.shader_records.specs.Named.{AreInMemory, IsDataIn}
-use Rattle.buffer_table.specs.Table.{most_place, TableModel}
-use Rattle.field_words.specs.Words.{u32_at}
-use Rattle.buffer_table.specs.Handles.{data_of}
+use Rattle.shader_records.proofs.Fine.{sample_fine, address_fits}
+use Rattle.packets.specs.StateWord.{attribute_count, record_size}
+use Rattle.buffer_table.specs.{Table.most_place, Table.TableModel, Handles.data_of}
 
 -- The words of a stream that emission changes.
 

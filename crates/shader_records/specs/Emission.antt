@@ -3,8 +3,8 @@ use Rattle.std.specs.Prelude.{◌≡◌, ◌<◌, slice_index, ℕ, zero, suc, �
 use Rattle.field_words.specs.WordBytes.{word_bytes}
 use Rattle.qpu_isa.specs.Shader.{ShaderModel, sample_at, first_position, address_at}
 use Rattle.packets.specs.StateWord.{attribute_count, record_size, record_room}
-use Rattle.shader_records.specs.Inputs.{InputModel}
 use Rattle.shader_records.specs.Sources.{state_at, record_source, uniform_source, stream_offset, code_number, attribute_number, shader_used, taken_before, given_before, record_word, sample_number, source_word, place_in}
+use Rattle.shader_records.specs.Inputs.{InputModel}
 
 -- what is added to word k for the samples below n: the place of the buffer of the sample whose first
 -- word it is

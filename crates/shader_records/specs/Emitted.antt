@@ -2,8 +2,7 @@
 use Rattle.std.specs.Prelude.{◌≡◌, ℕ, ◌+◌, List, length}
 use Rattle.field_words.specs.Writes.{with_bytes}
 use Rattle.relocation.specs.declared.layout.Layout.{Layout}
-use Rattle.shader_records.specs.declared.info.RecordInfo.{RecordInfo}
-use Rattle.shader_records.specs.Inputs.{InputModel}
+use Rattle.shader_records.specs.{declared.info.RecordInfo.RecordInfo, Inputs.InputModel}
 use Rattle.shader_records.specs.Emission.{emitted_records, emitted_uniforms}
 
 -- where the streams stand in memory

@@ -1,9 +1,8 @@
 -- The rules of shader records by number, and their faults.
 use Rattle.std.specs.Prelude.{ℕ, true, false}
 use Rattle.job_format.specs.declared.rule.Stage.TheVariants.{A, U}
-use Rattle.shader_records.specs.declared.fault.RecordFault.{RecordFault}
-use Rattle.shader_records.specs.declared.rule.RecordRule.{RecordRule}
 use Rattle.shader_records.specs.declared.rule.RecordRule.TheVariants.{HandlesCutOff, RecordCutOff, NoCode, NoData, ThreadsDisagree, ThreadedVertex, CodeWordSet, UniformsCutOff, AttributeOutside, VertexOutside, NoTexture}
+use Rattle.shader_records.specs.{declared.fault.RecordFault.RecordFault, declared.rule.RecordRule.RecordRule}
 
 abbrev pub number_of : RecordRule → ℕ
 number_of HandlesCutOff = 1

@@ -2,10 +2,8 @@
 -- the memory table with the job's handles, and what is known of each buffer's shader.
 use Rattle.std.specs.Prelude.{◌≡◌, ℕ, ◌<◌, ◌≤◌, List, length, map, Option, Some, None, slice_index_or, is_some, not}
 use Rattle.field_words.specs.Sizes.{most_list}
-use Rattle.buffer_table.specs.Table.{TableModel, buffer_at}
-use Rattle.buffer_table.specs.Handles.{AreNumbersOf, is_plain}
-use Rattle.qpu_isa.specs.declared.inst.ShaderInfo.{ShaderInfo}
-use Rattle.qpu_isa.specs.Shader.{ShaderModel, shader_view, IsSoundShader}
+use Rattle.buffer_table.specs.{Table.TableModel, Table.buffer_at, Handles.AreNumbersOf, Handles.is_plain}
+use Rattle.qpu_isa.specs.{declared.inst.ShaderInfo.ShaderInfo, Shader.ShaderModel, Shader.shader_view, Shader.IsSoundShader}
 use Rattle.bin_list.specs.declared.state.State.{State}
 
 pub record InputModel : Type 0 where

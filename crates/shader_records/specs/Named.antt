@@ -1,12 +1,9 @@
 -- What the job's handles name, as the facts of what is emitted speak of it.
 use Rattle.std.specs.Prelude.{◌≡◌, ◌≤◌, ℕ, ◌+◌, List, length, Some}
-use Rattle.field_words.specs.Words.{IsBytes}
-use Rattle.field_words.specs.Pieces.{IsPiece}
-use Rattle.buffer_table.specs.Table.{TableModel, buffer_at, most_place}
-use Rattle.buffer_table.specs.Handles.{data_of, code_of}
+use Rattle.field_words.specs.{Words.IsBytes, Pieces.IsPiece}
+use Rattle.buffer_table.specs.{Table.TableModel, Table.buffer_at, Table.most_place, Handles.data_of, Handles.code_of}
 use Rattle.qpu_isa.specs.Shader.{ShaderModel}
-use Rattle.shader_records.specs.Inputs.{InputModel, shader_in}
-use Rattle.shader_records.specs.Emission.{emitted_records, emitted_uniforms}
+use Rattle.shader_records.specs.{Inputs.InputModel, Inputs.shader_in, Emission.emitted_records, Emission.emitted_uniforms}
 
 -- an interval of memory is a Plain buffer that a handle names
 pub record IsDataIn (table : TableModel) (handles : List ℕ) (place size : ℕ) : Type 0 where

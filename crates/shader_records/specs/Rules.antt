@@ -3,17 +3,14 @@
 -- sample by sample. A fault names a place in the job's records or in its uniforms.
 use Rattle.std.specs.Prelude.{◌≡◌, ℕ, ◌+◌, ◌*◌, ◌/◌, ◌-◌, ◌==◌, Bool, not, ◌&&◌, nat_lt, List, [], ◌∷◌, ◌++◌, length, is_some, Option, Some, None, if◌then◌else◌}
 use Rattle.field_words.specs.Questions.{Question, Ask, each, answered, first_of}
-use Rattle.qpu_isa.specs.declared.inst.Sample.{Sample}
+use Rattle.qpu_isa.specs.{declared.inst.Sample.Sample, Shader.ShaderModel, Shader.sample_at, Shader.first_position}
 use Rattle.texture_layouts.specs.Fits.{texture_questions, direct_questions}
-use Rattle.qpu_isa.specs.Shader.{ShaderModel, sample_at, first_position}
-use Rattle.emitted_facts.specs.Records.{attribute_size, attribute_stride, is_single, address_word}
+use Rattle.emitted_facts.specs.{Records.attribute_size, Records.attribute_stride, Records.is_single, Records.address_word, Facts.setup}
 use Rattle.packets.specs.StateWord.{attribute_count}
-use Rattle.emitted_facts.specs.Facts.{setup}
-use Rattle.shader_records.specs.declared.fault.RecordFault.{RecordFault}
 use Rattle.shader_records.specs.declared.rule.RecordRule.TheVariants.{HandlesCutOff, RecordCutOff, NoCode, NoData, ThreadsDisagree, ThreadedVertex, CodeWordSet, AttributeOutside, VertexOutside, NoTexture}
-use Rattle.shader_records.specs.Faults.{number_of, record_fault, uniform_fault, sample_fault}
-use Rattle.shader_records.specs.Inputs.{InputModel}
 use Rattle.shader_records.specs.Sources.{state_at, handles_size, source_size, record_source, uniform_source, code_number, attribute_number, shader_used, is_threaded, taken_before, record_word, sample_number, source_word, size_in}
+use Rattle.shader_records.specs.{declared.fault.RecordFault.RecordFault, Inputs.InputModel}
+use Rattle.shader_records.specs.Faults.{number_of, record_fault, uniform_fault, sample_fault}
 
 -- A1: the handles are cut off. A2: the record is.
 unfoldable pub cut_questions : InputModel → ℕ → ℕ → List (Question RecordFault)

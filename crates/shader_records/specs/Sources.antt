@@ -6,8 +6,7 @@
 -- sample, and then the words of its stream. Records and streams are emitted one after the other.
 use Rattle.std.specs.Prelude.{◌≡◌, ◌≤◌, ℕ, zero, suc, ◌+◌, ◌*◌, List, length, Option, Some, None, slice_index_or, Bool, true, false}
 use Rattle.field_words.specs.Words.{u32_at}
-use Rattle.buffer_table.specs.Table.{TableModel, buffer_at}
-use Rattle.buffer_table.specs.Handles.{data_of, code_of}
+use Rattle.buffer_table.specs.{Table.TableModel, Table.buffer_at, Handles.data_of, Handles.code_of}
 use Rattle.qpu_isa.specs.Shader.{ShaderModel}
 use Rattle.packets.specs.StateWord.{attribute_count, record_size, record_room, is_extended}
 use Rattle.bin_list.specs.declared.state.State.{State}

@@ -1,7 +1,6 @@
 -- One count more, and counts past the last word.
 use Rattle.std.proofs.Common.{◌≡◌, ◌≤◌, ◌<◌, inl, inr, ℕ, zero, suc, ◌+◌, ◌-◌, List, [], ◌∷◌, ◌++◌, length, slice_index, refl, sym, ◌∙◌, ap, arith}
-use Rattle.std.proofs.lemmas.Bool.{cases_lt}
-use Rattle.std.proofs.lemmas.List.{length-append}
+use Rattle.std.proofs.{lemmas.Bool.cases_lt, lemmas.List.length-append}
 use Rattle.shader_flow.specs.Flow.{word}
 use Rattle.qpu_isa.specs.Word.{sig_of, waddr_add_of, waddr_mul_of}
 use Rattle.qpu_isa.specs.Terms.{is_branch, writes_s, s_address, names_address, add_names, mul_names}

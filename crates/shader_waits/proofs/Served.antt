@@ -1,8 +1,7 @@
 -- There is no such instruction exactly where the shader is served.
 use Rattle.std.proofs.Common.{◌≡◌, ℕ, zero, suc, ◌+◌, ◌<◌, ◌≤◌, Bool, true, false, List, [], ◌∷◌, None, refl, arith, ◌∙◌}
 use Rattle.field_words.specs.Questions.{Question, Ask, first_of, each}
-use Rattle.field_words.proofs.Questions.{passes}
-use Rattle.field_words.proofs.Nones.{each_none}
+use Rattle.field_words.proofs.{Questions.passes, Nones.each_none}
 use Rattle.shader_flow.specs.Flow.{checked_of}
 use Rattle.shader_flow.proofs.Bounded.{some_below_none, some_below_not}
 use Rattle.served_law.specs.Waits.{waits_at, may_wait}

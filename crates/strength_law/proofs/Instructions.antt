@@ -1,21 +1,15 @@
 -- A machine that is to execute an undefined instruction, or to take a uniform outside, is not safe.
 use Rattle.std.proofs.Common.{◌≡◌, ◌≢◌, ◌≤◌, ◌⊎◌, inl, inr, ℕ, ◌==◌, Bool, true, false, List, [], length, refl, subst, arith}
-use Rattle.std.specs.Prelude.{◌||◌, ◌&&◌, not, nat_le, if◌then◌else◌}
 use Rattle.std.proofs.lemmas.Bool.Decides.{nat_tests}
+use Rattle.std.specs.Prelude.{◌||◌, ◌&&◌, not, nat_le, if◌then◌else◌}
 use Rattle.field_words.specs.declared.access.Actor.TheVariants.{Qpu as TheQpu}
-use Rattle.qpu_isa.specs.Word.{mode_of, relative_of, register_of, cond_add_of, cond_mul_of}
 use Rattle.qpu_isa.specs.Terms.{is_branch, is_switch, is_load_imm, names_address, is_address_write, is_relative_address_write, names_forbidden, add_is_tmu, mul_is_tmu, has_two_tmu_writes, has_conditional_tmu_write, writes_tmu, reads_upper, names_upper}
-use Rattle.qpu_machine.specs.declared.state.Thread.{Thread}
+use Rattle.qpu_isa.specs.Word.{mode_of, relative_of, register_of, cond_add_of, cond_mul_of}
 use Rattle.qpu_machine.specs.Wild.{takes_one, is_signal_wild, in_slots, after_switch, is_branch_wild, is_switch_wild, is_name_wild, is_tmu_wild, is_setup_wild, is_register_wild, is_mode_wild, is_uniform_wild, is_word_wild, is_order_wild, is_use_wild, is_wild}
-use Rattle.qpu_machine.specs.Step.{ThreadTurn, word_plan, thread_plan}
-use Rattle.machine_plan.specs.declared.who.Who.{Who}
-use Rattle.machine_plan.specs.Plan.{Plan, Reads}
-use Rattle.machine_plan.specs.Regions.{Rights, rights_of, Inside}
-use Rattle.machine_plan.specs.World.{Safe}
-use Rattle.machine.specs.State.{Units}
-use Rattle.machine.specs.Step.{ready, turn}
-use Rattle.job_safety.proofs.Packets.{AllSafe, wild_where}
-use Rattle.job_safety.proofs.Steps.{thread_step, undefined_or}
+use Rattle.qpu_machine.specs.{declared.state.Thread.Thread, Step.ThreadTurn, Step.word_plan, Step.thread_plan}
+use Rattle.machine_plan.specs.{declared.who.Who.Who, Plan.Plan, Plan.Reads, Regions.Rights, Regions.rights_of, Regions.Inside, World.Safe}
+use Rattle.machine.specs.{State.Units, Step.ready, Step.turn}
+use Rattle.job_safety.proofs.{Packets.AllSafe, Packets.wild_where, Steps.thread_step, Steps.undefined_or}
 use Rattle.strength_law.specs.Instructions.{IsAtInstruction, IsRefused, HasUndefinedSignal, HasUndefinedMode, IsNobodys, WritesUndefined, WritesTwoRequests, WritesUnderCondition, WritesFifthSetup, IsInSlots, IsAfterSwitch, BranchesAnywhere, BranchesEarly, SwitchesEarly, SwitchesAlone, UsesUpper, TakesEarly, UniformsPastAreUnsafe}
 
 -- tests

@@ -1,25 +1,17 @@
 -- A machine that is to read a packet that is undefined where it stands, or to load outside, is not safe.
 use Rattle.std.proofs.Common.{◌≡◌, ◌<◌, ◌⊎◌, inl, inr, ℕ, zero, suc, ◌+◌, Bool, true, false, List, [], slice_index, Some, None, refl, sym, ap, subst, ◌∙◌, arith}
 use Rattle.std.specs.Prelude.{Option, if◌then◌else◌}
-use Rattle.packets.specs.declared.packet.Packet.{Packet}
 use Rattle.packets.specs.declared.packet.Packet.TheVariants.{WaitOnSemaphore, BranchToSubList, StoreTileColor, StoreTileColorAndEnd, StoreFullResolution, LoadFullResolution, StoreTileBuffer, LoadTileBuffer, TileRenderingMode, ClearColors, TileCoordinates}
-use Rattle.packets.specs.Length.{bin_length, bin_taken, render_taken}
-use Rattle.machine_plan.specs.declared.who.Who.{Who}
-use Rattle.machine_plan.specs.Memory.{bytes_at}
-use Rattle.machine_plan.specs.Plan.{Plan, Wilds}
-use Rattle.machine_plan.specs.Regions.{Rights}
-use Rattle.machine_plan.specs.World.{Safe}
-use Rattle.list_machine.specs.declared.state.Frame.{Frame}
-use Rattle.list_machine.specs.declared.state.Load.{Load}
-use Rattle.list_machine.specs.declared.state.Load.TheVariants.{Full, General}
-use Rattle.list_machine.specs.declared.surface.Cover.{Cover}
+use Rattle.packets.specs.{declared.packet.Packet.Packet, Length.bin_length, Length.bin_taken, Length.render_taken}
+use Rattle.machine_plan.specs.{declared.who.Who.Who, Memory.bytes_at, Plan.Plan, Plan.Wilds, Regions.Rights, World.Safe}
 use Rattle.list_machine.specs.Binner.{is_unknown, packet_plan as bin_packet_plan, read_plan, begin_plan, drawn, draw_plan}
-use Rattle.list_machine.specs.Cover.{part_count, part_place, parts_read}
-use Rattle.list_machine.specs.Lists.{Lists, past, binner_of, renderer_of}
 use Rattle.list_machine.specs.Renderer.{beyond, acted, act, packet_plan as render_packet_plan, wait_plan, tile_by, enter_plan, branch_plan, tile_plan}
 use Rattle.list_machine.specs.Surfaces.{names_none, whole_read, cover_written, cover_read, frame_written, general_written, general_read, waiting_read}
-use Rattle.machine.specs.State.{Units}
-use Rattle.machine.specs.Step.{ready, turn}
+use Rattle.list_machine.specs.{declared.state.Frame.Frame, declared.state.Load.Load, declared.surface.Cover.Cover}
+use Rattle.list_machine.specs.declared.state.Load.TheVariants.{Full, General}
+use Rattle.list_machine.specs.Cover.{part_count, part_place, parts_read}
+use Rattle.list_machine.specs.Lists.{Lists, past, binner_of, renderer_of}
+use Rattle.machine.specs.{State.Units, Step.ready, Step.turn}
 use Rattle.job_safety.specs.Strength.{IsAtBinPacket, IsAtPacket, IsPart}
 use Rattle.job_safety.proofs.Packets.{AllSafe, bin_step, render_step, opcode_is, start_plan}
 use Rattle.strength_law.specs.Packets.{BinningsBlindAreUnsafe, IsPrimitive, PrimitivesEarlyAreUnsafe, IsRefusedPacket, BranchesNowhere, LoadsTwice, frame_cover, general_cover, StoresNothing, WaitsForNothing, LoadsNothing, LoadsAt, LoadsPastAreUnsafe}

@@ -4,10 +4,8 @@ use Rattle.std.specs.Prelude.{◌||◌}
 use Rattle.field_words.specs.declared.access.Actor.TheVariants.{Tmu as TheTmu}
 use Rattle.machine_plan.specs.declared.who.Who.{Who}
 use Rattle.qpu_machine.specs.Request.{is_undefined, texture_plan, ask_plan}
-use Rattle.texture_layouts.specs.Fits.{has_two_strides, lacks_stride, is_unlisted, has_child_image}
-use Rattle.texture_layouts.specs.Setup.{texture_of}
-use Rattle.job_safety.proofs.Packets.{AllSafe, wild_where}
-use Rattle.job_safety.proofs.Steps.{request_step}
+use Rattle.texture_layouts.specs.{Fits.has_two_strides, Fits.lacks_stride, Fits.is_unlisted, Fits.has_child_image, Setup.texture_of}
+use Rattle.job_safety.proofs.{Packets.AllSafe, Packets.wild_where, Steps.request_step}
 use Rattle.strength_law.specs.Requests.{IsUndefinedTexture, TexturesUndefinedAreUnsafe}
 
 one_of_four : (a b c d : Bool) → (a ≡ true) ⊎ ((b ≡ true) ⊎ ((c ≡ true) ⊎ (d ≡ true))) → ((a || b) || (c || d)) ≡ true

@@ -1,12 +1,10 @@
 -- Rules at rows, by computing.
 use Rattle.std.proofs.Common.{refl}
-use Rattle.field_words.specs.Words.{u32_at, rounded_up}
-use Rattle.field_words.specs.Questions.{answered}
+use Rattle.field_words.specs.{Words.u32_at, Words.rounded_up, Questions.answered}
 use Rattle.packets.specs.Length.{bin_length, bin_taken}
 use Rattle.tile_memory.specs.Slots.{alloc_offset, slot_fits}
-use Rattle.bin_list.specs.Packets.{front_packet, behind, packets, passed}
-use Rattle.bin_list.specs.Seen.{seen_before}
 use Rattle.bin_list.specs.Rules.{cut_questions, flush_questions, start_questions, increment_questions, config_questions, kind_questions, packet_questions, end_questions, questions_of}
+use Rattle.bin_list.specs.{Packets.front_packet, Packets.behind, Packets.packets, Packets.passed, Seen.seen_before}
 use Rattle.render_list.specs.Frame.{is_multisample, tile_side}
 use Rattle.render_list.specs.Surfaces.{is_reversed, is_outside_grid, is_outside_frame, frame_questions}
 use Rattle.strength_law.specs.Rows.{ConfigurationFlags, FrameEdges}

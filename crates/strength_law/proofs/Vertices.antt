@@ -1,36 +1,27 @@
 -- A machine in which a list unit is to read outside, at a primitive or at an item, is not safe.
 use Rattle.std.proofs.Common.{◌≡◌, ◌<◌, inl, inr, ℕ, zero, suc, ◌+◌, ◌%◌, ◌^◌, ◌==◌, Bool, IsTrue, true, false, List, [], Option, Some, None, refl, sym, ap, subst, ◌∙◌, arith}
-use Rattle.std.specs.Prelude.{if◌then◌else◌, nat_lt}
 use Rattle.std.proofs.lemmas.Bool.Decides.{nat_tests}
-use Rattle.field_words.specs.Words.{u32_at}
+use Rattle.std.specs.Prelude.{if◌then◌else◌, nat_lt}
 use Rattle.field_words.specs.declared.access.Actor.TheVariants.{Binner as TheBinner, Renderer as TheRenderer}
+use Rattle.field_words.specs.Words.{u32_at}
 use Rattle.packets.specs.StateWord.{attribute_count, is_extended}
-use Rattle.machine_plan.specs.declared.launch.Free.{Free}
-use Rattle.machine_plan.specs.declared.launch.Launch.{Launch}
-use Rattle.machine_plan.specs.declared.who.Who.{Who}
-use Rattle.machine_plan.specs.Choice.{word_at}
-use Rattle.machine_plan.specs.Glance.{glanced, Now}
-use Rattle.machine_plan.specs.Memory.{bytes_at, stored}
+use Rattle.machine_plan.specs.{declared.launch.Free.Free, declared.launch.Launch.Launch, declared.who.Who.Who, Choice.word_at}
+use Rattle.machine_plan.specs.{Glance.glanced, Glance.Now, Memory.bytes_at, Memory.stored, World.Safe, World.mapped, World.followed}
 use Rattle.machine_plan.specs.Plan.{Plan, Done, Wilds, Reads, Looks, Writes, carried}
 use Rattle.machine_plan.specs.Regions.{Every, Rights, rights_of, Inside, IsSafeAccess}
-use Rattle.machine_plan.specs.World.{Safe, mapped, followed}
-use Rattle.list_machine.specs.declared.state.Found.{Found}
-use Rattle.list_machine.specs.declared.state.Primitive.{Primitive}
-use Rattle.list_machine.specs.declared.state.Program.{Program}
 use Rattle.list_machine.specs.declared.state.Program.TheVariants.{Fragment, Vertex, Coordinate}
-use Rattle.list_machine.specs.declared.state.SubList.{SubList}
-use Rattle.list_machine.specs.declared.state.Work.{Work}
 use Rattle.list_machine.specs.Binner.{binner_plan, binner_by, work_plan, binner_ready, binner_may, work_may, fetched_with, started_with}
 use Rattle.list_machine.specs.Fetch.{index_size, index_in, index_plan, draws_nothing, record_place, attribute_place, extension_place, data_size, data_place, data_plan, extended_plan, attribute_plan, attributes_plan, indexed_plan, fetch_plan}
-use Rattle.list_machine.specs.Lists.{Lists, turned_to, binner_of, renderer_of}
 use Rattle.list_machine.specs.Renderer.{item_at, at_item, fetched, vertex_plan, program_plan, choice_plan, found_plan, plan_in, renderer_plan, ready_in, renderer_ready}
+use Rattle.list_machine.specs.{declared.state.Found.Found, declared.state.Primitive.Primitive, declared.state.Program.Program}
+use Rattle.list_machine.specs.{declared.state.SubList.SubList, declared.state.Work.Work}
+use Rattle.list_machine.specs.Lists.{Lists, turned_to, binner_of, renderer_of}
 use Rattle.list_machine.specs.Start.{can_start, launch_plan, start_as, start_plan, is_threaded}
 use Rattle.list_law.specs.Uses.{attribute_at, extension_at}
 use Rattle.qpu_machine.specs.Qpu.{free_in}
-use Rattle.machine.specs.State.{Units, renderer_job}
 use Rattle.machine.specs.Step.{Event, with_lists, ready, turn, enabled, is_ahead, binner_may as may_bin, renderer_may}
-use Rattle.job_safety.proofs.Packets.{AllSafe}
-use Rattle.job_safety.proofs.Steps.{first_step, mapped_accesses}
+use Rattle.machine.specs.State.{Units, renderer_job}
+use Rattle.job_safety.proofs.{Packets.AllSafe, Steps.first_step, Steps.mapped_accesses}
 use Rattle.strength_law.specs.Vertices.{IsAtWork, IsAtListed, ItemReadsPastAreUnsafe, BinnerFetches, RendererFetches, Fetches, index_place, index_of, IndexesPastAreUnsafe, AttributesPastAreUnsafe, ExtensionsPastAreUnsafe, DataPastAreUnsafe, BinnerStarts, choice_of, threaded_by, RendererStarts, IsOfRecord, RecordsPastAreUnsafe}
 
 -- the job of a unit may reach these bytes

@@ -1,15 +1,11 @@
 -- What safety refuses of an instruction: each case that the hardware leaves undefined, and a uniform outside what its job may reach.
 use Rattle.std.specs.Prelude.{◌≡◌, ◌≢◌, ◌≤◌, ◌⊎◌, ℕ, true, false, List, length}
 use Rattle.std.specs.Int.{from_le_bytes, w64}
-use Rattle.qpu_isa.specs.Word.{sig_of, mode_of, relative_of, register_of, cond_add_of, cond_mul_of}
 use Rattle.qpu_isa.specs.Terms.{is_branch, is_switch, is_load_imm, names_address, names_on_b, is_address_write, add_is_tmu, mul_is_tmu, writes_tmu, reads_upper, names_upper}
-use Rattle.qpu_machine.specs.declared.state.Thread.{Thread}
-use Rattle.qpu_machine.specs.Wild.{takes_one}
-use Rattle.machine_plan.specs.Memory.{bytes_at}
-use Rattle.machine_plan.specs.Regions.{Rights}
-use Rattle.machine_plan.specs.World.{Safe}
-use Rattle.machine.specs.State.{Units}
-use Rattle.machine.specs.Step.{ready, turn}
+use Rattle.qpu_isa.specs.Word.{sig_of, mode_of, relative_of, register_of, cond_add_of, cond_mul_of}
+use Rattle.qpu_machine.specs.{declared.state.Thread.Thread, Wild.takes_one}
+use Rattle.machine_plan.specs.{Memory.bytes_at, Regions.Rights, World.Safe}
+use Rattle.machine.specs.{State.Units, Step.ready, Step.turn}
 use Rattle.job_safety.specs.Strength.{IsPast, IsActive}
 
 -- Processor k may step, and its active thread is to execute this instruction.

@@ -1,21 +1,14 @@
 -- What safety refuses of a packet: each that the hardware leaves undefined where it stands, and a load outside what its job may reach.
 use Rattle.std.specs.Prelude.{◌≡◌, ◌⊎◌, ℕ, false, List, slice_index, Option, None, Some}
-use Rattle.packets.specs.declared.packet.Packet.{Packet}
 use Rattle.packets.specs.declared.packet.Packet.TheVariants.{StoreTileColor, StoreTileColorAndEnd, StoreTileBuffer, LoadFullResolution, LoadTileBuffer, BranchToSubList, TileCoordinates}
+use Rattle.packets.specs.declared.packet.Packet.{Packet}
 use Rattle.packets.specs.Opcode.{start_tile_binning, indexed_primitive_list, array_primitive_list}
-use Rattle.machine_plan.specs.Regions.{Rights}
-use Rattle.machine_plan.specs.World.{Safe}
-use Rattle.list_machine.specs.declared.state.Frame.{Frame}
-use Rattle.list_machine.specs.declared.state.Load.{Load}
-use Rattle.list_machine.specs.declared.state.Load.TheVariants.{Full, General}
-use Rattle.list_machine.specs.declared.surface.Cover.{Cover}
-use Rattle.texture_layouts.specs.Format.{general_style, frame_style}
-use Rattle.list_machine.specs.Cover.{cover_for}
-use Rattle.list_machine.specs.Lists.{Lists}
-use Rattle.list_machine.specs.Renderer.{tile_by}
+use Rattle.machine_plan.specs.{Regions.Rights, World.Safe}
+use Rattle.list_machine.specs.{declared.state.Frame.Frame, declared.state.Load.Load, declared.surface.Cover.Cover, Cover.cover_for}
+use Rattle.list_machine.specs.{declared.state.Load.TheVariants.Full, declared.state.Load.TheVariants.General, Lists.Lists, Renderer.tile_by}
 use Rattle.list_machine.specs.Surfaces.{aligned, names_none, whole_size}
-use Rattle.machine.specs.State.{Units}
-use Rattle.machine.specs.Step.{ready, turn}
+use Rattle.texture_layouts.specs.Format.{general_style, frame_style}
+use Rattle.machine.specs.{State.Units, Step.ready, Step.turn}
 use Rattle.job_safety.specs.Strength.{IsPast, IsAtBinPacket, IsPart, IsAtPacket}
 
 -- Binning is started before there is a configuration.

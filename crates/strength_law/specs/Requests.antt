@@ -1,13 +1,9 @@
 -- What safety refuses of a request for a texture: each case in which its four set-up words are undefined.
 use Rattle.std.specs.Prelude.{◌≡◌, ◌⊎◌, ℕ, true, List, slice_index}
-use Rattle.machine_plan.specs.Regions.{Rights}
-use Rattle.machine_plan.specs.World.{Safe}
-use Rattle.qpu_machine.specs.declared.state.Ask.TheVariants.{Texture}
-use Rattle.qpu_machine.specs.declared.state.Request.{Request}
-use Rattle.texture_layouts.specs.Fits.{has_two_strides, lacks_stride, is_unlisted, has_child_image}
-use Rattle.texture_layouts.specs.Setup.{texture_of}
-use Rattle.machine.specs.State.{Units}
-use Rattle.machine.specs.Step.{ready, turn}
+use Rattle.machine_plan.specs.{Regions.Rights, World.Safe}
+use Rattle.qpu_machine.specs.{declared.state.Ask.TheVariants.Texture, declared.state.Request.Request}
+use Rattle.texture_layouts.specs.{Fits.has_two_strides, Fits.lacks_stride, Fits.is_unlisted, Fits.has_child_image, Setup.texture_of}
+use Rattle.machine.specs.{State.Units, Step.ready, Step.turn}
 use Rattle.job_safety.specs.Strength.{IsOldest}
 
 -- a cube map of two strides or of none, a type that isn't listed, a child image

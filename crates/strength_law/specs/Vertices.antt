@@ -3,24 +3,15 @@
 use Rattle.std.specs.Prelude.{◌≡◌, ◌<◌, ◌⊎◌, ℕ, ◌+◌, ◌*◌, ◌%◌, ◌^◌, Bool, IsTrue, true, false, if◌then◌else◌, List, Some}
 use Rattle.field_words.specs.declared.access.Actor.TheVariants.{Binner as TheBinner}
 use Rattle.packets.specs.StateWord.{attribute_count, is_extended}
-use Rattle.machine_plan.specs.Choice.{word_at}
-use Rattle.machine_plan.specs.Memory.{bytes_at}
-use Rattle.machine_plan.specs.Regions.{Rights}
-use Rattle.machine_plan.specs.World.{Safe}
-use Rattle.list_machine.specs.declared.state.Found.{Found}
-use Rattle.list_machine.specs.declared.state.Primitive.{Primitive}
-use Rattle.list_machine.specs.declared.state.Program.{Program}
+use Rattle.machine_plan.specs.{Choice.word_at, Memory.bytes_at, Regions.Rights, World.Safe}
 use Rattle.list_machine.specs.declared.state.Program.TheVariants.{Fragment, Vertex, Coordinate}
-use Rattle.list_machine.specs.declared.state.SubList.{SubList}
-use Rattle.list_machine.specs.declared.state.Work.{Work}
 use Rattle.list_machine.specs.Fetch.{index_size, index_in, draws_nothing, record_place, attribute_place, extension_place, data_size, data_place}
-use Rattle.list_machine.specs.Lists.{Lists}
-use Rattle.list_machine.specs.Renderer.{item_at}
+use Rattle.list_machine.specs.{declared.state.Found.Found, declared.state.Primitive.Primitive, declared.state.Program.Program, Lists.Lists}
+use Rattle.list_machine.specs.{declared.state.SubList.SubList, declared.state.Work.Work, Renderer.item_at}
 use Rattle.list_machine.specs.Start.{code_offset, can_start, is_threaded}
 use Rattle.list_law.specs.Uses.{attribute_at, extension_at}
 use Rattle.qpu_machine.specs.Qpu.{free_in}
-use Rattle.machine.specs.State.{Units, binner_job, renderer_job}
-use Rattle.machine.specs.Step.{ready, turn, enabled}
+use Rattle.machine.specs.{State.Units, State.binner_job, State.renderer_job, Step.ready, Step.turn, Step.enabled}
 use Rattle.job_safety.specs.Strength.{IsPast}
 
 -- The binner may step for job j, and has this primitive in work.

@@ -1,7 +1,5 @@
 -- A drawing as elements with attributes, and the text that writes it.
-use Rattle.std.specs.Prelude.{ℕ, ◌==◌, List, [], ◌∷◌, ◌++◌, codes, if◌then◌else◌}
-use Rattle.std.specs.Fmt.{decimal}
-use Rattle.std.specs.List.{flat_map}
+use Rattle.std.specs.Prelude.{ℕ, ◌==◌, List, [], ◌∷◌, ◌++◌, codes, if◌then◌else◌, decimal, flat_map}
 
 pub record Attribute : Type 0 where
   pub name : List ℕ

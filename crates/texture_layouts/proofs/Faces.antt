@@ -1,7 +1,7 @@
 -- Of all faces the last one ends last.
 use Rattle.std.proofs.Common.{◌≡◌, ℕ, ◌+◌, ◌-◌, ◌*◌, Bool, true, false, arith, ltb, ◌||◌, if◌then◌else◌}
-use Rattle.std.specs.List.{list_any, range_with_len}
 use Rattle.std.proofs.lemmas.Bool.Decides.{nat_tests}
+use Rattle.std.specs.List.{list_any, range_with_len}
 use Rattle.texture_layouts.specs.Setup.{TextureModel, faces_of, face_place, size_at}
 use Rattle.texture_layouts.specs.Fits.{is_face_past, has_face_past}
 

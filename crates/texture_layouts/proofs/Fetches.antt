@@ -2,13 +2,11 @@
 use Rattle.std.proofs.Common.{◌≡◌, ℕ, ◌+◌, ◌-◌, ◌/◌, ◌<◌, ◌≤◌, refl, sym, subst, arith, inl, inr, ◌⊎◌}
 use Rattle.std.proofs.lemmas.Nat.{div_below}
 use Rattle.field_words.proofs.Numbers.{rounded}
-use Rattle.texture_layouts.specs.declared.surface.Tiling.{Tiling}
 use Rattle.texture_layouts.specs.declared.surface.Tiling.TheVariants.{Raster, T, Lt}
 use Rattle.texture_layouts.specs.Surface.{IsPixelSize, microtile_width_of, microtile_height_of, unit_across, unit_down, size_for}
-use Rattle.texture_layouts.specs.Level.{level_size_of, image_size_of}
 use Rattle.texture_layouts.specs.Place.{aligned_across, aligned_down, microtiles_across, microtiles_down, microtile_place_of}
 use Rattle.texture_layouts.specs.Setup.{TextureModel, faces_of, level_width_of, level_height_of, tiling_at, size_at, face_place, size_below}
-use Rattle.texture_layouts.specs.Fits.{IsInBuffer}
+use Rattle.texture_layouts.specs.{declared.surface.Tiling.Tiling, Level.level_size_of, Level.image_size_of, Fits.IsInBuffer}
 use Rattle.texture_layouts.specs.Fetch.{fetch_offset_of, fetch_size_of, fetch_reach, AreFetchesIn}
 use Rattle.texture_layouts.proofs.Places.{width_some, height_some, across_parts, down_exact, microtile_inside, raster_inside}
 

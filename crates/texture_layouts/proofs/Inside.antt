@@ -1,14 +1,11 @@
 -- A texture that breaks no rule lies in its buffer.
 use Rattle.std.proofs.Common.{◌≡◌, ℕ, zero, suc, ◌+◌, ◌-◌, ◌*◌, ◌<◌, ◌≤◌, false, None, sym, subst, arith, ◌∙◌, ◌⊎◌}
-use Rattle.std.proofs.Math.Nat.{mul-le-mul_right}
-use Rattle.std.proofs.lemmas.Bool.{ltb-false}
+use Rattle.std.proofs.{Math.Nat.mul-le-mul_right, lemmas.Bool.ltb-false}
 use Rattle.field_words.specs.Questions.{first_of}
 use Rattle.field_words.proofs.Questions.{none_stands}
-use Rattle.texture_layouts.specs.Surface.{IsPixelSize}
 use Rattle.texture_layouts.specs.Setup.{TextureModel, type_of, pixel_bytes_of, texture_of, faces_of, face_place, size_at, size_below, level_place_of}
-use Rattle.texture_layouts.specs.Fits.{is_unlisted, has_level_below, texture_questions, IsInBuffer}
-use Rattle.texture_layouts.proofs.Faces.{last_decides}
-use Rattle.texture_layouts.proofs.Levels.{below_none, below_more}
+use Rattle.texture_layouts.specs.{Surface.IsPixelSize, Fits.is_unlisted, Fits.has_level_below, Fits.texture_questions, Fits.IsInBuffer}
+use Rattle.texture_layouts.proofs.{Faces.last_decides, Levels.below_none, Levels.below_more}
 
 -- The bytes of a pixel are one of four numbers, or the type isn't listed.
 pixel_listed : (kind : ℕ) → (pixel_bytes_of kind ≡ 0) ⊎ IsPixelSize (pixel_bytes_of kind)

@@ -1,7 +1,6 @@
 -- The rules of a texture are asked by number, and so are those of a direct read.
 use Rattle.std.proofs.Common.{◌≡◌, ℕ, lit≤, ◌≤◌, Some}
-use Rattle.field_words.specs.Questions.{first_of}
-use Rattle.field_words.specs.Least.{IsLeast}
+use Rattle.field_words.specs.{Questions.first_of, Least.IsLeast}
 use Rattle.field_words.proofs.Least.{numbers, least}
 use Rattle.texture_layouts.specs.Fits.{texture_questions, direct_questions}
 

@@ -3,10 +3,10 @@ use Rattle.std.proofs.Common.{◌≡◌, ℕ, ◌+◌, ◌*◌, ◌/◌, ◌%◌
 use Rattle.std.proofs.Math.Nat.{mul-div_cancel, div-mul-le_self, mul-le-mul_left, mul-le-mul_right, mul_assoc, mul_comm}
 use Rattle.std.proofs.lemmas.Nat.{same_from_place, mul-add-lt, div_below, div-add-mod'}
 use Rattle.field_words.specs.Words.{rounded_up}
-use Rattle.texture_layouts.specs.declared.surface.Tiling.{Tiling}
 use Rattle.texture_layouts.specs.declared.surface.Tiling.TheVariants.{Raster, T, Lt}
-use Rattle.texture_layouts.specs.Surface.{IsPixelSize, microtile_width_of, microtile_height_of, size_for}
 use Rattle.texture_layouts.specs.Place.{aligned_across, aligned_down, microtiles_across, microtiles_down, microtile_number, microtile_place_of, place_in_microtile, raster_place, tiled_place, pixel_place_of, IsMicrotileInside, IsMicrotileApart, IsPixelInside, IsPixelApart}
+use Rattle.texture_layouts.specs.declared.surface.Tiling.{Tiling}
+use Rattle.texture_layouts.specs.Surface.{IsPixelSize, microtile_width_of, microtile_height_of, size_for}
 
 -- A microtile has 64 bytes.
 pub microtile_bytes : (cpp : ℕ) → IsPixelSize cpp → microtile_width_of cpp * (microtile_height_of cpp * cpp) ≡ 64

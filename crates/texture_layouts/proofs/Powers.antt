@@ -1,10 +1,8 @@
 -- The least power of two that is at least a number.
 use Rattle.std.proofs.Common.{◌≡◌, ℕ, zero, suc, ◌+◌, ◌*◌, ◌/◌, ◌^◌, ◌<◌, ◌≤◌, max, Bool, true, false, refl, sym, ap, subst, arith, ◌∙◌, inl, inr, leb, if◌then◌else◌}
-use Rattle.std.specs.Int.{IsPowerOfTwo, IsNextPowerOfTwo}
-use Rattle.std.proofs.Math.Nat.{pow-succ'}
-use Rattle.std.proofs.Math.Pow.{pow_mono}
-use Rattle.std.proofs.lemmas.Nat.{pow_pos, shr_le}
+use Rattle.std.proofs.{Math.Nat.pow-succ', Math.Pow.pow_mono, lemmas.Nat.pow_pos, lemmas.Nat.shr_le}
 use Rattle.std.proofs.lemmas.Bool.{leb-true, leb-false, cases_order, cases_lt}
+use Rattle.std.specs.Int.{IsPowerOfTwo, IsNextPowerOfTwo}
 use Rattle.texture_layouts.specs.Level.{power_from, power_above}
 
 -- One doubling more.

@@ -2,9 +2,8 @@
 use Rattle.std.proofs.Common.{◌≡◌, ℕ, ◌==◌, ◌&&◌, Bool, true, false, if◌then◌else◌, Option, Some, None, refl, inl, inr}
 use Rattle.std.specs.Prelude.{IfSome}
 use Rattle.field_words.specs.Words.{bits_of}
-use Rattle.texture_layouts.specs.declared.surface.Tiling.{Tiling}
-use Rattle.texture_layouts.specs.Surface.{IsPixelSize}
 use Rattle.texture_layouts.specs.Format.{general_tiling, general_pixel, frame_tiling, frame_pixel, styled, general_style, frame_style, IsShort}
+use Rattle.texture_layouts.specs.{declared.surface.Tiling.Tiling, Surface.IsPixelSize}
 
 pub short_pixel : (cpp : ℕ) → IsShort cpp → IsPixelSize cpp
 short_pixel cpp (inl two) = inr (inl two)

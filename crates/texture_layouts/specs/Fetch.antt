@@ -1,10 +1,9 @@
 -- What is fetched of a texture for one pixel: its whole microtile, or in raster the pixel alone.
 use Rattle.std.specs.Prelude.{◌≤◌, ◌<◌, ℕ, ◌+◌, ◌-◌, ◌/◌, nat_lt, if◌then◌else◌, Option, Some, None}
-use Rattle.texture_layouts.specs.declared.surface.Tiling.{Tiling}
 use Rattle.texture_layouts.specs.declared.surface.Tiling.TheVariants.{Raster, T, Lt}
-use Rattle.texture_layouts.specs.Surface.{microtile_width_of, microtile_height_of}
-use Rattle.texture_layouts.specs.Place.{raster_place, microtile_place_of}
 use Rattle.texture_layouts.specs.Setup.{TextureModel, faces_of, face_place, level_width_of, level_height_of, tiling_at, size_below}
+use Rattle.texture_layouts.specs.{declared.surface.Tiling.Tiling, Surface.microtile_width_of, Surface.microtile_height_of}
+use Rattle.texture_layouts.specs.Place.{raster_place, microtile_place_of}
 
 -- where it begins in its image, and how many bytes it has
 unfoldable pub fetch_offset_of : Tiling → ℕ → ℕ → ℕ → ℕ → ℕ

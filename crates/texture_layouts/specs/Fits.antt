@@ -1,12 +1,10 @@
 -- The rules of textures, U2 to U9, over four set-up words and the bytes of the buffer.
 use Rattle.std.specs.Prelude.{◌≤◌, ◌<◌, ℕ, ◌+◌, ◌==◌, ◌&&◌, ◌||◌, nat_lt, nat_le, Bool, List, [], ◌∷◌, Option, Some, None, Result, Ok, Err, slice_index}
 use Rattle.std.specs.List.{list_any, range_with_len}
-use Rattle.field_words.specs.Questions.{Question, Ask}
-use Rattle.field_words.specs.Least.{Stands, IsLeast}
-use Rattle.texture_layouts.specs.declared.rule.TextureRule.{TextureRule}
+use Rattle.field_words.specs.{Questions.Question, Questions.Ask, Least.Stands, Least.IsLeast}
 use Rattle.texture_layouts.specs.declared.rule.TextureRule.TheVariants.{BaseOutside, BoundOutside, TwoStrides, NoStride, UnlistedType, FaceOutside, LevelBelow, ChildImage}
-use Rattle.texture_layouts.specs.Surface.{IsPixelSize}
 use Rattle.texture_layouts.specs.Setup.{TextureModel, is_cube_word, kind_of, cube_stride_of, texture_of, faces_of, face_place, size_at, size_below, level_place_of}
+use Rattle.texture_layouts.specs.{declared.rule.TextureRule.TextureRule, Surface.IsPixelSize}
 
 -- the number of a rule U
 abbrev pub number_of : TextureRule → ℕ

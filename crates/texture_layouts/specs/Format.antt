@@ -1,9 +1,8 @@
 -- How the pixels of a frame's surfaces lie, by the bits of the packets that load and store them.
 use Rattle.std.specs.Prelude.{◌≡◌, ◌⊎◌, ℕ, ◌==◌, ◌&&◌, if◌then◌else◌, Option, Some, None}
 use Rattle.field_words.specs.Words.{bits_of}
-use Rattle.texture_layouts.specs.declared.surface.Tiling.{Tiling}
 use Rattle.texture_layouts.specs.declared.surface.Tiling.TheVariants.{Raster, T, Lt}
-use Rattle.texture_layouts.specs.declared.format.Style.{Style}
+use Rattle.texture_layouts.specs.{declared.surface.Tiling.Tiling, declared.format.Style.Style}
 
 -- The tiling of this number in bits; there is none of number 3.
 abbrev pub tiling_named : ℕ → Option Tiling

@@ -1,9 +1,9 @@
 -- Where microtiles and pixels of a surface lie, counted from its first byte.
 use Rattle.std.specs.Prelude.{◌≡◌, ◌≤◌, ◌<◌, ℕ, ◌+◌, ◌*◌, ◌/◌, ◌%◌}
 use Rattle.field_words.specs.Words.{rounded_up}
-use Rattle.texture_layouts.specs.declared.surface.Tiling.{Tiling}
 use Rattle.texture_layouts.specs.declared.surface.Tiling.TheVariants.{Raster, T, Lt}
 use Rattle.texture_layouts.specs.Surface.{microtile_width_of, microtile_height_of, unit_across, unit_down, size_for}
+use Rattle.texture_layouts.specs.declared.surface.Tiling.{Tiling}
 
 -- the aligned sides, in pixels
 abbrev pub aligned_across : Tiling → ℕ → ℕ → ℕ

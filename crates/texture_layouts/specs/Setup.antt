@@ -5,10 +5,8 @@
 -- image), cube stride 29:12 in pages. A word that isn't there is 0.
 use Rattle.std.specs.Prelude.{◌≡◌, ◌≤◌, ◌⊎◌, ℕ, zero, suc, ◌+◌, ◌*◌, ◌-◌, ◌==◌, ◌||◌, Bool, if◌then◌else◌, List, slice_index}
 use Rattle.std.specs.Int.{div_ceil}
-use Rattle.field_words.specs.Sizes.{page_size}
-use Rattle.field_words.specs.Words.{bits_of}
-use Rattle.texture_layouts.specs.declared.surface.Tiling.{Tiling}
-use Rattle.texture_layouts.specs.Surface.{IsPixelSize}
+use Rattle.field_words.specs.{Sizes.page_size, Words.bits_of}
+use Rattle.texture_layouts.specs.{declared.surface.Tiling.Tiling, Surface.IsPixelSize}
 use Rattle.texture_layouts.specs.Level.{level_side_of, level_tiling_of, level_size_of}
 
 -- What contracts see of a Texture. Sides count pixels, or with type 8 blocks of 4x4 pixels; a pixel

@@ -1,8 +1,8 @@
 -- How many bytes a surface takes. A microtile is 64 bytes of pixels in any tiling but raster.
 use Rattle.std.specs.Prelude.{◌≡◌, ℕ, ◌*◌, ◌==◌, ◌||◌, if◌then◌else◌, nat_le, ◌⊎◌}
 use Rattle.field_words.specs.Words.{rounded_up}
-use Rattle.texture_layouts.specs.declared.surface.Tiling.{Tiling}
 use Rattle.texture_layouts.specs.declared.surface.Tiling.TheVariants.{Raster, T, Lt}
+use Rattle.texture_layouts.specs.declared.surface.Tiling.{Tiling}
 
 -- the bytes that a pixel can take
 abbrev pub IsPixelSize : ℕ → Type 0

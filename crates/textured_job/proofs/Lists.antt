@@ -1,12 +1,14 @@
 -- No rule stands for the binner list of a job; it has one shader state, and a grid of one tile.
-use Rattle.std.proofs.Common.{◌≡◌, None, refl, true, [], ◌∷◌, Some}
+use Rattle.std.proofs.{Common.◌≡◌, Common.None, Common.refl, Common.true, Common.[], Common.◌∷◌, Common.Some, lemmas.Grind.common_steps}
+use Rattle.std.proofs.{lemmas.Bool.Decides.nat_tests, Common.arith}
 use Rattle.job_check.specs.Faults.{table_stage, handles_stage, table_stage_within, bin_stage, layout_stage, surface_refused, surfaces_stage}
+use Rattle.job_check.specs.Jobs.{job_of, has_bin, states_in, grid_of, layout_of, lists_begin, lists_room, render_room, has_tiles}
+use Rattle.job_check.specs.Shaders.{table_of}
 use Rattle.textured_job.specs.Job.{textured, two_clients, one_client, frame}
 use Rattle.textured_job.proofs.Cases.{Case, Alone, First, Second, Single, file_in, number_in, handles_in}
 use Rattle.field_words.specs.{Questions.answered, Questions.each, Questions.first_of, Words.u32_at, Words.rounded_up}
 use Rattle.buffer_table.specs.Table.{all_within, memory_within, item_questions, is_off_page, shares, buffer_at}
 use Rattle.buffer_table.specs.Handles.{handles_questions, handle_questions, data_of}
-use Rattle.job_check.specs.Jobs.{job_of, has_bin, states_in, grid_of, layout_of, lists_begin, lists_room, render_room, has_tiles}
 use Rattle.bin_list.specs.Rules.{questions_of, end_questions, packet_questions, cut_questions, kind_questions, flush_questions, start_questions, increment_questions, primitive_questions, index_questions, array_questions, state_questions, config_questions, index_buffer, indexes_end, index_size}
 use Rattle.bin_list.specs.{Packets.passed, Packets.packets, Packets.front_packet, Packets.behind, Seen.seen_before, States.draws_to}
 use Rattle.packets.specs.StateWord.{record_room, record_size, is_extended, attribute_count}
@@ -14,14 +16,10 @@ use Rattle.packets.specs.Length.{bin_length, bin_taken}
 use Rattle.tile_memory.specs.Slots.{slot_fits, alloc_offset}
 use Rattle.render_list.specs.Surfaces.{surface_faults, frame_questions, surface_questions, whole_questions, is_reversed, is_outside_grid, is_outside_frame, shape_questions, size_questions, buffer_size, is_written, has_unknown_flag, has_unknown_bit, is_unnamed, has_unlisted_tiling, has_unlisted_format, is_unaligned, is_too_large, is_full_with_bits, is_too_large_full, surface_tiling, surface_pixel, plain_end, full_end}
 use Rattle.render_list.specs.Frame.{is_present, tile_side, is_multisample, is_full, full_tile}
+use Rattle.render_list.specs.Length.{render_length, tile_size, loads_size, writes_size, load_size}
 use Rattle.texture_layouts.specs.{Format.frame_tiling, Format.frame_pixel, Surface.microtile_width_of, Surface.microtile_height_of}
 use Rattle.relocation.specs.Layout.{records_start, uniforms_start, render_start, begins_after}
-use Rattle.render_list.specs.Length.{render_length, tile_size, loads_size, writes_size, load_size}
 use Rattle.field_words.proofs.Questions.{answered_none}
-use Rattle.job_check.specs.Shaders.{table_of}
-use Rattle.std.proofs.lemmas.Grind.{common_steps}
-use Rattle.std.proofs.lemmas.Bool.Decides.{nat_tests}
-use Rattle.std.proofs.Common.{arith}
 
 -- No rule stands for the memory table of either file, nor for the handles of a job.
 

@@ -1,6 +1,6 @@
 -- The file of two clients and that of one are neighbours for the first client.
 use Rattle.std.proofs.Common.{◌≡◌, ℕ, ◌+◌, ◌<◌, ◌≤◌, zero, suc, true, false, length, slice_index, refl, sym, ap, subst, arith, ◌∙◌}
-use Rattle.std.proofs.lemmas.Bool.{false≢true}
+use Rattle.std.proofs.{lemmas.Bool.false≢true, lemmas.Grind.common_steps, lemmas.Bool.Decides.nat_tests}
 use Rattle.field_words.specs.{WordBytes.word_bytes, Words.u32_at, Words.rounded_up}
 use Rattle.packets.specs.Length.{bin_length, bin_taken}
 use Rattle.packets.specs.StateWord.{attribute_count, record_size, record_room, is_extended}
@@ -8,24 +8,22 @@ use Rattle.buffer_table.specs.{Table.buffer_at, Handles.code_of, Handles.data_of
 use Rattle.bin_list.specs.Packets.{packets, passed, front_packet, behind}
 use Rattle.bin_list.specs.{Seen.seen_before, Emitted.packet_text, Emitted.state_text, Emitted.config_text}
 use Rattle.shader_records.specs.Emission.{emitted_records, emitted_uniforms, records_text, record_text, emitted_word, shader_word, attribute_word, stream_place, uniforms_text, streams_text, stream_text, addressed_word, moved_word, moved, is_address}
-use Rattle.shader_records.specs.Emitted.{streams_place}
 use Rattle.shader_records.specs.Sources.{record_source, record_offset, handles_size, record_word, source_word, sample_number, uniform_source, stream_offset, taken_before, given_before, shader_used, code_number, attribute_number}
+use Rattle.shader_records.specs.Emitted.{streams_place}
 use Rattle.render_list.specs.{Surfaces.place_in, Text.render_text}
 use Rattle.shader_records.proofs.Lengths.{length_records, length_uniforms}
 use Rattle.job_format.specs.{Model.FileModel, Reading.file_at}
 use Rattle.job_format.proofs.Laws.{read_again}
-use Rattle.job_check.specs.{Shaders.content_of, Emit.lengths_of, Emit.memory_of}
 use Rattle.job_check.specs.Jobs.{job_of, has_bin, grid_of, slot_of, lists_begin, layout_of, places_in, bin_list_of, records_of, streams_of, render_list_of}
+use Rattle.job_check.specs.{Shaders.content_of, Emit.lengths_of, Emit.memory_of}
 use Rattle.job_check.proofs.{Views.list_length, Views.lengths, Views.lengths_are, Wider.wider_none}
-use Rattle.accepted_law.specs.Settled.{Settled}
 use Rattle.accepted_law.specs.Neighbours.{jobs_of, named_at, StandAlike, PlacedAlike, FilledAlike, AreNeighbourFiles, AlikeTo}
+use Rattle.accepted_law.specs.Settled.{Settled}
 use Rattle.accepted_law.proofs.{Emitted.emitted_alike_law, RenderWalking.frame_setup, Settling.files_settle_law}
 use Rattle.textured_job.specs.{Job.two_clients, Job.one_client, Laws.AreWitnesses, Laws.two_clients_bytes, Laws.one_client_bytes}
 use Rattle.textured_job.proofs.Cases.{Case, First, Single, file_in, number_in, input_in}
 use Rattle.textured_job.proofs.{Lists.bin_there, Lists.grid_is, Whole.input_is, Whole.file_none_of_two, Whole.file_none_of_one}
 use Rattle.textured_job.proofs.Witness.{two_are_file, one_is_file, two_clients_witness, one_client_accepted}
-use Rattle.std.proofs.lemmas.Grind.{common_steps}
-use Rattle.std.proofs.lemmas.Bool.Decides.{nat_tests}
 
 -- past the last job there is none of the client
 beyond : (c : ℕ) (f : FileModel) (j : ℕ) → length f.jobs ≤ j → jobs_of c f j ≡ false

@@ -1,10 +1,10 @@
 -- No rule stands for the shader record of a job, nor for the uniforms of its shaders.
 use Rattle.std.proofs.Common.{◌≡◌, Some, None, refl}
 use Rattle.shader_records.specs.Rules.{all_questions, state_questions, record_questions, shader_questions, cut_questions, names_questions, body_questions, use_questions, code_questions, handle_questions, fixed_questions, attribute_questions, sample_questions, disagrees, is_attribute_past, has_vertex_past, first_word_at, setup_questions}
+use Rattle.shader_records.specs.Sources.{record_source, uniform_source, source_size, taken_before, shader_used, handles_size, code_number, attribute_number, record_word, sample_number, source_word}
 use Rattle.textured_job.specs.Job.{textured, two_clients, one_client, fragment_told}
 use Rattle.textured_job.proofs.Cases.{Case, Alone, First, Second, Single, input_in}
 use Rattle.field_words.specs.{Questions.each, Questions.answered, Questions.first_of, Words.u32_at, Words.rounded_up}
-use Rattle.shader_records.specs.Sources.{record_source, uniform_source, source_size, taken_before, shader_used, handles_size, code_number, attribute_number, record_word, sample_number, source_word}
 use Rattle.emitted_facts.specs.Records.{is_single, attribute_size, attribute_stride}
 use Rattle.packets.specs.StateWord.{attribute_count, record_size, is_extended}
 use Rattle.buffer_table.specs.{Handles.code_of, Handles.data_of, Table.buffer_at}

@@ -1,14 +1,13 @@
 -- The bytes of both files are accepted, and have all that the laws speak of.
 use Rattle.std.proofs.Common.{◌≡◌, ◌≢◌, ◌<◌, ◌≤◌, ◌^◌, ℕ, Bool, true, List, [], ◌∷◌, length, None, refl, sym, ap, subst, arith, ◌∙◌, lit<}
-use Rattle.std.specs.List.{AllByRecursion}
-use Rattle.std.specs.Prelude.{nat_lt, ◌&&◌}
 use Rattle.std.proofs.lemmas.Bool.{and_parts, Decides.nat_tests}
+use Rattle.std.specs.{List.AllByRecursion, Prelude.nat_lt, Prelude.◌&&◌}
 use Rattle.field_words.specs.{Questions.first_of, Questions.answered, Words.IsBytes}
 use Rattle.field_words.proofs.Questions.{passes, answered_none}
-use Rattle.job_format.specs.{Faults.format_questions, Model.FileModel, Reading.file_at}
 use Rattle.job_format.specs.File.{BufferFits, SurfaceFits, FrameFits, JobFits, Fits, IsJobWellFormed, IsWellFormed, IsFileOf}
-use Rattle.buffer_table.specs.declared.buffer.Kind.{Kind, TheVariants.Plain, TheVariants.Code}
 use Rattle.job_format.specs.Text.{header_text, buffer_text, surface_text, frame_text, job_text, parts_text, file_text}
+use Rattle.job_format.specs.{Faults.format_questions, Model.FileModel, Reading.file_at}
+use Rattle.buffer_table.specs.declared.buffer.Kind.{Kind, TheVariants.Plain, TheVariants.Code}
 use Rattle.job_format.proofs.Laws.{read_again}
 use Rattle.job_check.specs.{Faults.file_stages, Jobs.job_of, Whole.format_refused, Whole.refusal_of, Whole.questions_within}
 use Rattle.shader_records.specs.Sources.{shader_used}

@@ -1,13 +1,8 @@
 -- What is so of the job, alone and beside another: it is accepted, and has what the laws on accepted jobs speak of.
 use Rattle.std.specs.Prelude.{◌≡◌, ◌≢◌, ◌<◌, ℕ, true, false, List, length, Some, None}
 use Rattle.field_words.specs.Words.{IsBytes}
-use Rattle.job_format.specs.File.{IsFileOf}
-use Rattle.job_format.specs.Model.{FileModel}
-use Rattle.job_format.specs.Reading.{file_at}
-use Rattle.job_format.specs.Text.{file_text}
-use Rattle.job_check.specs.Jobs.{job_of, has_bin, input_for}
-use Rattle.job_check.specs.Emit.{memory_of}
-use Rattle.job_check.specs.Whole.{refusal_of}
+use Rattle.job_format.specs.{File.IsFileOf, Model.FileModel, Reading.file_at, Text.file_text}
+use Rattle.job_check.specs.{Jobs.job_of, Jobs.has_bin, Jobs.input_for, Emit.memory_of, Whole.refusal_of}
 use Rattle.qpu_isa.specs.Shader.{ShaderModel, sample_at}
 use Rattle.shader_records.specs.Sources.{shader_used}
 use Rattle.accepted_law.specs.Neighbours.{jobs_of, AreNeighbourFiles, AlikeTo}

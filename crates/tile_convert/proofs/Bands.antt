@@ -1,19 +1,16 @@
 -- Pictures one above the other.
 use Rattle.std.proofs.Common.{◌≡◌, ℕ, ◌+◌, ◌-◌, ◌*◌, ◌/◌, ◌%◌, ◌<◌, ◌≤◌, inl, inr, List, [], ◌++◌, length, get_or, min, refl, sym, ap, subst, length-append, arith, ◌∙◌}
 use Rattle.std.proofs.Math.Nat.{mul-add-div_right, mul-add-mod_self_right, mul-div_cancel, mul-mod_left, mul-le-mul_left, mul-le-mul_right}
-use Rattle.std.proofs.lemmas.Nat.{div-add-mod'}
+use Rattle.std.proofs.{lemmas.Nat.div-add-mod', lemmas.Bool.cases_lt, lemmas.Grind.div_ceil_times}
 use Rattle.std.proofs.lemmas.List.{get_or_append_left, get_or-append-add, get_or-append_right}
-use Rattle.std.proofs.lemmas.Bool.{cases_lt}
-use Rattle.std.proofs.lemmas.Grind.{div_ceil_times}
 use Rattle.std.specs.Int.{div_ceil}
 use Rattle.field_words.specs.Words.{rounded_up}
-use Rattle.texture_layouts.specs.declared.surface.Tiling.{Tiling}
 use Rattle.texture_layouts.specs.declared.surface.Tiling.TheVariants.{Raster, T, Lt}
-use Rattle.texture_layouts.specs.Surface.{IsPixelSize, microtile_width_of, microtile_height_of, unit_down}
 use Rattle.texture_layouts.specs.Place.{aligned_across, microtiles_across, microtile_number, microtile_place_of, place_in_microtile, raster_place, tiled_place, pixel_place_of}
+use Rattle.texture_layouts.specs.declared.surface.Tiling.{Tiling}
+use Rattle.texture_layouts.specs.Surface.{IsPixelSize, microtile_width_of, microtile_height_of, unit_down}
 use Rattle.texture_layouts.proofs.Places.{height_some, microtile_bytes, across_parts, across_whole}
-use Rattle.tile_convert.specs.declared.order.Order.{Order}
-use Rattle.tile_convert.specs.declared.order.Order.TheVariants.{Rows, Surface}
+use Rattle.tile_convert.specs.{declared.order.Order.Order, declared.order.Order.TheVariants.Rows, declared.order.Order.TheVariants.Surface}
 use Rattle.tile_convert.specs.Picture.{place_in, size_in, band_height_of, IsCopy, BandsJoin}
 use Rattle.tile_convert.proofs.Places.{down_some, pixel_fits}
 

@@ -2,13 +2,10 @@
 use Rattle.std.proofs.Common.{◌≡◌, ℕ, zero, suc, ◌+◌, ◌*◌, ◌<◌, ◌≤◌, List, length, take, drop, min, refl, sym, subst, arith}
 use Rattle.field_words.specs.Writes.{with_bytes}
 use Rattle.texture_layouts.specs.Surface.{IsPixelSize, microtile_width_of}
-use Rattle.tile_convert.specs.declared.order.Order.{Order}
 use Rattle.tile_convert.specs.Picture.{place_in, size_in, part_offset, parts_across, pixels_there, IsCopy}
-use Rattle.tile_convert.specs.Steps.{IsCopied, HasRow}
-use Rattle.tile_convert.proofs.Parts.{part_copied}
-use Rattle.tile_convert.proofs.Places.{pixel_fits}
+use Rattle.tile_convert.specs.{declared.order.Order.Order, Steps.IsCopied, Steps.HasRow}
+use Rattle.tile_convert.proofs.{Parts.part_copied, Places.pixel_fits, Whole.zeros, Whole.length_zeros, Whole.copied_whole}
 use Rattle.tile_convert.proofs.Steps.{none_copied, next_row, part_fits, one_more, whole_row}
-use Rattle.tile_convert.proofs.Whole.{zeros, length_zeros, copied_whole}
 
 -- a list to which all before (x, y) has been copied
 abbrev Reached : Order → Order → ℕ → ℕ → List ℕ → List ℕ → ℕ → ℕ → Type 0

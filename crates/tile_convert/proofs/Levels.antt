@@ -1,20 +1,14 @@
 -- A level's part of the buffer, and its picture.
 use Rattle.std.proofs.Common.{◌≡◌, ℕ, ◌+◌, ◌-◌, ◌*◌, ◌<◌, ◌≤◌, List, not, nat_lt, false, Option, None, length, take, drop, get_or, length-drop, refl, sym, ap, subst, arith, ◌∙◌}
-use Rattle.std.proofs.lemmas.List.{get_or-drop, get_or-take, length-take-le}
-use Rattle.std.proofs.lemmas.Bool.{ltb-false}
+use Rattle.std.proofs.{lemmas.List.get_or-drop, lemmas.List.get_or-take, lemmas.List.length-take-le, lemmas.Bool.ltb-false}
 use Rattle.field_words.specs.Questions.{first_of, answered}
-use Rattle.field_words.proofs.Questions.{none_stands}
-use Rattle.field_words.proofs.Nones.{front_none, rest_none, none_answered}
-use Rattle.texture_layouts.specs.declared.surface.Tiling.{Tiling}
-use Rattle.texture_layouts.specs.Surface.{IsPixelSize}
-use Rattle.texture_layouts.specs.Level.{level_size_of, image_size_of}
-use Rattle.texture_layouts.specs.Place.{pixel_place_of}
+use Rattle.field_words.proofs.{Questions.none_stands, Nones.front_none, Nones.rest_none, Nones.none_answered}
 use Rattle.texture_layouts.specs.Setup.{TextureModel, texture_of, faces_of, level_width_of, level_height_of, tiling_at, size_at, level_place_of}
-use Rattle.texture_layouts.specs.Fits.{texture_questions, is_unlisted, IsInBuffer}
+use Rattle.texture_layouts.specs.{declared.surface.Tiling.Tiling, Surface.IsPixelSize, Level.level_size_of, Level.image_size_of}
+use Rattle.texture_layouts.specs.{Place.pixel_place_of, Fits.texture_questions, Fits.is_unlisted, Fits.IsInBuffer}
 use Rattle.texture_layouts.proofs.Inside.{in_buffer}
 use Rattle.tile_convert.specs.declared.order.Order.TheVariants.{Rows, Surface}
-use Rattle.tile_convert.specs.declared.level.LevelFault.{LevelFault}
-use Rattle.tile_convert.specs.declared.level.LevelFault.TheVariants.{Texture}
+use Rattle.tile_convert.specs.{declared.level.LevelFault.LevelFault, declared.level.LevelFault.TheVariants.Texture}
 use Rattle.tile_convert.specs.Picture.{place_in, size_in, IsCopy}
 use Rattle.tile_convert.specs.Level.{part_questions, level_questions, IsLevelPicture}
 use Rattle.tile_convert.proofs.Places.{pixel_fits}

@@ -1,6 +1,5 @@
 -- Products of sides fit.
-use Rattle.std.proofs.Common.{ℕ, ◌*◌, ◌≤◌, arith}
-use Rattle.std.proofs.lemmas.Nat.{mul-le}
+use Rattle.std.proofs.{Common.ℕ, Common.◌*◌, Common.◌≤◌, Common.arith, lemmas.Nat.mul-le}
 use Rattle.texture_layouts.specs.Surface.{IsPixelSize}
 
 pub rows_limit : (a b c : ℕ) → a ≤ 4096 → b ≤ 4096 → IsPixelSize c → (a * b * c ≤ 134217728) × (a * b ≤ 16777216)

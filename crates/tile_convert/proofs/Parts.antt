@@ -1,7 +1,6 @@
 -- A copied part, byte by byte.
 use Rattle.std.proofs.Common.{◌≡◌, ℕ, ◌+◌, ◌≤◌, inl, inr, ◌-◌, List, length, take, drop, arith, ◌∙◌, length-drop}
-use Rattle.std.proofs.lemmas.List.{get_or-drop, get_or-take, length-take-le}
-use Rattle.std.proofs.lemmas.Bool.{cases_lt}
+use Rattle.std.proofs.{lemmas.List.get_or-drop, lemmas.List.get_or-take, lemmas.List.length-take-le, lemmas.Bool.cases_lt}
 use Rattle.field_words.specs.Writes.{with_bytes}
 use Rattle.field_words.proofs.Writes.{length-with_bytes, with_bytes-before, with_bytes-behind, with_bytes-inside}
 use Rattle.tile_convert.specs.Steps.{IsPartCopied}

@@ -3,13 +3,12 @@ use Rattle.std.proofs.Common.{◌≡◌, ℕ, ◌+◌, ◌*◌, ◌/◌, ◌%◌
 use Rattle.std.proofs.Math.Nat.{mul-le-mul_right}
 use Rattle.std.proofs.lemmas.Nat.{same_from_place, mul-add-lt, div-mul-add, mod-mul-add}
 use Rattle.field_words.proofs.Numbers.{rounded}
-use Rattle.texture_layouts.specs.declared.surface.Tiling.{Tiling}
 use Rattle.texture_layouts.specs.declared.surface.Tiling.TheVariants.{Raster, T, Lt}
 use Rattle.texture_layouts.specs.Surface.{IsPixelSize, microtile_width_of, microtile_height_of, unit_across, unit_down}
 use Rattle.texture_layouts.specs.Place.{aligned_across, aligned_down, microtiles_across, microtile_number, microtile_place_of, place_in_microtile, raster_place, tiled_place}
+use Rattle.texture_layouts.specs.declared.surface.Tiling.{Tiling}
 use Rattle.texture_layouts.proofs.Places.{width_some, height_some, pixel_inside, pixel_apart}
-use Rattle.tile_convert.specs.declared.order.Order.{Order}
-use Rattle.tile_convert.specs.declared.order.Order.TheVariants.{Rows, Surface}
+use Rattle.tile_convert.specs.{declared.order.Order.Order, declared.order.Order.TheVariants.Rows, declared.order.Order.TheVariants.Surface}
 use Rattle.tile_convert.specs.Picture.{place_in, size_in, part_offset}
 
 -- No side is shorter than it was.

@@ -1,15 +1,12 @@
 -- One part more, and then all.
 use Rattle.std.proofs.Common.{◌≡◌, ℕ, ◌+◌, ◌-◌, ◌*◌, ◌/◌, ◌%◌, ◌<◌, ◌≤◌, ◌⊎◌, inl, inr, List, min, get_or, refl, sym, ap, subst, arith, ◌∙◌}
+use Rattle.std.proofs.{Math.Nat.mul-le-mul_right, lemmas.Nat.mul-add-lt, lemmas.Nat.div_below, lemmas.Nat.div-add-mod'}
+use Rattle.std.proofs.{lemmas.Grind.div_ceil_times, lemmas.Bool.cases_lt}
 use Rattle.std.specs.Int.{div_ceil}
-use Rattle.std.proofs.Math.Nat.{mul-le-mul_right}
-use Rattle.std.proofs.lemmas.Nat.{mul-add-lt, div_below, div-add-mod'}
-use Rattle.std.proofs.lemmas.Grind.{div_ceil_times}
-use Rattle.std.proofs.lemmas.Bool.{cases_lt}
 use Rattle.texture_layouts.specs.Surface.{IsPixelSize, microtile_width_of}
 use Rattle.texture_layouts.proofs.Places.{pixel_some, width_some}
-use Rattle.tile_convert.specs.declared.order.Order.{Order}
+use Rattle.tile_convert.specs.{declared.order.Order.Order, Steps.IsPartCopied, Steps.IsBefore, Steps.IsCopied, Steps.HasRow}
 use Rattle.tile_convert.specs.Picture.{place_in, part_offset, pixels_there, parts_across}
-use Rattle.tile_convert.specs.Steps.{IsPartCopied, IsBefore, IsCopied, HasRow}
 use Rattle.tile_convert.proofs.Places.{pixels_apart, stand_together}
 
 -- n pixels from (x, y) on stand together from this place on

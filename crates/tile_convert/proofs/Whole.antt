@@ -1,13 +1,11 @@
 -- A whole picture, and what comes back.
 use Rattle.std.proofs.Common.{◌≡◌, ℕ, zero, suc, ◌+◌, ◌*◌, ◌/◌, ◌%◌, ◌<◌, inl, inr, List, length, replicate, get_or, sym, ap, subst, arith, ◌∙◌}
-use Rattle.std.proofs.lemmas.Nat.{div_below, div-add-mod'}
+use Rattle.std.proofs.{lemmas.Nat.div_below, lemmas.Nat.div-add-mod', lemmas.Bool.cases_lt, lemmas.Bool.cases_eq}
 use Rattle.std.proofs.lemmas.List.{places, get_or-replicate, get_or_past, ext_get_or}
-use Rattle.std.proofs.lemmas.Bool.{cases_lt, cases_eq}
 use Rattle.texture_layouts.specs.Surface.{IsPixelSize}
 use Rattle.texture_layouts.proofs.Places.{pixel_some}
-use Rattle.tile_convert.specs.declared.order.Order.{Order}
-use Rattle.tile_convert.specs.declared.order.Order.TheVariants.{Rows, Surface}
 use Rattle.tile_convert.specs.Picture.{place_in, size_in, IsOutside, IsZeroOutside, IsCopy, UntilesWhatWasTiled, TilesWhatWasUntiled}
+use Rattle.tile_convert.specs.{declared.order.Order.Order, declared.order.Order.TheVariants.Rows, declared.order.Order.TheVariants.Surface}
 use Rattle.tile_convert.specs.Steps.{IsCopied}
 
 abbrev pub zeros : ℕ → List ℕ

@@ -1,13 +1,10 @@
 -- One level of a texture, and when there is none.
 use Rattle.std.specs.Prelude.{◌≡◌, ◌<◌, ℕ, ◌+◌, ◌*◌, not, nat_lt, List, [], ◌∷◌, ◌++◌, length, slice_index}
 use Rattle.field_words.specs.Questions.{Question, Ask, answered}
-use Rattle.texture_layouts.specs.Place.{pixel_place_of}
 use Rattle.texture_layouts.specs.Setup.{TextureModel, texture_of, faces_of, level_width_of, level_height_of, tiling_at, level_place_of}
-use Rattle.texture_layouts.specs.Fits.{texture_questions}
-use Rattle.tile_convert.specs.declared.level.LevelFault.{LevelFault}
+use Rattle.texture_layouts.specs.{Place.pixel_place_of, Fits.texture_questions}
 use Rattle.tile_convert.specs.declared.level.LevelFault.TheVariants.{Texture, Face, Level}
-use Rattle.tile_convert.specs.declared.order.Order.TheVariants.{Rows}
-use Rattle.tile_convert.specs.Picture.{place_in}
+use Rattle.tile_convert.specs.{declared.level.LevelFault.LevelFault, declared.order.Order.TheVariants.Rows, Picture.place_in}
 
 -- the face, and then the level, is one that the texture has
 unfoldable pub part_questions : TextureModel → ℕ → ℕ → List (Question LevelFault)

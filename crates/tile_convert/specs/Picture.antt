@@ -2,12 +2,10 @@
 use Rattle.std.specs.Prelude.{◌≡◌, ◌<◌, ℕ, ◌+◌, ◌*◌, ◌/◌, ◌%◌, ◌==◌, ◌-◌, min, not, List, [], ◌∷◌, ◌++◌, length, slice_index}
 use Rattle.std.specs.Int.{div_ceil}
 use Rattle.field_words.specs.Questions.{Question, Ask}
-use Rattle.texture_layouts.specs.declared.surface.Tiling.{Tiling}
 use Rattle.texture_layouts.specs.declared.surface.Tiling.TheVariants.{Raster, T, Lt}
+use Rattle.texture_layouts.specs.{declared.surface.Tiling.Tiling, Place.pixel_place_of}
 use Rattle.texture_layouts.specs.Surface.{microtile_width_of, microtile_height_of, size_for, IsPixelSize}
-use Rattle.texture_layouts.specs.Place.{pixel_place_of}
-use Rattle.tile_convert.specs.declared.order.Order.{Order}
-use Rattle.tile_convert.specs.declared.order.Order.TheVariants.{Rows, Surface}
+use Rattle.tile_convert.specs.{declared.order.Order.Order, declared.order.Order.TheVariants.Rows, declared.order.Order.TheVariants.Surface}
 
 -- Where the bytes of pixel (x, y) begin. In rows no row is aligned.
 unfoldable pub place_in : Order → ℕ → ℕ → ℕ → ℕ → ℕ

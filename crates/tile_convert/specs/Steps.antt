@@ -1,7 +1,6 @@
 -- A copy on its way.
 use Rattle.std.specs.Prelude.{◌≡◌, ◌<◌, ◌≤◌, ◌⊎◌, ℕ, ◌+◌, List, length, slice_index}
-use Rattle.tile_convert.specs.declared.order.Order.{Order}
-use Rattle.tile_convert.specs.Picture.{place_in}
+use Rattle.tile_convert.specs.{declared.order.Order.Order, Picture.place_in}
 
 -- `count` bytes at `to` are those of the source at `from`, and all others are as before
 pub record IsPartCopied (source : List ℕ) (from : ℕ) (old : List ℕ) (to count : ℕ) (new : List ℕ) : Type 0 where

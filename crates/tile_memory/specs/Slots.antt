@@ -1,7 +1,6 @@
 -- The slots of tile memory, and what stands in one.
 use Rattle.std.specs.Prelude.{ℕ, ◌+◌, ◌*◌, Bool, nat_le}
-use Rattle.field_words.specs.Sizes.{page_size, slot_size}
-use Rattle.field_words.specs.Words.{rounded_up}
+use Rattle.field_words.specs.{Sizes.page_size, Sizes.slot_size, Words.rounded_up}
 
 -- slots lie one after another
 abbrev pub slot_place : (tile_place slot : ℕ) → ℕ

@@ -3,11 +3,9 @@ use Rattle.std.proofs.Common.{◌≡◌, ◌≤◌, ◌<◌, ◌+◌, ◌-◌, �
 use Rattle.std.proofs.lemmas.Bool.{cases_Bool, cases_lt, and_left, true≢false, false_from_ne_true, leb-true, leb-false, le-ltb}
 use Rattle.std.proofs.lemmas.List.{places}
 use Rattle.qpu_isa.specs.Terms.{is_address_write, is_backward}
-use Rattle.shader_flow.specs.Bounded.{some_in, indexes}
-use Rattle.shader_flow.specs.Flow.{word, checked_of}
+use Rattle.shader_flow.specs.{Bounded.some_in, Bounded.indexes, Flow.word, Flow.checked_of}
 use Rattle.shader_flow.proofs.Bounded.{some_in_here, some_in_none, indexes_not}
-use Rattle.uniform_stream.specs.Stream.{writes_address, leaves_open}
-use Rattle.uniform_stream.specs.Walk.{IsAddressEnd}
+use Rattle.uniform_stream.specs.{Stream.writes_address, Stream.leaves_open, Walk.IsAddressEnd}
 
 -- one instruction more
 pub end_here : (code : List ℕ) (n last : ℕ) → IsAddressEnd code n last → writes_address code n ≡ true → IsAddressEnd code (n + 1) (n + 1)

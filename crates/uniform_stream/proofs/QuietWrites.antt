@@ -2,11 +2,10 @@
 use Rattle.std.proofs.Common.{◌≡◌, ◌≤◌, ◌<◌, ◌+◌, ◌*◌, ◌==◌, ℕ, Bool, true, false, not, ◌&&◌, ◌||◌, List, if◌then◌else◌, refl, sym, ap, inl, inr, arith, ◌∙◌, nat_le, nat_lt, eqb-true}
 use Rattle.std.proofs.lemmas.Bool.{cases_lt, cases_Bool, and_parts, and_left, true≢false, lt-leb}
 use Rattle.std.proofs.lemmas.Bool.Decides.{nat_tests}
-use Rattle.qpu_isa.specs.Word.{ws_of, waddr_add_of, waddr_mul_of, cond_add_of, cond_mul_of}
 use Rattle.qpu_isa.specs.Terms.{is_branch, add_names, mul_names, names_address, names_on_a, names_on_b, is_address_write, is_relative_address_write, names_forbidden, is_tmu_address, s_address, add_writes_tmu, mul_writes_tmu, writes_tmu, tmu_writes, writes_s, add_is_tmu, mul_is_tmu, has_two_tmu_writes, has_conditional_tmu_write, reads_uniform_of}
+use Rattle.qpu_isa.specs.Word.{ws_of, waddr_add_of, waddr_mul_of, cond_add_of, cond_mul_of}
 use Rattle.qpu_isa.specs.Setups.{adds_direct, muls_direct, adds_setup, muls_setup, has_setup, takes_with}
-use Rattle.shader_flow.specs.Flow.{word, checked_of}
-use Rattle.shader_flow.specs.Pending.{pending_of, count_of, takes}
+use Rattle.shader_flow.specs.{Flow.word, Flow.checked_of, Pending.pending_of, Pending.count_of, Pending.takes}
 use Rattle.shader_flow.proofs.Counts.{pending_past, pending_kept, count_next}
 use Rattle.uniform_stream.specs.Quiet.{is_register_address, writes_registers}
 

@@ -1,8 +1,7 @@
 -- Whether the position is known, by what stands here and whether it was known before.
 use Rattle.std.proofs.Common.{◌≡◌, ◌<◌, ◌+◌, ◌-◌, ℕ, zero, suc, Bool, true, false, not, ◌&&◌, ◌||◌, nat_le, List, sym, ap, subst, refl, arith, ◌∙◌}
 use Rattle.std.proofs.lemmas.Bool.{and_left, and_right, and_from, not_from_true, not_from_false, true≢false}
-use Rattle.shader_flow.specs.Bounded.{some_below, some_in}
-use Rattle.shader_flow.specs.Flow.{is_target}
+use Rattle.shader_flow.specs.{Bounded.some_below, Bounded.some_in, Flow.is_target}
 use Rattle.shader_flow.proofs.Bounded.{some_below-suc, some_below_here, some_below_none, some_below_same, some_in_here, some_in_none}
 use Rattle.uniform_stream.specs.Stream.{is_restart, is_known}
 

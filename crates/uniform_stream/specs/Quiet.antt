@@ -1,7 +1,6 @@
 -- Instructions that write registers alone: most rules needn't be asked of them. No part of what the crate claims.
 use Rattle.std.specs.Prelude.{ℕ, ◌==◌, Bool, ◌&&◌, ◌||◌, nat_lt}
-use Rattle.qpu_isa.specs.Word.{waddr_add_of, waddr_mul_of}
-use Rattle.qpu_isa.specs.Terms.{is_branch}
+use Rattle.qpu_isa.specs.{Word.waddr_add_of, Word.waddr_mul_of, Terms.is_branch}
 
 -- write addresses below 36 are registers, and 39 is nothing
 unfoldable pub is_register_address : ℕ → Bool

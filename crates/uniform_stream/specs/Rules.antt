@@ -2,10 +2,8 @@
 use Rattle.std.specs.Prelude.{ℕ, Bool, not, ◌&&◌, ◌||◌, List, [], ◌∷◌, nat_lt, nat_le}
 use Rattle.field_words.specs.Questions.{Question, Ask}
 use Rattle.qpu_isa.specs.Terms.{names_forbidden, is_relative_address_write, is_address_write, reads_uniform_of, writes_tmu, has_two_tmu_writes, has_conditional_tmu_write}
-use Rattle.shader_flow.specs.Bounded.{is_back}
-use Rattle.shader_flow.specs.Flow.{word, in_slots, is_target}
 use Rattle.qpu_isa.specs.Setups.{has_setup}
-use Rattle.shader_flow.specs.Pending.{pending_of, takes}
+use Rattle.shader_flow.specs.{Bounded.is_back, Flow.word, Flow.in_slots, Flow.is_target, Pending.pending_of, Pending.takes}
 use Rattle.uniform_stream.specs.Stream.{is_known}
 
 -- a register that reaches other units: TMU no-swap, host interrupt, alpha mask, VPM DMA address, mutex

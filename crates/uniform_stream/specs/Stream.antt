@@ -1,10 +1,9 @@
 -- Where the uniform stream stands, and what is written to its address.
 use Rattle.std.specs.Prelude.{◌≡◌, ◌≤◌, ◌<◌, ℕ, ◌+◌, ◌==◌, Bool, false, not, ◌&&◌, ◌||◌, List, [], ◌∷◌, ◌++◌, map, length, slice_index, slice_index_or, nat_lt, if◌then◌else◌}
 use Rattle.qpu_isa.specs.Terms.{is_address_write, is_backward}
-use Rattle.shader_flow.specs.Bounded.{some_below, some_in, is_back, indexes}
+use Rattle.shader_flow.specs.{Bounded.some_below, Bounded.some_in, Bounded.is_back, Bounded.indexes, Pending.count_of, Pending.pending_of}
 use Rattle.shader_flow.specs.Flow.{word, checked_of, is_target}
 use Rattle.uniform_stream.specs.declared.state.Stream.{Stream}
-use Rattle.shader_flow.specs.Pending.{count_of, pending_of}
 
 -- a checked instruction writes the address of the uniforms
 unfoldable pub writes_address : List ℕ → ℕ → Bool

@@ -1,12 +1,7 @@
 -- What is known of an instruction, and how far the walk has come. No part of what the crate claims.
 use Rattle.std.specs.Prelude.{◌≡◌, ◌≤◌, ◌<◌, ℕ, ◌*◌, ◌-◌, Bool, true, false, List, map, length, slice_index, slice_index_or}
-use Rattle.shader_flow.specs.Bounded.{indexes}
-use Rattle.uniform_stream.specs.declared.state.Stream.{Stream}
-use Rattle.uniform_stream.specs.declared.walk.Running.{Running}
-use Rattle.shader_flow.specs.Flow.{is_target}
-use Rattle.shader_flow.specs.Pending.{count_of, pending_of, takes}
-use Rattle.shader_flow.specs.Site.{SiteModel}
-use Rattle.uniform_stream.specs.Stream.{writes_address, is_known}
+use Rattle.shader_flow.specs.{Bounded.indexes, Flow.is_target, Pending.count_of, Pending.pending_of, Pending.takes, Site.SiteModel}
+use Rattle.uniform_stream.specs.{declared.state.Stream.Stream, declared.walk.Running.Running, Stream.writes_address, Stream.is_known}
 
 -- what the rules are told of an instruction
 pub record IsAskedOf (site : SiteModel) (pending0 pending1 : ℕ) (taker known target : Bool) : Type 0 where

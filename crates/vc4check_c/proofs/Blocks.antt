@@ -1,22 +1,18 @@
 -- A block gives back the shader that it was made of.
 use Rattle.std.proofs.Common.{◌≡◌, ◌==◌, ℕ, zero, suc, ◌+◌, ◌-◌, ◌/◌, ◌<◌, ◌≤◌, Bool, true, false, List, [], ◌∷◌, ◌++◌, length, map, get_or, take, drop, refl, ap, sym, subst, Option, Some, None, arith, ◌∙◌, if◌then◌else◌}
-use Rattle.std.specs.List.{slice_index_or}
-use Rattle.std.proofs.Math.Nat.{min-le_left}
-use Rattle.std.proofs.Math.Seq.{take-append_seam, drop-append_seam}
+use Rattle.std.proofs.{Math.Nat.min-le_left, Math.Seq.take-append_seam, Math.Seq.drop-append_seam}
 use Rattle.std.proofs.lemmas.List.{length-map, length-append, take_all}
+use Rattle.std.specs.List.{slice_index_or}
 use Rattle.field_words.specs.Sizes.{most_code}
-use Rattle.qpu_isa.specs.declared.inst.Sample.{Sample}
-use Rattle.qpu_isa.specs.Shader.{ShaderModel, IsSoundShader, no_sample}
-use Rattle.shader_flow.specs.Bounded.{indexes}
-use Rattle.shader_flow.specs.Flow.{checked_of, end_of}
+use Rattle.qpu_isa.specs.{declared.inst.Sample.Sample, Shader.ShaderModel, Shader.IsSoundShader, Shader.no_sample}
+use Rattle.shader_flow.specs.{Bounded.indexes, Flow.checked_of, Flow.end_of}
 use Rattle.shader_flow.proofs.Counts.{count_le}
 use Rattle.uniform_stream.specs.Stream.{uniforms_of, is_open}
 use Rattle.shader_check.specs.Info.{samples_of, sample_of, is_sample}
 use Rattle.job_check.specs.Shaders.{words_of, told_of}
 use Rattle.job_check.proofs.Codes.{length_words}
-use Rattle.vc4check_c.specs.Shader.{told_position, told_flag}
-use Rattle.vc4check_c.specs.declared.block.Known.{Known}
 use Rattle.vc4check_c.specs.Block.{known_whole, known_sample, known_address, block_of, position_in, sample_in, address_in}
+use Rattle.vc4check_c.specs.{Shader.told_position, Shader.told_flag, declared.block.Known.Known}
 
 longer : (list : List ℕ) (n : ℕ) → length list ≤ n → length (list ++ (n ∷ [])) ≤ suc n
 longer list n few = subst (λ k. k ≤ suc n) (sym (length-append list (n ∷ []))) (omega (arith, few))

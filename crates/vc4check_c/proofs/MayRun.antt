@@ -1,16 +1,13 @@
 -- The job of an accepted submission may run over each memory that is prepared for it.
 use Rattle.std.proofs.Common.{◌≡◌, ◌==◌, ◌≤◌, ℕ, suc, Bool, true, false, List, [], ◌∷◌, length, map, refl, Some, None, arith, if◌then◌else◌}
 use Rattle.std.specs.List.{slice_get, AllByRecursion}
-use Rattle.field_words.specs.Questions.{first_of}
-use Rattle.field_words.specs.Sizes.{most_code}
-use Rattle.field_words.specs.Words.{IsBytes}
+use Rattle.field_words.specs.{Questions.first_of, Sizes.most_code, Words.IsBytes}
 use Rattle.field_words.proofs.Nones.{front_none, rest_none}
 use Rattle.job_format.specs.File.{BufferFits, Fits}
 use Rattle.job_check.specs.Faults.{place_stages}
 use Rattle.accepted_law.proofs.ByteTexts.{bytes_none}
 use Rattle.job_safety.proofs.Prepared.{prepared_jobs_law}
-use Rattle.vc4check_c.specs.declared.submission.GivenBuffer.{GivenBuffer}
-use Rattle.vc4check_c.specs.declared.submission.Submission.{Submission}
+use Rattle.vc4check_c.specs.{declared.submission.GivenBuffer.GivenBuffer, declared.submission.Submission.Submission}
 use Rattle.vc4check_c.specs.Submission.{content_in, entry_in, file_of, own_questions}
 use Rattle.vc4check_c.specs.MayRun.{GivenFits, IsOfTypes, AcceptedSubmissionsMayRun}
 use Rattle.vc4check_c.proofs.Submissions.{shaders_few, well_formed}

@@ -2,18 +2,12 @@
 use Rattle.std.proofs.Common.{◌≡◌, ℕ, ◌<◌, ◌≤◌, ◌^◌, List, length, None, ap, sym, subst, arith, ◌∙◌}
 use Rattle.std.specs.List.{AllByRecursion}
 use Rattle.field_words.specs.Questions.{first_of}
-use Rattle.job_format.specs.File.{IsFileOf}
-use Rattle.job_format.specs.Reading.{file_at}
+use Rattle.job_format.specs.{File.IsFileOf, Reading.file_at}
 use Rattle.relocation.specs.Layout.{region_end}
-use Rattle.job_check.specs.declared.region.Region.{Region}
-use Rattle.job_check.specs.Emit.{IsInside}
-use Rattle.job_check.specs.Jobs.{layouts_of}
-use Rattle.job_check.specs.Region.{region_of, IsRegion}
+use Rattle.job_check.specs.{declared.region.Region.Region, Emit.IsInside, Jobs.layouts_of, Region.region_of, Region.IsRegion}
 use Rattle.job_check.specs.Whole.{place_questions}
 use Rattle.job_check.proofs.Counted.{as_many_layouts, as_many_lengths}
-use Rattle.vc4check_c.specs.declared.jobs.JobsAnswer.{JobsAnswer}
-use Rattle.vc4check_c.specs.Jobs.{accepted_jobs}
-use Rattle.vc4check_c.specs.Places.{ArePlaced}
+use Rattle.vc4check_c.specs.{declared.jobs.JobsAnswer.JobsAnswer, Jobs.accepted_jobs, Places.ArePlaced}
 
 -- There are as many layouts as lengths, of at most eight jobs, and the lists take fewer bytes than a word tells.
 pub record IsTold (region : Region) : Type 0 where

@@ -2,26 +2,15 @@
 use Rattle.std.proofs.Common.{◌≡◌, ℕ, ◌<◌, ◌≤◌, ◌%◌, ◌+◌, ◌++◌, List, length, get_or, None, ap, subst, sym, arith, ◌∙◌, refl}
 use Rattle.std.proofs.lemmas.List.{length-append}
 use Rattle.std.specs.List.{flat_map}
-use Rattle.field_words.specs.Words.{u32_at}
-use Rattle.field_words.specs.Pieces.{joined}
-use Rattle.field_words.specs.Questions.{first_of}
+use Rattle.field_words.specs.{Words.u32_at, Pieces.joined, Questions.first_of, Sizes.most_memory}
 use Rattle.buffer_table.specs.Table.{memory_questions, memory_within}
-use Rattle.job_format.specs.Model.{FileModel}
-use Rattle.job_format.specs.Text.{file_text, header_text, buffer_text, job_text, parts_text}
-use Rattle.job_format.specs.File.{IsFileOf}
-use Rattle.job_format.specs.Reading.{file_at}
-use Rattle.relocation.specs.declared.layout.Layout.{Layout}
-use Rattle.relocation.specs.declared.layout.Lengths.{Lengths}
-use Rattle.job_check.specs.Jobs.{layout_of, layouts_of}
-use Rattle.job_check.specs.Emit.{memory_of, IsEmitted, IsPlaced}
-use Rattle.job_check.specs.Whole.{refusal_of}
-use Rattle.vc4check_c.specs.declared.job.JobAnswer.{JobAnswer}
-use Rattle.vc4check_c.specs.Asked.{asked_size}
-use Rattle.vc4check_c.specs.declared.jobs.JobsAnswer.{JobsAnswer}
-use Rattle.vc4check_c.specs.Job.{accepted_answer, IsSound, IsAccepted}
-use Rattle.vc4check_c.specs.Jobs.{accepted_jobs, AreAccepted}
+use Rattle.job_format.specs.{Model.FileModel, Text.file_text, Text.header_text, Text.buffer_text, Text.job_text, Text.parts_text}
+use Rattle.job_format.specs.{File.IsFileOf, Reading.file_at}
+use Rattle.relocation.specs.{declared.layout.Layout.Layout, declared.layout.Lengths.Lengths}
+use Rattle.job_check.specs.{Jobs.layout_of, Jobs.layouts_of, Emit.memory_of, Emit.IsEmitted, Emit.IsPlaced, Whole.refusal_of}
+use Rattle.vc4check_c.specs.{declared.job.JobAnswer.JobAnswer, Asked.asked_size, declared.jobs.JobsAnswer.JobsAnswer}
+use Rattle.vc4check_c.specs.{Job.accepted_answer, Job.IsSound, Job.IsAccepted, Jobs.accepted_jobs, Jobs.AreAccepted}
 use Rattle.job_check.proofs.Counted.{as_many_layouts, as_many_lengths, first_layout, first_lengths}
-use Rattle.field_words.specs.Sizes.{most_memory}
 
 header_long : (f : FileModel) → length (header_text f) ≡ 36
 unfolding header_text

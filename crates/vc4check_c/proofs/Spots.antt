@@ -1,10 +1,8 @@
 -- A place in a part of a submission's file, as C knows it.
 use Rattle.std.proofs.Common.{◌≡◌, ◌<◌, ◌≤◌, ◌^◌, ℕ, length, sym, ap, refl, arith}
-use Rattle.job_format.specs.Model.{FileModel}
-use Rattle.job_format.specs.Offsets.{most_buffers}
-use Rattle.job_check.specs.declared.places.Part.{Part}
+use Rattle.job_format.specs.{Model.FileModel, Offsets.most_buffers}
 use Rattle.job_check.specs.declared.places.Part.TheVariants.{Header, BufferEntry, JobEntry, Content, Handles, BinList, Records, Uniforms}
-use Rattle.job_check.specs.Places.{place_start, IsNumbered}
+use Rattle.job_check.specs.{declared.places.Part.Part, Places.place_start, Places.IsNumbered}
 use Rattle.job_check.specs.Offsets.{job_offset, handles_offset, bin_offset, records_offset, uniforms_offset}
 use Rattle.vc4check_c.specs.Spots.{start_of, part_number}
 

@@ -1,22 +1,15 @@
 -- What a submission's own numbers come to where no rule stands of them.
 use Rattle.std.proofs.Common.{◌≡◌, ◌<◌, ◌≤◌, ◌+◌, ◌-◌, ◌++◌, ℕ, zero, suc, List, [], ◌∷◌, length, map, take, refl, sym, ap, subst, Some, None, add-one, arith, ◌∙◌}
+use Rattle.std.proofs.{lemmas.List.length-map, Math.Seq.take-suc, lemmas.Option.slice_get_within, lemmas.Option.get_or_from_slice_get}
 use Rattle.std.specs.List.{slice_get, AllByRecursion}
-use Rattle.std.proofs.lemmas.List.{length-map}
-use Rattle.std.proofs.Math.Seq.{take-suc}
-use Rattle.std.proofs.lemmas.Option.{slice_get_within, get_or_from_slice_get}
-use Rattle.field_words.specs.declared.stop.Stop.{Stop}
-use Rattle.field_words.specs.declared.stop.Stop.TheVariants.{Fault, NoMemory}
-use Rattle.field_words.specs.Questions.{Question, Refuses, first_of, each}
-use Rattle.field_words.specs.Sizes.{most_code}
+use Rattle.field_words.specs.{declared.stop.Stop.Stop, declared.stop.Stop.TheVariants.Fault, declared.stop.Stop.TheVariants.NoMemory}
+use Rattle.field_words.specs.{Questions.Question, Questions.Refuses, Questions.first_of, Questions.each, Sizes.most_code}
 use Rattle.field_words.proofs.Questions.{each_stop, none_stands, stands_none}
 use Rattle.field_words.proofs.Nones.{front_none, rest_none, each_none}
-use Rattle.buffer_table.specs.declared.buffer.Kind.{Kind}
-use Rattle.buffer_table.specs.declared.buffer.Kind.TheVariants.{Plain, Code}
-use Rattle.job_format.specs.Offsets.{entry_offset}
-use Rattle.job_format.specs.File.{FitsShader, IsJobWellFormed, IsWellFormed}
-use Rattle.vc4check_c.specs.declared.submission.GivenBuffer.{GivenBuffer}
-use Rattle.vc4check_c.specs.declared.submission.Submission.{Submission}
+use Rattle.buffer_table.specs.{declared.buffer.Kind.Kind, declared.buffer.Kind.TheVariants.Plain, declared.buffer.Kind.TheVariants.Code}
+use Rattle.job_format.specs.{Offsets.entry_offset, File.FitsShader, File.IsJobWellFormed, File.IsWellFormed}
 use Rattle.vc4check_c.specs.Submission.{kind_in, content_in, entry_in, job_in, file_of, entry_questions, entry_questions_at, buffer_questions, entries_questions, job_questions, job_questions_of, own_questions}
+use Rattle.vc4check_c.specs.{declared.submission.GivenBuffer.GivenBuffer, declared.submission.Submission.Submission}
 
 -- what stops at item b stops the whole, where those before it leave the decision to it
 pub refused_at : {F : Type 0} (questions : ℕ → List (Question F)) (b n : ℕ) (stop : Stop F) → b < n

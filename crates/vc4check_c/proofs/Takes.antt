@@ -2,18 +2,12 @@
 use Rattle.std.proofs.Common.{◌≡◌, ◌≤◌, List, [], ◌∷◌, length, get_or, None, refl, ap, subst, arith, ◌∙◌}
 use Rattle.std.specs.List.{AllByRecursion}
 use Rattle.field_words.specs.Questions.{first_of}
-use Rattle.relocation.specs.declared.layout.Layout.{Layout}
-use Rattle.relocation.specs.declared.layout.Lengths.{Lengths}
-use Rattle.relocation.specs.Layout.{region_end}
-use Rattle.job_check.specs.declared.region.Region.{Region}
-use Rattle.job_check.specs.Emit.{IsInside}
-use Rattle.job_check.specs.Jobs.{layout_of, layouts_of}
+use Rattle.relocation.specs.{declared.layout.Layout.Layout, declared.layout.Lengths.Lengths, Layout.region_end}
+use Rattle.job_check.specs.{declared.region.Region.Region, Emit.IsInside, Jobs.layout_of, Jobs.layouts_of}
 use Rattle.job_check.specs.Region.{region_of, IsRegion}
 use Rattle.job_check.proofs.Counted.{as_many_layouts, as_many_lengths, first_layout, first_lengths}
-use Rattle.vc4check_c.specs.declared.submission.Submission.{Submission}
-use Rattle.vc4check_c.specs.declared.submit.Verdict.{Verdict}
-use Rattle.vc4check_c.specs.Submission.{file_of, submission_questions}
-use Rattle.vc4check_c.specs.Submit.{accepted_verdict, IsTaken}
+use Rattle.vc4check_c.specs.{declared.submission.Submission.Submission, declared.submit.Verdict.Verdict}
+use Rattle.vc4check_c.specs.{Submission.file_of, Submission.submission_questions, Submit.accepted_verdict, Submit.IsTaken}
 
 first_of_all : {X : Type 0} (P : X → Type 0) (xs : List X) (d : X) → 1 ≤ length xs → AllByRecursion P xs → P (get_or xs 0 d)
 first_of_all P [] d some all = absurd (omega (arith, some))

@@ -1,24 +1,19 @@
 -- Shaders of which there are blocks are checked ones.
 use Rattle.std.proofs.Common.{◌≡◌, ◌==◌, ◌<◌, ◌≤◌, ◌+◌, ℕ, zero, suc, Bool, true, false, List, [], ◌∷◌, length, map, get_or, refl, sym, ap, subst, Some, None, option_map, IfSome, arith, ◌∙◌, ◌⊎◌, inl, inr, if◌then◌else◌}
-use Rattle.std.specs.List.{slice_get}
-use Rattle.std.proofs.lemmas.Bool.{eqb-true}
-use Rattle.std.proofs.lemmas.List.{length-map, ext_get_or}
+use Rattle.std.proofs.{lemmas.Bool.eqb-true, lemmas.List.length-map, lemmas.List.ext_get_or}
 use Rattle.std.proofs.lemmas.List.FromFn.{length-map-range_with_len, get_or-map-range_with_len}
 use Rattle.std.proofs.lemmas.Option.{get_or_from_slice_get, slice_get-map, slice_get_within}
+use Rattle.std.specs.List.{slice_get}
 use Rattle.field_words.specs.Questions.{Question, first_of, each}
 use Rattle.field_words.proofs.Questions.{passes, answered_none}
 use Rattle.buffer_table.specs.declared.buffer.Kind.TheVariants.{Plain, Code}
 use Rattle.buffer_table.specs.Table.{buffer_at, past_end}
 use Rattle.qpu_isa.specs.Shader.{ShaderModel, IsSoundShader}
 use Rattle.job_check.specs.Shaders.{words_of, told_of, code_questions, content_of, shader_for, shader_of, shaders_up_to, shaders_of}
-use Rattle.job_check.specs.Faults.{shader_questions_in, shader_refused, shader_stage, shaders_stage}
-use Rattle.job_check.specs.Region.{AreChecked}
+use Rattle.job_check.specs.{Faults.shader_questions_in, Faults.shader_refused, Faults.shader_stage, Faults.shaders_stage, Region.AreChecked}
 use Rattle.job_check.proofs.Codes.{AllSound, are_shaders}
-use Rattle.vc4check_c.specs.declared.submission.GivenBuffer.{GivenBuffer}
-use Rattle.vc4check_c.specs.declared.submission.Submission.{Submission}
-use Rattle.vc4check_c.specs.Block.{IsBlockOf}
-use Rattle.vc4check_c.specs.Submission.{content_in, entry_in, file_of}
-use Rattle.vc4check_c.specs.Telling.{told_in, AreBlocks}
+use Rattle.vc4check_c.specs.{declared.submission.GivenBuffer.GivenBuffer, declared.submission.Submission.Submission, Block.IsBlockOf}
+use Rattle.vc4check_c.specs.{Submission.content_in, Submission.entry_in, Submission.file_of, Telling.told_in, Telling.AreBlocks}
 use Rattle.vc4check_c.proofs.Submissions.{inside_at}
 
 -- no rule stands of any item

@@ -1,7 +1,6 @@
 -- What is told of one job more.
 use Rattle.std.proofs.Common.{◌≡◌, ℕ, zero, suc, ◌+◌, ◌<◌, List, replicate, get_or, slice_set, refl, sym, ap, add-one, arith, ◌∙◌}
-use Rattle.relocation.specs.declared.layout.Layout.{Layout}
-use Rattle.relocation.specs.declared.layout.Lengths.{Lengths}
+use Rattle.relocation.specs.{declared.layout.Layout.Layout, declared.layout.Lengths.Lengths}
 use Rattle.vc4check_c.specs.Jobs.{told_lists, no_lists, no_layout, no_lengths, lists_at, all_lists}
 
 pub none_told : (layouts : List Layout) (lengths : List Lengths) → replicate 8 no_lists ≡ all_lists layouts lengths 0

@@ -1,9 +1,7 @@
 -- The memory that a job file asks for.
 use Rattle.std.specs.Prelude.{ℕ, List, length, nat_lt, Option, Some, None, if◌then◌else◌}
-use Rattle.field_words.specs.Words.{u32_at}
-use Rattle.field_words.specs.Questions.{first_of}
-use Rattle.buffer_table.specs.declared.buffer.TableFault.{TableFault}
-use Rattle.buffer_table.specs.Table.{memory_questions}
+use Rattle.field_words.specs.{Words.u32_at, Questions.first_of}
+use Rattle.buffer_table.specs.{declared.buffer.TableFault.TableFault, Table.memory_questions}
 
 -- a size against which no rule stands, else 0
 abbrev pub size_unless : Option TableFault → ℕ → ℕ

@@ -1,15 +1,11 @@
 -- What is kept of a checked shader for later calls: entries of five words, the first of which tells of the whole shader, and then one for
 -- each sample and each address word.
 use Rattle.std.specs.Prelude.{◌≡◌, ◌≤◌, ◌==◌, ℕ, List, [], ◌∷◌, ◌++◌, length, map, slice_index, Option, Some, None, if◌then◌else◌}
-use Rattle.field_words.specs.Sizes.{most_code}
-use Rattle.field_words.specs.Questions.{first_of, IsFirst}
-use Rattle.qpu_isa.specs.declared.inst.Sample.{Sample}
-use Rattle.qpu_isa.specs.Shader.{ShaderModel, position, IsSoundShader}
+use Rattle.field_words.specs.{Sizes.most_code, Questions.first_of, Questions.IsFirst}
+use Rattle.qpu_isa.specs.{declared.inst.Sample.Sample, Shader.ShaderModel, Shader.position, Shader.IsSoundShader}
 use Rattle.job_check.specs.Shaders.{words_of, code_questions, told_of}
 use Rattle.shader_check.specs.declared.fault.ShaderFault.{ShaderFault}
-use Rattle.vc4check_c.specs.declared.block.Known.{Known}
-use Rattle.vc4check_c.specs.declared.block.MadeAnswer.{MadeAnswer}
-use Rattle.vc4check_c.specs.Shader.{told_position, told_flag}
+use Rattle.vc4check_c.specs.{declared.block.Known.Known, declared.block.MadeAnswer.MadeAnswer, Shader.told_position, Shader.told_flag}
 
 abbrev pub known_whole : ShaderModel → Known
 known_whole shader = record { words = shader.uniforms ∷ told_flag shader.threaded ∷ length shader.samples ∷ 0 ∷ 0 ∷ [] }

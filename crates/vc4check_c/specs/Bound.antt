@@ -1,14 +1,11 @@
 -- What is told of how long the jobs of a file may run.
 use Rattle.std.specs.Prelude.{◌≡◌, ℕ, ◌%◌, ◌/◌, ◌^◌, List, Option, Some, None}
 use Rattle.field_words.specs.Questions.{IsFirst}
-use Rattle.job_format.specs.declared.rule.Refusal.{Refusal}
-use Rattle.job_format.specs.Reading.{file_at}
+use Rattle.job_format.specs.{declared.rule.Refusal.Refusal, Reading.file_at}
 use Rattle.job_check.specs.Whole.{all_questions, refusal_of}
-use Rattle.job_bound.specs.Bound.{bound_in}
-use Rattle.job_bound.specs.declared.bound.Bound.{Bound}
+use Rattle.job_bound.specs.{Bound.bound_in, declared.bound.Bound.Bound}
 use Rattle.job_bound.specs.declared.bound.Bound.TheVariants.{Steps, Loops}
-use Rattle.vc4check_c.specs.declared.bound.BoundAnswer.{BoundAnswer}
-use Rattle.vc4check_c.specs.Job.{letter_code}
+use Rattle.vc4check_c.specs.{declared.bound.BoundAnswer.BoundAnswer, Job.letter_code}
 
 -- the two numbers, the first in halves; or where the first branch stands that leads back
 unfoldable pub bounded_answer : Bound → BoundAnswer

@@ -1,18 +1,11 @@
 -- What is told of a job file.
 use Rattle.std.specs.Prelude.{◌≡◌, ℕ, List, length, slice_index, Option, Some, None}
 use Rattle.field_words.specs.Questions.{IsFirst}
-use Rattle.job_format.specs.declared.rule.Stage.{Stage}
-use Rattle.job_format.specs.declared.rule.Refusal.{Refusal}
-use Rattle.job_format.specs.Rules.{letter}
-use Rattle.job_format.specs.File.{IsFileOf}
-use Rattle.job_format.specs.Reading.{file_at}
-use Rattle.relocation.specs.declared.layout.Layout.{Layout}
-use Rattle.relocation.specs.declared.layout.Lengths.{Lengths}
-use Rattle.job_check.specs.Emit.{memory_of, lengths_of, IsPlaced}
-use Rattle.job_check.specs.Jobs.{layout_of, layouts_of}
+use Rattle.job_format.specs.{declared.rule.Stage.Stage, declared.rule.Refusal.Refusal, Rules.letter, File.IsFileOf, Reading.file_at}
+use Rattle.relocation.specs.{declared.layout.Layout.Layout, declared.layout.Lengths.Lengths}
+use Rattle.job_check.specs.{Emit.memory_of, Emit.lengths_of, Emit.IsPlaced, Jobs.layout_of, Jobs.layouts_of}
 use Rattle.job_check.specs.Whole.{all_questions, refusal_of}
-use Rattle.vc4check_c.specs.declared.job.JobAnswer.{JobAnswer}
-use Rattle.vc4check_c.specs.Asked.{asked_size}
+use Rattle.vc4check_c.specs.{declared.job.JobAnswer.JobAnswer, Asked.asked_size}
 
 -- of an accepted job: how long its memory is, where its lists lie there, and how many bytes of each were emitted
 unfoldable pub accepted_answer : ℕ → Layout → Lengths → JobAnswer

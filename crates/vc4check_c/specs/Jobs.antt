@@ -2,17 +2,10 @@
 use Rattle.std.specs.Prelude.{◌≡◌, ℕ, nat_lt, List, length, map, replicate, slice_index_or, Option, Some, None, if◌then◌else◌}
 use Rattle.std.specs.List.{range_with_len}
 use Rattle.field_words.specs.Questions.{IsFirst}
-use Rattle.job_format.specs.declared.rule.Refusal.{Refusal}
-use Rattle.job_format.specs.Offsets.{most_jobs}
-use Rattle.job_format.specs.Reading.{file_at}
-use Rattle.relocation.specs.declared.layout.Layout.{Layout}
-use Rattle.relocation.specs.declared.layout.Lengths.{Lengths}
-use Rattle.job_check.specs.Emit.{memory_of, all_lengths_of}
-use Rattle.job_check.specs.Jobs.{layouts_of}
-use Rattle.job_check.specs.Whole.{all_questions}
-use Rattle.vc4check_c.specs.declared.jobs.JobLists.{JobLists}
-use Rattle.vc4check_c.specs.declared.jobs.JobsAnswer.{JobsAnswer}
-use Rattle.vc4check_c.specs.Job.{letter_code, IsSound}
+use Rattle.job_format.specs.{declared.rule.Refusal.Refusal, Offsets.most_jobs, Reading.file_at}
+use Rattle.relocation.specs.{declared.layout.Layout.Layout, declared.layout.Lengths.Lengths}
+use Rattle.job_check.specs.{Emit.memory_of, Emit.all_lengths_of, Jobs.layouts_of, Whole.all_questions}
+use Rattle.vc4check_c.specs.{declared.jobs.JobLists.JobLists, declared.jobs.JobsAnswer.JobsAnswer, Job.letter_code, Job.IsSound}
 
 -- of one job: where its lists lie, and how many bytes of each were emitted
 unfoldable pub told_lists : Layout → Lengths → JobLists

@@ -1,13 +1,10 @@
 -- What an accepted submission comes to: its job may run over each memory that is prepared for it.
-use Rattle.std.specs.Prelude.{◌≡◌, ◌<◌, ◌^◌, ℕ, List, None}
-use Rattle.std.specs.List.{AllByRecursion}
-use Rattle.field_words.specs.Questions.{first_of}
-use Rattle.field_words.specs.Words.{IsBytes}
+use Rattle.std.specs.{Prelude.◌≡◌, Prelude.◌<◌, Prelude.◌^◌, Prelude.ℕ, Prelude.List, Prelude.None, List.AllByRecursion}
+use Rattle.field_words.specs.{Questions.first_of, Words.IsBytes}
 use Rattle.job_format.specs.File.{JobFits}
 use Rattle.accepted_law.specs.Prepared.{IsPrepared}
 use Rattle.job_safety.specs.Prepared.{MayRunOver}
-use Rattle.vc4check_c.specs.declared.submission.GivenBuffer.{GivenBuffer}
-use Rattle.vc4check_c.specs.declared.submission.Submission.{Submission}
+use Rattle.vc4check_c.specs.{declared.submission.GivenBuffer.GivenBuffer, declared.submission.Submission.Submission}
 use Rattle.vc4check_c.specs.Submission.{job_in, file_of, submission_questions}
 
 -- Each number is of its type: 32 bits, and a byte of a shader.

@@ -2,16 +2,10 @@
 use Rattle.std.specs.Prelude.{◌≡◌, ℕ, ◌≤◌, List, length, Option, Some, None}
 use Rattle.std.specs.List.{AllByRecursion}
 use Rattle.field_words.specs.Questions.{first_of, IsFirst}
-use Rattle.job_format.specs.declared.rule.Refusal.{Refusal}
-use Rattle.job_format.specs.File.{IsFileOf}
-use Rattle.job_format.specs.Reading.{file_at}
+use Rattle.job_format.specs.{declared.rule.Refusal.Refusal, File.IsFileOf, Reading.file_at}
 use Rattle.relocation.specs.Layout.{region_end}
-use Rattle.job_check.specs.Emit.{all_lengths_of, IsInside}
-use Rattle.job_check.specs.Jobs.{layouts_of}
-use Rattle.job_check.specs.Region.{region_of}
-use Rattle.job_check.specs.Whole.{place_questions}
-use Rattle.vc4check_c.specs.declared.jobs.JobsAnswer.{JobsAnswer}
-use Rattle.vc4check_c.specs.Jobs.{accepted_jobs, refused_jobs}
+use Rattle.job_check.specs.{Emit.all_lengths_of, Emit.IsInside, Jobs.layouts_of, Region.region_of, Whole.place_questions}
+use Rattle.vc4check_c.specs.{declared.jobs.JobsAnswer.JobsAnswer, Jobs.accepted_jobs, Jobs.refused_jobs}
 
 -- No rule stands of these bytes, which spell their file; the lists of its jobs lie in the lists' region, in their order; and this is told:
 -- how many bytes from the region's start on they take, and of each job where its lists lie and how long they are.

@@ -1,7 +1,6 @@
 -- A rule's sentence, as C knows text.
 use Rattle.std.specs.Prelude.{ℕ, nat_lt, ◌==◌, ◌-◌, ◌&&◌, List, [], ◌∷◌, ◌++◌, length, take, Option, Some, None, if◌then◌else◌}
-use Rattle.rule_words.specs.declared.name.Family.{Family}
-use Rattle.rule_words.specs.Names.{family_named, words_of}
+use Rattle.rule_words.specs.{declared.name.Family.Family, Names.family_named, Names.words_of}
 
 -- the sentence of these words, which are none where there is no rule
 abbrev pub sentence_in : Option (List ℕ × List ℕ) → List ℕ

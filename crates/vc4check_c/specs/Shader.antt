@@ -1,15 +1,11 @@
 -- What is told of a shader.
 use Rattle.std.specs.Prelude.{◌≡◌, ℕ, Bool, List, [], ◌∷◌, ◌++◌, length, drop, Option, Some, None, if◌then◌else◌}
 use Rattle.field_words.specs.Questions.{first_of, IsFirst}
-use Rattle.qpu_isa.specs.declared.inst.Sample.{Sample}
-use Rattle.qpu_isa.specs.Shader.{position}
+use Rattle.qpu_isa.specs.{declared.inst.Sample.Sample, Shader.position}
 use Rattle.shader_flow.specs.Flow.{is_threaded}
 use Rattle.uniform_stream.specs.Stream.{uniforms_of, address_words_of}
-use Rattle.shader_check.specs.declared.fault.ShaderFault.{ShaderFault}
-use Rattle.shader_check.specs.Info.{samples_of}
-use Rattle.shader_check.specs.Rules.{shader_questions}
-use Rattle.vc4check_c.specs.declared.shader.ShaderAnswer.{ShaderAnswer}
-use Rattle.vc4check_c.specs.declared.shader.ShaderSample.{ShaderSample}
+use Rattle.shader_check.specs.{declared.fault.ShaderFault.ShaderFault, Info.samples_of, Rules.shader_questions}
+use Rattle.vc4check_c.specs.{declared.shader.ShaderAnswer.ShaderAnswer, declared.shader.ShaderSample.ShaderSample}
 
 -- all ones where there is no position
 abbrev pub told_position : Option ℕ → ℕ

@@ -1,10 +1,9 @@
 -- Where in a submission a refusal's offset in the file is: in which of its parts, and how far behind that part's start.
 use Rattle.std.specs.Prelude.{◌≡◌, ◌==◌, ◌+◌, ℕ, if◌then◌else◌}
-use Rattle.job_format.specs.Offsets.{entry_offset}
-use Rattle.job_format.specs.Model.{FileModel}
+use Rattle.job_format.specs.{Offsets.entry_offset, Model.FileModel}
 use Rattle.job_check.specs.Offsets.{job_offset, content_offset, handles_offset, bin_offset, records_offset, uniforms_offset}
-use Rattle.job_check.specs.declared.places.Part.{Part}
 use Rattle.job_check.specs.declared.places.Part.TheVariants.{Header, BufferEntry, JobEntry, Content, Handles, BinList, Records, Uniforms}
+use Rattle.job_check.specs.declared.places.Part.{Part}
 use Rattle.vc4check_c.specs.declared.spot.Spot.{Spot}
 
 -- The start of a part: 1 the entry of a buffer, 2 the job's entry, 3 the content of a buffer, 4 the handles, 5 the binner list, 6 the

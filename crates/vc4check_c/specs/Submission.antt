@@ -1,23 +1,15 @@
 -- A driver's submission: the job file that it stands for, and what is asked of its numbers before any other rule.
 use Rattle.std.specs.Prelude.{ℕ, ◌+◌, ◌%◌, Bool, not, ◌==◌, nat_lt, List, [], ◌∷◌, ◌++◌, length, map, slice_index, slice_get, Option, Some, None, if◌then◌else◌}
-use Rattle.field_words.specs.Sizes.{most_list, most_code}
-use Rattle.field_words.specs.Questions.{Question, Ask, each}
-use Rattle.buffer_table.specs.declared.buffer.Kind.{Kind}
-use Rattle.buffer_table.specs.declared.buffer.Kind.TheVariants.{Plain, Code}
+use Rattle.field_words.specs.{Sizes.most_list, Sizes.most_code, Questions.Question, Questions.Ask, Questions.each}
+use Rattle.buffer_table.specs.{declared.buffer.Kind.Kind, declared.buffer.Kind.TheVariants.Plain, declared.buffer.Kind.TheVariants.Code}
 use Rattle.buffer_table.specs.declared.buffer.Buffer.{Buffer}
-use Rattle.job_format.specs.declared.file.Surface.{Surface}
-use Rattle.job_format.specs.declared.file.Frame.{Frame}
+use Rattle.job_format.specs.{declared.file.Surface.Surface, declared.file.Frame.Frame, declared.rule.Stage.TheVariants.F}
 use Rattle.job_format.specs.declared.rule.FormatRule.TheVariants.{OverLimit, WithoutMeaning}
-use Rattle.job_format.specs.declared.rule.Stage.TheVariants.{F}
-use Rattle.job_format.specs.Rules.{format_rule_number}
-use Rattle.job_format.specs.Model.{JobModel, FileModel}
+use Rattle.job_format.specs.{Rules.format_rule_number, Model.JobModel, Model.FileModel, declared.rule.Refusal.Refusal}
 use Rattle.job_format.specs.Offsets.{most_buffers, most_handles, most_states, entry_offset}
-use Rattle.job_format.specs.declared.rule.Refusal.{Refusal}
 use Rattle.job_check.specs.Faults.{refused, place_stages}
-use Rattle.vc4check_c.specs.declared.submission.GivenBuffer.{GivenBuffer}
-use Rattle.vc4check_c.specs.declared.submission.GivenSurface.{GivenSurface}
-use Rattle.vc4check_c.specs.declared.submission.GivenFrame.{GivenFrame}
-use Rattle.vc4check_c.specs.declared.submission.Submission.{Submission}
+use Rattle.vc4check_c.specs.{declared.submission.GivenBuffer.GivenBuffer, declared.submission.GivenSurface.GivenSurface}
+use Rattle.vc4check_c.specs.{declared.submission.GivenFrame.GivenFrame, declared.submission.Submission.Submission}
 
 unfoldable pub surface_in : GivenSurface → Surface
 surface_in given = record { hindex = given.hindex; offset = given.offset; bits = given.bits; flags = given.flags }

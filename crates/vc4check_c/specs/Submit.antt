@@ -1,23 +1,13 @@
 -- What is told of a driver's submission.
 use Rattle.std.specs.Prelude.{◌≡◌, ℕ, ◌≤◌, length, Option, Some, None, Result, Ok, Err}
-use Rattle.field_words.specs.declared.stop.Stop.{Stop}
-use Rattle.field_words.specs.declared.stop.Stop.TheVariants.{Fault, NoMemory}
+use Rattle.field_words.specs.{declared.stop.Stop.Stop, declared.stop.Stop.TheVariants.Fault, declared.stop.Stop.TheVariants.NoMemory}
 use Rattle.field_words.specs.Questions.{first_of, IsFirst}
 use Rattle.job_format.specs.declared.rule.Refusal.{Refusal}
-use Rattle.relocation.specs.declared.layout.Layout.{Layout}
-use Rattle.relocation.specs.declared.layout.Lengths.{Lengths}
-use Rattle.relocation.specs.Layout.{region_end}
-use Rattle.job_check.specs.Emit.{lengths_of, IsInside}
-use Rattle.job_check.specs.Jobs.{layout_of}
-use Rattle.job_check.specs.declared.region.Region.{Region}
+use Rattle.relocation.specs.{declared.layout.Layout.Layout, declared.layout.Lengths.Lengths, Layout.region_end}
+use Rattle.job_check.specs.{Emit.lengths_of, Emit.IsInside, Jobs.layout_of, declared.region.Region.Region}
 use Rattle.job_check.specs.Region.{region_of, IsRegion}
-use Rattle.vc4check_c.specs.declared.spot.Spot.{Spot}
-use Rattle.vc4check_c.specs.declared.submission.Submission.{Submission}
-use Rattle.vc4check_c.specs.declared.submit.Told.{Told}
-use Rattle.vc4check_c.specs.declared.submit.Verdict.{Verdict}
-use Rattle.vc4check_c.specs.Job.{letter_code}
-use Rattle.vc4check_c.specs.Jobs.{told_lists, no_lists}
-use Rattle.vc4check_c.specs.Spots.{IsAt}
+use Rattle.vc4check_c.specs.{declared.spot.Spot.Spot, declared.submission.Submission.Submission, declared.submit.Told.Told, Job.letter_code}
+use Rattle.vc4check_c.specs.{declared.submit.Verdict.Verdict, Jobs.told_lists, Jobs.no_lists, Spots.IsAt}
 use Rattle.vc4check_c.specs.Submission.{file_of, submission_questions}
 
 -- of an accepted one: how many bytes its lists take, where they lie and how long they are

@@ -2,8 +2,7 @@
 use Rattle.std.specs.Prelude.{◌≡◌, ◌==◌, ◌<◌, ◌⊎◌, ℕ, List, [], slice_get, Option, Some, None, if◌then◌else◌}
 use Rattle.qpu_isa.specs.Shader.{ShaderModel}
 use Rattle.job_check.specs.Shaders.{words_of, told_of}
-use Rattle.vc4check_c.specs.declared.submission.GivenBuffer.{GivenBuffer}
-use Rattle.vc4check_c.specs.Block.{IsBlockOf}
+use Rattle.vc4check_c.specs.{declared.submission.GivenBuffer.GivenBuffer, Block.IsBlockOf}
 
 -- what is known of the shader in a buffer: that of a Code one
 unfoldable pub told_in : GivenBuffer → Option ShaderModel

@@ -1,11 +1,10 @@
 -- The steps of the binner at a packet, by computing.
 use Rattle.std.proofs.Common.{refl}
 use Rattle.field_words.specs.Words.{u32_at}
-use Rattle.packets.specs.Config.{config_in}
-use Rattle.packets.specs.Length.{bin_taken, bin_length}
+use Rattle.packets.specs.{Config.config_in, Length.bin_taken, Length.bin_length}
 use Rattle.machine_plan.specs.Memory.{bytes_at, stored}
-use Rattle.list_machine.specs.Blocks.{tiles_of}
 use Rattle.list_machine.specs.Binner.{binner_ready, binner_plan, read_plan, packet_plan, is_unknown, configured, with_word, started, clear_plan, primitive_of, work_of, draw_plan, halted}
+use Rattle.list_machine.specs.Blocks.{tiles_of}
 use Rattle.machine.specs.Step.{enabled, turn}
 use Rattle.worked_steps.specs.Binning.{BinnerPackets}
 

@@ -5,10 +5,9 @@ use Rattle.packets.specs.StateWord.{attribute_count, is_extended}
 use Rattle.machine_plan.specs.Memory.{bytes_at, stored}
 use Rattle.list_machine.specs.Blocks.{tiles_of, further_offset, block_place, has_room, is_full, next_place, link_place, put_here, put_plan}
 use Rattle.list_machine.specs.Fetch.{index_size, index_in, index_plan, draws_nothing, record_place, attribute_place, extension_place, data_size, stride_of, data_place, data_plan, extended_plan, attribute_plan, attributes_plan, indexed_plan, fetch_plan}
-use Rattle.list_machine.specs.Start.{launch_plan, start_as, start_plan, is_threaded}
 use Rattle.list_machine.specs.Binner.{binner_ready, binner_plan, is_due, one_done, not_due, chosen_tile, tile_plan, work_plan, work_may}
-use Rattle.qpu_machine.specs.Qpu.{takes_first, takes_other, in_first, in_other}
-use Rattle.qpu_machine.specs.Start.{thread_of}
+use Rattle.list_machine.specs.Start.{launch_plan, start_as, start_plan, is_threaded}
+use Rattle.qpu_machine.specs.{Qpu.takes_first, Qpu.takes_other, Qpu.in_first, Qpu.in_other, Start.thread_of}
 use Rattle.machine.specs.Step.{enabled, turn}
 use Rattle.worked_steps.specs.Drawing.{BinnerWork}
 

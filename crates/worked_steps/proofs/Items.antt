@@ -1,16 +1,14 @@
 -- The steps of the renderer in a tile's list, and for which job, by computing.
 use Rattle.std.proofs.Common.{refl}
 use Rattle.field_words.specs.Words.{u16_at, u32_at}
-use Rattle.packets.specs.Length.{bin_taken, bin_length, render_taken}
-use Rattle.packets.specs.Packet.{decoded}
+use Rattle.packets.specs.{Length.bin_taken, Length.bin_length, Length.render_taken, Packet.decoded}
 use Rattle.packets.specs.StateWord.{attribute_count, is_extended}
 use Rattle.machine_plan.specs.Memory.{bytes_at, stored}
 use Rattle.list_machine.specs.Fetch.{index_size, index_in, index_plan, draws_nothing, record_place, attribute_place, extension_place, data_size, stride_of, data_place, data_plan, extended_plan, attribute_plan, attributes_plan, indexed_plan, fetch_plan}
-use Rattle.list_machine.specs.Start.{launch_plan, start_as, start_plan, is_threaded}
 use Rattle.list_machine.specs.Binner.{binner_ready, binner_plan, read_plan, packet_plan as bin_packet_plan, is_unknown}
 use Rattle.list_machine.specs.Renderer.{packet_plan, item_at, vertex_plan, program_plan, choice_plan, renderer_plan, may_pass, renderer_ready}
-use Rattle.qpu_machine.specs.Qpu.{takes_first, takes_other, in_first, in_other}
-use Rattle.qpu_machine.specs.Start.{thread_of}
+use Rattle.list_machine.specs.Start.{launch_plan, start_as, start_plan, is_threaded}
+use Rattle.qpu_machine.specs.{Qpu.takes_first, Qpu.takes_other, Qpu.in_first, Qpu.in_other, Start.thread_of}
 use Rattle.machine.specs.Step.{enabled, turn, finished}
 use Rattle.worked_steps.specs.Items.{RendererItems, Choices}
 

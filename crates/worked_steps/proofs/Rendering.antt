@@ -1,11 +1,10 @@
 -- The steps of the renderer at a packet, by computing.
 use Rattle.std.proofs.Common.{refl}
 use Rattle.field_words.specs.Words.{u16_at, u32_at}
-use Rattle.packets.specs.Length.{render_taken}
-use Rattle.packets.specs.Packet.{decoded}
+use Rattle.packets.specs.{Length.render_taken, Packet.decoded}
 use Rattle.machine_plan.specs.Memory.{bytes_at, stored}
-use Rattle.list_machine.specs.Blocks.{tiles_of}
 use Rattle.list_machine.specs.Renderer.{tile_named, branch_plan, tile_plan, packet_plan, renderer_plan, may_pass, renderer_ready}
+use Rattle.list_machine.specs.Blocks.{tiles_of}
 use Rattle.machine.specs.Step.{enabled, turn}
 use Rattle.worked_steps.specs.Rendering.{RendererPackets}
 

@@ -1,15 +1,14 @@
 -- The loads and stores of the renderer, by computing.
 use Rattle.std.proofs.Common.{refl}
 use Rattle.field_words.specs.Words.{u16_at, u32_at, rounded_up}
-use Rattle.packets.specs.Length.{render_taken}
-use Rattle.packets.specs.Packet.{decoded}
+use Rattle.packets.specs.{Length.render_taken, Packet.decoded}
 use Rattle.texture_layouts.specs.Surface.{microtile_width_of, microtile_height_of}
 use Rattle.texture_layouts.specs.Place.{microtiles_across, microtile_number, microtile_place_of, raster_place}
 use Rattle.texture_layouts.specs.Format.{general_tiling, general_pixel, frame_tiling, frame_pixel}
 use Rattle.machine_plan.specs.Memory.{bytes_at, stored}
+use Rattle.list_machine.specs.Surfaces.{cover_written, cover_read, aligned, names_none, general_written, general_read, frame_written, whole_written, whole_read}
 use Rattle.list_machine.specs.Store.{tile_side, covered, chosen_byte, chosen}
 use Rattle.list_machine.specs.Cover.{raster_cover, tiled_cover, part_place, parts_written, parts_read}
-use Rattle.list_machine.specs.Surfaces.{cover_written, cover_read, aligned, names_none, general_written, general_read, frame_written, whole_written, whole_read}
 use Rattle.list_machine.specs.Renderer.{tile_plan, packet_plan, renderer_plan, may_pass, renderer_ready}
 use Rattle.machine.specs.Step.{enabled, turn}
 use Rattle.worked_steps.specs.Surfaces.{RendererSurfaces}

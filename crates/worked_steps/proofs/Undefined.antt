@@ -6,12 +6,12 @@ use Rattle.qpu_isa.specs.Terms.{is_alu, is_load_imm, is_branch, is_switch, is_en
 use Rattle.qpu_isa.specs.Setups.{adds_direct, muls_direct, is_direct, adds_setup, muls_setup, has_setup, takes_with, kept}
 use Rattle.qpu_alu.specs.Operation.{signed_min, signed_max, shifted_left, shifted_right, shifted_signed, rotated, by_bytes, product_of, add_result_of, mul_result_of}
 use Rattle.machine_plan.specs.Memory.{bytes_at}
-use Rattle.qpu_machine.specs.Row.{chosen_row, chosen_rows, has_lane, merged, mask_of}
 use Rattle.qpu_machine.specs.Operands.{read_a, small_row, read_b, operand, immediate_row, sums, add_row, is_rotated, products, mul_row}
 use Rattle.qpu_machine.specs.Writes.{awake, past_uniform, add_address, mul_address, file_after, acc_after, pointer_after, written_at, added, multiplied, written, stored, loads, loaded_row, r4_after, results_after, loaded, led_to, went_on, worked, fate_of, rested, four, ask_of, asked}
 use Rattle.qpu_machine.specs.Wild.{takes_one, is_signal_wild, in_slots, after_switch, is_branch_wild, is_switch_wild, is_name_wild, is_tmu_wild, is_setup_wild, is_register_wild, is_mode_wild, is_uniform_wild, is_word_wild, is_order_wild, is_use_wild, is_wild}
 use Rattle.qpu_machine.specs.Step.{executed_with, executed, word_plan, thread_plan, is_held_by, is_held, thread_ready}
 use Rattle.qpu_machine.specs.Qpu.{settled, settled_by, dropped, given, takes_first, takes_other, in_first, in_other}
+use Rattle.qpu_machine.specs.Row.{chosen_row, chosen_rows, has_lane, merged, mask_of}
 use Rattle.machine.specs.Step.{enabled, turn}
 use Rattle.worked_steps.specs.Undefined.{WildInstructions, Holds}
 

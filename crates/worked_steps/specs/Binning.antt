@@ -1,7 +1,7 @@
 -- Steps of the binner at a packet of its list. The list begins at place 2.
 use Rattle.std.specs.Prelude.{ℕ, true, false, List, [], ◌∷◌, ◌+◌, Option, None, Some}
-use Rattle.worked_steps.specs.Types.{TheBinner, Config, Kept, Primitive, Work}
 use Rattle.worked_steps.specs.Rows.{Steps, one_job, wild, binner_at, keeps, works, BinnerSteps, bin_reads, bin_writes}
+use Rattle.worked_steps.specs.Types.{TheBinner, Config, Kept, Primitive, Work}
 
 -- two tiles, whose states lie from place 4 on
 abbrev pub two_tiles : Config

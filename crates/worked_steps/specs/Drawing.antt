@@ -2,8 +2,8 @@
 use Rattle.std.specs.Prelude.{ℕ, true, false, List, [], ◌∷◌, ◌++◌, Bool, None, Some, replicate}
 use Rattle.list_machine.specs.Lists.{Lists}
 use Rattle.machine.specs.State.{State}
-use Rattle.worked_steps.specs.Types.{TheBinner, Item, Kept, Primitive}
 use Rattle.worked_steps.specs.Rows.{Steps, Waits, one_job, state, running, new_thread, binner_at, keeps, works, BinnerSteps, bin_reads, bin_writes}
+use Rattle.worked_steps.specs.Types.{TheBinner, Item, Kept, Primitive}
 
 -- so many vertices from vertex 5 on, and four indexes of two bytes from place 0 on, up to this one
 abbrev pub from_5 : ℕ → Primitive

@@ -1,12 +1,10 @@
 -- Steps of the renderer in a tile's list, and which unit steps for which job.
 use Rattle.std.specs.Prelude.{◌≡◌, ℕ, true, false, List, [], ◌∷◌, ◌++◌, None, Some, replicate}
 use Rattle.list_machine.specs.Lists.{Lists}
-use Rattle.machine.specs.State.{State, start_of}
-use Rattle.machine.specs.Step.{enabled, finished}
-use Rattle.worked_steps.specs.Types.{Direct, TheBinner, TheRenderer, TheQpu, TheTmu, Item, Qpu}
+use Rattle.machine.specs.{State.State, State.start_of, Step.enabled, Step.finished}
 use Rattle.worked_steps.specs.Rows.{Steps, Waits, one_job, state, empty_qpu, running, new_thread, no_lists, binner_at, renderer_at, RendererSteps, reads, render_reads}
-use Rattle.worked_steps.specs.Rendering.{inside}
-use Rattle.worked_steps.specs.Drawing.{from_5, two_attributes, all_run}
+use Rattle.worked_steps.specs.Types.{Direct, TheBinner, TheRenderer, TheQpu, TheTmu, Item, Qpu}
+use Rattle.worked_steps.specs.{Rendering.inside, Drawing.from_5, Drawing.two_attributes, Drawing.all_run}
 
 -- Three items, the last two of tile 1, with state word 17. The renderer is in a tile's list, from an item of the log on.
 abbrev pub item : ℕ → ℕ → Item

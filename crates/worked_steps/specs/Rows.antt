@@ -2,8 +2,7 @@
 -- A place outside the memory reads as zero, so a memory here is a few bytes.
 use Rattle.std.specs.Prelude.{◌≡◌, ℕ, ◌+◌, ◌*◌, ◌^◌, Bool, true, false, List, [], ◌∷◌, replicate, Option, None, Some}
 use Rattle.list_machine.specs.Lists.{Lists}
-use Rattle.machine.specs.State.{State}
-use Rattle.machine.specs.Step.{enabled, step}
+use Rattle.machine.specs.{State.State, Step.enabled, Step.step}
 use Rattle.worked_steps.specs.Types.{Access, Read, Write, Wild, Actor, TheBinner, TheRenderer, Kept, Mark, Qpu, Thread, Work}
 
 -- In this state the unit may step. With these choice words its step does these accesses, in order, and the machine is then in the

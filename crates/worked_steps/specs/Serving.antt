@@ -1,8 +1,7 @@
 -- Steps of a texture and memory unit (TMU) of processor 0.
 use Rattle.std.specs.Prelude.{ℕ, ◌+◌, ◌*◌, ◌^◌, true, List, [], ◌∷◌, Option, None, Some, replicate}
-use Rattle.worked_steps.specs.Types.{Access, TheTmu, Texture, Qpu, Request}
-use Rattle.worked_steps.specs.Rows.{Steps, state, wild, reads, empty_qpu, running}
-use Rattle.worked_steps.specs.Processing.{row, thread, asks}
+use Rattle.worked_steps.specs.{Types.Access, Types.TheTmu, Types.Texture, Types.Qpu, Types.Request, Rows.Steps, Rows.state, Rows.wild}
+use Rattle.worked_steps.specs.{Rows.reads, Rows.empty_qpu, Rows.running, Processing.row, Processing.thread, Processing.asks}
 
 abbrev pub tmu_reads : ℕ → ℕ → Access
 tmu_reads place len = reads (TheTmu 0 0) place len

@@ -1,8 +1,8 @@
 -- Loads and stores of the renderer. The list begins at place 2.
 use Rattle.std.specs.Prelude.{ℕ, List, [], ◌∷◌}
 use Rattle.list_machine.specs.Lists.{Lists}
-use Rattle.worked_steps.specs.Types.{TheRenderer, Frame, Full, General}
 use Rattle.worked_steps.specs.Rows.{Steps, one_job, wild, renderer_at, RendererSteps, render_reads, render_writes}
+use Rattle.worked_steps.specs.Types.{TheRenderer, Frame, Full, General}
 use Rattle.worked_steps.specs.Rendering.{awaits, framed, at_tile}
 
 -- a surface at place 1000: width, height and bits; bits 4 is raster of four bytes a pixel with tiles of 64 pixels

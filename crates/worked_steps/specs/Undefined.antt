@@ -1,9 +1,9 @@
 -- What is undefined of an instruction, and where a processor waits.
 use Rattle.std.specs.Prelude.{◌≡◌, ℕ, ◌+◌, ◌-◌, ◌*◌, ◌^◌, true, false, List, [], ◌∷◌, ◌++◌, Bool, None, Some, replicate}
 use Rattle.machine.specs.Step.{enabled}
+use Rattle.worked_steps.specs.Processing.{bytes, signal, adds, multiplies, moves_r1, moves_uniform, branches, row, thread, threaded, after_one, after_two, after_three, qpu_reads, QpuSteps, asks, moves_a3}
 use Rattle.worked_steps.specs.Types.{TheQpu, Qpu, Request, Thread}
 use Rattle.worked_steps.specs.Rows.{Waits, state, wild, empty_qpu, running}
-use Rattle.worked_steps.specs.Processing.{bytes, signal, adds, multiplies, moves_r1, moves_uniform, branches, row, thread, threaded, after_one, after_two, after_three, qpu_reads, QpuSteps, asks, moves_a3}
 
 -- The thread reads the instruction, and no uniform, and ends.
 abbrev pub IsWild : ℕ → Thread → Type 0

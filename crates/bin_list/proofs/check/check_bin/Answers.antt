@@ -1,16 +1,10 @@
 use Rattle.std.proofs.Common.{ℕ, ◌≡◌, List, [], Ok, Err, Result, OnOk, length, subst, refl}
-use Rattle.field_words.specs.Questions.{Answers, answered}
-use Rattle.field_words.specs.declared.stop.Stop.{Stop}
+use Rattle.field_words.specs.{Questions.Answers, Questions.answered, declared.stop.Stop.Stop}
 use Rattle.field_words.specs.declared.stop.Stop.TheVariants.{Fault, NoMemory}
-use Rattle.field_words.proofs.Questions.{answers_later, refuses_front}
-use Rattle.bin_list.specs.declared.fault.ListFault.{ListFault}
-use Rattle.bin_list.specs.declared.info.BinInfo.{BinInfo}
-use Rattle.bin_list.specs.Faults.{fault, IsUpTo}
-use Rattle.bin_list.specs.Packets.{passed}
-use Rattle.bin_list.specs.Seen.{seen_before}
-use Rattle.bin_list.specs.Rules.{GivenModel, asked, end_questions, questions_of, given_of}
+use Rattle.field_words.proofs.{Questions.answers_later, Questions.refuses_front, Least.names_least}
+use Rattle.bin_list.specs.{declared.fault.ListFault.ListFault, declared.info.BinInfo.BinInfo, Faults.fault, Faults.IsUpTo, Packets.passed}
+use Rattle.bin_list.specs.{Seen.seen_before, Rules.GivenModel, Rules.asked, Rules.end_questions, Rules.questions_of, Rules.given_of}
 use Rattle.bin_list.specs.Info.{IsInfo}
-use Rattle.field_words.proofs.Least.{names_least}
 use Rattle.bin_list.proofs.Least.{order, rises_list}
 use Rattle.bin_list.proofs.check.check_bin.Goals as goal
 

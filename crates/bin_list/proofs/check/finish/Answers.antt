@@ -1,11 +1,7 @@
 use Rattle.std.proofs.Common.{refl, ◌-◌, Some, arith, ap, sym, ◌∙◌}
 use Rattle.field_words.specs.Questions.{first_of}
 use Rattle.field_words.proofs.Questions.{answered_none, answered_some}
-use Rattle.bin_list.specs.Packets.{passed}
-use Rattle.bin_list.specs.Seen.{seen_before}
-use Rattle.bin_list.specs.Faults.{fault}
-use Rattle.bin_list.specs.Rules.{end_questions}
-use Rattle.bin_list.specs.declared.info.BinInfo.{BinInfo}
+use Rattle.bin_list.specs.{Packets.passed, Seen.seen_before, Faults.fault, Rules.end_questions, declared.info.BinInfo.BinInfo}
 use Rattle.bin_list.proofs.Sound.{sound_info}
 use Rattle.bin_list.proofs.check.finish.Goals as goal
 

@@ -1,10 +1,8 @@
 use Rattle.std.proofs.Common.{◌+◌, length, Some, arith, ap, sym, ◌∙◌, refl, inl}
-use Rattle.field_words.specs.Questions.{first_of}
-use Rattle.field_words.specs.Writes.{with_bytes}
-use Rattle.bin_list.specs.declared.check.Read.{Read}
-use Rattle.bin_list.specs.Rules.{packet_questions}
-use Rattle.bin_list.proofs.Plain.{plain_none, plain_text, plain_seen, plain_states}
+use Rattle.field_words.specs.{Questions.first_of, Writes.with_bytes}
+use Rattle.bin_list.specs.{declared.check.Read.Read, Rules.packet_questions}
 use Rattle.bin_list.proofs.Walk.{begins, stops_at, goes_on, meets, through, some_left, none_left, room_fits}
+use Rattle.bin_list.proofs.Plain.{plain_none, plain_text, plain_seen, plain_states}
 use Rattle.bin_list.proofs.check.read_packets.Goals as goal
 
 pub loop-rest-init : goal.loop-rest-init

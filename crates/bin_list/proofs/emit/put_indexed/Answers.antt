@@ -1,10 +1,8 @@
 -- The address is written into the packet that was copied.
 use Rattle.std.proofs.Common.{◌≡◌, ◌+◌, arith, ap, ◌∙◌}
 use Rattle.std.specs.Int.{to_le_bytes, w32}
-use Rattle.field_words.specs.Words.{u32_at}
-use Rattle.field_words.specs.Writes.{with_bytes}
-use Rattle.bin_list.specs.Rules.{index_buffer}
-use Rattle.bin_list.specs.Emitted.{index_text}
+use Rattle.field_words.specs.{Words.u32_at, Writes.with_bytes}
+use Rattle.bin_list.specs.{Rules.index_buffer, Emitted.index_text}
 use Rattle.field_words.proofs.Writes.{with_inner}
 use Rattle.bin_list.proofs.emit.put_indexed.Goals as goal
 

@@ -1,10 +1,7 @@
 -- The pages tell it, or the regions and the order do.
 use Rattle.std.proofs.Common.{◌≤◌, List, length, subst, arith}
-use Rattle.buffer_table.specs.declared.item.Item.{Item}
-use Rattle.buffer_table.specs.Earlier.{AreEarlier}
-use Rattle.buffer_table.specs.Table.{items_of}
-use Rattle.buffer_table.proofs.Sounds.{length_items}
-use Rattle.buffer_table.proofs.Taken.{shared_is, whole_below}
+use Rattle.buffer_table.specs.{declared.item.Item.Item, Earlier.AreEarlier, Table.items_of}
+use Rattle.buffer_table.proofs.{Sounds.length_items, Taken.shared_is, Taken.whole_below}
 use Rattle.buffer_table.proofs.item.is_shared.Goals as goal
 
 pub has_page-requires : goal.has_page-requires

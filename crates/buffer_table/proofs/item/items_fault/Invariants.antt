@@ -1,8 +1,7 @@
 -- What is left decides as the whole does, and the items so far are known.
 use Rattle.std.proofs.Common.{◌≡◌, ◌-◌, length}
 use Rattle.field_words.specs.Questions.{first_of, each}
-use Rattle.buffer_table.specs.Earlier.{AreEarlier}
-use Rattle.buffer_table.specs.Table.{item_questions, items_of}
+use Rattle.buffer_table.specs.{Earlier.AreEarlier, Table.item_questions, Table.items_of}
 use Rattle.buffer_table.proofs.item.items_fault.Given as goal
 
 abbrev pub invariant-loop-k : goal.invariant-loop-k

@@ -1,10 +1,7 @@
 -- No page is taken, and no buffer is in order.
 use Rattle.std.proofs.Common.{ℕ, ◌<◌, List, replicate, refl, arith}
-use Rattle.buffer_table.specs.declared.item.Item.{Item}
-use Rattle.buffer_table.specs.Table.{items_of}
-use Rattle.buffer_table.proofs.Bits.{zero_pages}
-use Rattle.buffer_table.proofs.Sounds.{length_items}
-use Rattle.buffer_table.proofs.Taken.{none_taken_yet}
+use Rattle.buffer_table.specs.{declared.item.Item.Item, Table.items_of}
+use Rattle.buffer_table.proofs.{Bits.zero_pages, Sounds.length_items, Taken.none_taken_yet}
 use Rattle.buffer_table.proofs.item.no_earlier.Goals as goal
 
 pub returns-then-mem_size-le-MOST_MEMORY : goal.returns-then-mem_size-le-MOST_MEMORY

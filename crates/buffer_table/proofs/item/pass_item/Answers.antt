@@ -1,8 +1,6 @@
 -- The next item's pages are taken, or it stands among the buffers in order.
 use Rattle.std.proofs.Common.{◌≡◌, ◌<◌, false, List, sym, subst}
-use Rattle.buffer_table.specs.declared.item.Item.{Item}
-use Rattle.buffer_table.specs.Earlier.{AreEarlier}
-use Rattle.buffer_table.specs.Pages.{Takes, first_page, end_page}
+use Rattle.buffer_table.specs.{declared.item.Item.Item, Earlier.AreEarlier, Pages.Takes, Pages.first_page, Pages.end_page}
 use Rattle.buffer_table.specs.Table.{items_of, item_at, shares_with_first}
 use Rattle.buffer_table.proofs.Taken.{more_taken, whole_below}
 use Rattle.buffer_table.proofs.item.pass_item.Goals as goal

@@ -1,9 +1,7 @@
 -- The item has no byte of those before it.
 use Rattle.std.proofs.Common.{◌≡◌, ◌≤◌, ◌+◌, List, length, arith, ◌∙◌, ap}
-use Rattle.buffer_table.specs.declared.item.Item.{Item}
-use Rattle.buffer_table.specs.Table.{items_of, item_at}
-use Rattle.buffer_table.proofs.Sounds.{length_items}
-use Rattle.buffer_table.proofs.Taken.{apart_first}
+use Rattle.buffer_table.specs.{declared.item.Item.Item, Table.items_of, Table.item_at}
+use Rattle.buffer_table.proofs.{Sounds.length_items, Taken.apart_first}
 use Rattle.buffer_table.proofs.item.pass_ordered.Goals as goal
 
 pub insert-requires : goal.insert-requires

@@ -1,8 +1,7 @@
 -- The first buffer that has a byte of it settles the answer; else none of them does.
 use Rattle.std.proofs.Common.{ℕ, List, inl, inr, ◌≡◌, ◌+◌, false, sym, ◌∙◌, ap, subst, arith}
 use Rattle.std.proofs.lemmas.Bool.{cases_lt}
-use Rattle.buffer_table.specs.declared.item.Item.{Item}
-use Rattle.buffer_table.specs.Table.{items_of, item_at, shares, no_buffer}
+use Rattle.buffer_table.specs.{declared.item.Item.Item, Table.items_of, Table.item_at, Table.shares, Table.no_buffer}
 use Rattle.buffer_table.proofs.Sounds.{entry_item}
 use Rattle.buffer_table.proofs.item.shares_buffer.Goals as goal
 

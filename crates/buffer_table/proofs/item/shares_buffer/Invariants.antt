@@ -1,6 +1,5 @@
 -- None of the buffers so far has a byte of it.
-use Rattle.buffer_table.specs.Earlier.{IsApartBuffers}
-use Rattle.buffer_table.specs.Table.{items_of}
+use Rattle.buffer_table.specs.{Earlier.IsApartBuffers, Table.items_of}
 use Rattle.buffer_table.proofs.item.shares_buffer.Given as goal
 
 abbrev pub invariant-loop-i : goal.invariant-loop-i

@@ -1,9 +1,7 @@
 -- The regions and the buffers before the item are all items before it.
 use Rattle.std.proofs.Common.{◌≡◌, ◌≤◌, min, List, length, sym, ap, ◌∙◌, arith}
-use Rattle.buffer_table.specs.declared.item.Item.{Item}
-use Rattle.buffer_table.specs.Table.{items_of, shares_with_first}
-use Rattle.buffer_table.proofs.Sounds.{length_items}
-use Rattle.buffer_table.proofs.Taken.{regions_share, buffers_share}
+use Rattle.buffer_table.specs.{declared.item.Item.Item, Table.items_of, Table.shares_with_first}
+use Rattle.buffer_table.proofs.{Sounds.length_items, Taken.regions_share, Taken.buffers_share}
 use Rattle.buffer_table.proofs.item.shares_earlier.Goals as goal
 
 pub returns-then-shares_with_first : goal.returns-then-shares_with_first

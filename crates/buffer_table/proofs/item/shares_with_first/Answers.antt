@@ -1,9 +1,7 @@
 -- The first item that has a byte of it settles the answer; else none of them does.
 use Rattle.std.proofs.Common.{◌≤◌, List, length, sym, below_more, ◌∙◌, ap, arith}
-use Rattle.buffer_table.specs.declared.item.Item.{Item}
-use Rattle.buffer_table.specs.Table.{items_of, shares}
-use Rattle.buffer_table.proofs.Sounds.{length_items}
-use Rattle.buffer_table.proofs.Taken.{any_of, none_of}
+use Rattle.buffer_table.specs.{declared.item.Item.Item, Table.items_of, Table.shares}
+use Rattle.buffer_table.proofs.{Sounds.length_items, Taken.any_of, Taken.none_of}
 use Rattle.buffer_table.proofs.item.shares_with_first.Goals as goal
 
 pub loop-k-preserved : goal.loop-k-preserved

@@ -1,7 +1,6 @@
 -- A word with a bit of its mask has a taken page; one without leaves its pages free.
 use Rattle.std.proofs.Common.{◌≢◌, ◌<◌, ◌*◌, ◌^◌, ℕ, inl, inr, bit_and, slice_index, subst, ap, sym, ◌∙◌, arith}
-use Rattle.std.proofs.lemmas.Bool.{cases_lt}
-use Rattle.std.proofs.lemmas.Nat.{and_le_r}
+use Rattle.std.proofs.{lemmas.Bool.cases_lt, lemmas.Nat.and_le_r}
 use Rattle.buffer_table.proofs.Bits.{free_word, taken_word}
 use Rattle.buffer_table.proofs.pages.is_taken.Goals as goal
 

@@ -1,8 +1,6 @@
 -- The last of them begins below the place, and so do the others.
-use Rattle.std.proofs.Common.{◌<◌, List, subst, arith}
-use Rattle.std.proofs.lemmas.Bool.{ltb-true}
-use Rattle.buffer_table.specs.declared.item.Item.{Item}
-use Rattle.buffer_table.specs.Table.{items_of}
+use Rattle.std.proofs.{Common.◌<◌, Common.List, Common.subst, Common.arith, lemmas.Bool.ltb-true}
+use Rattle.buffer_table.specs.{declared.item.Item.Item, Table.items_of}
 use Rattle.buffer_table.proofs.Ordered.{all_below, none_below}
 use Rattle.buffer_table.proofs.places.begin_below.Goals as goal
 

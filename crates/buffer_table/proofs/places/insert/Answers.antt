@@ -1,10 +1,7 @@
 -- The items are in order, with the next one among them.
 use Rattle.std.proofs.Common.{◌<◌, ◌+◌, List, refl, subst, arith}
-use Rattle.buffer_table.specs.declared.item.Item.{Item}
-use Rattle.buffer_table.specs.Earlier.{CountsBelow, IsApartBuffers}
-use Rattle.buffer_table.specs.Table.{items_of}
-use Rattle.buffer_table.proofs.Sounds.{length_items}
-use Rattle.buffer_table.proofs.Ordered.{ordered_more}
+use Rattle.buffer_table.specs.{declared.item.Item.Item, Earlier.CountsBelow, Earlier.IsApartBuffers, Table.items_of}
+use Rattle.buffer_table.proofs.{Sounds.length_items, Ordered.ordered_more}
 use Rattle.buffer_table.proofs.places.insert.Goals as goal
 
 pub returns-clause-ordered : goal.returns-clause-ordered

@@ -1,7 +1,6 @@
 -- The half in which the place is found.
 use Rattle.std.proofs.Common.{◌+◌, ◌/◌, ◌<◌, ◌≤◌, List, subst, arith}
-use Rattle.buffer_table.specs.declared.item.Item.{Item}
-use Rattle.buffer_table.specs.Table.{items_of}
+use Rattle.buffer_table.specs.{declared.item.Item.Item, Table.items_of}
 use Rattle.buffer_table.proofs.Ordered.{starts, goes_up, goes_down, found}
 use Rattle.buffer_table.proofs.places.search_below.Goals as goal
 

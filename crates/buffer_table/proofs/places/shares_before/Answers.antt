@@ -1,6 +1,5 @@
 use Rattle.std.proofs.Common.{◌-◌, List, sym, ◌∙◌, arith}
-use Rattle.buffer_table.specs.declared.item.Item.{Item}
-use Rattle.buffer_table.specs.Table.{items_of}
+use Rattle.buffer_table.specs.{declared.item.Item.Item, Table.items_of}
 use Rattle.buffer_table.proofs.Ordered.{taken_by}
 use Rattle.buffer_table.proofs.places.shares_before.Goals as goal
 

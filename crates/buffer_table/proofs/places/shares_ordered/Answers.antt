@@ -1,7 +1,6 @@
 -- The two items beside its place settle it.
 use Rattle.std.proofs.Common.{List}
-use Rattle.buffer_table.specs.declared.item.Item.{Item}
-use Rattle.buffer_table.specs.Table.{items_of}
+use Rattle.buffer_table.specs.{declared.item.Item.Item, Table.items_of}
 use Rattle.buffer_table.proofs.Ordered.{free_of}
 use Rattle.buffer_table.proofs.places.shares_ordered.Goals as goal
 

@@ -1,7 +1,7 @@
 use Rattle.std.proofs.Common.{sym, ap, ◌∙◌}
 use Rattle.clamp_facts.specs.Readings.{clamp_in}
-use Rattle.clamp_facts.proofs.Carriers.{fact_none, fact_some}
 use Rattle.clamp_facts.proofs.Clamps.{clamps_none, clamps_one, clamps_not, clamp_one, clamp_of_made, no_clamp_made}
+use Rattle.clamp_facts.proofs.Carriers.{fact_none, fact_some}
 use Rattle.clamp_facts.proofs.search.clamp_of.Goals as goal
 
 pub returns-in_default-clause-value : goal.returns-in_default-clause-value

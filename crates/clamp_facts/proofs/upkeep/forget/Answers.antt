@@ -1,6 +1,5 @@
 use Rattle.std.proofs.Common.{◌+◌, sym, subst, ◌∙◌}
-use Rattle.clamp_facts.specs.Facts.{maker_of}
-use Rattle.clamp_facts.specs.Upkeep.{IsTableOf}
+use Rattle.clamp_facts.specs.{Facts.maker_of, Upkeep.IsTableOf}
 use Rattle.clamp_facts.proofs.Entries.{target_keeps, switch_keeps, quiet_keeps}
 use Rattle.clamp_facts.proofs.upkeep.forget.Goals as goal
 

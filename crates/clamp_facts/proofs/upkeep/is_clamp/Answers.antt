@@ -1,8 +1,7 @@
 use Rattle.std.proofs.Common.{◌&&◌, sym, ap, ◌∙◌}
 use Rattle.qpu_isa.specs.Terms.{passes, first_register, is_min_with_uniform}
 use Rattle.shader_flow.specs.Flow.{word}
-use Rattle.clamp_facts.specs.Facts.{is_not_negative, makes_clamp}
-use Rattle.clamp_facts.specs.Readings.{is_from_zero}
+use Rattle.clamp_facts.specs.{Facts.is_not_negative, Facts.makes_clamp, Readings.is_from_zero}
 use Rattle.clamp_facts.proofs.Carriers.{not_negative_is}
 use Rattle.clamp_facts.proofs.upkeep.is_clamp.Goals as goal
 

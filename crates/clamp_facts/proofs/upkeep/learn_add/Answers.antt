@@ -1,6 +1,5 @@
 use Rattle.std.proofs.Common.{sym, subst, refl}
-use Rattle.clamp_facts.specs.Facts.{made}
-use Rattle.clamp_facts.specs.Upkeep.{IsTableOf, maker_added}
+use Rattle.clamp_facts.specs.{Facts.made, Upkeep.IsTableOf, Upkeep.maker_added}
 use Rattle.clamp_facts.proofs.Entries.{add_keeps, add_none}
 use Rattle.clamp_facts.proofs.upkeep.learn_add.Goals as goal
 

@@ -1,5 +1,4 @@
-use Rattle.std.proofs.Common.{drop, sym, arith, ◌∙◌}
-use Rattle.std.proofs.lemmas.List.{length-take-le}
+use Rattle.std.proofs.{Common.drop, Common.sym, Common.arith, Common.◌∙◌, lemmas.List.length-take-le}
 use Rattle.commands.proofs.Fronts.{source_fits, target_fits, band_made}
 use Rattle.commands.proofs.bands.put_band.Goals as goal
 

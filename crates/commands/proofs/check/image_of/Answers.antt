@@ -1,9 +1,7 @@
 use Rattle.std.proofs.Common.{◌≡◌, sym, ap, subst, ◌∙◌}
 use Rattle.field_words.specs.Sizes.{most_memory}
 use Rattle.job_format.specs.Parts.{parts_view}
-use Rattle.dumper.specs.Text.{head_text}
-use Rattle.dumper.specs.Parts.{Ascend}
-use Rattle.dumper.specs.Spans.{parts_of}
+use Rattle.dumper.specs.{Text.head_text, Parts.Ascend, Spans.parts_of}
 use Rattle.commands.proofs.Images.{parts_ordered, image_made, image_ascends, of_version}
 use Rattle.commands.proofs.check.image_of.Goals as goal
 

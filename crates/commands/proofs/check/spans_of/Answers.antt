@@ -1,10 +1,9 @@
 use Rattle.std.proofs.Common.{◌≡◌, ◌∷◌, [], ◌++◌, suc, length, length-append, drop, get_or, map, sym, ap, subst, ◌∙◌, arith}
+use Rattle.std.proofs.lemmas.List.{take_all}
 use Rattle.buffer_table.specs.Table.{no_buffer}
 use Rattle.job_check.specs.Emit.{content_parts}
-use Rattle.dumper.specs.Parts.{part_at, inserted, sorted}
-use Rattle.dumper.specs.Spans.{parts_of}
+use Rattle.dumper.specs.{Parts.part_at, Parts.inserted, Parts.sorted, Spans.parts_of}
 use Rattle.commands.proofs.Images.{first_part, one_more, rest_taken, last_taken}
-use Rattle.std.proofs.lemmas.List.{take_all}
 use Rattle.commands.proofs.check.spans_of.Goals as goal
 
 pub loop-content-init : goal.loop-content-init

@@ -1,8 +1,7 @@
 -- The spans so far are those of the later buffers, and the lists.
 use Rattle.std.proofs.Common.{◌≡◌, ◌≤◌, ◌∷◌, [], ◌++◌, length, take, drop, map}
 use Rattle.job_check.specs.Emit.{content_parts}
-use Rattle.dumper.specs.Parts.{part_at, sorted}
-use Rattle.dumper.specs.Spans.{parts_of}
+use Rattle.dumper.specs.{Parts.part_at, Parts.sorted, Spans.parts_of}
 use Rattle.commands.proofs.check.spans_of.Given as goal
 
 abbrev pub invariant-loop-content : goal.invariant-loop-content

@@ -1,8 +1,7 @@
 use Rattle.std.proofs.Common.{◌<◌, ◌+◌, ◌*◌, ◌-◌, refl, sym, subst, ◌∙◌, arith}
 use Rattle.std.specs.Io.KnownBytes.{Appends}
 use Rattle.job_io.specs.Traffic.{AppendsFront}
-use Rattle.dumper.specs.Text.{rows_text}
-use Rattle.dumper.specs.Parts.{part_at, part_rows, part_text, alone}
+use Rattle.dumper.specs.{Text.rows_text, Parts.part_at, Parts.part_rows, Parts.part_text, Parts.alone}
 use Rattle.dumper.proofs.Rows.{no_rows, rows_upto}
 use Rattle.commands.proofs.Appending.{none_appended, both_appended, front_of_first, front_of_second, on_err}
 use Rattle.commands.proofs.reply.write_part.Goals as goal

@@ -1,8 +1,7 @@
 -- The lines of the rows so far are appended.
 use Rattle.std.proofs.Common.{◌≡◌, ◌≤◌, ◌-◌, length}
 use Rattle.std.specs.Io.KnownBytes.{Appends}
-use Rattle.dumper.specs.Text.{row_size, rows_text}
-use Rattle.dumper.specs.Parts.{part_at, part_rows, alone}
+use Rattle.dumper.specs.{Text.row_size, Text.rows_text, Parts.part_at, Parts.part_rows, Parts.alone}
 use Rattle.commands.proofs.reply.write_part.Given as goal
 
 abbrev pub invariant-loop-row : goal.invariant-loop-row

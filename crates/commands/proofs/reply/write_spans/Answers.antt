@@ -2,8 +2,7 @@ use Rattle.std.proofs.Common.{◌<◌, ◌^◌, suc, take, drop, refl, sym, subs
 use Rattle.std.specs.Io.KnownBytes.{Appends}
 use Rattle.job_io.specs.Traffic.{AppendsFront}
 use Rattle.field_words.specs.Sizes.{most_memory}
-use Rattle.dumper.specs.Parts.{part_at, part_end, part_text, parts_text}
-use Rattle.dumper.specs.Spans.{part_of, parts_of}
+use Rattle.dumper.specs.{Parts.part_at, Parts.part_end, Parts.part_text, Parts.parts_text, Spans.part_of, Spans.parts_of}
 use Rattle.dumper.proofs.Inserting.{text_more, text_split, span_end}
 use Rattle.commands.proofs.Appending.{none_appended, both_appended, front_of_first, front_of_second, on_err}
 use Rattle.commands.proofs.reply.write_spans.Goals as goal

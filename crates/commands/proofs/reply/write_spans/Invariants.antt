@@ -1,9 +1,7 @@
 -- The lines of the spans so far are appended.
 use Rattle.std.proofs.Common.{◌≡◌, ◌≤◌, length, take}
 use Rattle.std.specs.Io.KnownBytes.{Appends}
-use Rattle.dumper.specs.Text.{row_size}
-use Rattle.dumper.specs.Parts.{parts_text}
-use Rattle.dumper.specs.Spans.{parts_of}
+use Rattle.dumper.specs.{Text.row_size, Parts.parts_text, Spans.parts_of}
 use Rattle.commands.proofs.reply.write_spans.Given as goal
 
 abbrev pub invariant-loop-span : goal.invariant-loop-span

@@ -1,7 +1,5 @@
 use Rattle.std.proofs.Common.{◌≡◌, ◌≢◌, arith, sym, subst, ◌∙◌}
-use Rattle.commands.specs.Answer.{IsAnswer}
-use Rattle.commands.specs.Cause.{IsCause}
-use Rattle.commands.specs.Run.{IsAnswered}
+use Rattle.commands.specs.{Answer.IsAnswer, Cause.IsCause, Run.IsAnswered}
 use Rattle.commands.proofs.Replies.{reply_answers, reply_cut}
 use Rattle.commands.proofs.serve.respond.Goals as goal
 

@@ -1,6 +1,4 @@
-use Rattle.commands.specs.Answer.{IsAnswer}
-use Rattle.commands.specs.Cause.{IsCause}
-use Rattle.commands.specs.Run.{IsAnswered, IsCut}
+use Rattle.commands.specs.{Answer.IsAnswer, Cause.IsCause, Run.IsAnswered, Run.IsCut}
 use Rattle.commands.proofs.Told.{told}
 use Rattle.commands.proofs.serve.serve.Goals as goal
 

@@ -2,9 +2,7 @@
 use Rattle.std.proofs.Common.{sym, ap, subst, ◌∙◌}
 use Rattle.field_words.specs.Questions.{Refuses}
 use Rattle.field_words.proofs.Questions.{answered_none}
-use Rattle.job_format.specs.Faults.{format_questions}
-use Rattle.job_format.specs.File.{upgraded}
-use Rattle.job_format.specs.Text.{file_text}
+use Rattle.job_format.specs.{Faults.format_questions, File.upgraded, Text.file_text}
 use Rattle.job_check.specs.Whole.{format_refused}
 use Rattle.commands.specs.Upgrade.{format_rules}
 use Rattle.commands.proofs.Versions.{stopped}

@@ -1,7 +1,6 @@
 -- The words that are left tell what all of them tell.
 use Rattle.std.proofs.Common.{◌≡◌, ◌+◌, ◌≤◌, length}
-use Rattle.commands.specs.Words.{texts}
-use Rattle.commands.specs.WordFault.{fault_among}
+use Rattle.commands.specs.{Words.texts, WordFault.fault_among}
 use Rattle.commands.proofs.word_fault.fault_among.Given as goal
 
 abbrev pub invariant-loop-argument : goal.invariant-loop-argument

@@ -1,9 +1,7 @@
 use Rattle.std.proofs.Common.{◌≡◌, ◌<◌, ◌+◌, ◌*◌, ◌-◌, ◌++◌, [], take, inl, inr, refl, sym, ap, ◌∙◌, arith}
 use Rattle.std.specs.Prelude.{if◌then◌else◌}
-use Rattle.dumper.specs.Text.{is_blank, row_line, row_text, rows_text}
-use Rattle.dumper.specs.Parts.{part_at, part_rows, alone}
-use Rattle.dumper.proofs.Rows.{rows_on, row_alone, no_rows}
-use Rattle.dumper.proofs.Alone.{row_text_alone}
+use Rattle.dumper.specs.{Text.is_blank, Text.row_line, Text.row_text, Text.rows_text, Parts.part_at, Parts.part_rows, Parts.alone}
+use Rattle.dumper.proofs.{Rows.rows_on, Rows.row_alone, Rows.no_rows, Alone.row_text_alone}
 use Rattle.dumper.proofs.lines.put_part.Goals as goal
 
 pub loop-next-init : goal.loop-next-init

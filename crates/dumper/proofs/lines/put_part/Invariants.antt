@@ -1,7 +1,6 @@
 -- The front of the piece has the lines of the rows so far.
 use Rattle.std.proofs.Common.{◌≡◌, ◌≤◌, ◌<◌, ◌⊎◌, ◌+◌, ◌*◌, ◌-◌, length, take}
-use Rattle.dumper.specs.Text.{rows_text}
-use Rattle.dumper.specs.Parts.{part_at, part_rows, alone}
+use Rattle.dumper.specs.{Text.rows_text, Parts.part_at, Parts.part_rows, Parts.alone}
 use Rattle.dumper.proofs.lines.put_part.Given as goal
 
 abbrev pub invariant-loop-next : goal.invariant-loop-next

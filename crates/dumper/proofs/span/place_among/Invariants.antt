@@ -1,7 +1,6 @@
 -- Parts so far begin no later, so the part goes among those that are left.
 use Rattle.std.proofs.Common.{◌≡◌, ◌≤◌, ◌-◌, ◌++◌, length, take, drop, ℕ, List}
-use Rattle.dumper.specs.Parts.{part_at, inserted}
-use Rattle.dumper.specs.Spans.{parts_of}
+use Rattle.dumper.specs.{Parts.part_at, Parts.inserted, Spans.parts_of}
 use Rattle.dumper.proofs.span.place_among.Given as goal
 
 abbrev pub invariant-loop-at : goal.invariant-loop-at

@@ -1,11 +1,10 @@
 -- One packet more is cut off the front of the bytes that are left.
 use Rattle.std.proofs.Common.{◌≡◌, List, length, ℕ, sym, ap, subst, arith, ◌∙◌}
-use Rattle.std.specs.Prelude.{max}
 use Rattle.std.proofs.lemmas.Grind.{common_steps}
+use Rattle.std.specs.Prelude.{max}
 use Rattle.bin_list.specs.Packets.{packets}
 use Rattle.bin_list.proofs.Walk.{some_left, none_left}
-use Rattle.ends_law.specs.Left.{IsWhole, AllWhole}
-use Rattle.ends_law.specs.Room.{room_in, room_of}
+use Rattle.ends_law.specs.{Left.IsWhole, Left.AllWhole, Room.room_in, Room.room_of}
 use Rattle.job_bound.proofs.Packets.{whole_more, room_more, room_none, fewer_left}
 use Rattle.job_bound.proofs.binner.room.Goals as goal
 

@@ -1,7 +1,6 @@
 -- The steps of one job more.
-use Rattle.std.proofs.Common.{◌≡◌, length, ap, arith, ◌∙◌}
+use Rattle.std.proofs.{Common.◌≡◌, Common.length, Common.ap, Common.arith, Common.◌∙◌, lemmas.List.length-map}
 use Rattle.std.specs.List.{range_with_len, sum_by}
-use Rattle.std.proofs.lemmas.List.{length-map}
 use Rattle.job_format.specs.Model.{file_view, job_view}
 use Rattle.accepted_ends.specs.Bound.{job_bound, bound_of}
 use Rattle.job_bound.proofs.Items.{sum_more}

@@ -1,6 +1,5 @@
 -- the lengths that are told are the job's
-use Rattle.std.proofs.Common.{◌<◌, length, arith, ap}
-use Rattle.std.proofs.lemmas.List.{length-map}
+use Rattle.std.proofs.{Common.◌<◌, Common.length, Common.arith, Common.ap, lemmas.List.length-map}
 use Rattle.job_format.specs.Model.{file_view, job_view}
 use Rattle.job_check.proofs.Counted.{as_many_lengths}
 use Rattle.job_bound.proofs.Lists.{lengths_is}

@@ -2,8 +2,7 @@
 use Rattle.std.proofs.Common.{◌≡◌, ◌<◌, ◌+◌, ◌-◌, length, take, drop, arith, ap, ◌∙◌}
 use Rattle.std.proofs.lemmas.List.{length-map}
 use Rattle.job_format.specs.Model.{file_view, job_view}
-use Rattle.job_check.specs.Jobs.{layout_of, bin_list_of}
-use Rattle.job_check.specs.Region.{region_from}
+use Rattle.job_check.specs.{Jobs.layout_of, Jobs.bin_list_of, Region.region_from}
 use Rattle.job_bound.proofs.Lists.{bin_there, list_short}
 use Rattle.job_bound.proofs.bound.bin_list.Goals as goal
 

@@ -1,9 +1,7 @@
 -- the layout that is told is the job's
-use Rattle.std.proofs.Common.{◌<◌, length, arith, ap}
-use Rattle.std.proofs.lemmas.List.{length-map}
+use Rattle.std.proofs.{Common.◌<◌, Common.length, Common.arith, Common.ap, lemmas.List.length-map}
 use Rattle.job_format.specs.Model.{file_view, job_view}
-use Rattle.job_check.proofs.Counted.{as_many_layouts}
-use Rattle.job_check.proofs.Regions.{from_is}
+use Rattle.job_check.proofs.{Counted.as_many_layouts, Regions.from_is}
 use Rattle.job_bound.proofs.Lists.{layout_is}
 use Rattle.job_bound.proofs.bound.bin_place.Goals as goal
 

@@ -1,9 +1,7 @@
 -- No rule stands where the lists were made.
 use Rattle.job_format.specs.Model.{file_view}
 use Rattle.job_check.specs.Faults.{table_stage}
-use Rattle.job_check.proofs.Order.{table_none}
-use Rattle.job_check.proofs.Wants.{never_hidden}
-use Rattle.job_check.proofs.Wider.{wider_none}
+use Rattle.job_check.proofs.{Order.table_none, Wants.never_hidden, Wider.wider_none}
 use Rattle.job_bound.proofs.bound.find_bound.Goals as goal
 
 pub returns-in_err-bound_with-clause-memory : goal.returns-in_err-bound_with-clause-memory

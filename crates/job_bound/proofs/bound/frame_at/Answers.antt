@@ -1,5 +1,4 @@
-use Rattle.std.proofs.Common.{◌<◌, length, arith, ap, sym, subst}
-use Rattle.std.proofs.lemmas.List.{length-map}
+use Rattle.std.proofs.{Common.◌<◌, Common.length, Common.arith, Common.ap, Common.sym, Common.subst, lemmas.List.length-map}
 use Rattle.render_list.specs.Frame.{IsTileSet}
 use Rattle.job_format.specs.Model.{file_view, job_view}
 use Rattle.job_bound.proofs.Items.{frame_set}

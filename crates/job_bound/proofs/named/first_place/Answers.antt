@@ -1,6 +1,5 @@
 -- A job without such a place leaves the answer to those after it; the first with one is the answer.
-use Rattle.std.proofs.Common.{◌≡◌, length, Some, None, sym, arith, ◌∙◌}
-use Rattle.std.proofs.lemmas.List.{length-map}
+use Rattle.std.proofs.{Common.◌≡◌, Common.length, Common.Some, Common.None, Common.sym, Common.arith, Common.◌∙◌, lemmas.List.length-map}
 use Rattle.field_words.specs.Questions.{first_of}
 use Rattle.field_words.proofs.Questions.{each_on, each_stop, each_end}
 use Rattle.job_format.specs.Model.{file_view, job_view}

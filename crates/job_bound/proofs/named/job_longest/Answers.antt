@@ -1,6 +1,5 @@
 -- the greatest so far, and one more
-use Rattle.std.proofs.Common.{◌≡◌, length, max, sym, ap, arith, ◌∙◌}
-use Rattle.std.proofs.lemmas.Grind.{common_steps}
+use Rattle.std.proofs.{Common.◌≡◌, Common.length, Common.max, Common.sym, Common.ap, Common.arith, Common.◌∙◌, lemmas.Grind.common_steps}
 use Rattle.job_format.specs.Model.{file_view}
 use Rattle.job_check.specs.Jobs.{job_of}
 use Rattle.accepted_ends.specs.Bound.{steps, shader_named, greatest_below, job_longest}

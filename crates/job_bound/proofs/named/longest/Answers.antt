@@ -1,6 +1,5 @@
 -- the greatest so far, and one more
-use Rattle.std.proofs.Common.{◌≡◌, length, max, sym, ap, arith, ◌∙◌}
-use Rattle.std.proofs.lemmas.List.{length-map}
+use Rattle.std.proofs.{Common.◌≡◌, Common.length, Common.max, Common.sym, Common.ap, Common.arith, Common.◌∙◌, lemmas.List.length-map}
 use Rattle.std.proofs.lemmas.Grind.{common_steps}
 use Rattle.job_format.specs.Model.{file_view, job_view}
 use Rattle.accepted_ends.specs.Bound.{greatest_below, job_longest, longest_of}

@@ -1,10 +1,8 @@
 -- What is kept of the buffer that the handle names.
-use Rattle.std.proofs.Common.{◌<◌, length, arith, ap}
-use Rattle.std.proofs.lemmas.List.{length-map}
+use Rattle.std.proofs.{Common.◌<◌, Common.length, Common.arith, Common.ap, lemmas.List.length-map}
 use Rattle.job_format.specs.Model.{file_view, job_view}
 use Rattle.job_bound.specs.Back.{handle_places}
-use Rattle.job_bound.proofs.Naming.{handle_is, program_is}
-use Rattle.job_bound.proofs.Settled.{numbers}
+use Rattle.job_bound.proofs.{Naming.handle_is, Naming.program_is, Settled.numbers}
 use Rattle.job_bound.proofs.named.program_named.Goals as goal
 
 pub index-requires : goal.index-requires

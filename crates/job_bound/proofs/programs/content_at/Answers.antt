@@ -1,5 +1,4 @@
-use Rattle.std.proofs.Common.{◌<◌, length, refl, ap, arith, ◌∙◌}
-use Rattle.std.proofs.lemmas.List.{length-map}
+use Rattle.std.proofs.{Common.◌<◌, Common.length, Common.refl, Common.ap, Common.arith, Common.◌∙◌, lemmas.List.length-map}
 use Rattle.job_format.specs.Model.{file_view}
 use Rattle.job_check.proofs.Codes.{content_is, as_many, shader_short}
 use Rattle.job_bound.proofs.programs.content_at.Goals as goal

@@ -1,8 +1,7 @@
 use Rattle.std.proofs.Common.{refl}
 use Rattle.job_format.specs.Model.{file_view}
 use Rattle.job_check.specs.Faults.{table_stage}
-use Rattle.job_check.proofs.Order.{table_none}
-use Rattle.job_check.proofs.Wants.{never_hidden}
+use Rattle.job_check.proofs.{Order.table_none, Wants.never_hidden}
 use Rattle.job_check.proofs.check.check_job.Goals as goal
 
 pub file_memory-requires : goal.file_memory-requires

@@ -1,7 +1,6 @@
 use Rattle.job_format.specs.Parts.{parts_view}
 use Rattle.job_check.specs.Faults.{table_stage}
-use Rattle.job_check.proofs.Order.{table_none}
-use Rattle.job_check.proofs.Wants.{never_hidden}
+use Rattle.job_check.proofs.{Order.table_none, Wants.never_hidden}
 use Rattle.job_check.proofs.check.check_read.Goals as goal
 
 pub returns-in_err-with_memory-clause-memory : goal.returns-in_err-with_memory-clause-memory

@@ -1,10 +1,8 @@
 -- The parts are the file's.
-use Rattle.std.proofs.Common.{sym, subst}
+use Rattle.std.proofs.{Common.sym, Common.subst, Common.◌≤◌}
 use Rattle.buffer_table.specs.Sound.{IsSound}
 use Rattle.field_words.specs.Sizes.{most_memory}
-use Rattle.std.proofs.Common.{◌≤◌}
-use Rattle.job_format.specs.File.{IsWellFormed}
-use Rattle.job_format.specs.Model.{FileModel}
+use Rattle.job_format.specs.{File.IsWellFormed, Model.FileModel}
 use Rattle.job_check.specs.Region.{IsRegion}
 use Rattle.job_check.proofs.check.file_memory.Goals as goal
 

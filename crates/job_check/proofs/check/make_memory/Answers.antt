@@ -2,8 +2,7 @@ use Rattle.std.proofs.Common.{◌+◌, ◌≤◌, length, ap, arith, ◌∙◌}
 use Rattle.field_words.specs.Writes.{with_bytes}
 use Rattle.field_words.proofs.Writes.{length-with_bytes}
 use Rattle.job_format.specs.Parts.{parts_view}
-use Rattle.job_check.proofs.Layouts.{lists_inside}
-use Rattle.job_check.proofs.Regions.{memory_made}
+use Rattle.job_check.proofs.{Layouts.lists_inside, Regions.memory_made}
 use Rattle.job_check.proofs.check.make_memory.Goals as goal
 
 pub write_bytes-requires : goal.write_bytes-requires

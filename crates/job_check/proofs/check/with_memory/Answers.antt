@@ -1,7 +1,6 @@
 use Rattle.std.proofs.Common.{◌%◌, ap, arith, ◌∙◌}
 use Rattle.job_format.specs.Parts.{parts_view}
-use Rattle.job_check.proofs.Layouts.{lists_inside}
-use Rattle.job_check.proofs.Progress.{wider}
+use Rattle.job_check.proofs.{Layouts.lists_inside, Progress.wider}
 use Rattle.job_check.proofs.check.with_memory.Goals as goal
 
 pub returns-clause-emits : goal.returns-clause-emits

@@ -1,8 +1,6 @@
 use Rattle.std.proofs.Common.{◌≡◌, ◌<◌, ◌≤◌, subst}
 use Rattle.job_format.specs.Parts.{parts_view}
-use Rattle.job_check.specs.declared.places.Part.{Part}
-use Rattle.job_check.specs.declared.places.Part.TheVariants.{Header}
-use Rattle.job_check.specs.Places.{first_start}
+use Rattle.job_check.specs.{declared.places.Part.Part, declared.places.Part.TheVariants.Header, Places.first_start}
 use Rattle.job_check.proofs.places.place_in.Goals as goal
 
 pub returns-clause-there : goal.returns-clause-there

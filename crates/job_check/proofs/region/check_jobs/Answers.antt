@@ -1,12 +1,8 @@
-use Rattle.std.proofs.Common.{◌≡◌, ◌<◌, length, arith}
-use Rattle.std.proofs.lemmas.List.{length-map}
+use Rattle.std.proofs.{Common.◌≡◌, Common.◌<◌, Common.length, Common.arith, lemmas.List.length-map}
 use Rattle.job_format.specs.Parts.{parts_view, job_parts_view}
 use Rattle.field_words.specs.Questions.{each}
-use Rattle.job_check.specs.Faults.{job_stages}
-use Rattle.job_check.specs.Region.{IsRegion}
-use Rattle.job_check.proofs.Layouts.{lists_inside}
-use Rattle.job_check.proofs.Order.{exits}
-use Rattle.job_check.proofs.Progress.{none, next, refused, all}
+use Rattle.job_check.specs.{Faults.job_stages, Region.IsRegion}
+use Rattle.job_check.proofs.{Layouts.lists_inside, Order.exits, Progress.none, Progress.next, Progress.refused, Progress.all}
 use Rattle.job_check.proofs.region.check_jobs.Goals as goal
 
 pub loop-number-init : goal.loop-number-init

@@ -2,10 +2,8 @@ use Rattle.std.proofs.Common.{◌≡◌, ◌++◌, subst}
 use Rattle.field_words.specs.Questions.{Answers}
 use Rattle.field_words.proofs.Questions.{answers_later, refuses_front}
 use Rattle.job_format.specs.Parts.{parts_view}
-use Rattle.job_check.specs.declared.region.Lists.{Lists}
-use Rattle.job_check.specs.Context.{InView}
+use Rattle.job_check.specs.{declared.region.Lists.Lists, Context.InView, Emit.IsPlacedFor}
 use Rattle.job_check.specs.Faults.{handles_stage, lists_stages, layout_stage, job_stages}
-use Rattle.job_check.specs.Emit.{IsPlacedFor}
 use Rattle.job_check.proofs.Order.{exits}
 use Rattle.job_check.proofs.region.check_one.Goals as goal
 

@@ -2,8 +2,7 @@ use Rattle.std.proofs.Common.{◌++◌, length}
 use Rattle.field_words.specs.Questions.{each}
 use Rattle.field_words.proofs.Questions.{answers_later, refuses_front}
 use Rattle.job_format.specs.Parts.{parts_view}
-use Rattle.job_check.specs.Faults.{shaders_stage, job_stages}
-use Rattle.job_check.specs.Region.{IsRegion}
+use Rattle.job_check.specs.{Faults.shaders_stage, Faults.job_stages, Region.IsRegion}
 use Rattle.job_check.proofs.Order.{exits}
 use Rattle.job_check.proofs.region.check_shaders.Goals as goal
 

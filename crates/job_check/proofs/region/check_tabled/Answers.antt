@@ -2,11 +2,8 @@
 use Rattle.std.proofs.Common.{◌++◌, sym, ap, subst, ◌∙◌}
 use Rattle.buffer_table.specs.Sound.{IsSound}
 use Rattle.field_words.specs.Questions.{Answers}
-use Rattle.job_format.specs.File.{IsWellFormed}
-use Rattle.job_format.specs.Model.{FileModel}
-use Rattle.job_check.specs.Shaders.{table_of}
-use Rattle.job_check.specs.Faults.{shaders_stage, jobs_stages}
-use Rattle.job_check.specs.Region.{IsRegion}
+use Rattle.job_format.specs.{File.IsWellFormed, Model.FileModel}
+use Rattle.job_check.specs.{Shaders.table_of, Faults.shaders_stage, Faults.jobs_stages, Region.IsRegion}
 use Rattle.job_check.proofs.region.check_tabled.Goals as goal
 
 pub check_shaders-requires : goal.check_shaders-requires

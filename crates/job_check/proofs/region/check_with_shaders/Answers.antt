@@ -2,10 +2,8 @@ use Rattle.std.proofs.Common.{◌++◌, length, refl}
 use Rattle.field_words.specs.Questions.{each}
 use Rattle.field_words.proofs.Questions.{answers_later, refuses_front, names_first}
 use Rattle.job_format.specs.Parts.{parts_view}
-use Rattle.job_check.specs.Faults.{table_stage_within, shaders_stage, job_stages, stages_within}
-use Rattle.job_check.specs.Region.{IsRegion}
-use Rattle.job_check.proofs.Wants.{never_hidden}
-use Rattle.job_check.proofs.Order.{exits}
+use Rattle.job_check.specs.{Faults.table_stage_within, Faults.shaders_stage, Faults.job_stages, Faults.stages_within, Region.IsRegion}
+use Rattle.job_check.proofs.{Wants.never_hidden, Order.exits}
 use Rattle.job_check.proofs.region.check_with_shaders.Goals as goal
 
 pub returns-clause-answers : goal.returns-clause-answers

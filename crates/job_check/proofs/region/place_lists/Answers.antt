@@ -2,9 +2,7 @@ use Rattle.std.proofs.Common.{◌++◌, Some, refl, subst, sym, ap, arith, ◌�
 use Rattle.field_words.proofs.Questions.{refuses_front, passes}
 use Rattle.job_format.specs.Parts.{job_parts_view}
 use Rattle.shader_records.specs.Inputs.{shaders_view}
-use Rattle.job_check.specs.Context.{InView, IsContext}
-use Rattle.job_check.specs.Faults.{lists_stages, layout_stage}
-use Rattle.job_check.specs.Emit.{ArePlaced}
+use Rattle.job_check.specs.{Context.InView, Context.IsContext, Faults.lists_stages, Faults.layout_stage, Emit.ArePlaced}
 use Rattle.job_check.proofs.Order.{exits, layout_fits, layout_stands, is_past}
 use Rattle.job_check.proofs.region.place_lists.Goals as goal
 

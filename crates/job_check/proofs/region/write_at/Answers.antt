@@ -1,9 +1,7 @@
 use Rattle.std.proofs.Common.{◌≡◌, ◌+◌, ◌-◌, ◌++◌, length, take, drop, sym, ap, subst, arith, ◌∙◌}
 use Rattle.field_words.specs.Writes.{placed}
-use Rattle.job_check.specs.Jobs.{layout_of}
-use Rattle.job_check.specs.Emit.{PartsFit, list_parts, moved}
-use Rattle.job_check.proofs.Order.{if_both}
-use Rattle.job_check.proofs.Regions.{rest_placed}
+use Rattle.job_check.specs.{Jobs.layout_of, Emit.PartsFit, Emit.list_parts, Emit.moved}
+use Rattle.job_check.proofs.{Order.if_both, Regions.rest_placed}
 use Rattle.job_check.proofs.region.write_at.Goals as goal
 
 pub returns-clause-written : goal.returns-clause-written

@@ -3,12 +3,9 @@ use Rattle.field_words.specs.Writes.{placed, zeros}
 use Rattle.job_format.specs.Parts.{job_parts_view}
 use Rattle.relocation.specs.declared.layout.Layout.{Layout}
 use Rattle.shader_records.specs.Inputs.{shaders_view}
-use Rattle.job_check.specs.Context.{InView, IsContext}
-use Rattle.job_check.specs.Jobs.{layout_of}
-use Rattle.job_check.specs.Emit.{list_parts, moved}
+use Rattle.job_check.specs.{Context.InView, Context.IsContext, Jobs.layout_of, Emit.list_parts, Emit.moved}
 use Rattle.job_check.specs.Region.{region_size, region_from, region_parts}
-use Rattle.job_check.proofs.Order.{if_ok}
-use Rattle.job_check.proofs.Regions.{size_before, size_next, grown_long, kept}
+use Rattle.job_check.proofs.{Order.if_ok, Regions.size_before, Regions.size_next, Regions.grown_long, Regions.kept}
 use Rattle.job_check.proofs.region.write_region.Goals as goal
 
 pub extend_region-requires : goal.extend_region-requires

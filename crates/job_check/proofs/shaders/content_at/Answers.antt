@@ -1,5 +1,4 @@
-use Rattle.std.proofs.Common.{◌<◌, length, refl, ap, arith}
-use Rattle.std.proofs.lemmas.List.{length-map}
+use Rattle.std.proofs.{Common.◌<◌, Common.length, Common.refl, Common.ap, Common.arith, lemmas.List.length-map}
 use Rattle.job_format.specs.Parts.{parts_view}
 use Rattle.job_check.proofs.Codes.{content_is, as_many, shader_short}
 use Rattle.job_check.proofs.shaders.content_at.Goals as goal

@@ -3,8 +3,7 @@ use Rattle.std.proofs.lemmas.List.{map-append}
 use Rattle.field_words.proofs.Questions.{each_on, each_end}
 use Rattle.job_format.specs.Parts.{parts_view}
 use Rattle.shader_records.specs.Inputs.{shader_option, shaders_view}
-use Rattle.job_check.specs.Shaders.{shaders_up_to}
-use Rattle.job_check.specs.Faults.{shader_stage, shaders_stage}
+use Rattle.job_check.specs.{Shaders.shaders_up_to, Faults.shader_stage, Faults.shaders_stage}
 use Rattle.job_check.proofs.Codes.{AllSound, sound_more, shaders_more, are_shaders}
 use Rattle.job_check.proofs.Wants.{none_before, whole_none, ended}
 use Rattle.job_check.proofs.shaders.shaders_stage.Goals as goal

@@ -2,8 +2,7 @@ use Rattle.std.proofs.Common.{◌≡◌, ◌-◌, length, None}
 use Rattle.field_words.specs.Questions.{first_of, each}
 use Rattle.job_format.specs.Parts.{parts_view}
 use Rattle.shader_records.specs.Inputs.{shaders_view}
-use Rattle.job_check.specs.Shaders.{shaders_up_to}
-use Rattle.job_check.specs.Faults.{shader_stage}
+use Rattle.job_check.specs.{Shaders.shaders_up_to, Faults.shader_stage}
 use Rattle.job_check.proofs.Codes.{AllSound}
 use Rattle.job_check.proofs.shaders.shaders_stage.Given as goal
 

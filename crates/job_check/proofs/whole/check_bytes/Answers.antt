@@ -1,16 +1,10 @@
 use Rattle.std.proofs.Common.{Err, sym, subst}
-use Rattle.field_words.specs.Questions.{Answers, Refuses, NeverHidesFault, answered}
-use Rattle.field_words.specs.Sizes.{most_memory}
+use Rattle.field_words.specs.{Questions.Answers, Questions.Refuses, Questions.NeverHidesFault, Questions.answered, Sizes.most_memory}
 use Rattle.field_words.proofs.Questions.{answers_later, answered_none}
-use Rattle.job_format.specs.Faults.{format_questions}
-use Rattle.job_format.specs.Model.{FileModel}
-use Rattle.job_format.specs.Reading.{file_at}
-use Rattle.job_check.specs.declared.check.Checked.{Checked}
-use Rattle.job_check.specs.Faults.{file_stages}
-use Rattle.job_check.specs.Emit.{IsEmitted}
+use Rattle.job_format.specs.{Faults.format_questions, Model.FileModel, Reading.file_at}
+use Rattle.job_check.specs.{declared.check.Checked.Checked, Faults.file_stages, Emit.IsEmitted}
 use Rattle.job_check.specs.Whole.{all_questions, questions_within, format_refused}
-use Rattle.job_check.proofs.Stops.{stopped, not_hidden}
-use Rattle.job_check.proofs.Wants.{never_hidden}
+use Rattle.job_check.proofs.{Stops.stopped, Stops.not_hidden, Wants.never_hidden}
 use Rattle.job_check.proofs.whole.check_bytes.Goals as goal
 
 pub returns-in-Ok-clause-answers : goal.returns-in-Ok-clause-answers

@@ -2,8 +2,7 @@
 use Rattle.std.proofs.Common.{◌≡◌, sym, ◌∙◌, ap, arith}
 use Rattle.field_words.proofs.Questions.{each_on, each_stop, each_end}
 use Rattle.field_words.specs.Questions.{each, first_of}
-use Rattle.job_format.specs.Faults.{parts_questions}
-use Rattle.job_format.specs.Offsets.{handles_offset}
+use Rattle.job_format.specs.{Faults.parts_questions, Offsets.handles_offset}
 use Rattle.job_format.proofs.faults.all_parts_fault.Goals as goal
 
 pub loop-j-init : goal.loop-j-init

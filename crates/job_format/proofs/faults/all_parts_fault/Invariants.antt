@@ -1,8 +1,7 @@
 -- What is left decides as the whole does, and the parts so far lie in the file.
 use Rattle.std.proofs.Common.{◌≡◌, ◌-◌, ◌≤◌, length}
 use Rattle.field_words.specs.Questions.{first_of, each}
-use Rattle.job_format.specs.Faults.{parts_questions}
-use Rattle.job_format.specs.Offsets.{handles_offset}
+use Rattle.job_format.specs.{Faults.parts_questions, Offsets.handles_offset}
 use Rattle.job_format.proofs.faults.all_parts_fault.Given as goal
 
 abbrev pub invariant-loop-j : goal.invariant-loop-j

@@ -2,8 +2,7 @@
 use Rattle.std.proofs.Common.{◌≡◌, sym, ◌∙◌, ap, arith}
 use Rattle.field_words.proofs.Questions.{each_on, each_stop, each_end}
 use Rattle.field_words.specs.Questions.{each, first_of}
-use Rattle.job_format.specs.Faults.{content_questions}
-use Rattle.job_format.specs.Offsets.{job_count, job_offset, content_offset}
+use Rattle.job_format.specs.{Faults.content_questions, Offsets.job_count, Offsets.job_offset, Offsets.content_offset}
 use Rattle.job_format.proofs.Standing.{content_offset_first, handles_offset_first}
 use Rattle.job_format.proofs.faults.contents_fault.Goals as goal
 

@@ -1,8 +1,7 @@
 -- What is left decides as the whole does, and the contents so far lie in the file.
 use Rattle.std.proofs.Common.{◌≡◌, ◌-◌, ◌≤◌, length}
 use Rattle.field_words.specs.Questions.{first_of, each}
-use Rattle.job_format.specs.Faults.{content_questions}
-use Rattle.job_format.specs.Offsets.{content_offset}
+use Rattle.job_format.specs.{Faults.content_questions, Offsets.content_offset}
 use Rattle.job_format.proofs.faults.contents_fault.Given as goal
 
 abbrev pub invariant-loop-b : goal.invariant-loop-b

@@ -1,7 +1,6 @@
 -- The counts that pass are those that any version may have.
 use Rattle.std.proofs.Common.{◌≡◌, sym, ◌∙◌, subst, ◌≤◌, false, arith}
-use Rattle.job_format.specs.Faults.{is_miscounted}
-use Rattle.job_format.specs.Offsets.{most_jobs}
+use Rattle.job_format.specs.{Faults.is_miscounted, Offsets.most_jobs}
 use Rattle.job_format.proofs.Versions.{buffer_limit_most, jobs_pass}
 use Rattle.job_format.proofs.faults.header_fault.Goals as goal
 

@@ -1,8 +1,7 @@
 -- What is left decides as the whole does, and the entries so far lie in the file.
 use Rattle.std.proofs.Common.{◌≡◌, ◌-◌, ◌≤◌, length}
 use Rattle.field_words.specs.Questions.{first_of, each}
-use Rattle.job_format.specs.Faults.{job_questions}
-use Rattle.job_format.specs.Offsets.{job_offset}
+use Rattle.job_format.specs.{Faults.job_questions, Offsets.job_offset}
 use Rattle.job_format.proofs.faults.jobs_fault.Given as goal
 
 abbrev pub invariant-loop-j : goal.invariant-loop-j

@@ -1,7 +1,6 @@
 -- Those so far.
 use Rattle.std.proofs.Common.{◌≡◌, map, take}
-use Rattle.job_format.specs.Model.{job_view}
-use Rattle.job_format.specs.Parts.{job_parts_view}
+use Rattle.job_format.specs.{Model.job_view, Parts.job_parts_view}
 use Rattle.job_format.proofs.parts.jobs_of.Given as goal
 
 abbrev pub invariant-loop-job : goal.invariant-loop-job

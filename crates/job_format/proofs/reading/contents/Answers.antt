@@ -1,7 +1,6 @@
 -- The contents of a buffer end before those of the last do, and so inside the file.
 use Rattle.std.proofs.Common.{◌≡◌, ◌+◌, ap, sym, ◌∙◌, arith}
-use Rattle.job_format.specs.Offsets.{content_offset, content_size}
-use Rattle.job_format.specs.Reading.{cut, contents_at}
+use Rattle.job_format.specs.{Offsets.content_offset, Offsets.content_size, Reading.cut, Reading.contents_at}
 use Rattle.job_format.proofs.Standing.{content_ends, content_offset_step, contents_inside}
 use Rattle.job_format.proofs.Listed.{contents_more, one_more_seen}
 use Rattle.job_format.proofs.reading.contents.Goals as goal

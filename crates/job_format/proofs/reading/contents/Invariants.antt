@@ -1,7 +1,6 @@
 -- The contents so far, and the offset where they end.
 use Rattle.std.proofs.Common.{◌≡◌, map}
-use Rattle.job_format.specs.Offsets.{content_offset}
-use Rattle.job_format.specs.Reading.{contents_at}
+use Rattle.job_format.specs.{Offsets.content_offset, Reading.contents_at}
 use Rattle.job_format.proofs.reading.contents.Given as goal
 
 abbrev pub invariant-loop-b : goal.invariant-loop-b

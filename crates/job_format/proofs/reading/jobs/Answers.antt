@@ -1,9 +1,7 @@
 -- The parts of a job end before those of the last do, and so inside the file.
 use Rattle.std.proofs.Common.{◌+◌, map, ap, sym, ◌∙◌, arith}
-use Rattle.job_format.specs.Parts.{job_parts_view}
-use Rattle.job_format.specs.Reading.{job_at, jobs_at}
-use Rattle.job_format.proofs.Listed.{jobs_none, jobs_more, one_more_seen}
-use Rattle.job_format.proofs.Standing.{parts_end}
+use Rattle.job_format.specs.{Parts.job_parts_view, Reading.job_at, Reading.jobs_at}
+use Rattle.job_format.proofs.{Listed.jobs_none, Listed.jobs_more, Listed.one_more_seen, Standing.parts_end}
 use Rattle.job_format.proofs.reading.jobs.Goals as goal
 
 pub loop-j-init : goal.loop-j-init

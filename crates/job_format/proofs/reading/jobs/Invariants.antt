@@ -1,8 +1,6 @@
 -- The jobs so far, and the offset where their parts end.
 use Rattle.std.proofs.Common.{◌≡◌, map}
-use Rattle.job_format.specs.Parts.{job_parts_view}
-use Rattle.job_format.specs.Offsets.{handles_offset}
-use Rattle.job_format.specs.Reading.{jobs_at}
+use Rattle.job_format.specs.{Parts.job_parts_view, Offsets.handles_offset, Reading.jobs_at}
 use Rattle.job_format.proofs.reading.jobs.Given as goal
 
 abbrev pub invariant-loop-j : goal.invariant-loop-j

@@ -1,9 +1,7 @@
 -- The laws are about the answer of `found_parts`.
 use Rattle.std.proofs.Common.{◌≡◌, arith}
 use Rattle.field_words.proofs.Questions.{names_first}
-use Rattle.job_format.specs.Faults.{format_questions}
-use Rattle.job_format.specs.Parts.{parts_view}
-use Rattle.job_format.specs.Reading.{file_at}
+use Rattle.job_format.specs.{Faults.format_questions, Parts.parts_view, Reading.file_at}
 use Rattle.job_format.proofs.Laws.{found_by, only_by, exact_by}
 use Rattle.job_format.proofs.reading.read_parts.Goals as goal
 

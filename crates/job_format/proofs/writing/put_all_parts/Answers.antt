@@ -1,9 +1,7 @@
 -- One more is appended; at the end all are there.
 use Rattle.std.proofs.Common.{map, subst}
 use Rattle.std.specs.List.{AllByRecursion}
-use Rattle.job_format.specs.Model.{job_view}
-use Rattle.job_format.specs.Text.{parts_text}
-use Rattle.job_format.specs.File.{JobPartsFit}
+use Rattle.job_format.specs.{Model.job_view, Text.parts_text, File.JobPartsFit}
 use Rattle.job_format.proofs.Items.{more_viewed, all_taken}
 use Rattle.job_format.proofs.writing.put_all_parts.Goals as goal
 

@@ -1,9 +1,7 @@
 -- The text so far, and that the numbers in it fit.
 use Rattle.std.proofs.Common.{◌≡◌, ◌++◌, map, take}
 use Rattle.std.specs.List.{flat_map, AllByRecursion}
-use Rattle.job_format.specs.Model.{job_view}
-use Rattle.job_format.specs.Text.{parts_text}
-use Rattle.job_format.specs.File.{JobPartsFit}
+use Rattle.job_format.specs.{Model.job_view, Text.parts_text, File.JobPartsFit}
 use Rattle.job_format.proofs.writing.put_all_parts.Given as goal
 
 abbrev pub invariant-loop-job : goal.invariant-loop-job

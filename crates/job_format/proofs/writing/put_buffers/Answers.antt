@@ -1,11 +1,8 @@
 -- One more is appended; at the end all are there.
-use Rattle.std.proofs.Common.{◌≡◌, get_or, subst}
-use Rattle.std.proofs.lemmas.List.{get_or_default}
-use Rattle.buffer_table.specs.Table.{no_buffer}
-use Rattle.buffer_table.specs.declared.buffer.Buffer.{Buffer}
+use Rattle.std.proofs.{Common.◌≡◌, Common.get_or, Common.subst, lemmas.List.get_or_default}
+use Rattle.buffer_table.specs.{Table.no_buffer, declared.buffer.Buffer.Buffer}
 use Rattle.std.specs.List.{AllByRecursion}
-use Rattle.job_format.specs.Text.{buffer_text}
-use Rattle.job_format.specs.File.{BufferFits}
+use Rattle.job_format.specs.{Text.buffer_text, File.BufferFits}
 use Rattle.job_format.proofs.Items.{more, all_taken}
 use Rattle.job_format.proofs.writing.put_buffers.Goals as goal
 

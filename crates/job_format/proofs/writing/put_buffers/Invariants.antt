@@ -1,8 +1,7 @@
 -- The text so far, and that the numbers in it fit.
 use Rattle.std.proofs.Common.{◌≡◌, ◌++◌, take}
 use Rattle.std.specs.List.{flat_map, AllByRecursion}
-use Rattle.job_format.specs.Text.{buffer_text}
-use Rattle.job_format.specs.File.{BufferFits}
+use Rattle.job_format.specs.{Text.buffer_text, File.BufferFits}
 use Rattle.job_format.proofs.writing.put_buffers.Given as goal
 
 abbrev pub invariant-loop-buffer : goal.invariant-loop-buffer

@@ -1,8 +1,7 @@
 -- One more is appended; at the end all are there.
 use Rattle.std.proofs.Common.{◌++◌, map, take, ap, subst, ◌∙◌}
 use Rattle.std.specs.List.{AllByRecursion}
-use Rattle.field_words.specs.Words.{IsBytes}
-use Rattle.field_words.specs.Pieces.{joined}
+use Rattle.field_words.specs.{Words.IsBytes, Pieces.joined}
 use Rattle.job_format.proofs.Items.{more_viewed, joined_flat, all_taken}
 use Rattle.job_format.proofs.writing.put_contents.Goals as goal
 

@@ -1,9 +1,7 @@
 -- One more is appended; at the end all are there.
 use Rattle.std.proofs.Common.{map, subst}
 use Rattle.std.specs.List.{AllByRecursion}
-use Rattle.job_format.specs.Model.{job_view}
-use Rattle.job_format.specs.Text.{job_text}
-use Rattle.job_format.specs.File.{JobEntryFits, IsJobWellFormed}
+use Rattle.job_format.specs.{Model.job_view, Text.job_text, File.JobEntryFits, File.IsJobWellFormed}
 use Rattle.job_format.proofs.Items.{more_viewed, all_taken, all_at}
 use Rattle.job_format.proofs.writing.put_jobs.Goals as goal
 

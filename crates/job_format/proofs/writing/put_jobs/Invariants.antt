@@ -1,9 +1,7 @@
 -- The text so far, and that the numbers in it fit.
 use Rattle.std.proofs.Common.{◌≡◌, ◌++◌, map, take}
 use Rattle.std.specs.List.{flat_map, AllByRecursion}
-use Rattle.job_format.specs.Model.{job_view}
-use Rattle.job_format.specs.Text.{job_text}
-use Rattle.job_format.specs.File.{JobEntryFits}
+use Rattle.job_format.specs.{Model.job_view, Text.job_text, File.JobEntryFits}
 use Rattle.job_format.proofs.writing.put_jobs.Given as goal
 
 abbrev pub invariant-loop-job : goal.invariant-loop-job

@@ -1,10 +1,7 @@
 -- One more is appended; at the end all are there.
-use Rattle.std.proofs.Common.{◌≡◌, get_or, subst}
-use Rattle.std.proofs.lemmas.List.{get_or_default}
-use Rattle.job_format.specs.declared.file.Surface.{Surface}
+use Rattle.std.proofs.{Common.◌≡◌, Common.get_or, Common.subst, lemmas.List.get_or_default}
+use Rattle.job_format.specs.{declared.file.Surface.Surface, Text.surface_text, File.SurfaceFits}
 use Rattle.std.specs.List.{AllByRecursion}
-use Rattle.job_format.specs.Text.{surface_text}
-use Rattle.job_format.specs.File.{SurfaceFits}
 use Rattle.job_format.proofs.Items.{more, all_taken}
 use Rattle.job_format.proofs.writing.put_surfaces.Goals as goal
 

@@ -1,8 +1,7 @@
 -- The text so far, and that the numbers in it fit.
 use Rattle.std.proofs.Common.{◌≡◌, ◌++◌, take}
 use Rattle.std.specs.List.{flat_map, AllByRecursion}
-use Rattle.job_format.specs.Text.{surface_text}
-use Rattle.job_format.specs.File.{SurfaceFits}
+use Rattle.job_format.specs.{Text.surface_text, File.SurfaceFits}
 use Rattle.job_format.proofs.writing.put_surfaces.Given as goal
 
 abbrev pub invariant-loop-surface : goal.invariant-loop-surface

@@ -1,5 +1,4 @@
-use Rattle.std.proofs.Common.{◌∙◌, length-drop, arith}
-use Rattle.std.proofs.lemmas.List.{take_rest}
+use Rattle.std.proofs.{Common.◌∙◌, Common.length-drop, Common.arith, lemmas.List.take_rest}
 use Rattle.job_io.proofs.Growth.{Appends-next}
 use Rattle.job_io.proofs.whole.write_all.Goals as goal
 

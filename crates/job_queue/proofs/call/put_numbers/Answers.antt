@@ -2,8 +2,8 @@ use Rattle.std.proofs.Common.{◌≡◌, ◌≤◌, ◌++◌, ◌∷◌, [], len
 use Rattle.std.proofs.lemmas.Bool.Decides.{nat_tests}
 use Rattle.job_queue.specs.Calls.{buffers_of}
 use Rattle.job_queue.proofs.Words.{put_one, put_none, put_all}
-use Rattle.job_queue.proofs.call.put_numbers.Goals as goal
 use Rattle.job_queue.proofs.call.put_numbers.Goals.{in-Some+in_ok-push, in_default}
+use Rattle.job_queue.proofs.call.put_numbers.Goals as goal
 
 pub loop-rest-init : goal.loop-rest-init
 unfolding buffers_of

@@ -1,8 +1,8 @@
 use Rattle.std.proofs.Common.{length, arith}
 use Rattle.job_queue.specs.Desk.{greatest}
 use Rattle.job_queue.proofs.Loops.{known_later, greatest_more}
-use Rattle.job_queue.proofs.queue.last_writer.Goals as goal
 use Rattle.job_queue.proofs.queue.last_writer.Goals.{then-writer-last, else-writer-last}
+use Rattle.job_queue.proofs.queue.last_writer.Goals as goal
 
 pub loop-buffer-preserved : goal.loop-buffer-preserved
 loop-buffer-preserved c = record {

@@ -1,6 +1,5 @@
 use Rattle.std.proofs.Common.{◌≡◌, drop, length, None}
-use Rattle.job_queue.specs.Past.{first_unknown}
-use Rattle.job_queue.specs.Desk.{greatest}
+use Rattle.job_queue.specs.{Past.first_unknown, Desk.greatest}
 use Rattle.job_queue.proofs.queue.last_writer.Given as goal
 
 abbrev pub invariant-loop-buffer : goal.invariant-loop-buffer

@@ -1,8 +1,6 @@
 -- One more is put.
-use Rattle.std.proofs.Common.{◌≡◌, get_or}
-use Rattle.std.proofs.lemmas.List.{get_or_default}
-use Rattle.buffer_table.specs.Table.{no_buffer}
-use Rattle.buffer_table.specs.declared.buffer.Buffer.{Buffer}
+use Rattle.std.proofs.{Common.◌≡◌, Common.get_or, lemmas.List.get_or_default}
+use Rattle.buffer_table.specs.{Table.no_buffer, declared.buffer.Buffer.Buffer}
 use Rattle.job_format.specs.Text.{buffer_text}
 use Rattle.job_session.proofs.Texts.{text_more}
 use Rattle.job_session.proofs.job_file.put_buffers.Goals as goal

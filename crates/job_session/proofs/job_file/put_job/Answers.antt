@@ -1,6 +1,5 @@
 use Rattle.std.proofs.Common.{arith}
-use Rattle.job_session.specs.Desk.{held_in}
-use Rattle.job_session.specs.Submit.{contents_from}
+use Rattle.job_session.specs.{Desk.held_in, Submit.contents_from}
 use Rattle.job_session.proofs.Texts.{job_text}
 use Rattle.job_session.proofs.job_file.put_job.Goals as goal
 

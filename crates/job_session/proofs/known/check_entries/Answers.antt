@@ -3,8 +3,7 @@ use Rattle.std.proofs.Common.{map}
 use Rattle.shader_records.specs.Inputs.{shaders_view}
 use Rattle.job_format.specs.Parts.{job_parts_view}
 use Rattle.job_session.specs.Found.{file_in}
-use Rattle.job_session.proofs.Entered.{entries_checked}
-use Rattle.job_session.proofs.Whole.{well_formed}
+use Rattle.job_session.proofs.{Entered.entries_checked, Whole.well_formed}
 use Rattle.job_session.proofs.known.check_entries.Goals as goal
 
 pub check_with_shaders-requires-clause-well_formed : goal.check_with_shaders-requires-clause-well_formed

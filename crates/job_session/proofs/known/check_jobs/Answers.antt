@@ -4,8 +4,7 @@ use Rattle.std.specs.Prelude.{IfSome}
 use Rattle.field_words.specs.Questions.{Refuses}
 use Rattle.job_format.specs.Parts.{job_parts_view}
 use Rattle.job_check.specs.Faults.{file_stages}
-use Rattle.job_session.specs.Desk.{held_in, submit_answer, IsRefusal}
-use Rattle.job_session.specs.Found.{AreAll, file_in}
+use Rattle.job_session.specs.{Desk.held_in, Desk.submit_answer, Desk.IsRefusal, Found.AreAll, Found.file_in}
 use Rattle.job_session.proofs.Whole.{accepted_by, refused_by}
 use Rattle.job_session.proofs.known.check_jobs.Goals.{in-Ok, in-Err-Fault, in-Err-NoMemory}
 use Rattle.job_session.proofs.known.check_jobs.Goals as goal

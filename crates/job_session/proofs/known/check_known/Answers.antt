@@ -1,11 +1,7 @@
 -- The job is the one that its bytes spell.
 use Rattle.std.proofs.Common.{◌≡◌, ◌∙◌, ◌++◌, ℕ, List, map, sym, ap, subst}
-use Rattle.job_format.specs.Model.{FileModel}
-use Rattle.job_format.specs.File.{IsFileOf}
-use Rattle.job_format.specs.Parts.{parts_view, job_parts_view}
-use Rattle.job_format.specs.Reading.{file_at}
-use Rattle.job_session.specs.Submit.{header_of, with_client}
-use Rattle.job_session.specs.Found.{IsJobOf}
+use Rattle.job_format.specs.{Model.FileModel, File.IsFileOf, Parts.parts_view, Parts.job_parts_view, Reading.file_at}
+use Rattle.job_session.specs.{Submit.header_of, Submit.with_client, Found.IsJobOf}
 use Rattle.job_session.proofs.Whole.{job_read}
 use Rattle.job_session.proofs.known.check_known.Goals as goal
 

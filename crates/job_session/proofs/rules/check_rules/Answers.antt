@@ -1,13 +1,9 @@
 -- The rules of the format come before the others.
 use Rattle.std.proofs.Common.{sym, subst}
-use Rattle.field_words.specs.Questions.{Answers, Refuses, answered}
+use Rattle.field_words.specs.{Questions.Answers, Questions.Refuses, Questions.answered, Sizes.most_memory}
 use Rattle.field_words.proofs.Questions.{answers_later, answered_none}
-use Rattle.job_format.specs.Faults.{format_questions}
-use Rattle.job_format.specs.Reading.{file_at}
-use Rattle.job_check.specs.Faults.{file_stages}
-use Rattle.job_check.specs.Region.{IsRegion}
-use Rattle.job_check.specs.Whole.{all_questions, questions_within, format_refused}
-use Rattle.field_words.specs.Sizes.{most_memory}
+use Rattle.job_format.specs.{Faults.format_questions, Reading.file_at}
+use Rattle.job_check.specs.{Faults.file_stages, Region.IsRegion, Whole.all_questions, Whole.questions_within, Whole.format_refused}
 use Rattle.job_check.proofs.Stops.{stopped}
 use Rattle.job_session.proofs.rules.check_rules.Goals as goal
 

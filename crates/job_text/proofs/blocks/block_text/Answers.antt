@@ -1,5 +1,4 @@
-use Rattle.std.proofs.Common.{sym, ◌∙◌, arith}
-use Rattle.std.proofs.lemmas.Bool.Decides.{nat_tests}
+use Rattle.std.proofs.{Common.sym, Common.◌∙◌, Common.arith, lemmas.Bool.Decides.nat_tests}
 use Rattle.script.specs.Lines.{lines_of}
 use Rattle.job_text.specs.Made.{block_text}
 use Rattle.job_text.proofs.BlockSteps.{block_ends, block_step, block_open}

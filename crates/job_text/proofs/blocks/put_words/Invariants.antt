@@ -1,7 +1,6 @@
 -- The bytes of the words so far.
 use Rattle.std.proofs.Common.{◌≡◌, ◌++◌, take}
-use Rattle.std.specs.List.{flat_map}
-use Rattle.std.specs.Int.{to_le_bytes, w64}
+use Rattle.std.specs.{List.flat_map, Int.to_le_bytes, Int.w64}
 use Rattle.job_text.proofs.blocks.put_words.Given as goal
 
 abbrev pub invariant-loop-word : goal.invariant-loop-word

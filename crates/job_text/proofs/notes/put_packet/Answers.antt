@@ -1,6 +1,5 @@
 use Rattle.std.proofs.Common.{codes}
-use Rattle.job_text.specs.Names.{named_text}
-use Rattle.job_text.specs.Notes.{packet_text, listed_text}
+use Rattle.job_text.specs.{Names.named_text, Notes.packet_text, Notes.listed_text}
 use Rattle.job_text.proofs.Texts.{of_job_more}
 use Rattle.job_text.proofs.notes.put_packet.Goals as goal
 

@@ -1,6 +1,4 @@
-use Rattle.std.proofs.Common.{sym, ◌∙◌, arith}
-use Rattle.std.proofs.lemmas.Bool.Decides.{nat_tests}
-use Rattle.std.proofs.lemmas.Result.{err_from_is_err_and}
+use Rattle.std.proofs.{Common.sym, Common.◌∙◌, Common.arith, lemmas.Bool.Decides.nat_tests, lemmas.Result.err_from_is_err_and}
 use Rattle.script.specs.Lines.{lines_of}
 use Rattle.job_text.specs.Made.{made}
 use Rattle.job_text.proofs.Steps.{both_none, line_step, line_fault, lines_end}

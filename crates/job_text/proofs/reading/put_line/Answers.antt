@@ -1,6 +1,4 @@
-use Rattle.std.proofs.Common.{sym, ◌∙◌, arith}
-use Rattle.std.proofs.lemmas.Bool.Decides.{nat_tests}
-use Rattle.std.proofs.lemmas.Result.{err_from_is_err_and}
+use Rattle.std.proofs.{Common.sym, Common.◌∙◌, Common.arith, lemmas.Bool.Decides.nat_tests, lemmas.Result.err_from_is_err_and}
 use Rattle.job_text.specs.Made.{words_of, line_read}
 use Rattle.job_text.proofs.Steps.{word_step, word_fault, words_end}
 use Rattle.job_text.proofs.reading.put_line.Goals as goal

@@ -1,7 +1,6 @@
 use Rattle.std.proofs.Common.{codes, decimal}
 use Rattle.texture_layouts.specs.Setup.{tiling_at}
-use Rattle.job_text.specs.Meanings.{tiling_name}
-use Rattle.job_text.specs.Uniforms.{listed_text}
+use Rattle.job_text.specs.{Meanings.tiling_name, Uniforms.listed_text}
 use Rattle.job_text.proofs.Texts.{five_parts}
 use Rattle.job_text.proofs.uniforms.put_listed.Goals as goal
 

@@ -1,5 +1,4 @@
-use Rattle.std.proofs.Common.{sym, ◌∙◌, arith}
-use Rattle.std.proofs.lemmas.Bool.Decides.{nat_tests}
+use Rattle.std.proofs.{Common.sym, Common.◌∙◌, Common.arith, lemmas.Bool.Decides.nat_tests}
 use Rattle.job_text.proofs.WordSteps.{digits_step, digits_done, some_digits, no_digits}
 use Rattle.job_text.proofs.words.hex_number.Goals as goal
 

@@ -1,7 +1,6 @@
 use Rattle.std.proofs.Common.{◌≡◌, ◌+◌, ℕ, List}
 use Rattle.arrayvec.specs.ArrayVec.{array_vec_len}
-use Rattle.list_machine.specs.Cover.{part_count}
-use Rattle.list_machine.specs.Lists.{Lists}
+use Rattle.list_machine.specs.{Cover.part_count, Lists.Lists}
 use Rattle.list_machine.proofs.Left.{ReadsLeft}
 use Rattle.list_machine.proofs.parts.read_parts.Given as goal
 

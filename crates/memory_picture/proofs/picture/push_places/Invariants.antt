@@ -1,7 +1,6 @@
 use Rattle.std.proofs.Common.{◌≡◌, ◌++◌}
 use Rattle.svg.specs.Forest.{forest_text}
-use Rattle.memory_picture.specs.Parts.{each}
-use Rattle.memory_picture.specs.Picture.{place_part}
+use Rattle.memory_picture.specs.{Parts.each, Picture.place_part}
 use Rattle.memory_picture.proofs.picture.push_places.Given as goal
 
 abbrev pub invariant-loop-n : goal.invariant-loop-n

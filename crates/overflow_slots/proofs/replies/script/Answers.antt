@@ -1,6 +1,4 @@
-use Rattle.overflow_slots.specs.Calls.{fault_line}
-use Rattle.overflow_slots.specs.SlotRun.{start}
-use Rattle.overflow_slots.specs.Text.{replies}
+use Rattle.overflow_slots.specs.{Calls.fault_line, SlotRun.start, Text.replies}
 use Rattle.overflow_slots.proofs.replies.script.Goals as goal
 
 pub returns-clause-answers : goal.returns-clause-answers

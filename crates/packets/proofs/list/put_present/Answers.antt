@@ -1,8 +1,6 @@
-use Rattle.std.proofs.Common.{◌+◌, drop, [], ◌∷◌, get_or, None}
-use Rattle.std.proofs.lemmas.List.{at_drop_all}
+use Rattle.std.proofs.{Common.◌+◌, Common.drop, Common.[], Common.◌∷◌, Common.get_or, Common.None, lemmas.List.at_drop_all}
 use Rattle.packets.specs.Packet.{slots_text}
-use Rattle.packets.proofs.Slots.{slots_step}
-use Rattle.packets.proofs.Underway.{goes_on, ends}
+use Rattle.packets.proofs.{Slots.slots_step, Underway.goes_on, Underway.ends}
 use Rattle.packets.proofs.list.put_present.Goals as goal
 
 pub loop-slot-preserved : goal.loop-slot-preserved

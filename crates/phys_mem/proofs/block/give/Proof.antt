@@ -1,5 +1,7 @@
 -- `give` hands the block's room to the allocator, with its token.
 use Rattle.std.proofs.Common.{◌≡◌, ℕ, ◌*◌, List, [], ◌∷◌, ◌++◌, length, refl, ap, ◌∙◌, arith, lit<, w64}
+use Rattle.std.proofs.alloc.Calls.{Al, seen, Goes-blank, Gives, at_gives, Gives-goes, Gives-Gives}
+use Rattle.std.proofs.{VecSteps.Shapes.after, raw_atomic.Walks.proved_at, raw_atomic.Walks.leaves}
 use mir.Syntax.{Ty, Fn, Args, a_type, dcons, dnil, ty_array, ty_int, w8, place}
 use mir.Val.{Val, vint, vptr, vunit}
 use mir.MapTy.{inst_fn}
@@ -25,16 +27,10 @@ use denote.Triple.Call.{calls_at_last}
 use denote.Triple.Entry.{alive}
 use denote.Triple.Table.{framed}
 use denote.Triple.Walked.{Stays, stay_dropped, walk_of, Goes-dropped}
-use Rattle.std.proofs.alloc.Calls.{Al, seen, Goes-blank, Gives, at_gives, Gives-goes, Gives-Gives}
-use Rattle.std.proofs.VecSteps.Shapes.{after}
-use Rattle.std.proofs.raw_atomic.Walks.{proved_at, leaves}
-use Rattle.phys_mem.proofs.Deeds.{mark, mark_told, deed_val, deed_told}
-use Rattle.phys_mem.proofs.Rooms.{room_again}
+use Rattle.phys_mem.proofs.{Deeds.mark, Deeds.mark_told, Deeds.deed_val, Deeds.deed_told, Rooms.room_again, block.give.Statement.statement}
 use Rattle.phys_mem.specs.contracts.contents.Contents as contents
 use Rattle.phys_mem.specs.contracts.deed.Deed as deed
-use Rattle.phys_mem.specs.contracts.block.give.{ended, clauses}
-use Rattle.phys_mem.specs.contracts.block.give.Key.{name as the_key}
-use Rattle.phys_mem.proofs.block.give.Statement.{statement}
+use Rattle.phys_mem.specs.{contracts.block.give.ended, contracts.block.give.clauses, contracts.block.give.Key.name as the_key}
 use Rattle.phys_mem.proofs.block.give.Code as code
 
 pub give_spec : {M : Type 1} → statement M

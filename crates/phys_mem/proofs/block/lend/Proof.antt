@@ -1,5 +1,6 @@
 -- `lend` takes a part out of the row of bytes, and the contents follow what is written there.
 use Rattle.std.proofs.Common.{◌≡◌, ℕ, ◌+◌, ◌*◌, ◌^◌, ◌<◌, ◌≤◌, List, [], ◌∷◌, ◌++◌, length, refl, sym, ◌∙◌, arith, w64, MutBor}
+use Rattle.std.proofs.{VecSteps.Shapes.after, raw_atomic.Walks.proved_at, raw_atomic.Walks.leaves}
 use mir.Syntax.{Fn, named, ty_ptr}
 use mir.Val.{Val, vint, vptr}
 use base.Fraction.{full_share}
@@ -27,18 +28,11 @@ use denote.Slice.{MutSlice, slice_val}
 use denote.Steps.{nothing, heard, opens}
 use denote.Triple.Entry.{alive}
 use denote.Triple.Walked.{Stays, stay_dropped, walk_of, Goes-dropped, Goes-spent_ref}
-use Rattle.std.proofs.VecSteps.Shapes.{after}
-use Rattle.std.proofs.raw_atomic.Walks.{proved_at, leaves}
 use Rattle.std_alloc.proofs.RcSteps.{Ptr-Good}
-use Rattle.phys_mem.specs.Contents.{with_inside}
-use Rattle.phys_mem.specs.Window.{window_of, with_window}
-use Rattle.phys_mem.proofs.Deeds.{Empty}
-use Rattle.phys_mem.proofs.Parts.{Around, part_out, part_in, window_long}
+use Rattle.phys_mem.specs.{Contents.with_inside, Window.window_of, Window.with_window, declared.contents.Contents.Contents}
+use Rattle.phys_mem.specs.{contracts.block.lend.ended, contracts.block.lend.clauses, contracts.block.lend.Key.name as the_key}
+use Rattle.phys_mem.proofs.{Deeds.Empty, Parts.Around, Parts.part_out, Parts.part_in, Parts.window_long, block.lend.Statement.statement}
 use Rattle.phys_mem.specs.contracts.contents.Contents as contents
-use Rattle.phys_mem.specs.declared.contents.Contents.{Contents}
-use Rattle.phys_mem.specs.contracts.block.lend.{ended, clauses}
-use Rattle.phys_mem.specs.contracts.block.lend.Key.{name as the_key}
-use Rattle.phys_mem.proofs.block.lend.Statement.{statement}
 use Rattle.phys_mem.proofs.block.lend.Code as code
 
 module _ {M : Type 1} {𝓤 : Ura M} (𝓛 : Logic 𝓤) (d : Contents) (rb ro b o from len : ℕ) (at : d.at ≡ block_ptr b o) (within : from + len ≤ length d.bytes) where

@@ -1,5 +1,7 @@
 -- `settle` takes the bytes from `dislodge`.
 use Rattle.std.proofs.Common.{◌≡◌, ◌^◌, ◌<◌, List, [], ◌∷◌, ◌++◌, length, refl, w64}
+use Rattle.std.proofs.{alloc.Calls.Goes-blank, mem.Timeless.timeless, mem.Timeless.timeless_laws}
+use Rattle.std.proofs.raw_atomic.Walks.{proved_at, leaves}
 use mir.Syntax.{Fn}
 use mir.Val.{Val, vint}
 use base.Fraction.{full_share}
@@ -22,18 +24,13 @@ use denote.Triple.Call.{calls_at}
 use denote.Triple.Entry.{alive}
 use denote.Triple.Table.{framed}
 use denote.Triple.Walked.{Stays, stay_dropped, walk_of}
-use Rattle.std.proofs.alloc.Calls.{Goes-blank}
-use Rattle.std.proofs.mem.Timeless.{timeless, timeless_laws}
-use Rattle.std.proofs.raw_atomic.Walks.{proved_at, leaves}
 use Rattle.std_alloc.specs.Vec.Ownership.{lodged}
 use Rattle.std_alloc.proofs.vec.lodged.Vec+T+Lodged.dislodge.Met as dislodge_met
 use Rattle.std_collections.proofs.TreeMemory.Lodging.{Row, row_laws, tells, Dislodges, at_dislodge, dislodge_goes, dislodge_gives}
-use Rattle.phys_mem.proofs.Deeds.{Empty, mark, mark_made}
-use Rattle.phys_mem.proofs.Rooms.{Byte, byte_laws, filled}
-use Rattle.phys_mem.specs.contracts.contents.Contents as contents
-use Rattle.phys_mem.specs.contracts.block.settle.{ended, clauses}
-use Rattle.phys_mem.specs.contracts.block.settle.Key.{name as the_key}
+use Rattle.phys_mem.proofs.{Deeds.Empty, Deeds.mark, Deeds.mark_made, Rooms.Byte, Rooms.byte_laws, Rooms.filled}
 use Rattle.phys_mem.proofs.block.settle.Statement.{statement}
+use Rattle.phys_mem.specs.contracts.contents.Contents as contents
+use Rattle.phys_mem.specs.{contracts.block.settle.ended, contracts.block.settle.clauses, contracts.block.settle.Key.name as the_key}
 use Rattle.phys_mem.proofs.block.settle.Code as code
 
 pub settle_spec : {M : Type 1} → statement M

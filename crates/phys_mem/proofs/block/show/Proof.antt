@@ -1,5 +1,6 @@
 -- `show` makes a slice of what the `&` to the contents shows.
 use Rattle.std.proofs.Common.{◌≡◌, ◌*◌, ◌^◌, ◌<◌, List, [], ◌∷◌, ◌++◌, length, refl, sym, ap, arith, w64}
+use Rattle.std.proofs.{VecSteps.Shapes.after, raw_atomic.Walks.proved_at, raw_atomic.Walks.leaves}
 use mir.Syntax.{Fn, ty_ptr}
 use mir.Val.{Val, vint, vptr}
 use base.Fraction.{full_share}
@@ -25,12 +26,9 @@ use denote.Steps.{nothing, heard}
 use denote.Struct.Lending.{lent_at}
 use denote.Triple.Entry.{alive}
 use denote.Triple.Walked.{Stays, stay_dropped, walk_of, Goes-dropped}
-use Rattle.std.proofs.VecSteps.Shapes.{after}
-use Rattle.std.proofs.raw_atomic.Walks.{proved_at, leaves}
 use Rattle.std_alloc.proofs.RcSteps.{Ptr-Good}
 use Rattle.phys_mem.specs.contracts.contents.Contents as contents
-use Rattle.phys_mem.specs.contracts.block.show.{ended, clauses}
-use Rattle.phys_mem.specs.contracts.block.show.Key.{name as the_key}
+use Rattle.phys_mem.specs.{contracts.block.show.ended, contracts.block.show.clauses, contracts.block.show.Key.name as the_key}
 use Rattle.phys_mem.proofs.block.show.Statement.{statement}
 use Rattle.phys_mem.proofs.block.show.Code as code
 

@@ -1,5 +1,8 @@
 -- `take` lodges an empty list on the room that the allocator gave, and keeps the right to give it back.
 use Rattle.std.proofs.Common.{◌≡◌, ℕ, ◌*◌, ◌^◌, ◌<◌, List, [], ◌∷◌, ◌++◌, refl, sym, ap, ◌∙◌, subst, arith, lit<, true, false, w64, Ok, Err, Vec}
+use Rattle.std.proofs.alloc.Calls.{Al, seen, Takes, at_takes, Answered, Answer-typed, Takes-goes, Takes-gives, answers}
+use Rattle.std.proofs.VecSteps.Shapes.{after, head, arm_body}
+use Rattle.std.proofs.{mem.Timeless.timeless, mem.Timeless.timeless_laws, raw_atomic.Walks.proved_at, raw_atomic.Walks.leaves}
 use mir.Syntax.{Ty, Fn, Args, Body, a_type, dcons, dnil, ty_array, ty_int, w8}
 use mir.Val.{Val, vint, vptr, of_list}
 use mir.MapTy.{inst_fn}
@@ -20,7 +23,8 @@ use denote.RattleType.{RattleType, owns}
 use denote.RawPtr.{Ptr, block_ptr}
 use denote.Param.{param, bounded, layout}
 use denote.Param.Laws.{param_laws}
-use Rattle.std_alloc.proofs.RcSteps.{Good, first_Good}
+use Rattle.std_alloc.proofs.{RcSteps.Good, RcSteps.first_Good, Pairs.pair_of, Pairs.pair_val, Pairs.pair_Typed}
+use Rattle.std_alloc.proofs.ResultValues.{ok_of, err_of}
 use denote.Signature.{Slot, plain, types_at, type_at}
 use denote.Steps.{nothing, heard, only}
 use denote.Struct.Tuple.{Tuple}
@@ -28,23 +32,14 @@ use denote.Triple.Call.{calls_at, calls_at_last}
 use denote.Triple.Entry.{alive}
 use denote.Triple.Table.{framed}
 use denote.Triple.Walked.{Stays, stay_dropped, walk_of, Goes-dropped}
-use Rattle.std.proofs.alloc.Calls.{Al, seen, Takes, at_takes, Answered, Answer-typed, Takes-goes, Takes-gives, answers}
-use Rattle.std.proofs.VecSteps.Shapes.{after, head, arm_body}
-use Rattle.std.proofs.mem.Timeless.{timeless, timeless_laws}
-use Rattle.std.proofs.raw_atomic.Walks.{proved_at, leaves}
 use Rattle.std.specs.contracts.alloc.AllocError as AE
-use Rattle.std_alloc.specs.Vec.Ownership.{lodged}
-use Rattle.std_alloc.specs.declared.vec.lodged.Lodged.{Lodged}
-use Rattle.std_alloc.proofs.Pairs.{pair_of, pair_val, pair_Typed}
-use Rattle.std_alloc.proofs.ResultValues.{ok_of, err_of}
+use Rattle.std_alloc.specs.{Vec.Ownership.lodged, declared.vec.lodged.Lodged.Lodged}
 use Rattle.std_alloc.proofs.vec.lodge.Met as lodge_met
 use Rattle.std_collections.proofs.TreeMemory.Lodging.{Row, row_laws, tells, Lodges, at_lodge, Lodged_as, lodge_gives}
-use Rattle.phys_mem.proofs.Rooms.{Byte, byte_laws, no_bytes_yet, lodge_goes}
+use Rattle.phys_mem.proofs.{Rooms.Byte, Rooms.byte_laws, Rooms.no_bytes_yet, Rooms.lodge_goes, block.take.Statement.statement}
 use Rattle.phys_mem.proofs.Deeds.{mark, mark_made, deed_val, deed_fields, deed_made}
 use Rattle.phys_mem.specs.contracts.deed.Deed as deed
-use Rattle.phys_mem.specs.contracts.block.take.{ended, clauses}
-use Rattle.phys_mem.specs.contracts.block.take.Key.{name as the_key}
-use Rattle.phys_mem.proofs.block.take.Statement.{statement}
+use Rattle.phys_mem.specs.{contracts.block.take.ended, contracts.block.take.clauses, contracts.block.take.Key.name as the_key}
 use Rattle.phys_mem.proofs.block.take.Code as code
 
 pub take_spec : {M : Type 1} → statement M

@@ -1,9 +1,5 @@
-use Rattle.std.proofs.Common.{sym, subst, ◌∙◌, arith}
-use Rattle.std.proofs.lemmas.Bool.Decides.{nat_tests}
-use Rattle.std.proofs.lemmas.Result.{err_from_is_err_and}
-use Rattle.qpu_asm.specs.Labels.{read_lines}
-use Rattle.qpu_asm.specs.Assembly.{IsFaultOf}
-use Rattle.qpu_asm.specs.Marks.{AreFirstBelow}
+use Rattle.std.proofs.{Common.sym, Common.subst, Common.◌∙◌, Common.arith, lemmas.Bool.Decides.nat_tests, lemmas.Result.err_from_is_err_and}
+use Rattle.qpu_asm.specs.{Labels.read_lines, Assembly.IsFaultOf, Marks.AreFirstBelow}
 use Rattle.qpu_asm.proofs.Assembling.{lines_first, first_parts, words_begin, words_step, fault_step, words_end}
 use Rattle.qpu_asm.proofs.Faults.{answers_words, answers_least}
 use Rattle.qpu_asm.proofs.assembler.assemble.Goals as goal

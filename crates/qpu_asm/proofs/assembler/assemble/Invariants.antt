@@ -1,9 +1,5 @@
 use Rattle.std.proofs.Common.{◌≡◌, ◌≤◌, ◌+◌, length, vec_len}
-use Rattle.qpu_asm.specs.Labels.{read_lines}
-use Rattle.qpu_asm.specs.Assembly.{Assembled}
-use Rattle.qpu_asm.specs.Walk.{lines_words}
-use Rattle.qpu_asm.specs.Marks.{AreFirstBelow}
-use Rattle.qpu_asm.specs.Seen.{spots_in}
+use Rattle.qpu_asm.specs.{Labels.read_lines, Assembly.Assembled, Walk.lines_words, Marks.AreFirstBelow, Seen.spots_in}
 use Rattle.qpu_asm.proofs.assembler.assemble.Given as goal
 
 abbrev pub invariant-loop-rest : goal.invariant-loop-rest

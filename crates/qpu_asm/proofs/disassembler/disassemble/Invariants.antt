@@ -1,7 +1,6 @@
 use Rattle.std.proofs.Common.{◌≡◌, ◌≤◌, take, length}
 use Rattle.std.specs.List.{flat_map}
-use Rattle.qpu_asm.specs.Walk.{written}
-use Rattle.qpu_asm.specs.Printed.{line_text}
+use Rattle.qpu_asm.specs.{Walk.written, Printed.line_text}
 use Rattle.qpu_asm.proofs.disassembler.disassemble.Given as goal
 
 abbrev pub invariant-loop-word : goal.invariant-loop-word

@@ -1,6 +1,5 @@
 use Rattle.std.proofs.Common.{◌≡◌, map, length}
-use Rattle.qpu_asm.specs.Printed.{name_of as name_in}
-use Rattle.qpu_asm.specs.Seen.{named_seen}
+use Rattle.qpu_asm.specs.{Printed.name_of as name_in, Seen.named_seen}
 use Rattle.qpu_asm.proofs.field.name_of.Given as goal
 
 abbrev pub invariant-loop-one : goal.invariant-loop-one

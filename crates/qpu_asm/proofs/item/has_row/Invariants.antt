@@ -1,6 +1,5 @@
 use Rattle.std.proofs.Common.{◌≡◌, length}
-use Rattle.qpu_asm.specs.Items.{has_row}
-use Rattle.qpu_asm.specs.Seen.{rows_seen}
+use Rattle.qpu_asm.specs.{Items.has_row, Seen.rows_seen}
 use Rattle.qpu_asm.proofs.item.has_row.Given as goal
 
 abbrev pub invariant-loop-row : goal.invariant-loop-row

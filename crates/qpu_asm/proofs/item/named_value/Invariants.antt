@@ -1,6 +1,5 @@
 use Rattle.std.proofs.Common.{◌≡◌, map, length}
-use Rattle.qpu_asm.specs.Items.{find_named}
-use Rattle.qpu_asm.specs.Seen.{named_seen}
+use Rattle.qpu_asm.specs.{Items.find_named, Seen.named_seen}
 use Rattle.qpu_asm.proofs.item.named_value.Given as goal
 
 abbrev pub invariant-loop-one : goal.invariant-loop-one

@@ -1,6 +1,5 @@
 use Rattle.std.proofs.Common.{sym, ◌∙◌, ap}
-use Rattle.qpu_asm.specs.Walk.{read_items, closed_word, kind_code}
-use Rattle.qpu_asm.specs.Seen.{rows_seen, spots_in}
+use Rattle.qpu_asm.specs.{Walk.read_items, Walk.closed_word, Walk.kind_code, Seen.rows_seen, Seen.spots_in}
 use Rattle.qpu_asm.proofs.item.read_items.Goals as goal
 
 pub loop-cut-preserved : goal.loop-cut-preserved

@@ -1,7 +1,5 @@
 use Rattle.std.proofs.Common.{◌≡◌, length, None}
-use Rattle.qpu_asm.specs.Lines.{words_of}
-use Rattle.qpu_asm.specs.Walk.{read_items}
-use Rattle.qpu_asm.specs.Seen.{rows_seen, spots_in}
+use Rattle.qpu_asm.specs.{Lines.words_of, Walk.read_items, Seen.rows_seen, Seen.spots_in}
 use Rattle.qpu_asm.proofs.item.read_items.Given as goal
 
 abbrev pub invariant-loop-cut : goal.invariant-loop-cut

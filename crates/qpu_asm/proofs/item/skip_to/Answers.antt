@@ -1,7 +1,7 @@
 use Rattle.std.proofs.Common.{sym, ◌∙◌}
 use Rattle.qpu_asm.specs.Seen.{row_seen, spots_in}
-use Rattle.qpu_asm.proofs.Rows.{row_below}
 use Rattle.qpu_asm.proofs.Reading.{default_facts, default_room, default_small, default_open, open_first, skip_reaches, skip_passes, skip_ends, value_small}
+use Rattle.qpu_asm.proofs.Rows.{row_below}
 use Rattle.qpu_asm.proofs.item.skip_to.Goals as goal
 
 pub read_value-requires : goal.read_value-requires

@@ -1,7 +1,5 @@
 use Rattle.std.proofs.Common.{◌≡◌, length}
-use Rattle.qpu_asm.specs.Items.{read_value}
-use Rattle.qpu_asm.specs.Walk.{skip_to, IsOpen}
-use Rattle.qpu_asm.specs.Seen.{rows_seen, spots_in}
+use Rattle.qpu_asm.specs.{Items.read_value, Walk.skip_to, Walk.IsOpen, Seen.rows_seen, Seen.spots_in}
 use Rattle.qpu_asm.proofs.item.skip_to.Given as goal
 
 abbrev pub invariant-loop-row : goal.invariant-loop-row

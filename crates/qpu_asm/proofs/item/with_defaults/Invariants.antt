@@ -1,8 +1,6 @@
 use Rattle.std.proofs.Common.{◌≡◌, length}
 use Rattle.qpu_isa.specs.Fields.{joined}
-use Rattle.qpu_asm.specs.Table.{widths_of, fallbacks_of}
-use Rattle.qpu_asm.specs.Walk.{IsOpen}
-use Rattle.qpu_asm.specs.Seen.{rows_seen}
+use Rattle.qpu_asm.specs.{Table.widths_of, Table.fallbacks_of, Walk.IsOpen, Seen.rows_seen}
 use Rattle.qpu_asm.proofs.item.with_defaults.Given as goal
 
 abbrev pub invariant-loop-row : goal.invariant-loop-row

@@ -1,7 +1,5 @@
-use Rattle.std.proofs.Common.{subst}
-use Rattle.std.proofs.lemmas.List.Sorted.{Contains-permutation}
-use Rattle.qpu_asm.specs.Labels.{read_lines, labels_of}
-use Rattle.qpu_asm.specs.Marks.{AreFirstBelow, BoundsRepeats}
+use Rattle.std.proofs.{Common.subst, lemmas.List.Sorted.Contains-permutation}
+use Rattle.qpu_asm.specs.{Labels.read_lines, Labels.labels_of, Marks.AreFirstBelow, Marks.BoundsRepeats}
 use Rattle.qpu_asm.proofs.Sorting.{far, sorted_labels, firsts_below}
 use Rattle.qpu_asm.proofs.label.find_labels.Goals as goal
 

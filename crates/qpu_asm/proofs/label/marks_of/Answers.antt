@@ -1,7 +1,5 @@
-use Rattle.std.proofs.Common.{sym, ◌∙◌, arith, refl}
-use Rattle.std.proofs.lemmas.Bool.Decides.{nat_tests}
-use Rattle.qpu_asm.specs.Labels.{labels_of}
-use Rattle.qpu_asm.specs.Seen.{line_seen}
+use Rattle.std.proofs.{Common.sym, Common.◌∙◌, Common.arith, Common.refl, lemmas.Bool.Decides.nat_tests}
+use Rattle.qpu_asm.specs.{Labels.labels_of, Seen.line_seen}
 use Rattle.qpu_asm.proofs.Assembling.{lines_first, labels_step, labels_end, size_low}
 use Rattle.qpu_asm.proofs.label.marks_of.Goals as goal
 

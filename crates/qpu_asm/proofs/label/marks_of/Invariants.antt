@@ -1,6 +1,5 @@
 use Rattle.std.proofs.Common.{◌≡◌, ◌≤◌, ◌+◌, ◌++◌, length, map}
-use Rattle.qpu_asm.specs.Labels.{labels_from, labels_of, read_lines}
-use Rattle.qpu_asm.specs.Seen.{mark_seen}
+use Rattle.qpu_asm.specs.{Labels.labels_from, Labels.labels_of, Labels.read_lines, Seen.mark_seen}
 use Rattle.qpu_asm.proofs.label.marks_of.Given as goal
 
 abbrev pub invariant-loop-rest : goal.invariant-loop-rest

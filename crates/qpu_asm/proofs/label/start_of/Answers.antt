@@ -1,7 +1,5 @@
-use Rattle.std.proofs.Common.{rules, arith}
-use Rattle.std.specs.Cmp.Lexicographic.{slice_cmp}
-use Rattle.std.specs.Ordering.{nat_cmp, is_lt}
-use Rattle.std.proofs.lemmas.List.Sorted.{IsPartitionPoint-from_clause}
+use Rattle.std.proofs.{Common.rules, Common.arith, lemmas.List.Sorted.IsPartitionPoint-from_clause}
+use Rattle.std.specs.{Cmp.Lexicographic.slice_cmp, Ordering.nat_cmp, Ordering.is_lt}
 use Rattle.qpu_asm.proofs.Sorting.{names_part}
 use Rattle.qpu_asm.proofs.label.start_of.Goals as goal
 

@@ -1,7 +1,5 @@
 use Rattle.std.proofs.Common.{◌≡◌, ◌≤◌, ◌+◌, length, true}
-use Rattle.qpu_asm.specs.Place.{placed_words, item_place}
-use Rattle.qpu_asm.specs.Seen.{rows_seen, spots_in}
-use Rattle.qpu_asm.specs.Walk.{are_ready}
+use Rattle.qpu_asm.specs.{Place.placed_words, Place.item_place, Seen.rows_seen, Seen.spots_in, Walk.are_ready}
 use Rattle.qpu_asm.proofs.place.item_place.Given as goal
 
 -- the rows that may still come are ready, and the items that are left tell what all of them tell

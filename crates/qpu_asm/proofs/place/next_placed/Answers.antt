@@ -1,5 +1,4 @@
-use Rattle.std.proofs.Common.{sym, ◌∙◌, arith}
-use Rattle.std.proofs.lemmas.Bool.Decides.{nat_tests}
+use Rattle.std.proofs.{Common.sym, Common.◌∙◌, Common.arith, lemmas.Bool.Decides.nat_tests}
 use Rattle.qpu_asm.proofs.Placing.{placed_none}
 use Rattle.qpu_asm.proofs.place.next_placed.Goals as goal
 

@@ -1,6 +1,5 @@
 use Rattle.std.proofs.Common.{sym, ◌∙◌}
-use Rattle.qpu_asm.proofs.Rows.{ready_first}
-use Rattle.qpu_asm.proofs.Placing.{behind_passes}
+use Rattle.qpu_asm.proofs.{Rows.ready_first, Placing.behind_passes}
 use Rattle.qpu_asm.proofs.place.rows_behind.Goals as goal
 
 pub returns-then-is_row-clause-ready : goal.returns-then-is_row-clause-ready

@@ -1,7 +1,5 @@
 use Rattle.std.proofs.Common.{◌≡◌, length, true}
-use Rattle.qpu_asm.specs.Faults.{rows_behind}
-use Rattle.qpu_asm.specs.Seen.{rows_seen}
-use Rattle.qpu_asm.specs.Walk.{are_ready}
+use Rattle.qpu_asm.specs.{Faults.rows_behind, Seen.rows_seen, Walk.are_ready}
 use Rattle.qpu_asm.proofs.place.rows_behind.Given as goal
 
 abbrev pub invariant-loop-row : goal.invariant-loop-row

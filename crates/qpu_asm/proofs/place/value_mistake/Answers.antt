@@ -1,8 +1,6 @@
 use Rattle.std.proofs.Common.{sym, ◌∙◌, ap}
-use Rattle.qpu_asm.specs.Seen.{row_seen, spots_in}
-use Rattle.qpu_asm.specs.Items.{read_value}
-use Rattle.qpu_asm.proofs.Rows.{row_below, ready_first}
-use Rattle.qpu_asm.proofs.Placing.{value_passes}
+use Rattle.qpu_asm.specs.{Seen.row_seen, Seen.spots_in, Items.read_value}
+use Rattle.qpu_asm.proofs.{Rows.row_below, Rows.ready_first, Placing.value_passes}
 use Rattle.qpu_asm.proofs.place.value_mistake.Goals as goal
 
 pub read_value-requires : goal.read_value-requires

@@ -1,8 +1,5 @@
 use Rattle.std.proofs.Common.{◌≡◌, length, true}
-use Rattle.qpu_asm.specs.Faults.{value_mistakes}
-use Rattle.qpu_asm.specs.Items.{read_value}
-use Rattle.qpu_asm.specs.Seen.{rows_seen, spots_in}
-use Rattle.qpu_asm.specs.Walk.{are_ready}
+use Rattle.qpu_asm.specs.{Faults.value_mistakes, Items.read_value, Seen.rows_seen, Seen.spots_in, Walk.are_ready}
 use Rattle.qpu_asm.proofs.place.value_mistake.Given as goal
 
 abbrev pub invariant-loop-row : goal.invariant-loop-row

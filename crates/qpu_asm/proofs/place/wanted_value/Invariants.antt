@@ -1,6 +1,5 @@
 use Rattle.std.proofs.Common.{◌≡◌, length}
-use Rattle.qpu_asm.specs.Place.{wanted_value}
-use Rattle.qpu_asm.specs.Seen.{rows_seen}
+use Rattle.qpu_asm.specs.{Place.wanted_value, Seen.rows_seen}
 use Rattle.qpu_asm.proofs.place.wanted_value.Given as goal
 
 abbrev pub invariant-loop-row : goal.invariant-loop-row

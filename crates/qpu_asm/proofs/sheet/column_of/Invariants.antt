@@ -1,6 +1,5 @@
 use Rattle.std.proofs.Common.{◌-◌, length}
-use Rattle.qpu_asm.specs.Seen.{row_seen}
-use Rattle.qpu_asm.specs.Walk.{AreTexts}
+use Rattle.qpu_asm.specs.{Seen.row_seen, Walk.AreTexts}
 use Rattle.qpu_asm.proofs.sheet.column_of.Given as goal
 
 abbrev pub invariant-loop-alloc : goal.invariant-loop-alloc

@@ -1,10 +1,7 @@
 use Rattle.std.proofs.Common.{arith, sym, ◌∙◌, ap, ◌++◌, take, append-nil, ◌≡◌, ◌-◌}
 use Rattle.qpu_isa.specs.Fields.{width_of}
-use Rattle.qpu_asm.specs.Table.{widths_of}
-use Rattle.qpu_asm.specs.Walk.{field_text}
-use Rattle.qpu_asm.specs.Printed.{rows_text}
-use Rattle.qpu_asm.proofs.Rows.{width_by, ready_by, text_first, text_none}
-use Rattle.qpu_asm.proofs.Rooms.{put_then}
+use Rattle.qpu_asm.specs.{Table.widths_of, Walk.field_text, Printed.rows_text}
+use Rattle.qpu_asm.proofs.{Rows.width_by, Rows.ready_by, Rows.text_first, Rows.text_none, Rooms.put_then}
 use Rattle.qpu_asm.proofs.sheet.put_fields.Goals as goal
 
 pub overflow_sub-low : goal.overflow_sub-low

@@ -1,8 +1,6 @@
 use Rattle.std.proofs.Common.{◌≡◌, ◌≤◌, length, true}
 use Rattle.qpu_isa.specs.Fields.{width_of}
-use Rattle.qpu_asm.specs.Table.{widths_of}
-use Rattle.qpu_asm.specs.Walk.{are_ready, followed}
-use Rattle.qpu_asm.specs.Printed.{rows_text}
+use Rattle.qpu_asm.specs.{Table.widths_of, Walk.are_ready, Walk.followed, Printed.rows_text}
 use Rattle.qpu_asm.proofs.sheet.put_fields.Given as goal
 
 abbrev pub invariant-loop-column : goal.invariant-loop-column

@@ -1,7 +1,6 @@
 use Rattle.std.proofs.Common.{◌≡◌, ◌+◌, length}
 use Rattle.qpu_isa.specs.Fields.{width_of}
-use Rattle.qpu_asm.specs.Table.{widths_of}
-use Rattle.qpu_asm.specs.Seen.{rows_seen}
+use Rattle.qpu_asm.specs.{Table.widths_of, Seen.rows_seen}
 use Rattle.qpu_asm.proofs.sheet.total_width.Given as goal
 
 abbrev pub invariant-loop-row : goal.invariant-loop-row

@@ -1,6 +1,5 @@
 -- Each read goes one element on.
-use Rattle.std.proofs.Common.{◌∙◌, arith}
-use Rattle.std.proofs.lemmas.List.{length-set}
+use Rattle.std.proofs.{Common.◌∙◌, Common.arith, lemmas.List.length-set}
 use Rattle.qpu_machine.proofs.Asking.{direct_more, direct_end}
 use Rattle.qpu_machine.proofs.request.read_words.Goals as goal
 

@@ -2,8 +2,7 @@
 use Rattle.std.proofs.Common.{sym, subst, Some, []}
 use Rattle.machine_plan.specs.Plan.{Shows, carried}
 use Rattle.machine_plan.proofs.Worlds.{shows_mapped}
-use Rattle.qpu_machine.specs.State.{Ask}
-use Rattle.qpu_machine.specs.Request.{direct_plan, ask_plan}
+use Rattle.qpu_machine.specs.{State.Ask, Request.direct_plan, Request.ask_plan}
 use Rattle.qpu_machine.proofs.request.serve.Goals as goal
 
 pub returns-in-Direct : goal.returns-in-Direct

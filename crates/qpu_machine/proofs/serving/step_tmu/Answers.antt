@@ -1,8 +1,7 @@
 -- A TMU's oldest request is served.
 use Rattle.std.proofs.Common.{◌<◌, ◌∙◌, sym, ap, subst, Some, None}
 use Rattle.std.specs.Prelude.{option_map}
-use Rattle.qpu_machine.specs.Qpu.{slot_of, served, given}
-use Rattle.qpu_machine.specs.Bounds.{IsBounded, finished0, finished1}
+use Rattle.qpu_machine.specs.{Qpu.slot_of, Qpu.served, Qpu.given, Bounds.IsBounded, Bounds.finished0, Bounds.finished1}
 use Rattle.qpu_machine.proofs.Served.{give_room0, give_room1, dropped_bounded, given_bounded, tmu_shows}
 use Rattle.qpu_machine.proofs.serving.step_tmu.Goals as goal
 

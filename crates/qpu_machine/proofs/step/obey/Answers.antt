@@ -1,7 +1,6 @@
 -- The three ways of an instruction.
 use Rattle.std.proofs.Common.{◌≡◌, ◌∙◌, sym, ap}
-use Rattle.qpu_machine.specs.Writes.{awake, past_uniform}
-use Rattle.qpu_machine.specs.Step.{executed, turn_of}
+use Rattle.qpu_machine.specs.{Writes.awake, Writes.past_uniform, Step.executed, Step.turn_of}
 use Rattle.qpu_machine.proofs.Shown.{wild_shows, takes_shows, plain_shows}
 use Rattle.qpu_machine.proofs.step.obey.Goals as goal
 

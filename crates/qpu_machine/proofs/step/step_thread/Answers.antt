@@ -2,8 +2,7 @@
 use Rattle.std.proofs.Common.{◌≡◌, ◌∙◌, ap, arith}
 use Rattle.std.specs.Int.{from_le_bytes, w64}
 use Rattle.machine_plan.specs.Memory.{bytes_at}
-use Rattle.qpu_machine.proofs.Near.{ends_near}
-use Rattle.qpu_machine.proofs.Shown.{thread_shows}
+use Rattle.qpu_machine.proofs.{Near.ends_near, Shown.thread_shows}
 use Rattle.qpu_machine.proofs.step.step_thread.Goals as goal
 
 pub returns-clause-shows : goal.returns-clause-shows

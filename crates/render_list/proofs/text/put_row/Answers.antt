@@ -2,8 +2,7 @@ use Rattle.std.proofs.Common.{◌+◌, ◌-◌, arith}
 use Rattle.packets.specs.Packet.{slots_text}
 use Rattle.packets.proofs.Underway.{begins, next_room, goes_on, ends}
 use Rattle.render_list.specs.Text.{tile_slots, row_slots, span_slots}
-use Rattle.render_list.proofs.Places.{tile_fits}
-use Rattle.render_list.proofs.Rows.{span_step, span_end}
+use Rattle.render_list.proofs.{Places.tile_fits, Rows.span_step, Rows.span_end}
 use Rattle.render_list.proofs.text.put_row.Goals as goal
 
 pub loop-x-init : goal.loop-x-init

@@ -1,7 +1,6 @@
 -- The accesses of one step more are kept; at the end the log is that of the steps that were.
 use Rattle.std.proofs.Common.{◌≡◌, ◌≤◌, ◌∙◌, ◌++◌, ap, length, refl, subst, arith}
-use Rattle.replay.specs.declared.trace.Ending.TheVariants.{Spent}
-use Rattle.replay.specs.Run.{numbered}
+use Rattle.replay.specs.{declared.trace.Ending.TheVariants.Spent, Run.numbered}
 use Rattle.replay.proofs.Going.{noted_more, log_over, log_spent}
 use Rattle.replay.proofs.follow.note.Goals as goal
 

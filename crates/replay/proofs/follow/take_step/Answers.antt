@@ -1,8 +1,7 @@
 -- The step is one that the script gave.
 use Rattle.std.proofs.Common.{◌≡◌, ◌<◌, ◌∙◌, refl, subst, ap, length, slice_index, arith}
 use Rattle.std.proofs.lemmas.List.{length-take-le}
-use Rattle.replay.specs.Trace.{line_of}
-use Rattle.replay.specs.Units.{unit_at, candidates}
+use Rattle.replay.specs.{Trace.line_of, Units.unit_at, Units.candidates}
 use Rattle.replay.proofs.Going.{unit_may, steps_by}
 use Rattle.replay.proofs.follow.take_step.Goals as goal
 

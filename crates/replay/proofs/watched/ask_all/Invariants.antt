@@ -1,7 +1,6 @@
 -- The units so far are asked.
 use Rattle.std.proofs.Common.{◌≡◌, ◌<◌, ◌+◌, ◌*◌, ℕ, length}
-use Rattle.replay.specs.Units.{unit_count}
-use Rattle.replay.specs.Watched.{IsRight}
+use Rattle.replay.specs.{Units.unit_count, Watched.IsRight}
 use Rattle.replay.proofs.watched.ask_all.Given as goal
 
 abbrev pub invariant-loop-k : goal.invariant-loop-k

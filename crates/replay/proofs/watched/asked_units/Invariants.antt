@@ -1,7 +1,6 @@
 -- The units so far that may step.
 use Rattle.std.proofs.Common.{◌≡◌, ◌≤◌, false, length, slice_index_or}
-use Rattle.std.specs.Prelude.{filter}
-use Rattle.std.specs.List.{range_with_len}
+use Rattle.std.specs.{Prelude.filter, List.range_with_len}
 use Rattle.replay.proofs.watched.asked_units.Given as goal
 
 abbrev pub invariant-loop-n : goal.invariant-loop-n

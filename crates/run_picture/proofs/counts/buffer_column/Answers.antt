@@ -1,7 +1,5 @@
-use Rattle.std.proofs.Common.{ap, sym}
-use Rattle.std.proofs.lemmas.List.{get_or_past}
-use Rattle.buffer_table.specs.Table.{buffer_at, past_end}
-use Rattle.buffer_table.specs.declared.buffer.Buffer.{Buffer}
+use Rattle.std.proofs.{Common.ap, Common.sym, lemmas.List.get_or_past}
+use Rattle.buffer_table.specs.{Table.buffer_at, Table.past_end, declared.buffer.Buffer.Buffer}
 use Rattle.run_picture.specs.Counts.{kind_column}
 use Rattle.run_picture.proofs.counts.buffer_column.Goals as goal
 

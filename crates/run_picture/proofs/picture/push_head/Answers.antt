@@ -1,6 +1,5 @@
-use Rattle.std.proofs.Common.{◌++◌, ◌∙◌, ap}
+use Rattle.std.proofs.{Common.◌++◌, Common.◌∙◌, Common.ap, lemmas.Result.on_ok_weaker}
 use Rattle.std.specs.Prelude.{codes}
-use Rattle.std.proofs.lemmas.Result.{on_ok_weaker}
 use Rattle.dumper.specs.Trace.{ending_name}
 use Rattle.svg.specs.Forest.{forest_text}
 use Rattle.memory_picture.specs.Parts.{label}

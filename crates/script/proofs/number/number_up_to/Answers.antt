@@ -1,6 +1,5 @@
 use Rattle.std.proofs.Common.{sym, arith, ◌∙◌}
-use Rattle.script.proofs.Digits.{digits_after}
-use Rattle.script.proofs.Digits.{number_step, number_end}
+use Rattle.script.proofs.{Digits.digits_after, Digits.number_step, Digits.number_end}
 use Rattle.script.proofs.number.number_up_to.Goals as goal
 
 pub loop-digit-preserved : goal.loop-digit-preserved

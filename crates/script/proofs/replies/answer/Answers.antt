@@ -1,5 +1,4 @@
-use Rattle.std.proofs.Common.{◌≤◌, length, string_bytes, sym, ◌∙◌, arith}
-use Rattle.std.proofs.lemmas.Bool.Decides.{nat_tests}
+use Rattle.std.proofs.{Common.◌≤◌, Common.length, Common.string_bytes, Common.sym, Common.◌∙◌, Common.arith, lemmas.Bool.Decides.nat_tests}
 use Rattle.script.proofs.Answered.{answered_more, answered_all}
 use Rattle.script.proofs.replies.answer.Goals as goal
 

@@ -1,6 +1,4 @@
-use Rattle.std.proofs.Common.{sym, ◌∙◌, arith}
-use Rattle.std.proofs.lemmas.Bool.Decides.{nat_tests}
-use Rattle.std.proofs.Common.{◌≤◌, length}
+use Rattle.std.proofs.{Common.sym, Common.◌∙◌, Common.arith, lemmas.Bool.Decides.nat_tests, Common.◌≤◌, Common.length}
 use Rattle.script.specs.Lines.{lines_of}
 use Rattle.script.proofs.Answered.{malformed_here, malformed_later, malformed_end}
 use Rattle.script.proofs.replies.first_malformed.Goals as goal

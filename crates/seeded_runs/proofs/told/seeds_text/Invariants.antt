@@ -2,8 +2,7 @@
 use Rattle.std.proofs.Common.{◌≡◌, ◌≤◌, None}
 use Rattle.field_words.specs.Questions.{first_of}
 use Rattle.job_check.specs.Whole.{all_questions}
-use Rattle.job_format.specs.File.{IsFileOf}
-use Rattle.job_format.specs.Reading.{file_at}
+use Rattle.job_format.specs.{File.IsFileOf, Reading.file_at}
 use Rattle.job_safety.specs.Accepted.{machine_of}
 use Rattle.seeded_runs.specs.Told.{AreSeedLines}
 use Rattle.seeded_runs.proofs.told.seeds_text.Given as goal

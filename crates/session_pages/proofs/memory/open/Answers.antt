@@ -1,6 +1,5 @@
 use Rattle.std.proofs.Common.{is_ok, arith}
-use Rattle.session_pages.specs.Kept.{pages_size}
-use Rattle.session_pages.specs.Map.{first_place}
+use Rattle.session_pages.specs.{Kept.pages_size, Map.first_place}
 use Rattle.session_pages.proofs.Kept.{opened_or_not}
 use Rattle.session_pages.proofs.memory.open.Goals as goal
 

@@ -1,13 +1,9 @@
 use Rattle.std.proofs.Common.{length, sym, ◌∙◌}
 use Rattle.field_words.specs.Questions.{each, answered}
-use Rattle.field_words.proofs.Least.{least}
-use Rattle.field_words.proofs.Questions.{passes, refuses_front, answered_none, answered_some}
+use Rattle.field_words.proofs.{Least.least, Questions.passes, Questions.refuses_front, Questions.answered_none, Questions.answered_some}
 use Rattle.shader_flow.specs.Flow.{checked_of}
-use Rattle.shader_check.specs.Rules.{questions_at, fault_at, whole_questions, shader_questions}
-use Rattle.shader_check.proofs.SoundInfo.{info_sound}
-use Rattle.shader_check.proofs.Indexed.{sound_shader}
-use Rattle.shader_check.specs.Least.{IsUpTo}
-use Rattle.shader_check.proofs.Leasts.{order, all_rise, refusal_least}
+use Rattle.shader_check.specs.{Rules.questions_at, Rules.fault_at, Rules.whole_questions, Rules.shader_questions, Least.IsUpTo}
+use Rattle.shader_check.proofs.{SoundInfo.info_sound, Indexed.sound_shader, Leasts.order, Leasts.all_rise, Leasts.refusal_least}
 use Rattle.shader_check.proofs.check.check_shader.Goals as goal
 
 pub returns-in-Err-clause-answers : goal.returns-in-Err-clause-answers

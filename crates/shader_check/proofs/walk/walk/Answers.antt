@@ -1,11 +1,8 @@
 use Rattle.std.proofs.Common.{◌≡◌, ◌≤◌, ◌+◌, ◌-◌, sym, ap, subst, refl, arith, ◌∙◌}
 use Rattle.field_words.specs.Questions.{first_of, each}
 use Rattle.field_words.proofs.Questions.{each_on, each_stop, each_end, answered_none, answered_some}
-use Rattle.shader_flow.specs.Bounded.{indexes, last_below}
-use Rattle.shader_flow.specs.Flow.{checked_of}
-use Rattle.shader_flow.specs.Site.{SiteModel}
-use Rattle.clamp_facts.specs.Facts.{maker_of}
-use Rattle.clamp_facts.specs.Upkeep.{IsTableOf}
+use Rattle.shader_flow.specs.{Bounded.indexes, Bounded.last_below, Flow.checked_of, Site.SiteModel}
+use Rattle.clamp_facts.specs.{Facts.maker_of, Upkeep.IsTableOf}
 use Rattle.clamp_facts.proofs.Entries.{blank_keeps}
 use Rattle.shader_check.specs.Info.{held, held_words, samples_before, samples_of}
 use Rattle.shader_check.specs.Rules.{questions_at, fault_at, index_questions}

@@ -1,10 +1,8 @@
 use Rattle.std.proofs.Common.{◌≡◌, ◌≤◌, ◌+◌, ◌-◌, ◌*◌}
 use Rattle.field_words.specs.Questions.{first_of, each}
 use Rattle.shader_flow.specs.Flow.{checked_of}
-use Rattle.clamp_facts.specs.Facts.{maker_of}
-use Rattle.clamp_facts.specs.Upkeep.{IsTableOf}
-use Rattle.shader_check.specs.Info.{held_words, samples_before}
-use Rattle.shader_check.specs.Rules.{questions_at}
+use Rattle.clamp_facts.specs.{Facts.maker_of, Upkeep.IsTableOf}
+use Rattle.shader_check.specs.{Info.held_words, Info.samples_before, Rules.questions_at}
 use Rattle.shader_check.proofs.walk.walk.Given as goal
 
 abbrev pub invariant-loop-at : goal.invariant-loop-at

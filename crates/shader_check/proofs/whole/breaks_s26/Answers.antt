@@ -1,7 +1,5 @@
-use Rattle.std.proofs.Common.{sym, arith, ◌∙◌}
-use Rattle.std.proofs.lemmas.Bool.{and_from, and_right}
-use Rattle.shader_flow.specs.Bounded.{some_below}
-use Rattle.shader_flow.specs.Flow.{word, checked_of, is_threaded}
+use Rattle.std.proofs.{Common.sym, Common.arith, Common.◌∙◌, lemmas.Bool.and_from, lemmas.Bool.and_right}
+use Rattle.shader_flow.specs.{Bounded.some_below, Flow.word, Flow.checked_of, Flow.is_threaded}
 use Rattle.shader_flow.proofs.Bounded.{some_below_here, some_below_none}
 use Rattle.shader_check.specs.Rules.{uses_upper, s26}
 use Rattle.shader_check.proofs.whole.breaks_s26.Goals as goal

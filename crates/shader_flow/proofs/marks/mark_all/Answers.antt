@@ -1,8 +1,6 @@
 use Rattle.std.proofs.Common.{◌||◌, sym, arith, ◌∙◌, ap, refl}
-use Rattle.shader_flow.specs.Bounded.{some_below}
-use Rattle.shader_flow.specs.Flow.{makes_target}
-use Rattle.shader_flow.proofs.Bounded.{some_below-suc}
-use Rattle.shader_flow.proofs.Ends.{end_of-le}
+use Rattle.shader_flow.specs.{Bounded.some_below, Flow.makes_target}
+use Rattle.shader_flow.proofs.{Bounded.some_below-suc, Ends.end_of-le}
 use Rattle.shader_flow.proofs.marks.mark_all.Goals as goal
 
 pub loop-at-init : goal.loop-at-init

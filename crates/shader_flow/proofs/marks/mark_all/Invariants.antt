@@ -1,6 +1,5 @@
 use Rattle.std.proofs.Common.{◌≡◌, ◌<◌, ℕ, false, length, slice_index_or}
-use Rattle.shader_flow.specs.Bounded.{some_below}
-use Rattle.shader_flow.specs.Flow.{makes_target}
+use Rattle.shader_flow.specs.{Bounded.some_below, Flow.makes_target}
 use Rattle.shader_flow.proofs.marks.mark_all.Given as goal
 
 abbrev pub invariant-loop-at : goal.invariant-loop-at

@@ -1,14 +1,12 @@
 -- One record more stands.
 use Rattle.std.proofs.Common.{◌+◌, sym, ap, ◌∙◌, arith}
-use Rattle.field_words.specs.Writes.{with_bytes}
-use Rattle.field_words.specs.Questions.{first_of}
+use Rattle.field_words.specs.{Writes.with_bytes, Questions.first_of}
 use Rattle.shader_records.specs.Sources.{state_at, source_size, record_source, stream_offset, given_before}
+use Rattle.shader_records.specs.{Rules.record_questions, Emission.record_text, Emission.records_text}
 use Rattle.packets.specs.StateWord.{record_room}
-use Rattle.shader_records.specs.Rules.{record_questions}
-use Rattle.shader_records.specs.Emission.{record_text, records_text}
-use Rattle.shader_records.proofs.Fine.{state_fine}
 use Rattle.shader_records.proofs.Steps.{record_zero, offset_zero, streams_zero, record_next, offset_next, streams_next}
 use Rattle.shader_records.proofs.Lengths.{put_behind, length_record, length_records, records_more, no_records, state_inside}
+use Rattle.shader_records.proofs.Fine.{state_fine}
 use Rattle.shader_records.proofs.emit.put_records.Goals as goal
 
 pub loop-k-init : goal.loop-k-init

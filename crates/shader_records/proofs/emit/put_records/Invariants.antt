@@ -1,8 +1,7 @@
 -- The records of the states so far stand.
 use Rattle.std.proofs.Common.{◌≡◌}
 use Rattle.field_words.specs.Writes.{with_bytes}
-use Rattle.shader_records.specs.Sources.{record_source, record_offset, stream_offset}
-use Rattle.shader_records.specs.Emission.{records_text}
+use Rattle.shader_records.specs.{Sources.record_source, Sources.record_offset, Sources.stream_offset, Emission.records_text}
 use Rattle.shader_records.proofs.emit.put_records.Given as goal
 
 abbrev pub invariant-loop-k : goal.invariant-loop-k

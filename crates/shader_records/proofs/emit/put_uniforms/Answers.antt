@@ -1,13 +1,11 @@
 -- The streams of one state more stand.
 use Rattle.std.proofs.Common.{◌+◌, sym, ap, ◌∙◌, arith}
-use Rattle.field_words.specs.Writes.{with_bytes}
-use Rattle.field_words.specs.Questions.{first_of}
+use Rattle.field_words.specs.{Writes.with_bytes, Questions.first_of}
 use Rattle.shader_records.specs.Sources.{source_size, record_source, uniform_source, stream_offset, shader_used, taken_before, given_before}
-use Rattle.shader_records.specs.Rules.{use_questions}
-use Rattle.shader_records.specs.Emission.{streams_text, uniforms_text}
-use Rattle.shader_records.proofs.Fine.{state_fine}
+use Rattle.shader_records.specs.{Rules.use_questions, Emission.streams_text, Emission.uniforms_text}
 use Rattle.shader_records.proofs.Steps.{record_zero, uniforms_zero, streams_zero, record_next, uniforms_next, streams_next}
 use Rattle.shader_records.proofs.Lengths.{put_behind, length_streams, length_uniforms, uniforms_more, no_uniforms, state_inside}
+use Rattle.shader_records.proofs.Fine.{state_fine}
 use Rattle.shader_records.proofs.emit.put_uniforms.Goals as goal
 
 pub loop-k-init : goal.loop-k-init

@@ -1,8 +1,7 @@
 -- The streams of the states so far stand.
 use Rattle.std.proofs.Common.{◌≡◌}
 use Rattle.field_words.specs.Writes.{with_bytes}
-use Rattle.shader_records.specs.Sources.{record_source, uniform_source, stream_offset}
-use Rattle.shader_records.specs.Emission.{uniforms_text}
+use Rattle.shader_records.specs.{Sources.record_source, Sources.uniform_source, Sources.stream_offset, Emission.uniforms_text}
 use Rattle.shader_records.proofs.emit.put_uniforms.Given as goal
 
 abbrev pub invariant-loop-k : goal.invariant-loop-k

@@ -1,8 +1,7 @@
 -- What is left decides as the whole does, and goes on where the states so far end.
 use Rattle.std.proofs.Common.{◌≡◌, ◌≤◌, ◌-◌, length}
 use Rattle.field_words.specs.Questions.{first_of, each}
-use Rattle.shader_records.specs.Sources.{record_source, uniform_source}
-use Rattle.shader_records.specs.Rules.{state_questions}
+use Rattle.shader_records.specs.{Sources.record_source, Sources.uniform_source, Rules.state_questions}
 use Rattle.shader_records.proofs.faults.first_fault.Given as goal
 
 abbrev pub invariant-loop-k : goal.invariant-loop-k

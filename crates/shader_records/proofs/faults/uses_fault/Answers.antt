@@ -2,8 +2,7 @@
 use Rattle.std.proofs.Common.{ap, sym, ◌∙◌}
 use Rattle.field_words.specs.Questions.{first_of}
 use Rattle.field_words.proofs.Questions.{each_stop}
-use Rattle.shader_records.specs.Sources.{shader_used}
-use Rattle.shader_records.specs.Rules.{use_questions, shader_questions}
+use Rattle.shader_records.specs.{Sources.shader_used, Rules.use_questions, Rules.shader_questions}
 use Rattle.shader_records.proofs.faults.uses_fault.Goals as goal
 
 pub returns-in-Err : goal.returns-in-Err

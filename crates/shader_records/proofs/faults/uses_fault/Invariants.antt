@@ -1,8 +1,7 @@
 -- What is left decides as the whole does, and goes on where the shaders so far end.
 use Rattle.std.proofs.Common.{◌≡◌, ◌≤◌, ◌-◌, ◌+◌, length}
 use Rattle.field_words.specs.Questions.{first_of, each}
-use Rattle.shader_records.specs.Sources.{taken_before}
-use Rattle.shader_records.specs.Rules.{shader_questions}
+use Rattle.shader_records.specs.{Sources.taken_before, Rules.shader_questions}
 use Rattle.shader_records.proofs.faults.uses_fault.Given as goal
 
 abbrev pub invariant-loop-s : goal.invariant-loop-s

@@ -1,13 +1,10 @@
 -- The source's words stand, and then one zero more.
 use Rattle.std.proofs.Common.{◌≡◌, ◌+◌, ◌/◌, ap, ◌∙◌, arith}
 use Rattle.packets.specs.StateWord.{record_room}
-use Rattle.field_words.specs.WordBytes.{word_bytes}
-use Rattle.field_words.specs.Writes.{with_bytes}
+use Rattle.field_words.specs.{WordBytes.word_bytes, Writes.with_bytes}
 use Rattle.field_words.proofs.WordBytes.{same_words, put_next}
-use Rattle.shader_records.specs.Sources.{word_from}
-use Rattle.shader_records.specs.Emission.{plain_word}
-use Rattle.shader_records.proofs.Inside.{record_whole, emitted_in, source_is}
-use Rattle.shader_records.proofs.RecordWords.{plain_from, plain_past}
+use Rattle.shader_records.specs.{Sources.word_from, Emission.plain_word}
+use Rattle.shader_records.proofs.{Inside.record_whole, Inside.emitted_in, Inside.source_is, RecordWords.plain_from, RecordWords.plain_past}
 use Rattle.shader_records.proofs.record_text.put_plain.Goals as goal
 
 pub copy_records-requires-clause-inside : goal.copy_records-requires-clause-inside

@@ -1,8 +1,7 @@
 -- The words so far stand, and those of the source are among them.
 use Rattle.std.proofs.Common.{◌≡◌, ◌≤◌, ◌*◌, ◌/◌}
 use Rattle.packets.specs.StateWord.{record_size, record_room}
-use Rattle.field_words.specs.WordBytes.{word_bytes}
-use Rattle.field_words.specs.Writes.{with_bytes}
+use Rattle.field_words.specs.{WordBytes.word_bytes, Writes.with_bytes}
 use Rattle.shader_records.specs.Emission.{plain_word}
 use Rattle.shader_records.proofs.record_text.put_plain.Given as goal
 

@@ -3,13 +3,11 @@ use Rattle.std.proofs.Common.{◌≡◌, ◌<◌, ◌+◌, ◌*◌, ◌/◌, sli
 use Rattle.std.proofs.lemmas.Bool.{cases_lt}
 use Rattle.packets.specs.StateWord.{attribute_count, record_room}
 use Rattle.emitted_facts.proofs.Records.{header_in, entry_in}
-use Rattle.field_words.specs.WordBytes.{word_bytes}
-use Rattle.field_words.specs.Writes.{with_bytes}
+use Rattle.field_words.specs.{WordBytes.word_bytes, Writes.with_bytes}
 use Rattle.field_words.proofs.WordBytes.{same_words, put_word}
 use Rattle.shader_records.specs.Emission.{emitted_word, plain_word, stream_place, record_text}
-use Rattle.shader_records.proofs.Fine.{source_inside}
-use Rattle.shader_records.proofs.Inside.{fixed_in, emitted_in, source_is, attribute_in}
 use Rattle.shader_records.proofs.RecordWords.{done_word, done_here, done_past, done_others, code_word, stream_word, flags_stay, address_emitted, others_stay}
+use Rattle.shader_records.proofs.{Fine.source_inside, Inside.fixed_in, Inside.emitted_in, Inside.source_is, Inside.attribute_in}
 use Rattle.shader_records.proofs.record_text.put_record.Goals as goal
 
 pub places_of-places-requires-clause-inside : goal.places_of-places-requires-clause-inside

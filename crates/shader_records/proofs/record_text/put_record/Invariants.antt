@@ -1,8 +1,7 @@
 -- The words of the source stand; then with those of the shaders so far, and then of the attributes so far, as they are emitted.
 use Rattle.std.proofs.Common.{◌≡◌, ◌+◌, ◌*◌, ◌/◌}
 use Rattle.packets.specs.StateWord.{record_room}
-use Rattle.field_words.specs.WordBytes.{word_bytes}
-use Rattle.field_words.specs.Writes.{with_bytes}
+use Rattle.field_words.specs.{WordBytes.word_bytes, Writes.with_bytes}
 use Rattle.shader_records.specs.Emission.{stream_place}
 use Rattle.shader_records.proofs.RecordWords.{done_word}
 use Rattle.shader_records.proofs.record_text.put_record.Given as goal

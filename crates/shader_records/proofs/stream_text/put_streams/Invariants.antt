@@ -1,8 +1,7 @@
 -- The streams of the shaders so far stand.
 use Rattle.std.proofs.Common.{◌≡◌}
 use Rattle.field_words.specs.Writes.{with_bytes}
-use Rattle.shader_records.specs.Sources.{taken_before, given_before}
-use Rattle.shader_records.specs.Emission.{streams_text}
+use Rattle.shader_records.specs.{Sources.taken_before, Sources.given_before, Emission.streams_text}
 use Rattle.shader_records.proofs.stream_text.put_streams.Given as goal
 
 abbrev pub invariant-loop-s : goal.invariant-loop-s

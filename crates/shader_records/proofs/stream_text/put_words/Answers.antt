@@ -1,11 +1,9 @@
 use Rattle.std.proofs.Common.{◌≡◌, ◌+◌, ◌*◌, length, sym, ap, ◌∙◌, arith}
-use Rattle.field_words.specs.Writes.{with_bytes}
+use Rattle.field_words.specs.{Writes.with_bytes, Writes.with_bytes}
 use Rattle.field_words.proofs.WordBytes.{same_words, put_word}
 use Rattle.std.specs.Int.{to_le_bytes, w32}
-use Rattle.field_words.specs.Writes.{with_bytes}
 use Rattle.qpu_isa.specs.Shader.{shader_view, sample_at, first_position, address_at}
-use Rattle.shader_records.specs.Sources.{source_word}
-use Rattle.shader_records.specs.Emission.{moved_word, addressed_word}
+use Rattle.shader_records.specs.{Sources.source_word, Emission.moved_word, Emission.addressed_word}
 use Rattle.shader_records.proofs.StreamFacts.{moved_none, moved_here, moved_others, addressed_none, addressed_here, addressed_others}
 use Rattle.shader_records.proofs.stream_text.put_words.Goals as goal
 

@@ -1,7 +1,6 @@
 -- The words of the source stand, with the samples so far moved; and then with the address words so far.
 use Rattle.std.proofs.Common.{◌≡◌}
-use Rattle.field_words.specs.WordBytes.{word_bytes}
-use Rattle.field_words.specs.Writes.{with_bytes}
+use Rattle.field_words.specs.{WordBytes.word_bytes, Writes.with_bytes}
 use Rattle.qpu_isa.specs.Shader.{shader_view}
 use Rattle.shader_records.specs.Emission.{moved_word, addressed_word}
 use Rattle.shader_records.proofs.stream_text.put_words.Given as goal

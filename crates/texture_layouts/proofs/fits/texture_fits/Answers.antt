@@ -2,9 +2,7 @@ use Rattle.std.proofs.Common.{◌≤◌, sym, subst}
 use Rattle.field_words.specs.Least.{IsLeast}
 use Rattle.field_words.proofs.Least.{nothing_stands}
 use Rattle.texture_layouts.specs.Fits.{texture_rules}
-use Rattle.texture_layouts.proofs.Least.{texture_least}
-use Rattle.texture_layouts.proofs.Fetches.{fetches_in}
-use Rattle.texture_layouts.proofs.Inside.{in_buffer}
+use Rattle.texture_layouts.proofs.{Least.texture_least, Fetches.fetches_in, Inside.in_buffer}
 use Rattle.texture_layouts.proofs.fits.texture_fits.Goals as goal
 
 pub returns-in-None-clause-least : goal.returns-in-None-clause-least

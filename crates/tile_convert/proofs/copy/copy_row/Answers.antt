@@ -1,8 +1,7 @@
 use Rattle.std.proofs.Common.{◌≡◌, ◌+◌, ◌*◌, ◌<◌, ◌≤◌, ℕ, List, length, min, sym, ap, subst, arith, ◌∙◌}
 use Rattle.texture_layouts.specs.Surface.{microtile_width_of}
-use Rattle.tile_convert.specs.declared.order.Order.{Order}
+use Rattle.tile_convert.specs.{declared.order.Order.Order, Steps.IsPartCopied, Steps.IsCopied, Steps.HasRow}
 use Rattle.tile_convert.specs.Picture.{place_in, part_offset, parts_across, pixels_there}
-use Rattle.tile_convert.specs.Steps.{IsPartCopied, IsCopied, HasRow}
 use Rattle.tile_convert.proofs.Steps.{part_fits, one_more, whole_row, next_row}
 use Rattle.tile_convert.proofs.copy.copy_row.Goals as goal
 

@@ -1,10 +1,8 @@
 use Rattle.std.proofs.Common.{◌≡◌, ℕ, Some, None, sym, ap, ◌∙◌}
 use Rattle.field_words.specs.Questions.{first_of, answered}
 use Rattle.field_words.proofs.Questions.{passes, stops, answered_none, answered_some}
-use Rattle.texture_layouts.specs.Setup.{texture_of}
-use Rattle.texture_layouts.specs.Fits.{texture_questions}
-use Rattle.tile_convert.specs.declared.level.LevelFault.TheVariants.{Texture}
-use Rattle.tile_convert.specs.Level.{part_questions, level_questions}
+use Rattle.texture_layouts.specs.{Setup.texture_of, Fits.texture_questions}
+use Rattle.tile_convert.specs.{declared.level.LevelFault.TheVariants.Texture, Level.part_questions, Level.level_questions}
 use Rattle.tile_convert.proofs.level.level_fault.Goals as goal
 
 of_texture : (p0 p1 p2 p3 size face level n : ℕ) → first_of (texture_questions p0 p1 p2 p3 size) ≡ Some n

@@ -1,8 +1,6 @@
-use Rattle.std.proofs.Common.{length, sym, ap, subst, ◌∙◌}
-use Rattle.std.proofs.lemmas.Result.{IfOk-weaker}
+use Rattle.std.proofs.{Common.length, Common.sym, Common.ap, Common.subst, Common.◌∙◌, lemmas.Result.IfOk-weaker}
 use Rattle.texture_layouts.specs.Setup.{TextureModel, tiling_at, size_at, level_width_of, level_height_of, level_place_of}
-use Rattle.tile_convert.specs.declared.order.Order.TheVariants.{Rows, Surface}
-use Rattle.tile_convert.specs.Picture.{IsCopy}
+use Rattle.tile_convert.specs.{declared.order.Order.TheVariants.Rows, declared.order.Order.TheVariants.Surface, Picture.IsCopy}
 use Rattle.tile_convert.proofs.Levels.{part_long, computed_bytes, computed_copy, level_of_copy}
 use Rattle.tile_convert.proofs.level.level_picture.Goals as goal
 

@@ -1,8 +1,7 @@
 use Rattle.std.proofs.Common.{◌≡◌, true, sym, ap, ◌∙◌}
-use Rattle.shader_flow.specs.Flow.{word}
-use Rattle.shader_flow.specs.Pending.{pending_of}
-use Rattle.uniform_stream.specs.Quiet.{writes_registers}
+use Rattle.shader_flow.specs.{Flow.word, Pending.pending_of}
 use Rattle.uniform_stream.specs.Rules.{s14, s15, s17, s20, s21, is_full, s22, s23, quiet_questions, stream_questions}
+use Rattle.uniform_stream.specs.Quiet.{writes_registers}
 use Rattle.uniform_stream.proofs.QuietWrites.{no_forbidden, no_relative_write, no_address_write, no_two, no_conditional, no_write, no_setup}
 use Rattle.uniform_stream.proofs.rules.asked_fault.Goals as goal
 

@@ -1,7 +1,6 @@
 use Rattle.std.proofs.Common.{◌++◌, [], ◌∷◌, map, sym, ap, ◌∙◌}
-use Rattle.shader_flow.specs.Bounded.{indexes}
+use Rattle.shader_flow.specs.{Bounded.indexes, Pending.count_of}
 use Rattle.shader_flow.proofs.Bounded.{map_indexes_here, map_indexes_not}
-use Rattle.shader_flow.specs.Pending.{count_of}
 use Rattle.uniform_stream.specs.Stream.{writes_address}
 use Rattle.uniform_stream.proofs.walk.add_address.Goals as goal
 

@@ -1,8 +1,8 @@
 use Rattle.std.proofs.Common.{sym, subst, ◌+◌, arith, ◌∙◌}
 use Rattle.uniform_stream.specs.Walk.{IsAddressEnd}
 use Rattle.uniform_stream.proofs.Ends.{end_here, end_same}
-use Rattle.uniform_stream.proofs.walk.address_end.Goals as goal
 use Rattle.uniform_stream.proofs.walk.address_end.Goals.{then-writes_address, else-writes_address}
+use Rattle.uniform_stream.proofs.walk.address_end.Goals as goal
 
 pub invariant_of-writes_address : goal.invariant_of-writes_address
 invariant_of-writes_address c = record { ends = c.requires; inside = omega (arith, c.loop-at-test.true, c.checked-at-end.ensures.inside) }

@@ -1,8 +1,6 @@
 use Rattle.std.proofs.Common.{slice_index, ◌++◌, [], ◌∷◌, length, map, if◌then◌else◌, ap, ◌∙◌}
-use Rattle.shader_flow.specs.Bounded.{indexes}
-use Rattle.shader_flow.specs.Flow.{checked_of}
+use Rattle.shader_flow.specs.{Bounded.indexes, Flow.checked_of, Pending.count_of, Pending.pending_of}
 use Rattle.shader_flow.proofs.Ends.{checked_of-le}
-use Rattle.shader_flow.specs.Pending.{count_of, pending_of}
 use Rattle.uniform_stream.specs.Stream.{is_open, writes_address, address_words_of}
 use Rattle.uniform_stream.proofs.Ends.{address_indexes, longer, one_more}
 use Rattle.uniform_stream.proofs.walk.close.Goals as goal

@@ -1,5 +1,4 @@
-use Rattle.std.proofs.Common.{sym, ap, arith, ◌∙◌}
-use Rattle.std.proofs.lemmas.Bool.{ltb-true, ltb-false}
+use Rattle.std.proofs.{Common.sym, Common.ap, Common.arith, Common.◌∙◌, lemmas.Bool.ltb-true, lemmas.Bool.ltb-false}
 use Rattle.shader_flow.specs.Site.{SiteModel}
 use Rattle.shader_flow.proofs.Counts.{pending_past, pending_sent, pending_kept}
 use Rattle.uniform_stream.proofs.walk.next_pending.Goals as goal

@@ -1,12 +1,10 @@
 -- One buffer more.
 use Rattle.std.proofs.Common.{◌≡◌, ◌≤◌, ◌++◌, [], ◌∷◌, map, take, sym, ap, subst, Some, option_map, arith, ◌∙◌}
+use Rattle.std.proofs.{lemmas.List.map-append, lemmas.List.take_all, lemmas.List.length-map, lemmas.Option.slice_get-map}
 use Rattle.std.specs.List.{slice_get}
-use Rattle.std.proofs.lemmas.List.{map-append, take_all, length-map}
-use Rattle.std.proofs.lemmas.Option.{slice_get-map}
 use Rattle.shader_records.specs.Inputs.{shader_option, shaders_view}
 use Rattle.vc4check_c.specs.Telling.{told_in}
-use Rattle.vc4check_c.proofs.Submissions.{taken_more}
-use Rattle.vc4check_c.proofs.Telling.{blocks_more, block_in}
+use Rattle.vc4check_c.proofs.{Submissions.taken_more, Telling.blocks_more, Telling.block_in}
 use Rattle.vc4check_c.proofs.known.shaders_in.Goals as goal
 
 pub shader_at-requires : goal.shader_at-requires

@@ -1,8 +1,6 @@
 -- A submission of whose own numbers no rule stands is a well-formed file.
-use Rattle.std.proofs.Common.{sym, subst, arith}
-use Rattle.std.proofs.lemmas.List.{length-map}
-use Rattle.job_format.specs.File.{IsWellFormed}
-use Rattle.job_format.specs.Parts.{job_parts_view}
+use Rattle.std.proofs.{Common.sym, Common.subst, Common.arith, lemmas.List.length-map}
+use Rattle.job_format.specs.{File.IsWellFormed, Parts.job_parts_view}
 use Rattle.vc4check_c.proofs.Submissions.{well_formed}
 use Rattle.vc4check_c.proofs.submit.check.Goals as goal
 

@@ -3,10 +3,8 @@ use Rattle.std.proofs.Common.{◌≡◌, length, map, sym, subst, IfSome}
 use Rattle.job_format.specs.File.{IsWellFormed}
 use Rattle.shader_records.specs.Inputs.{shaders_view}
 use Rattle.job_check.specs.Region.{AreChecked}
-use Rattle.vc4check_c.specs.Submission.{file_of}
-use Rattle.vc4check_c.specs.Telling.{told_in, AreBlocks}
-use Rattle.vc4check_c.proofs.Submissions.{well_formed}
-use Rattle.vc4check_c.proofs.Telling.{blocks_checked}
+use Rattle.vc4check_c.specs.{Submission.file_of, Telling.told_in, Telling.AreBlocks}
+use Rattle.vc4check_c.proofs.{Submissions.well_formed, Telling.blocks_checked}
 use Rattle.vc4check_c.proofs.submit.check_file.Goals as goal
 
 pub check_with_shaders-requires-clause-well_formed : goal.check_with_shaders-requires-clause-well_formed

@@ -1,7 +1,6 @@
 -- The entry is that of a sound table.
 use Rattle.std.proofs.Common.{◌≡◌, subst}
-use Rattle.buffer_table.specs.Table.{TableModel, buffer_at}
-use Rattle.buffer_table.specs.Sound.{IsSound}
+use Rattle.buffer_table.specs.{Table.TableModel, Table.buffer_at, Sound.IsSound}
 use Rattle.buffer_table.proofs.Sounds.{sound_buffer}
 use Rattle.buffer_table.proofs.table.Table.buffer.Goals as goal
 

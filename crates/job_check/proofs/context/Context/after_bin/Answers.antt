@@ -1,10 +1,8 @@
 use Rattle.std.proofs.Common.{◌≡◌, ◌++◌}
 use Rattle.field_words.proofs.Questions.{answers_later, refuses_front}
 use Rattle.relocation.specs.declared.layout.Lengths.{Lengths}
-use Rattle.job_check.specs.Faults.{records_stage, surfaces_stage}
-use Rattle.job_check.specs.Emit.{lengths_of}
-use Rattle.job_check.proofs.Views.{parts_fit, later_placed}
-use Rattle.job_check.proofs.Order.{exits, if_ok}
+use Rattle.job_check.specs.{Faults.records_stage, Faults.surfaces_stage, Emit.lengths_of}
+use Rattle.job_check.proofs.{Views.parts_fit, Views.later_placed, Order.exits, Order.if_ok}
 use Rattle.job_check.proofs.context.Context.after_bin.Goals as goal
 
 pub returns-clause-answers : goal.returns-clause-answers

@@ -1,14 +1,10 @@
 use Rattle.std.proofs.Common.{◌≡◌, length, None, ap, subst, arith, ◌∙◌}
-use Rattle.field_words.specs.Writes.{with_bytes}
-use Rattle.field_words.specs.Questions.{first_of}
+use Rattle.field_words.specs.{Writes.with_bytes, Questions.first_of}
 use Rattle.job_format.specs.Parts.{job_parts_view}
 use Rattle.shader_records.specs.Inputs.{shaders_view}
-use Rattle.job_check.specs.Context.{InView, IsContext}
-use Rattle.bin_list.specs.Emitted.{bin_text}
-use Rattle.bin_list.specs.Rules.{bin_questions}
-use Rattle.job_check.specs.Jobs.{layout_of}
-use Rattle.job_check.proofs.Layouts.{kept_low, layout_apart}
-use Rattle.job_check.proofs.Views.{bin_none, bin_text_is, bin_told}
+use Rattle.job_check.specs.{Context.InView, Context.IsContext, Jobs.layout_of}
+use Rattle.bin_list.specs.{Emitted.bin_text, Rules.bin_questions}
+use Rattle.job_check.proofs.{Layouts.kept_low, Layouts.layout_apart, Views.bin_none, Views.bin_text_is, Views.bin_told}
 use Rattle.job_check.proofs.context.Context.bin.Goals as goal
 
 pub check_bin-requires-clause-place_limit : goal.check_bin-requires-clause-place_limit

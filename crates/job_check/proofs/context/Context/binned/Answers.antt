@@ -1,10 +1,8 @@
 use Rattle.std.proofs.Common.{◌≡◌, ◌++◌}
 use Rattle.field_words.proofs.Questions.{answers_later, refuses_front}
 use Rattle.relocation.specs.declared.layout.Lengths.{Lengths}
-use Rattle.job_check.specs.Faults.{bin_stage, records_stage, surfaces_stage, lists_stages}
-use Rattle.job_check.specs.Emit.{lengths_of}
-use Rattle.job_check.proofs.Views.{all_placed}
-use Rattle.job_check.proofs.Order.{exits, if_ok}
+use Rattle.job_check.specs.{Faults.bin_stage, Faults.records_stage, Faults.surfaces_stage, Faults.lists_stages, Emit.lengths_of}
+use Rattle.job_check.proofs.{Views.all_placed, Order.exits, Order.if_ok}
 use Rattle.job_check.proofs.context.Context.binned.Goals as goal
 
 pub returns-clause-answers : goal.returns-clause-answers

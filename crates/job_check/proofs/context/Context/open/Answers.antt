@@ -1,5 +1,4 @@
-use Rattle.std.proofs.Common.{arith, ◌∙◌}
-use Rattle.std.proofs.lemmas.List.{length-map}
+use Rattle.std.proofs.{Common.arith, Common.◌∙◌, lemmas.List.length-map}
 use Rattle.job_format.specs.Parts.{parts_view, job_parts_view}
 use Rattle.job_check.proofs.Layouts.{enough_slots}
 use Rattle.job_check.proofs.context.Context.open.Goals as goal

@@ -1,18 +1,13 @@
 use Rattle.std.proofs.Common.{◌≡◌, length, Some, None, sym, ap, subst, arith, ◌∙◌}
-use Rattle.field_words.specs.Writes.{with_bytes}
-use Rattle.field_words.specs.Questions.{first_of}
+use Rattle.field_words.specs.{Writes.with_bytes, Questions.first_of}
 use Rattle.buffer_table.specs.Table.{TableModel}
 use Rattle.job_format.specs.Parts.{job_parts_view}
 use Rattle.relocation.specs.declared.layout.Layout.{Layout}
-use Rattle.shader_records.specs.Inputs.{InputModel, AreShadersOf, shaders_view, input_of}
-use Rattle.shader_records.specs.Rules.{all_questions}
-use Rattle.shader_records.specs.Emission.{emitted_uniforms}
-use Rattle.shader_records.specs.Emitted.{streams_place, IsEmitted}
-use Rattle.job_check.specs.Jobs.{layout_of, input_for, records_of}
-use Rattle.job_check.specs.Faults.{record_refused}
-use Rattle.job_check.specs.Context.{InView, IsContext}
-use Rattle.job_check.proofs.Layouts.{kept_low, layout_apart}
+use Rattle.shader_records.specs.{Inputs.InputModel, Inputs.AreShadersOf, Inputs.shaders_view, Inputs.input_of, Rules.all_questions}
+use Rattle.shader_records.specs.{Emission.emitted_uniforms, Emitted.streams_place, Emitted.IsEmitted}
+use Rattle.job_check.specs.{Jobs.layout_of, Jobs.input_for, Jobs.records_of, Faults.record_refused, Context.InView, Context.IsContext}
 use Rattle.job_check.proofs.Views.{input_is, records_none, records_some, records_are, streams_are, records_within, streams_within}
+use Rattle.job_check.proofs.Layouts.{kept_low, layout_apart}
 use Rattle.job_check.proofs.context.Context.records.Goals as goal
 
 pub check_records-requires-clause-shaders : goal.check_records-requires-clause-shaders

@@ -3,10 +3,8 @@ use Rattle.field_words.specs.Writes.{with_bytes}
 use Rattle.render_list.specs.Text.{render_text}
 use Rattle.job_format.specs.Parts.{job_parts_view}
 use Rattle.shader_records.specs.Inputs.{shaders_view}
-use Rattle.job_check.specs.Context.{InView, IsContext}
-use Rattle.job_check.specs.Jobs.{layout_of}
-use Rattle.job_check.proofs.Layouts.{kept_low}
-use Rattle.job_check.proofs.Views.{render_ends, list_is, list_length}
+use Rattle.job_check.specs.{Context.InView, Context.IsContext, Jobs.layout_of}
+use Rattle.job_check.proofs.{Layouts.kept_low, Views.render_ends, Views.list_is, Views.list_length}
 use Rattle.job_check.proofs.context.Context.render.Goals as goal
 
 pub build-requires-clause-slot : goal.build-requires-clause-slot

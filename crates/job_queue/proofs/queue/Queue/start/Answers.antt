@@ -1,8 +1,8 @@
 use Rattle.std.proofs.Common.{◌≡◌, ◌+◌, ◌%◌, arith, refl, ◌∙◌, eq-eqb, ne_eqb}
 use Rattle.std.proofs.lemmas.Bool.{lt-ltb, le-ltb}
+use Rattle.job_queue.specs.declared.queue.QueueFault.TheVariants.{Binning, NoJob, Waits}
 use Rattle.job_queue.specs.Past.{last_writer}
 use Rattle.job_queue.proofs.Desks.{inside_same, start_is, kept, start_refused, start_done}
-use Rattle.job_queue.specs.declared.queue.QueueFault.TheVariants.{Binning, NoJob, Waits}
 use Rattle.job_queue.proofs.queue.Queue.start.Goals as goal
 
 pub returns-then-self-clause-answers : goal.returns-then-self-clause-answers

@@ -1,12 +1,10 @@
 use Rattle.std.proofs.Common.{◌≡◌, ◌+◌, ◌++◌, length, Some, None, sym, ◌∙◌, ap, subst, arith}
-use Rattle.std.specs.Prelude.{IfNone}
 use Rattle.std.proofs.lemmas.List.{with_items_is}
+use Rattle.std.specs.Prelude.{IfNone}
 use Rattle.job_queue.specs.Past as past
-use Rattle.job_queue.specs.Past.{first_unknown}
-use Rattle.job_queue.proofs.Writers.{written_size}
-use Rattle.job_queue.specs.declared.queue.QueueFault.TheVariants.{Unknown, Full}
-use Rattle.job_queue.proofs.Desks.{submit_is, submit_refused, submit_full, submit_done}
+use Rattle.job_queue.specs.{Past.first_unknown, declared.queue.QueueFault.TheVariants.Unknown, declared.queue.QueueFault.TheVariants.Full}
 use Rattle.job_queue.specs.Desk.{greatest, written}
+use Rattle.job_queue.proofs.{Writers.written_size, Desks.submit_is, Desks.submit_refused, Desks.submit_full, Desks.submit_done}
 use Rattle.job_queue.proofs.queue.Queue.submit.Goals as goal
 
 pub returns-in-Some-clause-answers : goal.returns-in-Some-clause-answers

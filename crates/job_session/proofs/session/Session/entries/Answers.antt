@@ -2,10 +2,7 @@ use Rattle.std.proofs.Common.{◌∙◌, ◌+◌, ◌++◌, ℕ, List, map, refl
 use Rattle.field_words.specs.Pieces.{joined}
 use Rattle.buffer_table.specs.declared.buffer.Buffer.{Buffer}
 use Rattle.session_pages.specs.Map.{first_place}
-use Rattle.job_session.specs.Own.{Held}
-use Rattle.job_session.specs.Desk.{held_in}
-use Rattle.job_session.specs.Submit.{packed, contents_from}
-use Rattle.job_session.specs.Found.{IsFound}
+use Rattle.job_session.specs.{Own.Held, Desk.held_in, Submit.packed, Submit.contents_from, Found.IsFound}
 use Rattle.job_session.proofs.Packed.{packed_none, packed_some, packed_end, contents_more, contents_end, one_longer}
 use Rattle.job_session.proofs.Entered.{no_content, listed_more, joined_by}
 use Rattle.job_session.proofs.session.Session.entries.Goals.{in-Entry+in_ok-push-in-Entry, in-Nothing}

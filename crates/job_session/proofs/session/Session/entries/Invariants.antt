@@ -2,9 +2,7 @@
 use Rattle.std.proofs.Common.{◌≡◌, ◌++◌, ◌+◌, ◌-◌, ◌*◌, ◌≤◌, length, map}
 use Rattle.field_words.specs.Pieces.{joined}
 use Rattle.session_pages.specs.Map.{first_place}
-use Rattle.job_session.specs.Desk.{held_in}
-use Rattle.job_session.specs.Submit.{packed, contents_from}
-use Rattle.job_session.specs.Found.{AreListed}
+use Rattle.job_session.specs.{Desk.held_in, Submit.packed, Submit.contents_from, Found.AreListed}
 use Rattle.job_session.proofs.session.Session.entries.Given as goal
 
 abbrev pub invariant-loop-id : goal.invariant-loop-id

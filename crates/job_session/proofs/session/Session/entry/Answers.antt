@@ -1,11 +1,8 @@
 -- A Code buffer of whose shader something is kept.
 use Rattle.std.proofs.Common.{◌≡◌, ◌∙◌, Some, sym, ap, subst, arith, Option}
 use Rattle.qpu_isa.specs.Shader.{shader_view}
-use Rattle.job_session.specs.Own.{Held}
-use Rattle.job_session.specs.Desk.{Desk, held_in}
-use Rattle.job_session.specs.Kept.{kept_in}
-use Rattle.job_session.proofs.Entered.{code_entry, kept_held}
-use Rattle.job_session.proofs.Keeps.{slot_inside, kept_there}
+use Rattle.job_session.specs.{Own.Held, Desk.Desk, Desk.held_in, Kept.kept_in}
+use Rattle.job_session.proofs.{Entered.code_entry, Entered.kept_held, Keeps.slot_inside, Keeps.kept_there}
 use Rattle.job_session.proofs.session.Session.entry.Goals as goal
 
 pub returns-in_ok-copy_of-in-Some-index : goal.returns-in_ok-copy_of-in-Some-index

@@ -2,8 +2,7 @@
 use Rattle.std.proofs.Common.{false, ◌≤◌, ◌<◌, ◌+◌, ◌*◌, ◌∙◌, length, slice_index, slice_set, sym, ap, subst, arith, None, refl, rules}
 use Rattle.session_pages.specs.Map.{PageMap}
 use Rattle.job_session.specs.Kept.{IsSession}
-use Rattle.job_session.proofs.Keeps.{session_freed, some_pages, slot_inside}
-use Rattle.job_session.proofs.Live.{counted}
+use Rattle.job_session.proofs.{Keeps.session_freed, Keeps.some_pages, Keeps.slot_inside, Live.counted}
 use Rattle.job_session.proofs.session.Session.free.Goals as goal
 
 pub invariant_of-self : goal.invariant_of-self

@@ -1,7 +1,6 @@
 -- One more is kept.
 use Rattle.std.proofs.Common.{sym, subst}
-use Rattle.job_session.specs.Desk.{Desk}
-use Rattle.job_session.specs.Kept.{IsKeptOf}
+use Rattle.job_session.specs.{Desk.Desk, Kept.IsKeptOf}
 use Rattle.job_session.proofs.Keeps.{session_kept}
 use Rattle.job_session.proofs.session.Session.keep.Goals as goal
 

@@ -1,8 +1,6 @@
 use Rattle.std.proofs.Common.{◌≡◌, ◌*◌, get_or, subst, Option, None, Some}
-use Rattle.buffer_table.specs.declared.buffer.Buffer.{Buffer}
-use Rattle.buffer_table.specs.declared.buffer.Kind.TheVariants.{Plain}
-use Rattle.job_session.specs.Desk.{Desk, held_in}
-use Rattle.job_session.specs.Submit.{laid_in}
+use Rattle.buffer_table.specs.{declared.buffer.Buffer.Buffer, declared.buffer.Kind.TheVariants.Plain}
+use Rattle.job_session.specs.{Desk.Desk, Desk.held_in, Submit.laid_in}
 use Rattle.job_session.proofs.Held.{laid_none, laid_some}
 use Rattle.job_session.proofs.session.Session.laid.Goals as goal
 

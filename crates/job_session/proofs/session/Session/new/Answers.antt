@@ -1,7 +1,6 @@
 use Rattle.std.proofs.Common.{refl, ap}
 use Rattle.session_pages.specs.Map.{PageMap}
-use Rattle.job_session.proofs.Keeps.{session_new}
-use Rattle.job_session.proofs.Live.{none_live}
+use Rattle.job_session.proofs.{Keeps.session_new, Live.none_live}
 use Rattle.job_session.proofs.session.Session.new.Goals as goal
 
 pub invariant_of-result : goal.invariant_of-result

@@ -1,9 +1,7 @@
 use Rattle.std.proofs.Common.{◌∙◌, ◌+◌, ℕ, List, refl, sym, arith, Option}
 use Rattle.buffer_table.specs.declared.buffer.Buffer.{Buffer}
 use Rattle.session_pages.specs.Map.{first_place}
-use Rattle.job_session.specs.Own.{Held}
-use Rattle.job_session.specs.Desk.{held_in}
-use Rattle.job_session.specs.Submit.{packed}
+use Rattle.job_session.specs.{Own.Held, Desk.held_in, Submit.packed}
 use Rattle.job_session.proofs.Packed.{packed_none, packed_some, packed_end, one_longer}
 use Rattle.job_session.proofs.session.Session.packed.Goals.{in-Some+in_ok-push, in_default}
 use Rattle.job_session.proofs.session.Session.packed.Goals as goal

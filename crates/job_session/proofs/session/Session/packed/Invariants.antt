@@ -1,8 +1,7 @@
 -- What is listed so far, and what is still to come; the place stays a number of 32 bits.
 use Rattle.std.proofs.Common.{◌≡◌, ◌++◌, ◌+◌, ◌-◌, ◌*◌, ◌≤◌, length}
 use Rattle.session_pages.specs.Map.{first_place}
-use Rattle.job_session.specs.Desk.{held_in}
-use Rattle.job_session.specs.Submit.{packed}
+use Rattle.job_session.specs.{Desk.held_in, Submit.packed}
 use Rattle.job_session.proofs.session.Session.packed.Given as goal
 
 abbrev pub invariant-loop-id : goal.invariant-loop-id

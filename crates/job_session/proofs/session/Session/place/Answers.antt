@@ -1,11 +1,8 @@
 -- The slot gets free pages.
 use Rattle.std.proofs.Common.{true, ◌≡◌, ◌∙◌, ◌+◌, length, slice_index, slice_set, sym, ap, subst, Some, rules}
 use Rattle.session_pages.specs.Map.{PageMap, free_run, with_run}
-use Rattle.job_session.specs.Desk.{Desk, least_id}
-use Rattle.job_session.specs.Kept.{IsSession}
-use Rattle.job_session.proofs.Keeps.{session_placed, vacant_slot, slot_inside}
-use Rattle.job_session.proofs.Live.{counted, some_counted}
-use Rattle.job_session.proofs.Runs.{run_found}
+use Rattle.job_session.specs.{Desk.Desk, Desk.least_id, Kept.IsSession}
+use Rattle.job_session.proofs.{Keeps.session_placed, Keeps.vacant_slot, Keeps.slot_inside, Live.counted, Live.some_counted, Runs.run_found}
 use Rattle.job_session.proofs.session.Session.place.Goals as goal
 
 pub invariant_of-self-2 : goal.invariant_of-self-2

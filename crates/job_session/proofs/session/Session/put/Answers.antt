@@ -1,8 +1,7 @@
 -- The slot's bytes change, and nothing is kept of it.
 use Rattle.std.proofs.Common.{◌≤◌, ◌+◌, ◌*◌, ◌∙◌, length, slice_index, slice_set, sym, ap, subst, None}
 use Rattle.session_pages.specs.Map.{PageMap, with_part}
-use Rattle.job_session.specs.Desk.{Desk}
-use Rattle.job_session.specs.Kept.{IsSession}
+use Rattle.job_session.specs.{Desk.Desk, Kept.IsSession}
 use Rattle.job_session.proofs.Keeps.{session_written}
 use Rattle.job_session.proofs.session.Session.put.Goals as goal
 

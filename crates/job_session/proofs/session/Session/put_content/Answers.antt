@@ -1,7 +1,6 @@
 use Rattle.std.proofs.Common.{◌≡◌, ◌++◌, ◌∙◌, get_or, sym, ap, subst}
 use Rattle.buffer_table.specs.declared.buffer.Kind.TheVariants.{Plain}
-use Rattle.job_session.specs.Desk.{Desk, held_in}
-use Rattle.job_session.specs.Submit.{contents_at}
+use Rattle.job_session.specs.{Desk.Desk, Desk.held_in, Submit.contents_at}
 use Rattle.job_session.proofs.Held.{not_code, put_none, put_plain, put_code}
 use Rattle.job_session.proofs.session.Session.put_content.Goals as goal
 

@@ -1,7 +1,5 @@
 use Rattle.std.proofs.Common.{◌++◌, ℕ, Option}
-use Rattle.job_session.specs.Own.{Held}
-use Rattle.job_session.specs.Desk.{held_in}
-use Rattle.job_session.specs.Submit.{contents_from}
+use Rattle.job_session.specs.{Own.Held, Desk.held_in, Submit.contents_from}
 use Rattle.job_session.proofs.Packed.{contents_more, contents_end}
 use Rattle.job_session.proofs.session.Session.put_contents.Goals as goal
 

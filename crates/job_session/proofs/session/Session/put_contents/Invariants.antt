@@ -1,7 +1,6 @@
 -- What is put so far, and what is still to come.
 use Rattle.std.proofs.Common.{◌≡◌, ◌++◌, ◌-◌}
-use Rattle.job_session.specs.Desk.{held_in}
-use Rattle.job_session.specs.Submit.{contents_from}
+use Rattle.job_session.specs.{Desk.held_in, Submit.contents_from}
 use Rattle.job_session.proofs.session.Session.put_contents.Given as goal
 
 abbrev pub invariant-loop-id : goal.invariant-loop-id

@@ -1,6 +1,5 @@
 use Rattle.std.proofs.Common.{◌≡◌, length, [], ap, sym, subst, arith}
-use Rattle.list_machine.specs.Lists.{AreNear}
-use Rattle.list_machine.specs.Spots.{AreSpotsOf}
+use Rattle.list_machine.specs.{Lists.AreNear, Spots.AreSpotsOf}
 use Rattle.list_machine.proofs.Spots.{spots_begin}
 use Rattle.list_machine.proofs.job_lists.JobLists.new.Goals as goal
 

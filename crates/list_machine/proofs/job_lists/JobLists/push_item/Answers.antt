@@ -1,9 +1,6 @@
 use Rattle.std.proofs.Common.{◌<◌, ◌∷◌, [], length, length-append, ap, sym, subst, ◌∙◌, refl, arith}
-use Rattle.list_machine.specs.Blocks.{spot_of}
-use Rattle.list_machine.specs.Lists.{AreNear, most_items}
-use Rattle.list_machine.specs.Spots.{most_tiles}
-use Rattle.list_machine.proofs.Nearness.{near_push}
-use Rattle.list_machine.proofs.Spots.{spots_put}
+use Rattle.list_machine.specs.{Blocks.spot_of, Lists.AreNear, Lists.most_items, Spots.most_tiles}
+use Rattle.list_machine.proofs.{Nearness.near_push, Spots.spots_put}
 use Rattle.list_machine.proofs.job_lists.JobLists.push_item.Goals as goal
 
 pub invariant_of-self : goal.invariant_of-self

@@ -1,8 +1,7 @@
 -- The binner's step is its turn.
 use Rattle.std.proofs.Common.{refl, ◌≡◌, ◌<◌, ◌∙◌, sym, subst, ap, IsTrue, length}
 use Rattle.machine_plan.specs.Glance.{glanced}
-use Rattle.list_machine.specs.Lists.{binner_of, binner_ended}
-use Rattle.list_machine.specs.Binner.{binner_ready, binner_plan}
+use Rattle.list_machine.specs.{Lists.binner_of, Lists.binner_ended, Binner.binner_ready, Binner.binner_plan}
 use Rattle.qpu_machine.specs.Qpu.{free_in}
 use Rattle.machine.specs.State.{State, job_at}
 use Rattle.machine.proofs.Turns.{binner_now, job_here, lists_done, with_qpus}

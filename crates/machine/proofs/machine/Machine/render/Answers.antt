@@ -1,7 +1,6 @@
 -- The renderer's step is its turn.
 use Rattle.std.proofs.Common.{refl, ◌<◌, ◌∙◌, sym, subst, ap, length}
-use Rattle.list_machine.specs.Lists.{renderer_of, renderer_ended}
-use Rattle.list_machine.specs.Renderer.{renderer_plan}
+use Rattle.list_machine.specs.{Lists.renderer_of, Lists.renderer_ended, Renderer.renderer_plan}
 use Rattle.qpu_machine.specs.Qpu.{free_in}
 use Rattle.machine.specs.State.{State}
 use Rattle.machine.proofs.Turns.{job_here, lists_done, with_qpus}

@@ -1,7 +1,6 @@
 -- The TMU's step is its turn.
 use Rattle.std.proofs.Common.{◌≡◌, ◌∙◌, sym, subst, ap}
-use Rattle.qpu_machine.specs.Qpu.{queue_of, oldest, job_of_request}
-use Rattle.qpu_machine.specs.Bounds.{IsBounded}
+use Rattle.qpu_machine.specs.{Qpu.queue_of, Qpu.oldest, Qpu.job_of_request, Bounds.IsBounded}
 use Rattle.machine.specs.State.{State}
 use Rattle.machine.proofs.Turns.{tmu_below, tmu_here, whole_with, tmu_done}
 use Rattle.machine.proofs.machine.Machine.take_tmu_turn.Goals as goal

@@ -1,8 +1,7 @@
 -- The zeros stand over those bytes of the run that are kept; the others are zero.
 use Rattle.std.proofs.Common.{◌≡◌, ◌+◌, ◌-◌, ◌∙◌, ℕ, List, ap, arith}
 use Rattle.field_words.specs.Writes.{with_bytes, zeros}
-use Rattle.session_pages.specs.Kept.{zeros_around, pages_size}
-use Rattle.session_pages.specs.Map.{first_place}
+use Rattle.session_pages.specs.{Kept.zeros_around, Kept.pages_size, Map.first_place}
 use Rattle.session_pages.proofs.Kept.{wiped, least}
 use Rattle.session_pages.proofs.memory.Memory.clear.Goals as goal
 

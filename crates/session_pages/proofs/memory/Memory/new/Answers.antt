@@ -1,6 +1,5 @@
 use Rattle.std.proofs.Common.{◌∙◌, ap}
-use Rattle.session_pages.specs.Kept.{zeros_around, pages_size}
-use Rattle.session_pages.specs.Map.{first_place}
+use Rattle.session_pages.specs.{Kept.zeros_around, Kept.pages_size, Map.first_place}
 use Rattle.session_pages.proofs.Kept.{none_kept}
 use Rattle.session_pages.proofs.memory.Memory.new.Goals as goal
 

@@ -1,8 +1,7 @@
 -- What is kept of the run, and zeros behind it.
 use Rattle.std.proofs.Common.{◌≡◌, ◌+◌, ◌-◌, ◌∙◌, ℕ, List, IfOk, take, drop, ap, subst, arith}
 use Rattle.phys_mem.specs.Window.{window_of}
-use Rattle.session_pages.specs.Kept.{pages_size}
-use Rattle.session_pages.specs.Map.{first_place}
+use Rattle.session_pages.specs.{Kept.pages_size, Map.first_place}
 use Rattle.session_pages.proofs.Kept.{window_is, least}
 use Rattle.session_pages.proofs.memory.Memory.read.Goals as goal
 

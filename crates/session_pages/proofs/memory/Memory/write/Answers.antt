@@ -1,8 +1,7 @@
 -- The bytes stand among those that are kept.
 use Rattle.std.proofs.Common.{◌≡◌, ◌+◌, ◌-◌, ◌∙◌, ℕ, List, ap, arith}
 use Rattle.field_words.specs.Writes.{with_bytes}
-use Rattle.session_pages.specs.Kept.{zeros_around, pages_size}
-use Rattle.session_pages.specs.Map.{first_place}
+use Rattle.session_pages.specs.{Kept.zeros_around, Kept.pages_size, Map.first_place}
 use Rattle.session_pages.proofs.Kept.{put_over}
 use Rattle.session_pages.proofs.memory.Memory.write.Goals as goal
 

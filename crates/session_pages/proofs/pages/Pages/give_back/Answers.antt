@@ -2,9 +2,7 @@ use Rattle.std.proofs.Common.{◌≡◌, ◌+◌, ◌*◌, ◌≤◌, ◌∙◌,
 use Rattle.std.proofs.lemmas.List.{length-replicate}
 use Rattle.field_words.specs.Writes.{zeros}
 use Rattle.field_words.proofs.Writes.{length_zeros, length-with_bytes}
-use Rattle.session_pages.specs.Map.{memory_size, place_of}
-use Rattle.session_pages.specs.Marks.{AreMarks}
-use Rattle.session_pages.specs.Runs.{page_count}
+use Rattle.session_pages.specs.{Map.memory_size, Map.place_of, Marks.AreMarks, Runs.page_count}
 use Rattle.session_pages.proofs.Bits.{held_marked}
 use Rattle.session_pages.proofs.pages.Pages.give_back.Goals as goal
 

@@ -1,9 +1,7 @@
 use Rattle.std.proofs.Common.{◌∙◌, ap, length, sym, subst}
 use Rattle.field_words.proofs.Writes.{length_zeros}
-use Rattle.session_pages.specs.Map.{memory_size}
+use Rattle.session_pages.specs.{Map.memory_size, Marks.AreMarks, Runs.page_count}
 use Rattle.field_words.specs.Writes.{zeros}
-use Rattle.session_pages.specs.Marks.{AreMarks}
-use Rattle.session_pages.specs.Runs.{page_count}
 use Rattle.session_pages.proofs.Bits.{none_marked}
 use Rattle.session_pages.proofs.pages.Pages.new.Goals as goal
 

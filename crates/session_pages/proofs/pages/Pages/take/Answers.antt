@@ -2,9 +2,7 @@
 use Rattle.std.proofs.Common.{◌≡◌, ◌+◌, ◌≤◌, ◌∙◌, ℕ, List, Option, Some, None, ap, length, replicate, sym, subst}
 use Rattle.std.proofs.lemmas.List.{length-replicate}
 use Rattle.field_words.proofs.Writes.{length-with_bytes}
-use Rattle.session_pages.specs.Map.{PageMap, free_run}
-use Rattle.session_pages.specs.Marks.{AreMarks}
-use Rattle.session_pages.specs.Runs.{page_count}
+use Rattle.session_pages.specs.{Map.PageMap, Map.free_run, Marks.AreMarks, Runs.page_count}
 use Rattle.session_pages.proofs.Bits.{held_marked, same_run}
 use Rattle.session_pages.proofs.pages.Pages.take.Goals as goal
 
