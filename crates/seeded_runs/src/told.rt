@@ -138,7 +138,8 @@ fn seeds_text(
     requires few { steps ≤ 1000000 }
     requires some { 1 ≤ count }
     requires within { seed + count < 2 ^ 64 }
-    ensures answers { Answers (all_questions bytes.now) (λ text. IsLookText (file_at bytes.now) (Seeds count) favoured steps seed text.items) result }
+    ensures answers { Answers (all_questions bytes.now)
+        (λ out. IsLookText (file_at bytes.now) (Seeds count) favoured steps seed out.items) result }
     ensures spelled { IsOk result → IsFileOf bytes.now (file_at bytes.now) }
 {
     let mut text = Vec::new(alloc);
@@ -160,7 +161,7 @@ fn steps_told(
     seed: u64,
 ) -> Result<Vec<u8>, Stop<Refusal>>
     requires { steps ≤ 1000000 }
-    ensures answers { Answers (all_questions bytes.now) (λ text. IsLookText (file_at bytes.now) Steps favoured steps seed text.items) result }
+    ensures answers { Answers (all_questions bytes.now) (λ out. IsLookText (file_at bytes.now) Steps favoured steps seed out.items) result }
     ensures spelled { IsOk result → IsFileOf bytes.now (file_at bytes.now) }
 {
     let accepted = accept(alloc, bytes)?;
@@ -226,7 +227,7 @@ fn accesses_told(
 ) -> Result<Vec<u8>, Stop<Refusal>>
     requires few { steps ≤ 1000000 }
     requires look { (look ≡ Accesses) ⊎ (look ≡ Picture) }
-    ensures answers { Answers (all_questions bytes.now) (λ text. IsLookText (file_at bytes.now) look favoured steps seed text.items) result }
+    ensures answers { Answers (all_questions bytes.now) (λ out. IsLookText (file_at bytes.now) look favoured steps seed out.items) result }
     ensures spelled { IsOk result → IsFileOf bytes.now (file_at bytes.now) }
 {
     let accepted = accept(alloc, bytes)?;
