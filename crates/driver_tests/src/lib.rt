@@ -1,4 +1,5 @@
-//! Tests of what a driver does for its clients: sessions, and bounds on the steps of jobs.
+//! Tests of what a driver does for its clients: sessions and the memory of their buffers (`job_session`, `session_pages`), and bounds on
+//! the steps of jobs and on how long their shaders wait (`job_bound`, `shader_waits`).
 #![tactic(auto)]
 
 #[cfg(test)]

@@ -2,13 +2,9 @@
 use Rattle.std.specs.Prelude.{◌≡◌, ◌≤◌, ℕ, ◌+◌, ◌-◌, ◌^◌, min, List, Option}
 use Rattle.job_io.specs.Traffic.{KeepsOrHides}
 
--- a count of faults or of calls stays at this value once it has come there
-abbrev pub last_count : ℕ
-last_count = 2 ^ 64 - 1
-
--- the count after one more
+-- the count of faults or of calls after one more; it stays at its last value once it has come there
 abbrev pub counted : ℕ → ℕ
-counted count = min (count + 1) last_count
+counted count = min (count + 1) (2 ^ 64 - 1)
 
 -- The count rose in a call: it is greater than before, or stands at its last value.
 abbrev pub Rose : ℕ → ℕ → Type 0

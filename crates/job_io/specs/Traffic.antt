@@ -1,5 +1,5 @@
 -- What passes through a source and a sink.
-use Rattle.std.specs.Prelude.{◌≡◌, ◌≤◌, ℕ, ◌-◌, List, [], length, take, Option, Some, None, Result, Ok, Err, ⊤}
+use Rattle.std.specs.Prelude.{◌≡◌, ◌≤◌, ℕ, ◌-◌, ◌==◌, List, [], length, take, Option, Some, None, Result, Ok, Err, ⊤, if◌then◌else◌}
 use Rattle.std.specs.Io.KnownBytes.{Appends}
 
 -- the bytes that a source in memory still has, how many one call gives, the number of its next
@@ -25,6 +25,10 @@ pub record Tray : Type 0 where
 pub record Adapted (T : Type 0) : Type 0 where
   pub inner : T
   pub faults : ℕ
+
+-- what a writer holds, which is not told once it has failed
+abbrev pub held_of : {W : Type 0} → (W → Option (List ℕ)) → Adapted W → Option (List ℕ)
+held_of contents sink = if sink.faults == 0 then contents sink.inner else None
 
 -- how many bytes one call of `read_all` asks for
 abbrev pub piece_size : ℕ

@@ -1,9 +1,9 @@
 //! The edge to the outside: adapters over std's `Read` and `Write`. They tell what std's contracts
 //! tell of their reader or writer.
-ghost use Rattle.std.specs.Prelude.{◌≡◌, ◌==◌, ◌≤◌, ◌<◌, length, IfOk, OnOk, OnErr, None, if◌then◌else◌};
+ghost use Rattle.std.specs.Prelude.{◌≡◌, ◌≤◌, ◌<◌, length, IfOk, OnOk, OnErr};
 ghost use Rattle.std.specs.Io.KnownBytes.{ReadConsumes};
 ghost use Rattle.job_io.specs.Faults.{Rose, counted};
-ghost use Rattle.job_io.specs.Traffic.{Writes};
+ghost use Rattle.job_io.specs.Traffic.{Writes, held_of};
 
 use super::traffic::{Failed, Sink, Source};
 use std::io::{Read, Write};
@@ -85,7 +85,7 @@ impl<W: Write> WriterSink<W> {
 }
 
 impl<W: Write> Sink for WriterSink<W> {
-    ghost held = { λ s. if s.faults == 0 then W.contents s.inner else None };
+    ghost held = { held_of W.contents };
 
     ghost faults = { λ s. s.faults };
 
@@ -93,7 +93,7 @@ impl<W: Write> Sink for WriterSink<W> {
     fn write(&mut self, part: &[u8]) -> Result<usize, Failed>
         ensures within { IfOk result (λ n. n ≤ length part.now) }
         ensures some { IfOk result (λ n. 0 < length part.now → 0 < n) }
-        ensures bytes { Writes (if self.old.faults == 0 then W.contents self.old.inner else None) (if self.new.faults == 0 then W.contents self.new.inner else None) result part.now }
+        ensures bytes { Writes (held_of W.contents self.old) (held_of W.contents self.new) result part.now }
         ensures failed { OnErr result (Rose self.old.faults self.new.faults) }
         ensures steady { OnOk result (self.new.faults ≡ self.old.faults) }
         ensures counted { self.old.faults ≤ self.new.faults }

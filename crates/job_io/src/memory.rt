@@ -1,5 +1,5 @@
 //! A source and a sink in memory, which fail at chosen calls.
-ghost use Rattle.std.specs.Prelude.{◌≡◌, ◌-◌, ◌≤◌, ◌<◌, ◌↔◌, ◌⊎◌, [], ◌++◌, length, take, drop, min, Contains, IfOk, OnOk, IsOk, IsErr, IfErr, OnErr, Some};
+ghost use Rattle.std.specs.Prelude.{◌≡◌, ◌-◌, ◌≤◌, ◌<◌, ◌↔◌, ◌⊎◌, [], length, drop, min, Contains, IfOk, OnOk, IsOk, IsErr, IfErr, OnErr, Some};
 ghost use Rattle.std.specs.Io.KnownBytes.{ReadConsumes};
 ghost use Rattle.job_io.specs.Faults.{Rose, counted};
 ghost use Rattle.job_io.specs.Traffic.{Writes};
@@ -126,7 +126,7 @@ impl MemSink {
         failing: Vec<u64>,
     ) -> Result<MemSink, NoMemory>
         requires { 1 ≤ piece }
-        ensures { IfOk result (λ sink. sink ≡ record { held = []; room = room; piece = piece; call = 0; failing = failing.items; faults = 0 }) }
+        ensures { IfOk result (λ s. s ≡ record { held = []; room = room; piece = piece; call = 0; failing = failing.items; faults = 0 }) }
     {
         let bytes = Vec::with_capacity(alloc, room)?;
         Ok(MemSink {
@@ -164,7 +164,8 @@ impl Sink for MemSink {
         ensures fails { IsErr result ↔ (Contains self.old.failing self.old.call ⊎ (self.old.room < min self.old.piece (length part.now))) }
         ensures count { IfOk result (λ n. n ≡ min self.old.piece (length part.now)) }
         ensures err { OnErr result (self.new ≡ record self.old { call = counted self.old.call; faults = counted self.old.faults }) }
-        ensures ok { IfOk result (λ n. self.new ≡ record self.old { call = counted self.old.call; held = self.old.held ++ take n part.now; room = self.old.room - n }) }
+        ensures room { IfOk result (λ n. self.new.room ≡ self.old.room - n) }
+        ensures ok { OnOk result (self.new ≡ record self.old { call = counted self.old.call; held = self.new.held; room = self.new.room }) }
     {
         let listed = self.failing.contains(&self.call);
         let count = self.piece.min(part.len());

@@ -1,12 +1,11 @@
 -- What a script is answered: a line for each of its calls.
 use Rattle.std.specs.Prelude.{ℕ, List, [], ◌++◌, codes, Option, Some, None, Result, Ok, Err, decimal}
-use Rattle.field_words.specs.declared.stop.Stop.{Stop}
-use Rattle.script.specs.{Lines.lines_of, Replies.replies_from, Replies.IsScriptFault as IsFaultOf}
+use Rattle.script.specs.Replies.{replies as script_replies}
 use Rattle.job_queue.specs.declared.queue.QueueFault.TheVariants.{Unknown, Full, Binning, NoJob, Waits, NotBinning, NotBinned}
 use Rattle.job_queue.specs.declared.call.Call.TheVariants.{Submit, Start, Bin, Render}
 use Rattle.job_queue.specs.Past.{Past, none_yet, submit_answer, start_answer, bin_answer, render_answer, after_submit, after_start, after_bin, after_render}
 use Rattle.job_queue.specs.{declared.queue.QueueFault.QueueFault, declared.call.Call.Call}
-use Rattle.job_queue.specs.Calls.{call_of, buffers_of, reads_word, writes_word, fault_line}
+use Rattle.job_queue.specs.Calls.{call_of, buffers_of, reads_word, writes_word}
 
 unfoldable pub refused_line : QueueFault → List ℕ
 refused_line (Unknown buffer) = codes "refused Q1\n"
@@ -52,8 +51,4 @@ after_line past line = after_call past line (call_of line)
 
 -- the answer to a script on so many buffers
 unfoldable pub replies : ℕ → List ℕ → List ℕ
-replies buffers text = replies_from line_reply after_line (none_yet buffers) (lines_of text)
-
--- a fault names the first malformed line; want of memory says nothing
-abbrev pub IsScriptFault : List ℕ → Stop ℕ → Type 0
-IsScriptFault text stop = IsFaultOf (fault_line text) stop
+replies buffers text = script_replies line_reply after_line (none_yet buffers) text

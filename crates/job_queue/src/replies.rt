@@ -1,9 +1,10 @@
 //! Scripts of calls, and their answers.
-ghost use Rattle.std.specs.Prelude.{◌≡◌, ◌≤◌, ◌<◌, ◌^◌, ◌++◌, length, IfOk, IfErr, None, codes, string_bytes};
+ghost use Rattle.std.specs.Prelude.{◌≡◌, ◌≤◌, ◌<◌, ◌^◌, length, IfOk, IfErr, OnOk, None, codes};
+ghost use Rattle.script.specs.Replies.{Adds, IsScriptFault};
 ghost use Rattle.job_queue.specs.Calls.{fault_line, is_formed as formed};
 ghost use Rattle.job_queue.specs.Desk.{Agrees};
 ghost use Rattle.job_queue.specs.Past.{Past};
-ghost use Rattle.job_queue.specs.Text.{refused_line, answer_line, submit_reply, after_submit_line, line_reply, after_line, replies, IsScriptFault};
+ghost use Rattle.job_queue.specs.Text.{refused_line, answer_line, submit_reply, after_submit_line, line_reply, after_line, replies};
 
 use super::call::{Call, put_numbers, read_call};
 use super::queue::{Queue, QueueFault};
@@ -14,7 +15,7 @@ use std::fmt::Write;
 
 #[tactic(auto, unfolding(crate::specs::Text::refused_line))]
 fn put_refused(out: &mut String, fault: QueueFault) -> Result<(), AllocError>
-    ensures { IfOk result (λ _. string_bytes out.new ≡ string_bytes out.old ++ refused_line fault) }
+    ensures { OnOk result (Adds out.old out.new (refused_line fault)) }
 {
     match fault {
         QueueFault::Unknown { .. } => write!(out, "refused Q1\n"),
@@ -34,7 +35,7 @@ fn put_answer(
     word: &str,
     answer: Result<u64, QueueFault>,
 ) -> Result<(), AllocError>
-    ensures { IfOk result (λ _. string_bytes out.new ≡ string_bytes out.old ++ answer_line word.now answer) }
+    ensures { OnOk result (Adds out.old out.new (answer_line word.now answer)) }
 {
     match answer {
         Ok(job) => write!(out, "{word} {job}\n"),
@@ -50,9 +51,8 @@ fn put_submit(
     line: &[u8],
 ) -> Result<(), AllocError>
     requires { queue.old.submitted < 2 ^ 63 }
-    ensures line { (past : Past) → Agrees past queue.old
-        → IfOk result (λ _. string_bytes out.new ≡ string_bytes out.old ++ submit_reply past line.now) }
-    ensures kept { (past : Past) → Agrees past queue.old → IfOk result (λ _. Agrees (after_submit_line past line.now) queue.new) }
+    ensures line { (past : Past) → Agrees past queue.old → OnOk result (Adds out.old out.new (submit_reply past line.now)) }
+    ensures kept { (past : Past) → Agrees past queue.old → OnOk result (Agrees (after_submit_line past line.now) queue.new) }
 {
     let buffers = cut_at(cut_at(line, b' ').rest, b' ');
     let mut reads = Vec::new(alloc);
@@ -71,9 +71,8 @@ fn put_line(
     line: &[u8],
 ) -> Result<(), AllocError>
     requires { queue.old.submitted < 2 ^ 63 }
-    ensures line { (past : Past) → Agrees past queue.old
-        → IfOk result (λ _. string_bytes out.new ≡ string_bytes out.old ++ line_reply past line.now) }
-    ensures kept { (past : Past) → Agrees past queue.old → IfOk result (λ _. Agrees (after_line past line.now) queue.new) }
+    ensures line { (past : Past) → Agrees past queue.old → OnOk result (Adds out.old out.new (line_reply past line.now)) }
+    ensures kept { (past : Past) → Agrees past queue.old → OnOk result (Agrees (after_line past line.now) queue.new) }
 {
     match read_call(line) {
         Some(Call::Submit) => put_submit(alloc, out, queue, line),
@@ -121,7 +120,7 @@ pub fn script(alloc: Global, buffers: u32, text: &[u8]) -> Result<Vec<u8>, Stop<
     requires few { buffers ≤ 1024 }
     requires length { length text.now < 2 ^ 32 }
     ensures answers { IfOk result (λ bytes. (fault_line text.now ≡ None) × (bytes.items ≡ replies buffers text.now)) }
-    ensures fault { IfErr result (IsScriptFault text.now) }
+    ensures fault { IfErr result (IsScriptFault (fault_line text.now)) }
 {
     let mut queue = Queue::new(alloc, buffers)?;
     answer(alloc, &mut queue, text)

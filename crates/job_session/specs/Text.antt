@@ -1,11 +1,10 @@
 -- What a script is answered: a line for each of its calls.
 use Rattle.std.specs.Prelude.{ℕ, List, [], ◌++◌, codes, Option, Some, None, decimal}
-use Rattle.field_words.specs.declared.stop.Stop.{Stop}
 use Rattle.hex.specs.Hex.{encode_lower}
 use Rattle.job_format.specs.{declared.rule.Refusal.Refusal, Rules.rule_text}
-use Rattle.script.specs.{Lines.lines_of, Replies.replies_from, Replies.IsScriptFault as IsFaultOf}
+use Rattle.script.specs.Replies.{replies as script_replies}
 use Rattle.job_session.specs.{Own.Command, Own.Reply, Own.Id, Own.Done, Own.Bytes, Own.Accepted, Own.Refused, Own.Broken, Session.Call}
-use Rattle.job_session.specs.{Desk.Desk, Desk.empty, Replies.command_reply, Replies.desk_after, Calls.call_of, Calls.fault_line}
+use Rattle.job_session.specs.{Desk.Desk, Desk.empty, Replies.command_reply, Replies.desk_after, Calls.call_of}
 
 -- a rule of shaders or of jobs is named with its place
 unfoldable pub reply_line : Reply Refusal → List ℕ
@@ -37,8 +36,4 @@ line_after desk line = call_after desk (call_of line)
 
 -- the answer to a script, on a session without buffers
 unfoldable pub replies : List ℕ → List ℕ
-replies text = replies_from line_reply line_after empty (lines_of text)
-
--- a fault names the first malformed line; want of memory says nothing
-abbrev pub IsScriptFault : List ℕ → Stop ℕ → Type 0
-IsScriptFault text stop = IsFaultOf (fault_line text) stop
+replies text = script_replies line_reply line_after empty text

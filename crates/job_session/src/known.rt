@@ -31,7 +31,7 @@ fn check_entries<'a>(
     requires checked { AreListed entries }
     requires one { length (map job_parts_view jobs.items) ≡ 1 }
     requires well_formed { AllByRecursion IsJobWellFormed (map job_parts_view jobs.items) }
-    ensures { Answers (file_stages (file_in entries.entry (map job_parts_view jobs.entry.items))) (IsRegion (file_in entries.entry (map job_parts_view jobs.entry.items))) result }
+    ensures { let file = file_in entries.entry (map job_parts_view jobs.entry.items) in Answers (file_stages file) (IsRegion file) result }
 {
     let parts = FileParts {
         version: 2,

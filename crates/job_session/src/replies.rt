@@ -1,11 +1,12 @@
 //! Scripts of calls, and their answers.
-ghost use Rattle.std.specs.Prelude.{◌≡◌, ◌≤◌, ◌<◌, ◌^◌, ◌++◌, length, IfOk, IfErr, OnOk, None, string_bytes};
+ghost use Rattle.std.specs.Prelude.{◌≡◌, ◌≤◌, ◌<◌, ◌^◌, length, IfOk, IfErr, OnOk, None};
+ghost use Rattle.script.specs.Replies.{Adds, IsScriptFault};
 ghost use Rattle.field_words.specs.Sizes.{most_code};
 ghost use Rattle.job_session.specs.Own.{Make, Read, Submit, Id, Accepted, Bytes, Refused, Broken};
 ghost use Rattle.job_session.specs.Calls.{fault_line, is_formed as formed, hex_bytes, command_of, Fits};
 ghost use Rattle.job_session.specs.Desk.{Desk};
 ghost use Rattle.job_session.specs.Replies.{created_reply, denied_reply, done_reply, command_after};
-ghost use Rattle.job_session.specs.Text.{reply_line, answer_line, line_reply, line_after, replies, IsScriptFault};
+ghost use Rattle.job_session.specs.Text.{reply_line, answer_line, line_reply, line_after, replies};
 
 use super::call::{Request, read_line};
 use super::denied::Denied;
@@ -31,14 +32,14 @@ fn decoded(alloc: Global, hex: &[u8]) -> Result<Vec<u8>, AllocError>
 
 #[tactic(auto, unfolding(crate::specs::Text::reply_line))]
 fn put_refused(out: &mut String, refusal: u8) -> Result<(), AllocError>
-    ensures { IfOk result (λ _. string_bytes out.new ≡ string_bytes out.old ++ reply_line (Refused refusal)) }
+    ensures { OnOk result (Adds out.old out.new (reply_line (Refused refusal))) }
 {
     write!(out, "refused J{refusal}\n")
 }
 
 #[tactic(auto, unfolding(crate::specs::Text::reply_line))]
 fn put_broken(out: &mut String, refusal: Refusal) -> Result<(), AllocError>
-    ensures { IfOk result (λ _. string_bytes out.new ≡ string_bytes out.old ++ reply_line (Broken refusal)) }
+    ensures { OnOk result (Adds out.old out.new (reply_line (Broken refusal))) }
 {
     let rule = refusal.rule;
     let offset = refusal.offset;
@@ -46,7 +47,7 @@ fn put_broken(out: &mut String, refusal: Refusal) -> Result<(), AllocError>
 }
 
 fn put_denied(out: &mut String, denied: Denied) -> Result<(), AllocError>
-    ensures { IfOk result (λ _. string_bytes out.new ≡ string_bytes out.old ++ reply_line (denied_reply denied)) }
+    ensures { OnOk result (Adds out.old out.new (reply_line (denied_reply denied))) }
 {
     match denied {
         Denied::Session(refusal) => put_refused(out, refusal),
@@ -56,13 +57,13 @@ fn put_denied(out: &mut String, denied: Denied) -> Result<(), AllocError>
 
 #[tactic(auto, unfolding(crate::specs::Text::reply_line))]
 fn put_id(out: &mut String, id: u32) -> Result<(), AllocError>
-    ensures { IfOk result (λ _. string_bytes out.new ≡ string_bytes out.old ++ reply_line (Id id)) }
+    ensures { OnOk result (Adds out.old out.new (reply_line (Id id))) }
 {
     write!(out, "id {id}\n")
 }
 
 fn put_created(out: &mut String, answer: Result<u32, u8>) -> Result<(), AllocError>
-    ensures { IfOk result (λ _. string_bytes out.new ≡ string_bytes out.old ++ reply_line (created_reply answer)) }
+    ensures { OnOk result (Adds out.old out.new (reply_line (created_reply answer))) }
 {
     match answer {
         Ok(id) => put_id(out, id),
@@ -72,7 +73,7 @@ fn put_created(out: &mut String, answer: Result<u32, u8>) -> Result<(), AllocErr
 
 #[tactic(auto, unfolding(crate::specs::Text::reply_line))]
 fn put_done(out: &mut String, answer: Result<(), u8>) -> Result<(), AllocError>
-    ensures { IfOk result (λ _. string_bytes out.new ≡ string_bytes out.old ++ reply_line (done_reply answer)) }
+    ensures { OnOk result (Adds out.old out.new (reply_line (done_reply answer))) }
 {
     match answer {
         Ok(()) => write!(out, "done\n"),
@@ -82,7 +83,7 @@ fn put_done(out: &mut String, answer: Result<(), u8>) -> Result<(), AllocError>
 
 #[tactic(auto, unfolding(crate::specs::Text::reply_line))]
 fn put_bytes(alloc: Global, out: &mut String, bytes: &[u8]) -> Result<(), AllocError>
-    ensures { IfOk result (λ _. string_bytes out.new ≡ string_bytes out.old ++ reply_line (Bytes bytes.now)) }
+    ensures { OnOk result (Adds out.old out.new (reply_line (Bytes bytes.now))) }
 {
     let digits = hex::encode(alloc, bytes)?;
     write!(out, "bytes {digits}\n")
@@ -90,7 +91,7 @@ fn put_bytes(alloc: Global, out: &mut String, bytes: &[u8]) -> Result<(), AllocE
 
 #[tactic(auto, unfolding(crate::specs::Text::reply_line))]
 fn put_accepted(out: &mut String) -> Result<(), AllocError>
-    ensures { IfOk result (λ _. string_bytes out.new ≡ string_bytes out.old ++ reply_line Accepted) }
+    ensures { OnOk result (Adds out.old out.new (reply_line Accepted)) }
 {
     write!(out, "accepted\n")
 }
@@ -106,7 +107,7 @@ fn put_code(
 ) -> Result<(), AllocError>
     requires client { client < 8 }
     requires few { length (hex_bytes hex.now) ≤ most_code }
-    ensures line { OnOk result (string_bytes out.new ≡ string_bytes out.old ++ answer_line session.old client (Make (hex_bytes hex.now))) }
+    ensures line { OnOk result (Adds out.old out.new (answer_line session.old client (Make (hex_bytes hex.now)))) }
     ensures left { OnOk result (session.new ≡ command_after session.old client (Make (hex_bytes hex.now))) }
 {
     let bytes = decoded(alloc, hex)?;
@@ -129,7 +130,7 @@ fn put_read(
     len: u32,
 ) -> Result<(), AllocError>
     requires { client < 8 }
-    ensures { OnOk result (string_bytes out.new ≡ string_bytes out.old ++ answer_line session.now client (Read id at len)) }
+    ensures { OnOk result (Adds out.old out.new (answer_line session.now client (Read id at len))) }
 {
     match session.read(alloc, client, id, at, len) {
         Ok(bytes) => put_bytes(alloc, out, &bytes),
@@ -148,7 +149,7 @@ fn put_submit(
     hex: &[u8],
 ) -> Result<(), AllocError>
     requires { client < 8 }
-    ensures { OnOk result (string_bytes out.new ≡ string_bytes out.old ++ answer_line session.now client (Submit (hex_bytes hex.now))) }
+    ensures { OnOk result (Adds out.old out.new (answer_line session.now client (Submit (hex_bytes hex.now)))) }
 {
     let parts = decoded(alloc, hex)?;
     match session.submit(alloc, client, &parts) {
@@ -169,7 +170,7 @@ fn put_answer(
 ) -> Result<(), AllocError>
     requires client { client < 8 }
     requires fits { Fits request }
-    ensures line { OnOk result (string_bytes out.new ≡ string_bytes out.old ++ answer_line session.old client (command_of request.entry)) }
+    ensures line { OnOk result (Adds out.old out.new (answer_line session.old client (command_of request.entry))) }
     ensures left { OnOk result (session.new ≡ command_after session.old client (command_of request.entry)) }
 {
     match request {
@@ -225,7 +226,7 @@ impl Clerk for Session {
 pub fn script(alloc: Global, text: &[u8]) -> Result<Vec<u8>, Stop<u32>>
     requires { length text.now < 2 ^ 32 }
     ensures answers { IfOk result (λ bytes. (fault_line text.now ≡ None) × (bytes.items ≡ replies text.now)) }
-    ensures fault { IfErr result (IsScriptFault text.now) }
+    ensures fault { IfErr result (IsScriptFault (fault_line text.now)) }
 {
     let mut session = Session::new(alloc)?;
     answer(alloc, &mut session, text)

@@ -1,4 +1,5 @@
-//! Tests of whole runs over jobs with binner lists, over files of several jobs, and of hostile use.
+//! Tests of whole runs over jobs with binner lists, over files of several jobs, of hostile use, and of the texts that
+//! the program prints (`dumper`).
 #![tactic(auto)]
 
 #[cfg(test)]

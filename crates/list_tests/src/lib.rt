@@ -1,5 +1,6 @@
-//! Tests of the memory table, of packets, and of what becomes of binner and renderer lists. A crate with tests is proved twice, so those of several
-//! crates stand in one, which has nothing else.
+//! Tests of the memory table (`buffer_table`), of where a job's lists lie (`relocation`), of packets (`packets`), and of what becomes of
+//! binner and renderer lists (`bin_list`, `render_list`). A crate with tests is proved twice, so those of several crates stand in one, which
+//! has nothing else.
 #![tactic(auto)]
 
 #[cfg(test)]

@@ -1,5 +1,5 @@
-//! Tests of shader rules, of arithmetic, and of replays. A crate with tests is proved twice, so those of many crates stand
-//! in one, which has nothing else.
+//! Tests of shader rules (`shader_check`), of arithmetic (`qpu_alu`), of the memory (`phys_mem`), of shader processors (`qpu_machine`), and
+//! of replays (`replay`). A crate with tests is proved twice, so those of many crates stand in one, which has nothing else.
 #![tactic(auto)]
 
 #[cfg(test)]

@@ -1,10 +1,9 @@
 -- What a script is answered: a line for each of its calls.
 use Rattle.std.specs.Prelude.{ℕ, List, [], ◌++◌, codes, Option, Some, None, Result, Ok, Err, decimal}
-use Rattle.field_words.specs.declared.stop.Stop.{Stop}
-use Rattle.script.specs.{Lines.lines_of, Replies.replies_from, Replies.IsScriptFault as IsFaultOf}
+use Rattle.script.specs.Replies.{replies as script_replies}
 use Rattle.overflow_slots.specs.declared.call.Call.TheVariants.{Begin, Take, Overflow, End}
 use Rattle.overflow_slots.specs.SlotRun.{Run, start, after, begin_answer, take_answer, overflow_answer, end_answer}
-use Rattle.overflow_slots.specs.{declared.pool.Block.Block, declared.call.Call.Call, Calls.call_of, Calls.fault_line}
+use Rattle.overflow_slots.specs.{declared.pool.Block.Block, declared.call.Call.Call, Calls.call_of}
 
 unfoldable pub refused_line : ℕ → List ℕ
 refused_line refusal = codes "refused O" ++ (decimal refusal ++ codes "\n")
@@ -42,8 +41,4 @@ after_line run line = after_call run (call_of line)
 
 -- the answer to a script on so many slots
 unfoldable pub replies : ℕ → List ℕ → List ℕ
-replies slots text = replies_from line_reply after_line (start slots) (lines_of text)
-
--- a fault names the first malformed line; want of memory says nothing
-abbrev pub IsScriptFault : List ℕ → Stop ℕ → Type 0
-IsScriptFault text stop = IsFaultOf (fault_line text) stop
+replies slots text = script_replies line_reply after_line (start slots) text

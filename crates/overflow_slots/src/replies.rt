@@ -1,10 +1,11 @@
 //! Scripts of calls, and their answers.
-ghost use Rattle.std.specs.Prelude.{◌≡◌, ◌≤◌, ◌<◌, ◌^◌, ◌++◌, length, IfOk, IfErr, None, string_bytes};
+ghost use Rattle.std.specs.Prelude.{◌≡◌, ◌≤◌, ◌<◌, ◌^◌, length, IfOk, IfErr, OnOk, None};
+ghost use Rattle.script.specs.Replies.{Adds, IsScriptFault};
 ghost use Rattle.overflow_slots.specs.Calls.{fault_line, is_formed as formed, IsInRange};
 ghost use Rattle.overflow_slots.specs.Desk.{Agrees};
 ghost use Rattle.overflow_slots.specs.SlotRun.{Run, after};
 ghost use Rattle.overflow_slots.specs.Laws.{StaysOrdered};
-ghost use Rattle.overflow_slots.specs.Text.{refused_line, number_line, block_line, line_of, line_reply, after_line, replies, IsScriptFault};
+ghost use Rattle.overflow_slots.specs.Text.{refused_line, number_line, block_line, line_of, line_reply, after_line, replies};
 
 use super::call::{Call, read_call};
 use super::pool::{Block, Pool};
@@ -15,7 +16,7 @@ use std::fmt::Write;
 
 #[tactic(auto, unfolding(crate::specs::Text::refused_line))]
 fn put_refused(out: &mut String, refusal: u8) -> Result<(), AllocError>
-    ensures { IfOk result (λ _. string_bytes out.new ≡ string_bytes out.old ++ refused_line refusal) }
+    ensures { OnOk result (Adds out.old out.new (refused_line refusal)) }
 {
     write!(out, "refused O{refusal}\n")
 }
@@ -23,7 +24,7 @@ fn put_refused(out: &mut String, refusal: u8) -> Result<(), AllocError>
 // This word and a number, or the refusal.
 #[tactic(auto, unfolding(crate::specs::Text::number_line))]
 fn put_number(out: &mut String, word: &str, answer: Result<u32, u8>) -> Result<(), AllocError>
-    ensures { IfOk result (λ _. string_bytes out.new ≡ string_bytes out.old ++ number_line word.now answer) }
+    ensures { OnOk result (Adds out.old out.new (number_line word.now answer)) }
 {
     match answer {
         Ok(number) => write!(out, "{word} {number}\n"),
@@ -33,7 +34,7 @@ fn put_number(out: &mut String, word: &str, answer: Result<u32, u8>) -> Result<(
 
 #[tactic(auto, unfolding(crate::specs::Text::block_line))]
 fn put_block(out: &mut String, answer: Result<Block, u8>) -> Result<(), AllocError>
-    ensures { IfOk result (λ _. string_bytes out.new ≡ string_bytes out.old ++ block_line answer) }
+    ensures { OnOk result (Adds out.old out.new (block_line answer)) }
 {
     match answer {
         Ok(block) => {
@@ -49,7 +50,7 @@ fn put_block(out: &mut String, answer: Result<Block, u8>) -> Result<(), AllocErr
 #[tactic(auto, unfolding(crate::specs::Text::line_of))]
 fn put_answer(out: &mut String, pool: &mut Pool, call: Call) -> Result<(), AllocError>
     requires { IsInRange call }
-    ensures line { (run : Run) → Agrees run pool.old → IfOk result (λ _. string_bytes out.new ≡ string_bytes out.old ++ line_of run call) }
+    ensures line { (run : Run) → Agrees run pool.old → OnOk result (Adds out.old out.new (line_of run call)) }
     ensures kept { (run : Run) → Agrees run pool.old → Agrees (after run call) pool.new }
 {
     match call {
@@ -100,7 +101,7 @@ pub fn script(alloc: Global, slots: u32, text: &[u8]) -> Result<Vec<u8>, Stop<u3
     requires few { slots ≤ 32 }
     requires length { length text.now < 2 ^ 32 }
     ensures answers { IfOk result (λ bytes. (fault_line text.now ≡ None) × (bytes.items ≡ replies slots text.now)) }
-    ensures fault { IfErr result (IsScriptFault text.now) }
+    ensures fault { IfErr result (IsScriptFault (fault_line text.now)) }
 {
     let mut pool = Pool::new(slots);
     answer(alloc, &mut pool, text)

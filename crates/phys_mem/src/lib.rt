@@ -50,7 +50,8 @@ impl Model for PhysMem {
 
     ghost view = { λ m. m.contents.bytes };
 
-    ghost invariant = { λ m. (m.contents.at ≡ m.ptr) × (length m.contents.bytes ≡ m.len) × (m.len < 2 ^ 32) × (m.deed.ptr ≡ m.ptr) × (m.deed.size ≡ m.len) × (m.deed.alloc ≡ m.alloc) };
+    ghost invariant = { λ m. (m.contents.at ≡ m.ptr) × (length m.contents.bytes ≡ m.len) × (m.len < 2 ^ 32)
+        × (m.deed.ptr ≡ m.ptr) × (m.deed.size ≡ m.len) × (m.deed.alloc ≡ m.alloc) };
 }
 
 impl Drop for PhysMem {

@@ -1,9 +1,9 @@
 -- What a processor's numbers keep to, so that its queues have room.
-use Rattle.std.specs.Prelude.{◌≡◌, ◌≤◌, ◌<◌, ℕ, ◌+◌, ◌^◌, Bool, false, true, List, length, slice_index_or, Option, None, Some, IfSome, option_map}
+use Rattle.std.specs.Prelude.{◌≡◌, ◌≤◌, ◌<◌, ℕ, ◌+◌, ◌^◌, Bool, false, true, List, length, slice_index_or, Option, None, Some, IfSome}
 use Rattle.arrayvec.specs.ArrayVec.{ArrayVec}
 use Rattle.machine_plan.specs.Turn.{CarriesOver}
 use Rattle.qpu_machine.specs.{State.Access, State.Leaves, State.Qpu, State.Request, State.Thread, State.Who, Qpu.queued, Qpu.idle_qpu}
-use Rattle.qpu_machine.specs.Step.{thread_plan, turn_of}
+use Rattle.qpu_machine.specs.Step.{thread_plan, turned}
 
 -- a thread's next instruction is no further than this
 abbrev pub IsNear : Option Thread → Type 0
@@ -36,5 +36,5 @@ AreBounded qpus = (k : ℕ) → k < length qpus → IsBounded (slice_index_or qp
 pub record SlotSteps (who : Who) (words m : List ℕ) (before listed : ArrayVec Access) (slot : Option Thread) (result : Option Leaves) (t : Thread) : Type 0 where
   pub next : Thread
   pub is : slot ≡ Some next
-  pub shows : CarriesOver who (thread_plan t words) m before listed (option_map (turn_of next) result)
+  pub shows : CarriesOver who (thread_plan t words) m before listed (turned next result)
   pub near : IfSome result (λ leaves. next.place ≤ 2 ^ 34)

@@ -1,5 +1,5 @@
 -- One instruction of a thread: when it may be executed, and what it does.
-use Rattle.std.specs.Prelude.{ℕ, ◌+◌, ◌==◌, ◌&&◌, ◌||◌, not, Bool, nat_le, if◌then◌else◌, List, length}
+use Rattle.std.specs.Prelude.{ℕ, ◌+◌, ◌==◌, ◌&&◌, ◌||◌, not, Bool, nat_le, if◌then◌else◌, List, length, Option, option_map}
 use Rattle.std.specs.Int.{from_le_bytes, w64}
 use Rattle.field_words.specs.Words.{u32_at}
 use Rattle.qpu_isa.specs.Terms.{writes_s}
@@ -14,6 +14,10 @@ pub record ThreadTurn : Type 0 where
 
 abbrev pub turn_of : Thread → Leaves → ThreadTurn
 turn_of thread leaves = record { thread = thread; leaves = leaves }
+
+-- the same of an instruction that may be wild
+abbrev pub turned : Thread → Option Leaves → Option ThreadTurn
+turned thread leaves = option_map (turn_of thread) leaves
 
 -- The instruction executed, by what the two units came to. Both computed with what the registers held
 -- before.

@@ -74,8 +74,8 @@ fn list_texels(
 // Whether the setup words leave undefined where the texture lies.
 #[tactic(auto, unfolding(crate::specs::Request::is_undefined))]
 fn is_undefined(four: &[u32; 4], texture: &Texture) -> bool
-    requires { texture.now ≡ texture_of (slice_index four.now 0) (slice_index four.now 1) (slice_index four.now 2) (slice_index four.now 3) }
-    ensures value { result ≡ is_undefined (slice_index four.now 0) (slice_index four.now 1) (slice_index four.now 2) (slice_index four.now 3) }
+    requires { let word = slice_index four.now in texture.now ≡ texture_of (word 0) (word 1) (word 2) (word 3) }
+    ensures value { let word = slice_index four.now in result ≡ is_undefined (word 0) (word 1) (word 2) (word 3) }
     ensures listed { result ≡ false → is_unlisted texture.now ≡ false }
 {
     (has_two_strides(four) || lacks_stride(four))

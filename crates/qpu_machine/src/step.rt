@@ -1,5 +1,5 @@
 //! One instruction of a thread.
-ghost use Rattle.std.specs.Prelude.{◌≡◌, ◌<◌, ◌≤◌, ◌+◌, ◌++◌, ◌∷◌, [], ◌^◌, true, false, length, option_map, IfSome, None};
+ghost use Rattle.std.specs.Prelude.{◌≡◌, ◌<◌, ◌≤◌, ◌+◌, ◌++◌, ◌∷◌, [], ◌^◌, true, false, length, IfSome, None};
 ghost use Rattle.std.specs.Int.{from_le_bytes, w64};
 ghost use Rattle.field_words.specs.Words.{u32_at};
 ghost use Rattle.machine_plan.specs.Turn.{CarriesOver};
@@ -11,7 +11,7 @@ ghost use Rattle.machine_plan.specs.Glance.{glanced};
 ghost use Rattle.qpu_isa.specs.Terms.{writes_tmu};
 ghost use Rattle.qpu_machine.specs.Wild.{is_wild};
 ghost use Rattle.qpu_machine.specs.Writes.{past_uniform};
-ghost use Rattle.qpu_machine.specs.Step.{executed_with, executed, word_plan, thread_plan, is_held_by, is_held, thread_ready, turn_of};
+ghost use Rattle.qpu_machine.specs.Step.{executed_with, executed, word_plan, thread_plan, is_held_by, is_held, thread_ready, turned};
 
 use crate::effects::{asked, fate_of, loads, pass_uniform, rest, wake, work};
 use crate::operands::{add_row, mul_row};
@@ -88,7 +88,7 @@ fn obey(
     requires place { thread.old.place < 2 ^ 62 }
     requires room { array_vec_len accesses.old < 270 }
     ensures near { IfSome result (λ leaves. (is_wild thread.old word ≡ false) × (thread.new.place ≤ thread.old.place + 2 ^ 33)) }
-    ensures shows { CarriesOver who (word_plan thread.old word words.now) memory.now accesses.old accesses.new (option_map (turn_of thread.new) result) }
+    ensures shows { CarriesOver who (word_plan thread.old word words.now) memory.now accesses.old accesses.new (turned thread.new result) }
     ensures same { result ≡ None → thread.new ≡ thread.old }
 {
     if is_wild(thread, word) {
@@ -126,7 +126,7 @@ pub fn step_thread(
     requires place { thread.old.place < 2 ^ 62 }
     requires room { array_vec_len accesses.old ≤ 260 }
     ensures near { IfSome result (λ leaves. thread.new.place ≤ 2 ^ 34) }
-    ensures shows { CarriesOver who (thread_plan thread.old words.now) memory.now accesses.old accesses.new (option_map (turn_of thread.new) result) }
+    ensures shows { CarriesOver who (thread_plan thread.old words.now) memory.now accesses.old accesses.new (turned thread.new result) }
     ensures same { result ≡ None → thread.new ≡ thread.old }
 {
     let _size = memory.len();

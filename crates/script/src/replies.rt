@@ -1,7 +1,7 @@
 //! Scripts, and their answers line by line.
-ghost use Rattle.std.specs.Prelude.{◌≡◌, ◌<◌, ◌^◌, ◌+◌, ◌++◌, ℕ, List, Bool, length, IfOk, IfErr, None, string_bytes};
-ghost use Rattle.script.specs.Lines.{lines_of, first_malformed as malformed};
-ghost use Rattle.script.specs.Replies.{KeepsAtFault, replies_from, IsScriptFault};
+ghost use Rattle.std.specs.Prelude.{◌≡◌, ◌<◌, ◌^◌, ◌+◌, ℕ, List, Bool, length, IfOk, OnOk, IfErr, None};
+ghost use Rattle.script.specs.Lines.{first_malformed as malformed};
+ghost use Rattle.script.specs.Replies.{Adds, KeepsAtFault, replies, IsScriptFault};
 
 use super::lines::next_line;
 use field_words::Stop;
@@ -31,8 +31,8 @@ pub trait Clerk {
     /// Puts the answer to one more line.
     fn put_reply(&mut self, alloc: Global, out: &mut String, line: &[u8]) -> Result<(), AllocError>
         requires { (lines : ℕ) × (past : Past) × (lines < 2 ^ 32) × Stands lines past self.old }
-        ensures line { (lines : ℕ) (past : Past) → Stands lines past self.old → IfOk result (λ _. string_bytes out.new ≡ string_bytes out.old ++ reply past line.now) }
-        ensures kept { (lines : ℕ) (past : Past) → Stands lines past self.old → IfOk result (λ _. Stands (lines + 1) (after past line.now) self.new) };
+        ensures line { (n : ℕ) (past : Past) → Stands n past self.old → OnOk result (Adds out.old out.new (reply past line.now)) }
+        ensures kept { (n : ℕ) (past : Past) → Stands n past self.old → OnOk result (Stands (n + 1) (after past line.now) self.new) };
 }
 
 // The number of the first line that isn't well formed.
@@ -60,7 +60,8 @@ fn first_malformed<C: Clerk>(text: &[u8]) -> Option<u32>
 pub fn answer<C: Clerk>(alloc: Global, clerk: &mut C, text: &[u8]) -> Result<Vec<u8>, Stop<u32>>
     requires begins { (past : C.Past) × C.Stands 0 past clerk.old }
     requires length { length text.now < 2 ^ 32 }
-    ensures answers { (past : C.Past) → C.Stands 0 past clerk.old → IfOk result (λ bytes. (malformed C.formed text.now ≡ None) × (bytes.items ≡ replies_from C.reply C.after past (lines_of text.now))) }
+    ensures formed { OnOk result (malformed C.formed text.now ≡ None) }
+    ensures answers { (past : C.Past) → C.Stands 0 past clerk.old → IfOk result (λ out. out.items ≡ replies C.reply C.after past text.now) }
     ensures fault { IfErr result (IsScriptFault (malformed C.formed text.now)) }
     ensures same { IfErr result (KeepsAtFault clerk.old clerk.new) }
 {

@@ -1,6 +1,5 @@
 -- What is told of a machine is told of what it is equal to; and a line more.
 use Rattle.std.proofs.Common.{◌≡◌, ◌+◌, ◌++◌, ℕ, List, Option, refl, sym, subst, add-one}
-use Rattle.buffer_table.specs.declared.buffer.Buffer.{Buffer}
 use Rattle.job_check.specs.Jobs.{layouts_of}
 use Rattle.job_format.specs.Model.{FileModel}
 use Rattle.job_safety.specs.Accepted.{machine_of}

@@ -1,12 +1,12 @@
 //! What is told of runs.
-ghost use Rattle.std.specs.Prelude.{◌≡◌, ◌≤◌, ◌<◌, ◌^◌, ◌+◌, IfOk, IsOk};
+ghost use Rattle.std.specs.Prelude.{◌≡◌, ◌⊎◌, ◌≤◌, ◌<◌, ◌^◌, ◌+◌, IfOk, IsOk};
 ghost use Rattle.field_words.specs.Questions.{Answers};
-ghost use Rattle.job_check.specs.Jobs.{layouts_of};
 ghost use Rattle.job_check.specs.Whole.{all_questions};
 ghost use Rattle.job_format.specs.File.{IsFileOf};
 ghost use Rattle.job_format.specs.Reading.{file_at};
-ghost use Rattle.job_safety.specs.Accepted.{machine_of, IsAccepted};
-ghost use Rattle.seeded_runs.specs.Told.{seed_text, IsStepText, IsAccessText, IsPictureText, IsSeedLine, AreSeedLines, IsTold, IsTrialWithin};
+ghost use Rattle.job_safety.specs.Accepted.{IsAccepted};
+ghost use Rattle.seeded_runs.specs.declared.told.Look.TheVariants.{Steps, Accesses, Picture, Seeds};
+ghost use Rattle.seeded_runs.specs.Told.{seed_text, IsStepText, IsAccessText, IsPictureText, IsSeedLine, IsLookText, IsTold, IsTrialWithin};
 
 use crate::seeded::{log_of, run_of};
 use buffer_table::{Buffer, Regions};
@@ -125,30 +125,8 @@ fn seed_line(
     Ok(seed_text(alloc, seed, &trace)?)
 }
 
-// The line of a seed's run of the file's machine.
-#[tactic(auto, using(crate::proofs::Moving::line_moved))]
-fn seed_of(
-    alloc: Global,
-    bytes: &[u8],
-    favoured: Option<UnitKind>,
-    steps: u32,
-    seed: u64,
-) -> Result<Vec<u8>, Stop<Refusal>>
-    requires { steps ≤ 1000000 }
-    ensures answers { Answers (all_questions bytes.now) (λ line. IsSeedLine (machine_of (file_at bytes.now)) favoured steps seed line.items) result }
-    ensures spelled { IsOk result → IsFileOf bytes.now (file_at bytes.now) }
-{
-    match accept(alloc, bytes) {
-        Ok(accepted) => {
-            let machine = accepted.into_machine();
-            Ok(seed_line(alloc, machine, favoured, steps, seed)?)
-        }
-        Err(stop) => Err(stop),
-    }
-}
-
 // A line for each of so many seeds. The file is accepted anew for each, since a run uses its machine up.
-#[tactic(auto, using(crate::proofs::Moving::lines_more))]
+#[tactic(auto, using(crate::proofs::Moving::line_moved, crate::proofs::Moving::lines_more))]
 fn seeds_text(
     alloc: Global,
     bytes: &[u8],
@@ -160,12 +138,14 @@ fn seeds_text(
     requires few { steps ≤ 1000000 }
     requires some { 1 ≤ count }
     requires within { seed + count < 2 ^ 64 }
-    ensures answers { Answers (all_questions bytes.now) (λ text. AreSeedLines (machine_of (file_at bytes.now)) favoured steps seed count text.items) result }
+    ensures answers { Answers (all_questions bytes.now)
+        (λ out. IsLookText (file_at bytes.now) (Seeds count) favoured steps seed out.items) result }
     ensures spelled { IsOk result → IsFileOf bytes.now (file_at bytes.now) }
 {
     let mut text = Vec::new(alloc);
     for n in 0..count {
-        let line = seed_of(alloc, bytes, favoured, steps, seed + u64::from(n))?;
+        let machine = accept(alloc, bytes)?.into_machine();
+        let line = seed_line(alloc, machine, favoured, steps, seed + u64::from(n))?;
         text.extend_from_slice(&line)?;
     }
     Ok(text)
@@ -181,41 +161,30 @@ fn steps_told(
     seed: u64,
 ) -> Result<Vec<u8>, Stop<Refusal>>
     requires { steps ≤ 1000000 }
-    ensures answers { Answers (all_questions bytes.now)
-        (λ text. IsStepText (file_at bytes.now).version (machine_of (file_at bytes.now)) favoured steps seed text.items) result }
+    ensures answers { Answers (all_questions bytes.now) (λ out. IsLookText (file_at bytes.now) Steps favoured steps seed out.items) result }
     ensures spelled { IsOk result → IsFileOf bytes.now (file_at bytes.now) }
 {
-    match accept(alloc, bytes) {
-        Ok(accepted) => {
-            let version = accepted.version;
-            let text = step_text(
-                alloc,
-                version,
-                accepted.into_machine(),
-                favoured,
-                steps,
-                seed,
-            )?;
-            Ok(text)
-        }
-        Err(stop) => Err(stop),
-    }
+    let accepted = accept(alloc, bytes)?;
+    let version = accepted.version;
+    let machine = accepted.into_machine();
+    Ok(step_text(alloc, version, machine, favoured, steps, seed)?)
 }
 
-// The text of the accesses of a run of an accepted file's machine.
-#[tactic(auto, using(crate::proofs::Moving::access_moved))]
+// What is told of all accesses of a run of an accepted file's machine: a line for each, or a picture.
+#[tactic(auto, using(crate::proofs::Moving::access_moved, crate::proofs::Moving::picture_moved))]
 fn accesses_of(
     alloc: Global,
     bytes: &[u8],
     accepted: Accepted,
+    look: Look,
     favoured: Option<UnitKind>,
     steps: u32,
     seed: u64,
 ) -> Result<Vec<u8>, NoMemory>
     requires few { steps ≤ 1000000 }
     requires accepted { IsAccepted (file_at bytes.now) accepted }
-    ensures { IfOk result (λ text. IsAccessText (file_at bytes.now).regions (file_at bytes.now).buffers
-        (layouts_of (file_at bytes.now)) (machine_of (file_at bytes.now)) favoured steps seed text.items) }
+    requires look { (look ≡ Accesses) ⊎ (look ≡ Picture) }
+    ensures { IfOk result (λ text. IsLookText (file_at bytes.now) look favoured steps seed text.items) }
 {
     // No rule of the format stands of an accepted file.
     let Ok(file) = read_parts(alloc, bytes) else {
@@ -227,98 +196,42 @@ fn accesses_of(
         lengths: _,
         machine,
     } = accepted;
-    access_text(
-        alloc,
-        &file.regions,
-        &file.buffers,
-        &layouts,
-        machine,
-        favoured,
-        steps,
-        seed,
-    )
+    let regions = &file.regions;
+    let buffers = &file.buffers;
+    match look {
+        Look::Picture => picture_text(
+            alloc,
+            file.mem_size,
+            regions,
+            buffers,
+            &layouts,
+            machine,
+            favoured,
+            steps,
+            seed,
+        ),
+        _ => access_text(
+            alloc, regions, buffers, &layouts, machine, favoured, steps, seed,
+        ),
+    }
 }
 
-// The text of the accesses of a run of the file's machine.
+// The same of the file's machine.
 fn accesses_told(
     alloc: Global,
     bytes: &[u8],
+    look: Look,
     favoured: Option<UnitKind>,
     steps: u32,
     seed: u64,
 ) -> Result<Vec<u8>, Stop<Refusal>>
-    requires { steps ≤ 1000000 }
-    ensures answers { Answers (all_questions bytes.now) (λ text. IsAccessText (file_at bytes.now).regions (file_at bytes.now).buffers
-        (layouts_of (file_at bytes.now)) (machine_of (file_at bytes.now)) favoured steps seed text.items) result }
-    ensures spelled { IsOk result → IsFileOf bytes.now (file_at bytes.now) }
-{
-    match accept(alloc, bytes) {
-        Ok(accepted) => {
-            let text = accesses_of(alloc, bytes, accepted, favoured, steps, seed)?;
-            Ok(text)
-        }
-        Err(stop) => Err(stop),
-    }
-}
-
-// The picture of the accesses of a run of an accepted file's machine.
-#[tactic(auto, using(crate::proofs::Moving::picture_moved))]
-fn picture_of(
-    alloc: Global,
-    bytes: &[u8],
-    accepted: Accepted,
-    favoured: Option<UnitKind>,
-    steps: u32,
-    seed: u64,
-) -> Result<Vec<u8>, NoMemory>
     requires few { steps ≤ 1000000 }
-    requires accepted { IsAccepted (file_at bytes.now) accepted }
-    ensures { IfOk result (λ text. IsPictureText (file_at bytes.now).mem_size (file_at bytes.now).regions (file_at bytes.now).buffers
-        (layouts_of (file_at bytes.now)) (machine_of (file_at bytes.now)) favoured steps seed text.items) }
-{
-    // No rule of the format stands of an accepted file.
-    let Ok(file) = read_parts(alloc, bytes) else {
-        return Err(NoMemory);
-    };
-    let Accepted {
-        version: _,
-        layouts,
-        lengths: _,
-        machine,
-    } = accepted;
-    picture_text(
-        alloc,
-        file.mem_size,
-        &file.regions,
-        &file.buffers,
-        &layouts,
-        machine,
-        favoured,
-        steps,
-        seed,
-    )
-}
-
-// The picture of the accesses of a run of the file's machine.
-fn picture_told(
-    alloc: Global,
-    bytes: &[u8],
-    favoured: Option<UnitKind>,
-    steps: u32,
-    seed: u64,
-) -> Result<Vec<u8>, Stop<Refusal>>
-    requires { steps ≤ 1000000 }
-    ensures answers { Answers (all_questions bytes.now) (λ text. IsPictureText (file_at bytes.now).mem_size (file_at bytes.now).regions
-        (file_at bytes.now).buffers (layouts_of (file_at bytes.now)) (machine_of (file_at bytes.now)) favoured steps seed text.items) result }
+    requires look { (look ≡ Accesses) ⊎ (look ≡ Picture) }
+    ensures answers { Answers (all_questions bytes.now) (λ out. IsLookText (file_at bytes.now) look favoured steps seed out.items) result }
     ensures spelled { IsOk result → IsFileOf bytes.now (file_at bytes.now) }
 {
-    match accept(alloc, bytes) {
-        Ok(accepted) => {
-            let text = picture_of(alloc, bytes, accepted, favoured, steps, seed)?;
-            Ok(text)
-        }
-        Err(stop) => Err(stop),
-    }
+    let accepted = accept(alloc, bytes)?;
+    Ok(accesses_of(alloc, bytes, accepted, look, favoured, steps, seed)?)
 }
 
 /// What is told of runs of these bytes, a job file, by the script of a seed or of many. `Ok` comes exactly where no rule stands of them.
@@ -332,8 +245,14 @@ pub fn told_text(alloc: Global, trial: Trial, bytes: &[u8]) -> Result<Vec<u8>, S
 {
     match trial.look {
         Look::Steps => steps_told(alloc, bytes, trial.favoured, trial.steps, trial.seed),
-        Look::Accesses => accesses_told(alloc, bytes, trial.favoured, trial.steps, trial.seed),
-        Look::Picture => picture_told(alloc, bytes, trial.favoured, trial.steps, trial.seed),
+        Look::Accesses | Look::Picture => accesses_told(
+            alloc,
+            bytes,
+            trial.look,
+            trial.favoured,
+            trial.steps,
+            trial.seed,
+        ),
         Look::Seeds(count) => seeds_text(
             alloc,
             bytes,

@@ -1,5 +1,5 @@
-//! Tests of input and output, of scripts, of shader text, of job files as text, and of the words of rules. A crate with tests is proved twice, so those of many crates stand
-//! in one, which has nothing else.
+//! Tests of input and output, of scripts, of shader text, of job files as text, and of the words of rules. A crate with tests is proved
+//! twice, so those of many crates stand in one, which has nothing else.
 #![tactic(auto)]
 
 #[cfg(test)]

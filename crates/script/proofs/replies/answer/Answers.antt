@@ -1,4 +1,4 @@
-use Rattle.std.proofs.{Common.◌≤◌, Common.length, Common.string_bytes, Common.sym, Common.◌∙◌, Common.arith, lemmas.Bool.Decides.nat_tests}
+use Rattle.std.proofs.{Common.◌≤◌, Common.length, Common.string_bytes, Common.arith, lemmas.Bool.Decides.nat_tests}
 use Rattle.script.proofs.Answered.{answered_more, answered_all}
 use Rattle.script.proofs.replies.answer.Goals as goal
 
@@ -12,8 +12,6 @@ loop-rest-preserved g c start begins =
 
 pub returns-clause-answers : goal.returns-clause-answers
 returns-clause-answers g c start begins =
-    let none : length c.loop-rest.rest.now ≤ 0 = grind (arith, nat_tests, c.is_empty.ensures, c.loop-rest-test.false) in (
-      sym c.first_malformed.ensures ∙ c.in_default.is,
-      rw c.into_bytes.ensures.value (answered_all g.C.Clerk.Past (λ lines past. g.C.Clerk.Stands lines past c.loop-rest.clerk) g.C.Clerk.reply g.C.Clerk.after start
-          c.args.text.now (string_bytes c.loop-rest.out) c.loop-rest.rest.now none (c.loop-rest.invariant start begins)),
-    )
+    let none : length c.loop-rest.rest.now ≤ 0 = grind (arith, nat_tests, c.is_empty.ensures, c.loop-rest-test.false) in
+    rw c.into_bytes.ensures.value (answered_all g.C.Clerk.Past (λ lines past. g.C.Clerk.Stands lines past c.loop-rest.clerk) g.C.Clerk.reply g.C.Clerk.after start
+    c.args.text.now (string_bytes c.loop-rest.out) c.loop-rest.rest.now none (c.loop-rest.invariant start begins))
