@@ -1,7 +1,7 @@
 -- What is known of the items before one, by which is found whether it has a byte of them. No part of what the crate claims.
 use Rattle.std.specs.Prelude.{◌≡◌, ℕ, ◌+◌, ◌-◌, ◌≤◌, ◌<◌, true, false, List, length, slice_index}
 use Rattle.field_words.specs.Sizes.{most_memory}
-use Rattle.buffer_table.specs.declared.item.Earlier.TheVariants.{Few, Pages, Ordered}
+use Rattle.buffer_table.specs.declared.item.Earlier.TheVariants.{Pages, Ordered}
 use Rattle.buffer_table.specs.{declared.item.Earlier.Earlier, declared.item.Item.Item, declared.places.Order.Order, Pages.AreTaken}
 use Rattle.buffer_table.specs.Table.{item_at, shares}
 
@@ -49,9 +49,7 @@ pub record IsInserted (old new : List ℕ) (count at number : ℕ) : Type 0 wher
   pub here : slice_index new at ≡ number
   pub behind : (i : ℕ) → at ≤ i → i < count → slice_index new (i + 1) ≡ slice_index old i
 
--- nothing is told of the items before item k; or their pages are taken, in a memory of at most 64 MiB; or those of them that are buffers are
--- in order
+-- the pages of the items before item k are taken, in a memory of at most 64 MiB; or those of them that are buffers are in order
 abbrev pub AreEarlier : Earlier → ℕ → List Item → ℕ → Type 0
-AreEarlier Few memory items k = Unit {0}
 AreEarlier (Pages pages) memory items k = (memory ≤ most_memory) × AreTaken pages items k
 AreEarlier (Ordered order) memory items k = (order.count ≡ k - 2) × IsOrder order items

@@ -1,5 +1,5 @@
 //! The items of a memory table as intervals, and the rules that each of them keeps.
-ghost use Rattle.std.specs.Prelude.{◌≡◌, ◌+◌, ◌-◌, ◌*◌, ◌<◌, ◌≤◌, true, false, Some, IfNone, length};
+ghost use Rattle.std.specs.Prelude.{◌≡◌, ◌+◌, ◌-◌, ◌*◌, ◌<◌, ◌≤◌, true, false, Some, IfNone, IfSome, length};
 ghost use Rattle.field_words.specs.Questions.{first_of, each};
 ghost use Rattle.buffer_table.specs.Earlier.{AreEarlier, IsOrder, SharesBuffer, IsApartBuffers};
 ghost use Rattle.buffer_table.specs.Pages.{TakesPage, IsFree, Takes, IsWhole, IsWholeIn, first_page, end_page};
@@ -18,18 +18,16 @@ pub struct Item {
     pub content: u64,
 }
 
-/// What is known of the items before one, by which is found whether it has a byte of them.
+/// What is known of the items before one, where there are many, by which is found whether it has a byte of them.
 #[derive(Clone, Copy)]
 enum Earlier {
-    /// Nothing: there are few, and each of them is compared.
-    Few,
     /// The pages that they take, in a memory of at most 64 MiB.
     Pages([u64; WORDS]),
     /// Those of them that are buffers, by ascending place, in any memory.
     Ordered(Order),
 }
 
-/// So many buffers are few.
+/// So many buffers are few: each item is compared with those before it.
 const FEW: usize = 16;
 
 /// The size of a page, of which each place and size is a multiple.
@@ -181,14 +179,10 @@ fn shares_few(regions: &Regions, buffers: &[Buffer], k: usize, x: &Item) -> bool
     shares_buffer(regions, buffers, k.saturating_sub(2), x)
 }
 
-/// What is known before the first item. Few items are compared with one another. Else in a memory of at most 64 MiB each page has a bit; a
-/// greater one has too many pages.
+/// What is known before the first item. In a memory of at most 64 MiB each page has a bit; a greater one has too many pages.
 fn no_earlier(mem_size: u32, regions: &Regions, buffers: &[Buffer]) -> Earlier
     ensures { AreEarlier result mem_size (items_of regions.now buffers.now) 0 }
 {
-    if buffers.len() <= FEW {
-        return Earlier::Few;
-    }
     if mem_size <= MOST_MEMORY {
         return Earlier::Pages([0; WORDS]);
     }
@@ -212,8 +206,8 @@ fn shares_earlier(order: &Order, regions: &Regions, buffers: &[Buffer], k: usize
     shares_ordered(order, regions, buffers, x)
 }
 
-/// Whether an item before item `k` has a byte of it.
-fn is_shared(
+/// Whether an item before item `k` has a byte of it, by what is known of those.
+fn shares_known(
     earlier: &Earlier,
     mem_size: u32,
     regions: &Regions,
@@ -227,9 +221,28 @@ fn is_shared(
     ensures { result ≡ shares_with_first x.now (items_of regions.now buffers.now) k }
 {
     match earlier {
-        Earlier::Few => shares_few(regions, buffers, k, x),
         Earlier::Pages(pages) => has_page(pages, x),
         Earlier::Ordered(order) => shares_earlier(order, regions, buffers, k, x),
+    }
+}
+
+/// Whether an item before item `k` has a byte of it. Where nothing is known of those, each of them is compared.
+fn is_shared(
+    earlier: Option<&Earlier>,
+    mem_size: u32,
+    regions: &Regions,
+    buffers: &[Buffer],
+    k: usize,
+    x: &Item,
+) -> bool
+    requires inside { k < length buffers.now + 2 }
+    requires known { IfSome earlier (λ e. AreEarlier e.now mem_size (items_of regions.now buffers.now) k) }
+    requires whole { IsWholeIn mem_size x.now }
+    ensures { result ≡ shares_with_first x.now (items_of regions.now buffers.now) k }
+{
+    match earlier {
+        None => shares_few(regions, buffers, k, x),
+        Some(earlier) => shares_known(earlier, mem_size, regions, buffers, k, x),
     }
 }
 
@@ -262,7 +275,6 @@ fn pass_item(earlier: &mut Earlier, mem_size: u32, regions: &Regions, buffers: &
 {
     let x = item_at(regions, buffers, k);
     match earlier {
-        Earlier::Few => {}
         Earlier::Pages(pages) => take_item(pages, &x),
         Earlier::Ordered(order) => pass_ordered(order, regions, buffers, k, &x),
     }
@@ -283,12 +295,12 @@ fn item_fault(
     mem_size: u32,
     regions: &Regions,
     buffers: &[Buffer],
-    earlier: &Earlier,
+    earlier: Option<&Earlier>,
     k: usize,
 ) -> Option<TableFault>
     requires inside { k < length buffers.now + 2 }
     requires few { length buffers.now ≤ 1024 }
-    requires known { AreEarlier earlier.now mem_size (items_of regions.now buffers.now) k }
+    requires known { IfSome earlier (λ e. AreEarlier e.now mem_size (items_of regions.now buffers.now) k) }
     ensures { result ≡ first_of (item_questions mem_size (items_of regions.now buffers.now) k) }
 {
     let x = item_at(regions, buffers, k);
@@ -308,19 +320,43 @@ fn item_fault(
     None
 }
 
-/// The first of M2 to M5, item by item.
-fn items_fault(mem_size: u32, regions: &Regions, buffers: &[Buffer]) -> Option<TableFault>
+/// The first of M2 to M5, item by item, where there are few items.
+fn few_fault(mem_size: u32, regions: &Regions, buffers: &[Buffer]) -> Option<TableFault>
+    requires few { length buffers.now ≤ 1024 }
+    ensures { result ≡ first_of (items_questions mem_size (items_of regions.now buffers.now)) }
+{
+    for k in 0..buffers.len() + 2 {
+        if let Some(fault) = item_fault(mem_size, regions, buffers, None, k) {
+            return Some(fault);
+        }
+    }
+    None
+}
+
+/// The same where there are many.
+fn many_fault(mem_size: u32, regions: &Regions, buffers: &[Buffer]) -> Option<TableFault>
     requires few { length buffers.now ≤ 1024 }
     ensures { result ≡ first_of (items_questions mem_size (items_of regions.now buffers.now)) }
 {
     let mut earlier = no_earlier(mem_size, regions, buffers);
     for k in 0..buffers.len() + 2 {
-        if let Some(fault) = item_fault(mem_size, regions, buffers, &earlier, k) {
+        if let Some(fault) = item_fault(mem_size, regions, buffers, Some(&earlier), k) {
             return Some(fault);
         }
         pass_item(&mut earlier, mem_size, regions, buffers, k);
     }
     None
+}
+
+/// The first of M2 to M5, item by item.
+fn items_fault(mem_size: u32, regions: &Regions, buffers: &[Buffer]) -> Option<TableFault>
+    requires few { length buffers.now ≤ 1024 }
+    ensures { result ≡ first_of (items_questions mem_size (items_of regions.now buffers.now)) }
+{
+    if buffers.len() <= FEW {
+        return few_fault(mem_size, regions, buffers);
+    }
+    many_fault(mem_size, regions, buffers)
 }
 
 /// The first of M1 to M5, of a memory of at most `limit` bytes.

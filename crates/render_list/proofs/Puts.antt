@@ -4,7 +4,8 @@ use Rattle.field_words.specs.Writes.{with_bytes}
 use Rattle.packets.specs.{declared.packet.Packet.Packet, Packet.slots_text, declared.packet.Packet.TheVariants.TileCoordinates}
 use Rattle.packets.proofs.{Slots.slots_append, Underway.IsUnderway, Underway.begins, Underway.next_room, Underway.goes_on, Underway.ends}
 use Rattle.job_format.specs.declared.file.Frame.{Frame}
-use Rattle.render_list.specs.Text.{packet_where, full_store_slot, zs_store_slot, color_store_slot, more_after_multisample_color, more_after_multisample_zs, some_before_zs, some_before_color, write_slots, HasRoom, Puts}
+use Rattle.render_list.specs.Text.{packet_where, is_there, idle_store, load_slot, load_slots, list_slots, tile_slots, full_store_slot, zs_store_slot, color_store_slot}
+use Rattle.render_list.specs.Text.{more_after_multisample_color, more_after_multisample_zs, some_before_zs, some_before_color, write_slots, HasRoom, Puts}
 use Rattle.render_list.specs.Frame.{place_at}
 
 -- Of a list's slots, which were to stand at a place of the window, these are left to be written.
@@ -75,3 +76,28 @@ unfolding write_slots some_before_color some_before_zs
 color_alone frame places x y none =
     alone_by frame (place_at places 4) (place_at places 5) (place_at places 3) (place_at places 1) (some_before_zs places) (some_before_color places)
     (more_after_multisample_color places) (more_after_multisample_zs places) x y none none
+
+-- Where nothing is loaded, the loads have no text,
+no_loads_by : (frame : Frame) (color zs : Option ℕ) (x y : ℕ) → (is_some color || is_some zs) ≡ false
+    → slots_text (load_slot frame 0 2 color x y
+    ∷ (packet_where (is_some color && is_some zs) (TileCoordinates x y) ∷ (packet_where (is_some color && is_some zs) idle_store ∷ (load_slot frame 2 1 zs x y ∷ []))))
+    ≡ []
+no_loads_by frame None None x y absent = refl
+no_loads_by frame None (Some place) x y absent = absurd (let wrong : true ≡ false = absent in cc)
+no_loads_by frame (Some place) zs x y absent = absurd (let wrong : true ≡ false = absent in cc)
+
+no_loads : (frame : Frame) (places : List (Option ℕ)) (x y : ℕ) → (is_there places 0 || is_there places 2) ≡ false → slots_text (load_slots frame places x y) ≡ []
+unfolding load_slots
+no_loads frame places x y absent = no_loads_by frame (place_at places 0) (place_at places 2) x y absent
+
+-- and where but colour nothing is written either, that of a tile is its list's and that of this write.
+pub plain_tile : (frame : Frame) (places : List (Option ℕ)) (grid : Option (ℕ × ℕ)) (slot x y : ℕ) → (is_there places 0 || is_there places 2) ≡ false → some_before_color places ≡ false
+    → slots_text (list_slots frame grid slot x y ++ (color_store_slot frame (place_at places 1) x y ∷ [])) ≡ slots_text (tile_slots frame places grid slot y x)
+unfolding tile_slots
+plain_tile frame places grid slot x y absent none =
+    let loads = load_slots frame places x y in
+    let lists = list_slots frame grid slot x y in
+    let writes = write_slots frame places x y in
+    let write = color_store_slot frame (place_at places 1) x y ∷ [] in
+    let front : slots_text (loads ++ (lists ++ writes)) ≡ slots_text (lists ++ writes) = slots_append loads (lists ++ writes) ∙ ap (λ t. t ++ slots_text (lists ++ writes)) (no_loads frame places x y absent) in
+    slots_append lists write ∙ (ap (λ t. slots_text lists ++ t) (sym (color_alone frame places x y none)) ∙ (sym (slots_append lists writes) ∙ sym front))

@@ -1,6 +1,6 @@
 //! The packets of a renderer list. One that stands only sometimes has a slot, which is `None` where it
 //! doesn't stand.
-ghost use Rattle.std.specs.Prelude.{◌≡◌, ◌&&◌, ◌⊎◌, ◌≤◌, ◌<◌, ◌^◌, ◌+◌, ◌*◌, ◌∷◌, [], IsSome};
+ghost use Rattle.std.specs.Prelude.{◌≡◌, ◌&&◌, ◌||◌, ◌⊎◌, ◌≤◌, ◌<◌, ◌^◌, ◌+◌, ◌*◌, ◌∷◌, [], IsSome, true, false};
 ghost use Rattle.buffer_table.specs.Table.{most_place};
 ghost use Rattle.tile_memory.specs.Slots.{alloc_offset};
 ghost use Rattle.render_list.specs.Frame.{place_at, FitsAt, TileFits, full_place};
@@ -202,6 +202,14 @@ fn more_after_multisample_color(setup: &Setup) -> bool
     is_there(setup, MULTISAMPLE_ZS) || more_after_multisample_zs(setup)
 }
 
+/// Whether something is loaded.
+#[inline(always)]
+fn some_loads(setup: &Setup) -> bool
+    ensures { result ≡ (is_there setup.now.places 0 || is_there setup.now.places 2) }
+{
+    is_there(setup, COLOR_READ) || is_there(setup, ZS_READ)
+}
+
 /// Whether a write comes before the one of ZS.
 #[inline(always)]
 #[tactic(auto, unfolding(crate::specs::Text::some_before_zs))]
@@ -218,6 +226,17 @@ pub fn some_before_color(setup: &Setup) -> bool
     ensures { result ≡ some_before_color setup.now.places }
 {
     some_before_zs(setup) || is_there(setup, ZS_WRITE)
+}
+
+/// Whether nothing is loaded, and nothing written but colour.
+pub fn is_plain(setup: &Setup) -> bool
+    ensures loads { result ≡ true → (is_there setup.now.places 0 || is_there setup.now.places 2) ≡ false }
+    ensures writes { result ≡ true → some_before_color setup.now.places ≡ false }
+{
+    if some_loads(setup) {
+        return false;
+    }
+    !some_before_color(setup)
 }
 
 /// The coordinates, where write `k` is there and another came before it.

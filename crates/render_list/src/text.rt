@@ -8,7 +8,7 @@ ghost use Rattle.render_list.specs.Length.{render_length};
 ghost use Rattle.render_list.specs.Text.{head_packet, clear_slots, front_slots, row_slots, all_tile_slots, render_slots, render_text, HasRoom, Puts};
 
 use crate::setup::Setup;
-use crate::slots::{Tile, clear_slots, head_packet};
+use crate::slots::{Tile, clear_slots, head_packet, is_plain};
 use crate::tile::put_tile;
 use job_format::Frame;
 use packets::put_present;
@@ -30,9 +30,19 @@ fn put_row(
     requires room { HasRoom out.old at (row_slots frame.now setup.now.places tiles slot y) }
     ensures { Puts (row_slots frame.now setup.now.places tiles slot y) out.old at out.new result }
 {
+    let is_plain = is_plain(setup);
     let mut here = at;
     for x in frame.min_x..=frame.max_x {
-        here = put_tile(out, here, frame, setup, tiles, slot, Tile { x, y });
+        here = put_tile(
+            out,
+            here,
+            frame,
+            setup,
+            tiles,
+            slot,
+            is_plain,
+            Tile { x, y },
+        );
     }
     here
 }

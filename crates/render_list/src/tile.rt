@@ -1,8 +1,8 @@
 //! Writing a tile of the renderer list, slot by slot.
-ghost use Rattle.std.specs.Prelude.{◌≡◌, ◌≤◌, IsSome};
+ghost use Rattle.std.specs.Prelude.{◌≡◌, ◌||◌, ◌≤◌, IsSome, true, false};
 ghost use Rattle.buffer_table.specs.Table.{most_place};
 ghost use Rattle.render_list.specs.Frame.{TileFits};
-ghost use Rattle.render_list.specs.Text.{load_slots, list_slots, write_slots, tile_slots, HasRoom, Puts};
+ghost use Rattle.render_list.specs.Text.{load_slots, list_slots, write_slots, tile_slots, is_there, some_before_color, HasRoom, Puts};
 
 use crate::setup::Setup;
 use crate::slots::{
@@ -78,7 +78,7 @@ fn put_writes(out: &mut [u8], at: usize, frame: &Frame, setup: &Setup, tile: Til
 
 /// All of a tile.
 #[inline(always)]
-pub fn put_tile(
+fn put_whole_tile(
     out: &mut [u8],
     at: usize,
     frame: &Frame,
@@ -95,4 +95,51 @@ pub fn put_tile(
     let behind_loads = put_loads(out, at, frame, setup, tile);
     let behind_lists = put_lists(out, behind_loads, frame, tiles, slot, tile);
     put_writes(out, behind_lists, frame, setup, tile)
+}
+
+/// A tile of which nothing is loaded, and nothing written but colour.
+#[inline(always)]
+fn put_plain_tile(
+    out: &mut [u8],
+    at: usize,
+    frame: &Frame,
+    setup: &Setup,
+    tiles: Option<(u8, u8)>,
+    slot: u32,
+    tile: Tile,
+) -> usize
+    requires fits { TileFits frame.now setup.now.places tile.x tile.y }
+    requires slot { IsSome tiles → slot ≤ most_place }
+    requires loads { (is_there setup.now.places 0 || is_there setup.now.places 2) ≡ false }
+    requires writes { some_before_color setup.now.places ≡ false }
+    requires room { HasRoom out.old at (tile_slots frame.now setup.now.places tiles slot tile.y tile.x) }
+    ensures { Puts (tile_slots frame.now setup.now.places tiles slot tile.y tile.x) out.old at out.new result }
+{
+    let behind_lists = put_lists(out, at, frame, tiles, slot, tile);
+    put_slot(out, behind_lists, color_write(frame, setup, tile))
+}
+
+/// A tile; `is_plain` tells that nothing of it is loaded, and nothing written but colour.
+#[inline(always)]
+pub fn put_tile(
+    out: &mut [u8],
+    at: usize,
+    frame: &Frame,
+    setup: &Setup,
+    tiles: Option<(u8, u8)>,
+    slot: u32,
+    is_plain: bool,
+    tile: Tile,
+) -> usize
+    requires fits { TileFits frame.now setup.now.places tile.x tile.y }
+    requires slot { IsSome tiles → slot ≤ most_place }
+    requires loads { is_plain ≡ true → (is_there setup.now.places 0 || is_there setup.now.places 2) ≡ false }
+    requires writes { is_plain ≡ true → some_before_color setup.now.places ≡ false }
+    requires room { HasRoom out.old at (tile_slots frame.now setup.now.places tiles slot tile.y tile.x) }
+    ensures { Puts (tile_slots frame.now setup.now.places tiles slot tile.y tile.x) out.old at out.new result }
+{
+    if is_plain {
+        return put_plain_tile(out, at, frame, setup, tiles, slot, tile);
+    }
+    put_whole_tile(out, at, frame, setup, tiles, slot, tile)
 }

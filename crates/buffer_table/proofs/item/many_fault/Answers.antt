@@ -4,7 +4,7 @@ use Rattle.field_words.specs.Questions.{first_of, each}
 use Rattle.field_words.proofs.Questions.{each_on, each_stop, each_end}
 use Rattle.buffer_table.specs.{declared.item.Item.Item, Table.item_questions, Table.items_of, Table.item_at}
 use Rattle.buffer_table.proofs.{Sounds.length_items, Sounds.sound_item, Sounds.apart_item, Taken.sound_whole}
-use Rattle.buffer_table.proofs.item.items_fault.Goals as goal
+use Rattle.buffer_table.proofs.item.many_fault.Goals as goal
 
 pub returns-in-Some : goal.returns-in-Some
 returns-in-Some c =

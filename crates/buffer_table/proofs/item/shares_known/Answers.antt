@@ -2,7 +2,7 @@
 use Rattle.std.proofs.Common.{◌≤◌, List, length, subst, arith}
 use Rattle.buffer_table.specs.{declared.item.Item.Item, Earlier.AreEarlier, Table.items_of}
 use Rattle.buffer_table.proofs.{Sounds.length_items, Taken.shared_is, Taken.whole_below}
-use Rattle.buffer_table.proofs.item.is_shared.Goals as goal
+use Rattle.buffer_table.proofs.item.shares_known.Goals as goal
 
 pub has_page-requires : goal.has_page-requires
 has_page-requires c =

@@ -2,7 +2,7 @@
 use Rattle.std.proofs.Common.{◌++◌}
 use Rattle.render_list.specs.Text.{load_slots, list_slots, write_slots, tile_slots}
 use Rattle.render_list.proofs.Puts.{starts, front_fits, front_put, rest_put}
-use Rattle.render_list.proofs.tile.put_tile.Goals as goal
+use Rattle.render_list.proofs.tile.put_whole_tile.Goals as goal
 
 pub put_loads-behind_loads-requires-clause-room : goal.put_loads-behind_loads-requires-clause-room
 unfolding tile_slots

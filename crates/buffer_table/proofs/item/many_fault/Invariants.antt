@@ -2,7 +2,7 @@
 use Rattle.std.proofs.Common.{◌≡◌, ◌-◌, length}
 use Rattle.field_words.specs.Questions.{first_of, each}
 use Rattle.buffer_table.specs.{Earlier.AreEarlier, Table.item_questions, Table.items_of}
-use Rattle.buffer_table.proofs.item.items_fault.Given as goal
+use Rattle.buffer_table.proofs.item.many_fault.Given as goal
 
 abbrev pub invariant-loop-k : goal.invariant-loop-k
 invariant-loop-k l = record {
