@@ -1,47 +1,26 @@
 //! What says how a run goes.
-ghost use Rattle.std.specs.Prelude.{◌≡◌, ◌≤◌, ◌<◌};
-ghost use Rattle.replay.specs.Run.{MayChoose, IsBelow, MayAnswer};
+ghost use Rattle.std.specs.Prelude.{◌≤◌, ◌<◌, ℕ};
 
-/// Two closures that say how a run goes: at step `step`, `choose(step, n)` picks one of the `n` units that may step, and
-/// `answer(step, k)` is the step's choice word `k`.
-#[derive(Clone, Copy)]
-pub struct Oracle<C, F> {
-    choose: C,
-    answer: F,
-}
+/// A script of a run: which unit steps at each step, and what answers what the hardware leaves open there. It says of every step and of
+/// every choice word what it is, so a word that no step looks at needn't be asked for.
+pub trait Script {
+    /// At this step, of so many units that may step, this one is picked.
+    ghost picks: { Self → ℕ → ℕ → ℕ → Type 0 };
 
-impl<C: Fn(u64, u32) -> u32, F: Fn(u64, u32) -> u32> Oracle<C, F> {
-    /// An oracle of these closures: `choose` may be called at each step for each `n` that isn't 0, and is below `n`; `answer`
-    /// may be called at each step for each `k` below 4,096. It takes no memory.
-    pub fn new(choose: C, answer: F) -> Oracle<C, F>
-        requires chooses { MayChoose (C.pre choose) }
-        requires below { IsBelow (C.post choose) }
-        requires answers { MayAnswer (F.pre answer) }
-        ensures choose { result.choose ≡ choose }
-        ensures answer { result.answer ≡ answer }
-    {
-        Oracle { choose, answer }
-    }
+    /// At this step, the choice word of this number is this one.
+    ghost gives: { Self → ℕ → ℕ → ℕ → Type 0 };
 
-    /// Which of `count` units steps: what `choose` gives, which is below `count`. It takes no memory, and refuses nothing. The last
-    /// two conditions are those of `new`, which no value of this type can carry.
-    pub fn pick(&self, step: u64, count: u32) -> u32
+    /// Which of `count` units steps. It takes no memory, and refuses nothing.
+    fn pick(&self, step: u64, count: u32) -> u32
         requires some { 1 ≤ count }
-        requires chooses { MayChoose (C.pre self.now.choose) }
-        requires below { IsBelow (C.post self.now.choose) }
-        ensures gives { C.post self.now.choose step count result }
-        ensures below { result < count }
-    {
-        (self.choose)(step, count)
-    }
+        ensures picked { picks self.now step count result }
+        ensures below { result < count };
 
-    /// Choice word `k` of a step: what `answer` gives. It takes no memory, and refuses nothing. The last condition is that of
-    /// `new`.
-    pub fn word(&self, step: u64, k: u32) -> u32
+    /// Choice word `k` of a step. It takes no memory, and refuses nothing.
+    fn word(&self, step: u64, k: u32) -> u32
         requires few { k < 4096 }
-        requires answers { MayAnswer (F.pre self.now.answer) }
-        ensures gives { F.post self.now.answer step k result }
-    {
-        (self.answer)(step, k)
-    }
+        ensures given { gives self.now step k result };
+
+    /// Each step has each word.
+    ghost told: { (script : Self) (step k : ℕ) → (word : ℕ) × gives script step k word };
 }
