@@ -1,6 +1,5 @@
 //! Hostile use: a source and a sink that fail at each call in turn, and runs of accepted jobs by scripts that aim at their bounds.
 ghost use Rattle.std.specs.Prelude.{◌≤◌, ◌<◌};
-ghost use Rattle.replay.specs.Run.{MayChoose, IsBelow, MayAnswer};
 
 use super::job_tests::usual;
 use super::several_tests::TWO;
@@ -13,7 +12,7 @@ use job_io::{MemSink, MemSource};
 use job_safety::accept;
 use machine::Machine;
 use relocation::{Layout, Lengths};
-use replay::{Oracle, enabled_units, unit_at, word_count};
+use replay::{enabled_units, unit_at, word_count};
 use std::alloc::Global;
 use std::test::Fail;
 use test_runs::{SMALLEST, SMALLEST_TEXT, file, run, words};
@@ -211,30 +210,21 @@ fn answered(fill: Fill, step: u64, k: u32) -> u32 {
 /// The most words that a step gets.
 const MOST_WORDS: usize = 4096;
 
-fn answer_all<C: Fn(u64, u32) -> u32, F: Fn(u64, u32) -> u32>(
-    oracle: &Oracle<C, F>,
-    step: u64,
-    count: u32,
-    words: &mut [u32; MOST_WORDS],
-)
-    requires few { count ≤ 4096 }
-    requires answers { MayAnswer (λ step k. F.pre oracle.now.answer step k) }
+fn answer_all(fill: Fill, step: u64, count: u32, words: &mut [u32; MOST_WORDS])
+    requires { count ≤ 4096 }
 {
     for k in 0..count {
-        words[k as usize] = oracle.word(step, k);
+        words[k as usize] = answered(fill, step, k);
     }
 }
 
-/// The first access that leaves what its job may touch, in 2,000 steps by the oracle, or until no unit may step.
-fn first_stray<C: Fn(u64, u32) -> u32, F: Fn(u64, u32) -> u32>(
+/// The first access that leaves what its job may touch, in 2,000 steps by a script, or until no unit may step.
+fn first_stray(
     machine: &mut Machine,
-    oracle: &Oracle<C, F>,
+    choice: Choice,
+    fill: Fill,
     reach: &[Reach],
-) -> Option<Access>
-    requires chooses { MayChoose (λ step n. C.pre oracle.now.choose step n) }
-    requires below { IsBelow (λ step n picked. C.post oracle.now.choose step n picked) }
-    requires answers { MayAnswer (λ step k. F.pre oracle.now.answer step k) }
-{
+) -> Option<Access> {
     let mut words = [0; MOST_WORDS];
     let mut accesses = ArrayVec::new();
     for step in 0..2000 {
@@ -242,10 +232,10 @@ fn first_stray<C: Fn(u64, u32) -> u32, F: Fn(u64, u32) -> u32>(
         if units.is_empty() {
             return None;
         }
-        let place = oracle.pick(step, units.len() as u32);
+        let place = chosen(choice, step, units.len() as u32);
         let unit = unit_at(units[place as usize]);
         let count = word_count(unit);
-        answer_all(oracle, step, count, &mut words);
+        answer_all(fill, step, count, &mut words);
         machine.step(unit, &words[..count as usize], &mut accesses);
         if let Some(stray) = accesses.iter().find(|access| !is_allowed(access, reach)) {
             return Some(*stray);
@@ -262,15 +252,7 @@ fn stray_of(
     reach: &[Reach],
 ) -> Result<Option<Access>, Fail> {
     let mut machine = accept(alloc, bytes)?.into_machine();
-    let (choice, fill) = script;
-    let oracle = Oracle::new(
-        |step: u64, count: u32|
-            requires { 1 ≤ count }
-            ensures { result < count }
-        { chosen(choice, step, count) },
-        |step: u64, k: u32| answered(fill, step, k),
-    );
-    Ok(first_stray(&mut machine, &oracle, reach))
+    Ok(first_stray(&mut machine, script.0, script.1, reach))
 }
 
 // Scripts that always pick the last unit, the first, or one after the other, with words that are the greatest, zero, or mixed of

@@ -1,5 +1,5 @@
 -- One step of the renderer.
-use Rattle.std.specs.Prelude.{ℕ, ◌+◌, ◌-◌, ◌/◌, ◌%◌, ◌==◌, ◌&&◌, ◌||◌, not, nat_lt, nat_le, Bool, true, false, is_some, if◌then◌else◌, List, [], ◌∷◌, drop, slice_index, Option, Some, None}
+use Rattle.std.specs.Prelude.{◌≡◌, ◌<◌, ℕ, ◌+◌, ◌-◌, ◌/◌, ◌%◌, ◌==◌, ◌&&◌, ◌||◌, not, nat_lt, nat_le, Bool, true, false, is_some, if◌then◌else◌, List, [], ◌∷◌, drop, slice_index, Option, Some, None}
 use Rattle.packets.specs.declared.packet.Packet.TheVariants.{WaitOnSemaphore, BranchToSubList, StoreTileColor, StoreTileColorAndEnd, StoreFullResolution, LoadFullResolution, StoreTileBuffer, LoadTileBuffer, TileRenderingMode, ClearColors, TileCoordinates}
 use Rattle.packets.specs.{declared.packet.Packet.Packet, Length.render_taken, Opcode.wait_on_semaphore, Packet.decoded}
 use Rattle.machine_plan.specs.{Choice.word_at, Glance.Glance, Glance.Now, Glance.At, World.mapped}
@@ -133,6 +133,10 @@ plan_in s free words (Some sub) = found_plan s free words sub (item_at sub s.ite
 -- the renderer's step
 unfoldable pub renderer_plan : Lists → Free → List ℕ → Plan Turned
 renderer_plan s free words = plan_in s free words s.renderer.inside
+
+-- so many choice words at most are looked at
+abbrev pub LooksAt : {R : Type 0} → ℕ → (List ℕ → R) → Type 0
+LooksAt n does = (words others : List ℕ) → ((k : ℕ) → k < n → slice_index words k ≡ slice_index others k) → does words ≡ does others
 
 -- at opcode 8 the renderer waits for the semaphore
 unfoldable pub may_pass : Lists → ℕ → Bool

@@ -306,6 +306,7 @@ fn tile_list_over_a_link(rt: HostRuntime) -> Result<(), NoMemory> {
     put_item(&mut lists, 1, 0x1020, 3);
     put_item(&mut lists, 0, 0x1080, 7);
     assert!(rt; steps(&mut lists, &mut memory, &[], &[(Way::Read, 0, 5)]));
+    assert!(rt; lists.is_in_tile());
     assert!(rt; steps(&mut lists, &mut memory, &[4, 9], &[(Way::Read, 0x1000, 16)]));
     assert!(rt; steps(&mut lists, &mut memory, &[1], &[(Way::Read, 0x1000, 16)]));
     assert!(rt; steps(&mut lists, &mut memory, &[3], &[(Way::Read, 0x1000, 16)]));
@@ -319,6 +320,7 @@ fn tile_list_over_a_link(rt: HostRuntime) -> Result<(), NoMemory> {
     assert!(rt; lists.is_renderer_ready(&memory));
     assert!(rt; steps(&mut lists, &mut memory, &[0], &[]));
     assert!(rt; !lists.is_renderer_ready(&memory));
+    assert!(rt; !lists.is_in_tile());
     Ok(())
 }
 

@@ -3,7 +3,7 @@ ghost use Rattle.std.specs.Prelude.{◌≡◌, ◌≤◌, ◌<◌, [], IsTrue, t
 ghost use Rattle.machine_plan.specs.Glance.{glanced};
 ghost use Rattle.machine_plan.specs.World.{Moves, turned};
 ghost use Rattle.list_machine.specs.Binner.{binner_ready};
-ghost use Rattle.list_machine.specs.Renderer.{renderer_ready};
+ghost use Rattle.list_machine.specs.Renderer.{renderer_ready, LooksAt};
 ghost use Rattle.qpu_machine.specs.Qpu.{free_in};
 ghost use Rattle.qpu_machine.specs.Bounds.{AreBounded};
 ghost use Rattle.machine.specs.State.{binner_job, renderer_job, picked_in, job_at};
@@ -87,6 +87,17 @@ impl Machine {
             accesses,
         );
         begin(job as u8, started.unwrap_or(None), &mut self.qpus);
+    }
+
+    /// Whether the renderer is in a tile's list. There its turn looks at no choice words but the first two.
+    #[tactic(auto, using(crate::proofs::Words::turn_looks))]
+    pub(crate) fn is_in_tile(&self) -> bool
+        ensures { IsTrue result → LooksAt 2 (renderer_turn self.now.units (renderer_job self.now.units)) }
+    {
+        match self.renderer_job() {
+            None => false,
+            Some(job) => self.jobs[job].is_in_tile(),
+        }
     }
 
     /// The renderer's turn, for its job; without one it does nothing.

@@ -1,7 +1,7 @@
 //! The machine, its start, and which of its units may step.
 ghost use Rattle.std.specs.Prelude.{◌≡◌, ◌≤◌, ◌<◌, [], IsTrue, false, length, option_map, unwrap_or, position, IfOk, IfSome};
 ghost use Rattle.list_machine.specs.Binner.{has_binner_work};
-ghost use Rattle.list_machine.specs.Renderer.{has_renderer_work};
+ghost use Rattle.list_machine.specs.Renderer.{has_renderer_work, LooksAt};
 ghost use Rattle.machine_plan.specs.World.{Moves};
 ghost use Rattle.machine.specs.Step.{enabled, finished, job_of, step};
 ghost use Rattle.machine.specs.State.{start_of, binner_job, renderer_job, picked_in};
@@ -126,6 +126,17 @@ impl Machine {
             Actor::Renderer => number_of(self.renderer_job()),
             Actor::Qpu(k) => self.thread_job(k),
             Actor::Tmu(k, n) => self.request_job(k, n),
+        }
+    }
+
+    /// How many choice words suffice for the unit's next step, where it is known of fewer than a step may look at: words that agree in
+    /// so many make the same step.
+    pub fn words_enough(&self, unit: Actor) -> Option<u32>
+        ensures { IfSome result (λ n. LooksAt n (λ words. step self.now (record { unit = unit; words = words }))) }
+    {
+        match unit {
+            Actor::Renderer if self.is_in_tile() => Some(2),
+            _ => None,
         }
     }
 

@@ -1,15 +1,17 @@
 -- A run that goes one step further.
-use Rattle.std.proofs.Common.{◌≡◌, ◌≤◌, ◌<◌, ℕ, suc, ◌+◌, IsTrue, false, List, [], ◌∷◌, ◌++◌, length, slice_index, Option, None, Some, refl, sym, ◌∙◌, ap, subst, append-nil, append_assoc, arith}
+use Rattle.std.proofs.Common.{◌≡◌, ◌≤◌, ◌<◌, ℕ, suc, ◌+◌, ◌-◌, IsTrue, false, List, [], ◌∷◌, ◌++◌, length, slice_index, Option, None, Some, refl, sym, ◌∙◌, ap, subst, append-nil, append_assoc, arith}
+use Rattle.std.proofs.lemmas.List.{length-append}
 use Rattle.std.proofs.lemmas.List.Elements.{filter_passes, All-filter}
 use Rattle.field_words.specs.{declared.access.Access.Access, declared.access.Actor.Actor}
 use Rattle.std.specs.{List.range_with_len, Prelude.All, Prelude.filter}
-use Rattle.machine_plan.specs.{Runs.Allowed, Runs.reached, World.Moves}
+use Rattle.machine_plan.specs.{Runs.Allowed, Runs.Moved, Runs.reached, World.Moves}
 use Rattle.machine.specs.{State.State, Step.Event, Step.enabled, Step.may, Step.ready, Step.step, Step.job_of, Step.finished}
 use Rattle.replay.specs.declared.trace.Ending.TheVariants.{Finished, Waiting, Spent}
 use Rattle.replay.specs.Units.{unit_count, unit_at, word_count, enabled_units, is_of, preferred, candidates}
 use Rattle.replay.specs.Run.{IsTurn, Follows, lines_of, numbered, accesses_of, IsEnded, IsOver, StepsBy, IsTrace, IsLog}
 use Rattle.replay.specs.{declared.logged.Log.Log, declared.logged.Logged.Logged, declared.trace.Ending.Ending, declared.trace.Trace.Trace}
-use Rattle.replay.specs.{declared.trace.TraceLine.TraceLine, declared.units.UnitKind.UnitKind, Trace.line_of}
+use Rattle.replay.specs.{declared.trace.TraceLine.TraceLine, declared.units.UnitKind.UnitKind, Trace.line_of, Watched.IsEnough}
+use Rattle.replay.proofs.Needing.{rest_of, length_rest, all_given}
 
 -- a unit among those that may step may step, also among the favoured ones
 all_may : (s : State) → All (λ n. IsTrue (enabled s (unit_at n))) (enabled_units s)
@@ -189,44 +191,16 @@ steps_by Chooses Answers favoured i s next units place unit words listed found j
   line_is = line_is ∙ (ap (λ j. line_of unit j listed) job_is ∙ ap (line_of unit (job_of s unit)) (listed_is ∙ moves.accesses_are));
 }
 
--- The same trace by a script that says less.
-follows_by : (Chooses Answers Chose Told : ℕ → ℕ → ℕ → Type 0) → ((i n m : ℕ) → Chooses i n m → Chose i n m) → ((i k word : ℕ) → Answers i k word → Told i k word) → (favoured : Option UnitKind) (i : ℕ) (s : State) (events : List Event) → Follows Chooses Answers favoured i s events → Follows Chose Told favoured i s events
-follows_by Chooses Answers Chose Told chose told favoured i s [] h = tt
-follows_by Chooses Answers Chose Told chose told favoured i s (event ∷ events) h =
-    let turn = h.0 in (
-      record {
-        goes = turn.goes;
-        place = turn.place;
-        picked = chose i (length (candidates favoured (enabled_units s))) turn.place turn.picked;
-        within = turn.within;
-        unit = turn.unit;
-        count = turn.count;
-        words = λ k below. told i k (slice_index event.words k) (turn.words k below);
-      },
-      follows_by Chooses Answers Chose Told chose told favoured (i + 1) (step s event).state events h.1,
-    )
-
-pub trace_by : (Chooses Answers Chose Told : ℕ → ℕ → ℕ → Type 0) → ((i n m : ℕ) → Chooses i n m → Chose i n m) → ((i k word : ℕ) → Answers i k word → Told i k word) → (favoured : Option UnitKind) (s : State) (steps : ℕ) (trace : Trace) → (events : List Event) × IsTrace Chooses Answers favoured s steps events trace → (events : List Event) × IsTrace Chose Told favoured s steps events trace
-trace_by Chooses Answers Chose Told chose told favoured s steps trace (events, h) = (
-  events,
-  record {
-    run = h.run;
-    follows = follows_by Chooses Answers Chose Told chose told favoured 0 s events h.follows;
-    lines = h.lines;
-    most = h.most;
-    ends = h.ends;
-  },
-)
-
-pub log_by : (Chooses Answers Chose Told : ℕ → ℕ → ℕ → Type 0) → ((i n m : ℕ) → Chooses i n m → Chose i n m) → ((i k word : ℕ) → Answers i k word → Told i k word) → (favoured : Option UnitKind) (s : State) (steps : ℕ) (log : Log) → (events : List Event) × IsLog Chooses Answers favoured s steps events log → (events : List Event) × IsLog Chose Told favoured s steps events log
-log_by Chooses Answers Chose Told chose told favoured s steps log (events, h) = (
-  events,
-  record {
-    run = h.run;
-    follows = follows_by Chooses Answers Chose Told chose told favoured 0 s events h.follows;
-    accesses = h.accesses;
-    count = h.count;
-    most = h.most;
-    ends = h.ends;
-  },
-)
+-- Where fewer words were asked for, which are enough, the event has those that the script says of the rest.
+pub steps_by_few : (Chooses Answers : ℕ → ℕ → ℕ → Type 0) (told : (i k : ℕ) → (word : ℕ) × Answers i k word) (favoured : Option UnitKind) (i : ℕ) (s next : State) (units : List ℕ) (place : ℕ) (unit : Actor) (needed : ℕ) (given : List ℕ) (listed found : List Access) (job : ℕ) (line : TraceLine)
+    → finished s ≡ false → units ≡ candidates favoured (enabled_units s) → place < length units → Chooses i (length units) place → unit ≡ unit_at (slice_index units place)
+    → needed ≤ word_count unit → IsEnough s unit needed → length given ≡ needed → ((k : ℕ) → k < length given → Answers i k (slice_index given k))
+    → Moves (step s (record { unit = unit; words = given })) found next → listed ≡ found → job ≡ job_of s unit → line ≡ line_of unit job listed → StepsBy Chooses Answers favoured i s next listed line
+steps_by_few Chooses Answers told favoured i s next units place unit needed given listed found job line goes units_are below picked unit_is most enough long asked moves listed_is job_is line_is =
+    let more = word_count unit - needed in
+    let rest = rest_of (Answers i) (told i) (length given) more in
+    let rest_long : length rest ≡ more = length_rest (Answers i) (told i) (length given) more in
+    let both : needed + length rest ≡ word_count unit = omega (arith, rest_long, most) in
+    let all : length (given ++ rest) ≡ word_count unit = length-append given rest ∙ (ap (λ n. n + length rest) long ∙ both) in
+    steps_by Chooses Answers favoured i s next units place unit (given ++ rest) listed found job line goes units_are below picked unit_is all (all_given (Answers i) (told i) given more asked)
+    (subst (λ (moved : Moved State). Moves moved found next) (sym (enough given rest long both)) moves) listed_is job_is line_is

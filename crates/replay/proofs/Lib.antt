@@ -3,3 +3,4 @@ pub mod Going
 pub mod Idle
 pub mod Quiet
 pub mod Watching
+pub mod Needing

@@ -1,10 +1,10 @@
 -- What is known of which units may step.
-use Rattle.std.specs.Prelude.{◌≡◌, ◌≢◌, ◌<◌, ℕ, ◌+◌, ◌*◌, Bool, false, List, length, filter, slice_index_or}
+use Rattle.std.specs.Prelude.{◌≡◌, ◌≢◌, ◌<◌, ℕ, ◌+◌, ◌*◌, Bool, false, List, ◌++◌, length, filter, slice_index_or}
 use Rattle.std.specs.List.{range_with_len}
 use Rattle.field_words.specs.declared.access.Actor.TheVariants.{Binner as TheBinner, Renderer as TheRenderer, Qpu as TheQpu, Tmu as TheTmu}
 use Rattle.field_words.specs.declared.access.Actor.{Actor}
-use Rattle.machine.specs.{State.State, State.item_at, Step.enabled}
-use Rattle.replay.specs.Units.{unit_count, unit_at}
+use Rattle.machine.specs.{State.State, State.item_at, Step.enabled, Step.step}
+use Rattle.replay.specs.Units.{unit_count, unit_at, word_count}
 
 -- memory, the jobs and all processors but processor k are as before
 pub record TouchesOne (k : ℕ) (before after : State) : Type 0 where
@@ -52,3 +52,8 @@ StayAsked TheBinner s may = Unit {0}
 StayAsked TheRenderer s may = Unit {0}
 StayAsked (TheQpu k) s may = (n : ℕ) → IsElsewhere k n → IsRight s may n
 StayAsked (TheTmu k m) s may = (n : ℕ) → IsElsewhere k n → IsRight s may n
+
+-- Of the words that a step of this unit gets, those behind the first n make no difference.
+abbrev pub IsEnough : State → Actor → ℕ → Type 0
+IsEnough s unit n = (words rest : List ℕ) → length words ≡ n → n + length rest ≡ word_count unit
+    → step s (record { unit = unit; words = words ++ rest }) ≡ step s (record { unit = unit; words = words })

@@ -3,12 +3,12 @@ ghost use Rattle.std.specs.Prelude.{◌≡◌, ◌≤◌, ◌<◌, ◌^◌, ℕ,
 ghost use Rattle.machine.specs.Step.{Event, finished, step};
 ghost use Rattle.replay.specs.Units.{unit_at, word_count, enabled_units};
 ghost use Rattle.replay.specs.Trace.{line_of};
-ghost use Rattle.replay.specs.Run.{MayChoose, IsBelow, MayAnswer, IsOver, StepsBy, IsTrace, IsLog};
+ghost use Rattle.replay.specs.Run.{IsOver, StepsBy, IsTrace, IsLog};
 
 use crate::logged::{Log, Logged, put_step};
-use crate::oracle::Oracle;
+use crate::script::Script;
 use crate::trace::{Ending, Trace, TraceLine, line_of};
-use crate::units::{UnitKind, candidates, unit_at, word_count};
+use crate::units::{UnitKind, candidates, unit_at};
 use crate::watched::Watched;
 use arrayvec::ArrayVec;
 use field_words::NoMemory;
@@ -37,25 +37,21 @@ fn look(machine: &Watched) -> Result<ArrayVec<u8, 38>, Ending>
     Err(Ending::Waiting)
 }
 
-// The step's words, as many as there are places for.
-fn fill<C: Fn(u64, u32) -> u32, F: Fn(u64, u32) -> u32>(
-    oracle: &Oracle<C, F>,
-    step: u64,
-    words: &mut [u32],
-)
+// The step's first words, as many as there are places for.
+fn fill<S: Script>(script: &S, step: u64, words: &mut [u32])
     requires most { length words.old ≤ 4096 }
-    requires answers { MayAnswer (F.pre oracle.now.answer) }
-    ensures given { (k : ℕ) → k < length words.new → F.post oracle.now.answer step k (slice_index words.new k) }
+    ensures given { (k : ℕ) → k < length words.new → S.gives script.now step k (slice_index words.new k) }
     ensures long { length words.new ≡ length words.old }
 {
     for k in 0..words.len() {
-        words[k] = oracle.word(step, k as u32);
+        words[k] = script.word(step, k as u32);
     }
 }
 
-// One step of the unit that the oracle picks among these, or among the favoured ones of these where there are any.
-fn take_step<C: Fn(u64, u32) -> u32, F: Fn(u64, u32) -> u32>(
-    oracle: &Oracle<C, F>,
+// One step of the unit that the script picks among these, or among the favoured ones of these where there are any. Words behind those
+// that it may look at aren't asked for.
+fn take_step<S: Script>(
+    script: &S,
     favoured: Option<UnitKind>,
     step: u64,
     units: ArrayVec<u8, 38>,
@@ -66,46 +62,40 @@ fn take_step<C: Fn(u64, u32) -> u32, F: Fn(u64, u32) -> u32>(
     requires goes { finished machine.old ≡ false }
     requires some { 1 ≤ length units.items }
     requires units { units.items ≡ enabled_units machine.old }
-    requires chooses { MayChoose (C.pre oracle.now.choose) }
-    requires below { IsBelow (C.post oracle.now.choose) }
-    requires answers { MayAnswer (F.pre oracle.now.answer) }
-    ensures { StepsBy (C.post oracle.now.choose) (F.post oracle.now.answer) favoured step machine.old machine.new accesses.new.items result }
+    ensures { StepsBy (S.picks script.now) (S.gives script.now) favoured step machine.old machine.new accesses.new.items result }
 {
     let units = candidates(favoured, units);
-    let place = oracle.pick(step, units.len() as u32);
+    let place = script.pick(step, units.len() as u32);
     let unit = unit_at(units[place as usize]);
-    let words = &mut words[..word_count(unit) as usize];
-    fill(oracle, step, words);
+    let words = &mut words[..machine.words_needed(unit) as usize];
+    fill(script, step, words);
     let job = machine.job_of(unit);
     machine.step(unit, words, accesses);
     line_of(unit, job, accesses.as_slice())
 }
 
 // One step of the machine with its accesses, or why it steps no further.
-fn go_on<C: Fn(u64, u32) -> u32, F: Fn(u64, u32) -> u32>(
-    oracle: &Oracle<C, F>,
+fn go_on<S: Script>(
+    script: &S,
     favoured: Option<UnitKind>,
     step: u64,
     words: &mut [u32; MOST_WORDS],
     accesses: &mut Accesses,
     machine: &mut Watched,
 ) -> Result<TraceLine, Ending>
-    requires chooses { MayChoose (C.pre oracle.now.choose) }
-    requires below { IsBelow (C.post oracle.now.choose) }
-    requires answers { MayAnswer (F.pre oracle.now.answer) }
-    ensures goes { IfOk result (λ line. StepsBy (C.post oracle.now.choose) (F.post oracle.now.answer) favoured step machine.old machine.new accesses.new.items line) }
+    ensures goes { IfOk result (λ line. StepsBy (S.picks script.now) (S.gives script.now) favoured step machine.old machine.new accesses.new.items line) }
     ensures over { IfErr result (IsOver machine.old) }
     ensures same { IsErr result → machine.new ≡ machine.old }
 {
     match look(machine) {
         Err(ending) => Err(ending),
-        Ok(units) => Ok(take_step(oracle, favoured, step, units, words, accesses, machine)),
+        Ok(units) => Ok(take_step(script, favoured, step, units, words, accesses, machine)),
     }
 }
 
 // The steps that the script gives, at most so many.
-fn follow<C: Fn(u64, u32) -> u32, F: Fn(u64, u32) -> u32>(
-    oracle: &Oracle<C, F>,
+fn follow<S: Script>(
+    script: &S,
     favoured: Option<UnitKind>,
     steps: u32,
     lines: &mut Vec<TraceLine>,
@@ -113,16 +103,13 @@ fn follow<C: Fn(u64, u32) -> u32, F: Fn(u64, u32) -> u32>(
 ) -> Result<Ending, NoMemory>
     requires empty { lines.old.items ≡ [] }
     requires few { steps ≤ 1000000 }
-    requires chooses { MayChoose (C.pre oracle.now.choose) }
-    requires below { IsBelow (C.post oracle.now.choose) }
-    requires answers { MayAnswer (F.pre oracle.now.answer) }
-    ensures { IfOk result (λ ending. (events : List Event) × IsTrace (C.post oracle.now.choose) (F.post oracle.now.answer) favoured machine.old steps events (record { lines = lines.new; ending = ending })) }
+    ensures { IfOk result (λ ending. (events : List Event) × IsTrace (S.picks script.now) (S.gives script.now) favoured machine.old steps events (record { lines = lines.new; ending = ending })) }
 {
     let mut words = [0; MOST_WORDS];
     let mut accesses = ArrayVec::new();
     for i in 0..steps {
         match go_on(
-            oracle,
+            script,
             favoured,
             i as u64,
             &mut words,
@@ -139,30 +126,27 @@ fn follow<C: Fn(u64, u32) -> u32, F: Fn(u64, u32) -> u32>(
     }
 }
 
-/// Steps the machine as the oracle says, at most `steps` times, and keeps a line of each step. Where a kind of unit is favoured, a unit of
+/// Steps the machine as the script says, at most `steps` times, and keeps a line of each step. Where a kind of unit is favoured, a unit of
 /// it steps whenever one may. It takes its memory first; the machine is dropped at the end.
-pub fn replay<C: Fn(u64, u32) -> u32, F: Fn(u64, u32) -> u32>(
+pub fn replay<S: Script>(
     alloc: Global,
     machine: Machine,
-    oracle: &Oracle<C, F>,
+    script: &S,
     favoured: Option<UnitKind>,
     steps: u32,
 ) -> Result<Trace, NoMemory>
     requires few { steps ≤ 1000000 }
-    requires chooses { MayChoose (C.pre oracle.now.choose) }
-    requires below { IsBelow (C.post oracle.now.choose) }
-    requires answers { MayAnswer (F.pre oracle.now.answer) }
-    ensures { IfOk result (λ trace. (events : List Event) × IsTrace (C.post oracle.now.choose) (F.post oracle.now.answer) favoured machine steps events trace) }
+    ensures { IfOk result (λ trace. (events : List Event) × IsTrace (S.picks script.now) (S.gives script.now) favoured machine steps events trace) }
 {
     let mut lines = Vec::with_capacity(alloc, steps as usize)?;
     let mut watched = Watched::new(machine);
-    let ending = follow(oracle, favoured, steps, &mut lines, &mut watched)?;
+    let ending = follow(script, favoured, steps, &mut lines, &mut watched)?;
     Ok(Trace { lines, ending })
 }
 
 // The same steps, of which all accesses are kept; how many there were, and why they ended.
-fn note<C: Fn(u64, u32) -> u32, F: Fn(u64, u32) -> u32>(
-    oracle: &Oracle<C, F>,
+fn note<S: Script>(
+    script: &S,
     favoured: Option<UnitKind>,
     steps: u32,
     kept: &mut Vec<Logged>,
@@ -170,16 +154,13 @@ fn note<C: Fn(u64, u32) -> u32, F: Fn(u64, u32) -> u32>(
 ) -> Result<(u32, Ending), NoMemory>
     requires empty { kept.old.items ≡ [] }
     requires few { steps ≤ 1000000 }
-    requires chooses { MayChoose (C.pre oracle.now.choose) }
-    requires below { IsBelow (C.post oracle.now.choose) }
-    requires answers { MayAnswer (F.pre oracle.now.answer) }
-    ensures { IfOk result (λ end. (events : List Event) × IsLog (C.post oracle.now.choose) (F.post oracle.now.answer) favoured machine.old steps events (record { accesses = kept.new; steps = end.0; ending = end.1 })) }
+    ensures { IfOk result (λ end. (events : List Event) × IsLog (S.picks script.now) (S.gives script.now) favoured machine.old steps events (record { accesses = kept.new; steps = end.0; ending = end.1 })) }
 {
     let mut words = [0; MOST_WORDS];
     let mut accesses = ArrayVec::new();
     for i in 0..steps {
         match go_on(
-            oracle,
+            script,
             favoured,
             i as u64,
             &mut words,
@@ -197,22 +178,19 @@ fn note<C: Fn(u64, u32) -> u32, F: Fn(u64, u32) -> u32>(
 }
 
 /// Steps the machine as [`replay`] does, and keeps all accesses of the steps. The machine is dropped at the end.
-pub fn log_run<C: Fn(u64, u32) -> u32, F: Fn(u64, u32) -> u32>(
+pub fn log_run<S: Script>(
     alloc: Global,
     machine: Machine,
-    oracle: &Oracle<C, F>,
+    script: &S,
     favoured: Option<UnitKind>,
     steps: u32,
 ) -> Result<Log, NoMemory>
     requires few { steps ≤ 1000000 }
-    requires chooses { MayChoose (C.pre oracle.now.choose) }
-    requires below { IsBelow (C.post oracle.now.choose) }
-    requires answers { MayAnswer (F.pre oracle.now.answer) }
-    ensures { IfOk result (λ log. (events : List Event) × IsLog (C.post oracle.now.choose) (F.post oracle.now.answer) favoured machine steps events log) }
+    ensures { IfOk result (λ log. (events : List Event) × IsLog (S.picks script.now) (S.gives script.now) favoured machine steps events log) }
 {
     let mut accesses = Vec::new(alloc);
     let mut watched = Watched::new(machine);
-    let (steps, ending) = note(oracle, favoured, steps, &mut accesses, &mut watched)?;
+    let (steps, ending) = note(script, favoured, steps, &mut accesses, &mut watched)?;
     Ok(Log {
         accesses,
         steps,

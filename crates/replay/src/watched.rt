@@ -1,10 +1,11 @@
 //! A machine of which it is known which units may step.
-ghost use Rattle.std.specs.Prelude.{◌≡◌, ◌≢◌, ◌<◌, ℕ, false, length, IsTrue, slice_index_or};
+ghost use Rattle.std.specs.Prelude.{◌≡◌, ◌≢◌, ◌≤◌, ◌<◌, ℕ, false, length, IsTrue, slice_index_or};
 ghost use Rattle.machine.specs.Step.{enabled, finished, job_of, step};
 ghost use Rattle.machine_plan.specs.World.{Moves};
-ghost use Rattle.replay.specs.Units.{unit_count, unit_at, enabled_units};
-ghost use Rattle.replay.specs.Watched.{IsRight, AreAsked, asked_units, IsBeside, IsElsewhere, StayAsked};
+ghost use Rattle.replay.specs.Units.{unit_count, unit_at, word_count, enabled_units};
+ghost use Rattle.replay.specs.Watched.{IsRight, AreAsked, asked_units, IsBeside, IsElsewhere, StayAsked, IsEnough};
 
+use crate::units::word_count;
 use arrayvec::ArrayVec;
 use field_words::Actor;
 use machine::Machine;
@@ -181,6 +182,20 @@ impl Watched {
         ensures { result ≡ job_of self.now unit }
     {
         self.machine.job_of(unit)
+    }
+
+    /// How many choice words a step of this unit may look at: what stands behind them in the words that it gets makes no difference.
+    #[tactic(auto, using(crate::proofs::Needing::all_needed, crate::proofs::Needing::few_needed))]
+    pub(crate) fn words_needed(&self, unit: Actor) -> u32
+        ensures most { result ≤ word_count unit }
+        ensures few { result ≤ 4096 }
+        ensures enough { IsEnough self.now unit result }
+    {
+        let count = word_count(unit);
+        match self.machine.words_enough(unit) {
+            Some(enough) if enough < count => enough,
+            _ => count,
+        }
     }
 
     /// One step of this unit, which may step. `accesses` is emptied first, and then holds the step's accesses in order.

@@ -3,6 +3,6 @@ use Rattle.replay.proofs.follow.fill.Given as goal
 
 abbrev pub invariant-loop-k : goal.invariant-loop-k
 invariant-loop-k g l = record {
-  given : (j : ℕ) → j < l.k → goal.F-post g l.oracle.answer l.step j (slice_index l.words j);
+  given : (j : ℕ) → j < l.k → g.S.Script.gives l.script l.step j (slice_index l.words j);
   long : length l.words ≡ length l.initial.words;
 }

@@ -2,7 +2,7 @@
 use Rattle.std.proofs.Common.{◌≡◌, ◌<◌, ◌∙◌, refl, subst, ap, length, slice_index, arith}
 use Rattle.std.proofs.lemmas.List.{length-take-le}
 use Rattle.replay.specs.{Trace.line_of, Units.unit_at, Units.candidates}
-use Rattle.replay.proofs.Going.{unit_may, steps_by}
+use Rattle.replay.proofs.Going.{unit_may, steps_by_few}
 use Rattle.replay.proofs.follow.take_step.Goals as goal
 
 pub step-requires : goal.step-requires
@@ -21,12 +21,12 @@ returns g c =
     let chosen = c.candidates-units.ensures.value ∙ ap (candidates c.args.favoured) c.requires.units in
     let unit_is = c.unit_at-unit.ensures ∙ ap (λ us. unit_at (slice_index us c.pick-place.result)) units_are in
     let below : c.pick-place.result < length units = omega (arith, c.pick-place.ensures.below, c.len.ensures.value) in
-    let picked = c.pick-place.ensures.gives in
+    let picked = c.pick-place.ensures.picked in
     let size = c.len.ensures.value in
     let given = c.fill.new.words in
-    let count = c.word_count.result in
-    let long : length given ≡ count = c.fill.ensures.long ∙ length-take-le count _ (omega (arith, c.word_count.ensures.most)) in
+    let needed = c.words_needed.result in
+    let long : length given ≡ needed = c.fill.ensures.long ∙ length-take-le needed _ (omega (arith, c.words_needed.ensures.few)) in
     let listed = c.step.new.accesses.items in
-    steps_by _ _ c.args.favoured c.args.step c.args.machine.now c.step.new.self units c.pick-place.result c.unit_at-unit.result given listed listed c.job_of-job.result c.line_of.result
-    c.requires.goes chosen below (subst (λ n. goal.C-post g c.args.oracle.now.choose c.args.step n c.pick-place.result) size picked) unit_is (long ∙ c.word_count.ensures.value) c.fill.ensures.given
+    steps_by_few _ _ (g.met.S.Script.told c.args.script.now) c.args.favoured c.args.step c.args.machine.now c.step.new.self units c.pick-place.result c.unit_at-unit.result needed given listed listed c.job_of-job.result c.line_of.result
+    c.requires.goes chosen below (subst (λ n. g.S.Script.picks c.args.script.now c.args.step n c.pick-place.result) size picked) unit_is c.words_needed.ensures.most c.words_needed.ensures.enough long c.fill.ensures.given
     c.step.ensures refl c.job_of-job.ensures (c.line_of.ensures ∙ ap (line_of c.unit_at-unit.result c.job_of-job.result) c.as_slice.ensures.value)
