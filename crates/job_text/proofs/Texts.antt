@@ -1,5 +1,7 @@
 -- What is put behind a text.
-use Rattle.std.proofs.Common.{◌≡◌, ℕ, List, ◌++◌, codes, append_assoc}
+use Rattle.std.proofs.Common.{◌≡◌, ◌∙◌, ℕ, List, [], ◌∷◌, ◌++◌, ap, sym, codes, append_assoc, append-nil}
+use Rattle.script.specs.Lines.{before}
+use Rattle.qpu_asm.specs.Printed.{line_text, AsmText}
 use Rattle.job_text.specs.Names.{of_job}
 
 pub three_parts : (out a b c : List ℕ) → ((out ++ a) ++ b) ++ c ≡ out ++ (a ++ (b ++ c))
@@ -19,3 +21,8 @@ pub in_buffer : (out buffer index : List ℕ)
     → ((((out ++ codes "buffer ") ++ buffer) ++ codes " instruction ") ++ index) ++ codes ": "
     ≡ out ++ (codes "buffer " ++ (buffer ++ (codes " instruction " ++ (index ++ codes ": "))))
 in_buffer out buffer index = simp append_assoc
+
+-- the line of a word is the text of this word alone
+pub line_alone : (word : ℕ) (out : List ℕ) → out ≡ [] ++ line_text word → before 10 out ≡ before 10 (AsmText (word ∷ []))
+unfolding AsmText
+line_alone word out is = ap (before 10) (is ∙ sym (append-nil (line_text word)))

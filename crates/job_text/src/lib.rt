@@ -11,6 +11,7 @@ mod code;
 mod cuts;
 mod fault;
 mod fields;
+mod instructions;
 mod list;
 mod meanings;
 mod names;

@@ -1,21 +1,19 @@
 //! What a line says of its bytes.
 ghost use Rattle.std.specs.Prelude.{◌≡◌, ◌++◌, codes, decimal, drop, OnOk};
 ghost use Rattle.job_text.specs.Names.{named_text};
-ghost use Rattle.job_text.specs.Notes.{counted, taken_text, packet_text, said_if, facts_text, assembler_text, field_text, sized_text, meant_text, uniform_text, listed_text};
+ghost use Rattle.job_text.specs.Notes.{counted, taken_text, packet_text, said_if, facts_text, field_text, sized_text, meant_text, uniform_text, listed_text};
 ghost use Rattle.job_text.specs.Notes.{numbered_text, instruction_text, note_text};
 
+use crate::instructions::Instructions;
 use crate::meanings::{bits_style, put_size};
 use crate::names::{packet_name, put_named, put_of_job, put_part, stage_name};
 use crate::note::{Field, Meaning, Note, Part, Stage};
 use crate::numbers::{byte_at, instruction, number, put_number};
 use crate::rows::{put_packet_fields, put_valued};
 use crate::uniforms::put_use;
-use field_words::NoMemory;
-use qpu_asm::disassemble;
 use qpu_isa::word::{is_end, is_switch};
 use qpu_isa::writes::writes_s;
-use script::cut_at;
-use std::alloc::{AllocError, Global};
+use std::alloc::AllocError;
 
 #[tactic(auto, unfolding(crate::specs::Notes::field_text))]
 fn put_field(out: &mut Vec<u8>, part: Part, field: Field, bytes: &[u8]) -> Result<(), AllocError>
@@ -143,26 +141,16 @@ fn put_facts(out: &mut Vec<u8>, word: u64) -> Result<(), AllocError>
     put_if(out, is_end(word), b"; program end")
 }
 
-// Appends an instruction as assembler text.
-#[tactic(auto, unfolding(crate::specs::Notes::assembler_text))]
-fn put_assembler(alloc: Global, out: &mut Vec<u8>, word: u64) -> Result<(), NoMemory>
-    ensures { OnOk result (out.new.items ≡ out.old.items ++ assembler_text word) }
-{
-    let text = disassemble(alloc, &[word])?;
-    out.extend_from_slice(cut_at(&text, b'\n').first)?;
-    Ok(())
-}
-
 #[tactic(auto, unfolding(crate::specs::Notes::instruction_text))]
 fn put_instruction(
-    alloc: Global,
+    instructions: &mut Instructions,
     out: &mut Vec<u8>,
     word: u64,
     uniform: Option<usize>,
-) -> Result<(), NoMemory>
+) -> Result<(), AllocError>
     ensures { OnOk result (out.new.items ≡ out.old.items ++ instruction_text word uniform) }
 {
-    put_assembler(alloc, out, word)?;
+    instructions.put(out, word)?;
     put_taken(out, uniform)?;
     put_facts(out, word)?;
     Ok(())
@@ -228,11 +216,11 @@ fn put_packet(
 /// Appends what a line says of its bytes.
 #[tactic(auto, unfolding(crate::specs::Notes::note_text))]
 pub(crate) fn put_note(
-    alloc: Global,
+    instructions: &mut Instructions,
     out: &mut Vec<u8>,
     note: Note,
     bytes: &[u8],
-) -> Result<(), NoMemory>
+) -> Result<(), AllocError>
     ensures { OnOk result (out.new.items ≡ out.old.items ++ note_text note bytes.now) }
 {
     match note {
@@ -252,7 +240,7 @@ pub(crate) fn put_note(
         Note::Data(buffer) => put_data(out, buffer)?,
         Note::Instruction(buffer, index, uniform) => {
             put_numbered(out, buffer, index)?;
-            put_instruction(alloc, out, instruction(bytes), uniform)?;
+            put_instruction(instructions, out, instruction(bytes), uniform)?;
         }
         Note::Unread => out.extend_from_slice(b"unread")?,
     }

@@ -1,35 +1,46 @@
 //! A file as text.
-ghost use Rattle.std.specs.Prelude.{◌≡◌, ◌≤◌, ◌<◌, ◌^◌, ◌+◌, ◌++◌, ◌-◌, length, take, drop, List, IfOk, OnOk, Ok};
+ghost use Rattle.std.specs.Prelude.{◌≡◌, ◌≤◌, ◌<◌, ◌^◌, ◌+◌, ◌++◌, ◌-◌, codes, length, take, drop, List, IfOk, OnOk, Ok};
+ghost use Rattle.hex.specs.Hex.{encode_lower};
 ghost use Rattle.job_text.specs.declared.note.Piece.{Piece as PieceModel};
 ghost use Rattle.job_text.specs.Shown.{remark, is_in, is_past, mark_text, reason_text, line_text, lines_text, shown};
 ghost use Rattle.job_text.specs.Made.{made};
 
 use crate::cuts::pieces;
+use crate::instructions::Instructions;
 use crate::note::{Note, Piece};
 use crate::notes::put_note;
+use crate::numbers::put_number;
 use field_words::NoMemory;
-use itoa::Buffer;
 use script::cut_at;
 use std::alloc::{AllocError, Global};
+
+/// What is made once for all lines of a file: the text of instructions, and room for a remark.
+#[derive(Drop)]
+struct Writer {
+    instructions: Instructions,
+    remark: Vec<u8>,
+}
 
 // Appends the offset of the bytes and what they are, up to a line's end.
 #[tactic(auto, unfolding(crate::specs::Shown::remark))]
 fn put_remark(
-    alloc: Global,
+    writer: &mut Writer,
     out: &mut Vec<u8>,
     at: usize,
     bytes: &[u8],
     note: Note,
-) -> Result<(), NoMemory>
+) -> Result<(), AllocError>
     ensures { OnOk result (out.new.items ≡ out.old.items ++ remark at bytes.now note) }
 {
-    let mut buffer = Buffer::new();
-    let mut text = Vec::new(alloc);
-    text.extend_from_slice(buffer.format(at).as_bytes())?;
-    text.extend_from_slice(b" ")?;
-    put_note(alloc, &mut text, note, bytes)?;
-    out.extend_from_slice(cut_at(&text, b'\n').first)?;
-    Ok(())
+    let Writer {
+        instructions,
+        remark,
+    } = writer;
+    remark.clear();
+    put_number(remark, at)?;
+    remark.push(b' ')?;
+    put_note(instructions, remark, note, bytes)?;
+    out.extend_from_slice(cut_at(remark, b'\n').first)
 }
 
 // Whether the offset of a refusal lies in so many bytes from another on.
@@ -77,10 +88,35 @@ fn put_reason(out: &mut Vec<u8>, is: bool, why: &[u8]) -> Result<(), AllocError>
     Ok(())
 }
 
+// Appends bytes in hexadecimal. Those of most lines take no memory of their own.
+fn put_hex(alloc: Global, out: &mut Vec<u8>, bytes: &[u8]) -> Result<(), AllocError>
+    ensures { OnOk result (out.new.items ≡ out.old.items ++ encode_lower bytes.now) }
+{
+    if bytes.len() <= 32 {
+        let mut room = [0; 64];
+        let digits = &mut room[..2 * bytes.len()];
+        if hex::encode_to_slice(bytes, digits).is_ok() {
+            return out.extend_from_slice(digits);
+        }
+    }
+    let digits = hex::encode(alloc, bytes)?;
+    out.extend_from_slice(digits.as_bytes())
+}
+
+// Appends a line's end, and the line of the reason where it is refused there.
+fn put_end(out: &mut Vec<u8>, is: bool, why: &[u8]) -> Result<(), AllocError>
+    ensures { OnOk result (out.new.items ≡ out.old.items ++ (mark_text is ++ (codes "\n" ++ reason_text is why.now))) }
+{
+    put_mark(out, is)?;
+    out.push(b'\n')?;
+    put_reason(out, is, why)
+}
+
 // Appends the line of some bytes.
-#[tactic(auto, unfolding(crate::specs::Shown::line_text))]
+#[tactic(auto, unfolding(crate::specs::Shown::line_text), using(crate::proofs::Texts::four_parts))]
 fn put_line(
     alloc: Global,
+    writer: &mut Writer,
     out: &mut Vec<u8>,
     at: usize,
     bytes: &[u8],
@@ -93,20 +129,17 @@ fn put_line(
     if bytes.is_empty() {
         return Ok(());
     }
-    let is_here = is_in(at, bytes.len(), refused);
-    let digits = hex::encode(alloc, bytes)?;
-    out.extend_from_slice(digits.as_bytes())?;
+    put_hex(alloc, out, bytes)?;
     out.extend_from_slice(b"  # ")?;
-    put_remark(alloc, out, at, bytes, note)?;
-    put_mark(out, is_here)?;
-    out.extend_from_slice(b"\n")?;
-    put_reason(out, is_here, why)?;
+    put_remark(writer, out, at, bytes, note)?;
+    put_end(out, is_in(at, bytes.len(), refused), why)?;
     Ok(())
 }
 
 // Appends the lines of bytes, piece by piece.
 fn put_lines(
     alloc: Global,
+    writer: &mut Writer,
     out: &mut Vec<u8>,
     bytes: &[u8],
     pieces: &[Piece],
@@ -119,11 +152,11 @@ fn put_lines(
     let mut at = 0;
     for piece in pieces {
         let (front, back) = rest.split_at(piece.size.min(rest.len()));
-        put_line(alloc, out, at, front, piece.note, refused, why)?;
+        put_line(alloc, writer, out, at, front, piece.note, refused, why)?;
         at += front.len();
         rest = back;
     }
-    put_line(alloc, out, at, rest, Note::Unread, refused, why)
+    put_line(alloc, writer, out, at, rest, Note::Unread, refused, why)
 }
 
 /// Any bytes as lines of text: on each line some of them in hexadecimal, a `#`, their offset and what they are, if they are a
@@ -142,8 +175,12 @@ pub fn show(
     ensures again { IfOk result (λ text. made text.items ≡ Ok bytes.now) }
 {
     let pieces = pieces(alloc, bytes)?;
+    let mut writer = Writer {
+        instructions: Instructions::new(alloc, bytes.len())?,
+        remark: Vec::new(alloc),
+    };
     let mut out = Vec::new(alloc);
-    put_lines(alloc, &mut out, bytes, &pieces, refused, why)?;
+    put_lines(alloc, &mut writer, &mut out, bytes, &pieces, refused, why)?;
     put_reason(&mut out, is_past(bytes.len(), refused), why)?;
     Ok(out)
 }

@@ -1,5 +1,5 @@
 -- Text that is written into a room.
-use Rattle.std.proofs.Common.{◌≡◌, ℕ, ◌+◌, ◌-◌, ◌≤◌, ◌<◌, ◌⊎◌, List, [], ◌∷◌, ◌++◌, length, length-append, take, drop, take-add, slice_index_or, sym, ◌∙◌, ap, arith, append_assoc, inl, inr}
+use Rattle.std.proofs.Common.{◌≡◌, ℕ, ◌+◌, ◌≤◌, ◌<◌, ◌⊎◌, List, [], ◌∷◌, ◌++◌, length, length-append, take, drop, take-add, slice_index_or, sym, ◌∙◌, ap, arith, append_assoc, inl, inr}
 use Rattle.std.proofs.lemmas.List.{get_or_push, get_or_append_left, take_at, drop_at, take_more, take-append-le, length-take-le, flat_map_more}
 use Rattle.std.proofs.lemmas.Bool.{cases_lt}
 use borrow.Rule.Slice.PartMut.{put_mid, post_of}
@@ -51,12 +51,13 @@ pub two_puts : (out front new end last text more : List ℕ) → new ++ end ≡ 
 two_puts out front new end last text more first second = second ∙ put_then out front new end text more first
 
 -- one more line
-pub lines_more : (words : List ℕ) (i d : ℕ) (out front new end : List ℕ) → i < length words → out ++ front ≡ flat_map line_text (take i words)
-    → new ++ end ≡ out ++ (front ++ line_text (slice_index_or words i d)) → new ++ end ≡ flat_map line_text (take (i + 1) words)
-lines_more words i d out front new end below before put =
+pub lines_more : (words : List ℕ) (i d : ℕ) (first out front new end : List ℕ) → i < length words → out ++ front ≡ first ++ flat_map line_text (take i words)
+    → new ++ end ≡ out ++ (front ++ line_text (slice_index_or words i d)) → new ++ end ≡ first ++ flat_map line_text (take (i + 1) words)
+lines_more words i d first out front new end below before put =
+    let text = line_text (slice_index_or words i d) in
     let line = flat_map_more line_text [] (take i words) (slice_index_or words i d) ∙ ap (flat_map line_text) (sym (take_more words i d below)) in
-    put ∙ (sym (append_assoc out front (line_text (slice_index_or words i d)))
-    ∙ (ap (λ l. l ++ line_text (slice_index_or words i d)) before ∙ line))
+    put ∙ (sym (append_assoc out front text)
+    ∙ (ap (λ l. l ++ text) before ∙ (append_assoc first (flat_map line_text (take i words)) text ∙ ap (λ l. first ++ l) line)))
 
 -- a kept text was put behind what the room has
 pub kept_put : (out front new piece text : List ℕ) → new ≡ front ++ piece → piece ≡ text → out ++ new ≡ out ++ (front ++ text)

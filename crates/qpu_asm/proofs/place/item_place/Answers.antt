@@ -1,5 +1,5 @@
-use Rattle.std.proofs.Common.{sym, ◌∙◌, ap, arith}
-use Rattle.qpu_asm.specs.{Place.placed_words, Place.item_place, Seen.rows_seen, Seen.spots_in}
+use Rattle.std.proofs.Common.{sym, ◌∙◌, arith}
+use Rattle.qpu_asm.specs.{Seen.rows_seen, Seen.spots_in}
 use Rattle.qpu_asm.proofs.Placing.{place_here, place_later, place_none}
 use Rattle.qpu_asm.proofs.place.item_place.Goals as goal
 

@@ -1,4 +1,4 @@
-use Rattle.std.proofs.Common.{sym, ◌∙◌, ap}
+use Rattle.std.proofs.Common.{sym, ◌∙◌}
 use Rattle.qpu_asm.specs.{Seen.row_seen, Seen.spots_in, Items.read_value}
 use Rattle.qpu_asm.proofs.{Rows.row_below, Rows.ready_first, Placing.value_passes}
 use Rattle.qpu_asm.proofs.place.value_mistake.Goals as goal

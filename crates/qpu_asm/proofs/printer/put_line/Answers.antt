@@ -1,7 +1,7 @@
 use Rattle.std.proofs.Common.{◌∙◌, ap, take, ◌++◌, ◌∷◌, []}
 use Rattle.qpu_asm.specs.Printed.{kind_text, line_text}
 use Rattle.qpu_asm.proofs.Rooms.{two_puts}
-use Rattle.qpu_asm.proofs.disassembler.put_line.Goals as goal
+use Rattle.qpu_asm.proofs.printer.put_line.Goals as goal
 
 pub returns-clause-text : goal.returns-clause-text
 unfolding line_text
