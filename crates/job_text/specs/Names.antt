@@ -1,5 +1,5 @@
 -- What a line says of its bytes.
-use Rattle.std.specs.Prelude.{ℕ, ◌++◌, List, [], codes, decimal, Option, Some, None, ◌∷◌, ◌==◌, if◌then◌else◌}
+use Rattle.std.specs.Prelude.{ℕ, ◌++◌, List, [], codes, decimal, Option, Some, None, ◌==◌, if◌then◌else◌}
 use Rattle.field_words.specs.Words.{u32_at}
 use Rattle.packets.specs.Opcode.{halt, nop, flush, start_tile_binning, increment_semaphore, indexed_primitive_list, array_primitive_list, primitive_list_format, gl_shader_state, configuration_bits, flat_shade_flags, point_size, line_width, rht_x_boundary, depth_offset, clip_window, viewport_offset, clipper_xy_scaling, clipper_z_scaling, tile_binning_mode, buffer_handles}
 use Rattle.job_text.specs.declared.note.Field.TheVariants.{Magic, Version, MemorySize, ListsPlace, ListsSize, TilePlace, TileSlots, Buffers, Jobs, Place, Size, Client, Kind, Content, Flags, Handles, BinSize, RecordsSize, States, UniformsSize, Width, Height, MinX, MinY, MaxX, MaxY, HandleIndex, Offset, FrameBits, GeneralBits, SampleBits, SurfaceFlags, FirstColor, SecondColor, ClearZ, ClearStencil, Zeros, PrimitiveMode, IndexMode, Length, FirstIndex, IndexAddress, MaxIndex, ListFormat, StateWord, ConfigurationBits, FlatFlags, PointWidth, Boundary, DepthFactor, DepthUnits, ClipLeft, ClipBottom, ClipWidth, ClipHeight, CenterX, CenterY, ScaleX, ScaleY, ScaleZ, OffsetZ, ListsAddress, ListsBytes, StatesAddress, TilesAcross, TilesDown, BinnerFlags, IndexHandle, FurtherHandle, NamedHandle, RecordFlags, FurtherBytes, CodeAddress, UniformsAddress, FurtherWord, DataAddress, DataSize, Stride, VertexOffset, CoordinateOffset, HighStride}
@@ -136,22 +136,6 @@ field_size Stride = 1
 field_size VertexOffset = 1
 field_size CoordinateOffset = 1
 field_size field = 4
-
--- the fields of the header, of a buffer's entry, and of a job's entry before, in and behind its surfaces
-abbrev pub header_fields : List Field
-header_fields = Magic ∷ Version ∷ MemorySize ∷ ListsPlace ∷ ListsSize ∷ TilePlace ∷ TileSlots ∷ Buffers ∷ Jobs ∷ []
-
-abbrev pub buffer_fields : List Field
-buffer_fields = Place ∷ Size ∷ Client ∷ Kind ∷ Content ∷ []
-
-abbrev pub job_fields : List Field
-job_fields = Client ∷ Flags ∷ Handles ∷ BinSize ∷ RecordsSize ∷ States ∷ UniformsSize ∷ Width ∷ Height ∷ MinX ∷ MinY ∷ MaxX ∷ MaxY ∷ []
-
-abbrev pub surface_fields : Field → List Field
-surface_fields bits = HandleIndex ∷ Offset ∷ bits ∷ SurfaceFlags ∷ []
-
-abbrev pub clear_fields : List Field
-clear_fields = FirstColor ∷ SecondColor ∷ ClearZ ∷ ClearStencil ∷ Zeros ∷ []
 
 -- the buffer that a handle names, where it names one
 abbrev pub named_text : Option ℕ → List ℕ
