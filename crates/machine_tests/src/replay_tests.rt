@@ -12,7 +12,9 @@ use std::alloc::Global;
 struct FirstOfAll;
 
 impl Script for FirstOfAll {
-    ghost use Rattle.std.specs.Prelude.{◌≡◌, refl};
+    ghost use Rattle.std.specs.Prelude.{◌≡◌, refl, ⊤};
+
+    ghost may = { λ script. ⊤ };
 
     ghost picks = { λ script step n m. m ≡ 0 };
 
@@ -26,7 +28,7 @@ impl Script for FirstOfAll {
         0
     }
 
-    ghost told = { λ script step k. (0, refl) };
+    ghost told = { λ script may step k. (0, refl) };
 }
 
 // The run of a machine with this renderer list at place 0, by a script that picks the first unit and answers 0.
