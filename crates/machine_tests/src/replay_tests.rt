@@ -4,30 +4,8 @@ ghost use Rattle.std.specs.Prelude.{◌≡◌, ◌≤◌};
 use field_words::{Actor, NoMemory};
 use machine::{Machine, Start};
 use phys_mem::PhysMem;
-use replay::{Ending, Script, Trace, TraceLine, replay};
+use replay::{Ending, Oracle, Trace, TraceLine, replay};
 use std::alloc::Global;
-
-// The first unit steps, and each word is 0.
-#[derive(Clone, Copy)]
-struct FirstOfAll;
-
-impl Script for FirstOfAll {
-    ghost use Rattle.std.specs.Prelude.{◌≡◌, refl};
-
-    ghost picks = { λ script step n m. m ≡ 0 };
-
-    ghost gives = { λ script step k word. word ≡ 0 };
-
-    fn pick(&self, _step: u64, _count: u32) -> u32 {
-        0
-    }
-
-    fn word(&self, _step: u64, _k: u32) -> u32 {
-        0
-    }
-
-    ghost told = { λ script step k. (0, refl) };
-}
 
 // The run of a machine with this renderer list at place 0, by a script that picks the first unit and answers 0.
 fn run_of(alloc: Global, list: &[u8; 3], steps: u32) -> Result<Trace, NoMemory>
@@ -44,7 +22,15 @@ fn run_of(alloc: Global, list: &[u8; 3], steps: u32) -> Result<Trace, NoMemory>
         render_len: 3,
     };
     let machine = Machine::new(alloc, memory, &[start])?;
-    replay(alloc, machine, &FirstOfAll, None, steps)
+    let oracle = Oracle::new(
+        |_step: u64, _n: u32|
+            ensures { result ≡ 0 }
+        { 0 },
+        |_step: u64, _k: u32|
+            ensures { result ≡ 0 }
+        { 0 },
+    );
+    replay(alloc, machine, &oracle, None, steps)
 }
 
 // A renderer that waits for the semaphore: no step is done.

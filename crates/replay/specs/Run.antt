@@ -1,6 +1,6 @@
 -- A run by a script, which may favour a kind of unit. `Chooses step n m` says that at this step m is picked of n, `Answers step k word` that
 -- its word k is this.
-use Rattle.std.specs.Prelude.{◌≡◌, ◌≢◌, ◌≤◌, ◌<◌, ℕ, ◌+◌, true, false, IsTrue, List, [], ◌∷◌, ◌++◌, length, map, slice_index, Option}
+use Rattle.std.specs.Prelude.{◌≡◌, ◌≢◌, ◌≤◌, ◌<◌, ℕ, ◌+◌, ◌^◌, true, false, IsTrue, List, [], ◌∷◌, ◌++◌, length, map, slice_index, Option}
 use Rattle.field_words.specs.declared.access.Access.{Access}
 use Rattle.machine_plan.specs.Runs.{found_by, reached}
 use Rattle.machine.specs.{State.State, Step.Event, Step.enabled, Step.finished, Step.job_of, Step.step, Step.IsRun}
@@ -8,6 +8,21 @@ use Rattle.replay.specs.declared.trace.Ending.TheVariants.{Finished, Waiting, Sp
 use Rattle.replay.specs.{declared.logged.Log.Log, declared.logged.Logged.Logged, declared.trace.Ending.Ending, declared.trace.Trace.Trace}
 use Rattle.replay.specs.{declared.trace.TraceLine.TraceLine, declared.units.UnitKind.UnitKind, Trace.line_of}
 use Rattle.replay.specs.Units.{unit_at, word_count, enabled_units, candidates}
+
+-- what is asked of closures that give a script: at each step below 2^64 one may be picked of each number but 0, which is below
+-- it, and each of 4,096 words may be asked for
+abbrev pub MayChoose : (ℕ → ℕ → Type 0) → Type 0
+MayChoose Pre = (step n : ℕ) → step < 2 ^ 64 → 1 ≤ n → n < 2 ^ 32 → Pre step n
+
+abbrev pub IsBelow : (ℕ → ℕ → ℕ → Type 0) → Type 0
+IsBelow Post = (step n picked : ℕ) → step < 2 ^ 64 → 1 ≤ n → n < 2 ^ 32 → Post step n picked → picked < n
+
+abbrev pub MayAnswer : (ℕ → ℕ → Type 0) → Type 0
+MayAnswer Pre = (step k : ℕ) → step < 2 ^ 64 → k < 4096 → Pre step k
+
+-- each step has each of these words
+abbrev pub IsTold : (ℕ → ℕ → ℕ → Type 0) → Type 0
+IsTold Gives = (step k : ℕ) → (word : ℕ) × Gives step k word
 
 -- Step number i is this event: the machine isn't finished; the unit is the one that was picked among those that may step, or
 -- of these among the favoured ones where there are any, with as many words as it gets, and they are what was answered.

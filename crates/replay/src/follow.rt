@@ -39,6 +39,7 @@ fn look(machine: &Watched) -> Result<ArrayVec<u8, 38>, Ending>
 
 // The step's first words, as many as there are places for.
 fn fill<S: Script>(script: &S, step: u64, words: &mut [u32])
+    requires may { S.may script.now }
     requires most { length words.old ≤ 4096 }
     ensures given { (k : ℕ) → k < length words.new → S.gives script.now step k (slice_index words.new k) }
     ensures long { length words.new ≡ length words.old }
@@ -59,6 +60,7 @@ fn take_step<S: Script>(
     accesses: &mut Accesses,
     machine: &mut Watched,
 ) -> TraceLine
+    requires may { S.may script.now }
     requires goes { finished machine.old ≡ false }
     requires some { 1 ≤ length units.items }
     requires units { units.items ≡ enabled_units machine.old }
@@ -83,6 +85,7 @@ fn go_on<S: Script>(
     accesses: &mut Accesses,
     machine: &mut Watched,
 ) -> Result<TraceLine, Ending>
+    requires may { S.may script.now }
     ensures goes { IfOk result (λ line. StepsBy (S.picks script.now) (S.gives script.now) favoured step machine.old machine.new accesses.new.items line) }
     ensures over { IfErr result (IsOver machine.old) }
     ensures same { IsErr result → machine.new ≡ machine.old }
@@ -101,6 +104,7 @@ fn follow<S: Script>(
     lines: &mut Vec<TraceLine>,
     machine: &mut Watched,
 ) -> Result<Ending, NoMemory>
+    requires may { S.may script.now }
     requires empty { lines.old.items ≡ [] }
     requires few { steps ≤ 1000000 }
     ensures { IfOk result (λ ending. (events : List Event) × IsTrace (S.picks script.now) (S.gives script.now) favoured machine.old steps events (record { lines = lines.new; ending = ending })) }
@@ -135,6 +139,7 @@ pub fn replay<S: Script>(
     favoured: Option<UnitKind>,
     steps: u32,
 ) -> Result<Trace, NoMemory>
+    requires may { S.may script.now }
     requires few { steps ≤ 1000000 }
     ensures { IfOk result (λ trace. (events : List Event) × IsTrace (S.picks script.now) (S.gives script.now) favoured machine steps events trace) }
 {
@@ -152,6 +157,7 @@ fn note<S: Script>(
     kept: &mut Vec<Logged>,
     machine: &mut Watched,
 ) -> Result<(u32, Ending), NoMemory>
+    requires may { S.may script.now }
     requires empty { kept.old.items ≡ [] }
     requires few { steps ≤ 1000000 }
     ensures { IfOk result (λ end. (events : List Event) × IsLog (S.picks script.now) (S.gives script.now) favoured machine.old steps events (record { accesses = kept.new; steps = end.0; ending = end.1 })) }
@@ -185,6 +191,7 @@ pub fn log_run<S: Script>(
     favoured: Option<UnitKind>,
     steps: u32,
 ) -> Result<Log, NoMemory>
+    requires may { S.may script.now }
     requires few { steps ≤ 1000000 }
     ensures { IfOk result (λ log. (events : List Event) × IsLog (S.picks script.now) (S.gives script.now) favoured machine steps events log) }
 {

@@ -3,6 +3,7 @@
 
 mod follow;
 mod logged;
+mod oracle;
 mod script;
 mod trace;
 mod units;
@@ -10,6 +11,7 @@ mod watched;
 
 pub use follow::{log_run, replay};
 pub use logged::{Log, Logged};
+pub use oracle::Oracle;
 pub use script::Script;
 pub use trace::{Ending, Trace, TraceLine};
 pub use units::{UnitKind, enabled_units, unit_at, word_count};

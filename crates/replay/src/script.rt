@@ -1,9 +1,13 @@
 //! What says how a run goes.
 ghost use Rattle.std.specs.Prelude.{◌≤◌, ◌<◌, ℕ};
+ghost use Rattle.replay.specs.Run.{IsTold};
 
 /// A script of a run: which unit steps at each step, and what answers what the hardware leaves open there. It says of every step and of
 /// every choice word what it is, so a word that no step looks at needn't be asked for.
 pub trait Script {
+    /// What is asked of a script before it says anything; of one that knows all by itself, nothing.
+    ghost may: { Self → Type 0 };
+
     /// At this step, of so many units that may step, this one is picked.
     ghost picks: { Self → ℕ → ℕ → ℕ → Type 0 };
 
@@ -13,14 +17,16 @@ pub trait Script {
     /// Which of `count` units steps. It takes no memory, and refuses nothing.
     fn pick(&self, step: u64, count: u32) -> u32
         requires some { 1 ≤ count }
+        requires may { may self.now }
         ensures picked { picks self.now step count result }
         ensures below { result < count };
 
     /// Choice word `k` of a step. It takes no memory, and refuses nothing.
     fn word(&self, step: u64, k: u32) -> u32
         requires few { k < 4096 }
+        requires may { may self.now }
         ensures given { gives self.now step k result };
 
     /// Each step has each word.
-    ghost told: { (script : Self) (step k : ℕ) → (word : ℕ) × gives script step k word };
+    ghost told: { (script : Self) → may script → IsTold (gives script) };
 }

@@ -35,8 +35,10 @@ struct Seeded {
 }
 
 impl Script for Seeded {
-    ghost use Rattle.std.specs.Prelude.{refl};
+    ghost use Rattle.std.specs.Prelude.{refl, ⊤};
     ghost use Rattle.seeded_runs.specs.Seeded.{word_by, Picks, Gives};
+
+    ghost may = { λ script. ⊤ };
 
     ghost picks = { λ script. Picks script.seed };
 
@@ -50,7 +52,7 @@ impl Script for Seeded {
         word(self.seed, step, k)
     }
 
-    ghost told = { λ script step k. (word_by script.seed step k, refl) };
+    ghost told = { λ script may step k. (word_by script.seed step k, refl) };
 }
 
 /// A run of at most so many steps by the script of the seed, in which a kind of unit may be favoured: a line for each step.

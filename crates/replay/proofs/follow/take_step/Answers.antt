@@ -27,6 +27,6 @@ returns g c =
     let needed = c.words_needed.result in
     let long : length given ≡ needed = c.fill.ensures.long ∙ length-take-le needed _ (omega (arith, c.words_needed.ensures.few)) in
     let listed = c.step.new.accesses.items in
-    steps_by_few _ _ (g.met.S.Script.told c.args.script.now) c.args.favoured c.args.step c.args.machine.now c.step.new.self units c.pick-place.result c.unit_at-unit.result needed given listed listed c.job_of-job.result c.line_of.result
+    steps_by_few _ _ (g.met.S.Script.told c.args.script.now c.requires.may) c.args.favoured c.args.step c.args.machine.now c.step.new.self units c.pick-place.result c.unit_at-unit.result needed given listed listed c.job_of-job.result c.line_of.result
     c.requires.goes chosen below (subst (λ n. g.S.Script.picks c.args.script.now c.args.step n c.pick-place.result) size picked) unit_is c.words_needed.ensures.most c.words_needed.ensures.enough long c.fill.ensures.given
     c.step.ensures refl c.job_of-job.ensures (c.line_of.ensures ∙ ap (line_of c.unit_at-unit.result c.job_of-job.result) c.as_slice.ensures.value)
