@@ -1,10 +1,12 @@
 /* starved FILE..: checks the job of each file as a driver's submission, its shaders made before and not, with an allocator of its own whose
  * first call fails, then its second, and so on, until none does. Each time but the last the call says so, and window and verdict are as they
- * were; and each time all that was taken is given back. Prints how many calls were made; status 0 where that holds for all. */
+ * were; and each time all that was taken is given back. Prints how many calls were made, and for each file how many bytes of memory and of stack
+ * a call takes at most, where it checks the shaders and where it knows them; status 0 where that holds for all. */
 #include <stdbool.h>
 #include <stdio.h>
 #include <stdlib.h>
 #include <string.h>
+#include <ucontext.h>
 #include "job_file.h"
 
 struct tried {
@@ -17,29 +19,45 @@ struct tried rattle_realloc(void *block, size_t kept, size_t size, size_t alignm
 void rattle_dealloc(void *block);
 
 static long left = -1, held; /* how many calls succeed before one fails, all where it is below 0; and how many blocks are held */
+static size_t held_bytes, most_bytes;
 
-static struct tried tried(void *block) {
+static struct tried tried(void *block, size_t size) {
     static char nothing[16];
-    return (struct tried){block != NULL, block ? block : nothing};
+    if (!block) return (struct tried){false, nothing};
+    *(size_t *)block = size;
+    held_bytes += size;
+    if (held_bytes > most_bytes) most_bytes = held_bytes;
+    return (struct tried){true, (char *)block + 16};
+}
+
+/* The bytes that a block was asked for stand 16 bytes before it. */
+static size_t forgotten(void *block) {
+    size_t size = *(size_t *)((char *)block - 16);
+    held_bytes -= size;
+    return size;
 }
 
 struct tried rattle_alloc(size_t size, size_t alignment) {
-    if (left == 0) return tried(NULL);
+    (void)alignment;
+    if (left == 0) return tried(NULL, 0);
     if (left > 0) left--;
     held++;
-    return tried(malloc(size ? size : alignment));
+    return tried(malloc(size + 16), size);
 }
 
 struct tried rattle_realloc(void *block, size_t kept, size_t size, size_t alignment) {
     (void)kept;
-    if (left == 0) return tried(NULL);
+    (void)alignment;
+    if (left == 0) return tried(NULL, 0);
     if (left > 0) left--;
-    return tried(realloc(block, size ? size : alignment));
+    forgotten(block);
+    return tried(realloc((char *)block - 16, size + 16), size);
 }
 
 void rattle_dealloc(void *block) {
     held--;
-    free(block);
+    forgotten(block);
+    free((char *)block - 16);
 }
 
 enum { ROOM = 1 << 22 };
@@ -47,6 +65,34 @@ static uint8_t bytes[1 << 25], window[ROOM], before[ROOM];
 static struct filled_submission filled;
 static struct vc4check_known known[1 << 16];
 static long calls;
+
+static uint8_t stack[1 << 16];
+static ucontext_t outside, inside;
+
+static void submit(void) {
+    struct vc4check_verdict verdict;
+    vc4check_submit(&filled.submission, window, ROOM, &verdict);
+}
+
+/* How many bytes of a stack of its own one call writes to. */
+static size_t stack_taken(void) {
+    size_t untouched = 0;
+    memset(stack, 0xa5, sizeof stack);
+    getcontext(&inside);
+    inside.uc_stack.ss_sp = stack;
+    inside.uc_stack.ss_size = sizeof stack;
+    inside.uc_link = &outside;
+    makecontext(&inside, submit, 0);
+    swapcontext(&outside, &inside);
+    while (untouched < sizeof stack && stack[untouched] == 0xa5) untouched++;
+    return sizeof stack - untouched;
+}
+
+static void tell(const char *name, const char *how) {
+    most_bytes = 0;
+    size_t of_stack = stack_taken();
+    printf("%s, %s: %zu bytes of memory, %zu of stack\n", name, how, most_bytes, of_stack);
+}
 
 /* Fails the allocator at each of its calls in turn. */
 static bool holds(void) {
@@ -87,12 +133,14 @@ int main(int count, char **words) {
         memset(before, 0x5a, ROOM);
         memset(window, 0x5a, ROOM);
         bool same = holds();
+        tell(words[i], "shaders checked");
         make_shaders();
         memset(window, 0x5a, ROOM);
         if (!same || !holds()) {
             printf("%s: not as it was\n", words[i]);
             return 1;
         }
+        tell(words[i], "shaders known");
     }
     printf("%ld calls\n", calls);
     return 0;
