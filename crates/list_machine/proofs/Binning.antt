@@ -7,7 +7,7 @@ use Rattle.machine_plan.specs.World.{mapped}
 use Rattle.packets.specs.Length.{bin_taken}
 use Rattle.machine_plan.proofs.{Memory.length-bytes_at, Reading.shows_read, Worlds.shows_mapped}
 use Rattle.list_machine.specs.State.{Access, Config, Coordinate, Free, Launch, Read, Who, Work, Write}
-use Rattle.list_machine.specs.Binner.{started, clear_plan, packet_plan, read_plan, fetched_with, started_with, one_done, not_due, item_plan, work_plan, binner_plan, binner_by}
+use Rattle.list_machine.specs.Binner.{started, clear_plan, packet_plan, read_plan, fetched_with, started_with, next_plan, due_plan, one_done, not_due, item_plan, work_plan, binner_plan, binner_by}
 use Rattle.list_machine.specs.{Lists.Lists, Lists.Turned, Lists.quiet, Lists.turned_to, Lists.with_work, Lists.past, Fetch.fetch_plan}
 use Rattle.list_machine.specs.{Start.start_plan, Blocks.tiles_of, Blocks.zeros}
 use Rattle.list_machine.proofs.{Putting.length-zeros, Steps.first_byte}
@@ -47,25 +47,25 @@ read_shows who s passed next m packet place len before listed after memory tame 
 
 -- a program that was due has started
 pub due_shows : (who : Who) (s after : Lists) (w rested : Work) (free : Free) (m : List ℕ) (before listed : List Access) (launch : Option Launch) → Shows (carried who (start_plan Coordinate free w.word) m) before listed m (Some launch) → rested ≡ not_due w → after ≡ with_work s (Some rested)
-    → Shows (carried who (mapped (started_with s w) (start_plan Coordinate free w.word)) m) before listed m (Some (turned_to after launch))
+    → Shows (carried who (due_plan s w free) m) before listed m (Some (turned_to after launch))
 due_shows who s after w rested free m before listed launch shows rested_is after_is =
     let same : started_with s w launch ≡ turned_to after launch = ap (λ l. turned_to l launch) (sym (after_is ∙ ap (λ r. with_work s (Some r)) rested_is)) in
-    subst (λ t. Shows (carried who (mapped (started_with s w) (start_plan Coordinate free w.word)) m) before listed m (Some t)) same (shows_mapped (started_with s w) who (start_plan Coordinate free w.word) m before listed m (Some launch) shows)
+    subst (λ t. Shows (carried who (due_plan s w free) m) before listed m (Some t)) same (shows_mapped (started_with s w) who (start_plan Coordinate free w.word) m before listed m (Some launch) shows)
 
 -- the next vertex was fetched
 pub fetch_shows : (who : Who) (s after : Lists) (w more : Work) (m : List ℕ) (before listed : List Access) (index : ℕ) → Shows (carried who (fetch_plan w.primitive w.word w.done) m) before listed m (Some index) → more ≡ one_done w → after ≡ with_work s (Some more)
-    → Shows (carried who (mapped (fetched_with s w) (fetch_plan w.primitive w.word w.done)) m) before listed m (Some (quiet after))
+    → Shows (carried who (next_plan s w) m) before listed m (Some (quiet after))
 fetch_shows who s after w more m before listed index shows more_is after_is =
     let same : fetched_with s w index ≡ quiet after = ap quiet (sym (after_is ∙ ap (λ r. with_work s (Some r)) more_is)) in
-    subst (λ t. Shows (carried who (mapped (fetched_with s w) (fetch_plan w.primitive w.word w.done)) m) before listed m (Some t)) same (shows_mapped (fetched_with s w) who (fetch_plan w.primitive w.word w.done) m before listed m (Some index) shows)
+    subst (λ t. Shows (carried who (next_plan s w) m) before listed m (Some t)) same (shows_mapped (fetched_with s w) who (fetch_plan w.primitive w.word w.done) m before listed m (Some index) shows)
 
 work_is : (s : Lists) (w : Work) (free : Free) (words : List ℕ) (due more : Bool) → w.due ≡ due → nat_lt w.done w.primitive.length ≡ more
-    → work_plan s w free words ≡ (if due then mapped (started_with s w) (start_plan Coordinate free w.word)
-    else (if more then mapped (fetched_with s w) (fetch_plan w.primitive w.word w.done) else mapped quiet (item_plan s s.binner.kept.config w words)))
+    → work_plan s w free words ≡ (if due then due_plan s w free
+    else (if more then next_plan s w else mapped quiet (item_plan s s.binner.kept.config w words)))
 unfolding work_plan
 work_is s w free words due more due_is more_is =
-    ap (λ b. if b then mapped (started_with s w) (start_plan Coordinate free w.word) else (if nat_lt w.done w.primitive.length then mapped (fetched_with s w) (fetch_plan w.primitive w.word w.done) else mapped quiet (item_plan s s.binner.kept.config w words))) due_is
-    ∙ ap (λ b. if due then mapped (started_with s w) (start_plan Coordinate free w.word) else (if b then mapped (fetched_with s w) (fetch_plan w.primitive w.word w.done) else mapped quiet (item_plan s s.binner.kept.config w words))) more_is
+    ap (λ b. if b then due_plan s w free else (if nat_lt w.done w.primitive.length then next_plan s w else mapped quiet (item_plan s s.binner.kept.config w words))) due_is
+    ∙ ap (λ b. if due then due_plan s w free else (if b then next_plan s w else mapped quiet (item_plan s s.binner.kept.config w words))) more_is
 
 -- an item was put
 pub item_shows : (who : Who) (s after : Lists) (w : Work) (free : Free) (words m : List ℕ) (before listed : List Access) (memory : List ℕ) → w.due ≡ false → w.primitive.length ≤ w.done → Shows (carried who (item_plan s s.binner.kept.config w words) m) before listed memory (Some after)

@@ -7,7 +7,7 @@ use Rattle.machine_plan.specs.{Memory.bytes_at, Plan.Plan, Plan.Done, Plan.Reads
 use Rattle.machine_plan.specs.World.{followed}
 use Rattle.machine_plan.proofs.Reading.{IsLeft, left_first, left_done, shows_read}
 use Rattle.machine_plan.proofs.Joining.{left_followed, shows_followed}
-use Rattle.list_machine.specs.Fetch.{index_size, index_in, index_plan, attribute_place, extension_place, data_plan, extended_plan, attribute_plan, attributes_plan, indexed_plan, fetch_plan}
+use Rattle.list_machine.specs.Fetch.{index_size, index_in, index_plan, attribute_place, extension_place, data_plan, extended_plan, attribute_plan, attributes_plan, all_attributes_plan, indexed_plan, fetch_plan}
 use Rattle.list_machine.specs.State.{Access, Primitive, Read, Who}
 
 pub data_limit : (address index stride : ℕ) → address < 2 ^ 32 → index < 2 ^ 32 → stride < 2 ^ 32 → address + index * stride < 2 ^ 64
@@ -20,7 +20,7 @@ data_limit address index stride low few near =
 -- what the fetch of all attributes has left to do from attribute t on
 abbrev pub AttributesLeft : Who → ℕ → ℕ → List ℕ → List Access → List Access → ℕ → Type 0
 AttributesLeft who word index m before now t =
-    IsLeft (carried who (attributes_plan word 0 (attribute_count word) index) m) (carried who (attributes_plan word t (attribute_count word - t) index) m) before now
+    IsLeft (carried who (all_attributes_plan word index) m) (carried who (attributes_plan word t (attribute_count word - t) index) m) before now
 
 attributes_suc : (word t count index : ℕ) → t < count → attributes_plan word t (count - t) index ≡ followed (attribute_plan word index t) (attributes_plan word (t + 1) (count - (t + 1)))
 unfolding attributes_plan
@@ -31,24 +31,24 @@ attributes_suc word t count index below =
 pub attributes_begin : (who : Who) (word index : ℕ) (m : List ℕ) (before : List Access) → AttributesLeft who word index m before before 0
 attributes_begin who word index m before =
     let all : attribute_count word - 0 ≡ attribute_count word = omega arith in
-    let whole : Outcome ℕ = carried who (attributes_plan word 0 (attribute_count word) index) m in
+    let whole : Outcome ℕ = carried who (all_attributes_plan word index) m in
     subst (λ n. IsLeft whole (carried who (attributes_plan word 0 n index) m) before before) (sym all) (left_first whole before)
 
 pub attributes_more : (who : Who) (word index : ℕ) (m : List ℕ) (before now listed : List Access) (t : ℕ) → t < attribute_count word → Shows (carried who (attribute_plan word index t) m) now listed m (Some index)
     → AttributesLeft who word index m before now t → AttributesLeft who word index m before listed (t + 1)
 attributes_more who word index m before now listed t below shows left =
     let count = attribute_count word in
-    let whole : Outcome ℕ = carried who (attributes_plan word 0 count index) m in
+    let whole : Outcome ℕ = carried who (all_attributes_plan word index) m in
     let here : IsLeft whole (carried who (followed (attribute_plan word index t) (attributes_plan word (t + 1) (count - (t + 1)))) m) before now =
     subst (λ plan. IsLeft whole (carried who plan m) before now) (attributes_suc word t count index below) left in
     left_followed who (attribute_plan word index t) (attributes_plan word (t + 1) (count - (t + 1))) m m whole before now listed index here shows
 
 pub attributes_end : (who : Who) (word index : ℕ) (m : List ℕ) (before now : List Access) (t : ℕ) → attribute_count word ≤ t → AttributesLeft who word index m before now t
-    → Shows (carried who (attributes_plan word 0 (attribute_count word) index) m) before now m (Some index)
+    → Shows (carried who (all_attributes_plan word index) m) before now m (Some index)
 unfolding attributes_plan
 attributes_end who word index m before now t all left =
     let count = attribute_count word in
-    let whole : Outcome ℕ = carried who (attributes_plan word 0 count index) m in
+    let whole : Outcome ℕ = carried who (all_attributes_plan word index) m in
     let none : count - t ≡ 0 = omega (arith, all) in
     left_done who index m whole before now (subst (λ n. IsLeft whole (carried who (attributes_plan word t n index) m) before now) none left)
 

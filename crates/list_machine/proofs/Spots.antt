@@ -1,8 +1,8 @@
 -- The spots of tiles as items are put to the others.
 use Rattle.std.proofs.Common.{◌≡◌, ◌≤◌, ◌<◌, ℕ, zero, suc, ◌+◌, ◌==◌, Bool, true, false, List, [], ◌∷◌, ◌++◌, length, replicate, slice_set, slice_index_or, refl, sym, ◌∙◌, ap, subst, arith, if◌then◌else◌}
 use Rattle.std.proofs.{lemmas.Bool.Decides.nat_tests, lemmas.List.length-replicate, lemmas.Grind.common_steps}
-use Rattle.list_machine.specs.{State.Item, State.Spot, Blocks.spotted, Blocks.one_more, Blocks.spot_in, Blocks.spot_of, Blocks.no_spot}
-use Rattle.list_machine.specs.Spots.{most_tiles, AreSpotsOf}
+use Rattle.list_machine.specs.Blocks.{spotted, one_more, spot_in, spot_of, no_spot, most_tiles, AreSpotsOf}
+use Rattle.list_machine.specs.State.{Item, Spot}
 
 -- a tile has at most all items
 count_more : (here : Bool) (spot : Spot) (place : ℕ) → (if here then one_more spot place else spot).count ≤ spot.count + 1

@@ -95,12 +95,18 @@ one_done w = record w { done = w.done + 1; due = is_due w (w.done + 1) }
 abbrev pub fetched_with : Lists → Work → ℕ → Turned
 fetched_with s w index = quiet (with_work s (Some (one_done w)))
 
+abbrev pub next_plan : Lists → Work → Plan Turned
+next_plan s w = mapped (fetched_with s w) (fetch_plan w.primitive w.word w.done)
+
 -- the program that was due starts
 unfoldable pub not_due : Work → Work
 not_due w = record w { due = false }
 
 abbrev pub started_with : Lists → Work → Option Launch → Turned
 started_with s w launch = turned_to (with_work s (Some (not_due w))) launch
+
+abbrev pub due_plan : Lists → Work → Free → Plan Turned
+due_plan s w free = mapped (started_with s w) (start_plan Coordinate free w.word)
 
 -- Choice word 0 names the tile that gets an item, or says that the primitive is done.
 unfoldable pub chosen_tile : Config → List ℕ → ℕ
@@ -117,9 +123,8 @@ item_plan s (Some c) w words = tile_plan s c w (chosen_tile c words)
 -- put on a tile.
 unfoldable pub work_plan : Lists → Work → Free → List ℕ → Plan Turned
 work_plan s w free words =
-    if w.due then mapped (started_with s w) (start_plan Coordinate free w.word)
-    else (if nat_lt w.done w.primitive.length then mapped (fetched_with s w) (fetch_plan w.primitive w.word w.done)
-    else mapped quiet (item_plan s s.binner.kept.config w words))
+    if w.due then due_plan s w free
+    else (if nat_lt w.done w.primitive.length then next_plan s w else mapped quiet (item_plan s s.binner.kept.config w words))
 
 abbrev pub binner_by : Lists → Option Work → Free → List ℕ → Plan Turned
 binner_by s None free words = mapped quiet (read_plan s)

@@ -3,7 +3,7 @@
 -- Tile t has the 32 bytes at the allocation's address plus 32t for its first item. Further items lie in
 -- blocks of 128 bytes, seven in each, which tiles take as they need them. An item has 16 bytes; the last
 -- 16 bytes of a block link to the tile's next one.
-use Rattle.std.specs.Prelude.{ℕ, ◌+◌, ◌*◌, ◌%◌, ◌==◌, nat_le, Bool, if◌then◌else◌, List, [], ◌∷◌, replicate}
+use Rattle.std.specs.Prelude.{◌≡◌, ◌<◌, ℕ, ◌+◌, ◌*◌, ◌%◌, ◌==◌, nat_le, Bool, if◌then◌else◌, List, [], ◌∷◌, length, replicate, slice_index_or}
 use Rattle.field_words.specs.Words.{rounded_up}
 use Rattle.machine_plan.specs.Plan.{Plan, Done, Writes}
 use Rattle.list_machine.specs.{State.Config, State.Item, State.Spot, State.Work, Lists.Lists, Lists.with_item, Lists.with_block}
@@ -43,6 +43,15 @@ spot_in tile spot (item ∷ items) = spot_in tile (spotted tile spot item) items
 
 abbrev pub spot_of : ℕ → List Item → Spot
 spot_of tile items = spot_in tile no_spot items
+
+-- as many tiles as a grid may have, and the one behind them
+abbrev pub most_tiles : ℕ
+most_tiles = 65026
+
+-- what is kept of each tile's list beside the items of all lists
+pub record AreSpotsOf (items : List Item) (spots : List Spot) : Type 0 where
+  pub long : length spots ≡ most_tiles
+  pub each : (tile : ℕ) → tile < most_tiles → slice_index_or spots tile no_spot ≡ spot_of tile items
 
 -- the first block is full with one item, and each further one with seven
 unfoldable pub is_full : Spot → Bool

@@ -64,9 +64,13 @@ unfoldable pub attributes_plan : ℕ → ℕ → ℕ → ℕ → Plan ℕ
 attributes_plan word t zero index = Done index
 attributes_plan word t (suc n) index = followed (attribute_plan word index t) (attributes_plan word (t + 1) n)
 
+-- all attributes of a vertex
+abbrev pub all_attributes_plan : ℕ → ℕ → Plan ℕ
+all_attributes_plan word index = attributes_plan word 0 (attribute_count word) index
+
 -- what is done with the index
 unfoldable pub indexed_plan : Primitive → ℕ → ℕ → Plan ℕ
-indexed_plan p word index = if draws_nothing p index then Done index else attributes_plan word 0 (attribute_count word) index
+indexed_plan p word index = if draws_nothing p index then Done index else all_attributes_plan word index
 
 -- Vertex k of a primitive with this state word is fetched. It comes to the vertex's index.
 unfoldable pub fetch_plan : Primitive → ℕ → ℕ → Plan ℕ

@@ -105,12 +105,17 @@ abbrev pub AreNear : ℕ → List Item → Type 0
 AreNear n [] = Unit {0}
 AreNear n (item ∷ items) = (item.place ≤ 2 ^ 34 + 16 * n) × AreNear (n + 1) items
 
+-- the semaphore may be asked for once more, by the packet that the binner is just past
+abbrev pub MayIncrement : Lists → Type 0
+MayIncrement s = (s.pending + s.semaphore < s.binner.place) × (s.pending + s.semaphore < s.binner.end)
+
 -- The numbers that are kept stay small: a list ends below 2^33, a unit goes at most one packet past
 -- its list's end, and the semaphore is raised at most once a packet.
 pub record IsNear (s : Lists) : Type 0 where
   pub binner_end : s.binner.end < 2 ^ 33
   pub binner_place : s.binner.place ≤ s.binner.end + 16
   pub counted : s.pending + s.semaphore ≤ s.binner.place
+  pub ended : s.pending + s.semaphore ≤ s.binner.end
   pub renderer_end : s.renderer.end < 2 ^ 33
   pub renderer_place : s.renderer.place ≤ s.renderer.end + 16
   pub blocks : s.blocks ≤ 2 ^ 25

@@ -1,10 +1,20 @@
 -- Loads and stores of surfaces.
 use Rattle.std.specs.Prelude.{ℕ, Bool, ◌==◌, ◌-◌, ◌%◌, if◌then◌else◌, List, Option, Some, None}
 use Rattle.field_words.specs.Words.{bits_of}
-use Rattle.machine_plan.specs.Plan.{Plan, Wilds, Reads, Writes}
-use Rattle.list_machine.specs.{State.Cover, State.Frame, State.Full, State.General, State.Load, Store.chosen}
+use Rattle.arrayvec.specs.ArrayVec.{ArrayVec}
+use Rattle.machine_plan.specs.{Plan.Plan, Plan.Done, Plan.Wilds, Plan.Reads, Plan.Writes, Turn.Carries, Turn.CarriesAnywhere, Turn.if_tame}
+use Rattle.list_machine.specs.State.{Access, Cover, Frame, Full, General, Load, Who}
+use Rattle.list_machine.specs.{Lists.Lists, Store.chosen}
 use Rattle.list_machine.specs.Cover.{cover_for, part_count, parts_written, parts_read}
 use Rattle.texture_layouts.specs.Format.{general_style, frame_style}
+
+-- Code has carried out a store, tame or wild, and came to whatever is next: it left this memory as that, and listed the accesses.
+abbrev pub Stores : Who → (Plan Lists → Plan Lists) → (memory left : List ℕ) → (before after : ArrayVec Access) → Bool → Type 0
+Stores who store memory left before after tame = (s : Lists) → Carries who (store (Done s)) memory left before after (if_tame tame s)
+
+-- the same of a load, over any memory
+abbrev pub Loads : Who → (Plan Lists → Plan Lists) → (before after : ArrayVec Access) → Bool → Type 0
+Loads who load before after tame = (s : Lists) → CarriesAnywhere who (load (Done s)) before after (if_tame tame s)
 
 -- all parts of a cover are written, or read; without a cover that is wild
 unfoldable pub cover_written : {R : Type 0} → Option Cover → List ℕ → Plan R → Plan R

@@ -5,13 +5,9 @@ ghost use Rattle.packets.specs.Length.{bin_length, bin_taken};
 ghost use Rattle.packets.specs.Opcode.{tile_binning_mode, gl_shader_state, indexed_primitive_list, array_primitive_list};
 ghost use Rattle.machine_plan.specs.Glance.{Now};
 ghost use Rattle.machine_plan.specs.Turn.{Carries, CarriesOver, if_tame};
-ghost use Rattle.machine_plan.specs.World.{mapped};
-ghost use Rattle.list_machine.specs.Lists.{binner_of, turned_to, quiet, binner_ended, with_work, most_items};
+ghost use Rattle.list_machine.specs.Lists.{binner_of, turned_to, quiet, binner_ended, with_work, most_items, MayIncrement};
 ghost use Rattle.list_machine.specs.Blocks.{has_room};
-ghost use Rattle.list_machine.specs.Fetch.{fetch_plan};
-ghost use Rattle.list_machine.specs.Start.{start_plan};
-ghost use Rattle.list_machine.specs.State.{Coordinate};
-ghost use Rattle.list_machine.specs.Binner.{configured, with_word, started, clear_plan, begin_plan, primitive_of, work_of, drawn, draw_plan, halted, is_unknown, packet_plan, read_plan, is_due, one_done, fetched_with, not_due, started_with, chosen_tile, tile_plan, item_plan, work_plan, binner_by, binner_plan, item_may, work_may, binner_may, binner_ready, has_binner_work};
+ghost use Rattle.list_machine.specs.Binner.{configured, with_word, started, clear_plan, begin_plan, primitive_of, work_of, drawn, draw_plan, halted, is_unknown, packet_plan, read_plan, is_due, one_done, next_plan, not_due, due_plan, chosen_tile, tile_plan, item_plan, work_plan, binner_by, binner_plan, item_may, work_may, binner_may, binner_ready, has_binner_work};
 
 use crate::blocks::{has_room, tiles_of, write_zeros};
 use crate::fetch::fetch_vertex;
@@ -190,7 +186,8 @@ impl JobLists {
     // then it is wild.
     fn begin(&mut self, who: Who, memory: &mut PhysMem, accesses: &mut Accesses) -> bool
         requires { array_vec_len accesses.old < 272 }
-        ensures shows { Carries who (begin_plan self.old self.old.binner.kept.config) memory.old memory.new accesses.old accesses.new (if_tame result self.new) }
+        ensures shows { Carries who (begin_plan self.old self.old.binner.kept.config)
+            memory.old memory.new accesses.old accesses.new (if_tame result self.new) }
         ensures wild { result ≡ false → self.new ≡ self.old }
     {
         match self.binner().kept.config {
@@ -237,10 +234,10 @@ impl JobLists {
         accesses: &mut Accesses,
     ) -> bool
         requires length { length packet.now ≡ bin_taken (slice_index packet.now 0) }
-        requires place { self.old.pending + self.old.semaphore < self.old.binner.place }
-        requires end { self.old.pending + self.old.semaphore < self.old.binner.end }
+        requires may { MayIncrement self.old }
         requires room { array_vec_len accesses.old < 271 }
-        ensures shows { Carries who (packet_plan self.old packet.now) memory.old memory.new accesses.old accesses.new (if_tame result self.new) }
+        ensures shows { Carries who (packet_plan self.old packet.now)
+            memory.old memory.new accesses.old accesses.new (if_tame result self.new) }
         ensures wild { result ≡ false → self.new ≡ self.old }
     {
         let opcode = packet[0];
@@ -291,7 +288,8 @@ impl JobLists {
         accesses: &mut Accesses,
     ) -> Option<Launch>
         requires { array_vec_len accesses.old < 240 }
-        ensures shows { CarriesOver who (mapped (started_with self.old work.now) (start_plan Coordinate free.now work.now.word)) memory.now accesses.old accesses.new (Some (turned_to self.new result)) }
+        ensures shows { CarriesOver who (due_plan self.old work.now free.now)
+            memory.now accesses.old accesses.new (Some (turned_to self.new result)) }
     {
         let launch = start_program(Program::Coordinate, free, work.word, who, memory, accesses);
         self.set_work(Some(not_due(work)));
@@ -302,7 +300,7 @@ impl JobLists {
     fn fetch_next(&mut self, work: &Work, who: Who, memory: &PhysMem, accesses: &mut Accesses)
         requires more { work.now.done < work.now.primitive.length }
         requires room { array_vec_len accesses.old < 240 }
-        ensures shows { CarriesOver who (mapped (fetched_with self.old work.now) (fetch_plan work.now.primitive work.now.word work.now.done)) memory.now accesses.old accesses.new (Some (quiet self.new)) }
+        ensures shows { CarriesOver who (next_plan self.old work.now) memory.now accesses.old accesses.new (Some (quiet self.new)) }
     {
         fetch_vertex(&work.primitive, work.word, work.done, who, memory, accesses);
         self.set_work(Some(one_done(work)));
@@ -322,7 +320,8 @@ impl JobLists {
         requires few { length self.old.items < most_items }
         requires blocks { self.old.blocks < 2 ^ 25 }
         requires room { array_vec_len accesses.old < 240 }
-        ensures shows { Carries who (tile_plan self.old config.now work.now (chosen_tile config.now words.now)) memory.old memory.new accesses.old accesses.new (Some self.new) }
+        ensures shows { Carries who (tile_plan self.old config.now work.now (chosen_tile config.now words.now))
+            memory.old memory.new accesses.old accesses.new (Some self.new) }
     {
         let tile = chosen_tile(config, words);
         if tile == tiles_of(config) {
@@ -344,7 +343,8 @@ impl JobLists {
     )
         requires may { item_may self.old self.old.binner.kept.config ≡ true }
         requires room { array_vec_len accesses.old < 240 }
-        ensures shows { Carries who (item_plan self.old self.old.binner.kept.config work.now words.now) memory.old memory.new accesses.old accesses.new (Some self.new) }
+        ensures shows { Carries who (item_plan self.old self.old.binner.kept.config work.now words.now)
+            memory.old memory.new accesses.old accesses.new (Some self.new) }
     {
         match self.binner().kept.config {
             None => {}
@@ -365,7 +365,8 @@ impl JobLists {
     ) -> Option<Launch>
         requires may { work_may self.old work.now free.now ≡ true }
         requires room { array_vec_len accesses.old < 240 }
-        ensures shows { Carries who (work_plan self.old work.now free.now words.now) memory.old memory.new accesses.old accesses.new (Some (turned_to self.new result)) }
+        ensures shows { Carries who (work_plan self.old work.now free.now words.now)
+            memory.old memory.new accesses.old accesses.new (Some (turned_to self.new result)) }
     {
         if work.due {
             self.start_due(work, free, who, memory, accesses)
@@ -439,7 +440,8 @@ impl JobLists {
     ) -> Option<Option<Launch>>
         requires ready { binner_ready self.old free.now ≡ Now true }
         requires room { array_vec_len accesses.old < 240 }
-        ensures shows { Carries (binner_of job) (binner_plan self.old free.now words.now) memory.old memory.new accesses.old accesses.new (option_map (turned_to self.new) result) }
+        ensures shows { Carries (binner_of job) (binner_plan self.old free.now words.now)
+            memory.old memory.new accesses.old accesses.new (option_map (turned_to self.new) result) }
         ensures wild { result ≡ None → self.new ≡ binner_ended self.old }
     {
         let who = Who {

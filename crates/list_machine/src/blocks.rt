@@ -112,7 +112,8 @@ impl JobLists {
         requires few { length self.old.items < most_items }
         requires near { place ≤ 2 ^ 34 + 16 * length self.old.items }
         requires room { array_vec_len accesses.old < 272 }
-        ensures shows { Carries who (put_here self.old work.now tile place) memory.old memory.new accesses.old accesses.new (Some self.new) }
+        ensures shows { Carries who (put_here self.old work.now tile place)
+            memory.old memory.new accesses.old accesses.new (Some self.new) }
         ensures len { array_vec_len accesses.new ≡ array_vec_len accesses.old + 1 }
     {
         write_zeros(place, 16, who, memory, accesses);
@@ -139,7 +140,8 @@ impl JobLists {
         requires few { length self.old.items < most_items }
         requires blocks { self.old.blocks < 2 ^ 25 }
         requires room { array_vec_len accesses.old < 270 }
-        ensures shows { Carries who (put_plan self.old config.now work.now tile (spot_of tile self.old.items)) memory.old memory.new accesses.old accesses.new (Some self.new) }
+        ensures shows { Carries who (put_plan self.old config.now work.now tile (spot_of tile self.old.items))
+            memory.old memory.new accesses.old accesses.new (Some self.new) }
         ensures len { array_vec_len accesses.new ≤ array_vec_len accesses.old + 2 }
     {
         let spot = self.spot(tile);

@@ -3,7 +3,7 @@ ghost use Rattle.std.specs.Prelude.{◌≡◌, ◌≤◌, ◌<◌, ◌+◌, ◌*
 ghost use Rattle.arrayvec.specs.ArrayVec.{array_vec_len};
 ghost use Rattle.packets.specs.StateWord.{attribute_count, is_extended};
 ghost use Rattle.machine_plan.specs.Turn.{CarriesOver};
-ghost use Rattle.list_machine.specs.Fetch.{index_size, index_in, index_plan, draws_nothing, record_place, attribute_place, extension_place, data_size, stride_of, data_place, data_plan, extended_plan, attribute_plan, attributes_plan, indexed_plan, fetch_plan};
+ghost use Rattle.list_machine.specs.Fetch.{index_size, index_in, index_plan, draws_nothing, record_place, attribute_place, extension_place, data_size, stride_of, data_place, data_plan, extended_plan, attribute_plan, all_attributes_plan, indexed_plan, fetch_plan};
 
 use crate::reads::{read_listed, read_word};
 use crate::state::Primitive;
@@ -211,7 +211,7 @@ fn fetch_attribute(
 #[tactic(auto, using(crate::proofs::Fetching::attributes_begin, crate::proofs::Fetching::attributes_more, crate::proofs::Fetching::attributes_end))]
 fn fetch_attributes(word: u32, index: u32, who: Who, memory: &PhysMem, accesses: &mut Accesses)
     requires { array_vec_len accesses.old < 241 }
-    ensures shows { CarriesOver who (attributes_plan word 0 (attribute_count word) index) memory.now accesses.old accesses.new (Some index) }
+    ensures shows { CarriesOver who (all_attributes_plan word index) memory.now accesses.old accesses.new (Some index) }
     ensures len { array_vec_len accesses.new ≤ array_vec_len accesses.old + 24 }
 {
     for t in 0..attribute_count(word) {

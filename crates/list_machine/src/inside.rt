@@ -53,7 +53,8 @@ fn start_item(
     accesses: &mut Accesses,
 ) -> Option<Launch>
     requires { array_vec_len accesses.old ≤ 8 }
-    ensures { (s : Lists) → CarriesOver who (program_plan s program free.now item.now) memory.now accesses.old accesses.new (Some (turned_to s result)) }
+    ensures { (s : Lists) → CarriesOver who (program_plan s program free.now item.now)
+        memory.now accesses.old accesses.new (Some (turned_to s result)) }
 {
     start_program(program, free, item.word, who, memory, accesses)
 }
@@ -80,7 +81,8 @@ impl JobLists {
     ) -> Option<Launch>
         requires near { found.now.number < most_items }
         requires room { array_vec_len accesses.old ≤ 8 }
-        ensures { CarriesOver who (choice_plan self.old free.now words.now sub found.now) memory.now accesses.old accesses.new (Some (turned_to self.new result)) }
+        ensures { CarriesOver who (choice_plan self.old free.now words.now sub found.now)
+            memory.now accesses.old accesses.new (Some (turned_to self.new result)) }
     {
         let choice = choice_word(words, 0) % 4;
         if choice == 3 {
@@ -112,7 +114,8 @@ impl JobLists {
     ) -> Option<Launch>
         requires near { IfSome found (λ one. one.number < most_items) }
         requires room { array_vec_len accesses.old ≤ 4 }
-        ensures { CarriesOver who (found_plan self.old free.now words.now sub found) memory.now accesses.old accesses.new (Some (turned_to self.new result)) }
+        ensures { CarriesOver who (found_plan self.old free.now words.now sub found)
+            memory.now accesses.old accesses.new (Some (turned_to self.new result)) }
     {
         match found {
             None => {
@@ -137,7 +140,8 @@ impl JobLists {
         accesses: &mut Accesses,
     ) -> Option<Launch>
         requires { array_vec_len accesses.old ≤ 4 }
-        ensures { CarriesOver who (plan_in self.old free.now words.now (Some sub)) memory.now accesses.old accesses.new (Some (turned_to self.new result)) }
+        ensures { CarriesOver who (plan_in self.old free.now words.now (Some sub))
+            memory.now accesses.old accesses.new (Some (turned_to self.new result)) }
     {
         let found = find_item(self.items(), sub);
         self.take_found(sub, found, free, words, who, memory, accesses)
@@ -154,7 +158,8 @@ impl JobLists {
     ) -> bool
         requires below { self.old.renderer.place < self.old.renderer.end }
         requires room { array_vec_len accesses.old ≤ 4 }
-        ensures shows { Carries who (plan_in self.old free.now words.now None) memory.old memory.new accesses.old accesses.new (if_tame result (quiet self.new)) }
+        ensures shows { Carries who (plan_in self.old free.now words.now None)
+            memory.old memory.new accesses.old accesses.new (if_tame result (quiet self.new)) }
         ensures wild { result ≡ false → self.new ≡ renderer_ended self.old }
     {
         self.take_packet(words, who, memory, accesses)
@@ -193,7 +198,8 @@ impl JobLists {
     ) -> Option<Option<Launch>>
         requires ready { glanced (renderer_ready self.old) memory.old ≡ true }
         requires room { array_vec_len accesses.old ≤ 4 }
-        ensures shows { Carries (renderer_of job) (renderer_plan self.old free.now words.now) memory.old memory.new accesses.old accesses.new (option_map (turned_to self.new) result) }
+        ensures shows { Carries (renderer_of job) (renderer_plan self.old free.now words.now)
+            memory.old memory.new accesses.old accesses.new (option_map (turned_to self.new) result) }
         ensures wild { result ≡ None → self.new ≡ renderer_ended self.old }
     {
         let who = Who {

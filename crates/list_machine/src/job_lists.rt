@@ -1,6 +1,6 @@
 //! What the list units of one job keep, as a whole.
 ghost use Rattle.std.specs.Prelude.{◌≡◌, ◌≤◌, ◌<◌, ◌+◌, ◌*◌, ◌^◌, ◌++◌, ◌∷◌, [], length, IfOk};
-ghost use Rattle.list_machine.specs.Lists.{lists_start, with_kept, with_work, with_place, past, incremented, flushed, with_taken, with_item, with_block, binner_ended, renderer_ended, most_items, AreNear};
+ghost use Rattle.list_machine.specs.Lists.{lists_start, with_kept, with_work, with_place, past, incremented, flushed, with_taken, with_item, with_block, binner_ended, renderer_ended, most_items, AreNear, MayIncrement};
 ghost use Rattle.list_machine.specs.Renderer.{beyond, with_frame, with_load, at_tile, with_inside};
 ghost use Rattle.list_machine.specs.Blocks.{spot_of};
 
@@ -37,7 +37,7 @@ impl Model for JobLists {
     ghost use Rattle.std.specs.Prelude.{◌≤◌};
     ghost use Rattle.std.specs.Vec.{vec_capacity};
     ghost use Rattle.list_machine.specs.Lists.{Lists, IsNear, most_items};
-    ghost use Rattle.list_machine.specs.Spots.{AreSpotsOf};
+    ghost use Rattle.list_machine.specs.Blocks.{AreSpotsOf};
 
     ghost Value = { Lists };
 
@@ -219,15 +219,13 @@ impl JobLists {
         requires some { 1 ≤ len }
         requires few { len ≤ 16 }
         ensures value { self.new ≡ past self.old len }
-        ensures place { self.new.pending + self.new.semaphore < self.new.binner.place }
-        ensures end { self.new.pending + self.new.semaphore < self.new.binner.end }
+        ensures may { MayIncrement self.new }
     {
         self.binner.place += len as u64;
     }
 
     /// Goes to the end of the binner's list.
     pub(crate) fn halt(&mut self)
-        requires { self.old.pending + self.old.semaphore ≤ self.old.binner.end }
         ensures { self.new ≡ with_place self.old self.old.binner.end }
     {
         self.binner.place = self.binner.end;
@@ -235,7 +233,6 @@ impl JobLists {
 
     /// Ends the binner's work.
     pub(crate) fn end_binner(&mut self)
-        requires { self.old.pending + self.old.semaphore ≤ self.old.binner.end }
         ensures { self.new ≡ binner_ended self.old }
     {
         self.binner.place = self.binner.end;
@@ -244,7 +241,7 @@ impl JobLists {
 
     /// The semaphore is to be raised once more.
     pub(crate) fn increment(&mut self)
-        requires { self.old.pending + self.old.semaphore < self.old.binner.place }
+        requires { MayIncrement self.old }
         ensures { self.new ≡ incremented self.old }
     {
         self.pending += 1;

@@ -1,15 +1,12 @@
 //! The accesses of loads and stores.
-ghost use Rattle.std.specs.Prelude.{◌≡◌, ◌+◌, ◌*◌, ◌/◌, ◌≤◌, ◌<◌, ◌^◌, true, length, Some, IfSome, flat_map};
+ghost use Rattle.std.specs.Prelude.{◌≡◌, ◌+◌, ◌*◌, ◌/◌, ◌≤◌, ◌<◌, ◌^◌, true, length, IfSome, flat_map};
 ghost use Rattle.byteorder.specs.Endian.{little_bytes};
 ghost use Rattle.field_words.specs.Writes.{with_bytes};
 ghost use Rattle.arrayvec.specs.ArrayVec.{array_vec_len};
 ghost use Rattle.machine_plan.specs.Memory.{stored};
-ghost use Rattle.machine_plan.specs.Plan.{Done};
-ghost use Rattle.machine_plan.specs.Turn.{Carries, CarriesAnywhere, if_tame};
 ghost use Rattle.list_machine.specs.Store.{chosen_byte, chosen};
 ghost use Rattle.list_machine.specs.Cover.{IsSmall, part_count, part_place, parts_written, parts_read};
-ghost use Rattle.list_machine.specs.Surfaces.{aligned, names_none, whole_written, whole_read, cover_written, cover_read, general_written, general_read, frame_written, load_read, waiting_read};
-ghost use Rattle.list_machine.specs.Lists.{Lists};
+ghost use Rattle.list_machine.specs.Surfaces.{Stores, Loads, aligned, names_none, whole_written, whole_read, cover_written, cover_read, general_written, general_read, frame_written, load_read, waiting_read};
 
 use crate::cover::{cover_for, part_count, part_place};
 use crate::reads::end_wild;
@@ -124,7 +121,7 @@ fn write_parts(
 )
     requires small { IsSmall cover.now }
     requires room { array_vec_len accesses.old ≤ 8 }
-    ensures { (r : Lists) → Carries who (parts_written cover.now words.now 0 (part_count cover.now) (Done r)) memory.old memory.new accesses.old accesses.new (Some r) }
+    ensures { Stores who (parts_written cover.now words.now 0 (part_count cover.now)) memory.old memory.new accesses.old accesses.new true }
 {
     for i in 0..part_count(cover) {
         let place = part_place(cover, i);
@@ -137,7 +134,7 @@ fn write_parts(
 fn read_parts(cover: &Cover, who: Who, accesses: &mut Accesses)
     requires small { IsSmall cover.now }
     requires room { array_vec_len accesses.old ≤ 8 }
-    ensures { (r : Lists) → CarriesAnywhere who (parts_read cover.now 0 (part_count cover.now) (Done r)) accesses.old accesses.new (Some r) }
+    ensures { Loads who (parts_read cover.now 0 (part_count cover.now)) accesses.old accesses.new true }
 {
     for i in 0..part_count(cover) {
         list_access(who, Way::Read, part_place(cover, i), cover.size, accesses);
@@ -155,7 +152,7 @@ fn write_cover(
 ) -> bool
     requires small { IfSome cover IsSmall }
     requires room { array_vec_len accesses.old ≤ 8 }
-    ensures { (r : Lists) → Carries who (cover_written cover words.now (Done r)) memory.old memory.new accesses.old accesses.new (if_tame result r) }
+    ensures { Stores who (cover_written cover words.now) memory.old memory.new accesses.old accesses.new result }
 {
     match cover {
         Some(cover) => {
@@ -171,7 +168,7 @@ fn write_cover(
 fn read_cover(cover: Option<Cover>, who: Who, accesses: &mut Accesses) -> bool
     requires small { IfSome cover IsSmall }
     requires room { array_vec_len accesses.old ≤ 8 }
-    ensures { (r : Lists) → CarriesAnywhere who (cover_read cover (Done r)) accesses.old accesses.new (if_tame result r) }
+    ensures { Loads who (cover_read cover) accesses.old accesses.new result }
 {
     match cover {
         Some(cover) => {
@@ -210,7 +207,8 @@ pub(crate) fn store_general(
     accesses: &mut Accesses,
 ) -> bool
     requires { array_vec_len accesses.old ≤ 8 }
-    ensures { (r : Lists) → Carries who (general_written bits address tile.frame tile.x tile.y words.now (Done r)) memory.old memory.new accesses.old accesses.new (if_tame result r) }
+    ensures { Stores who (general_written bits address tile.frame tile.x tile.y words.now)
+        memory.old memory.new accesses.old accesses.new result }
 {
     if names_none(bits) {
         return true;
@@ -224,7 +222,7 @@ pub(crate) fn store_general(
 #[tactic(auto, unfolding(crate::specs::Surfaces::general_read))]
 fn load_general(bits: u16, address: u32, tile: Tile, who: Who, accesses: &mut Accesses) -> bool
     requires { array_vec_len accesses.old ≤ 8 }
-    ensures { (r : Lists) → CarriesAnywhere who (general_read bits address tile.frame tile.x tile.y (Done r)) accesses.old accesses.new (if_tame result r) }
+    ensures { Loads who (general_read bits address tile.frame tile.x tile.y) accesses.old accesses.new result }
 {
     if names_none(bits) {
         return true;
@@ -244,7 +242,7 @@ pub(crate) fn store_frame(
     accesses: &mut Accesses,
 ) -> bool
     requires { array_vec_len accesses.old ≤ 8 }
-    ensures { (r : Lists) → Carries who (frame_written tile.frame tile.x tile.y words.now (Done r)) memory.old memory.new accesses.old accesses.new (if_tame result r) }
+    ensures { Stores who (frame_written tile.frame tile.x tile.y words.now) memory.old memory.new accesses.old accesses.new result }
 {
     match tile.frame {
         None => end_wild(who, accesses),
@@ -266,7 +264,7 @@ pub(crate) fn store_whole(
     accesses: &mut Accesses,
 )
     requires { array_vec_len accesses.old ≤ 8 }
-    ensures { (r : Lists) → Carries who (whole_written address words.now (Done r)) memory.old memory.new accesses.old accesses.new (Some r) }
+    ensures { Stores who (whole_written address words.now) memory.old memory.new accesses.old accesses.new true }
 {
     let place = aligned(address) as u64;
     store_chosen(memory, place, words, 0, WHOLE_SIZE);
@@ -277,7 +275,7 @@ pub(crate) fn store_whole(
 #[tactic(auto, unfolding(crate::specs::Surfaces::whole_read))]
 fn load_whole(address: u32, who: Who, accesses: &mut Accesses)
     requires { array_vec_len accesses.old ≤ 8 }
-    ensures { (r : Lists) → CarriesAnywhere who (whole_read address (Done r)) accesses.old accesses.new (Some r) }
+    ensures { Loads who (whole_read address) accesses.old accesses.new true }
 {
     list_access(
         who,
@@ -291,7 +289,7 @@ fn load_whole(address: u32, who: Who, accesses: &mut Accesses)
 /// Does a load at tile (x, y). False comes exactly where that is wild.
 fn load(load: Load, tile: Tile, who: Who, accesses: &mut Accesses) -> bool
     requires { array_vec_len accesses.old ≤ 8 }
-    ensures { (r : Lists) → CarriesAnywhere who (load_read load tile.frame tile.x tile.y (Done r)) accesses.old accesses.new (if_tame result r) }
+    ensures { Loads who (load_read load tile.frame tile.x tile.y) accesses.old accesses.new result }
 {
     match load {
         Load::Full(address) => {
@@ -310,7 +308,7 @@ pub(crate) fn load_waiting(
     accesses: &mut Accesses,
 ) -> bool
     requires { array_vec_len accesses.old ≤ 8 }
-    ensures { (r : Lists) → CarriesAnywhere who (waiting_read waiting tile.frame tile.x tile.y (Done r)) accesses.old accesses.new (if_tame result r) }
+    ensures { Loads who (waiting_read waiting tile.frame tile.x tile.y) accesses.old accesses.new result }
 {
     match waiting {
         None => true,

@@ -59,7 +59,8 @@ impl JobLists {
     /// Keeps a load as waiting. False comes exactly where that is wild, since another one waits.
     fn wait_with(&mut self, load: Load, who: Who, accesses: &mut Accesses) -> bool
         requires { array_vec_len accesses.old ≤ 8 }
-        ensures shows { CarriesAnywhere who (wait_plan self.old self.old.renderer.waiting load) accesses.old accesses.new (if_tame result self.new) }
+        ensures shows { CarriesAnywhere who (wait_plan self.old self.old.renderer.waiting load)
+            accesses.old accesses.new (if_tame result self.new) }
         ensures same { result ≡ false → self.new ≡ self.old }
     {
         match self.renderer().waiting {
@@ -155,7 +156,8 @@ impl JobLists {
         accesses: &mut Accesses,
     ) -> bool
         requires { array_vec_len accesses.old ≤ 8 }
-        ensures shows { Carries who (act self.old words.now packet) memory.old memory.new accesses.old accesses.new (if_tame result self.new) }
+        ensures shows { Carries who (act self.old words.now packet)
+            memory.old memory.new accesses.old accesses.new (if_tame result self.new) }
         ensures same { result ≡ false → self.new ≡ self.old }
     {
         let tile = self.tile();
@@ -211,7 +213,8 @@ impl JobLists {
     ) -> bool
         requires length { length bytes.now ≡ render_taken (slice_index bytes.now 0) }
         requires room { array_vec_len accesses.old ≤ 8 }
-        ensures shows { Carries who (acted self.old words.now (decoded bytes.now)) memory.old memory.new accesses.old accesses.new (if_tame result self.new) }
+        ensures shows { Carries who (acted self.old words.now (decoded bytes.now))
+            memory.old memory.new accesses.old accesses.new (if_tame result self.new) }
         ensures same { result ≡ false → self.new ≡ self.old }
     {
         match decode(bytes) {
@@ -231,7 +234,8 @@ impl JobLists {
     ) -> bool
         requires below { self.old.renderer.place < self.old.renderer.end }
         requires room { array_vec_len accesses.old ≤ 4 }
-        ensures shows { Carries who (packet_plan self.old words.now) memory.old memory.new accesses.old accesses.new (if_tame result self.new) }
+        ensures shows { Carries who (packet_plan self.old words.now)
+            memory.old memory.new accesses.old accesses.new (if_tame result self.new) }
         ensures wild { result ≡ false → self.new ≡ renderer_ended self.old }
     {
         let place = self.renderer().place;

@@ -1,5 +1,5 @@
 use Rattle.std.proofs.Common.{◌≡◌, length, [], ap, sym, subst, arith}
-use Rattle.list_machine.specs.{Lists.AreNear, Spots.AreSpotsOf}
+use Rattle.list_machine.specs.{Blocks.AreSpotsOf, Lists.AreNear}
 use Rattle.list_machine.proofs.Spots.{spots_begin}
 use Rattle.list_machine.proofs.job_lists.JobLists.new.Goals as goal
 
@@ -12,6 +12,7 @@ invariant_of-result c =
         binner_end = omega (arith, c.ranges.bin_place.fits, c.ranges.bin_len.fits);
         binner_place = omega arith;
         counted = omega arith;
+        ended = omega arith;
         renderer_end = omega (arith, c.ranges.render_place.fits, c.ranges.render_len.fits);
         renderer_place = omega arith;
         blocks = omega arith;

@@ -1,5 +1,5 @@
 use Rattle.std.proofs.Common.{◌<◌, ◌∷◌, [], length, length-append, ap, sym, subst, ◌∙◌, refl, arith}
-use Rattle.list_machine.specs.{Blocks.spot_of, Lists.AreNear, Lists.most_items, Spots.most_tiles}
+use Rattle.list_machine.specs.{Blocks.most_tiles, Blocks.spot_of, Lists.AreNear, Lists.most_items}
 use Rattle.list_machine.proofs.{Nearness.near_push, Spots.spots_put}
 use Rattle.list_machine.proofs.job_lists.JobLists.push_item.Goals as goal
 
@@ -16,6 +16,7 @@ invariant_of-self c =
         binner_end = near.binner_end;
         binner_place = near.binner_place;
         counted = near.counted;
+        ended = near.ended;
         renderer_end = near.renderer_end;
         renderer_place = near.renderer_place;
         blocks = near.blocks;
