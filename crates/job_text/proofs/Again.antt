@@ -6,27 +6,10 @@ use Rattle.hex.specs.Hex.{encode_lower, encode_with, lower_digits, hex_digit_val
 use Rattle.hex.proofs.HexLemmas.{IsDigits-lower_digits}
 use Rattle.field_words.specs.Words.{IsBytes}
 use Rattle.script.specs.Lines.{before, lines_of, onto_line}
+use Rattle.job_text.proofs.Marks.{Free, free_append, free_before, free_by}
 use Rattle.job_text.specs.Made.{words_of, digits_read, size_named, word_by, word_read, words_read, line_read, part_read, stays_inside, lines_read, both, made, is_blank, past_blanks, says}
 use Rattle.job_text.specs.Shown.{remark, is_in, is_past, mark_text, reason_text, line_text, lines_text, shown}
 use Rattle.job_text.specs.{declared.note.Note.Note, declared.note.Note.TheVariants.Unread, declared.note.Piece.Piece}
-
--- no byte is the mark
-abbrev Free : ℕ → List ℕ → Type 0
-Free mark [] = Unit {0}
-Free mark (byte ∷ bytes) = ((byte == mark) ≡ false) × Free mark bytes
-
-free_append : (mark : ℕ) (xs ys : List ℕ) → Free mark xs → Free mark ys → Free mark (xs ++ ys)
-free_append mark [] ys none free = free
-free_append mark (x ∷ xs) ys (here, none) free = (here, free_append mark xs ys none free)
-
-free_put : (mark byte : ℕ) (bytes : List ℕ) (is : Bool) → (byte == mark) ≡ is → Free mark bytes → Free mark (if is then [] else byte ∷ bytes)
-free_put mark byte bytes true e free = tt
-free_put mark byte bytes false e free = (e, free)
-
-free_before : (mark : ℕ) (bytes : List ℕ) → Free mark (before mark bytes)
-unfolding before
-free_before mark [] = tt
-free_before mark (byte ∷ bytes) = free_put mark byte (before mark bytes) (byte == mark) refl (free_before mark bytes)
 
 before_mark : (mark : ℕ) (xs rest : List ℕ) → Free mark xs → before mark (xs ++ mark ∷ rest) ≡ xs
 unfolding before
@@ -148,7 +131,7 @@ to_mark a r = sym (append_assoc a (codes "  ") (35 ∷ 32 ∷ r))
 
 free_mark : (is : Bool) → Free 10 (mark_text is)
 unfolding mark_text
-free_mark true = (refl, (refl, (refl, (refl, (refl, (refl, (refl, (refl, (refl, (refl, (refl, (refl, (refl, (refl, (refl, (refl, (refl, tt)))))))))))))))))
+free_mark true = free_by 10 (codes " <== refused here") refl
 free_mark false = tt
 
 line_again : (n at b : ℕ) (bytes rest why : List ℕ) (note : Note) (refused : Option ℕ) → IsBytes (b ∷ bytes)
@@ -165,8 +148,8 @@ line_again n at b bytes rest why note refused fits =
     let free_note : Free 10 (r ++ m) = free_append 10 r m (free_before 10 _) (free_mark is) in
     let no_feed : Free 10 line =
     free_append 10 digits (codes "  # " ++ (r ++ m)) (free_digits 10 (b ∷ bytes) refl fits)
-    (free_append 10 (codes "  # ") (r ++ m) (refl, (refl, (refl, (refl, tt)))) free_note) in
-    let no_mark : Free 35 (digits ++ codes "  ") = free_append 35 digits (codes "  ") (free_digits 35 (b ∷ bytes) refl fits) (refl, (refl, tt)) in
+    (free_append 10 (codes "  # ") (r ++ m) (free_by 10 (codes "  # ") refl) free_note) in
+    let no_mark : Free 35 (digits ++ codes "  ") = free_append 35 digits (codes "  ") (free_digits 35 (b ∷ bytes) refl fits) (free_by 35 (codes "  ") refl) in
     let front : before 35 line ≡ digits ++ codes "  " = ap (before 35) (to_mark digits (r ++ m)) ∙ before_mark 35 (digits ++ codes "  ") (32 ∷ (r ++ m)) no_mark in
     let read : line_read n line ≡ Ok (b ∷ bytes) = ap (λ t. words_read n 1 (words_of t)) front ∙ front_back n 1 b bytes fits in
     ap (λ t. lines_read n false (lines_of t)) (to_end digits (codes "  # ") r m w rest)
@@ -182,7 +165,7 @@ unfolding reason_text words_read words_of before is_blank
 reason_again n false why more rest later = later n
 reason_again n true why more rest later =
     let line = codes "# " ++ before 10 why in
-    let no_feed : Free 10 line = free_append 10 (codes "# ") (before 10 why) (refl, (refl, tt)) (free_before 10 why) in
+    let no_feed : Free 10 line = free_append 10 (codes "# ") (before 10 why) (free_by 10 (codes "# ") refl) (free_before 10 why) in
     ap (λ t. lines_read n false (lines_of t)) (append_assoc line (codes "\n") rest)
     ∙ ap (lines_read n false) (lines_line line rest no_feed)
     ∙ plain_line n line (lines_of rest) (no_word 35 32 (before 10 why) false refl refl refl)

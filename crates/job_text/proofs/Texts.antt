@@ -1,7 +1,5 @@
 -- What is put behind a text.
-use Rattle.std.proofs.Common.{◌≡◌, ◌∙◌, ℕ, List, [], ◌∷◌, ◌++◌, ap, sym, codes, append_assoc, append-nil}
-use Rattle.script.specs.Lines.{before}
-use Rattle.qpu_asm.specs.Printed.{line_text, AsmText}
+use Rattle.std.proofs.Common.{◌≡◌, ℕ, List, ◌++◌, codes, append_assoc}
 use Rattle.job_text.specs.Names.{of_job}
 
 pub three_parts : (out a b c : List ℕ) → ((out ++ a) ++ b) ++ c ≡ out ++ (a ++ (b ++ c))
@@ -17,12 +15,10 @@ pub of_job_more : (out : List ℕ) (job : ℕ) (text more end : List ℕ) → ((
 unfolding of_job
 of_job_more out job text more end = simp append_assoc
 
-pub in_buffer : (out buffer index : List ℕ)
-    → ((((out ++ codes "buffer ") ++ buffer) ++ codes " instruction ") ++ index) ++ codes ": "
-    ≡ out ++ (codes "buffer " ++ (buffer ++ (codes " instruction " ++ (index ++ codes ": "))))
-in_buffer out buffer index = simp append_assoc
+pub in_buffer : (pen buffer index : List ℕ)
+    → ((((pen ++ codes " buffer ") ++ buffer) ++ codes " instruction ") ++ index) ++ codes ": "
+    ≡ pen ++ (codes " " ++ (codes "buffer " ++ (buffer ++ (codes " instruction " ++ (index ++ codes ": ")))))
+in_buffer pen buffer index = simp append_assoc
 
--- the line of a word is the text of this word alone
-pub line_alone : (word : ℕ) (out : List ℕ) → out ≡ [] ++ line_text word → before 10 out ≡ before 10 (AsmText (word ∷ []))
-unfolding AsmText
-line_alone word out is = ap (before 10) (is ∙ sym (append-nil (line_text word)))
+pub in_remark : (pen at number said : List ℕ) → ((pen ++ at) ++ (codes " " ++ number)) ++ said ≡ pen ++ (at ++ (codes " " ++ (number ++ said)))
+in_remark pen at number said = simp append_assoc

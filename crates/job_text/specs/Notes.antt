@@ -1,8 +1,7 @@
 -- What a line says of its bytes.
-use Rattle.std.specs.Prelude.{ℕ, ◌++◌, List, [], ◌∷◌, codes, decimal, drop, slice_index, Option, Some, None, Bool, if◌then◌else◌}
+use Rattle.std.specs.Prelude.{◌≡◌, ℕ, ◌++◌, List, [], codes, decimal, drop, slice_index, Option, Some, None, Bool, if◌then◌else◌}
 use Rattle.field_words.specs.Words.{u32_at, u64_at}
-use Rattle.script.specs.Lines.{before}
-use Rattle.qpu_asm.specs.Printed.{AsmText}
+use Rattle.qpu_asm.specs.Printed.{word_text}
 use Rattle.qpu_isa.specs.Terms.{is_switch, is_end, writes_s}
 use Rattle.job_text.specs.declared.note.Note.TheVariants.{Number, Named, Sized, Handle, Packet, BehindHalt, Records, Uniform, Taken, Data, Instruction, Unread}
 use Rattle.job_text.specs.{declared.note.Note.Note, declared.note.Meaning.Meaning, declared.note.Part.Part, declared.note.Stage.Stage}
@@ -37,13 +36,9 @@ facts_text word =
     ++ (said_if (writes_s word 0) (codes "; request to TMU 0")
     ++ (said_if (writes_s word 1) (codes "; request to TMU 1") ++ said_if (is_end word) (codes "; program end")))
 
--- an instruction as assembler text, without its line feed
-unfoldable pub assembler_text : ℕ → List ℕ
-assembler_text word = before 10 (AsmText (word ∷ []))
-
--- an instruction, the uniform that it takes, and what it does beside its operations
+-- an instruction as assembler text, the uniform that it takes, and what it does beside its operations
 unfoldable pub instruction_text : ℕ → Option ℕ → List ℕ
-instruction_text word uniform = assembler_text word ++ (taken_text uniform ++ facts_text word)
+instruction_text word uniform = word_text word ++ (taken_text uniform ++ facts_text word)
 
 -- the number of a buffer's instruction
 unfoldable pub numbered_text : ℕ → ℕ → List ℕ
@@ -79,3 +74,7 @@ note_text (Taken j i k stage meaning) bytes = uniform_text j i k stage meaning b
 note_text (Data b) bytes = codes "buffer " ++ (decimal b ++ codes " content")
 note_text (Instruction b i uniform) bytes = numbered_text b i ++ instruction_text (u64_at bytes 0) uniform
 note_text Unread bytes = codes "unread"
+
+-- a note of bytes that are no instruction
+abbrev pub IsOther : Note → Type 0
+IsOther note = (b i : ℕ) (uniform : Option ℕ) → note ≡ Instruction b i uniform → ⊥

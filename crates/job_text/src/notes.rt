@@ -1,18 +1,14 @@
 //! What a line says of its bytes.
 ghost use Rattle.std.specs.Prelude.{◌≡◌, ◌++◌, codes, decimal, drop, OnOk};
 ghost use Rattle.job_text.specs.Names.{named_text};
-ghost use Rattle.job_text.specs.Notes.{counted, taken_text, packet_text, said_if, facts_text, field_text, sized_text, meant_text, uniform_text, listed_text};
-ghost use Rattle.job_text.specs.Notes.{numbered_text, instruction_text, note_text};
+ghost use Rattle.job_text.specs.Notes.{counted, packet_text, field_text, sized_text, meant_text, uniform_text, listed_text, note_text, IsOther};
 
-use crate::instructions::Instructions;
 use crate::meanings::{bits_style, put_size};
 use crate::names::{packet_name, put_named, put_of_job, put_part, stage_name};
 use crate::note::{Field, Meaning, Note, Part, Stage};
-use crate::numbers::{byte_at, instruction, number, put_number};
+use crate::numbers::{byte_at, number, put_number};
 use crate::rows::{put_packet_fields, put_valued};
 use crate::uniforms::put_use;
-use qpu_isa::word::{is_end, is_switch};
-use qpu_isa::writes::writes_s;
 use std::alloc::AllocError;
 
 #[tactic(auto, unfolding(crate::specs::Notes::field_text))]
@@ -108,66 +104,6 @@ fn put_uniform(
     Ok(())
 }
 
-// Appends the uniform that an instruction takes, where it takes one.
-fn put_taken(out: &mut Vec<u8>, uniform: Option<usize>) -> Result<(), AllocError>
-    ensures { OnOk result (out.new.items ≡ out.old.items ++ taken_text uniform) }
-{
-    match uniform {
-        None => Ok(()),
-        Some(uniform) => {
-            out.extend_from_slice(b"; takes uniform ")?;
-            put_number(out, uniform)
-        }
-    }
-}
-
-fn put_if(out: &mut Vec<u8>, is: bool, text: &[u8]) -> Result<(), AllocError>
-    ensures { OnOk result (out.new.items ≡ out.old.items ++ said_if is text.now) }
-{
-    if is {
-        out.extend_from_slice(text)?;
-    }
-    Ok(())
-}
-
-// Appends what an instruction does beside its operations.
-#[tactic(auto, unfolding(crate::specs::Notes::facts_text))]
-fn put_facts(out: &mut Vec<u8>, word: u64) -> Result<(), AllocError>
-    ensures { OnOk result (out.new.items ≡ out.old.items ++ facts_text word) }
-{
-    put_if(out, is_switch(word), b"; thread switch")?;
-    put_if(out, writes_s(word, 0), b"; request to TMU 0")?;
-    put_if(out, writes_s(word, 1), b"; request to TMU 1")?;
-    put_if(out, is_end(word), b"; program end")
-}
-
-#[tactic(auto, unfolding(crate::specs::Notes::instruction_text))]
-fn put_instruction(
-    instructions: &mut Instructions,
-    out: &mut Vec<u8>,
-    word: u64,
-    uniform: Option<usize>,
-) -> Result<(), AllocError>
-    ensures { OnOk result (out.new.items ≡ out.old.items ++ instruction_text word uniform) }
-{
-    instructions.put(out, word)?;
-    put_taken(out, uniform)?;
-    put_facts(out, word)?;
-    Ok(())
-}
-
-#[tactic(auto, unfolding(crate::specs::Notes::numbered_text))]
-fn put_numbered(out: &mut Vec<u8>, buffer: u32, index: usize) -> Result<(), AllocError>
-    ensures { OnOk result (out.new.items ≡ out.old.items ++ numbered_text buffer index) }
-{
-    out.extend_from_slice(b"buffer ")?;
-    put_number(out, buffer as usize)?;
-    out.extend_from_slice(b" instruction ")?;
-    put_number(out, index)?;
-    out.extend_from_slice(b": ")?;
-    Ok(())
-}
-
 fn put_data(out: &mut Vec<u8>, buffer: u32) -> Result<(), AllocError>
     ensures { OnOk result (out.new.items ≡ out.old.items ++ (codes "buffer " ++ (decimal buffer ++ codes " content"))) }
 {
@@ -213,14 +149,10 @@ fn put_packet(
     Ok(())
 }
 
-/// Appends what a line says of its bytes.
+/// Appends what a line says of bytes that are no instruction.
 #[tactic(auto, unfolding(crate::specs::Notes::note_text))]
-pub(crate) fn put_note(
-    instructions: &mut Instructions,
-    out: &mut Vec<u8>,
-    note: Note,
-    bytes: &[u8],
-) -> Result<(), AllocError>
+pub(crate) fn put_note(out: &mut Vec<u8>, note: Note, bytes: &[u8]) -> Result<(), AllocError>
+    requires { IsOther note }
     ensures { OnOk result (out.new.items ≡ out.old.items ++ note_text note bytes.now) }
 {
     match note {
@@ -238,10 +170,7 @@ pub(crate) fn put_note(
             put_uniform(out, job, index, record, stage, meaning, bytes)?
         }
         Note::Data(buffer) => put_data(out, buffer)?,
-        Note::Instruction(buffer, index, uniform) => {
-            put_numbered(out, buffer, index)?;
-            put_instruction(instructions, out, instruction(bytes), uniform)?;
-        }
+        Note::Instruction(..) => unreachable!(),
         Note::Unread => out.extend_from_slice(b"unread")?,
     }
     Ok(())

@@ -2,45 +2,62 @@
 ghost use Rattle.std.specs.Prelude.{◌≡◌, ◌≤◌, ◌<◌, ◌^◌, ◌+◌, ◌++◌, ◌-◌, codes, length, take, drop, List, IfOk, OnOk, Ok};
 ghost use Rattle.hex.specs.Hex.{encode_lower};
 ghost use Rattle.job_text.specs.declared.note.Piece.{Piece as PieceModel};
+ghost use Rattle.job_text.specs.Notes.{IsOther};
 ghost use Rattle.job_text.specs.Shown.{remark, is_in, is_past, mark_text, reason_text, line_text, lines_text, shown};
 ghost use Rattle.job_text.specs.Made.{made};
 
 use crate::cuts::pieces;
-use crate::instructions::Instructions;
+use crate::instructions::put_instruction;
 use crate::note::{Note, Piece};
 use crate::notes::put_note;
 use crate::numbers::put_number;
 use field_words::NoMemory;
+use qpu_asm::{Pen, Printer};
 use script::cut_at;
 use std::alloc::{AllocError, Global};
 
-/// What is made once for all lines of a file: the text of instructions, and room for a remark.
+/// What is made once for all lines of a file: the text of instructions, and room for what a line says.
 #[derive(Drop)]
 struct Writer {
-    instructions: Instructions,
-    remark: Vec<u8>,
+    printer: Printer,
+    said: Vec<u8>,
 }
 
-// Appends the offset of the bytes and what they are, up to a line's end.
+// Writes the offset of bytes that are no instruction, and what they are, up to a line's end.
 #[tactic(auto, unfolding(crate::specs::Shown::remark))]
-fn put_remark(
-    writer: &mut Writer,
-    out: &mut Vec<u8>,
+fn put_other(
+    said: &mut Vec<u8>,
+    pen: &mut Pen,
     at: usize,
     bytes: &[u8],
     note: Note,
 ) -> Result<(), AllocError>
-    ensures { OnOk result (out.new.items ≡ out.old.items ++ remark at bytes.now note) }
+    requires { IsOther note }
+    ensures { OnOk result (pen.new ≡ pen.old ++ remark at bytes.now note) }
 {
-    let Writer {
-        instructions,
-        remark,
-    } = writer;
-    remark.clear();
-    put_number(remark, at)?;
-    remark.push(b' ')?;
-    put_note(instructions, remark, note, bytes)?;
-    out.extend_from_slice(cut_at(remark, b'\n').first)
+    said.clear();
+    put_number(said, at)?;
+    said.push(b' ')?;
+    put_note(said, note, bytes)?;
+    pen.text(cut_at(said, b'\n').first)
+}
+
+// Writes the offset of bytes and what they are, up to a line's end.
+fn put_remark(
+    writer: &mut Writer,
+    pen: &mut Pen,
+    at: usize,
+    bytes: &[u8],
+    note: Note,
+) -> Result<(), AllocError>
+    ensures { OnOk result (pen.new ≡ pen.old ++ remark at bytes.now note) }
+{
+    match note {
+        Note::Instruction(buffer, index, uniform) => {
+            put_instruction(&writer.printer, pen, at, bytes, buffer, index, uniform)
+        }
+        _ => put_other(&mut writer.said, pen, at, bytes, note),
+    }
 }
 
 // Whether the offset of a refusal lies in so many bytes from another on.
@@ -66,97 +83,97 @@ fn is_past(count: usize, refused: Option<u64>) -> bool
 }
 
 #[tactic(auto, unfolding(crate::specs::Shown::mark_text))]
-fn put_mark(out: &mut Vec<u8>, is: bool) -> Result<(), AllocError>
-    ensures { OnOk result (out.new.items ≡ out.old.items ++ mark_text is) }
+fn put_mark(pen: &mut Pen, is: bool) -> Result<(), AllocError>
+    ensures { OnOk result (pen.new ≡ pen.old ++ mark_text is) }
 {
     if is {
-        out.extend_from_slice(b" <== refused here")?;
+        pen.text(b" <== refused here")?;
     }
     Ok(())
 }
 
-// Appends the line of the reason.
+// Writes the line of the reason.
 #[tactic(auto, unfolding(crate::specs::Shown::reason_text))]
-fn put_reason(out: &mut Vec<u8>, is: bool, why: &[u8]) -> Result<(), AllocError>
-    ensures { OnOk result (out.new.items ≡ out.old.items ++ reason_text is why.now) }
+fn put_reason(pen: &mut Pen, is: bool, why: &[u8]) -> Result<(), AllocError>
+    ensures { OnOk result (pen.new ≡ pen.old ++ reason_text is why.now) }
 {
     if is {
-        out.extend_from_slice(b"# ")?;
-        out.extend_from_slice(cut_at(why, b'\n').first)?;
-        out.extend_from_slice(b"\n")?;
+        pen.text(b"# ")?;
+        pen.text(cut_at(why, b'\n').first)?;
+        pen.text(b"\n")?;
     }
     Ok(())
 }
 
-// Appends bytes in hexadecimal. Those of most lines take no memory of their own.
-fn put_hex(alloc: Global, out: &mut Vec<u8>, bytes: &[u8]) -> Result<(), AllocError>
-    ensures { OnOk result (out.new.items ≡ out.old.items ++ encode_lower bytes.now) }
+// Writes bytes in hexadecimal. Those of most lines take no memory of their own.
+fn put_hex(alloc: Global, pen: &mut Pen, bytes: &[u8]) -> Result<(), AllocError>
+    ensures { OnOk result (pen.new ≡ pen.old ++ encode_lower bytes.now) }
 {
     if bytes.len() <= 32 {
         let mut room = [0; 64];
         let digits = &mut room[..2 * bytes.len()];
         if hex::encode_to_slice(bytes, digits).is_ok() {
-            return out.extend_from_slice(digits);
+            return pen.text(digits);
         }
     }
     let digits = hex::encode(alloc, bytes)?;
-    out.extend_from_slice(digits.as_bytes())
+    pen.text(digits.as_bytes())
 }
 
-// Appends a line's end, and the line of the reason where it is refused there.
-fn put_end(out: &mut Vec<u8>, is: bool, why: &[u8]) -> Result<(), AllocError>
-    ensures { OnOk result (out.new.items ≡ out.old.items ++ (mark_text is ++ (codes "\n" ++ reason_text is why.now))) }
+// Writes a line's end, and the line of the reason where it is refused there.
+fn put_end(pen: &mut Pen, is: bool, why: &[u8]) -> Result<(), AllocError>
+    ensures { OnOk result (pen.new ≡ pen.old ++ (mark_text is ++ (codes "\n" ++ reason_text is why.now))) }
 {
-    put_mark(out, is)?;
-    out.push(b'\n')?;
-    put_reason(out, is, why)
+    put_mark(pen, is)?;
+    pen.text(b"\n")?;
+    put_reason(pen, is, why)
 }
 
-// Appends the line of some bytes.
+// Writes the line of some bytes.
 #[tactic(auto, unfolding(crate::specs::Shown::line_text), using(crate::proofs::Texts::four_parts))]
 fn put_line(
     alloc: Global,
     writer: &mut Writer,
-    out: &mut Vec<u8>,
+    pen: &mut Pen,
     at: usize,
     bytes: &[u8],
     note: Note,
     refused: Option<u64>,
     why: &[u8],
 ) -> Result<(), NoMemory>
-    ensures { OnOk result (out.new.items ≡ out.old.items ++ line_text at bytes.now note refused why.now) }
+    ensures { OnOk result (pen.new ≡ pen.old ++ line_text at bytes.now note refused why.now) }
 {
     if bytes.is_empty() {
         return Ok(());
     }
-    put_hex(alloc, out, bytes)?;
-    out.extend_from_slice(b"  # ")?;
-    put_remark(writer, out, at, bytes, note)?;
-    put_end(out, is_in(at, bytes.len(), refused), why)?;
+    put_hex(alloc, pen, bytes)?;
+    pen.text(b"  # ")?;
+    put_remark(writer, pen, at, bytes, note)?;
+    put_end(pen, is_in(at, bytes.len(), refused), why)?;
     Ok(())
 }
 
-// Appends the lines of bytes, piece by piece.
+// Writes the lines of bytes, piece by piece.
 fn put_lines(
     alloc: Global,
     writer: &mut Writer,
-    out: &mut Vec<u8>,
+    pen: &mut Pen,
     bytes: &[u8],
     pieces: &[Piece],
     refused: Option<u64>,
     why: &[u8],
 ) -> Result<(), NoMemory>
-    ensures { OnOk result (out.new.items ≡ out.old.items ++ lines_text 0 bytes.now pieces.now refused why.now) }
+    ensures { OnOk result (pen.new ≡ pen.old ++ lines_text 0 bytes.now pieces.now refused why.now) }
 {
     let mut rest = bytes;
     let mut at = 0;
     for piece in pieces {
         let (front, back) = rest.split_at(piece.size.min(rest.len()));
-        put_line(alloc, writer, out, at, front, piece.note, refused, why)?;
+        put_line(alloc, writer, pen, at, front, piece.note, refused, why)?;
         at += front.len();
         rest = back;
     }
-    put_line(alloc, writer, out, at, rest, Note::Unread, refused, why)
+    put_line(alloc, writer, pen, at, rest, Note::Unread, refused, why)
 }
 
 /// Any bytes as lines of text: on each line some of them in hexadecimal, a `#`, their offset and what they are, if they are a
@@ -176,11 +193,11 @@ pub fn show(
 {
     let pieces = pieces(alloc, bytes)?;
     let mut writer = Writer {
-        instructions: Instructions::new(alloc, bytes.len())?,
-        remark: Vec::new(alloc),
+        printer: Printer::new(alloc, bytes.len() / 8)?,
+        said: Vec::new(alloc),
     };
-    let mut out = Vec::new(alloc);
-    put_lines(alloc, &mut writer, &mut out, bytes, &pieces, refused, why)?;
-    put_reason(&mut out, is_past(bytes.len(), refused), why)?;
-    Ok(out)
+    let mut pen = Pen::new(alloc);
+    put_lines(alloc, &mut writer, &mut pen, bytes, &pieces, refused, why)?;
+    put_reason(&mut pen, is_past(bytes.len(), refused), why)?;
+    Ok(pen.finish()?)
 }

@@ -10,7 +10,7 @@ use Rattle.qpu_isa.proofs.{Fields.joined-values_of, Words.above-sig}
 use Rattle.qpu_asm.specs.Table.{Named, Row, Kind, widths_of, nop_kind, alu_kind, load_imm_kind, branch_kind, alu_rows}
 use Rattle.qpu_asm.specs.Items.{has_value, Spots, find_named, or_number, read_number, read_plain, read_value, is_row, has_row, kind_named}
 use Rattle.qpu_asm.specs.Walk.{Partial, skip_to, read_named, read_item, read_items, closed_word, kind_code, code_of, option_code, lines_words, line_words, with_word, if_words}
-use Rattle.qpu_asm.specs.Printed.{name_of, or_decimal, value_text, item_text, item_texts, kind_of, spaced, kind_text, line_text, AsmText, PrintedReturns}
+use Rattle.qpu_asm.specs.Printed.{name_of, or_decimal, value_text, item_text, item_texts, kind_of, spaced, kind_text, word_text, line_text, AsmText, PrintedReturns}
 use Rattle.qpu_asm.specs.Lines.{Coded, is_full, words_of, read_line, line_of, is_comment, ends_label}
 use Rattle.qpu_asm.specs.Labels.{read_lines, spots_of}
 use Rattle.qpu_asm.proofs.{Bytes.bytes_itself, Bytes.bytes_same, Words.kept_full, Rows.kind_cases, Assembling.words_end}
@@ -292,60 +292,89 @@ readable word = kind_cases IsReadable _ _ _
     (record { read = refl; away = refl; opcode = refl; full = refl; comment = refl; label = refl; known = refl })
     (record { read = refl; away = refl; opcode = refl; full = refl; comment = refl; label = refl; known = refl })
 
--- a word's fields are below their limits, and joined give the word
-record Fits (word : ℕ) (kind : Kind) : Type 0 where
-  below : AreBelow kind.rows (values_of (widths_of kind.rows) word)
-  back : joined kind.above (widths_of kind.rows) (values_of (widths_of kind.rows) word) ≡ word
-
-fits_below : (word : ℕ) (kind : Kind) → AreBelow kind.rows (values_of (widths_of kind.rows) word) → word / 2 ^ width_of (widths_of kind.rows) ≡ kind.above → Fits word kind
-fits_below word kind below top = record {
-  below = below;
-  back = rw (← top) (joined-values_of (widths_of kind.rows) word);
-}
-
 alu_signal : (word : ℕ) → (sig_of word == 14) ≡ false → (sig_of word == 15) ≡ false → word / 2 ^ 60 % 2 ^ 4 < 14
 unfolding sig_of
 alu_signal word load branch = omega (arith, eqb-false _ _ load, eqb-false _ _ branch)
 
-fits_by : (word : ℕ) → word < 2 ^ 64 → (nop load branch : Bool) → (word == nop_kind.above) ≡ nop → (sig_of word == 14) ≡ load → (sig_of word == 15) ≡ branch
-    → Fits word (if nop then nop_kind else (if load then load_imm_kind else (if branch then branch_kind else alu_kind)))
-unfolding AreBelow joined values_of width_of
-fits_by word small true load branch a b c = record { below = tt; back = sym (eqb-true word nop_kind.above a) }
-fits_by word small false true branch a b c = fits_below word load_imm_kind (below_widths load_imm_kind.rows word refl) (above-sig word small ∙ eqb-true (sig_of word) 14 b)
-fits_by word small false false true a b c = fits_below word branch_kind (below_widths branch_kind.rows word refl) (above-sig word small ∙ eqb-true (sig_of word) 15 c)
-fits_by word small false false false a b c =
-    fits_below word alu_kind (alu_signal word b c, below_widths (drop 1 alu_rows) word refl) (div-eq_of_lt small)
+-- a word's fields are below their limits
+IsBelow : ℕ → Kind → Type 0
+IsBelow word kind = AreBelow kind.rows (values_of (widths_of kind.rows) word)
 
-fits : (word : ℕ) → word < 2 ^ 64 → Fits word (kind_of word)
+below_by : (word : ℕ) (nop load branch : Bool) → (sig_of word == 14) ≡ load → (sig_of word == 15) ≡ branch
+    → IsBelow word (if nop then nop_kind else (if load then load_imm_kind else (if branch then branch_kind else alu_kind)))
+unfolding IsBelow AreBelow values_of width_of
+below_by word true load branch b c = tt
+below_by word false true branch b c = below_widths load_imm_kind.rows word refl
+below_by word false false true b c = below_widths branch_kind.rows word refl
+below_by word false false false b c = (alu_signal word b c, below_widths (drop 1 alu_rows) word refl)
+
+word_below : (word : ℕ) → IsBelow word (kind_of word)
 unfolding kind_of
-fits word small = fits_by word small (word == nop_kind.above) (sig_of word == 14) (sig_of word == 15) refl refl refl
+word_below word = below_by word (word == nop_kind.above) (sig_of word == 14) (sig_of word == 15) refl refl
+
+-- and joined they give the word
+IsJoined : ℕ → Kind → Type 0
+IsJoined word kind = joined kind.above (widths_of kind.rows) (values_of (widths_of kind.rows) word) ≡ word
+
+joined_below : (word : ℕ) (kind : Kind) → word / 2 ^ width_of (widths_of kind.rows) ≡ kind.above → IsJoined word kind
+unfolding IsJoined
+joined_below word kind top = rw (← top) (joined-values_of (widths_of kind.rows) word)
+
+joined_by : (word : ℕ) → word < 2 ^ 64 → (nop load branch : Bool) → (word == nop_kind.above) ≡ nop → (sig_of word == 14) ≡ load → (sig_of word == 15) ≡ branch
+    → IsJoined word (if nop then nop_kind else (if load then load_imm_kind else (if branch then branch_kind else alu_kind)))
+unfolding IsJoined joined values_of width_of
+joined_by word small true load branch a b c = sym (eqb-true word nop_kind.above a)
+joined_by word small false true branch a b c = joined_below word load_imm_kind (above-sig word small ∙ eqb-true (sig_of word) 14 b)
+joined_by word small false false true a b c = joined_below word branch_kind (above-sig word small ∙ eqb-true (sig_of word) 15 c)
+joined_by word small false false false a b c = joined_below word alu_kind (div-eq_of_lt small)
+
+word_joined : (word : ℕ) → word < 2 ^ 64 → IsJoined word (kind_of word)
+unfolding kind_of
+word_joined word small = joined_by word small (word == nop_kind.above) (sig_of word == 14) (sig_of word == 15) refl refl refl
 
 items_of : ℕ → Kind → List (List ℕ)
 items_of word kind = item_texts kind.rows (values_of (widths_of kind.rows) word)
 
 -- a printed line is read as its instruction
-line_read : (word : ℕ) (kind : Kind) → IsReadable kind → Fits word kind → read_line (kind_text word kind) ≡ Coded kind.opcode (items_of word kind)
-unfolding read_line line_of kind_text items_of
+line_read : (word : ℕ) (kind : Kind) → IsReadable kind → IsBelow word kind → read_line (kind_text word kind) ≡ Coded kind.opcode (items_of word kind)
+unfolding read_line line_of kind_text items_of IsBelow
 line_read word kind r f =
-    rw (words_spaced kind.opcode (items_of word kind) r.opcode r.full (items_words kind.rows (values_of (widths_of kind.rows) word) r.read f.below), r.comment, r.label) refl
+    rw (words_spaced kind.opcode (items_of word kind) r.opcode r.full (items_words kind.rows (values_of (widths_of kind.rows) word) r.read f), r.comment, r.label) refl
 
-code_read : (spots : Spots) (index word : ℕ) (kind : Kind) → IsReadable kind → Fits word kind → code_of spots index kind.opcode (items_of word kind) ≡ Ok word
-unfolding code_of kind_code items_of
-code_read spots index word kind r f =
+code_read : (spots : Spots) (index word : ℕ) (kind : Kind) → IsReadable kind → IsBelow word kind → IsJoined word kind
+    → code_of spots index kind.opcode (items_of word kind) ≡ Ok word
+unfolding code_of kind_code items_of IsBelow IsJoined
+code_read spots index word kind r f j =
     ap (option_code spots index (items_of word kind)) r.known
-    ∙ (reads spots index kind.rows kind.rows kind.above (values_of (widths_of kind.rows) word) r.read f.below r.away ∙ ap Ok f.back)
+    ∙ (reads spots index kind.rows kind.rows kind.above (values_of (widths_of kind.rows) word) r.read f r.away ∙ ap Ok j)
 
-lines_step : (word : ℕ) (text : List ℕ) → word < 2 ^ 64 → read_lines (line_text word ++ text) ≡ Coded (kind_of word).opcode (items_of word (kind_of word)) ∷ read_lines text
-unfolding read_lines line_text kind_text items_of is_word
-lines_step word text small =
+-- the text of a word is on one line
+kind_lacks : (word : ℕ) (kind : Kind) → IsReadable kind → IsBelow word kind → lacks 10 (kind_text word kind) ≡ true
+unfolding kind_text items_of is_word IsBelow
+kind_lacks word kind r f =
+    lacks_append 10 kind.opcode (spaced (items_of word kind)) (and_parts (lacks 32 kind.opcode) (lacks 10 kind.opcode) r.opcode).1
+    (spaced_lineless (items_of word kind) (items_words kind.rows (values_of (widths_of kind.rows) word) r.read f))
+
+before_lacks : (at : ℕ) (bytes : List ℕ) → lacks at bytes ≡ true → before at bytes ≡ bytes
+unfolding before lacks
+before_lacks at [] test = refl
+before_lacks at (byte ∷ bytes) test =
+    let parts = and_parts (not (byte == at)) (lacks at bytes) test in
+    rw (not-true (byte == at) parts.0) (ap (λ rest. byte ∷ rest) (before_lacks at bytes parts.1))
+
+pub word_alone : (word : ℕ) → before 10 (word_text word) ≡ word_text word
+unfolding word_text
+word_alone word = before_lacks 10 (word_text word) (kind_lacks word (kind_of word) (readable word) (word_below word))
+
+lines_step : (word : ℕ) (text : List ℕ) → read_lines (line_text word ++ text) ≡ Coded (kind_of word).opcode (items_of word (kind_of word)) ∷ read_lines text
+unfolding read_lines line_text word_text
+lines_step word text =
     let kind : Kind = kind_of word in
     let r : IsReadable kind = readable word in
-    let f : Fits word kind = fits word small in
+    let f : IsBelow word kind = word_below word in
     let line : List ℕ = kind_text word kind in
-    let whole = lacks_append 10 kind.opcode (spaced (items_of word kind)) (and_parts (lacks 32 kind.opcode) (lacks 10 kind.opcode) r.opcode).1
-    (spaced_lineless (items_of word kind) (items_words kind.rows (values_of (widths_of kind.rows) word) r.read f.below)) in
     ap (λ t. map read_line (lines_of t)) (append_assoc line (10 ∷ []) text)
-    ∙ (ap (map read_line) (line_first_of line text whole) ∙ ap (λ l. l ∷ map read_line (lines_of text)) (line_read word kind r f))
+    ∙ (ap (map read_line) (line_first_of line text (kind_lacks word kind r f)) ∙ ap (λ l. l ∷ map read_line (lines_of text)) (line_read word kind r f))
 
 all_words : (spots : Spots) (words : List ℕ) (line : ℕ) (before : List ℕ) → All (λ word. word < 2 ^ 64) words
     → lines_words spots line (read_lines (AsmText words)) before ≡ Ok (before ++ words)
@@ -353,9 +382,9 @@ unfolding AsmText lines_words line_words
 all_words spots [] line before small = words_end spots [] line before (omega arith) ∙ ap Ok (sym (append-nil before))
 all_words spots (word ∷ words) line before small =
     let here : word < 2 ^ 64 = small 0 0 (omega arith) in
-    ap (λ ls. lines_words spots line ls before) (lines_step word (AsmText words) here)
+    ap (λ ls. lines_words spots line ls before) (lines_step word (AsmText words))
     ∙ (ap (λ code. if_words (with_word line before code) (λ more. lines_words spots (line + 1) (read_lines (AsmText words)) more))
-    (code_read spots (length before) word (kind_of word) (readable word) (fits word here))
+    (code_read spots (length before) word (kind_of word) (readable word) (word_below word) (word_joined word here))
     ∙ (all_words spots words (line + 1) (before ++ word ∷ []) (λ k d h. small (suc k) d (omega arith)) ∙ ap Ok (append_assoc before (word ∷ []) words)))
 
 pub each_returns : PrintedReturns

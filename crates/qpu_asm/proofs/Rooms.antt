@@ -24,9 +24,9 @@ unfolding AreTexts
 texts_more row texts text are is = λ value d below. by_place row texts text are is value d below (cases_lt value (length texts))
 
 -- the front of a room in which a piece was put with all its bytes
-pub put_piece : (room bytes : List ℕ) (at k len : ℕ) → at ≤ length room → len ≤ length bytes
+pub put_bytes : (room bytes : List ℕ) (at k len : ℕ) → at ≤ length room → len ≤ length bytes
     → take (at + len) (put_mid at k room bytes) ≡ take at room ++ take len bytes
-put_piece room bytes at k len inside short =
+put_bytes room bytes at k len inside short =
     let front : length (take at room) ≡ at = length-take-le at room inside in
     let behind = bytes ++ post_of at k room in
     take-add at len (take at room ++ behind)
@@ -39,26 +39,13 @@ pub is_kept : (row : Row) (texts : List (List ℕ)) (value : ℕ) (piece : List 
 unfolding AreTexts
 is_kept row texts value piece are below is = is ∙ are value piece below
 
--- a text was put behind what went out and what the room has
-pub put_then : (out front new end text rest : List ℕ) → new ++ end ≡ out ++ (front ++ text) → new ++ (end ++ rest) ≡ out ++ (front ++ (text ++ rest))
-put_then out front new end text rest put =
-    sym (append_assoc new end rest)
-    ∙ (ap (λ l. l ++ rest) put
-    ∙ (append_assoc out (front ++ text) rest ∙ ap (λ l. out ++ l) (append_assoc front text rest)))
-
-pub two_puts : (out front new end last text more : List ℕ) → new ++ end ≡ out ++ (front ++ text) → last ≡ new ++ (end ++ more)
-    → last ≡ out ++ (front ++ (text ++ more))
-two_puts out front new end last text more first second = second ∙ put_then out front new end text more first
+-- a text was put behind another, and a further one behind it
+pub put_then : (old new text rest : List ℕ) → new ≡ old ++ text → new ++ rest ≡ old ++ (text ++ rest)
+put_then old new text rest put = ap (λ l. l ++ rest) put ∙ append_assoc old text rest
 
 -- one more line
-pub lines_more : (words : List ℕ) (i d : ℕ) (first out front new end : List ℕ) → i < length words → out ++ front ≡ first ++ flat_map line_text (take i words)
-    → new ++ end ≡ out ++ (front ++ line_text (slice_index_or words i d)) → new ++ end ≡ first ++ flat_map line_text (take (i + 1) words)
-lines_more words i d first out front new end below before put =
-    let text = line_text (slice_index_or words i d) in
-    let line = flat_map_more line_text [] (take i words) (slice_index_or words i d) ∙ ap (flat_map line_text) (sym (take_more words i d below)) in
-    put ∙ (sym (append_assoc out front text)
-    ∙ (ap (λ l. l ++ text) before ∙ (append_assoc first (flat_map line_text (take i words)) text ∙ ap (λ l. first ++ l) line)))
-
--- a kept text was put behind what the room has
-pub kept_put : (out front new piece text : List ℕ) → new ≡ front ++ piece → piece ≡ text → out ++ new ≡ out ++ (front ++ text)
-kept_put out front new piece text put is = ap (λ l. out ++ l) (put ∙ ap (λ l. front ++ l) is)
+pub lines_more : (words : List ℕ) (i d : ℕ) (old new : List ℕ) → i < length words → old ≡ flat_map line_text (take i words)
+    → new ≡ old ++ line_text (slice_index_or words i d) → new ≡ flat_map line_text (take (i + 1) words)
+lines_more words i d old new below before put =
+    put ∙ (ap (λ l. l ++ line_text (slice_index_or words i d)) before
+    ∙ (flat_map_more line_text [] (take i words) (slice_index_or words i d) ∙ ap (flat_map line_text) (sym (take_more words i d below))))

@@ -43,8 +43,11 @@ rows_text rows word = spaced (item_texts rows (values_of (widths_of rows) word))
 unfoldable pub kind_text : ℕ → Kind → List ℕ
 kind_text word kind = kind.opcode ++ rows_text kind.rows word
 
+unfoldable pub word_text : ℕ → List ℕ
+word_text word = kind_text word (kind_of word)
+
 unfoldable pub line_text : ℕ → List ℕ
-line_text word = kind_text word (kind_of word) ++ 10 ∷ []
+line_text word = word_text word ++ 10 ∷ []
 
 unfoldable pub AsmText : List ℕ → List ℕ
 AsmText words = flat_map line_text words

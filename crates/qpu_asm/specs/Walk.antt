@@ -40,10 +40,6 @@ field_text row value = if value == row.fallback then [] else 32 ∷ item_text ro
 abbrev pub written : List ℕ → List ℕ → ℕ → List ℕ
 written out room end = out ++ take end room
 
--- the same with a text behind it
-abbrev pub followed : List ℕ → List ℕ → ℕ → List ℕ → List ℕ
-followed out room end text = out ++ (take end room ++ text)
-
 -- the texts of a row's first values
 unfoldable pub AreTexts : Row → List (List ℕ) → Type 0
 AreTexts row texts = (value : ℕ) (d : List ℕ) → value < length texts → slice_index_or texts value d ≡ field_text row value

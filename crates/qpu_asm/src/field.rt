@@ -4,40 +4,37 @@ ghost use Rattle.qpu_asm.specs.Printed.{value_text, item_text};
 ghost use Rattle.qpu_asm.specs.Walk.{field_text};
 ghost use Rattle.qpu_asm.specs.Seen.{name_among, row_seen};
 
+use crate::pen::Pen;
 use crate::table::{Named, Row};
-use itoa::Buffer;
 use std::alloc::AllocError;
 
 /// Puts an item, where its value isn't the default.
-pub fn put_field(out: &mut Vec<u8>, row: &Row, value: u64) -> Result<(), AllocError>
-    ensures { OnOk result (out.new.items ≡ out.old.items ++ field_text (row_seen row.now) value) }
+pub fn put_field(pen: &mut Pen, row: &Row, value: u64) -> Result<(), AllocError>
+    ensures { OnOk result (pen.new ≡ pen.old ++ field_text (row_seen row.now) value) }
 {
     if value == row.fallback {
         return Ok(());
     }
-    put_item(out, row, value)
+    put_item(pen, row, value)
 }
 
 #[tactic(auto, unfolding(crate::specs::Printed::item_text))]
-fn put_item(out: &mut Vec<u8>, row: &Row, value: u64) -> Result<(), AllocError>
-    ensures { OnOk result (out.new.items ≡ out.old.items ++ 32 ∷ item_text (row_seen row.now) value) }
+fn put_item(pen: &mut Pen, row: &Row, value: u64) -> Result<(), AllocError>
+    ensures { OnOk result (pen.new ≡ pen.old ++ 32 ∷ item_text (row_seen row.now) value) }
 {
-    out.extend_from_slice(b" ")?;
-    out.extend_from_slice(row.name)?;
-    out.extend_from_slice(b"=")?;
-    put_value(out, row, value)
+    pen.text(b" ")?;
+    pen.text(row.name)?;
+    pen.text(b"=")?;
+    put_value(pen, row, value)
 }
 
 #[tactic(auto, unfolding(crate::specs::Printed::value_text))]
-fn put_value(out: &mut Vec<u8>, row: &Row, value: u64) -> Result<(), AllocError>
-    ensures { OnOk result (out.new.items ≡ out.old.items ++ value_text (row_seen row.now) value) }
+fn put_value(pen: &mut Pen, row: &Row, value: u64) -> Result<(), AllocError>
+    ensures { OnOk result (pen.new ≡ pen.old ++ value_text (row_seen row.now) value) }
 {
     match name_of(row.named, value) {
-        Some(name) => out.extend_from_slice(name),
-        None => {
-            let mut buffer = Buffer::new();
-            out.extend_from_slice(buffer.format(value).as_bytes())
-        }
+        Some(name) => pen.text(name),
+        None => pen.number(value),
     }
 }
 

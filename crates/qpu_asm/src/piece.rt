@@ -1,6 +1,6 @@
 //! Text that is written into a room piece by piece, and taken from it a whole room at a time.
-ghost use Rattle.std.specs.Prelude.{◌≡◌, ◌≤◌, ◌+◌, ◌++◌, length, take, IfSome, IfOk};
-ghost use Rattle.qpu_asm.specs.Walk.{written, followed};
+ghost use Rattle.std.specs.Prelude.{◌≡◌, ◌≤◌, ◌+◌, ◌++◌, length, take, IfSome, IfOk, OnOk};
+ghost use Rattle.qpu_asm.specs.Walk.{written};
 
 use std::alloc::AllocError;
 use std::marker::Model;
@@ -38,9 +38,17 @@ impl Piece {
         })
     }
 
-    /// Puts it behind what a room has, and says where it ends. It is written with all 16 bytes, so that no length has to be known first.
-    #[tactic(auto, using(crate::proofs::Rooms::put_piece))]
-    pub fn put(&self, room: &mut [u8], at: usize) -> usize
+    // Its text.
+    fn text(&self) -> &[u8]
+        ensures { result.now ≡ self.now }
+    {
+        &self.bytes[..self.len]
+    }
+
+    // Puts it behind what a room has, and says where it ends. It is written with all 16 bytes, so that no length has to be known first.
+    #[tactic(auto, using(crate::proofs::Rooms::put_bytes))]
+    #[inline]
+    fn put(&self, room: &mut [u8], at: usize) -> usize
         requires { at + 16 ≤ length room.old }
         ensures text { take result room.new ≡ take at room.old ++ self.now }
         ensures end { result ≤ length room.new }
@@ -51,7 +59,27 @@ impl Piece {
     }
 }
 
+/// Puts a piece behind what a room has, and says where it ends. Where it doesn't fit, all goes out, and the room is empty.
+#[inline]
+pub fn put_piece(
+    out: &mut Vec<u8>,
+    room: &mut [u8],
+    at: usize,
+    piece: &Piece,
+) -> Result<usize, AllocError>
+    requires { at ≤ length room.old }
+    ensures text { IfOk result (λ end. written out.new.items room.new end ≡ written out.old.items room.old at ++ piece.now) }
+    ensures end { IfOk result (λ end. end ≤ length room.new) }
+    ensures long { length room.new ≡ length room.old }
+{
+    if 16 <= room.len() - at {
+        return Ok(piece.put(room, at));
+    }
+    put_text(out, room, at, piece.text())
+}
+
 /// Puts a text behind what a room has, and says where it ends. Where it doesn't fit, all goes out, and the room is empty.
+#[inline]
 pub fn put_text(
     out: &mut Vec<u8>,
     room: &mut [u8],
@@ -59,18 +87,18 @@ pub fn put_text(
     text: &[u8],
 ) -> Result<usize, AllocError>
     requires { at ≤ length room.old }
-    ensures text { IfOk result (λ end. written out.new.items room.new end ≡ followed out.old.items room.old at text.now) }
+    ensures text { IfOk result (λ end. written out.new.items room.new end ≡ written out.old.items room.old at ++ text.now) }
     ensures end { IfOk result (λ end. end ≤ length room.new) }
     ensures long { length room.new ≡ length room.old }
 {
     if text.len() <= room.len() - at {
         return Ok(put_within(room, at, text));
     }
-    out.extend_from_slice(&room[..at])?;
-    out.extend_from_slice(text)?;
+    send(out, &room[..at], text)?;
     Ok(0)
 }
 
+#[inline]
 fn put_within(room: &mut [u8], at: usize, text: &[u8]) -> usize
     requires { at + length text.now ≤ length room.old }
     ensures text { take result room.new ≡ take at room.old ++ text.now }
@@ -79,4 +107,13 @@ fn put_within(room: &mut [u8], at: usize, text: &[u8]) -> usize
 {
     room[at..at + text.len()].copy_from_slice(text);
     at + text.len()
+}
+
+// Lets go out what a room had, and a text behind it.
+#[cold]
+fn send(out: &mut Vec<u8>, front: &[u8], text: &[u8]) -> Result<(), AllocError>
+    ensures { OnOk result (out.new.items ≡ (out.old.items ++ front.now) ++ text.now) }
+{
+    out.extend_from_slice(front)?;
+    out.extend_from_slice(text)
 }

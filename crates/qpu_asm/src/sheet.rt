@@ -1,13 +1,14 @@
 //! The kinds of instructions with the texts of their fields, which are written once for many words.
-ghost use Rattle.std.specs.Prelude.{◌≡◌, ◌≤◌, ◌<◌, ◌/◌, ◌%◌, ◌^◌, true, length, IfSome, IfOk};
+ghost use Rattle.std.specs.Prelude.{◌≡◌, ◌≤◌, ◌<◌, ◌/◌, ◌%◌, ◌^◌, ◌++◌, true, IfSome, IfOk, OnOk};
 ghost use Rattle.qpu_isa.specs.Fields.{width_of};
 ghost use Rattle.qpu_asm.specs.Table.{widths_of};
-ghost use Rattle.qpu_asm.specs.Walk.{field_text, written, followed, are_ready};
+ghost use Rattle.qpu_asm.specs.Walk.{field_text, are_ready};
 ghost use Rattle.qpu_asm.specs.Printed.{rows_text, kind_text};
 ghost use Rattle.qpu_asm.specs.Seen.{row_seen, rows_seen, kind_seen};
 
 use crate::field::put_field;
-use crate::piece::{Piece, put_text};
+use crate::pen::Pen;
+use crate::piece::Piece;
 use crate::table::{Kind, Row};
 use std::alloc::{AllocError, Global};
 use std::marker::Model;
@@ -50,33 +51,17 @@ impl Column {
         None
     }
 
-    /// Puts the text of a value behind what a room has, and says where it ends. Where the text isn't kept, or doesn't fit, all goes
-    /// out, and the room is empty.
-    #[tactic(auto, using(crate::proofs::Rooms::kept_put))]
-    pub fn put(
-        &self,
-        out: &mut Vec<u8>,
-        room: &mut [u8],
-        at: usize,
-        value: u64,
-    ) -> Result<usize, AllocError>
-        requires { at ≤ length room.old }
-        ensures text { IfOk result (λ end.
-            written out.new.items room.new end ≡ followed out.old.items room.old at (field_text self.now value)) }
-        ensures end { IfOk result (λ end. end ≤ length room.new) }
-        ensures long { length room.new ≡ length room.old }
+    /// Writes the text of a value.
+    pub fn put(&self, pen: &mut Pen, value: u64) -> Result<(), AllocError>
+        ensures { OnOk result (pen.new ≡ pen.old ++ field_text self.now value) }
     {
         if value == self.row.fallback {
-            return Ok(at);
+            return Ok(());
         }
-        if let Some(piece) = self.piece(value) {
-            if 16 <= room.len() - at {
-                return Ok(piece.put(room, at));
-            }
+        match self.piece(value) {
+            Some(piece) => pen.piece(piece),
+            None => put_field(pen, &self.row, value),
         }
-        out.extend_from_slice(&room[..at])?;
-        put_field(out, &self.row, value)?;
-        Ok(0)
     }
 }
 
@@ -84,9 +69,9 @@ impl Column {
 fn piece_of(alloc: Global, row: &Row, value: u64) -> Result<Option<Piece>, AllocError>
     ensures { IfOk result (λ made. IfSome made (λ piece. piece ≡ field_text (row_seen row.now) value)) }
 {
-    let mut text = Vec::new(alloc);
-    put_field(&mut text, row, value)?;
-    Ok(Piece::of(&text))
+    let mut pen = Pen::new(alloc);
+    put_field(&mut pen, row, value)?;
+    Ok(Piece::of(&pen.finish()?))
 }
 
 // How many values of a row are worth to be kept, where at most so many are.
@@ -184,54 +169,32 @@ pub fn sheet_of(alloc: Global, kind: Kind, most: usize) -> Result<Sheet, AllocEr
     })
 }
 
-// Puts the items of a word's fields that differ from their defaults.
-fn put_fields(
-    out: &mut Vec<u8>,
-    room: &mut [u8],
-    at: usize,
-    columns: &[Column],
-    top: u32,
-    word: u64,
-) -> Result<usize, AllocError>
-    requires inside { at ≤ length room.old }
+// Writes the items of a word's fields that differ from their defaults.
+fn put_fields(pen: &mut Pen, columns: &[Column], top: u32, word: u64) -> Result<(), AllocError>
     requires ready { are_ready columns.now ≡ true }
     requires top { top ≡ width_of (widths_of columns.now) }
     requires wide { top ≤ 64 }
-    ensures text { IfOk result (λ end.
-        written out.new.items room.new end ≡ followed out.old.items room.old at (rows_text columns.now word)) }
-    ensures end { IfOk result (λ end. end ≤ length room.new) }
-    ensures long { length room.new ≡ length room.old }
+    ensures { OnOk result (pen.new ≡ pen.old ++ rows_text columns.now word) }
 {
     let mut rest = columns;
     let mut low = top;
-    let mut end = at;
     while let Some((column, later)) = rest.split_first() {
         let width = column.width();
         low -= width;
-        end = column.put(out, room, end, field_at(word, low, width))?;
+        column.put(pen, field_at(word, low, width))?;
         rest = later;
     }
-    Ok(end)
+    Ok(())
 }
 
 impl Sheet {
-    /// Puts the text of a word of this kind behind what a room has, and says where it ends. Where the room gets full, all goes out.
+    /// Writes the text of a word of this kind.
     #[tactic(auto, unfolding(crate::specs::Printed::kind_text))]
-    pub fn put(
-        &self,
-        out: &mut Vec<u8>,
-        room: &mut [u8],
-        at: usize,
-        word: u64,
-    ) -> Result<usize, AllocError>
-        requires { at ≤ length room.old }
-        ensures text { IfOk result (λ end.
-            written out.new.items room.new end ≡ followed out.old.items room.old at (kind_text word self.now)) }
-        ensures end { IfOk result (λ end. end ≤ length room.new) }
-        ensures long { length room.new ≡ length room.old }
+    pub fn put(&self, pen: &mut Pen, word: u64) -> Result<(), AllocError>
+        ensures { OnOk result (pen.new ≡ pen.old ++ kind_text word self.now) }
     {
-        let from = put_text(out, room, at, self.kind.opcode)?;
-        let end = put_fields(out, room, from, &self.columns, self.width, word)?;
-        Ok(end)
+        pen.text(self.kind.opcode)?;
+        put_fields(pen, &self.columns, self.width, word)?;
+        Ok(())
     }
 }

@@ -1,4 +1,4 @@
-use Rattle.std.proofs.Common.{arith, sym, ◌∙◌, ap, ◌++◌, take, append-nil, ◌≡◌, ◌-◌}
+use Rattle.std.proofs.Common.{arith, sym, ◌∙◌, ap, ◌++◌, append-nil, ◌≡◌, ◌-◌}
 use Rattle.qpu_isa.specs.Fields.{width_of}
 use Rattle.qpu_asm.specs.{Table.widths_of, Walk.field_text, Printed.rows_text}
 use Rattle.qpu_asm.proofs.{Rows.width_by, Rows.ready_by, Rows.text_first, Rows.text_none, Rooms.put_then}
@@ -24,22 +24,16 @@ loop-column-preserved c =
     let same = c.width-width.ensures in
     let at : c.loop-column.low - c.width-width.result ≡ width_of (widths_of c.in-Some.later.now) = omega arith in
     let word = c.args.word in
-    let rest = rows_text c.in-Some.later.now word in
-    let front = take c.loop-column.end c.loop-column.room in
     record {
       ready = (ready_by _ _ _ first c.loop-column.invariant.ready).1;
       low = at;
       wide = omega arith;
-      end = c.in_ok-end.ensures.end;
-      long = c.put.ensures.long ∙ c.loop-column.invariant.long;
       text =
-          put_then c.loop-column.out.items front c.put.new.out.items (take c.in_ok-end.end c.put.new.room) (field_text c.in-Some.column.now c.field_at.result) rest
-          c.in_ok-end.ensures.text
-          ∙ (ap (λ text. c.loop-column.out.items ++ (front ++ text)) (sym (text_first _ _ _ word _ _ _ first same at c.field_at.ensures)) ∙ c.loop-column.invariant.text);
+          put_then c.loop-column.pen c.put.new.pen (field_text c.in-Some.column.now c.field_at.result) (rows_text c.in-Some.later.now word) c.in_ok-put.ensures
+          ∙ (ap (λ text. c.loop-column.pen ++ text) (sym (text_first _ _ _ word _ _ _ first same at c.field_at.ensures)) ∙ c.loop-column.invariant.text);
     }
 
-pub returns-clause-text : goal.returns-clause-text
-returns-clause-text c =
-    let front = take c.loop-column.end c.loop-column.room in
-    ap (λ text. c.loop-column.out.items ++ text) (sym (append-nil front))
-    ∙ (ap (λ text. c.loop-column.out.items ++ (front ++ text)) (sym (text_none c.loop-column.rest.now c.args.word c.in_default.ensures.cases)) ∙ c.loop-column.invariant.text)
+pub returns : goal.returns
+returns c =
+    sym (append-nil c.loop-column.pen)
+    ∙ (ap (λ text. c.loop-column.pen ++ text) (sym (text_none c.loop-column.rest.now c.args.word c.in_default.ensures.cases)) ∙ c.loop-column.invariant.text)

@@ -1,6 +1,6 @@
-use Rattle.std.proofs.Common.{◌≡◌, ◌≤◌, length, true}
+use Rattle.std.proofs.Common.{◌≡◌, ◌≤◌, ◌++◌, length, true}
 use Rattle.qpu_isa.specs.Fields.{width_of}
-use Rattle.qpu_asm.specs.{Table.widths_of, Walk.are_ready, Walk.followed, Printed.rows_text}
+use Rattle.qpu_asm.specs.{Table.widths_of, Walk.are_ready, Printed.rows_text}
 use Rattle.qpu_asm.proofs.sheet.put_fields.Given as goal
 
 abbrev pub invariant-loop-column : goal.invariant-loop-column
@@ -8,10 +8,7 @@ invariant-loop-column l = record {
   ready : are_ready l.rest ≡ true;
   low : l.low ≡ width_of (widths_of l.rest);
   wide : l.low ≤ 64;
-  end : l.end ≤ length l.room;
-  long : length l.room ≡ length l.fn.room;
-  text : followed l.out.items l.room l.end (rows_text l.rest l.word)
-      ≡ followed l.fn.out.items l.fn.room l.fn.at (rows_text l.fn.columns l.word);
+  text : l.pen ++ rows_text l.rest l.word ≡ l.fn.pen ++ rows_text l.fn.columns l.word;
 }
 
 abbrev pub decreases-loop-column : goal.decreases-loop-column
