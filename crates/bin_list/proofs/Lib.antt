@@ -5,3 +5,4 @@ pub mod Facts
 pub mod Plain
 pub mod Least
 pub mod Sound
+pub mod Front

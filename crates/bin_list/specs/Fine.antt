@@ -1,12 +1,12 @@
 -- What a packet without faults promises to its emission.
-use Rattle.std.specs.Prelude.{◌≡◌, ◌≤◌, ℕ, ◌+◌, ◌*◌, ◌<◌, ◌^◌, ◌==◌, false, List, length, slice_index}
+use Rattle.std.specs.Prelude.{◌≡◌, ◌≤◌, ℕ, ◌+◌, ◌*◌, ◌<◌, ◌^◌, ◌==◌, false, List, length, take, drop, slice_index}
 use Rattle.field_words.specs.{Words.u32_at, Sizes.most_list, Sizes.slot_size}
 use Rattle.buffer_table.specs.{Handles.IsData, Table.most_place}
 use Rattle.packets.specs.Opcode.{flush, start_tile_binning, increment_semaphore, indexed_primitive_list, array_primitive_list, gl_shader_state, tile_binning_mode, buffer_handles}
 use Rattle.packets.specs.Length.{bin_length}
 use Rattle.tile_memory.specs.Slots.{alloc_offset}
 use Rattle.relocation.specs.declared.layout.Layout.{Layout}
-use Rattle.bin_list.specs.{declared.seen.Seen.Seen, Packets.opcode, Rules.GivenModel, Rules.index_buffer}
+use Rattle.bin_list.specs.{declared.seen.Seen.Seen, Packets.opcode, Packets.front_packet, Packets.behind, Rules.GivenModel, Rules.index_buffer}
 
 -- The packet is whole; indexes are read from a Plain buffer, and begin inside it; the indexes of an array primitive fit a
 -- word; a tile slot has room for the grid; a shader state is one of those that the job declares.
@@ -30,6 +30,14 @@ pub record IsPlain (packet : List ℕ) : Type 0 where
   pub no_state : (opcode packet == gl_shader_state) ≡ false
   pub no_config : (opcode packet == tile_binning_mode) ≡ false
   pub no_handles : (opcode packet == buffer_handles) ≡ false
+
+-- the packet at the front of the bytes is plain, and takes so many of them
+pub record IsPlainFront (bytes : List ℕ) (n : ℕ) : Type 0 where
+  pub some : 1 ≤ n
+  pub fits : n ≤ length bytes
+  pub packet : take n bytes ≡ front_packet bytes
+  pub rest : drop n bytes ≡ behind bytes
+  pub plain : IsPlain (front_packet bytes)
 
 -- there are no more states than bytes before, and the record of each takes 144 bytes at most
 pub record IsBounded (seen : Seen) : Type 0 where

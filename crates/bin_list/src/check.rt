@@ -16,12 +16,12 @@ ghost use Rattle.bin_list.specs.Info.{IsInfo, IsInfoOf, IsRead, MeetsState};
 ghost use Rattle.bin_list.specs.Told.{IsSoundInfo};
 ghost use Rattle.field_words.specs.Least.{NamesLeast};
 
-use crate::cut::split_front;
+use crate::cut::{plain_front, split_front, split_plain};
 use crate::emit::{put, put_packet};
 use crate::fault::ListFault;
 use crate::given::Given;
 use crate::info::BinInfo;
-use crate::rules::{end_fault, is_plain, packet_fault};
+use crate::rules::{end_fault, packet_fault};
 use crate::seen::Seen;
 use crate::states::States;
 use buffer_table::{Handles, Table};
@@ -59,13 +59,14 @@ fn read_packets(
     let mut end = layout.bin as usize;
     let mut rest = list;
     while !rest.is_empty() {
-        let (packet, behind) = split_front(rest);
-        if is_plain(packet) {
+        if let Some(taken) = plain_front(rest) {
+            let (packet, behind) = split_plain(rest, taken);
             end = put(out, end, packet);
-            seen = seen.past(packet);
+            seen.go_past_plain(packet);
             rest = behind;
             continue;
         }
+        let (packet, behind) = split_front(rest);
         if let Some(rule) = packet_fault(given, &seen, packet) {
             return Err(Stop::Fault(ListFault {
                 number: rule.number(),
@@ -74,7 +75,7 @@ fn read_packets(
         }
         end = put_packet(given, layout, &seen, packet, out, end);
         states.pass(packet)?;
-        seen = seen.after(packet);
+        seen.go_past(packet);
         rest = behind;
     }
     Ok(Read { seen, end, states })

@@ -1,14 +1,16 @@
 //! Cutting a binner list into packets, and reading a packet's fields.
-ghost use Rattle.std.specs.Prelude.{◌≡◌, ◌≤◌, ◌<◌, ◌+◌, length, slice_index};
+ghost use Rattle.std.specs.Prelude.{◌≡◌, ◌≤◌, ◌<◌, ◌+◌, length, slice_index, IfSome};
 ghost use Rattle.field_words.specs.Words.{u32_at};
 ghost use Rattle.packets.specs.Length.{bin_taken};
 ghost use Rattle.bin_list.specs.Packets.{opcode, front_packet, behind};
+ghost use Rattle.bin_list.specs.Fine.{IsPlainFront};
 
 use byteorder::{ByteOrder, LittleEndian};
 use packets::bin_taken;
-use packets::opcode::{HALT, NOP};
+use packets::opcode::HALT;
 
 /// A packet's opcode.
+#[inline(always)]
 pub(crate) fn opcode(packet: &[u8]) -> u8
     requires { 1 ≤ length packet.now }
     ensures { result ≡ opcode packet.now }
@@ -17,6 +19,7 @@ pub(crate) fn opcode(packet: &[u8]) -> u8
 }
 
 /// The byte of a packet at this place.
+#[inline(always)]
 pub(crate) fn byte_at(packet: &[u8], at: usize) -> u8
     requires { at < length packet.now }
     ensures { result ≡ slice_index packet.now at }
@@ -25,6 +28,7 @@ pub(crate) fn byte_at(packet: &[u8], at: usize) -> u8
 }
 
 /// The number of four bytes of a packet at this place.
+#[inline(always)]
 #[tactic(auto, unfolding(field_words::specs::Words::u32_at))]
 pub(crate) fn word_at(packet: &[u8], at: usize) -> u32
     requires { at + 4 ≤ length packet.now }
@@ -33,17 +37,53 @@ pub(crate) fn word_at(packet: &[u8], at: usize) -> u32
     LittleEndian::read_u32(&packet[at..])
 }
 
-#[tactic(auto, unfolding(crate::specs::Packets::front_packet, crate::specs::Packets::behind, packets::specs::Length::bin_taken, packets::specs::Length::bin_length), using(crate::proofs::Cutting::drop_min, crate::proofs::Cutting::take_min))]
+/// The bytes of a plain packet by its opcode, from opcode 0 on. It is 0 where no packet has the opcode, and where one has rules
+/// of its own, tells something to later packets, isn't copied as it is, or ends the list.
+static PLAIN_LENGTHS: [u8; 256] = [
+    0, 1, 0, 0, 0, 0, 0, 0, 0, 0, 0, 0, 0, 0, 0, 0, 0, 0, 0, 0, 0, 0, 0, 0, 0, 0, 0, 0, 0, 0, 0, 0,
+    0, 0, 0, 0, 0, 0, 0, 0, 0, 0, 0, 0, 0, 0, 0, 0, 0, 0, 0, 0, 0, 0, 0, 0, 2, 0, 0, 0, 0, 0, 0, 0,
+    0, 0, 0, 0, 0, 0, 0, 0, 0, 0, 0, 0, 0, 0, 0, 0, 0, 0, 0, 0, 0, 0, 0, 0, 0, 0, 0, 0, 0, 0, 0, 0,
+    4, 5, 5, 5, 3, 5, 9, 5, 0, 9, 9, 0, 0, 0, 0, 0, 0, 0, 0, 0, 0, 0, 0, 0, 0, 0, 0, 0, 0, 0, 0, 0,
+    0, 0, 0, 0, 0, 0, 0, 0, 0, 0, 0, 0, 0, 0, 0, 0, 0, 0, 0, 0, 0, 0, 0, 0, 0, 0, 0, 0, 0, 0, 0, 0,
+    0, 0, 0, 0, 0, 0, 0, 0, 0, 0, 0, 0, 0, 0, 0, 0, 0, 0, 0, 0, 0, 0, 0, 0, 0, 0, 0, 0, 0, 0, 0, 0,
+    0, 0, 0, 0, 0, 0, 0, 0, 0, 0, 0, 0, 0, 0, 0, 0, 0, 0, 0, 0, 0, 0, 0, 0, 0, 0, 0, 0, 0, 0, 0, 0,
+    0, 0, 0, 0, 0, 0, 0, 0, 0, 0, 0, 0, 0, 0, 0, 0, 0, 0, 0, 0, 0, 0, 0, 0, 0, 0, 0, 0, 0, 0, 0, 0,
+];
+
+/// The bytes of the plain packet that is whole at the front; `None` where there is none. Most packets are plain.
+#[inline(always)]
+#[tactic(auto, using(crate::proofs::Front::plain_front))]
+pub(crate) fn plain_front(bytes: &[u8]) -> Option<usize>
+    requires { 1 ≤ length bytes.now }
+    ensures { IfSome result (λ n. IsPlainFront bytes.now n) }
+{
+    let taken = PLAIN_LENGTHS[bytes[0] as usize] as usize;
+    if taken != 0 && taken <= bytes.len() {
+        Some(taken)
+    } else {
+        None
+    }
+}
+
+/// The plain packet at the front of the bytes, and the bytes behind it.
+#[inline(always)]
+pub(crate) fn split_plain(bytes: &[u8], taken: usize) -> (&[u8], &[u8])
+    requires { IsPlainFront bytes.now taken }
+    ensures packet { result.0.now ≡ front_packet bytes.now }
+    ensures rest { result.1.now ≡ behind bytes.now }
+    ensures some { 1 ≤ length result.0.now }
+    ensures fits { length result.0.now + length result.1.now ≤ length bytes.now }
+{
+    bytes.split_at(taken)
+}
+
+#[tactic(auto, unfolding(crate::specs::Packets::front_packet, crate::specs::Packets::behind, packets::specs::Length::bin_taken), using(crate::proofs::Cutting::drop_min, crate::proofs::Cutting::take_min))]
 #[inline]
 fn cut_front(bytes: &[u8]) -> (&[u8], &[u8])
     requires { 1 ≤ length bytes.now }
     ensures packet { result.0.now ≡ front_packet bytes.now }
     ensures rest { result.1.now ≡ behind bytes.now }
 {
-    // Lists are filled up with nops: the shortest way for the shortest packet.
-    if bytes[0] == NOP {
-        return (&bytes[..1], &bytes[1..]);
-    }
     let taken = bin_taken(bytes[0]) as usize;
     let (packet, rest) = bytes.split_at(taken.min(bytes.len()));
     if bytes[0] == HALT {

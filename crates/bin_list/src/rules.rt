@@ -1,5 +1,5 @@
 //! The rules of a binner list, kind by kind of packet.
-ghost use Rattle.std.specs.Prelude.{◌≡◌, ◌≤◌, ◌<◌, ◌+◌, ◌*◌, ◌^◌, ◌++◌, length, slice_index, is_some, IfNone, IfSome, IsTrue};
+ghost use Rattle.std.specs.Prelude.{◌≡◌, ◌≤◌, ◌<◌, ◌+◌, ◌*◌, ◌^◌, ◌++◌, length, slice_index, is_some, IfNone, IfSome};
 ghost use Rattle.field_words.specs.Sizes.{slot_size};
 ghost use Rattle.buffer_table.specs.Table.{most_place};
 ghost use Rattle.field_words.specs.Words.{u32_at};
@@ -9,7 +9,7 @@ ghost use Rattle.buffer_table.specs.Handles.{IsData, data_of};
 ghost use Rattle.tile_memory.specs.Slots.{alloc_offset};
 ghost use Rattle.packets.specs.Length.{bin_length};
 ghost use Rattle.bin_list.specs.Packets.{opcode};
-ghost use Rattle.bin_list.specs.Fine.{IsFine, IsPlain};
+ghost use Rattle.bin_list.specs.Fine.{IsFine};
 ghost use Rattle.bin_list.specs.Rules.{cut_questions, flush_questions, start_questions, increment_questions, primitive_questions, index_buffer, index_size, indexes_end, index_questions, array_questions, state_questions, config_questions, kind_questions, packet_questions, end_questions};
 
 use crate::cut::{byte_at, opcode, word_at};
@@ -19,8 +19,8 @@ use crate::seen::Seen;
 use buffer_table::{Buffer, use_data};
 use packets::bin_length;
 use packets::opcode::{
-    ARRAY_PRIMITIVE_LIST, BUFFER_HANDLES, FLUSH, GL_SHADER_STATE, INCREMENT_SEMAPHORE,
-    INDEXED_PRIMITIVE_LIST, NOP, START_TILE_BINNING, TILE_BINNING_MODE,
+    ARRAY_PRIMITIVE_LIST, FLUSH, GL_SHADER_STATE, INCREMENT_SEMAPHORE, INDEXED_PRIMITIVE_LIST,
+    START_TILE_BINNING, TILE_BINNING_MODE,
 };
 use tile_memory::slot_fits;
 
@@ -92,6 +92,7 @@ fn primitive_fault(seen: &Seen) -> Option<BinRule>
 }
 
 /// The buffer that the indexes come from. `None` comes exactly where its handle names no Plain buffer.
+#[inline(always)]
 #[tactic(auto, unfolding(crate::specs::Rules::index_buffer))]
 pub(crate) fn index_buffer(given: &Given, seen: &Seen) -> Option<Buffer>
     ensures exact { SomeIff result (IsData given.now.table given.now.handles seen.now.index_handle) (index_buffer given.now seen.now) }
@@ -103,6 +104,7 @@ pub(crate) fn index_buffer(given: &Given, seen: &Seen) -> Option<Buffer>
 }
 
 /// The bytes of an index.
+#[inline(always)]
 #[tactic(auto, unfolding(crate::specs::Rules::index_size))]
 fn index_size(packet: &[u8]) -> u64
     requires { 2 ≤ length packet.now }
@@ -113,6 +115,7 @@ fn index_size(packet: &[u8]) -> u64
 }
 
 /// Where the indexes end in their buffer.
+#[inline(always)]
 #[tactic(auto, unfolding(crate::specs::Rules::indexes_end))]
 fn indexes_end(packet: &[u8]) -> u64
     requires { 14 ≤ length packet.now }
@@ -249,25 +252,6 @@ pub(crate) fn packet_fault(given: &Given, seen: &Seen, packet: &[u8]) -> Option<
     match cut_fault(packet) {
         Some(rule) => Some(rule),
         None => kind_fault(given, seen, packet),
-    }
-}
-
-/// Whether the packet is whole and of a kind that has no rules of its own and is copied: most packets are.
-#[inline]
-#[tactic(auto, unfolding(packets::specs::Length::bin_length))]
-pub(crate) fn is_plain(packet: &[u8]) -> bool
-    requires { 1 ≤ length packet.now }
-    ensures { IsTrue result → IsPlain packet.now }
-{
-    match opcode(packet) {
-        NOP => true,
-        FLUSH | START_TILE_BINNING | INCREMENT_SEMAPHORE => false,
-        INDEXED_PRIMITIVE_LIST | ARRAY_PRIMITIVE_LIST | GL_SHADER_STATE => false,
-        TILE_BINNING_MODE | BUFFER_HANDLES => false,
-        opcode => {
-            let length = bin_length(opcode) as usize;
-            length != 0 && length <= packet.len()
-        }
     }
 }
 

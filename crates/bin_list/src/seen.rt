@@ -50,51 +50,47 @@ impl Seen {
         }
     }
 
-    /// Behind this packet.
+    /// Goes on behind this packet.
     #[tactic(auto, unfolding(crate::specs::Seen::seen_after, packets::specs::Length::bin_length))]
-    pub(crate) fn after(&self, packet: &[u8]) -> Seen
+    pub(crate) fn go_past(&mut self, packet: &[u8])
         requires some { 1 ≤ length packet.now }
         requires whole { bin_length (opcode packet.now) ≤ length packet.now }
-        requires place { self.now.at + length packet.now ≤ most_list }
-        requires bounded { IsBounded self.now }
-        ensures value { result ≡ seen_after self.now packet.now }
-        ensures bounded { IsBounded result }
+        requires place { self.old.at + length packet.now ≤ most_list }
+        requires bounded { IsBounded self.old }
+        ensures value { self.new ≡ seen_after self.old packet.now }
+        ensures bounded { IsBounded self.new }
     {
-        let mut seen = *self;
-        seen.at += packet.len() as u32;
-        seen.before_last = self.last;
-        seen.last = opcode(packet);
+        self.at += packet.len() as u32;
+        self.before_last = self.last;
+        self.last = opcode(packet);
         match opcode(packet) {
-            START_TILE_BINNING => seen.started = true,
+            START_TILE_BINNING => self.started = true,
             GL_SHADER_STATE => {
-                seen.states += 1;
-                seen.records += record_room(word_at(packet, 1));
+                self.states += 1;
+                self.records += record_room(word_at(packet, 1));
             }
             TILE_BINNING_MODE => {
-                seen.configured = true;
-                seen.tiles_x = byte_at(packet, 13);
-                seen.tiles_y = byte_at(packet, 14);
+                self.configured = true;
+                self.tiles_x = byte_at(packet, 13);
+                self.tiles_y = byte_at(packet, 14);
             }
-            BUFFER_HANDLES => seen.index_handle = word_at(packet, 1),
+            BUFFER_HANDLES => self.index_handle = word_at(packet, 1),
             _ => {}
         }
-        seen
     }
 
-    /// Behind this packet, which tells nothing to later ones.
-    #[inline]
+    /// Goes on behind this packet, which tells nothing to later ones.
+    #[inline(always)]
     #[tactic(auto, unfolding(crate::specs::Seen::seen_past))]
-    pub(crate) fn past(&self, packet: &[u8]) -> Seen
+    pub(crate) fn go_past_plain(&mut self, packet: &[u8])
         requires some { 1 ≤ length packet.now }
-        requires place { self.now.at + length packet.now ≤ most_list }
-        requires bounded { IsBounded self.now }
-        ensures value { result ≡ seen_past self.now packet.now }
-        ensures bounded { IsBounded result }
+        requires place { self.old.at + length packet.now ≤ most_list }
+        requires bounded { IsBounded self.old }
+        ensures value { self.new ≡ seen_past self.old packet.now }
+        ensures bounded { IsBounded self.new }
     {
-        let mut seen = *self;
-        seen.at += packet.len() as u32;
-        seen.before_last = self.last;
-        seen.last = opcode(packet);
-        seen
+        self.at += packet.len() as u32;
+        self.before_last = self.last;
+        self.last = opcode(packet);
     }
 }

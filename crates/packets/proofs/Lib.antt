@@ -1,3 +1,4 @@
 pub mod Underway
 pub mod Slots
 pub mod Laws
+pub mod Lengths

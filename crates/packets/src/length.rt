@@ -3,38 +3,38 @@ ghost use Rattle.std.specs.Prelude.{◌≡◌, ◌≤◌};
 ghost use Rattle.packets.specs.Length.{bin_length, bin_taken, render_taken};
 
 use crate::opcode::{
-    ARRAY_PRIMITIVE_LIST, BRANCH_TO_SUB_LIST, BUFFER_HANDLES, CLEAR_COLORS, CLIP_WINDOW,
-    CLIPPER_XY_SCALING, CLIPPER_Z_SCALING, CONFIGURATION_BITS, DEPTH_OFFSET, FLAT_SHADE_FLAGS,
-    FLUSH, GL_SHADER_STATE, HALT, INCREMENT_SEMAPHORE, INDEXED_PRIMITIVE_LIST, LINE_WIDTH,
-    LOAD_FULL_RESOLUTION, LOAD_TILE_BUFFER, NOP, POINT_SIZE, PRIMITIVE_LIST_FORMAT, RHT_X_BOUNDARY,
-    START_TILE_BINNING, STORE_FULL_RESOLUTION, STORE_TILE_BUFFER, TILE_BINNING_MODE,
-    TILE_COORDINATES, TILE_RENDERING_MODE, VIEWPORT_OFFSET,
+    BRANCH_TO_SUB_LIST, CLEAR_COLORS, LOAD_FULL_RESOLUTION, LOAD_TILE_BUFFER,
+    STORE_FULL_RESOLUTION, STORE_TILE_BUFFER, TILE_COORDINATES, TILE_RENDERING_MODE,
 };
+
+/// The bytes of a binner's packet by its opcode, from opcode 0 on; 0 where no packet of a binner list has it. A binner list is
+/// cut by this table, which takes fewer steps than a `match`.
+static BIN_LENGTHS: [u8; 256] = [
+    1, 1, 0, 0, 1, 0, 1, 1, 0, 0, 0, 0, 0, 0, 0, 0, 0, 0, 0, 0, 0, 0, 0, 0, 0, 0, 0, 0, 0, 0, 0, 0,
+    14, 10, 0, 0, 0, 0, 0, 0, 0, 0, 0, 0, 0, 0, 0, 0, 0, 0, 0, 0, 0, 0, 0, 0, 2, 0, 0, 0, 0, 0, 0,
+    0, 5, 0, 0, 0, 0, 0, 0, 0, 0, 0, 0, 0, 0, 0, 0, 0, 0, 0, 0, 0, 0, 0, 0, 0, 0, 0, 0, 0, 0, 0, 0,
+    0, 4, 5, 5, 5, 3, 5, 9, 5, 0, 9, 9, 0, 0, 0, 0, 0, 16, 0, 0, 0, 0, 0, 0, 0, 0, 0, 0, 0, 0, 0,
+    0, 0, 0, 0, 0, 0, 0, 0, 0, 0, 0, 0, 0, 0, 0, 0, 0, 0, 0, 0, 0, 0, 0, 0, 0, 0, 0, 0, 0, 0, 0, 0,
+    0, 0, 0, 0, 0, 0, 0, 0, 0, 0, 0, 0, 0, 0, 0, 0, 0, 0, 0, 0, 0, 0, 0, 0, 0, 0, 0, 0, 0, 0, 0, 0,
+    0, 0, 0, 0, 0, 0, 0, 0, 0, 0, 0, 0, 0, 0, 0, 0, 0, 0, 0, 0, 0, 0, 0, 0, 0, 0, 0, 0, 0, 0, 0, 0,
+    0, 0, 0, 0, 0, 0, 0, 0, 0, 0, 0, 0, 0, 0, 0, 0, 0, 0, 0, 0, 0, 0, 0, 0, 0, 0, 0, 0, 0, 0, 0, 0,
+    9, 0,
+];
 
 /// The bytes of a binner's packet by its opcode, the opcode among them; 0 where no packet of a binner
 /// list has this opcode.
-#[tactic(auto, unfolding(crate::specs::Length::bin_length))]
+#[inline(always)]
+#[tactic(auto, using(crate::proofs::Lengths::length_in_table))]
 pub fn bin_length(opcode: u8) -> u32
     ensures value { result ≡ bin_length opcode }
     ensures limit { result ≤ 16 }
 {
-    match opcode {
-        HALT | NOP | FLUSH | START_TILE_BINNING | INCREMENT_SEMAPHORE => 1,
-        PRIMITIVE_LIST_FORMAT => 2,
-        RHT_X_BOUNDARY => 3,
-        CONFIGURATION_BITS => 4,
-        GL_SHADER_STATE | FLAT_SHADE_FLAGS | POINT_SIZE | LINE_WIDTH => 5,
-        DEPTH_OFFSET | VIEWPORT_OFFSET => 5,
-        CLIP_WINDOW | CLIPPER_XY_SCALING | CLIPPER_Z_SCALING | BUFFER_HANDLES => 9,
-        ARRAY_PRIMITIVE_LIST => 10,
-        INDEXED_PRIMITIVE_LIST => 14,
-        TILE_BINNING_MODE => 16,
-        _ => 0,
-    }
+    BIN_LENGTHS[opcode as usize] as u32
 }
 
 /// The bytes by which a reader of a binner list goes on: those of the packet, and one where no packet
 /// has this opcode.
+#[inline(always)]
 #[tactic(auto, unfolding(crate::specs::Length::bin_taken))]
 pub fn bin_taken(opcode: u8) -> u32
     ensures value { result ≡ bin_taken opcode }

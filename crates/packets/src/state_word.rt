@@ -5,6 +5,7 @@ ghost use Rattle.packets.specs.StateWord.{attribute_count, is_extended, record_s
 use field_words::round_up;
 
 /// How many attributes the record of a shader state with this word has.
+#[inline(always)]
 #[tactic(auto, unfolding(crate::specs::StateWord::attribute_count))]
 pub fn attribute_count(state: u32) -> u32
     ensures value { result ≡ attribute_count state }
@@ -18,6 +19,7 @@ pub fn attribute_count(state: u32) -> u32
 }
 
 /// Whether each attribute has a word more, with the high bits of its stride.
+#[inline(always)]
 #[tactic(auto, unfolding(crate::specs::StateWord::is_extended))]
 pub fn is_extended(state: u32) -> bool
     ensures { result ≡ is_extended state }
@@ -26,6 +28,7 @@ pub fn is_extended(state: u32) -> bool
 }
 
 /// The bytes of the record: 36 and 8 for each attribute, or where it is extended 100 and 4 for each attribute.
+#[inline(always)]
 #[tactic(auto, unfolding(crate::specs::StateWord::record_size))]
 pub fn record_size(state: u32) -> u32
     ensures value { result ≡ record_size state }
@@ -39,6 +42,7 @@ pub fn record_size(state: u32) -> u32
 }
 
 /// The bytes from this emitted record to the next: its size, filled to a multiple of 16.
+#[inline(always)]
 #[tactic(auto, unfolding(crate::specs::StateWord::record_room))]
 pub fn record_room(state: u32) -> u32
     ensures value { result ≡ record_room state }
