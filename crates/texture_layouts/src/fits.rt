@@ -9,6 +9,7 @@ use crate::rule::TextureRule;
 use crate::setup::{Texture, cube_stride, is_cube_word, kind};
 
 /// U4: cube mode, and the third and the fourth word both have a cube stride.
+#[inline(always)]
 #[tactic(auto, unfolding(crate::specs::Fits::has_two_strides))]
 pub fn has_two_strides(words: &[u32; 4]) -> bool
     ensures { result ≡ has_two_strides (slice_index words.now 0) (slice_index words.now 2) (slice_index words.now 3) }
@@ -17,6 +18,7 @@ pub fn has_two_strides(words: &[u32; 4]) -> bool
 }
 
 /// U5: cube mode, and neither the third nor the fourth word has a cube stride, or it is 0.
+#[inline(always)]
 #[tactic(auto, unfolding(crate::specs::Fits::lacks_stride))]
 pub fn lacks_stride(words: &[u32; 4]) -> bool
     ensures { result ≡ lacks_stride (slice_index words.now 0) (slice_index words.now 2) (slice_index words.now 3) }
@@ -26,6 +28,7 @@ pub fn lacks_stride(words: &[u32; 4]) -> bool
 
 /// U7: the pixels of level 0 of some face end past the buffer, which is so exactly where those of
 /// the last face do.
+#[inline(always)]
 #[tactic(auto, using(crate::proofs::Faces::last_decides))]
 fn has_face_past(texture: &Texture, size: u32) -> bool
     requires { is_unlisted texture.now ≡ false }
@@ -35,6 +38,7 @@ fn has_face_past(texture: &Texture, size: u32) -> bool
 }
 
 /// U8: levels 1 and up take more bytes than there are below the base.
+#[inline(always)]
 #[tactic(auto, unfolding(crate::specs::Fits::has_level_below))]
 fn has_level_below(texture: &Texture) -> bool
     requires { is_unlisted texture.now ≡ false }
@@ -44,6 +48,7 @@ fn has_level_below(texture: &Texture) -> bool
 }
 
 /// U9: the third or the fourth word has a child image.
+#[inline(always)]
 #[tactic(auto, unfolding(crate::specs::Fits::has_child_image))]
 pub fn has_child_image(words: &[u32; 4]) -> bool
     ensures { result ≡ has_child_image (slice_index words.now 2) (slice_index words.now 3) }
@@ -96,6 +101,7 @@ pub fn texture_fits(p: [u32; 4], size: u32) -> Result<(), u8>
 }
 
 /// The first of U2 and U3 that stands.
+#[inline(always)]
 #[tactic(auto, unfolding(crate::specs::Fits::direct_questions))]
 pub fn direct_fault(base: u32, bound: u32, size: u32) -> Option<TextureRule>
     ensures { numbered result ≡ first_of (direct_questions base bound size) }

@@ -9,6 +9,7 @@ use crate::surface::{Tiling, surface_size, tiling_of};
 ///
 /// Level 0 is the texture itself. Level `level` of 1 or more has the least power of two that is at
 /// least the side, shifted right by `level`, and at least 1 pixel.
+#[inline(always)]
 #[tactic(auto, unfolding(crate::specs::Level::level_side_of), using(crate::proofs::Powers::shifted))]
 pub(crate) fn level_side(side: u32, level: u32) -> u32
     requires side_from { 1 ≤ side }
@@ -25,6 +26,7 @@ pub(crate) fn level_side(side: u32, level: u32) -> u32
 }
 
 /// The least power of two that is at least a side.
+#[inline(always)]
 #[tactic(auto, using(crate::proofs::Powers::power_found))]
 fn power_above(side: u32) -> u32
     requires { side ≤ 2048 }
@@ -36,6 +38,7 @@ fn power_above(side: u32) -> u32
 
 /// The tiling of a level of this width and height: a raster texture is raster on each level, and
 /// another is T or Lt by each level's own size.
+#[inline(always)]
 #[tactic(auto, unfolding(crate::specs::Level::level_tiling_of))]
 pub(crate) fn level_tiling(raster: bool, width: u32, height: u32, cpp: u32) -> Tiling
     requires width_limit { width ≤ 65535 }
@@ -51,6 +54,7 @@ pub(crate) fn level_tiling(raster: bool, width: u32, height: u32, cpp: u32) -> T
 }
 
 /// The bytes of a level of this width and height.
+#[inline(always)]
 #[tactic(auto, unfolding(crate::specs::Level::image_size_of))]
 fn image_size(raster: bool, width: u32, height: u32, cpp: u32) -> u64
     requires width_limit { width ≤ 65535 }
@@ -64,6 +68,7 @@ fn image_size(raster: bool, width: u32, height: u32, cpp: u32) -> u64
 
 /// The bytes of level `level` of a texture of `width` times `height` pixels of `cpp` bytes. With a
 /// `cpp` of 8 the sides count blocks of 4x4 pixels.
+#[inline(always)]
 #[tactic(auto, unfolding(crate::specs::Level::level_size_of))]
 pub fn level_size(raster: bool, width: u32, height: u32, cpp: u32, level: u32) -> u64
     requires width_from { 1 ≤ width }

@@ -40,6 +40,7 @@ impl Texture {
     ghost use Rattle.texture_layouts.specs.Fits.{is_unlisted};
 
     /// The texture that these four set-up words describe. A word that isn't there is 0.
+    #[inline(always)]
     #[tactic(auto, unfolding(crate::specs::Setup::texture_of))]
     pub fn of(words: &[u32; 4]) -> Texture
         ensures decoded { result ≡ texture_in words.now }
@@ -59,6 +60,7 @@ impl Texture {
     }
 
     /// How many faces there are: 6 in cube mode, else 1.
+    #[inline(always)]
     #[tactic(auto, unfolding(crate::specs::Setup::faces_of))]
     pub fn faces(&self) -> u32
         ensures value { result ≡ faces_of self.now }
@@ -69,6 +71,7 @@ impl Texture {
     }
 
     /// How many levels there are beside level 0.
+    #[inline(always)]
     pub fn levels(&self) -> u32
         ensures value { result ≡ self.now.levels }
         ensures limit { result ≤ 15 }
@@ -77,6 +80,7 @@ impl Texture {
     }
 
     /// Whether the type is none of the listed ones, so that a pixel has no size.
+    #[inline(always)]
     #[tactic(auto, unfolding(crate::specs::Fits::is_unlisted))]
     pub fn is_unlisted(&self) -> bool
         ensures { result ≡ is_unlisted self.now }
@@ -130,6 +134,7 @@ impl Texture {
     }
 
     /// The bytes of a level of one face.
+    #[inline(always)]
     #[tactic(auto, unfolding(crate::specs::Fits::is_unlisted))]
     pub fn level_size(&self, level: u32) -> u64
         requires level { level ≤ self.now.levels }
@@ -142,6 +147,7 @@ impl Texture {
     }
 
     /// Where the pixels of level 0 of a face begin.
+    #[inline(always)]
     pub fn face_place(&self, face: u32) -> u64
         requires { face < 6 }
         ensures value { result ≡ face_place self.now face }

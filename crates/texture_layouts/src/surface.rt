@@ -1,6 +1,5 @@
 //! The tilings, and the sizes that surfaces take in memory.
-ghost use Rattle.std.specs.Prelude.{◌≡◌, ◌+◌, ◌<◌, ◌≤◌, ◌^◌};
-ghost use Rattle.field_words.specs.Words.{IsRoundedUp};
+ghost use Rattle.std.specs.Prelude.{◌≡◌, ◌<◌, ◌≤◌, ◌^◌};
 ghost use Rattle.texture_layouts.specs.Surface.{IsPixelSize, microtile_width_of, microtile_height_of, tiling_for, unit_across, unit_down, size_for};
 
 use field_words::round_up;
@@ -21,6 +20,7 @@ pub enum Tiling {
 
 /// The tiling of a tiled image of `width` times `height` pixels of `cpp` bytes: [`Tiling::Lt`]
 /// where it is at most four microtiles wide or high, else [`Tiling::T`].
+#[inline(always)]
 pub fn tiling_of(width: u32, height: u32, cpp: u32) -> Tiling
     requires width_limit { width ≤ 65535 }
     requires height_limit { height ≤ 65535 }
@@ -38,6 +38,7 @@ pub fn tiling_of(width: u32, height: u32, cpp: u32) -> Tiling
 ///
 /// Both sides are aligned first: T to 8x8 microtiles, Lt to one microtile, and raster's width to
 /// one microtile's width. So a surface never ends within a microtile that an access covers whole.
+#[inline(always)]
 #[tactic(auto, using(crate::proofs::Size::product_fits))]
 pub fn surface_size(tiling: Tiling, width: u32, height: u32, cpp: u32) -> u64
     requires width_limit { width ≤ 65535 }
@@ -46,30 +47,13 @@ pub fn surface_size(tiling: Tiling, width: u32, height: u32, cpp: u32) -> u64
     ensures value { result ≡ size_for tiling width height cpp }
     ensures limit { result < 2 ^ 36 }
 {
-    let across = aligned(width as u64, alignment_across(tiling, cpp));
-    let down = aligned(height as u64, alignment_down(tiling, cpp));
+    let across = round_up(width as u64, alignment_across(tiling, cpp));
+    let down = round_up(height as u64, alignment_down(tiling, cpp));
     across * down * cpp as u64
 }
 
-/// A side as aligned to so many pixels. Each unit that a surface has stands as a number, so that nothing is divided.
-fn aligned(side: u64, unit: u64) -> u64
-    requires positive { 1 ≤ unit }
-    requires room { side + unit < 2 ^ 63 }
-    ensures { IsRoundedUp side unit result }
-{
-    match unit {
-        1 => round_up(side, 1),
-        2 => round_up(side, 2),
-        4 => round_up(side, 4),
-        8 => round_up(side, 8),
-        16 => round_up(side, 16),
-        32 => round_up(side, 32),
-        64 => round_up(side, 64),
-        unit => round_up(side, unit),
-    }
-}
-
 /// A microtile's width in pixels of `cpp` bytes.
+#[inline(always)]
 #[tactic(auto, unfolding(crate::specs::Surface::microtile_width_of))]
 pub fn microtile_width(cpp: u32) -> u32
     ensures value { result ≡ microtile_width_of cpp }
@@ -84,6 +68,7 @@ pub fn microtile_width(cpp: u32) -> u32
 }
 
 /// A microtile's height in pixels of `cpp` bytes.
+#[inline(always)]
 #[tactic(auto, unfolding(crate::specs::Surface::microtile_height_of))]
 pub fn microtile_height(cpp: u32) -> u32
     ensures value { result ≡ microtile_height_of cpp }
@@ -96,28 +81,67 @@ pub fn microtile_height(cpp: u32) -> u32
     }
 }
 
-/// The number of pixels that a surface's width is aligned to.
+/// The power of two of the pixels that a surface's width is aligned to.
+#[inline(always)]
+#[tactic(auto, unfolding(crate::specs::Surface::microtile_width_of))]
+fn power_across(tiling: Tiling, cpp: u32) -> u32
+    ensures value { 2 ^ result ≡ unit_across tiling cpp }
+    ensures power { result ≤ 6 }
+    ensures positive { 1 ≤ 2 ^ result }
+    ensures limit { 2 ^ result ≤ 64 }
+{
+    match tiling {
+        Tiling::T => match cpp {
+            8 => 4,
+            4 => 5,
+            _ => 6,
+        },
+        Tiling::Raster | Tiling::Lt => match cpp {
+            8 => 1,
+            4 => 2,
+            _ => 3,
+        },
+    }
+}
+
+/// The same of the height.
+#[inline(always)]
+#[tactic(auto, unfolding(crate::specs::Surface::microtile_height_of))]
+fn power_down(tiling: Tiling, cpp: u32) -> u32
+    ensures value { 2 ^ result ≡ unit_down tiling cpp }
+    ensures power { result ≤ 6 }
+    ensures positive { 1 ≤ 2 ^ result }
+    ensures limit { 2 ^ result ≤ 64 }
+{
+    match tiling {
+        Tiling::Raster => 0,
+        Tiling::T => match cpp {
+            1 => 6,
+            _ => 5,
+        },
+        Tiling::Lt => match cpp {
+            1 => 3,
+            _ => 2,
+        },
+    }
+}
+
+/// The number of pixels that a surface's width is aligned to. It stands as a shift, so that nothing is divided by it.
+#[inline(always)]
 pub(crate) fn alignment_across(tiling: Tiling, cpp: u32) -> u64
     ensures value { result ≡ unit_across tiling cpp }
     ensures positive { 1 ≤ result }
     ensures limit { result ≤ 64 }
 {
-    match tiling {
-        Tiling::Raster => microtile_width(cpp) as u64,
-        Tiling::T => 8 * microtile_width(cpp) as u64,
-        Tiling::Lt => microtile_width(cpp) as u64,
-    }
+    1 << power_across(tiling, cpp)
 }
 
 /// The number of pixels that a surface's height is aligned to.
+#[inline(always)]
 fn alignment_down(tiling: Tiling, cpp: u32) -> u64
     ensures value { result ≡ unit_down tiling cpp }
     ensures positive { 1 ≤ result }
     ensures limit { result ≤ 64 }
 {
-    match tiling {
-        Tiling::Raster => 1,
-        Tiling::T => 8 * microtile_height(cpp) as u64,
-        Tiling::Lt => microtile_height(cpp) as u64,
-    }
+    1 << power_down(tiling, cpp)
 }
