@@ -12,7 +12,7 @@ use crate::copies::copy_words;
 use crate::sizes::handles_size;
 use bin_list::State;
 use buffer_table::{Handles, Table, use_code, use_data};
-use field_words::get_u32;
+use byteorder::{ByteOrder, LittleEndian};
 use qpu_isa::ShaderInfo;
 use std::marker::Model;
 
@@ -39,11 +39,12 @@ impl<'a> Model for Inputs<'a> {
 }
 
 /// The number of four bytes at a place.
+#[tactic(auto, unfolding(field_words::specs::Words::u32_at))]
 fn word_at(bytes: &[u8], at: usize) -> u32
     requires { at + 4 ≤ length bytes.now }
     ensures { result ≡ u32_at bytes.now at }
 {
-    get_u32(bytes, at).unwrap_or(0)
+    LittleEndian::read_u32(&bytes[at..])
 }
 
 /// A word moved by its buffer's place.
