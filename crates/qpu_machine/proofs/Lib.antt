@@ -8,3 +8,6 @@ pub mod Asking
 pub mod Settling
 pub mod Starts
 pub mod Served
+pub mod Same
+pub mod KnownRows
+pub mod Looking

@@ -7,4 +7,5 @@ pub mod Step
 pub mod Start
 pub mod Request
 pub mod Qpu
+pub mod Known
 pub mod Bounds

@@ -33,15 +33,17 @@ pub(crate) fn pass_uniform(thread: &mut Thread)
     thread.uniforms = thread.uniforms.wrapping_add(4);
 }
 
+/// Where the add unit writes; a branch writes to 39, which is nothing.
 #[tactic(auto, unfolding(crate::specs::Writes::add_address))]
-fn add_address(word: u64) -> u8
+pub(crate) fn add_address(word: u64) -> u8
     ensures { result ≡ add_address word }
 {
     if is_branch(word) { 39 } else { waddr_add(word) }
 }
 
+/// Where the multiply unit writes.
 #[tactic(auto, unfolding(crate::specs::Writes::mul_address))]
-fn mul_address(word: u64) -> u8
+pub(crate) fn mul_address(word: u64) -> u8
     ensures { result ≡ mul_address word }
 {
     if is_branch(word) { 39 } else { waddr_mul(word) }

@@ -6,6 +6,7 @@
 #![tactic(auto)]
 
 mod effects;
+mod known;
 mod lanes;
 mod operands;
 mod qpu;
@@ -19,6 +20,7 @@ mod step;
 mod texels;
 mod wild;
 
+pub use known::words_enough;
 pub use qpu::{is_qpu_idle, is_qpu_ready, takes_first, takes_other};
 pub use request::serve;
 pub use serving::{is_tmu_ready, step_tmu, tmu_job};

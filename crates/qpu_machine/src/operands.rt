@@ -129,9 +129,9 @@ pub(crate) fn add_row(thread: &Thread, word: u64, uniform: u32, words: &[u32]) -
     sums(op_add(word), &x, &y, words)
 }
 
-// Whether the multiply unit's result is rotated.
+/// Whether the multiply unit's result is rotated.
 #[tactic(auto, unfolding(crate::specs::Operands::is_rotated))]
-fn is_rotated(word: u64) -> bool
+pub(crate) fn is_rotated(word: u64) -> bool
     ensures { result ≡ is_rotated word }
 {
     has_small(word) && 48 <= raddr_b(word)

@@ -112,6 +112,15 @@ fn word_in(bytes: &[u8]) -> u64
     LittleEndian::read_u64(bytes)
 }
 
+/// The word of the instruction at this place.
+pub(crate) fn instruction_at(place: u64, memory: &PhysMem) -> u64
+    requires { place < 2 ^ 62 }
+    ensures { result ≡ from_le_bytes w64 (bytes_at memory.now place 8) }
+{
+    let bytes = read_bytes(memory, place, 8);
+    word_in(&bytes)
+}
+
 /// One instruction of a thread, whose accesses are those of `who`. What the hardware leaves open is answered by the words; a
 /// missing word is zero. It lists its accesses behind those already listed: the read of the instruction, and of the uniform
 /// where it takes one. `None` comes exactly where the instruction is wild; then a Wild access is listed too, and the thread is
@@ -166,6 +175,6 @@ pub fn is_ready(thread: &Thread, queued0: usize, queued1: usize, memory: &PhysMe
     requires few1 { queued1 ≤ 1000 }
     ensures { result ≡ glanced (thread_ready thread.now queued0 queued1) memory.now }
 {
-    let bytes = read_bytes(memory, thread.place, 8);
-    !is_held(thread, word_in(&bytes), queued0, queued1)
+    let word = instruction_at(thread.place, memory);
+    !is_held(thread, word, queued0, queued1)
 }
