@@ -1,5 +1,5 @@
 -- Code that carried out a unit's plan took the machine's turn, unit by unit.
-use Rattle.std.proofs.Common.{◌≡◌, ◌<◌, ◌≤◌, ℕ, zero, suc, Bool, true, false, IsTrue, if◌then◌else◌, List, [], ◌∷◌, length, slice_index_or, slice_set, Option, Some, None, refl, sym, ◌∙◌, ap, subst, arith}
+use Rattle.std.proofs.Common.{◌≡◌, ◌<◌, ℕ, zero, suc, Bool, true, false, IsTrue, List, [], ◌∷◌, length, slice_index_or, slice_set, Option, Some, None, refl, sym, ◌∙◌, ap, subst, arith}
 use Rattle.std.proofs.{lemmas.List.length-set, lemmas.Option.slice_get_read, lemmas.Grind.common_steps}
 use Rattle.std.specs.Prelude.{option_map, unwrap_or}
 use Rattle.field_words.specs.{declared.access.Access.Access, declared.access.Actor.Actor}

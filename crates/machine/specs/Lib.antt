@@ -1,2 +1,4 @@
 pub mod State
 pub mod Step
+pub mod Enough
+pub mod Moves

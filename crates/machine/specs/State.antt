@@ -1,5 +1,5 @@
 -- The machine's state: memory, what the list units keep for each job, and the shader processors.
-use Rattle.std.specs.Prelude.{◌≡◌, ◌≤◌, ◌<◌, ℕ, ◌+◌, Bool, if◌then◌else◌, List, [], ◌∷◌, length, map, replicate, slice_index_or, Option, None, Some}
+use Rattle.std.specs.Prelude.{◌≡◌, ◌≤◌, ℕ, ◌+◌, Bool, if◌then◌else◌, List, [], ◌∷◌, length, map, replicate, slice_index_or, Option, None, Some}
 pub use Rattle.std.specs.Prelude.{slice_get as item_at, slice_set as put_at}
 use Rattle.machine_plan.specs.World.{World}
 use Rattle.list_machine.specs.{Binner.has_binner_work, Lists.Lists, Lists.lists_start, Renderer.has_renderer_work}

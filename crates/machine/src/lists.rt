@@ -1,13 +1,14 @@
 //! The turns of binner and renderer.
 ghost use Rattle.std.specs.Prelude.{◌≡◌, ◌≤◌, ◌<◌, [], IsTrue, true, length};
 ghost use Rattle.machine_plan.specs.Glance.{glanced};
-ghost use Rattle.machine_plan.specs.World.{Moves, turned};
 ghost use Rattle.list_machine.specs.Binner.{binner_ready};
 ghost use Rattle.list_machine.specs.Renderer.{renderer_ready, LooksAt};
 ghost use Rattle.qpu_machine.specs.Qpu.{free_in};
 ghost use Rattle.qpu_machine.specs.Bounds.{AreBounded};
 ghost use Rattle.machine.specs.State.{binner_job, renderer_job, picked_in, job_at};
-ghost use Rattle.machine.specs.Step.{with_launch, is_ahead, binner_may, renderer_may, binner_turn, renderer_turn};
+ghost use Rattle.machine.specs.Enough.{is_in_tile};
+ghost use Rattle.machine.specs.Moves.{BinnerMoves, RendererMoves};
+ghost use Rattle.machine.specs.Step.{with_launch, is_ahead, binner_may, renderer_may, renderer_turn};
 
 use crate::machine::Machine;
 use machine_plan::{Accesses, Launch};
@@ -64,7 +65,7 @@ impl Machine {
     pub(crate) fn take_binner_turn(&mut self, words: &[u32], accesses: &mut Accesses)
         requires empty { accesses.old.items ≡ [] }
         requires may { IsTrue (glanced (binner_may self.old.units (binner_job self.old.units)) self.old.memory) }
-        ensures { Moves (turned self.old (binner_turn self.old.units (binner_job self.old.units) words.now)) accesses.new.items self.new }
+        ensures { BinnerMoves self.old (binner_job self.old.units) words.now accesses.new.items self.new }
     {
         if let Some(job) = self.binner_job() {
             self.bin(job, words, accesses);
@@ -76,7 +77,7 @@ impl Machine {
         requires empty { accesses.old.items ≡ [] }
         requires within { job < length self.old.units.jobs }
         requires ready { IsTrue (glanced (binner_ready (job_at self.old.units.jobs job) (free_in self.old.units.qpus)) self.old.memory) }
-        ensures { Moves (turned self.old (binner_turn self.old.units (Some (picked_in self.old.units.jobs job)) words.now)) accesses.new.items self.new }
+        ensures { BinnerMoves self.old (Some (picked_in self.old.units.jobs job)) words.now accesses.new.items self.new }
     {
         let free = free_in(self.qpus.as_slice());
         let started = self.jobs[job].step_binner(
@@ -92,7 +93,8 @@ impl Machine {
     /// Whether the renderer is in a tile's list. There its turn looks at no choice words but the first two.
     #[tactic(auto, using(crate::proofs::Words::turn_looks))]
     pub(crate) fn is_in_tile(&self) -> bool
-        ensures { IsTrue result → LooksAt 2 (renderer_turn self.now.units (renderer_job self.now.units)) }
+        ensures value { result ≡ is_in_tile (renderer_job self.now.units) }
+        ensures two { IsTrue result → LooksAt 2 (renderer_turn self.now.units (renderer_job self.now.units)) }
     {
         match self.renderer_job() {
             None => false,
@@ -104,7 +106,7 @@ impl Machine {
     pub(crate) fn take_renderer_turn(&mut self, words: &[u32], accesses: &mut Accesses)
         requires empty { accesses.old.items ≡ [] }
         requires may { IsTrue (glanced (renderer_may (renderer_job self.old.units)) self.old.memory) }
-        ensures { Moves (turned self.old (renderer_turn self.old.units (renderer_job self.old.units) words.now)) accesses.new.items self.new }
+        ensures { RendererMoves self.old (renderer_job self.old.units) words.now accesses.new.items self.new }
     {
         if let Some(job) = self.renderer_job() {
             self.render(job, words, accesses);
@@ -116,7 +118,7 @@ impl Machine {
         requires empty { accesses.old.items ≡ [] }
         requires within { job < length self.old.units.jobs }
         requires ready { IsTrue (glanced (renderer_ready (job_at self.old.units.jobs job)) self.old.memory) }
-        ensures { Moves (turned self.old (renderer_turn self.old.units (Some (picked_in self.old.units.jobs job)) words.now)) accesses.new.items self.new }
+        ensures { RendererMoves self.old (Some (picked_in self.old.units.jobs job)) words.now accesses.new.items self.new }
     {
         let free = free_in(self.qpus.as_slice());
         let started = self.jobs[job].step_renderer(

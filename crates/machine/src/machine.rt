@@ -2,7 +2,8 @@
 ghost use Rattle.std.specs.Prelude.{◌≡◌, ◌≤◌, ◌<◌, [], IsTrue, false, length, option_map, unwrap_or, position, IfOk, IfSome};
 ghost use Rattle.list_machine.specs.Binner.{has_binner_work};
 ghost use Rattle.list_machine.specs.Renderer.{has_renderer_work, LooksAt};
-ghost use Rattle.machine_plan.specs.World.{Moves};
+ghost use Rattle.machine.specs.Enough.{words_enough};
+ghost use Rattle.machine.specs.Moves.{UnitMoves};
 ghost use Rattle.machine.specs.Step.{enabled, finished, job_of, step};
 ghost use Rattle.machine.specs.State.{start_of, binner_job, renderer_job, picked_in};
 
@@ -131,11 +132,14 @@ impl Machine {
 
     /// How many choice words suffice for the unit's next step, where it is known of fewer than a step may look at: words that agree in
     /// so many make the same step.
+    #[tactic(auto, unfolding(crate::specs::Enough::words_enough))]
     pub fn words_enough(&self, unit: Actor) -> Option<u32>
-        ensures { IfSome result (λ n. LooksAt n (λ words. step self.now (record { unit = unit; words = words }))) }
+        ensures value { result ≡ words_enough self.now unit }
+        ensures enough { IfSome result (λ n. LooksAt n (λ words. step self.now (record { unit = unit; words = words }))) }
     {
         match unit {
             Actor::Renderer if self.is_in_tile() => Some(2),
+            Actor::Qpu(k) => self.qpu_words(k),
             _ => None,
         }
     }
@@ -150,7 +154,7 @@ impl Machine {
         ensures refused { enabled self.old unit ≡ false → result ≡ Stepped.NotEnabled }
         ensures same { result ≡ Stepped.NotEnabled → self.new ≡ self.old }
         ensures emptied { result ≡ Stepped.NotEnabled → accesses.new.items ≡ [] }
-        ensures moved { result ≡ Stepped.Done → Moves (step self.old (record { unit = unit; words = words.now })) accesses.new.items self.new }
+        ensures moved { result ≡ Stepped.Done → UnitMoves self.old unit words.now accesses.new.items self.new }
     {
         accesses.clear();
         if !self.enabled(unit) {
@@ -165,7 +169,7 @@ impl Machine {
     fn take_turn(&mut self, unit: Actor, words: &[u32], accesses: &mut Accesses)
         requires empty { accesses.old.items ≡ [] }
         requires may { IsTrue (enabled self.old unit) }
-        ensures { Moves (step self.old (record { unit = unit; words = words.now })) accesses.new.items self.new }
+        ensures { UnitMoves self.old unit words.now accesses.new.items self.new }
     {
         match unit {
             Actor::Binner => self.take_binner_turn(words, accesses),

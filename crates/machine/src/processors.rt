@@ -1,16 +1,19 @@
 //! The turns of the shader processors and of their texture and memory units (TMUs).
-ghost use Rattle.std.specs.Prelude.{◌≡◌, ◌≤◌, ◌<◌, [], IsTrue, length};
+ghost use Rattle.std.specs.Prelude.{◌≡◌, ◌≤◌, ◌<◌, [], IsTrue, length, IfSome};
 ghost use Rattle.machine_plan.specs.Glance.{glanced};
-ghost use Rattle.machine_plan.specs.World.{Moves, turned};
 ghost use Rattle.std.specs.List.{list_all};
 ghost use Rattle.qpu_machine.specs.Qpu.{is_idle};
 ghost use Rattle.machine.specs.State.{item_at};
-ghost use Rattle.machine.specs.Step.{qpu_may, tmu_may, qpu_turn, tmu_turn, qpu_job, tmu_job};
+ghost use Rattle.machine.specs.Enough.{qpu_words, QpuLooksAt};
+ghost use Rattle.machine.specs.Moves.{QpuMoves, TmuMoves};
+ghost use Rattle.machine.specs.Step.{qpu_may, tmu_may, qpu_job, tmu_job};
 
 use crate::machine::Machine;
 use field_words::Actor;
 use machine_plan::{Accesses, Who};
-use qpu_machine::{is_qpu_idle, is_qpu_ready, is_tmu_ready, qpu_job, step_qpu, step_tmu, tmu_job};
+use qpu_machine::{
+    is_qpu_idle, is_qpu_ready, is_tmu_ready, qpu_job, step_qpu, step_tmu, tmu_job, words_enough,
+};
 
 impl Machine {
     /// Whether processor `k` may step; there are twelve.
@@ -60,11 +63,24 @@ impl Machine {
         self.qpus.iter().all(|qpu| is_qpu_idle(qpu))
     }
 
+    /// How many choice words suffice for the turn of processor `k`, where it is known of fewer than it may look at.
+    pub(crate) fn qpu_words(&self, k: u8) -> Option<u32>
+        ensures value { result ≡ qpu_words (item_at self.now.units.qpus k) self.now.memory }
+        ensures enough { IfSome result (QpuLooksAt self.now k) }
+    {
+        let k = k as usize;
+        if k < self.qpus.len() {
+            words_enough(&self.qpus[k], &self.memory)
+        } else {
+            None
+        }
+    }
+
     /// The turn of processor `k`, which may step.
     pub(crate) fn take_qpu_turn(&mut self, k: u8, words: &[u32], accesses: &mut Accesses)
         requires empty { accesses.old.items ≡ [] }
         requires may { IsTrue (glanced (qpu_may (item_at self.old.units.qpus k)) self.old.memory) }
-        ensures { Moves (turned self.old (qpu_turn self.old.units k (item_at self.old.units.qpus k) words.now)) accesses.new.items self.new }
+        ensures { QpuMoves self.old k words.now accesses.new.items self.new }
     {
         let who = Who {
             unit: Actor::Qpu(k),
@@ -83,7 +99,7 @@ impl Machine {
     pub(crate) fn take_tmu_turn(&mut self, k: u8, n: u8, words: &[u32], accesses: &mut Accesses)
         requires empty { accesses.old.items ≡ [] }
         requires may { IsTrue (glanced (tmu_may (item_at self.old.units.qpus k) n) self.old.memory) }
-        ensures { Moves (turned self.old (tmu_turn self.old.units k n (item_at self.old.units.qpus k) words.now)) accesses.new.items self.new }
+        ensures { TmuMoves self.old k n words.now accesses.new.items self.new }
     {
         let who = Who {
             unit: Actor::Tmu(k, n),

@@ -1,5 +1,5 @@
 -- The binner's step is its turn.
-use Rattle.std.proofs.Common.{refl, ◌≡◌, ◌<◌, ◌∙◌, sym, subst, ap, IsTrue, length}
+use Rattle.std.proofs.Common.{refl, ◌<◌, ◌∙◌, sym, subst, ap, IsTrue, length}
 use Rattle.machine_plan.specs.Glance.{glanced}
 use Rattle.list_machine.specs.{Lists.binner_of, Lists.binner_ended, Binner.binner_ready, Binner.binner_plan}
 use Rattle.qpu_machine.specs.Qpu.{free_in}

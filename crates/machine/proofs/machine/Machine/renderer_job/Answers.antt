@@ -1,5 +1,5 @@
 -- The first job with work left.
-use Rattle.std.proofs.Common.{◌≡◌, ◌∙◌, ap, sym}
+use Rattle.std.proofs.Common.{◌∙◌, ap, sym}
 use Rattle.std.specs.Prelude.{option_map}
 use Rattle.list_machine.specs.Renderer.{has_renderer_work}
 use Rattle.machine.specs.State.{picked_in}

@@ -1,5 +1,5 @@
 -- The processor's step is its turn.
-use Rattle.std.proofs.Common.{◌≡◌, ◌∙◌, sym, subst, ap}
+use Rattle.std.proofs.Common.{◌∙◌, sym, subst, ap}
 use Rattle.qpu_machine.specs.{Qpu.active_of, Qpu.job_of_thread, Bounds.IsBounded}
 use Rattle.machine.specs.State.{State}
 use Rattle.machine.proofs.Turns.{qpu_below, qpu_here, whole_with, qpu_done}

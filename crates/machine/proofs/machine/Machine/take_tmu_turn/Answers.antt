@@ -1,5 +1,5 @@
 -- The TMU's step is its turn.
-use Rattle.std.proofs.Common.{◌≡◌, ◌∙◌, sym, subst, ap}
+use Rattle.std.proofs.Common.{◌∙◌, sym, subst, ap}
 use Rattle.qpu_machine.specs.{Qpu.queue_of, Qpu.oldest, Qpu.job_of_request, Bounds.IsBounded}
 use Rattle.machine.specs.State.{State}
 use Rattle.machine.proofs.Turns.{tmu_below, tmu_here, whole_with, tmu_done}
