@@ -1,6 +1,7 @@
 -- A run by a script, which may favour a kind of unit. `Chooses step n m` says that at this step m is picked of n, `Answers step k word` that
 -- its word k is this.
 use Rattle.std.specs.Prelude.{◌≡◌, ◌≢◌, ◌≤◌, ◌<◌, ℕ, ◌+◌, ◌^◌, true, false, IsTrue, List, [], ◌∷◌, ◌++◌, length, map, slice_index, Option}
+use Rattle.std.specs.Global.{Vec}
 use Rattle.field_words.specs.declared.access.Access.{Access}
 use Rattle.machine_plan.specs.Runs.{found_by, reached}
 use Rattle.machine.specs.{State.State, Step.Event, Step.enabled, Step.finished, Step.job_of, Step.step, Step.IsRun}
@@ -82,6 +83,14 @@ pub record IsTrace (Chooses Answers : ℕ → ℕ → ℕ → Type 0) (favoured 
   pub most : length events ≤ steps
   pub ends : IsEnded (reached step s events) steps (length events) trace.ending
 
+-- some events are those of this trace
+abbrev pub HasTrace : (Chooses Answers : ℕ → ℕ → ℕ → Type 0) → Option UnitKind → State → ℕ → Trace → Type 0
+HasTrace Chooses Answers favoured s steps trace = (events : List Event) × IsTrace Chooses Answers favoured s steps events trace
+
+-- these lines and then this ending are such a trace
+abbrev pub HasLines : (Chooses Answers : ℕ → ℕ → ℕ → Type 0) → Option UnitKind → State → ℕ → Vec TraceLine → Ending → Type 0
+HasLines Chooses Answers favoured s steps lines ending = HasTrace Chooses Answers favoured s steps (record { lines = lines; ending = ending })
+
 -- The log is that of the same run: all accesses of its steps, which count from 0, how many steps there were, and how it ended.
 pub record IsLog (Chooses Answers : ℕ → ℕ → ℕ → Type 0) (favoured : Option UnitKind) (s : State) (steps : ℕ) (events : List Event) (log : Log) : Type 0 where
   pub run : IsRun s events (found_by step s events) (reached step s events)
@@ -90,3 +99,12 @@ pub record IsLog (Chooses Answers : ℕ → ℕ → ℕ → Type 0) (favoured : 
   pub count : log.steps ≡ length events
   pub most : length events ≤ steps
   pub ends : IsEnded (reached step s events) steps (length events) log.ending
+
+-- some events are those of this log
+abbrev pub HasLog : (Chooses Answers : ℕ → ℕ → ℕ → Type 0) → Option UnitKind → State → ℕ → Log → Type 0
+HasLog Chooses Answers favoured s steps log = (events : List Event) × IsLog Chooses Answers favoured s steps events log
+
+-- these accesses of so many steps and then this ending are such a log
+abbrev pub HasAccesses : (Chooses Answers : ℕ → ℕ → ℕ → Type 0) → Option UnitKind → State → ℕ → Vec Logged → ℕ → Ending → Type 0
+HasAccesses Chooses Answers favoured s steps accesses done ending =
+    HasLog Chooses Answers favoured s steps (record { accesses = accesses; steps = done; ending = ending })

@@ -1,9 +1,9 @@
 //! The run itself.
-ghost use Rattle.std.specs.Prelude.{◌≡◌, ◌≤◌, ◌<◌, ◌^◌, ℕ, true, false, [], length, slice_index, IfOk, IfErr, IsErr, List};
-ghost use Rattle.machine.specs.Step.{Event, finished, step};
+ghost use Rattle.std.specs.Prelude.{◌≡◌, ◌≤◌, ◌<◌, ◌^◌, ℕ, true, false, [], length, slice_index, IfOk, IfErr, IsErr};
+ghost use Rattle.machine.specs.Step.{finished, step};
 ghost use Rattle.replay.specs.Units.{unit_at, word_count, enabled_units};
 ghost use Rattle.replay.specs.Trace.{line_of};
-ghost use Rattle.replay.specs.Run.{IsOver, StepsBy, IsTrace, IsLog};
+ghost use Rattle.replay.specs.Run.{IsOver, StepsBy, HasTrace, HasLines, HasLog, HasAccesses};
 
 use crate::logged::{Log, Logged, put_step};
 use crate::script::Script;
@@ -86,7 +86,7 @@ fn go_on<S: Script>(
     machine: &mut Watched,
 ) -> Result<TraceLine, Ending>
     requires may { S.may script.now }
-    ensures goes { IfOk result (λ line. StepsBy (S.picks script.now) (S.gives script.now) favoured step machine.old machine.new accesses.new.items line) }
+    ensures did { IfOk result (StepsBy (S.picks script.now) (S.gives script.now) favoured step machine.old machine.new accesses.new.items) }
     ensures over { IfErr result (IsOver machine.old) }
     ensures same { IsErr result → machine.new ≡ machine.old }
 {
@@ -107,7 +107,7 @@ fn follow<S: Script>(
     requires may { S.may script.now }
     requires empty { lines.old.items ≡ [] }
     requires few { steps ≤ 1000000 }
-    ensures { IfOk result (λ ending. (events : List Event) × IsTrace (S.picks script.now) (S.gives script.now) favoured machine.old steps events (record { lines = lines.new; ending = ending })) }
+    ensures { IfOk result (HasLines (S.picks script.now) (S.gives script.now) favoured machine.old steps lines.new) }
 {
     let mut words = [0; MOST_WORDS];
     let mut accesses = ArrayVec::new();
@@ -141,7 +141,7 @@ pub fn replay<S: Script>(
 ) -> Result<Trace, NoMemory>
     requires may { S.may script.now }
     requires few { steps ≤ 1000000 }
-    ensures { IfOk result (λ trace. (events : List Event) × IsTrace (S.picks script.now) (S.gives script.now) favoured machine steps events trace) }
+    ensures { IfOk result (HasTrace (S.picks script.now) (S.gives script.now) favoured machine steps) }
 {
     let mut lines = Vec::with_capacity(alloc, steps as usize)?;
     let mut watched = Watched::new(machine);
@@ -160,7 +160,7 @@ fn note<S: Script>(
     requires may { S.may script.now }
     requires empty { kept.old.items ≡ [] }
     requires few { steps ≤ 1000000 }
-    ensures { IfOk result (λ end. (events : List Event) × IsLog (S.picks script.now) (S.gives script.now) favoured machine.old steps events (record { accesses = kept.new; steps = end.0; ending = end.1 })) }
+    ensures { IfOk result (λ end. HasAccesses (S.picks script.now) (S.gives script.now) favoured machine.old steps kept.new end.0 end.1) }
 {
     let mut words = [0; MOST_WORDS];
     let mut accesses = ArrayVec::new();
@@ -193,7 +193,7 @@ pub fn log_run<S: Script>(
 ) -> Result<Log, NoMemory>
     requires may { S.may script.now }
     requires few { steps ≤ 1000000 }
-    ensures { IfOk result (λ log. (events : List Event) × IsLog (S.picks script.now) (S.gives script.now) favoured machine steps events log) }
+    ensures { IfOk result (HasLog (S.picks script.now) (S.gives script.now) favoured machine steps) }
 {
     let mut accesses = Vec::new(alloc);
     let mut watched = Watched::new(machine);

@@ -11,7 +11,7 @@ returns-in-Err g c =
 
 pub loop-i-preserved : goal.loop-i-preserved
 loop-i-preserved g c =
-    lined_more _ _ c.args.favoured c.args.machine.now c.loop-i.machine c.go_on.new.machine c.loop-i.i c.go_on.new.accesses.items c.loop-i.lines.items c.push.new.self.items c.in-Ok.line c.loop-i.invariant c.in-Ok.ensures.goes
+    lined_more _ _ c.args.favoured c.args.machine.now c.loop-i.machine c.go_on.new.machine c.loop-i.i c.go_on.new.accesses.items c.loop-i.lines.items c.push.new.self.items c.in-Ok.line c.loop-i.invariant c.in-Ok.ensures.did
     c.in_ok-push-in-Ok.ensures.items
 
 pub returns-in-Err-look : goal.returns-in-Err-look

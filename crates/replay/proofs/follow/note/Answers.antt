@@ -11,7 +11,7 @@ returns-in-Err g c =
 
 pub loop-i-preserved : goal.loop-i-preserved
 loop-i-preserved g c =
-    noted_more _ _ c.args.favoured c.args.machine.now c.loop-i.machine c.go_on.new.machine c.loop-i.i c.go_on.new.accesses.items c.loop-i.kept.items c.put_step.new.kept.items _ c.loop-i.invariant c.in-Ok.ensures.goes
+    noted_more _ _ c.args.favoured c.args.machine.now c.loop-i.machine c.go_on.new.machine c.loop-i.i c.go_on.new.accesses.items c.loop-i.kept.items c.put_step.new.kept.items _ c.loop-i.invariant c.in-Ok.ensures.did
     (c.in_ok-put_step-in-Ok.ensures ∙ ap (λ l. c.loop-i.kept.items ++ numbered c.loop-i.i l) c.as_slice.ensures.value)
 
 pub returns-in-Err-look : goal.returns-in-Err-look
