@@ -3,9 +3,10 @@
 use Rattle.std.specs.Prelude.{◌≡◌, ℕ, ◌<◌, ◌≤◌, List, length, Option}
 use Rattle.buffer_table.specs.{Table.TableModel, Handles.AreNumbersOf, Sound.IsSound}
 use Rattle.job_format.specs.{File.IsWellFormed, File.IsJobWellFormed, Model.FileModel, Model.JobModel}
-use Rattle.relocation.specs.{declared.layout.Layout.Layout, Layout.region_end}
+use Rattle.relocation.specs.{declared.layout.Layout.Layout, declared.layout.Lengths.Lengths, Layout.region_end}
 use Rattle.qpu_isa.specs.Shader.{ShaderModel}
-use Rattle.job_check.specs.{Shaders.table_of, Shaders.AreShadersIn, Jobs.job_of, Jobs.lists_begin, Jobs.layout_of}
+use Rattle.job_check.specs.{Shaders.table_of, Shaders.AreShadersIn, Emit.lengths_of}
+use Rattle.job_check.specs.Jobs.{job_of, lists_begin, layout_of, bin_list_of, records_of, streams_of, render_list_of}
 
 -- what contracts see: the file, and the job's number
 pub record InView : Type 0 where
@@ -14,6 +15,28 @@ pub record InView : Type 0 where
 
 abbrev pub in_view : FileModel → ℕ → InView
 in_view f j = record { file = f; number = j }
+
+-- its entry, where its lists go, and the lists that the hardware is given, with how many bytes they are
+abbrev pub job_in : InView → JobModel
+job_in v = job_of v.file v.number
+
+abbrev pub layout_in : InView → Layout
+layout_in v = layout_of v.file v.number
+
+abbrev pub bin_list_in : InView → List ℕ
+bin_list_in v = bin_list_of v.file v.number
+
+abbrev pub records_in : InView → List ℕ
+records_in v = records_of v.file v.number
+
+abbrev pub streams_in : InView → List ℕ
+streams_in v = streams_of v.file v.number
+
+abbrev pub render_list_in : InView → List ℕ
+render_list_in v = render_list_of v.file v.number
+
+abbrev pub lengths_in : InView → Lengths
+lengths_in v = lengths_of v.file v.number
 
 -- What the check keeps of a job in view is what the file says.
 pub record IsContext (v : InView) (job : JobModel) (table : TableModel) (shaders : List (Option ShaderModel)) (handles : List ℕ) (layout : Layout) : Type 0 where

@@ -47,7 +47,8 @@ impl<'a, 'b> Model for Context<'a, 'b> {
 
     ghost view = { λ c. record { file = parts_view c.file.now; number = c.number } };
 
-    ghost invariant = { λ c. IsContext (record { file = parts_view c.file.now; number = c.number }) (job_parts_view c.job.now) c.table.now (shaders_view c.shaders.now.items) c.handles c.layout };
+    ghost invariant = { λ c. IsContext (record { file = parts_view c.file.now; number = c.number }) (job_parts_view c.job.now)
+        c.table.now (shaders_view c.shaders.now.items) c.handles c.layout };
 }
 
 /// The job of this number.

@@ -19,7 +19,9 @@ mod whole;
 
 pub use check::{Checked, check_job, check_read};
 pub use places::{Part, Place, place_in};
-pub use region::{Region, check_lists, check_lists_within, check_parts, check_with_shaders};
+pub use region::{
+    Lists, Region, Single, check_lists, check_lists_within, check_parts, check_single,
+};
 pub use shaders::{shader_in, words_of};
 pub use upgrade::upgrade_changes_nothing;
 pub use whole::{check_bytes, check_places, format_refusal};

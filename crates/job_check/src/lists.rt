@@ -4,9 +4,10 @@ ghost use Rattle.field_words.specs.declared.stop.Stop.TheVariants.{NoMemory as O
 ghost use Rattle.field_words.specs.Questions.{Answers};
 ghost use Rattle.field_words.specs.Writes.{placed, with_bytes};
 ghost use Rattle.render_list.specs.Frame.{IsSetupFor};
-ghost use Rattle.job_check.specs.Jobs.{job_of, has_bin, grid_of, places_in, states_in, layout_of, bin_list_of, records_of, streams_of, render_list_of};
+ghost use Rattle.job_check.specs.Jobs.{has_bin, grid_of, places_in, states_in};
+ghost use Rattle.job_check.specs.Context.{job_in, layout_in, bin_list_in, records_in, streams_in, render_list_in, lengths_in};
 ghost use Rattle.job_check.specs.Faults.{bin_stage, records_stage, surfaces_stage, lists_stages};
-ghost use Rattle.job_check.specs.Emit.{list_parts, later_parts, PartsFit, lengths_of};
+ghost use Rattle.job_check.specs.Emit.{list_parts, later_parts, PartsFit};
 ghost use Rattle.job_check.specs.Told.{IsBinOf, AreRecordsOf, HasStateFirst};
 
 use super::context::Context;
@@ -24,10 +25,10 @@ impl<'a, 'b> Context<'a, 'b> {
     #[tactic(auto, unfolding(crate::specs::Faults::bin_stage), using(field_words::proofs::Questions::answered_none, field_words::proofs::Questions::answered_some))]
     fn bin(&self, alloc: Global, out: &mut [u8]) -> Result<BinInfo, Stop<Refusal>>
         requires some { has_bin self.now.file self.now.number ≡ true }
-        requires room { (layout_of self.now.file self.now.number).end ≤ length out.old }
+        requires room { (layout_in self.now).end ≤ length out.old }
         ensures answers { Answers (bin_stage self.now.file self.now.number) (IsBinOf self.now.file self.now.number) result }
-        ensures written { IfOk result (λ _. out.new ≡ with_bytes out.old (layout_of self.now.file self.now.number).bin (bin_list_of self.now.file self.now.number)) }
-        ensures fits { IfOk result (λ _. length (bin_list_of self.now.file self.now.number) ≤ length (job_of self.now.file self.now.number).bin) }
+        ensures written { IfOk result (λ _. out.new ≡ with_bytes out.old (layout_in self.now).bin (bin_list_in self.now)) }
+        ensures fits { IfOk result (λ _. length (bin_list_in self.now) ≤ length (job_in self.now).bin) }
         ensures memory { result ≡ Err OutOfMemory → HasStateFirst self.now.file self.now.number }
     {
         let job = self.job;
@@ -54,8 +55,9 @@ impl<'a, 'b> Context<'a, 'b> {
     #[tactic(auto, unfolding(crate::specs::Faults::surfaces_stage, crate::specs::Jobs::places_in), using(field_words::proofs::Questions::answered_none, field_words::proofs::Questions::answered_some))]
     fn surfaces(&self, tiles: Option<(u8, u8)>) -> Result<Setup, Stop<Refusal>>
         requires { tiles ≡ grid_of self.now.file self.now.number }
-        ensures answers { Answers (surfaces_stage self.now.file self.now.number) (λ setup. setup.places ≡ places_in self.now.file self.now.number) result }
-        ensures setup { IfOk result (λ setup. IsSetupFor (job_of self.now.file self.now.number).frame setup.places) }
+        ensures answers { Answers (surfaces_stage self.now.file self.now.number)
+            (λ setup. setup.places ≡ places_in self.now.file self.now.number) result }
+        ensures setup { IfOk result (λ setup. IsSetupFor (job_in self.now).frame setup.places) }
         ensures takes_no_memory { result ≢ Err OutOfMemory }
     {
         match check_surfaces(&self.job.frame, tiles, self.table, &self.handles) {
@@ -67,12 +69,12 @@ impl<'a, 'b> Context<'a, 'b> {
     /// Writes the renderer list at its offset, and tells its length.
     fn render(&self, setup: &Setup, tiles: Option<(u8, u8)>, out: &mut [u8]) -> u32
         requires tiles_are { tiles ≡ grid_of self.now.file self.now.number }
-        requires room { (layout_of self.now.file self.now.number).end ≤ length out.old }
+        requires room { (layout_in self.now).end ≤ length out.old }
         requires places { setup.now.places ≡ places_in self.now.file self.now.number }
-        requires setup { IsSetupFor (job_of self.now.file self.now.number).frame setup.now.places }
-        ensures value { result ≡ length (render_list_of self.now.file self.now.number) }
-        ensures written { out.new ≡ with_bytes out.old (layout_of self.now.file self.now.number).render (render_list_of self.now.file self.now.number) }
-        ensures fits { (layout_of self.now.file self.now.number).render + result ≡ (layout_of self.now.file self.now.number).end }
+        requires setup { IsSetupFor (job_in self.now).frame setup.now.places }
+        ensures value { result ≡ length (render_list_in self.now) }
+        ensures written { out.new ≡ with_bytes out.old (layout_in self.now).render (render_list_in self.now) }
+        ensures fits { (layout_in self.now).render + result ≡ (layout_in self.now).end }
     {
         build(&self.job.frame, setup, tiles, &self.layout, out);
         self.layout.end - self.layout.render
@@ -81,10 +83,10 @@ impl<'a, 'b> Context<'a, 'b> {
     /// G, and the renderer list.
     fn draw(&self, tiles: Option<(u8, u8)>, out: &mut [u8]) -> Result<u32, Stop<Refusal>>
         requires tiles_are { tiles ≡ grid_of self.now.file self.now.number }
-        requires room { (layout_of self.now.file self.now.number).end ≤ length out.old }
-        ensures answers { Answers (surfaces_stage self.now.file self.now.number) (λ n. n ≡ length (render_list_of self.now.file self.now.number)) result }
-        ensures written { IfOk result (λ _. out.new ≡ with_bytes out.old (layout_of self.now.file self.now.number).render (render_list_of self.now.file self.now.number)) }
-        ensures fits { IfOk result (λ n. (layout_of self.now.file self.now.number).render + n ≡ (layout_of self.now.file self.now.number).end) }
+        requires room { (layout_in self.now).end ≤ length out.old }
+        ensures answers { Answers (surfaces_stage self.now.file self.now.number) (λ n. n ≡ length (render_list_in self.now)) result }
+        ensures written { IfOk result (λ _. out.new ≡ with_bytes out.old (layout_in self.now).render (render_list_in self.now)) }
+        ensures fits { IfOk result (λ n. (layout_in self.now).render + n ≡ (layout_in self.now).end) }
         ensures takes_no_memory { result ≢ Err OutOfMemory }
     {
         let setup = self.surfaces(tiles)?;
@@ -102,11 +104,12 @@ impl<'a, 'b> Context<'a, 'b> {
     ) -> Result<RecordInfo, Stop<Refusal>>
         requires some { has_bin self.now.file self.now.number ≡ true }
         requires states { states.now ≡ states_in self.now.file self.now.number }
-        requires room { (layout_of self.now.file self.now.number).end ≤ length out.old }
+        requires room { (layout_in self.now).end ≤ length out.old }
         ensures answers { Answers (records_stage self.now.file self.now.number) (AreRecordsOf self.now.file self.now.number) result }
-        ensures written { IfOk result (λ _. out.new ≡ with_bytes (with_bytes out.old (layout_of self.now.file self.now.number).records (records_of self.now.file self.now.number)) (layout_of self.now.file self.now.number).uniforms (streams_of self.now.file self.now.number)) }
-        ensures records_fit { IfOk result (λ _. length (records_of self.now.file self.now.number) ≤ length (job_of self.now.file self.now.number).records) }
-        ensures streams_fit { IfOk result (λ _. length (streams_of self.now.file self.now.number) ≤ length (job_of self.now.file self.now.number).uniforms) }
+        ensures written { IfOk result (λ _. out.new ≡ with_bytes
+            (with_bytes out.old (layout_in self.now).records (records_in self.now)) (layout_in self.now).uniforms (streams_in self.now)) }
+        ensures records_fit { IfOk result (λ _. length (records_in self.now) ≤ length (job_in self.now).records) }
+        ensures streams_fit { IfOk result (λ _. length (streams_in self.now) ≤ length (job_in self.now).uniforms) }
         ensures takes_no_memory { result ≢ Err OutOfMemory }
     {
         let job = self.job;
@@ -140,10 +143,10 @@ impl<'a, 'b> Context<'a, 'b> {
     ) -> Result<Lengths, Stop<Refusal>>
         requires bin { IsBinOf self.now.file self.now.number bin.now }
         requires records { AreRecordsOf self.now.file self.now.number records.now }
-        requires room { (layout_of self.now.file self.now.number).end ≤ length out.old }
-        ensures answers { Answers (surfaces_stage self.now.file self.now.number) (λ lengths. lengths ≡ lengths_of self.now.file self.now.number) result }
-        ensures written { IfOk result (λ _. out.new ≡ with_bytes out.old (layout_of self.now.file self.now.number).render (render_list_of self.now.file self.now.number)) }
-        ensures fits { IfOk result (λ _. (layout_of self.now.file self.now.number).render + length (render_list_of self.now.file self.now.number) ≡ (layout_of self.now.file self.now.number).end) }
+        requires room { (layout_in self.now).end ≤ length out.old }
+        ensures answers { Answers (surfaces_stage self.now.file self.now.number) (λ lengths. lengths ≡ lengths_in self.now) result }
+        ensures written { IfOk result (λ _. out.new ≡ with_bytes out.old (layout_in self.now).render (render_list_in self.now)) }
+        ensures fits { IfOk result (λ _. (layout_in self.now).render + length (render_list_in self.now) ≡ (layout_in self.now).end) }
         ensures takes_no_memory { result ≢ Err OutOfMemory }
     {
         let render = self.draw(Some((bin.tiles_x, bin.tiles_y)), out)?;
@@ -164,11 +167,12 @@ impl<'a, 'b> Context<'a, 'b> {
     ) -> Result<Lengths, Stop<Refusal>>
         requires some { has_bin self.now.file self.now.number ≡ true }
         requires bin { IsBinOf self.now.file self.now.number bin.now }
-        requires room { (layout_of self.now.file self.now.number).end ≤ length out.old }
-        requires bin_fits { length (bin_list_of self.now.file self.now.number) ≤ length (job_of self.now.file self.now.number).bin }
-        ensures answers { Answers (records_stage self.now.file self.now.number ++ surfaces_stage self.now.file self.now.number) (λ lengths. lengths ≡ lengths_of self.now.file self.now.number) result }
+        requires room { (layout_in self.now).end ≤ length out.old }
+        requires bin_fits { length (bin_list_in self.now) ≤ length (job_in self.now).bin }
+        ensures answers { Answers (records_stage self.now.file self.now.number ++ surfaces_stage self.now.file self.now.number)
+            (λ lengths. lengths ≡ lengths_in self.now) result }
         ensures written { IfOk result (λ _. out.new ≡ placed out.old (later_parts self.now.file self.now.number)) }
-        ensures fit { IfOk result (λ _. PartsFit (layout_of self.now.file self.now.number).end (list_parts self.now.file self.now.number)) }
+        ensures fit { IfOk result (λ _. PartsFit (layout_in self.now).end (list_parts self.now.file self.now.number)) }
         ensures takes_no_memory { result ≢ Err OutOfMemory }
     {
         let records = self.records(alloc, &bin.states, out)?;
@@ -179,10 +183,10 @@ impl<'a, 'b> Context<'a, 'b> {
     #[tactic(auto, unfolding(crate::specs::Faults::lists_stages))]
     fn binned(&self, alloc: Global, out: &mut [u8]) -> Result<Lengths, Stop<Refusal>>
         requires some { has_bin self.now.file self.now.number ≡ true }
-        requires room { (layout_of self.now.file self.now.number).end ≤ length out.old }
-        ensures answers { Answers (lists_stages self.now.file self.now.number) (λ lengths. lengths ≡ lengths_of self.now.file self.now.number) result }
+        requires room { (layout_in self.now).end ≤ length out.old }
+        ensures answers { Answers (lists_stages self.now.file self.now.number) (λ lengths. lengths ≡ lengths_in self.now) result }
         ensures written { IfOk result (λ _. out.new ≡ placed out.old (list_parts self.now.file self.now.number)) }
-        ensures fit { IfOk result (λ _. PartsFit (layout_of self.now.file self.now.number).end (list_parts self.now.file self.now.number)) }
+        ensures fit { IfOk result (λ _. PartsFit (layout_in self.now).end (list_parts self.now.file self.now.number)) }
         ensures memory { result ≡ Err OutOfMemory → HasStateFirst self.now.file self.now.number }
     {
         let bin = self.bin(alloc, out)?;
@@ -194,10 +198,10 @@ impl<'a, 'b> Context<'a, 'b> {
     #[tactic(auto, unfolding(crate::specs::Faults::lists_stages, crate::specs::Faults::bin_stage, crate::specs::Faults::records_stage))]
     fn unbinned(&self, out: &mut [u8]) -> Result<Lengths, Stop<Refusal>>
         requires none { has_bin self.now.file self.now.number ≡ false }
-        requires room { (layout_of self.now.file self.now.number).end ≤ length out.old }
-        ensures answers { Answers (lists_stages self.now.file self.now.number) (λ lengths. lengths ≡ lengths_of self.now.file self.now.number) result }
+        requires room { (layout_in self.now).end ≤ length out.old }
+        ensures answers { Answers (lists_stages self.now.file self.now.number) (λ lengths. lengths ≡ lengths_in self.now) result }
         ensures written { IfOk result (λ _. out.new ≡ placed out.old (list_parts self.now.file self.now.number)) }
-        ensures fit { IfOk result (λ _. PartsFit (layout_of self.now.file self.now.number).end (list_parts self.now.file self.now.number)) }
+        ensures fit { IfOk result (λ _. PartsFit (layout_in self.now).end (list_parts self.now.file self.now.number)) }
         ensures takes_no_memory { result ≢ Err OutOfMemory }
     {
         let render = self.draw(None, out)?;
@@ -220,10 +224,10 @@ impl<'a, 'b> Context<'a, 'b> {
     /// The stages that ask the job's lists and its surfaces, before that of the layout. The lists are written at their
     /// offsets in the window of the lists' region; where a rule stands the window may hold anything.
     pub fn write_lists(&self, alloc: Global, out: &mut [u8]) -> Result<Lengths, Stop<Refusal>>
-        requires { (layout_of self.now.file self.now.number).end ≤ length out.old }
-        ensures answers { Answers (lists_stages self.now.file self.now.number) (λ lengths. lengths ≡ lengths_of self.now.file self.now.number) result }
+        requires { (layout_in self.now).end ≤ length out.old }
+        ensures answers { Answers (lists_stages self.now.file self.now.number) (λ lengths. lengths ≡ lengths_in self.now) result }
         ensures written { IfOk result (λ _. out.new ≡ placed out.old (list_parts self.now.file self.now.number)) }
-        ensures fit { IfOk result (λ _. PartsFit (layout_of self.now.file self.now.number).end (list_parts self.now.file self.now.number)) }
+        ensures fit { IfOk result (λ _. PartsFit (layout_in self.now).end (list_parts self.now.file self.now.number)) }
         ensures memory { result ≡ Err OutOfMemory → HasStateFirst self.now.file self.now.number }
     {
         if self.has_bin() {

@@ -153,7 +153,8 @@ fn place_from(parts: &FileParts, number: usize, rule: Rule, part: Part, rest: u6
     requires { IsWellFormed (parts_view parts.now) }
     ensures part { result.part ≡ part }
     ensures number { IsNumbered (parts_view parts.now) number result.part result.number }
-    ensures adds { place_start (parts_view parts.now) result.part result.number + result.offset ≡ first_start (parts_view parts.now) number part + rest }
+    ensures adds { place_start (parts_view parts.now) result.part result.number + result.offset
+        ≡ first_start (parts_view parts.now) number part + rest }
 {
     match part {
         Part::Header => job_place(Part::Header, 0, rest),
@@ -193,11 +194,11 @@ pub fn place_in(parts: &FileParts, number: usize, refusal: &Refusal) -> Place
     // of that job, or of a buffer,
     ensures number { IsNumbered (parts_view parts.now) number result.part result.number }
     // in the part of its rule,
-    ensures there { first_start (parts_view parts.now) number (part_of refusal.now.rule.stage refusal.now.rule.number) ≤ refusal.now.offset →
-        result.part ≡ part_of refusal.now.rule.stage refusal.now.rule.number }
+    ensures there { first_start (parts_view parts.now) number (part_of refusal.now.rule.stage refusal.now.rule.number)
+        ≤ refusal.now.offset → result.part ≡ part_of refusal.now.rule.stage refusal.now.rule.number }
     // and what lies before that part is told from the file's start.
-    ensures before { refusal.now.offset < first_start (parts_view parts.now) number (part_of refusal.now.rule.stage refusal.now.rule.number) →
-        result.part ≡ Part.Header }
+    ensures before { refusal.now.offset
+        < first_start (parts_view parts.now) number (part_of refusal.now.rule.stage refusal.now.rule.number) → result.part ≡ Part.Header }
 {
     placed(
         parts,

@@ -1,5 +1,5 @@
 //! The rules of a file, and the lists of its jobs. No memory of the jobs is made.
-ghost use Rattle.std.specs.Prelude.{◌≡◌, ◌<◌, ◌≤◌, ◌+◌, ◌++◌, ◌-◌, length, IfOk, IsOk, drop};
+ghost use Rattle.std.specs.Prelude.{◌≡◌, ◌<◌, ◌≤◌, ◌+◌, ◌++◌, ◌-◌, length, IfOk, IfSome, IsOk, drop};
 ghost use Rattle.field_words.specs.Sizes.{most_memory};
 ghost use Rattle.buffer_table.specs.Table.{most_place};
 ghost use Rattle.field_words.specs.Questions.{Answers, NamesFirst, NeverHidesFault};
@@ -14,7 +14,7 @@ ghost use Rattle.relocation.specs.Layout.{region_end};
 ghost use Rattle.job_check.specs.Jobs.{lists_begin, layout_of, end_of};
 ghost use Rattle.job_check.specs.Faults.{table_stage, table_stage_within, shaders_stage, lists_stages, laid_stages, job_stages, jobs_stages, file_stages, stages_within};
 ghost use Rattle.job_check.specs.Emit.{ArePlaced, PartsFit, list_parts, lengths_of, moved};
-ghost use Rattle.job_check.specs.Region.{region_size, region_from, region_parts, IsRegion, AreChecked};
+ghost use Rattle.job_check.specs.Region.{region_size, region_from, region_parts, IsRegion, IsSingle, AreChecked};
 
 use super::context::Context;
 use super::layout::next_place;
@@ -41,6 +41,14 @@ pub struct Region {
 pub struct Lists {
     pub layout: Layout,
     pub lengths: Lengths,
+}
+
+/// The lists of an accepted file of one job: their bytes, from where they begin on, where they lie in memory, and how many bytes of each
+/// were emitted.
+#[derive(Drop)]
+pub struct Single {
+    pub bytes: Vec<u8>,
+    pub lists: Lists,
 }
 
 /// Makes a region longer, with zeros behind.
@@ -197,29 +205,85 @@ pub fn check_parts(alloc: Global, limit: u32, parts: &FileParts) -> Result<Regio
     check_shaders(alloc, parts, &table)
 }
 
-/// The same of parts whose shaders were checked before: `shaders` has what was told of the shader in each Code buffer, and S isn't asked
-/// again. The answer is the one that asking would give.
+/// The rules of the only job, and the region of its lists.
+fn check_only(
+    alloc: Global,
+    file: &FileParts,
+    table: &Table,
+    shaders: &Vec<Option<ShaderInfo>>,
+) -> Result<Single, Stop<Refusal>>
+    requires well_formed { IsWellFormed (parts_view file.now) }
+    requires one { length file.now.jobs.items ≡ 1 }
+    requires table_is { table.now ≡ table_of (parts_view file.now) }
+    requires shaders_are { AreShadersIn (parts_view file.now) (shaders_view shaders.now.items) }
+    requires sound { IsSound file.now.mem_size file.now.regions file.now.buffers.items }
+    ensures { Answers (jobs_stages (parts_view file.now)) (IsSingle (parts_view file.now)) result }
+{
+    let mut bytes = Vec::new(alloc);
+    let place = file.regions.lists_place;
+    let lists = check_one(alloc, file, 0, place, table, shaders, &mut bytes)?;
+    Ok(Single { bytes, lists })
+}
+
+/// What is told of the shaders: what was told before, or what S finds where nothing was.
+fn told_shaders(
+    alloc: Global,
+    file: &FileParts,
+    told: Option<Vec<Option<ShaderInfo>>>,
+) -> Result<Vec<Option<ShaderInfo>>, Stop<Refusal>>
+    requires well_formed { IsWellFormed (parts_view file.now) }
+    requires checked { IfSome told (λ shaders. AreChecked (parts_view file.now) (shaders_view shaders.items)) }
+    ensures { Answers (shaders_stage (parts_view file.now))
+        (λ shaders. AreShadersIn (parts_view file.now) (shaders_view shaders.items)) result }
+{
+    match told {
+        Some(shaders) => Ok(shaders),
+        None => shaders_stage(alloc, file),
+    }
+}
+
+/// S where nothing was told of the shaders, and then the only job.
+fn check_told(
+    alloc: Global,
+    file: &FileParts,
+    table: &Table,
+    told: Option<Vec<Option<ShaderInfo>>>,
+) -> Result<Single, Stop<Refusal>>
+    requires well_formed { IsWellFormed (parts_view file.now) }
+    requires one { length file.now.jobs.items ≡ 1 }
+    requires table_is { table.now ≡ table_of (parts_view file.now) }
+    requires checked { IfSome told (λ shaders. AreChecked (parts_view file.now) (shaders_view shaders.items)) }
+    requires sound { IsSound file.now.mem_size file.now.regions file.now.buffers.items }
+    ensures { Answers (shaders_stage (parts_view file.now) ++ jobs_stages (parts_view file.now)) (IsSingle (parts_view file.now)) result }
+{
+    let shaders = told_shaders(alloc, file, told)?;
+    check_only(alloc, file, table, &shaders)
+}
+
+/// The same of parts that have one job, and whose shaders may have been checked before: then `told` has what was told of the shader in each
+/// Code buffer, and S isn't asked again. The answer is the one that asking would give.
 ///
 /// # Errors
 /// As those of `check_parts`.
 #[tactic(auto, unfolding(crate::specs::Faults::stages_within, crate::specs::Faults::table_stage_within))]
-pub fn check_with_shaders(
+pub fn check_single(
     alloc: Global,
     limit: u32,
     parts: &FileParts,
-    shaders: &Vec<Option<ShaderInfo>>,
-) -> Result<Region, Stop<Refusal>>
+    told: Option<Vec<Option<ShaderInfo>>>,
+) -> Result<Single, Stop<Refusal>>
     requires limit { limit ≤ most_place }
     requires well_formed { IsWellFormed (parts_view parts.now) }
-    requires checked { AreChecked (parts_view parts.now) (shaders_view shaders.now.items) }
-    ensures answers { Answers (stages_within limit (parts_view parts.now)) (IsRegion (parts_view parts.now)) result }
+    requires one { length parts.now.jobs.items ≡ 1 }
+    requires checked { IfSome told (λ shaders. AreChecked (parts_view parts.now) (shaders_view shaders.items)) }
+    ensures answers { Answers (stages_within limit (parts_view parts.now)) (IsSingle (parts_view parts.now)) result }
     ensures first { NamesFirst (stages_within limit (parts_view parts.now)) result }
     ensures memory { NeverHidesFault (table_stage_within limit (parts_view parts.now)) result }
     ensures sound { IsOk result → IsSound parts.now.mem_size parts.now.regions parts.now.buffers.items }
     ensures small { IsOk result → parts.now.mem_size ≤ limit }
 {
     let table = table_stage(alloc, limit, parts.mem_size, parts.regions, &parts.buffers)?;
-    check_jobs(alloc, parts, &table, shaders)
+    check_told(alloc, parts, &table, told)
 }
 
 /// The rules after the memory table, of a file whose contents and lists are its own.

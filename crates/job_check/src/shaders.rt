@@ -87,7 +87,8 @@ fn content_at<'a>(file: &FileParts<'a>, b: usize) -> &'a [u8]
 fn shader_at(alloc: Global, file: &FileParts, b: usize) -> Result<Option<ShaderInfo>, Stop<Refusal>>
     requires well_formed { IsWellFormed (parts_view file.now) }
     requires inside { b < length file.now.buffers.items }
-    ensures answers { Answers (shader_stage (parts_view file.now) b) (λ shader. shader_option shader ≡ shader_of (parts_view file.now) b) result }
+    ensures answers { Answers (shader_stage (parts_view file.now) b)
+        (λ shader. shader_option shader ≡ shader_of (parts_view file.now) b) result }
     ensures memory { NeverHidesFault (whole_stage (parts_view file.now) b) result }
     ensures sound { IfOk result (λ shader. IfSome (shader_option shader) IsSoundShader) }
 {
@@ -109,7 +110,8 @@ pub fn shaders_stage(
     file: &FileParts,
 ) -> Result<Vec<Option<ShaderInfo>>, Stop<Refusal>>
     requires { IsWellFormed (parts_view file.now) }
-    ensures answers { Answers (shaders_stage (parts_view file.now)) (λ shaders. AreShadersIn (parts_view file.now) (shaders_view shaders.items)) result }
+    ensures answers { Answers (shaders_stage (parts_view file.now))
+        (λ shaders. AreShadersIn (parts_view file.now) (shaders_view shaders.items)) result }
     ensures memory { HidesNoShader (parts_view file.now) result }
 {
     let mut shaders = Vec::new(alloc);

@@ -3,7 +3,7 @@ ghost use Rattle.std.specs.Prelude.{◌≡◌, ◌≤◌, ◌<◌, ℕ, List, le
 ghost use Rattle.std.specs.List.{AllByRecursion};
 ghost use Rattle.field_words.specs.Questions.{Answers};
 ghost use Rattle.job_check.specs.Faults.{file_stages};
-ghost use Rattle.job_check.specs.Region.{IsRegion};
+ghost use Rattle.job_check.specs.Region.{IsSingle};
 ghost use Rattle.job_format.specs.File.{IsJobWellFormed};
 ghost use Rattle.job_format.specs.Parts.{job_parts_view};
 ghost use Rattle.job_session.specs.Desk.{submit_answer, IsRefusal};
@@ -16,7 +16,7 @@ use super::kept::Entries;
 use super::session::Session;
 use buffer_table::Regions;
 use field_words::{MOST_MEMORY, Stop};
-use job_check::{Region, check_with_shaders};
+use job_check::{Single, check_single};
 use job_format::{FileParts, JobParts, Refusal, read_parts};
 use session_pages::MEMORY_SIZE;
 use std::alloc::Global;
@@ -26,12 +26,12 @@ fn check_entries<'a>(
     alloc: Global,
     entries: Entries<'a>,
     jobs: Vec<JobParts<'a>>,
-) -> Result<Region, Stop<Refusal>>
+) -> Result<Single, Stop<Refusal>>
     requires few { length entries.buffers.items ≤ 64 }
     requires checked { AreListed entries }
     requires one { length (map job_parts_view jobs.items) ≡ 1 }
     requires well_formed { AllByRecursion IsJobWellFormed (map job_parts_view jobs.items) }
-    ensures { let file = file_in entries.entry (map job_parts_view jobs.entry.items) in Answers (file_stages file) (IsRegion file) result }
+    ensures { let file = file_in entries.entry (map job_parts_view jobs.entry.items) in Answers (file_stages file) (IsSingle file) result }
 {
     let parts = FileParts {
         version: 2,
@@ -46,7 +46,7 @@ fn check_entries<'a>(
         contents: entries.contents,
         jobs,
     };
-    check_with_shaders(alloc, MOST_MEMORY, &parts, &entries.shaders)
+    check_single(alloc, MOST_MEMORY, &parts, Some(entries.shaders))
 }
 
 // The same of a client's buffers as the session has them. `Ok(false)` where nothing is kept of one of its shaders.

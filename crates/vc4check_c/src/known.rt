@@ -42,7 +42,8 @@ pub(crate) fn shaders_in(
     buffers: &[GivenBuffer],
 ) -> Result<Option<Vec<Option<ShaderInfo>>>, AllocError>
     requires { AreKnown buffers.now }
-    ensures { IfOk result (λ found. IfSome found (λ shaders. (shaders_view shaders.items ≡ map told_in buffers.now) × AreBlocks buffers.now (length buffers.now))) }
+    ensures { IfOk result (λ found. IfSome found (λ shaders.
+        (shaders_view shaders.items ≡ map told_in buffers.now) × AreBlocks buffers.now (length buffers.now))) }
 {
     let mut shaders = Vec::with_capacity(alloc, buffers.len())?;
     for b in 0..buffers.len() {

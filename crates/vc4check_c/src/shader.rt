@@ -146,7 +146,8 @@ pub extern "C" fn vc4check_shader(
     ensures address_words { result ≡ 0 → address_words.new ≡ with_front address_words.old (address_words_of code.now) }
     ensures refused { result ≡ 1 → IsRefusedShader code.now (first_of (shader_questions code.now)) answer.new }
     ensures short { result ≡ 2 → IsAcceptedShader code.now answer.new }
-    ensures room { result ≡ 2 → ((length samples.old < length (samples_of code.now)) ⊎ (length address_words.old < length (address_words_of code.now))) }
+    ensures room { result ≡ 2 → ((length samples.old < length (samples_of code.now))
+        ⊎ (length address_words.old < length (address_words_of code.now))) }
     ensures long { (result ≡ 4) ↔ (most_words < length code.now) }
     ensures samples_kept { result ≢ 0 → samples.new ≡ samples.old }
     ensures address_words_kept { result ≢ 0 → address_words.new ≡ address_words.old }

@@ -4,7 +4,7 @@ ghost use Rattle.field_words.specs.Questions.{Answers, first_of};
 ghost use Rattle.field_words.specs.Writes.{with_bytes};
 ghost use Rattle.job_format.specs.Parts.{parts_view};
 ghost use Rattle.job_check.specs.Faults.{place_stages};
-ghost use Rattle.job_check.specs.Region.{region_of, IsRegion};
+ghost use Rattle.job_check.specs.Region.{region_of, IsSingle};
 ghost use Rattle.vc4check_c.specs.Telling.{AreKnown};
 ghost use Rattle.vc4check_c.specs.Submission.{file_of, own_questions, submission_questions};
 ghost use Rattle.vc4check_c.specs.Submit.{accepted_verdict, refused_verdict, Tells, IsTaken, IsNotTaken};
@@ -18,9 +18,8 @@ use crate::status::{NO_MEMORY, REFUSED};
 use crate::submission::{Submission, parts_in};
 use buffer_table::MOST_PLACE;
 use field_words::Stop;
-use job_check::{Region, check_parts, check_with_shaders};
+use job_check::{Lists, Single, check_single};
 use job_format::{FileParts, Refusal};
-use relocation::{Layout, Lengths};
 use std::alloc::Global;
 
 /// What is told of a submission. Of an accepted one: how many bytes of the window its lists take, where they lie and how long they are. Of a
@@ -41,8 +40,8 @@ pub struct Verdict {
 
 /// What is told of an accepted submission.
 #[tactic(auto, unfolding(crate::specs::Submit::accepted_verdict))]
-fn accepted(size: u32, layout: &Layout, lengths: &Lengths) -> Verdict
-    ensures { result ≡ accepted_verdict size layout.now lengths.now }
+fn accepted(size: u32, lists: &Lists) -> Verdict
+    ensures { result ≡ accepted_verdict size lists.now.layout lists.now.lengths }
 {
     Verdict {
         offset: 0,
@@ -51,7 +50,7 @@ fn accepted(size: u32, layout: &Layout, lengths: &Lengths) -> Verdict
         part: 0,
         index: 0,
         size,
-        lists: lists_of(layout, lengths),
+        lists: lists_of(&lists.layout, &lists.lengths),
     }
 }
 
@@ -72,16 +71,14 @@ fn refused(refusal: &Refusal, spot: &Spot) -> Verdict
 }
 
 /// The rules of the submission's file, in which the shaders are asked only where something isn't known of them.
-fn check_file(alloc: Global, given: &Submission, parts: &FileParts) -> Result<Region, Stop<Refusal>>
+fn check_file(alloc: Global, given: &Submission, parts: &FileParts) -> Result<Single, Stop<Refusal>>
     requires known { AreKnown given.now.buffers.now }
     requires own { first_of (own_questions given.now) ≡ None }
     requires parts_are { parts_view parts.now ≡ file_of given.now }
-    ensures { Answers (place_stages (file_of given.now)) (IsRegion (file_of given.now)) result }
+    ensures { Answers (place_stages (file_of given.now)) (IsSingle (file_of given.now)) result }
 {
-    match shaders_in(alloc, given.buffers)? {
-        Some(shaders) => check_with_shaders(alloc, MOST_PLACE, parts, &shaders),
-        None => check_parts(alloc, MOST_PLACE, parts),
-    }
+    let told = shaders_in(alloc, given.buffers)?;
+    check_single(alloc, MOST_PLACE, parts, told)
 }
 
 /// A refusal, and the place of what it is about.
@@ -93,13 +90,13 @@ pub struct Told {
 
 /// All rules of a submission, and its lists.
 #[tactic(auto, using(field_words::proofs::Questions::passes, field_words::proofs::Questions::stops))]
-fn check(alloc: Global, given: &Submission) -> Result<Region, Stop<Told>>
+fn check(alloc: Global, given: &Submission) -> Result<Single, Stop<Told>>
     requires { AreKnown given.now.buffers.now }
     ensures { Tells given.now result }
 {
     match parts_in(alloc, given) {
         Ok(parts) => match check_file(alloc, given, &parts) {
-            Ok(region) => Ok(region),
+            Ok(single) => Ok(single),
             Err(Stop::Fault(refusal)) => {
                 let spot = spot_of(&parts, &refusal);
                 Err(Stop::Fault(Told { refusal, spot }))
@@ -152,10 +149,10 @@ pub extern "C" fn vc4check_submit(
     ensures starved { result ≡ 3 → answer.new ≡ answer.old }
 {
     match check(alloc, submission) {
-        Ok(region) => {
-            let size = size_of(&region.bytes, submission.lists_size);
-            *answer = accepted(size, &region.layouts[0], &region.lengths[0]);
-            put_lists(&region.bytes, window)
+        Ok(single) => {
+            let size = size_of(&single.bytes, submission.lists_size);
+            *answer = accepted(size, &single.lists);
+            put_lists(&single.bytes, window)
         }
         Err(Stop::Fault(told)) => {
             *answer = refused(&told.refusal, &told.spot);

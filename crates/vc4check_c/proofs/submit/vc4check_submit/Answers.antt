@@ -1,6 +1,6 @@
--- An accepted submission's one layout and lengths are told.
+-- An accepted submission's lists are told.
 use Rattle.std.proofs.Common.{length, ap, arith, ◌∙◌}
-use Rattle.vc4check_c.proofs.Takes.{inside, one_layout, one_length, is_taken}
+use Rattle.vc4check_c.proofs.Takes.{inside, is_taken}
 use Rattle.vc4check_c.proofs.submit.vc4check_submit.Goals as goal
 
 pub size_of-size-requires : goal.size_of-size-requires
@@ -8,25 +8,15 @@ size_of-size-requires c =
     let is = c.in-Ok.ensures.1 in
     let value = ap length c.deref.ensures.value in
     let bytes = ap length is.bytes_are in
-    let few = inside c.args.submission.now c.in-Ok.region is in
+    let few = inside c.args.submission.now c.in-Ok.single is in
     omega (arith, value, bytes, few)
-
-pub index-requires : goal.index-requires
-index-requires c = let one = one_layout c.args.submission.now c.in-Ok.region c.in-Ok.ensures.1 in omega (arith, one)
-
-pub index-requires-in-Ok : goal.index-requires-in-Ok
-index-requires-in-Ok c = let one = one_length c.args.submission.now c.in-Ok.region c.in-Ok.ensures.1 in omega (arith, one)
 
 pub returns-in-Ok-clause-accepted : goal.returns-in-Ok-clause-accepted
 returns-in-Ok-clause-accepted c =
-    let region = c.in-Ok.region in
     let size = c.size_of-size.ensures ∙ ap length c.deref.ensures.value in
-    λ zero. is_taken c.args.submission.now region c.index.result.now c.index-in-Ok.result.now c.accepted.result c.in-Ok.ensures.0 c.in-Ok.ensures.1
-    (cc (c.accepted.ensures, size, c.index.ensures, c.index-in-Ok.ensures))
+    λ zero. is_taken c.args.submission.now c.in-Ok.single c.accepted.result c.in-Ok.ensures.0 c.in-Ok.ensures.1 (cc (c.accepted.ensures, size))
 
 pub returns-in-Ok-clause-short : goal.returns-in-Ok-clause-short
 returns-in-Ok-clause-short c =
-    let region = c.in-Ok.region in
     let size = c.size_of-size.ensures ∙ ap length c.deref.ensures.value in
-    λ two. is_taken c.args.submission.now region c.index.result.now c.index-in-Ok.result.now c.accepted.result c.in-Ok.ensures.0 c.in-Ok.ensures.1
-    (cc (c.accepted.ensures, size, c.index.ensures, c.index-in-Ok.ensures))
+    λ two. is_taken c.args.submission.now c.in-Ok.single c.accepted.result c.in-Ok.ensures.0 c.in-Ok.ensures.1 (cc (c.accepted.ensures, size))
