@@ -155,7 +155,8 @@ pub fn picture_reply(
         (IsCopy from to picture.width picture.height picture.cpp bytes.now)) bytes.now) }
     ensures status { IfOk result (λ a. reply_status a < 2) }
     ensures ready { IfOk result (IsReplyReady bytes.now) }
-    ensures cause { IfOk result (λ a. reply_cause a ≡ size_cause (length bytes.now) (size_in from picture.width picture.height picture.cpp)) }
+    ensures cause { IfOk result (λ a.
+        reply_cause a ≡ size_cause (length bytes.now) (size_in from picture.width picture.height picture.cpp)) }
 {
     let Picture {
         cpp,

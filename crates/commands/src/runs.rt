@@ -68,7 +68,8 @@ pub fn run_told<S: Source, K: Sink>(
     ensures nothing { 1 < result.status → result.status ≢ 4 → sink.new ≡ sink.old }
 
     // A command reads all of its input; `gen` reads none.
-    ensures all { (command : Command) → task_of (texts words.now.items) ≡ Some (Read command) → ((result.status < 2) ⊎ (result.status ≡ 4)) → IsAtEnd (S.left source.new) }
+    ensures all { (command : Command) → task_of (texts words.now.items) ≡ Some (Read command) →
+        ((result.status < 2) ⊎ (result.status ≡ 4)) → IsAtEnd (S.left source.new) }
     ensures unread { (number : ℕ) → task_of (texts words.now.items) ≡ Some (Make number) → source.new ≡ source.old }
 
     // What each command takes and answers, where the source tells its input.
@@ -84,14 +85,16 @@ pub fn run_told<S: Source, K: Sink>(
     // What `gen` answers, which is never a refusal.
     ensures made { (number : ℕ) → task_of (texts words.now.items) ≡ Some (Make number) → result.status < 2 →
         IsAnswered (IsExampleAnswer number) result.status (K.held sink.old) (K.held sink.new) }
-    ensures made_status { (number : ℕ) → task_of (texts words.now.items) ≡ Some (Make number) → ((result.status ≡ 0) ⊎ ((result.status ≡ 4) ⊎ (result.status ≡ 5))) }
+    ensures made_status { (number : ℕ) → task_of (texts words.now.items) ≡ Some (Make number) →
+        ((result.status ≡ 0) ⊎ ((result.status ≡ 4) ⊎ (result.status ≡ 5))) }
     ensures made_cut { (number : ℕ) → task_of (texts words.now.items) ≡ Some (Make number) → result.status ≡ 4 →
         IsCut (IsExampleAnswer number) (K.held sink.old) (K.held sink.new) }
 
     // What is told of the program and of rules, for which nothing is read.
     ensures told { (topic : Topic) → task_of (texts words.now.items) ≡ Some (Tell topic) → result.status < 2 →
         IsAnswered (IsTopicAnswer topic) result.status (K.held sink.old) (K.held sink.new) }
-    ensures told_status { (topic : Topic) → task_of (texts words.now.items) ≡ Some (Tell topic) → ((result.status ≡ 0) ⊎ ((result.status ≡ 4) ⊎ (result.status ≡ 5))) }
+    ensures told_status { (topic : Topic) → task_of (texts words.now.items) ≡ Some (Tell topic) →
+        ((result.status ≡ 0) ⊎ ((result.status ≡ 4) ⊎ (result.status ≡ 5))) }
     ensures told_cut { (topic : Topic) → task_of (texts words.now.items) ≡ Some (Tell topic) → result.status ≡ 4 →
         IsCut (IsTopicAnswer topic) (K.held sink.old) (K.held sink.new) }
     ensures told_unread { (topic : Topic) → task_of (texts words.now.items) ≡ Some (Tell topic) → source.new ≡ source.old }
@@ -167,7 +170,8 @@ pub fn run<S: Source, K: Sink>(
     ensures nothing { 1 < result → result ≢ 4 → sink.new ≡ sink.old }
 
     // A command reads all of its input; `gen` reads none.
-    ensures all { (command : Command) → task_of (texts words.now.items) ≡ Some (Read command) → ((result < 2) ⊎ (result ≡ 4)) → IsAtEnd (S.left source.new) }
+    ensures all { (command : Command) → task_of (texts words.now.items) ≡ Some (Read command) →
+        ((result < 2) ⊎ (result ≡ 4)) → IsAtEnd (S.left source.new) }
     ensures unread { (number : ℕ) → task_of (texts words.now.items) ≡ Some (Make number) → source.new ≡ source.old }
 
     // What each command takes and answers, where the source tells its input.
@@ -183,14 +187,16 @@ pub fn run<S: Source, K: Sink>(
     // What `gen` answers, which is never a refusal.
     ensures made { (number : ℕ) → task_of (texts words.now.items) ≡ Some (Make number) → result < 2 →
         IsAnswered (IsExampleAnswer number) result (K.held sink.old) (K.held sink.new) }
-    ensures made_status { (number : ℕ) → task_of (texts words.now.items) ≡ Some (Make number) → ((result ≡ 0) ⊎ ((result ≡ 4) ⊎ (result ≡ 5))) }
+    ensures made_status { (number : ℕ) → task_of (texts words.now.items) ≡ Some (Make number) →
+        ((result ≡ 0) ⊎ ((result ≡ 4) ⊎ (result ≡ 5))) }
     ensures made_cut { (number : ℕ) → task_of (texts words.now.items) ≡ Some (Make number) → result ≡ 4 →
         IsCut (IsExampleAnswer number) (K.held sink.old) (K.held sink.new) }
 
     // What is told of the program and of rules, for which nothing is read.
     ensures told { (topic : Topic) → task_of (texts words.now.items) ≡ Some (Tell topic) → result < 2 →
         IsAnswered (IsTopicAnswer topic) result (K.held sink.old) (K.held sink.new) }
-    ensures told_status { (topic : Topic) → task_of (texts words.now.items) ≡ Some (Tell topic) → ((result ≡ 0) ⊎ ((result ≡ 4) ⊎ (result ≡ 5))) }
+    ensures told_status { (topic : Topic) → task_of (texts words.now.items) ≡ Some (Tell topic) →
+        ((result ≡ 0) ⊎ ((result ≡ 4) ⊎ (result ≡ 5))) }
     ensures told_cut { (topic : Topic) → task_of (texts words.now.items) ≡ Some (Tell topic) → result ≡ 4 →
         IsCut (IsTopicAnswer topic) (K.held sink.old) (K.held sink.new) }
     ensures told_unread { (topic : Topic) → task_of (texts words.now.items) ≡ Some (Tell topic) → source.new ≡ source.old }

@@ -128,7 +128,8 @@ pub fn serve<S: Source, K: Sink>(
     ensures within { IfSome (S.left source.old) (λ bytes. length bytes ≤ limit_of command → result.status ≢ 6) }
     ensures answered { result.status < 2 → IfSome (S.left source.old) (λ bytes.
         IsAnswered (IsAnswer command bytes) result.status (K.held sink.old) (K.held sink.new)) }
-    ensures cut { result.status ≡ 4 → IfSome (S.left source.old) (λ bytes. IsCut (IsAnswer command bytes) (K.held sink.old) (K.held sink.new)) }
+    ensures cut { result.status ≡ 4 → IfSome (S.left source.old) (λ bytes.
+        IsCut (IsAnswer command bytes) (K.held sink.old) (K.held sink.new)) }
     ensures complete { (Rose (S.faults source.old) (S.faults source.new) → ⊥) → (Rose (K.faults sink.old) (K.faults sink.new) → ⊥)
         → result.status ≢ 6 → ((result.status < 2) ⊎ (result.status ≡ 5)) }
     ensures nothing { 1 < result.status → result.status ≢ 4 → sink.new ≡ sink.old }

@@ -1,5 +1,5 @@
 -- The region has nothing before the only job.
-use Rattle.std.proofs.{Common.◌≡◌, Common.◌<◌, Common.[], Common.length, Common.sym, Common.subst, Common.arith, Common.◌∙◌, lemmas.List.length-map}
+use Rattle.std.proofs.{Common.◌<◌, Common.[], Common.length, Common.sym, Common.subst, Common.arith, Common.◌∙◌, lemmas.List.length-map}
 use Rattle.job_format.specs.Parts.{parts_view, job_parts_view}
 use Rattle.field_words.specs.Questions.{each}
 use Rattle.job_check.specs.{Faults.job_stages, Region.IsSingle}
