@@ -9,16 +9,12 @@ use Rattle.qpu_isa.specs.{Word.sig_of, Fields.joined, Fields.width_of, Fields.va
 use Rattle.qpu_isa.proofs.{Fields.joined-values_of, Words.above-sig}
 use Rattle.qpu_asm.specs.Table.{Named, Row, Kind, widths_of, nop_kind, alu_kind, load_imm_kind, branch_kind, alu_rows}
 use Rattle.qpu_asm.specs.Items.{has_value, Spots, find_named, or_number, read_number, read_plain, read_value, is_row, has_row, kind_named}
-use Rattle.qpu_asm.specs.Walk.{Partial, skip_to, read_named, read_item, read_items, closed_word, kind_code, code_of, option_code, lines_words, line_words, with_word, if_words}
+use Rattle.qpu_asm.specs.Walk.{Partial, lacks, skip_to, read_named, read_item, read_items, closed_word, kind_code, code_of, option_code, lines_words, line_words, with_word, if_words}
 use Rattle.qpu_asm.specs.Printed.{name_of, or_decimal, value_text, item_text, item_texts, kind_of, spaced, kind_text, word_text, line_text, AsmText, PrintedReturns}
 use Rattle.qpu_asm.specs.Lines.{Coded, is_full, words_of, read_line, line_of, is_comment, ends_label}
 use Rattle.qpu_asm.specs.Labels.{read_lines, spots_of}
-use Rattle.qpu_asm.proofs.{Bytes.bytes_itself, Bytes.bytes_same, Words.kept_full, Rows.kind_cases, Assembling.words_end}
+use Rattle.qpu_asm.proofs.{Bytes.bytes_itself, Bytes.bytes_same, Words.kept_full, Rows.kind_cases, Steps.cut_name, Assembling.words_end}
 use Rattle.qpu_asm.proofs.{Faults.text_assembles, Decimals.decimal_digits, Decimals.decimal_value, Decimals.decimal_number}
-
--- without such a byte
-lacks : ℕ → List ℕ → Bool
-lacks at bytes = list_all (λ b. not (b == at)) bytes
 
 -- a word: no space, no line feed
 is_word : List ℕ → Bool
@@ -141,14 +137,6 @@ unfolding read_plain value_text
 value_back row value facts under = text_back row value facts under (name_of row.named value) (name_back row.named row.named value facts.named)
 
 -- an item is cut at its `=`
-cut_name : (name text : List ℕ) → lacks 61 name ≡ true → (before 61 (name ++ 61 ∷ text) ≡ name) × (behind 61 (name ++ 61 ∷ text) ≡ text)
-unfolding before behind lacks
-cut_name [] text test = (refl, refl)
-cut_name (byte ∷ bytes) text test =
-    let parts = and_parts (not (byte == 61)) (lacks 61 bytes) test in
-    let rest = cut_name bytes text parts.1 in
-    rw (not-true (byte == 61) parts.0) (ap (λ b. byte ∷ b) rest.0, rest.1)
-
 item_cut : (spots : Spots) (index : ℕ) (all : List Row) (partial : Partial) (row : Row) (value : ℕ) → ReadFacts row
     → read_item spots index all partial (item_text row value) ≡ read_named spots index all partial row.name (value_text row value)
 unfolding read_item item_text has_value

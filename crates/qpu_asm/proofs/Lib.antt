@@ -3,6 +3,7 @@ pub mod Words
 pub mod Rows
 pub mod Rooms
 pub mod Reading
+pub mod Steps
 pub mod Placing
 pub mod Faults
 pub mod Assembling

@@ -4,7 +4,7 @@ use Rattle.std.proofs.lemmas.Bool.{and_parts}
 use Rattle.std.specs.List.{list_all}
 use Rattle.qpu_isa.specs.Fields.{width_of, values_of}
 use Rattle.qpu_asm.specs.{declared.table.Row.Row, Table.widths_of, Table.alu_kind, Table.load_imm_kind, Table.branch_kind, Table.nop_kind}
-use Rattle.qpu_asm.specs.{Walk.is_ready, Walk.are_ready, Walk.field_text, Printed.item_texts, Printed.spaced, Printed.rows_text}
+use Rattle.qpu_asm.specs.{Walk.is_ready, Walk.are_ready, Walk.is_part, Walk.lacks, Walk.field_text, Printed.item_texts, Printed.spaced, Printed.rows_text}
 use Rattle.qpu_asm.specs.Seen.{row_seen, rows_seen}
 use Rattle.qpu_asm.specs.Table as table
 
@@ -23,25 +23,28 @@ pub record RowFacts (row : table.Row) : Type 0 where
   pub below : row.below ≤ 2 ^ row.width
   pub named : list_all (λ named. nat_lt named.value (2 ^ row.width)) row.named ≡ true
   pub label : (not row.takes_label || row.width == 32) ≡ true
+  pub part : is_part row.name ≡ true
 
 pub row_facts : (row : table.Row) → is_ready row ≡ true → RowFacts row
 unfolding is_ready
 row_facts row ready =
     let parts = and_parts (nat_le 1 row.width && nat_le row.width 32)
     ((nat_lt row.fallback (2 ^ row.width) && nat_le row.below (2 ^ row.width))
-    && (list_all (λ named. nat_lt named.value (2 ^ row.width)) row.named && (not row.takes_label || row.width == 32))) ready in
+    && (list_all (λ named. nat_lt named.value (2 ^ row.width)) row.named && ((not row.takes_label || row.width == 32) && is_part row.name))) ready in
     let widths = and_parts (nat_le 1 row.width) (nat_le row.width 32) parts.0 in
     let values = and_parts (nat_lt row.fallback (2 ^ row.width) && nat_le row.below (2 ^ row.width))
-    (list_all (λ named. nat_lt named.value (2 ^ row.width)) row.named && (not row.takes_label || row.width == 32)) parts.1 in
+    (list_all (λ named. nat_lt named.value (2 ^ row.width)) row.named && ((not row.takes_label || row.width == 32) && is_part row.name)) parts.1 in
     let bounds = and_parts (nat_lt row.fallback (2 ^ row.width)) (nat_le row.below (2 ^ row.width)) values.0 in
-    let others = and_parts (list_all (λ named. nat_lt named.value (2 ^ row.width)) row.named) (not row.takes_label || row.width == 32) values.1 in
+    let others = and_parts (list_all (λ named. nat_lt named.value (2 ^ row.width)) row.named) ((not row.takes_label || row.width == 32) && is_part row.name) values.1 in
+    let names = and_parts (not row.takes_label || row.width == 32) (is_part row.name) others.1 in
     record {
       low = leb-true 1 row.width widths.0;
       high = leb-true row.width 32 widths.1;
       fallback = ltb-true row.fallback (2 ^ row.width) bounds.0;
       below = leb-true row.below (2 ^ row.width) bounds.1;
       named = others.0;
-      label = others.1;
+      label = names.0;
+      part = names.1;
     }
 
 -- the first row
@@ -96,19 +99,19 @@ pub record IsReadyKind (kind : table.Kind) : Type 0 where
   pub wide : width_of (widths_of kind.rows) ≤ 64
 
 pub nop_ready : IsReadyKind nop_kind
-unfolding are_ready is_ready width_of
+unfolding are_ready is_ready is_part lacks width_of
 nop_ready = record { ready = refl; wide = lit≤ tt }
 
 pub alu_ready : IsReadyKind alu_kind
-unfolding are_ready is_ready width_of
+unfolding are_ready is_ready is_part lacks width_of
 alu_ready = record { ready = refl; wide = lit≤ tt }
 
 pub load_imm_ready : IsReadyKind load_imm_kind
-unfolding are_ready is_ready width_of
+unfolding are_ready is_ready is_part lacks width_of
 load_imm_ready = record { ready = refl; wide = lit≤ tt }
 
 pub branch_ready : IsReadyKind branch_kind
-unfolding are_ready is_ready width_of
+unfolding are_ready is_ready is_part lacks width_of
 branch_ready = record { ready = refl; wide = lit≤ tt }
 
 pub row_below : (row : table.Row) → RowFacts row → row.below ≤ 2 ^ 32

@@ -1,6 +1,6 @@
 -- What the assembler has read after each item and each line: the word so far, or the least fault so far. No part of what the
 -- crate claims.
-use Rattle.std.specs.Prelude.{ℕ, ◌+◌, ◌*◌, ◌^◌, ◌≤◌, ◌<◌, ◌≡◌, ◌==◌, Bool, true, not, ◌&&◌, ◌||◌, nat_lt, nat_le, List, [], ◌∷◌, ◌++◌, length, take, slice_index_or, if◌then◌else◌, Option, Result, None, Some, Ok, Err}
+use Rattle.std.specs.Prelude.{ℕ, ◌+◌, ◌*◌, ◌^◌, ◌≤◌, ◌<◌, ◌≡◌, ◌==◌, Bool, true, not, ◌&&◌, ◌||◌, nat_lt, nat_le, List, [], ◌∷◌, ◌++◌, length, take, drop, slice_index, slice_index_or, bytes_eq, if◌then◌else◌, Option, Result, None, Some, Ok, Err}
 use Rattle.std.specs.List.{list_all}
 use Rattle.qpu_isa.specs.Fields.{joined, width_of}
 use Rattle.script.specs.Lines.{before, behind}
@@ -22,12 +22,20 @@ pub record Partial : Type 0 where
   pub rows : List Row
   pub fault : Option Mistake
 
--- the row's default and all its values fit its width, and a label's too
+-- without such a byte
+unfoldable pub lacks : ℕ → List ℕ → Bool
+lacks mark bytes = list_all (λ byte. not (byte == mark)) bytes
+
+-- a name in which no item ends: without space and `=`
+unfoldable pub is_part : List ℕ → Bool
+is_part name = lacks 61 name && lacks 32 name
+
+-- the row's default and all its values fit its width, and a label's too, and no item ends in its name
 unfoldable pub is_ready : Row → Bool
 is_ready row =
     (nat_le 1 row.width && nat_le row.width 32)
     && ((nat_lt row.fallback (2 ^ row.width) && nat_le row.below (2 ^ row.width))
-    && (list_all (λ named. nat_lt named.value (2 ^ row.width)) row.named && (not row.takes_label || row.width == 32)))
+    && (list_all (λ named. nat_lt named.value (2 ^ row.width)) row.named && ((not row.takes_label || row.width == 32) && is_part row.name)))
 
 unfoldable pub are_ready : List Row → Bool
 are_ready rows = list_all is_ready rows
@@ -128,3 +136,25 @@ unfoldable pub lines_words : Spots → ℕ → List Line → List ℕ → Result
 lines_words spots line [] words = Ok words
 lines_words spots line (first ∷ lines) words =
     if_words (line_words spots line words first) (λ more. lines_words spots (line + 1) lines more)
+
+-- the items begin with a name and `=`
+unfoldable pub begins : List ℕ → List ℕ → Bool
+begins items name = nat_lt (length name) (length items) && (slice_index items (length name) == 61 && bytes_eq (take (length name) items) name)
+
+-- what is behind a name and `=`, with which the items begin
+pub record IsBehind (items name text : List ℕ) : Type 0 where
+  pub begun : begins items name ≡ true
+  pub rest : text ≡ drop (length name + 1) items
+
+-- a row of this name comes next, behind those that have their defaults in the word
+pub record IsPlace (word : ℕ) (rows : List Row) (name : List ℕ) (at : ℕ) (row : Row) (later : List Row) : Type 0 where
+  pub named : is_row name row ≡ true
+  pub still : IsOpen at (row ∷ later)
+  pub there : has_row name rows ≡ true
+  pub skips : (read : Row → Result ℕ Mistake) (fault : Option Mistake)
+      → skip_to name read fault word rows ≡ with_value row (record { word = at; rows = later; fault = fault }) (read row)
+
+-- the item is read without a mistake
+abbrev pub IsStep : Spots → ℕ → ℕ → List Row → List ℕ → ℕ → List Row → Type 0
+IsStep spots index word rows item after later = (all : List Row) (fault : Option Mistake)
+    → read_item spots index all (record { word = word; rows = rows; fault = fault }) item ≡ record { word = after; rows = later; fault = fault }

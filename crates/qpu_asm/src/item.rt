@@ -113,7 +113,7 @@ fn with_defaults(word: u64, rows: &[Row]) -> u64
 }
 
 // A field below a word.
-fn append(word: u64, width: u32, value: u64) -> u64
+pub fn append(word: u64, width: u32, value: u64) -> u64
     requires room { (word + 1) * 2 ^ width ≤ 2 ^ 64 }
     requires narrow { width ≤ 32 }
     requires small { value < 2 ^ width }
@@ -329,7 +329,7 @@ fn distance(index: u32, target: u32) -> u64
 }
 
 #[tactic(auto, unfolding(crate::specs::Items::read_plain))]
-fn read_plain(row: &Row, text: &[u8]) -> Result<u64, Mistake>
+pub fn read_plain(row: &Row, text: &[u8]) -> Result<u64, Mistake>
     requires { row.now.below ≤ 2 ^ 32 }
     ensures { result ≡ plain_read (row_seen row.now) text.now }
 {

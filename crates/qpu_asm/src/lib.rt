@@ -19,6 +19,7 @@ mod place;
 mod printer;
 mod sheet;
 mod sheets;
+mod step;
 mod table;
 
 pub use assembler::assemble;
