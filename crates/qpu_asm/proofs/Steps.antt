@@ -1,5 +1,5 @@
 -- An item that is read in one walk.
-use Rattle.std.proofs.Common.{◌≡◌, ℕ, zero, suc, get_or, ◌+◌, ◌*◌, ◌^◌, ◌≤◌, ◌<◌, ◌||◌, codes, Bool, true, false, not, ◌==◌, ◌&&◌, List, [], ◌∷◌, ◌++◌, length, take, drop, slice_index, refl, sym, ◌∙◌, ap, subst, arith, min, append-nil, map, Ok, IfOk, lt-ltb, ltb-true, eqb-true, nat_lt, bytes_eq, drop-cons, add-one, inl, inr, Option, Result, length-append, if◌then◌else◌}
+use Rattle.std.proofs.Common.{◌≡◌, ℕ, zero, suc, get_or, ◌+◌, ◌*◌, ◌^◌, ◌≤◌, ◌<◌, ◌||◌, codes, Bool, true, false, not, ◌==◌, ◌&&◌, List, [], ◌∷◌, ◌++◌, length, take, drop, slice_index, refl, sym, ◌∙◌, ap, subst, arith, min, append-nil, map, le_refl, Ok, IfOk, lt-ltb, ltb-true, eqb-true, nat_lt, bytes_eq, drop-cons, add-one, inl, inr, Option, Result, length-append, if◌then◌else◌}
 use Rattle.std.proofs.lemmas.Bool.{and_parts, and_from, not-true, false≢true, cases_Bool}
 use Rattle.std.proofs.lemmas.List.{take-append-drop}
 use Rattle.std.proofs.lemmas.Bool.Decides.{nat_tests}
@@ -141,6 +141,22 @@ digits_end (digit ∷ digits) others all =
     let other : (digit == 32) ≡ false = grind (arith, nat_tests, parts.0) in
     let rest = digits_end digits others parts.1 in
     rw other (ap (λ b. digit ∷ b) rest.0, rest.1)
+
+behind_within : (text : List ℕ) → length (behind 32 text) ≤ length text
+unfolding behind
+behind_within [] = le_refl 0
+behind_within (byte ∷ bytes) = elim (cases_Bool (byte == 32)) [
+  | inl space ↦ rw space (omega arith)
+  | inr other ↦ rw other (omega (arith, behind_within bytes))
+]
+
+pub behind_shorter : (text : List ℕ) → 0 < length text → length (behind 32 text) < length text
+unfolding behind
+behind_shorter [] some = absurd (omega arith)
+behind_shorter (byte ∷ bytes) some = elim (cases_Bool (byte == 32)) [
+  | inl space ↦ rw space (omega arith)
+  | inr other ↦ rw other (omega (arith, behind_within bytes))
+]
 
 pub none_behind : (text : List ℕ) → length text ≡ 0 → (before 32 text ≡ []) × (behind 32 text ≡ text)
 unfolding before behind

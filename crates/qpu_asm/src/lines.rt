@@ -1,5 +1,6 @@
 //! Lines and words of a text.
 ghost use Rattle.std.specs.Prelude.{◌≡◌, ◌<◌, ◌≤◌, ◌+◌, ◌∷◌, [], length, MatchOption, IfSome, IsTrue, slice_index, ◌≢◌};
+ghost use Rattle.script.specs.Lines.{before, behind};
 ghost use Rattle.qpu_asm.specs.Lines.{words_of, label_line, line_of, is_alone, is_comment as comment_test, ends_label as label_test, read_line as line_read};
 ghost use Rattle.qpu_asm.specs.Seen.{line_seen};
 
@@ -15,16 +16,24 @@ pub enum Line<'a> {
     Coded(Cut<'a>),
 }
 
+/// A line from its first word on, where it has one.
+pub fn from_word(line: &[u8]) -> Option<&[u8]>
+    ensures words { MatchOption result (words_of line.now ≡ []) (λ words. words_of line.now ≡ before 32 words.now ∷ words_of (behind 32 words.now)) }
+    ensures some { IfSome result (λ words. 0 < length words.now) }
+    ensures within { IfSome result (λ words. length words.now ≤ length line.now) }
+{
+    let line = without_spaces(line);
+    if line.is_empty() { None } else { Some(line) }
+}
+
 /// The first word of a line, and what comes after it, where there is a word.
 pub fn next_word(line: &[u8]) -> Option<Cut<'_>>
     ensures words { MatchOption result (words_of line.now ≡ []) (λ cut. words_of line.now ≡ cut.first.now ∷ words_of cut.rest.now) }
     ensures shorter { IfSome result (λ cut. length cut.rest.now < length line.now) }
 {
-    let line = without_spaces(line);
-    if line.is_empty() {
-        None
-    } else {
-        Some(cut_at(line, b' '))
+    match from_word(line) {
+        Some(words) => Some(cut_at(words, b' ')),
+        None => None,
     }
 }
 
