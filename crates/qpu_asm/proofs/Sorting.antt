@@ -1,24 +1,36 @@
 -- What is found among sorted marks is the first label of that name in the text.
-use Rattle.std.proofs.Common.{◌≡◌, ℕ, zero, suc, ◌+◌, ◌-◌, ◌<◌, ◌≤◌, inl, inr, ◌⊎◌, Bool, true, false, List, [], ◌∷◌, ◌++◌, length, map, get_or, refl, sym, ◌∙◌, ap, subst, arith, nat_lt, min, Option, None, Some, if◌then◌else◌, All, Contains, bytes_eq}
+use Rattle.std.proofs.Common.{◌≡◌, ℕ, zero, suc, ◌+◌, ◌-◌, ◌<◌, ◌≤◌, inl, inr, ◌⊎◌, Bool, true, false, List, [], ◌∷◌, ◌++◌, length, map, get_or, refl, sym, ◌∙◌, ap, subst, arith, nat_lt, min, Option, None, Some, if◌then◌else◌, All, Contains, bytes_eq, ◌==◌, ◌&&◌, eq-eqb}
 use Rattle.std.proofs.lemmas.Cmp.{then_total, on_total, nat_cmp_total, nat_list_cmp_total, tied_itself}
 use Rattle.std.proofs.lemmas.List.Sorted.{sorted_far, ranks_by, All-permutation, Contains-permutation}
 use Rattle.std.proofs.lemmas.Bool.{cases_Bool, cases_lt, false≢true, true≢false, ltb-true}
 use Rattle.std.proofs.{lemmas.Bool.Decides.nat_tests, lemmas.List.get_or_read, lemmas.Map.Text.is_eq-slice_cmp}
-use Rattle.std.proofs.lemmas.List.Elements.{All-cons, All-weaker, All-contains}
+use Rattle.std.proofs.lemmas.List.Elements.{All-cons, All-push, All-weaker, All-contains}
 use Rattle.std.specs.declared.cmp.Ordering.TheVariants.{Less, Equal, Greater}
 use Rattle.std.specs.{Cmp.IsTotalOrder, Cmp.IsStrictWeakOrder, Cmp.Lexicographic.slice_cmp, declared.cmp.Ordering.Ordering}
 use Rattle.std.specs.List.Sorted.{IsSorted, IsPermutation, IsPartitionedBy}
 use Rattle.std.specs.Ordering.{nat_cmp, ordering_then, ordering_reverse, is_lt, is_eq}
-use Rattle.qpu_asm.specs.{declared.label.Spot.Spot, declared.label.Mark.Mark, Labels.is_before, Labels.labels_from, Labels.spot_among}
+use Rattle.qpu_asm.specs.{declared.label.Spot.Spot, declared.label.Name.Name, declared.label.Mark.Mark, Labels.is_before, Labels.labels_from, Labels.spot_among}
 use Rattle.qpu_asm.specs.{Lines.Line, Lines.Blank, Lines.Label, Lines.BadLabel, Lines.Coded, Seen.mark_seen, Seen.spots_in}
-use Rattle.qpu_asm.specs.Marks.{spot_cmp, mark_cmp, IsNotLater, AreFirstBelow, BoundsRepeats, IsStart}
+use Rattle.qpu_asm.specs.Marks.{key_of, name_cmp, kept_cmp, spot_cmp, mark_cmp, IsKeyed, AreKeyed, AreInOrder, IsNotLater, AreFirstBelow, BoundsRepeats, IsStart}
 use Rattle.qpu_asm.proofs.{Assembling.same_everywhere, Bytes.bytes_same, Bytes.bytes_itself}
 
--- the order of marks
+-- the orders of names and of marks
+names_total : IsTotalOrder name_cmp
+names_total = then_total (on_total key_of nat_cmp_total) nat_list_cmp_total
+
 marks_total : IsTotalOrder mark_cmp
 marks_total =
-    then_total (on_total (λ m. m.name.now) nat_list_cmp_total)
+    then_total (on_total (λ m. m.name.bytes.now) names_total)
     (on_total (λ m. m.spot) (then_total (on_total (λ s. s.line) nat_cmp_total) (on_total (λ s. s.index) nat_cmp_total)))
+
+-- the order of marks by their fields, which is that of their names where the keys are their own
+abbrev pub fields_cmp : Mark → Mark → Ordering
+fields_cmp x y = ordering_then (kept_cmp x.name y.name) (spot_cmp x.spot y.spot)
+
+order_marks : (x y : Mark) → IsKeyed x.name → IsKeyed y.name → is_lt (fields_cmp x y) ≡ false → is_lt (mark_cmp x y) ≡ false
+order_marks x y first second not-lt =
+    subst (λ k. is_lt (ordering_then (ordering_then (nat_cmp k (key_of y.name.bytes.now)) (slice_cmp nat_cmp x.name.bytes.now y.name.bytes.now)) (spot_cmp x.spot y.spot)) ≡ false) first
+    (subst (λ k. is_lt (ordering_then (ordering_then (nat_cmp x.name.key k) (slice_cmp nat_cmp x.name.bytes.now y.name.bytes.now)) (spot_cmp x.spot y.spot)) ≡ false) second not-lt)
 
 -- sorted marks, any two of them
 abbrev pub FarSorted : List Mark → Type 0
@@ -33,17 +45,17 @@ first_not Equal second not-lt = refl
 first_not Greater second not-lt = refl
 
 -- its name is no lesser
-pub name_not : (x y : Mark) → is_lt (mark_cmp x y) ≡ false → is_lt (slice_cmp nat_cmp x.name.now y.name.now) ≡ false
-name_not x y not-lt = first_not (slice_cmp nat_cmp x.name.now y.name.now) (spot_cmp x.spot y.spot) not-lt
+pub name_not : (x y : Mark) → is_lt (mark_cmp x y) ≡ false → is_lt (name_cmp x.name.bytes.now y.name.bytes.now) ≡ false
+name_not x y not-lt = first_not (name_cmp x.name.bytes.now y.name.bytes.now) (spot_cmp x.spot y.spot) not-lt
 
-alike : (x y : Mark) → x.name.now ≡ y.name.now → slice_cmp nat_cmp x.name.now y.name.now ≡ Equal
-alike x y same = ap (slice_cmp nat_cmp x.name.now) (sym same) ∙ tied_itself nat_list_cmp_total x.name.now
+alike : (x y : Mark) → x.name.bytes.now ≡ y.name.bytes.now → name_cmp x.name.bytes.now y.name.bytes.now ≡ Equal
+alike x y same = ap (name_cmp x.name.bytes.now) (sym same) ∙ tied_itself names_total x.name.bytes.now
 
 later_numbers : (a b c d : ℕ) → is_lt (ordering_then (nat_cmp a c) (nat_cmp b d)) ≡ false → (c < a) ⊎ ((c ≡ a) × (d ≤ b))
 later_numbers a b c d not-lt = grind (arith, nat_tests)
 
 -- of one name, it is no earlier
-pub spot_not : (x y : Mark) → x.name.now ≡ y.name.now → is_lt (mark_cmp x y) ≡ false → IsNotLater y.spot x.spot
+pub spot_not : (x y : Mark) → x.name.bytes.now ≡ y.name.bytes.now → is_lt (mark_cmp x y) ≡ false → IsNotLater y.spot x.spot
 spot_not x y same not-lt =
     later_numbers x.spot.line x.spot.index y.spot.line y.spot.index
     (sym (ap (λ o. is_lt (ordering_then o (spot_cmp x.spot y.spot))) (alike x y same)) ∙ not-lt)
@@ -53,24 +65,46 @@ not_both Less not-lt not-gt = absurd (true≢false not-lt)
 not_both Equal not-lt not-gt = refl
 not_both Greater not-lt not-gt = absurd (true≢false not-gt)
 
-pub same_names : (a b : List ℕ) → is_lt (slice_cmp nat_cmp a b) ≡ false → is_lt (slice_cmp nat_cmp b a) ≡ false → a ≡ b
+second_equal : (first second : Ordering) → is_eq (ordering_then first second) ≡ true → is_eq second ≡ true
+second_equal Less second equal = absurd (false≢true equal)
+second_equal Equal second equal = equal
+second_equal Greater second equal = absurd (false≢true equal)
+
+pub same_names : (a b : List ℕ) → is_lt (name_cmp a b) ≡ false → is_lt (name_cmp b a) ≡ false → a ≡ b
 same_names a b not-lt not-gt =
     bytes_same a b (sym (is_eq-slice_cmp a b)
-    ∙ not_both (slice_cmp nat_cmp a b) not-lt (ap is_lt (sym (IsTotalOrder.antisymm nat_list_cmp_total b a)) ∙ not-gt))
+    ∙ second_equal (nat_cmp (key_of a) (key_of b)) (slice_cmp nat_cmp a b)
+    (not_both (name_cmp a b) not-lt (ap is_lt (sym (IsTotalOrder.antisymm names_total b a)) ∙ not-gt)))
+
+-- names with their own keys are one where their bytes are
+and_false : (b : Bool) → (b && false) ≡ false
+and_false true = refl
+and_false false = refl
+
+keyed_by : (a b : List ℕ) (same : Bool) → bytes_eq a b ≡ same → ((key_of a == key_of b) && same) ≡ same
+keyed_by a b true is = rw (bytes_same a b is, eq-eqb (key_of b) (key_of b) refl) refl
+keyed_by a b false is = and_false (key_of a == key_of b)
+
+pub same_keyed : (x y : Name) → IsKeyed x → IsKeyed y → ((x.key == y.key) && bytes_eq x.bytes.now y.bytes.now) ≡ bytes_eq x.bytes.now y.bytes.now
+same_keyed x y first second = rw (first, second) (keyed_by x.bytes.now y.bytes.now (bytes_eq x.bytes.now y.bytes.now) refl)
+
+pub order_keyed : (x y : Name) → IsKeyed x → IsKeyed y
+    → is_lt (kept_cmp x y) ≡ is_lt (name_cmp x.bytes.now y.bytes.now)
+order_keyed x y first second = rw (first, second) refl
 
 -- of the marks of one name, one that comes earlier in the list is not later in the text
 unfoldable pub AreRanked : List Mark → Type 0
 AreRanked [] = Unit {0}
-AreRanked (mark ∷ marks) = All (λ other. mark.name.now ≡ other.name.now → IsNotLater mark.spot other.spot) marks × AreRanked marks
+AreRanked (mark ∷ marks) = All (λ other. mark.name.bytes.now ≡ other.name.bytes.now → IsNotLater mark.spot other.spot) marks × AreRanked marks
 
 -- the mark of a name that comes first in the text
 pub record IsLeastMark (marks : List Mark) (name : List ℕ) (mark : Mark) : Type 0 where
   pub there : Contains marks mark
-  pub named : mark.name.now ≡ name
-  pub least : All (λ other. other.name.now ≡ name → IsNotLater mark.spot other.spot) marks
+  pub named : mark.name.bytes.now ≡ name
+  pub least : All (λ other. other.name.bytes.now ≡ name → IsNotLater mark.spot other.spot) marks
 
 abbrev pub IsFound : List Mark → List ℕ → Option Spot → Type 0
-IsFound marks name None = All (λ mark. mark.name.now ≡ name → ⊥) marks
+IsFound marks name None = All (λ mark. mark.name.bytes.now ≡ name → ⊥) marks
 IsFound marks name (Some spot) = (mark : Mark) × (mark.spot ≡ spot) × IsLeastMark marks name mark
 
 same_spot : (x y : Spot) → IsNotLater x y → IsNotLater y x → x ≡ y
@@ -84,35 +118,35 @@ same_spot x y first second =
 pub found_once : (marks : List Mark) (name : List ℕ) (a b : Option Spot) → IsFound marks name a → IsFound marks name b → a ≡ b
 found_once marks name None None first second = refl
 found_once marks name None (Some spot) first second =
-    absurd (All-contains (λ mark. mark.name.now ≡ name → ⊥) marks second.0 first second.2.there second.2.named)
+    absurd (All-contains (λ mark. mark.name.bytes.now ≡ name → ⊥) marks second.0 first second.2.there second.2.named)
 found_once marks name (Some spot) None first second =
-    absurd (All-contains (λ mark. mark.name.now ≡ name → ⊥) marks first.0 second first.2.there first.2.named)
+    absurd (All-contains (λ mark. mark.name.bytes.now ≡ name → ⊥) marks first.0 second first.2.there first.2.named)
 found_once marks name (Some spot) (Some other) first second =
-    let forth = All-contains (λ m. m.name.now ≡ name → IsNotLater first.0.spot m.spot) marks second.0 first.2.least second.2.there second.2.named in
-    let back = All-contains (λ m. m.name.now ≡ name → IsNotLater second.0.spot m.spot) marks first.0 second.2.least first.2.there first.2.named in
+    let forth = All-contains (λ m. m.name.bytes.now ≡ name → IsNotLater first.0.spot m.spot) marks second.0 first.2.least second.2.there second.2.named in
+    let back = All-contains (λ m. m.name.bytes.now ≡ name → IsNotLater second.0.spot m.spot) marks first.0 second.2.least first.2.there first.2.named in
     ap Some (sym first.1 ∙ (same_spot first.0.spot second.0.spot forth back ∙ second.1))
 
 pub found_permuted : (marks others : List Mark) (name : List ℕ) (a : Option Spot) → IsPermutation marks others → IsFound marks name a → IsFound others name a
-found_permuted marks others name None moved is = All-permutation (λ mark. mark.name.now ≡ name → ⊥) marks others moved is
+found_permuted marks others name None moved is = All-permutation (λ mark. mark.name.bytes.now ≡ name → ⊥) marks others moved is
 found_permuted marks others name (Some spot) moved (mark, at, is) = (
   mark,
   at,
   record {
     there = Contains-permutation marks others mark moved is.there;
     named = is.named;
-    least = All-permutation (λ other. other.name.now ≡ name → IsNotLater mark.spot other.spot) marks others moved is.least;
+    least = All-permutation (λ other. other.name.bytes.now ≡ name → IsNotLater mark.spot other.spot) marks others moved is.least;
   },
 )
 
-found_later : (first : Mark) (marks : List Mark) (name : List ℕ) (a : Option Spot) → (first.name.now ≡ name → ⊥) → IsFound marks name a → IsFound (first ∷ marks) name a
-found_later first marks name None other is = All-cons (λ mark. mark.name.now ≡ name → ⊥) first marks other is
+found_later : (first : Mark) (marks : List Mark) (name : List ℕ) (a : Option Spot) → (first.name.bytes.now ≡ name → ⊥) → IsFound marks name a → IsFound (first ∷ marks) name a
+found_later first marks name None other is = All-cons (λ mark. mark.name.bytes.now ≡ name → ⊥) first marks other is
 found_later first marks name (Some spot) other (mark, at, is) = (
   mark,
   at,
   record {
     there = (suc is.there.0, omega (arith, is.there.1), is.there.2);
     named = is.named;
-    least = All-cons (λ m. m.name.now ≡ name → IsNotLater mark.spot m.spot) first marks (λ same. absurd (other same)) is.least;
+    least = All-cons (λ m. m.name.bytes.now ≡ name → IsNotLater mark.spot m.spot) first marks (λ same. absurd (other same)) is.least;
   },
 )
 
@@ -124,23 +158,23 @@ pub found_first : (marks : List Mark) (name : List ℕ) → AreRanked marks → 
 unfolding AreRanked spot_among
 found_first [] name ranked = λ k d inside. absurd (omega (arith, inside))
 found_first (mark ∷ marks) name ranked =
-    elim (cases_Bool (bytes_eq mark.name.now name)) [
+    elim (cases_Bool (bytes_eq mark.name.bytes.now name)) [
       | inl same ↦
-          (let named : mark.name.now ≡ name = bytes_same mark.name.now name same in
+          (let named : mark.name.bytes.now ≡ name = bytes_same mark.name.bytes.now name same in
           subst (λ b. IsFound (mark ∷ marks) name (if b then Some mark.spot else spots_in marks name)) (sym same) (
             mark,
             refl,
             record {
               there = (zero, omega arith, refl);
               named = named;
-              least = All-cons (λ m. m.name.now ≡ name → IsNotLater mark.spot m.spot) mark marks (λ itself. not_later_itself mark.spot)
+              least = All-cons (λ m. m.name.bytes.now ≡ name → IsNotLater mark.spot m.spot) mark marks (λ itself. not_later_itself mark.spot)
                   (λ k d inside other. ranked.0 k d inside (named ∙ sym other));
             },
           ))
       | inr apart ↦
           subst (λ b. IsFound (mark ∷ marks) name (if b then Some mark.spot else spots_in marks name)) (sym apart)
           (found_later mark marks name (spots_in marks name)
-          (λ same. false≢true (sym apart ∙ (ap (bytes_eq mark.name.now) (sym same) ∙ bytes_itself mark.name.now)))
+          (λ same. false≢true (sym apart ∙ (ap (bytes_eq mark.name.bytes.now) (sym same) ∙ bytes_itself mark.name.bytes.now)))
           (found_first marks name ranked.1))
     ]
 
@@ -160,7 +194,25 @@ sorted_spots marks sorted name moved ranked up =
     found_once sorted name (spots_in sorted name) (spots_in marks name) (found_first sorted name (ranked_sorted sorted (far sorted up)))
     (found_permuted marks sorted name (spots_in marks name) moved (found_first marks name ranked))
 
+-- marks that were sorted by the order of their fields
+pub all_keyed : (marks others : List Mark) → IsPermutation marks others → AreKeyed marks → AreKeyed others
+all_keyed marks others moved keyed = All-permutation (λ m. IsKeyed m.name) marks others moved keyed
+
+pub order_kept : (marks sorted : List Mark) → AreKeyed marks → IsPermutation marks sorted → IsSorted fields_cmp sorted → AreInOrder sorted
+order_kept marks sorted keyed moved up =
+    let all = all_keyed marks sorted moved keyed in
+    record {
+      keyed = all;
+      sorted = λ k d low high. order_marks (get_or sorted (k + 1) d) (get_or sorted k d) (all (k + 1) d high) (all k d (omega (arith, high))) (up k d low high);
+    }
+
+pub none_keyed : (marks : List Mark) → marks ≡ [] → AreKeyed marks
+none_keyed marks is = subst AreKeyed (sym is) (λ k d inside. absurd (omega (arith, inside)))
+
 -- one mark more
+pub keyed_push : (marks : List Mark) (mark : Mark) → AreKeyed marks → IsKeyed mark.name → AreKeyed (marks ++ mark ∷ [])
+keyed_push marks mark keyed here = All-push (λ m. IsKeyed m.name) marks mark keyed here
+
 pub seen_push : (marks : List Mark) (mark : Mark) → map mark_seen (marks ++ mark ∷ []) ≡ map mark_seen marks ++ mark_seen mark ∷ []
 seen_push [] mark = refl
 seen_push (first ∷ marks) mark = ap (λ labels. mark_seen first ∷ labels) (seen_push marks mark)
@@ -186,7 +238,7 @@ ranked_from line index (Label name ∷ lines) (mark ∷ marks) is =
     let tail : map mark_seen marks ≡ labels_from (line + 1) (index + 0) lines = cc in
     let here : mark.spot.line ≡ line = ap (λ label. label.spot.line) head in
     let rest = ranked_from (line + 1) (index + 0) lines marks tail in (
-      (All-weaker (λ m. line + 1 ≤ m.spot.line) (λ m. mark.name.now ≡ m.name.now → IsNotLater mark.spot m.spot) (λ m low same. inl (omega (arith, low, here))) marks rest.1, rest.0),
+      (All-weaker (λ m. line + 1 ≤ m.spot.line) (λ m. mark.name.bytes.now ≡ m.name.bytes.now → IsNotLater mark.spot m.spot) (λ m low same. inl (omega (arith, low, here))) marks rest.1, rest.0),
       All-cons (λ m. line ≤ m.spot.line) mark marks (omega (arith, here)) (ranked_later line marks rest).1,
     )
 
@@ -200,22 +252,22 @@ sorted_labels marks sorted lines is moved up =
 -- a mark below the bound is the first of its name
 after_it : (marks : List Mark) (bound line i j k : ℕ) (early late : Mark) → FarSorted marks → BoundsRepeats marks bound
     → early ≡ get_or marks i late → j < length marks → late ≡ get_or marks j late → k + 1 ≡ j → i ≤ k
-    → early.name.now ≡ late.name.now → late.spot.line ≡ line → line < bound → ⊥
+    → early.name.bytes.now ≡ late.name.bytes.now → late.spot.line ≡ line → line < bound → ⊥
 after_it marks bound line i j k early late sorted bounds early-at inside late-at next below same at-line low =
     let middle = get_or marks k late in
-    let no-less : is_lt (slice_cmp nat_cmp middle.name.now early.name.now) ≡ false =
-    subst (λ m. is_lt (slice_cmp nat_cmp middle.name.now m.name.now) ≡ false) (sym early-at) (name_not middle (get_or marks i late) (sorted i k late below (omega (arith, next, inside)))) in
-    let no-more : is_lt (slice_cmp nat_cmp late.name.now middle.name.now) ≡ false =
-    subst (λ m. is_lt (slice_cmp nat_cmp m.name.now middle.name.now) ≡ false) (sym late-at) (name_not (get_or marks j late) middle (sorted k j late (omega (arith, next)) inside)) in
-    let tied : middle.name.now ≡ late.name.now =
-    same_names middle.name.now late.name.now (subst (λ n. is_lt (slice_cmp nat_cmp middle.name.now n) ≡ false) same no-less) no-more in
+    let no-less : is_lt (name_cmp middle.name.bytes.now early.name.bytes.now) ≡ false =
+    subst (λ m. is_lt (name_cmp middle.name.bytes.now m.name.bytes.now) ≡ false) (sym early-at) (name_not middle (get_or marks i late) (sorted i k late below (omega (arith, next, inside)))) in
+    let no-more : is_lt (name_cmp late.name.bytes.now middle.name.bytes.now) ≡ false =
+    subst (λ m. is_lt (name_cmp m.name.bytes.now middle.name.bytes.now) ≡ false) (sym late-at) (name_not (get_or marks j late) middle (sorted k j late (omega (arith, next)) inside)) in
+    let tied : middle.name.bytes.now ≡ late.name.bytes.now =
+    same_names middle.name.bytes.now late.name.bytes.now (subst (λ n. is_lt (name_cmp middle.name.bytes.now n) ≡ false) same no-less) no-more in
     let late-next : late ≡ get_or marks (k + 1) late = late-at ∙ ap (λ n. get_or marks n late) (sym next) in
-    let bounded : bound ≤ (get_or marks (k + 1) late).spot.line = bounds k late (omega (arith, next, inside)) (tied ∙ ap (λ m. m.name.now) late-next) in
+    let bounded : bound ≤ (get_or marks (k + 1) late).spot.line = bounds k late (omega (arith, next, inside)) (tied ∙ ap (λ m. m.name.bytes.now) late-next) in
     let line-is : (get_or marks (k + 1) late).spot.line ≡ line = ap (λ m. m.spot.line) (sym late-next) ∙ at-line in
     omega (arith, bounded, line-is, low)
 
 before_it : (marks : List Mark) (line i j : ℕ) (early late : Mark) → FarSorted marks → i < length marks → early ≡ get_or marks i late
-    → late ≡ get_or marks j late → j ≤ i → early.name.now ≡ late.name.now → late.spot.line ≡ line → early.spot.line < line → ⊥
+    → late ≡ get_or marks j late → j ≤ i → early.name.bytes.now ≡ late.name.bytes.now → late.spot.line ≡ line → early.spot.line < line → ⊥
 before_it marks line i j early late sorted inside early-at late-at below same at-line earlier =
     let order : is_lt (mark_cmp early late) ≡ false =
     subst (λ m. is_lt (mark_cmp m late) ≡ false) (sym early-at) (subst (λ m. is_lt (mark_cmp (get_or marks i late) m) ≡ false) (sym late-at) (sorted j i late below inside)) in
@@ -225,7 +277,7 @@ before_it marks line i j early late sorted inside early-at late-at below same at
     ]
 
 no_earlier : (marks : List Mark) (bound line : ℕ) (early late : Mark) → FarSorted marks → BoundsRepeats marks bound
-    → Contains marks early → Contains marks late → early.name.now ≡ late.name.now → late.spot.line ≡ line → line < bound → early.spot.line < line → ⊥
+    → Contains marks early → Contains marks late → early.name.bytes.now ≡ late.name.bytes.now → late.spot.line ≡ line → line < bound → early.spot.line < line → ⊥
 no_earlier marks bound line early late sorted bounds (i, i-inside, i-at) (j, j-inside, j-at) same at-line low earlier =
     let early-at = get_or_read marks i early i-inside (sym i-at) late in
     elim (cases_lt i j) [
@@ -234,7 +286,7 @@ no_earlier marks bound line early late sorted bounds (i, i-inside, i-at) (j, j-i
     ]
 
 not_before : (marks : List Mark) (bound line : ℕ) (name : List ℕ) (late : Mark) (a : Option Spot) → FarSorted marks → BoundsRepeats marks bound
-    → late.name.now ≡ name → late.spot.line ≡ line → Contains marks late → line < bound → IsFound marks name a → is_before line a ≡ false
+    → late.name.bytes.now ≡ name → late.spot.line ≡ line → Contains marks late → line < bound → IsFound marks name a → is_before line a ≡ false
 not_before marks bound line name late None sorted bounds named at-line there low found = refl
 not_before marks bound line name late (Some spot) sorted bounds named at-line there low found =
     elim (cases_Bool (nat_lt spot.line line)) [
@@ -262,29 +314,29 @@ firsts_below sorted bound up bounds line index (Label name ∷ lines) (mark ∷ 
     )
 
 -- where a search among sorted marks ends
-lesser_other : (marks : List Mark) (name : List ℕ) (at k : ℕ) (d : Mark) → IsStart marks name at → k < at → (get_or marks k d).name.now ≡ name → ⊥
+lesser_other : (marks : List Mark) (name : List ℕ) (at k : ℕ) (d : Mark) → IsStart marks name at → k < at → (get_or marks k d).name.bytes.now ≡ name → ⊥
 lesser_other marks name at k d start below named =
-    true≢false (sym (start.below k d below) ∙ (ap (λ n. is_lt (slice_cmp nat_cmp n name)) named ∙ ap is_lt (tied_itself nat_list_cmp_total name)))
+    true≢false (sym (start.below k d below) ∙ (ap (λ n. is_lt (name_cmp n name)) named ∙ ap is_lt (tied_itself names_total name)))
 
 none_past : (marks : List Mark) (name : List ℕ) (at : ℕ) → IsStart marks name at → length marks ≤ at → IsFound marks name None
 none_past marks name at start past = λ k d inside named. lesser_other marks name at k d start (omega (arith, past, inside)) named
 
 none_other : (marks : List Mark) (name : List ℕ) (at : ℕ) (here : Mark) → FarSorted marks → IsStart marks name at → at < length marks
-    → here ≡ get_or marks at here → (here.name.now ≡ name → ⊥) → IsFound marks name None
+    → here ≡ get_or marks at here → (here.name.bytes.now ≡ name → ⊥) → IsFound marks name None
 none_other marks name at here sorted start inside is other = λ k d k-inside named.
     elim (cases_lt k at) [
       | inl below ↦ lesser_other marks name at k d start below named
       | inr above ↦
           (let here-at = get_or_read marks at here inside is d in
-          let no-less : is_lt (slice_cmp nat_cmp here.name.now name) ≡ false = subst (λ m. is_lt (slice_cmp nat_cmp m.name.now name) ≡ false) (sym here-at) (start.above at d (omega arith) inside) in
-          let no-more : is_lt (slice_cmp nat_cmp name here.name.now) ≡ false =
-          subst (λ n. is_lt (slice_cmp nat_cmp n here.name.now) ≡ false) named
-          (subst (λ m. is_lt (slice_cmp nat_cmp (get_or marks k d).name.now m.name.now) ≡ false) (sym here-at) (name_not (get_or marks k d) (get_or marks at d) (sorted at k d above k-inside))) in
-          other (same_names here.name.now name no-less no-more))
+          let no-less : is_lt (name_cmp here.name.bytes.now name) ≡ false = subst (λ m. is_lt (name_cmp m.name.bytes.now name) ≡ false) (sym here-at) (start.above at d (omega arith) inside) in
+          let no-more : is_lt (name_cmp name here.name.bytes.now) ≡ false =
+          subst (λ n. is_lt (name_cmp n here.name.bytes.now) ≡ false) named
+          (subst (λ m. is_lt (name_cmp (get_or marks k d).name.bytes.now m.name.bytes.now) ≡ false) (sym here-at) (name_not (get_or marks k d) (get_or marks at d) (sorted at k d above k-inside))) in
+          other (same_names here.name.bytes.now name no-less no-more))
     ]
 
 some_here : (marks : List Mark) (name : List ℕ) (at : ℕ) (here : Mark) → FarSorted marks → IsStart marks name at → at < length marks
-    → here ≡ get_or marks at here → here.name.now ≡ name → IsFound marks name (Some here.spot)
+    → here ≡ get_or marks at here → here.name.bytes.now ≡ name → IsFound marks name (Some here.spot)
 some_here marks name at here sorted start inside is named = (
   here,
   refl,
@@ -313,37 +365,37 @@ any_default (mark ∷ marks) zero d e inside = refl
 any_default (mark ∷ marks) (suc i) d e inside = any_default marks i d e (omega (arith, inside))
 
 found_by : (marks : List Mark) (name : List ℕ) (at : ℕ) (here : Mark) → FarSorted marks → IsStart marks name at → at < length marks
-    → here ≡ get_or marks at here → IsFound marks name (if bytes_eq here.name.now name then Some here.spot else None)
+    → here ≡ get_or marks at here → IsFound marks name (if bytes_eq here.name.bytes.now name then Some here.spot else None)
 found_by marks name at here sorted start inside is =
-    elim (cases_Bool (bytes_eq here.name.now name)) [
+    elim (cases_Bool (bytes_eq here.name.bytes.now name)) [
       | inl same ↦
           subst (λ b. IsFound marks name (if b then Some here.spot else None)) (sym same)
-          (some_here marks name at here sorted start inside is (bytes_same here.name.now name same))
+          (some_here marks name at here sorted start inside is (bytes_same here.name.bytes.now name same))
       | inr other ↦
           subst (λ b. IsFound marks name (if b then Some here.spot else None)) (sym other)
-          (none_other marks name at here sorted start inside is (λ same. false≢true (sym other ∙ (ap (bytes_eq here.name.now) (sym same) ∙ bytes_itself here.name.now))))
+          (none_other marks name at here sorted start inside is (λ same. false≢true (sym other ∙ (ap (bytes_eq here.name.bytes.now) (sym same) ∙ bytes_itself here.name.bytes.now))))
     ]
 
 pub found_at : (marks : List Mark) (name : List ℕ) (at : ℕ) (d : Mark) → IsSorted mark_cmp marks → IsStart marks name at → at < length marks
-    → (if bytes_eq (get_or marks at d).name.now name then Some (get_or marks at d).spot else None) ≡ spots_in marks name
+    → (if bytes_eq (get_or marks at d).name.bytes.now name then Some (get_or marks at d).spot else None) ≡ spots_in marks name
 found_at marks name at d up start inside =
-    found_once marks name (if bytes_eq (get_or marks at d).name.now name then Some (get_or marks at d).spot else None) (spots_in marks name)
+    found_once marks name (if bytes_eq (get_or marks at d).name.bytes.now name then Some (get_or marks at d).spot else None) (spots_in marks name)
     (found_by marks name at (get_or marks at d) (far marks up) start inside (any_default marks at d (get_or marks at d) inside))
     (found_first marks name (ranked_sorted marks (far marks up)))
 
 -- the bound so far
 abbrev pub BoundsBelow : List Mark → ℕ → ℕ → Type 0
-BoundsBelow marks at bound = (k : ℕ) (d : Mark) → k + 1 < at → (get_or marks k d).name.now ≡ (get_or marks (k + 1) d).name.now → bound ≤ (get_or marks (k + 1) d).spot.line
+BoundsBelow marks at bound = (k : ℕ) (d : Mark) → k + 1 < at → (get_or marks k d).name.bytes.now ≡ (get_or marks (k + 1) d).name.bytes.now → bound ≤ (get_or marks (k + 1) d).spot.line
 
 bound_by : (same : Bool) (old new line : ℕ) → new ≡ (if same then min old line else old) → (new ≤ old) × (same ≡ true → new ≤ line)
 bound_by true old new line is = (omega (arith, is), λ same. omega (arith, is))
 bound_by false old new line is = (omega (arith, is), λ same. absurd (false≢true same))
 
 pub bound_more : (marks : List Mark) (at old new : ℕ) (d : Mark) → 1 ≤ at → at < length marks
-    → new ≡ (if bytes_eq (get_or marks (at - 1) d).name.now (get_or marks at d).name.now then min old (get_or marks at d).spot.line else old)
+    → new ≡ (if bytes_eq (get_or marks (at - 1) d).name.bytes.now (get_or marks at d).name.bytes.now then min old (get_or marks at d).spot.line else old)
     → BoundsBelow marks at old → BoundsBelow marks (at + 1) new
 bound_more marks at old new d some inside is below k e k-below same =
-    let bounds = bound_by (bytes_eq (get_or marks (at - 1) d).name.now (get_or marks at d).name.now) old new (get_or marks at d).spot.line is in
+    let bounds = bound_by (bytes_eq (get_or marks (at - 1) d).name.bytes.now (get_or marks at d).name.bytes.now) old new (get_or marks at d).spot.line is in
     elim (cases_lt (k + 1) at) [
       | inl earlier ↦ (let kept = below k e earlier same in omega (arith, kept, bounds.0))
       | inr last ↦
@@ -351,22 +403,37 @@ bound_more marks at old new d some inside is below k e k-below same =
           let before : at - 1 ≡ k = omega (arith, here) in
           let second : get_or marks at d ≡ get_or marks (k + 1) e = any_default marks at d e inside ∙ ap (λ n. get_or marks n e) here in
           let first : get_or marks (at - 1) d ≡ get_or marks k e = any_default marks (at - 1) d e (omega (arith, inside)) ∙ ap (λ n. get_or marks n e) before in
-          let named : (get_or marks (at - 1) d).name.now ≡ (get_or marks at d).name.now = ap (λ m. m.name.now) first ∙ (same ∙ sym (ap (λ m. m.name.now) second)) in
-          let tied = ap (bytes_eq (get_or marks (at - 1) d).name.now) (sym named) ∙ bytes_itself (get_or marks (at - 1) d).name.now in
+          let named : (get_or marks (at - 1) d).name.bytes.now ≡ (get_or marks at d).name.bytes.now = ap (λ m. m.name.bytes.now) first ∙ (same ∙ sym (ap (λ m. m.name.bytes.now) second)) in
+          let tied = ap (bytes_eq (get_or marks (at - 1) d).name.bytes.now) (sym named) ∙ bytes_itself (get_or marks (at - 1) d).name.bytes.now in
           let low = bounds.1 tied in
           let line : (get_or marks at d).spot.line ≡ (get_or marks (k + 1) e).spot.line = ap (λ m. m.spot.line) second in
           omega (arith, low, line))
     ]
 
 -- marks of lesser names come first
-names_ordered : IsStrictWeakOrder (λ a b. is_lt (slice_cmp nat_cmp a b))
-names_ordered = ranks_by nat_list_cmp_total (λ n. n)
+names_ordered : IsStrictWeakOrder (λ a b. is_lt (name_cmp a b))
+names_ordered = ranks_by names_total (λ n. n)
 
-pub names_part : (marks : List Mark) (name : List ℕ) → IsSorted mark_cmp marks → IsPartitionedBy (λ m. is_lt (slice_cmp nat_cmp m.name.now name)) marks
+pub names_part : (marks : List Mark) (name : List ℕ) → IsSorted mark_cmp marks → IsPartitionedBy (λ m. is_lt (name_cmp m.name.bytes.now name)) marks
 names_part marks name up i j d below inside lesser =
-    let early = (get_or marks i d).name.now in
-    let late = (get_or marks j d).name.now in
-    elim (cases_Bool (is_lt (slice_cmp nat_cmp early name))) [
+    let early = (get_or marks i d).name.bytes.now in
+    let late = (get_or marks j d).name.bytes.now in
+    elim (cases_Bool (is_lt (name_cmp early name))) [
       | inl below-name ↦ below-name
       | inr not-below ↦ absurd (true≢false (sym lesser ∙ names_ordered.chain late early name (name_not (get_or marks j d) (get_or marks i d) (far marks up i j d below inside)) not-below))
     ]
+
+pub kept_part : (marks : List Mark) (name : Name) → AreInOrder marks → IsKeyed name → IsPartitionedBy (λ m. is_lt (kept_cmp m.name name)) marks
+kept_part marks name order keyed i j d below inside lesser =
+    order_keyed (get_or marks i d).name name (order.keyed i d (omega (arith, below, inside))) keyed
+    ∙ names_part marks name.bytes.now order.sorted i j d below inside (sym (order_keyed (get_or marks j d).name name (order.keyed j d inside) keyed) ∙ lesser)
+
+pub start_kept : (marks : List Mark) (name : Name) (at : ℕ) → AreInOrder marks → IsKeyed name → at ≤ length marks
+    → ((k : ℕ) (d : Mark) → k < at → is_lt (kept_cmp (get_or marks k d).name name) ≡ true)
+    → ((k : ℕ) (d : Mark) → at ≤ k → k < length marks → is_lt (kept_cmp (get_or marks k d).name name) ≡ false)
+    → IsStart marks name.bytes.now at
+start_kept marks name at order keyed inside below above = record {
+  inside = inside;
+  below = λ k d low. sym (order_keyed (get_or marks k d).name name (order.keyed k d (omega (arith, low, inside))) keyed) ∙ below k d low;
+  above = λ k d low high. sym (order_keyed (get_or marks k d).name name (order.keyed k d high) keyed) ∙ above k d low high;
+}

@@ -1,15 +1,42 @@
 -- The labels of a text as a list of marks, in the text's order and sorted. No part of what the crate claims.
-use Rattle.std.specs.Prelude.{◌≡◌, ℕ, ◌+◌, ◌<◌, ◌≤◌, ◌⊎◌, true, false, List, [], ◌∷◌, slice_index_or, length}
+use Rattle.std.specs.Prelude.{◌≡◌, ℕ, ◌+◌, ◌*◌, ◌%◌, ◌^◌, ◌<◌, ◌≤◌, ◌⊎◌, true, false, List, [], ◌∷◌, slice_index_or, length, All, IsSorted}
 use Rattle.std.specs.{Cmp.Lexicographic.slice_cmp, Ordering.nat_cmp, Ordering.ordering_then, Ordering.is_lt, declared.cmp.Ordering.Ordering}
-use Rattle.qpu_asm.specs.{declared.label.Spot.Spot, declared.label.Mark.Mark, Items.Spots, Labels.is_before}
+use Rattle.std.specs.List.{fold}
+use Rattle.qpu_asm.specs.{declared.label.Spot.Spot, declared.label.Name.Name, declared.label.Mark.Mark, Items.Spots, Labels.is_before}
 use Rattle.qpu_asm.specs.Lines.{Line, Blank, Label, BadLabel, Coded}
+
+-- the key of a name: the last byte reaches its high bits
+abbrev pub key_with : ℕ → ℕ → ℕ
+key_with key byte = (key + byte) % 2 ^ 64 * 0x9e3779b97f4a7c15 % 2 ^ 64
+
+unfoldable pub key_of : List ℕ → ℕ
+key_of name = fold key_with 0 name
+
+-- the key that a name keeps is its own
+abbrev pub IsKeyed : Name → Type 0
+IsKeyed name = name.key ≡ key_of name.bytes.now
+
+abbrev pub AreKeyed : List Mark → Type 0
+AreKeyed marks = All (λ mark. IsKeyed mark.name) marks
+
+-- the order of names: by key, by bytes
+abbrev pub name_cmp : List ℕ → List ℕ → Ordering
+name_cmp x y = ordering_then (nat_cmp (key_of x) (key_of y)) (slice_cmp nat_cmp x y)
+
+-- the order of names as they are kept
+abbrev pub kept_cmp : Name → Name → Ordering
+kept_cmp x y = ordering_then (nat_cmp x.key y.key) (slice_cmp nat_cmp x.bytes.now y.bytes.now)
 
 -- the order of marks: by name, by line, by index
 abbrev pub spot_cmp : Spot → Spot → Ordering
 spot_cmp x y = ordering_then (nat_cmp x.line y.line) (nat_cmp x.index y.index)
 
 abbrev pub mark_cmp : Mark → Mark → Ordering
-mark_cmp x y = ordering_then (slice_cmp nat_cmp x.name.now y.name.now) (spot_cmp x.spot y.spot)
+mark_cmp x y = ordering_then (name_cmp x.name.bytes.now y.name.bytes.now) (spot_cmp x.spot y.spot)
+
+pub record AreInOrder (marks : List Mark) : Type 0 where
+  pub keyed : AreKeyed marks
+  pub sorted : IsSorted mark_cmp marks
 
 -- by line, then by index
 abbrev pub IsNotLater : Spot → Spot → Type 0
@@ -29,10 +56,10 @@ AreFirstBelow bound spots line (first ∷ lines) = IsFirstBelow bound spots line
 -- a line that repeats a name, among sorted marks, is not below the bound
 abbrev pub BoundsRepeats : List Mark → ℕ → Type 0
 BoundsRepeats marks bound = (k : ℕ) (d : Mark) → k + 1 < length marks
-    → (slice_index_or marks k d).name.now ≡ (slice_index_or marks (k + 1) d).name.now → bound ≤ (slice_index_or marks (k + 1) d).spot.line
+    → (slice_index_or marks k d).name.bytes.now ≡ (slice_index_or marks (k + 1) d).name.bytes.now → bound ≤ (slice_index_or marks (k + 1) d).spot.line
 
--- the marks before this place have lesser names, and those from it on don't
+-- the marks before this place have names that come before, and those from it on don't
 pub record IsStart (marks : List Mark) (name : List ℕ) (at : ℕ) : Type 0 where
   pub inside : at ≤ length marks
-  pub below : (k : ℕ) (d : Mark) → k < at → is_lt (slice_cmp nat_cmp (slice_index_or marks k d).name.now name) ≡ true
-  pub above : (k : ℕ) (d : Mark) → at ≤ k → k < length marks → is_lt (slice_cmp nat_cmp (slice_index_or marks k d).name.now name) ≡ false
+  pub below : (k : ℕ) (d : Mark) → k < at → is_lt (name_cmp (slice_index_or marks k d).name.bytes.now name) ≡ true
+  pub above : (k : ℕ) (d : Mark) → at ≤ k → k < length marks → is_lt (name_cmp (slice_index_or marks k d).name.bytes.now name) ≡ false

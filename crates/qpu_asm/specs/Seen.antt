@@ -40,7 +40,7 @@ line_seen (line.Coded cut) = lines.Coded cut.first.now (lines.words_of cut.rest.
 
 -- the labels of marks, and where the first one of a name stands
 abbrev pub mark_seen : Mark → LabelSpot
-mark_seen mark = record { name = mark.name.now; spot = mark.spot }
+mark_seen mark = record { name = mark.name.bytes.now; spot = mark.spot }
 
 abbrev pub labels_seen : List Mark → List LabelSpot
 labels_seen marks = map mark_seen marks

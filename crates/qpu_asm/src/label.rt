@@ -1,9 +1,8 @@
 //! The labels of a text: a mark for each line that defines one, sorted by name.
-ghost use Rattle.std.specs.Prelude.{◌≡◌, ◌<◌, ◌≤◌, ◌^◌, ◌++◌, length, min, IfOk, OnOk, IsSorted, Some, None, bytes_eq, if◌then◌else◌};
-ghost use Rattle.std.specs.Cmp.Lexicographic.{slice_cmp};
-ghost use Rattle.std.specs.Ordering.{nat_cmp, is_lt};
+ghost use Rattle.std.specs.Prelude.{◌≡◌, ◌<◌, ◌≤◌, ◌^◌, ◌++◌, length, min, IfOk, OnOk, Some, None, bytes_eq, if◌then◌else◌};
+ghost use Rattle.std.specs.Ordering.{is_lt};
 ghost use Rattle.qpu_asm.specs.Labels.{spots_of, labels_of, label_on, read_lines, size_of};
-ghost use Rattle.qpu_asm.specs.Marks.{mark_cmp, AreFirstBelow, BoundsRepeats, IsStart};
+ghost use Rattle.qpu_asm.specs.Marks.{key_of as key_by, kept_cmp, AreInOrder, IsKeyed, AreKeyed, AreFirstBelow, BoundsRepeats, IsStart};
 ghost use Rattle.qpu_asm.specs.Seen.{line_seen, labels_seen, spots_in};
 
 use crate::lines::{Line, read_line};
@@ -18,11 +17,18 @@ pub struct Spot {
     pub index: u32,
 }
 
+/// A label's name behind a key, so that nearly every comparison is one of two numbers.
+#[derive(Clone, Copy, Debug, PartialEq, Eq, PartialOrd, Ord)]
+pub struct Name<'a> {
+    key: u64,
+    bytes: &'a [u8],
+}
+
 /// A line that defines a label.
 #[derive(Clone, Copy, Debug, PartialEq, Eq, PartialOrd, Ord)]
 pub struct Mark<'a> {
-    pub name: &'a [u8],
-    pub spot: Spot,
+    name: Name<'a>,
+    spot: Spot,
 }
 
 /// The marks of a text, by name, and those of one name by line.
@@ -32,15 +38,42 @@ pub struct Labels<'a> {
 }
 
 impl<'a> Model for Labels<'a> {
-    ghost use Rattle.std.specs.Prelude.{List, IsSorted};
+    ghost use Rattle.std.specs.Prelude.{List};
     ghost use Rattle.qpu_asm.specs.declared.label.Mark.{Mark};
-    ghost use Rattle.qpu_asm.specs.Marks.{mark_cmp};
+    ghost use Rattle.qpu_asm.specs.Marks.{AreInOrder};
 
     ghost Value = { List Mark };
 
     ghost view = { λ l. l.marks.items };
 
-    ghost invariant = { λ l. IsSorted mark_cmp l.marks.items };
+    ghost invariant = { λ l. AreInOrder l.marks.items };
+}
+
+impl<'a> Name<'a> {
+    // The name of these bytes.
+    fn of(bytes: &'a [u8]) -> Name<'a>
+        ensures key { result.key ≡ key_by bytes.now }
+        ensures bytes { result.bytes.now ≡ bytes.now }
+    {
+        Name {
+            key: key_of(bytes),
+            bytes,
+        }
+    }
+}
+
+// Equal names have equal keys, and others nearly never. The last byte reaches the high bits.
+#[tactic(auto, unfolding(crate::specs::Marks::key_of))]
+fn key_of(bytes: &[u8]) -> u64
+    ensures { result ≡ key_by bytes.now }
+{
+    let mut key: u64 = 0;
+    for byte in bytes {
+        key = key
+            .wrapping_add(*byte as u64)
+            .wrapping_mul(0x9E37_79B9_7F4A_7C15);
+    }
+    key
 }
 
 /// A text's labels; no line below `first_below` repeats one.
@@ -66,25 +99,13 @@ pub fn find_labels(alloc: Global, text: &[u8]) -> Result<Found<'_>, AllocError>
     })
 }
 
-// No text has more labels than colons.
-fn colons(text: &[u8]) -> usize
-    ensures { result ≤ length text.now }
-{
-    let mut count = 0;
-    for byte in text {
-        if *byte == b':' {
-            count += 1;
-        }
-    }
-    count
-}
-
 // The marks of a text, line after line.
 fn marks_of(alloc: Global, text: &[u8]) -> Result<Vec<Mark<'_>>, AllocError>
     requires { length text.now < 2 ^ 32 }
-    ensures { IfOk result (λ marks. labels_seen marks.items ≡ labels_of text.now) }
+    ensures labels { IfOk result (λ marks. labels_seen marks.items ≡ labels_of text.now) }
+    ensures keyed { IfOk result (λ marks. AreKeyed marks.items) }
 {
-    let mut marks = Vec::with_capacity(alloc, colons(text))?;
+    let mut marks = Vec::new(alloc);
     let mut rest = text;
     let mut line: u64 = 1;
     let mut index: u64 = 0;
@@ -117,32 +138,40 @@ fn size(line: Line<'_>) -> u64
 }
 
 // Puts a label's line to the marks of the lines above it.
-#[tactic(auto, using(crate::proofs::Sorting::seen_push))]
+#[tactic(auto, using(crate::proofs::Sorting::seen_push, crate::proofs::Sorting::keyed_push))]
 fn add_line<'a>(marks: &mut Vec<Mark<'a>>, line: Line<'a>, spot: Spot) -> Result<(), AllocError>
-    ensures { OnOk result (
+    requires keyed { AreKeyed marks.old.items }
+    ensures keyed { OnOk result (AreKeyed marks.new.items) }
+    ensures labels { OnOk result (
         labels_seen marks.new.items ≡ labels_seen marks.old.items ++ label_on spot.line spot.index (line_seen line.entry)) }
 {
     match line {
         Line::Label(name) => {
-            marks.push(Mark { name, spot })?;
+            marks.push(Mark {
+                name: Name::of(name),
+                spot,
+            })?;
             Ok(())
         }
         Line::Blank | Line::BadLabel | Line::Coded(_) => Ok(()),
     }
 }
 
-// Two marks have one name.
-fn are_same(first: &Mark<'_>, second: &Mark<'_>) -> bool
-    ensures { result ≡ bytes_eq first.now.name.now second.now.name.now }
+// Two names are one.
+#[tactic(auto, using(crate::proofs::Sorting::same_keyed))]
+fn are_same(first: &Name<'_>, second: &Name<'_>) -> bool
+    requires { IsKeyed first.now × IsKeyed second.now }
+    ensures { result ≡ bytes_eq first.now.bytes.now second.now.bytes.now }
 {
-    first.name == second.name
+    *first == *second
 }
 
 // A line that repeats a label is a bound.
 fn bound_at(bound: u64, first: &Mark<'_>, second: &Mark<'_>) -> u64
-    ensures { result ≡ (if bytes_eq first.now.name.now second.now.name.now then min bound second.now.spot.line else bound) }
+    requires { IsKeyed first.now.name × IsKeyed second.now.name }
+    ensures { result ≡ (if bytes_eq first.now.name.bytes.now second.now.name.bytes.now then min bound second.now.spot.line else bound) }
 {
-    if are_same(first, second) {
+    if are_same(&first.name, &second.name) {
         return bound.min(second.spot.line as u64);
     }
     bound
@@ -150,6 +179,7 @@ fn bound_at(bound: u64, first: &Mark<'_>, second: &Mark<'_>) -> u64
 
 // A bound of the lines that repeat a label, where marks of one name stand together.
 fn first_repeat(marks: &[Mark<'_>]) -> u64
+    requires { AreKeyed marks.now }
     ensures { BoundsRepeats marks.now result }
 {
     let mut bound = u64::MAX;
@@ -159,36 +189,39 @@ fn first_repeat(marks: &[Mark<'_>]) -> u64
     bound
 }
 
-// The mark has a lesser name.
-fn has_lesser(mark: &Mark<'_>, name: &[u8]) -> bool
-    ensures { result ≡ is_lt (slice_cmp nat_cmp mark.now.name.now name.now) }
+// The name comes before the other.
+fn is_before(name: &Name<'_>, other: &Name<'_>) -> bool
+    ensures { result ≡ is_lt (kept_cmp name.now other.now) }
 {
-    mark.name.cmp(name).is_lt()
+    name.cmp(other).is_lt()
 }
 
-// How many marks have lesser names.
-fn start_of(marks: &[Mark<'_>], name: &[u8]) -> usize
-    requires { IsSorted mark_cmp marks.now }
-    ensures { IsStart marks.now name.now result }
+// How many marks have names that come before.
+fn start_of(marks: &[Mark<'_>], name: &Name<'_>) -> usize
+    requires sorted { AreInOrder marks.now }
+    requires keyed { IsKeyed name.now }
+    ensures { IsStart marks.now name.now.bytes.now result }
 {
-    marks.partition_point(|mark| has_lesser(mark, name))
+    marks.partition_point(|mark| is_before(&mark.name, name))
 }
 
 // The mark's place, where it has this name.
-fn spot_by(mark: &Mark<'_>, name: &[u8]) -> Option<Spot>
-    ensures { result ≡ (if bytes_eq mark.now.name.now name.now then Some mark.now.spot else None) }
+fn spot_by(mark: &Mark<'_>, name: &Name<'_>) -> Option<Spot>
+    requires { IsKeyed mark.now.name × IsKeyed name.now }
+    ensures { result ≡ (if bytes_eq mark.now.name.bytes.now name.now.bytes.now then Some mark.now.spot else None) }
 {
-    if mark.name == name {
+    if are_same(&mark.name, name) {
         return Some(mark.spot);
     }
     None
 }
 
-// The place of the mark here, where it has this name; marks of lesser names stand before it.
-fn spot_at(marks: &[Mark<'_>], at: usize, name: &[u8]) -> Option<Spot>
-    requires sorted { IsSorted mark_cmp marks.now }
-    requires start { IsStart marks.now name.now at }
-    ensures { result ≡ spots_in marks.now name.now }
+// The place of the mark here, where it has this name; the marks before it have names that come before.
+fn spot_at(marks: &[Mark<'_>], at: usize, name: &Name<'_>) -> Option<Spot>
+    requires sorted { AreInOrder marks.now }
+    requires keyed { IsKeyed name.now }
+    requires start { IsStart marks.now name.now.bytes.now at }
+    ensures { result ≡ spots_in marks.now name.now.bytes.now }
 {
     if at >= marks.len() {
         return None;
@@ -200,5 +233,6 @@ fn spot_at(marks: &[Mark<'_>], at: usize, name: &[u8]) -> Option<Spot>
 pub fn find_spot<'a>(labels: &Labels<'a>, name: &'a [u8]) -> Option<Spot>
     ensures { result ≡ spots_in labels.now name.now }
 {
-    spot_at(&labels.marks, start_of(&labels.marks, name), name)
+    let name = Name::of(name);
+    spot_at(&labels.marks, start_of(&labels.marks, &name), &name)
 }

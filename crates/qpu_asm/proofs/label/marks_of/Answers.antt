@@ -1,20 +1,22 @@
 use Rattle.std.proofs.{Common.sym, Common.◌∙◌, Common.arith, Common.refl, lemmas.Bool.Decides.nat_tests}
 use Rattle.qpu_asm.specs.{Labels.labels_of, Seen.line_seen}
 use Rattle.qpu_asm.proofs.Assembling.{lines_first, labels_step, labels_end, size_low}
+use Rattle.qpu_asm.proofs.Sorting.{none_keyed}
 use Rattle.qpu_asm.proofs.label.marks_of.Goals as goal
 
 pub loop-rest-init : goal.loop-rest-init
 unfolding labels_of
-loop-rest-init c = record { lines = omega arith; indexes = omega arith; same = rw c.in_ok-marks.ensures.items refl }
+loop-rest-init c = record { lines = omega arith; indexes = omega arith; keyed = none_keyed _ c.new-marks.ensures.items; same = rw c.new-marks.ensures.items refl }
 
 pub loop-rest-preserved : goal.loop-rest-preserved
 loop-rest-preserved c = record {
   lines = omega (arith, c.next_line-cut.ensures.shorter);
   indexes = omega (arith, size_low (line_seen c.read_line-read.result), c.size-index.ensures);
+  keyed = c.in_ok-add_line.ensures.keyed;
   same =
-      labels_step _ _ _ _ _ _ _ _ (lines_first _ _ _ _ c.next_line-cut.ensures.lines c.read_line-read.ensures) c.size-index.ensures c.in_ok-add_line.ensures
+      labels_step _ _ _ _ _ _ _ _ (lines_first _ _ _ _ c.next_line-cut.ensures.lines c.read_line-read.ensures) c.size-index.ensures c.in_ok-add_line.ensures.labels
       ∙ c.loop-rest.invariant.same;
 }
 
-pub returns : goal.returns
-returns c = sym (labels_end _ c.loop-rest.rest.now _ _ (grind (arith, nat_tests, c.is_empty.ensures, c.loop-rest-test.false))) ∙ c.loop-rest.invariant.same
+pub returns-clause-labels : goal.returns-clause-labels
+returns-clause-labels c = sym (labels_end _ c.loop-rest.rest.now _ _ (grind (arith, nat_tests, c.is_empty.ensures, c.loop-rest-test.false))) ∙ c.loop-rest.invariant.same
