@@ -1,12 +1,12 @@
 -- An item that is read in one walk.
-use Rattle.std.proofs.Common.{◌≡◌, ℕ, zero, suc, get_or, ◌+◌, ◌*◌, ◌^◌, ◌≤◌, ◌<◌, ◌||◌, codes, Bool, true, false, not, ◌==◌, ◌&&◌, List, [], ◌∷◌, ◌++◌, length, take, drop, slice_index, refl, sym, ◌∙◌, ap, subst, arith, min, append-nil, map, le_refl, Ok, IfOk, lt-ltb, ltb-true, eqb-true, nat_lt, bytes_eq, drop-cons, add-one, inl, inr, Option, Result, length-append, if◌then◌else◌}
+use Rattle.std.proofs.Common.{◌≡◌, ℕ, zero, suc, get_or, ◌+◌, ◌*◌, ◌^◌, ◌≤◌, ◌<◌, ◌||◌, codes, Bool, true, false, not, ◌==◌, ◌&&◌, List, [], ◌∷◌, ◌++◌, length, take, drop, slice_index, refl, sym, ◌∙◌, ap, subst, arith, min, append-nil, map, le_refl, None, Ok, IfOk, lt-ltb, ltb-true, eqb-true, nat_lt, bytes_eq, drop-cons, add-one, inl, inr, Option, Result, length-append, if◌then◌else◌}
 use Rattle.std.proofs.lemmas.Bool.{and_parts, and_from, not-true, false≢true, cases_Bool}
 use Rattle.std.proofs.lemmas.List.{take-append-drop}
 use Rattle.std.proofs.lemmas.Bool.Decides.{nat_tests}
 use Rattle.std.specs.{Char.is_ascii_digit, Str.all_ascii_digits}
 use Rattle.script.specs.{Lines.before, Lines.behind, Number.is_number, Number.number_of}
 use Rattle.qpu_asm.specs.declared.{fault.Mistake.Mistake}
-use Rattle.qpu_asm.specs.{Walk.lacks, Walk.is_part, Walk.begins, Walk.IsBehind, Walk.IsOpen, Walk.skip_to, Walk.IsPlace, Walk.IsStep, Walk.read_item, Walk.read_named, Items.Spots, Items.read_number, Items.read_plain, Items.read_value, Items.find_named, Items.or_number, Items.has_value, Items.is_row, Items.has_row, Table.Row, Seen.row_seen, Seen.rows_seen, Seen.named_seen}
+use Rattle.qpu_asm.specs.{Walk.lacks, Walk.is_part, Walk.begins, Walk.IsBehind, Walk.IsOpen, Walk.skip_to, Walk.IsPlace, Walk.IsStep, Walk.AreSteps, Walk.read_items, Lines.words_of, Walk.read_item, Walk.read_named, Items.Spots, Items.read_number, Items.read_plain, Items.read_value, Items.find_named, Items.or_number, Items.has_value, Items.is_row, Items.has_row, Table.Row, Seen.row_seen, Seen.rows_seen, Seen.named_seen}
 use Rattle.qpu_asm.specs.declared.table.Row as code
 use Rattle.qpu_asm.proofs.{Bytes.bytes_same, Bytes.bytes_itself, Rows.none_left, Reading.value_small, Reading.open_facts, Reading.default_open, Reading.open_first, Reading.skip_passes, Reading.skip_reaches}
 
@@ -220,3 +220,13 @@ pub name_part : (named : Bool) (at : ℕ) (row : Row) (later : List Row) → IsO
 unfolding is_part lacks
 name_part true at row later room = (open_facts at row later room).part
 name_part false at row later room = refl
+
+-- one more item is read
+pub steps_more : (spots : Spots) (index word : ℕ) (rows : List Row) (items : List (List ℕ)) (at : ℕ) (here : List Row) (line words rest : List ℕ) (after : ℕ) (later : List Row)
+    → AreSteps spots index word rows items at here (words_of line) → words_of line ≡ before 32 words ∷ words_of (behind 32 words)
+    → IsStep spots index at here (before 32 words) after later → behind 32 words ≡ rest → AreSteps spots index word rows items after later (words_of rest)
+unfolding read_items
+steps_more spots index word rows items at here line words rest after later steps first step is =
+    λ all. rw (sym is)
+    (sym (ap (λ p. read_items spots index all p (words_of (behind 32 words))) (step all None))
+    ∙ (sym (ap (read_items spots index all (record { word = at; rows = here; fault = None })) first) ∙ steps all))

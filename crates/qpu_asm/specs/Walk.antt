@@ -96,6 +96,12 @@ unfoldable pub read_items : Spots → ℕ → List Row → Partial → List (Lis
 read_items spots index all partial [] = partial
 read_items spots index all partial (item ∷ items) = read_items spots index all (read_item spots index all partial item) items
 
+-- the first items are read without a mistake, and these are left
+abbrev pub AreSteps : Spots → ℕ → ℕ → List Row → List (List ℕ) → ℕ → List Row → List (List ℕ) → Type 0
+AreSteps spots index word rows items after later left = (all : List Row)
+    → read_items spots index all (record { word = after; rows = later; fault = None }) left
+    ≡ read_items spots index all (record { word = word; rows = rows; fault = None }) items
+
 abbrev pub word_or_fault : ℕ → Option Mistake → Result ℕ Mistake
 word_or_fault word None = Ok word
 word_or_fault word (Some mistake) = Err mistake

@@ -1,7 +1,6 @@
 //! The items of an instruction, and their values.
-ghost use Rattle.std.specs.Prelude.{◌≡◌, ◌≤◌, ◌<◌, ◌*◌, ◌+◌, ◌^◌, ◌∷◌, true, map, length, MatchOption, IfOk, Some, None, if◌then◌else◌};
+ghost use Rattle.std.specs.Prelude.{◌≡◌, ◌≤◌, ◌<◌, ◌*◌, ◌+◌, ◌^◌, ◌∷◌, true, map, MatchOption, IfOk, Some, None, if◌then◌else◌};
 ghost use Rattle.qpu_isa.specs.Fields.{joined};
-ghost use Rattle.script.specs.Lines.{before, behind};
 ghost use Rattle.qpu_asm.specs.Table.{widths_of, fallbacks_of};
 ghost use Rattle.qpu_asm.specs.Items.{find_named, read_number as number_read, read_plain as plain_read, distance as distance_by, read_target as target_read, is_row as row_test, has_row as row_among, kind_named as kind_by};
 ghost use Rattle.qpu_asm.specs.Walk.{least_of as least_by, with_fault as faulted, with_value as valued, skip_to as skipped, read_named as named_read, read_item as item_read, closed_word as word_by, kind_code, code_of, is_ready, IsOpen};
@@ -11,9 +10,9 @@ ghost use Rattle.qpu_asm.specs.Seen.{named_seen, row_seen, rows_seen, kind_seen,
 
 use crate::fault::Mistake;
 use crate::label::{Labels, find_spot};
-use crate::lines::from_word;
+use crate::lines::next_word;
 use crate::names::is_name;
-use crate::step::read_step;
+use crate::step::read_steps;
 use crate::table::{Kind, Named, Row, alu, branch, load_imm, nop};
 use script::{Cut, cut_at, is_number, number_up_to};
 use std::marker::Model;
@@ -76,55 +75,18 @@ fn read_items<'a>(
     requires { IsOpen kind.above (rows_seen kind.rows.now) }
     ensures { result ≡ kind_code (spots_in labels.now) index (words_of items.now) (kind_seen kind) }
 {
-    let mut rest = items;
+    let begun = read_steps(labels, index, kind.above, kind.rows, items);
+    let mut rest = begun.rest;
     let mut partial = Partial {
-        word: kind.above,
-        rows: kind.rows,
+        word: begun.word,
+        rows: begun.later,
         fault: None,
     };
-    while let Some(words) = from_word(rest) {
-        let read = read_first(labels, index, kind.rows, partial, words);
-        partial = read.partial;
-        rest = read.rest;
+    while let Some(cut) = next_word(rest) {
+        partial = put_item(labels, index, kind.rows, partial, cut.first);
+        rest = cut.rest;
     }
     closed_word(partial)
-}
-
-/// What was read of an instruction, and what is left of its line.
-#[derive(Drop)]
-struct Read<'a> {
-    partial: Partial,
-    rest: &'a [u8],
-}
-
-// Reads the first of some items.
-fn read_first<'a>(
-    labels: &Labels<'a>,
-    index: u32,
-    all: &[Row],
-    partial: Partial,
-    items: &'a [u8],
-) -> Read<'a>
-    requires { 0 < length items.now }
-    ensures partial { result.partial ≡ item_read (spots_in labels.now) index (rows_seen all.now) partial (before 32 items.now) }
-    ensures rest { result.rest.now ≡ behind 32 items.now }
-    ensures shorter { length result.rest.now < length items.now }
-{
-    if let Some(step) = read_step(labels, index, partial.word, partial.rows, items) {
-        return Read {
-            partial: Partial {
-                word: step.word,
-                rows: step.later,
-                fault: partial.fault,
-            },
-            rest: step.rest,
-        };
-    }
-    let cut = cut_at(items, b' ');
-    Read {
-        partial: put_item(labels, index, all, partial, cut.first),
-        rest: cut.rest,
-    }
 }
 
 // The rows that are left have their defaults.

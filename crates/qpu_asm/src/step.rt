@@ -5,11 +5,13 @@ ghost use Rattle.std.specs.Str.{all_ascii_digits};
 ghost use Rattle.script.specs.Lines.{before, behind};
 ghost use Rattle.script.specs.Number.{is_number as number_test, number_of};
 ghost use Rattle.qpu_asm.specs.Items.{read_number as number_read, read_plain as plain_read, read_value as value_read};
-ghost use Rattle.qpu_asm.specs.Walk.{begins, IsBehind, IsOpen, IsPlace, IsStep};
+ghost use Rattle.qpu_asm.specs.Lines.{words_of};
+ghost use Rattle.qpu_asm.specs.Walk.{begins, IsBehind, IsOpen, IsPlace, IsStep, AreSteps};
 ghost use Rattle.qpu_asm.specs.Seen.{row_seen, rows_seen, spots_in, name_seen};
 
 use crate::item::{append, read_plain, read_value};
 use crate::label::Labels;
+use crate::lines::from_word;
 use crate::table::Row;
 use script::{Cut, cut_at};
 
@@ -210,8 +212,8 @@ fn read_placed<'a>(labels: &Labels<'a>, index: u32, place: &Place<'a>) -> Option
     }
 }
 
-/// Reads the first item of some, where its row may still come and its value has no mistake.
-pub fn read_step<'a>(
+// Reads the first item of some, where its row may still come and its value has no mistake.
+fn read_step<'a>(
     labels: &Labels<'a>,
     index: u32,
     word: u64,
@@ -231,4 +233,32 @@ pub fn read_step<'a>(
         later: place.later,
         rest: read.rest,
     })
+}
+
+/// Reads the first items of some, up to one that isn't read so.
+#[inline(never)]
+pub fn read_steps<'a>(
+    labels: &Labels<'a>,
+    index: u32,
+    word: u64,
+    rows: &'static [Row],
+    items: &'a [u8],
+) -> Step<'a>
+    requires { IsOpen word (rows_seen rows.now) }
+    ensures steps { AreSteps (spots_in labels.now) index word (rows_seen rows.now) (words_of items.now) result.word
+        (rows_seen result.later.now) (words_of result.rest.now) }
+    ensures still { IsOpen result.word (rows_seen result.later.now) }
+{
+    let mut step = Step {
+        word,
+        later: rows,
+        rest: items,
+    };
+    while let Some(words) = from_word(step.rest) {
+        match read_step(labels, index, step.word, step.later, words) {
+            Some(next) => step = next,
+            None => return step,
+        }
+    }
+    step
 }
