@@ -13,7 +13,7 @@ use Rattle.qpu_asm.specs.Walk.{Partial, lacks, skip_to, read_named, read_item, r
 use Rattle.qpu_asm.specs.Printed.{name_of, or_decimal, value_text, item_text, item_texts, kind_of, spaced, kind_text, word_text, line_text, AsmText, PrintedReturns}
 use Rattle.qpu_asm.specs.Lines.{Coded, is_full, words_of, read_line, line_of, is_comment, ends_label}
 use Rattle.qpu_asm.specs.Labels.{read_lines, spots_of}
-use Rattle.qpu_asm.proofs.{Bytes.bytes_itself, Bytes.bytes_same, Words.kept_full, Rows.kind_cases, Steps.cut_name, Assembling.words_end}
+use Rattle.qpu_asm.proofs.{Bytes.bytes_itself, Bytes.bytes_same, Words.kept_full, Rows.kind_cases, Heads.cut_name, Assembling.words_end}
 use Rattle.qpu_asm.proofs.{Faults.text_assembles, Decimals.decimal_digits, Decimals.decimal_value, Decimals.decimal_number}
 
 -- a word: no space, no line feed
@@ -141,7 +141,7 @@ item_cut : (spots : Spots) (index : ℕ) (all : List Row) (partial : Partial) (r
     → read_item spots index all partial (item_text row value) ≡ read_named spots index all partial row.name (value_text row value)
 unfolding read_item item_text has_value
 item_cut spots index all partial row value facts =
-    let cut = cut_name row.name (value_text row value) facts.equals in
+    let cut = cut_name 61 row.name (value_text row value) facts.equals in
     let longer : length row.name < length (row.name ++ 61 ∷ value_text row value) = omega (arith, length-append row.name (61 ∷ value_text row value)) in
     rw (cut.0, cut.1, lt-ltb _ _ longer) refl
 

@@ -1,5 +1,6 @@
 pub mod Bytes
 pub mod Words
+pub mod Heads
 pub mod Rows
 pub mod Rooms
 pub mod Reading

@@ -8,15 +8,7 @@ use Rattle.script.specs.{Lines.before, Lines.behind, Number.is_number, Number.nu
 use Rattle.qpu_asm.specs.declared.{fault.Mistake.Mistake}
 use Rattle.qpu_asm.specs.{Walk.lacks, Walk.is_part, Walk.begins, Walk.IsBehind, Walk.IsOpen, Walk.skip_to, Walk.IsPlace, Walk.IsStep, Walk.AreSteps, Walk.read_items, Lines.words_of, Walk.read_item, Walk.read_named, Items.Spots, Items.read_number, Items.read_plain, Items.read_value, Items.find_named, Items.or_number, Items.has_value, Items.is_row, Items.has_row, Table.Row, Seen.row_seen, Seen.rows_seen, Seen.named_seen}
 use Rattle.qpu_asm.specs.declared.table.Row as code
-use Rattle.qpu_asm.proofs.{Bytes.bytes_same, Bytes.bytes_itself, Rows.none_left, Reading.value_small, Reading.open_facts, Reading.default_open, Reading.open_first, Reading.skip_passes, Reading.skip_reaches}
-
-pub cut_name : (name text : List ℕ) → lacks 61 name ≡ true → (before 61 (name ++ 61 ∷ text) ≡ name) × (behind 61 (name ++ 61 ∷ text) ≡ text)
-unfolding before behind lacks
-cut_name [] text test = (refl, refl)
-cut_name (byte ∷ bytes) text test =
-    let parts = and_parts (not (byte == 61)) (lacks 61 bytes) test in
-    let rest = cut_name bytes text parts.1 in
-    rw (not-true (byte == 61) parts.0) (ap (λ b. byte ∷ b) rest.0, rest.1)
+use Rattle.qpu_asm.proofs.{Heads.cut_name, Heads.begun_split, Bytes.bytes_same, Bytes.bytes_itself, Rows.none_left, Reading.value_small, Reading.open_facts, Reading.default_open, Reading.open_first, Reading.skip_passes, Reading.skip_reaches}
 
 -- a name goes whole into its item
 name_whole : (name text : List ℕ) → lacks 32 name ≡ true
@@ -40,7 +32,7 @@ unfolding is_part has_value
 item_parts name text test =
     let parts = and_parts (lacks 61 name) (lacks 32 name) test in
     let whole = name_whole name text parts.1 in
-    let cut = cut_name name (before 32 text) parts.0 in
+    let cut = cut_name 61 name (before 32 text) parts.0 in
     let longer : length name < length (name ++ 61 ∷ before 32 text) = omega (arith, length-append name (61 ∷ before 32 text)) in
     record {
       some = rw (whole.0, cut.0) (lt-ltb _ _ longer);
@@ -49,25 +41,17 @@ item_parts name text test =
       rest = whole.1;
     }
 
-pub item_of : (items name text : List ℕ) → is_part name ≡ true → IsBehind items name text → IsItemOf items name text
+pub item_of : (items name text : List ℕ) → is_part name ≡ true → IsBehind 61 items name text → IsItemOf items name text
 unfolding begins
 item_of items name text test is =
-    let parts = and_parts (nat_lt (length name) (length items)) (slice_index items (length name) == 61 && bytes_eq (take (length name) items) name) is.begun in
-    let here = and_parts (slice_index items (length name) == 61) (bytes_eq (take (length name) items) name) parts.1 in
-    let inside : length name < length items = ltb-true (length name) (length items) parts.0 in
-    let back : drop (length name) items ≡ 61 ∷ drop (length name + 1) items =
-    rw add-one (drop-cons items (length name) 0 inside) ∙ ap (λ byte. byte ∷ drop (length name + 1) items) (eqb-true (slice_index items (length name)) 61 here.0) in
-    let whole : items ≡ name ++ 61 ∷ text =
-    sym (take-append-drop (length name) items) ∙ (ap (λ f. f ++ drop (length name) items) (bytes_same (take (length name) items) name here.1)
-    ∙ ap (λ b. name ++ b) (back ∙ ap (λ t. 61 ∷ t) (sym is.rest))) in
-    rw whole (item_parts name text test)
+    rw (begun_split 61 items name is.begun ∙ ap (λ t. name ++ 61 ∷ t) (sym is.left)) (item_parts name text test)
 
 -- a name that the items begin with is no other's
-not_row : (items name : List ℕ) (row : Row) → begins items name ≡ true → begins items row.name ≡ false → row.takes_label ≡ false → is_row name row ≡ false
+not_row : (items name : List ℕ) (row : Row) → begins 61 items name ≡ true → begins 61 items row.name ≡ false → row.takes_label ≡ false → is_row name row ≡ false
 unfolding is_row
 not_row items name row here other plain =
     elim (cases_Bool (bytes_eq row.name name)) [
-      | inl same ↦ absurd (false≢true (sym other ∙ (ap (begins items) (bytes_same row.name name same) ∙ here)))
+      | inl same ↦ absurd (false≢true (sym other ∙ (ap (begins 61 items) (bytes_same row.name name same) ∙ here)))
       | inr apart ↦ rw (apart, plain) refl
     ]
 
@@ -78,19 +62,19 @@ or_last false = refl
 -- the rows that were passed
 pub record IsPassed (items : List ℕ) (first : ℕ) (all : List Row) (word : ℕ) (rows : List Row) : Type 0 where
   pub still : IsOpen word rows
-  pub there : (name : List ℕ) → begins items name ≡ true → has_row name rows ≡ has_row name all
-  pub same : (name : List ℕ) (read : Row → Result ℕ Mistake) (fault : Option Mistake) → begins items name ≡ true
+  pub there : (name : List ℕ) → begins 61 items name ≡ true → has_row name rows ≡ has_row name all
+  pub same : (name : List ℕ) (read : Row → Result ℕ Mistake) (fault : Option Mistake) → begins 61 items name ≡ true
       → skip_to name read fault word rows ≡ skip_to name read fault first all
 
 pub passed_none : (items : List ℕ) (word : ℕ) (rows : List Row) → IsOpen word rows → IsPassed items word rows word rows
 passed_none items word rows room = record { still = room; there = λ name begun. refl; same = λ name read fault begun. refl }
 
 pub passed_more : (items : List ℕ) (first : ℕ) (all : List Row) (word : ℕ) (rest later : List code.Row) (row : code.Row) → rest ≡ row ∷ later
-    → IsPassed items first all word (rows_seen rest) → begins items row.name.now ≡ false → row.takes_label ≡ false
+    → IsPassed items first all word (rows_seen rest) → begins 61 items row.name.now ≡ false → row.takes_label ≡ false
     → IsPassed items first all (word * 2 ^ row.width + row.fallback) (rows_seen later)
 unfolding has_row
 passed_more items first all word rest later row is passed other plain =
-    let skipped : (name : List ℕ) → begins items name ≡ true → is_row name (row_seen row) ≡ false =
+    let skipped : (name : List ℕ) → begins 61 items name ≡ true → is_row name (row_seen row) ≡ false =
     λ name begun. not_row items name (row_seen row) begun other plain in
     record {
       still = default_open word rest later row is passed.still;
@@ -100,7 +84,7 @@ passed_more items first all word rest later row is passed other plain =
     }
 
 pub place_here : (items : List ℕ) (first : ℕ) (all : List Row) (word : ℕ) (rest later : List code.Row) (row : code.Row) (name : List ℕ)
-    → rest ≡ row ∷ later → IsPassed items first all word (rows_seen rest) → begins items name ≡ true → is_row name (row_seen row) ≡ true
+    → rest ≡ row ∷ later → IsPassed items first all word (rows_seen rest) → begins 61 items name ≡ true → is_row name (row_seen row) ≡ true
     → IsPlace first all name word (row_seen row) (rows_seen later)
 unfolding has_row
 place_here items first all word rest later row name is passed begun named = record {
@@ -202,7 +186,7 @@ own_value spots index row text = rw (bytes_itself row.name) refl
 
 -- the step over an item
 pub step_made : (spots : Spots) (index word : ℕ) (rows : List Row) (items name text : List ℕ) (at value : ℕ) (row : Row) (later : List Row)
-    → IsPlace word rows name at row later → IsBehind items name text → read_value spots index name (before 32 text) row ≡ Ok value
+    → IsPlace word rows name at row later → IsBehind 61 items name text → read_value spots index name (before 32 text) row ≡ Ok value
     → is_part name ≡ true → IsStep spots index word rows (before 32 items) (at * 2 ^ row.width + value) later
 unfolding read_item read_named
 step_made spots index word rows items name text at value row later place is read part =

@@ -8,7 +8,7 @@ use Rattle.qpu_asm.specs.declared.fault.Mistake.TheVariants.{UnknownWord, BadOpe
 use Rattle.qpu_asm.specs.Items.{Spots, mistake_number, read_value, is_row, has_row, has_value, kind_named}
 use Rattle.qpu_asm.specs.{declared.fault.AsmFault.AsmFault, declared.fault.Mistake.Mistake, Labels.is_before, Faults.fault_on}
 use Rattle.qpu_asm.specs.{Table.Row, Table.Kind, Table.fallbacks_of, Table.widths_of, Printed.item_text}
-use Rattle.qpu_asm.specs.Lines.{Line, Blank, Label, BadLabel, Coded}
+use Rattle.qpu_asm.specs.Lines.{Line, Blank, Label, BadLabel, Coded, is_full, is_comment, ends_label}
 
 -- the one with the lesser number, where there is another
 abbrev pub least_of : Mistake → Option Mistake → Mistake
@@ -143,14 +143,18 @@ lines_words spots line [] words = Ok words
 lines_words spots line (first ∷ lines) words =
     if_words (line_words spots line words first) (λ more. lines_words spots (line + 1) lines more)
 
--- the items begin with a name and `=`
-unfoldable pub begins : List ℕ → List ℕ → Bool
-begins items name = nat_lt (length name) (length items) && (slice_index items (length name) == 61 && bytes_eq (take (length name) items) name)
+-- a text begins with a name and a mark
+unfoldable pub begins : ℕ → List ℕ → List ℕ → Bool
+begins mark text name = nat_lt (length name) (length text) && (slice_index text (length name) == mark && bytes_eq (take (length name) text) name)
 
--- what is behind a name and `=`, with which the items begin
-pub record IsBehind (items name text : List ℕ) : Type 0 where
-  pub begun : begins items name ≡ true
-  pub rest : text ≡ drop (length name + 1) items
+-- what is behind a name and a mark, with which a text begins
+pub record IsBehind (mark : ℕ) (text name rest : List ℕ) : Type 0 where
+  pub begun : begins mark text name ≡ true
+  pub left : rest ≡ drop (length name + 1) text
+
+-- a word without space that is no comment's and no label's
+unfoldable pub is_opcode : List ℕ → Bool
+is_opcode word = lacks 32 word && (is_full word && (not (is_comment word) && not (ends_label word)))
 
 -- a row of this name comes next, behind those that have their defaults in the word
 pub record IsPlace (word : ℕ) (rows : List Row) (name : List ℕ) (at : ℕ) (row : Row) (later : List Row) : Type 0 where

@@ -1,8 +1,9 @@
 //! Lines and words of a text.
-ghost use Rattle.std.specs.Prelude.{◌≡◌, ◌<◌, ◌≤◌, ◌+◌, ◌∷◌, [], length, MatchOption, IfSome, IsTrue, slice_index, ◌≢◌};
+ghost use Rattle.std.specs.Prelude.{◌≡◌, ◌<◌, ◌≤◌, ◌+◌, ◌∷◌, [], length, MatchOption, true, false, IfSome, IsTrue, slice_index, ◌≢◌};
 ghost use Rattle.script.specs.Lines.{before, behind};
-ghost use Rattle.qpu_asm.specs.Lines.{words_of, label_line, line_of, is_alone, is_comment as comment_test, ends_label as label_test, read_line as line_read};
+ghost use Rattle.qpu_asm.specs.Lines.{Coded, words_of, label_line, line_of, is_alone, is_comment as comment_test, ends_label as label_test, read_line as line_read};
 ghost use Rattle.qpu_asm.specs.Seen.{line_seen};
+ghost use Rattle.qpu_asm.specs.Walk.{begins, is_opcode, IsBehind};
 
 use crate::names::is_name;
 use script::{Cut, cut_at};
@@ -25,6 +26,11 @@ pub fn from_word(line: &[u8]) -> Option<&[u8]>
     let line = without_spaces(line);
     if line.is_empty() { None } else { Some(line) }
 }
+
+const ALU: &[u8] = b"alu";
+const NOP: &[u8] = b"nop";
+const LOAD_IMM: &[u8] = b"li";
+const BRANCH: &[u8] = b"br";
 
 /// The first word of a line, and what comes after it, where there is a word.
 pub fn next_word(line: &[u8]) -> Option<Cut<'_>>
@@ -50,11 +56,62 @@ fn without_spaces(line: &[u8]) -> &[u8]
     &[]
 }
 
+/// What is behind a name and a mark, where a text begins with them.
+#[tactic(auto, unfolding(crate::specs::Walk::begins))]
+#[inline]
+pub fn behind_name<'a>(text: &'a [u8], name: &[u8], mark: u8) -> Option<&'a [u8]>
+    ensures { MatchOption result (begins mark text.now name.now ≡ false) (λ rest. IsBehind mark text.now name.now rest.now) }
+{
+    let end = name.len();
+    if end < text.len() && text[end] == mark && &text[..end] == name {
+        Some(&text[end + 1..])
+    } else {
+        None
+    }
+}
+
+// The instruction that a line is, where it begins with this opcode and a space.
+fn coded_by<'a>(line: &'a [u8], opcode: &'a [u8]) -> Option<Cut<'a>>
+    requires { is_opcode opcode.now ≡ true }
+    ensures { IfSome result (λ cut. line_read line.now ≡ Coded cut.first.now (words_of cut.rest.now)) }
+{
+    match behind_name(line, opcode, b' ') {
+        Some(rest) => Some(Cut {
+            first: opcode,
+            rest,
+        }),
+        None => None,
+    }
+}
+
+// The instruction that a line is, where it begins with its opcode and a space or is `nop`, as most lines do.
+#[tactic(auto, unfolding(crate::specs::Walk::is_opcode, crate::specs::Walk::lacks, crate::specs::Lines::is_full, crate::specs::Lines::is_comment, crate::specs::Lines::ends_label))]
+fn coded(line: &[u8]) -> Option<Cut<'_>>
+    ensures { IfSome result (λ cut. line_read line.now ≡ Coded cut.first.now (words_of cut.rest.now)) }
+{
+    if let Some(cut) = coded_by(line, ALU) {
+        return Some(cut);
+    }
+    if line == NOP {
+        return Some(Cut {
+            first: line,
+            rest: &[],
+        });
+    }
+    if let Some(cut) = coded_by(line, LOAD_IMM) {
+        return Some(cut);
+    }
+    coded_by(line, BRANCH)
+}
+
 /// Reads a line as far as its first word tells what it is.
 #[tactic(auto, unfolding(crate::specs::Lines::read_line, crate::specs::Lines::line_of))]
 pub fn read_line(line: &[u8]) -> Line<'_>
     ensures { line_seen result ≡ line_read line.now }
 {
+    if let Some(cut) = coded(line) {
+        return Line::Coded(cut);
+    }
     match next_word(line) {
         Some(cut) => read_words(cut),
         None => Line::Blank,

@@ -1,17 +1,17 @@
 //! An item without a mistake, which is read in one walk over the rows that may still come. What isn't read here is read by `item`,
 //! which says its mistake.
-ghost use Rattle.std.specs.Prelude.{◌≡◌, ◌≤◌, ◌<◌, ◌∷◌, ◌^◌, [], codes, length, take, min, true, false, IfSome, MatchOption, Ok};
+ghost use Rattle.std.specs.Prelude.{◌≡◌, ◌≤◌, ◌<◌, ◌∷◌, ◌^◌, [], codes, length, take, min, true, false, IfSome, Ok};
 ghost use Rattle.std.specs.Str.{all_ascii_digits};
 ghost use Rattle.script.specs.Lines.{before, behind};
 ghost use Rattle.script.specs.Number.{is_number as number_test, number_of};
 ghost use Rattle.qpu_asm.specs.Items.{read_number as number_read, read_plain as plain_read, read_value as value_read};
 ghost use Rattle.qpu_asm.specs.Lines.{words_of};
-ghost use Rattle.qpu_asm.specs.Walk.{begins, IsBehind, IsOpen, IsPlace, IsStep, AreSteps};
+ghost use Rattle.qpu_asm.specs.Walk.{IsBehind, IsOpen, IsPlace, IsStep, AreSteps};
 ghost use Rattle.qpu_asm.specs.Seen.{row_seen, rows_seen, spots_in, name_seen};
 
 use crate::item::{append, read_plain, read_value};
 use crate::label::Labels;
-use crate::lines::from_word;
+use crate::lines::{behind_name, from_word};
 use crate::table::Row;
 use script::{Cut, cut_at};
 
@@ -43,31 +43,17 @@ pub struct Step<'a> {
 
 const TO: &[u8] = b"to";
 
-// What is behind a name and its `=`, where the items begin with them.
-#[tactic(auto, unfolding(crate::specs::Walk::begins))]
-#[inline]
-fn behind_name<'a>(items: &'a [u8], name: &[u8]) -> Option<&'a [u8]>
-    ensures { MatchOption result (begins items.now name.now ≡ false) (λ text. IsBehind items.now name.now text.now) }
-{
-    let end = name.len();
-    if end < items.len() && items[end] == b'=' && &items[..end] == name {
-        Some(&items[end + 1..])
-    } else {
-        None
-    }
-}
-
 // The place of the first item, where its row still may come.
 fn find_place<'a>(word: u64, rows: &'static [Row], items: &'a [u8]) -> Option<Place<'a>>
     requires { IsOpen word (rows_seen rows.now) }
     ensures place { IfSome result (λ place. IsPlace word (rows_seen rows.now) (name_seen place) place.word (row_seen place.row.now)
         (rows_seen place.later.now)) }
-    ensures cut { IfSome result (λ place. IsBehind items.now (name_seen place) place.text.now) }
+    ensures cut { IfSome result (λ place. IsBehind 61 items.now (name_seen place) place.text.now) }
 {
     let mut rest = rows;
     let mut word = word;
     while let Some((row, later)) = rest.split_first() {
-        if let Some(text) = behind_name(items, row.name) {
+        if let Some(text) = behind_name(items, row.name, b'=') {
             return Some(Place {
                 word,
                 row,
@@ -77,7 +63,7 @@ fn find_place<'a>(word: u64, rows: &'static [Row], items: &'a [u8]) -> Option<Pl
             });
         }
         if row.takes_label {
-            let text = behind_name(items, TO)?;
+            let text = behind_name(items, TO, b'=')?;
             return Some(Place {
                 word,
                 row,
