@@ -9,6 +9,7 @@ pub mod Placing
 pub mod Faults
 pub mod Assembling
 pub mod Sorting
+pub mod Buckets
 pub mod Decimals
 pub mod Law
 pub mod Order

@@ -39,7 +39,7 @@ FarSorted marks = (i j : ℕ) (d : Mark) → i ≤ j → j < length marks → is
 pub far : (marks : List Mark) → IsSorted mark_cmp marks → FarSorted marks
 far marks up = sorted_far (λ x y. is_lt (mark_cmp x y)) (ranks_by marks_total (λ m. m)) marks up
 
-first_not : (first second : Ordering) → is_lt (ordering_then first second) ≡ false → is_lt first ≡ false
+pub first_not : (first second : Ordering) → is_lt (ordering_then first second) ≡ false → is_lt first ≡ false
 first_not Less second not-lt = not-lt
 first_not Equal second not-lt = refl
 first_not Greater second not-lt = refl
@@ -359,7 +359,7 @@ found_past marks name at up start past =
     found_once marks name None (spots_in marks name) (none_past marks name at start past) (found_first marks name (ranked_sorted marks (far marks up)))
 
 -- inside a list the default says nothing
-any_default : (marks : List Mark) (i : ℕ) (d e : Mark) → i < length marks → get_or marks i d ≡ get_or marks i e
+pub any_default : (marks : List Mark) (i : ℕ) (d e : Mark) → i < length marks → get_or marks i d ≡ get_or marks i e
 any_default [] i d e inside = absurd (omega (arith, inside))
 any_default (mark ∷ marks) zero d e inside = refl
 any_default (mark ∷ marks) (suc i) d e inside = any_default marks i d e (omega (arith, inside))

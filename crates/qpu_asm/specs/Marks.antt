@@ -1,8 +1,8 @@
 -- The labels of a text as a list of marks, in the text's order and sorted. No part of what the crate claims.
-use Rattle.std.specs.Prelude.{◌≡◌, ℕ, ◌+◌, ◌*◌, ◌%◌, ◌^◌, ◌<◌, ◌≤◌, ◌⊎◌, true, false, List, [], ◌∷◌, slice_index_or, length, All, IsSorted}
+use Rattle.std.specs.Prelude.{◌≡◌, ℕ, ◌+◌, ◌-◌, ◌*◌, ◌/◌, ◌%◌, ◌^◌, ◌<◌, ◌≤◌, ◌⊎◌, true, false, List, [], ◌∷◌, slice_index, slice_index_or, length, All, IsSorted, IsPermutation}
 use Rattle.std.specs.{Cmp.Lexicographic.slice_cmp, Ordering.nat_cmp, Ordering.ordering_then, Ordering.is_lt, declared.cmp.Ordering.Ordering}
 use Rattle.std.specs.List.{fold}
-use Rattle.qpu_asm.specs.{declared.label.Spot.Spot, declared.label.Name.Name, declared.label.Mark.Mark, Items.Spots, Labels.is_before}
+use Rattle.qpu_asm.specs.{declared.label.Spot.Spot, declared.label.Name.Name, declared.label.Mark.Mark, Items.Spots, Labels.is_before, Labels.LabelSpot, Seen.labels_seen}
 use Rattle.qpu_asm.specs.Lines.{Line, Blank, Label, BadLabel, Coded}
 
 -- the key of a name: the last byte reaches its high bits
@@ -38,6 +38,13 @@ pub record AreInOrder (marks : List Mark) : Type 0 where
   pub keyed : AreKeyed marks
   pub sorted : IsSorted mark_cmp marks
 
+-- marks of these labels, in the order of marks
+pub record AreSortedOf (labels : List LabelSpot) (marks : List Mark) : Type 0 where
+  pub order : AreInOrder marks
+  pub unsorted : List Mark
+  pub same : labels_seen unsorted ≡ labels
+  pub moved : IsPermutation unsorted marks
+
 -- by line, then by index
 abbrev pub IsNotLater : Spot → Spot → Type 0
 IsNotLater spot other = (spot.line < other.line) ⊎ ((spot.line ≡ other.line) × (spot.index ≤ other.index))
@@ -63,3 +70,27 @@ pub record IsStart (marks : List Mark) (name : List ℕ) (at : ℕ) : Type 0 whe
   pub inside : at ≤ length marks
   pub below : (k : ℕ) (d : Mark) → k < at → is_lt (name_cmp (slice_index_or marks k d).name.bytes.now name) ≡ true
   pub above : (k : ℕ) (d : Mark) → at ≤ k → k < length marks → is_lt (name_cmp (slice_index_or marks k d).name.bytes.now name) ≡ false
+
+-- the bucket of a mark: the high bits of its key
+abbrev pub bucket_of : ℕ → Mark → ℕ
+bucket_of shift mark = mark.name.key / 2 ^ shift
+
+abbrev pub AreLesser : List Mark → ℕ → ℕ → ℕ → Type 0
+AreLesser marks shift bucket at = (k : ℕ) (d : Mark) → k < at → bucket_of shift (slice_index_or marks k d) < bucket
+
+-- the marks before this place are of lesser buckets, and those from it on aren't
+pub record IsBucketStart (marks : List Mark) (shift bucket at : ℕ) : Type 0 where
+  pub inside : at ≤ length marks
+  pub below : AreLesser marks shift bucket at
+  pub above : (k : ℕ) (d : Mark) → at ≤ k → k < length marks → bucket ≤ bucket_of shift (slice_index_or marks k d)
+
+-- where the marks of each bucket start, and where all of them end
+pub record AreStarts (marks : List Mark) (shift : ℕ) (starts : List ℕ) : Type 0 where
+  pub high : shift < 64
+  pub count : length starts ≡ 2 ^ (64 - shift) + 1
+  pub start : (bucket : ℕ) → bucket < length starts → IsBucketStart marks shift bucket (slice_index starts bucket)
+
+-- marks with what finds them
+pub record AreFound (marks : List Mark) (shift : ℕ) (starts : List ℕ) : Type 0 where
+  pub order : AreInOrder marks
+  pub buckets : AreStarts marks shift starts

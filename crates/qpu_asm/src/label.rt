@@ -1,8 +1,8 @@
 //! The labels of a text: a mark for each line that defines one, sorted by name.
-ghost use Rattle.std.specs.Prelude.{◌≡◌, ◌<◌, ◌≤◌, ◌^◌, ◌++◌, length, min, IfOk, OnOk, Some, None, bytes_eq, if◌then◌else◌};
+ghost use Rattle.std.specs.Prelude.{◌≡◌, ◌<◌, ◌≤◌, ◌^◌, ◌++◌, ◌-◌, ◌/◌, ◌+◌, length, slice_index, slice_range, min, max, vec_len, IfOk, OnOk, Some, None, bytes_eq, if◌then◌else◌};
 ghost use Rattle.std.specs.Ordering.{is_lt};
 ghost use Rattle.qpu_asm.specs.Labels.{spots_of, labels_of, label_on, read_lines, size_of};
-ghost use Rattle.qpu_asm.specs.Marks.{key_of as key_by, kept_cmp, AreInOrder, IsKeyed, AreKeyed, AreFirstBelow, BoundsRepeats, IsStart};
+ghost use Rattle.qpu_asm.specs.Marks.{key_of as key_by, kept_cmp, AreInOrder, AreLesser, IsBucketStart, AreStarts, AreFound, IsKeyed, AreKeyed, AreFirstBelow, BoundsRepeats, IsStart, AreSortedOf};
 ghost use Rattle.qpu_asm.specs.Seen.{line_seen, labels_seen, spots_in};
 
 use crate::lines::{Line, read_line};
@@ -31,22 +31,25 @@ pub struct Mark<'a> {
     spot: Spot,
 }
 
-/// The marks of a text, by name, and those of one name by line.
+/// The marks of a text, by name, and those of one name by line. The high bits of a key are its bucket, and the marks of each
+/// bucket start at one of the `starts`.
 #[derive(Drop)]
 pub struct Labels<'a> {
     marks: Vec<Mark<'a>>,
+    starts: Vec<u32>,
+    shift: u32,
 }
 
 impl<'a> Model for Labels<'a> {
     ghost use Rattle.std.specs.Prelude.{List};
     ghost use Rattle.qpu_asm.specs.declared.label.Mark.{Mark};
-    ghost use Rattle.qpu_asm.specs.Marks.{AreInOrder};
+    ghost use Rattle.qpu_asm.specs.Marks.{AreFound};
 
     ghost Value = { List Mark };
 
     ghost view = { λ l. l.marks.items };
 
-    ghost invariant = { λ l. AreInOrder l.marks.items };
+    ghost invariant = { λ l. AreFound l.marks.items l.shift l.starts.items };
 }
 
 impl<'a> Name<'a> {
@@ -89,13 +92,38 @@ pub fn find_labels(alloc: Global, text: &[u8]) -> Result<Found<'_>, AllocError>
     ensures spots { IfOk result (λ found. spots_in found.labels ≡ spots_of text.now) }
     ensures first { IfOk result (λ found. AreFirstBelow found.first_below (spots_of text.now) 1 (read_lines text.now)) }
 {
-    let mut marks = marks_of(alloc, text)?;
-    marks.sort_unstable();
+    let marks = sorted_marks(alloc, text)?;
     let first_below = first_repeat(&marks);
-    let labels = Labels { marks };
+    let labels = with_buckets(alloc, marks)?;
     Ok(Found {
         labels,
         first_below,
+    })
+}
+
+// The marks of a text, by name, and those of one name by line.
+fn sorted_marks(alloc: Global, text: &[u8]) -> Result<Vec<Mark<'_>>, AllocError>
+    requires { length text.now < 2 ^ 32 }
+    ensures marks { IfOk result (λ marks. AreSortedOf (labels_of text.now) marks.items) }
+    ensures few { IfOk result (λ marks. vec_len marks ≤ length text.now) }
+{
+    let mut marks = marks_of(alloc, text)?;
+    marks.sort_unstable();
+    Ok(marks)
+}
+
+// Sorted marks, with where each bucket starts.
+fn with_buckets(alloc: Global, marks: Vec<Mark<'_>>) -> Result<Labels<'_>, AllocError>
+    requires order { AreInOrder marks.items }
+    requires few { vec_len marks < 2 ^ 32 }
+    ensures { IfOk result (λ labels. labels ≡ marks.entry.items) }
+{
+    let shift = shift_of(marks.len());
+    let starts = starts_of(alloc, &marks, shift)?;
+    Ok(Labels {
+        marks,
+        starts,
+        shift,
     })
 }
 
@@ -104,6 +132,7 @@ fn marks_of(alloc: Global, text: &[u8]) -> Result<Vec<Mark<'_>>, AllocError>
     requires { length text.now < 2 ^ 32 }
     ensures labels { IfOk result (λ marks. labels_seen marks.items ≡ labels_of text.now) }
     ensures keyed { IfOk result (λ marks. AreKeyed marks.items) }
+    ensures few { IfOk result (λ marks. vec_len marks ≤ length text.now) }
 {
     let mut marks = Vec::new(alloc);
     let mut rest = text;
@@ -142,6 +171,7 @@ fn size(line: Line<'_>) -> u64
 fn add_line<'a>(marks: &mut Vec<Mark<'a>>, line: Line<'a>, spot: Spot) -> Result<(), AllocError>
     requires keyed { AreKeyed marks.old.items }
     ensures keyed { OnOk result (AreKeyed marks.new.items) }
+    ensures few { OnOk result (vec_len marks.new ≤ vec_len marks.old + 1) }
     ensures labels { OnOk result (
         labels_seen marks.new.items ≡ labels_seen marks.old.items ++ label_on spot.line spot.index (line_seen line.entry)) }
 {
@@ -189,11 +219,56 @@ fn first_repeat(marks: &[Mark<'_>]) -> u64
     bound
 }
 
+// There are more buckets than marks, and at most twice as many.
+fn shift_of(count: usize) -> u32
+    requires { count < 2 ^ 32 }
+    ensures range { (32 ≤ result) × (result < 64) }
+    ensures low { 2 ^ (63 - result) ≤ max count 1 }
+    ensures high { max count 1 < 2 ^ (64 - result) }
+{
+    63 - (count.max(1) as u64).ilog2()
+}
+
+// Where the marks of each bucket start, and where all of them end.
+fn starts_of(alloc: Global, marks: &[Mark<'_>], shift: u32) -> Result<Vec<u32>, AllocError>
+    requires order { AreInOrder marks.now }
+    requires short { length marks.now < 2 ^ 32 }
+    requires range { (32 ≤ shift) × (shift < 64) }
+    ensures { IfOk result (λ starts. AreStarts marks.now shift starts.items) }
+{
+    let count = 1 << (64 - shift);
+    let mut starts = Vec::with_capacity(alloc, count + 1)?;
+    let mut at = 0;
+    for bucket in 0..count + 1 {
+        at = bucket_start(marks, shift, bucket as u64, at);
+        starts.push(at as u32)?;
+    }
+    Ok(starts)
+}
+
+// Where the marks of a bucket start, from a place on.
+fn bucket_start(marks: &[Mark<'_>], shift: u32, bucket: u64, from: usize) -> usize
+    requires order { AreInOrder marks.now }
+    requires high { shift < 64 }
+    requires inside { from ≤ length marks.now }
+    requires below { AreLesser marks.now shift bucket from }
+    ensures { IsBucketStart marks.now shift bucket result }
+{
+    let mut at = from;
+    while at < marks.len() && marks[at].name.key >> shift < bucket {
+        at += 1;
+    }
+    at
+}
+
 // The name comes before the other.
 fn is_before(name: &Name<'_>, other: &Name<'_>) -> bool
     ensures { result ≡ is_lt (kept_cmp name.now other.now) }
 {
-    name.cmp(other).is_lt()
+    if name.key != other.key {
+        return name.key < other.key;
+    }
+    name.bytes.cmp(other.bytes).is_lt()
 }
 
 // How many marks have names that come before.
@@ -229,10 +304,46 @@ fn spot_at(marks: &[Mark<'_>], at: usize, name: &Name<'_>) -> Option<Spot>
     spot_by(&marks[at], name)
 }
 
+// Where the marks of a key's bucket start and end.
+#[tactic(auto, using(crate::proofs::Buckets::bucket_inside))]
+fn bucket_ends(starts: &[u32], shift: u32, key: u64) -> (usize, usize)
+    requires high { shift < 64 }
+    requires count { length starts.now ≡ 2 ^ (64 - shift) + 1 }
+    ensures inside { key / 2 ^ shift + 1 < length starts.now }
+    ensures start { result.0 ≡ slice_index starts.now (key / 2 ^ shift) }
+    ensures end { result.1 ≡ slice_index starts.now (key / 2 ^ shift + 1) }
+{
+    let bucket = (key >> shift) as usize;
+    (starts[bucket] as usize, starts[bucket + 1] as usize)
+}
+
+// How many marks of a part have names that come before.
+#[tactic(auto, using(crate::proofs::Buckets::part_order))]
+fn start_between(marks: &[Mark<'_>], from: usize, to: usize, name: &Name<'_>) -> usize
+    requires order { AreInOrder marks.now }
+    requires keyed { IsKeyed name.now }
+    requires up { from ≤ to }
+    requires inside { to ≤ length marks.now }
+    ensures { IsStart (slice_range marks.now from to) name.now.bytes.now result }
+{
+    start_of(&marks[from..to], name)
+}
+
+// The place of the first mark whose name does not come before this one: it is in the name's bucket, or at its end.
+fn start_among(marks: &[Mark<'_>], starts: &[u32], shift: u32, name: &Name<'_>) -> usize
+    requires found { AreFound marks.now shift starts.now }
+    requires keyed { IsKeyed name.now }
+    ensures { IsStart marks.now name.now.bytes.now result }
+{
+    let (from, to) = bucket_ends(starts, shift, name.key);
+    from + start_between(marks, from, to, name)
+}
+
 /// Where the label of a name stands.
 pub fn find_spot<'a>(labels: &Labels<'a>, name: &'a [u8]) -> Option<Spot>
     ensures { result ≡ spots_in labels.now name.now }
 {
     let name = Name::of(name);
-    spot_at(&labels.marks, start_of(&labels.marks, &name), &name)
+    let start = start_among(&labels.marks, &labels.starts, labels.shift, &name);
+    spot_at(&labels.marks, start, &name)
 }

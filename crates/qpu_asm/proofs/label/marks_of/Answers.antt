@@ -6,12 +6,13 @@ use Rattle.qpu_asm.proofs.label.marks_of.Goals as goal
 
 pub loop-rest-init : goal.loop-rest-init
 unfolding labels_of
-loop-rest-init c = record { lines = omega arith; indexes = omega arith; keyed = none_keyed _ c.new-marks.ensures.items; same = rw c.new-marks.ensures.items refl }
+loop-rest-init c = record { lines = omega arith; indexes = omega arith; few = omega (arith, c.new-marks.ensures.len); keyed = none_keyed _ c.new-marks.ensures.items; same = rw c.new-marks.ensures.items refl }
 
 pub loop-rest-preserved : goal.loop-rest-preserved
 loop-rest-preserved c = record {
   lines = omega (arith, c.next_line-cut.ensures.shorter);
   indexes = omega (arith, size_low (line_seen c.read_line-read.result), c.size-index.ensures);
+  few = omega (arith, c.in_ok-add_line.ensures.few);
   keyed = c.in_ok-add_line.ensures.keyed;
   same =
       labels_step _ _ _ _ _ _ _ _ (lines_first _ _ _ _ c.next_line-cut.ensures.lines c.read_line-read.ensures) c.size-index.ensures c.in_ok-add_line.ensures.labels
