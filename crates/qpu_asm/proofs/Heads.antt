@@ -54,3 +54,16 @@ nop_line = refl
 
 pub nop_coded : (line : List ℕ) → bytes_eq line (codes "nop") ≡ true → read_line line ≡ Coded line (words_of [])
 nop_coded line same = rw (bytes_same line (codes "nop") same) nop_line
+
+first_differs : (mark : ℕ) (text name : List ℕ) (inside marked : Bool) → 0 < length text → 0 < length name → (slice_index text 0 ≡ slice_index name 0 → ⊥)
+    → (inside && (marked && bytes_eq (take (length name) text) name)) ≡ false
+first_differs mark [] name inside marked some named apart = absurd (omega arith)
+first_differs mark (byte ∷ bytes) [] inside marked some named apart = absurd (omega arith)
+first_differs mark (byte ∷ bytes) (first ∷ others) false marked some named apart = refl
+first_differs mark (byte ∷ bytes) (first ∷ others) true false some named apart = refl
+first_differs mark (byte ∷ bytes) (first ∷ others) true true some named apart = rw (ne_eqb byte first apart) refl
+
+pub other_first : (text name : List ℕ) → 0 < length text → 0 < length name → (slice_index text 0 ≡ slice_index name 0 → ⊥) → (mark : ℕ) → begins mark text name ≡ false
+unfolding begins
+other_first text name some named apart mark =
+    first_differs mark text name (nat_lt (length name) (length text)) (slice_index text (length name) == mark) some named apart

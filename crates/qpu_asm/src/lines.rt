@@ -1,5 +1,5 @@
 //! Lines and words of a text.
-ghost use Rattle.std.specs.Prelude.{◌≡◌, ◌<◌, ◌≤◌, ◌+◌, ◌∷◌, [], length, MatchOption, true, false, IfSome, IsTrue, slice_index, ◌≢◌};
+ghost use Rattle.std.specs.Prelude.{◌≡◌, ℕ, ◌<◌, ◌≤◌, ◌+◌, ◌∷◌, [], length, MatchOption, true, false, IfSome, IsTrue, slice_index, ◌≢◌};
 ghost use Rattle.script.specs.Lines.{before, behind};
 ghost use Rattle.qpu_asm.specs.Lines.{Coded, words_of, label_line, line_of, is_alone, is_comment as comment_test, ends_label as label_test, read_line as line_read};
 ghost use Rattle.qpu_asm.specs.Seen.{line_seen};
@@ -56,12 +56,24 @@ fn without_spaces(line: &[u8]) -> &[u8]
     &[]
 }
 
+// Whether a text begins with another byte than a name.
+#[tactic(auto, using(crate::proofs::Heads::other_first))]
+#[inline]
+fn begins_otherwise(text: &[u8], name: &[u8]) -> bool
+    ensures { (mark : ℕ) → IsTrue result → begins mark text.now name.now ≡ false }
+{
+    !text.is_empty() && !name.is_empty() && text[0] != name[0]
+}
+
 /// What is behind a name and a mark, where a text begins with them.
 #[tactic(auto, unfolding(crate::specs::Walk::begins))]
 #[inline]
 pub fn behind_name<'a>(text: &'a [u8], name: &[u8], mark: u8) -> Option<&'a [u8]>
     ensures { MatchOption result (begins mark text.now name.now ≡ false) (λ rest. IsBehind mark text.now name.now rest.now) }
 {
+    if begins_otherwise(text, name) {
+        return None;
+    }
     let end = name.len();
     if end < text.len() && text[end] == mark && &text[..end] == name {
         Some(&text[end + 1..])
