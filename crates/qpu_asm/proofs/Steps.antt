@@ -1,10 +1,10 @@
 -- An item that is read in one walk.
-use Rattle.std.proofs.Common.{◌≡◌, ℕ, zero, suc, get_or, ◌+◌, ◌*◌, ◌^◌, ◌≤◌, ◌<◌, ◌||◌, codes, Bool, true, false, not, ◌==◌, ◌&&◌, List, [], ◌∷◌, ◌++◌, length, take, drop, slice_index, refl, sym, ◌∙◌, ap, subst, arith, min, append-nil, map, le_refl, None, Ok, IfOk, lt-ltb, ltb-true, eqb-true, nat_lt, bytes_eq, drop-cons, add-one, inl, inr, Option, Result, length-append, if◌then◌else◌}
+use Rattle.std.proofs.Common.{◌≡◌, ℕ, zero, suc, get_or, ◌+◌, ◌-◌, ◌*◌, ◌^◌, ◌≤◌, ◌<◌, ◌||◌, codes, Bool, true, false, not, ◌==◌, ◌&&◌, List, [], ◌∷◌, ◌++◌, length, take, drop, slice_index, refl, sym, ◌∙◌, ap, subst, arith, min, append-nil, map, le_refl, None, Ok, IfOk, lt-ltb, ltb-true, eqb-true, nat_lt, bytes_eq, drop-cons, add-one, inl, inr, Option, Result, length-append, if◌then◌else◌}
 use Rattle.std.proofs.lemmas.Bool.{and_parts, and_from, not-true, false≢true, cases_Bool}
 use Rattle.std.proofs.lemmas.List.{take-append-drop}
 use Rattle.std.proofs.lemmas.Bool.Decides.{nat_tests}
 use Rattle.std.specs.{Char.is_ascii_digit, Str.all_ascii_digits}
-use Rattle.script.specs.{Lines.before, Lines.behind, Number.is_number, Number.number_of}
+use Rattle.script.specs.{Lines.before, Lines.behind, Number.is_number, Number.number_of, Number.number_after}
 use Rattle.qpu_asm.specs.declared.{fault.Mistake.Mistake}
 use Rattle.qpu_asm.specs.{Walk.lacks, Walk.is_part, Walk.begins, Walk.IsBehind, Walk.IsOpen, Walk.skip_to, Walk.IsPlace, Walk.IsStep, Walk.AreSteps, Walk.read_items, Lines.words_of, Walk.read_item, Walk.read_named, Items.Spots, Items.read_number, Items.read_plain, Items.read_value, Items.find_named, Items.or_number, Items.has_value, Items.is_row, Items.has_row, Table.Row, Seen.row_seen, Seen.rows_seen, Seen.named_seen}
 use Rattle.qpu_asm.specs.declared.table.Row as code
@@ -114,6 +114,21 @@ digits_next (byte ∷ bytes) (suc i) inside all here =
 pub digits_more : (bytes : List ℕ) (i : ℕ) → i < length bytes → all_ascii_digits (take i bytes) ≡ true → is_ascii_digit (get_or bytes i 0) ≡ true
     → all_ascii_digits (take (i + 1) bytes) ≡ true
 digits_more bytes i inside all here = rw add-one (digits_next bytes i inside all here)
+
+number_next : (bytes : List ℕ) (i number : ℕ) → i < length bytes
+    → number_after number (take (suc i) bytes) ≡ 10 * number_after number (take i bytes) + (get_or bytes i 0 - 48)
+unfolding number_after
+number_next [] i number inside = absurd (omega arith)
+number_next (byte ∷ bytes) zero number inside = refl
+number_next (byte ∷ bytes) (suc i) number inside = number_next bytes i (10 * number + (byte - 48)) (omega arith)
+
+limited : (m b d : ℕ) → min (10 * min m b + d) b ≡ min (10 * m + d) b
+limited m b d = grind (arith)
+
+pub number_more : (bytes : List ℕ) (i number limit : ℕ) → i < length bytes → number ≡ min (number_of (take i bytes)) limit
+    → min (10 * number + (get_or bytes i 0 - 48)) limit ≡ min (number_of (take (i + 1) bytes)) limit
+number_more bytes i number limit inside is =
+    rw (is, add-one, number_next bytes i 0 inside) (limited (number_of (take i bytes)) limit (get_or bytes i 0 - 48))
 
 -- what is behind digits
 pub digits_end : (digits others : List ℕ) → all_ascii_digits digits ≡ true

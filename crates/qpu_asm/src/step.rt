@@ -78,30 +78,27 @@ fn find_place<'a>(word: u64, rows: &'static [Row], items: &'a [u8]) -> Option<Pl
     None
 }
 
-// How many digits a text begins with.
-fn count_digits(text: &[u8]) -> usize
-    ensures within { result ≤ length text.now }
-    ensures digits { all_ascii_digits (take result text.now) ≡ true }
-{
-    for (at, byte) in text.iter().enumerate() {
-        if !byte.is_ascii_digit() {
-            return at;
-        }
-    }
-    text.len()
+/// The digits that a text begins with: how many, and their number, or a limit where it is larger.
+#[derive(Clone, Copy)]
+struct Digits {
+    count: usize,
+    number: u64,
 }
 
-// The number that digits write, or a limit where it is larger.
-fn number_below(digits: &[u8], limit: u64) -> u64
-    requires digits { all_ascii_digits digits.now ≡ true }
-    requires small { limit ≤ 2 ^ 32 }
-    ensures { result ≡ min (number_of digits.now) limit }
+// The digits that a text begins with.
+fn first_digits(text: &[u8], limit: u64) -> Digits
+    requires { limit ≤ 2 ^ 32 }
+    ensures within { result.count ≤ length text.now }
+    ensures digits { all_ascii_digits (take result.count text.now) ≡ true }
+    ensures number { result.number ≡ min (number_of (take result.count text.now)) limit }
 {
+    let mut count = 0;
     let mut number = 0;
-    for digit in digits {
-        number = (10 * number + (*digit - b'0') as u64).min(limit);
+    while count < text.len() && text[count].is_ascii_digit() {
+        number = (10 * number + (text[count] - b'0') as u64).min(limit);
+        count += 1;
     }
-    number
+    Digits { count, number }
 }
 
 // Whether digits are a number: there are some, and none is a leading zero.
@@ -135,11 +132,14 @@ fn read_digits(text: &[u8], below: u64) -> Option<Value<'_>>
     ensures value { IfSome result (λ read. number_read below (before 32 text.now) ≡ Ok read.value) }
     ensures rest { IfSome result (λ read. behind 32 text.now ≡ read.rest.now) }
 {
-    let (digits, others) = text.split_at(count_digits(text));
+    let first = first_digits(text, below);
+    let (digits, others) = text.split_at(first.count);
     let rest = behind_space(others)?;
-    let value = number_below(digits, below);
-    if is_whole(digits) && value < below {
-        Some(Value { value, rest })
+    if is_whole(digits) && first.number < below {
+        Some(Value {
+            value: first.number,
+            rest,
+        })
     } else {
         None
     }

@@ -1,6 +1,0 @@
-use Rattle.std.proofs.Common.{◌≡◌, true, take}
-use Rattle.std.specs.Str.{all_ascii_digits}
-use Rattle.qpu_asm.proofs.step.count_digits.Given as goal
-
-abbrev pub invariant-loop-at : goal.invariant-loop-at
-invariant-loop-at l = all_ascii_digits (take l.at l.text) ≡ true
