@@ -1,14 +1,6 @@
--- Tests on each byte of a list.
-use Rattle.std.proofs.Common.{◌≡◌, ℕ, ◌+◌, ◌<◌, Bool, true, false, ◌==◌, List, [], ◌∷◌, length, get_or, take, refl, sym, bytes_eq, eqb-true, eq-eqb}
-use Rattle.std.proofs.{lemmas.Bool.and_parts, lemmas.Bool.false≢true, lemmas.List.Folds.list_all_more, lemmas.List.Folds.list_all_at}
-use Rattle.std.specs.List.{list_all}
-
-pub all_more : (test : ℕ → Bool) (bytes : List ℕ) (i : ℕ) → i < length bytes → list_all test (take i bytes) ≡ true
-    → test (get_or bytes i 0) ≡ true → list_all test (take (i + 1) bytes) ≡ true
-all_more test bytes i inside before here = rw (list_all_more test bytes i 0 inside, before, here) refl
-
-pub all_fails : (test : ℕ → Bool) (bytes : List ℕ) (i : ℕ) → i < length bytes → test (get_or bytes i 0) ≡ false → false ≡ list_all test bytes
-all_fails test bytes i inside fails = sym (list_all_at test bytes i 0 inside fails)
+-- The test for equal bytes.
+use Rattle.std.proofs.Common.{◌≡◌, ℕ, true, ◌==◌, List, [], ◌∷◌, refl, bytes_eq, eqb-true, eq-eqb}
+use Rattle.std.proofs.lemmas.Bool.{and_parts, false≢true}
 
 pub bytes_same : (xs ys : List ℕ) → bytes_eq xs ys ≡ true → xs ≡ ys
 bytes_same [] [] is = refl
