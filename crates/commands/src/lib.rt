@@ -23,6 +23,7 @@ mod shader_text;
 mod shown;
 mod trial;
 mod upgrading;
+mod word_bytes;
 mod word_fault;
 
 pub use cause::Cause;

@@ -12,6 +12,7 @@ ghost use Rattle.commands.specs.Reply.{rest_text, reply_status, reply_cause, IsR
 use super::answer::{Answer, reply};
 use super::bands::{Conversion, write_bands};
 use super::cause::Cause;
+use super::word_bytes::write_words;
 use dumper::{IMAGE_END, PIECE, Span, put_part};
 use job_io::{Failed, Sink, write_all};
 
@@ -22,14 +23,15 @@ pub struct Image<'a> {
     pub spans: Vec<Span<'a>>,
 }
 
-/// A text with its status; the image of an accepted file, whose rows are printed from its spans piece by piece; or the picture of the
-/// input in another order, which is printed band by band from the input, and memory for one band. So neither a job's memory nor the text
-/// of one or of a picture is ever in memory.
+/// A text with its status; the image of an accepted file, whose rows are printed from its spans piece by piece; the picture of the
+/// input in another order, which is printed band by band from the input, and memory for one band; or words, whose bytes are printed a
+/// room at a time. So neither a job's memory nor the text of one or of a picture is ever in memory.
 #[derive(Drop)]
 pub enum Reply<'a> {
     Text(Answer),
     Image(Image<'a>),
     Bands(Conversion, Vec<u8>),
+    Words(Vec<u64>),
 }
 
 impl<'a> Reply<'a> {
@@ -39,7 +41,7 @@ impl<'a> Reply<'a> {
     {
         match self {
             Reply::Text(answer) => answer.cause,
-            Reply::Image(..) | Reply::Bands(..) => None,
+            Reply::Image(..) | Reply::Bands(..) | Reply::Words(..) => None,
         }
     }
 }
@@ -132,6 +134,7 @@ pub fn print<K: Sink>(sink: &mut K, given: Reply, bytes: &[u8]) -> u8
         Reply::Text(answer) => return reply(sink, &answer),
         Reply::Image(image) => write_image(sink, &image.head, &image.spans),
         Reply::Bands(conversion, mut band) => write_bands(sink, conversion, bytes, &mut band),
+        Reply::Words(words) => write_words(sink, &words),
     };
     match written {
         Ok(()) => 0,

@@ -3,26 +3,16 @@ ghost use Rattle.std.specs.Prelude.{◌≡◌, ◌≤◌, ◌<◌, length, IfOk}
 ghost use Rattle.field_words.specs.Sizes.{most_list};
 ghost use Rattle.qpu_asm.specs.Assembly.{Assembled};
 ghost use Rattle.commands.specs.Cause.{kind_cause, part_cause};
-ghost use Rattle.commands.specs.Shader.{bytes_of, fault_text, length_text, IsAsmAnswer, IsDisasmAnswer};
+ghost use Rattle.commands.specs.Reply.{reply_status, reply_cause, IsReplyOf, IsReplyReady};
+ghost use Rattle.commands.specs.Shader.{fault_text, length_text, IsAsmAnswer, IsDisasmAnswer};
 
 use super::answer::Answer;
 use super::cause::Cause;
+use super::reply::Reply;
 use field_words::{NoMemory, Stop};
 use job_check::words_of;
 use qpu_asm::{AsmFault, assemble, disassemble, fault_place};
 use std::alloc::{AllocError, Global};
-
-/// Words as bytes, 8 each, the lowest first.
-#[tactic(auto, unfolding(crate::specs::Shader::bytes_of))]
-fn bytes_of(alloc: Global, words: &[u64]) -> Result<Vec<u8>, AllocError>
-    ensures { IfOk result (λ bytes. bytes.items ≡ bytes_of words.now) }
-{
-    let mut bytes = Vec::new(alloc);
-    for word in words {
-        bytes.extend_from_slice(&word.to_le_bytes())?;
-    }
-    Ok(bytes)
-}
 
 /// A line for the first fault of a text.
 #[tactic(auto, unfolding(crate::specs::Shader::fault_text))]
@@ -42,21 +32,20 @@ fn length_text(alloc: Global, length: usize) -> Result<Vec<u8>, AllocError>
 }
 
 /// What `asm` answers to a text: the words of its instructions, or its first fault.
-pub fn asm_answer(alloc: Global, text: &[u8]) -> Result<Answer, NoMemory>
+pub fn asm_reply(alloc: Global, text: &[u8]) -> Result<Reply<'_>, NoMemory>
     requires { length text.now ≤ most_list }
-    ensures answers { IfOk result (λ a. IsAsmAnswer text.now a.status a.text.items) }
-    ensures status { IfOk result (λ a. a.status < 2) }
-    ensures cause { IfOk result (λ a. a.cause ≡ kind_cause text.now (Assembled text.now)) }
+    ensures answers { IfOk result (IsReplyOf (IsAsmAnswer text.now) text.now) }
+    ensures status { IfOk result (λ a. reply_status a < 2) }
+    ensures ready { IfOk result (IsReplyReady text.now) }
+    ensures cause { IfOk result (λ a. reply_cause a ≡ kind_cause text.now (Assembled text.now)) }
 {
     match assemble(alloc, text) {
-        Ok(words) => {
-            let text = bytes_of(alloc, &words)?;
-            Ok(Answer::done(text))
-        }
+        Ok(words) => Ok(Reply::Words(words)),
         Err(Stop::Fault(fault)) => {
             let out = fault_text(alloc, &fault)?;
             let place = fault_place(alloc, text, fault)?;
-            Ok(Answer::refused(out, Some(Cause::Kind(fault, place))))
+            let cause = Cause::Kind(fault, place);
+            Ok(Reply::Text(Answer::refused(out, Some(cause))))
         }
         Err(Stop::NoMemory) => Err(NoMemory),
     }

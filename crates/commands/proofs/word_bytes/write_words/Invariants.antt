@@ -1,0 +1,14 @@
+-- The bytes of the words so far are appended.
+use Rattle.std.proofs.Common.{◌≡◌, ℕ, List, ◌++◌, length}
+use Rattle.std.specs.Io.KnownBytes.{Appends}
+use Rattle.commands.specs.Shader.{bytes_of}
+use Rattle.commands.proofs.word_bytes.write_words.Given as goal
+
+abbrev pub invariant-loop-rest : goal.invariant-loop-rest
+invariant-loop-rest g l = record {
+  written : (front : List ℕ) × (front ++ bytes_of l.rest ≡ bytes_of l.words) × Appends (g.K.Sink.held l.initial.sink) (g.K.Sink.held l.sink) front;
+  steady : g.K.Sink.faults l.sink ≡ g.K.Sink.faults l.initial.sink;
+}
+
+abbrev pub decreases-loop-rest : goal.decreases-loop-rest
+decreases-loop-rest g l = length l.rest
