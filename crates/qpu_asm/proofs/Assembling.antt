@@ -1,12 +1,13 @@
 -- A text line by line: its labels, faults and words.
-use Rattle.std.proofs.Common.{◌≡◌, ℕ, ◌+◌, ◌≤◌, List, [], ◌∷◌, ◌++◌, length, map, refl, sym, ◌∙◌, ap, subst, arith, Ok, append_assoc, append-nil}
+use Rattle.std.proofs.Common.{◌≡◌, ℕ, ◌+◌, ◌≤◌, ◌<◌, slice_index_or, List, [], ◌∷◌, ◌++◌, length, map, refl, sym, ◌∙◌, ap, subst, arith, Ok, append_assoc, append-nil}
 use Rattle.field_words.specs.declared.stop.Stop.{Stop}
 use Rattle.field_words.specs.declared.stop.Stop.TheVariants as stop
-use Rattle.script.specs.Lines.{lines_of}
+use Rattle.script.specs.Lines.{lines_of, before, behind}
+use Rattle.script.proofs.Cuts.{lines_first as lines_cut}
 use Rattle.qpu_asm.specs.{declared.fault.AsmFault.AsmFault, Items.Spots, Assembly.Assembled, Assembly.IsFaultOf}
 use Rattle.qpu_asm.specs.Lines.{Line, Blank, Label, BadLabel, Coded, read_line}
 use Rattle.qpu_asm.specs.Labels.{LabelSpot, size_of, label_on, labels_from, read_lines, spots_of}
-use Rattle.qpu_asm.specs.{Walk.line_words, Walk.lines_words, Marks.IsFirstBelow, Marks.AreFirstBelow}
+use Rattle.qpu_asm.specs.{Walk.line_words, Walk.lines_words, Walk.IsCoded, Marks.IsFirstBelow, Marks.AreFirstBelow}
 use Rattle.qpu_asm.proofs.Faults.{text_assembles}
 
 pub same_everywhere : {A B : Type 0} (f g : A → B) → ((x : A) → f x ≡ g x) → f ≡ g
@@ -63,3 +64,19 @@ words_end spots text line words none = rw (lines_none text none) refl
 
 pub words_begin : (spots : Spots) (text words : List ℕ) → spots ≡ spots_of text → words ≡ [] → lines_words spots 1 (read_lines text) words ≡ Assembled text
 words_begin spots text words is none = rw (is, none) (text_assembles text)
+
+-- the first line of a text
+pub text_first : (text : List ℕ) → 0 < length text → read_lines text ≡ read_line (before 10 text) ∷ read_lines (behind 10 text)
+unfolding read_lines
+text_first text some = ap (map read_line) (lines_cut text some)
+
+same_first : (x y : List ℕ) (xs ys : List (List ℕ)) → x ∷ xs ≡ y ∷ ys → x ≡ y
+same_first x y xs ys is = ap (λ lines. slice_index_or lines 0 []) is
+
+pub first_line : (text first rest : List ℕ) → 0 < length text → lines_of text ≡ first ∷ lines_of rest → first ≡ before 10 text
+first_line text first rest some is = same_first first (before 10 text) (lines_of rest) (lines_of (behind 10 text)) (sym is ∙ lines_cut text some)
+
+pub coded_words : (spots : Spots) (number : ℕ) (words : List ℕ) (line : List ℕ) (word : ℕ) → IsCoded spots (length words) line word
+    → line_words spots number words (read_line line) ≡ Ok (words ++ word ∷ [])
+unfolding line_words
+coded_words spots number words line word coded = rw (coded.reads, coded.codes) refl

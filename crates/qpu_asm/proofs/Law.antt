@@ -13,7 +13,7 @@ use Rattle.qpu_asm.specs.Walk.{Partial, lacks, skip_to, read_named, read_item, r
 use Rattle.qpu_asm.specs.Printed.{name_of, or_decimal, value_text, item_text, item_texts, kind_of, spaced, kind_text, word_text, line_text, AsmText, PrintedReturns}
 use Rattle.qpu_asm.specs.Lines.{Coded, is_full, words_of, read_line, line_of, is_comment, ends_label}
 use Rattle.qpu_asm.specs.Labels.{read_lines, spots_of}
-use Rattle.qpu_asm.proofs.{Bytes.bytes_itself, Bytes.bytes_same, Words.kept_full, Rows.kind_cases, Heads.cut_name, Assembling.words_end}
+use Rattle.qpu_asm.proofs.{Bytes.bytes_itself, Bytes.bytes_same, Words.kept_full, Rows.kind_cases, Heads.cut_name, Heads.lacks_append, Heads.digits_lack, Assembling.words_end}
 use Rattle.qpu_asm.proofs.{Faults.text_assembles, Decimals.decimal_digits, Decimals.decimal_value, Decimals.decimal_number}
 
 -- a word: no space, no line feed
@@ -43,26 +43,12 @@ AreBelow [] (value ∷ values) = ⊥
 AreBelow (row ∷ rows) [] = ⊥
 AreBelow (row ∷ rows) (value ∷ values) = (value < row.below) × AreBelow rows values
 
-lacks_append : (at : ℕ) (xs ys : List ℕ) → lacks at xs ≡ true → lacks at ys ≡ true → lacks at (xs ++ ys) ≡ true
-unfolding lacks
-lacks_append at xs ys a b = list_all-append (λ c. not (c == at)) xs ys ∙ and_from (lacks at xs) (lacks at ys) a b
-
 word_append : (xs ys : List ℕ) → is_word xs ≡ true → is_word ys ≡ true → is_word (xs ++ ys) ≡ true
 unfolding is_word
 word_append xs ys a b =
     let x = and_parts (lacks 32 xs) (lacks 10 xs) a in
     let y = and_parts (lacks 32 ys) (lacks 10 ys) b in
     and_from (lacks 32 (xs ++ ys)) (lacks 10 (xs ++ ys)) (lacks_append 32 xs ys x.0 y.0) (lacks_append 10 xs ys x.1 y.1)
-
-digit_other : (at digit : ℕ) → at < 48 → is_ascii_digit digit ≡ true → not (digit == at) ≡ true
-digit_other at digit low is = grind (arith, nat_tests)
-
-digits_lack : (at : ℕ) (digits : List ℕ) → at < 48 → all_ascii_digits digits ≡ true → lacks at digits ≡ true
-unfolding lacks
-digits_lack at [] low all = refl
-digits_lack at (digit ∷ digits) low all =
-    let parts = and_parts (is_ascii_digit digit) (all_ascii_digits digits) all in
-    and_from (not (digit == at)) (lacks at digits) (digit_other at digit low parts.0) (digits_lack at digits low parts.1)
 
 -- a value that is read back as written
 abbrev IsRead : List Named → ℕ → List ℕ → Type 0

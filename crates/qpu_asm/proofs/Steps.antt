@@ -1,50 +1,110 @@
 -- An item that is read in one walk.
-use Rattle.std.proofs.Common.{◌≡◌, ℕ, zero, suc, get_or, ◌+◌, ◌-◌, ◌*◌, ◌^◌, ◌≤◌, ◌<◌, ◌||◌, codes, Bool, true, false, not, ◌==◌, ◌&&◌, List, [], ◌∷◌, ◌++◌, length, take, drop, slice_index, refl, sym, ◌∙◌, ap, subst, arith, min, append-nil, map, le_refl, None, Ok, IfOk, lt-ltb, ltb-true, eqb-true, nat_lt, bytes_eq, drop-cons, add-one, inl, inr, Option, Result, length-append, if◌then◌else◌}
+use Rattle.std.proofs.Common.{◌≡◌, ℕ, zero, suc, get_or, ◌+◌, ◌-◌, ◌*◌, ◌^◌, ◌≤◌, ◌<◌, ◌||◌, codes, Bool, true, false, not, ◌==◌, ◌&&◌, List, [], ◌∷◌, ◌++◌, length, take, drop, slice_index, refl, sym, ◌∙◌, ap, subst, arith, min, append-nil, append_assoc, ne_eqb, ◌≢◌, map, le_refl, None, Some, Ok, IfOk, lt-ltb, ltb-true, eqb-true, nat_lt, bytes_eq, drop-cons, add-one, inl, inr, Option, Result, length-append, if◌then◌else◌}
 use Rattle.std.proofs.lemmas.Bool.{and_parts, and_from, not-true, false≢true, cases_Bool}
-use Rattle.std.proofs.lemmas.List.{take-append-drop}
-use Rattle.std.proofs.lemmas.Bool.Decides.{nat_tests}
+use Rattle.std.proofs.lemmas.List.{take-append-drop, length-drop}
+use Rattle.std.proofs.{lemmas.Bool.Decides.nat_tests, lemmas.List.Folds.list_all_more}
 use Rattle.std.specs.{Char.is_ascii_digit, Str.all_ascii_digits}
+use Rattle.qpu_isa.specs.Fields.{joined}
 use Rattle.script.specs.{Lines.before, Lines.behind, Number.is_number, Number.number_of, Number.number_after}
 use Rattle.qpu_asm.specs.declared.{fault.Mistake.Mistake}
-use Rattle.qpu_asm.specs.{Walk.lacks, Walk.is_part, Walk.begins, Walk.IsBehind, Walk.IsOpen, Walk.skip_to, Walk.IsPlace, Walk.IsStep, Walk.AreSteps, Walk.read_items, Lines.words_of, Walk.read_item, Walk.read_named, Items.Spots, Items.read_number, Items.read_plain, Items.read_value, Items.find_named, Items.or_number, Items.has_value, Items.is_row, Items.has_row, Table.Row, Seen.row_seen, Seen.rows_seen, Seen.named_seen}
+use Rattle.qpu_asm.specs.{Walk.lacks, Walk.is_part, Walk.begins, Walk.IsBehind, Walk.IsAfter, Walk.IsWord, Walk.IsOpen, Walk.skip_to, Walk.IsPlace, Walk.IsStep, Walk.AreSteps, Walk.read_items, Walk.code_of, Walk.option_code, Walk.kind_code, Walk.closed_word, Lines.words_of, Lines.is_full, Walk.read_item, Walk.read_named, Items.Spots, Items.read_number, Items.read_plain, Items.read_value, Items.find_named, Items.or_number, Items.has_value, Items.is_row, Items.has_row, Items.kind_named, Table.Row, Table.Kind, Table.nop_kind, Table.widths_of, Table.fallbacks_of, Seen.row_seen, Seen.rows_seen, Seen.named_seen}
 use Rattle.qpu_asm.specs.declared.table.Row as code
-use Rattle.qpu_asm.proofs.{Heads.cut_name, Heads.begun_split, Bytes.bytes_same, Bytes.bytes_itself, Rows.none_left, Reading.value_small, Reading.open_facts, Reading.default_open, Reading.open_first, Reading.skip_passes, Reading.skip_reaches}
-
--- a name goes whole into its item
-name_whole : (name text : List ℕ) → lacks 32 name ≡ true
-    → (before 32 (name ++ 61 ∷ text) ≡ name ++ 61 ∷ before 32 text) × (behind 32 (name ++ 61 ∷ text) ≡ behind 32 text)
-unfolding before behind lacks
-name_whole [] text test = (refl, refl)
-name_whole (byte ∷ bytes) text test =
-    let parts = and_parts (not (byte == 32)) (lacks 32 bytes) test in
-    let rest = name_whole bytes text parts.1 in
-    rw (not-true (byte == 32) parts.0) (ap (λ b. byte ∷ b) rest.0, rest.1)
+use Rattle.qpu_asm.proofs.{Heads.cut_name, Heads.begun_split, Heads.ahead, Heads.lacks_append, Heads.digits_lack, Heads.first_other, Words.word_first, Bytes.bytes_same, Bytes.bytes_itself, Rows.none_left, Reading.value_small, Reading.open_facts, Reading.default_open, Reading.open_first, Reading.skip_passes, Reading.skip_reaches}
 
 -- the first item is cut at its `=`, and has the name before it
 pub record IsItemOf (items name text : List ℕ) : Type 0 where
-  pub some : has_value (before 32 items) ≡ true
-  pub front : before 61 (before 32 items) ≡ name
-  pub value : behind 61 (before 32 items) ≡ before 32 text
-  pub rest : behind 32 items ≡ behind 32 text
+  pub some : has_value (before 32 (before 10 items)) ≡ true
+  pub front : before 61 (before 32 (before 10 items)) ≡ name
+  pub value : behind 61 (before 32 (before 10 items)) ≡ before 32 (before 10 text)
+  pub line : behind 32 (before 10 items) ≡ behind 32 (before 10 text)
+  pub others : behind 10 items ≡ behind 10 text
+  pub full : 0 < length (before 10 items)
+  pub apart : slice_index (before 10 items) 0 ≢ 32
 
-item_parts : (name text : List ℕ) → is_part name ≡ true → IsItemOf (name ++ 61 ∷ text) name text
+with_equals : (mark : ℕ) (name : List ℕ) → (61 == mark) ≡ false → lacks mark name ≡ true → lacks mark (name ++ 61 ∷ []) ≡ true
+unfolding lacks
+with_equals mark name other test = lacks_append mark name (61 ∷ []) test (rw other refl)
+
+full_equals : (name : List ℕ) → is_full (name ++ 61 ∷ []) ≡ true
+unfolding is_full
+full_equals [] = refl
+full_equals (byte ∷ bytes) = refl
+
+item_parts : (name text : List ℕ) → is_part name ≡ true → IsItemOf ((name ++ 61 ∷ []) ++ text) name text
 unfolding is_part has_value
 item_parts name text test =
-    let parts = and_parts (lacks 61 name) (lacks 32 name) test in
-    let whole = name_whole name text parts.1 in
-    let cut = cut_name 61 name (before 32 text) parts.0 in
-    let longer : length name < length (name ++ 61 ∷ before 32 text) = omega (arith, length-append name (61 ∷ before 32 text)) in
+    let parts = and_parts (lacks 61 name) (lacks 32 name && lacks 10 name) test in
+    let ends = and_parts (lacks 32 name) (lacks 10 name) parts.1 in
+    let spaces = with_equals 32 name refl ends.0 in
+    let line = ahead 10 (name ++ 61 ∷ []) text (with_equals 10 name refl ends.1) in
+    let word = ahead 32 (name ++ 61 ∷ []) (before 10 text) spaces in
+    let cut = cut_name 61 name (before 32 (before 10 text)) parts.0 in
+    let item : before 32 (before 10 ((name ++ 61 ∷ []) ++ text)) ≡ name ++ 61 ∷ before 32 (before 10 text) =
+    ap (before 32) line.0 ∙ (word.0 ∙ append_assoc name (61 ∷ []) (before 32 (before 10 text))) in
+    let longer : length name < length (name ++ 61 ∷ before 32 (before 10 text)) =
+    omega (arith, length-append name (61 ∷ before 32 (before 10 text))) in
+    let long : 0 < length ((name ++ 61 ∷ []) ++ before 10 text) =
+    omega (arith, length-append (name ++ 61 ∷ []) (before 10 text), length-append name (61 ∷ [])) in
     record {
-      some = rw (whole.0, cut.0) (lt-ltb _ _ longer);
-      front = ap (before 61) whole.0 ∙ cut.0;
-      value = ap (behind 61) whole.0 ∙ cut.1;
-      rest = whole.1;
+      some = rw (item, cut.0) (lt-ltb _ _ longer);
+      front = ap (before 61) item ∙ cut.0;
+      value = ap (behind 61) item ∙ cut.1;
+      line = ap (behind 32) line.0 ∙ word.1;
+      others = line.1;
+      full = rw line.0 long;
+      apart = rw line.0 (first_other (name ++ 61 ∷ []) (before 10 text) spaces (full_equals name));
     }
 
 pub item_of : (items name text : List ℕ) → is_part name ≡ true → IsBehind 61 items name text → IsItemOf items name text
-unfolding begins
 item_of items name text test is =
-    rw (begun_split 61 items name is.begun ∙ ap (λ t. name ++ 61 ∷ t) (sym is.left)) (item_parts name text test)
+    let whole : items ≡ (name ++ 61 ∷ []) ++ text =
+    begun_split 61 items name is.begun ∙ (ap (λ t. name ++ 61 ∷ t) (sym is.left) ∙ sym (append_assoc name (61 ∷ []) text)) in
+    rw whole (item_parts name text test)
+
+-- a value and what is behind it
+pub at_end : (text : List ℕ) → before 10 text ≡ [] → (before 32 (before 10 text) ≡ []) × IsAfter text text
+unfolding before behind
+at_end text none = (ap (before 32) none, record { line = ap (behind 32) none ∙ sym none; others = refl; shorter = le_refl (length text) })
+
+pub at_space : (text : List ℕ) → 0 < length text → slice_index text 0 ≡ 32 → (before 32 (before 10 text) ≡ []) × IsAfter text (drop 1 text)
+unfolding before behind
+at_space [] some is = absurd (omega arith)
+at_space (byte ∷ bytes) some is = rw is (refl, record { line = refl; others = refl; shorter = omega arith })
+
+word_first_on : (word others rest : List ℕ) → IsWord word → before 32 (before 10 others) ≡ [] → IsAfter others rest
+    → (before 32 (before 10 (word ++ others)) ≡ word) × IsAfter (word ++ others) rest
+unfolding IsWord
+word_first_on word others rest test none after =
+    let line = ahead 10 word others test.1 in
+    let first = ahead 32 word (before 10 others) test.0 in (
+      ap (before 32) line.0 ∙ (first.0 ∙ (ap (λ t. word ++ t) none ∙ append-nil word)),
+      record {
+        line = ap (behind 32) line.0 ∙ (first.1 ∙ after.line);
+        others = line.1 ∙ after.others;
+        shorter = omega (arith, after.shorter, length-append word others);
+      },
+    )
+
+pub word_taken : (text : List ℕ) (count : ℕ) (others rest : List ℕ) → IsWord (take count text) → others ≡ drop count text → before 32 (before 10 others) ≡ []
+    → IsAfter others rest → (before 32 (before 10 text) ≡ take count text) × IsAfter text rest
+word_taken text count others rest test is none after =
+    subst (λ t. (before 32 (before 10 t) ≡ take count text) × IsAfter t rest) (ap (λ o. take count text ++ o) is ∙ take-append-drop count text)
+    (word_first_on (take count text) others rest test none after)
+
+pub digits_word : (digits : List ℕ) → all_ascii_digits digits ≡ true → IsWord digits
+unfolding IsWord
+digits_word digits all = (digits_lack 32 digits (omega arith) all, digits_lack 10 digits (omega arith) all)
+
+lacks_next : (mark : ℕ) (bytes : List ℕ) (i : ℕ) → i < length bytes → lacks mark (take i bytes) ≡ true → (get_or bytes i 0 ≡ mark → ⊥)
+    → lacks mark (take (i + 1) bytes) ≡ true
+unfolding lacks
+lacks_next mark bytes i inside lack other =
+    rw (list_all_more (λ byte. not (byte == mark)) bytes i 0 inside, lack, ne_eqb (get_or bytes i 0) mark other) refl
+
+pub word_more : (bytes : List ℕ) (i : ℕ) → i < length bytes → IsWord (take i bytes) → (get_or bytes i 0 ≡ 32 → ⊥) → (get_or bytes i 0 ≡ 10 → ⊥)
+    → IsWord (take (i + 1) bytes)
+unfolding IsWord
+word_more bytes i inside word space end = (lacks_next 32 bytes i inside word.0 space, lacks_next 10 bytes i inside word.1 end)
 
 -- a name that the items begin with is no other's
 not_row : (items name : List ℕ) (row : Row) → begins 61 items name ≡ true → begins 61 items row.name ≡ false → row.takes_label ≡ false → is_row name row ≡ false
@@ -130,59 +190,6 @@ pub number_more : (bytes : List ℕ) (i number limit : ℕ) → i < length bytes
 number_more bytes i number limit inside is =
     rw (is, add-one, number_next bytes i 0 inside) (limited (number_of (take i bytes)) limit (get_or bytes i 0 - 48))
 
--- what is behind digits
-pub digits_end : (digits others : List ℕ) → all_ascii_digits digits ≡ true
-    → (before 32 (digits ++ others) ≡ digits ++ before 32 others) × (behind 32 (digits ++ others) ≡ behind 32 others)
-unfolding before behind
-digits_end [] others all = (refl, refl)
-digits_end (digit ∷ digits) others all =
-    let parts = and_parts (is_ascii_digit digit) (all_ascii_digits digits) all in
-    let other : (digit == 32) ≡ false = grind (arith, nat_tests, parts.0) in
-    let rest = digits_end digits others parts.1 in
-    rw other (ap (λ b. digit ∷ b) rest.0, rest.1)
-
-behind_within : (text : List ℕ) → length (behind 32 text) ≤ length text
-unfolding behind
-behind_within [] = le_refl 0
-behind_within (byte ∷ bytes) = elim (cases_Bool (byte == 32)) [
-  | inl space ↦ rw space (omega arith)
-  | inr other ↦ rw other (omega (arith, behind_within bytes))
-]
-
-pub behind_shorter : (text : List ℕ) → 0 < length text → length (behind 32 text) < length text
-unfolding behind
-behind_shorter [] some = absurd (omega arith)
-behind_shorter (byte ∷ bytes) some = elim (cases_Bool (byte == 32)) [
-  | inl space ↦ rw space (omega arith)
-  | inr other ↦ rw other (omega (arith, behind_within bytes))
-]
-
-pub none_behind : (text : List ℕ) → length text ≡ 0 → (before 32 text ≡ []) × (behind 32 text ≡ text)
-unfolding before behind
-none_behind [] none = (refl, refl)
-none_behind (byte ∷ bytes) none = absurd (omega arith)
-
-pub space_behind : (text : List ℕ) → 0 < length text → slice_index text 0 ≡ 32 → (before 32 text ≡ []) × (behind 32 text ≡ drop 1 text)
-unfolding before behind
-space_behind [] some is = absurd (omega arith)
-space_behind (byte ∷ bytes) some is = rw is (refl, refl)
-
--- the number that a text begins with
-digits_split : (text : List ℕ) (count : ℕ) → all_ascii_digits (take count text) ≡ true
-    → (before 32 text ≡ take count text ++ before 32 (drop count text)) × (behind 32 text ≡ behind 32 (drop count text))
-digits_split text count all =
-    let parts = digits_end (take count text) (drop count text) all in
-    subst (λ t. (before 32 t ≡ take count text ++ before 32 (drop count text)) × (behind 32 t ≡ behind 32 (drop count text)))
-    (take-append-drop count text) parts
-
-pub digits_before : (text : List ℕ) (count : ℕ) → all_ascii_digits (take count text) ≡ true → before 32 (drop count text) ≡ []
-    → before 32 text ≡ take count text
-digits_before text count all none =
-    (digits_split text count all).0 ∙ (ap (λ t. take count text ++ t) none ∙ append-nil (take count text))
-
-pub digits_behind : (text : List ℕ) (count : ℕ) → all_ascii_digits (take count text) ≡ true → behind 32 text ≡ behind 32 (drop count text)
-digits_behind text count all = (digits_split text count all).1
-
 pub read_whole : (below : ℕ) (text : List ℕ) (value : ℕ) → is_number text ≡ true → value ≡ min (number_of text) below → value < below
     → read_number below text ≡ Ok value
 unfolding read_number
@@ -201,13 +208,25 @@ own_value spots index row text = rw (bytes_itself row.name) refl
 
 -- the step over an item
 pub step_made : (spots : Spots) (index word : ℕ) (rows : List Row) (items name text : List ℕ) (at value : ℕ) (row : Row) (later : List Row)
-    → IsPlace word rows name at row later → IsBehind 61 items name text → read_value spots index name (before 32 text) row ≡ Ok value
-    → is_part name ≡ true → IsStep spots index word rows (before 32 items) (at * 2 ^ row.width + value) later
+    → IsPlace word rows name at row later → IsBehind 61 items name text → read_value spots index name (before 32 (before 10 text)) row ≡ Ok value
+    → is_part name ≡ true → IsStep spots index word rows (before 32 (before 10 items)) (at * 2 ^ row.width + value) later
 unfolding read_item read_named
 step_made spots index word rows items name text at value row later place is read part =
     let item = item_of items name text part is in
     λ all fault. rw (item.some, item.front, item.value, place.there)
-    (place.skips (read_value spots index name (before 32 text)) fault ∙ rw read refl)
+    (place.skips (read_value spots index name (before 32 (before 10 text))) fault ∙ rw read refl)
+
+pub step_words : (items name text rest : List ℕ) → is_part name ≡ true → IsBehind 61 items name text → IsAfter text rest
+    → words_of (before 10 items) ≡ before 32 (before 10 items) ∷ words_of (before 10 rest)
+step_words items name text rest part is after =
+    let item = item_of items name text part is in
+    word_first (before 10 items) _ _ item.full item.apart refl (sym (item.line ∙ after.line))
+
+pub step_shorter : (items name text rest : List ℕ) → IsBehind 61 items name text → IsAfter text rest → length rest < length items
+unfolding begins
+step_shorter items name text rest is after =
+    let inside = ltb-true (length name) (length items) (and_parts (nat_lt (length name) (length items)) (slice_index items (length name) == 61 && bytes_eq (take (length name) items) name) is.begun).0 in
+    omega (arith, inside, after.shorter, ap length is.left, length-drop (length name + 1) items)
 
 pub place_value : (spots : Spots) (index at value : ℕ) (name text : List ℕ) (row : Row) (later : List Row) → IsOpen at (row ∷ later)
     → is_row name row ≡ true → read_value spots index name text row ≡ Ok value → value < 2 ^ row.width
@@ -221,11 +240,38 @@ name_part true at row later room = (open_facts at row later room).part
 name_part false at row later room = refl
 
 -- one more item is read
-pub steps_more : (spots : Spots) (index word : ℕ) (rows : List Row) (items : List (List ℕ)) (at : ℕ) (here : List Row) (line words rest : List ℕ) (after : ℕ) (later : List Row)
-    → AreSteps spots index word rows items at here (words_of line) → words_of line ≡ before 32 words ∷ words_of (behind 32 words)
-    → IsStep spots index at here (before 32 words) after later → behind 32 words ≡ rest → AreSteps spots index word rows items after later (words_of rest)
+pub steps_more : (spots : Spots) (index word : ℕ) (rows : List Row) (items : List (List ℕ)) (at : ℕ) (here : List Row) (line rest : List ℕ) (after : ℕ) (later : List Row)
+    → ((all : List Row) → read_items spots index all (record { word = at; rows = here; fault = None }) (words_of (before 10 line))
+    ≡ read_items spots index all (record { word = word; rows = rows; fault = None }) items)
+    → words_of (before 10 line) ≡ before 32 (before 10 line) ∷ words_of (before 10 rest)
+    → IsStep spots index at here (before 32 (before 10 line)) after later
+    → (all : List Row) → read_items spots index all (record { word = after; rows = later; fault = None }) (words_of (before 10 rest))
+    ≡ read_items spots index all (record { word = word; rows = rows; fault = None }) items
 unfolding read_items
-steps_more spots index word rows items at here line words rest after later steps first step is =
-    λ all. rw (sym is)
-    (sym (ap (λ p. read_items spots index all p (words_of (behind 32 words))) (step all None))
-    ∙ (sym (ap (read_items spots index all (record { word = at; rows = here; fault = None })) first) ∙ steps all))
+steps_more spots index word rows items at here line rest after later steps first step all =
+    sym (ap (λ p. read_items spots index all p (words_of (before 10 rest))) (step all None))
+    ∙ (sym (ap (read_items spots index all (record { word = at; rows = here; fault = None })) first) ∙ steps all)
+
+pub steps_end : (spots : Spots) (index word : ℕ) (rows : List Row) (items : List (List ℕ)) (after : ℕ) (later : List Row) (rest : List ℕ)
+    → ((all : List Row) → read_items spots index all (record { word = after; rows = later; fault = None }) (words_of (before 10 rest))
+    ≡ read_items spots index all (record { word = word; rows = rows; fault = None }) items)
+    → before 10 rest ≡ [] → AreSteps spots index word rows items after later
+unfolding read_items words_of is_full
+steps_end spots index word rows items after later rest steps none =
+    λ all. sym (steps all) ∙ ap (λ line. read_items spots index all (record { word = after; rows = later; fault = None }) (words_of line)) none
+
+pub nop_code : (spots : Spots) (index : ℕ) → code_of spots index (codes "nop") (words_of []) ≡ Ok nop_kind.above
+unfolding code_of kind_named kind_code read_items closed_word words_of is_full joined
+nop_code spots index = refl
+
+-- an instruction by its kind and its items
+pub kind_read : (spots : Spots) (index : ℕ) (kind : Kind) (items : List (List ℕ)) (word value : ℕ) (later : List Row)
+    → AreSteps spots index kind.above kind.rows items word later → value ≡ joined word (widths_of later) (fallbacks_of later)
+    → kind_code spots index items kind ≡ Ok value
+unfolding kind_code closed_word
+kind_read spots index kind items word value later steps is = ap closed_word (steps kind.rows) ∙ ap Ok (sym is)
+
+pub code_read : (spots : Spots) (index : ℕ) (opcode : List ℕ) (kind : Kind) (items : List (List ℕ)) (word : ℕ) → kind_named opcode ≡ Some kind
+    → kind_code spots index items kind ≡ Ok word → code_of spots index opcode items ≡ Ok word
+unfolding code_of
+code_read spots index opcode kind items word is read = ap (option_code spots index items) is ∙ read

@@ -8,7 +8,7 @@ use Rattle.qpu_asm.specs.declared.fault.Mistake.TheVariants.{UnknownWord, BadOpe
 use Rattle.qpu_asm.specs.Items.{Spots, mistake_number, read_value, is_row, has_row, has_value, kind_named}
 use Rattle.qpu_asm.specs.{declared.fault.AsmFault.AsmFault, declared.fault.Mistake.Mistake, Labels.is_before, Faults.fault_on}
 use Rattle.qpu_asm.specs.{Table.Row, Table.Kind, Table.fallbacks_of, Table.widths_of, Printed.item_text}
-use Rattle.qpu_asm.specs.Lines.{Line, Blank, Label, BadLabel, Coded, is_full, is_comment, ends_label}
+use Rattle.qpu_asm.specs.Lines.{Line, Blank, Label, BadLabel, Coded, is_full, is_comment, ends_label, read_line}
 
 -- the one with the lesser number, where there is another
 abbrev pub least_of : Mistake → Option Mistake → Mistake
@@ -26,9 +26,13 @@ pub record Partial : Type 0 where
 unfoldable pub lacks : ℕ → List ℕ → Bool
 lacks mark bytes = list_all (λ byte. not (byte == mark)) bytes
 
--- a name in which no item ends: without space and `=`
+-- a part of a word on a line: without space and line feed
+unfoldable pub IsWord : List ℕ → Type 0
+IsWord bytes = (lacks 32 bytes ≡ true) × (lacks 10 bytes ≡ true)
+
+-- a name in which no item ends: without space, line feed and `=`
 unfoldable pub is_part : List ℕ → Bool
-is_part name = lacks 61 name && lacks 32 name
+is_part name = lacks 61 name && (lacks 32 name && lacks 10 name)
 
 -- the row's default and all its values fit its width, and a label's too, and no item ends in its name
 unfoldable pub is_ready : Row → Bool
@@ -96,11 +100,10 @@ unfoldable pub read_items : Spots → ℕ → List Row → Partial → List (Lis
 read_items spots index all partial [] = partial
 read_items spots index all partial (item ∷ items) = read_items spots index all (read_item spots index all partial item) items
 
--- the first items are read without a mistake, and these are left
-abbrev pub AreSteps : Spots → ℕ → ℕ → List Row → List (List ℕ) → ℕ → List Row → List (List ℕ) → Type 0
-AreSteps spots index word rows items after later left = (all : List Row)
-    → read_items spots index all (record { word = after; rows = later; fault = None }) left
-    ≡ read_items spots index all (record { word = word; rows = rows; fault = None }) items
+-- the items are read without a mistake
+abbrev pub AreSteps : Spots → ℕ → ℕ → List Row → List (List ℕ) → ℕ → List Row → Type 0
+AreSteps spots index word rows items after later = (all : List Row)
+    → read_items spots index all (record { word = word; rows = rows; fault = None }) items ≡ record { word = after; rows = later; fault = None }
 
 abbrev pub word_or_fault : ℕ → Option Mistake → Result ℕ Mistake
 word_or_fault word None = Ok word
@@ -143,6 +146,12 @@ lines_words spots line [] words = Ok words
 lines_words spots line (first ∷ lines) words =
     if_words (line_words spots line words first) (λ more. lines_words spots (line + 1) lines more)
 
+-- what is behind a text's first word on its line, with the lines below
+pub record IsAfter (text rest : List ℕ) : Type 0 where
+  pub line : behind 32 (before 10 text) ≡ before 10 rest
+  pub others : behind 10 text ≡ behind 10 rest
+  pub shorter : length rest ≤ length text
+
 -- a text begins with a name and a mark
 unfoldable pub begins : ℕ → List ℕ → List ℕ → Bool
 begins mark text name = nat_lt (length name) (length text) && (slice_index text (length name) == mark && bytes_eq (take (length name) text) name)
@@ -152,9 +161,9 @@ pub record IsBehind (mark : ℕ) (text name rest : List ℕ) : Type 0 where
   pub begun : begins mark text name ≡ true
   pub left : rest ≡ drop (length name + 1) text
 
--- a word without space that is no comment's and no label's
+-- a word of a line that is no comment's and no label's
 unfoldable pub is_opcode : List ℕ → Bool
-is_opcode word = lacks 32 word && (is_full word && (not (is_comment word) && not (ends_label word)))
+is_opcode word = (lacks 32 word && lacks 10 word) && (is_full word && (not (is_comment word) && not (ends_label word)))
 
 -- a row of this name comes next, behind those that have their defaults in the word
 pub record IsPlace (word : ℕ) (rows : List Row) (name : List ℕ) (at : ℕ) (row : Row) (later : List Row) : Type 0 where
@@ -168,3 +177,10 @@ pub record IsPlace (word : ℕ) (rows : List Row) (name : List ℕ) (at : ℕ) (
 abbrev pub IsStep : Spots → ℕ → ℕ → List Row → List ℕ → ℕ → List Row → Type 0
 IsStep spots index word rows item after later = (all : List Row) (fault : Option Mistake)
     → read_item spots index all (record { word = word; rows = rows; fault = fault }) item ≡ record { word = after; rows = later; fault = fault }
+
+-- the line is an instruction without a mistake
+pub record IsCoded (spots : Spots) (index : ℕ) (line : List ℕ) (word : ℕ) : Type 0 where
+  pub opcode : List ℕ
+  pub items : List (List ℕ)
+  pub reads : read_line line ≡ Coded opcode items
+  pub codes : code_of spots index opcode items ≡ Ok word

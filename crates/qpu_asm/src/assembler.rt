@@ -1,17 +1,20 @@
 //! A text as words.
-ghost use Rattle.std.specs.Prelude.{◌≡◌, ◌<◌, ◌≤◌, ◌+◌, ◌^◌, Ok, length, IfOk, IfErr, vec_len};
+ghost use Rattle.std.specs.Prelude.{◌≡◌, ◌<◌, ◌≤◌, ◌+◌, ◌∷◌, ◌^◌, Ok, length, IfOk, IfErr, vec_len};
 ghost use Rattle.field_words.specs.declared.stop.Stop.TheVariants.{Fault};
 ghost use Rattle.qpu_asm.specs.Labels.{is_before};
 ghost use Rattle.qpu_asm.specs.Faults.{fault_on as fault_by, text_faults, AnswersLeast};
 ghost use Rattle.qpu_asm.specs.Assembly.{Assembled, IsFaultOf};
 ghost use Rattle.qpu_asm.specs.Marks.{IsFirstBelow};
-ghost use Rattle.qpu_asm.specs.Lines.{Label};
+ghost use Rattle.script.specs.Lines.{before, lines_of};
+ghost use Rattle.qpu_asm.specs.Lines.{Label, read_line};
+ghost use Rattle.qpu_asm.specs.Walk.{line_words};
 ghost use Rattle.qpu_asm.specs.Seen.{line_seen, spots_in, line_put};
 
 use crate::fault::{AsmFault, Mistake};
 use crate::item::read_code;
 use crate::label::{Found, find_labels, find_spot};
 use crate::lines::{Line, read_line};
+use crate::step::read_coded;
 use field_words::Stop;
 use script::next_line;
 use std::alloc::Global;
@@ -29,12 +32,35 @@ pub fn assemble(alloc: Global, text: &[u8]) -> Result<Vec<u64>, Stop<AsmFault>>
     let mut rest = text;
     let mut line: u64 = 1;
     while !rest.is_empty() {
-        let cut = next_line(rest);
-        put_line(&mut words, &found, read_line(cut.first), line as u32)?;
+        rest = put_next(&mut words, &found, rest, line as u32)?;
         line += 1;
-        rest = cut.rest;
     }
     Ok(words)
+}
+
+// Puts the word of a text's first line, where it has one, to those of the lines above it, and answers the lines below it.
+fn put_next<'a>(
+    words: &mut Vec<u64>,
+    found: &Found<'a>,
+    text: &'a [u8],
+    number: u32,
+) -> Result<&'a [u8], Stop<AsmFault>>
+    requires room { vec_len words.old < 2 ^ 32 }
+    requires some { 0 < length text.now }
+    requires first { IsFirstBelow found.now.first_below (spots_in found.now.labels) number (read_line (before 10 text.now)) }
+    ensures words { IfOk result (λ _. line_words (spots_in found.now.labels) number words.old.items (read_line (before 10 text.now)) ≡ Ok words.new.items) }
+    ensures fault { IfErr result (IsFaultOf (line_words (spots_in found.now.labels) number words.old.items (read_line (before 10 text.now)))) }
+    ensures lines { IfOk result (λ rest. lines_of text.now ≡ before 10 text.now ∷ lines_of rest.now) }
+    ensures shorter { IfOk result (λ rest. length rest.now < length text.now) }
+    ensures more { IfOk result (λ _. vec_len words.new ≤ vec_len words.old + 1) }
+{
+    if let Some(coded) = read_coded(&found.labels, words.len() as u32, text) {
+        words.push(coded.word)?;
+        return Ok(coded.rest);
+    }
+    let cut = next_line(text);
+    put_line(words, found, read_line(cut.first), number)?;
+    Ok(cut.rest)
 }
 
 // Puts the word of an instruction's line to those of the lines above it.

@@ -12,7 +12,6 @@ use crate::fault::Mistake;
 use crate::label::{Labels, find_spot};
 use crate::lines::next_word;
 use crate::names::is_name;
-use crate::step::read_steps;
 use crate::table::{Kind, Named, Row, alu, branch, load_imm, nop};
 use script::{Cut, cut_at, is_number, number_up_to};
 use std::marker::Model;
@@ -75,11 +74,10 @@ fn read_items<'a>(
     requires { IsOpen kind.above (rows_seen kind.rows.now) }
     ensures { result ≡ kind_code (spots_in labels.now) index (words_of items.now) (kind_seen kind) }
 {
-    let begun = read_steps(labels, index, kind.above, kind.rows, items);
-    let mut rest = begun.rest;
+    let mut rest = items;
     let mut partial = Partial {
-        word: begun.word,
-        rows: begun.later,
+        word: kind.above,
+        rows: kind.rows,
         fault: None,
     };
     while let Some(cut) = next_word(rest) {
@@ -101,7 +99,7 @@ fn closed_word(partial: Partial) -> Result<u64, Mistake>
 }
 
 #[tactic(auto, using(crate::proofs::Reading::default_narrow))]
-fn with_defaults(word: u64, rows: &[Row]) -> u64
+pub fn with_defaults(word: u64, rows: &[Row]) -> u64
     requires { IsOpen word (rows_seen rows.now) }
     ensures { result ≡ joined word (widths_of (rows_seen rows.now)) (fallbacks_of (rows_seen rows.now)) }
 {

@@ -17,29 +17,21 @@ pub enum Line<'a> {
     Coded(Cut<'a>),
 }
 
-/// A line from its first word on, where it has one.
-pub fn from_word(line: &[u8]) -> Option<&[u8]>
-    ensures words { MatchOption result (words_of line.now ≡ []) (λ words. words_of line.now ≡ before 32 words.now ∷ words_of (behind 32 words.now)) }
-    ensures some { IfSome result (λ words. 0 < length words.now) }
-    ensures within { IfSome result (λ words. length words.now ≤ length line.now) }
-{
-    let line = without_spaces(line);
-    if line.is_empty() { None } else { Some(line) }
-}
-
-const ALU: &[u8] = b"alu";
-const NOP: &[u8] = b"nop";
-const LOAD_IMM: &[u8] = b"li";
-const BRANCH: &[u8] = b"br";
+pub const ALU: &[u8] = b"alu";
+pub const NOP: &[u8] = b"nop";
+pub const LOAD_IMM: &[u8] = b"li";
+pub const BRANCH: &[u8] = b"br";
 
 /// The first word of a line, and what comes after it, where there is a word.
 pub fn next_word(line: &[u8]) -> Option<Cut<'_>>
     ensures words { MatchOption result (words_of line.now ≡ []) (λ cut. words_of line.now ≡ cut.first.now ∷ words_of cut.rest.now) }
     ensures shorter { IfSome result (λ cut. length cut.rest.now < length line.now) }
 {
-    match from_word(line) {
-        Some(words) => Some(cut_at(words, b' ')),
-        None => None,
+    let line = without_spaces(line);
+    if line.is_empty() {
+        None
+    } else {
+        Some(cut_at(line, b' '))
     }
 }
 

@@ -1,6 +1,7 @@
-use Rattle.std.proofs.{Common.sym, Common.subst, Common.◌∙◌, Common.arith, lemmas.Bool.Decides.nat_tests, lemmas.Result.err_from_is_err_and}
-use Rattle.qpu_asm.specs.{Labels.read_lines, Assembly.IsFaultOf, Marks.AreFirstBelow}
-use Rattle.qpu_asm.proofs.Assembling.{lines_first, first_parts, words_begin, words_step, fault_step, words_end}
+use Rattle.std.proofs.{Common.sym, Common.refl, Common.subst, Common.◌∙◌, Common.arith, lemmas.Bool.Decides.nat_tests, lemmas.Result.err_from_is_err_and}
+use Rattle.script.specs.Lines.{before}
+use Rattle.qpu_asm.specs.{Lines.read_line, Labels.read_lines, Assembly.IsFaultOf, Marks.AreFirstBelow}
+use Rattle.qpu_asm.proofs.Assembling.{lines_first, text_first, first_parts, words_begin, words_step, fault_step, words_end}
 use Rattle.qpu_asm.proofs.Faults.{answers_words, answers_least}
 use Rattle.qpu_asm.proofs.assembler.assemble.Goals as goal
 
@@ -12,29 +13,30 @@ loop-rest-init c = record {
   same = words_begin _ c.args.text.now c.new-words.result.items c.in_ok-found.ensures.spots c.new-words.ensures.items;
 }
 
-pub put_line-requires-clause-first : goal.put_line-requires-clause-first
-put_line-requires-clause-first c =
-    (first_parts _ _ _ _ _ _ (lines_first _ _ _ _ c.next_line-cut.ensures.lines c.read_line.ensures) c.loop-rest.invariant.first).0
+pub put_next-requires-clause-first : goal.put_next-requires-clause-first
+put_next-requires-clause-first c =
+    (first_parts _ _ _ _ _ _ (text_first c.loop-rest.rest.now (grind (arith, nat_tests, c.is_empty.ensures, c.loop-rest-test.true))) c.loop-rest.invariant.first).0
 
-pub returns-in_err-put_line-clause-fault : goal.returns-in_err-put_line-clause-fault
-returns-in_err-put_line-clause-fault c =
-    let answer = err_from_is_err_and c.from_residual-in_err-put_line.result c.from_residual-in_err-put_line.ensures.1 in
-    rw (answer.1, answer.2) (subst (λ all. IsFaultOf all c.in_err-put_line.field-0.0) c.loop-rest.invariant.same
-    (fault_step _ _ _ _ _ _ c.in_err-put_line.field-0.0 (lines_first _ _ _ _ c.next_line-cut.ensures.lines c.read_line.ensures) c.in_err-put_line.ensures.fault))
+pub returns-in_err-rest-clause-fault : goal.returns-in_err-rest-clause-fault
+returns-in_err-rest-clause-fault c =
+    let answer = err_from_is_err_and c.from_residual-in_err-rest.result c.from_residual-in_err-rest.ensures.1 in
+    rw (answer.1, answer.2) (subst (λ all. IsFaultOf all c.in_err-rest.field-0.0) c.loop-rest.invariant.same
+    (fault_step _ _ _ _ _ _ c.in_err-rest.field-0.0
+    (text_first c.loop-rest.rest.now (grind (arith, nat_tests, c.is_empty.ensures, c.loop-rest-test.true))) c.in_err-rest.ensures.fault))
 
-pub returns-in_err-put_line-clause-least : goal.returns-in_err-put_line-clause-least
-returns-in_err-put_line-clause-least c =
-    let answer = err_from_is_err_and c.from_residual-in_err-put_line.result c.from_residual-in_err-put_line.ensures.1 in
-    answers_least _ _ (returns-in_err-put_line-clause-fault c) (λ made is. cc)
+pub returns-in_err-rest-clause-least : goal.returns-in_err-rest-clause-least
+returns-in_err-rest-clause-least c =
+    let answer = err_from_is_err_and c.from_residual-in_err-rest.result c.from_residual-in_err-rest.ensures.1 in
+    answers_least _ _ (returns-in_err-rest-clause-fault c) (λ made is. cc)
 
 pub loop-rest-preserved : goal.loop-rest-preserved
 loop-rest-preserved c =
-    let lines = lines_first _ _ _ _ c.next_line-cut.ensures.lines c.read_line.ensures in
+    let lines = lines_first c.loop-rest.rest.now c.in_ok-rest.rest.now (before 10 c.loop-rest.rest.now) (read_line (before 10 c.loop-rest.rest.now)) c.in_ok-rest.ensures.lines refl in
     record {
-      lines = omega (arith, c.next_line-cut.ensures.shorter);
-      indexes = omega (arith, c.in_ok-put_line.ensures.more);
+      lines = omega (arith, c.in_ok-rest.ensures.shorter);
+      indexes = omega (arith, c.in_ok-rest.ensures.more);
       first = (first_parts _ _ _ _ _ _ lines c.loop-rest.invariant.first).1;
-      same = words_step _ _ _ _ _ _ _ lines c.in_ok-put_line.ensures.words ∙ c.loop-rest.invariant.same;
+      same = words_step _ _ _ _ _ _ _ lines c.in_ok-rest.ensures.words ∙ c.loop-rest.invariant.same;
     }
 
 pub returns-clause-words : goal.returns-clause-words

@@ -1,9 +1,7 @@
-use Rattle.std.proofs.Common.{sym, ◌∙◌, ap, arith}
-use Rattle.qpu_asm.specs.Seen.{row_seen, rows_seen, spots_in, name_seen}
-use Rattle.script.specs.Lines.{before}
+use Rattle.std.proofs.Common.{◌∙◌}
 use Rattle.qpu_asm.proofs.Rows.{row_below}
 use Rattle.qpu_asm.proofs.Reading.{open_room, open_step, open_facts}
-use Rattle.qpu_asm.proofs.Steps.{item_of, step_made, place_value, name_part}
+use Rattle.qpu_asm.proofs.Steps.{item_of, step_made, step_words, step_shorter, place_value, name_part}
 use Rattle.qpu_asm.proofs.step.read_step.Goals as goal
 
 pub read_placed-requires : goal.read_placed-requires
@@ -25,9 +23,17 @@ returns-clause-step c =
     (step_made _ _ _ _ _ _ _ _ _ _ _ c.in_ok-place.ensures.place c.in_ok-place.ensures.cut c.in_ok-read.ensures.value
     (name_part c.in_ok-place.place.is_own _ _ _ c.in_ok-place.ensures.place.still))
 
-pub returns-clause-rest : goal.returns-clause-rest
-returns-clause-rest c =
-    (item_of _ _ _ (name_part c.in_ok-place.place.is_own _ _ _ c.in_ok-place.ensures.place.still) c.in_ok-place.ensures.cut).rest ∙ c.in_ok-read.ensures.rest
+pub returns-clause-words : goal.returns-clause-words
+returns-clause-words c =
+    step_words _ _ _ _ (name_part c.in_ok-place.place.is_own _ _ _ c.in_ok-place.ensures.place.still) c.in_ok-place.ensures.cut c.in_ok-read.ensures.after
+
+pub returns-clause-others : goal.returns-clause-others
+returns-clause-others c =
+    (item_of _ _ _ (name_part c.in_ok-place.place.is_own _ _ _ c.in_ok-place.ensures.place.still) c.in_ok-place.ensures.cut).others
+    ∙ c.in_ok-read.ensures.after.others
+
+pub returns-clause-shorter : goal.returns-clause-shorter
+returns-clause-shorter c = step_shorter _ _ _ _ c.in_ok-place.ensures.cut c.in_ok-read.ensures.after
 
 pub returns-clause-still : goal.returns-clause-still
 returns-clause-still c =

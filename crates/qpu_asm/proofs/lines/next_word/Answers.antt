@@ -1,6 +1,6 @@
-use Rattle.std.proofs.{Common.sym, Common.refl, Common.◌∙◌, Common.arith, lemmas.Bool.Decides.nat_tests}
+use Rattle.std.proofs.{Common.sym, Common.◌∙◌, Common.arith, lemmas.Bool.Decides.nat_tests}
 use Rattle.qpu_asm.proofs.Words.{word_first, words_empty}
-use Rattle.qpu_asm.proofs.lines.from_word.Goals as goal
+use Rattle.qpu_asm.proofs.lines.next_word.Goals as goal
 
 pub returns-then-is_empty-clause-words : goal.returns-then-is_empty-clause-words
 returns-then-is_empty-clause-words c =
@@ -11,4 +11,4 @@ pub returns-else-is_empty-clause-words : goal.returns-else-is_empty-clause-words
 returns-else-is_empty-clause-words c =
     sym c.without_spaces-line.ensures.words
     ∙ word_first c.without_spaces-line.result.now _ _ (grind (arith, nat_tests, c.is_empty.ensures, c.if-is_empty.false)) c.without_spaces-line.ensures.first
-    refl refl
+    c.cut_at.ensures.first c.cut_at.ensures.rest
