@@ -109,13 +109,21 @@ fn coded(line: &[u8]) -> Option<Cut<'_>>
 }
 
 /// Reads a line as far as its first word tells what it is.
-#[tactic(auto, unfolding(crate::specs::Lines::read_line, crate::specs::Lines::line_of))]
+#[inline]
 pub fn read_line(line: &[u8]) -> Line<'_>
     ensures { line_seen result ≡ line_read line.now }
 {
-    if let Some(cut) = coded(line) {
-        return Line::Coded(cut);
+    match coded(line) {
+        Some(cut) => Line::Coded(cut),
+        None => read_other(line),
     }
+}
+
+#[tactic(auto, unfolding(crate::specs::Lines::read_line, crate::specs::Lines::line_of))]
+#[inline(never)]
+fn read_other(line: &[u8]) -> Line<'_>
+    ensures { line_seen result ≡ line_read line.now }
+{
     match next_word(line) {
         Some(cut) => read_words(cut),
         None => Line::Blank,
