@@ -1,8 +1,9 @@
 -- Text that is written into a room.
-use Rattle.std.proofs.Common.{◌≡◌, ℕ, ◌+◌, ◌≤◌, ◌<◌, ◌⊎◌, List, [], ◌∷◌, ◌++◌, length, length-append, take, drop, take-add, slice_index_or, sym, ◌∙◌, ap, arith, append_assoc, inl, inr}
+use Rattle.std.proofs.Common.{◌≡◌, ℕ, ◌+◌, ◌-◌, ◌≤◌, ◌<◌, ◌⊎◌, List, [], ◌∷◌, ◌++◌, length, length-append, take, drop, take-add, slice_index_or, sym, ◌∙◌, ap, arith, append_assoc, inl, inr}
 use Rattle.std.proofs.lemmas.List.{get_or_push, get_or_append_left, take_at, drop_at, take_more, take-append-le, length-take-le, flat_map_more}
 use Rattle.std.proofs.lemmas.Bool.{cases_lt}
 use borrow.Rule.Slice.PartMut.{put_mid, post_of}
+use Rattle.std.proofs.Math.Seq.{take-append_seam, take-append-add}
 use Rattle.std.specs.List.{flat_map}
 use Rattle.qpu_asm.specs.{Table.Row, Printed.line_text, Walk.AreTexts, Walk.field_text}
 
@@ -33,6 +34,19 @@ put_bytes room bytes at k len inside short =
     ∙ ap (λ l. l ++ take len (drop at (take at room ++ behind))) (take_at (take at room) behind at front)
     ∙ ap (λ l. take at room ++ take len l) (drop_at (take at room) behind at front)
     ∙ ap (λ l. take at room ++ l) (take-append-le len bytes (post_of at k room) short)
+
+-- the same of a text that was written at the end of 20 bytes, of which so many from its start on are put
+pub put_ending : (room digits bytes text rest : List ℕ) (at start : ℕ) → at + 20 ≤ length room → start + length text ≡ 20 → drop start digits ≡ text ++ rest
+    → bytes ≡ take (start + 20 - start) (drop start digits) → take (at + 20 - start) (put_mid at (at + 20 - at) room bytes) ≡ take at room ++ text
+put_ending room digits bytes text rest at start inside size written is =
+    let end : at + 20 - start ≡ at + length text = omega (arith, size) in
+    let count : start + 20 - start ≡ length text + start = omega (arith, size) in
+    let front : bytes ≡ text ++ take start rest =
+    is ∙ (ap (λ l. take (start + 20 - start) l) written ∙ (ap (λ n. take n (text ++ rest)) count ∙ take-append-add text rest start)) in
+    let long : length text ≤ length bytes = omega (arith, ap length front, length-append text (take start rest)) in
+    ap (λ n. take n (put_mid at (at + 20 - at) room bytes)) end
+    ∙ (put_bytes room bytes at (at + 20 - at) (length text) (omega (arith, inside)) long
+    ∙ ap (λ l. take at room ++ l) (ap (λ l. take (length text) l) front ∙ take-append_seam text (take start rest)))
 
 pub is_kept : (row : Row) (texts : List (List ℕ)) (value : ℕ) (piece : List ℕ) → AreTexts row texts → value < length texts
     → piece ≡ slice_index_or texts value piece → piece ≡ field_text row value

@@ -93,26 +93,27 @@ kind_cases P false true branch a b c d = b
 kind_cases P false false true a b c d = c
 kind_cases P false false false a b c d = d
 
--- the tables' rows are ready, and fit a word
+-- the tables' rows are ready, and fit a word, and its opcode is a short text
 pub record IsReadyKind (kind : table.Kind) : Type 0 where
   pub ready : are_ready kind.rows ≡ true
   pub wide : width_of (widths_of kind.rows) ≤ 64
+  pub short : length kind.opcode ≤ 16
 
 pub nop_ready : IsReadyKind nop_kind
 unfolding are_ready is_ready is_part lacks width_of
-nop_ready = record { ready = refl; wide = lit≤ tt }
+nop_ready = record { ready = refl; wide = lit≤ tt; short = lit≤ tt }
 
 pub alu_ready : IsReadyKind alu_kind
 unfolding are_ready is_ready is_part lacks width_of
-alu_ready = record { ready = refl; wide = lit≤ tt }
+alu_ready = record { ready = refl; wide = lit≤ tt; short = lit≤ tt }
 
 pub load_imm_ready : IsReadyKind load_imm_kind
 unfolding are_ready is_ready is_part lacks width_of
-load_imm_ready = record { ready = refl; wide = lit≤ tt }
+load_imm_ready = record { ready = refl; wide = lit≤ tt; short = lit≤ tt }
 
 pub branch_ready : IsReadyKind branch_kind
 unfolding are_ready is_ready is_part lacks width_of
-branch_ready = record { ready = refl; wide = lit≤ tt }
+branch_ready = record { ready = refl; wide = lit≤ tt; short = lit≤ tt }
 
 pub row_below : (row : table.Row) → RowFacts row → row.below ≤ 2 ^ 32
 row_below row facts = le_trans facts.below (pow_mono facts.high)

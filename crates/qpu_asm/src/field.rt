@@ -39,7 +39,7 @@ fn put_value(pen: &mut Pen, row: &Row, value: u64) -> Result<(), AllocError>
 }
 
 #[tactic(auto, unfolding(crate::specs::Printed::name_of))]
-fn name_of(named: &[Named], value: u64) -> Option<&'static [u8]>
+pub fn name_of(named: &[Named], value: u64) -> Option<&'static [u8]>
     ensures { MatchOption result (name_among named.now value ≡ None) (λ name. name_among named.now value ≡ Some name.now) }
 {
     let mut rest = named;

@@ -6,6 +6,7 @@
 #![tactic(auto)]
 
 mod assembler;
+mod column;
 mod disassembler;
 mod fault;
 mod field;

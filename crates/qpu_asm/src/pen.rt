@@ -1,13 +1,20 @@
 //! Text that is written piece by piece, and goes out a room at a time.
-ghost use Rattle.std.specs.Prelude.{◌≡◌, ◌++◌, [], decimal, IfOk, OnOk};
+ghost use Rattle.std.specs.Prelude.{◌≡◌, ◌≤◌, ◌++◌, [], true, decimal, IfOk, OnOk};
+ghost use Rattle.qpu_isa.specs.Fields.{width_of};
+ghost use Rattle.qpu_asm.specs.Table.{widths_of};
+ghost use Rattle.qpu_asm.specs.Walk.{are_ready};
+ghost use Rattle.qpu_asm.specs.Printed.{rows_text};
 
-use crate::piece::{Piece, put_piece, put_text};
-use itoa::Buffer;
+use crate::column::{Column, Left, put_kept};
+use crate::piece::{Piece, make_room, put_number, put_piece, put_text};
 use std::alloc::{AllocError, Global};
 use std::marker::Model;
 
 /// How many bytes of text are written before they go out.
 const ROOM: usize = 4096;
+
+/// How many columns' texts always fit.
+const MOST_COLUMNS: usize = 256;
 
 /// Writes text piece by piece. A piece costs little: it goes into a room, and what is in the room goes out where it gets full. The
 /// want of memory for what went out is the only error, behind which the text is of no use.
@@ -54,8 +61,8 @@ impl Pen {
     pub fn number(&mut self, number: u64) -> Result<(), AllocError>
         ensures { OnOk result (self.new ≡ self.old ++ decimal number) }
     {
-        let mut buffer = Buffer::new();
-        self.text(buffer.format(number).as_bytes())
+        self.end = put_number(&mut self.out, &mut self.room, self.end, number)?;
+        Ok(())
     }
 
     /// Writes a piece.
@@ -65,6 +72,35 @@ impl Pen {
     {
         self.end = put_piece(&mut self.out, &mut self.room, self.end, piece)?;
         Ok(())
+    }
+
+    /// Writes the items of a word's fields up to the first whose text isn't kept, and says what is left.
+    #[inline]
+    pub(crate) fn kept<'a>(
+        &mut self,
+        columns: &'a [Column],
+        width: u32,
+        word: u64,
+    ) -> Result<Left<'a>, AllocError>
+        requires ready { are_ready columns.now ≡ true }
+        requires width { width ≡ width_of (widths_of columns.now) }
+        requires wide { width ≤ 64 }
+        ensures text { IfOk result (λ left. self.new ++ rows_text left.columns.now word ≡ self.old ++ rows_text columns.now word) }
+        ensures ready { IfOk result (λ left. are_ready left.columns.now ≡ true) }
+        ensures width { IfOk result (λ left. left.width ≡ width_of (widths_of left.columns.now)) }
+        ensures wide { IfOk result (λ left. left.width ≤ 64) }
+    {
+        if columns.len() > MOST_COLUMNS {
+            return Ok(Left {
+                columns,
+                width,
+                end: 0,
+            });
+        }
+        let at = make_room(&mut self.out, &self.room, self.end, 16 * columns.len())?;
+        let left = put_kept(&mut self.room, at, columns, width, word);
+        self.end = left.end;
+        Ok(left)
     }
 
     /// All that was written.

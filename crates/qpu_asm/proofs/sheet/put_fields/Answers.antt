@@ -29,7 +29,7 @@ loop-column-preserved c =
       low = at;
       wide = omega arith;
       text =
-          put_then c.loop-column.pen c.put.new.pen (field_text c.in-Some.column.now c.field_at.result) (rows_text c.in-Some.later.now word) c.in_ok-put.ensures
+          put_then c.loop-column.pen c.put_field.new.pen (field_text c.in-Some.column.now c.field_at.result) (rows_text c.in-Some.later.now word) (c.in_ok-put_field.ensures ∙ ap (λ row. c.loop-column.pen ++ field_text row c.field_at.result) c.row.ensures)
           ∙ (ap (λ text. c.loop-column.pen ++ text) (sym (text_first _ _ _ word _ _ _ first same at c.field_at.ensures)) ∙ c.loop-column.invariant.text);
     }
 

@@ -8,11 +8,17 @@ sheet_of-requires-clause-ready c = (subst IsReadyKind (sym c.nop.ensures) nop_re
 pub sheet_of-requires-clause-wide : goal.sheet_of-requires-clause-wide
 sheet_of-requires-clause-wide c = (subst IsReadyKind (sym c.nop.ensures) nop_ready).wide
 
+pub sheet_of-requires-clause-short : goal.sheet_of-requires-clause-short
+sheet_of-requires-clause-short c = (subst IsReadyKind (sym c.nop.ensures) nop_ready).short
+
 pub sheet_of-requires-2-clause-ready : goal.sheet_of-requires-2-clause-ready
 sheet_of-requires-2-clause-ready c = (subst IsReadyKind (sym c.alu.ensures) alu_ready).ready
 
 pub sheet_of-requires-2-clause-wide : goal.sheet_of-requires-2-clause-wide
 sheet_of-requires-2-clause-wide c = (subst IsReadyKind (sym c.alu.ensures) alu_ready).wide
+
+pub sheet_of-requires-2-clause-short : goal.sheet_of-requires-2-clause-short
+sheet_of-requires-2-clause-short c = (subst IsReadyKind (sym c.alu.ensures) alu_ready).short
 
 pub sheet_of-requires-3-clause-ready : goal.sheet_of-requires-3-clause-ready
 sheet_of-requires-3-clause-ready c = (subst IsReadyKind (sym c.load_imm.ensures) load_imm_ready).ready
@@ -20,8 +26,14 @@ sheet_of-requires-3-clause-ready c = (subst IsReadyKind (sym c.load_imm.ensures)
 pub sheet_of-requires-3-clause-wide : goal.sheet_of-requires-3-clause-wide
 sheet_of-requires-3-clause-wide c = (subst IsReadyKind (sym c.load_imm.ensures) load_imm_ready).wide
 
+pub sheet_of-requires-3-clause-short : goal.sheet_of-requires-3-clause-short
+sheet_of-requires-3-clause-short c = (subst IsReadyKind (sym c.load_imm.ensures) load_imm_ready).short
+
 pub sheet_of-requires-4-clause-ready : goal.sheet_of-requires-4-clause-ready
 sheet_of-requires-4-clause-ready c = (subst IsReadyKind (sym c.branch.ensures) branch_ready).ready
 
 pub sheet_of-requires-4-clause-wide : goal.sheet_of-requires-4-clause-wide
 sheet_of-requires-4-clause-wide c = (subst IsReadyKind (sym c.branch.ensures) branch_ready).wide
+
+pub sheet_of-requires-4-clause-short : goal.sheet_of-requires-4-clause-short
+sheet_of-requires-4-clause-short c = (subst IsReadyKind (sym c.branch.ensures) branch_ready).short
