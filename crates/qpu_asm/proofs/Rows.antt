@@ -1,10 +1,11 @@
 -- Rows one after another.
-use Rattle.std.proofs.Common.{◌≡◌, ℕ, ◌+◌, ◌/◌, ◌%◌, ◌^◌, ◌≤◌, ◌<◌, Bool, true, false, ◌==◌, ◌&&◌, ◌||◌, not, nat_lt, nat_le, List, [], ◌∷◌, ◌++◌, length, refl, sym, ◌∙◌, ap, arith, ltb-true, leb-true, if◌then◌else◌, lit≤, le_trans, pow_mono}
+use Rattle.std.proofs.Common.{◌≡◌, ℕ, ◌+◌, ◌/◌, ◌%◌, ◌^◌, ◌≤◌, ◌<◌, Bool, true, false, ◌==◌, ◌&&◌, ◌||◌, not, nat_lt, nat_le, List, [], ◌∷◌, ◌++◌, length, drop, refl, sym, subst, ◌∙◌, ap, arith, ltb-true, leb-true, if◌then◌else◌, lit≤, le_trans, pow_mono, append_assoc}
 use Rattle.std.proofs.lemmas.Bool.{and_parts}
 use Rattle.std.specs.List.{list_all}
 use Rattle.qpu_isa.specs.Fields.{width_of, values_of}
 use Rattle.qpu_asm.specs.{declared.table.Row.Row, Table.widths_of, Table.alu_kind, Table.load_imm_kind, Table.branch_kind, Table.nop_kind}
 use Rattle.qpu_asm.specs.{Walk.is_ready, Walk.are_ready, Walk.is_part, Walk.lacks, Walk.field_text, Printed.item_texts, Printed.spaced, Printed.rows_text}
+use Rattle.qpu_asm.specs.Walk.{Placed, rows_of, placed, AreColumns}
 use Rattle.qpu_asm.specs.Seen.{row_seen, rows_seen}
 use Rattle.qpu_asm.specs.Table as table
 
@@ -81,6 +82,74 @@ pub text_first : (rest later : List table.Row) (row : table.Row) (word low width
     → rows_text rest word ≡ field_text row value ++ rows_text later word
 unfolding item_texts values_of
 text_first rest later row word low width value is same at field = rw (is, field, same, at) (text_by _ _ _)
+
+-- what is known where columns begin with one
+pub record FirstFacts (column : Placed) (later : List Placed) (columns : List Placed) : Type 0 where
+  pub inside : column.low < 64
+  pub later_are : AreColumns later
+  pub text : (word : ℕ) → rows_text (rows_of columns) word
+      ≡ field_text column.row (word / 2 ^ column.low % 2 ^ column.row.width) ++ rows_text (rows_of later) word
+
+first_low : List Placed → ℕ
+first_low [] = 0
+first_low (column ∷ columns) = column.low
+
+placed_first : (column : Placed) (later : List Placed) → AreColumns (column ∷ later)
+    → (column.low ≡ width_of (widths_of (rows_of later))) × (later ≡ placed (rows_of later))
+unfolding placed first_low width_of
+placed_first column later are = (ap first_low are.places, ap (drop 1) are.places)
+
+facts_first : (column : Placed) (later : List Placed) → AreColumns (column ∷ later) → FirstFacts column later (column ∷ later)
+facts_first column later are =
+    let at = placed_first column later are in
+    let ready = ready_by (rows_of (column ∷ later)) (rows_of later) column.row refl are.ready in
+    let width = width_by (rows_of (column ∷ later)) (rows_of later) column.row refl in
+    let wide = are.wide in
+    record {
+      inside = omega (arith, at.0, width, wide, ready.0.low);
+      later_are = record { places = at.1; ready = ready.1; wide = omega (arith, width, wide) };
+      text = λ word. text_first (rows_of (column ∷ later)) (rows_of later) column.row word column.low column.row.width _ refl refl at.0 refl;
+    }
+
+pub columns_first : (rest later : List Placed) (column : Placed) → rest ≡ column ∷ later → AreColumns rest → FirstFacts column later rest
+columns_first rest later column is are = rw is (facts_first column later (subst AreColumns is are))
+
+pub columns_none : (rest : List Placed) (word : ℕ) → length rest ≡ 0 → rows_text (rows_of rest) word ≡ []
+unfolding item_texts spaced
+columns_none rest word is = ap (λ columns. rows_text (rows_of columns) word) (none_left rest is)
+
+rows_placed : (rows : List table.Row) → rows_of (placed rows) ≡ rows
+unfolding placed
+rows_placed [] = refl
+rows_placed (row ∷ rows) = ap (λ l. row ∷ l) (rows_placed rows)
+
+-- one more column
+pub placed_more : (rest later : List Row) (row : Row) (old new : List Placed) (column : Placed) (low : ℕ) → rest ≡ row ∷ later → new ≡ old ++ column ∷ []
+    → column ≡ record { row = row_seen row; low = low } → low ≡ width_of (widths_of (rows_seen later))
+    → new ++ placed (rows_seen later) ≡ old ++ placed (rows_seen rest)
+unfolding placed
+placed_more rest later row old new column low is push made at =
+    ap (λ l. l ++ placed (rows_seen later)) push
+    ∙ (append_assoc old (column ∷ []) (placed (rows_seen later))
+    ∙ (ap (λ c. old ++ c ∷ placed (rows_seen later)) (made ∙ ap (λ n. record { row = row_seen row; low = n }) at)
+    ∙ ap (λ l. old ++ placed (rows_seen l)) (sym is)))
+
+pub placed_none : (rest : List Row) → length rest ≡ 0 → placed (rows_seen rest) ≡ []
+unfolding placed
+placed_none rest is = ap (λ rows. placed (rows_seen rows)) (none_left rest is)
+
+-- the columns of rows
+pub columns_are : (rows : List table.Row) (columns : List Placed) → columns ≡ placed rows → are_ready rows ≡ true → width_of (widths_of rows) ≤ 64
+    → (rows_of columns ≡ rows) × AreColumns columns
+columns_are rows columns is ready wide =
+    let same : rows_of columns ≡ rows = ap rows_of is ∙ rows_placed rows in (
+      same,
+      record {
+        places = is ∙ ap placed (sym same);
+        ready = ap are_ready same ∙ ready;
+        wide = rw same wide;
+      },
+    )
 
 pub text_none : (rest : List table.Row) (word : ℕ) → length rest ≡ 0 → rows_text rest word ≡ []
 unfolding item_texts spaced

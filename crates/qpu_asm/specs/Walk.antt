@@ -1,6 +1,6 @@
 -- What the assembler has read after each item and each line: the word so far, or the least fault so far. No part of what the
 -- crate claims.
-use Rattle.std.specs.Prelude.{ℕ, ◌+◌, ◌*◌, ◌^◌, ◌≤◌, ◌<◌, ◌≡◌, ◌==◌, Bool, true, not, ◌&&◌, ◌||◌, nat_lt, nat_le, List, [], ◌∷◌, ◌++◌, length, take, drop, slice_index, slice_index_or, bytes_eq, if◌then◌else◌, Option, Result, None, Some, Ok, Err}
+use Rattle.std.specs.Prelude.{ℕ, ◌+◌, ◌*◌, ◌^◌, ◌≤◌, ◌<◌, ◌≡◌, ◌==◌, Bool, true, not, ◌&&◌, ◌||◌, nat_lt, nat_le, List, [], ◌∷◌, ◌++◌, length, map, take, drop, slice_index, slice_index_or, bytes_eq, if◌then◌else◌, Option, Result, None, Some, Ok, Err}
 use Rattle.std.specs.List.{list_all}
 use Rattle.qpu_isa.specs.Fields.{joined, width_of}
 use Rattle.script.specs.Lines.{before, behind}
@@ -56,12 +56,30 @@ written out room end = out ++ take end room
 unfoldable pub AreTexts : Row → List (List ℕ) → Type 0
 AreTexts row texts = (value : ℕ) (d : List ℕ) → value < length texts → slice_index_or texts value d ≡ field_text row value
 
--- a kind with the width of its fields, and its rows with their texts
-pub record IsSheet (kind : Kind) (width : ℕ) (rows : List Row) : Type 0 where
-  pub same : rows ≡ kind.rows
-  pub ready : are_ready rows ≡ true
-  pub sum : width ≡ width_of (widths_of rows)
-  pub wide : width ≤ 64
+-- a row, and how many bits of a word lie below its field
+pub record Placed : Type 0 where
+  pub row : Row
+  pub low : ℕ
+
+abbrev pub rows_of : List Placed → List Row
+rows_of columns = map (λ column. column.row) columns
+
+-- rows whose fields lie one after the other, down to the lowest bit
+unfoldable pub placed : List Row → List Placed
+placed [] = []
+placed (row ∷ rows) = record { row = row; low = width_of (widths_of rows) } ∷ placed rows
+
+-- the columns' fields lie so in a word
+pub record AreColumns (columns : List Placed) : Type 0 where
+  pub places : columns ≡ placed (rows_of columns)
+  pub ready : are_ready (rows_of columns) ≡ true
+  pub wide : width_of (widths_of (rows_of columns)) ≤ 64
+
+-- a kind with its opcode and its rows in columns
+pub record IsSheet (kind : Kind) (text : List ℕ) (placed : List Placed) : Type 0 where
+  pub opcode : text ≡ kind.opcode
+  pub rows : rows_of placed ≡ kind.rows
+  pub columns : AreColumns placed
 
 -- the word can take the rows' fields
 pub record IsOpen (word : ℕ) (rows : List Row) : Type 0 where

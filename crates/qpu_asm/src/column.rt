@@ -1,8 +1,6 @@
 //! A field of many words, with the texts of its values.
-ghost use Rattle.std.specs.Prelude.{◌≡◌, ◌≤◌, ◌<◌, ◌+◌, ◌*◌, ◌/◌, ◌%◌, ◌^◌, ◌∷◌, ◌++◌, length, take, true, IfSome, IfOk};
-ghost use Rattle.qpu_isa.specs.Fields.{width_of};
-ghost use Rattle.qpu_asm.specs.Table.{widths_of};
-ghost use Rattle.qpu_asm.specs.Walk.{field_text, are_ready};
+ghost use Rattle.std.specs.Prelude.{◌≡◌, ◌≤◌, ◌<◌, ◌+◌, ◌*◌, ◌/◌, ◌%◌, ◌^◌, ◌∷◌, ◌++◌, length, take, IfSome, IfOk};
+ghost use Rattle.qpu_asm.specs.Walk.{field_text, rows_of, AreColumns};
 ghost use Rattle.qpu_asm.specs.Printed.{value_text, item_text, rows_text};
 ghost use Rattle.qpu_asm.specs.Seen.{row_seen};
 
@@ -13,44 +11,48 @@ use itoa::Buffer;
 use std::alloc::{AllocError, Global};
 use std::marker::Model;
 
-/// A row, and the texts of its first values.
+/// A row whose field has so many bits of a word below it, and the texts of its first values.
 #[derive(Drop)]
 pub struct Column {
     row: Row,
+    low: u32,
+    mask: u64,
     pieces: Vec<Piece>,
 }
 
 impl Model for Column {
-    ghost use Rattle.qpu_asm.specs.Table.{Row};
+    ghost use Rattle.std.specs.Prelude.{◌≡◌, ◌-◌, ◌^◌};
     ghost use Rattle.qpu_asm.specs.Seen.{row_seen};
-    ghost use Rattle.qpu_asm.specs.Walk.{AreTexts};
+    ghost use Rattle.qpu_asm.specs.Walk.{Placed, AreTexts};
 
-    ghost Value = { Row };
+    ghost Value = { Placed };
 
-    ghost view = { λ c. row_seen c.row };
+    ghost view = { λ c. record { row = row_seen c.row; low = c.low } };
 
-    ghost invariant = { λ c. AreTexts (row_seen c.row) c.pieces.items };
+    ghost invariant = { λ c. (c.mask ≡ 2 ^ c.row.width - 1) × AreTexts (row_seen c.row) c.pieces.items };
 }
 
 impl Column {
-    /// How many bits the row's field has.
-    pub fn width(&self) -> u32
-        ensures { result ≡ self.now.width }
-    {
-        self.row.width
-    }
-
     /// The row.
     pub fn row(&self) -> &Row
-        ensures { row_seen result.now ≡ self.now }
+        ensures { row_seen result.now ≡ self.now.row }
     {
         &self.row
+    }
+
+    /// The value of its field in a word.
+    #[tactic(auto, using(std::proofs::lemmas::Nat::and_mask))]
+    pub fn value(&self, word: u64) -> u64
+        requires { self.now.low < 64 }
+        ensures { result ≡ word / 2 ^ self.now.low % 2 ^ self.now.row.width }
+    {
+        (word >> self.low) & self.mask
     }
 
     // The text of a value, where it is kept.
     #[tactic(auto, using(crate::proofs::Rooms::is_kept))]
     fn piece(&self, value: u64) -> Option<&Piece>
-        ensures { IfSome result (λ piece. piece.now ≡ field_text self.now value) }
+        ensures { IfSome result (λ piece. piece.now ≡ field_text self.now.row value) }
     {
         if value < self.pieces.len() as u64 {
             return Some(&self.pieces[value as usize]);
@@ -59,59 +61,32 @@ impl Column {
     }
 }
 
-// A field of a word.
-pub fn field_at(word: u64, low: u32, width: u32) -> u64
-    requires inside { low < 64 }
-    requires narrow { width < 64 }
-    ensures { result ≡ word / 2 ^ low % 2 ^ width }
-{
-    (word >> low) % (1 << width)
-}
-
-/// What is left of a word: the columns of the fields whose texts aren't put yet, how many bits they have, and where those end that are.
+/// What is left of a word: the columns of the fields whose texts aren't put yet, and where those end that are.
 #[derive(Clone, Copy)]
 pub struct Left<'a> {
     pub columns: &'a [Column],
-    pub width: u32,
     pub end: usize,
 }
 
 /// Puts the texts of a word's fields behind what a room has, up to the first that isn't kept.
-pub fn put_kept<'a>(
-    room: &mut [u8],
-    at: usize,
-    columns: &'a [Column],
-    width: u32,
-    word: u64,
-) -> Left<'a>
+pub fn put_kept<'a>(room: &mut [u8], at: usize, columns: &'a [Column], word: u64) -> Left<'a>
     requires fits { at + 16 * length columns.now ≤ length room.old }
-    requires ready { are_ready columns.now ≡ true }
-    requires width { width ≡ width_of (widths_of columns.now) }
-    requires wide { width ≤ 64 }
-    ensures text { take result.end room.new ++ rows_text result.columns.now word ≡ take at room.old ++ rows_text columns.now word }
-    ensures ready { are_ready result.columns.now ≡ true }
-    ensures width { result.width ≡ width_of (widths_of result.columns.now) }
-    ensures wide { result.width ≤ 64 }
+    requires columns { AreColumns columns.now }
+    ensures text { take result.end room.new ++ rows_text (rows_of result.columns.now) word ≡ take at room.old ++ rows_text (rows_of columns.now) word }
+    ensures columns { AreColumns result.columns.now }
     ensures end { result.end ≤ length room.new }
     ensures long { length room.new ≡ length room.old }
 {
-    let mut left = Left {
-        columns,
-        width,
-        end: at,
-    };
-    while let Some((column, later)) = left.columns.split_first() {
-        let low = left.width - column.width();
-        let Some(piece) = column.piece(field_at(word, low, column.width())) else {
-            return left;
+    let mut rest = columns;
+    let mut end = at;
+    while let Some((column, later)) = rest.split_first() {
+        let Some(piece) = column.piece(column.value(word)) else {
+            break;
         };
-        left = Left {
-            columns: later,
-            width: low,
-            end: piece.put(room, left.end),
-        };
+        end = piece.put(room, end);
+        rest = later;
     }
-    left
+    Left { columns: rest, end }
 }
 
 // The text of a value, where it is short enough.
@@ -145,21 +120,13 @@ fn piece_of(row: &Row, value: u64) -> Option<Piece>
     item_of(row, value)
 }
 
-// How many values of a row are worth to be kept, where at most so many are.
-fn kept(row: &Row, most: usize) -> usize {
-    if row.width < 6 {
-        most.min(1 << row.width)
-    } else {
-        most
-    }
-}
-
-/// The row with the texts of its first values, at most so many.
+/// The row, whose field has so many bits of a word below it, with the texts of its first values, at most so many.
 #[tactic(auto, using(crate::proofs::Rooms::texts_none, crate::proofs::Rooms::texts_more))]
-pub fn column_of(alloc: Global, row: &Row, most: usize) -> Result<Column, AllocError>
-    ensures { IfOk result (λ column. column ≡ row_seen row.now) }
+pub fn column_of(alloc: Global, row: &Row, low: u32, most: usize) -> Result<Column, AllocError>
+    requires { row.now.width < 64 }
+    ensures { IfOk result (λ column. column ≡ record { row = row_seen row.now; low = low }) }
 {
-    let most = kept(row, most);
+    let most = most.min(1 << row.width);
     let mut pieces = Vec::with_capacity(alloc, most)?;
     while pieces.len() < most {
         match piece_of(row, pieces.len() as u64) {
@@ -167,5 +134,10 @@ pub fn column_of(alloc: Global, row: &Row, most: usize) -> Result<Column, AllocE
             None => break,
         }
     }
-    Ok(Column { row: *row, pieces })
+    Ok(Column {
+        row: *row,
+        low,
+        mask: (1 << row.width) - 1,
+        pieces,
+    })
 }

@@ -1,11 +1,9 @@
 //! Text that is written piece by piece, and goes out a room at a time.
-ghost use Rattle.std.specs.Prelude.{◌≡◌, ◌≤◌, ◌++◌, [], true, decimal, IfOk, OnOk};
-ghost use Rattle.qpu_isa.specs.Fields.{width_of};
-ghost use Rattle.qpu_asm.specs.Table.{widths_of};
-ghost use Rattle.qpu_asm.specs.Walk.{are_ready};
+ghost use Rattle.std.specs.Prelude.{◌≡◌, ◌++◌, [], decimal, IfOk, OnOk};
+ghost use Rattle.qpu_asm.specs.Walk.{rows_of, AreColumns};
 ghost use Rattle.qpu_asm.specs.Printed.{rows_text};
 
-use crate::column::{Column, Left, put_kept};
+use crate::column::{Column, put_kept};
 use crate::piece::{Piece, make_room, put_number, put_piece, put_text};
 use std::alloc::{AllocError, Global};
 use std::marker::Model;
@@ -79,28 +77,19 @@ impl Pen {
     pub(crate) fn kept<'a>(
         &mut self,
         columns: &'a [Column],
-        width: u32,
         word: u64,
-    ) -> Result<Left<'a>, AllocError>
-        requires ready { are_ready columns.now ≡ true }
-        requires width { width ≡ width_of (widths_of columns.now) }
-        requires wide { width ≤ 64 }
-        ensures text { IfOk result (λ left. self.new ++ rows_text left.columns.now word ≡ self.old ++ rows_text columns.now word) }
-        ensures ready { IfOk result (λ left. are_ready left.columns.now ≡ true) }
-        ensures width { IfOk result (λ left. left.width ≡ width_of (widths_of left.columns.now)) }
-        ensures wide { IfOk result (λ left. left.width ≤ 64) }
+    ) -> Result<&'a [Column], AllocError>
+        requires { AreColumns columns.now }
+        ensures text { IfOk result (λ left. self.new ++ rows_text (rows_of left.now) word ≡ self.old ++ rows_text (rows_of columns.now) word) }
+        ensures columns { IfOk result (λ left. AreColumns left.now) }
     {
         if columns.len() > MOST_COLUMNS {
-            return Ok(Left {
-                columns,
-                width,
-                end: 0,
-            });
+            return Ok(columns);
         }
         let at = make_room(&mut self.out, &self.room, self.end, 16 * columns.len())?;
-        let left = put_kept(&mut self.room, at, columns, width, word);
+        let left = put_kept(&mut self.room, at, columns, word);
         self.end = left.end;
-        Ok(left)
+        Ok(left.columns)
     }
 
     /// All that was written.

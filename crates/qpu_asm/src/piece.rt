@@ -63,7 +63,8 @@ impl Piece {
         ensures end { result ≤ at + 16 }
         ensures long { length room.new ≡ length room.old }
     {
-        room[at..at + 16].copy_from_slice(&self.bytes);
+        let bytes = self.bytes;
+        room[at..at + 16].copy_from_slice(&bytes);
         at + self.len
     }
 }

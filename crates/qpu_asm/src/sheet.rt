@@ -2,11 +2,11 @@
 ghost use Rattle.std.specs.Prelude.{◌≡◌, ◌≤◌, ◌++◌, length, true, IfOk, OnOk};
 ghost use Rattle.qpu_isa.specs.Fields.{width_of};
 ghost use Rattle.qpu_asm.specs.Table.{widths_of};
-ghost use Rattle.qpu_asm.specs.Walk.{are_ready};
+ghost use Rattle.qpu_asm.specs.Walk.{are_ready, placed, rows_of, AreColumns};
 ghost use Rattle.qpu_asm.specs.Printed.{rows_text, kind_text};
 ghost use Rattle.qpu_asm.specs.Seen.{rows_seen, kind_seen};
 
-use crate::column::{Column, column_of, field_at};
+use crate::column::{Column, column_of};
 use crate::field::put_field;
 use crate::pen::Pen;
 use crate::piece::Piece;
@@ -14,30 +14,16 @@ use crate::table::{Kind, Row};
 use std::alloc::{AllocError, Global};
 use std::marker::Model;
 
-// Rows with the texts of their first values, at most so many of each.
-fn columns_of(alloc: Global, rows: &[Row], most: usize) -> Result<Vec<Column>, AllocError>
-    ensures { IfOk result (λ columns. columns.items ≡ rows_seen rows.now) }
-{
-    let mut columns = Vec::with_capacity(alloc, rows.len())?;
-    for row in rows {
-        columns.push(column_of(alloc, row, most)?)?;
-    }
-    Ok(columns)
-}
-
 /// A kind of instruction with the texts of its fields.
 #[derive(Drop)]
 pub struct Sheet {
     kind: Kind,
     opcode: Piece,
-    width: u32,
     columns: Vec<Column>,
 }
 
 impl Model for Sheet {
-    ghost use Rattle.std.specs.Prelude.{◌≡◌, ◌≤◌, true};
-    ghost use Rattle.qpu_isa.specs.Fields.{width_of};
-    ghost use Rattle.qpu_asm.specs.Table.{Kind, widths_of};
+    ghost use Rattle.qpu_asm.specs.Table.{Kind};
     ghost use Rattle.qpu_asm.specs.Walk.{IsSheet};
     ghost use Rattle.qpu_asm.specs.Seen.{kind_seen};
 
@@ -45,7 +31,7 @@ impl Model for Sheet {
 
     ghost view = { λ s. kind_seen s.kind };
 
-    ghost invariant = { λ s. (s.opcode ≡ s.kind.opcode.now) × IsSheet (kind_seen s.kind) s.width s.columns.items };
+    ghost invariant = { λ s. IsSheet (kind_seen s.kind) s.opcode s.columns.items };
 }
 
 // How many bits the fields of rows have.
@@ -62,6 +48,21 @@ fn total_width(rows: &[Row]) -> u32
     total
 }
 
+// Rows with the texts of their first values, at most so many of each.
+fn columns_of(alloc: Global, rows: &[Row], most: usize) -> Result<Vec<Column>, AllocError>
+    requires ready { are_ready (rows_seen rows.now) ≡ true }
+    requires wide { width_of (widths_of (rows_seen rows.now)) ≤ 64 }
+    ensures { IfOk result (λ columns. columns.items ≡ placed (rows_seen rows.now)) }
+{
+    let mut columns = Vec::with_capacity(alloc, rows.len())?;
+    let mut rest = rows;
+    while let Some((row, later)) = rest.split_first() {
+        columns.push(column_of(alloc, row, total_width(later), most)?)?;
+        rest = later;
+    }
+    Ok(columns)
+}
+
 /// The kind with the texts of its fields' first values, at most so many of each.
 pub fn sheet_of(alloc: Global, kind: Kind, most: usize) -> Result<Sheet, AllocError>
     requires ready { are_ready (rows_seen kind.rows.now) ≡ true }
@@ -70,29 +71,21 @@ pub fn sheet_of(alloc: Global, kind: Kind, most: usize) -> Result<Sheet, AllocEr
     ensures { IfOk result (λ sheet. sheet ≡ kind_seen kind) }
 {
     let columns = columns_of(alloc, kind.rows, most)?;
-    let width = total_width(kind.rows);
-    let opcode = Piece::of(kind.opcode);
     Ok(Sheet {
         kind,
-        opcode,
-        width,
+        opcode: Piece::of(kind.opcode),
         columns,
     })
 }
 
 // Writes the items of a word's fields that differ from their defaults.
-fn put_fields(pen: &mut Pen, columns: &[Column], top: u32, word: u64) -> Result<(), AllocError>
-    requires ready { are_ready columns.now ≡ true }
-    requires top { top ≡ width_of (widths_of columns.now) }
-    requires wide { top ≤ 64 }
-    ensures { OnOk result (pen.new ≡ pen.old ++ rows_text columns.now word) }
+fn put_fields(pen: &mut Pen, columns: &[Column], word: u64) -> Result<(), AllocError>
+    requires { AreColumns columns.now }
+    ensures { OnOk result (pen.new ≡ pen.old ++ rows_text (rows_of columns.now) word) }
 {
     let mut rest = columns;
-    let mut low = top;
     while let Some((column, later)) = rest.split_first() {
-        let width = column.width();
-        low -= width;
-        put_field(pen, column.row(), field_at(word, low, width))?;
+        put_field(pen, column.row(), column.value(word))?;
         rest = later;
     }
     Ok(())
@@ -105,8 +98,8 @@ impl Sheet {
         ensures { OnOk result (pen.new ≡ pen.old ++ kind_text word self.now) }
     {
         pen.piece(&self.opcode)?;
-        let left = pen.kept(&self.columns, self.width, word)?;
-        put_fields(pen, left.columns, left.width, word)?;
+        let left = pen.kept(&self.columns, word)?;
+        put_fields(pen, left, word)?;
         Ok(())
     }
 }
