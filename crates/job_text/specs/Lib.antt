@@ -1,3 +1,4 @@
+pub mod Cuts
 pub mod Made
 pub mod Meanings
 pub mod Names

@@ -1,6 +1,6 @@
 //! Pieces of a size.
 
-use crate::note::{Note, Piece};
+use crate::note::{Cut, Note};
 use std::alloc::AllocError;
 
 // The note of a piece behind so many others, where it counts.
@@ -14,7 +14,7 @@ fn numbered(note: Note, number: usize) -> Note {
 
 /// Appends so many bytes in pieces of a size, of which the last may be shorter.
 pub(crate) fn push_chunks(
-    out: &mut Vec<Piece>,
+    out: &mut Vec<Cut>,
     size: usize,
     total: usize,
     note: Note,
@@ -25,10 +25,7 @@ pub(crate) fn push_chunks(
             break;
         }
         let taken = size.min(left);
-        out.push(Piece {
-            size: taken,
-            note: numbered(note, number),
-        })?;
+        out.push(Cut::line(taken, numbered(note, number)))?;
         left -= taken;
     }
     Ok(())
@@ -36,14 +33,14 @@ pub(crate) fn push_chunks(
 
 /// Appends a piece of a size, or of what is left, and says what is left behind it.
 pub(crate) fn push_limited(
-    out: &mut Vec<Piece>,
+    out: &mut Vec<Cut>,
     left: usize,
     size: usize,
     note: Note,
 ) -> Result<usize, AllocError> {
     let taken = size.min(left);
     if taken > 0 {
-        out.push(Piece { size: taken, note })?;
+        out.push(Cut::line(taken, note))?;
     }
     Ok(left - taken)
 }

@@ -1,20 +1,29 @@
-//! A shader's instructions as pieces.
+//! The uniforms that a shader's instructions take.
 ghost use Rattle.std.specs.Prelude.{◌<◌};
 
-use crate::note::{Note, Piece};
-use crate::numbers::instruction;
 use qpu_isa::word::is_end;
 use qpu_isa::writes::{takes, tmu_writes, writes_s};
-use std::alloc::AllocError;
 
-// What is known before an instruction: the uniforms taken so far, the set-up words that each TMU keeps, and how many
-// instructions there are from the program end on.
+/// What is known before an instruction: the uniforms taken so far, the set-up words that each TMU keeps, and how many
+/// instructions there are from the program end on.
 #[derive(Clone, Copy)]
-struct Taking {
+pub struct Taking {
     count: usize,
     pending0: u16,
     pending1: u16,
     behind: usize,
+}
+
+impl Taking {
+    /// What is known before the first instruction.
+    pub(crate) fn first() -> Taking {
+        Taking {
+            count: 0,
+            pending0: 0,
+            pending1: 0,
+            behind: 0,
+        }
+    }
 }
 
 // How many set-up words a TMU keeps behind an instruction.
@@ -28,8 +37,8 @@ fn kept(word: u64, tmu: u8, pending: u16) -> u16
     }
 }
 
-// The number of the uniform that an instruction takes. Those behind the two after a program end are never executed.
-fn uniform_of(now: Taking, word: u64) -> Option<usize> {
+/// The number of the uniform that an instruction takes. Those behind the two after a program end are never executed.
+pub(crate) fn uniform_of(now: Taking, word: u64) -> Option<usize> {
     if now.behind < 3 && takes(word, now.pending0, now.pending1) {
         Some(now.count)
     } else {
@@ -37,8 +46,8 @@ fn uniform_of(now: Taking, word: u64) -> Option<usize> {
     }
 }
 
-// What is known behind an instruction.
-fn next(now: Taking, word: u64) -> Taking {
+/// What is known behind an instruction.
+pub(crate) fn next(now: Taking, word: u64) -> Taking {
     Taking {
         count: match uniform_of(now, word) {
             Some(count) => count.saturating_add(1),
@@ -52,29 +61,4 @@ fn next(now: Taking, word: u64) -> Taking {
             0
         },
     }
-}
-
-/// Appends the instructions of a shader.
-pub(crate) fn push_code(out: &mut Vec<Piece>, buffer: u32, code: &[u8]) -> Result<(), AllocError> {
-    let mut now = Taking {
-        count: 0,
-        pending0: 0,
-        pending1: 0,
-        behind: 0,
-    };
-    let mut rest = code;
-    for number in 0..code.len() {
-        if rest.is_empty() {
-            break;
-        }
-        let (front, back) = rest.split_at(8.min(rest.len()));
-        let word = instruction(front);
-        out.push(Piece {
-            size: front.len(),
-            note: Note::Instruction(buffer, number, uniform_of(now, word)),
-        })?;
-        now = next(now, word);
-        rest = back;
-    }
-    Ok(())
 }

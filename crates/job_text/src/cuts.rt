@@ -1,27 +1,23 @@
-//! A file cut into pieces.
+//! A file cut into parts.
 
 use crate::chunks::push_chunks;
-use crate::code::push_code;
 use crate::list::{buffer_of, push_list, push_records};
 use crate::names::field_size;
-use crate::note::{Field, Note, Part, Piece, Role};
+use crate::note::{Cut, Field, Note, Part, Role};
 use crate::streams::{known_shaders, push_uniforms};
 use field_words::{NoMemory, get_u16, get_u32};
 use job_format::{ENTRY_SIZE, HEADER_SIZE, JOB_SIZE};
 use qpu_isa::ShaderInfo;
 use std::alloc::{AllocError, Global};
 
-fn push_fields(out: &mut Vec<Piece>, part: Part, fields: &[Field]) -> Result<(), AllocError> {
+fn push_fields(out: &mut Vec<Cut>, part: Part, fields: &[Field]) -> Result<(), AllocError> {
     for field in fields {
-        out.push(Piece {
-            size: field_size(*field),
-            note: Note::Number(part, *field),
-        })?;
+        out.push(Cut::line(field_size(*field), Note::Number(part, *field)))?;
     }
     Ok(())
 }
 
-fn push_header(out: &mut Vec<Piece>) -> Result<(), AllocError> {
+fn push_header(out: &mut Vec<Cut>) -> Result<(), AllocError> {
     let fields = [
         Field::Magic,
         Field::Version,
@@ -36,7 +32,7 @@ fn push_header(out: &mut Vec<Piece>) -> Result<(), AllocError> {
     push_fields(out, Part::Header, &fields)
 }
 
-fn push_buffer(out: &mut Vec<Piece>, buffer: u32) -> Result<(), AllocError> {
+fn push_buffer(out: &mut Vec<Cut>, buffer: u32) -> Result<(), AllocError> {
     let fields = [
         Field::Place,
         Field::Size,
@@ -76,7 +72,7 @@ fn bits_note(part: Part, role: Role, surface: &[u8], sides: (u16, u16)) -> Note 
 
 // Appends a surface, which begins the given bytes.
 fn push_surface(
-    out: &mut Vec<Piece>,
+    out: &mut Vec<Cut>,
     job: u32,
     role: Role,
     surface: &[u8],
@@ -85,19 +81,13 @@ fn push_surface(
 ) -> Result<(), AllocError> {
     let part = Part::Surface(job, role);
     let buffer = buffer_of(handles, word(surface, 0));
-    out.push(Piece {
-        size: 4,
-        note: Note::Named(part, Field::HandleIndex, buffer),
-    })?;
+    out.push(Cut::line(4, Note::Named(part, Field::HandleIndex, buffer)))?;
     push_fields(out, part, &[Field::Offset])?;
-    out.push(Piece {
-        size: 2,
-        note: bits_note(part, role, surface, sides),
-    })?;
+    out.push(Cut::line(2, bits_note(part, role, surface, sides)))?;
     push_fields(out, part, &[Field::SurfaceFlags])
 }
 
-fn push_job_fields(out: &mut Vec<Piece>, job: u32) -> Result<(), AllocError> {
+fn push_job_fields(out: &mut Vec<Cut>, job: u32) -> Result<(), AllocError> {
     let fields = [
         Field::Client,
         Field::Flags,
@@ -116,7 +106,7 @@ fn push_job_fields(out: &mut Vec<Piece>, job: u32) -> Result<(), AllocError> {
     push_fields(out, Part::Job(job), &fields)
 }
 
-fn push_clear_fields(out: &mut Vec<Piece>, job: u32) -> Result<(), AllocError> {
+fn push_clear_fields(out: &mut Vec<Cut>, job: u32) -> Result<(), AllocError> {
     let fields = [
         Field::FirstColor,
         Field::SecondColor,
@@ -129,7 +119,7 @@ fn push_clear_fields(out: &mut Vec<Piece>, job: u32) -> Result<(), AllocError> {
 
 // Appends the surfaces of a job in the order of these roles, of which the entry and the handles are given.
 fn push_surfaces(
-    out: &mut Vec<Piece>,
+    out: &mut Vec<Cut>,
     job: u32,
     entry: &[u8],
     handles: &[u8],
@@ -152,7 +142,7 @@ pub(crate) fn part_at(bytes: &[u8], start: usize, size: usize) -> &[u8] {
 
 // Appends a job's entry, which begins at an offset, and whose handles begin at another.
 fn push_job(
-    out: &mut Vec<Piece>,
+    out: &mut Vec<Cut>,
     bytes: &[u8],
     job: u32,
     entry: usize,
@@ -183,19 +173,14 @@ pub(crate) fn word(bytes: &[u8], at: usize) -> u32 {
     get_u32(bytes, at).unwrap_or(0)
 }
 
-fn push_buffers(out: &mut Vec<Piece>, count: u32) -> Result<(), AllocError> {
+fn push_buffers(out: &mut Vec<Cut>, count: u32) -> Result<(), AllocError> {
     for buffer in 0..count {
         push_buffer(out, buffer)?;
     }
     Ok(())
 }
 
-fn push_jobs(
-    out: &mut Vec<Piece>,
-    bytes: &[u8],
-    buffers: u32,
-    jobs: u32,
-) -> Result<(), AllocError> {
+fn push_jobs(out: &mut Vec<Cut>, bytes: &[u8], buffers: u32, jobs: u32) -> Result<(), AllocError> {
     let mut at = contents_end(bytes, buffers, jobs);
     let first = HEADER_SIZE + ENTRY_SIZE * buffers as usize;
     for job in 0..jobs {
@@ -206,7 +191,7 @@ fn push_jobs(
     Ok(())
 }
 
-fn push_entries(out: &mut Vec<Piece>, bytes: &[u8]) -> Result<(), AllocError> {
+fn push_entries(out: &mut Vec<Cut>, bytes: &[u8]) -> Result<(), AllocError> {
     let buffers = word(bytes, 28);
     push_buffers(out, buffers)?;
     push_jobs(out, bytes, buffers, word(bytes, 32))
@@ -214,7 +199,7 @@ fn push_entries(out: &mut Vec<Piece>, bytes: &[u8]) -> Result<(), AllocError> {
 
 // Appends a buffer's content, which begins at an offset, and says where it ends.
 fn push_content(
-    out: &mut Vec<Piece>,
+    out: &mut Vec<Cut>,
     bytes: &[u8],
     buffer: u32,
     start: usize,
@@ -222,7 +207,7 @@ fn push_content(
     let at = HEADER_SIZE + ENTRY_SIZE * buffer as usize;
     let size = word(bytes, at + 16) as usize;
     if word(bytes, at + 12) == 1 {
-        push_code(out, buffer, part_at(bytes, start, size))?;
+        out.push(Cut::Code(buffer, part_at(bytes, start, size).len()))?;
     } else {
         push_chunks(out, 32, size, Note::Data(buffer))?;
     }
@@ -230,7 +215,7 @@ fn push_content(
 }
 
 fn push_contents(
-    out: &mut Vec<Piece>,
+    out: &mut Vec<Cut>,
     bytes: &[u8],
     count: u32,
     start: usize,
@@ -275,7 +260,7 @@ fn jobs_end(bytes: &[u8], buffers: u32, jobs: u32) -> usize {
 // Appends the pieces of a job's parts, which begin at an offset, and says where they end.
 fn push_part(
     alloc: Global,
-    out: &mut Vec<Piece>,
+    out: &mut Vec<Cut>,
     bytes: &[u8],
     shaders: &[Option<ShaderInfo>],
     job: u32,
@@ -304,7 +289,7 @@ fn push_part(
 
 fn push_parts(
     alloc: Global,
-    out: &mut Vec<Piece>,
+    out: &mut Vec<Cut>,
     bytes: &[u8],
     buffers: u32,
     jobs: u32,
@@ -319,12 +304,12 @@ fn push_parts(
 }
 
 // Appends pieces of bytes that belong to nothing, from an offset on.
-fn push_unread(out: &mut Vec<Piece>, bytes: &[u8], at: usize) -> Result<(), AllocError> {
+fn push_unread(out: &mut Vec<Cut>, bytes: &[u8], at: usize) -> Result<(), AllocError> {
     push_chunks(out, 16, bytes.len().saturating_sub(at), Note::Unread)
 }
 
 // Appends what follows the header.
-fn push_rest(alloc: Global, out: &mut Vec<Piece>, bytes: &[u8]) -> Result<(), NoMemory> {
+fn push_rest(alloc: Global, out: &mut Vec<Cut>, bytes: &[u8]) -> Result<(), NoMemory> {
     let buffers = word(bytes, 28);
     let jobs = word(bytes, 32);
     let entries = HEADER_SIZE + ENTRY_SIZE * buffers as usize + JOB_SIZE * jobs as usize;
@@ -344,8 +329,8 @@ fn push_rest(alloc: Global, out: &mut Vec<Piece>, bytes: &[u8]) -> Result<(), No
     Ok(())
 }
 
-/// The pieces of a file, in order.
-pub(crate) fn pieces(alloc: Global, bytes: &[u8]) -> Result<Vec<Piece>, NoMemory> {
+/// The parts of a file, in order.
+pub(crate) fn cuts_of(alloc: Global, bytes: &[u8]) -> Result<Vec<Cut>, NoMemory> {
     let mut out = Vec::new(alloc);
     push_header(&mut out)?;
     if bytes.len() < HEADER_SIZE {

@@ -1,7 +1,7 @@
 //! A binner list and the records of its states as pieces.
 
 use crate::chunks::{push_chunks, push_limited};
-use crate::note::{Field, Note, Part, Piece, Stage};
+use crate::note::{Cut, Field, Note, Part, Stage};
 use field_words::get_u32;
 use packets::opcode::{BUFFER_HANDLES, GL_SHADER_STATE, HALT, INDEXED_PRIMITIVE_LIST};
 use packets::{attribute_count, bin_taken, is_extended};
@@ -38,7 +38,7 @@ fn named(opcode: u8, buffer: Option<usize>) -> Option<usize> {
 
 /// Appends the pieces of a binner list: its packets, and what stands behind a halt.
 pub(crate) fn push_list(
-    out: &mut Vec<Piece>,
+    out: &mut Vec<Cut>,
     job: u32,
     list: &[u8],
     handles: &[u8],
@@ -48,10 +48,7 @@ pub(crate) fn push_list(
     while let Some((opcode, _)) = rest.split_first() {
         let size = (bin_taken(*opcode) as usize).min(rest.len());
         buffer = index_buffer(handles, rest, *opcode, buffer);
-        out.push(Piece {
-            size,
-            note: Note::Packet(job, named(*opcode, buffer)),
-        })?;
+        out.push(Cut::line(size, Note::Packet(job, named(*opcode, buffer))))?;
         let halts = *opcode == HALT;
         rest = &rest[size..];
         if halts {
@@ -63,7 +60,7 @@ pub(crate) fn push_list(
 
 // Appends a handle of a record.
 fn push_handle(
-    out: &mut Vec<Piece>,
+    out: &mut Vec<Cut>,
     left: usize,
     records: &[u8],
     handles: &[u8],
@@ -76,7 +73,7 @@ fn push_handle(
 
 // Appends the handles of a record with so many attributes.
 fn push_handles(
-    out: &mut Vec<Piece>,
+    out: &mut Vec<Cut>,
     left: usize,
     records: &[u8],
     handles: &[u8],
@@ -104,7 +101,7 @@ fn push_handles(
 
 // Appends the words of a record for one shader.
 fn push_stage(
-    out: &mut Vec<Piece>,
+    out: &mut Vec<Cut>,
     left: usize,
     job: u32,
     record: usize,
@@ -117,7 +114,7 @@ fn push_stage(
 
 // Appends the fixed part of a record.
 fn push_fixed(
-    out: &mut Vec<Piece>,
+    out: &mut Vec<Cut>,
     left: usize,
     job: u32,
     record: usize,
@@ -133,7 +130,7 @@ fn push_fixed(
 }
 
 // Appends the two words of an attribute.
-fn push_attribute(out: &mut Vec<Piece>, left: usize, part: Part) -> Result<usize, AllocError> {
+fn push_attribute(out: &mut Vec<Cut>, left: usize, part: Part) -> Result<usize, AllocError> {
     let left = push_limited(out, left, 4, Note::Number(part, Field::DataAddress))?;
     let left = push_limited(out, left, 1, Note::Number(part, Field::DataSize))?;
     let left = push_limited(out, left, 1, Note::Number(part, Field::Stride))?;
@@ -143,7 +140,7 @@ fn push_attribute(out: &mut Vec<Piece>, left: usize, part: Part) -> Result<usize
 
 // Appends what an extended record has behind its attributes: the room of those up to eight, and the strides' words.
 fn push_extension(
-    out: &mut Vec<Piece>,
+    out: &mut Vec<Cut>,
     left: usize,
     job: u32,
     record: usize,
@@ -160,7 +157,7 @@ fn push_extension(
 
 // Appends the pieces of a record by its state's word.
 fn push_record(
-    out: &mut Vec<Piece>,
+    out: &mut Vec<Cut>,
     left: usize,
     records: &[u8],
     handles: &[u8],
@@ -182,7 +179,7 @@ fn push_record(
 
 /// Appends the pieces of a job's shader records, which are those of its list's states, and to `starts` where each begins.
 pub(crate) fn push_records(
-    out: &mut Vec<Piece>,
+    out: &mut Vec<Cut>,
     starts: &mut Vec<usize>,
     job: u32,
     list: &[u8],

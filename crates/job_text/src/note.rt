@@ -161,3 +161,33 @@ pub struct Piece {
     pub size: usize,
     pub note: Note,
 }
+
+/// A part of a file: a line of some bytes, or the code of the buffer of a number, so many bytes, with a line for each instruction.
+#[derive(Clone, Copy)]
+pub enum Cut {
+    Line(Piece),
+    Code(u32, usize),
+}
+
+impl Cut {
+    /// A line of so many bytes.
+    pub fn line(size: usize, note: Note) -> Cut {
+        Cut::Line(Piece { size, note })
+    }
+
+    /// How many bytes it is.
+    pub fn size(&self) -> usize {
+        match self {
+            Cut::Line(piece) => piece.size,
+            Cut::Code(_, size) => *size,
+        }
+    }
+
+    /// About how many bytes its text has.
+    pub fn text_size(&self) -> usize {
+        match self {
+            Cut::Line(piece) => piece.size.saturating_mul(2).saturating_add(64),
+            Cut::Code(_, size) => size.saturating_mul(20),
+        }
+    }
+}

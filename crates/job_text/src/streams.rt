@@ -3,7 +3,7 @@
 use crate::chunks::push_chunks;
 use crate::cuts::{part_at, word};
 use crate::list::buffer_of;
-use crate::note::{Meaning, Note, Piece, Stage};
+use crate::note::{Cut, Meaning, Note, Stage};
 use field_words::{MOST_CODE, NoMemory, Stop, get_u32};
 use job_check::shader_in;
 use job_format::{ENTRY_SIZE, HEADER_SIZE};
@@ -174,7 +174,7 @@ struct Told {
 // Appends the words of a shader's stream, which begins behind so many words.
 fn push_stream(
     alloc: Global,
-    out: &mut Vec<Piece>,
+    out: &mut Vec<Cut>,
     job: u32,
     record: usize,
     stage: Stage,
@@ -197,7 +197,7 @@ fn push_stream(
     let mut words = before;
     for meaning in &meanings {
         let note = Note::Taken(job, words, record, stage, *meaning);
-        out.push(Piece { size: 4, note })?;
+        out.push(Cut::line(4, note))?;
         words = words.saturating_add(1);
     }
     Ok(Told {
@@ -209,7 +209,7 @@ fn push_stream(
 // Appends the words that the shaders of a record take, which begins at an offset of the records.
 fn push_streams(
     alloc: Global,
-    out: &mut Vec<Piece>,
+    out: &mut Vec<Cut>,
     job: u32,
     record: usize,
     start: usize,
@@ -246,7 +246,7 @@ fn push_streams(
 /// are numbers alone.
 pub(crate) fn push_uniforms(
     alloc: Global,
-    out: &mut Vec<Piece>,
+    out: &mut Vec<Cut>,
     job: u32,
     starts: &[usize],
     handles: &[u8],

@@ -4,13 +4,15 @@ ghost use Rattle.hex.specs.Hex.{encode_lower};
 ghost use Rattle.job_text.specs.declared.note.Piece.{Piece as PieceModel};
 ghost use Rattle.job_text.specs.Notes.{IsOther};
 ghost use Rattle.job_text.specs.Shown.{remark, is_in, is_past, mark_text, reason_text, line_text, lines_text, shown};
+ghost use Rattle.job_text.specs.Cuts.{AreLines};
 ghost use Rattle.job_text.specs.Made.{made};
 
-use crate::cuts::pieces;
+use crate::code::{Taking, next, uniform_of};
+use crate::cuts::cuts_of;
 use crate::instructions::put_instruction;
-use crate::note::{Note, Piece};
+use crate::note::{Cut, Note};
 use crate::notes::put_note;
-use crate::numbers::put_number;
+use crate::numbers::{instruction, put_number};
 use field_words::NoMemory;
 use qpu_asm::{Pen, Printer};
 use script::cut_at;
@@ -105,10 +107,16 @@ fn put_reason(pen: &mut Pen, is: bool, why: &[u8]) -> Result<(), AllocError>
     Ok(())
 }
 
-// Writes bytes in hexadecimal. Those of most lines take no memory of their own.
+// Writes bytes in hexadecimal. Those of most lines take no memory of their own, and those of an instruction no count of digits.
 fn put_hex(alloc: Global, pen: &mut Pen, bytes: &[u8]) -> Result<(), AllocError>
     ensures { OnOk result (pen.new ≡ pen.old ++ encode_lower bytes.now) }
 {
+    if bytes.len() == 8 {
+        let mut digits = [0; 16];
+        if hex::encode_to_slice(&bytes[..8], &mut digits).is_ok() {
+            return pen.text(&digits);
+        }
+    }
     if bytes.len() <= 32 {
         let mut room = [0; 64];
         let digits = &mut room[..2 * bytes.len()];
@@ -153,27 +161,90 @@ fn put_line(
     Ok(())
 }
 
-// Writes the lines of bytes, piece by piece.
+// Writes the lines of a buffer's code, one for each instruction.
+fn put_code(
+    alloc: Global,
+    writer: &mut Writer,
+    pen: &mut Pen,
+    at: usize,
+    code: &[u8],
+    buffer: u32,
+    refused: Option<u64>,
+    why: &[u8],
+) -> Result<(), NoMemory>
+    requires { at + length code.now < 2 ^ 64 }
+    ensures { OnOk result (AreLines pen.old pen.new at code.now refused why.now) }
+{
+    let mut now = Taking::first();
+    let mut rest = code;
+    let mut number = 0;
+    while !rest.is_empty() {
+        let (front, back) = rest.split_at(rest.len().min(8));
+        let place = at + (code.len() - rest.len());
+        let word = instruction(front);
+        let note = Note::Instruction(buffer, number, uniform_of(now, word));
+        put_line(alloc, writer, pen, place, front, note, refused, why)?;
+        now = next(now, word);
+        number += 1;
+        rest = back;
+    }
+    Ok(())
+}
+
+// Writes the lines of a part.
+fn put_cut(
+    alloc: Global,
+    writer: &mut Writer,
+    pen: &mut Pen,
+    at: usize,
+    bytes: &[u8],
+    cut: Cut,
+    refused: Option<u64>,
+    why: &[u8],
+) -> Result<(), NoMemory>
+    requires { at + length bytes.now < 2 ^ 64 }
+    ensures { OnOk result (AreLines pen.old pen.new at bytes.now refused why.now) }
+{
+    match cut {
+        Cut::Line(piece) => {
+            put_line(alloc, writer, pen, at, bytes, piece.note, refused, why)?;
+            Ok(())
+        }
+        Cut::Code(buffer, _) => put_code(alloc, writer, pen, at, bytes, buffer, refused, why),
+    }
+}
+
+// Writes the lines of bytes, part by part.
 fn put_lines(
     alloc: Global,
     writer: &mut Writer,
     pen: &mut Pen,
     bytes: &[u8],
-    pieces: &[Piece],
+    cuts: &[Cut],
     refused: Option<u64>,
     why: &[u8],
 ) -> Result<(), NoMemory>
-    ensures { OnOk result (pen.new ≡ pen.old ++ lines_text 0 bytes.now pieces.now refused why.now) }
+    ensures { OnOk result ((pieces : List PieceModel) × (pen.new ≡ pen.old ++ lines_text 0 bytes.now pieces refused why.now)) }
 {
     let mut rest = bytes;
     let mut at = 0;
-    for piece in pieces {
-        let (front, back) = rest.split_at(piece.size.min(rest.len()));
-        put_line(alloc, writer, pen, at, front, piece.note, refused, why)?;
+    for cut in cuts {
+        let (front, back) = rest.split_at(cut.size().min(rest.len()));
+        put_cut(alloc, writer, pen, at, front, *cut, refused, why)?;
         at += front.len();
         rest = back;
     }
-    put_line(alloc, writer, pen, at, rest, Note::Unread, refused, why)
+    put_line(alloc, writer, pen, at, rest, Note::Unread, refused, why)?;
+    Ok(())
+}
+
+// About how many bytes the text of parts has.
+fn text_size(cuts: &[Cut]) -> usize {
+    let mut size = 0usize;
+    for cut in cuts {
+        size = size.saturating_add(cut.text_size());
+    }
+    size
 }
 
 /// Any bytes as lines of text: on each line some of them in hexadecimal, a `#`, their offset and what they are, if they are a
@@ -191,13 +262,13 @@ pub fn show(
     ensures text { IfOk result (λ text. (pieces : List PieceModel) × (text.items ≡ shown bytes.now pieces refused why.now)) }
     ensures again { IfOk result (λ text. made text.items ≡ Ok bytes.now) }
 {
-    let pieces = pieces(alloc, bytes)?;
+    let cuts = cuts_of(alloc, bytes)?;
     let mut writer = Writer {
         printer: Printer::new(alloc, bytes.len() / 8)?,
         said: Vec::new(alloc),
     };
-    let mut pen = Pen::new(alloc);
-    put_lines(alloc, &mut writer, &mut pen, bytes, &pieces, refused, why)?;
+    let mut pen = Pen::new(alloc, text_size(&cuts));
+    put_lines(alloc, &mut writer, &mut pen, bytes, &cuts, refused, why)?;
     put_reason(&mut pen, is_past(bytes.len(), refused), why)?;
     Ok(pen.finish()?)
 }

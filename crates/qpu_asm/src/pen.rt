@@ -34,13 +34,23 @@ impl Model for Pen {
     ghost invariant = { λ p. p.end ≤ 4096 };
 }
 
+// Memory for so many bytes, or none where there isn't so much.
+fn room_ahead(alloc: Global, size: usize) -> Vec<u8>
+    ensures { result.items ≡ [] }
+{
+    match Vec::with_capacity(alloc, size) {
+        Ok(out) => out,
+        Err(_) => Vec::new(alloc),
+    }
+}
+
 impl Pen {
-    /// A pen that has written nothing, which takes no memory.
-    pub fn new(alloc: Global) -> Pen
+    /// A pen that has written nothing. It takes memory for so many bytes ahead, where it gets it.
+    pub fn new(alloc: Global, expected: usize) -> Pen
         ensures { result ≡ [] }
     {
         Pen {
-            out: Vec::new(alloc),
+            out: room_ahead(alloc, expected),
             room: [0; ROOM],
             end: 0,
         }

@@ -1,20 +1,21 @@
-use Rattle.std.proofs.Common.{◌≡◌, List, ℕ, OnOk, take, drop, ap, subst, ◌∙◌, arith}
-use Rattle.job_text.proofs.Pieces.{piece_step, pieces_end}
+use Rattle.std.proofs.Common.{take, drop, ap, ◌++◌, ◌∙◌, arith}
+use Rattle.std.proofs.lemmas.List.{take-append-drop}
+use Rattle.job_text.proofs.Pieces.{line_lines, lines_step, whole_lines}
 use Rattle.job_text.proofs.writing.put_lines.Goals as goal
 
-pub loop-piece-preserved : goal.loop-piece-preserved
-loop-piece-preserved c = record {
-  at = omega (arith, c.loop-piece.invariant.at, c.split_at.ensures.front_len, c.split_at.ensures.back_len);
-  text = piece_step c.loop-piece.pen c.loop-piece.rest.now c.split_at.result.0.now c.split_at.result.1.now c.put_line.new.pen c.args.why.now c.args.refused c.loop-piece.at
-      c.loop-piece.piece-index c.args.pieces.now _ c.loop-piece-test.true
-      (c.split_at.ensures.front ∙ ap (λ n. take n c.loop-piece.rest.now) c.min.ensures) (c.split_at.ensures.back ∙ ap (λ n. drop n c.loop-piece.rest.now) c.min.ensures)
-      c.in_ok-put_line.ensures
-      ∙ c.loop-piece.invariant.text;
-}
+pub loop-cut-preserved : goal.loop-cut-preserved
+loop-cut-preserved c =
+    let front = c.split_at.result.0.now in
+    let rest = c.loop-cut.rest.now in
+    record {
+      at = omega (arith, c.loop-cut.invariant.at, c.split_at.ensures.front_len, c.split_at.ensures.back_len);
+      lines =
+          lines_step c.args.pen.now c.loop-cut.pen c.put_cut.new.pen c.args.bytes.now rest front c.split_at.result.1.now c.args.why.now c.args.refused 0 c.loop-cut.at
+          (ap (λ l. l ++ c.split_at.result.1.now) c.split_at.ensures.front ∙ (ap (λ l. take c.min.result rest ++ l) c.split_at.ensures.back ∙ take-append-drop c.min.result rest))
+          c.in_ok-put_cut.ensures c.loop-cut.invariant.lines;
+    }
 
 pub returns : goal.returns
 returns c =
-    subst (λ (t : List ℕ). OnOk c.put_line-2.result (c.put_line-2.new.pen ≡ t))
-    (pieces_end c.loop-piece.pen c.loop-piece.rest.now c.args.why.now c.args.refused c.loop-piece.at c.loop-piece.piece-index c.args.pieces.now
-    c.loop-piece-test.false ∙ c.loop-piece.invariant.text)
-    c.put_line-2.ensures
+    whole_lines c.args.pen.now c.put_line.new.pen c.args.bytes.now c.args.why.now c.args.refused
+    (c.loop-cut.invariant.lines c.put_line.new.pen (line_lines c.loop-cut.pen c.put_line.new.pen c.loop-cut.rest.now c.args.why.now c.args.refused c.loop-cut.at _ c.in_ok-put_line.ensures))

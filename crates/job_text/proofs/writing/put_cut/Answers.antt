@@ -1,0 +1,6 @@
+use Rattle.job_text.proofs.Pieces.{line_lines}
+use Rattle.job_text.proofs.writing.put_cut.Goals as goal
+
+pub returns-in_ok-put_line-in-Line : goal.returns-in_ok-put_line-in-Line
+returns-in_ok-put_line-in-Line c =
+    line_lines c.args.pen.now c.put_line.new.pen c.args.bytes.now c.args.why.now c.args.refused c.args.at _ c.in_ok-put_line-in-Line.ensures
