@@ -1,5 +1,5 @@
 -- What the lines so far and those of what is left are.
-use Rattle.std.proofs.Common.{◌≡◌, ℕ, ◌+◌, ◌-◌, ◌≤◌, List, length}
+use Rattle.std.proofs.Common.{ℕ, ◌+◌, ◌-◌, ◌≤◌, List, length}
 use Rattle.job_text.specs.Cuts.{AreLines}
 use Rattle.job_text.proofs.writing.put_code.Given as goal
 

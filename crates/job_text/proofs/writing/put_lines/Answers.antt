@@ -1,4 +1,4 @@
-use Rattle.std.proofs.Common.{take, drop, ap, ◌++◌, ◌∙◌, arith}
+use Rattle.std.proofs.Common.{take, ap, ◌++◌, ◌∙◌, arith}
 use Rattle.std.proofs.lemmas.List.{take-append-drop}
 use Rattle.job_text.proofs.Pieces.{line_lines, lines_step, whole_lines}
 use Rattle.job_text.proofs.writing.put_lines.Goals as goal
