@@ -1,12 +1,12 @@
 -- A name's marks are in its bucket.
-use Rattle.std.proofs.Common.{◌≡◌, ℕ, ◌+◌, ◌-◌, ◌*◌, ◌/◌, ◌%◌, ◌^◌, ◌<◌, ◌≤◌, inl, inr, true, false, List, [], ◌∷◌, ◌++◌, length, take, drop, get_or, slice_range, slice_index, refl, sym, ◌∙◌, ap, subst, arith}
+use Rattle.std.proofs.Common.{◌≡◌, ℕ, ◌+◌, ◌-◌, ◌*◌, ◌/◌, ◌^◌, ◌<◌, ◌≤◌, inl, inr, true, false, List, [], ◌∷◌, ◌++◌, length, drop, get_or, slice_range, slice_index, sym, ◌∙◌, ap, subst, arith}
 use Rattle.std.proofs.Math.Nat.{pow-le-pow_right}
 use Rattle.std.proofs.lemmas.Nat.{pow_pos, pow-add, shr_split, shr_below, le-div}
 use Rattle.std.proofs.lemmas.List.{get_or-take, get_or-drop, get_or_push, get_or_append_left, length-take-le, length-drop}
 use Rattle.std.proofs.{lemmas.Bool.cases_lt, lemmas.Bool.Decides.nat_tests}
-use Rattle.std.specs.Ordering.{nat_cmp, ordering_then, is_lt}
+use Rattle.std.specs.Ordering.{nat_cmp, is_lt}
 use Rattle.qpu_asm.specs.{declared.label.Name.Name, declared.label.Mark.Mark}
-use Rattle.qpu_asm.specs.Marks.{key_of, name_cmp, mark_cmp, IsKeyed, AreInOrder, IsStart, bucket_of, AreLesser, IsBucketStart, AreStarts, AreFound}
+use Rattle.qpu_asm.specs.Marks.{key_of, name_cmp, mark_cmp, IsKeyed, AreInOrder, IsStart, bucket_of, AreLesser, IsBucketStart, AreStarts}
 use Rattle.qpu_asm.proofs.Sorting.{far, name_not, first_not, any_default}
 
 -- keys and buckets are in order

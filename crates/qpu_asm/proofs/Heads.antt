@@ -4,7 +4,7 @@ use Rattle.std.proofs.lemmas.Bool.{and_parts, and_from, not-true, false≢true, 
 use Rattle.std.proofs.lemmas.Bool.Decides.{nat_tests}
 use Rattle.std.proofs.lemmas.List.{take-append-drop}
 use Rattle.std.proofs.lemmas.List.Folds.{list_all-append}
-use Rattle.std.specs.{Char.is_ascii_digit, Str.all_ascii_digits, List.list_all}
+use Rattle.std.specs.{Char.is_ascii_digit, Str.all_ascii_digits}
 use Rattle.script.specs.{Lines.before, Lines.behind}
 use Rattle.qpu_asm.specs.{Walk.lacks, Walk.begins, Walk.IsBehind, Walk.is_opcode, Lines.is_full, Lines.is_comment, Lines.ends_label, Lines.words_of, Lines.line_of, Lines.read_line, Lines.Coded}
 use Rattle.qpu_asm.proofs.{Bytes.bytes_same, Words.word_first}

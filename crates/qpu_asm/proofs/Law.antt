@@ -1,10 +1,10 @@
 -- Assembling what was printed gives the same words.
 use Rattle.std.proofs.Common.{◌≡◌, ℕ, suc, inl, inr, ◌+◌, ◌*◌, ◌/◌, ◌%◌, ◌^◌, ◌≤◌, ◌<◌, Bool, true, false, not, ◌==◌, ◌&&◌, nat_le, List, [], ◌∷◌, ◌++◌, length, map, get_or, refl, sym, ◌∙◌, ap, subst, arith, eqb-true, leb-true, lt-ltb, drop, filter, mod-lt, pow_pos, decimal, Option, None, Some, Ok, IfSome, bytes_eq, if◌then◌else◌, All, append_assoc, append-nil, length-append}
 use Rattle.std.proofs.lemmas.Bool.{and_parts, and_from, not-true, false≢true, cases_Bool, eqb-false}
-use Rattle.std.proofs.{lemmas.Bool.Decides.nat_tests, lemmas.List.Folds.list_all-append, lemmas.List.Sums.AllPass-from_list_all}
+use Rattle.std.proofs.{lemmas.List.Sums.AllPass-from_list_all}
 use Rattle.std.proofs.{lemmas.List.Splits.slice_split_at, lemmas.List.Splits.slice_split_none, Math.Nat.div-eq_of_lt}
-use Rattle.std.specs.{List.list_all, List.slice_split, Char.is_ascii_digit, Str.all_ascii_digits}
-use Rattle.script.specs.{Lines.before, Lines.behind, Lines.lines_of, Number.is_number}
+use Rattle.std.specs.{List.list_all, List.slice_split}
+use Rattle.script.specs.{Lines.before, Lines.lines_of, Number.is_number}
 use Rattle.qpu_isa.specs.{Word.sig_of, Fields.joined, Fields.width_of, Fields.values_of}
 use Rattle.qpu_isa.proofs.{Fields.joined-values_of, Words.above-sig}
 use Rattle.qpu_asm.specs.Table.{Named, Row, Kind, widths_of, nop_kind, alu_kind, load_imm_kind, branch_kind, alu_rows}

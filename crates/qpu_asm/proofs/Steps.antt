@@ -1,8 +1,8 @@
 -- An item that is read in one walk.
-use Rattle.std.proofs.Common.{◌≡◌, ℕ, zero, suc, get_or, ◌+◌, ◌-◌, ◌*◌, ◌^◌, ◌≤◌, ◌<◌, ◌||◌, codes, Bool, true, false, not, ◌==◌, ◌&&◌, List, [], ◌∷◌, ◌++◌, length, take, drop, slice_index, refl, sym, ◌∙◌, ap, subst, arith, min, append-nil, append_assoc, ne_eqb, ◌≢◌, map, le_refl, None, Some, Ok, IfOk, lt-ltb, ltb-true, eqb-true, nat_lt, bytes_eq, drop-cons, add-one, inl, inr, Option, Result, length-append, if◌then◌else◌}
-use Rattle.std.proofs.lemmas.Bool.{and_parts, and_from, not-true, false≢true, cases_Bool}
+use Rattle.std.proofs.Common.{◌≡◌, ℕ, zero, suc, get_or, ◌+◌, ◌-◌, ◌*◌, ◌^◌, ◌<◌, ◌||◌, codes, Bool, true, false, not, ◌==◌, ◌&&◌, List, [], ◌∷◌, ◌++◌, length, take, drop, slice_index, refl, sym, ◌∙◌, ap, subst, arith, min, append-nil, append_assoc, ne_eqb, ◌≢◌, map, le_refl, None, Some, Ok, IfOk, lt-ltb, ltb-true, nat_lt, bytes_eq, add-one, inl, inr, Option, Result, length-append, if◌then◌else◌}
+use Rattle.std.proofs.lemmas.Bool.{and_parts, and_from, false≢true, cases_Bool}
 use Rattle.std.proofs.lemmas.List.{take-append-drop, length-drop}
-use Rattle.std.proofs.{lemmas.Bool.Decides.nat_tests, lemmas.List.Folds.list_all_more}
+use Rattle.std.proofs.{lemmas.List.Folds.list_all_more}
 use Rattle.std.specs.{Char.is_ascii_digit, Str.all_ascii_digits}
 use Rattle.qpu_isa.specs.Fields.{joined}
 use Rattle.script.specs.{Lines.before, Lines.behind, Number.is_number, Number.number_of, Number.number_after}

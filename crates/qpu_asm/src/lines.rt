@@ -18,8 +18,11 @@ pub enum Line<'a> {
 }
 
 pub const ALU: &[u8] = b"alu";
+
 pub const NOP: &[u8] = b"nop";
+
 pub const LOAD_IMM: &[u8] = b"li";
+
 pub const BRANCH: &[u8] = b"br";
 
 /// The first word of a line, and what comes after it, where there is a word.

@@ -129,7 +129,11 @@ fn behind_word(text: &[u8]) -> Option<&[u8]>
     if is_end(text) {
         return Some(text);
     }
-    if text[0] == b' ' { Some(&text[1..]) } else { None }
+    if text[0] == b' ' {
+        Some(&text[1..])
+    } else {
+        None
+    }
 }
 
 // Whether the line ends here.
@@ -299,12 +303,7 @@ fn behind_end(text: &[u8]) -> &[u8]
 
 // The word of an instruction of this kind by its items.
 #[inline(never)]
-fn read_kind<'a>(
-    labels: &Labels<'a>,
-    index: u32,
-    kind: Kind,
-    items: &'a [u8],
-) -> Option<Coded<'a>>
+fn read_kind<'a>(labels: &Labels<'a>, index: u32, kind: Kind, items: &'a [u8]) -> Option<Coded<'a>>
     requires { IsOpen kind.above (rows_seen kind.rows.now) }
     ensures word { IfSome result (λ coded. kind_code (spots_in labels.now) index (words_of (before 10 items.now)) (kind_seen kind) ≡ Ok coded.word) }
     ensures rest { IfSome result (λ coded. coded.rest.now ≡ behind 10 items.now) }

@@ -1,5 +1,5 @@
 use Rattle.std.proofs.lemmas.Grind.{common_steps}
-use Rattle.std.proofs.Common.{◌≡◌, arith, sym, ◌∙◌, ap, subst, ◌∷◌, List, ℕ, length, ◌<◌, Ok}
+use Rattle.std.proofs.Common.{◌≡◌, arith, sym, ◌∙◌, ap, subst, ◌∷◌, length, ◌<◌, Ok}
 use Rattle.script.specs.Lines.{before, lines_of}
 use Rattle.script.proofs.Cuts.{lines_first}
 use Rattle.qpu_asm.specs.{Lines.read_line, Walk.line_words, Walk.IsCoded, Marks.IsFirstBelow, Assembly.IsFaultOf, Seen.spots_in}

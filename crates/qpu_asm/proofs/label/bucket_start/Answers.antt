@@ -1,4 +1,4 @@
-use Rattle.std.proofs.Common.{◌≤◌, arith, subst}
+use Rattle.std.proofs.Common.{◌≤◌, subst}
 use Rattle.qpu_asm.specs.Marks.{bucket_of}
 use Rattle.qpu_asm.proofs.{Buckets.starts_here, Sorting.any_default}
 use Rattle.qpu_asm.proofs.label.bucket_start.Goals as goal

@@ -1,4 +1,4 @@
-use Rattle.std.proofs.Common.{sym, ◌∙◌, ap, List, ℕ}
+use Rattle.std.proofs.Common.{sym, ◌∙◌, ap}
 use Rattle.qpu_asm.specs.Lines.{Coded, words_of}
 use Rattle.qpu_asm.proofs.Heads.{line_coded}
 use Rattle.qpu_asm.proofs.lines.coded_by.Goals as goal

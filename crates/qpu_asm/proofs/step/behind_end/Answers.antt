@@ -1,4 +1,4 @@
-use Rattle.std.proofs.Common.{arith, sym, ◌∙◌, drop, take_all}
+use Rattle.std.proofs.Common.{arith, ◌∙◌, drop, take_all}
 use Rattle.std.proofs.lemmas.List.{length-drop}
 use Rattle.std.proofs.lemmas.Bool.Decides.{nat_tests}
 use Rattle.qpu_asm.proofs.Heads.{end_none, end_first}

@@ -1,4 +1,4 @@
-use Rattle.std.proofs.Common.{arith, sym, ◌∙◌, drop, subst, take_all}
+use Rattle.std.proofs.Common.{arith, sym, drop, subst, take_all}
 use Rattle.std.proofs.lemmas.List.{length-drop}
 use Rattle.qpu_asm.specs.Walk.{IsAfter}
 use Rattle.qpu_asm.proofs.Steps.{at_end, at_space}

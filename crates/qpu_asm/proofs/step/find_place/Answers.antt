@@ -1,6 +1,5 @@
-use Rattle.std.proofs.Common.{sym, ◌∙◌, arith}
 use Rattle.qpu_asm.specs.{Seen.row_seen}
-use Rattle.qpu_asm.proofs.Steps.{passed_none, passed_more, place_here, own_row, to_row}
+use Rattle.qpu_asm.proofs.Steps.{passed_more, place_here, own_row, to_row}
 use Rattle.qpu_asm.proofs.Reading.{default_room, default_narrow, default_small}
 use Rattle.qpu_asm.proofs.step.find_place.Goals as goal
 

@@ -1,4 +1,4 @@
-use Rattle.std.proofs.Common.{refl, arith, ◌∙◌, ap}
+use Rattle.std.proofs.Common.{refl, arith}
 use Rattle.script.specs.Number.{number_after}
 use Rattle.qpu_asm.proofs.Steps.{digits_more, number_more}
 use Rattle.qpu_asm.proofs.step.first_digits.Goals as goal
