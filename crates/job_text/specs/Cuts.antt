@@ -5,5 +5,5 @@ use Rattle.job_text.specs.{declared.note.Piece.Piece, Shown.lines_text}
 -- Lines of these bytes from an offset on stand behind a text, to which lines of whatever bytes come behind them can be added.
 unfoldable pub AreLines : (old new : List ℕ) → ℕ → List ℕ → Option ℕ → List ℕ → Type 0
 AreLines old new at bytes refused why =
-    (rest : List ℕ) (later : List Piece)
-    → (pieces : List Piece) × (new ++ lines_text (at + length bytes) rest later refused why ≡ old ++ lines_text at (bytes ++ rest) pieces refused why)
+    (rest : List ℕ) (later : List Piece) → (pieces : List Piece)
+    × (new ++ lines_text (at + length bytes) rest later refused why ≡ old ++ lines_text at (bytes ++ rest) pieces refused why)

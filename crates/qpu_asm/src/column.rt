@@ -72,7 +72,8 @@ pub struct Left<'a> {
 pub fn put_kept<'a>(room: &mut [u8], at: usize, columns: &'a [Column], word: u64) -> Left<'a>
     requires fits { at + 16 * length columns.now ≤ length room.old }
     requires columns { AreColumns columns.now }
-    ensures text { take result.end room.new ++ rows_text (rows_of result.columns.now) word ≡ take at room.old ++ rows_text (rows_of columns.now) word }
+    ensures text { take result.end room.new ++ rows_text (rows_of result.columns.now) word
+        ≡ take at room.old ++ rows_text (rows_of columns.now) word }
     ensures columns { AreColumns result.columns.now }
     ensures end { result.end ≤ length room.new }
     ensures long { length room.new ≡ length room.old }

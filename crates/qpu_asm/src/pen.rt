@@ -90,7 +90,8 @@ impl Pen {
         word: u64,
     ) -> Result<&'a [Column], AllocError>
         requires { AreColumns columns.now }
-        ensures text { IfOk result (λ left. self.new ++ rows_text (rows_of left.now) word ≡ self.old ++ rows_text (rows_of columns.now) word) }
+        ensures text { IfOk result (λ left. self.new ++ rows_text (rows_of left.now) word
+            ≡ self.old ++ rows_text (rows_of columns.now) word) }
         ensures columns { IfOk result (λ left. AreColumns left.now) }
     {
         if columns.len() > MOST_COLUMNS {
