@@ -151,10 +151,6 @@ columns_are rows columns is ready wide =
       },
     )
 
-pub text_none : (rest : List table.Row) (word : ℕ) → length rest ≡ 0 → rows_text rest word ≡ []
-unfolding item_texts spaced
-text_none rest word is = ap (λ rows. rows_text rows word) (none_left rest is)
-
 pub kind_cases : (P : table.Kind → Type 0) (nop load branch : Bool) → P nop_kind → P load_imm_kind → P branch_kind → P alu_kind
     → P (if nop then nop_kind else (if load then load_imm_kind else (if branch then branch_kind else alu_kind)))
 kind_cases P true load branch a b c d = a

@@ -66,6 +66,7 @@ impl Pen {
     }
 
     /// Writes a number in decimal.
+    #[inline]
     pub fn number(&mut self, number: u64) -> Result<(), AllocError>
         ensures { OnOk result (self.new ≡ self.old ++ decimal number) }
     {

@@ -2,7 +2,7 @@
 ghost use Rattle.std.specs.Prelude.{◌≡◌, ◌≤◌, ◌+◌, ◌++◌, length, take, decimal, IfSome, IfOk, OnOk};
 ghost use Rattle.qpu_asm.specs.Walk.{written};
 
-use itoa::{Buffer, write_digits};
+use itoa::write_digits;
 use std::alloc::AllocError;
 use std::marker::Model;
 
@@ -129,22 +129,21 @@ pub fn make_room(
 }
 
 /// Puts a number in decimal behind what a room has, and says where it ends. Where it doesn't fit, all goes out, and the room is empty.
+#[inline]
 pub fn put_number(
     out: &mut Vec<u8>,
     room: &mut [u8],
     at: usize,
     number: u64,
 ) -> Result<usize, AllocError>
-    requires { at ≤ length room.old }
+    requires within { at ≤ length room.old }
+    requires short { 20 ≤ length room.old }
     ensures text { IfOk result (λ end. written out.new.items room.new end ≡ written out.old.items room.old at ++ decimal number) }
     ensures end { IfOk result (λ end. end ≤ length room.new) }
     ensures long { length room.new ≡ length room.old }
 {
-    if 20 <= room.len() - at {
-        return Ok(put_digits(room, at, number));
-    }
-    let mut buffer = Buffer::new();
-    put_text(out, room, at, buffer.format(number).as_bytes())
+    let at = make_room(out, room, at, 20)?;
+    Ok(put_digits(room, at, number))
 }
 
 // Puts a number in decimal with 20 bytes, which are as many as it can have, so that their count has not to be known first.
