@@ -13,6 +13,6 @@ mod surfaces;
 mod words;
 
 pub use line::{Line, line_of};
-pub use name::{Family, RuleName, explain, kind_named, rule_named, sentence_bytes};
+pub use name::{Family, RuleName, explain, kind_named, rule_named};
 pub use place::{Place, Thing, place_of, spot_of};
 pub use words::Words;

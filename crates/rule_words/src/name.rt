@@ -193,17 +193,6 @@ impl fmt::Display for RuleName {
     }
 }
 
-/// The sentence of the rule of this letter (in either case) and number; empty where there is none. For C.
-pub fn sentence_bytes(letter: u8, number: u8) -> &'static [u8] {
-    match Family::of_letter(letter) {
-        Some(family) => match (RuleName { family, number }).words() {
-            Some(words) => words.sentence.as_bytes(),
-            None => b"",
-        },
-        None => b"",
-    }
-}
-
 /// All that is said of a rule: its name and its sentence, an empty line, and its explanation. The text is empty where there is no rule
 /// of this name.
 #[tactic(auto, unfolding(crate::specs::Names::explained, crate::specs::Names::explained_by))]
