@@ -5,7 +5,7 @@ use Rattle.std.proofs.lemmas.Bool.{cases_lt}
 use borrow.Rule.Slice.PartMut.{put_mid, post_of}
 use Rattle.std.proofs.Math.Seq.{take-append_seam, take-append-add}
 use Rattle.std.specs.List.{flat_map}
-use Rattle.qpu_asm.specs.{Table.Row, Printed.line_text, Walk.AreTexts, Walk.field_text}
+use Rattle.qpu_asm.specs.{Table.Row, Printed.line_text, Printed.AsmText, Walk.AreTexts, Walk.field_text}
 
 pub texts_none : (row : Row) → AreTexts row []
 unfolding AreTexts
@@ -63,3 +63,7 @@ pub lines_more : (words : List ℕ) (i d : ℕ) (old new : List ℕ) → i < len
 lines_more words i d old new below before put =
     put ∙ (ap (λ l. l ++ line_text (slice_index_or words i d)) before
     ∙ (flat_map_more line_text [] (take i words) (slice_index_or words i d) ∙ ap (flat_map line_text) (sym (take_more words i d below))))
+
+pub first_line : (words later : List ℕ) (word : ℕ) → words ≡ word ∷ later → AsmText words ≡ line_text word ++ AsmText later
+unfolding AsmText
+first_line words later word is = ap AsmText is

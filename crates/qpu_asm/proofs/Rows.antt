@@ -1,12 +1,14 @@
 -- Rows one after another.
-use Rattle.std.proofs.Common.{◌≡◌, ℕ, ◌+◌, ◌/◌, ◌%◌, ◌^◌, ◌≤◌, ◌<◌, Bool, true, false, ◌==◌, ◌&&◌, ◌||◌, not, nat_lt, nat_le, List, [], ◌∷◌, ◌++◌, length, drop, refl, sym, subst, ◌∙◌, ap, arith, ltb-true, leb-true, if◌then◌else◌, lit≤, le_trans, pow_mono, append_assoc}
+use Rattle.std.proofs.Common.{◌≡◌, ℕ, ◌+◌, ◌/◌, ◌%◌, ◌^◌, ◌≤◌, ◌<◌, Bool, true, false, ◌==◌, ◌&&◌, ◌||◌, not, nat_lt, nat_le, List, [], ◌∷◌, ◌++◌, Option, None, Some, length, drop, refl, sym, subst, ◌∙◌, ap, arith, ltb-true, leb-true, if◌then◌else◌, lit≤, le_trans, pow_mono, append_assoc}
 use Rattle.std.proofs.lemmas.Bool.{and_parts}
+use Rattle.std.proofs.lemmas.List.{length-map}
 use Rattle.std.specs.List.{list_all}
 use Rattle.qpu_isa.specs.Fields.{width_of, values_of}
 use Rattle.qpu_asm.specs.{declared.table.Row.Row, Table.widths_of, Table.alu_kind, Table.load_imm_kind, Table.branch_kind, Table.nop_kind}
-use Rattle.qpu_asm.specs.{Walk.is_ready, Walk.are_ready, Walk.is_part, Walk.lacks, Walk.field_text, Printed.item_texts, Printed.spaced, Printed.rows_text}
+use Rattle.qpu_asm.specs.{Walk.is_short, Walk.is_ready, Walk.are_ready, Walk.is_part, Walk.lacks, Walk.field_text, Printed.item_texts, Printed.spaced, Printed.rows_text}
 use Rattle.qpu_asm.specs.Walk.{Placed, rows_of, placed, AreColumns}
 use Rattle.qpu_asm.specs.Seen.{row_seen, rows_seen}
+use Rattle.qpu_asm.specs.Printed.{name_of}
 use Rattle.qpu_asm.specs.Table as table
 
 pub none_left : {A : Type 0} (xs : List A) → length xs ≡ 0 → xs ≡ []
@@ -29,9 +31,10 @@ pub record RowFacts (row : table.Row) : Type 0 where
 pub row_facts : (row : table.Row) → is_ready row ≡ true → RowFacts row
 unfolding is_ready
 row_facts row ready =
+    let whole = and_parts (is_short row) _ ready in
     let parts = and_parts (nat_le 1 row.width && nat_le row.width 32)
     ((nat_lt row.fallback (2 ^ row.width) && nat_le row.below (2 ^ row.width))
-    && (list_all (λ named. nat_lt named.value (2 ^ row.width)) row.named && ((not row.takes_label || row.width == 32) && is_part row.name))) ready in
+    && (list_all (λ named. nat_lt named.value (2 ^ row.width)) row.named && ((not row.takes_label || row.width == 32) && is_part row.name))) whole.1 in
     let widths = and_parts (nat_le 1 row.width) (nat_le row.width 32) parts.0 in
     let values = and_parts (nat_lt row.fallback (2 ^ row.width) && nat_le row.below (2 ^ row.width))
     (list_all (λ named. nat_lt named.value (2 ^ row.width)) row.named && ((not row.takes_label || row.width == 32) && is_part row.name)) parts.1 in
@@ -86,6 +89,7 @@ text_first rest later row word low width value is same at field = rw (is, field,
 -- what is known where columns begin with one
 pub record FirstFacts (column : Placed) (later : List Placed) (columns : List Placed) : Type 0 where
   pub inside : column.low < 64
+  pub ready : is_ready column.row ≡ true
   pub later_are : AreColumns later
   pub text : (word : ℕ) → rows_text (rows_of columns) word
       ≡ field_text column.row (word / 2 ^ column.low % 2 ^ column.row.width) ++ rows_text (rows_of later) word
@@ -107,6 +111,7 @@ facts_first column later are =
     let wide = are.wide in
     record {
       inside = omega (arith, at.0, width, wide, ready.0.low);
+      ready = (ready_parts column.row (rows_of later) are.ready).0;
       later_are = record { places = at.1; ready = ready.1; wide = omega (arith, width, wide) };
       text = λ word. text_first (rows_of (column ∷ later)) (rows_of later) column.row word column.low column.row.width _ refl refl at.0 refl;
     }
@@ -163,22 +168,53 @@ pub record IsReadyKind (kind : table.Kind) : Type 0 where
   pub ready : are_ready kind.rows ≡ true
   pub wide : width_of (widths_of kind.rows) ≤ 64
   pub short : length kind.opcode ≤ 16
+  pub few : length kind.rows ≤ 18
 
 pub nop_ready : IsReadyKind nop_kind
-unfolding are_ready is_ready is_part lacks width_of
-nop_ready = record { ready = refl; wide = lit≤ tt; short = lit≤ tt }
+unfolding are_ready is_ready is_short is_part lacks width_of
+nop_ready = record { ready = refl; wide = lit≤ tt; short = lit≤ tt; few = lit≤ tt }
 
 pub alu_ready : IsReadyKind alu_kind
-unfolding are_ready is_ready is_part lacks width_of
-alu_ready = record { ready = refl; wide = lit≤ tt; short = lit≤ tt }
+unfolding are_ready is_ready is_short is_part lacks width_of
+alu_ready = record { ready = refl; wide = lit≤ tt; short = lit≤ tt; few = lit≤ tt }
 
 pub load_imm_ready : IsReadyKind load_imm_kind
-unfolding are_ready is_ready is_part lacks width_of
-load_imm_ready = record { ready = refl; wide = lit≤ tt; short = lit≤ tt }
+unfolding are_ready is_ready is_short is_part lacks width_of
+load_imm_ready = record { ready = refl; wide = lit≤ tt; short = lit≤ tt; few = lit≤ tt }
 
 pub branch_ready : IsReadyKind branch_kind
-unfolding are_ready is_ready is_part lacks width_of
-branch_ready = record { ready = refl; wide = lit≤ tt; short = lit≤ tt }
+unfolding are_ready is_ready is_short is_part lacks width_of
+branch_ready = record { ready = refl; wide = lit≤ tt; short = lit≤ tt; few = lit≤ tt }
 
 pub row_below : (row : table.Row) → RowFacts row → row.below ≤ 2 ^ 32
 row_below row facts = le_trans facts.below (pow_mono facts.high)
+
+-- the row's name is short
+pub name_short : (row : table.Row) → is_ready row ≡ true → length row.name ≤ 8
+unfolding is_ready is_short
+name_short row ready =
+    leb-true (length row.name) 8 (and_parts (nat_le (length row.name) 8) _ (and_parts (is_short row) _ ready).0).0
+
+-- and so are its values' names
+abbrev size_of : Option (List ℕ) → ℕ
+size_of None = 0
+size_of (Some name) = length name
+
+size_by : (same : Bool) (name : List ℕ) (other : Option (List ℕ)) → length name ≤ 8 → size_of other ≤ 8 → size_of (if same then Some name else other) ≤ 8
+size_by true name other here later = here
+size_by false name other here later = later
+
+names_short : (named : List table.Named) (value : ℕ) → list_all (λ named. nat_le (length named.name) 8) named ≡ true → size_of (name_of named value) ≤ 8
+unfolding name_of
+names_short [] value short = omega arith
+names_short (one ∷ named) value short =
+    let parts = and_parts (nat_le (length one.name) 8) (list_all (λ named. nat_le (length named.name) 8) named) short in
+    size_by (one.value == value) one.name (name_of named value) (leb-true (length one.name) 8 parts.0) (names_short named value parts.1)
+
+pub value_short : (row : table.Row) (value : ℕ) (name : List ℕ) → is_ready row ≡ true → name_of row.named value ≡ Some name → length name ≤ 8
+unfolding is_ready is_short
+value_short row value name ready is =
+    omega (arith, ap size_of is, names_short row.named value (and_parts (nat_le (length row.name) 8) _ (and_parts (is_short row) _ ready).0).1)
+
+pub columns_few : (rows : List table.Row) (columns : List Placed) → rows_of columns ≡ rows → length rows ≤ 18 → length columns ≤ 18
+columns_few rows columns is few = omega (arith, length-map columns (λ column. column.row), ap length is, few)

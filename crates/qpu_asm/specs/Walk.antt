@@ -34,12 +34,16 @@ IsWord bytes = (lacks 32 bytes ≡ true) × (lacks 10 bytes ≡ true)
 unfoldable pub is_part : List ℕ → Bool
 is_part name = lacks 61 name && (lacks 32 name && lacks 10 name)
 
--- the row's default and all its values fit its width, and a label's too, and no item ends in its name
+-- the row's name and its values' names are short
+unfoldable pub is_short : Row → Bool
+is_short row = nat_le (length row.name) 8 && list_all (λ named. nat_le (length named.name) 8) row.named
+
+-- the row is short, its default and all its values fit its width, and a label's too, and no item ends in its name
 unfoldable pub is_ready : Row → Bool
 is_ready row =
-    (nat_le 1 row.width && nat_le row.width 32)
+    is_short row && ((nat_le 1 row.width && nat_le row.width 32)
     && ((nat_lt row.fallback (2 ^ row.width) && nat_le row.below (2 ^ row.width))
-    && (list_all (λ named. nat_lt named.value (2 ^ row.width)) row.named && ((not row.takes_label || row.width == 32) && is_part row.name)))
+    && (list_all (λ named. nat_lt named.value (2 ^ row.width)) row.named && ((not row.takes_label || row.width == 32) && is_part row.name))))
 
 unfoldable pub are_ready : List Row → Bool
 are_ready rows = list_all is_ready rows
@@ -79,6 +83,7 @@ pub record AreColumns (columns : List Placed) : Type 0 where
 pub record IsSheet (kind : Kind) (text : List ℕ) (placed : List Placed) : Type 0 where
   pub opcode : text ≡ kind.opcode
   pub rows : rows_of placed ≡ kind.rows
+  pub few : length placed ≤ 18
   pub columns : AreColumns placed
 
 -- the word can take the rows' fields

@@ -1,10 +1,10 @@
 //! A field of many words, with the texts of its values.
-ghost use Rattle.std.specs.Prelude.{◌≡◌, ◌≤◌, ◌<◌, ◌+◌, ◌*◌, ◌/◌, ◌%◌, ◌^◌, ◌∷◌, ◌++◌, length, take, IfSome, IfOk};
-ghost use Rattle.qpu_asm.specs.Walk.{field_text, rows_of, AreColumns};
+ghost use Rattle.std.specs.Prelude.{◌≡◌, ◌≤◌, ◌<◌, ◌+◌, ◌*◌, ◌/◌, ◌%◌, ◌^◌, ◌∷◌, ◌++◌, length, take, true, IfSome, IfOk};
+ghost use Rattle.qpu_asm.specs.Walk.{field_text, is_ready, rows_of, AreColumns};
 ghost use Rattle.qpu_asm.specs.Printed.{value_text, item_text, rows_text};
 ghost use Rattle.qpu_asm.specs.Seen.{row_seen};
 
-use crate::field::name_of;
+use crate::field::{name_of, put_field};
 use crate::piece::Piece;
 use crate::table::Row;
 use itoa::Buffer;
@@ -33,16 +33,9 @@ impl Model for Column {
 }
 
 impl Column {
-    /// The row.
-    pub fn row(&self) -> &Row
-        ensures { row_seen result.now ≡ self.now.row }
-    {
-        &self.row
-    }
-
-    /// The value of its field in a word.
+    // The value of its field in a word.
     #[tactic(auto, using(std::proofs::lemmas::Nat::and_mask))]
-    pub fn value(&self, word: u64) -> u64
+    fn value(&self, word: u64) -> u64
         requires { self.now.low < 64 }
         ensures { result ≡ word / 2 ^ self.now.low % 2 ^ self.now.row.width }
     {
@@ -59,35 +52,39 @@ impl Column {
         }
         None
     }
+
+    // Puts the text of its field in a word behind what a room has, and says where it ends.
+    fn put(&self, room: &mut [u8], at: usize, word: u64) -> usize
+        requires fits { at + 30 ≤ length room.old }
+        requires inside { self.now.low < 64 }
+        requires ready { is_ready self.now.row ≡ true }
+        ensures text { take result room.new ≡ take at room.old ++ field_text self.now.row (word / 2 ^ self.now.low % 2 ^ self.now.row.width) }
+        ensures end { result ≤ at + 30 }
+        ensures long { length room.new ≡ length room.old }
+    {
+        let value = self.value(word);
+        match self.piece(value) {
+            Some(piece) => piece.put(room, at),
+            None => put_field(room, at, &self.row, value),
+        }
+    }
 }
 
-/// What is left of a word: the columns of the fields whose texts aren't put yet, and where those end that are.
-#[derive(Clone, Copy)]
-pub struct Left<'a> {
-    pub columns: &'a [Column],
-    pub end: usize,
-}
-
-/// Puts the texts of a word's fields behind what a room has, up to the first that isn't kept.
-pub fn put_kept<'a>(room: &mut [u8], at: usize, columns: &'a [Column], word: u64) -> Left<'a>
-    requires fits { at + 16 * length columns.now ≤ length room.old }
+/// Puts the texts of a word's fields behind what a room has, and says where they end.
+pub fn put_columns(room: &mut [u8], at: usize, columns: &[Column], word: u64) -> usize
+    requires fits { at + 30 * length columns.now ≤ length room.old }
     requires columns { AreColumns columns.now }
-    ensures text { take result.end room.new ++ rows_text (rows_of result.columns.now) word
-        ≡ take at room.old ++ rows_text (rows_of columns.now) word }
-    ensures columns { AreColumns result.columns.now }
-    ensures end { result.end ≤ length room.new }
+    ensures text { take result room.new ≡ take at room.old ++ rows_text (rows_of columns.now) word }
+    ensures end { result ≤ at + 30 * length columns.now }
     ensures long { length room.new ≡ length room.old }
 {
     let mut rest = columns;
     let mut end = at;
     while let Some((column, later)) = rest.split_first() {
-        let Some(piece) = column.piece(column.value(word)) else {
-            break;
-        };
-        end = piece.put(room, end);
+        end = column.put(room, end, word);
         rest = later;
     }
-    Left { columns: rest, end }
+    end
 }
 
 // The text of a value, where it is short enough.

@@ -28,4 +28,4 @@ pub use disassembler::{disassemble, fields_in_order, printed_returns};
 pub use fault::{AsmFault, Mistake};
 pub use pen::Pen;
 pub use place::{FaultPlace, Opcode, Wanted, fault_place};
-pub use printer::Printer;
+pub use printer::{Filled, Printer};

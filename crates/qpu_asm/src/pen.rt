@@ -1,18 +1,14 @@
 //! Text that is written piece by piece, and goes out a room at a time.
 ghost use Rattle.std.specs.Prelude.{◌≡◌, ◌++◌, [], decimal, IfOk, OnOk};
-ghost use Rattle.qpu_asm.specs.Walk.{rows_of, AreColumns};
-ghost use Rattle.qpu_asm.specs.Printed.{rows_text};
+ghost use Rattle.qpu_asm.specs.Printed.{kind_text};
 
-use crate::column::{Column, put_kept};
-use crate::piece::{Piece, make_room, put_number, put_piece, put_text};
+use crate::piece::{make_room, put_number, put_text};
+use crate::sheet::{MOST_WORD, Sheet};
 use std::alloc::{AllocError, Global};
 use std::marker::Model;
 
 /// How many bytes of text are written before they go out.
 const ROOM: usize = 4096;
-
-/// How many columns' texts always fit.
-const MOST_COLUMNS: usize = 256;
 
 /// Writes text piece by piece. A piece costs little: it goes into a room, and what is in the room goes out where it gets full. The
 /// want of memory for what went out is the only error, behind which the text is of no use.
@@ -74,34 +70,14 @@ impl Pen {
         Ok(())
     }
 
-    /// Writes a piece.
+    /// Writes the text of a word.
     #[inline]
-    pub(crate) fn piece(&mut self, piece: &Piece) -> Result<(), AllocError>
-        ensures { OnOk result (self.new ≡ self.old ++ piece.now) }
+    pub(crate) fn word(&mut self, sheet: &Sheet, word: u64) -> Result<(), AllocError>
+        ensures { OnOk result (self.new ≡ self.old ++ kind_text word sheet.now) }
     {
-        self.end = put_piece(&mut self.out, &mut self.room, self.end, piece)?;
+        let at = make_room(&mut self.out, &self.room, self.end, MOST_WORD)?;
+        self.end = sheet.put(&mut self.room, at, word);
         Ok(())
-    }
-
-    /// Writes the items of a word's fields up to the first whose text isn't kept, and says what is left.
-    #[inline]
-    pub(crate) fn kept<'a>(
-        &mut self,
-        columns: &'a [Column],
-        word: u64,
-    ) -> Result<&'a [Column], AllocError>
-        requires { AreColumns columns.now }
-        ensures text { IfOk result (λ left. self.new ++ rows_text (rows_of left.now) word
-            ≡ self.old ++ rows_text (rows_of columns.now) word) }
-        ensures columns { IfOk result (λ left. AreColumns left.now) }
-    {
-        if columns.len() > MOST_COLUMNS {
-            return Ok(columns);
-        }
-        let at = make_room(&mut self.out, &self.room, self.end, 16 * columns.len())?;
-        let left = put_kept(&mut self.room, at, columns, word);
-        self.end = left.end;
-        Ok(left.columns)
     }
 
     /// All that was written.

@@ -46,13 +46,6 @@ impl Piece {
         Some(Piece { bytes, len })
     }
 
-    // Its text.
-    fn text(&self) -> &[u8]
-        ensures { result.now ≡ self.now }
-    {
-        &self.bytes[..self.len]
-    }
-
     /// Puts it behind what a room has, and says where it ends. It is written with all 16 bytes, so that no length has to be known
     /// first.
     #[tactic(auto, using(crate::proofs::Rooms::put_bytes))]
@@ -67,25 +60,6 @@ impl Piece {
         room[at..at + 16].copy_from_slice(&bytes);
         at + self.len
     }
-}
-
-/// Puts a piece behind what a room has, and says where it ends. Where it doesn't fit, all goes out, and the room is empty.
-#[inline]
-pub fn put_piece(
-    out: &mut Vec<u8>,
-    room: &mut [u8],
-    at: usize,
-    piece: &Piece,
-) -> Result<usize, AllocError>
-    requires { at ≤ length room.old }
-    ensures text { IfOk result (λ end. written out.new.items room.new end ≡ written out.old.items room.old at ++ piece.now) }
-    ensures end { IfOk result (λ end. end ≤ length room.new) }
-    ensures long { length room.new ≡ length room.old }
-{
-    if 16 <= room.len() - at {
-        return Ok(piece.put(room, at));
-    }
-    put_text(out, room, at, piece.text())
 }
 
 /// Puts a text behind what a room has, and says where it ends. Where it doesn't fit, all goes out, and the room is empty.
@@ -146,12 +120,12 @@ pub fn put_number(
     Ok(put_digits(room, at, number))
 }
 
-// Puts a number in decimal with 20 bytes, which are as many as it can have, so that their count has not to be known first.
+/// Puts a number in decimal with 20 bytes, which are as many as it can have, so that their count has not to be known first.
 #[inline]
-fn put_digits(room: &mut [u8], at: usize, number: u64) -> usize
+pub fn put_digits(room: &mut [u8], at: usize, number: u64) -> usize
     requires { at + 20 ≤ length room.old }
     ensures text { take result room.new ≡ take at room.old ++ decimal number }
-    ensures end { result ≤ length room.new }
+    ensures end { result ≤ at + 20 }
     ensures long { length room.new ≡ length room.old }
 {
     let mut digits = [0; 40];
@@ -160,11 +134,12 @@ fn put_digits(room: &mut [u8], at: usize, number: u64) -> usize
     at + 20 - start
 }
 
+/// Puts a text behind what a room has, and says where it ends.
 #[inline]
-fn put_within(room: &mut [u8], at: usize, text: &[u8]) -> usize
+pub fn put_within(room: &mut [u8], at: usize, text: &[u8]) -> usize
     requires { at + length text.now ≤ length room.old }
     ensures text { take result room.new ≡ take at room.old ++ text.now }
-    ensures end { result ≤ length room.new }
+    ensures end { result ≡ at + length text.now }
     ensures long { length room.new ≡ length room.old }
 {
     room[at..at + text.len()].copy_from_slice(text);

@@ -1,8 +1,10 @@
 //! The text of instruction words.
-ghost use Rattle.std.specs.Prelude.{◌≡◌, ◌++◌, OnOk};
-ghost use Rattle.qpu_asm.specs.{Printed.word_text, Printed.line_text};
+ghost use Rattle.std.specs.Prelude.{◌≡◌, ◌≤◌, ◌<◌, ◌+◌, ◌++◌, length, take, OnOk};
+ghost use Rattle.qpu_asm.specs.{Printed.word_text, Printed.line_text, Printed.AsmText};
 
 use crate::pen::Pen;
+use crate::piece::put_within;
+use crate::sheet::MOST_WORD;
 use crate::sheets::Sheets;
 use std::alloc::{AllocError, Global};
 use std::marker::Model;
@@ -11,6 +13,16 @@ use std::marker::Model;
 fn kept(words: usize) -> usize {
     if words < 512 { 0 } else { 64 }
 }
+
+/// A room that was filled: how many bytes it has of the text, and the words whose text is still to come.
+#[derive(Clone, Copy)]
+pub struct Filled<'a> {
+    pub rest: &'a [u64],
+    pub len: usize,
+}
+
+/// How many bytes the line of a word has at most.
+const MOST_LINE: usize = MOST_WORD + 1;
 
 /// Writes words as text. The texts of their fields are kept, so it is made once for many words.
 #[derive(Drop)]
@@ -42,7 +54,39 @@ impl Printer {
     pub fn text(&self, pen: &mut Pen, word: u64) -> Result<(), AllocError>
         ensures { OnOk result (pen.new ≡ pen.old ++ word_text word) }
     {
-        self.sheets.sheet(word).put(pen, word)
+        pen.word(self.sheets.sheet(word), word)
+    }
+
+    // Puts the line of a word behind what a room has, and says where it ends.
+    #[tactic(auto, unfolding(crate::specs::Printed::word_text, crate::specs::Printed::line_text))]
+    fn put_line(&self, room: &mut [u8], at: usize, word: u64) -> usize
+        requires { at + 557 ≤ length room.old }
+        ensures text { take result room.new ≡ take at room.old ++ line_text word }
+        ensures end { result ≤ at + 557 }
+        ensures long { length room.new ≡ length room.old }
+    {
+        let end = self.sheets.sheet(word).put(room, at, word);
+        put_within(room, end, b"\n")
+    }
+
+    /// Puts as many lines of words into a room as surely fit. It takes no memory.
+    pub fn put_lines<'a>(&self, words: &'a [u64], room: &mut [u8]) -> Filled<'a>
+        requires { 557 ≤ length room.old }
+        ensures text { take result.len room.new ++ AsmText result.rest.now ≡ AsmText words.now }
+        ensures end { result.len ≤ length room.new }
+        ensures long { length room.new ≡ length room.old }
+        ensures more { 0 < length words.now → length result.rest.now < length words.now }
+    {
+        let mut rest = words;
+        let mut len = 0;
+        while let Some((word, later)) = rest.split_first() {
+            if room.len() - len < MOST_LINE {
+                break;
+            }
+            len = self.put_line(room, len, *word);
+            rest = later;
+        }
+        Filled { rest, len }
     }
 
     /// Writes the line of a word. Want of memory is its only error.

@@ -1,14 +1,13 @@
 //! The kinds of instructions with the texts of their fields, which are written once for many words.
-ghost use Rattle.std.specs.Prelude.{◌≡◌, ◌≤◌, ◌++◌, length, true, IfOk, OnOk};
+ghost use Rattle.std.specs.Prelude.{◌≡◌, ◌≤◌, ◌+◌, ◌++◌, length, take, true, IfOk};
 ghost use Rattle.qpu_isa.specs.Fields.{width_of};
 ghost use Rattle.qpu_asm.specs.Table.{widths_of};
-ghost use Rattle.qpu_asm.specs.Walk.{are_ready, placed, rows_of, AreColumns};
-ghost use Rattle.qpu_asm.specs.Printed.{rows_text, kind_text};
+ghost use Rattle.qpu_asm.specs.Walk.{are_ready, placed};
+ghost use Rattle.qpu_asm.specs.Printed.{kind_text};
 ghost use Rattle.qpu_asm.specs.Seen.{rows_seen, kind_seen};
 
-use crate::column::{Column, column_of};
-use crate::field::put_field;
-use crate::pen::Pen;
+use crate::column::{Column, column_of, put_columns};
+use crate::field::MOST_FIELD;
 use crate::piece::Piece;
 use crate::table::{Kind, Row};
 use std::alloc::{AllocError, Global};
@@ -68,6 +67,7 @@ pub fn sheet_of(alloc: Global, kind: Kind, most: usize) -> Result<Sheet, AllocEr
     requires ready { are_ready (rows_seen kind.rows.now) ≡ true }
     requires wide { width_of (widths_of (rows_seen kind.rows.now)) ≤ 64 }
     requires short { length kind.opcode.now ≤ 16 }
+    requires few { length (rows_seen kind.rows.now) ≤ 18 }
     ensures { IfOk result (λ sheet. sheet ≡ kind_seen kind) }
 {
     let columns = columns_of(alloc, kind.rows, most)?;
@@ -78,28 +78,19 @@ pub fn sheet_of(alloc: Global, kind: Kind, most: usize) -> Result<Sheet, AllocEr
     })
 }
 
-// Writes the items of a word's fields that differ from their defaults.
-fn put_fields(pen: &mut Pen, columns: &[Column], word: u64) -> Result<(), AllocError>
-    requires { AreColumns columns.now }
-    ensures { OnOk result (pen.new ≡ pen.old ++ rows_text (rows_of columns.now) word) }
-{
-    let mut rest = columns;
-    while let Some((column, later)) = rest.split_first() {
-        put_field(pen, column.row(), column.value(word))?;
-        rest = later;
-    }
-    Ok(())
-}
+/// How many bytes the text of a word has at most: an opcode, and the texts of 18 fields.
+pub const MOST_WORD: usize = 16 + 18 * MOST_FIELD;
 
 impl Sheet {
-    /// Writes the text of a word of this kind.
+    /// Puts the text of a word of this kind behind what a room has, and says where it ends.
     #[tactic(auto, unfolding(crate::specs::Printed::kind_text))]
-    pub fn put(&self, pen: &mut Pen, word: u64) -> Result<(), AllocError>
-        ensures { OnOk result (pen.new ≡ pen.old ++ kind_text word self.now) }
+    pub fn put(&self, room: &mut [u8], at: usize, word: u64) -> usize
+        requires { at + 556 ≤ length room.old }
+        ensures text { take result room.new ≡ take at room.old ++ kind_text word self.now }
+        ensures end { result ≤ at + 556 }
+        ensures long { length room.new ≡ length room.old }
     {
-        pen.piece(&self.opcode)?;
-        let left = pen.kept(&self.columns, word)?;
-        put_fields(pen, left, word)?;
-        Ok(())
+        let end = self.opcode.put(room, at);
+        put_columns(room, end, &self.columns, word)
     }
 }

@@ -37,3 +37,15 @@ sheet_of-requires-4-clause-wide c = (subst IsReadyKind (sym c.branch.ensures) br
 
 pub sheet_of-requires-4-clause-short : goal.sheet_of-requires-4-clause-short
 sheet_of-requires-4-clause-short c = (subst IsReadyKind (sym c.branch.ensures) branch_ready).short
+
+pub sheet_of-requires-clause-few : goal.sheet_of-requires-clause-few
+sheet_of-requires-clause-few c = (subst IsReadyKind (sym c.nop.ensures) nop_ready).few
+
+pub sheet_of-requires-2-clause-few : goal.sheet_of-requires-2-clause-few
+sheet_of-requires-2-clause-few c = (subst IsReadyKind (sym c.alu.ensures) alu_ready).few
+
+pub sheet_of-requires-3-clause-few : goal.sheet_of-requires-3-clause-few
+sheet_of-requires-3-clause-few c = (subst IsReadyKind (sym c.load_imm.ensures) load_imm_ready).few
+
+pub sheet_of-requires-4-clause-few : goal.sheet_of-requires-4-clause-few
+sheet_of-requires-4-clause-few c = (subst IsReadyKind (sym c.branch.ensures) branch_ready).few
