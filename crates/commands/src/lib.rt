@@ -25,6 +25,7 @@ mod trial;
 mod upgrading;
 mod word_bytes;
 mod word_fault;
+mod word_lines;
 
 pub use cause::Cause;
 pub use program::Checker;

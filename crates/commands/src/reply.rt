@@ -7,14 +7,17 @@ ghost use Rattle.field_words.specs.Sizes.{most_memory};
 ghost use Rattle.dumper.specs.Text.{row_size};
 ghost use Rattle.dumper.specs.Parts.{part_at, part_end, part_text, parts_text, Ascend};
 ghost use Rattle.dumper.specs.Spans.{parts_of};
+ghost use Rattle.qpu_asm.specs.Printed.{AsmText};
 ghost use Rattle.commands.specs.Reply.{rest_text, reply_status, reply_cause, IsReplyReady, AppendsReply, AppendsReplyFront};
 
 use super::answer::{Answer, reply};
 use super::bands::{Conversion, write_bands};
 use super::cause::Cause;
 use super::word_bytes::write_words;
+use super::word_lines::write_lines;
 use dumper::{IMAGE_END, PIECE, Span, put_part};
 use job_io::{Failed, Sink, write_all};
+use qpu_asm::Printer;
 
 /// The image of an accepted file: its text up to the rows, and what its memory has that isn't zero, by ascending place.
 #[derive(Drop)]
@@ -24,14 +27,15 @@ pub struct Image<'a> {
 }
 
 /// A text with its status; the image of an accepted file, whose rows are printed from its spans piece by piece; the picture of the
-/// input in another order, which is printed band by band from the input, and memory for one band; or words, whose bytes are printed a
-/// room at a time. So neither a job's memory nor the text of one or of a picture is ever in memory.
+/// input in another order, which is printed band by band from the input, and memory for one band; or words, whose bytes or
+/// lines are printed a room at a time. So neither a job's memory nor the text of one or of a picture is ever in memory.
 #[derive(Drop)]
 pub enum Reply<'a> {
     Text(Answer),
     Image(Image<'a>),
     Bands(Conversion, Vec<u8>),
     Words(Vec<u64>),
+    Lines(Printer, Vec<u64>),
 }
 
 impl<'a> Reply<'a> {
@@ -41,7 +45,7 @@ impl<'a> Reply<'a> {
     {
         match self {
             Reply::Text(answer) => answer.cause,
-            Reply::Image(..) | Reply::Bands(..) | Reply::Words(..) => None,
+            Reply::Image(..) | Reply::Bands(..) | Reply::Words(..) | Reply::Lines(..) => None,
         }
     }
 }
@@ -117,6 +121,22 @@ fn write_image<K: Sink>(sink: &mut K, head: &[u8], spans: &[Span]) -> Result<(),
     write_rest(sink, spans)
 }
 
+// Writes the lines of words, and says that it is done; or 4 where the sink failed. It takes no memory.
+fn print_lines<K: Sink>(sink: &mut K, printer: &Printer, words: &[u64]) -> u8
+    ensures status { result ≢ 4 → result ≡ 0 }
+    ensures failing { result ≤ 4 }
+    ensures written { result ≢ 4 → Appends (K.held sink.old) (K.held sink.new) (AsmText words.now) }
+    ensures cut { result ≡ 4 → AppendsFront (K.held sink.old) (K.held sink.new) (AsmText words.now) }
+    ensures failed { result ≡ 4 → Rose (K.faults sink.old) (K.faults sink.new) }
+    ensures last { result ≡ 4 → LastCallFailed K.held K.faults sink.old sink.new }
+    ensures steady { result ≢ 4 → K.faults sink.new ≡ K.faults sink.old }
+{
+    match write_lines(sink, printer, words) {
+        Ok(()) => 0,
+        Err(Failed) => 4,
+    }
+}
+
 /// Writes all of a reply to these bytes, and says its status; or 4 where the sink failed, which then has a front of the text, where
 /// it still tells. It takes no memory.
 pub fn print<K: Sink>(sink: &mut K, given: Reply, bytes: &[u8]) -> u8
@@ -135,6 +155,7 @@ pub fn print<K: Sink>(sink: &mut K, given: Reply, bytes: &[u8]) -> u8
         Reply::Image(image) => write_image(sink, &image.head, &image.spans),
         Reply::Bands(conversion, mut band) => write_bands(sink, conversion, bytes, &mut band),
         Reply::Words(words) => write_words(sink, &words),
+        Reply::Lines(printer, words) => return print_lines(sink, &printer, &words),
     };
     match written {
         Ok(()) => 0,

@@ -19,7 +19,7 @@ use super::pictures::{level_answer, picture_reply};
 use super::replayed::{replay_answer, trial_answer};
 use super::reply::{Reply, print};
 use super::scripts::{queue_answer, session_answer, slots_answer};
-use super::shader_text::{asm_reply, disasm_answer};
+use super::shader_text::{asm_reply, disasm_reply};
 use super::shown::{make_answer, show_answer};
 use super::upgrading::upgrade_answer;
 use entry::Ended;
@@ -48,7 +48,7 @@ fn answer_to(alloc: Global, command: Command, bytes: &[u8]) -> Result<Reply<'_>,
         Command::Show => show_answer(alloc, bytes),
         Command::FromText => make_answer(alloc, bytes),
         Command::Asm => return asm_reply(alloc, bytes),
-        Command::Disasm => disasm_answer(alloc, bytes),
+        Command::Disasm => return disasm_reply(alloc, bytes),
         Command::Shader => shader_answer(alloc, bytes),
         Command::ShaderText => shader_text_answer(alloc, bytes),
         Command::Slots(slots) => slots_answer(alloc, slots, bytes),

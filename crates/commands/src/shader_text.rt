@@ -11,7 +11,7 @@ use super::cause::Cause;
 use super::reply::Reply;
 use field_words::{NoMemory, Stop};
 use job_check::words_of;
-use qpu_asm::{AsmFault, assemble, disassemble, fault_place};
+use qpu_asm::{AsmFault, Printer, assemble, fault_place};
 use std::alloc::{AllocError, Global};
 
 /// A line for the first fault of a text.
@@ -52,17 +52,19 @@ pub fn asm_reply(alloc: Global, text: &[u8]) -> Result<Reply<'_>, NoMemory>
 }
 
 /// What `disasm` answers to bytes: the text of their words, or their length where it is no multiple of 8.
-pub fn disasm_answer(alloc: Global, bytes: &[u8]) -> Result<Answer, NoMemory>
+pub fn disasm_reply(alloc: Global, bytes: &[u8]) -> Result<Reply<'_>, NoMemory>
     requires { length bytes.now ≤ most_list }
-    ensures answers { IfOk result (λ a. IsDisasmAnswer bytes.now a.status a.text.items) }
-    ensures status { IfOk result (λ a. a.status < 2) }
-    ensures cause { IfOk result (λ a. a.cause ≡ part_cause (length bytes.now)) }
+    ensures answers { IfOk result (IsReplyOf (IsDisasmAnswer bytes.now) bytes.now) }
+    ensures status { IfOk result (λ a. reply_status a < 2) }
+    ensures ready { IfOk result (IsReplyReady bytes.now) }
+    ensures cause { IfOk result (λ a. reply_cause a ≡ part_cause (length bytes.now)) }
 {
     if bytes.len() % 8 != 0 {
         let text = length_text(alloc, bytes.len())?;
-        return Ok(Answer::refused(text, Some(Cause::Part(bytes.len() as u64))));
+        let cause = Cause::Part(bytes.len() as u64);
+        return Ok(Reply::Text(Answer::refused(text, Some(cause))));
     }
     let words = words_of(alloc, bytes)?;
-    let text = disassemble(alloc, &words)?;
-    Ok(Answer::done(text))
+    let printer = Printer::new(alloc, words.len())?;
+    Ok(Reply::Lines(printer, words))
 }
