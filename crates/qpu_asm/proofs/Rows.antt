@@ -6,7 +6,7 @@ use Rattle.std.specs.List.{list_all}
 use Rattle.qpu_isa.specs.Fields.{width_of, values_of}
 use Rattle.qpu_asm.specs.{declared.table.Row.Row, Table.widths_of, Table.alu_kind, Table.load_imm_kind, Table.branch_kind, Table.nop_kind}
 use Rattle.qpu_asm.specs.{Walk.is_short, Walk.is_ready, Walk.are_ready, Walk.is_part, Walk.lacks, Walk.field_text, Printed.item_texts, Printed.spaced, Printed.rows_text}
-use Rattle.qpu_asm.specs.Walk.{Placed, rows_of, placed, AreColumns}
+use Rattle.qpu_asm.specs.{Walk.Placed, Walk.rows_of, Walk.placed, Walk.AreColumns, Lines.is_full}
 use Rattle.qpu_asm.specs.Seen.{row_seen, rows_seen}
 use Rattle.qpu_asm.specs.Printed.{name_of}
 use Rattle.qpu_asm.specs.Table as table
@@ -171,19 +171,19 @@ pub record IsReadyKind (kind : table.Kind) : Type 0 where
   pub few : length kind.rows ≤ 18
 
 pub nop_ready : IsReadyKind nop_kind
-unfolding are_ready is_ready is_short is_part lacks width_of
+unfolding are_ready is_ready is_short is_part is_full lacks width_of
 nop_ready = record { ready = refl; wide = lit≤ tt; short = lit≤ tt; few = lit≤ tt }
 
 pub alu_ready : IsReadyKind alu_kind
-unfolding are_ready is_ready is_short is_part lacks width_of
+unfolding are_ready is_ready is_short is_part is_full lacks width_of
 alu_ready = record { ready = refl; wide = lit≤ tt; short = lit≤ tt; few = lit≤ tt }
 
 pub load_imm_ready : IsReadyKind load_imm_kind
-unfolding are_ready is_ready is_short is_part lacks width_of
+unfolding are_ready is_ready is_short is_part is_full lacks width_of
 load_imm_ready = record { ready = refl; wide = lit≤ tt; short = lit≤ tt; few = lit≤ tt }
 
 pub branch_ready : IsReadyKind branch_kind
-unfolding are_ready is_ready is_short is_part lacks width_of
+unfolding are_ready is_ready is_short is_part is_full lacks width_of
 branch_ready = record { ready = refl; wide = lit≤ tt; short = lit≤ tt; few = lit≤ tt }
 
 pub row_below : (row : table.Row) → RowFacts row → row.below ≤ 2 ^ 32

@@ -33,7 +33,7 @@ full_equals (byte ∷ bytes) = refl
 item_parts : (name text : List ℕ) → is_part name ≡ true → IsItemOf ((name ++ 61 ∷ []) ++ text) name text
 unfolding is_part has_value
 item_parts name text test =
-    let parts = and_parts (lacks 61 name) (lacks 32 name && lacks 10 name) test in
+    let parts = and_parts (lacks 61 name) (lacks 32 name && lacks 10 name) (and_parts (is_full name) (lacks 61 name && (lacks 32 name && lacks 10 name)) test).1 in
     let ends = and_parts (lacks 32 name) (lacks 10 name) parts.1 in
     let spaces = with_equals 32 name refl ends.0 in
     let line = ahead 10 (name ++ 61 ∷ []) text (with_equals 10 name refl ends.1) in
@@ -235,7 +235,7 @@ place_value spots index at value name text row later room named read =
 
 -- each name of a row parts no item
 pub name_part : (named : Bool) (at : ℕ) (row : Row) (later : List Row) → IsOpen at (row ∷ later) → is_part (if named then row.name else codes "to") ≡ true
-unfolding is_part lacks
+unfolding is_part lacks is_full
 name_part true at row later room = (open_facts at row later room).part
 name_part false at row later room = refl
 
@@ -275,3 +275,12 @@ pub code_read : (spots : Spots) (index : ℕ) (opcode : List ℕ) (kind : Kind) 
     → kind_code spots index items kind ≡ Ok word → code_of spots index opcode items ≡ Ok word
 unfolding code_of
 code_read spots index opcode kind items word is read = ap (option_code spots index items) is ∙ read
+
+full_some : (bytes : List ℕ) → is_full bytes ≡ true → 0 < length bytes
+unfolding is_full
+full_some [] full = absurd (false≢true full)
+full_some (byte ∷ bytes) full = omega arith
+
+pub part_some : (name : List ℕ) → is_part name ≡ true → 0 < length name
+unfolding is_part
+part_some name test = full_some name (and_parts (is_full name) (lacks 61 name && (lacks 32 name && lacks 10 name)) test).0

@@ -30,9 +30,9 @@ lacks mark bytes = list_all (λ byte. not (byte == mark)) bytes
 unfoldable pub IsWord : List ℕ → Type 0
 IsWord bytes = (lacks 32 bytes ≡ true) × (lacks 10 bytes ≡ true)
 
--- a name in which no item ends: without space, line feed and `=`
+-- a name in which no item ends: some bytes, without space, line feed and `=`
 unfoldable pub is_part : List ℕ → Bool
-is_part name = lacks 61 name && (lacks 32 name && lacks 10 name)
+is_part name = is_full name && (lacks 61 name && (lacks 32 name && lacks 10 name))
 
 -- the row's name and its values' names are short
 unfoldable pub is_short : Row → Bool

@@ -1,12 +1,12 @@
 //! An instruction without a mistake, which is read in one walk over its kind's rows. What isn't read here is read by `item`, which says
 //! its mistake.
-ghost use Rattle.std.specs.Prelude.{◌≡◌, ◌≢◌, ◌≤◌, ◌<◌, ◌∷◌, ◌++◌, ◌^◌, [], codes, ℕ, length, take, min, true, false, IfSome, IsTrue, Some, Ok};
+ghost use Rattle.std.specs.Prelude.{◌≡◌, ◌≢◌, ◌≤◌, ◌<◌, ◌∷◌, ◌++◌, ◌^◌, [], codes, ℕ, slice_index, length, take, min, true, false, IfSome, MatchOption, IsTrue, Some, Ok};
 ghost use Rattle.std.specs.Str.{all_ascii_digits};
 ghost use Rattle.script.specs.Lines.{before, behind};
 ghost use Rattle.script.specs.Number.{is_number as number_test, number_of};
 ghost use Rattle.qpu_asm.specs.Items.{Spots, kind_named as kind_by, read_number as number_read, read_plain as plain_read, read_value as value_read};
 ghost use Rattle.qpu_asm.specs.Lines.{words_of};
-ghost use Rattle.qpu_asm.specs.Walk.{kind_code, is_opcode, IsWord, IsBehind, IsAfter, IsOpen, IsPlace, IsStep, AreSteps, IsCoded};
+ghost use Rattle.qpu_asm.specs.Walk.{begins, kind_code, is_opcode, IsWord, IsBehind, IsAfter, IsOpen, IsPlace, IsStep, AreSteps, IsCoded};
 ghost use Rattle.qpu_asm.specs.Seen.{row_seen, rows_seen, kind_seen, spots_in, name_seen};
 
 use crate::item::{append, read_plain, read_value, with_defaults};
@@ -50,9 +50,31 @@ pub struct Coded<'a> {
 
 const TO: &[u8] = b"to";
 
-// The place of the first item, where its row still may come.
-fn find_place<'a>(word: u64, rows: &'static [Row], items: &'a [u8]) -> Option<Place<'a>>
-    requires { IsOpen word (rows_seen rows.now) }
+// What is behind a row's name and its `=`, where items that begin with this byte begin with them.
+#[tactic(auto, using(crate::proofs::Heads::other_first))]
+#[inline]
+fn behind_own<'a>(items: &'a [u8], first: u8, name: &[u8]) -> Option<&'a [u8]>
+    requires some { 0 < length items.now }
+    requires first { slice_index items.now 0 ≡ first }
+    requires named { 0 < length name.now }
+    ensures { MatchOption result (begins 61 items.now name.now ≡ false) (λ text. IsBehind 61 items.now name.now text.now) }
+{
+    if name[0] != first {
+        return None;
+    }
+    behind_name(items, name, b'=')
+}
+
+// The place of the first item, which begins with this byte, where its row still may come.
+fn find_place<'a>(
+    word: u64,
+    rows: &'static [Row],
+    items: &'a [u8],
+    first: u8,
+) -> Option<Place<'a>>
+    requires rows { IsOpen word (rows_seen rows.now) }
+    requires some { 0 < length items.now }
+    requires first { slice_index items.now 0 ≡ first }
     ensures place { IfSome result (λ place. IsPlace word (rows_seen rows.now) (name_seen place) place.word (row_seen place.row.now)
         (rows_seen place.later.now)) }
     ensures cut { IfSome result (λ place. IsBehind 61 items.now (name_seen place) place.text.now) }
@@ -60,7 +82,7 @@ fn find_place<'a>(word: u64, rows: &'static [Row], items: &'a [u8]) -> Option<Pl
     let mut rest = rows;
     let mut word = word;
     while let Some((row, later)) = rest.split_first() {
-        if let Some(text) = behind_name(items, row.name, b'=') {
+        if let Some(text) = behind_own(items, first, row.name) {
             return Some(Place {
                 word,
                 row,
@@ -258,7 +280,8 @@ fn read_step<'a>(
     ensures still { IfSome result (λ step. IsOpen step.word (rows_seen step.later.now)) }
     ensures shorter { IfSome result (λ step. length step.rest.now < length items.now) }
 {
-    let place = find_place(word, rows, items)?;
+    let first = *items.first()?;
+    let place = find_place(word, rows, items, first)?;
     let read = read_placed(labels, index, &place)?;
     Some(Step {
         word: append(place.word, place.row.width, read.value),

@@ -1,11 +1,11 @@
 use Rattle.qpu_asm.specs.{Seen.row_seen}
-use Rattle.qpu_asm.proofs.Steps.{passed_more, place_here, own_row, to_row}
-use Rattle.qpu_asm.proofs.Reading.{default_room, default_narrow, default_small}
+use Rattle.qpu_asm.proofs.Steps.{part_some, passed_more, place_here, own_row, to_row}
+use Rattle.qpu_asm.proofs.Reading.{default_facts, default_room, default_narrow, default_small}
 use Rattle.qpu_asm.proofs.step.find_place.Goals as goal
 
-pub returns-in-Some-behind_name-clause-place : goal.returns-in-Some-behind_name-clause-place
-returns-in-Some-behind_name-clause-place c =
-    place_here _ _ _ _ _ _ _ _ c.in-Some.ensures.cases.0 c.loop-row.invariant c.in-Some-behind_name.ensures.begun (own_row (row_seen c.in-Some.row.now))
+pub returns-in-Some-behind_own-clause-place : goal.returns-in-Some-behind_own-clause-place
+returns-in-Some-behind_own-clause-place c =
+    place_here _ _ _ _ _ _ _ _ c.in-Some.ensures.cases.0 c.loop-row.invariant c.in-Some-behind_own.ensures.begun (own_row (row_seen c.in-Some.row.now))
 
 pub returns-then-row-clause-place : goal.returns-then-row-clause-place
 returns-then-row-clause-place c =
@@ -23,4 +23,8 @@ append-word-requires-clause-small c = default_small _ _ _ _ c.in-Some.ensures.ca
 pub loop-row-preserved : goal.loop-row-preserved
 loop-row-preserved c =
     rw c.append-word.ensures
-    (passed_more _ _ _ _ _ _ _ c.in-Some.ensures.cases.0 c.loop-row.invariant c.in_default-behind_name.ensures c.if-row.false)
+    (passed_more _ _ _ _ _ _ _ c.in-Some.ensures.cases.0 c.loop-row.invariant c.in_default-behind_own.ensures c.if-row.false)
+
+pub behind_own-requires-clause-named : goal.behind_own-requires-clause-named
+behind_own-requires-clause-named c =
+    part_some c.in-Some.row.now.name.now (default_facts _ _ _ _ c.in-Some.ensures.cases.0 c.loop-row.invariant.still).part
