@@ -6,7 +6,7 @@ use Rattle.std.proofs.lemmas.List.{take-append-drop}
 use Rattle.std.proofs.lemmas.List.Folds.{list_all-append}
 use Rattle.std.specs.{Char.is_ascii_digit, Str.all_ascii_digits}
 use Rattle.script.specs.{Lines.before, Lines.behind}
-use Rattle.qpu_asm.specs.{Walk.lacks, Walk.begins, Walk.IsBehind, Walk.is_opcode, Lines.is_full, Lines.is_comment, Lines.ends_label, Lines.words_of, Lines.line_of, Lines.read_line, Lines.Coded}
+use Rattle.qpu_asm.specs.{Walk.lacks, Walk.begins, Walk.IsBehind, Walk.is_opcode, Lines.is_full, Lines.is_comment, Lines.ends_label, Lines.words_of, Lines.line_of, Lines.read_line, Lines.Coded, Labels.size_of}
 use Rattle.qpu_asm.proofs.{Bytes.bytes_same, Words.word_first}
 
 pub cut_name : (mark : ℕ) (name text : List ℕ) → lacks mark name ≡ true → (before mark (name ++ mark ∷ text) ≡ name) × (behind mark (name ++ mark ∷ text) ≡ text)
@@ -96,6 +96,9 @@ text_coded text word rest test is =
       ap (behind 10) whole ∙ cut.1,
     )
 
+pub begun_coded : (text word rest : List ℕ) → is_opcode word ≡ true → IsBehind 32 text word rest → size_of (read_line (before 10 text)) ≡ 1
+begun_coded text word rest test is = ap size_of (text_coded text word rest test is).0
+
 nop_line : read_line (codes "nop") ≡ Coded (codes "nop") (words_of [])
 unfolding read_line line_of words_of is_full is_comment ends_label
 nop_line = refl
@@ -163,3 +166,6 @@ behind_shorter mark (byte ∷ bytes) some = elim (cases_Bool (byte == mark)) [
   | inl same ↦ rw same (omega arith)
   | inr other ↦ rw other (omega (arith, behind_within mark bytes))
 ]
+
+pub begun_nop : (text rest : List ℕ) → IsBehind 10 text (codes "nop") rest → size_of (read_line (before 10 text)) ≡ 1
+begun_nop text rest is = ap size_of (text_nop text rest is).0

@@ -1,6 +1,7 @@
 pub mod Bytes
 pub mod Words
 pub mod Heads
+pub mod LabelLines
 pub mod Rows
 pub mod Rooms
 pub mod Reading

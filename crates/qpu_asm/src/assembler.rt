@@ -1,5 +1,5 @@
 //! A text as words.
-ghost use Rattle.std.specs.Prelude.{◌≡◌, ◌<◌, ◌≤◌, ◌+◌, ◌∷◌, ◌^◌, Ok, length, IfOk, IfErr, vec_len};
+ghost use Rattle.std.specs.Prelude.{◌≡◌, ◌<◌, ◌≤◌, ◌+◌, ◌∷◌, ◌^◌, ℕ, List, Ok, length, IfOk, OnOk, IfErr, vec_len};
 ghost use Rattle.field_words.specs.declared.stop.Stop.TheVariants.{Fault};
 ghost use Rattle.qpu_asm.specs.Labels.{is_before};
 ghost use Rattle.qpu_asm.specs.Faults.{fault_on as fault_by, text_faults, AnswersLeast};
@@ -13,6 +13,7 @@ ghost use Rattle.qpu_asm.specs.Seen.{line_seen, spots_in, line_put};
 use crate::fault::{AsmFault, Mistake};
 use crate::item::read_code;
 use crate::label::{Found, find_labels, find_spot};
+use crate::labelled::read_labelled;
 use crate::lines::{Line, read_line};
 use crate::step::read_coded;
 use field_words::Stop;
@@ -58,6 +59,30 @@ fn put_next<'a>(
         words.push(coded.word)?;
         return Ok(coded.rest);
     }
+    if let Some(labelled) = read_labelled(text) {
+        pass_label(found, labelled.name, number)?;
+        return Ok(labelled.rest);
+    }
+    put_other(words, found, text, number)
+}
+
+// The same for any line.
+#[inline(never)]
+fn put_other<'a>(
+    words: &mut Vec<u64>,
+    found: &Found<'a>,
+    text: &'a [u8],
+    number: u32,
+) -> Result<&'a [u8], Stop<AsmFault>>
+    requires room { vec_len words.old < 2 ^ 32 }
+    requires some { 0 < length text.now }
+    requires first { IsFirstBelow found.now.first_below (spots_in found.now.labels) number (read_line (before 10 text.now)) }
+    ensures words { IfOk result (λ _. line_words (spots_in found.now.labels) number words.old.items (read_line (before 10 text.now)) ≡ Ok words.new.items) }
+    ensures fault { IfErr result (IsFaultOf (line_words (spots_in found.now.labels) number words.old.items (read_line (before 10 text.now)))) }
+    ensures lines { IfOk result (λ rest. lines_of text.now ≡ before 10 text.now ∷ lines_of rest.now) }
+    ensures shorter { IfOk result (λ rest. length rest.now < length text.now) }
+    ensures more { IfOk result (λ _. vec_len words.new ≤ vec_len words.old + 1) }
+{
     let cut = next_line(text);
     put_line(words, found, read_line(cut.first), number)?;
     Ok(cut.rest)
@@ -79,11 +104,7 @@ fn put_line<'a>(
 {
     match line {
         Line::Blank => Ok(()),
-        Line::Label(name) => if stands_before(found, name, number) {
-            Err(fault_on(number, Mistake::LabelTwice))
-        } else {
-            Ok(())
-        },
+        Line::Label(name) => pass_label(found, name, number),
         Line::BadLabel => Err(fault_on(number, Mistake::UnknownWord)),
         Line::Coded(code) => match read_code(&found.labels, words.len() as u32, code) {
             Ok(word) => {
@@ -92,6 +113,20 @@ fn put_line<'a>(
             }
             Err(mistake) => Err(fault_on(number, mistake)),
         },
+    }
+}
+
+// A label is a fault where it stands on an earlier line.
+#[tactic(auto, unfolding(crate::specs::Walk::line_words))]
+fn pass_label<'a>(found: &Found<'a>, name: &'a [u8], number: u32) -> Result<(), Stop<AsmFault>>
+    requires { IsFirstBelow found.now.first_below (spots_in found.now.labels) number (Label name.now) }
+    ensures words { OnOk result ((words : List ℕ) → line_words (spots_in found.now.labels) number words (Label name.now) ≡ Ok words) }
+    ensures fault { (words : List ℕ) → IfErr result (IsFaultOf (line_words (spots_in found.now.labels) number words (Label name.now))) }
+{
+    if stands_before(found, name, number) {
+        Err(fault_on(number, Mistake::LabelTwice))
+    } else {
+        Ok(())
     }
 }
 

@@ -1,11 +1,14 @@
 //! The labels of a text: a mark for each line that defines one, sorted by name.
-ghost use Rattle.std.specs.Prelude.{◌≡◌, ◌<◌, ◌≤◌, ◌^◌, ◌++◌, ◌-◌, ◌/◌, ◌+◌, length, slice_index, slice_range, min, max, vec_len, IfOk, OnOk, Some, None, bytes_eq, if◌then◌else◌};
+ghost use Rattle.std.specs.Prelude.{◌≡◌, ◌<◌, ◌≤◌, ◌^◌, ◌++◌, ◌∷◌, ◌-◌, ◌/◌, ◌+◌, length, slice_index, slice_range, min, max, vec_len, IfOk, OnOk, Some, None, bytes_eq, if◌then◌else◌};
 ghost use Rattle.std.specs.Ordering.{is_lt};
+ghost use Rattle.script.specs.Lines.{before, lines_of};
+ghost use Rattle.qpu_asm.specs.Lines.{Label, read_line as line_read};
 ghost use Rattle.qpu_asm.specs.Labels.{spots_of, labels_of, label_on, read_lines, size_of};
 ghost use Rattle.qpu_asm.specs.Marks.{key_of as key_by, kept_cmp, AreInOrder, AreLesser, IsBucketStart, AreStarts, AreFound, IsKeyed, AreKeyed, AreFirstBelow, BoundsRepeats, IsStart, AreSortedOf};
 ghost use Rattle.qpu_asm.specs.Seen.{line_seen, labels_seen, spots_in};
 
-use crate::lines::{Line, read_line};
+use crate::labelled::read_labelled;
+use crate::lines::{Line, read_line, skip_coded};
 use script::next_line;
 use std::alloc::{AllocError, Global};
 use std::marker::Model;
@@ -79,6 +82,13 @@ fn key_of(bytes: &[u8]) -> u64
     key
 }
 
+/// The lines below a line, and how many indexes it takes.
+#[derive(Clone, Copy)]
+struct Passed<'a> {
+    rest: &'a [u8],
+    size: u64,
+}
+
 /// A text's labels; no line below `first_below` repeats one.
 #[derive(Drop)]
 pub struct Found<'a> {
@@ -139,21 +149,74 @@ fn marks_of(alloc: Global, text: &[u8]) -> Result<Vec<Mark<'_>>, AllocError>
     let mut line: u64 = 1;
     let mut index: u64 = 0;
     while !rest.is_empty() {
-        let cut = next_line(rest);
-        let read = read_line(cut.first);
-        add_line(
+        let passed = pass_line(
             &mut marks,
-            read,
+            rest,
             Spot {
                 line: line as u32,
                 index: index as u32,
             },
         )?;
-        index += size(read);
+        index += passed.size;
         line += 1;
-        rest = cut.rest;
+        rest = passed.rest;
     }
     Ok(marks)
+}
+
+// Puts the mark of a text's first line, where it defines a label, to those of the lines above it.
+fn pass_line<'a>(
+    marks: &mut Vec<Mark<'a>>,
+    text: &'a [u8],
+    spot: Spot,
+) -> Result<Passed<'a>, AllocError>
+    requires some { 0 < length text.now }
+    requires keyed { AreKeyed marks.old.items }
+    ensures keyed { OnOk result (AreKeyed marks.new.items) }
+    ensures few { OnOk result (vec_len marks.new ≤ vec_len marks.old + 1) }
+    ensures labels { OnOk result (
+        labels_seen marks.new.items ≡ labels_seen marks.old.items ++ label_on spot.line spot.index (line_read (before 10 text.now))) }
+    ensures size { IfOk result (λ passed. passed.size ≡ size_of (line_read (before 10 text.now))) }
+    ensures lines { IfOk result (λ passed. lines_of text.now ≡ before 10 text.now ∷ lines_of passed.rest.now) }
+    ensures shorter { IfOk result (λ passed. length passed.rest.now < length text.now) }
+{
+    if let Some(rest) = skip_coded(text) {
+        return Ok(Passed { rest, size: 1 });
+    }
+    if let Some(labelled) = read_labelled(text) {
+        add_mark(marks, labelled.name, spot)?;
+        return Ok(Passed {
+            rest: labelled.rest,
+            size: 0,
+        });
+    }
+    pass_other(marks, text, spot)
+}
+
+// The same for any line.
+#[inline(never)]
+fn pass_other<'a>(
+    marks: &mut Vec<Mark<'a>>,
+    text: &'a [u8],
+    spot: Spot,
+) -> Result<Passed<'a>, AllocError>
+    requires some { 0 < length text.now }
+    requires keyed { AreKeyed marks.old.items }
+    ensures keyed { OnOk result (AreKeyed marks.new.items) }
+    ensures few { OnOk result (vec_len marks.new ≤ vec_len marks.old + 1) }
+    ensures labels { OnOk result (
+        labels_seen marks.new.items ≡ labels_seen marks.old.items ++ label_on spot.line spot.index (line_read (before 10 text.now))) }
+    ensures size { IfOk result (λ passed. passed.size ≡ size_of (line_read (before 10 text.now))) }
+    ensures lines { IfOk result (λ passed. lines_of text.now ≡ before 10 text.now ∷ lines_of passed.rest.now) }
+    ensures shorter { IfOk result (λ passed. length passed.rest.now < length text.now) }
+{
+    let cut = next_line(text);
+    let line = read_line(cut.first);
+    add_line(marks, line, spot)?;
+    Ok(Passed {
+        rest: cut.rest,
+        size: size(line),
+    })
 }
 
 // An instruction's line takes an index.
@@ -166,8 +229,22 @@ fn size(line: Line<'_>) -> u64
     }
 }
 
-// Puts a label's line to the marks of the lines above it.
+// Puts a label's mark to those of the lines above it.
 #[tactic(auto, using(crate::proofs::Sorting::seen_push, crate::proofs::Sorting::keyed_push))]
+fn add_mark<'a>(marks: &mut Vec<Mark<'a>>, name: &'a [u8], spot: Spot) -> Result<(), AllocError>
+    requires keyed { AreKeyed marks.old.items }
+    ensures keyed { OnOk result (AreKeyed marks.new.items) }
+    ensures few { OnOk result (vec_len marks.new ≤ vec_len marks.old + 1) }
+    ensures labels { OnOk result (labels_seen marks.new.items ≡ labels_seen marks.old.items ++ label_on spot.line spot.index (Label name.now)) }
+{
+    marks.push(Mark {
+        name: Name::of(name),
+        spot,
+    })?;
+    Ok(())
+}
+
+// Puts the mark of a line, where it defines a label, to those of the lines above it.
 fn add_line<'a>(marks: &mut Vec<Mark<'a>>, line: Line<'a>, spot: Spot) -> Result<(), AllocError>
     requires keyed { AreKeyed marks.old.items }
     ensures keyed { OnOk result (AreKeyed marks.new.items) }
@@ -176,13 +253,7 @@ fn add_line<'a>(marks: &mut Vec<Mark<'a>>, line: Line<'a>, spot: Spot) -> Result
         labels_seen marks.new.items ≡ labels_seen marks.old.items ++ label_on spot.line spot.index (line_seen line.entry)) }
 {
     match line {
-        Line::Label(name) => {
-            marks.push(Mark {
-                name: Name::of(name),
-                spot,
-            })?;
-            Ok(())
-        }
+        Line::Label(name) => add_mark(marks, name, spot),
         Line::Blank | Line::BadLabel | Line::Coded(_) => Ok(()),
     }
 }

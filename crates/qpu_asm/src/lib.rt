@@ -12,6 +12,7 @@ mod fault;
 mod field;
 mod item;
 mod label;
+mod labelled;
 mod lines;
 mod names;
 mod pen;

@@ -36,7 +36,8 @@ fn name_bytes() -> &'static [bool; 256]
     &NAME_BYTES
 }
 
-fn is_name_part(byte: u8) -> bool
+/// Whether the byte may stand in a name.
+pub fn is_name_part(byte: u8) -> bool
     ensures { result ≡ is_name_byte byte }
 {
     name_bytes()[byte as usize]

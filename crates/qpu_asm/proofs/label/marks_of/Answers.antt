@@ -1,5 +1,6 @@
 use Rattle.std.proofs.{Common.sym, Common.◌∙◌, Common.arith, Common.refl, lemmas.Bool.Decides.nat_tests}
-use Rattle.qpu_asm.specs.{Labels.labels_of, Seen.line_seen}
+use Rattle.script.specs.Lines.{before}
+use Rattle.qpu_asm.specs.{Labels.labels_of, Lines.read_line}
 use Rattle.qpu_asm.proofs.Assembling.{lines_first, labels_step, labels_end, size_low}
 use Rattle.qpu_asm.proofs.Sorting.{none_keyed}
 use Rattle.qpu_asm.proofs.label.marks_of.Goals as goal
@@ -10,12 +11,12 @@ loop-rest-init c = record { lines = omega arith; indexes = omega arith; few = om
 
 pub loop-rest-preserved : goal.loop-rest-preserved
 loop-rest-preserved c = record {
-  lines = omega (arith, c.next_line-cut.ensures.shorter);
-  indexes = omega (arith, size_low (line_seen c.read_line-read.result), c.size-index.ensures);
-  few = omega (arith, c.in_ok-add_line.ensures.few);
-  keyed = c.in_ok-add_line.ensures.keyed;
+  lines = omega (arith, c.in_ok-passed.ensures.shorter);
+  indexes = omega (arith, size_low (read_line (before 10 c.loop-rest.rest.now)), c.in_ok-passed.ensures.size);
+  few = omega (arith, c.in_ok-passed.ensures.few);
+  keyed = c.in_ok-passed.ensures.keyed;
   same =
-      labels_step _ _ _ _ _ _ _ _ (lines_first _ _ _ _ c.next_line-cut.ensures.lines c.read_line-read.ensures) c.size-index.ensures c.in_ok-add_line.ensures.labels
+      labels_step _ _ _ _ _ _ _ _ (lines_first _ _ _ _ c.in_ok-passed.ensures.lines refl) c.in_ok-passed.ensures.size c.in_ok-passed.ensures.labels
       ∙ c.loop-rest.invariant.same;
 }
 
