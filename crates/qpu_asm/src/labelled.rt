@@ -16,6 +16,7 @@ pub struct Labelled<'a> {
 }
 
 // How many bytes of names a text begins with.
+#[inline(never)]
 fn name_end(text: &[u8]) -> usize
     ensures within { result ≤ length text.now }
     ensures name { list_all is_name_byte (take result text.now) ≡ true }
