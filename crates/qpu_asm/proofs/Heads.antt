@@ -68,16 +68,6 @@ words_coded word text test full =
     let cut = cut_name 32 word text test in
     word_first (word ++ 32 ∷ text) word text (omega (arith, length-append word (32 ∷ text))) (first_other word (32 ∷ text) test full) (sym cut.0) (sym cut.1)
 
-pub line_coded : (line word : List ℕ) → is_opcode word ≡ true → begins 32 line word ≡ true
-    → read_line line ≡ Coded word (words_of (drop (length word + 1) line))
-unfolding is_opcode read_line line_of
-line_coded line word test begun =
-    let parts = and_parts (lacks 32 word && lacks 10 word) (is_full word && (not (is_comment word) && not (ends_label word))) test in
-    let full = and_parts (is_full word) (not (is_comment word) && not (ends_label word)) parts.1 in
-    let kinds = and_parts (not (is_comment word)) (not (ends_label word)) full.1 in
-    ap line_of (ap words_of (begun_split 32 line word begun) ∙ words_coded word (drop (length word + 1) line) (and_parts (lacks 32 word) (lacks 10 word) parts.0).0 full.0)
-    ∙ rw (not-true (is_comment word) kinds.0, not-true (ends_label word) kinds.1) refl
-
 -- an instruction that a text begins with
 pub text_coded : (text word rest : List ℕ) → is_opcode word ≡ true → IsBehind 32 text word rest
     → (read_line (before 10 text) ≡ Coded word (words_of (before 10 rest))) × (behind 10 text ≡ behind 10 rest)
@@ -102,9 +92,6 @@ begun_coded text word rest test is = ap size_of (text_coded text word rest test 
 nop_line : read_line (codes "nop") ≡ Coded (codes "nop") (words_of [])
 unfolding read_line line_of words_of is_full is_comment ends_label
 nop_line = refl
-
-pub nop_coded : (line : List ℕ) → bytes_eq line (codes "nop") ≡ true → read_line line ≡ Coded line (words_of [])
-nop_coded line same = rw (bytes_same line (codes "nop") same) nop_line
 
 first_differs : (mark : ℕ) (text name : List ℕ) (inside marked : Bool) → 0 < length text → 0 < length name → (slice_index text 0 ≡ slice_index name 0 → ⊥)
     → (inside && (marked && bytes_eq (take (length name) text) name)) ≡ false

@@ -78,40 +78,6 @@ pub fn behind_name<'a>(text: &'a [u8], name: &[u8], mark: u8) -> Option<&'a [u8]
     }
 }
 
-// The instruction that a line is, where it begins with this opcode and a space.
-fn coded_by<'a>(line: &'a [u8], opcode: &'a [u8]) -> Option<Cut<'a>>
-    requires { is_opcode opcode.now ≡ true }
-    ensures { IfSome result (λ cut. line_read line.now ≡ Coded cut.first.now (words_of cut.rest.now)) }
-{
-    match behind_name(line, opcode, b' ') {
-        Some(rest) => Some(Cut {
-            first: opcode,
-            rest,
-        }),
-        None => None,
-    }
-}
-
-// The instruction that a line is, where it begins with its opcode and a space or is `nop`, as most lines do.
-#[tactic(auto, unfolding(crate::specs::Walk::is_opcode, crate::specs::Walk::lacks, crate::specs::Lines::is_full, crate::specs::Lines::is_comment, crate::specs::Lines::ends_label))]
-fn coded(line: &[u8]) -> Option<Cut<'_>>
-    ensures { IfSome result (λ cut. line_read line.now ≡ Coded cut.first.now (words_of cut.rest.now)) }
-{
-    if let Some(cut) = coded_by(line, ALU) {
-        return Some(cut);
-    }
-    if line == NOP {
-        return Some(Cut {
-            first: line,
-            rest: &[],
-        });
-    }
-    if let Some(cut) = coded_by(line, LOAD_IMM) {
-        return Some(cut);
-    }
-    coded_by(line, BRANCH)
-}
-
 // Whether a text begins with this opcode and a space.
 fn begins_by(text: &[u8], opcode: &[u8]) -> bool
     requires { is_opcode opcode.now ≡ true }
@@ -151,19 +117,8 @@ pub fn skip_coded(text: &[u8]) -> Option<&[u8]>
 }
 
 /// Reads a line as far as its first word tells what it is.
-#[inline]
-pub fn read_line(line: &[u8]) -> Line<'_>
-    ensures { line_seen result ≡ line_read line.now }
-{
-    match coded(line) {
-        Some(cut) => Line::Coded(cut),
-        None => read_other(line),
-    }
-}
-
 #[tactic(auto, unfolding(crate::specs::Lines::read_line, crate::specs::Lines::line_of))]
-#[inline(never)]
-fn read_other(line: &[u8]) -> Line<'_>
+pub fn read_line(line: &[u8]) -> Line<'_>
     ensures { line_seen result ≡ line_read line.now }
 {
     match next_word(line) {
