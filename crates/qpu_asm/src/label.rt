@@ -1,4 +1,4 @@
-//! The labels of a text: a mark for each line that defines one, sorted by name.
+//! The labels of a text: a mark for each line that defines one, sorted by the key of its name and then by the name.
 ghost use Rattle.std.specs.Prelude.{◌≡◌, ◌<◌, ◌≤◌, ◌^◌, ◌++◌, ◌∷◌, ◌-◌, ◌/◌, ◌+◌, length, slice_index, slice_range, min, max, vec_len, IfOk, OnOk, Some, None, bytes_eq, if◌then◌else◌};
 ghost use Rattle.std.specs.Ordering.{is_lt};
 ghost use Rattle.script.specs.Lines.{before, lines_of};

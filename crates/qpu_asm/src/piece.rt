@@ -46,8 +46,7 @@ impl Piece {
         Some(Piece { bytes, len })
     }
 
-    /// Puts it behind what a room has, and says where it ends. It is written with all 16 bytes, so that no length has to be known
-    /// first.
+    /// Puts it behind what a room has, and says where it ends. It is written with all 16 bytes, so no length has to be known first.
     #[tactic(auto, using(crate::proofs::Rooms::put_bytes))]
     #[inline]
     pub fn put(&self, room: &mut [u8], at: usize) -> usize
@@ -120,7 +119,7 @@ pub fn put_number(
     Ok(put_digits(room, at, number))
 }
 
-/// Puts a number in decimal with 20 bytes, which are as many as it can have, so that their count has not to be known first.
+/// Puts a number in decimal with 20 bytes, as many as it can have, so their count needn't be known first.
 #[inline]
 pub fn put_digits(room: &mut [u8], at: usize, number: u64) -> usize
     requires { at + 20 ≤ length room.old }

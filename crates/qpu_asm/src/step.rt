@@ -66,12 +66,7 @@ fn behind_own<'a>(items: &'a [u8], first: u8, name: &[u8]) -> Option<&'a [u8]>
 }
 
 // The place of the first item, which begins with this byte, where its row still may come.
-fn find_place<'a>(
-    word: u64,
-    rows: &'static [Row],
-    items: &'a [u8],
-    first: u8,
-) -> Option<Place<'a>>
+fn find_place<'a>(word: u64, rows: &'static [Row], items: &'a [u8], first: u8) -> Option<Place<'a>>
     requires rows { IsOpen word (rows_seen rows.now) }
     requires some { 0 < length items.now }
     requires first { slice_index items.now 0 ≡ first }
