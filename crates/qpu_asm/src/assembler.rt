@@ -8,7 +8,7 @@ ghost use Rattle.qpu_asm.specs.Marks.{IsFirstBelow};
 ghost use Rattle.script.specs.Lines.{before, lines_of};
 ghost use Rattle.qpu_asm.specs.Lines.{Label, read_line};
 ghost use Rattle.qpu_asm.specs.Walk.{line_words};
-ghost use Rattle.qpu_asm.specs.Seen.{line_seen, spots_in, line_put};
+ghost use Rattle.qpu_asm.specs.Seen.{line_seen, spots_in, line_put, first_put};
 
 use crate::fault::{AsmFault, Mistake};
 use crate::item::read_code;
@@ -49,8 +49,8 @@ fn put_next<'a>(
     requires room { vec_len words.old < 2 ^ 32 }
     requires some { 0 < length text.now }
     requires first { IsFirstBelow found.now.first_below (spots_in found.now.labels) number (read_line (before 10 text.now)) }
-    ensures words { IfOk result (λ _. line_words (spots_in found.now.labels) number words.old.items (read_line (before 10 text.now)) ≡ Ok words.new.items) }
-    ensures fault { IfErr result (IsFaultOf (line_words (spots_in found.now.labels) number words.old.items (read_line (before 10 text.now)))) }
+    ensures words { IfOk result (λ _. first_put found.now.labels number words.old.items text.now ≡ Ok words.new.items) }
+    ensures fault { IfErr result (IsFaultOf (first_put found.now.labels number words.old.items text.now)) }
     ensures lines { IfOk result (λ rest. lines_of text.now ≡ before 10 text.now ∷ lines_of rest.now) }
     ensures shorter { IfOk result (λ rest. length rest.now < length text.now) }
     ensures more { IfOk result (λ _. vec_len words.new ≤ vec_len words.old + 1) }
@@ -77,8 +77,8 @@ fn put_other<'a>(
     requires room { vec_len words.old < 2 ^ 32 }
     requires some { 0 < length text.now }
     requires first { IsFirstBelow found.now.first_below (spots_in found.now.labels) number (read_line (before 10 text.now)) }
-    ensures words { IfOk result (λ _. line_words (spots_in found.now.labels) number words.old.items (read_line (before 10 text.now)) ≡ Ok words.new.items) }
-    ensures fault { IfErr result (IsFaultOf (line_words (spots_in found.now.labels) number words.old.items (read_line (before 10 text.now)))) }
+    ensures words { IfOk result (λ _. first_put found.now.labels number words.old.items text.now ≡ Ok words.new.items) }
+    ensures fault { IfErr result (IsFaultOf (first_put found.now.labels number words.old.items text.now)) }
     ensures lines { IfOk result (λ rest. lines_of text.now ≡ before 10 text.now ∷ lines_of rest.now) }
     ensures shorter { IfOk result (λ rest. length rest.now < length text.now) }
     ensures more { IfOk result (λ _. vec_len words.new ≤ vec_len words.old + 1) }

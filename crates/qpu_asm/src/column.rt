@@ -58,7 +58,8 @@ impl Column {
         requires fits { at + 30 ≤ length room.old }
         requires inside { self.now.low < 64 }
         requires ready { is_ready self.now.row ≡ true }
-        ensures text { take result room.new ≡ take at room.old ++ field_text self.now.row (word / 2 ^ self.now.low % 2 ^ self.now.row.width) }
+        ensures text { take result room.new
+            ≡ take at room.old ++ field_text self.now.row (word / 2 ^ self.now.low % 2 ^ self.now.row.width) }
         ensures end { result ≤ at + 30 }
         ensures long { length room.new ≡ length room.old }
     {

@@ -235,7 +235,8 @@ fn add_mark<'a>(marks: &mut Vec<Mark<'a>>, name: &'a [u8], spot: Spot) -> Result
     requires keyed { AreKeyed marks.old.items }
     ensures keyed { OnOk result (AreKeyed marks.new.items) }
     ensures few { OnOk result (vec_len marks.new ≤ vec_len marks.old + 1) }
-    ensures labels { OnOk result (labels_seen marks.new.items ≡ labels_seen marks.old.items ++ label_on spot.line spot.index (Label name.now)) }
+    ensures labels { OnOk result (
+        labels_seen marks.new.items ≡ labels_seen marks.old.items ++ label_on spot.line spot.index (Label name.now)) }
 {
     marks.push(Mark {
         name: Name::of(name),

@@ -227,8 +227,8 @@ fn read_own<'a>(row: &Row, text: &'a [u8]) -> Option<Value<'a>>
 // The value that a `to` has.
 fn read_to<'a>(labels: &Labels<'a>, index: u32, row: &Row, text: &'a [u8]) -> Option<Value<'a>>
     requires { row.now.below ≤ 2 ^ 32 }
-    ensures value { IfSome result (λ read. value_read (spots_in labels.now) index (codes "to") (before 32 (before 10 text.now)) (row_seen row.now)
-        ≡ Ok read.value) }
+    ensures value { IfSome result (λ read. value_read (spots_in labels.now) index (codes "to") (before 32 (before 10 text.now))
+        (row_seen row.now) ≡ Ok read.value) }
     ensures after { IfSome result (λ read. IsAfter text.now read.rest.now) }
 {
     let cut = first_word(text)?;
@@ -267,8 +267,8 @@ fn read_step<'a>(
     items: &'a [u8],
 ) -> Option<Step<'a>>
     requires { IsOpen word (rows_seen rows.now) }
-    ensures step { IfSome result (λ step. IsStep (spots_in labels.now) index word (rows_seen rows.now) (before 32 (before 10 items.now)) step.word
-        (rows_seen step.later.now)) }
+    ensures step { IfSome result (λ step. IsStep (spots_in labels.now) index word (rows_seen rows.now) (before 32 (before 10 items.now))
+        step.word (rows_seen step.later.now)) }
     ensures words { IfSome result (λ step. words_of (before 10 items.now)
         ≡ before 32 (before 10 items.now) ∷ words_of (before 10 step.rest.now)) }
     ensures others { IfSome result (λ step. behind 10 items.now ≡ behind 10 step.rest.now) }
@@ -294,8 +294,8 @@ fn read_steps<'a>(
     items: &'a [u8],
 ) -> Option<Step<'a>>
     requires { IsOpen word (rows_seen rows.now) }
-    ensures steps { IfSome result (λ step. AreSteps (spots_in labels.now) index word (rows_seen rows.now) (words_of (before 10 items.now)) step.word
-        (rows_seen step.later.now)) }
+    ensures steps { IfSome result (λ step. AreSteps (spots_in labels.now) index word (rows_seen rows.now) (words_of (before 10 items.now))
+        step.word (rows_seen step.later.now)) }
     ensures others { IfSome result (λ step. behind 10 items.now ≡ behind 10 step.rest.now) }
     ensures end { IfSome result (λ step. before 10 step.rest.now ≡ []) }
     ensures still { IfSome result (λ step. IsOpen step.word (rows_seen step.later.now)) }
@@ -323,7 +323,8 @@ fn behind_end(text: &[u8]) -> &[u8]
 #[inline(never)]
 fn read_kind<'a>(labels: &Labels<'a>, index: u32, kind: Kind, items: &'a [u8]) -> Option<Coded<'a>>
     requires { IsOpen kind.above (rows_seen kind.rows.now) }
-    ensures word { IfSome result (λ coded. kind_code (spots_in labels.now) index (words_of (before 10 items.now)) (kind_seen kind) ≡ Ok coded.word) }
+    ensures word { IfSome result (λ coded. kind_code (spots_in labels.now) index (words_of (before 10 items.now)) (kind_seen kind)
+        ≡ Ok coded.word) }
     ensures rest { IfSome result (λ coded. coded.rest.now ≡ behind 10 items.now) }
 {
     let step = read_steps(labels, index, kind.above, kind.rows, items)?;
