@@ -284,3 +284,14 @@ full_some (byte ∷ bytes) full = omega arith
 pub part_some : (name : List ℕ) → is_part name ≡ true → 0 < length name
 unfolding is_part
 part_some name test = full_some name (and_parts (is_full name) (lacks 61 name && (lacks 32 name && lacks 10 name)) test).0
+
+-- a number of one digit
+pub digit_read : (below : ℕ) (text others rest : List ℕ) (value : ℕ) → 0 < length text → is_ascii_digit (slice_index text 0) ≡ true → others ≡ drop 1 text
+    → before 32 (before 10 others) ≡ [] → IsAfter others rest → value ≡ slice_index text 0 - 48 → value < below
+    → (read_number below (before 32 (before 10 text)) ≡ Ok value) × IsAfter text rest
+unfolding is_number number_after
+digit_read below [] others rest value some digit is none after same under = absurd (omega arith)
+digit_read below (byte ∷ bytes) others rest value some digit is none after same under =
+    let all : all_ascii_digits (byte ∷ []) ≡ true = and_from (is_ascii_digit byte) true digit refl in
+    let taken = word_taken (byte ∷ bytes) 1 others rest (digits_word (byte ∷ []) all) is none after in
+    (ap (read_number below) taken.0 ∙ read_whole below (byte ∷ []) value all (omega (arith, same, under)) under, taken.1)

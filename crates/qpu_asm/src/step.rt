@@ -161,13 +161,34 @@ fn is_end(text: &[u8]) -> bool
     text.is_empty() || text[0] == b'\n'
 }
 
-// The number that a text begins with, below a limit.
+// The number of one digit that a text begins with, below a limit.
+#[tactic(auto, unfolding(crate::specs::Items::read_number))]
+fn read_digit(text: &[u8], below: u64) -> Option<Value<'_>>
+    ensures value { IfSome result (λ read. number_read below (before 32 (before 10 text.now)) ≡ Ok read.value) }
+    ensures after { IfSome result (λ read. IsAfter text.now read.rest.now) }
+{
+    if text.is_empty() || !text[0].is_ascii_digit() {
+        return None;
+    }
+    let rest = behind_word(&text[1..])?;
+    let value = (text[0] - b'0') as u64;
+    if value < below {
+        Some(Value { value, rest })
+    } else {
+        None
+    }
+}
+
+// The number that a text begins with, below a limit. Most have one digit.
 #[tactic(auto, unfolding(crate::specs::Items::read_number))]
 fn read_digits(text: &[u8], below: u64) -> Option<Value<'_>>
     requires { below ≤ 2 ^ 32 }
     ensures value { IfSome result (λ read. number_read below (before 32 (before 10 text.now)) ≡ Ok read.value) }
     ensures after { IfSome result (λ read. IsAfter text.now read.rest.now) }
 {
+    if let Some(read) = read_digit(text, below) {
+        return Some(read);
+    }
     let first = first_digits(text, below);
     let (digits, others) = text.split_at(first.count);
     let rest = behind_word(others)?;
