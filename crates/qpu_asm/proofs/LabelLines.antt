@@ -6,7 +6,7 @@ use Rattle.std.proofs.lemmas.List.{drop_all}
 use Rattle.std.proofs.Math.Seq.{take-append_seam, get_or-append_seam}
 use Rattle.std.specs.{List.list_all, Char.is_ascii_alphabetic}
 use Rattle.script.specs.{Lines.before, Lines.behind}
-use Rattle.qpu_asm.specs.{Walk.lacks, Lines.is_full, Lines.is_comment, Lines.ends_label, Lines.words_of, Lines.is_name, Lines.is_name_byte, Lines.label_line, Lines.line_of, Lines.read_line, Lines.Label}
+use Rattle.qpu_asm.specs.{Walk.IsWord, Walk.lacks, Lines.is_full, Lines.is_comment, Lines.ends_label, Lines.words_of, Lines.is_name, Lines.is_name_byte, Lines.label_line, Lines.line_of, Lines.read_line, Lines.Label}
 use Rattle.qpu_asm.proofs.{Heads.ahead, Heads.lacks_append, Heads.first_other, Words.word_first}
 
 other_byte : (mark byte : ℕ) → is_name_byte mark ≡ false → is_name_byte byte ≡ true → not (byte == mark) ≡ true
@@ -124,3 +124,8 @@ unfolding before behind words_of is_full
 blank_none text i over =
     let e : drop i text ≡ [] = drop_all i text over in
     (ap (λ t. words_of (before 10 t)) e, ap (behind 10) e)
+
+-- bytes of names end at a space and at a line's end
+pub name_word : (name : List ℕ) → list_all is_name_byte name ≡ true → IsWord name
+unfolding IsWord
+name_word name all = (names_lack 32 name space_none all, names_lack 10 name end_none all)

@@ -5,6 +5,7 @@ pub mod LabelLines
 pub mod Rows
 pub mod Rooms
 pub mod Reading
+pub mod Forms
 pub mod Steps
 pub mod Placing
 pub mod Faults

@@ -13,7 +13,7 @@ use Rattle.qpu_asm.specs.declared.table.Row as code
 use Rattle.qpu_asm.proofs.Rows.{RowFacts, row_facts, ready_parts, none_left}
 
 -- the room for a row's field and those after it
-room_parts : (word : ℕ) (row : Row) (rows : List Row) → IsOpen word (row ∷ rows) → (word + 1) * 2 ^ row.width * 2 ^ width_of (widths_of rows) ≤ 2 ^ 64
+pub room_parts : (word : ℕ) (row : Row) (rows : List Row) → IsOpen word (row ∷ rows) → (word + 1) * 2 ^ row.width * 2 ^ width_of (widths_of rows) ≤ 2 ^ 64
 unfolding width_of
 room_parts word row rows o =
     subst (λ n. n ≤ 2 ^ 64) (ap (λ n. (word + 1) * n) (pow-add 2 row.width (width_of (widths_of rows))) ∙ sym (mul_assoc (word + 1) (2 ^ row.width) (2 ^ width_of (widths_of rows)))) o.room

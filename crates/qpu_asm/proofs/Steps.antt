@@ -1,5 +1,5 @@
 -- An item that is read in one walk.
-use Rattle.std.proofs.Common.{◌≡◌, ℕ, zero, suc, get_or, ◌+◌, ◌-◌, ◌*◌, ◌^◌, ◌<◌, ◌||◌, codes, Bool, true, false, not, ◌==◌, ◌&&◌, List, [], ◌∷◌, ◌++◌, length, take, drop, slice_index, refl, sym, ◌∙◌, ap, subst, arith, min, append-nil, append_assoc, ne_eqb, ◌≢◌, map, le_refl, None, Some, Ok, IfOk, lt-ltb, ltb-true, nat_lt, bytes_eq, add-one, inl, inr, Option, Result, length-append, if◌then◌else◌}
+use Rattle.std.proofs.Common.{◌≡◌, ℕ, zero, suc, get_or, ◌+◌, ◌-◌, ◌*◌, ◌^◌, ◌<◌, ◌≤◌, ◌||◌, codes, Bool, true, false, not, ◌==◌, ◌&&◌, List, [], ◌∷◌, ◌++◌, length, take, drop, slice_index, refl, sym, ◌∙◌, ap, subst, arith, min, append-nil, append_assoc, ne_eqb, ◌≢◌, map, le_refl, None, Some, Ok, IfOk, lt-ltb, ltb-true, nat_lt, bytes_eq, add-one, inl, inr, Option, Result, length-append, if◌then◌else◌}
 use Rattle.std.proofs.lemmas.Bool.{and_parts, and_from, false≢true, cases_Bool}
 use Rattle.std.proofs.lemmas.List.{take-append-drop, length-drop}
 use Rattle.std.proofs.{lemmas.List.Folds.list_all_more}
@@ -7,9 +7,9 @@ use Rattle.std.specs.{Char.is_ascii_digit, Str.all_ascii_digits}
 use Rattle.qpu_isa.specs.Fields.{joined}
 use Rattle.script.specs.{Lines.before, Lines.behind, Number.is_number, Number.number_of, Number.number_after}
 use Rattle.qpu_asm.specs.declared.{fault.Mistake.Mistake}
-use Rattle.qpu_asm.specs.{Walk.lacks, Walk.is_part, Walk.begins, Walk.IsBehind, Walk.IsAfter, Walk.IsWord, Walk.IsOpen, Walk.skip_to, Walk.IsPlace, Walk.IsStep, Walk.AreSteps, Walk.read_items, Walk.code_of, Walk.option_code, Walk.kind_code, Walk.closed_word, Lines.words_of, Lines.is_full, Walk.read_item, Walk.read_named, Items.Spots, Items.read_number, Items.read_plain, Items.read_value, Items.find_named, Items.or_number, Items.has_value, Items.is_row, Items.has_row, Items.kind_named, Table.Row, Table.Kind, Table.nop_kind, Table.widths_of, Table.fallbacks_of, Seen.row_seen, Seen.rows_seen, Seen.named_seen}
+use Rattle.qpu_asm.specs.{Walk.lacks, Walk.is_part, Walk.begins, Walk.IsBehind, Walk.IsAfter, Walk.IsWord, Walk.IsOpen, Walk.skip_to, Walk.with_value, Walk.IsPlace, Walk.IsStep, Walk.AreSteps, Walk.read_items, Walk.code_of, Walk.option_code, Walk.kind_code, Walk.closed_word, Lines.words_of, Lines.is_full, Walk.read_item, Walk.read_named, Items.Spots, Items.read_number, Items.read_plain, Items.read_value, Items.find_named, Items.or_number, Items.has_value, Items.is_row, Items.has_row, Items.kind_named, Table.Row, Table.Kind, Table.nop_kind, Table.widths_of, Table.fallbacks_of, Seen.row_seen, Seen.rows_seen, Seen.named_seen}
 use Rattle.qpu_asm.specs.declared.table.Row as code
-use Rattle.qpu_asm.proofs.{Heads.cut_name, Heads.begun_split, Heads.ahead, Heads.lacks_append, Heads.digits_lack, Heads.first_other, Words.word_first, Bytes.bytes_same, Bytes.bytes_itself, Rows.none_left, Reading.value_small, Reading.open_facts, Reading.default_open, Reading.open_first, Reading.skip_passes, Reading.skip_reaches}
+use Rattle.qpu_asm.proofs.{Heads.cut_name, Heads.begun_split, Heads.ahead, Heads.lacks_append, Heads.digits_lack, Heads.first_other, Words.word_first, Bytes.bytes_same, Bytes.bytes_itself, Rows.none_left, Reading.value_small, Reading.open_facts, Reading.open_step}
 
 -- the first item is cut at its `=`, and has the name before it
 pub record IsItemOf (items name text : List ℕ) : Type 0 where
@@ -129,29 +129,29 @@ pub record IsPassed (items : List ℕ) (first : ℕ) (all : List Row) (word : �
 pub passed_none : (items : List ℕ) (word : ℕ) (rows : List Row) → IsOpen word rows → IsPassed items word rows word rows
 passed_none items word rows room = record { still = room; there = λ name begun. refl; same = λ name read fault begun. refl }
 
-pub passed_more : (items : List ℕ) (first : ℕ) (all : List Row) (word : ℕ) (rest later : List code.Row) (row : code.Row) → rest ≡ row ∷ later
-    → IsPassed items first all word (rows_seen rest) → begins 61 items row.name.now ≡ false → row.takes_label ≡ false
-    → IsPassed items first all (word * 2 ^ row.width + row.fallback) (rows_seen later)
-unfolding has_row
-passed_more items first all word rest later row is passed other plain =
-    let skipped : (name : List ℕ) → begins 61 items name ≡ true → is_row name (row_seen row) ≡ false =
-    λ name begun. not_row items name (row_seen row) begun other plain in
+pub passed_row : (items : List ℕ) (first : ℕ) (all : List Row) (word : ℕ) (row : Row) (rows : List Row) → IsPassed items first all word (row ∷ rows)
+    → begins 61 items row.name ≡ false → row.takes_label ≡ false → IsPassed items first all (word * 2 ^ row.width + row.fallback) rows
+unfolding has_row skip_to
+passed_row items first all word row rows passed other plain =
+    let skipped : (name : List ℕ) → begins 61 items name ≡ true → is_row name row ≡ false =
+    λ name begun. not_row items name row begun other plain in
     record {
-      still = default_open word rest later row is passed.still;
-      there = λ name begun. ap (λ here. here || has_row name (rows_seen later)) (sym (skipped name begun))
-          ∙ (ap (λ rows. has_row name (rows_seen rows)) (sym is) ∙ passed.there name begun);
-      same = λ name read fault begun. skip_passes name read fault word rest later row is (skipped name begun) ∙ passed.same name read fault begun;
+      still = open_step word row rows row.fallback passed.still (open_facts word row rows passed.still).fallback;
+      there = λ name begun. ap (λ here. here || has_row name rows) (sym (skipped name begun)) ∙ passed.there name begun;
+      same = λ name read fault begun. sym (ap (λ here. if here then with_value row (record { word = word; rows = rows; fault = fault }) (read row)
+          else skip_to name read fault (word * 2 ^ row.width + row.fallback) rows) (skipped name begun)) ∙ passed.same name read fault begun;
     }
 
-pub place_here : (items : List ℕ) (first : ℕ) (all : List Row) (word : ℕ) (rest later : List code.Row) (row : code.Row) (name : List ℕ)
-    → rest ≡ row ∷ later → IsPassed items first all word (rows_seen rest) → begins 61 items name ≡ true → is_row name (row_seen row) ≡ true
-    → IsPlace first all name word (row_seen row) (rows_seen later)
-unfolding has_row
-place_here items first all word rest later row name is passed begun named = record {
+pub place_row : (items : List ℕ) (first : ℕ) (all : List Row) (word : ℕ) (row : Row) (rows : List Row) (name : List ℕ)
+    → IsPassed items first all word (row ∷ rows) → begins 61 items name ≡ true → is_row name row ≡ true → IsPlace first all name word row rows
+unfolding has_row skip_to
+place_row items first all word row rows name passed begun named = record {
   named = named;
-  still = open_first word rest later row is passed.still;
-  there = sym (passed.there name begun) ∙ (ap (λ rows. has_row name (rows_seen rows)) is ∙ ap (λ here. here || has_row name (rows_seen later)) named);
-  skips = λ read fault. sym (passed.same name read fault begun) ∙ sym (skip_reaches name read fault word rest later row is named);
+  still = passed.still;
+  there = sym (passed.there name begun) ∙ ap (λ here. here || has_row name rows) named;
+  skips = λ read fault. sym (passed.same name read fault begun)
+      ∙ ap (λ here. if here then with_value row (record { word = word; rows = rows; fault = fault }) (read row)
+      else skip_to name read fault (word * 2 ^ row.width + row.fallback) rows) named;
 }
 
 pub own_row : (row : Row) → is_row row.name row ≡ true
@@ -295,3 +295,23 @@ digit_read below (byte ∷ bytes) others rest value some digit is none after sam
     let all : all_ascii_digits (byte ∷ []) ≡ true = and_from (is_ascii_digit byte) true digit refl in
     let taken = word_taken (byte ∷ bytes) 1 others rest (digits_word (byte ∷ []) all) is none after in
     (ap (read_number below) taken.0 ∙ read_whole below (byte ∷ []) value all (omega (arith, same, under)) under, taken.1)
+
+-- a number of two digits
+pub two_read : (below : ℕ) (text others rest : List ℕ) (value : ℕ) → 2 ≤ length text → is_ascii_digit (slice_index text 0) ≡ true
+    → is_ascii_digit (slice_index text 1) ≡ true → (slice_index text 0 == 48) ≡ false → others ≡ drop 2 text → before 32 (before 10 others) ≡ []
+    → IsAfter others rest → value ≡ 10 * (slice_index text 0 - 48) + (slice_index text 1 - 48) → value < below
+    → (read_number below (before 32 (before 10 text)) ≡ Ok value) × IsAfter text rest
+unfolding is_number number_after
+two_read below [] others rest value some first second whole is none after same under = absurd (omega arith)
+two_read below (one ∷ []) others rest value some first second whole is none after same under = absurd (omega arith)
+two_read below (one ∷ two ∷ bytes) others rest value some first second whole is none after same under =
+    let all : all_ascii_digits (one ∷ two ∷ []) ≡ true = and_from (is_ascii_digit one) _ first (and_from (is_ascii_digit two) true second refl) in
+    let taken = word_taken (one ∷ two ∷ bytes) 2 others rest (digits_word (one ∷ two ∷ []) all) is none after in
+    let number : is_number (one ∷ two ∷ []) ≡ true = and_from (not (one == 48)) _ (ap not whole) all in
+    (ap (read_number below) taken.0 ∙ read_whole below (one ∷ two ∷ []) value number (grind (arith, same, under)) under, taken.1)
+
+-- a value that has a name
+pub plain_named : (row : code.Row) (text word : List ℕ) (value : ℕ) → text ≡ word → find_named (map named_seen row.named.now) word ≡ Some value
+    → read_plain (row_seen row) text ≡ Ok value
+unfolding read_plain
+plain_named row text word value is found = ap (λ t. or_number row.below t (find_named (map named_seen row.named.now) t)) is ∙ ap (or_number row.below word) found

@@ -9,4 +9,5 @@ pub mod Labels
 pub mod Faults
 pub mod Assembly
 pub mod Walk
+pub mod Forms
 pub mod Printed

@@ -99,7 +99,7 @@ fn closed_word(partial: Partial) -> Result<u64, Mistake>
 }
 
 #[tactic(auto, using(crate::proofs::Reading::default_narrow))]
-pub fn with_defaults(word: u64, rows: &[Row]) -> u64
+fn with_defaults(word: u64, rows: &[Row]) -> u64
     requires { IsOpen word (rows_seen rows.now) }
     ensures { result ≡ joined word (widths_of (rows_seen rows.now)) (fallbacks_of (rows_seen rows.now)) }
 {
@@ -113,7 +113,7 @@ pub fn with_defaults(word: u64, rows: &[Row]) -> u64
 }
 
 // A field below a word.
-pub fn append(word: u64, width: u32, value: u64) -> u64
+fn append(word: u64, width: u32, value: u64) -> u64
     requires room { (word + 1) * 2 ^ width ≤ 2 ^ 64 }
     requires narrow { width ≤ 32 }
     requires small { value < 2 ^ width }
@@ -319,9 +319,9 @@ fn read_target<'a>(labels: &Labels<'a>, index: u32, text: &'a [u8]) -> Result<u6
     }
 }
 
-// From the fourth instruction after the branch to the target, in bytes.
+/// From the fourth instruction after the branch to the target, in bytes.
 #[tactic(auto, unfolding(crate::specs::Items::distance))]
-fn distance(index: u32, target: u32) -> u64
+pub fn distance(index: u32, target: u32) -> u64
     ensures { result ≡ distance_by index target }
 {
     let here = 8 * (index as u64 + 4) % (1 << 32);
@@ -329,7 +329,7 @@ fn distance(index: u32, target: u32) -> u64
 }
 
 #[tactic(auto, unfolding(crate::specs::Items::read_plain))]
-pub fn read_plain(row: &Row, text: &[u8]) -> Result<u64, Mistake>
+fn read_plain(row: &Row, text: &[u8]) -> Result<u64, Mistake>
     requires { row.now.below ≤ 2 ^ 32 }
     ensures { result ≡ plain_read (row_seen row.now) text.now }
 {

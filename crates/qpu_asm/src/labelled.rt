@@ -15,9 +15,9 @@ pub struct Labelled<'a> {
     pub rest: &'a [u8],
 }
 
-// How many bytes of names a text begins with.
+/// How many bytes of names a text begins with.
 #[inline(never)]
-fn name_end(text: &[u8]) -> usize
+pub fn name_end(text: &[u8]) -> usize
     ensures within { result ≤ length text.now }
     ensures name { list_all is_name_byte (take result text.now) ≡ true }
 {
@@ -29,9 +29,9 @@ fn name_end(text: &[u8]) -> usize
     text.len()
 }
 
-// Whether bytes of names are a name: there are some, and the first is a letter.
+/// Whether bytes of names are a name: there are some, and the first is a letter.
 #[tactic(auto, unfolding(crate::specs::Lines::is_name))]
-fn begins_name(bytes: &[u8]) -> bool
+pub fn begins_name(bytes: &[u8]) -> bool
     requires { list_all is_name_byte bytes.now ≡ true }
     ensures { IsTrue result → name_test bytes.now ≡ true }
 {

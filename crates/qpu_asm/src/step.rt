@@ -1,30 +1,22 @@
-//! An instruction without a mistake, which is read in one walk over its kind's rows. What isn't read here is read by `item`, which says
-//! its mistake.
-ghost use Rattle.std.specs.Prelude.{◌≡◌, ◌≢◌, ◌≤◌, ◌<◌, ◌∷◌, ◌++◌, ◌^◌, [], codes, ℕ, slice_index, length, take, min, true, false, IfSome, MatchOption, IsTrue, Some, Ok};
+//! An instruction without a mistake, each of whose items is read at once by the letters of its name. What isn't read here is read by
+//! `item`, which says its mistake.
+ghost use Rattle.std.specs.Prelude.{◌≡◌, ◌≤◌, ◌<◌, ◌∷◌, ◌+◌, ◌-◌, ◌*◌, ◌^◌, [], codes, ℕ, length, take, min, map, drop, bytes_eq, true, false, IfSome, IsTrue, Some, Ok};
 ghost use Rattle.std.specs.Str.{all_ascii_digits};
 ghost use Rattle.script.specs.Lines.{before, behind};
 ghost use Rattle.script.specs.Number.{is_number as number_test, number_of};
-ghost use Rattle.qpu_asm.specs.Items.{Spots, kind_named as kind_by, read_number as number_read, read_plain as plain_read, read_value as value_read};
-ghost use Rattle.qpu_asm.specs.Lines.{words_of};
-ghost use Rattle.qpu_asm.specs.Walk.{begins, kind_code, is_opcode, IsWord, IsBehind, IsAfter, IsOpen, IsPlace, IsStep, AreSteps, IsCoded};
-ghost use Rattle.qpu_asm.specs.Seen.{row_seen, rows_seen, kind_seen, spots_in, name_seen};
+ghost use Rattle.qpu_asm.specs.Items.{Spots, kind_named as kind_by, read_number as number_read, read_plain as plain_read, read_target as target_read, read_value as value_read};
+ghost use Rattle.qpu_asm.specs.Lines.{words_of, is_name as name_test};
+ghost use Rattle.qpu_asm.specs.Walk.{kind_code, is_opcode, IsWord, IsAfter, IsStep, AreSteps, IsCoded};
+ghost use Rattle.qpu_asm.specs.Forms.{front_of, are_behind, IsWhole};
+ghost use Rattle.qpu_asm.specs.Seen.{row_seen, spots_in, name_seen};
 
-use crate::item::{append, read_plain, read_value, with_defaults};
-use crate::label::Labels;
+use crate::form::{Field, Form, Place, alu_form, branch_form, find_place, find_value, load_imm_form};
+use crate::item::distance;
+use crate::label::{Labels, find_spot};
+use crate::labelled::{begins_name, name_end};
 use crate::lines::{ALU, BRANCH, LOAD_IMM, NOP, behind_name};
-use crate::table::{Kind, Row, alu, branch, load_imm, nop};
+use crate::table::{Row, nop};
 use script::Cut;
-
-/// The row of an item, the word with the fields of the rows before it, the rows behind it, and the text of its value. The item has the
-/// row's own name, or it is `to`.
-#[derive(Clone, Copy)]
-pub struct Place<'a> {
-    pub word: u64,
-    pub row: &'static Row,
-    pub later: &'static [Row],
-    pub is_own: bool,
-    pub text: &'a [u8],
-}
 
 /// The value of an item, and what is behind the item.
 #[derive(Clone, Copy)]
@@ -33,11 +25,11 @@ struct Value<'a> {
     rest: &'a [u8],
 }
 
-/// The word with the fields of the items that were read, the rows behind theirs, and what is behind the items.
+/// The word with the fields of the items that were read, the number of the row behind theirs, and what is behind the items.
 #[derive(Clone, Copy)]
 struct Step<'a> {
     word: u64,
-    later: &'static [Row],
+    next: usize,
     rest: &'a [u8],
 }
 
@@ -46,60 +38,6 @@ struct Step<'a> {
 pub struct Coded<'a> {
     pub word: u64,
     pub rest: &'a [u8],
-}
-
-const TO: &[u8] = b"to";
-
-// What is behind a row's name and its `=`, where items that begin with this byte begin with them.
-#[tactic(auto, using(crate::proofs::Heads::other_first))]
-#[inline]
-fn behind_own<'a>(items: &'a [u8], first: u8, name: &[u8]) -> Option<&'a [u8]>
-    requires some { 0 < length items.now }
-    requires first { slice_index items.now 0 ≡ first }
-    requires named { 0 < length name.now }
-    ensures { MatchOption result (begins 61 items.now name.now ≡ false) (λ text. IsBehind 61 items.now name.now text.now) }
-{
-    if name[0] != first {
-        return None;
-    }
-    behind_name(items, name, b'=')
-}
-
-// The place of the first item, which begins with this byte, where its row still may come.
-fn find_place<'a>(word: u64, rows: &'static [Row], items: &'a [u8], first: u8) -> Option<Place<'a>>
-    requires rows { IsOpen word (rows_seen rows.now) }
-    requires some { 0 < length items.now }
-    requires first { slice_index items.now 0 ≡ first }
-    ensures place { IfSome result (λ place. IsPlace word (rows_seen rows.now) (name_seen place) place.word (row_seen place.row.now)
-        (rows_seen place.later.now)) }
-    ensures cut { IfSome result (λ place. IsBehind 61 items.now (name_seen place) place.text.now) }
-{
-    let mut rest = rows;
-    let mut word = word;
-    while let Some((row, later)) = rest.split_first() {
-        if let Some(text) = behind_own(items, first, row.name) {
-            return Some(Place {
-                word,
-                row,
-                later,
-                is_own: true,
-                text,
-            });
-        }
-        if row.takes_label {
-            let text = behind_name(items, TO, b'=')?;
-            return Some(Place {
-                word,
-                row,
-                later,
-                is_own: false,
-                text,
-            });
-        }
-        word = append(word, row.width, row.fallback);
-        rest = later;
-    }
-    None
 }
 
 /// The digits that a text begins with: how many, and their number, or a limit where it is larger.
@@ -179,7 +117,28 @@ fn read_digit(text: &[u8], below: u64) -> Option<Value<'_>>
     }
 }
 
-// The number that a text begins with, below a limit. Most have one digit.
+// The number of two digits that a text begins with, below a limit.
+#[tactic(auto, unfolding(crate::specs::Items::read_number))]
+fn read_two(text: &[u8], below: u64) -> Option<Value<'_>>
+    ensures value { IfSome result (λ read. number_read below (before 32 (before 10 text.now)) ≡ Ok read.value) }
+    ensures after { IfSome result (λ read. IsAfter text.now read.rest.now) }
+{
+    if text.len() < 2 || text[0] == b'0' {
+        return None;
+    }
+    if !text[0].is_ascii_digit() || !text[1].is_ascii_digit() {
+        return None;
+    }
+    let rest = behind_word(&text[2..])?;
+    let value = 10 * (text[0] - b'0') as u64 + (text[1] - b'0') as u64;
+    if value < below {
+        Some(Value { value, rest })
+    } else {
+        None
+    }
+}
+
+// The number that a text begins with, below a limit. Most have one digit or two.
 #[tactic(auto, unfolding(crate::specs::Items::read_number))]
 fn read_digits(text: &[u8], below: u64) -> Option<Value<'_>>
     requires { below ≤ 2 ^ 32 }
@@ -187,6 +146,9 @@ fn read_digits(text: &[u8], below: u64) -> Option<Value<'_>>
     ensures after { IfSome result (λ read. IsAfter text.now read.rest.now) }
 {
     if let Some(read) = read_digit(text, below) {
+        return Some(read);
+    }
+    if let Some(read) = read_two(text, below) {
         return Some(read);
     }
     let first = first_digits(text, below);
@@ -225,83 +187,114 @@ fn first_word(text: &[u8]) -> Option<Cut<'_>>
     Some(Cut { first, rest })
 }
 
+// The value of a row whose values have names, where this is one.
+fn read_name<'a>(row: &Row, field: Field, text: &'a [u8]) -> Option<Value<'a>>
+    requires { are_behind field.named.now 0 (map (λ named. named.name.now) row.now.named.now) ≡ true }
+    ensures value { IfSome result (λ read. plain_read (row_seen row.now) (before 32 (before 10 text.now)) ≡ Ok read.value) }
+    ensures after { IfSome result (λ read. IsAfter text.now read.rest.now) }
+{
+    let cut = first_word(text)?;
+    let value = find_value(row.named, field.named, cut.first)?;
+    Some(Value {
+        value,
+        rest: cut.rest,
+    })
+}
+
 // The value that an item of a row's own name has.
 #[tactic(auto, unfolding(crate::specs::Items::read_plain))]
-fn read_own<'a>(row: &Row, text: &'a [u8]) -> Option<Value<'a>>
-    requires { row.now.below ≤ 2 ^ 32 }
+fn read_own<'a>(row: &Row, field: Field, text: &'a [u8]) -> Option<Value<'a>>
+    requires below { row.now.below ≤ 2 ^ 32 }
+    requires named { are_behind field.named.now 0 (map (λ named. named.name.now) row.now.named.now) ≡ true }
     ensures value { IfSome result (λ read. plain_read (row_seen row.now) (before 32 (before 10 text.now)) ≡ Ok read.value) }
     ensures after { IfSome result (λ read. IsAfter text.now read.rest.now) }
 {
     if row.named.is_empty() {
-        return read_digits(text, row.below);
+        read_digits(text, row.below)
+    } else {
+        read_name(row, field, text)
     }
-    let cut = first_word(text)?;
-    match read_plain(row, cut.first) {
-        Ok(value) => Some(Value {
-            value,
-            rest: cut.rest,
-        }),
-        Err(_) => None,
+}
+
+// The label's name that a text begins with, and what is behind it on its line.
+fn first_name(text: &[u8]) -> Option<Cut<'_>>
+    ensures name { IfSome result (λ cut. name_test cut.first.now ≡ true) }
+    ensures word { IfSome result (λ cut. before 32 (before 10 text.now) ≡ cut.first.now) }
+    ensures after { IfSome result (λ cut. IsAfter text.now cut.rest.now) }
+{
+    let (first, others) = text.split_at(name_end(text));
+    let rest = behind_word(others)?;
+    if begins_name(first) {
+        Some(Cut { first, rest })
+    } else {
+        None
     }
 }
 
 // The value that a `to` has.
-fn read_to<'a>(labels: &Labels<'a>, index: u32, row: &Row, text: &'a [u8]) -> Option<Value<'a>>
-    requires { row.now.below ≤ 2 ^ 32 }
-    ensures value { IfSome result (λ read. value_read (spots_in labels.now) index (codes "to") (before 32 (before 10 text.now))
-        (row_seen row.now) ≡ Ok read.value) }
+#[tactic(auto, unfolding(crate::specs::Items::read_target))]
+fn read_to<'a>(labels: &Labels<'a>, index: u32, text: &'a [u8]) -> Option<Value<'a>>
+    ensures value { IfSome result (λ read. target_read (spots_in labels.now) index (before 32 (before 10 text.now)) ≡ Ok read.value) }
     ensures after { IfSome result (λ read. IsAfter text.now read.rest.now) }
 {
-    let cut = first_word(text)?;
-    let item = Cut {
-        first: TO,
-        rest: cut.first,
-    };
-    match read_value(labels, index, item, row) {
-        Ok(value) => Some(Value {
-            value,
-            rest: cut.rest,
-        }),
-        Err(_) => None,
-    }
+    let cut = first_name(text)?;
+    let spot = find_spot(labels, cut.first)?;
+    Some(Value {
+        value: distance(index, spot.index),
+        rest: cut.rest,
+    })
 }
 
+#[tactic(auto, unfolding(crate::specs::Items::read_value))]
 fn read_placed<'a>(labels: &Labels<'a>, index: u32, place: &Place<'a>) -> Option<Value<'a>>
-    requires { place.now.row.now.below ≤ 2 ^ 32 }
+    requires below { place.now.row.now.below ≤ 2 ^ 32 }
+    requires named { are_behind place.now.field.named.now 0 (map (λ named. named.name.now) place.now.row.now.named.now) ≡ true }
+    requires label { place.now.is_own ≡ false → bytes_eq place.now.row.now.name.now (codes "to") ≡ false }
     ensures value { IfSome result (λ read. value_read (spots_in labels.now) index (name_seen place.now)
         (before 32 (before 10 place.now.text.now)) (row_seen place.now.row.now) ≡ Ok read.value) }
     ensures after { IfSome result (λ read. IsAfter place.now.text.now read.rest.now) }
 {
     if place.is_own {
-        read_own(place.row, place.text)
+        read_own(place.row, place.field, place.text)
     } else {
-        read_to(labels, index, place.row, place.text)
+        read_to(labels, index, place.text)
     }
 }
 
-// Reads the first item of some, where its row may still come and its value has no mistake.
+// The word with another value in a field than its default. So many bits are below the field.
+fn with_field(word: u64, low: u32, fallback: u64, value: u64) -> u64
+    requires low { low < 64 }
+    requires inside { fallback * 2 ^ low ≤ word }
+    requires room { word - fallback * 2 ^ low + value * 2 ^ low < 2 ^ 64 }
+    ensures { result ≡ word - fallback * 2 ^ low + value * 2 ^ low }
+{
+    word - fallback * (1 << low) + value * (1 << low)
+}
+
+// Reads the first of some items, where its row is this one or a later one and its value has no mistake.
 fn read_step<'a>(
     labels: &Labels<'a>,
     index: u32,
+    form: &Form,
     word: u64,
-    rows: &'static [Row],
+    next: usize,
     items: &'a [u8],
 ) -> Option<Step<'a>>
-    requires { IsOpen word (rows_seen rows.now) }
-    ensures step { IfSome result (λ step. IsStep (spots_in labels.now) index word (rows_seen rows.now) (before 32 (before 10 items.now))
-        step.word (rows_seen step.later.now)) }
+    requires { IsWhole word (drop next form.now.rows) }
+    ensures step { IfSome result (λ step. IsStep (spots_in labels.now) index (front_of word (drop next form.now.rows))
+        (drop next form.now.rows) (before 32 (before 10 items.now))
+        (front_of step.word (drop step.next form.now.rows)) (drop step.next form.now.rows)) }
     ensures words { IfSome result (λ step. words_of (before 10 items.now)
         ≡ before 32 (before 10 items.now) ∷ words_of (before 10 step.rest.now)) }
     ensures others { IfSome result (λ step. behind 10 items.now ≡ behind 10 step.rest.now) }
-    ensures still { IfSome result (λ step. IsOpen step.word (rows_seen step.later.now)) }
+    ensures whole { IfSome result (λ step. IsWhole step.word (drop step.next form.now.rows)) }
     ensures shorter { IfSome result (λ step. length step.rest.now < length items.now) }
 {
-    let first = *items.first()?;
-    let place = find_place(word, rows, items, first)?;
+    let place = find_place(form, next, items)?;
     let read = read_placed(labels, index, &place)?;
     Some(Step {
-        word: append(place.word, place.row.width, read.value),
-        later: place.later,
+        word: with_field(word, place.field.low, place.row.fallback, read.value),
+        next: place.at + 1,
         rest: read.rest,
     })
 }
@@ -310,24 +303,22 @@ fn read_step<'a>(
 fn read_steps<'a>(
     labels: &Labels<'a>,
     index: u32,
-    word: u64,
-    rows: &'static [Row],
+    form: &Form,
     items: &'a [u8],
 ) -> Option<Step<'a>>
-    requires { IsOpen word (rows_seen rows.now) }
-    ensures steps { IfSome result (λ step. AreSteps (spots_in labels.now) index word (rows_seen rows.now) (words_of (before 10 items.now))
-        step.word (rows_seen step.later.now)) }
+    ensures steps { IfSome result (λ step. AreSteps (spots_in labels.now) index form.now.above form.now.rows (words_of (before 10 items.now))
+        (front_of step.word (drop step.next form.now.rows)) (drop step.next form.now.rows)) }
     ensures others { IfSome result (λ step. behind 10 items.now ≡ behind 10 step.rest.now) }
     ensures end { IfSome result (λ step. before 10 step.rest.now ≡ []) }
-    ensures still { IfSome result (λ step. IsOpen step.word (rows_seen step.later.now)) }
+    ensures whole { IfSome result (λ step. IsWhole step.word (drop step.next form.now.rows)) }
 {
     let mut step = Step {
-        word,
-        later: rows,
+        word: form.blank(),
+        next: 0,
         rest: items,
     };
     while !is_end(step.rest) {
-        step = read_step(labels, index, step.word, step.later, step.rest)?;
+        step = read_step(labels, index, form, step.word, step.next, step.rest)?;
     }
     Some(step)
 }
@@ -340,36 +331,34 @@ fn behind_end(text: &[u8]) -> &[u8]
     if text.is_empty() { text } else { &text[1..] }
 }
 
-// The word of an instruction of this kind by its items.
+// The word of an instruction of this form by its items.
 #[inline(never)]
-fn read_kind<'a>(labels: &Labels<'a>, index: u32, kind: Kind, items: &'a [u8]) -> Option<Coded<'a>>
-    requires { IsOpen kind.above (rows_seen kind.rows.now) }
-    ensures word { IfSome result (λ coded. kind_code (spots_in labels.now) index (words_of (before 10 items.now)) (kind_seen kind)
-        ≡ Ok coded.word) }
+fn read_items<'a>(labels: &Labels<'a>, index: u32, form: &Form, items: &'a [u8]) -> Option<Coded<'a>>
+    ensures word { IfSome result (λ coded. kind_code (spots_in labels.now) index (words_of (before 10 items.now)) form.now ≡ Ok coded.word) }
     ensures rest { IfSome result (λ coded. coded.rest.now ≡ behind 10 items.now) }
 {
-    let step = read_steps(labels, index, kind.above, kind.rows, items)?;
+    let step = read_steps(labels, index, form, items)?;
     Some(Coded {
-        word: with_defaults(step.word, step.later),
+        word: step.word,
         rest: behind_end(step.rest),
     })
 }
 
-// The instruction that a text begins with, where it begins with this opcode, which is of this kind.
+// The instruction that a text begins with, where it begins with this opcode, which is of this form.
 fn read_by<'a>(
     labels: &Labels<'a>,
     index: u32,
     opcode: &[u8],
-    kind: Kind,
+    form: &Form,
     text: &'a [u8],
 ) -> Option<Coded<'a>>
     requires word { is_opcode opcode.now ≡ true }
-    requires kind { kind_by opcode.now ≡ Some (kind_seen kind) }
+    requires kind { kind_by opcode.now ≡ Some form.now }
     ensures coded { IfSome result (λ coded. IsCoded (spots_in labels.now) index (before 10 text.now) coded.word) }
     ensures rest { IfSome result (λ coded. coded.rest.now ≡ behind 10 text.now) }
 {
     let items = behind_name(text, opcode, b' ')?;
-    let coded = read_kind(labels, index, kind, items)?;
+    let coded = read_items(labels, index, form, items)?;
     Some(coded)
 }
 
@@ -391,9 +380,9 @@ pub fn read_coded<'a>(labels: &Labels<'a>, index: u32, text: &'a [u8]) -> Option
     ensures rest { IfSome result (λ coded. coded.rest.now ≡ behind 10 text.now) }
 {
     match text.first() {
-        Some(b'a') => read_by(labels, index, ALU, alu(), text),
-        Some(b'l') => read_by(labels, index, LOAD_IMM, load_imm(), text),
-        Some(b'b') => read_by(labels, index, BRANCH, branch(), text),
+        Some(b'a') => read_by(labels, index, ALU, &alu_form(), text),
+        Some(b'l') => read_by(labels, index, LOAD_IMM, &load_imm_form(), text),
+        Some(b'b') => read_by(labels, index, BRANCH, &branch_form(), text),
         Some(b'n') => read_nop(text),
         _ => None,
     }

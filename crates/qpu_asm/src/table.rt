@@ -95,7 +95,7 @@ const MULTIPLY_OPERATIONS: [Named; 8] = [
     named!(b"v8subs", 7),
 ];
 
-const ALU: [Row; 18] = [
+pub const ALU: [Row; 18] = [
     Row {
         name: b"sig",
         width: 4,
@@ -137,7 +137,7 @@ const ALU: [Row; 18] = [
     bits!(b"mb", 3, 0),
 ];
 
-const LOAD_IMM: [Row; 10] = [
+pub const LOAD_IMM: [Row; 10] = [
     bits!(b"mode", 3, 0),
     bits!(b"pm", 1, 0),
     bits!(b"pack", 4, 0),
@@ -150,7 +150,7 @@ const LOAD_IMM: [Row; 10] = [
     bits!(b"imm", 32, 0),
 ];
 
-const BRANCH: [Row; 9] = [
+pub const BRANCH: [Row; 9] = [
     bits!(b"sp", 4, 0),
     bits!(b"cond", 4, 15),
     bits!(b"rel", 1, 1),

@@ -1,14 +1,9 @@
-use Rattle.std.proofs.Common.{sym, ◌∙◌, subst, IfSome}
+use Rattle.std.proofs.Common.{sym, ◌∙◌}
 use Rattle.script.specs.Lines.{before}
 use Rattle.qpu_asm.specs.Lines.{words_of}
-use Rattle.qpu_asm.specs.Walk.{IsOpen}
 use Rattle.qpu_asm.proofs.Heads.{text_coded}
-use Rattle.qpu_asm.proofs.Reading.{kind_open}
 use Rattle.qpu_asm.proofs.Steps.{code_read}
 use Rattle.qpu_asm.proofs.step.read_by.Goals as goal
-
-pub read_kind-requires : goal.read_kind-requires
-read_kind-requires c = subst (λ kind. IfSome kind (λ k. IsOpen k.above k.rows)) c.requires.kind (kind_open c.args.opcode.now)
 
 pub returns-clause-coded : goal.returns-clause-coded
 returns-clause-coded c = record {

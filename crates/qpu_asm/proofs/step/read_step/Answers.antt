@@ -1,42 +1,64 @@
-use Rattle.std.proofs.Common.{◌∙◌}
+use Rattle.std.proofs.Common.{◌∙◌, ◌+◌, ap, sym, subst, drop}
+use Rattle.qpu_asm.specs.Forms.{front_of, IsWhole}
+use Rattle.qpu_asm.specs.Walk.{IsStep}
+use Rattle.script.specs.Lines.{before}
+use Rattle.qpu_asm.specs.Seen.{spots_in}
 use Rattle.qpu_asm.proofs.Rows.{row_below}
-use Rattle.qpu_asm.proofs.Reading.{open_room, open_step, open_facts}
+use Rattle.qpu_asm.proofs.Reading.{open_facts}
+use Rattle.qpu_asm.proofs.Forms.{replaced}
 use Rattle.qpu_asm.proofs.Steps.{item_of, step_made, step_words, step_shorter, place_value, name_part}
 use Rattle.qpu_asm.proofs.step.read_step.Goals as goal
 
-pub read_placed-requires : goal.read_placed-requires
-read_placed-requires c = row_below _ (open_facts _ _ _ c.in_ok-place.ensures.place.still)
+pub read_placed-requires-clause-below : goal.read_placed-requires-clause-below
+read_placed-requires-clause-below c = row_below _ (open_facts _ _ _ (c.in_ok-place.ensures.found.place c.args.word c.requires).still)
 
-pub append-requires-clause-room : goal.append-requires-clause-room
-append-requires-clause-room c = open_room _ _ _ c.in_ok-place.ensures.place.still
+pub with_field-requires-clause-low : goal.with_field-requires-clause-low
+with_field-requires-clause-low c =
+    let place = c.in_ok-place.ensures.found.place c.args.word c.requires in
+    (replaced c.args.word _ _ _ _ _ c.in_ok-place.ensures.found.here c.in_ok-place.ensures.low (c.in_ok-place.ensures.found.whole c.args.word c.requires)
+    (place_value _ _ _ _ _ _ _ _ place.still place.named c.in_ok-read.ensures.value)).high
 
-pub append-requires-clause-narrow : goal.append-requires-clause-narrow
-append-requires-clause-narrow c = (open_facts _ _ _ c.in_ok-place.ensures.place.still).high
+pub with_field-requires-clause-inside : goal.with_field-requires-clause-inside
+with_field-requires-clause-inside c =
+    let place = c.in_ok-place.ensures.found.place c.args.word c.requires in
+    (replaced c.args.word _ _ _ _ _ c.in_ok-place.ensures.found.here c.in_ok-place.ensures.low (c.in_ok-place.ensures.found.whole c.args.word c.requires)
+    (place_value _ _ _ _ _ _ _ _ place.still place.named c.in_ok-read.ensures.value)).inside
 
-pub append-requires-clause-small : goal.append-requires-clause-small
-append-requires-clause-small c =
-    place_value _ _ _ _ _ _ _ _ c.in_ok-place.ensures.place.still c.in_ok-place.ensures.place.named c.in_ok-read.ensures.value
+pub with_field-requires-clause-room : goal.with_field-requires-clause-room
+with_field-requires-clause-room c =
+    let place = c.in_ok-place.ensures.found.place c.args.word c.requires in
+    (replaced c.args.word _ _ _ _ _ c.in_ok-place.ensures.found.here c.in_ok-place.ensures.low (c.in_ok-place.ensures.found.whole c.args.word c.requires)
+    (place_value _ _ _ _ _ _ _ _ place.still place.named c.in_ok-read.ensures.value)).room
 
 pub returns-clause-step : goal.returns-clause-step
 returns-clause-step c =
-    rw c.append.ensures
-    (step_made _ _ _ _ _ _ _ _ _ _ _ c.in_ok-place.ensures.place c.in_ok-place.ensures.cut c.in_ok-read.ensures.value
-    (name_part c.in_ok-place.place.is_own _ _ _ c.in_ok-place.ensures.place.still))
+    let found = c.in_ok-place.ensures.found in
+    let place = found.place c.args.word c.requires in
+    let later = drop (c.in_ok-place.place.at + 1) c.args.form.now.rows in
+    let value = replaced c.args.word _ _ _ _ _ found.here c.in_ok-place.ensures.low (found.whole c.args.word c.requires)
+    (place_value _ _ _ _ _ _ _ _ place.still place.named c.in_ok-read.ensures.value) in
+    subst (λ above. IsStep (spots_in c.args.labels.now) c.args.index (front_of c.args.word (drop c.args.next c.args.form.now.rows))
+    (drop c.args.next c.args.form.now.rows) (before 32 (before 10 c.args.items.now)) above later)
+    (sym (ap (λ word. front_of word later) c.with_field.ensures ∙ value.front))
+    (step_made _ _ _ _ _ _ _ _ _ _ _ place c.in_ok-place.ensures.cut c.in_ok-read.ensures.value (name_part c.in_ok-place.place.is_own _ _ _ place.still))
 
 pub returns-clause-words : goal.returns-clause-words
 returns-clause-words c =
-    step_words _ _ _ _ (name_part c.in_ok-place.place.is_own _ _ _ c.in_ok-place.ensures.place.still) c.in_ok-place.ensures.cut c.in_ok-read.ensures.after
+    step_words _ _ _ _ (name_part c.in_ok-place.place.is_own _ _ _ (c.in_ok-place.ensures.found.place c.args.word c.requires).still)
+    c.in_ok-place.ensures.cut c.in_ok-read.ensures.after
 
 pub returns-clause-others : goal.returns-clause-others
 returns-clause-others c =
-    (item_of _ _ _ (name_part c.in_ok-place.place.is_own _ _ _ c.in_ok-place.ensures.place.still) c.in_ok-place.ensures.cut).others
+    (item_of _ _ _ (name_part c.in_ok-place.place.is_own _ _ _ (c.in_ok-place.ensures.found.place c.args.word c.requires).still) c.in_ok-place.ensures.cut).others
     ∙ c.in_ok-read.ensures.after.others
 
 pub returns-clause-shorter : goal.returns-clause-shorter
 returns-clause-shorter c = step_shorter _ _ _ _ c.in_ok-place.ensures.cut c.in_ok-read.ensures.after
 
-pub returns-clause-still : goal.returns-clause-still
-returns-clause-still c =
-    rw c.append.ensures
-    (open_step _ _ _ _ c.in_ok-place.ensures.place.still
-    (place_value _ _ _ _ _ _ _ _ c.in_ok-place.ensures.place.still c.in_ok-place.ensures.place.named c.in_ok-read.ensures.value))
+pub returns-clause-whole : goal.returns-clause-whole
+returns-clause-whole c =
+    let found = c.in_ok-place.ensures.found in
+    let place = found.place c.args.word c.requires in
+    subst (λ word. IsWhole word (drop (c.in_ok-place.place.at + 1) c.args.form.now.rows)) (sym c.with_field.ensures)
+    (replaced c.args.word _ _ _ _ _ found.here c.in_ok-place.ensures.low (found.whole c.args.word c.requires)
+    (place_value _ _ _ _ _ _ _ _ place.still place.named c.in_ok-read.ensures.value)).whole

@@ -1,15 +1,17 @@
-use Rattle.std.proofs.Common.{◌≡◌, length, List, None}
+use Rattle.std.proofs.Common.{◌≡◌, length, List, None, drop}
 use Rattle.script.specs.Lines.{before, behind}
-use Rattle.qpu_asm.specs.{Lines.words_of, Walk.read_items, Walk.IsOpen, Table.Row, Seen.rows_seen, Seen.spots_in}
+use Rattle.qpu_asm.specs.{Lines.words_of, Walk.read_items, Forms.front_of, Forms.IsWhole, Table.Row, Seen.spots_in}
 use Rattle.qpu_asm.proofs.step.read_steps.Given as goal
 
 abbrev pub invariant-loop-step : goal.invariant-loop-step
 invariant-loop-step l = record {
-  still : IsOpen l.step.word (rows_seen l.step.later.now);
+  whole : IsWhole l.step.word (drop l.step.next l.form.rows);
   steps : (all : List Row)
-      → read_items (spots_in l.labels) l.index all (record { word = l.step.word; rows = rows_seen l.step.later.now; fault = None }) (words_of (before 10 l.step.rest.now))
-      ≡ read_items (spots_in l.labels) l.index all (record { word = l.fn.word; rows = rows_seen l.fn.rows; fault = None }) (words_of (before 10 l.fn.items));
-  others : behind 10 l.fn.items ≡ behind 10 l.step.rest.now;
+      → read_items (spots_in l.labels) l.index all
+      (record { word = front_of l.step.word (drop l.step.next l.form.rows); rows = drop l.step.next l.form.rows; fault = None })
+      (words_of (before 10 l.step.rest.now))
+      ≡ read_items (spots_in l.labels) l.index all (record { word = l.form.above; rows = l.form.rows; fault = None }) (words_of (before 10 l.items));
+  others : behind 10 l.items ≡ behind 10 l.step.rest.now;
 }
 
 abbrev pub decreases-loop-step : goal.decreases-loop-step

@@ -1,0 +1,291 @@
+//! What reads the items of a kind's lines: where the row of a name is, and where its field lies, so that no row before it is walked over.
+ghost use Rattle.std.specs.Prelude.{◌≡◌, ◌≤◌, ◌<◌, ◌+◌, ◌/◌, ◌^◌, true, length, map, drop, slice_index, IfSome, MatchOption, Some, false, codes, bytes_eq};
+ghost use Rattle.qpu_isa.specs.Fields.{width_of};
+ghost use Rattle.qpu_asm.specs.Table.{widths_of, alu_kind, load_imm_kind, branch_kind};
+ghost use Rattle.qpu_asm.specs.Items.{find_named};
+ghost use Rattle.qpu_asm.specs.Walk.{begins, IsBehind};
+ghost use Rattle.qpu_asm.specs.Forms.{slot_of as slot_by, front_of, are_behind, IsWhole, IsFound};
+ghost use Rattle.qpu_asm.specs.Seen.{named_seen, row_seen, name_seen};
+
+use crate::lines::behind_name;
+use crate::table::{ALU, BRANCH, LOAD_IMM, NOP, Named, Row};
+use std::marker::Model;
+
+/// By the slot of a name, where a search for it begins among names: it does not stand before.
+pub type Starts = [u8; 64];
+
+/// How many bits of a word lie below a row's field, and where the names of its values are.
+#[derive(Clone, Copy)]
+pub struct Field {
+    pub low: u32,
+    pub named: &'static Starts,
+}
+
+/// A kind of instruction: its first word, the word of its defaults, its rows with their fields, and where the rows are.
+#[derive(Drop)]
+pub struct Form {
+    opcode: &'static [u8],
+    blank: u64,
+    rows: &'static [Row],
+    fields: &'static [Field],
+    starts: &'static Starts,
+}
+
+impl Model for Form {
+    ghost use Rattle.std.specs.Prelude.{◌/◌, ◌^◌};
+    ghost use Rattle.qpu_isa.specs.Fields.{width_of};
+    ghost use Rattle.qpu_asm.specs.Table.{Kind, widths_of};
+    ghost use Rattle.qpu_asm.specs.Forms.{IsForm, front_of};
+    ghost use Rattle.qpu_asm.specs.Seen.{rows_seen};
+
+    ghost Value = { Kind };
+
+    ghost view = { λ f. record { opcode = f.opcode.now; above = front_of f.blank (rows_seen f.rows.now); rows = rows_seen f.rows.now } };
+
+    ghost invariant = { λ f. IsForm f.blank (rows_seen f.rows.now) f.fields.now f.starts.now };
+}
+
+/// The row of an item, its number, and its field; and the text of the item's value. The item has the row's own name, or it is `to`.
+#[derive(Clone, Copy)]
+pub struct Place<'a> {
+    pub at: usize,
+    pub row: &'static Row,
+    pub field: Field,
+    pub is_own: bool,
+    pub text: &'a [u8],
+}
+
+// A field whose values have no names.
+macro_rules! field {
+    ($low:literal) => {
+        Field {
+            low: $low,
+            named: &NO_NAMES,
+        }
+    };
+}
+
+const NO_NAMES: Starts = [
+    0, 0, 0, 0, 0, 0, 0, 0, 0, 0, 0, 0, 0, 0, 0, 0, 0, 0, 0, 0, 0, 0, 0, 0, 0, 0, 0, 0, 0, 0, 0, 0,
+    0, 0, 0, 0, 0, 0, 0, 0, 0, 0, 0, 0, 0, 0, 0, 0, 0, 0, 0, 0, 0, 0, 0, 0, 0, 0, 0, 0, 0, 0, 0, 0,
+];
+
+const ADD_OPERATIONS: Starts = [
+    7, 24, 24, 15, 24, 24, 8, 24, 24, 24, 24, 0, 24, 24, 11, 24, 18, 24, 24, 13, 24, 24, 24, 24, 24,
+    24, 24, 10, 24, 24, 24, 19, 24, 24, 24, 24, 22, 24, 9, 24, 24, 24, 24, 24, 24, 1, 24, 24, 17,
+    24, 21, 24, 24, 12, 24, 24, 24, 3, 24, 16, 24, 24, 24, 2,
+];
+
+const MULTIPLY_OPERATIONS: Starts = [
+    8, 8, 8, 8, 8, 8, 8, 8, 8, 8, 8, 0, 8, 8, 8, 2, 8, 8, 8, 8, 8, 8, 8, 8, 8, 8, 8, 8, 8, 8, 8, 8,
+    8, 8, 8, 8, 3, 8, 8, 8, 8, 8, 8, 8, 8, 8, 8, 8, 8, 8, 8, 8, 8, 8, 8, 8, 8, 1, 8, 8, 8, 8, 8, 8,
+];
+
+const ALU_FIELDS: [Field; 18] = [
+    field!(60),
+    field!(57),
+    field!(56),
+    field!(52),
+    field!(49),
+    field!(46),
+    field!(45),
+    field!(44),
+    field!(38),
+    field!(32),
+    Field {
+        low: 29,
+        named: &MULTIPLY_OPERATIONS,
+    },
+    Field {
+        low: 24,
+        named: &ADD_OPERATIONS,
+    },
+    field!(18),
+    field!(12),
+    field!(9),
+    field!(6),
+    field!(3),
+    field!(0),
+];
+
+const ALU_ROWS: Starts = [
+    18, 3, 18, 18, 18, 12, 13, 18, 18, 18, 18, 10, 6, 2, 18, 0, 18, 18, 18, 18, 18, 18, 18, 18, 1,
+    18, 18, 9, 18, 18, 18, 18, 18, 7, 18, 14, 15, 18, 18, 4, 18, 18, 18, 18, 18, 18, 18, 18, 18, 18,
+    18, 5, 18, 18, 18, 18, 18, 18, 18, 16, 17, 18, 18, 11,
+];
+
+const LOAD_IMM_FIELDS: [Field; 10] = [
+    field!(57),
+    field!(56),
+    field!(52),
+    field!(49),
+    field!(46),
+    field!(45),
+    field!(44),
+    field!(38),
+    field!(32),
+    field!(0),
+];
+
+const LOAD_IMM_ROWS: Starts = [
+    10, 2, 10, 10, 10, 10, 10, 10, 10, 0, 10, 10, 5, 1, 10, 7, 10, 10, 10, 10, 10, 10, 10, 10, 10,
+    10, 10, 8, 10, 10, 10, 10, 10, 6, 10, 10, 10, 10, 10, 3, 10, 10, 10, 10, 10, 10, 10, 10, 10, 10,
+    10, 4, 10, 10, 10, 10, 10, 10, 10, 10, 10, 10, 10, 9,
+];
+
+const BRANCH_FIELDS: [Field; 9] = [
+    field!(56),
+    field!(52),
+    field!(51),
+    field!(50),
+    field!(45),
+    field!(44),
+    field!(38),
+    field!(32),
+    field!(0),
+];
+
+const BRANCH_ROWS: Starts = [
+    8, 8, 8, 8, 8, 4, 8, 8, 8, 2, 8, 8, 8, 8, 8, 6, 8, 8, 8, 8, 8, 8, 0, 8, 8, 8, 8, 7, 8, 8, 8, 8,
+    8, 5, 8, 8, 8, 8, 8, 8, 8, 8, 8, 8, 8, 8, 8, 8, 8, 8, 8, 8, 8, 1, 8, 8, 8, 8, 8, 8, 8, 8, 8, 8,
+];
+
+
+/// The form of `alu`.
+pub fn alu_form() -> Form
+    ensures { result ≡ alu_kind }
+{
+    Form {
+        opcode: b"alu",
+        blank: NOP,
+        rows: &ALU,
+        fields: &ALU_FIELDS,
+        starts: &ALU_ROWS,
+    }
+}
+
+/// The form of `li`.
+pub fn load_imm_form() -> Form
+    ensures { result ≡ load_imm_kind }
+{
+    Form {
+        opcode: b"li",
+        blank: 0xe000_09e7_0000_0000,
+        rows: &LOAD_IMM,
+        fields: &LOAD_IMM_FIELDS,
+        starts: &LOAD_IMM_ROWS,
+    }
+}
+
+/// The form of `br`.
+pub fn branch_form() -> Form
+    ensures { result ≡ branch_kind }
+{
+    Form {
+        opcode: b"br",
+        blank: 0xf0f8_09e7_0000_0000,
+        rows: &BRANCH,
+        fields: &BRANCH_FIELDS,
+        starts: &BRANCH_ROWS,
+    }
+}
+
+impl Form {
+    /// The word of an instruction without items.
+    pub fn blank(&self) -> u64
+        ensures { IsWhole result self.now.rows × (front_of result self.now.rows ≡ self.now.above) }
+    {
+        self.blank
+    }
+}
+
+// The slot of a name that begins with these letters.
+#[tactic(auto, unfolding(crate::specs::Forms::slot_of))]
+fn slot_of(first: u8, second: u8) -> usize
+    ensures slot { result ≡ slot_by first second }
+    ensures inside { result < 64 }
+{
+    (2 * first as usize + second as usize) % 64
+}
+
+// What is behind a name and its `=`, where items that begin with these two bytes begin with them. Most names have two letters.
+#[tactic(auto, unfolding(crate::specs::Walk::begins))]
+#[inline]
+fn behind_own<'a>(items: &'a [u8], first: u8, second: u8, name: &[u8]) -> Option<&'a [u8]>
+    requires some { 2 < length items.now }
+    requires first { slice_index items.now 0 ≡ first }
+    requires second { slice_index items.now 1 ≡ second }
+    requires named { 2 ≤ length name.now }
+    ensures { MatchOption result (begins 61 items.now name.now ≡ false) (λ text. IsBehind 61 items.now name.now text.now) }
+{
+    if name[0] != first || name[1] != second {
+        return None;
+    }
+    if name.len() > 2 {
+        return behind_name(items, name, b'=');
+    }
+    if items[2] == b'=' {
+        Some(&items[3..])
+    } else {
+        None
+    }
+}
+
+const TO: &[u8] = b"to";
+
+/// The place of the first of some items, where its row is this one or a later one.
+pub fn find_place<'a>(form: &Form, next: usize, items: &'a [u8]) -> Option<Place<'a>>
+    ensures found { IfSome result (λ place. IsFound form.now.rows next (name_seen place) place.at (row_seen place.row.now)) }
+    ensures inside { IfSome result (λ place. place.at < 2 ^ 63) }
+    ensures low { IfSome result (λ place. place.field.low ≡ width_of (widths_of (drop (place.at + 1) form.now.rows))) }
+    ensures named { IfSome result (λ place.
+        are_behind place.field.named.now 0 (map (λ named. named.name.now) place.row.now.named.now) ≡ true) }
+    ensures label { IfSome result (λ place. place.is_own ≡ false → bytes_eq place.row.now.name.now (codes "to") ≡ false) }
+    ensures cut { IfSome result (λ place. IsBehind 61 items.now (name_seen place) place.text.now) }
+{
+    if items.len() < 3 {
+        return None;
+    }
+    let (first, second) = (items[0], items[1]);
+    let start = form.starts[slot_of(first, second)] as usize;
+    for at in next.max(start)..form.rows.len() {
+        let row = &form.rows[at];
+        if let Some(text) = behind_own(items, first, second, row.name) {
+            return Some(Place {
+                at,
+                row,
+                field: form.fields[at],
+                is_own: true,
+                text,
+            });
+        }
+        if row.takes_label {
+            let text = behind_name(items, TO, b'=')?;
+            return Some(Place {
+                at,
+                row,
+                field: form.fields[at],
+                is_own: false,
+                text,
+            });
+        }
+    }
+    None
+}
+
+/// The value of a name, where it has one.
+pub fn find_value(named: &[Named], starts: &Starts, text: &[u8]) -> Option<u64>
+    requires { are_behind starts.now 0 (map (λ named. named.name.now) named.now) ≡ true }
+    ensures { IfSome result (λ value. find_named (map named_seen named.now) text.now ≡ Some value) }
+{
+    if text.len() < 2 {
+        return None;
+    }
+    let start = starts[slot_of(text[0], text[1])] as usize;
+    for at in start..named.len() {
+        if named[at].name == text {
+            return Some(named[at].value);
+        }
+    }
+    None
+}
