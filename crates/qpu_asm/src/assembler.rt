@@ -11,6 +11,7 @@ ghost use Rattle.qpu_asm.specs.Walk.{line_words};
 ghost use Rattle.qpu_asm.specs.Seen.{line_seen, spots_in, line_put, first_put};
 
 use crate::fault::{AsmFault, Mistake};
+use crate::form::Forms;
 use crate::item::read_code;
 use crate::label::{Found, find_labels, find_spot};
 use crate::labelled::read_labelled;
@@ -29,11 +30,12 @@ pub fn assemble(alloc: Global, text: &[u8]) -> Result<Vec<u64>, Stop<AsmFault>>
     ensures least { AnswersLeast (text_faults text.now) result }
 {
     let found = find_labels(alloc, text)?;
+    let forms = Forms::new();
     let mut words = Vec::new(alloc);
     let mut rest = text;
     let mut line: u64 = 1;
     while !rest.is_empty() {
-        rest = put_next(&mut words, &found, rest, line as u32)?;
+        rest = put_next(&mut words, &found, &forms, rest, line as u32)?;
         line += 1;
     }
     Ok(words)
@@ -43,6 +45,7 @@ pub fn assemble(alloc: Global, text: &[u8]) -> Result<Vec<u64>, Stop<AsmFault>>
 fn put_next<'a>(
     words: &mut Vec<u64>,
     found: &Found<'a>,
+    forms: &Forms,
     text: &'a [u8],
     number: u32,
 ) -> Result<&'a [u8], Stop<AsmFault>>
@@ -55,7 +58,7 @@ fn put_next<'a>(
     ensures shorter { IfOk result (λ rest. length rest.now < length text.now) }
     ensures more { IfOk result (λ _. vec_len words.new ≤ vec_len words.old + 1) }
 {
-    if let Some(coded) = read_coded(&found.labels, words.len() as u32, text) {
+    if let Some(coded) = read_coded(&found.labels, forms, words.len() as u32, text) {
         words.push(coded.word)?;
         return Ok(coded.rest);
     }

@@ -151,8 +151,8 @@ const BRANCH_ROWS: Starts = [
 ];
 
 
-/// The form of `alu`.
-pub fn alu_form() -> Form
+// The form of `alu`.
+fn alu_form() -> Form
     ensures { result ≡ alu_kind }
 {
     Form {
@@ -164,8 +164,8 @@ pub fn alu_form() -> Form
     }
 }
 
-/// The form of `li`.
-pub fn load_imm_form() -> Form
+// The form of `li`.
+fn load_imm_form() -> Form
     ensures { result ≡ load_imm_kind }
 {
     Form {
@@ -177,8 +177,8 @@ pub fn load_imm_form() -> Form
     }
 }
 
-/// The form of `br`.
-pub fn branch_form() -> Form
+// The form of `br`.
+fn branch_form() -> Form
     ensures { result ≡ branch_kind }
 {
     Form {
@@ -187,6 +187,36 @@ pub fn branch_form() -> Form
         rows: &BRANCH,
         fields: &BRANCH_FIELDS,
         starts: &BRANCH_ROWS,
+    }
+}
+
+/// The forms of the instructions that have items.
+#[derive(Drop)]
+pub struct Forms {
+    pub alu: Form,
+    pub load_imm: Form,
+    pub branch: Form,
+}
+
+impl Model for Forms {
+    ghost use Rattle.std.specs.Prelude.{◌≡◌};
+    ghost use Rattle.qpu_asm.specs.Table.{alu_kind, load_imm_kind, branch_kind};
+
+    ghost Value = { Unit {0} };
+
+    ghost view = { λ _. tt };
+
+    ghost invariant = { λ f. (f.alu ≡ alu_kind) × (f.load_imm ≡ load_imm_kind) × (f.branch ≡ branch_kind) };
+}
+
+impl Forms {
+    /// All forms.
+    pub fn new() -> Forms {
+        Forms {
+            alu: alu_form(),
+            load_imm: load_imm_form(),
+            branch: branch_form(),
+        }
     }
 }
 

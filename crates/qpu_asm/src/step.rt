@@ -10,7 +10,7 @@ ghost use Rattle.qpu_asm.specs.Walk.{kind_code, is_opcode, IsWord, IsAfter, IsSt
 ghost use Rattle.qpu_asm.specs.Forms.{front_of, are_behind, IsWhole};
 ghost use Rattle.qpu_asm.specs.Seen.{row_seen, spots_in, name_seen};
 
-use crate::form::{Field, Form, Place, alu_form, branch_form, find_place, find_value, load_imm_form};
+use crate::form::{Field, Form, Forms, Place, find_place, find_value};
 use crate::item::distance;
 use crate::label::{Labels, find_spot};
 use crate::labelled::{begins_name, name_end};
@@ -375,14 +375,14 @@ fn read_nop<'a>(text: &'a [u8]) -> Option<Coded<'a>>
 }
 
 /// The instruction that a text begins with, where it begins with an opcode and its items have no mistake, as most lines do.
-pub fn read_coded<'a>(labels: &Labels<'a>, index: u32, text: &'a [u8]) -> Option<Coded<'a>>
+pub fn read_coded<'a>(labels: &Labels<'a>, forms: &Forms, index: u32, text: &'a [u8]) -> Option<Coded<'a>>
     ensures coded { IfSome result (λ coded. IsCoded (spots_in labels.now) index (before 10 text.now) coded.word) }
     ensures rest { IfSome result (λ coded. coded.rest.now ≡ behind 10 text.now) }
 {
     match text.first() {
-        Some(b'a') => read_by(labels, index, ALU, &alu_form(), text),
-        Some(b'l') => read_by(labels, index, LOAD_IMM, &load_imm_form(), text),
-        Some(b'b') => read_by(labels, index, BRANCH, &branch_form(), text),
+        Some(b'a') => read_by(labels, index, ALU, &forms.alu, text),
+        Some(b'l') => read_by(labels, index, LOAD_IMM, &forms.load_imm, text),
+        Some(b'b') => read_by(labels, index, BRANCH, &forms.branch, text),
         Some(b'n') => read_nop(text),
         _ => None,
     }

@@ -8,7 +8,7 @@ read_by-requires-clause-word c = refl
 
 pub read_by-requires-clause-kind : goal.read_by-requires-clause-kind
 unfolding kind_named
-read_by-requires-clause-kind c = ap Some (sym c.alu_form.ensures)
+read_by-requires-clause-kind c = ap Some (sym c.forms.invariant.0)
 
 pub read_by-requires-in-Some-eq108-clause-word : goal.read_by-requires-in-Some-eq108-clause-word
 unfolding is_opcode lacks is_full is_comment ends_label
@@ -16,7 +16,7 @@ read_by-requires-in-Some-eq108-clause-word c = refl
 
 pub read_by-requires-in-Some-eq108-clause-kind : goal.read_by-requires-in-Some-eq108-clause-kind
 unfolding kind_named
-read_by-requires-in-Some-eq108-clause-kind c = ap Some (sym c.load_imm_form.ensures)
+read_by-requires-in-Some-eq108-clause-kind c = ap Some (sym c.forms.invariant.1)
 
 pub read_by-requires-in-Some-eq98-clause-word : goal.read_by-requires-in-Some-eq98-clause-word
 unfolding is_opcode lacks is_full is_comment ends_label
@@ -24,4 +24,4 @@ read_by-requires-in-Some-eq98-clause-word c = refl
 
 pub read_by-requires-in-Some-eq98-clause-kind : goal.read_by-requires-in-Some-eq98-clause-kind
 unfolding kind_named
-read_by-requires-in-Some-eq98-clause-kind c = ap Some (sym c.branch_form.ensures)
+read_by-requires-in-Some-eq98-clause-kind c = ap Some (sym c.forms.invariant.2)
