@@ -15,7 +15,7 @@ pub record IsWhole (word : ℕ) (rows : List Row) : Type 0 where
 
 -- the slot of a name by its first two letters
 unfoldable pub slot_of : ℕ → ℕ → ℕ
-slot_of first second = (2 * first + second) % 64
+slot_of first second = (61 * first + second) % 64
 
 -- no name stands before the place that its slot has, counted from this number on
 unfoldable pub are_behind : List ℕ → ℕ → List (List ℕ) → Bool
