@@ -5,12 +5,12 @@ use Rattle.std.proofs.lemmas.Bool.{and_parts, false≢true, cases_Bool}
 use Rattle.std.proofs.lemmas.Bool.Decides.{nat_tests}
 use Rattle.std.specs.List.{list_all}
 use Rattle.qpu_isa.specs.Fields.{joined, width_of}
-use Rattle.qpu_asm.specs.{Table.Row, Table.widths_of, Table.fallbacks_of, Items.find_named, Walk.IsOpen, Walk.are_ready, Walk.begins, Forms.front_of, Forms.IsWhole, Forms.slot_of, Forms.are_behind, Forms.labels_behind, Forms.fields_fit, Forms.IsFound, Walk.IsPlace, Items.is_row, Seen.named_seen, Seen.row_seen, Seen.rows_seen}
+use Rattle.qpu_asm.specs.{Table.Row, Table.widths_of, Table.fallbacks_of, Items.find_named, Walk.IsOpen, Walk.are_ready, Walk.begins, Forms.front_of, Forms.IsWhole, Forms.slot_of, Forms.are_behind, Forms.labels_behind, Forms.fields_fit, Forms.IsPassed, Forms.ArePassed, Forms.IsItemAt, Forms.IsNext, Walk.IsBehind, Seen.name_seen, Walk.IsPlace, Items.is_row, Seen.named_seen, Seen.row_seen, Seen.rows_seen}
 use Rattle.qpu_asm.specs.declared.table.Named as code
 use Rattle.qpu_asm.specs.declared.table.Row as code-row
-use Rattle.qpu_asm.specs.declared.form.Field.{Field}
+use Rattle.qpu_asm.specs.declared.form.{Field.Field, Place.Place}
 use Rattle.std.proofs.lemmas.List.{drop-drop, length-map}
-use Rattle.qpu_asm.proofs.{Rows.RowFacts, Rows.ready_parts, Rows.row_facts, Reading.open_facts, Reading.open_step, Reading.room_parts, Bytes.bytes_same, Heads.begun_split, Steps.IsPassed, Steps.passed_row, Steps.passed_none, Steps.place_row}
+use Rattle.qpu_asm.proofs.{Rows.RowFacts, Rows.ready_parts, Rows.row_facts, Reading.open_facts, Reading.open_step, Reading.room_parts, Bytes.bytes_same, Heads.begun_split, Steps.passed_row, Steps.passed_none, Steps.place_row}
 
 -- what the defaults of rows are alone
 abbrev pub defaults_of : List Row → ℕ
@@ -240,13 +240,10 @@ labels_from starts (suc count) at [] test = refl
 labels_from starts (suc count) at (row ∷ rows) test =
     subst (λ n. labels_behind starts n (drop count rows) ≡ true) (omega arith) (labels_from starts count (at + 1) rows (label_first starts at row rows test).1)
 
--- what is known of the rows from one on where the rows before it are of other names
-abbrev pub WordsPass : List ℕ → List Row → List Row → Type 0
-WordsPass items rows rest = (word : ℕ) → IsWhole word rows → IsWhole word rest × IsPassed items (front_of word rows) rows (front_of word rest) rest
-
+-- where the rows before are of other names
 pub start_passed : (starts items : List ℕ) (all : List Row) (next start : ℕ) → length starts ≡ 64 → are_behind starts 0 (map (λ row. row.name) all) ≡ true
     → labels_behind starts 0 all ≡ true → start ≡ max next (slice_index starts (slot_of (slice_index items 0) (slice_index items 1)))
-    → WordsPass items (drop next all) (drop start all)
+    → ArePassed items (drop next all) (drop start all)
 start_passed starts items all next start size names labels is = λ word whole.
     let count = start - next in
     let here : drop count (drop next all) ≡ drop start all = drop-drop count next all ∙ ap (λ n. drop n all) (grind (arith, is)) in
@@ -256,7 +253,7 @@ start_passed starts items all next start size names labels is = λ word whole.
     (subst (λ n. labels_behind starts n (drop next all) ≡ true) (omega arith) (labels_from starts next 0 all labels)) (grind (arith, is)) whole (passed_none items (front_of word (drop next all)) (drop next all) whole.still))
 
 pub next_passed : (items : List ℕ) (all rest later : List Row) (row : Row) → rest ≡ row ∷ later → begins 61 items row.name ≡ false → row.takes_label ≡ false
-    → WordsPass items all rest → WordsPass items all later
+    → ArePassed items all rest → ArePassed items all later
 next_passed items all rest later row is other plain pass = λ word whole.
     let here = subst (λ r. IsWhole word r × IsPassed items (front_of word all) all (front_of word r) r) is (pass word whole) in
     let next = whole_later word row later here.0 in (
@@ -276,23 +273,16 @@ pub row_here : (rows : List code-row.Row) (at : ℕ) (d : code-row.Row) → at <
     → drop at (rows_seen rows) ≡ row_seen (get_or rows at d) ∷ drop (at + 1) (rows_seen rows)
 row_here rows at d inside = rw add-one (row_at rows at d inside)
 
-pub found_here : (items : List ℕ) (rows : List code-row.Row) (next at : ℕ) (d : code-row.Row) (name : List ℕ) → at < length rows
-    → WordsPass items (drop next (rows_seen rows)) (drop at (rows_seen rows)) → begins 61 items name ≡ true → is_row name (row_seen (get_or rows at d)) ≡ true
-    → IsFound (rows_seen rows) next name at (row_seen (get_or rows at d))
-found_here items rows next at d name inside pass begun named =
-    let all = rows_seen rows in
-    let row = row_seen (get_or rows at d) in
-    let is = row_here rows at d inside in
-    record {
-      inside = omega (arith, inside, length-map rows row_seen);
-      here = is;
-      whole = λ word whole. (pass word whole).0;
-      place = λ word whole.
-          let first = front_of word (drop next all) in
-          subst (λ r. IsPlace first (drop next all) name (front_of word r) row (drop (at + 1) all)) (sym is)
-          (place_row items first (drop next all) (front_of word (row ∷ drop (at + 1) all)) row (drop (at + 1) all) name
-          (subst (λ r. IsPassed items first (drop next all) (front_of word r) r) is (pass word whole).1) begun named);
-    }
+pub next_here : (items : List ℕ) (rows rest : List Row) (row : Row) (later : List Row) (name : List ℕ) → rest ≡ row ∷ later → ArePassed items rows rest
+    → begins 61 items name ≡ true → is_row name row ≡ true → IsNext rows name rest row later
+next_here items rows rest row later name is pass begun named = record {
+  whole = λ word whole. (pass word whole).0;
+  place = λ word whole.
+      let first = front_of word rows in
+      subst (λ r. IsPlace first rows name (front_of word r) row later) (sym is)
+      (place_row items first rows (front_of word (row ∷ later)) row later name
+      (subst (λ r. IsPassed items first rows (front_of word r) r) is (pass word whole).1) begun named);
+}
 
 pub two_letters : (starts : List ℕ) (at from : ℕ) (rows : List code-row.Row) (d : code-row.Row) → at < length rows
     → are_behind starts from (map (λ row. row.name) (rows_seen rows)) ≡ true → 2 ≤ length (get_or rows at d).name.now
@@ -309,7 +299,7 @@ names_seen (one ∷ named) = ap (λ names. one.name.now ∷ names) (names_seen n
 pub record IsFieldOf (rows : List code-row.Row) (at : ℕ) (row : code-row.Row) (fields : List Field) (field : Field) : Type 0 where
   pub inside : at < length fields
   pub low : field.low ≡ width_of (widths_of (drop (at + 1) (rows_seen rows)))
-  pub named : are_behind field.named.now 0 (map (λ one. one.name.now) row.named.now) ≡ true
+  pub names : are_behind field.named.now 0 (map (λ one. one.name.now) row.named.now) ≡ true
 
 field_parts : (row : Row) (rows : List Row) (field : Field) (fields : List Field) → fields_fit (row ∷ rows) (field ∷ fields) ≡ true
     → ((field.low ≡ width_of (widths_of rows)) × (are_behind field.named.now 0 (map (λ one. one.name) row.named) ≡ true)) × (fields_fit rows fields ≡ true)
@@ -333,7 +323,7 @@ field_here (row ∷ rows) zero d (field ∷ fields) none inside test =
     record {
       inside = omega arith;
       low = parts.0.0;
-      named = ap (are_behind field.named.now 0) (sym (names_seen row.named.now)) ∙ parts.0.1;
+      names = ap (are_behind field.named.now 0) (sym (names_seen row.named.now)) ∙ parts.0.1;
     }
 field_here (row ∷ rows) (suc at) d (field ∷ fields) none inside test =
     let parts = field_parts (row_seen row) (rows_seen rows) field fields test in
@@ -341,5 +331,39 @@ field_here (row ∷ rows) (suc at) d (field ∷ fields) none inside test =
     record {
       inside = omega (arith, later.inside);
       low = later.low ∙ ap (λ rest. width_of (widths_of rest)) (rw (add-one, add-one) refl);
-      named = later.named;
+      names = later.names;
     }
+
+-- the place of an item whose row stands here
+pub item_here : (rows : List code-row.Row) (seen : List Row) (items : List ℕ) (fields : List Field) (d : code-row.Row) (none : Field) (place : Place)
+    → rows_seen rows ≡ seen → place.at < length rows → place.at < 2 ^ 63 → fields_fit (rows_seen rows) fields ≡ true
+    → place.row.now ≡ get_or rows place.at d → place.field ≡ get_or fields place.at none
+    → is_row (name_seen place) (row_seen place.row.now) ≡ true → (place.is_own ≡ false → bytes_eq place.row.now.name.now (codes "to") ≡ false)
+    → IsBehind 61 items (name_seen place) place.text.now → IsItemAt seen items place
+item_here rows seen items fields d none place is inside small fit row field named label cut =
+    let facts = field_here rows place.at d fields none inside fit in
+    record {
+      inside = small;
+      here = subst (λ all. drop place.at all ≡ row_seen place.row.now ∷ drop (place.at + 1) all) is
+          (row_here rows place.at d inside ∙ ap (λ r. row_seen r ∷ drop (place.at + 1) (rows_seen rows)) (sym row));
+      named = named;
+      label = label;
+      low = ap (λ f. f.low) field ∙ (facts.low ∙ ap (λ all. width_of (widths_of (drop (place.at + 1) all))) is);
+      names = ap (λ f. are_behind f.named.now 0 (map (λ one. one.name.now) place.row.now.named.now)) field
+          ∙ (ap (λ r. are_behind (get_or fields place.at none).named.now 0 (map (λ one. one.name.now) r.named.now)) row ∙ facts.names);
+      cut = cut;
+    }
+
+pub inside_view : (rows : List code-row.Row) (seen : List Row) (at : ℕ) → rows_seen rows ≡ seen → at < length seen → at < length rows
+inside_view rows seen at is inside = omega (arith, inside, ap length is, length-map rows row_seen)
+
+abbrev first_of : Row → List Row → Row
+first_of none [] = none
+first_of none (row ∷ rows) = row
+
+-- a row that stands here is the only one that does
+pub other_here : (rows : List code-row.Row) (seen : List Row) (at : ℕ) (d : code-row.Row) (items : List ℕ) → rows_seen rows ≡ seen → at < length rows
+    → begins 61 items (get_or rows at d).name.now ≡ false → (row : Row) → (later : List Row) → drop at seen ≡ row ∷ later → begins 61 items row.name ≡ false
+other_here rows seen at d items is inside other row later here =
+    let first : row ≡ row_seen (get_or rows at d) = ap (first_of row) (sym here ∙ (ap (drop at) (sym is) ∙ row_here rows at d inside)) in
+    ap (λ r. begins 61 items r.name) first ∙ other

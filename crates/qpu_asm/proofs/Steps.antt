@@ -7,7 +7,7 @@ use Rattle.std.specs.{Char.is_ascii_digit, Str.all_ascii_digits}
 use Rattle.qpu_isa.specs.Fields.{joined}
 use Rattle.script.specs.{Lines.before, Lines.behind, Number.is_number, Number.number_of, Number.number_after}
 use Rattle.qpu_asm.specs.declared.{fault.Mistake.Mistake}
-use Rattle.qpu_asm.specs.{Walk.lacks, Walk.is_part, Walk.begins, Walk.IsBehind, Walk.IsAfter, Walk.IsWord, Walk.IsOpen, Walk.skip_to, Walk.with_value, Walk.IsPlace, Walk.IsStep, Walk.AreSteps, Walk.read_items, Walk.code_of, Walk.option_code, Walk.kind_code, Walk.closed_word, Lines.words_of, Lines.is_full, Walk.read_item, Walk.read_named, Items.Spots, Items.read_number, Items.read_plain, Items.read_value, Items.find_named, Items.or_number, Items.has_value, Items.is_row, Items.has_row, Items.kind_named, Table.Row, Table.Kind, Table.nop_kind, Table.widths_of, Table.fallbacks_of, Seen.row_seen, Seen.rows_seen, Seen.named_seen}
+use Rattle.qpu_asm.specs.{Walk.lacks, Walk.is_part, Walk.begins, Walk.IsBehind, Walk.IsAfter, Walk.IsWord, Walk.IsOpen, Forms.IsPassed, Walk.skip_to, Walk.with_value, Walk.IsPlace, Walk.IsStep, Walk.AreSteps, Walk.read_items, Walk.code_of, Walk.option_code, Walk.kind_code, Walk.closed_word, Lines.words_of, Lines.is_full, Walk.read_item, Walk.read_named, Items.Spots, Items.read_number, Items.read_plain, Items.read_value, Items.find_named, Items.or_number, Items.has_value, Items.is_row, Items.has_row, Items.kind_named, Table.Row, Table.Kind, Table.nop_kind, Table.widths_of, Table.fallbacks_of, Seen.row_seen, Seen.rows_seen, Seen.named_seen}
 use Rattle.qpu_asm.specs.declared.table.Row as code
 use Rattle.qpu_asm.proofs.{Heads.cut_name, Heads.begun_split, Heads.ahead, Heads.lacks_append, Heads.digits_lack, Heads.first_other, Words.word_first, Bytes.bytes_same, Bytes.bytes_itself, Rows.none_left, Reading.value_small, Reading.open_facts, Reading.open_step}
 
@@ -115,16 +115,16 @@ not_row items name row here other plain =
       | inr apart ↦ rw (apart, plain) refl
     ]
 
+-- a name that items don't begin with is another than one that they begin with
+pub begun_apart : (items name here : List ℕ) → begins 61 items name ≡ false → begins 61 items here ≡ true → bytes_eq name here ≡ false
+begun_apart items name here other begun = elim (cases_Bool (bytes_eq name here)) [
+  | inl same ↦ absurd (false≢true (sym other ∙ (ap (begins 61 items) (bytes_same name here same) ∙ begun)))
+  | inr apart ↦ apart
+]
+
 or_last : (b : Bool) → (b || true) ≡ true
 or_last true = refl
 or_last false = refl
-
--- the rows that were passed
-pub record IsPassed (items : List ℕ) (first : ℕ) (all : List Row) (word : ℕ) (rows : List Row) : Type 0 where
-  pub still : IsOpen word rows
-  pub there : (name : List ℕ) → begins 61 items name ≡ true → has_row name rows ≡ has_row name all
-  pub same : (name : List ℕ) (read : Row → Result ℕ Mistake) (fault : Option Mistake) → begins 61 items name ≡ true
-      → skip_to name read fault word rows ≡ skip_to name read fault first all
 
 pub passed_none : (items : List ℕ) (word : ℕ) (rows : List Row) → IsOpen word rows → IsPassed items word rows word rows
 passed_none items word rows room = record { still = room; there = λ name begun. refl; same = λ name read fault begun. refl }

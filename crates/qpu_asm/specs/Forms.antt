@@ -1,8 +1,8 @@
 -- How items are read without walking over the rows before theirs. No part of what the crate claims.
-use Rattle.std.specs.Prelude.{ℕ, ◌+◌, ◌*◌, ◌/◌, ◌%◌, ◌^◌, ◌<◌, ◌≡◌, ◌==◌, Bool, true, false, not, ◌&&◌, ◌||◌, nat_le, List, [], ◌∷◌, length, map, drop, slice_index}
+use Rattle.std.specs.Prelude.{ℕ, ◌+◌, ◌*◌, ◌/◌, ◌%◌, ◌^◌, ◌<◌, ◌≡◌, ◌==◌, Bool, true, false, not, ◌&&◌, ◌||◌, nat_le, List, [], ◌∷◌, length, map, drop, slice_index, bytes_eq, codes, Option, Result}
 use Rattle.std.specs.List.{list_all}
 use Rattle.qpu_isa.specs.Fields.{joined, width_of}
-use Rattle.qpu_asm.specs.{declared.form.Field.Field, Table.Row, Table.fallbacks_of, Table.widths_of, Walk.IsOpen, Walk.IsPlace}
+use Rattle.qpu_asm.specs.{declared.form.Field.Field, declared.form.Place.Place, declared.fault.Mistake.Mistake, Table.Row, Table.fallbacks_of, Table.widths_of, Items.is_row, Items.has_row, Walk.skip_to, Walk.begins, Walk.IsOpen, Walk.IsPlace, Walk.IsBehind, Seen.row_seen, Seen.name_seen}
 
 -- the part of a word above the rows that may still come
 abbrev pub front_of : ℕ → List Row → ℕ
@@ -45,10 +45,28 @@ pub record IsForm (blank : ℕ) (rows : List Row) (fields : List Field) (starts 
   pub names : are_behind starts 0 (map (λ row. row.name) rows) ≡ true
   pub labels : labels_behind starts 0 rows ≡ true
 
--- the row of an item's name, among those that may still come from one on
-pub record IsFound (rows : List Row) (next : ℕ) (name : List ℕ) (at : ℕ) (row : Row) : Type 0 where
-  pub inside : at < length rows
-  pub here : drop at rows ≡ row ∷ drop (at + 1) rows
-  pub whole : (word : ℕ) → IsWhole word (drop next rows) → IsWhole word (drop at rows)
-  pub place : (word : ℕ) → IsWhole word (drop next rows)
-      → IsPlace (front_of word (drop next rows)) (drop next rows) name (front_of word (drop at rows)) row (drop (at + 1) rows)
+-- the rows that were passed are of other names than the one that items begin with
+pub record IsPassed (items : List ℕ) (first : ℕ) (all : List Row) (word : ℕ) (rows : List Row) : Type 0 where
+  pub still : IsOpen word rows
+  pub there : (name : List ℕ) → begins 61 items name ≡ true → has_row name rows ≡ has_row name all
+  pub same : (name : List ℕ) (read : Row → Result ℕ Mistake) (fault : Option Mistake) → begins 61 items name ≡ true
+      → skip_to name read fault word rows ≡ skip_to name read fault first all
+
+-- a word that the rows may still come to is still whole where the rows before later ones are passed
+abbrev pub ArePassed : List ℕ → List Row → List Row → Type 0
+ArePassed items rows rest = (word : ℕ) → IsWhole word rows → IsWhole word rest × IsPassed items (front_of word rows) rows (front_of word rest) rest
+
+-- the place of the item that items begin with
+pub record IsItemAt (rows : List Row) (items : List ℕ) (place : Place) : Type 0 where
+  pub inside : place.at < 2 ^ 63
+  pub here : drop place.at rows ≡ row_seen place.row.now ∷ drop (place.at + 1) rows
+  pub named : is_row (name_seen place) (row_seen place.row.now) ≡ true
+  pub label : place.is_own ≡ false → bytes_eq place.row.now.name.now (codes "to") ≡ false
+  pub low : place.field.low ≡ width_of (widths_of (drop (place.at + 1) rows))
+  pub names : are_behind place.field.named.now 0 (map (λ named. named.name.now) place.row.now.named.now) ≡ true
+  pub cut : IsBehind 61 items (name_seen place) place.text.now
+
+-- a row of this name comes next among those that may still come
+pub record IsNext (rows : List Row) (name : List ℕ) (rest : List Row) (row : Row) (later : List Row) : Type 0 where
+  pub whole : (word : ℕ) → IsWhole word rows → IsWhole word rest
+  pub place : (word : ℕ) → IsWhole word rows → IsPlace (front_of word rows) rows name (front_of word rest) row later

@@ -1,10 +1,10 @@
 //! What reads the items of a kind's lines: where the row of a name is, and where its field lies, so that no row before it is walked over.
-ghost use Rattle.std.specs.Prelude.{◌≡◌, ◌≤◌, ◌<◌, ◌+◌, ◌/◌, ◌^◌, true, length, map, drop, slice_index, IfSome, MatchOption, Some, false, codes, bytes_eq};
+ghost use Rattle.std.specs.Prelude.{◌≡◌, ◌≤◌, ◌<◌, ◌∷◌, ◌+◌, ◌/◌, ◌^◌, true, length, map, drop, slice_index, IfSome, MatchOption, Some, false, codes, bytes_eq, List, None};
 ghost use Rattle.qpu_isa.specs.Fields.{width_of};
-ghost use Rattle.qpu_asm.specs.Table.{widths_of, alu_kind, load_imm_kind, branch_kind};
+ghost use Rattle.qpu_asm.specs.Table.{Row as RowModel, alu_kind, load_imm_kind, branch_kind};
 ghost use Rattle.qpu_asm.specs.Items.{find_named};
 ghost use Rattle.qpu_asm.specs.Walk.{begins, IsBehind};
-ghost use Rattle.qpu_asm.specs.Forms.{slot_of as slot_by, front_of, are_behind, IsWhole, IsFound};
+ghost use Rattle.qpu_asm.specs.Forms.{slot_of as slot_by, front_of, are_behind, IsWhole, ArePassed, IsItemAt, IsNext};
 ghost use Rattle.qpu_asm.specs.Seen.{named_seen, row_seen, name_seen};
 
 use crate::lines::behind_name;
@@ -263,44 +263,86 @@ fn behind_own<'a>(items: &'a [u8], first: u8, second: u8, name: &[u8]) -> Option
 
 const TO: &[u8] = b"to";
 
+// The place of the first of some items, where its row is this one.
+#[inline]
+fn place_at<'a>(form: &Form, at: usize, items: &'a [u8]) -> Option<Place<'a>>
+    requires inside { at < length form.now.rows }
+    requires some { 2 < length items.now }
+    ensures item { IfSome result (IsItemAt form.now.rows items.now) }
+    ensures at { IfSome result (λ place. place.at ≡ at) }
+    ensures other { result ≡ None → (row : RowModel) → (later : List RowModel) → drop at form.now.rows ≡ row ∷ later
+        → begins 61 items.now row.name ≡ false }
+{
+    let rows = form.rows;
+    let row = &rows[at];
+    let field = form.fields[at];
+    if let Some(text) = behind_own(items, items[0], items[1], row.name) {
+        return Some(Place {
+            at,
+            row,
+            field,
+            is_own: true,
+            text,
+        });
+    }
+    if !row.takes_label {
+        return None;
+    }
+    let text = behind_name(items, TO, b'=')?;
+    Some(Place {
+        at,
+        row,
+        field,
+        is_own: false,
+        text,
+    })
+}
+
+// The first row from this one on that may be of the name that items begin with.
+#[inline]
+fn first_row(form: &Form, next: usize, items: &[u8]) -> usize
+    requires { 2 < length items.now }
+    ensures { ArePassed items.now (drop next form.now.rows) (drop result form.now.rows) }
+{
+    next.max(form.starts[slot_of(items[0], items[1])] as usize)
+}
+
+// The place of the first of some items, where its row is this one or a later one, which is sought row by row.
+#[inline(never)]
+fn seek_place<'a>(form: &Form, next: usize, items: &'a [u8]) -> Option<Place<'a>>
+    requires { 2 < length items.now }
+    ensures item { IfSome result (IsItemAt form.now.rows items.now) }
+    ensures next { IfSome result (λ place. IsNext (drop next form.now.rows) (name_seen place) (drop place.at form.now.rows)
+        (row_seen place.row.now) (drop (place.at + 1) form.now.rows)) }
+{
+    for at in first_row(form, next, items)..form.rows.len() {
+        if let Some(place) = place_at(form, at, items) {
+            return Some(place);
+        }
+        if form.rows[at].takes_label {
+            return None;
+        }
+    }
+    None
+}
+
 /// The place of the first of some items, where its row is this one or a later one.
 pub fn find_place<'a>(form: &Form, next: usize, items: &'a [u8]) -> Option<Place<'a>>
-    ensures found { IfSome result (λ place. IsFound form.now.rows next (name_seen place) place.at (row_seen place.row.now)) }
-    ensures inside { IfSome result (λ place. place.at < 2 ^ 63) }
-    ensures low { IfSome result (λ place. place.field.low ≡ width_of (widths_of (drop (place.at + 1) form.now.rows))) }
-    ensures named { IfSome result (λ place.
-        are_behind place.field.named.now 0 (map (λ named. named.name.now) place.row.now.named.now) ≡ true) }
-    ensures label { IfSome result (λ place. place.is_own ≡ false → bytes_eq place.row.now.name.now (codes "to") ≡ false) }
-    ensures cut { IfSome result (λ place. IsBehind 61 items.now (name_seen place) place.text.now) }
+    ensures item { IfSome result (IsItemAt form.now.rows items.now) }
+    ensures next { IfSome result (λ place. IsNext (drop next form.now.rows) (name_seen place) (drop place.at form.now.rows)
+        (row_seen place.row.now) (drop (place.at + 1) form.now.rows)) }
 {
     if items.len() < 3 {
         return None;
     }
-    let (first, second) = (items[0], items[1]);
-    let start = form.starts[slot_of(first, second)] as usize;
-    for at in next.max(start)..form.rows.len() {
-        let row = &form.rows[at];
-        if let Some(text) = behind_own(items, first, second, row.name) {
-            return Some(Place {
-                at,
-                row,
-                field: form.fields[at],
-                is_own: true,
-                text,
-            });
-        }
-        if row.takes_label {
-            let text = behind_name(items, TO, b'=')?;
-            return Some(Place {
-                at,
-                row,
-                field: form.fields[at],
-                is_own: false,
-                text,
-            });
-        }
+    let at = first_row(form, next, items);
+    if at >= form.rows.len() {
+        return None;
     }
-    None
+    if let Some(place) = place_at(form, at, items) {
+        return Some(place);
+    }
+    seek_place(form, next, items)
 }
 
 /// The value of a name, where it has one.

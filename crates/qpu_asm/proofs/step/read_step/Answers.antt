@@ -10,55 +10,55 @@ use Rattle.qpu_asm.proofs.Steps.{item_of, step_made, step_words, step_shorter, p
 use Rattle.qpu_asm.proofs.step.read_step.Goals as goal
 
 pub read_placed-requires-clause-below : goal.read_placed-requires-clause-below
-read_placed-requires-clause-below c = row_below _ (open_facts _ _ _ (c.in_ok-place.ensures.found.place c.args.word c.requires).still)
+read_placed-requires-clause-below c = row_below _ (open_facts _ _ _ (c.in_ok-place.ensures.next.place c.args.word c.requires).still)
 
 pub with_field-requires-clause-low : goal.with_field-requires-clause-low
 with_field-requires-clause-low c =
-    let place = c.in_ok-place.ensures.found.place c.args.word c.requires in
-    (replaced c.args.word _ _ _ _ _ c.in_ok-place.ensures.found.here c.in_ok-place.ensures.low (c.in_ok-place.ensures.found.whole c.args.word c.requires)
+    let place = c.in_ok-place.ensures.next.place c.args.word c.requires in
+    (replaced c.args.word _ _ _ _ _ c.in_ok-place.ensures.item.here c.in_ok-place.ensures.item.low (c.in_ok-place.ensures.next.whole c.args.word c.requires)
     (place_value _ _ _ _ _ _ _ _ place.still place.named c.in_ok-read.ensures.value)).high
 
 pub with_field-requires-clause-inside : goal.with_field-requires-clause-inside
 with_field-requires-clause-inside c =
-    let place = c.in_ok-place.ensures.found.place c.args.word c.requires in
-    (replaced c.args.word _ _ _ _ _ c.in_ok-place.ensures.found.here c.in_ok-place.ensures.low (c.in_ok-place.ensures.found.whole c.args.word c.requires)
+    let place = c.in_ok-place.ensures.next.place c.args.word c.requires in
+    (replaced c.args.word _ _ _ _ _ c.in_ok-place.ensures.item.here c.in_ok-place.ensures.item.low (c.in_ok-place.ensures.next.whole c.args.word c.requires)
     (place_value _ _ _ _ _ _ _ _ place.still place.named c.in_ok-read.ensures.value)).inside
 
 pub with_field-requires-clause-room : goal.with_field-requires-clause-room
 with_field-requires-clause-room c =
-    let place = c.in_ok-place.ensures.found.place c.args.word c.requires in
-    (replaced c.args.word _ _ _ _ _ c.in_ok-place.ensures.found.here c.in_ok-place.ensures.low (c.in_ok-place.ensures.found.whole c.args.word c.requires)
+    let place = c.in_ok-place.ensures.next.place c.args.word c.requires in
+    (replaced c.args.word _ _ _ _ _ c.in_ok-place.ensures.item.here c.in_ok-place.ensures.item.low (c.in_ok-place.ensures.next.whole c.args.word c.requires)
     (place_value _ _ _ _ _ _ _ _ place.still place.named c.in_ok-read.ensures.value)).room
 
 pub returns-clause-step : goal.returns-clause-step
 returns-clause-step c =
-    let found = c.in_ok-place.ensures.found in
-    let place = found.place c.args.word c.requires in
+    let next = c.in_ok-place.ensures.next in
+    let place = next.place c.args.word c.requires in
     let later = drop (c.in_ok-place.place.at + 1) c.args.form.now.rows in
-    let value = replaced c.args.word _ _ _ _ _ found.here c.in_ok-place.ensures.low (found.whole c.args.word c.requires)
+    let value = replaced c.args.word _ _ _ _ _ c.in_ok-place.ensures.item.here c.in_ok-place.ensures.item.low (next.whole c.args.word c.requires)
     (place_value _ _ _ _ _ _ _ _ place.still place.named c.in_ok-read.ensures.value) in
     subst (λ above. IsStep (spots_in c.args.labels.now) c.args.index (front_of c.args.word (drop c.args.next c.args.form.now.rows))
     (drop c.args.next c.args.form.now.rows) (before 32 (before 10 c.args.items.now)) above later)
     (sym (ap (λ word. front_of word later) c.with_field.ensures ∙ value.front))
-    (step_made _ _ _ _ _ _ _ _ _ _ _ place c.in_ok-place.ensures.cut c.in_ok-read.ensures.value (name_part c.in_ok-place.place.is_own _ _ _ place.still))
+    (step_made _ _ _ _ _ _ _ _ _ _ _ place c.in_ok-place.ensures.item.cut c.in_ok-read.ensures.value (name_part c.in_ok-place.place.is_own _ _ _ place.still))
 
 pub returns-clause-words : goal.returns-clause-words
 returns-clause-words c =
-    step_words _ _ _ _ (name_part c.in_ok-place.place.is_own _ _ _ (c.in_ok-place.ensures.found.place c.args.word c.requires).still)
-    c.in_ok-place.ensures.cut c.in_ok-read.ensures.after
+    step_words _ _ _ _ (name_part c.in_ok-place.place.is_own _ _ _ (c.in_ok-place.ensures.next.place c.args.word c.requires).still)
+    c.in_ok-place.ensures.item.cut c.in_ok-read.ensures.after
 
 pub returns-clause-others : goal.returns-clause-others
 returns-clause-others c =
-    (item_of _ _ _ (name_part c.in_ok-place.place.is_own _ _ _ (c.in_ok-place.ensures.found.place c.args.word c.requires).still) c.in_ok-place.ensures.cut).others
+    (item_of _ _ _ (name_part c.in_ok-place.place.is_own _ _ _ (c.in_ok-place.ensures.next.place c.args.word c.requires).still) c.in_ok-place.ensures.item.cut).others
     ∙ c.in_ok-read.ensures.after.others
 
 pub returns-clause-shorter : goal.returns-clause-shorter
-returns-clause-shorter c = step_shorter _ _ _ _ c.in_ok-place.ensures.cut c.in_ok-read.ensures.after
+returns-clause-shorter c = step_shorter _ _ _ _ c.in_ok-place.ensures.item.cut c.in_ok-read.ensures.after
 
 pub returns-clause-whole : goal.returns-clause-whole
 returns-clause-whole c =
-    let found = c.in_ok-place.ensures.found in
-    let place = found.place c.args.word c.requires in
+    let next = c.in_ok-place.ensures.next in
+    let place = next.place c.args.word c.requires in
     subst (λ word. IsWhole word (drop (c.in_ok-place.place.at + 1) c.args.form.now.rows)) (sym c.with_field.ensures)
-    (replaced c.args.word _ _ _ _ _ found.here c.in_ok-place.ensures.low (found.whole c.args.word c.requires)
+    (replaced c.args.word _ _ _ _ _ c.in_ok-place.ensures.item.here c.in_ok-place.ensures.item.low (next.whole c.args.word c.requires)
     (place_value _ _ _ _ _ _ _ _ place.still place.named c.in_ok-read.ensures.value)).whole
