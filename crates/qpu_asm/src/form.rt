@@ -270,8 +270,6 @@ fn place_at<'a>(form: &Form, at: usize, items: &'a [u8]) -> Option<Place<'a>>
     requires some { 2 < length items.now }
     ensures item { IfSome result (IsItemAt form.now.rows items.now) }
     ensures at { IfSome result (λ place. place.at ≡ at) }
-    ensures other { result ≡ None → (row : RowModel) → (later : List RowModel) → drop at form.now.rows ≡ row ∷ later
-        → begins 61 items.now row.name ≡ false }
 {
     let rows = form.rows;
     let row = &rows[at];
@@ -307,26 +305,8 @@ fn first_row(form: &Form, next: usize, items: &[u8]) -> usize
     next.max(form.starts[slot_of(items[0], items[1])] as usize)
 }
 
-// The place of the first of some items, where its row is this one or a later one, which is sought row by row.
-#[inline(never)]
-fn seek_place<'a>(form: &Form, next: usize, items: &'a [u8]) -> Option<Place<'a>>
-    requires { 2 < length items.now }
-    ensures item { IfSome result (IsItemAt form.now.rows items.now) }
-    ensures next { IfSome result (λ place. IsNext (drop next form.now.rows) (name_seen place) (drop place.at form.now.rows)
-        (row_seen place.row.now) (drop (place.at + 1) form.now.rows)) }
-{
-    for at in first_row(form, next, items)..form.rows.len() {
-        if let Some(place) = place_at(form, at, items) {
-            return Some(place);
-        }
-        if form.rows[at].takes_label {
-            return None;
-        }
-    }
-    None
-}
-
-/// The place of the first of some items, where its row is this one or a later one.
+/// The place of the first of some items, where its row is this one or a later one, and the first of those that its slot tells of. Of all
+/// rows only `reg` is behind another one of its slot, `rel`.
 pub fn find_place<'a>(form: &Form, next: usize, items: &'a [u8]) -> Option<Place<'a>>
     ensures item { IfSome result (IsItemAt form.now.rows items.now) }
     ensures next { IfSome result (λ place. IsNext (drop next form.now.rows) (name_seen place) (drop place.at form.now.rows)
@@ -339,10 +319,8 @@ pub fn find_place<'a>(form: &Form, next: usize, items: &'a [u8]) -> Option<Place
     if at >= form.rows.len() {
         return None;
     }
-    if let Some(place) = place_at(form, at, items) {
-        return Some(place);
-    }
-    seek_place(form, next, items)
+    let place = place_at(form, at, items)?;
+    Some(place)
 }
 
 /// The value of a name, where it has one.

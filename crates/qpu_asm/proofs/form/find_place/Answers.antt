@@ -3,8 +3,8 @@ use Rattle.qpu_asm.specs.Forms.{ArePassed}
 use Rattle.qpu_asm.proofs.Forms.{next_here}
 use Rattle.qpu_asm.proofs.form.find_place.Goals as goal
 
-pub returns-in-Some-clause-next : goal.returns-in-Some-clause-next
-returns-in-Some-clause-next c =
-    next_here c.args.items.now _ _ _ _ _ c.in-Some.ensures.item.here
-    (subst (λ at. ArePassed c.args.items.now (drop c.args.next c.args.form.now.rows) (drop at c.args.form.now.rows)) (sym c.in-Some.ensures.at) c.first_row-at.ensures)
-    c.in-Some.ensures.item.cut.begun c.in-Some.ensures.item.named
+pub returns-clause-next : goal.returns-clause-next
+returns-clause-next c =
+    next_here c.args.items.now _ _ _ _ _ c.in_ok-place.ensures.item.here
+    (subst (λ at. ArePassed c.args.items.now (drop c.args.next c.args.form.now.rows) (drop at c.args.form.now.rows)) (sym c.in_ok-place.ensures.at) c.first_row-at.ensures)
+    c.in_ok-place.ensures.item.cut.begun c.in_ok-place.ensures.item.named

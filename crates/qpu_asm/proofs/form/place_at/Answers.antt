@@ -40,16 +40,6 @@ returns-in-Some-clause-item c =
     item_here c.form.inside.rows.now _ c.args.items.now c.form.inside.fields.now no_row no_field _ (ap (λ kind. kind.rows) c.form.view_is) inside (omega (arith, inside, c.form.told.1))
     c.form.invariant.fields_fit refl refl (own_row (row_seen row)) (λ to. own_to to) c.in-Some.ensures
 
-pub returns-then-not-row-clause-other : goal.returns-then-not-row-clause-other
-returns-then-not-row-clause-other c = λ none.
-    other_here c.form.inside.rows.now _ c.args.at no_row c.args.items.now (ap (λ kind. kind.rows) c.form.view_is) (inside_view c.form.inside.rows.now _ c.args.at (ap (λ kind. kind.rows) c.form.view_is) c.requires.inside)
-    c.in_default.ensures
-
-pub returns-in_err-text-clause-other : goal.returns-in_err-text-clause-other
-returns-in_err-text-clause-other c = λ none.
-    other_here c.form.inside.rows.now _ c.args.at no_row c.args.items.now (ap (λ kind. kind.rows) c.form.view_is) (inside_view c.form.inside.rows.now _ c.args.at (ap (λ kind. kind.rows) c.form.view_is) c.requires.inside)
-    c.in_default.ensures
-
 pub returns-clause-item : goal.returns-clause-item
 returns-clause-item c =
     let inside = (inside_view c.form.inside.rows.now _ c.args.at (ap (λ kind. kind.rows) c.form.view_is) c.requires.inside) in
