@@ -1,5 +1,5 @@
 -- A word with the defaults of the rows that may still come, and the rows that no item's name is among.
-use Rattle.std.proofs.Common.{◌≡◌, ℕ, zero, suc, ◌+◌, ◌-◌, ◌*◌, ◌/◌, ◌^◌, ◌<◌, ◌≤◌, Bool, true, false, not, ◌==◌, ◌&&◌, ◌||◌, nat_le, nat_lt, ltb-true, List, [], ◌∷◌, ◌++◌, length, max, map, take, drop, slice_index, get_or, refl, sym, ◌∙◌, ap, subst, arith, pow-add, pow_pos, mul_assoc, mul-le-mul_right, leb-true, eqb-true, codes, bytes_eq, inl, inr, Some, Result, Option, if◌then◌else◌, add-one, pow_mono}
+use Rattle.std.proofs.Common.{◌≡◌, ℕ, zero, suc, ◌+◌, ◌-◌, ◌*◌, ◌^◌, ◌<◌, ◌≤◌, Bool, true, false, not, ◌==◌, ◌&&◌, ◌||◌, nat_le, nat_lt, ltb-true, List, [], ◌∷◌, ◌++◌, length, max, map, drop, slice_index, get_or, refl, sym, ◌∙◌, ap, subst, arith, pow-add, mul_assoc, mul-le-mul_right, leb-true, eqb-true, codes, bytes_eq, inl, inr, Some, Option, if◌then◌else◌, add-one, pow_mono}
 use Rattle.std.proofs.lemmas.Nat.{div-mul-add}
 use Rattle.std.proofs.lemmas.Bool.{and_parts, false≢true, cases_Bool}
 use Rattle.std.proofs.lemmas.Bool.Decides.{nat_tests}
@@ -10,7 +10,7 @@ use Rattle.qpu_asm.specs.declared.table.Named as code
 use Rattle.qpu_asm.specs.declared.table.Row as code-row
 use Rattle.qpu_asm.specs.declared.form.{Field.Field, Place.Place}
 use Rattle.std.proofs.lemmas.List.{drop-drop, length-map}
-use Rattle.qpu_asm.proofs.{Rows.RowFacts, Rows.ready_parts, Rows.row_facts, Reading.open_facts, Reading.open_step, Reading.room_parts, Bytes.bytes_same, Heads.begun_split, Steps.passed_row, Steps.passed_none, Steps.place_row}
+use Rattle.qpu_asm.proofs.{Rows.ready_parts, Rows.row_facts, Reading.open_facts, Reading.open_step, Reading.room_parts, Bytes.bytes_same, Heads.begun_split, Steps.passed_row, Steps.passed_none, Steps.place_row}
 
 -- what the defaults of rows are alone
 abbrev pub defaults_of : List Row → ℕ
@@ -252,16 +252,6 @@ start_passed starts items all next start size names labels is = λ word whole.
     (subst (λ n. are_behind starts n (map (λ row. row.name) (drop next all)) ≡ true) (omega arith) (names_from starts next 0 all names))
     (subst (λ n. labels_behind starts n (drop next all) ≡ true) (omega arith) (labels_from starts next 0 all labels)) (grind (arith, is)) whole (passed_none items (front_of word (drop next all)) (drop next all) whole.still))
 
-pub next_passed : (items : List ℕ) (all rest later : List Row) (row : Row) → rest ≡ row ∷ later → begins 61 items row.name ≡ false → row.takes_label ≡ false
-    → ArePassed items all rest → ArePassed items all later
-next_passed items all rest later row is other plain pass = λ word whole.
-    let here = subst (λ r. IsWhole word r × IsPassed items (front_of word all) all (front_of word r) r) is (pass word whole) in
-    let next = whole_later word row later here.0 in (
-      next.1,
-      subst (λ w. IsPassed items (front_of word all) all w later) (sym next.0)
-      (passed_row items (front_of word all) all (front_of word (row ∷ later)) row later here.1 other plain),
-    )
-
 -- a row of the code's, and its field
 row_at : (rows : List code-row.Row) (at : ℕ) (d : code-row.Row) → at < length rows
     → drop at (rows_seen rows) ≡ row_seen (get_or rows at d) ∷ drop (suc at) (rows_seen rows)
@@ -356,14 +346,3 @@ item_here rows seen items fields d none place is inside small fit row field name
 
 pub inside_view : (rows : List code-row.Row) (seen : List Row) (at : ℕ) → rows_seen rows ≡ seen → at < length seen → at < length rows
 inside_view rows seen at is inside = omega (arith, inside, ap length is, length-map rows row_seen)
-
-abbrev first_of : Row → List Row → Row
-first_of none [] = none
-first_of none (row ∷ rows) = row
-
--- a row that stands here is the only one that does
-pub other_here : (rows : List code-row.Row) (seen : List Row) (at : ℕ) (d : code-row.Row) (items : List ℕ) → rows_seen rows ≡ seen → at < length rows
-    → begins 61 items (get_or rows at d).name.now ≡ false → (row : Row) → (later : List Row) → drop at seen ≡ row ∷ later → begins 61 items row.name ≡ false
-other_here rows seen at d items is inside other row later here =
-    let first : row ≡ row_seen (get_or rows at d) = ap (first_of row) (sym here ∙ (ap (drop at) (sym is) ∙ row_here rows at d inside)) in
-    ap (λ r. begins 61 items r.name) first ∙ other

@@ -1,13 +1,12 @@
 -- An item that is read in one walk.
-use Rattle.std.proofs.Common.{◌≡◌, ℕ, zero, suc, get_or, ◌+◌, ◌-◌, ◌*◌, ◌^◌, ◌<◌, ◌≤◌, ◌||◌, codes, Bool, true, false, not, ◌==◌, ◌&&◌, List, [], ◌∷◌, ◌++◌, length, take, drop, slice_index, refl, sym, ◌∙◌, ap, subst, arith, min, append-nil, append_assoc, ne_eqb, ◌≢◌, map, le_refl, None, Some, Ok, IfOk, lt-ltb, ltb-true, nat_lt, bytes_eq, add-one, inl, inr, Option, Result, length-append, if◌then◌else◌}
+use Rattle.std.proofs.Common.{◌≡◌, ℕ, zero, suc, get_or, ◌+◌, ◌-◌, ◌*◌, ◌^◌, ◌<◌, ◌≤◌, ◌||◌, codes, Bool, true, false, not, ◌==◌, ◌&&◌, List, [], ◌∷◌, ◌++◌, length, take, drop, slice_index, refl, sym, ◌∙◌, ap, subst, arith, min, append-nil, append_assoc, ne_eqb, ◌≢◌, map, le_refl, None, Some, Ok, IfOk, lt-ltb, ltb-true, nat_lt, bytes_eq, add-one, inl, inr, length-append, if◌then◌else◌}
 use Rattle.std.proofs.lemmas.Bool.{and_parts, and_from, false≢true, cases_Bool}
 use Rattle.std.proofs.lemmas.List.{take-append-drop, length-drop}
 use Rattle.std.proofs.{lemmas.List.Folds.list_all_more}
 use Rattle.std.specs.{Char.is_ascii_digit, Str.all_ascii_digits}
 use Rattle.qpu_isa.specs.Fields.{joined}
 use Rattle.script.specs.{Lines.before, Lines.behind, Number.is_number, Number.number_of, Number.number_after}
-use Rattle.qpu_asm.specs.declared.{fault.Mistake.Mistake}
-use Rattle.qpu_asm.specs.{Walk.lacks, Walk.is_part, Walk.begins, Walk.IsBehind, Walk.IsAfter, Walk.IsWord, Walk.IsOpen, Forms.IsPassed, Walk.skip_to, Walk.with_value, Walk.IsPlace, Walk.IsStep, Walk.AreSteps, Walk.read_items, Walk.code_of, Walk.option_code, Walk.kind_code, Walk.closed_word, Lines.words_of, Lines.is_full, Walk.read_item, Walk.read_named, Items.Spots, Items.read_number, Items.read_plain, Items.read_value, Items.find_named, Items.or_number, Items.has_value, Items.is_row, Items.has_row, Items.kind_named, Table.Row, Table.Kind, Table.nop_kind, Table.widths_of, Table.fallbacks_of, Seen.row_seen, Seen.rows_seen, Seen.named_seen}
+use Rattle.qpu_asm.specs.{Walk.lacks, Walk.is_part, Walk.begins, Walk.IsBehind, Walk.IsAfter, Walk.IsWord, Walk.IsOpen, Forms.IsPassed, Walk.skip_to, Walk.with_value, Walk.IsPlace, Walk.IsStep, Walk.AreSteps, Walk.read_items, Walk.code_of, Walk.option_code, Walk.kind_code, Walk.closed_word, Lines.words_of, Lines.is_full, Walk.read_item, Walk.read_named, Items.Spots, Items.read_number, Items.read_plain, Items.read_value, Items.find_named, Items.or_number, Items.has_value, Items.is_row, Items.has_row, Items.kind_named, Table.Row, Table.Kind, Table.nop_kind, Table.widths_of, Table.fallbacks_of, Seen.row_seen, Seen.named_seen}
 use Rattle.qpu_asm.specs.declared.table.Row as code
 use Rattle.qpu_asm.proofs.{Heads.cut_name, Heads.begun_split, Heads.ahead, Heads.lacks_append, Heads.digits_lack, Heads.first_other, Words.word_first, Bytes.bytes_same, Bytes.bytes_itself, Rows.none_left, Reading.value_small, Reading.open_facts, Reading.open_step}
 
@@ -275,15 +274,6 @@ pub code_read : (spots : Spots) (index : ℕ) (opcode : List ℕ) (kind : Kind) 
     → kind_code spots index items kind ≡ Ok word → code_of spots index opcode items ≡ Ok word
 unfolding code_of
 code_read spots index opcode kind items word is read = ap (option_code spots index items) is ∙ read
-
-full_some : (bytes : List ℕ) → is_full bytes ≡ true → 0 < length bytes
-unfolding is_full
-full_some [] full = absurd (false≢true full)
-full_some (byte ∷ bytes) full = omega arith
-
-pub part_some : (name : List ℕ) → is_part name ≡ true → 0 < length name
-unfolding is_part
-part_some name test = full_some name (and_parts (is_full name) (lacks 61 name && (lacks 32 name && lacks 10 name)) test).0
 
 -- a number of one digit
 pub digit_read : (below : ℕ) (text others rest : List ℕ) (value : ℕ) → 0 < length text → is_ascii_digit (slice_index text 0) ≡ true → others ≡ drop 1 text

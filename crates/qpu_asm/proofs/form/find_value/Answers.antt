@@ -1,4 +1,4 @@
-use Rattle.std.proofs.Common.{◌∙◌, refl, sym, ap, arith, add-one, drop-cons, slice_index, get_or, []}
+use Rattle.std.proofs.Common.{◌∙◌, sym, ap, arith, add-one, drop-cons, slice_index, get_or, []}
 use Rattle.qpu_asm.proofs.Forms.{names_passed, name_found, chosen, not_chosen}
 use Rattle.qpu_asm.specs.declared.table.Named.{Named}
 use Rattle.qpu_asm.proofs.form.find_value.Goals as goal

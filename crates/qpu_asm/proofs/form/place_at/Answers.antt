@@ -1,10 +1,10 @@
-use Rattle.std.proofs.Common.{◌≡◌, refl, sym, ap, subst, arith, codes, get_or, drop, [], false, true}
+use Rattle.std.proofs.Common.{◌≡◌, refl, sym, ap, arith, codes, get_or, [], false, true}
 use Rattle.std.proofs.lemmas.Bool.{false≢true}
-use Rattle.qpu_asm.specs.declared.form.{Field.Field, Place.Place}
+use Rattle.qpu_asm.specs.declared.form.{Field.Field}
 use Rattle.qpu_asm.specs.declared.table.Row.{Row}
 use Rattle.qpu_asm.specs.Seen.{row_seen}
 use Rattle.qpu_asm.proofs.Steps.{own_row, to_row, begun_apart}
-use Rattle.qpu_asm.proofs.Forms.{inside_view, two_letters, field_here, item_here, other_here}
+use Rattle.qpu_asm.proofs.Forms.{inside_view, two_letters, field_here, item_here}
 use Rattle.qpu_asm.proofs.form.place_at.Goals as goal
 
 abbrev no_row : Row
