@@ -167,6 +167,11 @@ power_next power count high low =
     rw (is, pow-add 2 power 1) (omega (arith, high))
 
 -- a name's bucket, and its end
+pub bucket_low : (shift key : ℕ) → shift < 64 → key < 2 ^ 64 → key / 2 ^ shift < 2 ^ (64 - shift)
+bucket_low shift key high small =
+    let sum : 64 - shift + shift ≡ 64 = omega (arith, high) in
+    shr_below key (64 - shift) shift (subst (λ n. key < 2 ^ n) (sym sum) small)
+
 pub bucket_inside : (shift key : ℕ) (starts : List ℕ) → shift < 64 → length starts ≡ 2 ^ (64 - shift) + 1 → key < 2 ^ 64 → key / 2 ^ shift + 1 < length starts
 bucket_inside shift key starts high count small =
     let sum : 64 - shift + shift ≡ 64 = omega (arith, high) in

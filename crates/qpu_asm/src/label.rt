@@ -1,10 +1,12 @@
 //! The labels of a text: a mark for each line that defines one, sorted by the key of its name and then by the name.
 ghost use Rattle.std.specs.Prelude.{◌≡◌, ◌<◌, ◌≤◌, ◌^◌, ◌++◌, ◌∷◌, ◌-◌, ◌/◌, ◌+◌, length, slice_index, slice_range, min, max, vec_len, IfOk, OnOk, Some, None, bytes_eq, if◌then◌else◌};
 ghost use Rattle.std.specs.Ordering.{is_lt};
+ghost use Rattle.std.specs.List.{sum};
+ghost use Rattle.std.specs.Prelude.{All, IsPermutation, IsTrue};
 ghost use Rattle.script.specs.Lines.{before, lines_of};
 ghost use Rattle.qpu_asm.specs.Lines.{Label, read_line as line_read};
 ghost use Rattle.qpu_asm.specs.Labels.{spots_of, labels_of, label_on, read_lines, size_of};
-ghost use Rattle.qpu_asm.specs.Marks.{key_of as key_by, kept_cmp, AreInOrder, AreLesser, IsBucketStart, AreStarts, AreFound, IsKeyed, AreKeyed, AreFirstBelow, BoundsRepeats, IsStart, AreSortedOf};
+ghost use Rattle.qpu_asm.specs.Marks.{key_of as key_by, kept_cmp, fields_cmp, AreInOrder, AreLesser, IsBucketStart, AreStarts, AreFound, IsKeyed, AreKeyed, AreFirstBelow, BoundsRepeats, IsStart, AreSortedOf};
 ghost use Rattle.qpu_asm.specs.Seen.{line_seen, labels_seen, spots_in};
 
 use crate::labelled::read_labelled;
@@ -118,8 +120,159 @@ fn sorted_marks(alloc: Global, text: &[u8]) -> Result<Vec<Mark<'_>>, AllocError>
     ensures few { IfOk result (λ marks. vec_len marks ≤ length text.now) }
 {
     let mut marks = marks_of(alloc, text)?;
-    marks.sort_unstable();
+    sort_marks(alloc, &mut marks)?;
     Ok(marks)
+}
+
+// Sorts marks.
+fn sort_marks(alloc: Global, marks: &mut [Mark<'_>]) -> Result<(), AllocError>
+    requires { AreKeyed marks.old }
+    ensures moved { IsPermutation marks.old marks.new }
+    ensures order { OnOk result (AreInOrder marks.new) }
+{
+    near_places(alloc, marks)?;
+    if !are_in_order(marks) {
+        marks.sort_unstable();
+    }
+    Ok(())
+}
+
+// Whether marks are in order.
+fn are_in_order(marks: &[Mark<'_>]) -> bool
+    requires { AreKeyed marks.now }
+    ensures { IsTrue result → AreInOrder marks.now }
+{
+    for at in 1..marks.len() {
+        if is_later(&marks[at - 1], &marks[at]) {
+            return false;
+        }
+    }
+    true
+}
+
+// Whether a mark comes after the other.
+fn is_later(first: &Mark<'_>, second: &Mark<'_>) -> bool
+    ensures { result ≡ is_lt (fields_cmp second.now first.now) }
+{
+    if first.name.key != second.name.key {
+        return second.name.key < first.name.key;
+    }
+    second.cmp(first).is_lt()
+}
+
+// From so many marks on, a sort is as fast as putting each near its place, since they don't fit the processor's near memory.
+const MANY: usize = 1 << 15;
+
+// Puts marks near their places, which costs less than a sort of them all. It is of use for its time alone.
+#[inline(never)]
+fn near_places(alloc: Global, marks: &mut [Mark<'_>]) -> Result<(), AllocError>
+    requires { AreKeyed marks.old }
+    ensures { IsPermutation marks.old marks.new }
+{
+    if marks.len() >= MANY || are_in_order(marks) {
+        return Ok(());
+    }
+    let shift = shift_of(marks.len());
+    let mut ends = ends_of(alloc, marks, shift)?;
+    fill_buckets(marks, &mut ends, shift);
+    sort_buckets(marks, &ends, shift);
+    Ok(())
+}
+
+// Where the marks of each bucket are to end.
+fn ends_of(alloc: Global, marks: &[Mark<'_>], shift: u32) -> Result<Vec<u32>, AllocError>
+    requires short { length marks.now < 2 ^ 32 }
+    requires range { (32 ≤ shift) × (shift < 64) }
+    ensures count { IfOk result (λ ends. length ends.items ≡ 2 ^ (64 - shift) + 1) }
+    ensures inside { IfOk result (λ ends. All (λ end. end ≤ length marks.now) ends.items) }
+{
+    let mut counts = counts_of(alloc, marks, shift)?;
+    add_up(&mut counts);
+    Ok(counts)
+}
+
+// The bucket of a key: its high bits.
+#[tactic(auto, using(crate::proofs::Buckets::bucket_low))]
+fn bucket_of(key: u64, shift: u32) -> usize
+    requires { shift < 64 }
+    ensures bucket { result ≡ key / 2 ^ shift }
+    ensures low { result < 2 ^ (64 - shift) }
+{
+    (key >> shift) as usize
+}
+
+// How many marks each bucket has.
+fn counts_of(alloc: Global, marks: &[Mark<'_>], shift: u32) -> Result<Vec<u32>, AllocError>
+    requires short { length marks.now < 2 ^ 32 }
+    requires range { (32 ≤ shift) × (shift < 64) }
+    ensures count { IfOk result (λ counts. length counts.items ≡ 2 ^ (64 - shift) + 1) }
+    ensures all { IfOk result (λ counts. sum counts.items ≡ length marks.now) }
+{
+    let mut counts = vec![in alloc; 0; (1 << (64 - shift)) + 1]?;
+    for mark in marks {
+        counts[bucket_of(mark.name.key, shift)] += 1;
+    }
+    Ok(counts)
+}
+
+// Adds to each number those before it.
+fn add_up(counts: &mut [u32])
+    requires { sum counts.old < 2 ^ 32 }
+    ensures count { length counts.new ≡ length counts.old }
+    ensures below { All (λ end. end ≤ sum counts.old) counts.new }
+{
+    let mut end = 0;
+    for at in 0..counts.len() {
+        end += counts[at];
+        counts[at] = end;
+    }
+}
+
+// Puts each mark into its bucket, the last place of it first. At the end it is known where each bucket starts.
+fn fill_buckets(marks: &mut [Mark<'_>], ends: &mut [u32], shift: u32)
+    requires high { shift < 64 }
+    requires count { length ends.old ≡ 2 ^ (64 - shift) + 1 }
+    requires inside { All (λ end. end ≤ length marks.old) ends.old }
+    ensures moved { IsPermutation marks.old marks.new }
+    ensures count { length ends.new ≡ length ends.old }
+    ensures inside { All (λ end. end ≤ length marks.new) ends.new }
+{
+    let mut at = 0;
+    while at < marks.len() {
+        let bucket = bucket_of(marks[at].name.key, shift);
+        let end = ends[bucket] as usize;
+        if at < end {
+            marks.swap(at, end - 1);
+            ends[bucket] -= 1;
+        } else {
+            at += 1;
+        }
+    }
+}
+
+// Sorts the buckets where a mark comes after the next one.
+fn sort_buckets(marks: &mut [Mark<'_>], starts: &[u32], shift: u32)
+    requires high { shift < 64 }
+    requires count { length starts.now ≡ 2 ^ (64 - shift) + 1 }
+    requires inside { All (λ start. start ≤ length marks.old) starts.now }
+    ensures { IsPermutation marks.old marks.new }
+{
+    for at in 1..marks.len() {
+        if is_later(&marks[at - 1], &marks[at]) {
+            let (from, to) = bucket_ends(starts, shift, marks[at].name.key);
+            sort_part(marks, from, to);
+        }
+    }
+}
+
+// Sorts the marks from a place to another.
+fn sort_part(marks: &mut [Mark<'_>], from: usize, to: usize)
+    requires { to ≤ length marks.old }
+    ensures { IsPermutation marks.old marks.new }
+{
+    if from < to {
+        marks[from..to].sort_unstable();
+    }
 }
 
 // Sorted marks, with where each bucket starts.
