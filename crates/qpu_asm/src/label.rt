@@ -564,11 +564,34 @@ fn start_among(marks: &[Mark<'_>], starts: &[u32], shift: u32, name: &Name<'_>) 
     from + start_between(marks, from, to, name)
 }
 
+// The place of a name's label, wherever in its bucket the mark is.
+#[inline(never)]
+fn spot_in_bucket(marks: &[Mark<'_>], starts: &[u32], shift: u32, name: &Name<'_>) -> Option<Spot>
+    requires found { AreFound marks.now shift starts.now }
+    requires keyed { IsKeyed name.now }
+    ensures { result ≡ spots_in marks.now name.now.bytes.now }
+{
+    let start = start_among(marks, starts, shift, name);
+    spot_at(marks, start, name)
+}
+
+// The place of a name's label, which mostly is the first one of its bucket.
+fn spot_among(marks: &[Mark<'_>], starts: &[u32], shift: u32, name: &Name<'_>) -> Option<Spot>
+    requires found { AreFound marks.now shift starts.now }
+    requires keyed { IsKeyed name.now }
+    ensures { result ≡ spots_in marks.now name.now.bytes.now }
+{
+    let first = starts[bucket_of(name.key, shift)] as usize;
+    if first < marks.len() && are_same(&marks[first].name, name) {
+        return Some(marks[first].spot);
+    }
+    spot_in_bucket(marks, starts, shift, name)
+}
+
 /// Where the label of a name stands.
 pub fn find_spot<'a>(labels: &Labels<'a>, name: &'a [u8]) -> Option<Spot>
     ensures { result ≡ spots_in labels.now name.now }
 {
     let name = Name::of(name);
-    let start = start_among(&labels.marks, &labels.starts, labels.shift, &name);
-    spot_at(&labels.marks, start, &name)
+    spot_among(&labels.marks, &labels.starts, labels.shift, &name)
 }
