@@ -2,10 +2,10 @@
 ghost use Rattle.std.specs.Prelude.{◌≡◌, ◌<◌, ◌≤◌, ◌^◌, ◌++◌, ◌∷◌, ◌-◌, ◌/◌, ◌+◌, length, slice_index, slice_range, min, max, vec_len, IfOk, OnOk, Some, None, bytes_eq, if◌then◌else◌};
 ghost use Rattle.std.specs.Ordering.{is_lt};
 ghost use Rattle.std.specs.List.{sum};
-ghost use Rattle.std.specs.Prelude.{All, IsPermutation, IsTrue};
+ghost use Rattle.std.specs.Prelude.{All, IsPermutation, IsTrue, ℕ};
 ghost use Rattle.script.specs.Lines.{before, lines_of};
 ghost use Rattle.qpu_asm.specs.Lines.{Label, read_line as line_read};
-ghost use Rattle.qpu_asm.specs.Labels.{spots_of, labels_of, label_on, read_lines, size_of};
+ghost use Rattle.qpu_asm.specs.Labels.{spots_of, labels_of, labels_from, label_on, read_lines, size_of};
 ghost use Rattle.qpu_asm.specs.Marks.{key_of as key_by, kept_cmp, fields_cmp, AreInOrder, AreLesser, IsBucketStart, AreStarts, AreFound, IsKeyed, AreKeyed, AreFirstBelow, BoundsRepeats, IsStart, AreSortedOf};
 ghost use Rattle.qpu_asm.specs.Seen.{line_seen, labels_seen, spots_in};
 
@@ -84,7 +84,7 @@ fn key_of(bytes: &[u8]) -> u64
     key
 }
 
-/// The lines below a line, and how many indexes it takes.
+/// The lines below those that were passed, and how many indexes these take.
 #[derive(Clone, Copy)]
 struct Passed<'a> {
     rest: &'a [u8],
@@ -310,11 +310,29 @@ fn marks_of(alloc: Global, text: &[u8]) -> Result<Vec<Mark<'_>>, AllocError>
                 index: index as u32,
             },
         )?;
-        index += passed.size;
         line += 1;
-        rest = passed.rest;
+        index += passed.size;
+        let coded = pass_coded(passed.rest);
+        line += coded.size;
+        index += coded.size;
+        rest = coded.rest;
     }
     Ok(marks)
+}
+
+// Passes the instructions' lines that a text begins with, as most lines are.
+fn pass_coded(text: &[u8]) -> Passed<'_>
+    ensures labels { (line index : ℕ) → labels_from line index (read_lines text.now)
+        ≡ labels_from (line + result.size) (index + result.size) (read_lines result.rest.now) }
+    ensures short { result.size + length result.rest.now ≤ length text.now }
+{
+    let mut rest = text;
+    let mut size = 0;
+    while let Some(below) = skip_coded(rest) {
+        rest = below;
+        size += 1;
+    }
+    Passed { rest, size }
 }
 
 // Puts the mark of a text's first line, where it defines a label, to those of the lines above it.
@@ -333,9 +351,6 @@ fn pass_line<'a>(
     ensures lines { IfOk result (λ passed. lines_of text.now ≡ before 10 text.now ∷ lines_of passed.rest.now) }
     ensures shorter { IfOk result (λ passed. length passed.rest.now < length text.now) }
 {
-    if let Some(rest) = skip_coded(text) {
-        return Ok(Passed { rest, size: 1 });
-    }
     if let Some(labelled) = read_labelled(text) {
         add_mark(marks, labelled.name, spot)?;
         return Ok(Passed {
