@@ -174,6 +174,9 @@ fn near_places(alloc: Global, marks: &mut [Mark<'_>]) -> Result<(), AllocError>
     }
     let shift = shift_of(marks.len());
     let mut ends = ends_of(alloc, marks, shift)?;
+    if are_crowded(&ends) {
+        return Ok(());
+    }
     fill_buckets(marks, &mut ends, shift);
     sort_buckets(marks, &ends, shift);
     Ok(())
@@ -189,6 +192,18 @@ fn ends_of(alloc: Global, marks: &[Mark<'_>], shift: u32) -> Result<Vec<u32>, Al
     let mut counts = counts_of(alloc, marks, shift)?;
     add_up(&mut counts);
     Ok(counts)
+}
+
+// More marks than a bucket has where keys differ at random.
+const CROWD: u32 = 16;
+
+// Whether a bucket is crowded, as where a text repeats a label. Its marks would have to be sorted once more.
+fn are_crowded(ends: &[u32]) -> bool {
+    let mut crowded = false;
+    for at in 1..ends.len() {
+        crowded |= ends[at].saturating_sub(ends[at - 1]) > CROWD;
+    }
+    crowded
 }
 
 // The bucket of a key: its high bits.
