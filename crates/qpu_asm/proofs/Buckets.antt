@@ -1,5 +1,5 @@
 -- A name's marks are in its bucket.
-use Rattle.std.proofs.Common.{◌≡◌, ℕ, ◌+◌, ◌-◌, ◌*◌, ◌/◌, ◌^◌, ◌<◌, ◌≤◌, inl, inr, true, false, List, [], ◌∷◌, ◌++◌, length, drop, get_or, slice_range, slice_index, sym, ◌∙◌, ap, subst, arith}
+use Rattle.std.proofs.Common.{◌≡◌, ℕ, ◌+◌, ◌-◌, ◌*◌, ◌/◌, ◌^◌, ◌<◌, ◌≤◌, inl, inr, true, false, List, [], ◌∷◌, ◌++◌, length, drop, get_or, slice_range, slice_index, sym, ◌∙◌, ap, subst, arith, Some, None, if◌then◌else◌, bytes_eq}
 use Rattle.std.proofs.Math.Nat.{pow-le-pow_right}
 use Rattle.std.proofs.lemmas.Nat.{pow_pos, pow-add, shr_split, shr_below, le-div}
 use Rattle.std.proofs.lemmas.List.{get_or-take, get_or-drop, get_or_push, get_or_append_left, length-take-le, length-drop}
@@ -7,7 +7,8 @@ use Rattle.std.proofs.{lemmas.Bool.cases_lt, lemmas.Bool.Decides.nat_tests}
 use Rattle.std.specs.Ordering.{nat_cmp, is_lt}
 use Rattle.qpu_asm.specs.{declared.label.Name.Name, declared.label.Mark.Mark}
 use Rattle.qpu_asm.specs.Marks.{key_of, name_cmp, mark_cmp, IsKeyed, AreInOrder, IsStart, bucket_of, AreLesser, IsBucketStart, AreStarts}
-use Rattle.qpu_asm.proofs.Sorting.{far, name_not, first_not, any_default}
+use Rattle.qpu_asm.specs.Seen.{spots_in}
+use Rattle.qpu_asm.proofs.{Bytes.bytes_same, Sorting.far, Sorting.name_not, Sorting.first_not, Sorting.any_default, Sorting.found_at}
 
 -- keys and buckets are in order
 shift_up : (shift a b : ℕ) → a ≤ b → a / 2 ^ shift ≤ b / 2 ^ shift
@@ -153,6 +154,24 @@ start_part marks shift from to at name order keyed up first next start =
           ];
     }
 
+-- the first mark of a name's bucket, where it has the name
+first_start : (marks : List Mark) (shift from : ℕ) (d : Mark) (name : Name) → AreInOrder marks → IsKeyed name → IsBucketStart marks shift (name.key / 2 ^ shift) from
+    → from < length marks → (get_or marks from d).name.bytes.now ≡ name.bytes.now → IsStart marks name.bytes.now from
+first_start marks shift from d name order keyed first inside named = record {
+  inside = omega (arith, inside);
+  below = λ k e low. before_part marks shift from k e name order keyed first low;
+  above = λ k e low high.
+      subst (λ n. is_lt (name_cmp (get_or marks k e).name.bytes.now n) ≡ false) (ap (λ m. m.name.bytes.now) (any_default marks from e d inside) ∙ named)
+      (name_not (get_or marks k e) (get_or marks from e) (far marks order.sorted from k e low high));
+}
+
+pub first_found : (marks : List Mark) (shift from : ℕ) (d : Mark) (name : Name) → AreInOrder marks → IsKeyed name → IsBucketStart marks shift (name.key / 2 ^ shift) from
+    → from < length marks → bytes_eq (get_or marks from d).name.bytes.now name.bytes.now ≡ true → Some (get_or marks from d).spot ≡ spots_in marks name.bytes.now
+first_found marks shift from d name order keyed first inside same =
+    subst (λ b. (if b then Some (get_or marks from d).spot else None) ≡ spots_in marks name.bytes.now) same
+    (found_at marks name.bytes.now from d order.sorted
+    (first_start marks shift from d name order keyed first inside (bytes_same (get_or marks from d).name.bytes.now name.bytes.now same)) inside)
+
 -- the buckets of a count of marks
 pub power_low : (power count : ℕ) → 2 ^ power ≤ count → count < 2 ^ 32 → power < 32
 power_low power count low small =
@@ -167,6 +186,11 @@ power_next power count high low =
     rw (is, pow-add 2 power 1) (omega (arith, high))
 
 -- a name's bucket, and its end
+pub bucket_low : (shift key : ℕ) → shift < 64 → key < 2 ^ 64 → key / 2 ^ shift < 2 ^ (64 - shift)
+bucket_low shift key high small =
+    let sum : 64 - shift + shift ≡ 64 = omega (arith, high) in
+    shr_below key (64 - shift) shift (subst (λ n. key < 2 ^ n) (sym sum) small)
+
 pub bucket_inside : (shift key : ℕ) (starts : List ℕ) → shift < 64 → length starts ≡ 2 ^ (64 - shift) + 1 → key < 2 ^ 64 → key / 2 ^ shift + 1 < length starts
 bucket_inside shift key starts high count small =
     let sum : 64 - shift + shift ≡ 64 = omega (arith, high) in

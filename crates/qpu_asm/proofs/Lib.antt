@@ -12,6 +12,7 @@ pub mod Faults
 pub mod Assembling
 pub mod Sorting
 pub mod Buckets
+pub mod Nearing
 pub mod Decimals
 pub mod Law
 pub mod Order

@@ -11,7 +11,7 @@ use Rattle.std.specs.List.Sorted.{IsSorted, IsPermutation, IsPartitionedBy}
 use Rattle.std.specs.Ordering.{nat_cmp, ordering_then, ordering_reverse, is_lt, is_eq}
 use Rattle.qpu_asm.specs.{declared.label.Spot.Spot, declared.label.Name.Name, declared.label.Mark.Mark, Labels.is_before, Labels.labels_from, Labels.spot_among}
 use Rattle.qpu_asm.specs.{Lines.Line, Lines.Blank, Lines.Label, Lines.BadLabel, Lines.Coded, Seen.mark_seen, Seen.spots_in}
-use Rattle.qpu_asm.specs.Marks.{key_of, name_cmp, kept_cmp, spot_cmp, mark_cmp, IsKeyed, AreKeyed, AreInOrder, IsNotLater, AreFirstBelow, BoundsRepeats, IsStart}
+use Rattle.qpu_asm.specs.Marks.{key_of, name_cmp, kept_cmp, spot_cmp, mark_cmp, fields_cmp, IsKeyed, AreKeyed, AreInOrder, IsNotLater, AreFirstBelow, BoundsRepeats, IsStart}
 use Rattle.qpu_asm.proofs.{Assembling.same_everywhere, Bytes.bytes_same, Bytes.bytes_itself}
 
 -- the orders of names and of marks
@@ -23,10 +23,7 @@ marks_total =
     then_total (on_total (λ m. m.name.bytes.now) names_total)
     (on_total (λ m. m.spot) (then_total (on_total (λ s. s.line) nat_cmp_total) (on_total (λ s. s.index) nat_cmp_total)))
 
--- the order of marks by their fields, which is that of their names where the keys are their own
-abbrev pub fields_cmp : Mark → Mark → Ordering
-fields_cmp x y = ordering_then (kept_cmp x.name y.name) (spot_cmp x.spot y.spot)
-
+-- the order of marks as they are kept, which is that of their names where the keys are their own
 order_marks : (x y : Mark) → IsKeyed x.name → IsKeyed y.name → is_lt (fields_cmp x y) ≡ false → is_lt (mark_cmp x y) ≡ false
 order_marks x y first second not-lt =
     subst (λ k. is_lt (ordering_then (ordering_then (nat_cmp k (key_of y.name.bytes.now)) (slice_cmp nat_cmp x.name.bytes.now y.name.bytes.now)) (spot_cmp x.spot y.spot)) ≡ false) first

@@ -34,6 +34,10 @@ spot_cmp x y = ordering_then (nat_cmp x.line y.line) (nat_cmp x.index y.index)
 abbrev pub mark_cmp : Mark → Mark → Ordering
 mark_cmp x y = ordering_then (name_cmp x.name.bytes.now y.name.bytes.now) (spot_cmp x.spot y.spot)
 
+-- the order of marks as they are kept
+abbrev pub fields_cmp : Mark → Mark → Ordering
+fields_cmp x y = ordering_then (kept_cmp x.name y.name) (spot_cmp x.spot y.spot)
+
 pub record AreInOrder (marks : List Mark) : Type 0 where
   pub keyed : AreKeyed marks
   pub sorted : IsSorted mark_cmp marks

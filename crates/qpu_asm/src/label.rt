@@ -1,10 +1,12 @@
 //! The labels of a text: a mark for each line that defines one, sorted by the key of its name and then by the name.
 ghost use Rattle.std.specs.Prelude.{◌≡◌, ◌<◌, ◌≤◌, ◌^◌, ◌++◌, ◌∷◌, ◌-◌, ◌/◌, ◌+◌, length, slice_index, slice_range, min, max, vec_len, IfOk, OnOk, Some, None, bytes_eq, if◌then◌else◌};
 ghost use Rattle.std.specs.Ordering.{is_lt};
+ghost use Rattle.std.specs.List.{sum};
+ghost use Rattle.std.specs.Prelude.{All, IsPermutation, IsTrue, ℕ};
 ghost use Rattle.script.specs.Lines.{before, lines_of};
 ghost use Rattle.qpu_asm.specs.Lines.{Label, read_line as line_read};
-ghost use Rattle.qpu_asm.specs.Labels.{spots_of, labels_of, label_on, read_lines, size_of};
-ghost use Rattle.qpu_asm.specs.Marks.{key_of as key_by, kept_cmp, AreInOrder, AreLesser, IsBucketStart, AreStarts, AreFound, IsKeyed, AreKeyed, AreFirstBelow, BoundsRepeats, IsStart, AreSortedOf};
+ghost use Rattle.qpu_asm.specs.Labels.{spots_of, labels_of, labels_from, label_on, read_lines, size_of};
+ghost use Rattle.qpu_asm.specs.Marks.{key_of as key_by, kept_cmp, fields_cmp, AreInOrder, AreLesser, IsBucketStart, AreStarts, AreFound, IsKeyed, AreKeyed, AreFirstBelow, BoundsRepeats, IsStart, AreSortedOf};
 ghost use Rattle.qpu_asm.specs.Seen.{line_seen, labels_seen, spots_in};
 
 use crate::labelled::read_labelled;
@@ -82,7 +84,7 @@ fn key_of(bytes: &[u8]) -> u64
     key
 }
 
-/// The lines below a line, and how many indexes it takes.
+/// The lines below those that were passed, and how many indexes these take.
 #[derive(Clone, Copy)]
 struct Passed<'a> {
     rest: &'a [u8],
@@ -118,8 +120,174 @@ fn sorted_marks(alloc: Global, text: &[u8]) -> Result<Vec<Mark<'_>>, AllocError>
     ensures few { IfOk result (λ marks. vec_len marks ≤ length text.now) }
 {
     let mut marks = marks_of(alloc, text)?;
-    marks.sort_unstable();
+    sort_marks(alloc, &mut marks)?;
     Ok(marks)
+}
+
+// Sorts marks.
+fn sort_marks(alloc: Global, marks: &mut [Mark<'_>]) -> Result<(), AllocError>
+    requires { AreKeyed marks.old }
+    ensures moved { IsPermutation marks.old marks.new }
+    ensures order { OnOk result (AreInOrder marks.new) }
+{
+    near_places(alloc, marks)?;
+    if !are_in_order(marks) {
+        marks.sort_unstable();
+    }
+    Ok(())
+}
+
+// Whether marks are in order.
+fn are_in_order(marks: &[Mark<'_>]) -> bool
+    requires { AreKeyed marks.now }
+    ensures { IsTrue result → AreInOrder marks.now }
+{
+    for at in 1..marks.len() {
+        if is_later(&marks[at - 1], &marks[at]) {
+            return false;
+        }
+    }
+    true
+}
+
+// Whether a mark comes after the other.
+fn is_later(first: &Mark<'_>, second: &Mark<'_>) -> bool
+    ensures { result ≡ is_lt (fields_cmp second.now first.now) }
+{
+    if first.name.key != second.name.key {
+        return second.name.key < first.name.key;
+    }
+    second.cmp(first).is_lt()
+}
+
+// From so many marks on, a sort is as fast as putting each near its place, since they don't fit the processor's near memory.
+const MANY: usize = 1 << 15;
+
+// Puts marks near their places, which costs less than a sort of them all. It is of use for its time alone.
+#[inline(never)]
+fn near_places(alloc: Global, marks: &mut [Mark<'_>]) -> Result<(), AllocError>
+    requires { AreKeyed marks.old }
+    ensures { IsPermutation marks.old marks.new }
+{
+    if marks.len() >= MANY || are_in_order(marks) {
+        return Ok(());
+    }
+    let shift = shift_of(marks.len());
+    let mut ends = ends_of(alloc, marks, shift)?;
+    if are_crowded(&ends) {
+        return Ok(());
+    }
+    fill_buckets(marks, &mut ends, shift);
+    sort_buckets(marks, &ends, shift);
+    Ok(())
+}
+
+// Where the marks of each bucket are to end.
+fn ends_of(alloc: Global, marks: &[Mark<'_>], shift: u32) -> Result<Vec<u32>, AllocError>
+    requires short { length marks.now < 2 ^ 32 }
+    requires range { (32 ≤ shift) × (shift < 64) }
+    ensures count { IfOk result (λ ends. length ends.items ≡ 2 ^ (64 - shift) + 1) }
+    ensures inside { IfOk result (λ ends. All (λ end. end ≤ length marks.now) ends.items) }
+{
+    let mut counts = counts_of(alloc, marks, shift)?;
+    add_up(&mut counts);
+    Ok(counts)
+}
+
+// More marks than a bucket has where keys differ at random.
+const CROWD: u32 = 16;
+
+// Whether a bucket is crowded, as where a text repeats a label. Its marks would have to be sorted once more.
+fn are_crowded(ends: &[u32]) -> bool {
+    let mut crowded = false;
+    for at in 1..ends.len() {
+        crowded |= ends[at].saturating_sub(ends[at - 1]) > CROWD;
+    }
+    crowded
+}
+
+// The bucket of a key: its high bits.
+#[tactic(auto, using(crate::proofs::Buckets::bucket_low))]
+fn bucket_of(key: u64, shift: u32) -> usize
+    requires { shift < 64 }
+    ensures bucket { result ≡ key / 2 ^ shift }
+    ensures low { result < 2 ^ (64 - shift) }
+{
+    (key >> shift) as usize
+}
+
+// How many marks each bucket has.
+fn counts_of(alloc: Global, marks: &[Mark<'_>], shift: u32) -> Result<Vec<u32>, AllocError>
+    requires short { length marks.now < 2 ^ 32 }
+    requires range { (32 ≤ shift) × (shift < 64) }
+    ensures count { IfOk result (λ counts. length counts.items ≡ 2 ^ (64 - shift) + 1) }
+    ensures all { IfOk result (λ counts. sum counts.items ≡ length marks.now) }
+{
+    let mut counts = vec![in alloc; 0; (1 << (64 - shift)) + 1]?;
+    for mark in marks {
+        counts[bucket_of(mark.name.key, shift)] += 1;
+    }
+    Ok(counts)
+}
+
+// Adds to each number those before it.
+fn add_up(counts: &mut [u32])
+    requires { sum counts.old < 2 ^ 32 }
+    ensures count { length counts.new ≡ length counts.old }
+    ensures below { All (λ end. end ≤ sum counts.old) counts.new }
+{
+    let mut end = 0;
+    for at in 0..counts.len() {
+        end += counts[at];
+        counts[at] = end;
+    }
+}
+
+// Puts each mark into its bucket, the last place of it first. At the end it is known where each bucket starts.
+fn fill_buckets(marks: &mut [Mark<'_>], ends: &mut [u32], shift: u32)
+    requires high { shift < 64 }
+    requires count { length ends.old ≡ 2 ^ (64 - shift) + 1 }
+    requires inside { All (λ end. end ≤ length marks.old) ends.old }
+    ensures moved { IsPermutation marks.old marks.new }
+    ensures count { length ends.new ≡ length ends.old }
+    ensures inside { All (λ end. end ≤ length marks.new) ends.new }
+{
+    let mut at = 0;
+    while at < marks.len() {
+        let bucket = bucket_of(marks[at].name.key, shift);
+        let end = ends[bucket] as usize;
+        if at < end {
+            marks.swap(at, end - 1);
+            ends[bucket] -= 1;
+        } else {
+            at += 1;
+        }
+    }
+}
+
+// Sorts the buckets where a mark comes after the next one.
+fn sort_buckets(marks: &mut [Mark<'_>], starts: &[u32], shift: u32)
+    requires high { shift < 64 }
+    requires count { length starts.now ≡ 2 ^ (64 - shift) + 1 }
+    requires inside { All (λ start. start ≤ length marks.old) starts.now }
+    ensures { IsPermutation marks.old marks.new }
+{
+    for at in 1..marks.len() {
+        if is_later(&marks[at - 1], &marks[at]) {
+            let (from, to) = bucket_ends(starts, shift, marks[at].name.key);
+            sort_part(marks, from, to);
+        }
+    }
+}
+
+// Sorts the marks from a place to another.
+fn sort_part(marks: &mut [Mark<'_>], from: usize, to: usize)
+    requires { to ≤ length marks.old }
+    ensures { IsPermutation marks.old marks.new }
+{
+    if from < to {
+        marks[from..to].sort_unstable();
+    }
 }
 
 // Sorted marks, with where each bucket starts.
@@ -157,11 +325,29 @@ fn marks_of(alloc: Global, text: &[u8]) -> Result<Vec<Mark<'_>>, AllocError>
                 index: index as u32,
             },
         )?;
-        index += passed.size;
         line += 1;
-        rest = passed.rest;
+        index += passed.size;
+        let coded = pass_coded(passed.rest);
+        line += coded.size;
+        index += coded.size;
+        rest = coded.rest;
     }
     Ok(marks)
+}
+
+// Passes the instructions' lines that a text begins with, as most lines are.
+fn pass_coded(text: &[u8]) -> Passed<'_>
+    ensures labels { (line index : ℕ) → labels_from line index (read_lines text.now)
+        ≡ labels_from (line + result.size) (index + result.size) (read_lines result.rest.now) }
+    ensures short { result.size + length result.rest.now ≤ length text.now }
+{
+    let mut rest = text;
+    let mut size = 0;
+    while let Some(below) = skip_coded(rest) {
+        rest = below;
+        size += 1;
+    }
+    Passed { rest, size }
 }
 
 // Puts the mark of a text's first line, where it defines a label, to those of the lines above it.
@@ -180,9 +366,6 @@ fn pass_line<'a>(
     ensures lines { IfOk result (λ passed. lines_of text.now ≡ before 10 text.now ∷ lines_of passed.rest.now) }
     ensures shorter { IfOk result (λ passed. length passed.rest.now < length text.now) }
 {
-    if let Some(rest) = skip_coded(text) {
-        return Ok(Passed { rest, size: 1 });
-    }
     if let Some(labelled) = read_labelled(text) {
         add_mark(marks, labelled.name, spot)?;
         return Ok(Passed {
@@ -411,11 +594,34 @@ fn start_among(marks: &[Mark<'_>], starts: &[u32], shift: u32, name: &Name<'_>) 
     from + start_between(marks, from, to, name)
 }
 
+// The place of a name's label, wherever in its bucket the mark is.
+#[inline(never)]
+fn spot_in_bucket(marks: &[Mark<'_>], starts: &[u32], shift: u32, name: &Name<'_>) -> Option<Spot>
+    requires found { AreFound marks.now shift starts.now }
+    requires keyed { IsKeyed name.now }
+    ensures { result ≡ spots_in marks.now name.now.bytes.now }
+{
+    let start = start_among(marks, starts, shift, name);
+    spot_at(marks, start, name)
+}
+
+// The place of a name's label, which mostly is the first one of its bucket.
+fn spot_among(marks: &[Mark<'_>], starts: &[u32], shift: u32, name: &Name<'_>) -> Option<Spot>
+    requires found { AreFound marks.now shift starts.now }
+    requires keyed { IsKeyed name.now }
+    ensures { result ≡ spots_in marks.now name.now.bytes.now }
+{
+    let first = starts[bucket_of(name.key, shift)] as usize;
+    if first < marks.len() && are_same(&marks[first].name, name) {
+        return Some(marks[first].spot);
+    }
+    spot_in_bucket(marks, starts, shift, name)
+}
+
 /// Where the label of a name stands.
 pub fn find_spot<'a>(labels: &Labels<'a>, name: &'a [u8]) -> Option<Spot>
     ensures { result ≡ spots_in labels.now name.now }
 {
     let name = Name::of(name);
-    let start = start_among(&labels.marks, &labels.starts, labels.shift, &name);
-    spot_at(&labels.marks, start, &name)
+    spot_among(&labels.marks, &labels.starts, labels.shift, &name)
 }

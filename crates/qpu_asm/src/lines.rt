@@ -104,7 +104,6 @@ fn begins_coded(text: &[u8]) -> bool
 
 /// The lines below an instruction's line, where this begins with its opcode and a space or is `nop`, as most lines do.
 pub fn skip_coded(text: &[u8]) -> Option<&[u8]>
-    requires { 0 < length text.now }
     ensures coded { IfSome result (λ _. size_of (line_read (before 10 text.now)) ≡ 1) }
     ensures lines { IfSome result (λ rest. lines_of text.now ≡ before 10 text.now ∷ lines_of rest.now) }
     ensures shorter { IfSome result (λ rest. length rest.now < length text.now) }

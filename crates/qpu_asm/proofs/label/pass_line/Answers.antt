@@ -4,11 +4,11 @@ use Rattle.script.proofs.Cuts.{lines_first}
 use Rattle.qpu_asm.proofs.Heads.{behind_shorter}
 use Rattle.qpu_asm.proofs.label.pass_line.Goals as goal
 
-pub returns-in-Some-read_labelled-clause-lines : goal.returns-in-Some-read_labelled-clause-lines
-returns-in-Some-read_labelled-clause-lines c =
+pub returns-in-Some-clause-lines : goal.returns-in-Some-clause-lines
+returns-in-Some-clause-lines c =
     lines_first c.args.text.now c.requires.some
-    ∙ ap (λ rest. before 10 c.args.text.now ∷ lines_of rest) (sym c.in-Some-read_labelled.ensures.rest)
+    ∙ ap (λ rest. before 10 c.args.text.now ∷ lines_of rest) (sym c.in-Some.ensures.rest)
 
-pub returns-in-Some-read_labelled-clause-shorter : goal.returns-in-Some-read_labelled-clause-shorter
-returns-in-Some-read_labelled-clause-shorter c =
-    subst (λ rest. length rest < length c.args.text.now) (sym c.in-Some-read_labelled.ensures.rest) (behind_shorter 10 c.args.text.now c.requires.some)
+pub returns-in-Some-clause-shorter : goal.returns-in-Some-clause-shorter
+returns-in-Some-clause-shorter c =
+    subst (λ rest. length rest < length c.args.text.now) (sym c.in-Some.ensures.rest) (behind_shorter 10 c.args.text.now c.requires.some)

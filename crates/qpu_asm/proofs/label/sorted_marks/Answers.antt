@@ -1,10 +1,17 @@
-use Rattle.qpu_asm.proofs.Sorting.{order_kept}
+use Rattle.std.proofs.Common.{◌≡◌, length, subst, sym, arith, IsPermutation}
+use Rattle.std.proofs.lemmas.List.Sorted.{length_permutation}
+use Rattle.qpu_asm.specs.Marks.{AreInOrder}
+use Rattle.qpu_asm.proofs.Nearing.{whole}
 use Rattle.qpu_asm.proofs.label.sorted_marks.Goals as goal
 
 pub returns-clause-marks : goal.returns-clause-marks
-returns-clause-marks c = record {
-  order = order_kept _ _ c.in_ok-marks.ensures.keyed c.sort_unstable.ensures.permutation c.sort_unstable.ensures.sorted;
-  unsorted = c.in_ok-marks.marks.items;
-  same = c.in_ok-marks.ensures.labels;
-  moved = c.sort_unstable.ensures.permutation;
-}
+returns-clause-marks c =
+    let moved = c.in_ok-sort_marks.ensures.moved in
+    let size : length c.sort_marks.new.marks ≡ c.in_ok-marks.marks.len = omega (arith, length_permutation _ _ moved, c.deref_mut.ensures.len) in
+    let all = sym (whole c.sort_marks.new.marks _ c.in_ok-marks.marks.len size) in
+    record {
+      order = subst AreInOrder all c.in_ok-sort_marks.ensures.order;
+      unsorted = c.in_ok-marks.marks.items;
+      same = c.in_ok-marks.ensures.labels;
+      moved = subst (IsPermutation c.in_ok-marks.marks.items) all (subst (λ marks. IsPermutation marks c.sort_marks.new.marks) c.deref_mut.ensures.value moved);
+    }
