@@ -1,12 +1,13 @@
 -- A name's marks are in its bucket.
-use Rattle.std.proofs.Common.{◌≡◌, ℕ, ◌+◌, ◌-◌, ◌*◌, ◌/◌, ◌^◌, ◌<◌, ◌≤◌, inl, inr, true, false, List, [], ◌∷◌, ◌++◌, length, drop, get_or, slice_range, slice_index, sym, ◌∙◌, ap, subst, arith, Some, None, if◌then◌else◌, bytes_eq}
+use Rattle.std.proofs.Common.{◌≡◌, ℕ, ◌+◌, ◌-◌, ◌*◌, ◌/◌, ◌^◌, ◌<◌, ◌≤◌, inl, inr, true, false, List, [], ◌∷◌, length, drop, get_or, slice_range, slice_index, sym, ◌∙◌, ap, subst, arith, min, Some, None, if◌then◌else◌, bytes_eq}
 use Rattle.std.proofs.Math.Nat.{pow-le-pow_right}
 use Rattle.std.proofs.lemmas.Nat.{pow_pos, pow-add, shr_split, shr_below, le-div}
-use Rattle.std.proofs.lemmas.List.{get_or-take, get_or-drop, get_or_push, get_or_append_left, length-take-le, length-drop}
-use Rattle.std.proofs.{lemmas.Bool.cases_lt, lemmas.Bool.Decides.nat_tests}
+use Rattle.std.proofs.lemmas.List.{get_or-take, get_or-drop, length-take-le, length-drop}
+use Rattle.std.proofs.{lemmas.Bool.cases_lt, lemmas.Bool.cases_eq, lemmas.Bool.Decides.nat_tests, lemmas.List.length-set, lemmas.List.get_or-set_same, lemmas.List.get_or-set_other, Math.ListN.set}
 use Rattle.std.specs.Ordering.{nat_cmp, is_lt}
+use Rattle.std.specs.List.{fold}
 use Rattle.qpu_asm.specs.{declared.label.Name.Name, declared.label.Mark.Mark}
-use Rattle.qpu_asm.specs.Marks.{key_of, name_cmp, mark_cmp, IsKeyed, AreInOrder, IsStart, bucket_of, AreLesser, IsBucketStart, AreStarts}
+use Rattle.qpu_asm.specs.Marks.{key_of, name_cmp, mark_cmp, IsKeyed, AreInOrder, IsStart, bucket_of, key_with, IsBucketStart, AreFirst, AreStarts}
 use Rattle.qpu_asm.specs.Seen.{spots_in}
 use Rattle.qpu_asm.proofs.{Bytes.bytes_same, Sorting.far, Sorting.name_not, Sorting.first_not, Sorting.any_default, Sorting.found_at}
 
@@ -31,44 +32,116 @@ keys_up marks i j d order below inside =
     (first_not (nat_cmp (key_of x.name.bytes.now) (key_of y.name.bytes.now)) _ (name_not x y (far marks order.sorted i j d below inside))) in
     omega (arith, up, order.keyed i d (omega (arith, below, inside)), order.keyed j d inside)
 
--- what the walk to a bucket's start stops at
-pub starts_here : (marks : List Mark) (shift bucket at : ℕ) → AreInOrder marks → at ≤ length marks → AreLesser marks shift bucket at
-    → ((d : Mark) → at < length marks → bucket ≤ bucket_of shift (get_or marks at d)) → IsBucketStart marks shift bucket at
-starts_here marks shift bucket at order inside below here = record {
-  inside = inside;
-  below = below;
-  above = λ k d low high.
-      let first = here d (omega (arith, low, high)) in
-      let up = shift_up shift (get_or marks at d).name.key (get_or marks k d).name.key (keys_up marks at k d order low high) in
-      omega (arith, first, up);
+-- the bucket of a key
+pub bucket_low : (shift key : ℕ) → shift < 64 → key < 2 ^ 64 → key / 2 ^ shift < 2 ^ (64 - shift)
+bucket_low shift key high small =
+    let sum : 64 - shift + shift ≡ 64 = omega (arith, high) in
+    shr_below key (64 - shift) shift (subst (λ n. key < 2 ^ n) (sym sum) small)
+
+-- the first place of a bucket, from one place more on
+pub first_none : (marks : List Mark) (shift : ℕ) (places : List ℕ) → length places ≡ 2 ^ (64 - shift) + 1
+    → ((bucket : ℕ) → bucket < length places → slice_index places bucket ≡ length marks) → AreFirst marks shift (length marks) places
+first_none marks shift places count same = record {
+  count = count;
+  inside = λ b low. omega (arith, same b low);
+  first = λ b k d low from inside of. absurd (omega (arith, from, inside));
+  there = λ b d low inside. absurd (omega (arith, same b low, inside));
 }
 
-pub lesser_more : (marks : List Mark) (shift bucket at : ℕ) (e : Mark) → at < length marks → AreLesser marks shift bucket at
-    → bucket_of shift (get_or marks at e) < bucket → AreLesser marks shift bucket (at + 1)
-lesser_more marks shift bucket at e inside below here k d low =
-    elim (cases_lt k at) [
-      | inl before ↦ below k d before
-      | inr last ↦
-          (let is : k ≡ at = omega (arith, low, last) in
-          subst (λ n. bucket_of shift (get_or marks n d) < bucket) (sym is) (subst (λ m. bucket_of shift m < bucket) (any_default marks at e d inside) here))
+pub first_more : (marks : List Mark) (shift at bucket : ℕ) (d : Mark) (places : List ℕ) → at < length marks → bucket ≡ bucket_of shift (get_or marks at d) → bucket < length places
+    → AreFirst marks shift (at + 1) places → AreFirst marks shift at (set places bucket at)
+first_more marks shift at bucket d places inside here low first =
+    let size = length-set places bucket at in
+    let new : (b : ℕ) → b ≡ bucket → slice_index (set places bucket at) b ≡ at =
+    λ b same. ap (λ n. get_or (set places bucket at) n 0) same ∙ get_or-set_same places bucket at 0 low in
+    let old : (b : ℕ) → (b ≡ bucket → ⊥) → slice_index (set places bucket at) b ≡ slice_index places b = λ b other. get_or-set_other places bucket b at 0 other in
+    let of-at : (e : Mark) → bucket_of shift (get_or marks at e) ≡ bucket = λ e. ap (bucket_of shift) (any_default marks at e d inside) ∙ sym here in
+    record {
+      count = size ∙ first.count;
+      inside = λ b b-low.
+          elim (cases_eq b bucket) [
+            | inl same ↦ omega (arith, new b same, inside)
+            | inr other ↦ omega (arith, old b other, first.inside b (omega (arith, b-low, size)))
+          ];
+      first = λ b k e b-low from k-inside of.
+          elim (cases_eq b bucket) [
+            | inl same ↦ omega (arith, new b same, from)
+            | inr other ↦
+                elim (cases_eq k at) [
+                  | inl last ↦ absurd (other (sym of ∙ (ap (λ n. bucket_of shift (get_or marks n e)) last ∙ of-at e)))
+                  | inr apart ↦ omega (arith, old b other, first.first b k e (omega (arith, b-low, size)) (omega (arith, from, apart)) k-inside of)
+                ]
+          ];
+      there = λ b e b-low b-inside.
+          elim (cases_eq b bucket) [
+            | inl same ↦ ap (λ n. bucket_of shift (get_or marks n e)) (new b same) ∙ (of-at e ∙ sym same)
+            | inr other ↦
+                ap (λ n. bucket_of shift (get_or marks n e)) (old b other)
+                ∙ first.there b e (omega (arith, b-low, size)) (omega (arith, b-inside, old b other))
+          ];
+    }
+
+-- a bucket's start, from where the next one starts
+pub start_before : (marks : List Mark) (shift bucket first next : ℕ) → AreInOrder marks → first ≤ length marks
+    → ((k : ℕ) (d : Mark) → k < length marks → bucket_of shift (get_or marks k d) ≡ bucket → first ≤ k)
+    → ((d : Mark) → first < length marks → bucket_of shift (get_or marks first d) ≡ bucket)
+    → IsBucketStart marks shift (bucket + 1) next → IsBucketStart marks shift bucket (min first next)
+start_before marks shift bucket first next order inside least there later = record {
+  inside = omega (arith, inside);
+  below = λ k d low.
+      let less = later.below k d (omega (arith, low)) in
+      elim (cases_lt (bucket_of shift (get_or marks k d)) bucket) [
+        | inl lesser ↦ lesser
+        | inr equal ↦ (let past = least k d (omega (arith, low, inside)) (omega (arith, less, equal)) in absurd (omega (arith, past, low)))
+      ];
+  above = λ k d low high.
+      elim (cases_lt k next) [
+        | inl within ↦
+            (let here = there d (omega (arith, low, within, high)) in
+            let up = shift_up shift (get_or marks first d).name.key (get_or marks k d).name.key (keys_up marks first k d order (omega (arith, low, within)) high) in
+            omega (arith, here, up))
+        | inr behind ↦ (let more = later.above k d behind high in omega (arith, more))
+      ];
+}
+
+pub start_more : (marks : List Mark) (shift bucket next new : ℕ) (places starts : List ℕ) → AreInOrder marks → AreFirst marks shift 0 places
+    → next ≡ bucket + 1 → next < length starts → length starts ≡ length places
+    → ((b : ℕ) → b < next → slice_index starts b ≡ slice_index places b)
+    → ((b : ℕ) → next ≤ b → b < length starts → IsBucketStart marks shift b (slice_index starts b))
+    → new ≡ min (slice_index starts bucket) (slice_index starts (bucket + 1))
+    → (b : ℕ) → bucket ≤ b → b < length starts → IsBucketStart marks shift b (slice_index (set starts bucket new) b)
+start_more marks shift bucket next new places starts order first is inside count others later least b high low =
+    elim (cases_eq b bucket) [
+      | inl same ↦
+          (let size : bucket < length places = omega (arith, is, inside, count) in
+          let after = subst (λ n. IsBucketStart marks shift n (slice_index starts n)) is (later next (omega arith) inside) in
+          let here = start_before marks shift bucket (slice_index places bucket) (slice_index starts (bucket + 1)) order (first.inside bucket size)
+          (λ k d k-inside of. first.first bucket k d size (omega arith) k-inside of) (λ d d-inside. first.there bucket d size d-inside) after in
+          let value : slice_index (set starts bucket new) bucket ≡ min (slice_index places bucket) (slice_index starts (bucket + 1)) =
+          get_or-set_same starts bucket new 0 (omega (arith, is, inside)) ∙ (least ∙ ap (λ n. min n (slice_index starts (bucket + 1))) (others bucket (omega (arith, is)))) in
+          subst (λ n. IsBucketStart marks shift n (slice_index (set starts bucket new) n)) (sym same) (subst (IsBucketStart marks shift bucket) (sym value) here))
+      | inr apart ↦ subst (IsBucketStart marks shift b) (sym (get_or-set_other starts bucket b new 0 apart)) (later b (omega (arith, is, high, apart)) low)
     ]
 
-pub lesser_next : (marks : List Mark) (shift bucket at : ℕ) → AreLesser marks shift bucket at → AreLesser marks shift (bucket + 1) at
-lesser_next marks shift bucket at below k d low = omega (arith, below k d low)
+-- no mark is of the bucket past the last one
+key_low : (key : ℕ) (name : List ℕ) → key < 2 ^ 64 → fold key_with key name < 2 ^ 64
+key_low key [] low = low
+key_low key (byte ∷ bytes) low = key_low (key_with key byte) bytes (omega arith)
 
--- one start more
-pub starts_more : (marks : List Mark) (shift bucket at : ℕ) (starts : List ℕ) → length starts ≡ bucket
-    → ((b : ℕ) → b < bucket → IsBucketStart marks shift b (slice_index starts b)) → IsBucketStart marks shift bucket at
-    → (b : ℕ) → b < bucket + 1 → IsBucketStart marks shift b (slice_index (starts ++ at ∷ []) b)
-starts_more marks shift bucket at starts count before here b low =
-    elim (cases_lt b bucket) [
-      | inl earlier ↦
-          subst (IsBucketStart marks shift b) (sym (get_or_append_left starts (at ∷ []) 0 b (omega (arith, earlier, count)))) (before b earlier)
-      | inr last ↦
-          (let is : b ≡ bucket = omega (arith, low, last) in
-          subst (λ n. IsBucketStart marks shift n (slice_index (starts ++ at ∷ []) n)) (sym is)
-          (subst (IsBucketStart marks shift bucket) (sym (get_or_push starts at 0 bucket count)) here))
-    ]
+key_fits : (name : List ℕ) → key_of name < 2 ^ 64
+unfolding key_of
+key_fits name = key_low 0 name (omega arith)
+
+pub start_last : (marks : List Mark) (shift last : ℕ) → shift < 64 → AreInOrder marks → last ≤ length marks
+    → ((d : Mark) → last < length marks → bucket_of shift (get_or marks last d) ≡ 2 ^ (64 - shift)) → IsBucketStart marks shift (2 ^ (64 - shift)) last
+start_last marks shift last high order inside there =
+    let low : (k : ℕ) (d : Mark) → k < length marks → bucket_of shift (get_or marks k d) < 2 ^ (64 - shift) = λ k d k-inside.
+    bucket_low shift (get_or marks k d).name.key high (omega (arith, order.keyed k d k-inside, key_fits (get_or marks k d).name.bytes.now)) in
+    record {
+      inside = inside;
+      below = λ k d k-low. low k d (omega (arith, k-low, inside));
+      above = λ k d k-high k-inside. (let least = low last d (omega (arith, k-high, k-inside)) in let is = there d (omega (arith, k-high, k-inside)) in absurd (omega (arith, least, is)));
+    }
 
 -- a part of marks that are in order
 part_at : (marks : List Mark) (from to k : ℕ) (d : Mark) → k < to - from → get_or (slice_range marks from to) k d ≡ get_or marks (from + k) d
@@ -186,11 +259,6 @@ power_next power count high low =
     rw (is, pow-add 2 power 1) (omega (arith, high))
 
 -- a name's bucket, and its end
-pub bucket_low : (shift key : ℕ) → shift < 64 → key < 2 ^ 64 → key / 2 ^ shift < 2 ^ (64 - shift)
-bucket_low shift key high small =
-    let sum : 64 - shift + shift ≡ 64 = omega (arith, high) in
-    shr_below key (64 - shift) shift (subst (λ n. key < 2 ^ n) (sym sum) small)
-
 pub bucket_inside : (shift key : ℕ) (starts : List ℕ) → shift < 64 → length starts ≡ 2 ^ (64 - shift) + 1 → key < 2 ^ 64 → key / 2 ^ shift + 1 < length starts
 bucket_inside shift key starts high count small =
     let sum : 64 - shift + shift ≡ 64 = omega (arith, high) in

@@ -88,6 +88,15 @@ pub record IsBucketStart (marks : List Mark) (shift bucket at : ℕ) : Type 0 wh
   pub below : AreLesser marks shift bucket at
   pub above : (k : ℕ) (d : Mark) → at ≤ k → k < length marks → bucket ≤ bucket_of shift (slice_index_or marks k d)
 
+-- for each bucket, the first of the places from one on where a mark is of it, or where the marks end
+pub record AreFirst (marks : List Mark) (shift from : ℕ) (places : List ℕ) : Type 0 where
+  pub count : length places ≡ 2 ^ (64 - shift) + 1
+  pub inside : (bucket : ℕ) → bucket < length places → slice_index places bucket ≤ length marks
+  pub first : (bucket k : ℕ) (d : Mark) → bucket < length places → from ≤ k → k < length marks
+      → bucket_of shift (slice_index_or marks k d) ≡ bucket → slice_index places bucket ≤ k
+  pub there : (bucket : ℕ) (d : Mark) → bucket < length places → slice_index places bucket < length marks
+      → bucket_of shift (slice_index_or marks (slice_index places bucket) d) ≡ bucket
+
 -- where the marks of each bucket start, and where all of them end
 pub record AreStarts (marks : List Mark) (shift : ℕ) (starts : List ℕ) : Type 0 where
   pub high : shift < 64

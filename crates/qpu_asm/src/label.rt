@@ -6,7 +6,7 @@ ghost use Rattle.std.specs.Prelude.{All, IsPermutation, IsTrue, ℕ};
 ghost use Rattle.script.specs.Lines.{before, lines_of};
 ghost use Rattle.qpu_asm.specs.Lines.{Label, read_line as line_read};
 ghost use Rattle.qpu_asm.specs.Labels.{spots_of, labels_of, labels_from, label_on, read_lines, size_of};
-ghost use Rattle.qpu_asm.specs.Marks.{key_of as key_by, kept_cmp, fields_cmp, AreInOrder, AreLesser, IsBucketStart, AreStarts, AreFound, IsKeyed, AreKeyed, AreFirstBelow, BoundsRepeats, IsStart, AreSortedOf};
+ghost use Rattle.qpu_asm.specs.Marks.{key_of as key_by, kept_cmp, fields_cmp, AreInOrder, AreFirst, AreStarts, AreFound, IsKeyed, AreKeyed, AreFirstBelow, BoundsRepeats, IsStart, AreSortedOf};
 ghost use Rattle.qpu_asm.specs.Seen.{line_seen, labels_seen, spots_in};
 
 use crate::labelled::read_labelled;
@@ -484,6 +484,21 @@ fn shift_of(count: usize) -> u32
     63 - (count.max(1) as u64).ilog2()
 }
 
+// For each bucket the place of its first mark, or where the marks end.
+fn first_places(alloc: Global, marks: &[Mark<'_>], shift: u32) -> Result<Vec<u32>, AllocError>
+    requires short { length marks.now < 2 ^ 32 }
+    requires range { (32 ≤ shift) × (shift < 64) }
+    ensures { IfOk result (λ places. AreFirst marks.now shift 0 places.items) }
+{
+    let mut places = vec![in alloc; marks.len() as u32; (1 << (64 - shift)) + 1]?;
+    let mut at = marks.len();
+    while at > 0 {
+        at -= 1;
+        places[bucket_of(marks[at].name.key, shift)] = at as u32;
+    }
+    Ok(places)
+}
+
 // Where the marks of each bucket start, and where all of them end.
 fn starts_of(alloc: Global, marks: &[Mark<'_>], shift: u32) -> Result<Vec<u32>, AllocError>
     requires order { AreInOrder marks.now }
@@ -491,29 +506,13 @@ fn starts_of(alloc: Global, marks: &[Mark<'_>], shift: u32) -> Result<Vec<u32>, 
     requires range { (32 ≤ shift) × (shift < 64) }
     ensures { IfOk result (λ starts. AreStarts marks.now shift starts.items) }
 {
-    let count = 1 << (64 - shift);
-    let mut starts = Vec::with_capacity(alloc, count + 1)?;
-    let mut at = 0;
-    for bucket in 0..count + 1 {
-        at = bucket_start(marks, shift, bucket as u64, at);
-        starts.push(at as u32)?;
+    let mut starts = first_places(alloc, marks, shift)?;
+    let mut bucket = starts.len() - 1;
+    while bucket > 0 {
+        bucket -= 1;
+        starts[bucket] = starts[bucket].min(starts[bucket + 1]);
     }
     Ok(starts)
-}
-
-// Where the marks of a bucket start, from a place on.
-fn bucket_start(marks: &[Mark<'_>], shift: u32, bucket: u64, from: usize) -> usize
-    requires order { AreInOrder marks.now }
-    requires high { shift < 64 }
-    requires inside { from ≤ length marks.now }
-    requires below { AreLesser marks.now shift bucket from }
-    ensures { IsBucketStart marks.now shift bucket result }
-{
-    let mut at = from;
-    while at < marks.len() && marks[at].name.key >> shift < bucket {
-        at += 1;
-    }
-    at
 }
 
 // The name comes before the other.
