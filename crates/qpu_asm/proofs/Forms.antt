@@ -81,10 +81,10 @@ low_by : (above w l : ℕ) → 1 ≤ w → (above + 1) * 2 ^ w * 2 ^ l ≤ 2 ^ 6
 low_by above w l some room = elim (cases_Bool (nat_lt l 64)) [
   | inl short ↦ ltb-true l 64 short
   | inr long ↦ absurd (
-    let wide : 2 ^ 64 ≤ 2 ^ l = pow_mono (not_short l long) in
-    let two : 2 ≤ 2 ^ w = pow_mono some in
-    omega (arith, wide, room, mul-le-mul_right (2 ^ l) two, mul-le-mul_right (2 ^ l) (mul-le-mul_right (2 ^ w) (above_some above)))
-  )
+      let wide : 2 ^ 64 ≤ 2 ^ l = pow_mono (not_short l long) in
+      let two : 2 ≤ 2 ^ w = pow_mono some in
+      omega (arith, wide, room, mul-le-mul_right (2 ^ l) two, mul-le-mul_right (2 ^ l) (mul-le-mul_right (2 ^ w) (above_some above)))
+      )
 ]
 
 replaced_at : (word : ℕ) (row : Row) (rows : List Row) (value : ℕ) → IsWhole word (row ∷ rows) → value < 2 ^ row.width
@@ -193,10 +193,15 @@ other_begun : (starts items name : List ℕ) (at : ℕ) → 2 ≤ length name
     → at < slice_index starts (slot_of (slice_index items 0) (slice_index items 1)) → begins 61 items name ≡ false
 other_begun starts items name at two here there = elim (cases_Bool (begins 61 items name)) [
   | inl begun ↦ absurd (
-    let same = begun_letters items name begun two in
-    omega (arith, here, there, ap (λ first. slice_index starts (slot_of first (slice_index items 1))) same.0,
-    ap (λ second. slice_index starts (slot_of (slice_index name 0) second)) same.1)
-  )
+      let same = begun_letters items name begun two in
+      omega (
+        arith,
+        here,
+        there,
+        ap (λ first. slice_index starts (slot_of first (slice_index items 1))) same.0,
+        ap (λ second. slice_index starts (slot_of (slice_index name 0) second)) same.1,
+      )
+      )
   | inr other ↦ other
 ]
 

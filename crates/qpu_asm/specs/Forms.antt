@@ -54,7 +54,8 @@ pub record IsPassed (items : List ℕ) (first : ℕ) (all : List Row) (word : �
 
 -- a word that the rows may still come to is still whole where the rows before later ones are passed
 abbrev pub ArePassed : List ℕ → List Row → List Row → Type 0
-ArePassed items rows rest = (word : ℕ) → IsWhole word rows → IsWhole word rest × IsPassed items (front_of word rows) rows (front_of word rest) rest
+ArePassed items rows rest =
+    (word : ℕ) → IsWhole word rows → IsWhole word rest × IsPassed items (front_of word rows) rows (front_of word rest) rest
 
 -- the place of the item that items begin with
 pub record IsItemAt (rows : List Row) (items : List ℕ) (place : Place) : Type 0 where

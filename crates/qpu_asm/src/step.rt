@@ -300,14 +300,9 @@ fn read_step<'a>(
 }
 
 // Reads all items of a line.
-fn read_steps<'a>(
-    labels: &Labels<'a>,
-    index: u32,
-    form: &Form,
-    items: &'a [u8],
-) -> Option<Step<'a>>
-    ensures steps { IfSome result (λ step. AreSteps (spots_in labels.now) index form.now.above form.now.rows (words_of (before 10 items.now))
-        (front_of step.word (drop step.next form.now.rows)) (drop step.next form.now.rows)) }
+fn read_steps<'a>(labels: &Labels<'a>, index: u32, form: &Form, items: &'a [u8]) -> Option<Step<'a>>
+    ensures steps { IfSome result (λ step. AreSteps (spots_in labels.now) index form.now.above form.now.rows
+        (words_of (before 10 items.now)) (front_of step.word (drop step.next form.now.rows)) (drop step.next form.now.rows)) }
     ensures others { IfSome result (λ step. behind 10 items.now ≡ behind 10 step.rest.now) }
     ensures end { IfSome result (λ step. before 10 step.rest.now ≡ []) }
     ensures whole { IfSome result (λ step. IsWhole step.word (drop step.next form.now.rows)) }
@@ -333,8 +328,14 @@ fn behind_end(text: &[u8]) -> &[u8]
 
 // The word of an instruction of this form by its items.
 #[inline(never)]
-fn read_items<'a>(labels: &Labels<'a>, index: u32, form: &Form, items: &'a [u8]) -> Option<Coded<'a>>
-    ensures word { IfSome result (λ coded. kind_code (spots_in labels.now) index (words_of (before 10 items.now)) form.now ≡ Ok coded.word) }
+fn read_items<'a>(
+    labels: &Labels<'a>,
+    index: u32,
+    form: &Form,
+    items: &'a [u8],
+) -> Option<Coded<'a>>
+    ensures word { IfSome result (λ coded.
+        kind_code (spots_in labels.now) index (words_of (before 10 items.now)) form.now ≡ Ok coded.word) }
     ensures rest { IfSome result (λ coded. coded.rest.now ≡ behind 10 items.now) }
 {
     let step = read_steps(labels, index, form, items)?;
@@ -375,7 +376,12 @@ fn read_nop<'a>(text: &'a [u8]) -> Option<Coded<'a>>
 }
 
 /// The instruction that a text begins with, where it begins with an opcode and its items have no mistake, as most lines do.
-pub fn read_coded<'a>(labels: &Labels<'a>, forms: &Forms, index: u32, text: &'a [u8]) -> Option<Coded<'a>>
+pub fn read_coded<'a>(
+    labels: &Labels<'a>,
+    forms: &Forms,
+    index: u32,
+    text: &'a [u8],
+) -> Option<Coded<'a>>
     ensures coded { IfSome result (λ coded. IsCoded (spots_in labels.now) index (before 10 text.now) coded.word) }
     ensures rest { IfSome result (λ coded. coded.rest.now ≡ behind 10 text.now) }
 {
