@@ -66,32 +66,13 @@ fn put_next<'a>(
         pass_label(found, labelled.name, number)?;
         return Ok(labelled.rest);
     }
-    put_other(words, found, text, number)
-}
-
-// The same for any line.
-#[inline(never)]
-fn put_other<'a>(
-    words: &mut Vec<u64>,
-    found: &Found<'a>,
-    text: &'a [u8],
-    number: u32,
-) -> Result<&'a [u8], Stop<AsmFault>>
-    requires room { vec_len words.old < 2 ^ 32 }
-    requires some { 0 < length text.now }
-    requires first { IsFirstBelow found.now.first_below (spots_in found.now.labels) number (read_line (before 10 text.now)) }
-    ensures words { IfOk result (λ _. first_put found.now.labels number words.old.items text.now ≡ Ok words.new.items) }
-    ensures fault { IfErr result (IsFaultOf (first_put found.now.labels number words.old.items text.now)) }
-    ensures lines { IfOk result (λ rest. lines_of text.now ≡ before 10 text.now ∷ lines_of rest.now) }
-    ensures shorter { IfOk result (λ rest. length rest.now < length text.now) }
-    ensures more { IfOk result (λ _. vec_len words.new ≤ vec_len words.old + 1) }
-{
     let cut = next_line(text);
     put_line(words, found, read_line(cut.first), number)?;
     Ok(cut.rest)
 }
 
-// Puts the word of an instruction's line to those of the lines above it.
+// Puts the word of an instruction's line to those of the lines above it. It is for the lines that aren't read at once.
+#[inline(never)]
 #[tactic(auto, unfolding(crate::specs::Walk::line_words))]
 fn put_line<'a>(
     words: &mut Vec<u64>,

@@ -373,26 +373,6 @@ fn pass_line<'a>(
             size: 0,
         });
     }
-    pass_other(marks, text, spot)
-}
-
-// The same for any line.
-#[inline(never)]
-fn pass_other<'a>(
-    marks: &mut Vec<Mark<'a>>,
-    text: &'a [u8],
-    spot: Spot,
-) -> Result<Passed<'a>, AllocError>
-    requires some { 0 < length text.now }
-    requires keyed { AreKeyed marks.old.items }
-    ensures keyed { OnOk result (AreKeyed marks.new.items) }
-    ensures few { OnOk result (vec_len marks.new ≤ vec_len marks.old + 1) }
-    ensures labels { OnOk result (
-        labels_seen marks.new.items ≡ labels_seen marks.old.items ++ label_on spot.line spot.index (line_read (before 10 text.now))) }
-    ensures size { IfOk result (λ passed. passed.size ≡ size_of (line_read (before 10 text.now))) }
-    ensures lines { IfOk result (λ passed. lines_of text.now ≡ before 10 text.now ∷ lines_of passed.rest.now) }
-    ensures shorter { IfOk result (λ passed. length passed.rest.now < length text.now) }
-{
     let cut = next_line(text);
     let line = read_line(cut.first);
     add_line(marks, line, spot)?;

@@ -116,6 +116,7 @@ pub fn skip_coded(text: &[u8]) -> Option<&[u8]>
 }
 
 /// Reads a line as far as its first word tells what it is.
+#[inline(never)]
 #[tactic(auto, unfolding(crate::specs::Lines::read_line, crate::specs::Lines::line_of))]
 pub fn read_line(line: &[u8]) -> Line<'_>
     ensures { line_seen result ≡ line_read line.now }
