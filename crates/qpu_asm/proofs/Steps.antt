@@ -6,7 +6,7 @@ use Rattle.std.proofs.{lemmas.List.Folds.list_all_more}
 use Rattle.std.specs.{Char.is_ascii_digit, Str.all_ascii_digits}
 use Rattle.qpu_isa.specs.Fields.{joined}
 use Rattle.script.specs.{Lines.before, Lines.behind, Number.is_number, Number.number_of, Number.number_after}
-use Rattle.qpu_asm.specs.{Walk.lacks, Walk.is_part, Walk.begins, Walk.IsBehind, Walk.IsAfter, Walk.IsWord, Walk.IsOpen, Forms.IsPassed, Walk.skip_to, Walk.with_value, Walk.IsPlace, Walk.IsStep, Walk.AreSteps, Walk.read_items, Walk.code_of, Walk.option_code, Walk.kind_code, Walk.closed_word, Lines.words_of, Lines.is_full, Walk.read_item, Walk.read_named, Items.Spots, Items.read_number, Items.read_plain, Items.read_value, Items.find_named, Items.or_number, Items.has_value, Items.is_row, Items.has_row, Items.kind_named, Table.Row, Table.Kind, Table.nop_kind, Table.widths_of, Table.fallbacks_of, Seen.row_seen, Seen.named_seen}
+use Rattle.qpu_asm.specs.{Walk.lacks, Walk.is_part, Walk.begins, Walk.IsBehind, Walk.IsAfter, Walk.IsNumberRead, Walk.IsWord, Walk.IsOpen, Forms.IsPassed, Walk.skip_to, Walk.with_value, Walk.IsPlace, Walk.IsStep, Walk.AreSteps, Walk.read_items, Walk.code_of, Walk.option_code, Walk.kind_code, Walk.closed_word, Lines.words_of, Lines.is_full, Walk.read_item, Walk.read_named, Items.Spots, Items.read_number, Items.read_plain, Items.read_value, Items.find_named, Items.or_number, Items.has_value, Items.is_row, Items.has_row, Items.kind_named, Table.Row, Table.Kind, Table.nop_kind, Table.widths_of, Table.fallbacks_of, Seen.row_seen, Seen.named_seen}
 use Rattle.qpu_asm.specs.declared.table.Row as code
 use Rattle.qpu_asm.proofs.{Heads.cut_name, Heads.begun_split, Heads.ahead, Heads.lacks_append, Heads.digits_lack, Heads.first_other, Words.word_first, Bytes.bytes_same, Bytes.bytes_itself, Rows.none_left, Reading.value_small, Reading.open_facts, Reading.open_step}
 
@@ -277,20 +277,19 @@ code_read spots index opcode kind items word is read = ap (option_code spots ind
 
 -- a number of one digit
 pub digit_read : (below : ℕ) (text others rest : List ℕ) (value : ℕ) → 0 < length text → is_ascii_digit (slice_index text 0) ≡ true → others ≡ drop 1 text
-    → before 32 (before 10 others) ≡ [] → IsAfter others rest → value ≡ slice_index text 0 - 48 → value < below
-    → (read_number below (before 32 (before 10 text)) ≡ Ok value) × IsAfter text rest
+    → before 32 (before 10 others) ≡ [] → IsAfter others rest → value ≡ slice_index text 0 - 48 → value < below → IsNumberRead below text value rest
 unfolding is_number number_after
 digit_read below [] others rest value some digit is none after same under = absurd (omega arith)
 digit_read below (byte ∷ bytes) others rest value some digit is none after same under =
     let all : all_ascii_digits (byte ∷ []) ≡ true = and_from (is_ascii_digit byte) true digit refl in
     let taken = word_taken (byte ∷ bytes) 1 others rest (digits_word (byte ∷ []) all) is none after in
-    (ap (read_number below) taken.0 ∙ read_whole below (byte ∷ []) value all (omega (arith, same, under)) under, taken.1)
+    record { reads = ap (read_number below) taken.0 ∙ read_whole below (byte ∷ []) value all (omega (arith, same, under)) under; after = taken.1 }
 
 -- a number of two digits
 pub two_read : (below : ℕ) (text others rest : List ℕ) (value : ℕ) → 2 ≤ length text → is_ascii_digit (slice_index text 0) ≡ true
     → is_ascii_digit (slice_index text 1) ≡ true → (slice_index text 0 == 48) ≡ false → others ≡ drop 2 text → before 32 (before 10 others) ≡ []
     → IsAfter others rest → value ≡ 10 * (slice_index text 0 - 48) + (slice_index text 1 - 48) → value < below
-    → (read_number below (before 32 (before 10 text)) ≡ Ok value) × IsAfter text rest
+    → IsNumberRead below text value rest
 unfolding is_number number_after
 two_read below [] others rest value some first second whole is none after same under = absurd (omega arith)
 two_read below (one ∷ []) others rest value some first second whole is none after same under = absurd (omega arith)
@@ -298,7 +297,7 @@ two_read below (one ∷ two ∷ bytes) others rest value some first second whole
     let all : all_ascii_digits (one ∷ two ∷ []) ≡ true = and_from (is_ascii_digit one) _ first (and_from (is_ascii_digit two) true second refl) in
     let taken = word_taken (one ∷ two ∷ bytes) 2 others rest (digits_word (one ∷ two ∷ []) all) is none after in
     let number : is_number (one ∷ two ∷ []) ≡ true = and_from (not (one == 48)) _ (ap not whole) all in
-    (ap (read_number below) taken.0 ∙ read_whole below (one ∷ two ∷ []) value number (grind (arith, same, under)) under, taken.1)
+    record { reads = ap (read_number below) taken.0 ∙ read_whole below (one ∷ two ∷ []) value number (grind (arith, same, under)) under; after = taken.1 }
 
 -- a value that has a name
 pub plain_named : (row : code.Row) (text word : List ℕ) (value : ℕ) → text ≡ word → find_named (map named_seen row.named.now) word ≡ Some value

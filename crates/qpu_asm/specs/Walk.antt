@@ -5,7 +5,7 @@ use Rattle.std.specs.List.{list_all}
 use Rattle.qpu_isa.specs.Fields.{joined, width_of}
 use Rattle.script.specs.Lines.{before, behind}
 use Rattle.qpu_asm.specs.declared.fault.Mistake.TheVariants.{UnknownWord, BadOperand, LabelTwice}
-use Rattle.qpu_asm.specs.Items.{Spots, mistake_number, read_value, is_row, has_row, has_value, kind_named}
+use Rattle.qpu_asm.specs.Items.{Spots, mistake_number, read_number, read_value, is_row, has_row, has_value, kind_named}
 use Rattle.qpu_asm.specs.{declared.fault.AsmFault.AsmFault, declared.fault.Mistake.Mistake, Labels.is_before, Faults.fault_on}
 use Rattle.qpu_asm.specs.{Table.Row, Table.Kind, Table.fallbacks_of, Table.widths_of, Printed.item_text}
 use Rattle.qpu_asm.specs.Lines.{Line, Blank, Label, BadLabel, Coded, is_full, is_comment, ends_label, read_line}
@@ -174,6 +174,11 @@ pub record IsAfter (text rest : List ℕ) : Type 0 where
   pub line : behind 32 (before 10 text) ≡ before 10 rest
   pub others : behind 10 text ≡ behind 10 rest
   pub shorter : length rest ≤ length text
+
+-- a text's first word is a number below a limit, and this is behind it
+pub record IsNumberRead (below : ℕ) (text : List ℕ) (value : ℕ) (rest : List ℕ) : Type 0 where
+  pub reads : read_number below (before 32 (before 10 text)) ≡ Ok value
+  pub after : IsAfter text rest
 
 -- a text begins with a name and a mark
 unfoldable pub begins : ℕ → List ℕ → List ℕ → Bool

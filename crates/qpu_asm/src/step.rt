@@ -1,12 +1,12 @@
 //! An instruction without a mistake, each of whose items is read at once by the letters of its name. What isn't read here is read by
-//! `item`, which says its mistake.
+//! `item`, which says the mistakes too.
 ghost use Rattle.std.specs.Prelude.{◌≡◌, ◌≤◌, ◌<◌, ◌∷◌, ◌+◌, ◌-◌, ◌*◌, ◌^◌, [], codes, ℕ, length, take, min, map, drop, bytes_eq, true, false, IfSome, IsTrue, Some, Ok};
 ghost use Rattle.std.specs.Str.{all_ascii_digits};
 ghost use Rattle.script.specs.Lines.{before, behind};
 ghost use Rattle.script.specs.Number.{is_number as number_test, number_of};
-ghost use Rattle.qpu_asm.specs.Items.{Spots, kind_named as kind_by, read_number as number_read, read_plain as plain_read, read_target as target_read, read_value as value_read};
+ghost use Rattle.qpu_asm.specs.Items.{Spots, kind_named as kind_by, read_plain as plain_read, read_target as target_read, read_value as value_read};
 ghost use Rattle.qpu_asm.specs.Lines.{words_of, is_name as name_test};
-ghost use Rattle.qpu_asm.specs.Walk.{kind_code, is_opcode, IsWord, IsAfter, IsStep, AreSteps, IsCoded};
+ghost use Rattle.qpu_asm.specs.Walk.{kind_code, is_opcode, IsWord, IsAfter, IsNumberRead, IsStep, AreSteps, IsCoded};
 ghost use Rattle.qpu_asm.specs.Forms.{front_of, are_behind, IsWhole};
 ghost use Rattle.qpu_asm.specs.Seen.{row_seen, spots_in, name_seen};
 
@@ -100,10 +100,8 @@ fn is_end(text: &[u8]) -> bool
 }
 
 // The number of one digit that a text begins with, below a limit.
-#[tactic(auto, unfolding(crate::specs::Items::read_number))]
 fn read_digit(text: &[u8], below: u64) -> Option<Value<'_>>
-    ensures value { IfSome result (λ read. number_read below (before 32 (before 10 text.now)) ≡ Ok read.value) }
-    ensures after { IfSome result (λ read. IsAfter text.now read.rest.now) }
+    ensures { IfSome result (λ read. IsNumberRead below text.now read.value read.rest.now) }
 {
     if text.is_empty() || !text[0].is_ascii_digit() {
         return None;
@@ -118,10 +116,8 @@ fn read_digit(text: &[u8], below: u64) -> Option<Value<'_>>
 }
 
 // The number of two digits that a text begins with, below a limit.
-#[tactic(auto, unfolding(crate::specs::Items::read_number))]
 fn read_two(text: &[u8], below: u64) -> Option<Value<'_>>
-    ensures value { IfSome result (λ read. number_read below (before 32 (before 10 text.now)) ≡ Ok read.value) }
-    ensures after { IfSome result (λ read. IsAfter text.now read.rest.now) }
+    ensures { IfSome result (λ read. IsNumberRead below text.now read.value read.rest.now) }
 {
     if text.len() < 2 || text[0] == b'0' {
         return None;
@@ -139,11 +135,9 @@ fn read_two(text: &[u8], below: u64) -> Option<Value<'_>>
 }
 
 // The number that a text begins with, below a limit. Most have one digit or two.
-#[tactic(auto, unfolding(crate::specs::Items::read_number))]
 fn read_digits(text: &[u8], below: u64) -> Option<Value<'_>>
     requires { below ≤ 2 ^ 32 }
-    ensures value { IfSome result (λ read. number_read below (before 32 (before 10 text.now)) ≡ Ok read.value) }
-    ensures after { IfSome result (λ read. IsAfter text.now read.rest.now) }
+    ensures { IfSome result (λ read. IsNumberRead below text.now read.value read.rest.now) }
 {
     if let Some(read) = read_digit(text, below) {
         return Some(read);
@@ -210,10 +204,10 @@ fn read_own<'a>(row: &Row, field: Field, text: &'a [u8]) -> Option<Value<'a>>
     ensures after { IfSome result (λ read. IsAfter text.now read.rest.now) }
 {
     if row.named.is_empty() {
-        read_digits(text, row.below)
-    } else {
-        read_name(row, field, text)
+        let read = read_digits(text, row.below)?;
+        return Some(read);
     }
+    read_name(row, field, text)
 }
 
 // The label's name that a text begins with, and what is behind it on its line.

@@ -7,4 +7,4 @@ use Rattle.qpu_asm.proofs.step.read_own.Goals as goal
 pub returns-then-is_empty-clause-value : goal.returns-then-is_empty-clause-value
 returns-then-is_empty-clause-value c =
     rw (plain_number c.args.row.now (before 32 (before 10 c.args.text.now)) (grind (arith, nat_tests, c.is_empty.ensures, c.if-is_empty.true)))
-    c.read_digits.ensures.value
+    c.in_ok-read.ensures.reads
