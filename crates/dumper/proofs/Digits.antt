@@ -2,6 +2,8 @@
 use Rattle.std.proofs.lemmas.List.{places, set_at, take_more, length-take, length-drop, length-append, append_assoc}
 use Rattle.std.proofs.Common.{slice_set, get_or, take, drop, ◌*◌, ◌≡◌, ℕ, zero, suc, ◌+◌, ◌-◌, ◌/◌, ◌%◌, ◌^◌, ◌<◌, ◌≤◌, List, [], ◌∷◌, ◌++◌, length, replicate, codes, false, refl, sym, ap, ◌∙◌, arith}
 use Rattle.std.proofs.Math.Dec.{eqb-suc-zero}
+use Rattle.std.proofs.lemmas.List.FromFn.{get_or-range_with_len, length-range_with_len}
+use Rattle.std.specs.List.{range_with_len}
 use Rattle.field_words.proofs.Pieces.{drop_drop}
 use Rattle.field_words.specs.Writes.{with_bytes}
 use Rattle.hex.proofs.HexLemmas.{length-encode_with}
@@ -131,6 +133,29 @@ digits_more line bytes at k x y inside fits high low small =
     ∙ ap (with_bytes line at)
     ((λ i. part ++ (high ∙ glyph_is (b / 16) (omega arith)) i ∷ (low ∙ glyph_is (b % 16) (omega arith)) i ∷ [])
     ∙ sym (ap encode_lower (take_more bytes k 0 inside) ∙ encode_append (take k bytes) b))
+
+-- the two digits of one byte among those of all
+two_at : (xs : List ℕ) (k : ℕ) → k < length xs → (get_or (encode_lower xs) (2 * k) 0 ≡ slice_index lower_digits (get_or xs k 0 / 16))
+    × (get_or (encode_lower xs) (2 * k + 1) 0 ≡ slice_index lower_digits (get_or xs k 0 % 16))
+unfolding encode_with
+two_at [] k inside = absurd (omega (arith, inside))
+two_at (x ∷ xs) zero inside = (refl, refl)
+two_at (x ∷ xs) (suc k) inside =
+    let first : 2 * suc k ≡ suc (suc (2 * k)) = omega arith in
+    let second : 2 * suc k + 1 ≡ suc (suc (2 * k + 1)) = omega arith in
+    let later = two_at xs k (omega (arith, inside)) in
+    (ap (λ n. get_or (encode_lower (x ∷ xs)) n 0) first ∙ later.0, ap (λ n. get_or (encode_lower (x ∷ xs)) n 0) second ∙ later.1)
+
+-- a byte's own digits among those of all bytes
+pub pair_at : (b : ℕ) → b < 256 → (get_or (encode_lower (range_with_len 0 256)) (2 * b) 0 ≡ digit_glyph false (b / 16))
+    × (get_or (encode_lower (range_with_len 0 256)) (2 * b + 1) 0 ≡ digit_glyph false (b % 16))
+pair_at b small =
+    let all = range_with_len 0 256 in
+    let here : get_or all b 0 ≡ b = get_or-range_with_len 0 256 b 0 small ∙ omega arith in
+    let two = two_at all b (omega (arith, small, length-range_with_len 0 256)) in (
+      two.0 ∙ ap (λ x. slice_index lower_digits (x / 16)) here ∙ sym (glyph_is (b / 16) (omega (arith, small))),
+      two.1 ∙ ap (λ x. slice_index lower_digits (x % 16)) here ∙ sym (glyph_is (b % 16) (omega arith)),
+    )
 
 pub no_digits : (line bytes : List ℕ) (at : ℕ) → line ≡ with_bytes line at (encode_lower (take 0 bytes))
 unfolding encode_with

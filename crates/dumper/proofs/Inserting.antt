@@ -1,5 +1,5 @@
 -- Where a part goes among spans.
-use Rattle.std.proofs.Common.{◌≡◌, ℕ, zero, suc, ◌+◌, ◌<◌, ◌≤◌, List, [], ◌∷◌, ◌++◌, length, take, drop, get_or, refl, sym, ap, subst, ◌∙◌, append_assoc, append-nil, arith}
+use Rattle.std.proofs.Common.{◌≡◌, ℕ, zero, suc, ◌<◌, ◌≤◌, List, [], ◌∷◌, ◌++◌, length, take, drop, get_or, refl, sym, ap, subst, ◌∙◌, append_assoc, append-nil, arith}
 use Rattle.std.specs.List.{insert}
 use Rattle.field_words.specs.Writes.{Part}
 use Rattle.dumper.specs.{Parts.part_text, Parts.parts_text, Parts.part_end, Parts.Ascend, Parts.inserted, declared.span.Span.Span}

@@ -1,5 +1,5 @@
 -- The text of `replay`: what the units did, step by step.
-use Rattle.std.specs.Prelude.{ℕ, ◌+◌, ◌==◌, ◌&&◌, List, ◌++◌, length, codes, if◌then◌else◌, decimal, flat_map}
+use Rattle.std.specs.Prelude.{ℕ, ◌==◌, ◌&&◌, List, ◌++◌, length, codes, if◌then◌else◌, decimal, flat_map}
 use Rattle.field_words.specs.declared.access.Actor.TheVariants.{Binner, Renderer, Qpu, Tmu}
 use Rattle.field_words.specs.declared.access.Actor.{Actor}
 use Rattle.replay.specs.declared.trace.Ending.TheVariants.{Finished, Waiting, Spent}

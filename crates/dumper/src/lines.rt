@@ -3,6 +3,8 @@ ghost use Rattle.std.specs.Prelude.{◌≡◌, ◌≤◌, ◌<◌, ◌^◌, ◌+
 ghost use Rattle.field_words.specs.Writes.{with_bytes};
 ghost use Rattle.hex.specs.Hex.{encode_lower};
 ghost use Rattle.std.specs.Fmt.{digit_glyph};
+ghost use Rattle.std.specs.Int.{to_be_bytes, w32};
+ghost use Rattle.std.specs.List.{range_with_len};
 ghost use Rattle.dumper.specs.Text.{row_size, row_line, is_blank, rows_text, row_text, row_at};
 ghost use Rattle.dumper.specs.Parts.{part_at, part_rows, part_end, alone, row_in};
 
@@ -21,10 +23,44 @@ fn digit(number: u8) -> u8
     number + if number < 10 { 48 } else { 87 }
 }
 
-/// Writes two digits for each of these bytes from `at` on.
+/// The digits of all bytes, two of each.
+const PAIRS: &[u8; 512] = b"\
+    000102030405060708090a0b0c0d0e0f101112131415161718191a1b1c1d1e1f\
+    202122232425262728292a2b2c2d2e2f303132333435363738393a3b3c3d3e3f\
+    404142434445464748494a4b4c4d4e4f505152535455565758595a5b5c5d5e5f\
+    606162636465666768696a6b6c6d6e6f707172737475767778797a7b7c7d7e7f\
+    808182838485868788898a8b8c8d8e8f909192939495969798999a9b9c9d9e9f\
+    a0a1a2a3a4a5a6a7a8a9aaabacadaeafb0b1b2b3b4b5b6b7b8b9babbbcbdbebf\
+    c0c1c2c3c4c5c6c7c8c9cacbcccdcecfd0d1d2d3d4d5d6d7d8d9dadbdcdddedf\
+    e0e1e2e3e4e5e6e7e8e9eaebecedeeeff0f1f2f3f4f5f6f7f8f9fafbfcfdfeff\
+";
+
+#[tactic(auto, unfolding(hex::specs::Hex::encode_with))]
+fn pairs() -> &'static [u8; 512]
+    ensures { result.now ≡ encode_lower (range_with_len 0 256) }
+{
+    PAIRS
+}
+
+/// Writes the eight digits of a place at the front of a line. They are looked up, since eight are too few to be made at once.
 #[inline]
 #[tactic(auto, using(crate::proofs::Digits::no_digits))]
-pub(crate) fn put_digits(line: &mut [u8], at: usize, bytes: &[u8])
+pub(crate) fn put_place(line: &mut [u8], place: u32)
+    requires { 8 ≤ length line.old }
+    ensures { line.new ≡ with_bytes line.old 0 (encode_lower (to_be_bytes w32 place)) }
+{
+    let bytes = place.to_be_bytes();
+    for k in 0..4 {
+        let first = 2 * bytes[k] as usize;
+        line[2 * k] = pairs()[first];
+        line[2 * k + 1] = pairs()[first + 1];
+    }
+}
+
+/// Writes two digits for each of these bytes from `at` on, as is fast for many.
+#[inline]
+#[tactic(auto, using(crate::proofs::Digits::no_digits))]
+fn put_digits(line: &mut [u8], at: usize, bytes: &[u8])
     requires { at + 2 * length bytes.now ≤ length line.old }
     ensures { line.new ≡ with_bytes line.old at (encode_lower bytes.now) }
 {
@@ -41,7 +77,7 @@ fn row_line(place: u32, row: &[u8; 16]) -> [u8; ROW_LINE]
     ensures { result ≡ row_line place row.now }
 {
     let mut line = *b"........ ................................\n";
-    put_digits(&mut line, 0, &place.to_be_bytes());
+    put_place(&mut line, place);
     put_digits(&mut line, 9, row);
     line
 }

@@ -5,7 +5,7 @@ ghost use Rattle.dumper.specs.Trace.{unit_text, counts_text, reach_text, step_en
 ghost use Rattle.dumper.specs.Text.{place_text};
 ghost use Rattle.std.specs.Fmt.{decimal};
 
-use super::lines::put_digits;
+use super::lines::put_place;
 use super::text::place_text;
 use field_words::{Actor, NoMemory};
 use itoa::Buffer;
@@ -54,7 +54,7 @@ pub fn push_place(alloc: Global, out: &mut Vec<u8>, place: u64) -> Result<(), Al
         return out.extend_from_slice(place_text(alloc, place)?.as_bytes());
     }
     let mut digits = *b"........";
-    put_digits(&mut digits, 0, &(place as u32).to_be_bytes());
+    put_place(&mut digits, place as u32);
     out.extend_from_slice(&digits)
 }
 

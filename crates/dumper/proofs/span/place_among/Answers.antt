@@ -1,4 +1,4 @@
-use Rattle.std.proofs.Common.{◌+◌, ◌++◌, sym, ap, ◌∙◌, arith, add-one, take, drop}
+use Rattle.std.proofs.Common.{◌++◌, sym, ap, ◌∙◌, arith, add-one, take, drop}
 use Rattle.dumper.specs.{Parts.part_at, Parts.inserted, Spans.parts_of}
 use Rattle.dumper.proofs.Inserting.{passed_on, found_at, found_last}
 use Rattle.dumper.proofs.span.place_among.Goals as goal
