@@ -1,5 +1,5 @@
 -- A text line by line: its labels, faults and words.
-use Rattle.std.proofs.Common.{◌≡◌, ℕ, ◌+◌, ◌≤◌, ◌<◌, slice_index_or, List, [], ◌∷◌, ◌++◌, length, map, refl, sym, ◌∙◌, ap, subst, arith, Ok, append_assoc, append-nil}
+use Rattle.std.proofs.Common.{◌≡◌, ℕ, ◌+◌, ◌≤◌, ◌<◌, List, [], ◌∷◌, ◌++◌, length, map, refl, sym, ◌∙◌, ap, subst, arith, Ok, append_assoc, append-nil}
 use Rattle.field_words.specs.declared.stop.Stop.{Stop}
 use Rattle.field_words.specs.declared.stop.Stop.TheVariants as stop
 use Rattle.script.specs.Lines.{lines_of, before, behind}
@@ -69,12 +69,6 @@ words_begin spots text words is none = rw (is, none) (text_assembles text)
 pub text_first : (text : List ℕ) → 0 < length text → read_lines text ≡ read_line (before 10 text) ∷ read_lines (behind 10 text)
 unfolding read_lines
 text_first text some = ap (map read_line) (lines_cut text some)
-
-same_first : (x y : List ℕ) (xs ys : List (List ℕ)) → x ∷ xs ≡ y ∷ ys → x ≡ y
-same_first x y xs ys is = ap (λ lines. slice_index_or lines 0 []) is
-
-pub first_line : (text first rest : List ℕ) → 0 < length text → lines_of text ≡ first ∷ lines_of rest → first ≡ before 10 text
-first_line text first rest some is = same_first first (before 10 text) (lines_of rest) (lines_of (behind 10 text)) (sym is ∙ lines_cut text some)
 
 pub coded_words : (spots : Spots) (number : ℕ) (words : List ℕ) (line : List ℕ) (word : ℕ) → IsCoded spots (length words) line word
     → line_words spots number words (read_line line) ≡ Ok (words ++ word ∷ [])

@@ -153,6 +153,3 @@ behind_shorter mark (byte ∷ bytes) some = elim (cases_Bool (byte == mark)) [
   | inl same ↦ rw same (omega arith)
   | inr other ↦ rw other (omega (arith, behind_within mark bytes))
 ]
-
-pub begun_nop : (text rest : List ℕ) → IsBehind 10 text (codes "nop") rest → size_of (read_line (before 10 text)) ≡ 1
-begun_nop text rest is = ap size_of (text_nop text rest is).0

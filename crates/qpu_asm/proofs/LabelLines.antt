@@ -5,10 +5,8 @@ use Rattle.std.proofs.lemmas.Bool.Decides.{nat_tests}
 use Rattle.std.proofs.lemmas.List.{drop_all}
 use Rattle.std.proofs.Math.Seq.{take-append_seam, get_or-append_seam}
 use Rattle.std.specs.{List.list_all, Char.is_ascii_alphabetic}
-use Rattle.script.specs.{Lines.before, Lines.behind, Lines.lines_of}
-use Rattle.qpu_asm.specs.{Walk.IsWord, Walk.lacks, Lines.is_full, Lines.is_comment, Lines.ends_label, Lines.words_of, Lines.is_name, Lines.is_name_byte, Lines.label_line, Lines.line_of, Lines.read_line, Lines.Line, Lines.Blank, Lines.Label, Lines.BadLabel, Lines.Coded}
-use Rattle.qpu_asm.specs.Labels.{size_of, labels_from, read_lines}
-use Rattle.qpu_asm.proofs.Assembling.{lines_first}
+use Rattle.script.specs.{Lines.before, Lines.behind}
+use Rattle.qpu_asm.specs.{Walk.IsWord, Walk.lacks, Lines.is_full, Lines.is_comment, Lines.ends_label, Lines.words_of, Lines.is_name, Lines.is_name_byte, Lines.label_line, Lines.line_of, Lines.read_line, Lines.Label}
 use Rattle.qpu_asm.proofs.{Heads.ahead, Heads.lacks_append, Heads.first_other, Words.word_first}
 
 other_byte : (mark byte : ℕ) → is_name_byte mark ≡ false → is_name_byte byte ≡ true → not (byte == mark) ≡ true
@@ -131,25 +129,3 @@ blank_none text i over =
 pub name_word : (name : List ℕ) → list_all is_name_byte name ≡ true → IsWord name
 unfolding IsWord
 name_word name all = (names_lack 32 name space_none all, names_lack 10 name end_none all)
-
--- an instruction's line
-pub some_coded : (text : List ℕ) → size_of (read_line (before 10 text)) ≡ 1 → 0 < length text
-unfolding read_line before words_of line_of is_full
-some_coded [] coded = absurd (omega (arith, coded))
-some_coded (byte ∷ bytes) coded = omega arith
-
-coded_first : (first : Line) (lines : List Line) (line index : ℕ) → size_of first ≡ 1 → labels_from line index (first ∷ lines) ≡ labels_from (line + 1) (index + 1) lines
-unfolding labels_from
-coded_first Blank lines line index coded = absurd (omega (arith, coded))
-coded_first (Label name) lines line index coded = absurd (omega (arith, coded))
-coded_first BadLabel lines line index coded = absurd (omega (arith, coded))
-coded_first (Coded opcode items) lines line index coded = refl
-
-pub coded_step : (text below : List ℕ) (line index size : ℕ) → lines_of text ≡ before 10 text ∷ lines_of below → size_of (read_line (before 10 text)) ≡ 1
-    → labels_from (line + size) (index + size) (read_lines text) ≡ labels_from (line + (size + 1)) (index + (size + 1)) (read_lines below)
-coded_step text below line index size is coded =
-    let lines : line + (size + 1) ≡ line + size + 1 = omega arith in
-    let indexes : index + (size + 1) ≡ index + size + 1 = omega arith in
-    rw (lines, indexes)
-    (ap (labels_from (line + size) (index + size)) (lines_first text below (before 10 text) (read_line (before 10 text)) is refl)
-    ∙ coded_first (read_line (before 10 text)) (read_lines below) (line + size) (index + size) coded)

@@ -10,6 +10,7 @@ pub mod Steps
 pub mod Placing
 pub mod Faults
 pub mod Assembling
+pub mod Drafting
 pub mod Sorting
 pub mod Buckets
 pub mod Nearing

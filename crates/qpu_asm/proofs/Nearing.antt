@@ -31,5 +31,5 @@ pub one_low : (numbers : List ℕ) (i d : ℕ) → i < length numbers → get_or
 one_low numbers i d inside = get_or-le-sum_by (λ n. n) numbers i d inside
 
 -- a part that has grown to the whole
-pub whole : (marks others : List Mark) (size : ℕ) → length marks ≡ size → take size (marks ++ others) ≡ marks
+pub whole : {X : Type 0} (marks others : List X) (size : ℕ) → length marks ≡ size → take size (marks ++ others) ≡ marks
 whole marks others size is = subst (λ n. take n (marks ++ others) ≡ marks) is (take-append_seam marks others)

@@ -1,5 +1,5 @@
 -- An item that is read in one walk.
-use Rattle.std.proofs.Common.{◌≡◌, ℕ, zero, suc, get_or, ◌+◌, ◌-◌, ◌*◌, ◌^◌, ◌<◌, ◌≤◌, ◌||◌, codes, Bool, true, false, not, ◌==◌, ◌&&◌, List, [], ◌∷◌, ◌++◌, length, take, drop, slice_index, refl, sym, ◌∙◌, ap, subst, arith, min, append-nil, append_assoc, ne_eqb, ◌≢◌, map, le_refl, None, Some, Ok, IfOk, lt-ltb, ltb-true, nat_lt, bytes_eq, add-one, inl, inr, length-append, if◌then◌else◌}
+use Rattle.std.proofs.Common.{◌≡◌, ℕ, zero, suc, get_or, ◌+◌, ◌-◌, ◌*◌, ◌^◌, ◌<◌, ◌≤◌, ◌||◌, codes, Bool, true, false, not, ◌==◌, ◌&&◌, List, [], ◌∷◌, ◌++◌, length, take, drop, slice_index, refl, sym, ◌∙◌, ap, subst, arith, min, append-nil, append_assoc, ne_eqb, ◌≢◌, map, le_refl, None, Some, Option, Ok, IfOk, IfSome, lt-ltb, ltb-true, nat_lt, bytes_eq, add-one, inl, inr, length-append, if◌then◌else◌}
 use Rattle.std.proofs.lemmas.Bool.{and_parts, and_from, false≢true, cases_Bool}
 use Rattle.std.proofs.lemmas.List.{take-append-drop, length-drop}
 use Rattle.std.proofs.{lemmas.List.Folds.list_all_more}
@@ -226,6 +226,15 @@ unfolding begins
 step_shorter items name text rest is after =
     let inside = ltb-true (length name) (length items) (and_parts (nat_lt (length name) (length items)) (slice_index items (length name) == 61 && bytes_eq (take (length name) items) name) is.begun).0 in
     omega (arith, inside, after.shorter, ap length is.left, length-drop (length name + 1) items)
+
+pub some_by : {X : Type 0} {P Q : X → Type 0} (o : Option X) → ((x : X) → P x → Q x) → IfSome o P → IfSome o Q
+some_by None more has = tt
+some_by (Some x) more has = more x has
+
+-- labels that are known are some, and others may be any
+pub known_for : {X : Type 0} (labels : Option X) (seen : X → Spots) → (spots : Spots) × IfSome labels (λ l. spots ≡ seen l)
+known_for None seen = ((λ name. None), tt)
+known_for (Some l) seen = (seen l, refl)
 
 pub place_value : (spots : Spots) (index at value : ℕ) (name text : List ℕ) (row : Row) (later : List Row) → IsOpen at (row ∷ later)
     → is_row name row ≡ true → read_value spots index name text row ≡ Ok value → value < 2 ^ row.width

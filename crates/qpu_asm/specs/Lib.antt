@@ -6,6 +6,7 @@ pub mod Sheets
 pub mod Lines
 pub mod Items
 pub mod Labels
+pub mod Draft
 pub mod Faults
 pub mod Assembly
 pub mod Walk

@@ -2,7 +2,7 @@
 use Rattle.std.specs.Prelude.{◌≡◌, ℕ, ◌+◌, ◌-◌, ◌*◌, ◌/◌, ◌%◌, ◌^◌, ◌<◌, ◌≤◌, ◌⊎◌, true, false, List, [], ◌∷◌, slice_index, slice_index_or, length, All, IsSorted, IsPermutation}
 use Rattle.std.specs.{Cmp.Lexicographic.slice_cmp, Ordering.nat_cmp, Ordering.ordering_then, Ordering.is_lt, declared.cmp.Ordering.Ordering}
 use Rattle.std.specs.List.{fold}
-use Rattle.qpu_asm.specs.{declared.label.Spot.Spot, declared.label.Name.Name, declared.label.Mark.Mark, Items.Spots, Labels.is_before, Labels.LabelSpot, Seen.labels_seen}
+use Rattle.qpu_asm.specs.{declared.label.Spot.Spot, declared.label.Name.Name, declared.label.Mark.Mark, Items.Spots, Labels.is_before, Labels.LabelSpot, Labels.spot_among, Labels.labels_from, Seen.labels_seen}
 use Rattle.qpu_asm.specs.Lines.{Line, Blank, Label, BadLabel, Coded}
 
 -- the key of a name: the last byte reaches its high bits
@@ -63,6 +63,11 @@ IsFirstBelow bound spots line (Coded opcode items) = Unit {0}
 unfoldable pub AreFirstBelow : ℕ → Spots → ℕ → List Line → Type 0
 AreFirstBelow bound spots line [] = Unit {0}
 AreFirstBelow bound spots line (first ∷ lines) = IsFirstBelow bound spots line first × AreFirstBelow bound spots (line + 1) lines
+
+-- where the labels of lines stand, and no line below the bound repeats one
+pub record AreLabelsOn (lines : List Line) (spots : Spots) (bound : ℕ) : Type 0 where
+  pub known : spots ≡ spot_among (labels_from 1 0 lines)
+  pub first : AreFirstBelow bound spots 1 lines
 
 -- a line that repeats a name, among sorted marks, is not below the bound
 abbrev pub BoundsRepeats : List Mark → ℕ → Type 0

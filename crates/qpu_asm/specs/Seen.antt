@@ -1,6 +1,6 @@
 -- The code's tables as the definitions' tables, and what it has read as the definitions' words.
 use Rattle.std.specs.Prelude.{ℕ, List, map, codes, if◌then◌else◌, Option, Result}
-use Rattle.script.specs.{declared.lines.Cut.Cut, Lines.before}
+use Rattle.script.specs.{declared.lines.Cut.Cut}
 use Rattle.qpu_asm.specs.{declared.fault.AsmFault.AsmFault, declared.fault.Mistake.Mistake, declared.lines.Line.Line, Printed.name_of}
 use Rattle.qpu_asm.specs.{declared.label.Mark.Mark, declared.form.Place.Place, Items.Spots, Items.read_value, Labels.LabelSpot, Labels.spot_among, Walk.line_words}
 use Rattle.qpu_asm.specs.{declared.table.Named.Named, declared.table.Row.Row, declared.table.Kind.Kind}
@@ -55,10 +55,6 @@ value_seen marks index cut = read_value (spots_in marks) index cut.first.now cut
 -- the words with that of a line, or the least of the line's faults
 abbrev pub line_put : List Mark → ℕ → List ℕ → Line → Result (List ℕ) AsmFault
 line_put marks number words line = line_words (spots_in marks) number words (line_seen line)
-
--- the same with the first line of a text
-abbrev pub first_put : List Mark → ℕ → List ℕ → List ℕ → Result (List ℕ) AsmFault
-first_put marks number words text = line_words (spots_in marks) number words (lines.read_line (before 10 text))
 
 -- the name of an item that stands at a place
 abbrev pub name_seen : Place → List ℕ

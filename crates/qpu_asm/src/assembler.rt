@@ -1,5 +1,5 @@
 //! A text as words.
-ghost use Rattle.std.specs.Prelude.{◌≡◌, ◌<◌, ◌≤◌, ◌+◌, ◌∷◌, ◌^◌, ℕ, List, Ok, length, IfOk, OnOk, IfErr, vec_len};
+ghost use Rattle.std.specs.Prelude.{◌≡◌, ◌<◌, ◌≤◌, ◌+◌, ◌∷◌, ◌^◌, ℕ, List, Ok, length, IfOk, OnOk, IfErr, IfSome, vec_len};
 ghost use Rattle.field_words.specs.declared.stop.Stop.TheVariants.{Fault};
 ghost use Rattle.qpu_asm.specs.Labels.{is_before};
 ghost use Rattle.qpu_asm.specs.Faults.{fault_on as fault_by, text_faults, AnswersLeast};
@@ -8,71 +8,74 @@ ghost use Rattle.qpu_asm.specs.Marks.{IsFirstBelow};
 ghost use Rattle.script.specs.Lines.{before, lines_of};
 ghost use Rattle.qpu_asm.specs.Lines.{Label, read_line};
 ghost use Rattle.qpu_asm.specs.Walk.{line_words};
-ghost use Rattle.qpu_asm.specs.Seen.{line_seen, spots_in, line_put, first_put};
+ghost use Rattle.qpu_asm.specs.Seen.{line_seen, spots_in, line_put};
 
+use crate::draft::{Draft, draft_of, fill_left};
 use crate::fault::{AsmFault, Mistake};
 use crate::form::Forms;
 use crate::item::read_code;
-use crate::label::{Found, find_labels, find_spot};
-use crate::labelled::read_labelled;
+use crate::label::{Found, find_labels, find_spot, found_among};
 use crate::lines::{Line, read_line};
-use crate::step::read_coded;
 use field_words::Stop;
 use script::next_line;
-use std::alloc::Global;
+use std::alloc::{AllocError, Global};
+
+/// The greatest number that a line has.
+const MOST_LINE: u64 = u32::MAX as u64;
 
 /// Assembles a text of lines into the words of its instructions. The fault is the least of all that the text has, by line and
-/// then by kind. A label may stand before or after its use, so all labels are found first.
+/// then by kind. A label may stand before or after its use. A text without a fault is read in one walk, and another is read once more.
 pub fn assemble(alloc: Global, text: &[u8]) -> Result<Vec<u64>, Stop<AsmFault>>
     requires { length text.now < 2 ^ 32 }
     ensures words { IfOk result (λ words. Assembled text.now ≡ Ok words.items) }
     ensures fault { IfErr result (IsFaultOf (Assembled text.now)) }
     ensures least { AnswersLeast (text_faults text.now) result }
 {
-    let found = find_labels(alloc, text)?;
+    match assemble_at_once(alloc, text)? {
+        Some(words) => Ok(words),
+        None => assemble_by_line(alloc, text),
+    }
+}
+
+// The words of a text without a fault.
+fn assemble_at_once(alloc: Global, text: &[u8]) -> Result<Option<Vec<u64>>, AllocError>
+    requires { length text.now < 2 ^ 32 }
+    ensures { IfOk result (λ made. IfSome made (λ words. Assembled text.now ≡ Ok words.items)) }
+{
     let forms = Forms::new();
+    let Some(draft) = draft_of(alloc, &forms, text)? else {
+        return Ok(None);
+    };
+    let Draft { mut words, marks } = draft;
+    let found = found_among(alloc, marks)?;
+    if found.first_below > MOST_LINE && fill_left(&mut words, &found.labels, &forms, text) {
+        return Ok(Some(words));
+    }
+    Ok(None)
+}
+
+// The words of a text, line after line, or the first line's fault that has one.
+#[inline(never)]
+fn assemble_by_line(alloc: Global, text: &[u8]) -> Result<Vec<u64>, Stop<AsmFault>>
+    requires { length text.now < 2 ^ 32 }
+    ensures words { IfOk result (λ words. Assembled text.now ≡ Ok words.items) }
+    ensures fault { IfErr result (IsFaultOf (Assembled text.now)) }
+    ensures least { AnswersLeast (text_faults text.now) result }
+{
+    let found = find_labels(alloc, text)?;
     let mut words = Vec::new(alloc);
     let mut rest = text;
     let mut line: u64 = 1;
     while !rest.is_empty() {
-        rest = put_next(&mut words, &found, &forms, rest, line as u32)?;
+        let cut = next_line(rest);
+        put_line(&mut words, &found, read_line(cut.first), line as u32)?;
+        rest = cut.rest;
         line += 1;
     }
     Ok(words)
 }
 
-// Puts the word of a text's first line, where it has one, to those of the lines above it, and answers the lines below it.
-fn put_next<'a>(
-    words: &mut Vec<u64>,
-    found: &Found<'a>,
-    forms: &Forms,
-    text: &'a [u8],
-    number: u32,
-) -> Result<&'a [u8], Stop<AsmFault>>
-    requires room { vec_len words.old < 2 ^ 32 }
-    requires some { 0 < length text.now }
-    requires first { IsFirstBelow found.now.first_below (spots_in found.now.labels) number (read_line (before 10 text.now)) }
-    ensures words { IfOk result (λ _. first_put found.now.labels number words.old.items text.now ≡ Ok words.new.items) }
-    ensures fault { IfErr result (IsFaultOf (first_put found.now.labels number words.old.items text.now)) }
-    ensures lines { IfOk result (λ rest. lines_of text.now ≡ before 10 text.now ∷ lines_of rest.now) }
-    ensures shorter { IfOk result (λ rest. length rest.now < length text.now) }
-    ensures more { IfOk result (λ _. vec_len words.new ≤ vec_len words.old + 1) }
-{
-    if let Some(coded) = read_coded(&found.labels, forms, words.len() as u32, text) {
-        words.push(coded.word)?;
-        return Ok(coded.rest);
-    }
-    if let Some(labelled) = read_labelled(text) {
-        pass_label(found, labelled.name, number)?;
-        return Ok(labelled.rest);
-    }
-    let cut = next_line(text);
-    put_line(words, found, read_line(cut.first), number)?;
-    Ok(cut.rest)
-}
-
-// Puts the word of an instruction's line to those of the lines above it. It is for the lines that aren't read at once.
-#[inline(never)]
+// Puts the word of an instruction's line to those of the lines above it.
 #[tactic(auto, unfolding(crate::specs::Walk::line_words))]
 fn put_line<'a>(
     words: &mut Vec<u64>,

@@ -2,15 +2,14 @@
 ghost use Rattle.std.specs.Prelude.{◌≡◌, ◌<◌, ◌≤◌, ◌^◌, ◌++◌, ◌∷◌, ◌-◌, ◌/◌, ◌+◌, length, slice_index, slice_range, min, max, vec_len, IfOk, OnOk, Some, None, bytes_eq, if◌then◌else◌};
 ghost use Rattle.std.specs.Ordering.{is_lt};
 ghost use Rattle.std.specs.List.{sum};
-ghost use Rattle.std.specs.Prelude.{All, IsPermutation, IsTrue, ℕ};
+ghost use Rattle.std.specs.Prelude.{All, IsPermutation, IsTrue, ℕ, List};
 ghost use Rattle.script.specs.Lines.{before, lines_of};
-ghost use Rattle.qpu_asm.specs.Lines.{Label, read_line as line_read};
+ghost use Rattle.qpu_asm.specs.Lines.{Label, Line as LineSeen};
 ghost use Rattle.qpu_asm.specs.Labels.{spots_of, labels_of, labels_from, label_on, read_lines, size_of};
-ghost use Rattle.qpu_asm.specs.Marks.{key_of as key_by, kept_cmp, fields_cmp, AreInOrder, AreFirst, AreStarts, AreFound, IsKeyed, AreKeyed, AreFirstBelow, BoundsRepeats, IsStart, AreSortedOf};
+ghost use Rattle.qpu_asm.specs.Marks.{key_of as key_by, kept_cmp, fields_cmp, AreInOrder, AreFirst, AreStarts, AreFound, IsKeyed, AreKeyed, AreFirstBelow, AreLabelsOn, BoundsRepeats, IsStart, AreSortedOf};
 ghost use Rattle.qpu_asm.specs.Seen.{line_seen, labels_seen, spots_in};
 
-use crate::labelled::read_labelled;
-use crate::lines::{Line, read_line, skip_coded};
+use crate::lines::{Line, read_line};
 use script::next_line;
 use std::alloc::{AllocError, Global};
 use std::marker::Model;
@@ -84,13 +83,6 @@ fn key_of(bytes: &[u8]) -> u64
     key
 }
 
-/// The lines below those that were passed, and how many indexes these take.
-#[derive(Clone, Copy)]
-struct Passed<'a> {
-    rest: &'a [u8],
-    size: u64,
-}
-
 /// A text's labels; no line below `first_below` repeats one.
 #[derive(Drop)]
 pub struct Found<'a> {
@@ -102,24 +94,36 @@ pub struct Found<'a> {
 pub fn find_labels(alloc: Global, text: &[u8]) -> Result<Found<'_>, AllocError>
     requires { length text.now < 2 ^ 32 }
     ensures spots { IfOk result (λ found. spots_in found.labels ≡ spots_of text.now) }
-    ensures first { IfOk result (λ found. AreFirstBelow found.first_below (spots_of text.now) 1 (read_lines text.now)) }
+    ensures first { IfOk result (λ found. AreFirstBelow found.first_below (spots_in found.labels) 1 (read_lines text.now)) }
 {
-    let marks = sorted_marks(alloc, text)?;
-    let first_below = first_repeat(&marks);
-    let labels = with_buckets(alloc, marks)?;
+    let marks = marks_of(alloc, text)?;
+    let found = found_among(alloc, marks)?;
+    Ok(found)
+}
+
+/// The labels of these marks, which are those of a text's lines.
+pub fn found_among(alloc: Global, marks: Vec<Mark<'_>>) -> Result<Found<'_>, AllocError>
+    requires keyed { AreKeyed marks.items }
+    requires few { vec_len marks < 2 ^ 32 }
+    ensures { IfOk result (λ found. (lines : List LineSeen) → labels_seen marks.entry.items ≡ labels_from 1 0 lines
+        → AreLabelsOn lines (spots_in found.labels) found.first_below) }
+{
+    let sorted = sorted_marks(alloc, marks)?;
+    let first_below = first_repeat(&sorted);
+    let labels = with_buckets(alloc, sorted)?;
     Ok(Found {
         labels,
         first_below,
     })
 }
 
-// The marks of a text, by name, and those of one name by line.
-fn sorted_marks(alloc: Global, text: &[u8]) -> Result<Vec<Mark<'_>>, AllocError>
-    requires { length text.now < 2 ^ 32 }
-    ensures marks { IfOk result (λ marks. AreSortedOf (labels_of text.now) marks.items) }
-    ensures few { IfOk result (λ marks. vec_len marks ≤ length text.now) }
+// Marks by name, and those of one name by line.
+fn sorted_marks(alloc: Global, marks: Vec<Mark<'_>>) -> Result<Vec<Mark<'_>>, AllocError>
+    requires keyed { AreKeyed marks.items }
+    ensures marks { IfOk result (λ sorted. AreSortedOf (labels_seen marks.entry.items) sorted.items) }
+    ensures few { IfOk result (λ sorted. vec_len sorted ≡ vec_len marks.entry) }
 {
-    let mut marks = marks_of(alloc, text)?;
+    let mut marks = marks;
     sort_marks(alloc, &mut marks)?;
     Ok(marks)
 }
@@ -317,69 +321,21 @@ fn marks_of(alloc: Global, text: &[u8]) -> Result<Vec<Mark<'_>>, AllocError>
     let mut line: u64 = 1;
     let mut index: u64 = 0;
     while !rest.is_empty() {
-        let passed = pass_line(
+        let cut = next_line(rest);
+        let first = read_line(cut.first);
+        add_line(
             &mut marks,
-            rest,
+            first,
             Spot {
                 line: line as u32,
                 index: index as u32,
             },
         )?;
         line += 1;
-        index += passed.size;
-        let coded = pass_coded(passed.rest);
-        line += coded.size;
-        index += coded.size;
-        rest = coded.rest;
+        index += size(first);
+        rest = cut.rest;
     }
     Ok(marks)
-}
-
-// Passes the instructions' lines that a text begins with, as most lines are.
-fn pass_coded(text: &[u8]) -> Passed<'_>
-    ensures labels { (line index : ℕ) → labels_from line index (read_lines text.now)
-        ≡ labels_from (line + result.size) (index + result.size) (read_lines result.rest.now) }
-    ensures short { result.size + length result.rest.now ≤ length text.now }
-{
-    let mut rest = text;
-    let mut size = 0;
-    while let Some(below) = skip_coded(rest) {
-        rest = below;
-        size += 1;
-    }
-    Passed { rest, size }
-}
-
-// Puts the mark of a text's first line, where it defines a label, to those of the lines above it.
-fn pass_line<'a>(
-    marks: &mut Vec<Mark<'a>>,
-    text: &'a [u8],
-    spot: Spot,
-) -> Result<Passed<'a>, AllocError>
-    requires some { 0 < length text.now }
-    requires keyed { AreKeyed marks.old.items }
-    ensures keyed { OnOk result (AreKeyed marks.new.items) }
-    ensures few { OnOk result (vec_len marks.new ≤ vec_len marks.old + 1) }
-    ensures labels { OnOk result (
-        labels_seen marks.new.items ≡ labels_seen marks.old.items ++ label_on spot.line spot.index (line_read (before 10 text.now))) }
-    ensures size { IfOk result (λ passed. passed.size ≡ size_of (line_read (before 10 text.now))) }
-    ensures lines { IfOk result (λ passed. lines_of text.now ≡ before 10 text.now ∷ lines_of passed.rest.now) }
-    ensures shorter { IfOk result (λ passed. length passed.rest.now < length text.now) }
-{
-    if let Some(labelled) = read_labelled(text) {
-        add_mark(marks, labelled.name, spot)?;
-        return Ok(Passed {
-            rest: labelled.rest,
-            size: 0,
-        });
-    }
-    let cut = next_line(text);
-    let line = read_line(cut.first);
-    add_line(marks, line, spot)?;
-    Ok(Passed {
-        rest: cut.rest,
-        size: size(line),
-    })
 }
 
 // An instruction's line takes an index.
@@ -392,9 +348,9 @@ fn size(line: Line<'_>) -> u64
     }
 }
 
-// Puts a label's mark to those of the lines above it.
+/// Puts a label's mark to those of the lines above it.
 #[tactic(auto, using(crate::proofs::Sorting::seen_push, crate::proofs::Sorting::keyed_push))]
-fn add_mark<'a>(marks: &mut Vec<Mark<'a>>, name: &'a [u8], spot: Spot) -> Result<(), AllocError>
+pub fn add_mark<'a>(marks: &mut Vec<Mark<'a>>, name: &'a [u8], spot: Spot) -> Result<(), AllocError>
     requires keyed { AreKeyed marks.old.items }
     ensures keyed { OnOk result (AreKeyed marks.new.items) }
     ensures few { OnOk result (vec_len marks.new ≤ vec_len marks.old + 1) }

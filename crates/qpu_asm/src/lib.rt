@@ -8,6 +8,7 @@
 mod assembler;
 mod column;
 mod disassembler;
+mod draft;
 mod fault;
 mod field;
 mod form;

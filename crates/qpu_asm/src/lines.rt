@@ -7,7 +7,7 @@ ghost use Rattle.qpu_asm.specs.Seen.{line_seen};
 ghost use Rattle.qpu_asm.specs.Walk.{begins, is_opcode, IsBehind};
 
 use crate::names::is_name;
-use script::{Cut, cut_at, next_line};
+use script::{Cut, cut_at};
 
 /// What a line is. An instruction's items are still in one piece.
 #[derive(Clone, Copy)]
@@ -78,41 +78,14 @@ pub fn behind_name<'a>(text: &'a [u8], name: &[u8], mark: u8) -> Option<&'a [u8]
     }
 }
 
-// Whether a text begins with this opcode and a space.
-fn begins_by(text: &[u8], opcode: &[u8]) -> bool
-    requires { is_opcode opcode.now ≡ true }
+/// Whether a text begins with a branch's opcode and a space, as most of its lines do.
+pub fn begins_branch(text: &[u8]) -> bool
     ensures { IsTrue result → size_of (line_read (before 10 text.now)) ≡ 1 }
 {
-    match behind_name(text, opcode, b' ') {
+    match behind_name(text, BRANCH, b' ') {
         Some(_) => true,
         None => false,
     }
-}
-
-// Whether a text begins with an opcode and a space, as most instructions do.
-#[tactic(auto, unfolding(crate::specs::Walk::is_opcode, crate::specs::Walk::lacks, crate::specs::Lines::is_full, crate::specs::Lines::is_comment, crate::specs::Lines::ends_label))]
-fn begins_coded(text: &[u8]) -> bool
-    ensures { IsTrue result → size_of (line_read (before 10 text.now)) ≡ 1 }
-{
-    match text.first() {
-        Some(b'a') => begins_by(text, ALU),
-        Some(b'l') => begins_by(text, LOAD_IMM),
-        Some(b'b') => begins_by(text, BRANCH),
-        _ => false,
-    }
-}
-
-/// The lines below an instruction's line, where this begins with its opcode and a space or is `nop`, as most lines do.
-pub fn skip_coded(text: &[u8]) -> Option<&[u8]>
-    ensures coded { IfSome result (λ _. size_of (line_read (before 10 text.now)) ≡ 1) }
-    ensures lines { IfSome result (λ rest. lines_of text.now ≡ before 10 text.now ∷ lines_of rest.now) }
-    ensures shorter { IfSome result (λ rest. length rest.now < length text.now) }
-{
-    if begins_coded(text) {
-        return Some(next_line(text).rest);
-    }
-    let rest = behind_name(text, NOP, b'\n')?;
-    Some(rest)
 }
 
 /// Reads a line as far as its first word tells what it is.

@@ -225,12 +225,14 @@ fn first_name(text: &[u8]) -> Option<Cut<'_>>
     }
 }
 
-// The value that a `to` has.
+// The value that a `to` has, where the labels are known.
 #[tactic(auto, unfolding(crate::specs::Items::read_target))]
-fn read_to<'a>(labels: &Labels<'a>, index: u32, text: &'a [u8]) -> Option<Value<'a>>
-    ensures value { IfSome result (λ read. target_read (spots_in labels.now) index (before 32 (before 10 text.now)) ≡ Ok read.value) }
+fn read_to<'a>(labels: Option<&Labels<'a>>, index: u32, text: &'a [u8]) -> Option<Value<'a>>
+    ensures value { IfSome result (λ read. (spots : Spots) → IfSome labels.entry (λ l. spots ≡ spots_in l.now)
+        → target_read spots index (before 32 (before 10 text.now)) ≡ Ok read.value) }
     ensures after { IfSome result (λ read. IsAfter text.now read.rest.now) }
 {
+    let labels = labels?;
     let cut = first_name(text)?;
     let spot = find_spot(labels, cut.first)?;
     Some(Value {
@@ -240,12 +242,12 @@ fn read_to<'a>(labels: &Labels<'a>, index: u32, text: &'a [u8]) -> Option<Value<
 }
 
 #[tactic(auto, unfolding(crate::specs::Items::read_value))]
-fn read_placed<'a>(labels: &Labels<'a>, index: u32, place: &Place<'a>) -> Option<Value<'a>>
+fn read_placed<'a>(labels: Option<&Labels<'a>>, index: u32, place: &Place<'a>) -> Option<Value<'a>>
     requires below { place.now.row.now.below ≤ 2 ^ 32 }
     requires named { are_behind place.now.field.named.now 0 (map (λ named. named.name.now) place.now.row.now.named.now) ≡ true }
     requires label { place.now.is_own ≡ false → bytes_eq place.now.row.now.name.now (codes "to") ≡ false }
-    ensures value { IfSome result (λ read. value_read (spots_in labels.now) index (name_seen place.now)
-        (before 32 (before 10 place.now.text.now)) (row_seen place.now.row.now) ≡ Ok read.value) }
+    ensures value { IfSome result (λ read. (spots : Spots) → IfSome labels.entry (λ l. spots ≡ spots_in l.now)
+        → value_read spots index (name_seen place.now) (before 32 (before 10 place.now.text.now)) (row_seen place.now.row.now) ≡ Ok read.value) }
     ensures after { IfSome result (λ read. IsAfter place.now.text.now read.rest.now) }
 {
     if place.is_own {
@@ -267,7 +269,7 @@ fn with_field(word: u64, low: u32, fallback: u64, value: u64) -> u64
 
 // Reads the first of some items, where its row is this one or a later one and its value has no mistake.
 fn read_step<'a>(
-    labels: &Labels<'a>,
+    labels: Option<&Labels<'a>>,
     index: u32,
     form: &Form,
     word: u64,
@@ -275,7 +277,8 @@ fn read_step<'a>(
     items: &'a [u8],
 ) -> Option<Step<'a>>
     requires { IsWhole word (drop next form.now.rows) }
-    ensures step { IfSome result (λ step. IsStep (spots_in labels.now) index (front_of word (drop next form.now.rows))
+    ensures step { IfSome result (λ step. (spots : Spots) → IfSome labels.entry (λ l. spots ≡ spots_in l.now)
+        → IsStep spots index (front_of word (drop next form.now.rows))
         (drop next form.now.rows) (before 32 (before 10 items.now))
         (front_of step.word (drop step.next form.now.rows)) (drop step.next form.now.rows)) }
     ensures words { IfSome result (λ step. words_of (before 10 items.now)
@@ -294,8 +297,14 @@ fn read_step<'a>(
 }
 
 // Reads all items of a line.
-fn read_steps<'a>(labels: &Labels<'a>, index: u32, form: &Form, items: &'a [u8]) -> Option<Step<'a>>
-    ensures steps { IfSome result (λ step. AreSteps (spots_in labels.now) index form.now.above form.now.rows
+fn read_steps<'a>(
+    labels: Option<&Labels<'a>>,
+    index: u32,
+    form: &Form,
+    items: &'a [u8],
+) -> Option<Step<'a>>
+    ensures steps { IfSome result (λ step. (spots : Spots) → IfSome labels.entry (λ l. spots ≡ spots_in l.now)
+        → AreSteps spots index form.now.above form.now.rows
         (words_of (before 10 items.now)) (front_of step.word (drop step.next form.now.rows)) (drop step.next form.now.rows)) }
     ensures others { IfSome result (λ step. behind 10 items.now ≡ behind 10 step.rest.now) }
     ensures end { IfSome result (λ step. before 10 step.rest.now ≡ []) }
@@ -323,13 +332,13 @@ fn behind_end(text: &[u8]) -> &[u8]
 // The word of an instruction of this form by its items.
 #[inline(never)]
 fn read_items<'a>(
-    labels: &Labels<'a>,
+    labels: Option<&Labels<'a>>,
     index: u32,
     form: &Form,
     items: &'a [u8],
 ) -> Option<Coded<'a>>
-    ensures word { IfSome result (λ coded.
-        kind_code (spots_in labels.now) index (words_of (before 10 items.now)) form.now ≡ Ok coded.word) }
+    ensures word { IfSome result (λ coded. (spots : Spots) → IfSome labels.entry (λ l. spots ≡ spots_in l.now)
+        → kind_code spots index (words_of (before 10 items.now)) form.now ≡ Ok coded.word) }
     ensures rest { IfSome result (λ coded. coded.rest.now ≡ behind 10 items.now) }
 {
     let step = read_steps(labels, index, form, items)?;
@@ -341,7 +350,7 @@ fn read_items<'a>(
 
 // The instruction that a text begins with, where it begins with this opcode, which is of this form.
 fn read_by<'a>(
-    labels: &Labels<'a>,
+    labels: Option<&Labels<'a>>,
     index: u32,
     opcode: &[u8],
     form: &Form,
@@ -349,7 +358,8 @@ fn read_by<'a>(
 ) -> Option<Coded<'a>>
     requires word { is_opcode opcode.now ≡ true }
     requires kind { kind_by opcode.now ≡ Some form.now }
-    ensures coded { IfSome result (λ coded. IsCoded (spots_in labels.now) index (before 10 text.now) coded.word) }
+    ensures coded { IfSome result (λ coded. (spots : Spots) → IfSome labels.entry (λ l. spots ≡ spots_in l.now)
+        → IsCoded spots index (before 10 text.now) coded.word) }
     ensures rest { IfSome result (λ coded. coded.rest.now ≡ behind 10 text.now) }
 {
     let items = behind_name(text, opcode, b' ')?;
@@ -369,8 +379,21 @@ fn read_nop<'a>(text: &'a [u8]) -> Option<Coded<'a>>
     })
 }
 
-/// The instruction that a text begins with, where it begins with an opcode and its items have no mistake, as most lines do.
-pub fn read_coded<'a>(
+/// The instruction that a text begins with, where it is no branch and its items have no mistake, as most lines do.
+pub fn read_early<'a>(forms: &Forms, index: u32, text: &'a [u8]) -> Option<Coded<'a>>
+    ensures coded { IfSome result (λ coded. (spots : Spots) → IsCoded spots index (before 10 text.now) coded.word) }
+    ensures rest { IfSome result (λ coded. coded.rest.now ≡ behind 10 text.now) }
+{
+    match text.first() {
+        Some(b'a') => read_by(None, index, ALU, &forms.alu, text),
+        Some(b'l') => read_by(None, index, LOAD_IMM, &forms.load_imm, text),
+        Some(b'n') => read_nop(text),
+        _ => None,
+    }
+}
+
+/// The branch that a text begins with, where its items have no mistake.
+pub fn read_branch<'a>(
     labels: &Labels<'a>,
     forms: &Forms,
     index: u32,
@@ -379,11 +402,5 @@ pub fn read_coded<'a>(
     ensures coded { IfSome result (λ coded. IsCoded (spots_in labels.now) index (before 10 text.now) coded.word) }
     ensures rest { IfSome result (λ coded. coded.rest.now ≡ behind 10 text.now) }
 {
-    match text.first() {
-        Some(b'a') => read_by(labels, index, ALU, &forms.alu, text),
-        Some(b'l') => read_by(labels, index, LOAD_IMM, &forms.load_imm, text),
-        Some(b'b') => read_by(labels, index, BRANCH, &forms.branch, text),
-        Some(b'n') => read_nop(text),
-        _ => None,
-    }
+    read_by(Some(labels), index, BRANCH, &forms.branch, text)
 }

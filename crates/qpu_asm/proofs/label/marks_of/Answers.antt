@@ -1,6 +1,5 @@
-use Rattle.std.proofs.{Common.sym, Common.◌∙◌, Common.◌++◌, Common.ap, Common.arith, Common.refl, lemmas.Bool.Decides.nat_tests}
-use Rattle.script.specs.Lines.{before}
-use Rattle.qpu_asm.specs.{Labels.labels_of, Lines.read_line, Seen.labels_seen}
+use Rattle.std.proofs.{Common.sym, Common.◌∙◌, Common.arith, Common.refl, lemmas.Bool.Decides.nat_tests}
+use Rattle.qpu_asm.specs.{Labels.labels_of, Seen.line_seen}
 use Rattle.qpu_asm.proofs.Assembling.{lines_first, labels_step, labels_end, size_low}
 use Rattle.qpu_asm.proofs.Sorting.{none_keyed}
 use Rattle.qpu_asm.proofs.label.marks_of.Goals as goal
@@ -11,16 +10,15 @@ loop-rest-init c = record { lines = omega arith; indexes = omega arith; few = om
 
 pub loop-rest-preserved : goal.loop-rest-preserved
 loop-rest-preserved c =
-    let low = size_low (read_line (before 10 c.loop-rest.rest.now)) in
+    let first = line_seen c.read_line-first.result in
     record {
-      lines = omega (arith, c.in_ok-passed.ensures.shorter, c.pass_coded-coded.ensures.short);
-      indexes = omega (arith, low, c.in_ok-passed.ensures.size);
-      few = omega (arith, c.in_ok-passed.ensures.few);
-      keyed = c.in_ok-passed.ensures.keyed;
+      lines = omega (arith, c.next_line-cut.ensures.shorter);
+      indexes = omega (arith, size_low first, c.size-index.ensures);
+      few = omega (arith, c.in_ok-add_line.ensures.few);
+      keyed = c.in_ok-add_line.ensures.keyed;
       same =
-          ap (λ labels. labels_seen c.pass_line.new.marks.items ++ labels) (sym (c.pass_coded-coded.ensures.labels _ _))
-          ∙ (labels_step _ _ _ _ _ _ _ _ (lines_first _ _ _ _ c.in_ok-passed.ensures.lines refl) c.in_ok-passed.ensures.size c.in_ok-passed.ensures.labels
-          ∙ c.loop-rest.invariant.same);
+          labels_step _ _ _ _ first _ _ _ (lines_first _ _ _ _ c.next_line-cut.ensures.lines c.read_line-first.ensures) c.size-index.ensures c.in_ok-add_line.ensures.labels
+          ∙ c.loop-rest.invariant.same;
     }
 
 pub returns-clause-labels : goal.returns-clause-labels

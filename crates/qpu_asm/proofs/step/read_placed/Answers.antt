@@ -1,9 +1,10 @@
 use Rattle.script.specs.Lines.{before}
-use Rattle.qpu_asm.specs.Seen.{row_seen, spots_in}
-use Rattle.qpu_asm.proofs.Steps.{own_value}
+use Rattle.qpu_asm.specs.Seen.{row_seen}
+use Rattle.qpu_asm.proofs.Steps.{own_value, some_by}
 use Rattle.qpu_asm.proofs.step.read_placed.Goals as goal
 
 pub returns-then-place-clause-value : goal.returns-then-place-clause-value
 returns-then-place-clause-value c =
-    rw (c.if-place.true, own_value (spots_in c.args.labels.now) c.args.index (row_seen c.args.place.now.row.now) (before 32 (before 10 c.args.place.now.text.now)))
+    some_by c.read_own.result (λ read value spots known.
+    rw (c.if-place.true, own_value spots c.args.index (row_seen c.args.place.now.row.now) (before 32 (before 10 c.args.place.now.text.now))) value)
     c.read_own.ensures.value

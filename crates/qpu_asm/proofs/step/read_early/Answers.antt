@@ -1,6 +1,6 @@
 use Rattle.std.proofs.Common.{refl, sym, ap, Some}
 use Rattle.qpu_asm.specs.{Walk.is_opcode, Walk.lacks, Lines.is_full, Lines.is_comment, Lines.ends_label, Items.kind_named}
-use Rattle.qpu_asm.proofs.step.read_coded.Goals as goal
+use Rattle.qpu_asm.proofs.step.read_early.Goals as goal
 
 pub read_by-requires-clause-word : goal.read_by-requires-clause-word
 unfolding is_opcode lacks is_full is_comment ends_label
@@ -17,11 +17,3 @@ read_by-requires-in-Some-eq108-clause-word c = refl
 pub read_by-requires-in-Some-eq108-clause-kind : goal.read_by-requires-in-Some-eq108-clause-kind
 unfolding kind_named
 read_by-requires-in-Some-eq108-clause-kind c = ap Some (sym c.forms.invariant.1)
-
-pub read_by-requires-in-Some-eq98-clause-word : goal.read_by-requires-in-Some-eq98-clause-word
-unfolding is_opcode lacks is_full is_comment ends_label
-read_by-requires-in-Some-eq98-clause-word c = refl
-
-pub read_by-requires-in-Some-eq98-clause-kind : goal.read_by-requires-in-Some-eq98-clause-kind
-unfolding kind_named
-read_by-requires-in-Some-eq98-clause-kind c = ap Some (sym c.forms.invariant.2)

@@ -1,0 +1,51 @@
+-- What is drafted of a text before its labels are known. No part of what the crate claims.
+use Rattle.std.specs.Prelude.{◌≡◌, ℕ, ◌+◌, ◌-◌, ◌*◌, ◌^◌, ◌<◌, ◌≤◌, List, [], ◌++◌, length, drop, slice_index, Ok}
+use Rattle.qpu_asm.specs.declared.draft.Early.TheVariants as early
+use Rattle.script.specs.Lines.{before}
+use Rattle.qpu_asm.specs.{declared.label.Mark.Mark, Items.Spots, Lines.Line, Lines.Blank, Lines.Label, Lines.read_line, declared.draft.Early.Early, Labels.labels_of, Labels.label_on, Labels.size_of, Labels.read_lines, Marks.AreKeyed, Marks.IsFirstBelow, Marks.AreFirstBelow, Walk.IsCoded, Walk.line_words, Walk.lines_words, Seen.labels_seen}
+
+-- from this number on, a drafted word tells where in the text the line lies that is left
+abbrev pub left_from : ℕ
+left_from = 15 * 2 ^ 60
+
+-- the word in place of a drafted one: itself, or the word of the line that was left
+pub record IsFilled (spots : Spots) (text : List ℕ) (index drafted word : ℕ) : Type 0 where
+  pub made : drafted < left_from → word ≡ drafted
+  pub left : left_from ≤ drafted → IsCoded spots index (before 10 (drop (drafted - left_from) text)) word
+
+pub record AreFilled (spots : Spots) (text drafted words : List ℕ) : Type 0 where
+  pub count : length words ≡ length drafted
+  pub each : (index : ℕ) → index < length drafted → IsFilled spots text index (slice_index drafted index) (slice_index words index)
+
+-- the words above a line, and with that of the line
+pub record IsPutOn (spots : Spots) (text : List ℕ) (number : ℕ) (line : Line) (drafted words : List ℕ) : Type 0 where
+  pub above : List ℕ
+  pub filled : AreFilled spots text drafted above
+  pub put : line_words spots number above line ≡ Ok words
+
+-- a line without a mistake goes on from one draft to another
+abbrev pub IsPut : List ℕ → ℕ → Line → List ℕ → List ℕ → Type 0
+IsPut text number line old new = (spots : Spots) (bound : ℕ) (words : List ℕ) → number < bound → IsFirstBelow bound spots number line
+    → AreFilled spots text new words → IsPutOn spots text number line old words
+
+-- what a line with this index of the next instruction has
+abbrev pub IsEarly : ℕ → List ℕ → Early → Type 0
+IsEarly index line (early.Word word) = (word < left_from) × ((spots : Spots) → IsCoded spots index line word)
+IsEarly index line early.Left = size_of (read_line line) ≡ 1
+IsEarly index line (early.Label name) = read_line line ≡ Label name.now
+IsEarly index line early.Blank = read_line line ≡ Blank
+
+-- what a line has is drafted
+pub record IsDraftedOn (text : List ℕ) (number : ℕ) (line : Line) (words_old words_new : List ℕ) (marks_old marks_new : List Mark) : Type 0 where
+  pub labels : labels_seen marks_new ≡ labels_seen marks_old ++ label_on number (length words_old) line
+  pub size : length words_new ≡ length words_old + size_of line
+  pub words : IsPut text number line words_old words_new
+
+-- the words of a text, where its labels are known and none is repeated, and the left lines have no mistake
+pub record IsDraftOf (text drafted : List ℕ) (marks : List Mark) : Type 0 where
+  pub labels : labels_seen marks ≡ labels_of text
+  pub keyed : AreKeyed marks
+  pub few : length marks < 2 ^ 32
+  pub short : length drafted < 2 ^ 32
+  pub words : (spots : Spots) (bound : ℕ) (words : List ℕ) → 2 ^ 32 ≤ bound → AreFirstBelow bound spots 1 (read_lines text)
+      → AreFilled spots text drafted words → lines_words spots 1 (read_lines text) [] ≡ Ok words

@@ -1,0 +1,218 @@
+//! A text's words in one walk: all but those of the lines that are left until its labels are known.
+ghost use Rattle.std.specs.Prelude.{◌≡◌, ◌<◌, ◌≤◌, ◌^◌, ◌+◌, ℕ, List, length, vec_len, drop, IfOk, IfSome, IsTrue, OnOk};
+ghost use Rattle.script.specs.Lines.{before, behind};
+ghost use Rattle.qpu_asm.specs.Lines.{read_line as line_read};
+ghost use Rattle.qpu_asm.specs.Items.{Spots};
+ghost use Rattle.qpu_asm.specs.Marks.{AreKeyed};
+ghost use Rattle.qpu_asm.specs.Walk.{IsCoded};
+ghost use Rattle.qpu_asm.specs.Draft.{left_from, IsEarly, IsDraftedOn, IsDraftOf, AreFilled};
+ghost use Rattle.qpu_asm.specs.Seen.{spots_in};
+
+use crate::form::Forms;
+use crate::item::read_code;
+use crate::label::{Labels, Mark, Spot, add_mark};
+use crate::labelled::read_labelled;
+use crate::lines::{Line, begins_branch, read_line};
+use crate::step::{read_branch, read_early};
+use memchr::memchr;
+use script::cut_at;
+use std::alloc::{AllocError, Global};
+
+/// The least word of a branch, and above all words of other instructions. In a draft such a word stands for a line that is left: what it
+/// has above this one tells where in the text the line begins.
+const LEFT: u64 = 15 << 60;
+
+/// What was read of a text: for each instruction its word, or where its line lies, and a mark for each label.
+#[derive(Drop)]
+pub struct Draft<'a> {
+    pub words: Vec<u64>,
+    pub marks: Vec<Mark<'a>>,
+}
+
+/// What a line has: the word of an instruction, one whose line is left, a label, or nothing.
+#[derive(Clone, Copy)]
+enum Early<'a> {
+    Word(u64),
+    Left,
+    Label(&'a [u8]),
+    Blank,
+}
+
+/// What a text's first line has, and the lines below it.
+#[derive(Clone, Copy)]
+struct First<'a> {
+    early: Early<'a>,
+    rest: &'a [u8],
+}
+
+/// The draft of a text, or none where a label's line is malformed.
+pub fn draft_of<'a>(
+    alloc: Global,
+    forms: &Forms,
+    text: &'a [u8],
+) -> Result<Option<Draft<'a>>, AllocError>
+    requires { length text.now < 2 ^ 32 }
+    ensures { IfOk result (λ draft. IfSome draft (λ d. IsDraftOf text.now d.words.items d.marks.items)) }
+{
+    let mut words = Vec::new(alloc);
+    let mut marks = Vec::new(alloc);
+    let mut at = 0;
+    let mut line: u64 = 1;
+    while at < text.len() {
+        let Some(first) = read_first(forms, words.len() as u32, &text[at..]) else {
+            return Ok(None);
+        };
+        put_first(&mut words, &mut marks, first.early, at, line as u32)?;
+        at = text.len() - first.rest.len();
+        line += 1;
+    }
+    Ok(Some(Draft { words, marks }))
+}
+
+// What a text's first line has, where it is no malformed label's.
+fn read_first<'a>(forms: &Forms, index: u32, text: &'a [u8]) -> Option<First<'a>>
+    ensures early { IfSome result (λ first. IsEarly index (before 10 text.now) first.early) }
+    ensures rest { IfSome result (λ first. first.rest.now ≡ behind 10 text.now) }
+{
+    if let Some(coded) = read_early(forms, index, text) {
+        return Some(First {
+            early: early_word(coded.word),
+            rest: coded.rest,
+        });
+    }
+    if begins_branch(text) {
+        return Some(First {
+            early: Early::Left,
+            rest: lines_below(text),
+        });
+    }
+    if let Some(labelled) = read_labelled(text) {
+        return Some(First {
+            early: Early::Label(labelled.name),
+            rest: labelled.rest,
+        });
+    }
+    other_first(text)
+}
+
+// The word as it is. Where it could be taken for the place of a line, as only a branch's could, its line is left.
+fn early_word(word: u64) -> Early<'static>
+    ensures { (index : ℕ) (line : List ℕ) → ((spots : Spots) → IsCoded spots index line word) → IsEarly index line result }
+{
+    if word < LEFT {
+        Early::Word(word)
+    } else {
+        Early::Left
+    }
+}
+
+// The lines below a text's first one.
+#[tactic(auto, using(script::proofs::Cuts::behind_at, script::proofs::Cuts::behind_none))]
+fn lines_below(text: &[u8]) -> &[u8]
+    ensures { result.now ≡ behind 10 text.now }
+{
+    match memchr(b'\n', text) {
+        Some(at) => &text[at + 1..],
+        None => &[],
+    }
+}
+
+// The same by the words of the line. An instruction's line is left.
+#[inline(never)]
+fn other_first(text: &[u8]) -> Option<First<'_>>
+    ensures early { (index : ℕ) → IfSome result (λ first. IsEarly index (before 10 text.now) first.early) }
+    ensures rest { IfSome result (λ first. first.rest.now ≡ behind 10 text.now) }
+{
+    let cut = cut_at(text, b'\n');
+    let early = match read_line(cut.first) {
+        Line::Blank => Early::Blank,
+        Line::Label(name) => Early::Label(name),
+        Line::BadLabel => return None,
+        Line::Coded(_) => Early::Left,
+    };
+    Some(First {
+        early,
+        rest: cut.rest,
+    })
+}
+
+// Puts what a line has that begins at a place of a text to the draft of the lines above it.
+fn put_first<'a>(
+    words: &mut Vec<u64>,
+    marks: &mut Vec<Mark<'a>>,
+    early: Early<'a>,
+    at: usize,
+    number: u32,
+) -> Result<(), AllocError>
+    requires few { vec_len words.old < 2 ^ 32 }
+    requires place { at < 2 ^ 32 }
+    requires keyed { AreKeyed marks.old.items }
+    ensures keyed { OnOk result (AreKeyed marks.new.items) }
+    ensures few { OnOk result (vec_len marks.new ≤ vec_len marks.old + 1) }
+    ensures more { OnOk result (vec_len words.new ≤ vec_len words.old + 1) }
+    ensures drafted { OnOk result ((text : List ℕ) → IsEarly (length words.old.items) (before 10 (drop at text)) early.entry
+        → IsDraftedOn text number (line_read (before 10 (drop at text))) words.old.items words.new.items marks.old.items marks.new.items) }
+{
+    match early {
+        Early::Word(word) => words.push(word)?,
+        Early::Left => words.push(LEFT + at as u64)?,
+        Early::Label(name) => {
+            let spot = Spot {
+                line: number,
+                index: words.len() as u32,
+            };
+            add_mark(marks, name, spot)?;
+        }
+        Early::Blank => {}
+    }
+    Ok(())
+}
+
+/// Puts the words in for the lines that are left, as far as they have no mistake, and says whether none had one.
+pub fn fill_left<'a>(words: &mut [u64], labels: &Labels<'a>, forms: &Forms, text: &'a [u8]) -> bool
+    requires { length words.old < 2 ^ 32 }
+    ensures { IsTrue result → AreFilled (spots_in labels.now) text.now words.old words.new }
+{
+    for index in 0..words.len() {
+        if words[index] >= LEFT {
+            let Some(word) = left_word(labels, forms, index as u32, text, words[index] - LEFT)
+            else {
+                return false;
+            };
+            words[index] = word;
+        }
+    }
+    true
+}
+
+// The word of the line that begins here.
+fn left_word<'a>(
+    labels: &Labels<'a>,
+    forms: &Forms,
+    index: u32,
+    text: &'a [u8],
+    at: u64,
+) -> Option<u64>
+    ensures { IfSome result (λ word. IsCoded (spots_in labels.now) index (before 10 (drop at text.now)) word) }
+{
+    if at > text.len() as u64 {
+        return None;
+    }
+    let rest = &text[at as usize..];
+    match read_branch(labels, forms, index, rest) {
+        Some(coded) => Some(coded.word),
+        None => other_word(labels, index, rest),
+    }
+}
+
+// The word of an instruction's line that isn't read at once.
+#[inline(never)]
+fn other_word<'a>(labels: &Labels<'a>, index: u32, text: &'a [u8]) -> Option<u64>
+    ensures { IfSome result (λ word. IsCoded (spots_in labels.now) index (before 10 text.now) word) }
+{
+    let cut = cut_at(text, b'\n');
+    match read_line(cut.first) {
+        Line::Coded(code) => read_code(labels, index, code).ok(),
+        _ => None,
+    }
+}
