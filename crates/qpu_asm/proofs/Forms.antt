@@ -5,12 +5,12 @@ use Rattle.std.proofs.lemmas.Bool.{and_parts, false≢true, cases_Bool}
 use Rattle.std.proofs.lemmas.Bool.Decides.{nat_tests}
 use Rattle.std.specs.List.{list_all}
 use Rattle.qpu_isa.specs.Fields.{joined, width_of}
-use Rattle.qpu_asm.specs.{Table.Row, Table.widths_of, Table.fallbacks_of, Items.find_named, Walk.IsOpen, Walk.are_ready, Walk.begins, Forms.front_of, Forms.IsWhole, Forms.slot_of, Forms.are_behind, Forms.labels_behind, Forms.fields_fit, Forms.IsPassed, Forms.ArePassed, Forms.IsItemAt, Forms.IsNext, Walk.IsBehind, Seen.name_seen, Walk.IsPlace, Items.is_row, Seen.named_seen, Seen.row_seen, Seen.rows_seen}
+use Rattle.qpu_asm.specs.{Table.Row, Table.widths_of, Table.fallbacks_of, Items.find_named, Walk.IsOpen, Walk.are_ready, Walk.is_ready, Walk.begins, Forms.front_of, Forms.IsWhole, Forms.slot_of, Forms.are_behind, Forms.labels_behind, Forms.fields_fit, Forms.IsPassed, Forms.ArePassed, Forms.IsItemAt, Forms.IsNext, Walk.IsBehind, Seen.name_seen, Walk.IsPlace, Items.is_row, Seen.named_seen, Seen.row_seen, Seen.rows_seen}
 use Rattle.qpu_asm.specs.declared.table.Named as code
 use Rattle.qpu_asm.specs.declared.table.Row as code-row
 use Rattle.qpu_asm.specs.declared.form.{Field.Field, Place.Place}
 use Rattle.std.proofs.lemmas.List.{drop-drop, length-map}
-use Rattle.qpu_asm.proofs.{Rows.ready_parts, Rows.row_facts, Reading.open_facts, Reading.open_step, Reading.room_parts, Bytes.bytes_same, Heads.begun_split, Steps.passed_row, Steps.passed_none, Steps.place_row}
+use Rattle.qpu_asm.proofs.{Rows.ready_by, Rows.row_below, Rows.ready_parts, Rows.row_facts, Reading.open_facts, Reading.open_step, Reading.room_parts, Bytes.bytes_same, Heads.begun_split, Steps.passed_row, Steps.passed_none, Steps.place_row}
 
 -- what the defaults of rows are alone
 abbrev pub defaults_of : List Row → ℕ
@@ -330,18 +330,26 @@ field_here (row ∷ rows) (suc at) d (field ∷ fields) none inside test =
     }
 
 -- the place of an item whose row stands here
+ready_drop : (rows : List Row) (at : ℕ) → are_ready rows ≡ true → are_ready (drop at rows) ≡ true
+unfolding are_ready
+ready_drop rows zero ready = ready
+ready_drop [] (suc at) ready = refl
+ready_drop (row ∷ rows) (suc at) ready = ready_drop rows at (and_parts (is_ready row) (are_ready rows) ready).1
+
 pub item_here : (rows : List code-row.Row) (seen : List Row) (items : List ℕ) (fields : List Field) (d : code-row.Row) (none : Field) (place : Place)
-    → rows_seen rows ≡ seen → place.at < length rows → place.at < 2 ^ 63 → fields_fit (rows_seen rows) fields ≡ true
+    → rows_seen rows ≡ seen → place.at < length rows → place.at < 2 ^ 63 → are_ready seen ≡ true → fields_fit (rows_seen rows) fields ≡ true
     → place.row.now ≡ get_or rows place.at d → place.field ≡ get_or fields place.at none
     → is_row (name_seen place) (row_seen place.row.now) ≡ true → (place.is_own ≡ false → bytes_eq place.row.now.name.now (codes "to") ≡ false)
     → IsBehind 61 items (name_seen place) place.text.now → IsItemAt seen items place
-item_here rows seen items fields d none place is inside small fit row field named label cut =
+item_here rows seen items fields d none place is inside small ready fit row field named label cut =
     let facts = field_here rows place.at d fields none inside fit in
+    let here = subst (λ all. drop place.at all ≡ row_seen place.row.now ∷ drop (place.at + 1) all) is
+    (row_here rows place.at d inside ∙ ap (λ r. row_seen r ∷ drop (place.at + 1) (rows_seen rows)) (sym row)) in
     record {
       inside = small;
-      here = subst (λ all. drop place.at all ≡ row_seen place.row.now ∷ drop (place.at + 1) all) is
-          (row_here rows place.at d inside ∙ ap (λ r. row_seen r ∷ drop (place.at + 1) (rows_seen rows)) (sym row));
+      here = here;
       named = named;
+      below = row_below _ (ready_by _ _ _ here (ready_drop seen place.at ready)).0;
       label = label;
       low = ap (λ f. f.low) field ∙ (facts.low ∙ ap (λ all. width_of (widths_of (drop (place.at + 1) all))) is);
       names = ap (λ f. are_behind f.named.now 0 (map (λ one. one.name.now) place.row.now.named.now)) field
@@ -351,3 +359,17 @@ item_here rows seen items fields d none place is inside small fit row field name
 
 pub inside_view : (rows : List code-row.Row) (seen : List Row) (at : ℕ) → rows_seen rows ≡ seen → at < length seen → at < length rows
 inside_view rows seen at is inside = omega (arith, inside, ap length is, length-map rows row_seen)
+
+-- what a look behind the end of a table would find
+abbrev pub no_row : code-row.Row
+no_row = record {
+  name = record { ref_ptr = (0, 0); now = [] };
+  width = 0;
+  below = 0;
+  fallback = 0;
+  named = record { ref_ptr = (0, 0); now = [] };
+  takes_label = false;
+}
+
+abbrev pub none_field : Field
+none_field = record { low = 0; named = record { ref_ptr = (0, 0); now = [] } }

@@ -11,6 +11,7 @@ pub mod Placing
 pub mod Faults
 pub mod Assembling
 pub mod Drafting
+pub mod Known
 pub mod Sorting
 pub mod Buckets
 pub mod Nearing

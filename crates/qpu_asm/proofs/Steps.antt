@@ -70,7 +70,7 @@ unfolding before behind
 at_space [] some is = absurd (omega arith)
 at_space (byte ∷ bytes) some is = rw is (refl, record { line = refl; others = refl; shorter = omega arith })
 
-word_first_on : (word others rest : List ℕ) → IsWord word → before 32 (before 10 others) ≡ [] → IsAfter others rest
+pub word_first_on : (word others rest : List ℕ) → IsWord word → before 32 (before 10 others) ≡ [] → IsAfter others rest
     → (before 32 (before 10 (word ++ others)) ≡ word) × IsAfter (word ++ others) rest
 unfolding IsWord
 word_first_on word others rest test none after =

@@ -1,8 +1,10 @@
 -- How items are read without walking over the rows before theirs. No part of what the crate claims.
-use Rattle.std.specs.Prelude.{ℕ, ◌+◌, ◌*◌, ◌/◌, ◌%◌, ◌^◌, ◌<◌, ◌≡◌, ◌==◌, Bool, true, false, not, ◌&&◌, ◌||◌, nat_le, List, [], ◌∷◌, length, map, drop, slice_index, bytes_eq, codes, Option, Result}
+use Rattle.std.specs.Prelude.{ℕ, ◌≤◌, ◌⊎◌, ◌++◌, Ok, All, ◌+◌, ◌*◌, ◌/◌, ◌%◌, ◌^◌, ◌<◌, ◌≡◌, ◌==◌, Bool, true, false, not, ◌&&◌, ◌||◌, nat_le, List, [], ◌∷◌, length, map, drop, slice_index, bytes_eq, codes, Option, Result}
 use Rattle.std.specs.List.{list_all}
+use Rattle.std.specs.Int.{to_le_bytes, w64}
+use Rattle.script.specs.Lines.{before}
 use Rattle.qpu_isa.specs.Fields.{joined, width_of}
-use Rattle.qpu_asm.specs.{declared.form.Field.Field, declared.form.Place.Place, declared.fault.Mistake.Mistake, Table.Row, Table.fallbacks_of, Table.widths_of, Items.is_row, Items.has_row, Walk.skip_to, Walk.begins, Walk.IsOpen, Walk.IsPlace, Walk.IsBehind, Seen.row_seen, Seen.name_seen}
+use Rattle.qpu_asm.specs.{declared.form.Field.Field, declared.form.Place.Place, declared.form.Kept.Kept, declared.fault.Mistake.Mistake, Table.Row, Table.fallbacks_of, Table.widths_of, Items.is_row, Items.has_row, Items.read_plain, Walk.skip_to, Walk.begins, Walk.IsOpen, Walk.IsPlace, Walk.IsBehind, Walk.IsWord, Walk.IsAfter, Seen.row_seen, Seen.name_seen}
 
 -- the part of a word above the rows that may still come
 abbrev pub front_of : ℕ → List Row → ℕ
@@ -37,13 +39,42 @@ fields_fit (row ∷ rows) [] = false
 fields_fit (row ∷ rows) (field ∷ fields) =
     (field.low == width_of (widths_of rows) && are_behind field.named.now 0 (map (λ named. named.name) row.named)) && fields_fit rows fields
 
+-- an item of a row's own name that was read before, by the eight bytes that a text begins with where it stands
+pub record IsKeptItem (rows : List Row) (kept : Kept) : Type 0 where
+  pub row : Row
+  pub word : List ℕ
+  pub others : List ℕ
+  pub here : drop kept.at rows ≡ row ∷ drop (kept.at + 1) rows
+  pub bytes : to_le_bytes w64 kept.window ≡ row.name ++ 61 ∷ (word ++ others)
+  pub whole : IsWord word
+  pub some : 0 < length others
+  pub ends : ((slice_index others 0 ≡ 32) × (kept.size ≡ length row.name + 1 + length word + 1))
+      ⊎ ((slice_index others 0 ≡ 10) × (kept.size ≡ length row.name + 1 + length word))
+  pub value : read_plain row word ≡ Ok kept.value
+
+-- items begin with an item that was read before
+pub record IsReadAt (rows : List Row) (items : List ℕ) (kept : Kept) : Type 0 where
+  pub long : 8 ≤ length items
+  pub row : Row
+  pub here : drop kept.at rows ≡ row ∷ drop (kept.at + 1) rows
+  pub begun : begins 61 items row.name ≡ true
+  pub named : length row.name + 1 ≤ length items
+  pub size : kept.size ≤ length items
+  pub value : read_plain row (before 32 (before 10 (drop (length row.name + 1) items))) ≡ Ok kept.value
+  pub after : IsAfter (drop (length row.name + 1) items) (drop kept.size items)
+
+-- where something is kept, it is an item of these rows
+abbrev pub IsKept : List Row → Kept → Type 0
+IsKept rows kept = 0 < kept.size → IsKeptItem rows kept
+
 -- rows with what reads them
-pub record IsForm (blank : ℕ) (rows : List Row) (fields : List Field) (starts : List ℕ) : Type 0 where
+pub record IsForm (blank : ℕ) (rows : List Row) (fields : List Field) (starts : List ℕ) (kept : List Kept) : Type 0 where
   pub whole : IsWhole blank rows
   pub slots : length starts ≡ 64
   pub fields_fit : fields_fit rows fields ≡ true
   pub names : are_behind starts 0 (map (λ row. row.name) rows) ≡ true
   pub labels : labels_behind starts 0 rows ≡ true
+  pub known : All (IsKept rows) kept
 
 -- the rows that were passed are of other names than the one that items begin with
 pub record IsPassed (items : List ℕ) (first : ℕ) (all : List Row) (word : ℕ) (rows : List Row) : Type 0 where
@@ -62,6 +93,7 @@ pub record IsItemAt (rows : List Row) (items : List ℕ) (place : Place) : Type 
   pub inside : place.at < 2 ^ 63
   pub here : drop place.at rows ≡ row_seen place.row.now ∷ drop (place.at + 1) rows
   pub named : is_row (name_seen place) (row_seen place.row.now) ≡ true
+  pub below : place.row.now.below ≤ 2 ^ 32
   pub label : place.is_own ≡ false → bytes_eq place.row.now.name.now (codes "to") ≡ false
   pub low : place.field.low ≡ width_of (widths_of (drop (place.at + 1) rows))
   pub names : are_behind place.field.named.now 0 (map (λ named. named.name.now) place.row.now.named.now) ≡ true

@@ -15,10 +15,17 @@ use crate::fault::{AsmFault, Mistake};
 use crate::form::Forms;
 use crate::item::read_code;
 use crate::label::{Found, find_labels, find_spot, found_among};
+use crate::learn::learn;
 use crate::lines::{Line, read_line};
 use field_words::Stop;
 use script::next_line;
 use std::alloc::{AllocError, Global};
+
+/// A text of so many bytes gains by knowing the items of its first lines.
+const MANY: usize = 65536;
+
+/// How many bytes the first lines have.
+const FEW: usize = 8192;
 
 /// The greatest number that a line has.
 const MOST_LINE: u64 = u32::MAX as u64;
@@ -37,12 +44,22 @@ pub fn assemble(alloc: Global, text: &[u8]) -> Result<Vec<u64>, Stop<AsmFault>>
     }
 }
 
+// Forms for a text. Where it is long they know the items of its first lines.
+fn forms_for(alloc: Global, text: &[u8]) -> Result<Forms, AllocError> {
+    let mut forms = Forms::new(alloc);
+    if text.len() >= MANY {
+        let (first, _) = text.split_at(FEW);
+        learn(alloc, &mut forms, first)?;
+    }
+    Ok(forms)
+}
+
 // The words of a text without a fault.
 fn assemble_at_once(alloc: Global, text: &[u8]) -> Result<Option<Vec<u64>>, AllocError>
     requires { length text.now < 2 ^ 32 }
     ensures { IfOk result (λ made. IfSome made (λ words. Assembled text.now ≡ Ok words.items)) }
 {
-    let forms = Forms::new();
+    let forms = forms_for(alloc, text)?;
     let Some(draft) = draft_of(alloc, &forms, text)? else {
         return Ok(None);
     };

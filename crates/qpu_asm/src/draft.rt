@@ -54,8 +54,8 @@ pub fn draft_of<'a>(
     requires { length text.now < 2 ^ 32 }
     ensures { IfOk result (λ draft. IfSome draft (λ d. IsDraftOf text.now d.words.items d.marks.items)) }
 {
-    let mut words = Vec::new(alloc);
-    let mut marks = Vec::new(alloc);
+    let mut words = Vec::with_capacity(alloc, text.len() / 16)?;
+    let mut marks = Vec::with_capacity(alloc, text.len() / 64)?;
     let mut at = 0;
     let mut line: u64 = 1;
     while at < text.len() {

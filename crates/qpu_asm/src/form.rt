@@ -1,14 +1,19 @@
 //! What reads the items of a kind's lines: where the row of a name is, and where its field lies, so that no row before it is walked over.
-ghost use Rattle.std.specs.Prelude.{◌≡◌, ◌≤◌, ◌<◌, ◌∷◌, ◌+◌, ◌/◌, ◌^◌, true, length, map, drop, slice_index, IfSome, MatchOption, Some, false, codes, bytes_eq, List, None};
+ghost use Rattle.std.specs.Prelude.{◌≡◌, ◌⊎◌, ◌≤◌, ◌<◌, ◌∷◌, ◌+◌, ◌/◌, ◌^◌, true, length, map, take, drop, slice_index, IfSome, MatchOption, Some, Ok, false, codes, bytes_eq, List, None};
 ghost use Rattle.qpu_isa.specs.Fields.{width_of};
 ghost use Rattle.qpu_asm.specs.Table.{Row as RowModel, alu_kind, load_imm_kind, branch_kind};
 ghost use Rattle.qpu_asm.specs.Items.{find_named};
-ghost use Rattle.qpu_asm.specs.Walk.{begins, IsBehind};
-ghost use Rattle.qpu_asm.specs.Forms.{slot_of as slot_by, front_of, are_behind, IsWhole, ArePassed, IsItemAt, IsNext};
+ghost use Rattle.std.specs.Int.{to_le_bytes, w64};
+ghost use Rattle.script.specs.Lines.{before};
+ghost use Rattle.qpu_asm.specs.Items.{read_plain};
+ghost use Rattle.std.specs.Io.{StartsWith};
+ghost use Rattle.qpu_asm.specs.Walk.{begins, IsAfter, IsBehind, IsWord};
+ghost use Rattle.qpu_asm.specs.Forms.{slot_of as slot_by, front_of, are_behind, IsWhole, ArePassed, IsItemAt, IsNext, IsReadAt};
 ghost use Rattle.qpu_asm.specs.Seen.{named_seen, row_seen, name_seen};
 
 use crate::lines::behind_name;
 use crate::table::{ALU, BRANCH, LOAD_IMM, NOP, Named, Row};
+use std::alloc::{AllocError, Global};
 use std::marker::Model;
 
 /// By the slot of a name, where a search for it begins among names: it does not stand before.
@@ -21,7 +26,18 @@ pub struct Field {
     pub named: &'static Starts,
 }
 
-/// A kind of instruction: its first word, the word of its defaults, its rows with their fields, and where the rows are.
+/// An item that was read before: the eight bytes that stand from its first one on, its value, how many bytes it has with the space behind
+/// it, and the number of its row. One of no bytes is none.
+#[derive(Clone, Copy)]
+pub struct Kept {
+    window: u64,
+    value: u64,
+    size: u8,
+    at: u8,
+}
+
+/// A kind of instruction: its first word, the word of its defaults, its rows with their fields, where the rows are, and items that were
+/// read before.
 #[derive(Drop)]
 pub struct Form {
     opcode: &'static [u8],
@@ -29,6 +45,7 @@ pub struct Form {
     rows: &'static [Row],
     fields: &'static [Field],
     starts: &'static Starts,
+    kept: Vec<Kept>,
 }
 
 impl Model for Form {
@@ -42,7 +59,7 @@ impl Model for Form {
 
     ghost view = { λ f. record { opcode = f.opcode.now; above = front_of f.blank (rows_seen f.rows.now); rows = rows_seen f.rows.now } };
 
-    ghost invariant = { λ f. IsForm f.blank (rows_seen f.rows.now) f.fields.now f.starts.now };
+    ghost invariant = { λ f. IsForm f.blank (rows_seen f.rows.now) f.fields.now f.starts.now f.kept.items };
 }
 
 /// The row of an item, its number, and its field; and the text of the item's value. The item has the row's own name, or it is `to`.
@@ -151,7 +168,7 @@ const BRANCH_ROWS: Starts = [
 ];
 
 // The form of `alu`.
-fn alu_form() -> Form
+fn alu_form(alloc: Global) -> Form
     ensures { result ≡ alu_kind }
 {
     Form {
@@ -160,11 +177,12 @@ fn alu_form() -> Form
         rows: &ALU,
         fields: &ALU_FIELDS,
         starts: &ALU_ROWS,
+        kept: Vec::new(alloc),
     }
 }
 
 // The form of `li`.
-fn load_imm_form() -> Form
+fn load_imm_form(alloc: Global) -> Form
     ensures { result ≡ load_imm_kind }
 {
     Form {
@@ -173,11 +191,12 @@ fn load_imm_form() -> Form
         rows: &LOAD_IMM,
         fields: &LOAD_IMM_FIELDS,
         starts: &LOAD_IMM_ROWS,
+        kept: Vec::new(alloc),
     }
 }
 
 // The form of `br`.
-fn branch_form() -> Form
+fn branch_form(alloc: Global) -> Form
     ensures { result ≡ branch_kind }
 {
     Form {
@@ -186,6 +205,7 @@ fn branch_form() -> Form
         rows: &BRANCH,
         fields: &BRANCH_FIELDS,
         starts: &BRANCH_ROWS,
+        kept: Vec::new(alloc),
     }
 }
 
@@ -210,11 +230,11 @@ impl Model for Forms {
 
 impl Forms {
     /// All forms.
-    pub fn new() -> Forms {
+    pub fn new(alloc: Global) -> Forms {
         Forms {
-            alu: alu_form(),
-            load_imm: load_imm_form(),
-            branch: branch_form(),
+            alu: alu_form(alloc),
+            load_imm: load_imm_form(alloc),
+            branch: branch_form(alloc),
         }
     }
 }
@@ -302,6 +322,141 @@ fn first_row(form: &Form, next: usize, items: &[u8]) -> usize
     ensures { ArePassed items.now (drop next form.now.rows) (drop result form.now.rows) }
 {
     next.max(form.starts[slot_of(items[0], items[1])] as usize)
+}
+
+/// An item's place, its value, and what is behind it on its line.
+#[derive(Clone, Copy)]
+pub struct Known<'a> {
+    pub place: Place<'a>,
+    pub value: u64,
+    pub rest: &'a [u8],
+}
+
+// The eight bytes that items begin with.
+fn window_of(items: &[u8]) -> Option<u64>
+    ensures { IfSome result (λ window. (8 ≤ length items.now) × (to_le_bytes w64 window ≡ take 8 items.now)) }
+{
+    if items.len() < 8 {
+        return None;
+    }
+    Some(u64::from_le_bytes(items[..8].try_into().unwrap()))
+}
+
+// Where the item of these bytes is kept. The product's high bits depend on all of them.
+fn place_kept(window: u64) -> usize {
+    (window.wrapping_mul(0x9E37_79B9_7F4A_7C15) >> 55) as usize
+}
+
+/// How many items a form keeps.
+const KEPT: usize = 512;
+
+const NOT_KEPT: Kept = Kept {
+    window: 0,
+    value: 0,
+    size: 0,
+    at: 0,
+};
+
+/// Makes room for the items that a form keeps.
+pub fn make_room(alloc: Global, form: &mut Form) -> Result<(), AllocError>
+    ensures { form.new ≡ form.old }
+{
+    form.kept = vec![in alloc; NOT_KEPT; KEPT]?;
+    Ok(())
+}
+
+// How many bytes come before what is behind an item that ends here, with a space but without a line feed.
+fn size_kept(items: &[u8], end: usize) -> Option<usize>
+    requires { end < length items.now }
+    ensures { IfSome result (λ size. ((slice_index items.now end ≡ 32) × (size ≡ end + 1)) ⊎ ((slice_index items.now end ≡ 10) × (size ≡ end))) }
+{
+    if items[end] == b' ' {
+        return Some(end + 1);
+    }
+    if items[end] == b'\n' { Some(end) } else { None }
+}
+
+/// Keeps the first of some items, which has a row's own name and the value of this word, where it and the byte behind it are eight bytes at
+/// most. Another one in its place goes.
+pub fn keep_item(form: &mut Form, items: &[u8], place: &Place<'_>, word: &[u8], value: u64)
+    requires item { IsItemAt form.old.rows items.now place.now }
+    requires own { place.now.is_own ≡ true }
+    requires word { IsWord word.now × StartsWith place.now.text.now word.now }
+    requires value { read_plain (row_seen place.now.row.now) word.now ≡ Ok value }
+    ensures { form.new ≡ form.old }
+{
+    let end = place.row.name.len() + 1 + word.len();
+    let Some(window) = window_of(items) else {
+        return;
+    };
+    if end >= 8 || place.at >= 256 {
+        return;
+    }
+    let Some(size) = size_kept(items, end) else {
+        return;
+    };
+    let here = place_kept(window);
+    if here < form.kept.len() {
+        form.kept[here] = Kept {
+            window,
+            value,
+            size: size as u8,
+            at: place.at as u8,
+        };
+    }
+}
+
+// What is kept of the first of some items, where it was read before.
+#[inline]
+fn kept_item(form: &Form, items: &[u8]) -> Option<Kept>
+    ensures { IfSome result (IsReadAt form.now.rows items.now) }
+{
+    let window = window_of(items)?;
+    let kept = form.kept.get(place_kept(window))?;
+    if kept.size > 0 && kept.window == window {
+        Some(*kept)
+    } else {
+        None
+    }
+}
+
+// What is behind so many bytes of a text.
+#[tactic(auto, using(std::proofs::lemmas::List::take_rest))]
+#[inline]
+fn behind_bytes(text: &[u8], count: usize) -> &[u8]
+    requires { count ≤ length text.now }
+    ensures { result.now ≡ drop count text.now }
+{
+    &text[count..]
+}
+
+/// The first of some items, where it was read before, and its row is this one or a later one.
+#[inline]
+pub fn known_item<'a>(form: &Form, next: usize, items: &'a [u8]) -> Option<Known<'a>>
+    ensures item { IfSome result (λ known. IsItemAt form.now.rows items.now known.place) }
+    ensures next { IfSome result (λ known. IsNext (drop next form.now.rows) (name_seen known.place) (drop known.place.at form.now.rows)
+        (row_seen known.place.row.now) (drop (known.place.at + 1) form.now.rows)) }
+    ensures own { IfSome result (λ known. known.place.is_own ≡ true) }
+    ensures value { IfSome result (λ known. read_plain (row_seen known.place.row.now) (before 32 (before 10 known.place.text.now)) ≡ Ok known.value) }
+    ensures after { IfSome result (λ known. IsAfter known.place.text.now known.rest.now) }
+{
+    let kept = kept_item(form, items)?;
+    let at = kept.at as usize;
+    if first_row(form, next, items) != at {
+        return None;
+    }
+    let row = &form.rows[at];
+    Some(Known {
+        place: Place {
+            at,
+            row,
+            field: form.fields[at],
+            is_own: true,
+            text: behind_bytes(items, row.name.len() + 1),
+        },
+        value: kept.value,
+        rest: behind_bytes(items, kept.size as usize),
+    })
 }
 
 /// The place of the first of some items, where its row is this one or a later one, and the first of those that its slot tells of. Of all

@@ -15,6 +15,7 @@ mod form;
 mod item;
 mod label;
 mod labelled;
+mod learn;
 mod lines;
 mod names;
 mod pen;

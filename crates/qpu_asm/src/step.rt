@@ -1,16 +1,17 @@
 //! An instruction without a mistake, each of whose items is read at once by the letters of its name. What isn't read here is read by
 //! `item`, which says the mistakes too.
 ghost use Rattle.std.specs.Prelude.{◌≡◌, ◌≤◌, ◌<◌, ◌∷◌, ◌+◌, ◌-◌, ◌*◌, ◌^◌, [], codes, ℕ, length, take, min, map, drop, bytes_eq, true, false, IfSome, IsTrue, Some, Ok};
+ghost use Rattle.std.specs.Io.{StartsWith};
 ghost use Rattle.std.specs.Str.{all_ascii_digits};
 ghost use Rattle.script.specs.Lines.{before, behind};
 ghost use Rattle.script.specs.Number.{is_number as number_test, number_of};
 ghost use Rattle.qpu_asm.specs.Items.{Spots, kind_named as kind_by, read_plain as plain_read, read_target as target_read, read_value as value_read};
 ghost use Rattle.qpu_asm.specs.Lines.{words_of, is_name as name_test};
 ghost use Rattle.qpu_asm.specs.Walk.{kind_code, is_opcode, IsWord, IsAfter, IsNumberRead, IsStep, AreSteps, IsCoded};
-ghost use Rattle.qpu_asm.specs.Forms.{front_of, are_behind, IsWhole};
+ghost use Rattle.qpu_asm.specs.Forms.{front_of, are_behind, IsItemAt, IsNext, IsWhole};
 ghost use Rattle.qpu_asm.specs.Seen.{row_seen, spots_in, name_seen};
 
-use crate::form::{Field, Form, Forms, Place, find_place, find_value};
+use crate::form::{Field, Form, Forms, Known, Place, find_place, find_value, known_item};
 use crate::item::distance;
 use crate::label::{Labels, find_spot};
 use crate::labelled::{begins_name, name_end};
@@ -20,9 +21,9 @@ use script::Cut;
 
 /// The value of an item, and what is behind the item.
 #[derive(Clone, Copy)]
-struct Value<'a> {
-    value: u64,
-    rest: &'a [u8],
+pub struct Value<'a> {
+    pub value: u64,
+    pub rest: &'a [u8],
 }
 
 /// The word with the fields of the items that were read, the number of the row behind theirs, and what is behind the items.
@@ -171,9 +172,10 @@ fn word_end(text: &[u8]) -> usize
     text.len()
 }
 
-// The word that a text begins with, and what is behind it on its line.
-fn first_word(text: &[u8]) -> Option<Cut<'_>>
+/// The word that a text begins with, and what is behind it on its line.
+pub fn first_word(text: &[u8]) -> Option<Cut<'_>>
     ensures word { IfSome result (λ cut. before 32 (before 10 text.now) ≡ cut.first.now) }
+    ensures front { IfSome result (λ cut. IsWord cut.first.now × StartsWith text.now cut.first.now) }
     ensures after { IfSome result (λ cut. IsAfter text.now cut.rest.now) }
 {
     let (first, others) = text.split_at(word_end(text));
@@ -195,9 +197,9 @@ fn read_name<'a>(row: &Row, field: Field, text: &'a [u8]) -> Option<Value<'a>>
     })
 }
 
-// The value that an item of a row's own name has.
+/// The value that an item of a row's own name has.
 #[tactic(auto, unfolding(crate::specs::Items::read_plain))]
-fn read_own<'a>(row: &Row, field: Field, text: &'a [u8]) -> Option<Value<'a>>
+pub fn read_own<'a>(row: &Row, field: Field, text: &'a [u8]) -> Option<Value<'a>>
     requires below { row.now.below ≤ 2 ^ 32 }
     requires named { are_behind field.named.now 0 (map (λ named. named.name.now) row.now.named.now) ≡ true }
     ensures value { IfSome result (λ read. plain_read (row_seen row.now) (before 32 (before 10 text.now)) ≡ Ok read.value) }
@@ -267,6 +269,33 @@ fn with_field(word: u64, low: u32, fallback: u64, value: u64) -> u64
     word - fallback * (1 << low) + value * (1 << low)
 }
 
+// The first of some items, where its row is this one or a later one and its value has no mistake.
+fn find_item<'a>(
+    labels: Option<&Labels<'a>>,
+    index: u32,
+    form: &Form,
+    next: usize,
+    items: &'a [u8],
+) -> Option<Known<'a>>
+    ensures item { IfSome result (λ known. IsItemAt form.now.rows items.now known.place) }
+    ensures next { IfSome result (λ known. IsNext (drop next form.now.rows) (name_seen known.place) (drop known.place.at form.now.rows)
+        (row_seen known.place.row.now) (drop (known.place.at + 1) form.now.rows)) }
+    ensures value { IfSome result (λ known. (spots : Spots) → IfSome labels.entry (λ l. spots ≡ spots_in l.now)
+        → value_read spots index (name_seen known.place) (before 32 (before 10 known.place.text.now)) (row_seen known.place.row.now) ≡ Ok known.value) }
+    ensures after { IfSome result (λ known. IsAfter known.place.text.now known.rest.now) }
+{
+    if let Some(known) = known_item(form, next, items) {
+        return Some(known);
+    }
+    let place = find_place(form, next, items)?;
+    let read = read_placed(labels, index, &place)?;
+    Some(Known {
+        place,
+        value: read.value,
+        rest: read.rest,
+    })
+}
+
 // Reads the first of some items, where its row is this one or a later one and its value has no mistake.
 fn read_step<'a>(
     labels: Option<&Labels<'a>>,
@@ -287,12 +316,12 @@ fn read_step<'a>(
     ensures whole { IfSome result (λ step. IsWhole step.word (drop step.next form.now.rows)) }
     ensures shorter { IfSome result (λ step. length step.rest.now < length items.now) }
 {
-    let place = find_place(form, next, items)?;
-    let read = read_placed(labels, index, &place)?;
+    let known = find_item(labels, index, form, next, items)?;
+    let Known { place, value, rest } = known;
     Some(Step {
-        word: with_field(word, place.field.low, place.row.fallback, read.value),
+        word: with_field(word, place.field.low, place.row.fallback, value),
         next: place.at + 1,
-        rest: read.rest,
+        rest,
     })
 }
 

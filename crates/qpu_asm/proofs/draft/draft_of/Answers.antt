@@ -13,13 +13,13 @@ unfolding labels_of
 loop-at-init c = record {
   inside = omega arith;
   lines = omega arith;
-  indexes = omega (arith, c.new-words.ensures.len);
-  few = omega (arith, c.new-marks.ensures.len);
-  keyed = none_keyed _ c.new-marks.ensures.items;
-  labels = rw (c.new-marks.ensures.items, c.new-words.ensures.len) refl;
+  indexes = omega (arith, c.in_ok-words.ensures.len);
+  few = omega (arith, c.in_ok-marks.ensures.len);
+  keyed = none_keyed _ c.in_ok-marks.ensures.items;
+  labels = rw (c.in_ok-marks.ensures.items, c.in_ok-words.ensures.len) refl;
   first = λ spots bound all. all;
   words = λ spots bound words big all filled.
-      ap (lines_words spots 1 (read_lines c.args.text.now)) (no_words words (omega (arith, filled.count, c.new-words.ensures.len, c.new-words.result.ok)));
+      ap (lines_words spots 1 (read_lines c.args.text.now)) (no_words words (omega (arith, filled.count, c.in_ok-words.ensures.len, c.in_ok-words.words.ok)));
 }
 
 pub overflow_sub-at : goal.overflow_sub-at

@@ -2,6 +2,7 @@ use Rattle.std.proofs.Common.{refl, lit≤}
 use Rattle.qpu_isa.specs.Fields.{joined, width_of}
 use Rattle.qpu_asm.specs.{Lines.is_full, Walk.lacks, Walk.is_part, Walk.is_short, Walk.is_ready, Walk.are_ready}
 use Rattle.qpu_asm.specs.Forms.{slot_of, are_behind, labels_behind, fields_fit}
+use Rattle.qpu_asm.proofs.Known.{none_kept}
 use Rattle.qpu_asm.proofs.form.alu_form.Goals as goal
 
 pub invariant_of-result : goal.invariant_of-result
@@ -12,6 +13,7 @@ invariant_of-result c = record {
   fields_fit = refl;
   names = refl;
   labels = refl;
+  known = none_kept _ _ c.new.ensures.items;
 }
 
 pub returns : goal.returns

@@ -1,31 +1,17 @@
-use Rattle.std.proofs.Common.{◌≡◌, refl, sym, ap, arith, codes, get_or, [], false, true}
+use Rattle.std.proofs.Common.{◌≡◌, refl, sym, subst, ap, arith, codes, get_or, false, true}
 use Rattle.std.proofs.lemmas.Bool.{false≢true}
-use Rattle.qpu_asm.specs.declared.form.{Field.Field}
-use Rattle.qpu_asm.specs.declared.table.Row.{Row}
 use Rattle.qpu_asm.specs.Seen.{row_seen}
+use Rattle.qpu_asm.specs.Walk.{are_ready}
 use Rattle.qpu_asm.proofs.Steps.{own_row, to_row, begun_apart}
-use Rattle.qpu_asm.proofs.Forms.{inside_view, two_letters, field_here, item_here}
+use Rattle.qpu_asm.proofs.Forms.{inside_view, two_letters, field_here, item_here, no_row, none_field}
 use Rattle.qpu_asm.proofs.form.place_at.Goals as goal
-
-abbrev no_row : Row
-no_row = record {
-  name = record { ref_ptr = (0, 0); now = [] };
-  width = 0;
-  below = 0;
-  fallback = 0;
-  named = record { ref_ptr = (0, 0); now = [] };
-  takes_label = false;
-}
-
-abbrev no_field : Field
-no_field = record { low = 0; named = record { ref_ptr = (0, 0); now = [] } }
 
 own_to : {A : Type 0} → true ≡ false → A
 own_to is = absurd (false≢true (sym is))
 
 pub bounds-form-inside-at : goal.bounds-form-inside-at
 bounds-form-inside-at c =
-    (field_here c.form.inside.rows.now c.args.at no_row c.form.inside.fields.now no_field (inside_view c.form.inside.rows.now _ c.args.at (ap (λ kind. kind.rows) c.form.view_is) c.requires.inside)
+    (field_here c.form.inside.rows.now c.args.at no_row c.form.inside.fields.now none_field (inside_view c.form.inside.rows.now _ c.args.at (ap (λ kind. kind.rows) c.form.view_is) c.requires.inside)
     c.form.invariant.fields_fit).inside
 
 pub behind_own-requires-clause-named : goal.behind_own-requires-clause-named
@@ -37,13 +23,13 @@ pub returns-in-Some-clause-item : goal.returns-in-Some-clause-item
 returns-in-Some-clause-item c =
     let inside = (inside_view c.form.inside.rows.now _ c.args.at (ap (λ kind. kind.rows) c.form.view_is) c.requires.inside) in
     let row = get_or c.form.inside.rows.now c.args.at no_row in
-    item_here c.form.inside.rows.now _ c.args.items.now c.form.inside.fields.now no_row no_field _ (ap (λ kind. kind.rows) c.form.view_is) inside (omega (arith, inside, c.form.told.1))
-    c.form.invariant.fields_fit refl refl (own_row (row_seen row)) (λ to. own_to to) c.in-Some.ensures
+    item_here c.form.inside.rows.now _ c.args.items.now c.form.inside.fields.now no_row none_field _ (ap (λ kind. kind.rows) c.form.view_is) inside (omega (arith, inside, c.form.told.1))
+    (subst (λ all. are_ready all ≡ true) (ap (λ kind. kind.rows) c.form.view_is) c.form.invariant.whole.still.ready) c.form.invariant.fields_fit refl refl (own_row (row_seen row)) (λ to. own_to to) c.in-Some.ensures
 
 pub returns-clause-item : goal.returns-clause-item
 returns-clause-item c =
     let inside = (inside_view c.form.inside.rows.now _ c.args.at (ap (λ kind. kind.rows) c.form.view_is) c.requires.inside) in
     let row = get_or c.form.inside.rows.now c.args.at no_row in
-    item_here c.form.inside.rows.now _ c.args.items.now c.form.inside.fields.now no_row no_field _ (ap (λ kind. kind.rows) c.form.view_is) inside (omega (arith, inside, c.form.told.1))
-    c.form.invariant.fields_fit refl refl (to_row (row_seen row) c.if-not-row.false)
+    item_here c.form.inside.rows.now _ c.args.items.now c.form.inside.fields.now no_row none_field _ (ap (λ kind. kind.rows) c.form.view_is) inside (omega (arith, inside, c.form.told.1))
+    (subst (λ all. are_ready all ≡ true) (ap (λ kind. kind.rows) c.form.view_is) c.form.invariant.whole.still.ready) c.form.invariant.fields_fit refl refl (to_row (row_seen row) c.if-not-row.false)
     (λ to. begun_apart c.args.items.now row.name.now (codes "to") c.in_default.ensures c.in_ok-text.ensures.begun) c.in_ok-text.ensures

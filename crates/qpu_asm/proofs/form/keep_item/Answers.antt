@@ -1,0 +1,27 @@
+use Rattle.std.proofs.Common.{◌≡◌, ◌+◌, ◌∷◌, sym, subst, ap, arith, codes, drop, if◌then◌else◌}
+use Rattle.std.proofs.lemmas.List.Elements.{All-set}
+use Rattle.qpu_asm.specs.{Forms.IsKept, Walk.IsBehind, Seen.row_seen, Seen.rows_seen}
+use Rattle.qpu_asm.proofs.Known.{item_kept}
+use Rattle.qpu_asm.proofs.form.keep_item.Goals as goal
+
+pub invariant_of-form : goal.invariant_of-form
+invariant_of-form c =
+    let rows = rows_seen c.form.inside.rows.now in
+    let place = c.args.place.now in
+    let row = row_seen place.row.now in
+    let items = c.args.items.now in
+    let word = c.args.word.now in
+    let seen : rows ≡ c.args.form.now.rows = ap (λ kind. kind.rows) c.form.view_is in
+    let here = subst (λ all. drop place.at all ≡ row ∷ drop (place.at + 1) all) (sym seen) c.requires.item.here in
+    let behind = subst (λ own. IsBehind 61 items (if own then place.row.now.name.now else codes "to") place.text.now) c.requires.own c.requires.item.cut in
+    record {
+      whole = c.form.invariant.whole;
+      slots = c.form.invariant.slots;
+      fields_fit = c.form.invariant.fields_fit;
+      names = c.form.invariant.names;
+      labels = c.form.invariant.labels;
+      known = All-set (IsKept rows) c.form.inside.kept.items c.place_kept-here.result _
+          (λ some. item_kept rows items word place.text.now row _ here behind c.requires.word.0 c.requires.word.1 c.in-Some.ensures.0 c.in-Some.ensures.1
+          (omega (arith, c.if-end-ge8.false)) c.in-Some-size_kept.ensures c.requires.value)
+          c.form.invariant.known;
+    }

@@ -1,0 +1,65 @@
+//! The items of a text's first lines are kept, since most lines below them have the same.
+ghost use Rattle.std.specs.Prelude.{◌≡◌, ◌<◌, length, IfSome};
+
+use crate::form::{Form, Forms, find_place, keep_item, make_room};
+use crate::lines::{ALU, BRANCH, LOAD_IMM, behind_name};
+use crate::step::{first_word, read_own};
+use script::next_line;
+use std::alloc::{AllocError, Global};
+
+/// Keeps the items of these lines.
+pub fn learn(alloc: Global, forms: &mut Forms, text: &[u8]) -> Result<(), AllocError> {
+    make_room(alloc, &mut forms.alu)?;
+    make_room(alloc, &mut forms.load_imm)?;
+    make_room(alloc, &mut forms.branch)?;
+    let mut rest = text;
+    while !rest.is_empty() {
+        learn_line(forms, rest);
+        rest = next_line(rest).rest;
+    }
+    Ok(())
+}
+
+// Keeps the items of the line that a text begins with.
+fn learn_line(forms: &mut Forms, text: &[u8]) {
+    match text.first() {
+        Some(b'a') => learn_by(&mut forms.alu, ALU, text),
+        Some(b'l') => learn_by(&mut forms.load_imm, LOAD_IMM, text),
+        Some(b'b') => learn_by(&mut forms.branch, BRANCH, text),
+        _ => {}
+    }
+}
+
+// Keeps the items of the line that a text begins with, where it begins with this opcode.
+fn learn_by(form: &mut Form, opcode: &[u8], text: &[u8])
+    ensures { form.new ≡ form.old }
+{
+    if let Some(items) = behind_name(text, opcode, b' ') {
+        learn_items(form, items);
+    }
+}
+
+// Keeps items up to one that isn't of a row's own name or has a mistake.
+fn learn_items(form: &mut Form, items: &[u8])
+    ensures { form.new ≡ form.old }
+{
+    let mut rest = items;
+    while let Some(behind) = learn_item(form, rest) {
+        rest = behind;
+    }
+}
+
+// Keeps the first of some items, and answers what is behind it.
+fn learn_item<'a>(form: &mut Form, items: &'a [u8]) -> Option<&'a [u8]>
+    ensures same { form.new ≡ form.old }
+    ensures shorter { IfSome result (λ rest. length rest.now < length items.now) }
+{
+    let place = find_place(form, 0, items)?;
+    if !place.is_own {
+        return None;
+    }
+    let word = first_word(place.text)?;
+    let read = read_own(place.row, place.field, place.text)?;
+    keep_item(form, items, &place, word.first, read.value);
+    Some(word.rest)
+}
