@@ -4,7 +4,7 @@ use Rattle.std.proofs.Math.Seq.{get_or-append_seam, take-append_seam, take-appen
 use Rattle.std.proofs.lemmas.List.{get_or-take, get_or-append-add, take-append-drop, length-take, length-drop, length-map, get_or_append_left}
 use Rattle.std.specs.Int.{to_le_bytes, w64}
 use Rattle.script.specs.Lines.{before, behind}
-use Rattle.qpu_asm.specs.{declared.form.Kept.Kept, Table.Row, Items.read_plain, Walk.begins, Walk.IsAfter, Walk.IsBehind, Walk.IsWord, Forms.IsKept, Forms.IsKeptItem, Forms.IsReadAt}
+use Rattle.qpu_asm.specs.{declared.form.Kept.Kept, Table.Row, Items.read_plain, Walk.begins, Walk.IsAfter, Walk.IsBehind, Walk.IsWord, Forms.slot_of, Forms.IsKept, Forms.IsKeptItem, Forms.IsReadAt}
 use Rattle.qpu_asm.specs.declared.table.Row as code
 use Rattle.qpu_asm.specs.Seen.{row_seen, rows_seen}
 use Rattle.qpu_asm.proofs.{Forms.row_here, Heads.begun_split, Bytes.bytes_itself, Steps.at_end, Steps.at_space, Steps.word_first_on}
@@ -41,9 +41,9 @@ behind_word word others size whole some (inr (feed, none)) =
     subst (λ n. (before 32 (before 10 (word ++ others)) ≡ word) × IsAfter (word ++ others) (drop n others)) (sym none)
     (word_first_on word others others whole ends.0 ends.1)
 
-item_at : (rows : List Row) (kept : Kept) (item : IsKeptItem rows kept) (more : List ℕ) → 8 ≤ length (item.row.name ++ 61 ∷ (item.word ++ (item.others ++ more)))
+item_at : (rows : List Row) (starts : List ℕ) (kept : Kept) (item : IsKeptItem rows starts kept) (more : List ℕ) → 8 ≤ length (item.row.name ++ 61 ∷ (item.word ++ (item.others ++ more)))
     → IsReadAt rows (item.row.name ++ 61 ∷ (item.word ++ (item.others ++ more))) kept
-item_at rows kept item more eight =
+item_at rows starts kept item more eight =
     let name = item.row.name in
     let word = item.word in
     let others = item.others ++ more in
@@ -86,15 +86,15 @@ item_at rows kept item more eight =
           (subst (IsAfter (word ++ others)) (sym rest) word_read.1);
     }
 
-pub read_at : (rows : List Row) (items : List ℕ) (kept : Kept) → IsKept rows kept → 0 < kept.size → 8 ≤ length items → to_le_bytes w64 kept.window ≡ take 8 items
+pub read_at : (rows : List Row) (starts items : List ℕ) (kept : Kept) → IsKept rows starts kept → 0 < kept.size → 8 ≤ length items → to_le_bytes w64 kept.window ≡ take 8 items
     → IsReadAt rows items kept
-read_at rows items kept is some eight window =
+read_at rows starts items kept is some eight window =
     let item = is some in
     let whole : items ≡ item.row.name ++ 61 ∷ (item.word ++ (item.others ++ drop 8 items)) =
     sym (take-append-drop 8 items) ∙ ap (λ front. front ++ drop 8 items) (sym window ∙ item.bytes)
     ∙ append_assoc item.row.name (61 ∷ (item.word ++ item.others)) (drop 8 items)
     ∙ ap (λ t. item.row.name ++ 61 ∷ t) (append_assoc item.word item.others (drop 8 items)) in
-    subst (λ all. IsReadAt rows all kept) (sym whole) (item_at rows kept item (drop 8 items) (subst (λ all. 8 ≤ length all) whole eight))
+    subst (λ all. IsReadAt rows all kept) (sym whole) (item_at rows starts kept item (drop 8 items) (subst (λ all. 8 ≤ length all) whole eight))
 
 -- the row that was read in the code's own table
 pub record IsRowRead (rows : List code.Row) (at : ℕ) (d : code.Row) (row : Row) : Type 0 where
@@ -110,18 +110,18 @@ row_read rows seen at d row is here =
     subst (λ all. row_seen (get_or rows at d) ∷ drop (at + 1) all ≡ drop at all) is (sym (row_here rows at d inside)) ∙ here in
     record { inside = inside; same = sym (ap (λ all. get_or all 0 row) there) }
 
-pub none_kept : (rows : List Row) (kept : List Kept) → kept ≡ [] → All (IsKept rows) kept
-none_kept rows [] none = λ k d inside. absurd (omega (arith, inside))
-none_kept rows (one ∷ others) none = absurd (cc)
+pub none_kept : (rows : List Row) (starts : List ℕ) (kept : List Kept) → kept ≡ [] → All (IsKept rows starts) kept
+none_kept rows starts [] none = λ k d inside. absurd (omega (arith, inside))
+none_kept rows starts (one ∷ others) none = absurd (cc)
 
 -- an item that was read, as it is kept
-pub item_kept : (rows : List Row) (items word text : List ℕ) (row : Row) (kept : Kept) → drop kept.at rows ≡ row ∷ drop (kept.at + 1) rows
+pub item_kept : (rows : List Row) (starts items word text : List ℕ) (row : Row) (kept : Kept) → drop kept.at rows ≡ row ∷ drop (kept.at + 1) rows
     → IsBehind 61 items row.name text → IsWord word → take (length word) text ≡ word → 8 ≤ length items → to_le_bytes w64 kept.window ≡ take 8 items
     → length row.name + 1 + length word < 8
     → ((slice_index items (length row.name + 1 + length word) ≡ 32) × (kept.size ≡ length row.name + 1 + length word + 1))
     ⊎ ((slice_index items (length row.name + 1 + length word) ≡ 10) × (kept.size ≡ length row.name + 1 + length word))
-    → read_plain row word ≡ Ok kept.value → IsKeptItem rows kept
-item_kept rows items word text row kept here behind whole begins eight window short ends value =
+    → slice_index starts (slot_of (slice_index items 0) (slice_index items 1)) ≡ kept.at → read_plain row word ≡ Ok kept.value → IsKeptItem rows starts kept
+item_kept rows starts items word text row kept here behind whole begins eight window short ends start value =
     let name = row.name in
     let front = name ++ 61 ∷ word in
     let rest = drop (length word) text in
@@ -142,6 +142,8 @@ item_kept rows items word text row kept here behind whole begins eight window sh
     ap (λ t. get_or t (length name + 1 + length word) 0) split ∙ ap (λ n. get_or (front ++ rest) n 0) at_rest
     ∙ get_or-append-add front rest 0 0 ∙ sym (get_or-take count rest 0 0 some) in
     record {
+      start = ap (λ bytes. slice_index starts (slot_of (slice_index bytes 0) (slice_index bytes 1))) window
+          ∙ (λ i. slice_index starts (slot_of (get_or-take 8 items 0 0 (omega arith) i) (get_or-take 8 items 1 0 (omega arith) i))) ∙ start;
       row = row;
       word = word;
       others = others;
@@ -155,3 +157,10 @@ item_kept rows items word text row kept here behind whole begins eight window sh
       ];
       value = value;
     }
+
+-- no name stands before the place that an item is kept with
+pub kept_start : (rows : List Row) (starts items : List ℕ) (kept : Kept) → IsKept rows starts kept → 0 < kept.size → to_le_bytes w64 kept.window ≡ take 8 items
+    → slice_index starts (slot_of (slice_index items 0) (slice_index items 1)) ≡ kept.at
+kept_start rows starts items kept is some window =
+    sym (λ i. slice_index starts (slot_of (get_or-take 8 items 0 0 (omega arith) i) (get_or-take 8 items 1 0 (omega arith) i)))
+    ∙ ap (λ bytes. slice_index starts (slot_of (slice_index bytes 0) (slice_index bytes 1))) (sym window) ∙ (is some).start

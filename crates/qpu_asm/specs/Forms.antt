@@ -40,7 +40,8 @@ fields_fit (row ∷ rows) (field ∷ fields) =
     (field.low == width_of (widths_of rows) && are_behind field.named.now 0 (map (λ named. named.name) row.named)) && fields_fit rows fields
 
 -- an item of a row's own name that was read before, by the eight bytes that a text begins with where it stands
-pub record IsKeptItem (rows : List Row) (kept : Kept) : Type 0 where
+pub record IsKeptItem (rows : List Row) (starts : List ℕ) (kept : Kept) : Type 0 where
+  pub start : slice_index starts (slot_of (slice_index (to_le_bytes w64 kept.window) 0) (slice_index (to_le_bytes w64 kept.window) 1)) ≡ kept.at
   pub row : Row
   pub word : List ℕ
   pub others : List ℕ
@@ -64,8 +65,8 @@ pub record IsReadAt (rows : List Row) (items : List ℕ) (kept : Kept) : Type 0 
   pub after : IsAfter (drop (length row.name + 1) items) (drop kept.size items)
 
 -- where something is kept, it is an item of these rows
-abbrev pub IsKept : List Row → Kept → Type 0
-IsKept rows kept = 0 < kept.size → IsKeptItem rows kept
+abbrev pub IsKept : List Row → List ℕ → Kept → Type 0
+IsKept rows starts kept = 0 < kept.size → IsKeptItem rows starts kept
 
 -- rows with what reads them
 pub record IsForm (blank : ℕ) (rows : List Row) (fields : List Field) (starts : List ℕ) (kept : List Kept) : Type 0 where
@@ -74,7 +75,7 @@ pub record IsForm (blank : ℕ) (rows : List Row) (fields : List Field) (starts 
   pub fields_fit : fields_fit rows fields ≡ true
   pub names : are_behind starts 0 (map (λ row. row.name) rows) ≡ true
   pub labels : labels_behind starts 0 rows ≡ true
-  pub known : All (IsKept rows) kept
+  pub known : All (IsKept rows starts) kept
 
 -- the rows that were passed are of other names than the one that items begin with
 pub record IsPassed (items : List ℕ) (first : ℕ) (all : List Row) (word : ℕ) (rows : List Row) : Type 0 where

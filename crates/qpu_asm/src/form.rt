@@ -1,5 +1,5 @@
 //! What reads the items of a kind's lines: where the row of a name is, and where its field lies, so that no row before it is walked over.
-ghost use Rattle.std.specs.Prelude.{◌≡◌, ◌⊎◌, ◌≤◌, ◌<◌, ◌∷◌, ◌+◌, ◌/◌, ◌^◌, true, length, map, take, drop, slice_index, IfSome, MatchOption, Some, Ok, false, codes, bytes_eq, List, None};
+ghost use Rattle.std.specs.Prelude.{◌≡◌, ℕ, ◌⊎◌, ◌≤◌, ◌<◌, ◌∷◌, ◌+◌, ◌/◌, ◌^◌, true, length, map, take, drop, slice_index, IfSome, MatchOption, Some, Ok, false, codes, bytes_eq, List, None};
 ghost use Rattle.qpu_isa.specs.Fields.{width_of};
 ghost use Rattle.qpu_asm.specs.Table.{Row as RowModel, alu_kind, load_imm_kind, branch_kind};
 ghost use Rattle.qpu_asm.specs.Items.{find_named};
@@ -392,6 +392,9 @@ pub fn keep_item(form: &mut Form, items: &[u8], place: &Place<'_>, word: &[u8], 
     if end >= 8 || place.at >= 256 {
         return;
     }
+    if form.starts[slot_of(items[0], items[1])] as usize != place.at {
+        return;
+    }
     let Some(size) = size_kept(items, end) else {
         return;
     };
@@ -409,7 +412,8 @@ pub fn keep_item(form: &mut Form, items: &[u8], place: &Place<'_>, word: &[u8], 
 // What is kept of the first of some items, where it was read before.
 #[inline]
 fn kept_item(form: &Form, items: &[u8]) -> Option<Kept>
-    ensures { IfSome result (IsReadAt form.now.rows items.now) }
+    ensures read { IfSome result (IsReadAt form.now.rows items.now) }
+    ensures passed { IfSome result (λ kept. (next : ℕ) → next ≤ kept.at → ArePassed items.now (drop next form.now.rows) (drop kept.at form.now.rows)) }
 {
     let window = window_of(items)?;
     let kept = form.kept.get(place_kept(window))?;
@@ -442,7 +446,7 @@ pub fn known_item<'a>(form: &Form, next: usize, items: &'a [u8]) -> Option<Known
 {
     let kept = kept_item(form, items)?;
     let at = kept.at as usize;
-    if first_row(form, next, items) != at {
+    if next > at {
         return None;
     }
     let row = &form.rows[at];

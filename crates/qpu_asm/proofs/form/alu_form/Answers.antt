@@ -13,7 +13,7 @@ invariant_of-result c = record {
   fields_fit = refl;
   names = refl;
   labels = refl;
-  known = none_kept _ _ c.new.ensures.items;
+  known = none_kept _ _ _ c.new.ensures.items;
 }
 
 pub returns : goal.returns

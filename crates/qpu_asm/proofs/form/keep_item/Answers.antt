@@ -1,4 +1,4 @@
-use Rattle.std.proofs.Common.{◌≡◌, ◌+◌, ◌∷◌, sym, subst, ap, arith, codes, drop, if◌then◌else◌}
+use Rattle.std.proofs.Common.{slice_index, ◌∙◌, ◌≡◌, ◌+◌, ◌∷◌, sym, subst, ap, arith, codes, drop, if◌then◌else◌}
 use Rattle.std.proofs.lemmas.List.Elements.{All-set}
 use Rattle.qpu_asm.specs.{Forms.IsKept, Walk.IsBehind, Seen.row_seen, Seen.rows_seen}
 use Rattle.qpu_asm.proofs.Known.{item_kept}
@@ -20,8 +20,9 @@ invariant_of-form c =
       fields_fit = c.form.invariant.fields_fit;
       names = c.form.invariant.names;
       labels = c.form.invariant.labels;
-      known = All-set (IsKept rows) c.form.inside.kept.items c.place_kept-here.result _
-          (λ some. item_kept rows items word place.text.now row _ here behind c.requires.word.0 c.requires.word.1 c.in-Some.ensures.0 c.in-Some.ensures.1
-          (omega (arith, c.if-end-ge8.false)) c.in-Some-size_kept.ensures c.requires.value)
+      known = All-set (IsKept rows c.form.inside.starts.now) c.form.inside.kept.items c.place_kept-here.result _
+          (λ some. item_kept rows c.form.inside.starts.now items word place.text.now row _ here behind c.requires.word.0 c.requires.word.1 c.in-Some.ensures.0 c.in-Some.ensures.1
+          (omega (arith, c.if-end-ge8.false)) c.in-Some-size_kept.ensures
+          (ap (slice_index c.form.inside.starts.now) (sym c.slot_of.ensures.slot) ∙ c.if-form-slot_of.false) c.requires.value)
           c.form.invariant.known;
     }
