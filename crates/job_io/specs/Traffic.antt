@@ -32,7 +32,7 @@ held_of contents sink = if sink.faults == 0 then contents sink.inner else None
 
 -- how many bytes one call of `read_all` asks for
 abbrev pub piece_size : ℕ
-piece_size = 65536
+piece_size = 8192
 
 -- the bytes, or none where they are not told
 abbrev pub told : Option (List ℕ) → List ℕ

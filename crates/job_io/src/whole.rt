@@ -39,12 +39,12 @@ impl From<AllocError> for ReadEnd {
     }
 }
 
-/// How many bytes one call asks for.
-const PIECE: usize = 65536;
+/// How many bytes one call asks for. A short input touches two pages for it, and a long one is read as fast as by larger pieces.
+const PIECE: usize = 8192;
 
 /// Reads to the end of input, at most `limit` bytes. It stops at once where the source fails, and
 /// as soon as more than `limit` bytes were taken, which want of memory never hides; it takes at most
-/// one piece of 65,536 bytes past the limit. Each turn takes a byte or ends.
+/// one piece of 8,192 bytes past the limit. Each turn takes a byte or ends.
 pub fn read_all<S: Source>(alloc: Global, source: &mut S, limit: usize) -> Result<Vec<u8>, ReadEnd>
     ensures whole { IfOk result (λ bytes. IfSome (S.left source.old) (λ all. bytes.items ≡ all)) }
     ensures end { OnOk result (IsAtEnd (S.left source.new)) }
