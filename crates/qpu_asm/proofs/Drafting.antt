@@ -7,7 +7,7 @@ use Rattle.std.proofs.lemmas.List.{take_more, take_all, get_or-take, get_or_appe
 use Rattle.script.specs.Lines.{before, behind}
 use Rattle.qpu_asm.specs.{declared.label.Mark.Mark, Items.Spots, Lines.Line, Lines.Blank, Lines.Label, Lines.BadLabel, Lines.Coded, Lines.read_line}
 use Rattle.qpu_asm.specs.{Labels.label_on, Labels.size_of, Walk.IsCoded, Walk.line_words, Seen.labels_seen}
-use Rattle.qpu_asm.specs.Draft.{left_from, IsFilled, AreFilled, IsDraftedOn}
+use Rattle.qpu_asm.specs.Draft.{left_from, IsFilled, AreFilled, IsWordOrPlace, IsDraftedOn}
 use Rattle.qpu_asm.proofs.Assembling.{coded_words}
 
 pub blank_drafted : (text : List ℕ) (number : ℕ) (line : Line) (words : List ℕ) (marks : List Mark) → line ≡ Blank → IsDraftedOn text number line words words marks marks
@@ -72,7 +72,7 @@ coded_drafted text number line old new marks word is one codes = record {
 }
 
 -- the two ways in which a line is coded
-pub word_codes : (text line : List ℕ) (index word : ℕ) → word < left_from → ((spots : Spots) → IsCoded spots index line word)
+word_codes : (text line : List ℕ) (index word : ℕ) → word < left_from → ((spots : Spots) → IsCoded spots index line word)
     → (spots : Spots) (made : ℕ) → IsFilled spots text index word made → IsCoded spots index line made
 word_codes text line index word small coded spots made filled = subst (IsCoded spots index line) (sym (filled.made small)) (coded spots)
 
@@ -81,6 +81,13 @@ pub left_codes : (text : List ℕ) (index at : ℕ) (spots : Spots) (made : ℕ)
 left_codes text index at spots made filled =
     let place : left_from + at - left_from ≡ at = omega arith in
     subst (λ from. IsCoded spots index (before 10 (drop from text)) made) place (filled.left (omega arith))
+
+pub drafted_codes : (text line : List ℕ) (index word at drafted : ℕ) → IsWordOrPlace word at drafted → line ≡ before 10 (drop at text)
+    → ((spots : Spots) → IsCoded spots index line word) → (spots : Spots) (made : ℕ) → IsFilled spots text index drafted made → IsCoded spots index line made
+drafted_codes text line index word at drafted (inl (small, is)) place coded spots made filled =
+    word_codes text line index word small coded spots made (subst (λ d. IsFilled spots text index d made) is filled)
+drafted_codes text line index word at drafted (inr is) place coded spots made filled =
+    subst (λ l. IsCoded spots index l made) (sym place) (left_codes text index at spots made (subst (λ d. IsFilled spots text index d made) is filled))
 
 pub coded_size : (spots : Spots) (index : ℕ) (line : List ℕ) (word : ℕ) → IsCoded spots index line word → size_of (read_line line) ≡ 1
 coded_size spots index line word coded = ap size_of coded.reads

@@ -1,13 +1,11 @@
 -- Items that were read before.
 use Rattle.std.proofs.Common.{◌≡◌, All, ℕ, suc, ◌+◌, ◌-◌, ◌<◌, ◌≤◌, ◌⊎◌, inl, inr, true, List, [], ◌∷◌, ◌++◌, length, take, drop, slice_index, get_or, refl, sym, ◌∙◌, ap, subst, arith, Ok, append_assoc, length-append, lt-ltb, eq-eqb}
 use Rattle.std.proofs.Math.Seq.{get_or-append_seam, take-append_seam, take-append-add}
-use Rattle.std.proofs.lemmas.List.{get_or-take, get_or-append-add, take-append-drop, length-take, length-drop, length-map, get_or_append_left}
+use Rattle.std.proofs.lemmas.List.{get_or-take, get_or-append-add, take-append-drop, length-take, get_or_append_left}
 use Rattle.std.specs.Int.{to_le_bytes, w64}
 use Rattle.script.specs.Lines.{before, behind}
-use Rattle.qpu_asm.specs.{declared.form.Kept.Kept, Table.Row, Items.read_plain, Walk.begins, Walk.IsAfter, Walk.IsBehind, Walk.IsWord, Forms.slot_of, Forms.IsKept, Forms.IsKeptItem, Forms.IsReadAt}
-use Rattle.qpu_asm.specs.declared.table.Row as code
-use Rattle.qpu_asm.specs.Seen.{row_seen, rows_seen}
-use Rattle.qpu_asm.proofs.{Forms.row_here, Heads.begun_split, Bytes.bytes_itself, Steps.at_end, Steps.at_space, Steps.word_first_on}
+use Rattle.qpu_asm.specs.{declared.form.Kept.Kept, Table.Row, Items.read_plain, Walk.begins, Walk.IsAfter, Walk.IsBehind, Walk.IsWord, Forms.slot_of, Forms.EndsKept, Forms.IsChange, Forms.IsKept, Forms.IsKeptItem, Forms.IsReadAt}
+use Rattle.qpu_asm.proofs.{Heads.begun_split, Bytes.bytes_itself, Steps.at_end, Steps.at_space, Steps.word_first_on}
 
 pub begun_made : (mark : ℕ) (name rest : List ℕ) → begins mark (name ++ mark ∷ rest) name ≡ true
 unfolding begins
@@ -81,7 +79,9 @@ item_at rows starts kept item more eight =
       begun = begun_made 61 name (word ++ others);
       named = omega (arith, long);
       size = omega (arith, long, high, some);
-      value = ap (λ t. read_plain item.row (before 32 (before 10 t))) text ∙ ap (read_plain item.row) word_read.0 ∙ item.value;
+      value = item.value;
+      reads = ap (λ t. read_plain item.row (before 32 (before 10 t))) text ∙ ap (read_plain item.row) word_read.0 ∙ item.reads;
+      change = item.change;
       after = subst (λ t. IsAfter t (drop kept.size (name ++ 61 ∷ (word ++ others)))) (sym text)
           (subst (IsAfter (word ++ others)) (sym rest) word_read.1);
     }
@@ -96,20 +96,6 @@ read_at rows starts items kept is some eight window =
     ∙ ap (λ t. item.row.name ++ 61 ∷ t) (append_assoc item.word item.others (drop 8 items)) in
     subst (λ all. IsReadAt rows all kept) (sym whole) (item_at rows starts kept item (drop 8 items) (subst (λ all. 8 ≤ length all) whole eight))
 
--- the row that was read in the code's own table
-pub record IsRowRead (rows : List code.Row) (at : ℕ) (d : code.Row) (row : Row) : Type 0 where
-  pub inside : at < length rows
-  pub same : row ≡ row_seen (get_or rows at d)
-
-pub row_read : (rows : List code.Row) (seen : List Row) (at : ℕ) (d : code.Row) (row : Row) → rows_seen rows ≡ seen → drop at seen ≡ row ∷ drop (at + 1) seen
-    → IsRowRead rows at d row
-row_read rows seen at d row is here =
-    let some : length (drop at seen) ≡ suc (length (drop (at + 1) seen)) = ap length here in
-    let inside : at < length rows = omega (arith, some, length-drop at seen, ap length is, length-map rows row_seen) in
-    let there : row_seen (get_or rows at d) ∷ drop (at + 1) seen ≡ row ∷ drop (at + 1) seen =
-    subst (λ all. row_seen (get_or rows at d) ∷ drop (at + 1) all ≡ drop at all) is (sym (row_here rows at d inside)) ∙ here in
-    record { inside = inside; same = sym (ap (λ all. get_or all 0 row) there) }
-
 pub none_kept : (rows : List Row) (starts : List ℕ) (kept : List Kept) → kept ≡ [] → All (IsKept rows starts) kept
 none_kept rows starts [] none = λ k d inside. absurd (omega (arith, inside))
 none_kept rows starts (one ∷ others) none = absurd (cc)
@@ -118,10 +104,10 @@ none_kept rows starts (one ∷ others) none = absurd (cc)
 pub item_kept : (rows : List Row) (starts items word text : List ℕ) (row : Row) (kept : Kept) → drop kept.at rows ≡ row ∷ drop (kept.at + 1) rows
     → IsBehind 61 items row.name text → IsWord word → take (length word) text ≡ word → 8 ≤ length items → to_le_bytes w64 kept.window ≡ take 8 items
     → length row.name + 1 + length word < 8
-    → ((slice_index items (length row.name + 1 + length word) ≡ 32) × (kept.size ≡ length row.name + 1 + length word + 1))
-    ⊎ ((slice_index items (length row.name + 1 + length word) ≡ 10) × (kept.size ≡ length row.name + 1 + length word))
-    → slice_index starts (slot_of (slice_index items 0) (slice_index items 1)) ≡ kept.at → read_plain row word ≡ Ok kept.value → IsKeptItem rows starts kept
-item_kept rows starts items word text row kept here behind whole begins eight window short ends start value =
+    → EndsKept (slice_index items (length row.name + 1 + length word)) (length row.name + 1 + length word) kept.size
+    → slice_index starts (slot_of (slice_index items 0) (slice_index items 1)) ≡ kept.at → (value : ℕ) → read_plain row word ≡ Ok value
+    → IsChange rows row kept value → IsKeptItem rows starts kept
+item_kept rows starts items word text row kept here behind whole begins eight window short ends start value reads change =
     let name = row.name in
     let front = name ++ 61 ∷ word in
     let rest = drop (length word) text in
@@ -156,6 +142,8 @@ item_kept rows starts items word text row kept here behind whole begins eight wi
         | inr feed ↦ inr (sym first ∙ feed.0, feed.1)
       ];
       value = value;
+      reads = reads;
+      change = change;
     }
 
 -- no name stands before the place that an item is kept with

@@ -12,6 +12,7 @@ pub mod Faults
 pub mod Assembling
 pub mod Drafting
 pub mod Known
+pub mod Stepping
 pub mod Sorting
 pub mod Buckets
 pub mod Nearing

@@ -1,8 +1,8 @@
 -- What is drafted of a text before its labels are known. No part of what the crate claims.
-use Rattle.std.specs.Prelude.{◌≡◌, ℕ, ◌+◌, ◌-◌, ◌*◌, ◌^◌, ◌<◌, ◌≤◌, List, [], ◌++◌, length, drop, slice_index, Ok}
+use Rattle.std.specs.Prelude.{◌≡◌, ℕ, ◌+◌, ◌-◌, ◌*◌, ◌^◌, ◌<◌, ◌≤◌, List, [], ◌++◌, length, drop, slice_index, Ok, ⊤, ◌⊎◌}
 use Rattle.qpu_asm.specs.declared.draft.Early.TheVariants as early
 use Rattle.script.specs.Lines.{before}
-use Rattle.qpu_asm.specs.{declared.label.Mark.Mark, Items.Spots, Lines.Line, Lines.Blank, Lines.Label, Lines.read_line, declared.draft.Early.Early, Labels.labels_of, Labels.label_on, Labels.size_of, Labels.read_lines, Marks.AreKeyed, Marks.IsFirstBelow, Marks.AreFirstBelow, Walk.IsCoded, Walk.line_words, Walk.lines_words, Seen.labels_seen}
+use Rattle.qpu_asm.specs.{declared.label.Mark.Mark, Items.Spots, Lines.Line, Lines.Blank, Lines.Label, Lines.read_line, declared.draft.Early.Early, Labels.labels_of, Labels.label_on, Labels.size_of, Labels.read_lines, Marks.IsKeyed, Marks.AreKeyed, Marks.IsFirstBelow, Marks.AreFirstBelow, Walk.IsCoded, Walk.line_words, Walk.lines_words, Seen.labels_seen}
 
 -- from this number on, a drafted word tells where in the text the line lies that is left
 abbrev pub left_from : ℕ
@@ -28,12 +28,21 @@ abbrev pub IsPut : List ℕ → ℕ → Line → List ℕ → List ℕ → Type 
 IsPut text number line old new = (spots : Spots) (bound : ℕ) (words : List ℕ) → number < bound → IsFirstBelow bound spots number line
     → AreFilled spots text new words → IsPutOn spots text number line old words
 
--- what a line with this index of the next instruction has
-abbrev pub IsEarly : ℕ → List ℕ → Early → Type 0
-IsEarly index line (early.Word word) = (word < left_from) × ((spots : Spots) → IsCoded spots index line word)
-IsEarly index line early.Left = size_of (read_line line) ≡ 1
-IsEarly index line (early.Label name) = read_line line ≡ Label name.now
-IsEarly index line early.Blank = read_line line ≡ Blank
+-- what a line has that isn't read at once
+abbrev pub IsEarly : List ℕ → Early → Type 0
+IsEarly line early.Left = size_of (read_line line) ≡ 1
+IsEarly line (early.Label name) = read_line line ≡ Label name.bytes.now
+IsEarly line early.Blank = read_line line ≡ Blank
+
+-- a label's name has its key
+abbrev pub IsNameKeyed : Early → Type 0
+IsNameKeyed early.Left = ⊤
+IsNameKeyed (early.Label name) = IsKeyed name
+IsNameKeyed early.Blank = ⊤
+
+-- a word as it is drafted: itself, or where its line lies
+abbrev pub IsWordOrPlace : ℕ → ℕ → ℕ → Type 0
+IsWordOrPlace word at drafted = ((word < left_from) × (drafted ≡ word)) ⊎ (drafted ≡ left_from + at)
 
 -- what a line has is drafted
 pub record IsDraftedOn (text : List ℕ) (number : ℕ) (line : Line) (words_old words_new : List ℕ) (marks_old marks_new : List Mark) : Type 0 where

@@ -1,10 +1,10 @@
 -- How items are read without walking over the rows before theirs. No part of what the crate claims.
-use Rattle.std.specs.Prelude.{ℕ, ◌≤◌, ◌⊎◌, ◌++◌, Ok, All, ◌+◌, ◌*◌, ◌/◌, ◌%◌, ◌^◌, ◌<◌, ◌≡◌, ◌==◌, Bool, true, false, not, ◌&&◌, ◌||◌, nat_le, List, [], ◌∷◌, length, map, drop, slice_index, bytes_eq, codes, Option, Result}
+use Rattle.std.specs.Prelude.{ℕ, ◌≤◌, ◌⊎◌, ◌++◌, Ok, All, ◌+◌, ◌-◌, ◌*◌, ◌/◌, ◌%◌, ◌^◌, ◌<◌, ◌≡◌, ◌==◌, Bool, true, false, not, ◌&&◌, ◌||◌, nat_le, List, [], ◌∷◌, length, map, drop, slice_index, bytes_eq, codes, Option, Result}
 use Rattle.std.specs.List.{list_all}
 use Rattle.std.specs.Int.{to_le_bytes, w64}
-use Rattle.script.specs.Lines.{before}
+use Rattle.script.specs.Lines.{before, behind}
 use Rattle.qpu_isa.specs.Fields.{joined, width_of}
-use Rattle.qpu_asm.specs.{declared.form.Field.Field, declared.form.Place.Place, declared.form.Kept.Kept, declared.fault.Mistake.Mistake, Table.Row, Table.fallbacks_of, Table.widths_of, Items.is_row, Items.has_row, Items.read_plain, Walk.skip_to, Walk.begins, Walk.IsOpen, Walk.IsPlace, Walk.IsBehind, Walk.IsWord, Walk.IsAfter, Seen.row_seen, Seen.name_seen}
+use Rattle.qpu_asm.specs.{declared.form.Field.Field, declared.form.Place.Place, declared.form.Kept.Kept, declared.fault.Mistake.Mistake, Table.Row, Table.fallbacks_of, Table.widths_of, Items.Spots, Items.is_row, Items.has_row, Items.read_plain, Lines.words_of, Walk.skip_to, Walk.begins, Walk.IsOpen, Walk.IsPlace, Walk.IsBehind, Walk.IsWord, Walk.IsAfter, Walk.IsStep, Seen.row_seen, Seen.name_seen}
 
 -- the part of a word above the rows that may still come
 abbrev pub front_of : ℕ → List Row → ℕ
@@ -39,6 +39,18 @@ fields_fit (row ∷ rows) [] = false
 fields_fit (row ∷ rows) (field ∷ fields) =
     (field.low == width_of (widths_of rows) && are_behind field.named.now 0 (map (λ named. named.name) row.named)) && fields_fit rows fields
 
+-- so many bytes come before what is behind a word that ends at this byte, with a space but without a line feed
+abbrev pub EndsKept : ℕ → ℕ → ℕ → Type 0
+EndsKept byte end size = ((byte ≡ 32) × (size ≡ end + 1)) ⊎ ((byte ≡ 10) × (size ≡ end))
+
+-- what is added to a word to change a field that has so many bits below it from its default to a value
+unfoldable pub changed : ℕ → ℕ → ℕ → ℕ
+changed low fallback value = (value * 2 ^ low % 2 ^ 64 + (2 ^ 64 - fallback * 2 ^ low % 2 ^ 64)) % 2 ^ 64
+
+-- this is added to a word for a value in a row's field
+abbrev pub IsChange : List Row → Row → Kept → ℕ → Type 0
+IsChange rows row kept value = kept.change ≡ changed (width_of (widths_of (drop (kept.at + 1) rows))) row.fallback value
+
 -- an item of a row's own name that was read before, by the eight bytes that a text begins with where it stands
 pub record IsKeptItem (rows : List Row) (starts : List ℕ) (kept : Kept) : Type 0 where
   pub start : slice_index starts (slot_of (slice_index (to_le_bytes w64 kept.window) 0) (slice_index (to_le_bytes w64 kept.window) 1)) ≡ kept.at
@@ -49,9 +61,10 @@ pub record IsKeptItem (rows : List Row) (starts : List ℕ) (kept : Kept) : Type
   pub bytes : to_le_bytes w64 kept.window ≡ row.name ++ 61 ∷ (word ++ others)
   pub whole : IsWord word
   pub some : 0 < length others
-  pub ends : ((slice_index others 0 ≡ 32) × (kept.size ≡ length row.name + 1 + length word + 1))
-      ⊎ ((slice_index others 0 ≡ 10) × (kept.size ≡ length row.name + 1 + length word))
-  pub value : read_plain row word ≡ Ok kept.value
+  pub ends : EndsKept (slice_index others 0) (length row.name + 1 + length word) kept.size
+  pub value : ℕ
+  pub reads : read_plain row word ≡ Ok value
+  pub change : IsChange rows row kept value
 
 -- items begin with an item that was read before
 pub record IsReadAt (rows : List Row) (items : List ℕ) (kept : Kept) : Type 0 where
@@ -61,7 +74,9 @@ pub record IsReadAt (rows : List Row) (items : List ℕ) (kept : Kept) : Type 0 
   pub begun : begins 61 items row.name ≡ true
   pub named : length row.name + 1 ≤ length items
   pub size : kept.size ≤ length items
-  pub value : read_plain row (before 32 (before 10 (drop (length row.name + 1) items))) ≡ Ok kept.value
+  pub value : ℕ
+  pub reads : read_plain row (before 32 (before 10 (drop (length row.name + 1) items))) ≡ Ok value
+  pub change : IsChange rows row kept value
   pub after : IsAfter (drop (length row.name + 1) items) (drop kept.size items)
 
 -- where something is kept, it is an item of these rows
@@ -99,6 +114,14 @@ pub record IsItemAt (rows : List Row) (items : List ℕ) (place : Place) : Type 
   pub low : place.field.low ≡ width_of (widths_of (drop (place.at + 1) rows))
   pub names : are_behind place.field.named.now 0 (map (λ named. named.name.now) place.row.now.named.now) ≡ true
   pub cut : IsBehind 61 items (name_seen place) place.text.now
+
+-- the first of some items is read without a mistake, whatever the labels are of which this is told
+pub record IsReadStep (told : Spots → Type 0) (index word : ℕ) (rows : List Row) (items : List ℕ) (after : ℕ) (later : List Row) (rest : List ℕ) : Type 0 where
+  pub step : (spots : Spots) → told spots → IsStep spots index (front_of word rows) rows (before 32 (before 10 items)) (front_of after later) later
+  pub words : words_of (before 10 items) ≡ before 32 (before 10 items) ∷ words_of (before 10 rest)
+  pub others : behind 10 items ≡ behind 10 rest
+  pub whole : IsWhole after later
+  pub shorter : length rest < length items
 
 -- a row of this name comes next among those that may still come
 pub record IsNext (rows : List Row) (name : List ℕ) (rest : List Row) (row : Row) (later : List Row) : Type 0 where

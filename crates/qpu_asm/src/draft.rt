@@ -5,12 +5,12 @@ ghost use Rattle.qpu_asm.specs.Lines.{read_line as line_read};
 ghost use Rattle.qpu_asm.specs.Items.{Spots};
 ghost use Rattle.qpu_asm.specs.Marks.{AreKeyed};
 ghost use Rattle.qpu_asm.specs.Walk.{IsCoded};
-ghost use Rattle.qpu_asm.specs.Draft.{left_from, IsEarly, IsDraftedOn, IsDraftOf, AreFilled};
+ghost use Rattle.qpu_asm.specs.Draft.{IsEarly, IsNameKeyed, IsWordOrPlace, IsDraftedOn, IsDraftOf, AreFilled};
 ghost use Rattle.qpu_asm.specs.Seen.{spots_in};
 
 use crate::form::Forms;
 use crate::item::read_code;
-use crate::label::{Labels, Mark, Spot, add_mark};
+use crate::label::{Labels, Mark, Name, Spot, add_mark};
 use crate::labelled::read_labelled;
 use crate::lines::{Line, begins_branch, read_line};
 use crate::step::{read_branch, read_early};
@@ -29,12 +29,11 @@ pub struct Draft<'a> {
     pub marks: Vec<Mark<'a>>,
 }
 
-/// What a line has: the word of an instruction, one whose line is left, a label, or nothing.
+/// What a line has: an instruction, which is left, a label, or nothing.
 #[derive(Clone, Copy)]
 enum Early<'a> {
-    Word(u64),
     Left,
-    Label(&'a [u8]),
+    Label(Name<'a>),
     Blank,
 }
 
@@ -59,27 +58,62 @@ pub fn draft_of<'a>(
     let mut at = 0;
     let mut line: u64 = 1;
     while at < text.len() {
-        let Some(first) = read_first(forms, words.len() as u32, &text[at..]) else {
+        let Some(rest) = put_line(&mut words, &mut marks, forms, at, line as u32, &text[at..])?
+        else {
             return Ok(None);
         };
-        put_first(&mut words, &mut marks, first.early, at, line as u32)?;
-        at = text.len() - first.rest.len();
+        at = text.len() - rest.len();
         line += 1;
     }
     Ok(Some(Draft { words, marks }))
 }
 
-// What a text's first line has, where it is no malformed label's.
-fn read_first<'a>(forms: &Forms, index: u32, text: &'a [u8]) -> Option<First<'a>>
-    ensures early { IfSome result (λ first. IsEarly index (before 10 text.now) first.early) }
+// Puts the first line of what begins at a place of a text to the draft of the lines above it, and answers the lines below; or none where it
+// is a malformed label's. Most lines are read at once.
+#[inline]
+fn put_line<'a>(
+    words: &mut Vec<u64>,
+    marks: &mut Vec<Mark<'a>>,
+    forms: &Forms,
+    at: usize,
+    number: u32,
+    text: &'a [u8],
+) -> Result<Option<&'a [u8]>, AllocError>
+    requires few { vec_len words.old < 2 ^ 32 }
+    requires place { at < 2 ^ 32 }
+    requires keyed { AreKeyed marks.old.items }
+    ensures keyed { OnOk result (AreKeyed marks.new.items) }
+    ensures few { OnOk result (vec_len marks.new ≤ vec_len marks.old + 1) }
+    ensures more { OnOk result (vec_len words.new ≤ vec_len words.old + 1) }
+    ensures rest { IfOk result (λ put. IfSome put (λ rest. rest.now ≡ behind 10 text.now)) }
+    ensures drafted { IfOk result (λ put. IfSome put (λ _. (whole : List ℕ) → text.now ≡ drop at whole
+        → IsDraftedOn whole number (line_read (before 10 text.now)) words.old.items words.new.items marks.old.items marks.new.items)) }
+{
+    if let Some(coded) = read_early(forms, words.len() as u32, text) {
+        words.push(drafted_word(coded.word, at))?;
+        return Ok(Some(coded.rest));
+    }
+    let Some(first) = read_first(text) else {
+        return Ok(None);
+    };
+    put_first(words, marks, first.early, at, number)?;
+    Ok(Some(first.rest))
+}
+
+// The word as it is; or, where it could be taken for the place of a line, as only a branch's could, the place of its line, which is left.
+fn drafted_word(word: u64, at: usize) -> u64
+    requires { at < 2 ^ 32 }
+    ensures { IsWordOrPlace word at result }
+{
+    if word < LEFT { word } else { LEFT + at as u64 }
+}
+
+// What a text's first line has, where it isn't read at once and is no malformed label's.
+fn read_first(text: &[u8]) -> Option<First<'_>>
+    ensures early { IfSome result (λ first. IsEarly (before 10 text.now) first.early) }
+    ensures keyed { IfSome result (λ first. IsNameKeyed first.early) }
     ensures rest { IfSome result (λ first. first.rest.now ≡ behind 10 text.now) }
 {
-    if let Some(coded) = read_early(forms, index, text) {
-        return Some(First {
-            early: early_word(coded.word),
-            rest: coded.rest,
-        });
-    }
     if begins_branch(text) {
         return Some(First {
             early: Early::Left,
@@ -93,17 +127,6 @@ fn read_first<'a>(forms: &Forms, index: u32, text: &'a [u8]) -> Option<First<'a>
         });
     }
     other_first(text)
-}
-
-// The word as it is. Where it could be taken for the place of a line, as only a branch's could, its line is left.
-fn early_word(word: u64) -> Early<'static>
-    ensures { (index : ℕ) (line : List ℕ) → ((spots : Spots) → IsCoded spots index line word) → IsEarly index line result }
-{
-    if word < LEFT {
-        Early::Word(word)
-    } else {
-        Early::Left
-    }
 }
 
 // The lines below a text's first one.
@@ -120,13 +143,14 @@ fn lines_below(text: &[u8]) -> &[u8]
 // The same by the words of the line. An instruction's line is left.
 #[inline(never)]
 fn other_first(text: &[u8]) -> Option<First<'_>>
-    ensures early { (index : ℕ) → IfSome result (λ first. IsEarly index (before 10 text.now) first.early) }
+    ensures early { IfSome result (λ first. IsEarly (before 10 text.now) first.early) }
+    ensures keyed { IfSome result (λ first. IsNameKeyed first.early) }
     ensures rest { IfSome result (λ first. first.rest.now ≡ behind 10 text.now) }
 {
     let cut = cut_at(text, b'\n');
     let early = match read_line(cut.first) {
         Line::Blank => Early::Blank,
-        Line::Label(name) => Early::Label(name),
+        Line::Label(name) => Early::Label(Name::of(name)),
         Line::BadLabel => return None,
         Line::Coded(_) => Early::Left,
     };
@@ -147,14 +171,14 @@ fn put_first<'a>(
     requires few { vec_len words.old < 2 ^ 32 }
     requires place { at < 2 ^ 32 }
     requires keyed { AreKeyed marks.old.items }
+    requires name { IsNameKeyed early }
     ensures keyed { OnOk result (AreKeyed marks.new.items) }
     ensures few { OnOk result (vec_len marks.new ≤ vec_len marks.old + 1) }
     ensures more { OnOk result (vec_len words.new ≤ vec_len words.old + 1) }
-    ensures drafted { OnOk result ((text : List ℕ) → IsEarly (length words.old.items) (before 10 (drop at text)) early.entry
+    ensures drafted { OnOk result ((text : List ℕ) → IsEarly (before 10 (drop at text)) early.entry
         → IsDraftedOn text number (line_read (before 10 (drop at text))) words.old.items words.new.items marks.old.items marks.new.items) }
 {
     match early {
-        Early::Word(word) => words.push(word)?,
         Early::Left => words.push(LEFT + at as u64)?,
         Early::Label(name) => {
             let spot = Spot {

@@ -1,5 +1,5 @@
 //! What reads the items of a kind's lines: where the row of a name is, and where its field lies, so that no row before it is walked over.
-ghost use Rattle.std.specs.Prelude.{◌≡◌, ℕ, ◌⊎◌, ◌≤◌, ◌<◌, ◌∷◌, ◌+◌, ◌/◌, ◌^◌, true, length, map, take, drop, slice_index, IfSome, MatchOption, Some, Ok, false, codes, bytes_eq, List, None};
+ghost use Rattle.std.specs.Prelude.{◌≡◌, ℕ, ◌≤◌, ◌<◌, ◌∷◌, ◌+◌, ◌/◌, ◌^◌, true, length, map, take, drop, slice_index, IfSome, MatchOption, Some, Ok, false, codes, bytes_eq, List, None};
 ghost use Rattle.qpu_isa.specs.Fields.{width_of};
 ghost use Rattle.qpu_asm.specs.Table.{Row as RowModel, alu_kind, load_imm_kind, branch_kind};
 ghost use Rattle.qpu_asm.specs.Items.{find_named};
@@ -8,7 +8,7 @@ ghost use Rattle.script.specs.Lines.{before};
 ghost use Rattle.qpu_asm.specs.Items.{read_plain};
 ghost use Rattle.std.specs.Io.{StartsWith};
 ghost use Rattle.qpu_asm.specs.Walk.{begins, IsAfter, IsBehind, IsWord};
-ghost use Rattle.qpu_asm.specs.Forms.{slot_of as slot_by, front_of, are_behind, IsWhole, ArePassed, IsItemAt, IsNext, IsReadAt};
+ghost use Rattle.qpu_asm.specs.Forms.{slot_of as slot_by, front_of, are_behind, changed, EndsKept, IsWhole, ArePassed, IsItemAt, IsNext, IsReadAt};
 ghost use Rattle.qpu_asm.specs.Seen.{named_seen, row_seen, name_seen};
 
 use crate::lines::behind_name;
@@ -26,14 +26,14 @@ pub struct Field {
     pub named: &'static Starts,
 }
 
-/// An item that was read before: the eight bytes that stand from its first one on, its value, how many bytes it has with the space behind
-/// it, and the number of its row. One of no bytes is none.
+/// An item that was read before: the eight bytes that stand from its first one on, what is added to a word that has its row's default, how
+/// many bytes it has with the space behind it, and the number of its row. One of no bytes is none.
 #[derive(Clone, Copy)]
 pub struct Kept {
     window: u64,
-    value: u64,
-    size: u8,
-    at: u8,
+    pub change: u64,
+    pub size: u8,
+    pub at: u8,
 }
 
 /// A kind of instruction: its first word, the word of its defaults, its rows with their fields, where the rows are, and items that were
@@ -324,14 +324,6 @@ fn first_row(form: &Form, next: usize, items: &[u8]) -> usize
     next.max(form.starts[slot_of(items[0], items[1])] as usize)
 }
 
-/// An item's place, its value, and what is behind it on its line.
-#[derive(Clone, Copy)]
-pub struct Known<'a> {
-    pub place: Place<'a>,
-    pub value: u64,
-    pub rest: &'a [u8],
-}
-
 // The eight bytes that items begin with.
 fn window_of(items: &[u8]) -> Option<u64>
     ensures { IfSome result (λ window. (8 ≤ length items.now) × (to_le_bytes w64 window ≡ take 8 items.now)) }
@@ -352,7 +344,7 @@ const KEPT: usize = 512;
 
 const NOT_KEPT: Kept = Kept {
     window: 0,
-    value: 0,
+    change: 0,
     size: 0,
     at: 0,
 };
@@ -368,12 +360,21 @@ pub fn make_room(alloc: Global, form: &mut Form) -> Result<(), AllocError>
 // How many bytes come before what is behind an item that ends here, with a space but without a line feed.
 fn size_kept(items: &[u8], end: usize) -> Option<usize>
     requires { end < length items.now }
-    ensures { IfSome result (λ size. ((slice_index items.now end ≡ 32) × (size ≡ end + 1)) ⊎ ((slice_index items.now end ≡ 10) × (size ≡ end))) }
+    ensures { IfSome result (λ size. EndsKept (slice_index items.now end) end size) }
 {
     if items[end] == b' ' {
         return Some(end + 1);
     }
     if items[end] == b'\n' { Some(end) } else { None }
+}
+
+// What is added to a word to change a field from its default to a value. So many bits are below the field.
+#[tactic(auto, unfolding(crate::specs::Forms::changed))]
+fn change_of(low: u32, fallback: u64, value: u64) -> u64
+    requires { low < 64 }
+    ensures { result ≡ changed low fallback value }
+{
+    (value << low).wrapping_sub(fallback << low)
 }
 
 /// Keeps the first of some items, which has a row's own name and the value of this word, where it and the byte behind it are eight bytes at
@@ -389,7 +390,7 @@ pub fn keep_item(form: &mut Form, items: &[u8], place: &Place<'_>, word: &[u8], 
     let Some(window) = window_of(items) else {
         return;
     };
-    if end >= 8 || place.at >= 256 {
+    if end >= 8 || place.at >= 256 || place.field.low >= 64 {
         return;
     }
     if form.starts[slot_of(items[0], items[1])] as usize != place.at {
@@ -402,18 +403,19 @@ pub fn keep_item(form: &mut Form, items: &[u8], place: &Place<'_>, word: &[u8], 
     if here < form.kept.len() {
         form.kept[here] = Kept {
             window,
-            value,
+            change: change_of(place.field.low, place.row.fallback, value),
             size: size as u8,
             at: place.at as u8,
         };
     }
 }
 
-// What is kept of the first of some items, where it was read before.
+/// What is kept of the first of some items, where it was read before.
 #[inline]
-fn kept_item(form: &Form, items: &[u8]) -> Option<Kept>
+pub fn kept_item(form: &Form, items: &[u8]) -> Option<Kept>
     ensures read { IfSome result (IsReadAt form.now.rows items.now) }
-    ensures passed { IfSome result (λ kept. (next : ℕ) → next ≤ kept.at → ArePassed items.now (drop next form.now.rows) (drop kept.at form.now.rows)) }
+    ensures passed { IfSome result (λ kept. (next : ℕ) → next ≤ kept.at
+        → ArePassed items.now (drop next form.now.rows) (drop kept.at form.now.rows)) }
 {
     let window = window_of(items)?;
     let kept = form.kept.get(place_kept(window))?;
@@ -422,45 +424,6 @@ fn kept_item(form: &Form, items: &[u8]) -> Option<Kept>
     } else {
         None
     }
-}
-
-// What is behind so many bytes of a text.
-#[tactic(auto, using(std::proofs::lemmas::List::take_rest))]
-#[inline]
-fn behind_bytes(text: &[u8], count: usize) -> &[u8]
-    requires { count ≤ length text.now }
-    ensures { result.now ≡ drop count text.now }
-{
-    &text[count..]
-}
-
-/// The first of some items, where it was read before, and its row is this one or a later one.
-#[inline]
-pub fn known_item<'a>(form: &Form, next: usize, items: &'a [u8]) -> Option<Known<'a>>
-    ensures item { IfSome result (λ known. IsItemAt form.now.rows items.now known.place) }
-    ensures next { IfSome result (λ known. IsNext (drop next form.now.rows) (name_seen known.place) (drop known.place.at form.now.rows)
-        (row_seen known.place.row.now) (drop (known.place.at + 1) form.now.rows)) }
-    ensures own { IfSome result (λ known. known.place.is_own ≡ true) }
-    ensures value { IfSome result (λ known. read_plain (row_seen known.place.row.now) (before 32 (before 10 known.place.text.now)) ≡ Ok known.value) }
-    ensures after { IfSome result (λ known. IsAfter known.place.text.now known.rest.now) }
-{
-    let kept = kept_item(form, items)?;
-    let at = kept.at as usize;
-    if next > at {
-        return None;
-    }
-    let row = &form.rows[at];
-    Some(Known {
-        place: Place {
-            at,
-            row,
-            field: form.fields[at],
-            is_own: true,
-            text: behind_bytes(items, row.name.len() + 1),
-        },
-        value: kept.value,
-        rest: behind_bytes(items, kept.size as usize),
-    })
 }
 
 /// The place of the first of some items, where its row is this one or a later one, and the first of those that its slot tells of. Of all

@@ -6,7 +6,7 @@ ghost use Rattle.std.specs.Prelude.{All, IsPermutation, IsTrue, ℕ, List};
 ghost use Rattle.script.specs.Lines.{before, lines_of};
 ghost use Rattle.qpu_asm.specs.Lines.{Label, Line as LineSeen};
 ghost use Rattle.qpu_asm.specs.Labels.{spots_of, labels_of, labels_from, label_on, read_lines, size_of};
-ghost use Rattle.qpu_asm.specs.Marks.{key_of as key_by, kept_cmp, fields_cmp, AreInOrder, AreFirst, AreStarts, AreFound, IsKeyed, AreKeyed, AreFirstBelow, AreLabelsOn, BoundsRepeats, IsStart, AreSortedOf};
+ghost use Rattle.qpu_asm.specs.Marks.{key_of as key_by, key_with as longer_key, kept_cmp, fields_cmp, AreInOrder, AreFirst, AreStarts, AreFound, IsKeyed, AreKeyed, AreFirstBelow, AreLabelsOn, BoundsRepeats, IsStart, AreSortedOf};
 ghost use Rattle.qpu_asm.specs.Seen.{line_seen, labels_seen, spots_in};
 
 use crate::lines::{Line, read_line};
@@ -24,8 +24,8 @@ pub struct Spot {
 /// A label's name behind a key, so that nearly every comparison is one of two numbers.
 #[derive(Clone, Copy, Debug, PartialEq, Eq, PartialOrd, Ord)]
 pub struct Name<'a> {
-    key: u64,
-    bytes: &'a [u8],
+    pub key: u64,
+    pub bytes: &'a [u8],
 }
 
 /// A line that defines a label.
@@ -57,8 +57,8 @@ impl<'a> Model for Labels<'a> {
 }
 
 impl<'a> Name<'a> {
-    // The name of these bytes.
-    fn of(bytes: &'a [u8]) -> Name<'a>
+    /// The name of these bytes.
+    pub fn of(bytes: &'a [u8]) -> Name<'a>
         ensures key { result.key ≡ key_by bytes.now }
         ensures bytes { result.bytes.now ≡ bytes.now }
     {
@@ -69,16 +69,22 @@ impl<'a> Name<'a> {
     }
 }
 
-// Equal names have equal keys, and others nearly never. The last byte reaches the high bits.
+/// The key of the bytes above with one more. Equal names have equal keys, and others nearly never. The last byte reaches the high bits.
+pub fn key_with(key: u64, byte: u8) -> u64
+    ensures { result ≡ longer_key key byte }
+{
+    key.wrapping_add(byte as u64)
+        .wrapping_mul(0x9E37_79B9_7F4A_7C15)
+}
+
+// The key of a name.
 #[tactic(auto, unfolding(crate::specs::Marks::key_of))]
 fn key_of(bytes: &[u8]) -> u64
     ensures { result ≡ key_by bytes.now }
 {
     let mut key: u64 = 0;
     for byte in bytes {
-        key = key
-            .wrapping_add(*byte as u64)
-            .wrapping_mul(0x9E37_79B9_7F4A_7C15);
+        key = key_with(key, *byte);
     }
     key
 }
@@ -350,17 +356,15 @@ fn size(line: Line<'_>) -> u64
 
 /// Puts a label's mark to those of the lines above it.
 #[tactic(auto, using(crate::proofs::Sorting::seen_push, crate::proofs::Sorting::keyed_push))]
-pub fn add_mark<'a>(marks: &mut Vec<Mark<'a>>, name: &'a [u8], spot: Spot) -> Result<(), AllocError>
+pub fn add_mark<'a>(marks: &mut Vec<Mark<'a>>, name: Name<'a>, spot: Spot) -> Result<(), AllocError>
     requires keyed { AreKeyed marks.old.items }
+    requires name { IsKeyed name }
     ensures keyed { OnOk result (AreKeyed marks.new.items) }
     ensures few { OnOk result (vec_len marks.new ≤ vec_len marks.old + 1) }
     ensures labels { OnOk result (
-        labels_seen marks.new.items ≡ labels_seen marks.old.items ++ label_on spot.line spot.index (Label name.now)) }
+        labels_seen marks.new.items ≡ labels_seen marks.old.items ++ label_on spot.line spot.index (Label name.entry.bytes.now)) }
 {
-    marks.push(Mark {
-        name: Name::of(name),
-        spot,
-    })?;
+    marks.push(Mark { name, spot })?;
     Ok(())
 }
 
@@ -373,7 +377,7 @@ fn add_line<'a>(marks: &mut Vec<Mark<'a>>, line: Line<'a>, spot: Spot) -> Result
         labels_seen marks.new.items ≡ labels_seen marks.old.items ++ label_on spot.line spot.index (line_seen line.entry)) }
 {
     match line {
-        Line::Label(name) => add_mark(marks, name, spot),
+        Line::Label(name) => add_mark(marks, Name::of(name), spot),
         Line::Blank | Line::BadLabel | Line::Coded(_) => Ok(()),
     }
 }
@@ -554,9 +558,16 @@ fn spot_among(marks: &[Mark<'_>], starts: &[u32], shift: u32, name: &Name<'_>) -
 }
 
 /// Where the label of a name stands.
+pub fn spot_of<'a>(labels: &Labels<'a>, name: &Name<'a>) -> Option<Spot>
+    requires { IsKeyed name.now }
+    ensures { result ≡ spots_in labels.now name.now.bytes.now }
+{
+    spot_among(&labels.marks, &labels.starts, labels.shift, name)
+}
+
+/// Where the label of these bytes stands.
 pub fn find_spot<'a>(labels: &Labels<'a>, name: &'a [u8]) -> Option<Spot>
     ensures { result ≡ spots_in labels.now name.now }
 {
-    let name = Name::of(name);
-    spot_among(&labels.marks, &labels.starts, labels.shift, &name)
+    spot_of(labels, &Name::of(name))
 }

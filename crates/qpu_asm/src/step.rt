@@ -1,20 +1,21 @@
 //! An instruction without a mistake, each of whose items is read at once by the letters of its name. What isn't read here is read by
 //! `item`, which says the mistakes too.
-ghost use Rattle.std.specs.Prelude.{◌≡◌, ◌≤◌, ◌<◌, ◌∷◌, ◌+◌, ◌-◌, ◌*◌, ◌^◌, [], codes, ℕ, length, take, min, map, drop, bytes_eq, true, false, IfSome, IsTrue, Some, Ok};
+ghost use Rattle.std.specs.Prelude.{◌≡◌, ◌≤◌, ◌<◌, ◌∷◌, ◌+◌, ◌-◌, ◌*◌, ◌^◌, [], codes, ℕ, length, take, min, map, drop, bytes_eq, true, false, IfSome, IsTrue, Some, Ok, ⊤};
 ghost use Rattle.std.specs.Io.{StartsWith};
 ghost use Rattle.std.specs.Str.{all_ascii_digits};
 ghost use Rattle.script.specs.Lines.{before, behind};
 ghost use Rattle.script.specs.Number.{is_number as number_test, number_of};
 ghost use Rattle.qpu_asm.specs.Items.{Spots, kind_named as kind_by, read_plain as plain_read, read_target as target_read, read_value as value_read};
 ghost use Rattle.qpu_asm.specs.Lines.{words_of, is_name as name_test};
-ghost use Rattle.qpu_asm.specs.Walk.{kind_code, is_opcode, IsWord, IsAfter, IsNumberRead, IsStep, AreSteps, IsCoded};
-ghost use Rattle.qpu_asm.specs.Forms.{front_of, are_behind, IsItemAt, IsNext, IsWhole};
+ghost use Rattle.qpu_asm.specs.Walk.{kind_code, is_opcode, IsWord, IsAfter, IsNumberRead, AreSteps, IsCoded};
+ghost use Rattle.qpu_asm.specs.Forms.{front_of, are_behind, IsReadStep, IsWhole};
+ghost use Rattle.qpu_asm.specs.Marks.{IsKeyed};
 ghost use Rattle.qpu_asm.specs.Seen.{row_seen, spots_in, name_seen};
 
-use crate::form::{Field, Form, Forms, Known, Place, find_place, find_value, known_item};
+use crate::form::{Field, Form, Forms, Place, find_place, find_value, kept_item};
 use crate::item::distance;
-use crate::label::{Labels, find_spot};
-use crate::labelled::{begins_name, name_end};
+use crate::label::{Labels, spot_of};
+use crate::labelled::{Labelled, begins_name, begun_name};
 use crate::lines::{ALU, BRANCH, LOAD_IMM, NOP, behind_name};
 use crate::table::{Row, nop};
 use script::Cut;
@@ -213,15 +214,19 @@ pub fn read_own<'a>(row: &Row, field: Field, text: &'a [u8]) -> Option<Value<'a>
 }
 
 // The label's name that a text begins with, and what is behind it on its line.
-fn first_name(text: &[u8]) -> Option<Cut<'_>>
-    ensures name { IfSome result (λ cut. name_test cut.first.now ≡ true) }
-    ensures word { IfSome result (λ cut. before 32 (before 10 text.now) ≡ cut.first.now) }
-    ensures after { IfSome result (λ cut. IsAfter text.now cut.rest.now) }
+fn first_name(text: &[u8]) -> Option<Labelled<'_>>
+    ensures keyed { IfSome result (λ target. IsKeyed target.name) }
+    ensures name { IfSome result (λ target. name_test target.name.bytes.now ≡ true) }
+    ensures word { IfSome result (λ target. before 32 (before 10 text.now) ≡ target.name.bytes.now) }
+    ensures after { IfSome result (λ target. IsAfter text.now target.rest.now) }
 {
-    let (first, others) = text.split_at(name_end(text));
-    let rest = behind_word(others)?;
-    if begins_name(first) {
-        Some(Cut { first, rest })
+    let begun = begun_name(text);
+    let rest = behind_word(begun.rest)?;
+    if begins_name(begun.name.bytes) {
+        Some(Labelled {
+            name: begun.name,
+            rest,
+        })
     } else {
         None
     }
@@ -235,11 +240,11 @@ fn read_to<'a>(labels: Option<&Labels<'a>>, index: u32, text: &'a [u8]) -> Optio
     ensures after { IfSome result (λ read. IsAfter text.now read.rest.now) }
 {
     let labels = labels?;
-    let cut = first_name(text)?;
-    let spot = find_spot(labels, cut.first)?;
+    let target = first_name(text)?;
+    let spot = spot_of(labels, &target.name)?;
     Some(Value {
         value: distance(index, spot.index),
-        rest: cut.rest,
+        rest: target.rest,
     })
 }
 
@@ -269,30 +274,31 @@ fn with_field(word: u64, low: u32, fallback: u64, value: u64) -> u64
     word - fallback * (1 << low) + value * (1 << low)
 }
 
-// The first of some items, where its row is this one or a later one and its value has no mistake.
-fn find_item<'a>(
-    labels: Option<&Labels<'a>>,
-    index: u32,
-    form: &Form,
-    next: usize,
-    items: &'a [u8],
-) -> Option<Known<'a>>
-    ensures item { IfSome result (λ known. IsItemAt form.now.rows items.now known.place) }
-    ensures next { IfSome result (λ known. IsNext (drop next form.now.rows) (name_seen known.place) (drop known.place.at form.now.rows)
-        (row_seen known.place.row.now) (drop (known.place.at + 1) form.now.rows)) }
-    ensures value { IfSome result (λ known. (spots : Spots) → IfSome labels.entry (λ l. spots ≡ spots_in l.now)
-        → value_read spots index (name_seen known.place) (before 32 (before 10 known.place.text.now)) (row_seen known.place.row.now) ≡ Ok known.value) }
-    ensures after { IfSome result (λ known. IsAfter known.place.text.now known.rest.now) }
+// What is behind so many bytes of a text.
+#[tactic(auto, using(std::proofs::lemmas::List::take_rest))]
+#[inline]
+fn behind_bytes(text: &[u8], count: usize) -> &[u8]
+    requires { count ≤ length text.now }
+    ensures { result.now ≡ drop count text.now }
 {
-    if let Some(known) = known_item(form, next, items) {
-        return Some(known);
+    &text[count..]
+}
+
+// Reads the first of some items, where it was read before and its row is this one or a later one.
+#[inline]
+fn known_step<'a>(form: &Form, word: u64, next: usize, items: &'a [u8]) -> Option<Step<'a>>
+    requires { IsWhole word (drop next form.now.rows) }
+    ensures { IfSome result (λ step. (index : ℕ) → IsReadStep (λ _. ⊤) index word (drop next form.now.rows) items.now
+        step.word (drop step.next form.now.rows) step.rest.now) }
+{
+    let kept = kept_item(form, items)?;
+    if next > kept.at as usize {
+        return None;
     }
-    let place = find_place(form, next, items)?;
-    let read = read_placed(labels, index, &place)?;
-    Some(Known {
-        place,
-        value: read.value,
-        rest: read.rest,
+    Some(Step {
+        word: word.wrapping_add(kept.change),
+        next: kept.at as usize + 1,
+        rest: behind_bytes(items, kept.size as usize),
     })
 }
 
@@ -306,22 +312,18 @@ fn read_step<'a>(
     items: &'a [u8],
 ) -> Option<Step<'a>>
     requires { IsWhole word (drop next form.now.rows) }
-    ensures step { IfSome result (λ step. (spots : Spots) → IfSome labels.entry (λ l. spots ≡ spots_in l.now)
-        → IsStep spots index (front_of word (drop next form.now.rows))
-        (drop next form.now.rows) (before 32 (before 10 items.now))
-        (front_of step.word (drop step.next form.now.rows)) (drop step.next form.now.rows)) }
-    ensures words { IfSome result (λ step. words_of (before 10 items.now)
-        ≡ before 32 (before 10 items.now) ∷ words_of (before 10 step.rest.now)) }
-    ensures others { IfSome result (λ step. behind 10 items.now ≡ behind 10 step.rest.now) }
-    ensures whole { IfSome result (λ step. IsWhole step.word (drop step.next form.now.rows)) }
-    ensures shorter { IfSome result (λ step. length step.rest.now < length items.now) }
+    ensures { IfSome result (λ step. IsReadStep (λ spots. IfSome labels.entry (λ l. spots ≡ spots_in l.now)) index
+        word (drop next form.now.rows) items.now step.word (drop step.next form.now.rows) step.rest.now) }
 {
-    let known = find_item(labels, index, form, next, items)?;
-    let Known { place, value, rest } = known;
+    if let Some(step) = known_step(form, word, next, items) {
+        return Some(step);
+    }
+    let place = find_place(form, next, items)?;
+    let read = read_placed(labels, index, &place)?;
     Some(Step {
-        word: with_field(word, place.field.low, place.row.fallback, value),
+        word: with_field(word, place.field.low, place.row.fallback, read.value),
         next: place.at + 1,
-        rest,
+        rest: read.rest,
     })
 }
 

@@ -1,7 +1,6 @@
-use Rattle.std.proofs.lemmas.Grind.{common_steps}
-use Rattle.std.proofs.{Common.◌≡◌, Common.◌<◌, Common.◌≤◌, Common.◌+◌, Common.◌++◌, Common.◌-◌, Common.◌∷◌, Common.sym, Common.refl, Common.subst, Common.ap, Common.◌∙◌, Common.arith, Common.drop, Common.length, Common.vec_len, lemmas.List.length-drop, lemmas.List.take_rest}
+use Rattle.std.proofs.{Common.◌≡◌, Common.◌<◌, Common.◌≤◌, Common.◌+◌, Common.◌++◌, Common.◌-◌, Common.◌∷◌, Common.sym, Common.refl, Common.subst, Common.ap, Common.◌∙◌, Common.arith, Common.drop, Common.take, Common.IfSome, Common.length, Common.vec_len, Common.ℕ, Common.List, lemmas.List.length-drop, lemmas.List.take_rest}
 use Rattle.script.specs.Lines.{before, behind}
-use Rattle.qpu_asm.specs.{Lines.read_line, Labels.read_lines, Labels.labels_of, Labels.labels_from, Labels.size_of, Labels.label_on, Walk.lines_words, Draft.IsEarly, Seen.labels_seen}
+use Rattle.qpu_asm.specs.{Lines.read_line, Labels.read_lines, Labels.labels_of, Labels.labels_from, Labels.size_of, Labels.label_on, Walk.lines_words, Draft.IsDraftedOn, Seen.labels_seen}
 use Rattle.qpu_asm.proofs.Assembling.{text_first, first_parts, labels_step, labels_end, words_step, words_end}
 use Rattle.qpu_asm.proofs.Drafting.{rest_place, no_words}
 use Rattle.qpu_asm.proofs.Heads.{behind_shorter}
@@ -22,9 +21,24 @@ loop-at-init c = record {
       ap (lines_words spots 1 (read_lines c.args.text.now)) (no_words words (omega (arith, filled.count, c.in_ok-words.ensures.len, c.in_ok-words.words.ok)));
 }
 
+-- what the line put to the draft
+put : (c : goal.In-Some) → (c.in-Some.rest.now ≡ behind 10 (drop c.loop-at.at c.args.text.now))
+    × IsDraftedOn c.args.text.now c.loop-at.line (read_line (before 10 (drop c.loop-at.at c.args.text.now))) c.loop-at.words.items c.put_line.new.words.items c.loop-at.marks.items c.put_line.new.marks.items
+put c =
+    let text = c.args.text.now in
+    let whole = take_rest text c.loop-at.at in
+    let start = take (length text - c.loop-at.at) (drop c.loop-at.at text) in
+    let drafted = subst (λ o. IfSome o (λ _. (all : List ℕ) → start ≡ drop c.loop-at.at all
+    → IsDraftedOn all c.loop-at.line (read_line (before 10 start)) c.loop-at.words.items c.put_line.new.words.items c.loop-at.marks.items c.put_line.new.marks.items))
+    c.in-Some.is c.in_ok-rest.ensures.drafted in (
+      subst (λ o. IfSome o (λ rest. rest.now ≡ behind 10 start)) c.in-Some.is c.in_ok-rest.ensures.rest ∙ ap (behind 10) whole,
+      subst (λ front. IsDraftedOn text c.loop-at.line (read_line (before 10 front)) c.loop-at.words.items c.put_line.new.words.items c.loop-at.marks.items c.put_line.new.marks.items)
+          whole (drafted text whole),
+    )
+
 pub overflow_sub-at : goal.overflow_sub-at
-overflow_sub-at c = (rest_place c.args.text.now c.in-Some.first.rest.now c.loop-at.at c.loop-at.invariant.inside
-    (c.in-Some.ensures.rest ∙ ap (behind 10) (take_rest c.args.text.now c.loop-at.at))).0
+overflow_sub-at c = (rest_place c.args.text.now c.in-Some.rest.now c.loop-at.at c.loop-at.invariant.inside
+    (put c).0).0
 
 pub loop-at-smaller : goal.loop-at-smaller
 loop-at-smaller c =
@@ -32,35 +46,33 @@ loop-at-smaller c =
     let long : length start ≡ length c.args.text.now - c.loop-at.at = length-drop c.loop-at.at c.args.text.now in
     let some : 0 < length start = omega (arith, long, c.loop-at-test.true) in
     let short = behind_shorter 10 start some in
-    let is = c.in-Some.ensures.rest ∙ ap (behind 10) (take_rest c.args.text.now c.loop-at.at) in
+    let is = (put c).0 in
     omega (arith, short, long, ap length is, c.loop-at-test.true)
 
 pub loop-at-preserved : goal.loop-at-preserved
 loop-at-preserved c =
     let text = c.args.text.now in
     let start = drop c.loop-at.at text in
-    let rest = c.in-Some.first.rest.now in
+    let rest = c.in-Some.rest.now in
     let long : length start ≡ length text - c.loop-at.at = length-drop c.loop-at.at text in
     let some : 0 < length start = omega (arith, long, c.loop-at-test.true) in
     let short = behind_shorter 10 start some in
-    let whole = take_rest text c.loop-at.at in
-    let is : rest ≡ behind 10 start = c.in-Some.ensures.rest ∙ ap (behind 10) whole in
+    let is : rest ≡ behind 10 start = (put c).0 in
     let place = rest_place text rest c.loop-at.at c.loop-at.invariant.inside is in
     let index = vec_len c.loop-at.words in
-    let same : c.len.result ≡ length c.loop-at.words.items = grind (arith, common_steps, c.len.ensures, c.loop-at.words.ok) in
     let line = read_line (before 10 start) in
     let lines : read_lines start ≡ line ∷ read_lines (drop (length text - length rest) text) =
     text_first start some ∙ ap (λ later. line ∷ read_lines later) (sym is ∙ place.1) in
-    let drafted = c.in_ok-put_first.ensures.drafted text (subst (λ at. IsEarly at (before 10 start) c.in-Some.first.early) same (subst (λ t. IsEarly c.len.result (before 10 t) c.in-Some.first.early) whole c.in-Some.ensures.early)) in
-    let size : vec_len c.put_first.new.words ≡ index + size_of line = omega (arith, drafted.size, c.loop-at.words.ok, c.put_first.new.words.ok) in
+    let drafted = (put c).1 in
+    let size : vec_len c.put_line.new.words ≡ index + size_of line = omega (arith, drafted.size, c.loop-at.words.ok, c.put_line.new.words.ok) in
     let known : length c.loop-at.words.items ≡ index = omega (arith, c.loop-at.words.ok) in
     record {
       inside = omega arith;
       lines = omega (arith, short, long, ap length is, c.loop-at.invariant.lines, c.loop-at-test.true);
-      indexes = omega (arith, c.in_ok-put_first.ensures.more, c.loop-at.invariant.indexes);
-      few = omega (arith, c.in_ok-put_first.ensures.few, c.loop-at.invariant.few);
-      keyed = c.in_ok-put_first.ensures.keyed;
-      labels = ap (λ size. labels_seen c.put_first.new.marks.items ++ labels_from (c.loop-at.line + 1) size (read_lines (drop (length text - length rest) text)))
+      indexes = omega (arith, c.in_ok-rest.ensures.more, c.loop-at.invariant.indexes);
+      few = omega (arith, c.in_ok-rest.ensures.few, c.loop-at.invariant.few);
+      keyed = c.in_ok-rest.ensures.keyed;
+      labels = ap (λ size. labels_seen c.put_line.new.marks.items ++ labels_from (c.loop-at.line + 1) size (read_lines (drop (length text - length rest) text)))
           size
           ∙ labels_step _ _ _ _ line c.loop-at.line index (size_of line) lines refl
           (drafted.labels ∙ ap (λ at. labels_seen c.loop-at.marks.items ++ label_on c.loop-at.line at line) known) ∙ c.loop-at.invariant.labels;
