@@ -77,20 +77,39 @@ fn write_part<K: Sink>(
     Ok(())
 }
 
-// Writes the lines of the rows of all spans. It takes no memory.
-fn write_spans<K: Sink>(sink: &mut K, spans: &[Span]) -> Result<(), Failed>
-    requires { Ascend 0 most_memory (parts_of spans.now) }
+// Writes the lines of the rows of all spans by way of a piece of so many bytes. It takes no memory.
+#[inline(never)]
+fn write_spans<const N: usize, K: Sink>(sink: &mut K, spans: &[Span]) -> Result<(), Failed>
+    requires room { row_size ≤ N }
+    requires short { N < 2 ^ 32 }
+    requires ascend { Ascend 0 most_memory (parts_of spans.now) }
     ensures written { OnOk result (Appends (K.held sink.old) (K.held sink.new) (parts_text (parts_of spans.now))) }
     ensures cut { OnErr result (AppendsFront (K.held sink.old) (K.held sink.new) (parts_text (parts_of spans.now))) }
     ensures failed { OnErr result (Rose (K.faults sink.old) (K.faults sink.new)) }
     ensures last { OnErr result (LastCallFailed K.held K.faults sink.old sink.new) }
     ensures steady { OnOk result (K.faults sink.new ≡ K.faults sink.old) }
 {
-    let mut piece = [0; PIECE];
+    let mut piece = [0; N];
     for span in spans {
         write_part(sink, span.place, span.bytes.as_slice(), &mut piece)?;
     }
     Ok(())
+}
+
+// How many bytes of lines are made at once where there are many rows: fewer and larger writes cost less.
+const LARGE: usize = 2 * PIECE;
+
+// The same where there are few, so that a small job touches few pages.
+const SMALL: usize = PIECE / 8;
+
+// Whether a span has many rows.
+fn are_many(spans: &[Span]) -> bool {
+    for span in spans {
+        if span.bytes.len() >= PIECE {
+            return true;
+        }
+    }
+    false
 }
 
 // Writes the rows and the last line. It takes no memory.
@@ -103,7 +122,11 @@ fn write_rest<K: Sink>(sink: &mut K, spans: &[Span]) -> Result<(), Failed>
     ensures last { OnErr result (LastCallFailed K.held K.faults sink.old sink.new) }
     ensures steady { OnOk result (K.faults sink.new ≡ K.faults sink.old) }
 {
-    write_spans(sink, spans)?;
+    if are_many(spans) {
+        write_spans::<LARGE, K>(sink, spans)?;
+    } else {
+        write_spans::<SMALL, K>(sink, spans)?;
+    }
     write_all(sink, IMAGE_END)
 }
 

@@ -12,6 +12,7 @@ use job_io::{Failed, Sink, write_all};
 const WORDS: usize = 2048;
 
 /// Writes words as bytes, 8 each, the lowest first. It takes no memory.
+#[inline(never)]
 pub fn write_words<K: Sink>(sink: &mut K, words: &[u64]) -> Result<(), Failed>
     ensures written { OnOk result (Appends (K.held sink.old) (K.held sink.new) (bytes_of words.now)) }
     ensures cut { OnErr result (AppendsFront (K.held sink.old) (K.held sink.new) (bytes_of words.now)) }

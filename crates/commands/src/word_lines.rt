@@ -12,6 +12,7 @@ use qpu_asm::Printer;
 const ROOM: usize = 32768;
 
 /// Writes the lines of words. It takes no memory.
+#[inline(never)]
 pub fn write_lines<K: Sink>(sink: &mut K, printer: &Printer, words: &[u64]) -> Result<(), Failed>
     ensures written { OnOk result (Appends (K.held sink.old) (K.held sink.new) (AsmText words.now)) }
     ensures cut { OnErr result (AppendsFront (K.held sink.old) (K.held sink.new) (AsmText words.now)) }

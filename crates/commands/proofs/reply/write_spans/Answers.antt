@@ -1,4 +1,5 @@
 use Rattle.std.proofs.Common.{◌<◌, ◌^◌, suc, take, drop, refl, sym, subst, ◌∙◌, arith, add-one}
+use Rattle.std.proofs.lemmas.List.{length-replicate}
 use Rattle.std.specs.Io.KnownBytes.{Appends}
 use Rattle.job_io.specs.Traffic.{AppendsFront}
 use Rattle.field_words.specs.Sizes.{most_memory}
@@ -7,14 +8,17 @@ use Rattle.dumper.proofs.Inserting.{text_more, text_split, span_end}
 use Rattle.commands.proofs.Appending.{none_appended, both_appended, front_of_first, front_of_second, on_err}
 use Rattle.commands.proofs.reply.write_spans.Goals as goal
 
+pub write_part-requires-clause-room : goal.write_part-requires-clause-room
+write_part-requires-clause-room g c = omega (arith, c.requires.room, c.loop-span.invariant.room)
+
 pub loop-span-init : goal.loop-span-init
 unfolding parts_text
-loop-span-init g c = record { written = none_appended (g.K.Sink.held c.args.sink.now); steady = refl; room = omega arith }
+loop-span-init g c = record { written = none_appended (g.K.Sink.held c.args.sink.now); steady = refl; room = length-replicate g.row.N 0 }
 
 pub write_part-requires-clause-end : goal.write_part-requires-clause-end
 write_part-requires-clause-end g c =
     let x = c.span-item.result in
-    let ends = span_end c.args.spans.now 0 most_memory c.loop-span.span-index x c.requires c.loop-span-test.true c.span-item.is in
+    let ends = span_end c.args.spans.now 0 most_memory c.loop-span.span-index x c.requires.ascend c.loop-span-test.true c.span-item.is in
     let small : part_end (part_of x) < 2 ^ 32 = omega (arith, ends) in
     subst (λ bytes. part_end (part_at x.place bytes) < 2 ^ 32) (sym c.as_slice.ensures.value) small
 
@@ -47,5 +51,5 @@ loop-span-preserved g c =
     let upto : Appends before now (parts_text (take (suc i) parts)) = subst (Appends before now) (text_more c.args.spans.now i x c.loop-span-test.true c.span-item.is) both in record {
       written = subst (λ n. Appends before now (parts_text (take n parts))) (sym (add-one i)) upto;
       steady = c.in_ok-write_part.ensures.steady ∙ c.loop-span.invariant.steady;
-      room = omega (arith, c.in_ok-write_part.ensures.long, c.loop-span.invariant.room);
+      room = c.in_ok-write_part.ensures.long ∙ c.loop-span.invariant.room;
     }
