@@ -39,7 +39,7 @@ impl From<AllocError> for ReadEnd {
     }
 }
 
-/// How many bytes one call asks for. A short input touches two pages for it, and a long one is read as fast as by larger pieces.
+/// How many bytes one call asks for. A short input touches two pages for it. A long file is read as fast as by larger pieces, a pipe is not.
 const PIECE: usize = 8192;
 
 /// Reads to the end of input, at most `limit` bytes. It stops at once where the source fails, and

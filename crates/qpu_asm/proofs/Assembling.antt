@@ -1,5 +1,6 @@
 -- A text line by line: its labels, faults and words.
-use Rattle.std.proofs.Common.{◌≡◌, ℕ, ◌+◌, ◌≤◌, ◌<◌, List, [], ◌∷◌, ◌++◌, length, map, refl, sym, ◌∙◌, ap, subst, arith, Ok, append_assoc, append-nil}
+use Rattle.std.proofs.Common.{◌≡◌, ℕ, ◌+◌, ◌≤◌, ◌<◌, List, [], ◌∷◌, ◌++◌, length, map, take, refl, sym, ◌∙◌, ap, subst, arith, Ok, append_assoc, append-nil}
+use Rattle.std.proofs.Math.Seq.{take-append_seam}
 use Rattle.field_words.specs.declared.stop.Stop.{Stop}
 use Rattle.field_words.specs.declared.stop.Stop.TheVariants as stop
 use Rattle.script.specs.Lines.{lines_of, before, behind}
@@ -74,3 +75,7 @@ pub coded_words : (spots : Spots) (number : ℕ) (words : List ℕ) (line : List
     → line_words spots number words (read_line line) ≡ Ok (words ++ word ∷ [])
 unfolding line_words
 coded_words spots number words line word coded = rw (coded.reads, coded.codes) refl
+
+-- a part that has grown to the whole
+pub whole : {X : Type 0} (parts others : List X) (size : ℕ) → length parts ≡ size → take size (parts ++ others) ≡ parts
+whole parts others size is = subst (λ n. take n (parts ++ others) ≡ parts) is (take-append_seam parts others)

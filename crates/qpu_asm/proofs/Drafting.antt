@@ -5,7 +5,7 @@ use Rattle.std.proofs.Math.Seq.{get_or-append_seam}
 use Rattle.field_words.proofs.Pieces.{drop_drop}
 use Rattle.std.proofs.lemmas.List.{take_more, take_all, get_or-take, get_or_append_left, length-take, length-drop}
 use Rattle.script.specs.Lines.{before, behind}
-use Rattle.qpu_asm.specs.{declared.label.Mark.Mark, Items.Spots, Lines.Line, Lines.Blank, Lines.Label, Lines.BadLabel, Lines.Coded, Lines.read_line}
+use Rattle.qpu_asm.specs.{declared.label.Mark.Mark, declared.label.Spot.Spot, Items.Spots, Lines.Line, Lines.Blank, Lines.Label, Lines.BadLabel, Lines.Coded, Lines.read_line}
 use Rattle.qpu_asm.specs.{Labels.label_on, Labels.size_of, Walk.IsCoded, Walk.line_words, Seen.labels_seen}
 use Rattle.qpu_asm.specs.Draft.{left_from, IsFilled, AreFilled, IsWordOrPlace, IsDraftedOn}
 use Rattle.qpu_asm.proofs.Assembling.{coded_words}
@@ -18,7 +18,7 @@ blank_drafted text number line words marks is = rw is (record {
   words = λ spots bound full below first filled. record { above = full; filled = filled; put = refl };
 })
 
-pub label_drafted : (text : List ℕ) (number : ℕ) (line : Line) (name words : List ℕ) (old new : List Mark) → line ≡ Label name
+label_drafted : (text : List ℕ) (number : ℕ) (line : Line) (name words : List ℕ) (old new : List Mark) → line ≡ Label name
     → labels_seen new ≡ labels_seen old ++ label_on number (length words) (Label name) → IsDraftedOn text number line words words old new
 unfolding line_words
 label_drafted text number line name words old new is added = rw is (record {
@@ -76,7 +76,7 @@ word_codes : (text line : List ℕ) (index word : ℕ) → word < left_from → 
     → (spots : Spots) (made : ℕ) → IsFilled spots text index word made → IsCoded spots index line made
 word_codes text line index word small coded spots made filled = subst (IsCoded spots index line) (sym (filled.made small)) (coded spots)
 
-pub left_codes : (text : List ℕ) (index at : ℕ) (spots : Spots) (made : ℕ) → IsFilled spots text index (left_from + at) made
+left_codes : (text : List ℕ) (index at : ℕ) (spots : Spots) (made : ℕ) → IsFilled spots text index (left_from + at) made
     → IsCoded spots index (before 10 (drop at text)) made
 left_codes text index at spots made filled =
     let place : left_from + at - left_from ≡ at = omega arith in
@@ -88,6 +88,21 @@ drafted_codes text line index word at drafted (inl (small, is)) place coded spot
     word_codes text line index word small coded spots made (subst (λ d. IsFilled spots text index d made) is filled)
 drafted_codes text line index word at drafted (inr is) place coded spots made filled =
     subst (λ l. IsCoded spots index l made) (sym place) (left_codes text index at spots made (subst (λ d. IsFilled spots text index d made) is filled))
+
+-- a line that is left
+pub left_drafted : (text front : List ℕ) (number at : ℕ) (old new : List ℕ) (marks : List Mark) → new ≡ old ++ (left_from + at) ∷ [] → front ≡ drop at text
+    → size_of (read_line (before 10 front)) ≡ 1 → IsDraftedOn text number (read_line (before 10 front)) old new marks marks
+left_drafted text front number at old new marks is place one =
+    coded_drafted text number (before 10 front) old new marks (left_from + at) is one
+    (λ spots made filled. subst (λ rest. IsCoded spots (length old) (before 10 rest) made) (sym place) (left_codes text (length old) at spots made filled))
+
+-- a label's line, whose mark has been put in
+pub mark_drafted : (text : List ℕ) (number : ℕ) (line : Line) (name words all : List ℕ) (spot : Spot) (old new : List Mark) → line ≡ Label name
+    → all ≡ words → spot ≡ record { line = number; index = length all } → labels_seen new ≡ labels_seen old ++ label_on spot.line spot.index (Label name)
+    → IsDraftedOn text number line words words old new
+mark_drafted text number line name words all spot old new is same spot-is added =
+    label_drafted text number line name words old new is
+    (added ∙ ap (λ s. labels_seen old ++ label_on s.line s.index (Label name)) spot-is ∙ ap (λ l. labels_seen old ++ label_on number (length l) (Label name)) same)
 
 pub coded_size : (spots : Spots) (index : ℕ) (line : List ℕ) (word : ℕ) → IsCoded spots index line word → size_of (read_line line) ≡ 1
 coded_size spots index line word coded = ap size_of coded.reads

@@ -4,7 +4,7 @@ use Rattle.std.proofs.Math.Seq.{get_or-append_seam, take-append_seam, take-appen
 use Rattle.std.proofs.lemmas.List.{get_or-take, get_or-append-add, take-append-drop, length-take, get_or_append_left}
 use Rattle.std.specs.Int.{to_le_bytes, w64}
 use Rattle.script.specs.Lines.{before, behind}
-use Rattle.qpu_asm.specs.{declared.form.Kept.Kept, Table.Row, Items.read_plain, Walk.begins, Walk.IsAfter, Walk.IsBehind, Walk.IsWord, Forms.slot_of, Forms.EndsKept, Forms.IsChange, Forms.IsKept, Forms.IsKeptItem, Forms.IsReadAt}
+use Rattle.qpu_asm.specs.{declared.form.Kept.Kept, Table.Row, Items.read_plain, Walk.begins, Walk.IsAfter, Walk.IsBehind, Walk.IsWord, Forms.slot_of, Forms.EndsKept, Forms.IsChange, Forms.IsKept, Forms.IsKeptItem, Forms.IsReadAt, Forms.ArePassed}
 use Rattle.qpu_asm.proofs.{Heads.begun_split, Bytes.bytes_itself, Steps.at_end, Steps.at_space, Steps.word_first_on}
 
 pub begun_made : (mark : ℕ) (name rest : List ℕ) → begins mark (name ++ mark ∷ rest) name ≡ true
@@ -39,9 +39,10 @@ behind_word word others size whole some (inr (feed, none)) =
     subst (λ n. (before 32 (before 10 (word ++ others)) ≡ word) × IsAfter (word ++ others) (drop n others)) (sym none)
     (word_first_on word others others whole ends.0 ends.1)
 
-item_at : (rows : List Row) (starts : List ℕ) (kept : Kept) (item : IsKeptItem rows starts kept) (more : List ℕ) → 8 ≤ length (item.row.name ++ 61 ∷ (item.word ++ (item.others ++ more)))
-    → IsReadAt rows (item.row.name ++ 61 ∷ (item.word ++ (item.others ++ more))) kept
-item_at rows starts kept item more eight =
+item_at : (rows : List Row) (starts : List ℕ) (next : ℕ) (kept : Kept) (item : IsKeptItem rows starts kept) (more : List ℕ) → 8 ≤ length (item.row.name ++ 61 ∷ (item.word ++ (item.others ++ more)))
+    → ArePassed (item.row.name ++ 61 ∷ (item.word ++ (item.others ++ more))) (drop next rows) (drop (kept.next - 1) rows)
+    → IsReadAt rows next (item.row.name ++ 61 ∷ (item.word ++ (item.others ++ more))) kept
+item_at rows starts next kept item more eight passed =
     let name = item.row.name in
     let word = item.word in
     let others = item.others ++ more in
@@ -74,6 +75,7 @@ item_at rows starts kept item more eight =
     omega (arith, length-append name (61 ∷ (word ++ others)), length-append word others) in
     record {
       long = eight;
+      passed = passed;
       row = item.row;
       here = item.here;
       begun = begun_made 61 name (word ++ others);
@@ -86,29 +88,32 @@ item_at rows starts kept item more eight =
           (subst (IsAfter (word ++ others)) (sym rest) word_read.1);
     }
 
-pub read_at : (rows : List Row) (starts items : List ℕ) (kept : Kept) → IsKept rows starts kept → 0 < kept.size → 8 ≤ length items → to_le_bytes w64 kept.window ≡ take 8 items
-    → IsReadAt rows items kept
-read_at rows starts items kept is some eight window =
+pub read_at : (rows : List Row) (starts : List ℕ) (next : ℕ) (items : List ℕ) (kept : Kept) → IsKept rows starts kept → 0 < kept.next → 8 ≤ length items
+    → to_le_bytes w64 kept.window ≡ take 8 items → ArePassed items (drop next rows) (drop (kept.next - 1) rows) → IsReadAt rows next items kept
+read_at rows starts next items kept is some eight window passed =
     let item = is some in
     let whole : items ≡ item.row.name ++ 61 ∷ (item.word ++ (item.others ++ drop 8 items)) =
     sym (take-append-drop 8 items) ∙ ap (λ front. front ++ drop 8 items) (sym window ∙ item.bytes)
     ∙ append_assoc item.row.name (61 ∷ (item.word ++ item.others)) (drop 8 items)
     ∙ ap (λ t. item.row.name ++ 61 ∷ t) (append_assoc item.word item.others (drop 8 items)) in
-    subst (λ all. IsReadAt rows all kept) (sym whole) (item_at rows starts kept item (drop 8 items) (subst (λ all. 8 ≤ length all) whole eight))
+    subst (λ all. IsReadAt rows next all kept) (sym whole)
+    (item_at rows starts next kept item (drop 8 items) (subst (λ all. 8 ≤ length all) whole eight)
+    (subst (λ all. ArePassed all (drop next rows) (drop (kept.next - 1) rows)) whole passed))
 
 pub none_kept : (rows : List Row) (starts : List ℕ) (kept : List Kept) → kept ≡ [] → All (IsKept rows starts) kept
 none_kept rows starts [] none = λ k d inside. absurd (omega (arith, inside))
 none_kept rows starts (one ∷ others) none = absurd (cc)
 
 -- an item that was read, as it is kept
-pub item_kept : (rows : List Row) (starts items word text : List ℕ) (row : Row) (kept : Kept) → drop kept.at rows ≡ row ∷ drop (kept.at + 1) rows
+pub item_kept : (rows : List Row) (starts items word text : List ℕ) (row : Row) (kept : Kept) (at : ℕ) → kept.next ≡ at + 1 → drop at rows ≡ row ∷ drop (at + 1) rows
     → IsBehind 61 items row.name text → IsWord word → take (length word) text ≡ word → 8 ≤ length items → to_le_bytes w64 kept.window ≡ take 8 items
     → length row.name + 1 + length word < 8
     → EndsKept (slice_index items (length row.name + 1 + length word)) (length row.name + 1 + length word) kept.size
-    → slice_index starts (slot_of (slice_index items 0) (slice_index items 1)) ≡ kept.at → (value : ℕ) → read_plain row word ≡ Ok value
+    → slice_index starts (slot_of (slice_index items 0) (slice_index items 1)) ≡ at → (value : ℕ) → read_plain row word ≡ Ok value
     → IsChange rows row kept value → IsKeptItem rows starts kept
-item_kept rows starts items word text row kept here behind whole begins eight window short ends start value reads change =
+item_kept rows starts items word text row kept at is here behind whole begins eight window short ends start value reads change =
     let name = row.name in
+    let before : kept.next - 1 ≡ at = omega (arith, is) in
     let front = name ++ 61 ∷ word in
     let rest = drop (length word) text in
     let long : length front ≡ length name + 1 + length word = omega (arith, length-append name (61 ∷ word)) in
@@ -128,12 +133,13 @@ item_kept rows starts items word text row kept here behind whole begins eight wi
     ap (λ t. get_or t (length name + 1 + length word) 0) split ∙ ap (λ n. get_or (front ++ rest) n 0) at_rest
     ∙ get_or-append-add front rest 0 0 ∙ sym (get_or-take count rest 0 0 some) in
     record {
-      start = ap (λ bytes. slice_index starts (slot_of (slice_index bytes 0) (slice_index bytes 1))) window
-          ∙ (λ i. slice_index starts (slot_of (get_or-take 8 items 0 0 (omega arith) i) (get_or-take 8 items 1 0 (omega arith) i))) ∙ start;
+      start = ap (λ bytes. slice_index starts (slot_of (slice_index bytes 0) (slice_index bytes 1)) + 1) window
+          ∙ (λ i. slice_index starts (slot_of (get_or-take 8 items 0 0 (omega arith) i) (get_or-take 8 items 1 0 (omega arith) i)) + 1)
+          ∙ (ap (λ n. n + 1) start ∙ sym is);
       row = row;
       word = word;
       others = others;
-      here = here;
+      here = ap (λ n. drop n rows) before ∙ here ∙ ap (λ n. row ∷ drop n rows) (sym is);
       bytes = window ∙ cut;
       whole = whole;
       some = omega (arith, length-take count rest, all, eight, some, long);
@@ -147,8 +153,8 @@ item_kept rows starts items word text row kept here behind whole begins eight wi
     }
 
 -- no name stands before the place that an item is kept with
-pub kept_start : (rows : List Row) (starts items : List ℕ) (kept : Kept) → IsKept rows starts kept → 0 < kept.size → to_le_bytes w64 kept.window ≡ take 8 items
-    → slice_index starts (slot_of (slice_index items 0) (slice_index items 1)) ≡ kept.at
+pub kept_start : (rows : List Row) (starts items : List ℕ) (kept : Kept) → IsKept rows starts kept → 0 < kept.next → to_le_bytes w64 kept.window ≡ take 8 items
+    → slice_index starts (slot_of (slice_index items 0) (slice_index items 1)) + 1 ≡ kept.next
 kept_start rows starts items kept is some window =
-    sym (λ i. slice_index starts (slot_of (get_or-take 8 items 0 0 (omega arith) i) (get_or-take 8 items 1 0 (omega arith) i)))
-    ∙ ap (λ bytes. slice_index starts (slot_of (slice_index bytes 0) (slice_index bytes 1))) (sym window) ∙ (is some).start
+    sym (λ i. slice_index starts (slot_of (get_or-take 8 items 0 0 (omega arith) i) (get_or-take 8 items 1 0 (omega arith) i)) + 1)
+    ∙ ap (λ bytes. slice_index starts (slot_of (slice_index bytes 0) (slice_index bytes 1)) + 1) (sym window) ∙ (is some).start

@@ -14,8 +14,7 @@ pub mod Drafting
 pub mod Known
 pub mod Stepping
 pub mod Sorting
-pub mod Buckets
-pub mod Nearing
+pub mod Linking
 pub mod Decimals
 pub mod Law
 pub mod Order

@@ -11,7 +11,7 @@ use Rattle.std.specs.List.Sorted.{IsSorted, IsPermutation, IsPartitionedBy}
 use Rattle.std.specs.Ordering.{nat_cmp, ordering_then, ordering_reverse, is_lt, is_eq}
 use Rattle.qpu_asm.specs.{declared.label.Spot.Spot, declared.label.Name.Name, declared.label.Mark.Mark, Labels.is_before, Labels.labels_from, Labels.spot_among}
 use Rattle.qpu_asm.specs.{Lines.Line, Lines.Blank, Lines.Label, Lines.BadLabel, Lines.Coded, Seen.mark_seen, Seen.spots_in}
-use Rattle.qpu_asm.specs.Marks.{key_of, name_cmp, kept_cmp, spot_cmp, mark_cmp, fields_cmp, IsKeyed, AreKeyed, AreInOrder, IsNotLater, AreFirstBelow, BoundsRepeats, IsStart}
+use Rattle.qpu_asm.specs.Marks.{key_of, name_cmp, kept_cmp, spot_cmp, mark_cmp, fields_cmp, IsKeyed, AreKeyed, AreInOrder, IsNotLater, AreFirstBelow, AreLabelsOn, BoundsNext, BoundsLater, IsStart}
 use Rattle.qpu_asm.proofs.{Assembling.same_everywhere, Bytes.bytes_same, Bytes.bytes_itself}
 
 -- the orders of names and of marks
@@ -184,12 +184,21 @@ ranked_sorted (mark ∷ marks) sorted = (
   ranked_sorted marks (λ i j d below inside. sorted (suc i) (suc j) d (omega (arith, below)) (omega (arith, inside))),
 )
 
--- sorting changes nothing of what is found
-pub sorted_spots : (marks sorted : List Mark) (name : List ℕ) → IsPermutation marks sorted → AreRanked marks → IsSorted mark_cmp sorted
-    → spots_in sorted name ≡ spots_in marks name
-sorted_spots marks sorted name moved ranked up =
-    found_once sorted name (spots_in sorted name) (spots_in marks name) (found_first sorted name (ranked_sorted sorted (far sorted up)))
-    (found_permuted marks sorted name (spots_in marks name) moved (found_first marks name ranked))
+-- of ranked marks, one that comes later in the list is no earlier
+ranked_at : (marks : List Mark) (i j : ℕ) (d : Mark) → AreRanked marks → i < j → j < length marks
+    → (get_or marks i d).name.bytes.now ≡ (get_or marks j d).name.bytes.now → IsNotLater (get_or marks i d).spot (get_or marks j d).spot
+unfolding AreRanked
+ranked_at [] i j d ranked up inside same = absurd (omega (arith, inside))
+ranked_at (mark ∷ marks) i zero d ranked up inside same = absurd (omega (arith, up))
+ranked_at (mark ∷ marks) zero (suc j) d ranked up inside same = ranked.0 j d (omega (arith, inside)) same
+ranked_at (mark ∷ marks) (suc i) (suc j) d ranked up inside same = ranked_at marks i j d ranked.1 (omega (arith, up)) (omega (arith, inside)) same
+
+-- moving ranked marks changes nothing of what is found
+ranked_spots : (marks others : List Mark) (name : List ℕ) → IsPermutation marks others → AreRanked marks → AreRanked others
+    → spots_in others name ≡ spots_in marks name
+ranked_spots marks others name moved ranked order =
+    found_once others name (spots_in others name) (spots_in marks name) (found_first others name order)
+    (found_permuted marks others name (spots_in marks name) moved (found_first marks name ranked))
 
 -- marks that were sorted by the order of their fields
 pub all_keyed : (marks others : List Mark) → IsPermutation marks others → AreKeyed marks → AreKeyed others
@@ -239,76 +248,86 @@ ranked_from line index (Label name ∷ lines) (mark ∷ marks) is =
       All-cons (λ m. line ≤ m.spot.line) mark marks (omega (arith, here)) (ranked_later line marks rest).1,
     )
 
--- what is found among the sorted marks of lines is what the lines define
-pub sorted_labels : (marks sorted : List Mark) (lines : List Line) → map mark_seen marks ≡ labels_from 1 0 lines → IsPermutation marks sorted → IsSorted mark_cmp sorted
-    → spots_in sorted ≡ spot_among (labels_from 1 0 lines)
-sorted_labels marks sorted lines is moved up =
-    same_everywhere (spots_in sorted) (spot_among (labels_from 1 0 lines))
-    (λ name. sorted_spots marks sorted name moved (ranked_from 1 0 lines marks is).0 up ∙ ap (λ labels. spot_among labels name) is)
+-- what is found among the ranked marks of lines is what the lines define
+ranked_labels : (marks others : List Mark) (lines : List Line) → map mark_seen marks ≡ labels_from 1 0 lines → IsPermutation marks others → AreRanked others
+    → spots_in others ≡ spot_among (labels_from 1 0 lines)
+ranked_labels marks others lines is moved order =
+    same_everywhere (spots_in others) (spot_among (labels_from 1 0 lines))
+    (λ name. ranked_spots marks others name moved (ranked_from 1 0 lines marks is).0 order ∙ ap (λ labels. spot_among labels name) is)
+
+-- among sorted marks those of one name stand together
+pub later_sorted : (marks : List Mark) (bound : ℕ) → FarSorted marks → BoundsNext marks (length marks) bound → BoundsLater marks bound
+later_sorted marks bound sorted bounds i i-inside j d up low inside same =
+    let middle = get_or marks (j - 1) d in
+    let late = get_or marks j d in
+    let no-less : is_lt (name_cmp middle.name.bytes.now late.name.bytes.now) ≡ false =
+    subst (λ n. is_lt (name_cmp middle.name.bytes.now n) ≡ false) same (name_not middle (get_or marks i d) (sorted i (j - 1) d (omega (arith, up)) (omega (arith, up, inside)))) in
+    let no-more : is_lt (name_cmp late.name.bytes.now middle.name.bytes.now) ≡ false = name_not late middle (sorted (j - 1) j d (omega (arith, up)) inside) in
+    let tied : middle.name.bytes.now ≡ late.name.bytes.now = same_names middle.name.bytes.now late.name.bytes.now no-less no-more in
+    let next : j - 1 + 1 ≡ j = omega (arith, up) in
+    let late-next : late ≡ get_or marks (j - 1 + 1) d = ap (λ n. get_or marks n d) (sym next) in
+    let bounded = bounds (j - 1) d (omega (arith, up, inside)) (tied ∙ ap (λ m. m.name.bytes.now) late-next) in
+    subst (λ m. bound ≤ m.spot.line) (sym late-next) bounded
 
 -- a mark below the bound is the first of its name
-after_it : (marks : List Mark) (bound line i j k : ℕ) (early late : Mark) → FarSorted marks → BoundsRepeats marks bound
-    → early ≡ get_or marks i late → j < length marks → late ≡ get_or marks j late → k + 1 ≡ j → i ≤ k
-    → early.name.bytes.now ≡ late.name.bytes.now → late.spot.line ≡ line → line < bound → ⊥
-after_it marks bound line i j k early late sorted bounds early-at inside late-at next below same at-line low =
-    let middle = get_or marks k late in
-    let no-less : is_lt (name_cmp middle.name.bytes.now early.name.bytes.now) ≡ false =
-    subst (λ m. is_lt (name_cmp middle.name.bytes.now m.name.bytes.now) ≡ false) (sym early-at) (name_not middle (get_or marks i late) (sorted i k late below (omega (arith, next, inside)))) in
-    let no-more : is_lt (name_cmp late.name.bytes.now middle.name.bytes.now) ≡ false =
-    subst (λ m. is_lt (name_cmp m.name.bytes.now middle.name.bytes.now) ≡ false) (sym late-at) (name_not (get_or marks j late) middle (sorted k j late (omega (arith, next)) inside)) in
-    let tied : middle.name.bytes.now ≡ late.name.bytes.now =
-    same_names middle.name.bytes.now late.name.bytes.now (subst (λ n. is_lt (name_cmp middle.name.bytes.now n) ≡ false) same no-less) no-more in
-    let late-next : late ≡ get_or marks (k + 1) late = late-at ∙ ap (λ n. get_or marks n late) (sym next) in
-    let bounded : bound ≤ (get_or marks (k + 1) late).spot.line = bounds k late (omega (arith, next, inside)) (tied ∙ ap (λ m. m.name.bytes.now) late-next) in
-    let line-is : (get_or marks (k + 1) late).spot.line ≡ line = ap (λ m. m.spot.line) (sym late-next) ∙ at-line in
-    omega (arith, bounded, line-is, low)
-
-before_it : (marks : List Mark) (line i j : ℕ) (early late : Mark) → FarSorted marks → i < length marks → early ≡ get_or marks i late
-    → late ≡ get_or marks j late → j ≤ i → early.name.bytes.now ≡ late.name.bytes.now → late.spot.line ≡ line → early.spot.line < line → ⊥
-before_it marks line i j early late sorted inside early-at late-at below same at-line earlier =
-    let order : is_lt (mark_cmp early late) ≡ false =
-    subst (λ m. is_lt (mark_cmp m late) ≡ false) (sym early-at) (subst (λ m. is_lt (mark_cmp (get_or marks i late) m) ≡ false) (sym late-at) (sorted j i late below inside)) in
-    elim (spot_not early late same order) [
-      | inl less ↦ omega (arith, less, at-line, earlier)
-      | inr (equal, index) ↦ omega (arith, equal, at-line, earlier)
-    ]
-
-no_earlier : (marks : List Mark) (bound line : ℕ) (early late : Mark) → FarSorted marks → BoundsRepeats marks bound
+no_earlier : (marks : List Mark) (bound line : ℕ) (early late : Mark) → AreRanked marks → BoundsLater marks bound
     → Contains marks early → Contains marks late → early.name.bytes.now ≡ late.name.bytes.now → late.spot.line ≡ line → line < bound → early.spot.line < line → ⊥
-no_earlier marks bound line early late sorted bounds (i, i-inside, i-at) (j, j-inside, j-at) same at-line low earlier =
-    let early-at = get_or_read marks i early i-inside (sym i-at) late in
+no_earlier marks bound line early late ranked bounds (i, i-inside, i-at) (j, j-inside, j-at) same at-line low earlier =
+    let early-at : get_or marks i late ≡ early = sym (get_or_read marks i early i-inside (sym i-at) late) in
+    let named : (get_or marks i late).name.bytes.now ≡ (get_or marks j late).name.bytes.now = ap (λ m. m.name.bytes.now) early-at ∙ (same ∙ ap (λ m. m.name.bytes.now) (sym j-at)) in
+    let early-line : (get_or marks i late).spot.line ≡ early.spot.line = ap (λ m. m.spot.line) early-at in
+    let late-line : (get_or marks j late).spot.line ≡ late.spot.line = ap (λ m. m.spot.line) j-at in
     elim (cases_lt i j) [
-      | inl before ↦ after_it marks bound line i j (j - 1) early late sorted bounds early-at j-inside (sym j-at) (omega (arith, before)) (omega (arith, before)) same at-line low
-      | inr after ↦ before_it marks line i j early late sorted i-inside early-at (sym j-at) after same at-line earlier
+      | inl before ↦ (let bounded = bounds i i-inside j late before j-inside j-inside named in omega (arith, bounded, late-line, at-line, low))
+      | inr after ↦
+          elim (cases_lt j i) [
+            | inl behind ↦
+                elim (ranked_at marks j i late ranked behind i-inside (sym named)) [
+                  | inl less ↦ omega (arith, less, early-line, late-line, at-line, earlier)
+                  | inr (equal, index) ↦ omega (arith, equal, early-line, late-line, at-line, earlier)
+                ]
+            | inr once ↦
+                (let one : i ≡ j = omega (arith, after, once) in
+                let lines : (get_or marks i late).spot.line ≡ (get_or marks j late).spot.line = ap (λ n. (get_or marks n late).spot.line) one in
+                omega (arith, lines, early-line, late-line, at-line, earlier))
+          ]
     ]
 
-not_before : (marks : List Mark) (bound line : ℕ) (name : List ℕ) (late : Mark) (a : Option Spot) → FarSorted marks → BoundsRepeats marks bound
+not_before : (marks : List Mark) (bound line : ℕ) (name : List ℕ) (late : Mark) (a : Option Spot) → AreRanked marks → BoundsLater marks bound
     → late.name.bytes.now ≡ name → late.spot.line ≡ line → Contains marks late → line < bound → IsFound marks name a → is_before line a ≡ false
-not_before marks bound line name late None sorted bounds named at-line there low found = refl
-not_before marks bound line name late (Some spot) sorted bounds named at-line there low found =
+not_before marks bound line name late None ranked bounds named at-line there low found = refl
+not_before marks bound line name late (Some spot) ranked bounds named at-line there low found =
     elim (cases_Bool (nat_lt spot.line line)) [
       | inl earlier ↦
-          absurd (no_earlier marks bound line found.0 late sorted bounds found.2.there there (found.2.named ∙ sym named) at-line low
+          absurd (no_earlier marks bound line found.0 late ranked bounds found.2.there there (found.2.named ∙ sym named) at-line low
           (subst (λ s. s.line < line) (sym found.1) (ltb-true spot.line line earlier)))
       | inr first ↦ first
     ]
 
-pub firsts_below : (sorted : List Mark) (bound : ℕ) → FarSorted sorted → BoundsRepeats sorted bound → (line index : ℕ) (lines : List Line) (marks : List Mark)
-    → map mark_seen marks ≡ labels_from line index lines → ((mark : Mark) → Contains marks mark → Contains sorted mark) → AreFirstBelow bound (spots_in sorted) line lines
+firsts_below : (others : List Mark) (bound : ℕ) → AreRanked others → BoundsLater others bound → (line index : ℕ) (lines : List Line) (marks : List Mark)
+    → map mark_seen marks ≡ labels_from line index lines → ((mark : Mark) → Contains marks mark → Contains others mark) → AreFirstBelow bound (spots_in others) line lines
 unfolding labels_from AreFirstBelow
-firsts_below sorted bound up bounds line index [] marks is holds = tt
-firsts_below sorted bound up bounds line index (Blank ∷ lines) marks is holds = (tt, firsts_below sorted bound up bounds (line + 1) (index + 0) lines marks is holds)
-firsts_below sorted bound up bounds line index (BadLabel ∷ lines) marks is holds = (tt, firsts_below sorted bound up bounds (line + 1) (index + 0) lines marks is holds)
-firsts_below sorted bound up bounds line index (Coded opcode items ∷ lines) marks is holds =
-    (tt, firsts_below sorted bound up bounds (line + 1) (index + 1) lines marks is holds)
-firsts_below sorted bound up bounds line index (Label name ∷ lines) [] is holds = absurd (cc)
-firsts_below sorted bound up bounds line index (Label name ∷ lines) (mark ∷ marks) is holds =
+firsts_below others bound order bounds line index [] marks is holds = tt
+firsts_below others bound order bounds line index (Blank ∷ lines) marks is holds = (tt, firsts_below others bound order bounds (line + 1) (index + 0) lines marks is holds)
+firsts_below others bound order bounds line index (BadLabel ∷ lines) marks is holds = (tt, firsts_below others bound order bounds (line + 1) (index + 0) lines marks is holds)
+firsts_below others bound order bounds line index (Coded opcode items ∷ lines) marks is holds =
+    (tt, firsts_below others bound order bounds (line + 1) (index + 1) lines marks is holds)
+firsts_below others bound order bounds line index (Label name ∷ lines) [] is holds = absurd (cc)
+firsts_below others bound order bounds line index (Label name ∷ lines) (mark ∷ marks) is holds =
     let head : mark_seen mark ≡ record { name = name; spot = record { line = line; index = index } } = cc in
     let tail : map mark_seen marks ≡ labels_from (line + 1) (index + 0) lines = cc in (
-      λ low. not_before sorted bound line name mark (spots_in sorted name) up bounds (ap (λ label. label.name) head) (ap (λ label. label.spot.line) head)
-          (holds mark (zero, omega arith, refl)) low (found_first sorted name (ranked_sorted sorted up)),
-      firsts_below sorted bound up bounds (line + 1) (index + 0) lines marks tail (λ m there. holds m (suc there.0, omega (arith, there.1), there.2)),
+      λ low. not_before others bound line name mark (spots_in others name) order bounds (ap (λ label. label.name) head) (ap (λ label. label.spot.line) head)
+          (holds mark (zero, omega arith, refl)) low (found_first others name order),
+      firsts_below others bound order bounds (line + 1) (index + 0) lines marks tail (λ m there. holds m (suc there.0, omega (arith, there.1), there.2)),
     )
+
+-- the labels of lines by their marks, wherever they moved to
+pub labels_on : (marks others : List Mark) (lines : List Line) (bound : ℕ) → map mark_seen marks ≡ labels_from 1 0 lines → IsPermutation marks others
+    → AreRanked others → BoundsLater others bound → AreLabelsOn lines (spots_in others) bound
+labels_on marks others lines bound is moved order bounds = record {
+  known = ranked_labels marks others lines is moved order;
+  first = firsts_below others bound order bounds 1 0 lines marks is (λ m there. Contains-permutation marks others m moved there);
+}
 
 -- where a search among sorted marks ends
 lesser_other : (marks : List Mark) (name : List ℕ) (at k : ℕ) (d : Mark) → IsStart marks name at → k < at → (get_or marks k d).name.bytes.now ≡ name → ⊥
@@ -381,16 +400,13 @@ found_at marks name at d up start inside =
     (found_first marks name (ranked_sorted marks (far marks up)))
 
 -- the bound so far
-abbrev pub BoundsBelow : List Mark → ℕ → ℕ → Type 0
-BoundsBelow marks at bound = (k : ℕ) (d : Mark) → k + 1 < at → (get_or marks k d).name.bytes.now ≡ (get_or marks (k + 1) d).name.bytes.now → bound ≤ (get_or marks (k + 1) d).spot.line
-
-bound_by : (same : Bool) (old new line : ℕ) → new ≡ (if same then min old line else old) → (new ≤ old) × (same ≡ true → new ≤ line)
+pub bound_by : (same : Bool) (old new line : ℕ) → new ≡ (if same then min old line else old) → (new ≤ old) × (same ≡ true → new ≤ line)
 bound_by true old new line is = (omega (arith, is), λ same. omega (arith, is))
 bound_by false old new line is = (omega (arith, is), λ same. absurd (false≢true same))
 
 pub bound_more : (marks : List Mark) (at old new : ℕ) (d : Mark) → 1 ≤ at → at < length marks
     → new ≡ (if bytes_eq (get_or marks (at - 1) d).name.bytes.now (get_or marks at d).name.bytes.now then min old (get_or marks at d).spot.line else old)
-    → BoundsBelow marks at old → BoundsBelow marks (at + 1) new
+    → BoundsNext marks at old → BoundsNext marks (at + 1) new
 bound_more marks at old new d some inside is below k e k-below same =
     let bounds = bound_by (bytes_eq (get_or marks (at - 1) d).name.bytes.now (get_or marks at d).name.bytes.now) old new (get_or marks at d).spot.line is in
     elim (cases_lt (k + 1) at) [

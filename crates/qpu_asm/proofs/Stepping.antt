@@ -43,14 +43,3 @@ pub added_change : (word low fallback value : ℕ) → word < 2 ^ 64 → fallbac
     → (word + changed low fallback value) % 2 ^ 64 ≡ word - fallback * 2 ^ low + value * 2 ^ low
 unfolding changed
 added_change word low fallback value fits inside room = around word (fallback * 2 ^ low) (value * 2 ^ low) fits inside room
-
--- a step that any labels allow
-pub any_told : (told : Spots → Type 0) (index word : ℕ) (rows : List Row) (items : List ℕ) (after : ℕ) (later : List Row) (rest : List ℕ)
-    → IsReadStep (λ _. Unit {0}) index word rows items after later rest → IsReadStep told index word rows items after later rest
-any_told told index word rows items after later rest is = record {
-  step = λ some _. is.step some tt;
-  words = is.words;
-  others = is.others;
-  whole = is.whole;
-  shorter = is.shorter;
-}

@@ -1,8 +1,7 @@
 -- What is drafted of a text before its labels are known. No part of what the crate claims.
-use Rattle.std.specs.Prelude.{◌≡◌, ℕ, ◌+◌, ◌-◌, ◌*◌, ◌^◌, ◌<◌, ◌≤◌, List, [], ◌++◌, length, drop, slice_index, Ok, ⊤, ◌⊎◌}
-use Rattle.qpu_asm.specs.declared.draft.Early.TheVariants as early
+use Rattle.std.specs.Prelude.{◌≡◌, ℕ, ◌+◌, ◌-◌, ◌*◌, ◌^◌, ◌<◌, ◌≤◌, List, [], ◌++◌, length, drop, slice_index, Ok, ◌⊎◌}
 use Rattle.script.specs.Lines.{before}
-use Rattle.qpu_asm.specs.{declared.label.Mark.Mark, Items.Spots, Lines.Line, Lines.Blank, Lines.Label, Lines.read_line, declared.draft.Early.Early, Labels.labels_of, Labels.label_on, Labels.size_of, Labels.read_lines, Marks.IsKeyed, Marks.AreKeyed, Marks.IsFirstBelow, Marks.AreFirstBelow, Walk.IsCoded, Walk.line_words, Walk.lines_words, Seen.labels_seen}
+use Rattle.qpu_asm.specs.{declared.label.Mark.Mark, Items.Spots, Lines.Line, Labels.labels_of, Labels.label_on, Labels.size_of, Labels.read_lines, Marks.AreKeyed, Marks.IsFirstBelow, Marks.AreFirstBelow, Walk.IsCoded, Walk.line_words, Walk.lines_words, Seen.labels_seen}
 
 -- from this number on, a drafted word tells where in the text the line lies that is left
 abbrev pub left_from : ℕ
@@ -27,18 +26,6 @@ pub record IsPutOn (spots : Spots) (text : List ℕ) (number : ℕ) (line : Line
 abbrev pub IsPut : List ℕ → ℕ → Line → List ℕ → List ℕ → Type 0
 IsPut text number line old new = (spots : Spots) (bound : ℕ) (words : List ℕ) → number < bound → IsFirstBelow bound spots number line
     → AreFilled spots text new words → IsPutOn spots text number line old words
-
--- what a line has that isn't read at once
-abbrev pub IsEarly : List ℕ → Early → Type 0
-IsEarly line early.Left = size_of (read_line line) ≡ 1
-IsEarly line (early.Label name) = read_line line ≡ Label name.bytes.now
-IsEarly line early.Blank = read_line line ≡ Blank
-
--- a label's name has its key
-abbrev pub IsNameKeyed : Early → Type 0
-IsNameKeyed early.Left = ⊤
-IsNameKeyed (early.Label name) = IsKeyed name
-IsNameKeyed early.Blank = ⊤
 
 -- a word as it is drafted: itself, or where its line lies
 abbrev pub IsWordOrPlace : ℕ → ℕ → ℕ → Type 0

@@ -49,15 +49,15 @@ changed low fallback value = (value * 2 ^ low % 2 ^ 64 + (2 ^ 64 - fallback * 2 
 
 -- this is added to a word for a value in a row's field
 abbrev pub IsChange : List Row → Row → Kept → ℕ → Type 0
-IsChange rows row kept value = kept.change ≡ changed (width_of (widths_of (drop (kept.at + 1) rows))) row.fallback value
+IsChange rows row kept value = kept.change ≡ changed (width_of (widths_of (drop kept.next rows))) row.fallback value
 
 -- an item of a row's own name that was read before, by the eight bytes that a text begins with where it stands
 pub record IsKeptItem (rows : List Row) (starts : List ℕ) (kept : Kept) : Type 0 where
-  pub start : slice_index starts (slot_of (slice_index (to_le_bytes w64 kept.window) 0) (slice_index (to_le_bytes w64 kept.window) 1)) ≡ kept.at
+  pub start : slice_index starts (slot_of (slice_index (to_le_bytes w64 kept.window) 0) (slice_index (to_le_bytes w64 kept.window) 1)) + 1 ≡ kept.next
   pub row : Row
   pub word : List ℕ
   pub others : List ℕ
-  pub here : drop kept.at rows ≡ row ∷ drop (kept.at + 1) rows
+  pub here : drop (kept.next - 1) rows ≡ row ∷ drop kept.next rows
   pub bytes : to_le_bytes w64 kept.window ≡ row.name ++ 61 ∷ (word ++ others)
   pub whole : IsWord word
   pub some : 0 < length others
@@ -66,22 +66,9 @@ pub record IsKeptItem (rows : List Row) (starts : List ℕ) (kept : Kept) : Type
   pub reads : read_plain row word ≡ Ok value
   pub change : IsChange rows row kept value
 
--- items begin with an item that was read before
-pub record IsReadAt (rows : List Row) (items : List ℕ) (kept : Kept) : Type 0 where
-  pub long : 8 ≤ length items
-  pub row : Row
-  pub here : drop kept.at rows ≡ row ∷ drop (kept.at + 1) rows
-  pub begun : begins 61 items row.name ≡ true
-  pub named : length row.name + 1 ≤ length items
-  pub size : kept.size ≤ length items
-  pub value : ℕ
-  pub reads : read_plain row (before 32 (before 10 (drop (length row.name + 1) items))) ≡ Ok value
-  pub change : IsChange rows row kept value
-  pub after : IsAfter (drop (length row.name + 1) items) (drop kept.size items)
-
 -- where something is kept, it is an item of these rows
 abbrev pub IsKept : List Row → List ℕ → Kept → Type 0
-IsKept rows starts kept = 0 < kept.size → IsKeptItem rows starts kept
+IsKept rows starts kept = 0 < kept.next → IsKeptItem rows starts kept
 
 -- rows with what reads them
 pub record IsForm (blank : ℕ) (rows : List Row) (fields : List Field) (starts : List ℕ) (kept : List Kept) : Type 0 where
@@ -103,6 +90,20 @@ pub record IsPassed (items : List ℕ) (first : ℕ) (all : List Row) (word : �
 abbrev pub ArePassed : List ℕ → List Row → List Row → Type 0
 ArePassed items rows rest =
     (word : ℕ) → IsWhole word rows → IsWhole word rest × IsPassed items (front_of word rows) rows (front_of word rest) rest
+
+-- items begin with an item that was read before, whose row is this one or a later one
+pub record IsReadAt (rows : List Row) (next : ℕ) (items : List ℕ) (kept : Kept) : Type 0 where
+  pub long : 8 ≤ length items
+  pub passed : ArePassed items (drop next rows) (drop (kept.next - 1) rows)
+  pub row : Row
+  pub here : drop (kept.next - 1) rows ≡ row ∷ drop kept.next rows
+  pub begun : begins 61 items row.name ≡ true
+  pub named : length row.name + 1 ≤ length items
+  pub size : kept.size ≤ length items
+  pub value : ℕ
+  pub reads : read_plain row (before 32 (before 10 (drop (length row.name + 1) items))) ≡ Ok value
+  pub change : IsChange rows row kept value
+  pub after : IsAfter (drop (length row.name + 1) items) (drop kept.size items)
 
 -- the place of the item that items begin with
 pub record IsItemAt (rows : List Row) (items : List ℕ) (place : Place) : Type 0 where

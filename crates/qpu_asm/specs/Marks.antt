@@ -2,12 +2,12 @@
 use Rattle.std.specs.Prelude.{◌≡◌, ℕ, ◌+◌, ◌-◌, ◌*◌, ◌/◌, ◌%◌, ◌^◌, ◌<◌, ◌≤◌, ◌⊎◌, true, false, List, [], ◌∷◌, slice_index, slice_index_or, length, All, IsSorted, IsPermutation}
 use Rattle.std.specs.{Cmp.Lexicographic.slice_cmp, Ordering.nat_cmp, Ordering.ordering_then, Ordering.is_lt, declared.cmp.Ordering.Ordering}
 use Rattle.std.specs.List.{fold}
-use Rattle.qpu_asm.specs.{declared.label.Spot.Spot, declared.label.Name.Name, declared.label.Mark.Mark, Items.Spots, Labels.is_before, Labels.LabelSpot, Labels.spot_among, Labels.labels_from, Seen.labels_seen}
+use Rattle.qpu_asm.specs.{declared.label.Spot.Spot, declared.label.Name.Name, declared.label.Mark.Mark, declared.label.Links.Links, Items.Spots, Labels.is_before, Labels.LabelSpot, Labels.spot_among, Labels.labels_from, Seen.labels_seen}
 use Rattle.qpu_asm.specs.Lines.{Line, Blank, Label, BadLabel, Coded}
 
--- the key of a name: the last byte reaches its high bits
+-- the key of a name
 abbrev pub key_with : ℕ → ℕ → ℕ
-key_with key byte = (key + byte) % 2 ^ 64 * 0x9e3779b97f4a7c15 % 2 ^ 64
+key_with key byte = (key * 0x2545f491 % 2 ^ 64 + byte) % 2 ^ 64
 
 unfoldable pub key_of : List ℕ → ℕ
 key_of name = fold key_with 0 name
@@ -69,10 +69,19 @@ pub record AreLabelsOn (lines : List Line) (spots : Spots) (bound : ℕ) : Type 
   pub known : spots ≡ spot_among (labels_from 1 0 lines)
   pub first : AreFirstBelow bound spots 1 lines
 
--- a line that repeats a name, among sorted marks, is not below the bound
-abbrev pub BoundsRepeats : List Mark → ℕ → Type 0
-BoundsRepeats marks bound = (k : ℕ) (d : Mark) → k + 1 < length marks
+-- a mark with the name of the one before it isn't below the bound, up to this place
+abbrev pub BoundsNext : List Mark → ℕ → ℕ → Type 0
+BoundsNext marks at bound = (k : ℕ) (d : Mark) → k + 1 < at
     → (slice_index_or marks k d).name.bytes.now ≡ (slice_index_or marks (k + 1) d).name.bytes.now → bound ≤ (slice_index_or marks (k + 1) d).spot.line
+
+-- a mark behind this one, and before an end, that has its name isn't below the bound
+abbrev pub BoundsBehind : List Mark → ℕ → ℕ → ℕ → Type 0
+BoundsBehind marks at end bound = (k : ℕ) (d : Mark) → at < k → k < end → k < length marks
+    → (slice_index_or marks at d).name.bytes.now ≡ (slice_index_or marks k d).name.bytes.now → bound ≤ (slice_index_or marks k d).spot.line
+
+-- a mark with the name of any one before it isn't below the bound
+abbrev pub BoundsLater : List Mark → ℕ → Type 0
+BoundsLater marks bound = (at : ℕ) → at < length marks → BoundsBehind marks at (length marks) bound
 
 -- the marks before this place have names that come before, and those from it on don't
 pub record IsStart (marks : List Mark) (name : List ℕ) (at : ℕ) : Type 0 where
@@ -80,35 +89,32 @@ pub record IsStart (marks : List Mark) (name : List ℕ) (at : ℕ) : Type 0 whe
   pub below : (k : ℕ) (d : Mark) → k < at → is_lt (name_cmp (slice_index_or marks k d).name.bytes.now name) ≡ true
   pub above : (k : ℕ) (d : Mark) → at ≤ k → k < length marks → is_lt (name_cmp (slice_index_or marks k d).name.bytes.now name) ≡ false
 
--- the bucket of a mark: the high bits of its key
+-- the bucket of a key: the high bits of a product
+abbrev pub key_bucket : ℕ → ℕ → ℕ
+key_bucket shift key = key * 0x9e3779b97f4a7c15 % 2 ^ 64 / 2 ^ shift
+
 abbrev pub bucket_of : ℕ → Mark → ℕ
-bucket_of shift mark = mark.name.key / 2 ^ shift
+bucket_of shift mark = key_bucket shift mark.name.key
 
-abbrev pub AreLesser : List Mark → ℕ → ℕ → ℕ → Type 0
-AreLesser marks shift bucket at = (k : ℕ) (d : Mark) → k < at → bucket_of shift (slice_index_or marks k d) < bucket
+-- the first place from one on where a mark is of a bucket, or a place where the marks have ended
+pub record IsFirstOf (marks : List Mark) (shift bucket from at : ℕ) : Type 0 where
+  pub behind : from ≤ at
+  pub first : (k : ℕ) (d : Mark) → from ≤ k → k < length marks → bucket_of shift (slice_index_or marks k d) ≡ bucket → at ≤ k
+  pub there : (d : Mark) → at < length marks → bucket_of shift (slice_index_or marks at d) ≡ bucket
 
--- the marks before this place are of lesser buckets, and those from it on aren't
-pub record IsBucketStart (marks : List Mark) (shift bucket at : ℕ) : Type 0 where
-  pub inside : at ≤ length marks
-  pub below : AreLesser marks shift bucket at
-  pub above : (k : ℕ) (d : Mark) → at ≤ k → k < length marks → bucket ≤ bucket_of shift (slice_index_or marks k d)
+-- for each bucket the first place of its marks, of those from a place on
+pub record AreFirsts (marks : List Mark) (shift from : ℕ) (firsts : List ℕ) : Type 0 where
+  pub count : length firsts ≡ 2 ^ (64 - shift)
+  pub first : (bucket : ℕ) → bucket < length firsts → IsFirstOf marks shift bucket from (slice_index firsts bucket)
 
--- for each bucket, the first of the places from one on where a mark is of it, or where the marks end
-pub record AreFirst (marks : List Mark) (shift from : ℕ) (places : List ℕ) : Type 0 where
-  pub count : length places ≡ 2 ^ (64 - shift) + 1
-  pub inside : (bucket : ℕ) → bucket < length places → slice_index places bucket ≤ length marks
-  pub first : (bucket k : ℕ) (d : Mark) → bucket < length places → from ≤ k → k < length marks
-      → bucket_of shift (slice_index_or marks k d) ≡ bucket → slice_index places bucket ≤ k
-  pub there : (bucket : ℕ) (d : Mark) → bucket < length places → slice_index places bucket < length marks
-      → bucket_of shift (slice_index_or marks (slice_index places bucket) d) ≡ bucket
+-- for each mark from a place on, the place of the next one in its bucket
+pub record AreNexts (marks : List Mark) (shift from : ℕ) (nexts : List ℕ) : Type 0 where
+  pub count : length nexts ≡ length marks
+  pub next : (k : ℕ) (d : Mark) → from ≤ k → k < length marks
+      → IsFirstOf marks shift (bucket_of shift (slice_index_or marks k d)) (k + 1) (slice_index nexts k)
 
--- where the marks of each bucket start, and where all of them end
-pub record AreStarts (marks : List Mark) (shift : ℕ) (starts : List ℕ) : Type 0 where
-  pub high : shift < 64
-  pub count : length starts ≡ 2 ^ (64 - shift) + 1
-  pub start : (bucket : ℕ) → bucket < length starts → IsBucketStart marks shift bucket (slice_index starts bucket)
-
--- marks with what finds them
-pub record AreFound (marks : List Mark) (shift : ℕ) (starts : List ℕ) : Type 0 where
-  pub order : AreInOrder marks
-  pub buckets : AreStarts marks shift starts
+-- marks with what leads from one to the next in their buckets
+pub record AreLinked (marks : List Mark) (links : Links) : Type 0 where
+  pub high : links.shift < 64
+  pub firsts : AreFirsts marks links.shift 0 links.firsts.items
+  pub nexts : AreNexts marks links.shift 0 links.nexts.items

@@ -5,7 +5,7 @@ ghost use Rattle.qpu_asm.specs.Lines.{read_line as line_read};
 ghost use Rattle.qpu_asm.specs.Items.{Spots};
 ghost use Rattle.qpu_asm.specs.Marks.{AreKeyed};
 ghost use Rattle.qpu_asm.specs.Walk.{IsCoded};
-ghost use Rattle.qpu_asm.specs.Draft.{IsEarly, IsNameKeyed, IsWordOrPlace, IsDraftedOn, IsDraftOf, AreFilled};
+ghost use Rattle.qpu_asm.specs.Draft.{IsWordOrPlace, IsDraftedOn, IsDraftOf, AreFilled};
 ghost use Rattle.qpu_asm.specs.Seen.{spots_in};
 
 use crate::form::Forms;
@@ -27,21 +27,6 @@ const LEFT: u64 = 15 << 60;
 pub struct Draft<'a> {
     pub words: Vec<u64>,
     pub marks: Vec<Mark<'a>>,
-}
-
-/// What a line has: an instruction, which is left, a label, or nothing.
-#[derive(Clone, Copy)]
-enum Early<'a> {
-    Left,
-    Label(Name<'a>),
-    Blank,
-}
-
-/// What a text's first line has, and the lines below it.
-#[derive(Clone, Copy)]
-struct First<'a> {
-    early: Early<'a>,
-    rest: &'a [u8],
 }
 
 /// The draft of a text, or none where a label's line is malformed.
@@ -69,7 +54,7 @@ pub fn draft_of<'a>(
 }
 
 // Puts the first line of what begins at a place of a text to the draft of the lines above it, and answers the lines below; or none where it
-// is a malformed label's. Most lines are read at once.
+// is a malformed label's. Most lines are read at once. A branch is left.
 #[inline]
 fn put_line<'a>(
     words: &mut Vec<u64>,
@@ -93,11 +78,26 @@ fn put_line<'a>(
         words.push(drafted_word(coded.word, at))?;
         return Ok(Some(coded.rest));
     }
-    let Some(first) = read_first(text) else {
-        return Ok(None);
-    };
-    put_first(words, marks, first.early, at, number)?;
-    Ok(Some(first.rest))
+    if begins_branch(text) {
+        words.push(LEFT + at as u64)?;
+        return Ok(Some(lines_below(text)));
+    }
+    if let Some(labelled) = read_labelled(text) {
+        add_mark(marks, labelled.name, spot_behind(words, number))?;
+        return Ok(Some(labelled.rest));
+    }
+    put_other(words, marks, at, number, text)
+}
+
+// The spot of a label on a line of this number, behind these words.
+fn spot_behind(words: &[u64], number: u32) -> Spot
+    requires { length words.now < 2 ^ 32 }
+    ensures { result ≡ record { line = number; index = length words.now } }
+{
+    Spot {
+        line: number,
+        index: words.len() as u32,
+    }
 }
 
 // The word as it is; or, where it could be taken for the place of a line, as only a branch's could, the place of its line, which is left.
@@ -106,27 +106,6 @@ fn drafted_word(word: u64, at: usize) -> u64
     ensures { IsWordOrPlace word at result }
 {
     if word < LEFT { word } else { LEFT + at as u64 }
-}
-
-// What a text's first line has, where it isn't read at once and is no malformed label's.
-fn read_first(text: &[u8]) -> Option<First<'_>>
-    ensures early { IfSome result (λ first. IsEarly (before 10 text.now) first.early) }
-    ensures keyed { IfSome result (λ first. IsNameKeyed first.early) }
-    ensures rest { IfSome result (λ first. first.rest.now ≡ behind 10 text.now) }
-{
-    if begins_branch(text) {
-        return Some(First {
-            early: Early::Left,
-            rest: lines_below(text),
-        });
-    }
-    if let Some(labelled) = read_labelled(text) {
-        return Some(First {
-            early: Early::Label(labelled.name),
-            rest: labelled.rest,
-        });
-    }
-    other_first(text)
 }
 
 // The lines below a text's first one.
@@ -140,56 +119,33 @@ fn lines_below(text: &[u8]) -> &[u8]
     }
 }
 
-// The same by the words of the line. An instruction's line is left.
+// The same where the line isn't read at once: by its words. An instruction is left.
 #[inline(never)]
-fn other_first(text: &[u8]) -> Option<First<'_>>
-    ensures early { IfSome result (λ first. IsEarly (before 10 text.now) first.early) }
-    ensures keyed { IfSome result (λ first. IsNameKeyed first.early) }
-    ensures rest { IfSome result (λ first. first.rest.now ≡ behind 10 text.now) }
-{
-    let cut = cut_at(text, b'\n');
-    let early = match read_line(cut.first) {
-        Line::Blank => Early::Blank,
-        Line::Label(name) => Early::Label(Name::of(name)),
-        Line::BadLabel => return None,
-        Line::Coded(_) => Early::Left,
-    };
-    Some(First {
-        early,
-        rest: cut.rest,
-    })
-}
-
-// Puts what a line has that begins at a place of a text to the draft of the lines above it.
-fn put_first<'a>(
+fn put_other<'a>(
     words: &mut Vec<u64>,
     marks: &mut Vec<Mark<'a>>,
-    early: Early<'a>,
     at: usize,
     number: u32,
-) -> Result<(), AllocError>
+    text: &'a [u8],
+) -> Result<Option<&'a [u8]>, AllocError>
     requires few { vec_len words.old < 2 ^ 32 }
     requires place { at < 2 ^ 32 }
     requires keyed { AreKeyed marks.old.items }
-    requires name { IsNameKeyed early }
     ensures keyed { OnOk result (AreKeyed marks.new.items) }
     ensures few { OnOk result (vec_len marks.new ≤ vec_len marks.old + 1) }
     ensures more { OnOk result (vec_len words.new ≤ vec_len words.old + 1) }
-    ensures drafted { OnOk result ((text : List ℕ) → IsEarly (before 10 (drop at text)) early.entry
-        → IsDraftedOn text number (line_read (before 10 (drop at text))) words.old.items words.new.items marks.old.items marks.new.items) }
+    ensures rest { IfOk result (λ put. IfSome put (λ rest. rest.now ≡ behind 10 text.now)) }
+    ensures drafted { IfOk result (λ put. IfSome put (λ _. (whole : List ℕ) → text.now ≡ drop at whole
+        → IsDraftedOn whole number (line_read (before 10 text.now)) words.old.items words.new.items marks.old.items marks.new.items)) }
 {
-    match early {
-        Early::Left => words.push(LEFT + at as u64)?,
-        Early::Label(name) => {
-            let spot = Spot {
-                line: number,
-                index: words.len() as u32,
-            };
-            add_mark(marks, name, spot)?;
-        }
-        Early::Blank => {}
+    let cut = cut_at(text, b'\n');
+    match read_line(cut.first) {
+        Line::Blank => {}
+        Line::Label(name) => add_mark(marks, Name::of(name), spot_behind(words, number))?,
+        Line::BadLabel => return Ok(None),
+        Line::Coded(_) => words.push(LEFT + at as u64)?,
     }
-    Ok(())
+    Ok(Some(cut.rest))
 }
 
 /// Puts the words in for the lines that are left, as far as they have no mistake, and says whether none had one.

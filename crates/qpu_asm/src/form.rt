@@ -27,13 +27,13 @@ pub struct Field {
 }
 
 /// An item that was read before: the eight bytes that stand from its first one on, what is added to a word that has its row's default, how
-/// many bytes it has with the space behind it, and the number of its row. One of no bytes is none.
+/// many bytes it has with the space behind it, and the number of the row behind its own. Where nothing is kept this is 0.
 #[derive(Clone, Copy)]
 pub struct Kept {
     window: u64,
     pub change: u64,
     pub size: u8,
-    pub at: u8,
+    pub next: u8,
 }
 
 /// A kind of instruction: its first word, the word of its defaults, its rows with their fields, where the rows are, and items that were
@@ -346,7 +346,7 @@ const NOT_KEPT: Kept = Kept {
     window: 0,
     change: 0,
     size: 0,
-    at: 0,
+    next: 0,
 };
 
 /// Makes room for the items that a form keeps.
@@ -390,7 +390,7 @@ pub fn keep_item(form: &mut Form, items: &[u8], place: &Place<'_>, word: &[u8], 
     let Some(window) = window_of(items) else {
         return;
     };
-    if end >= 8 || place.at >= 256 || place.field.low >= 64 {
+    if end >= 8 || place.at >= 255 || place.field.low >= 64 {
         return;
     }
     if form.starts[slot_of(items[0], items[1])] as usize != place.at {
@@ -405,21 +405,19 @@ pub fn keep_item(form: &mut Form, items: &[u8], place: &Place<'_>, word: &[u8], 
             window,
             change: change_of(place.field.low, place.row.fallback, value),
             size: size as u8,
-            at: place.at as u8,
+            next: place.at as u8 + 1,
         };
     }
 }
 
-/// What is kept of the first of some items, where it was read before.
+/// What is kept of the first of some items, where it was read before and its row is this one or a later one.
 #[inline]
-pub fn kept_item(form: &Form, items: &[u8]) -> Option<Kept>
-    ensures read { IfSome result (IsReadAt form.now.rows items.now) }
-    ensures passed { IfSome result (λ kept. (next : ℕ) → next ≤ kept.at
-        → ArePassed items.now (drop next form.now.rows) (drop kept.at form.now.rows)) }
+pub fn kept_item(form: &Form, next: usize, items: &[u8]) -> Option<Kept>
+    ensures { IfSome result (IsReadAt form.now.rows next items.now) }
 {
     let window = window_of(items)?;
     let kept = form.kept.get(place_kept(window))?;
-    if kept.size > 0 && kept.window == window {
+    if kept.window == window && next < kept.next as usize {
         Some(*kept)
     } else {
         None
@@ -428,6 +426,7 @@ pub fn kept_item(form: &Form, items: &[u8]) -> Option<Kept>
 
 /// The place of the first of some items, where its row is this one or a later one, and the first of those that its slot tells of. Of all
 /// rows only `reg` is behind another one of its slot, `rel`.
+#[inline(always)]
 pub fn find_place<'a>(form: &Form, next: usize, items: &'a [u8]) -> Option<Place<'a>>
     ensures item { IfSome result (IsItemAt form.now.rows items.now) }
     ensures next { IfSome result (λ place. IsNext (drop next form.now.rows) (name_seen place) (drop place.at form.now.rows)

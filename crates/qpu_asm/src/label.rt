@@ -1,12 +1,12 @@
-//! The labels of a text: a mark for each line that defines one, sorted by the key of its name and then by the name.
-ghost use Rattle.std.specs.Prelude.{◌≡◌, ◌<◌, ◌≤◌, ◌^◌, ◌++◌, ◌∷◌, ◌-◌, ◌/◌, ◌+◌, length, slice_index, slice_range, min, max, vec_len, IfOk, OnOk, Some, None, bytes_eq, if◌then◌else◌};
+//! The labels of a text: a mark for each line that defines one, in buckets by the key of its name. A text whose keys crowd a bucket has them
+//! sorted in their place.
+ghost use Rattle.std.specs.Prelude.{◌≡◌, ◌<◌, ◌≤◌, ◌^◌, ◌++◌, ◌-◌, ◌/◌, ◌+◌, length, min, vec_len, IfOk, IfSome, OnOk, Some, None, bytes_eq, if◌then◌else◌};
 ghost use Rattle.std.specs.Ordering.{is_lt};
-ghost use Rattle.std.specs.List.{sum};
-ghost use Rattle.std.specs.Prelude.{All, IsPermutation, IsTrue, ℕ, List};
+ghost use Rattle.std.specs.Prelude.{IsPermutation, List};
 ghost use Rattle.script.specs.Lines.{before, lines_of};
 ghost use Rattle.qpu_asm.specs.Lines.{Label, Line as LineSeen};
 ghost use Rattle.qpu_asm.specs.Labels.{spots_of, labels_of, labels_from, label_on, read_lines, size_of};
-ghost use Rattle.qpu_asm.specs.Marks.{key_of as key_by, key_with as longer_key, kept_cmp, fields_cmp, AreInOrder, AreFirst, AreStarts, AreFound, IsKeyed, AreKeyed, AreFirstBelow, AreLabelsOn, BoundsRepeats, IsStart, AreSortedOf};
+ghost use Rattle.qpu_asm.specs.Marks.{key_of as key_by, key_with as longer_key, key_bucket, kept_cmp, AreInOrder, AreLinked, IsKeyed, AreKeyed, AreFirstBelow, AreLabelsOn, BoundsNext, BoundsLater, BoundsBehind, IsStart, AreSortedOf};
 ghost use Rattle.qpu_asm.specs.Seen.{line_seen, labels_seen, spots_in};
 
 use crate::lines::{Line, read_line};
@@ -35,25 +35,32 @@ pub struct Mark<'a> {
     spot: Spot,
 }
 
-/// The marks of a text, by name, and those of one name by line. The high bits of a key are its bucket, and the marks of each
-/// bucket start at one of the `starts`.
+/// The place of each bucket's first mark, and for each mark that of the next one in its bucket, or where the marks end. A key is multiplied,
+/// and shifted by so many bits is its bucket.
 #[derive(Drop)]
-pub struct Labels<'a> {
-    marks: Vec<Mark<'a>>,
-    starts: Vec<u32>,
+struct Links {
+    firsts: Vec<u32>,
+    nexts: Vec<u32>,
     shift: u32,
 }
 
+/// The marks of a text. They are linked, and stand in the text's order; or they are sorted by name, and those of one name by line.
+#[derive(Drop)]
+pub struct Labels<'a> {
+    marks: Vec<Mark<'a>>,
+    links: Option<Links>,
+}
+
 impl<'a> Model for Labels<'a> {
-    ghost use Rattle.std.specs.Prelude.{List};
+    ghost use Rattle.std.specs.Prelude.{List, MatchOption};
     ghost use Rattle.qpu_asm.specs.declared.label.Mark.{Mark};
-    ghost use Rattle.qpu_asm.specs.Marks.{AreFound};
+    ghost use Rattle.qpu_asm.specs.Marks.{AreInOrder, AreKeyed, AreLinked};
 
     ghost Value = { List Mark };
 
     ghost view = { λ l. l.marks.items };
 
-    ghost invariant = { λ l. AreFound l.marks.items l.shift l.starts.items };
+    ghost invariant = { λ l. MatchOption l.links (AreInOrder l.marks.items) (λ links. AreKeyed l.marks.items × AreLinked l.marks.items links) };
 }
 
 impl<'a> Name<'a> {
@@ -69,12 +76,11 @@ impl<'a> Name<'a> {
     }
 }
 
-/// The key of the bytes above with one more. Equal names have equal keys, and others nearly never. The last byte reaches the high bits.
+/// The key of the bytes above with one more. Equal names have equal keys, and others nearly never.
 pub fn key_with(key: u64, byte: u8) -> u64
     ensures { result ≡ longer_key key byte }
 {
-    key.wrapping_add(byte as u64)
-        .wrapping_mul(0x9E37_79B9_7F4A_7C15)
+    key.wrapping_mul(0x2545_F491).wrapping_add(byte as u64)
 }
 
 // The key of a name.
@@ -114,205 +120,134 @@ pub fn found_among(alloc: Global, marks: Vec<Mark<'_>>) -> Result<Found<'_>, All
     ensures { IfOk result (λ found. (lines : List LineSeen) → labels_seen marks.entry.items ≡ labels_from 1 0 lines
         → AreLabelsOn lines (spots_in found.labels) found.first_below) }
 {
-    let sorted = sorted_marks(alloc, marks)?;
-    let first_below = first_repeat(&sorted);
-    let labels = with_buckets(alloc, sorted)?;
-    Ok(Found {
-        labels,
-        first_below,
-    })
-}
-
-// Marks by name, and those of one name by line.
-fn sorted_marks(alloc: Global, marks: Vec<Mark<'_>>) -> Result<Vec<Mark<'_>>, AllocError>
-    requires keyed { AreKeyed marks.items }
-    ensures marks { IfOk result (λ sorted. AreSortedOf (labels_seen marks.entry.items) sorted.items) }
-    ensures few { IfOk result (λ sorted. vec_len sorted ≡ vec_len marks.entry) }
-{
-    let mut marks = marks;
-    sort_marks(alloc, &mut marks)?;
-    Ok(marks)
-}
-
-// Sorts marks.
-fn sort_marks(alloc: Global, marks: &mut [Mark<'_>]) -> Result<(), AllocError>
-    requires { AreKeyed marks.old }
-    ensures moved { IsPermutation marks.old marks.new }
-    ensures order { OnOk result (AreInOrder marks.new) }
-{
-    near_places(alloc, marks)?;
-    if !are_in_order(marks) {
-        marks.sort_unstable();
+    let links = link_marks(alloc, &marks)?;
+    match linked_repeat(&marks, &links) {
+        Some(first_below) => Ok(Found {
+            labels: Labels {
+                marks,
+                links: Some(links),
+            },
+            first_below,
+        }),
+        None => Ok(found_sorted(marks)),
     }
-    Ok(())
 }
 
-// Whether marks are in order.
-fn are_in_order(marks: &[Mark<'_>]) -> bool
-    requires { AreKeyed marks.now }
-    ensures { IsTrue result → AreInOrder marks.now }
-{
-    for at in 1..marks.len() {
-        if is_later(&marks[at - 1], &marks[at]) {
-            return false;
-        }
-    }
-    true
-}
-
-// Whether a mark comes after the other.
-fn is_later(first: &Mark<'_>, second: &Mark<'_>) -> bool
-    ensures { result ≡ is_lt (fields_cmp second.now first.now) }
-{
-    if first.name.key != second.name.key {
-        return second.name.key < first.name.key;
-    }
-    second.cmp(first).is_lt()
-}
-
-// From so many marks on, a sort is as fast as putting each near its place, since they don't fit the processor's near memory.
-const MANY: usize = 1 << 15;
-
-// Puts marks near their places, which costs less than a sort of them all. It is of use for its time alone.
+// The same by sorting the marks.
 #[inline(never)]
-fn near_places(alloc: Global, marks: &mut [Mark<'_>]) -> Result<(), AllocError>
-    requires { AreKeyed marks.old }
-    ensures { IsPermutation marks.old marks.new }
+fn found_sorted(marks: Vec<Mark<'_>>) -> Found<'_>
+    requires { AreKeyed marks.items }
+    ensures { (lines : List LineSeen) → labels_seen marks.entry.items ≡ labels_from 1 0 lines
+        → AreLabelsOn lines (spots_in result.labels) result.first_below }
 {
-    if marks.len() >= MANY || are_in_order(marks) {
-        return Ok(());
+    let sorted = sorted_marks(marks);
+    let first_below = sorted_repeat(&sorted);
+    Found {
+        labels: Labels {
+            marks: sorted,
+            links: None,
+        },
+        first_below,
     }
-    let shift = shift_of(marks.len());
-    let mut ends = ends_of(alloc, marks, shift)?;
-    if are_crowded(&ends) {
-        return Ok(());
-    }
-    fill_buckets(marks, &mut ends, shift);
-    sort_buckets(marks, &ends, shift);
-    Ok(())
 }
 
-// Where the marks of each bucket are to end.
-fn ends_of(alloc: Global, marks: &[Mark<'_>], shift: u32) -> Result<Vec<u32>, AllocError>
-    requires short { length marks.now < 2 ^ 32 }
-    requires range { (32 ≤ shift) × (shift < 64) }
-    ensures count { IfOk result (λ ends. length ends.items ≡ 2 ^ (64 - shift) + 1) }
-    ensures inside { IfOk result (λ ends. All (λ end. end ≤ length marks.now) ends.items) }
+// The most buckets, as a power of two: more would not fit the processor's near memory.
+const MOST_BITS: u32 = 17;
+
+// There are more buckets than marks, at most twice as many, and never above the most.
+fn shift_of(count: usize) -> u32
+    ensures { (47 ≤ result) × (result < 64) }
 {
-    let mut counts = counts_of(alloc, marks, shift)?;
-    add_up(&mut counts);
-    Ok(counts)
+    63 - (count.max(1) as u64).ilog2().min(MOST_BITS - 1)
+}
+
+// The bucket of a key: the high bits of a product, which depend on all of the key's.
+#[tactic(auto, using(crate::proofs::Linking::bucket_low))]
+fn bucket_of(key: u64, shift: u32) -> usize
+    requires { shift < 64 }
+    ensures bucket { result ≡ key_bucket shift key }
+    ensures low { result < 2 ^ (64 - shift) }
+{
+    (key.wrapping_mul(0x9E37_79B9_7F4A_7C15) >> shift) as usize
+}
+
+// Links marks, the last one first.
+fn link_marks(alloc: Global, marks: &[Mark<'_>]) -> Result<Links, AllocError>
+    requires { length marks.now < 2 ^ 32 }
+    ensures { IfOk result (AreLinked marks.now) }
+{
+    let shift = shift_of(marks.len());
+    let mut firsts = vec![in alloc; marks.len() as u32; 1 << (64 - shift)]?;
+    let mut nexts = vec![in alloc; 0; marks.len()]?;
+    let mut at = marks.len();
+    while at > 0 {
+        at -= 1;
+        let bucket = bucket_of(marks[at].name.key, shift);
+        nexts[at] = firsts[bucket];
+        firsts[bucket] = at as u32;
+    }
+    Ok(Links {
+        firsts,
+        nexts,
+        shift,
+    })
 }
 
 // More marks than a bucket has where keys differ at random.
 const CROWD: u32 = 16;
 
-// Whether a bucket is crowded, as where a text repeats a label. Its marks would have to be sorted once more.
-fn are_crowded(ends: &[u32]) -> bool {
-    let mut crowded = false;
-    for at in 1..ends.len() {
-        crowded |= ends[at].saturating_sub(ends[at - 1]) > CROWD;
-    }
-    crowded
-}
-
-// The bucket of a key: its high bits.
-#[tactic(auto, using(crate::proofs::Buckets::bucket_low))]
-fn bucket_of(key: u64, shift: u32) -> usize
-    requires { shift < 64 }
-    ensures bucket { result ≡ key / 2 ^ shift }
-    ensures low { result < 2 ^ (64 - shift) }
+// A bound of the lines that repeat this mark's label, and of the others so far; or none where many marks come behind it in its bucket.
+fn bound_behind(marks: &[Mark<'_>], links: &Links, at: usize, bound: u64) -> Option<u64>
+    requires keyed { AreKeyed marks.now }
+    requires linked { AreLinked marks.now links.now }
+    requires inside { at < length marks.now }
+    ensures less { IfSome result (λ new. new ≤ bound) }
+    ensures behind { IfSome result (λ new. BoundsBehind marks.now at (length marks.now) new) }
 {
-    (key >> shift) as usize
-}
-
-// How many marks each bucket has.
-fn counts_of(alloc: Global, marks: &[Mark<'_>], shift: u32) -> Result<Vec<u32>, AllocError>
-    requires short { length marks.now < 2 ^ 32 }
-    requires range { (32 ≤ shift) × (shift < 64) }
-    ensures count { IfOk result (λ counts. length counts.items ≡ 2 ^ (64 - shift) + 1) }
-    ensures all { IfOk result (λ counts. sum counts.items ≡ length marks.now) }
-{
-    let mut counts = vec![in alloc; 0; (1 << (64 - shift)) + 1]?;
-    for mark in marks {
-        counts[bucket_of(mark.name.key, shift)] += 1;
+    let mut bound = bound;
+    let mut next = links.nexts[at] as usize;
+    let mut left = CROWD;
+    while next < marks.len() {
+        if left == 0 {
+            return None;
+        }
+        left -= 1;
+        bound = bound_at(bound, &marks[at], &marks[next]);
+        next = links.nexts[next] as usize;
     }
-    Ok(counts)
+    Some(bound)
 }
 
-// Adds to each number those before it.
-fn add_up(counts: &mut [u32])
-    requires { sum counts.old < 2 ^ 32 }
-    ensures count { length counts.new ≡ length counts.old }
-    ensures below { All (λ end. end ≤ sum counts.old) counts.new }
+// A bound of the lines that repeat a label, or none where a bucket is crowded, as where keys don't differ at random.
+fn linked_repeat(marks: &[Mark<'_>], links: &Links) -> Option<u64>
+    requires keyed { AreKeyed marks.now }
+    requires linked { AreLinked marks.now links.now }
+    ensures { IfSome result (BoundsLater marks.now) }
 {
-    let mut end = 0;
-    for at in 0..counts.len() {
-        end += counts[at];
-        counts[at] = end;
+    let mut bound = u64::MAX;
+    for at in 0..marks.len() {
+        bound = bound_behind(marks, links, at, bound)?;
     }
+    Some(bound)
 }
 
-// Puts each mark into its bucket, the last place of it first. At the end it is known where each bucket starts.
-fn fill_buckets(marks: &mut [Mark<'_>], ends: &mut [u32], shift: u32)
-    requires high { shift < 64 }
-    requires count { length ends.old ≡ 2 ^ (64 - shift) + 1 }
-    requires inside { All (λ end. end ≤ length marks.old) ends.old }
+// Marks by name, and those of one name by line.
+fn sorted_marks(marks: Vec<Mark<'_>>) -> Vec<Mark<'_>>
+    requires { AreKeyed marks.items }
+    ensures { AreSortedOf (labels_seen marks.entry.items) result.items }
+{
+    let mut marks = marks;
+    sort_marks(&mut marks);
+    marks
+}
+
+// Sorts marks.
+fn sort_marks(marks: &mut [Mark<'_>])
+    requires { AreKeyed marks.old }
     ensures moved { IsPermutation marks.old marks.new }
-    ensures count { length ends.new ≡ length ends.old }
-    ensures inside { All (λ end. end ≤ length marks.new) ends.new }
+    ensures order { AreInOrder marks.new }
 {
-    let mut at = 0;
-    while at < marks.len() {
-        let bucket = bucket_of(marks[at].name.key, shift);
-        let end = ends[bucket] as usize;
-        if at < end {
-            marks.swap(at, end - 1);
-            ends[bucket] -= 1;
-        } else {
-            at += 1;
-        }
-    }
-}
-
-// Sorts the buckets where a mark comes after the next one.
-fn sort_buckets(marks: &mut [Mark<'_>], starts: &[u32], shift: u32)
-    requires high { shift < 64 }
-    requires count { length starts.now ≡ 2 ^ (64 - shift) + 1 }
-    requires inside { All (λ start. start ≤ length marks.old) starts.now }
-    ensures { IsPermutation marks.old marks.new }
-{
-    for at in 1..marks.len() {
-        if is_later(&marks[at - 1], &marks[at]) {
-            let (from, to) = bucket_ends(starts, shift, marks[at].name.key);
-            sort_part(marks, from, to);
-        }
-    }
-}
-
-// Sorts the marks from a place to another.
-fn sort_part(marks: &mut [Mark<'_>], from: usize, to: usize)
-    requires { to ≤ length marks.old }
-    ensures { IsPermutation marks.old marks.new }
-{
-    if from < to {
-        marks[from..to].sort_unstable();
-    }
-}
-
-// Sorted marks, with where each bucket starts.
-fn with_buckets(alloc: Global, marks: Vec<Mark<'_>>) -> Result<Labels<'_>, AllocError>
-    requires order { AreInOrder marks.items }
-    requires few { vec_len marks < 2 ^ 32 }
-    ensures { IfOk result (λ labels. labels ≡ marks.entry.items) }
-{
-    let shift = shift_of(marks.len());
-    let starts = starts_of(alloc, &marks, shift)?;
-    Ok(Labels {
-        marks,
-        starts,
-        shift,
-    })
+    marks.sort_unstable();
 }
 
 // The marks of a text, line after line.
@@ -402,57 +337,16 @@ fn bound_at(bound: u64, first: &Mark<'_>, second: &Mark<'_>) -> u64
     bound
 }
 
-// A bound of the lines that repeat a label, where marks of one name stand together.
-fn first_repeat(marks: &[Mark<'_>]) -> u64
+// A bound of the lines that repeat a label, where marks are sorted, so that those of one name stand together.
+fn sorted_repeat(marks: &[Mark<'_>]) -> u64
     requires { AreKeyed marks.now }
-    ensures { BoundsRepeats marks.now result }
+    ensures { BoundsNext marks.now (length marks.now) result }
 {
     let mut bound = u64::MAX;
     for at in 1..marks.len() {
         bound = bound_at(bound, &marks[at - 1], &marks[at]);
     }
     bound
-}
-
-// There are more buckets than marks, and at most twice as many.
-fn shift_of(count: usize) -> u32
-    requires { count < 2 ^ 32 }
-    ensures range { (32 ≤ result) × (result < 64) }
-    ensures low { 2 ^ (63 - result) ≤ max count 1 }
-    ensures high { max count 1 < 2 ^ (64 - result) }
-{
-    63 - (count.max(1) as u64).ilog2()
-}
-
-// For each bucket the place of its first mark, or where the marks end.
-fn first_places(alloc: Global, marks: &[Mark<'_>], shift: u32) -> Result<Vec<u32>, AllocError>
-    requires short { length marks.now < 2 ^ 32 }
-    requires range { (32 ≤ shift) × (shift < 64) }
-    ensures { IfOk result (λ places. AreFirst marks.now shift 0 places.items) }
-{
-    let mut places = vec![in alloc; marks.len() as u32; (1 << (64 - shift)) + 1]?;
-    let mut at = marks.len();
-    while at > 0 {
-        at -= 1;
-        places[bucket_of(marks[at].name.key, shift)] = at as u32;
-    }
-    Ok(places)
-}
-
-// Where the marks of each bucket start, and where all of them end.
-fn starts_of(alloc: Global, marks: &[Mark<'_>], shift: u32) -> Result<Vec<u32>, AllocError>
-    requires order { AreInOrder marks.now }
-    requires short { length marks.now < 2 ^ 32 }
-    requires range { (32 ≤ shift) × (shift < 64) }
-    ensures { IfOk result (λ starts. AreStarts marks.now shift starts.items) }
-{
-    let mut starts = first_places(alloc, marks, shift)?;
-    let mut bucket = starts.len() - 1;
-    while bucket > 0 {
-        bucket -= 1;
-        starts[bucket] = starts[bucket].min(starts[bucket + 1]);
-    }
-    Ok(starts)
 }
 
 // The name comes before the other.
@@ -498,63 +392,32 @@ fn spot_at(marks: &[Mark<'_>], at: usize, name: &Name<'_>) -> Option<Spot>
     spot_by(&marks[at], name)
 }
 
-// Where the marks of a key's bucket start and end.
-#[tactic(auto, using(crate::proofs::Buckets::bucket_inside))]
-fn bucket_ends(starts: &[u32], shift: u32, key: u64) -> (usize, usize)
-    requires high { shift < 64 }
-    requires count { length starts.now ≡ 2 ^ (64 - shift) + 1 }
-    ensures inside { key / 2 ^ shift + 1 < length starts.now }
-    ensures start { result.0 ≡ slice_index starts.now (key / 2 ^ shift) }
-    ensures end { result.1 ≡ slice_index starts.now (key / 2 ^ shift + 1) }
-{
-    let bucket = (key >> shift) as usize;
-    (starts[bucket] as usize, starts[bucket + 1] as usize)
-}
-
-// How many marks of a part have names that come before.
-#[tactic(auto, using(crate::proofs::Buckets::part_order))]
-fn start_between(marks: &[Mark<'_>], from: usize, to: usize, name: &Name<'_>) -> usize
-    requires order { AreInOrder marks.now }
-    requires keyed { IsKeyed name.now }
-    requires up { from ≤ to }
-    requires inside { to ≤ length marks.now }
-    ensures { IsStart (slice_range marks.now from to) name.now.bytes.now result }
-{
-    start_of(&marks[from..to], name)
-}
-
-// The place of the first mark whose name does not come before this one: it is in the name's bucket, or at its end.
-fn start_among(marks: &[Mark<'_>], starts: &[u32], shift: u32, name: &Name<'_>) -> usize
-    requires found { AreFound marks.now shift starts.now }
-    requires keyed { IsKeyed name.now }
-    ensures { IsStart marks.now name.now.bytes.now result }
-{
-    let (from, to) = bucket_ends(starts, shift, name.key);
-    from + start_between(marks, from, to, name)
-}
-
-// The place of a name's label, wherever in its bucket the mark is.
+// The place of a name's label among sorted marks.
 #[inline(never)]
-fn spot_in_bucket(marks: &[Mark<'_>], starts: &[u32], shift: u32, name: &Name<'_>) -> Option<Spot>
-    requires found { AreFound marks.now shift starts.now }
+fn spot_sorted(marks: &[Mark<'_>], name: &Name<'_>) -> Option<Spot>
+    requires sorted { AreInOrder marks.now }
     requires keyed { IsKeyed name.now }
     ensures { result ≡ spots_in marks.now name.now.bytes.now }
 {
-    let start = start_among(marks, starts, shift, name);
+    let start = start_of(marks, name);
     spot_at(marks, start, name)
 }
 
-// The place of a name's label, which mostly is the first one of its bucket.
-fn spot_among(marks: &[Mark<'_>], starts: &[u32], shift: u32, name: &Name<'_>) -> Option<Spot>
-    requires found { AreFound marks.now shift starts.now }
+// The place of a name's label among linked marks: the first one of its bucket that has the name.
+fn spot_linked(marks: &[Mark<'_>], links: &Links, name: &Name<'_>) -> Option<Spot>
+    requires marks { AreKeyed marks.now }
+    requires linked { AreLinked marks.now links.now }
     requires keyed { IsKeyed name.now }
     ensures { result ≡ spots_in marks.now name.now.bytes.now }
 {
-    let first = starts[bucket_of(name.key, shift)] as usize;
-    if first < marks.len() && are_same(&marks[first].name, name) {
-        return Some(marks[first].spot);
+    let mut at = links.firsts[bucket_of(name.key, links.shift)] as usize;
+    while at < marks.len() {
+        if are_same(&marks[at].name, name) {
+            return Some(marks[at].spot);
+        }
+        at = links.nexts[at] as usize;
     }
-    spot_in_bucket(marks, starts, shift, name)
+    None
 }
 
 /// Where the label of a name stands.
@@ -562,7 +425,10 @@ pub fn spot_of<'a>(labels: &Labels<'a>, name: &Name<'a>) -> Option<Spot>
     requires { IsKeyed name.now }
     ensures { result ≡ spots_in labels.now name.now.bytes.now }
 {
-    spot_among(&labels.marks, &labels.starts, labels.shift, name)
+    match &labels.links {
+        Some(links) => spot_linked(&labels.marks, links, name),
+        None => spot_sorted(&labels.marks, name),
+    }
 }
 
 /// Where the label of these bytes stands.

@@ -291,18 +291,16 @@ fn known_step<'a>(form: &Form, word: u64, next: usize, items: &'a [u8]) -> Optio
     ensures { IfSome result (λ step. (index : ℕ) → IsReadStep (λ _. ⊤) index word (drop next form.now.rows) items.now
         step.word (drop step.next form.now.rows) step.rest.now) }
 {
-    let kept = kept_item(form, items)?;
-    if next > kept.at as usize {
-        return None;
-    }
+    let kept = kept_item(form, next, items)?;
     Some(Step {
         word: word.wrapping_add(kept.change),
-        next: kept.at as usize + 1,
+        next: kept.next as usize,
         rest: behind_bytes(items, kept.size as usize),
     })
 }
 
 // Reads the first of some items, where its row is this one or a later one and its value has no mistake.
+#[inline(never)]
 fn read_step<'a>(
     labels: Option<&Labels<'a>>,
     index: u32,
@@ -315,9 +313,6 @@ fn read_step<'a>(
     ensures { IfSome result (λ step. IsReadStep (λ spots. IfSome labels.entry (λ l. spots ≡ spots_in l.now)) index
         word (drop next form.now.rows) items.now step.word (drop step.next form.now.rows) step.rest.now) }
 {
-    if let Some(step) = known_step(form, word, next, items) {
-        return Some(step);
-    }
     let place = find_place(form, next, items)?;
     let read = read_placed(labels, index, &place)?;
     Some(Step {
@@ -347,7 +342,10 @@ fn read_steps<'a>(
         rest: items,
     };
     while !is_end(step.rest) {
-        step = read_step(labels, index, form, step.word, step.next, step.rest)?;
+        step = match known_step(form, step.word, step.next, step.rest) {
+            Some(known) => known,
+            None => read_step(labels, index, form, step.word, step.next, step.rest)?,
+        };
     }
     Some(step)
 }
@@ -361,7 +359,7 @@ fn behind_end(text: &[u8]) -> &[u8]
 }
 
 // The word of an instruction of this form by its items.
-#[inline(never)]
+#[inline(always)]
 fn read_items<'a>(
     labels: Option<&Labels<'a>>,
     index: u32,
@@ -380,6 +378,7 @@ fn read_items<'a>(
 }
 
 // The instruction that a text begins with, where it begins with this opcode, which is of this form.
+#[inline(always)]
 fn read_by<'a>(
     labels: Option<&Labels<'a>>,
     index: u32,

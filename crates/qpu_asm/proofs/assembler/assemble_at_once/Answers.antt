@@ -1,6 +1,6 @@
 use Rattle.std.proofs.Common.{◌≡◌, ◌∙◌, [], sym, subst, ap, arith, length, Ok, IfSome, refl}
 use Rattle.qpu_asm.specs.{Labels.labels_of, Labels.read_lines, Seen.spots_in, Draft.IsDraftOf, Draft.AreFilled}
-use Rattle.qpu_asm.proofs.{Assembling.words_begin, Nearing.whole}
+use Rattle.qpu_asm.proofs.Assembling.{words_begin, whole}
 use Rattle.qpu_asm.proofs.assembler.assemble_at_once.Goals as goal
 
 pub returns-then-fill_left : goal.returns-then-fill_left

@@ -1,4 +1,4 @@
-use Rattle.std.proofs.Common.{◌≡◌, ◌+◌, ◌∙◌, ap, sym, subst, arith, drop, length, None, Ok, true, refl, ◌%◌, ◌^◌}
+use Rattle.std.proofs.Common.{◌≡◌, ◌+◌, ◌-◌, ◌∙◌, ap, sym, subst, drop, length, None, Ok, true, refl, ◌%◌, ◌^◌}
 use Rattle.script.specs.Lines.{before}
 use Rattle.qpu_isa.specs.Fields.{width_of}
 use Rattle.qpu_asm.specs.{Table.widths_of, Items.Spots, Items.read_value, Walk.IsAfter}
@@ -8,21 +8,21 @@ use Rattle.qpu_asm.proofs.Stepping.{replaced_by, step_read, added_change}
 use Rattle.qpu_asm.proofs.step.known_step.Goals as goal
 
 pub behind_bytes-requires : goal.behind_bytes-requires
-behind_bytes-requires c = c.in_ok-kept.ensures.read.size
+behind_bytes-requires c = c.in_ok-kept.ensures.size
 
 pub returns : goal.returns
 returns c = λ index.
-    let read = c.in_ok-kept.ensures.read in
+    let read = c.in_ok-kept.ensures in
     let kept = c.in_ok-kept.kept in
     let row = read.row in
     let word = c.args.word in
     let items = c.args.items.now in
     let rows = drop c.args.next c.args.form.now.rows in
-    let rest = drop kept.at c.args.form.now.rows in
-    let later = drop (kept.at + 1) c.args.form.now.rows in
+    let rest = drop (kept.next - 1) c.args.form.now.rows in
+    let later = drop kept.next c.args.form.now.rows in
     let low = width_of (widths_of later) in
     let text = drop (length row.name + 1) items in
-    let next = next_here items rows rest row later row.name read.here (c.in_ok-kept.ensures.passed c.args.next (omega (arith, c.if-next-kept.false))) read.begun (own_row row) in
+    let next = next_here items rows rest row later row.name read.here read.passed read.begun (own_row row) in
     let place = next.place word c.requires in
     let told : Spots → Type 0 = λ spots. Unit {0} in
     let reads : (spots : Spots) → told spots → read_value spots index row.name (before 32 (before 10 text)) row ≡ Ok read.value = λ spots told. rw (own_value spots index row (before 32 (before 10 text))) read.reads in

@@ -1,11 +1,8 @@
 use Rattle.std.proofs.Common.{◌≡◌, IfSome}
 use Rattle.qpu_asm.specs.Seen.{spots_in}
 use Rattle.qpu_asm.proofs.Steps.{name_part, known_for}
-use Rattle.qpu_asm.proofs.Stepping.{replaced_by, step_read, any_told}
+use Rattle.qpu_asm.proofs.Stepping.{replaced_by, step_read}
 use Rattle.qpu_asm.proofs.step.read_step.Goals as goal
-
-pub returns-in-Some : goal.returns-in-Some
-returns-in-Some c = any_told (λ spots. IfSome c.args.labels (λ l. spots ≡ spots_in l.now)) c.args.index c.args.word _ c.args.items.now _ _ _ (c.in-Some.ensures c.args.index)
 
 pub with_field-requires-clause-low : goal.with_field-requires-clause-low
 with_field-requires-clause-low c =

@@ -3,8 +3,8 @@ use Rattle.script.specs.Lines.{before, behind}
 use Rattle.qpu_asm.specs.{Lines.words_of, Walk.read_items, Forms.front_of, Forms.IsWhole, Table.Row, Seen.spots_in, Items.Spots}
 use Rattle.qpu_asm.proofs.step.read_steps.Given as goal
 
-abbrev pub invariant-loop-labels : goal.invariant-loop-labels
-invariant-loop-labels l = record {
+abbrev pub invariant-loop-step : goal.invariant-loop-step
+invariant-loop-step l = record {
   whole : IsWhole l.step.word (drop l.step.next l.form.rows);
   steps : (spots : Spots) → IfSome l.labels (λ labels. spots ≡ spots_in labels.now) → (all : List Row)
       → read_items spots l.index all
@@ -14,5 +14,5 @@ invariant-loop-labels l = record {
   others : behind 10 l.items ≡ behind 10 l.step.rest.now;
 }
 
-abbrev pub decreases-loop-labels : goal.decreases-loop-labels
-decreases-loop-labels l = length l.step.rest.now
+abbrev pub decreases-loop-step : goal.decreases-loop-step
+decreases-loop-step l = length l.step.rest.now

@@ -1,6 +1,6 @@
 use Rattle.std.proofs.Common.{arith}
 use Rattle.qpu_asm.proofs.Sorting.{bound_more}
-use Rattle.qpu_asm.proofs.label.first_repeat.Goals as goal
+use Rattle.qpu_asm.proofs.label.sorted_repeat.Goals as goal
 
 pub loop-at-preserved : goal.loop-at-preserved
 loop-at-preserved c =
