@@ -96,6 +96,7 @@ impl Machine {
     }
 
     /// Whether the unit may step. A processor above 11 or a TMU above 1 never may.
+    #[inline(always)]
     #[tactic(auto, unfolding(crate::specs::Step::enabled))]
     pub fn enabled(&self, unit: Actor) -> bool
         ensures { result ≡ enabled self.now unit }

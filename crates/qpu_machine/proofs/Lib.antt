@@ -11,3 +11,4 @@ pub mod Served
 pub mod Same
 pub mod KnownRows
 pub mod Looking
+pub mod Words

@@ -6,8 +6,8 @@ ghost use Rattle.qpu_machine.specs.Known.{AreEnough, is_known_a, is_known_b, is_
 
 use crate::effects::{add_address, loads, mul_address};
 use crate::operands::is_rotated;
+use crate::reads::instruction_at;
 use crate::state::{Qpu, Thread};
-use crate::step::instruction_at;
 use phys_mem::PhysMem;
 use qpu_alu::{add_result, mul_result};
 use qpu_isa::Reg;

@@ -55,9 +55,10 @@ fn chosen_lane(mask: u32, old: &Row, new: &Row, e: u32) -> u32
     }
 }
 
-/// The new words in the elements of the mask, the old ones in the others.
+// The new words in the elements of the mask, the old ones in the others.
+#[inline(always)]
 #[tactic(auto, using(crate::proofs::Fronts::front_more), unfolding(crate::specs::Row::merged))]
-pub(crate) fn merged(mask: u32, old: &Row, new: &Row) -> Row
+fn merged_by(mask: u32, old: &Row, new: &Row) -> Row
     ensures { result ≡ merged mask old.now new.now }
 {
     let mut row = [0; 16];
@@ -65,6 +66,17 @@ pub(crate) fn merged(mask: u32, old: &Row, new: &Row) -> Row
         row[e] = chosen_lane(mask, old, new, e as u32);
     }
     row
+}
+
+/// The same. A mask of all elements or of none is compiled for itself, so that no element is asked.
+pub(crate) fn merged(mask: u32, old: &Row, new: &Row) -> Row
+    ensures { result ≡ merged mask old.now new.now }
+{
+    match mask {
+        65535 => merged_by(65535, old, new),
+        0 => merged_by(0, old, new),
+        _ => merged_by(mask, old, new),
+    }
 }
 
 /// The elements that a unit writes under this condition; a test of flags finds the bits of choice word 0 from `from` on.

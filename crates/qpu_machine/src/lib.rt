@@ -10,6 +10,7 @@ mod known;
 mod lanes;
 mod operands;
 mod qpu;
+mod reads;
 mod request;
 mod serving;
 mod settle;

@@ -101,8 +101,9 @@ fn immediate_row(word: u64, words: &[u32], from: u64) -> Row
 }
 
 // The add unit's results by element.
+#[inline(always)]
 #[tactic(auto, using(crate::proofs::Fronts::front_more), unfolding(crate::specs::Operands::sums))]
-fn sums(op: u8, x: &Row, y: &Row, words: &[u32]) -> Row
+fn sums_of(op: u8, x: &Row, y: &Row, words: &[u32]) -> Row
     requires { op < 32 }
     ensures { result ≡ sums op x.now y.now words.now }
 {
@@ -111,6 +112,25 @@ fn sums(op: u8, x: &Row, y: &Row, words: &[u32]) -> Row
         row[e] = add_result(op, x[e], y[e]).unwrap_or(choice_word(words, 1 + e as u64));
     }
     row
+}
+
+// The same. Nop, add, sub, min, max, and, or and xor are each compiled for themselves, so that the operation is told once and not at
+// each element.
+fn sums(op: u8, x: &Row, y: &Row, words: &[u32]) -> Row
+    requires { op < 32 }
+    ensures { result ≡ sums op x.now y.now words.now }
+{
+    match op {
+        0 => sums_of(0, x, y, words),
+        12 => sums_of(12, x, y, words),
+        13 => sums_of(13, x, y, words),
+        18 => sums_of(18, x, y, words),
+        19 => sums_of(19, x, y, words),
+        20 => sums_of(20, x, y, words),
+        21 => sums_of(21, x, y, words),
+        22 => sums_of(22, x, y, words),
+        _ => sums_of(op, x, y, words),
+    }
 }
 
 /// What the add unit comes to.
@@ -138,8 +158,9 @@ pub(crate) fn is_rotated(word: u64) -> bool
 }
 
 // The multiply unit's results by element.
+#[inline(always)]
 #[tactic(auto, using(crate::proofs::Fronts::front_more), unfolding(crate::specs::Operands::products))]
-fn products(op: u8, x: &Row, y: &Row, words: &[u32]) -> Row
+fn products_of(op: u8, x: &Row, y: &Row, words: &[u32]) -> Row
     requires { op < 8 }
     ensures { result ≡ products op x.now y.now words.now }
 {
@@ -148,6 +169,22 @@ fn products(op: u8, x: &Row, y: &Row, words: &[u32]) -> Row
         row[e] = mul_result(op, x[e], y[e]).unwrap_or(choice_word(words, 17 + e as u64));
     }
     row
+}
+
+// The same. All but fmul and v8muld, whose results are free, are each compiled for themselves.
+fn products(op: u8, x: &Row, y: &Row, words: &[u32]) -> Row
+    requires { op < 8 }
+    ensures { result ≡ products op x.now y.now words.now }
+{
+    match op {
+        0 => products_of(0, x, y, words),
+        2 => products_of(2, x, y, words),
+        4 => products_of(4, x, y, words),
+        5 => products_of(5, x, y, words),
+        6 => products_of(6, x, y, words),
+        7 => products_of(7, x, y, words),
+        _ => products_of(op, x, y, words),
+    }
 }
 
 /// What the multiply unit comes to.

@@ -1,35 +1,20 @@
 //! What a texture and memory unit (TMU) does with a request.
-ghost use Rattle.std.specs.Prelude.{◌≡◌, ◌<◌, ◌≤◌, ◌+◌, ◌++◌, ◌∷◌, [], ◌^◌, true, false, Some, None, slice_index};
+ghost use Rattle.std.specs.Prelude.{◌≡◌, ◌<◌, ◌≤◌, [], ◌^◌, true, false, Some, None, slice_index};
 ghost use Rattle.arrayvec.specs.ArrayVec.{array_vec_len};
-ghost use Rattle.field_words.specs.Words.{u32_at};
 ghost use Rattle.machine_plan.specs.Turn.{CarriesOver, if_tame};
 ghost use Rattle.qpu_machine.specs.State.{Read};
-ghost use Rattle.machine_plan.specs.Memory.{bytes_at};
 ghost use Rattle.machine_plan.specs.Plan.{access};
 ghost use Rattle.texture_layouts.specs.Fits.{is_unlisted};
 ghost use Rattle.texture_layouts.specs.Setup.{texture_of};
 ghost use Rattle.qpu_machine.specs.Request.{direct_plan, texture_reads, is_undefined, ask_plan};
 
+use crate::reads::read_word;
 use crate::state::{Ask, Row};
-use crate::texels::{chosen_length, chosen_place, sizes_below};
-use byteorder::{ByteOrder, LittleEndian};
+use crate::texels::{chosen_fetch, sizes_below};
 use field_words::Way;
-use machine_plan::{Accesses, Who, list_access, read_bytes};
+use machine_plan::{Accesses, Who, list_access};
 use phys_mem::PhysMem;
 use texture_layouts::{Texture, has_child_image, has_two_strides, lacks_stride};
-
-// Reads the word at this place.
-#[tactic(auto, unfolding(field_words::specs::Words::u32_at))]
-fn read_word(place: u32, who: Who, memory: &PhysMem, accesses: &mut Accesses) -> u32
-    requires { array_vec_len accesses.old < 270 }
-    ensures value { result ≡ u32_at (bytes_at memory.now place 4) 0 }
-    ensures items { accesses.new.items ≡ accesses.old.items ++ access who Read place 4 ∷ [] }
-    ensures len { array_vec_len accesses.new ≡ array_vec_len accesses.old + 1 }
-{
-    let bytes = read_bytes(memory, place as u64, 4);
-    list_access(who, Way::Read, place as u64, 4, accesses);
-    LittleEndian::read_u32(&bytes)
-}
 
 // The words at these addresses, without their low two bits.
 fn read_words(row: &Row, who: Who, memory: &PhysMem, accesses: &mut Accesses) -> Row
@@ -57,11 +42,8 @@ fn list_texels(
 {
     let sizes = sizes_below(texture);
     for m in 0..128 {
-        match chosen_place(texture, &sizes, words, m) {
-            Some(place) => {
-                let len = chosen_length(texture, words, m);
-                list_access(who, Way::Read, place, len, accesses);
-            }
+        match chosen_fetch(texture, &sizes, words, m) {
+            Some(fetch) => list_access(who, Way::Read, fetch.place, fetch.len, accesses),
             None => {
                 list_access(who, Way::Wild, 0, 0, accesses);
                 return false;

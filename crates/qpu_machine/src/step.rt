@@ -1,6 +1,5 @@
 //! One instruction of a thread.
-ghost use Rattle.std.specs.Prelude.{◌≡◌, ◌<◌, ◌≤◌, ◌+◌, ◌++◌, ◌∷◌, [], ◌^◌, true, false, length, IfSome, None};
-ghost use Rattle.std.specs.Int.{from_le_bytes, w64};
+ghost use Rattle.std.specs.Prelude.{◌≡◌, ◌<◌, ◌≤◌, ◌+◌, ◌++◌, ◌∷◌, [], ◌^◌, true, false, IfSome, None};
 ghost use Rattle.field_words.specs.Words.{u32_at};
 ghost use Rattle.machine_plan.specs.Turn.{CarriesOver};
 ghost use Rattle.qpu_machine.specs.State.{Read};
@@ -15,11 +14,11 @@ ghost use Rattle.qpu_machine.specs.Step.{executed_with, executed, word_plan, thr
 
 use crate::effects::{asked, fate_of, loads, pass_uniform, rest, wake, work};
 use crate::operands::{add_row, mul_row};
+use crate::reads::{instruction_at, read_word};
 use crate::state::{Leaves, Row, Thread};
 use crate::wild::{is_wild, takes_one};
-use byteorder::{ByteOrder, LittleEndian};
 use field_words::Way;
-use machine_plan::{Accesses, Who, list_access, read_bytes};
+use machine_plan::{Accesses, Who, list_access};
 use phys_mem::PhysMem;
 use qpu_isa::writes::writes_s;
 
@@ -61,18 +60,15 @@ fn execute(word: u64, uniform: u32, words: &[u32], thread: &mut Thread) -> Leave
 }
 
 // Takes the uniform at the thread's pointer.
-#[tactic(auto, unfolding(field_words::specs::Words::u32_at))]
 fn take_uniform(thread: &mut Thread, who: Who, memory: &PhysMem, accesses: &mut Accesses) -> u32
     requires { array_vec_len accesses.old < 270 }
     ensures thread { thread.new ≡ past_uniform thread.old }
     ensures value { result ≡ u32_at (bytes_at memory.now thread.old.uniforms 4) 0 }
     ensures items { accesses.new.items ≡ accesses.old.items ++ access who Read thread.old.uniforms 4 ∷ [] }
 {
-    let place = thread.uniforms as u64;
-    let bytes = read_bytes(memory, place, 4);
-    list_access(who, Way::Read, place, 4, accesses);
+    let uniform = read_word(thread.uniforms, who, memory, accesses);
     pass_uniform(thread);
-    LittleEndian::read_u32(&bytes)
+    uniform
 }
 
 // Does what an instruction says. `None` comes exactly where it is wild; then the thread is as it was.
@@ -104,23 +100,6 @@ fn obey(
     Some(execute(word, 0, words, thread))
 }
 
-// The instruction's word.
-fn word_in(bytes: &[u8]) -> u64
-    requires { length bytes.now ≡ 8 }
-    ensures { result ≡ from_le_bytes w64 bytes.now }
-{
-    LittleEndian::read_u64(bytes)
-}
-
-/// The word of the instruction at this place.
-pub(crate) fn instruction_at(place: u64, memory: &PhysMem) -> u64
-    requires { place < 2 ^ 62 }
-    ensures { result ≡ from_le_bytes w64 (bytes_at memory.now place 8) }
-{
-    let bytes = read_bytes(memory, place, 8);
-    word_in(&bytes)
-}
-
 /// One instruction of a thread, whose accesses are those of `who`. What the hardware leaves open is answered by the words; a
 /// missing word is zero. It lists its accesses behind those already listed: the read of the instruction, and of the uniform
 /// where it takes one. `None` comes exactly where the instruction is wild; then a Wild access is listed too, and the thread is
@@ -139,9 +118,9 @@ pub fn step_thread(
     ensures same { result ≡ None → thread.new ≡ thread.old }
 {
     let _size = memory.len();
-    let bytes = read_bytes(memory, thread.place, 8);
+    let word = instruction_at(thread.place, memory);
     list_access(who, Way::Read, thread.place, 8, accesses);
-    obey(thread, word_in(&bytes), words, who, memory, accesses)
+    obey(thread, word, words, who, memory, accesses)
 }
 
 // Whether an instruction waits for this TMU.

@@ -5,7 +5,7 @@ use Rattle.machine_plan.specs.Choice.{word_at}
 use Rattle.qpu_alu.specs.Operation.{add_result_of}
 use Rattle.qpu_machine.specs.Operands.{sums}
 use Rattle.qpu_machine.proofs.Fronts.{front_all}
-use Rattle.qpu_machine.proofs.operands.sums.Goals as goal
+use Rattle.qpu_machine.proofs.operands.sums_of.Goals as goal
 
 pub returns : goal.returns
 unfolding sums

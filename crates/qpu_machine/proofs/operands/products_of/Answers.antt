@@ -5,7 +5,7 @@ use Rattle.machine_plan.specs.Choice.{word_at}
 use Rattle.qpu_alu.specs.Operation.{mul_result_of}
 use Rattle.qpu_machine.specs.Operands.{products}
 use Rattle.qpu_machine.proofs.Fronts.{front_all}
-use Rattle.qpu_machine.proofs.operands.products.Goals as goal
+use Rattle.qpu_machine.proofs.operands.products_of.Goals as goal
 
 pub returns : goal.returns
 unfolding products

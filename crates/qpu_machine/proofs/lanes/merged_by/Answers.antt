@@ -2,7 +2,7 @@
 use Rattle.std.proofs.Common.{slice_index, if◌then◌else◌}
 use Rattle.qpu_machine.specs.Row.{has_lane, merged}
 use Rattle.qpu_machine.proofs.Fronts.{front_all}
-use Rattle.qpu_machine.proofs.lanes.merged.Goals as goal
+use Rattle.qpu_machine.proofs.lanes.merged_by.Goals as goal
 
 pub returns : goal.returns
 unfolding merged
