@@ -1,11 +1,12 @@
 -- A name's marks are in its bucket, and each leads to the next.
-use Rattle.std.proofs.Common.{◌≡◌, ℕ, zero, suc, ◌+◌, ◌-◌, ◌/◌, ◌^◌, ◌<◌, ◌≤◌, inl, inr, true, false, List, [], ◌∷◌, length, get_or, slice_index, refl, sym, ◌∙◌, ap, subst, arith, min, Some, None, if◌then◌else◌, bytes_eq}
-use Rattle.std.proofs.lemmas.Nat.{shr_below}
+use Rattle.std.proofs.Common.{◌≡◌, ℕ, zero, suc, ◌+◌, ◌-◌, ◌*◌, ◌/◌, ◌^◌, ◌<◌, ◌≤◌, inl, inr, true, false, List, [], ◌∷◌, length, get_or, slice_index, refl, sym, ◌∙◌, ap, subst, arith, Some, None, bytes_eq}
+use Rattle.std.proofs.lemmas.Nat.{pow-add, shr_below}
 use Rattle.std.proofs.{lemmas.Bool.cases_lt, lemmas.Bool.cases_eq, lemmas.Bool.cases_Bool, lemmas.Bool.false≢true, lemmas.List.get_or_read, lemmas.List.length-set, lemmas.List.get_or-set_same, lemmas.List.get_or-set_other, Math.ListN.set}
-use Rattle.qpu_asm.specs.{declared.label.Name.Name, declared.label.Mark.Mark}
-use Rattle.qpu_asm.specs.Marks.{key_of, IsKeyed, AreKeyed, key_bucket, bucket_of, IsFirstOf, AreFirsts, AreNexts, BoundsBehind}
+use Rattle.qpu_asm.specs.{declared.key.Name.Name, declared.label.Mark.Mark}
+use Rattle.qpu_asm.specs.Keys.{key_of}
+use Rattle.qpu_asm.specs.Marks.{key_bucket, bucket_of, IsFirstOf, AreFirsts, AreNexts, BoundsBehind}
 use Rattle.qpu_asm.specs.{Seen.spots_in, Labels.spot_among}
-use Rattle.qpu_asm.proofs.{Bytes.bytes_same, Bytes.bytes_itself, Sorting.any_default, Sorting.bound_by}
+use Rattle.qpu_asm.proofs.{Bytes.bytes_same, Bytes.bytes_itself, Sorting.any_default, Sorting.bounded, Sorting.bound_by}
 
 -- the high bits of a number
 pub bucket_low : (shift number : ℕ) → shift < 64 → number < 2 ^ 64 → number / 2 ^ shift < 2 ^ (64 - shift)
@@ -13,20 +14,11 @@ bucket_low shift number high small =
     let sum : 64 - shift + shift ≡ 64 = omega (arith, high) in
     shr_below number (64 - shift) shift (subst (λ n. number < 2 ^ n) (sym sum) small)
 
--- no mark is linked yet
-pub firsts_none : (marks : List Mark) (shift from : ℕ) (firsts : List ℕ) → length firsts ≡ 2 ^ (64 - shift) → length marks ≤ from
-    → ((bucket : ℕ) → bucket < length firsts → slice_index firsts bucket ≡ from) → AreFirsts marks shift from firsts
-firsts_none marks shift from firsts count all same = record {
-  count = count;
-  first = λ bucket low. record {
-    behind = omega (arith, same bucket low);
-    first = λ k d late inside of. absurd (omega (arith, late, inside, all));
-    there = λ d inside. absurd (omega (arith, inside, same bucket low, all));
-  };
-}
-
-pub nexts_none : (marks : List Mark) (shift from : ℕ) (nexts : List ℕ) → length nexts ≡ length marks → length marks ≤ from → AreNexts marks shift from nexts
-nexts_none marks shift from nexts count all = record { count = count; next = λ k d late inside. absurd (omega (arith, late, inside, all)) }
+-- so many buckets
+pub buckets_of : (power : ℕ) → power < 64 → 2 ^ (64 - (63 - power)) ≡ 2 * 2 ^ power
+buckets_of power low =
+    let is : 64 - (63 - power) ≡ power + 1 = omega (arith, low) in
+    rw (is, pow-add 2 power 1) (omega arith)
 
 -- the first place of a bucket, from one place more on
 other_first : (marks : List Mark) (shift bucket at first : ℕ) (d : Mark) → at < length marks → (bucket_of shift (get_or marks at d) ≡ bucket → ⊥)
@@ -90,9 +82,8 @@ nexts_more marks shift from at bucket value d firsts nexts is inside here low re
     }
 
 -- marks of one name are of one bucket
-same_bucket : (marks : List Mark) (shift k : ℕ) (d : Mark) (name : Name) → AreKeyed marks → IsKeyed name → k < length marks
-    → (get_or marks k d).name.bytes.now ≡ name.bytes.now → bucket_of shift (get_or marks k d) ≡ key_bucket shift name.key
-same_bucket marks shift k d name keyed here inside same = ap (key_bucket shift) (keyed k d inside ∙ (ap key_of same ∙ sym here))
+same_bucket : (marks : List Mark) (shift k : ℕ) (d : Mark) (name : Name) → (get_or marks k d).name.bytes.now ≡ name.bytes.now → bucket_of shift (get_or marks k d) ≡ key_bucket shift name.key
+same_bucket marks shift k d name same = ap (key_bucket shift) ((get_or marks k d).name.keyed ∙ (ap key_of same ∙ sym name.keyed))
 
 -- a link that was read
 link_read : (marks : List Mark) (shift at next : ℕ) (nexts : List ℕ) → at < length marks → next ≡ get_or nexts at next → AreNexts marks shift 0 nexts
@@ -108,31 +99,31 @@ pub record IsReached (marks : List Mark) (shift : ℕ) (name : Name) (at : ℕ) 
   pub there : (d : Mark) → at < length marks → bucket_of shift (get_or marks at d) ≡ key_bucket shift name.key
   pub none : NoneBefore marks name.bytes.now at
 
-reached : (marks : List Mark) (shift from at : ℕ) (name : Name) → AreKeyed marks → IsKeyed name → NoneBefore marks name.bytes.now from
+reached : (marks : List Mark) (shift from at : ℕ) (name : Name) → NoneBefore marks name.bytes.now from
     → IsFirstOf marks shift (key_bucket shift name.key) from at → IsReached marks shift name at
-reached marks shift from at name keyed here before is = record {
+reached marks shift from at name before is = record {
   there = is.there;
   none = λ k d low inside same.
       elim (cases_lt k from) [
         | inl early ↦ before k d early inside same
-        | inr late ↦ (let past = is.first k d late inside (same_bucket marks shift k d name keyed here inside same) in absurd (omega (arith, past, low)))
+        | inr late ↦ (let past = is.first k d late inside (same_bucket marks shift k d name same) in absurd (omega (arith, past, low)))
       ];
 }
 
-pub reached_first : (marks : List Mark) (shift bucket at : ℕ) (name : Name) (firsts : List ℕ) → AreKeyed marks → IsKeyed name → bucket ≡ key_bucket shift name.key
+pub reached_first : (marks : List Mark) (shift bucket at : ℕ) (name : Name) (firsts : List ℕ) → bucket ≡ key_bucket shift name.key
     → bucket < 2 ^ (64 - shift) → at ≡ get_or firsts bucket at → AreFirsts marks shift 0 firsts → IsReached marks shift name at
-reached_first marks shift bucket at name firsts keyed here is small link are =
+reached_first marks shift bucket at name firsts is small link are =
     let low : bucket < length firsts = omega (arith, small, are.count) in
     let read = get_or_read firsts bucket at low link 0 in
-    reached marks shift 0 at name keyed here (λ k d none inside same. absurd (omega (arith, none)))
+    reached marks shift 0 at name (λ k d none inside same. absurd (omega (arith, none)))
     (subst (λ b. IsFirstOf marks shift b 0 at) is (subst (IsFirstOf marks shift bucket 0) (sym read) (are.first bucket low)))
 
-pub reached_next : (marks : List Mark) (shift at next : ℕ) (d : Mark) (name : Name) (nexts : List ℕ) → AreKeyed marks → IsKeyed name → at < length marks
+pub reached_next : (marks : List Mark) (shift at next : ℕ) (d : Mark) (name : Name) (nexts : List ℕ) → at < length marks
     → next ≡ get_or nexts at next → bytes_eq (get_or marks at d).name.bytes.now name.bytes.now ≡ false → AreNexts marks shift 0 nexts
     → IsReached marks shift name at → IsReached marks shift name next
-reached_next marks shift at next d name nexts keyed here inside is other are was =
+reached_next marks shift at next d name nexts inside is other are was =
     let read = link_read marks shift at next nexts inside is are in
-    reached marks shift (at + 1) next name keyed here
+    reached marks shift (at + 1) next name
     (λ k e low k-inside same.
     elim (cases_lt k at) [
       | inl early ↦ was.none k e early k-inside same
@@ -189,20 +180,20 @@ pub record IsBoundTo (marks : List Mark) (shift at next old bound : ℕ) : Type 
   pub behind : BoundsBehind marks at next bound
 
 -- up to the next mark of the bucket no other one has the name
-bounds_apart : (marks : List Mark) (shift at from next bound : ℕ) → AreKeyed marks → at < length marks → at < from
+bounds_apart : (marks : List Mark) (shift at from next bound : ℕ) → at < length marks → at < from
     → ((d : Mark) → IsFirstOf marks shift (bucket_of shift (get_or marks at d)) from next) → BoundsBehind marks at from bound → BoundsBehind marks at next bound
-bounds_apart marks shift at from next bound keyed inside up is before k d low high k-inside same =
+bounds_apart marks shift at from next bound inside up is before k d low high k-inside same =
     elim (cases_lt k from) [
       | inl early ↦ before k d low early k-inside same
       | inr late ↦
-          (let bucket = same_bucket marks shift k d (get_or marks at d).name keyed (keyed at d inside) k-inside (sym same) in
+          (let bucket = same_bucket marks shift k d (get_or marks at d).name (sym same) in
           let past = (is d).first k d late k-inside bucket in
           absurd (omega (arith, past, high)))
     ]
 
-pub bound_first : (marks : List Mark) (shift at next old : ℕ) (nexts : List ℕ) → AreKeyed marks → at < length marks → next ≡ get_or nexts at next
+pub bound_first : (marks : List Mark) (shift at next old : ℕ) (nexts : List ℕ) → at < length marks → next ≡ get_or nexts at next
     → AreNexts marks shift 0 nexts → IsBoundTo marks shift at next old old
-bound_first marks shift at next old nexts keyed inside is are =
+bound_first marks shift at next old nexts inside is are =
     let read = link_read marks shift at next nexts inside is are in
     let first : (d : Mark) → IsFirstOf marks shift (bucket_of shift (get_or marks at d)) (at + 1) next =
     λ e. subst (IsFirstOf marks shift (bucket_of shift (get_or marks at e)) (at + 1)) (sym read) (are.next at e (omega arith) inside) in
@@ -210,14 +201,14 @@ bound_first marks shift at next old nexts keyed inside is are =
       up = next_up marks shift at next nexts inside is are;
       there = λ e next-inside. (first e).there e next-inside;
       less = omega arith;
-      behind = bounds_apart marks shift at (at + 1) next old keyed inside (omega arith) first (λ k d low high k-inside same. absurd (omega (arith, low, high)));
+      behind = bounds_apart marks shift at (at + 1) next old inside (omega arith) first (λ k d low high k-inside same. absurd (omega (arith, low, high)));
     }
 
-pub bound_next : (marks : List Mark) (shift at next after old bound new : ℕ) (d e : Mark) (nexts : List ℕ) → AreKeyed marks → at < length marks → next < length marks
+pub bound_next : (marks : List Mark) (shift at next after old bound new : ℕ) (d e : Mark) (nexts : List ℕ) → at < length marks → next < length marks
     → after ≡ get_or nexts next after
-    → new ≡ (if bytes_eq (get_or marks at d).name.bytes.now (get_or marks next e).name.bytes.now then min bound (get_or marks next e).spot.line else bound)
+    → new ≡ bounded bound (get_or marks at d) (get_or marks next e)
     → AreNexts marks shift 0 nexts → IsBoundTo marks shift at next old bound → IsBoundTo marks shift at after old new
-bound_next marks shift at next after old bound new d e nexts keyed inside next-inside link is are was =
+bound_next marks shift at next after old bound new d e nexts inside next-inside link is are was =
     let read = link_read marks shift next after nexts next-inside link are in
     let first : (f : Mark) → IsFirstOf marks shift (bucket_of shift (get_or marks at f)) (next + 1) after =
     λ f. subst (λ b. IsFirstOf marks shift b (next + 1) after) (was.there f next-inside)
@@ -227,7 +218,7 @@ bound_next marks shift at next after old bound new d e nexts keyed inside next-i
       up = omega (arith, (first d).behind, was.up);
       there = λ f after-inside. (first f).there f after-inside;
       less = omega (arith, bounds.0, was.less);
-      behind = bounds_apart marks shift at (next + 1) after new keyed inside (omega (arith, was.up)) first
+      behind = bounds_apart marks shift at (next + 1) after new inside (omega (arith, was.up)) first
           (λ k f low high k-inside same.
           elim (cases_lt k next) [
             | inl early ↦ (let kept = was.behind k f low early k-inside same in omega (arith, kept, bounds.0))

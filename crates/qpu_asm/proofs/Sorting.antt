@@ -4,14 +4,15 @@ use Rattle.std.proofs.lemmas.Cmp.{then_total, on_total, nat_cmp_total, nat_list_
 use Rattle.std.proofs.lemmas.List.Sorted.{sorted_far, ranks_by, All-permutation, Contains-permutation}
 use Rattle.std.proofs.lemmas.Bool.{cases_Bool, cases_lt, false≢true, true≢false, ltb-true}
 use Rattle.std.proofs.{lemmas.Bool.Decides.nat_tests, lemmas.List.get_or_read, lemmas.Map.Text.is_eq-slice_cmp}
-use Rattle.std.proofs.lemmas.List.Elements.{All-cons, All-push, All-weaker, All-contains}
+use Rattle.std.proofs.lemmas.List.Elements.{All-cons, All-weaker, All-contains}
 use Rattle.std.specs.declared.cmp.Ordering.TheVariants.{Less, Equal, Greater}
 use Rattle.std.specs.{Cmp.IsTotalOrder, Cmp.IsStrictWeakOrder, Cmp.Lexicographic.slice_cmp, declared.cmp.Ordering.Ordering}
 use Rattle.std.specs.List.Sorted.{IsSorted, IsPermutation, IsPartitionedBy}
 use Rattle.std.specs.Ordering.{nat_cmp, ordering_then, ordering_reverse, is_lt, is_eq}
-use Rattle.qpu_asm.specs.{declared.label.Spot.Spot, declared.label.Name.Name, declared.label.Mark.Mark, Labels.is_before, Labels.labels_from, Labels.spot_among}
+use Rattle.qpu_asm.specs.{declared.label.Spot.Spot, declared.key.Name.Name, declared.label.Mark.Mark, Labels.is_before, Labels.labels_from, Labels.spot_among}
 use Rattle.qpu_asm.specs.{Lines.Line, Lines.Blank, Lines.Label, Lines.BadLabel, Lines.Coded, Seen.mark_seen, Seen.spots_in}
-use Rattle.qpu_asm.specs.Marks.{key_of, name_cmp, kept_cmp, spot_cmp, mark_cmp, fields_cmp, IsKeyed, AreKeyed, AreInOrder, IsNotLater, AreFirstBelow, AreLabelsOn, BoundsNext, BoundsLater, IsStart}
+use Rattle.qpu_asm.specs.Keys.{key_of}
+use Rattle.qpu_asm.specs.Marks.{name_cmp, kept_cmp, spot_cmp, mark_cmp, fields_cmp, AreInOrder, IsNotLater, AreFirstBelow, AreLabelsOn, BoundsNext, BoundsLater, IsStart}
 use Rattle.qpu_asm.proofs.{Assembling.same_everywhere, Bytes.bytes_same, Bytes.bytes_itself}
 
 -- the orders of names and of marks
@@ -24,10 +25,10 @@ marks_total =
     (on_total (λ m. m.spot) (then_total (on_total (λ s. s.line) nat_cmp_total) (on_total (λ s. s.index) nat_cmp_total)))
 
 -- the order of marks as they are kept, which is that of their names where the keys are their own
-order_marks : (x y : Mark) → IsKeyed x.name → IsKeyed y.name → is_lt (fields_cmp x y) ≡ false → is_lt (mark_cmp x y) ≡ false
-order_marks x y first second not-lt =
-    subst (λ k. is_lt (ordering_then (ordering_then (nat_cmp k (key_of y.name.bytes.now)) (slice_cmp nat_cmp x.name.bytes.now y.name.bytes.now)) (spot_cmp x.spot y.spot)) ≡ false) first
-    (subst (λ k. is_lt (ordering_then (ordering_then (nat_cmp x.name.key k) (slice_cmp nat_cmp x.name.bytes.now y.name.bytes.now)) (spot_cmp x.spot y.spot)) ≡ false) second not-lt)
+order_marks : (x y : Mark) → is_lt (fields_cmp x y) ≡ false → is_lt (mark_cmp x y) ≡ false
+order_marks x y not-lt =
+    subst (λ k. is_lt (ordering_then (ordering_then (nat_cmp k (key_of y.name.bytes.now)) (slice_cmp nat_cmp x.name.bytes.now y.name.bytes.now)) (spot_cmp x.spot y.spot)) ≡ false) x.name.keyed
+    (subst (λ k. is_lt (ordering_then (ordering_then (nat_cmp x.name.key k) (slice_cmp nat_cmp x.name.bytes.now y.name.bytes.now)) (spot_cmp x.spot y.spot)) ≡ false) y.name.keyed not-lt)
 
 -- sorted marks, any two of them
 abbrev pub FarSorted : List Mark → Type 0
@@ -82,12 +83,11 @@ keyed_by : (a b : List ℕ) (same : Bool) → bytes_eq a b ≡ same → ((key_of
 keyed_by a b true is = rw (bytes_same a b is, eq-eqb (key_of b) (key_of b) refl) refl
 keyed_by a b false is = and_false (key_of a == key_of b)
 
-pub same_keyed : (x y : Name) → IsKeyed x → IsKeyed y → ((x.key == y.key) && bytes_eq x.bytes.now y.bytes.now) ≡ bytes_eq x.bytes.now y.bytes.now
-same_keyed x y first second = rw (first, second) (keyed_by x.bytes.now y.bytes.now (bytes_eq x.bytes.now y.bytes.now) refl)
+pub same_keyed : (x y : Name) → ((x.key == y.key) && bytes_eq x.bytes.now y.bytes.now) ≡ bytes_eq x.bytes.now y.bytes.now
+same_keyed x y = rw (x.keyed, y.keyed) (keyed_by x.bytes.now y.bytes.now (bytes_eq x.bytes.now y.bytes.now) refl)
 
-pub order_keyed : (x y : Name) → IsKeyed x → IsKeyed y
-    → is_lt (kept_cmp x y) ≡ is_lt (name_cmp x.bytes.now y.bytes.now)
-order_keyed x y first second = rw (first, second) refl
+pub order_keyed : (x y : Name) → is_lt (kept_cmp x y) ≡ is_lt (name_cmp x.bytes.now y.bytes.now)
+order_keyed x y = rw (x.keyed, y.keyed) refl
 
 -- of the marks of one name, one that comes earlier in the list is not later in the text
 unfoldable pub AreRanked : List Mark → Type 0
@@ -201,24 +201,10 @@ ranked_spots marks others name moved ranked order =
     (found_permuted marks others name (spots_in marks name) moved (found_first marks name ranked))
 
 -- marks that were sorted by the order of their fields
-pub all_keyed : (marks others : List Mark) → IsPermutation marks others → AreKeyed marks → AreKeyed others
-all_keyed marks others moved keyed = All-permutation (λ m. IsKeyed m.name) marks others moved keyed
-
-pub order_kept : (marks sorted : List Mark) → AreKeyed marks → IsPermutation marks sorted → IsSorted fields_cmp sorted → AreInOrder sorted
-order_kept marks sorted keyed moved up =
-    let all = all_keyed marks sorted moved keyed in
-    record {
-      keyed = all;
-      sorted = λ k d low high. order_marks (get_or sorted (k + 1) d) (get_or sorted k d) (all (k + 1) d high) (all k d (omega (arith, high))) (up k d low high);
-    }
-
-pub none_keyed : (marks : List Mark) → marks ≡ [] → AreKeyed marks
-none_keyed marks is = subst AreKeyed (sym is) (λ k d inside. absurd (omega (arith, inside)))
+pub order_kept : (sorted : List Mark) → IsSorted fields_cmp sorted → AreInOrder sorted
+order_kept sorted up k d low high = order_marks (get_or sorted (k + 1) d) (get_or sorted k d) (up k d low high)
 
 -- one mark more
-pub keyed_push : (marks : List Mark) (mark : Mark) → AreKeyed marks → IsKeyed mark.name → AreKeyed (marks ++ mark ∷ [])
-keyed_push marks mark keyed here = All-push (λ m. IsKeyed m.name) marks mark keyed here
-
 pub seen_push : (marks : List Mark) (mark : Mark) → map mark_seen (marks ++ mark ∷ []) ≡ map mark_seen marks ++ mark_seen mark ∷ []
 seen_push [] mark = refl
 seen_push (first ∷ marks) mark = ap (λ labels. mark_seen first ∷ labels) (seen_push marks mark)
@@ -400,12 +386,15 @@ found_at marks name at d up start inside =
     (found_first marks name (ranked_sorted marks (far marks up)))
 
 -- the bound so far
+abbrev pub bounded : ℕ → Mark → Mark → ℕ
+bounded old first second = if bytes_eq first.name.bytes.now second.name.bytes.now then min old second.spot.line else old
+
 pub bound_by : (same : Bool) (old new line : ℕ) → new ≡ (if same then min old line else old) → (new ≤ old) × (same ≡ true → new ≤ line)
 bound_by true old new line is = (omega (arith, is), λ same. omega (arith, is))
 bound_by false old new line is = (omega (arith, is), λ same. absurd (false≢true same))
 
 pub bound_more : (marks : List Mark) (at old new : ℕ) (d : Mark) → 1 ≤ at → at < length marks
-    → new ≡ (if bytes_eq (get_or marks (at - 1) d).name.bytes.now (get_or marks at d).name.bytes.now then min old (get_or marks at d).spot.line else old)
+    → new ≡ bounded old (get_or marks (at - 1) d) (get_or marks at d)
     → BoundsNext marks at old → BoundsNext marks (at + 1) new
 bound_more marks at old new d some inside is below k e k-below same =
     let bounds = bound_by (bytes_eq (get_or marks (at - 1) d).name.bytes.now (get_or marks at d).name.bytes.now) old new (get_or marks at d).spot.line is in
@@ -436,17 +425,17 @@ names_part marks name up i j d below inside lesser =
       | inr not-below ↦ absurd (true≢false (sym lesser ∙ names_ordered.chain late early name (name_not (get_or marks j d) (get_or marks i d) (far marks up i j d below inside)) not-below))
     ]
 
-pub kept_part : (marks : List Mark) (name : Name) → AreInOrder marks → IsKeyed name → IsPartitionedBy (λ m. is_lt (kept_cmp m.name name)) marks
-kept_part marks name order keyed i j d below inside lesser =
-    order_keyed (get_or marks i d).name name (order.keyed i d (omega (arith, below, inside))) keyed
-    ∙ names_part marks name.bytes.now order.sorted i j d below inside (sym (order_keyed (get_or marks j d).name name (order.keyed j d inside) keyed) ∙ lesser)
+pub kept_part : (marks : List Mark) (name : Name) → AreInOrder marks → IsPartitionedBy (λ m. is_lt (kept_cmp m.name name)) marks
+kept_part marks name order i j d below inside lesser =
+    order_keyed (get_or marks i d).name name
+    ∙ names_part marks name.bytes.now order i j d below inside (sym (order_keyed (get_or marks j d).name name) ∙ lesser)
 
-pub start_kept : (marks : List Mark) (name : Name) (at : ℕ) → AreInOrder marks → IsKeyed name → at ≤ length marks
+pub start_kept : (marks : List Mark) (name : Name) (at : ℕ) → at ≤ length marks
     → ((k : ℕ) (d : Mark) → k < at → is_lt (kept_cmp (get_or marks k d).name name) ≡ true)
     → ((k : ℕ) (d : Mark) → at ≤ k → k < length marks → is_lt (kept_cmp (get_or marks k d).name name) ≡ false)
     → IsStart marks name.bytes.now at
-start_kept marks name at order keyed inside below above = record {
+start_kept marks name at inside below above = record {
   inside = inside;
-  below = λ k d low. sym (order_keyed (get_or marks k d).name name (order.keyed k d (omega (arith, low, inside))) keyed) ∙ below k d low;
-  above = λ k d low high. sym (order_keyed (get_or marks k d).name name (order.keyed k d high) keyed) ∙ above k d low high;
+  below = λ k d low. sym (order_keyed (get_or marks k d).name name) ∙ below k d low;
+  above = λ k d low high. sym (order_keyed (get_or marks k d).name name) ∙ above k d low high;
 }

@@ -1,7 +1,7 @@
 -- What is drafted of a text before its labels are known. No part of what the crate claims.
 use Rattle.std.specs.Prelude.{◌≡◌, ℕ, ◌+◌, ◌-◌, ◌*◌, ◌^◌, ◌<◌, ◌≤◌, List, [], ◌++◌, length, drop, slice_index, Ok, ◌⊎◌}
 use Rattle.script.specs.Lines.{before}
-use Rattle.qpu_asm.specs.{declared.label.Mark.Mark, Items.Spots, Lines.Line, Labels.labels_of, Labels.label_on, Labels.size_of, Labels.read_lines, Marks.AreKeyed, Marks.IsFirstBelow, Marks.AreFirstBelow, Walk.IsCoded, Walk.line_words, Walk.lines_words, Seen.labels_seen}
+use Rattle.qpu_asm.specs.{declared.label.Mark.Mark, Items.Spots, Lines.Line, Labels.labels_of, Labels.label_on, Labels.size_of, Labels.read_lines, Marks.IsFirstBelow, Marks.AreFirstBelow, Walk.IsCoded, Walk.line_words, Walk.lines_words, Seen.labels_seen}
 
 -- from this number on, a drafted word tells where in the text the line lies that is left
 abbrev pub left_from : ℕ
@@ -40,7 +40,6 @@ pub record IsDraftedOn (text : List ℕ) (number : ℕ) (line : Line) (words_old
 -- the words of a text, where its labels are known and none is repeated, and the left lines have no mistake
 pub record IsDraftOf (text drafted : List ℕ) (marks : List Mark) : Type 0 where
   pub labels : labels_seen marks ≡ labels_of text
-  pub keyed : AreKeyed marks
   pub few : length marks < 2 ^ 32
   pub short : length drafted < 2 ^ 32
   pub words : (spots : Spots) (bound : ℕ) (words : List ℕ) → 2 ^ 32 ≤ bound → AreFirstBelow bound spots 1 (read_lines text)

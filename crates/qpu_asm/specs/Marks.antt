@@ -1,23 +1,8 @@
 -- The labels of a text as a list of marks, in the text's order and sorted. No part of what the crate claims.
-use Rattle.std.specs.Prelude.{◌≡◌, ℕ, ◌+◌, ◌-◌, ◌*◌, ◌/◌, ◌%◌, ◌^◌, ◌<◌, ◌≤◌, ◌⊎◌, true, false, List, [], ◌∷◌, slice_index, slice_index_or, length, All, IsSorted, IsPermutation}
+use Rattle.std.specs.Prelude.{◌≡◌, ℕ, ◌+◌, ◌-◌, ◌*◌, ◌/◌, ◌%◌, ◌^◌, ◌<◌, ◌≤◌, ◌⊎◌, true, false, List, [], ◌∷◌, slice_index, slice_index_or, length, IsSorted, IsPermutation}
 use Rattle.std.specs.{Cmp.Lexicographic.slice_cmp, Ordering.nat_cmp, Ordering.ordering_then, Ordering.is_lt, declared.cmp.Ordering.Ordering}
-use Rattle.std.specs.List.{fold}
-use Rattle.qpu_asm.specs.{declared.label.Spot.Spot, declared.label.Name.Name, declared.label.Mark.Mark, declared.label.Links.Links, Items.Spots, Labels.is_before, Labels.LabelSpot, Labels.spot_among, Labels.labels_from, Seen.labels_seen}
+use Rattle.qpu_asm.specs.{declared.label.Spot.Spot, declared.key.Name.Name, declared.label.Mark.Mark, declared.label.Links.Links, Keys.key_of, Items.Spots, Labels.is_before, Labels.LabelSpot, Labels.spot_among, Labels.labels_from, Seen.labels_seen}
 use Rattle.qpu_asm.specs.Lines.{Line, Blank, Label, BadLabel, Coded}
-
--- the key of a name
-abbrev pub key_with : ℕ → ℕ → ℕ
-key_with key byte = (key * 0x2545f491 % 2 ^ 64 + byte) % 2 ^ 64
-
-unfoldable pub key_of : List ℕ → ℕ
-key_of name = fold key_with 0 name
-
--- the key that a name keeps is its own
-abbrev pub IsKeyed : Name → Type 0
-IsKeyed name = name.key ≡ key_of name.bytes.now
-
-abbrev pub AreKeyed : List Mark → Type 0
-AreKeyed marks = All (λ mark. IsKeyed mark.name) marks
 
 -- the order of names: by key, by bytes
 abbrev pub name_cmp : List ℕ → List ℕ → Ordering
@@ -38,9 +23,9 @@ mark_cmp x y = ordering_then (name_cmp x.name.bytes.now y.name.bytes.now) (spot_
 abbrev pub fields_cmp : Mark → Mark → Ordering
 fields_cmp x y = ordering_then (kept_cmp x.name y.name) (spot_cmp x.spot y.spot)
 
-pub record AreInOrder (marks : List Mark) : Type 0 where
-  pub keyed : AreKeyed marks
-  pub sorted : IsSorted mark_cmp marks
+-- marks in their order
+abbrev pub AreInOrder : List Mark → Type 0
+AreInOrder marks = IsSorted mark_cmp marks
 
 -- marks of these labels, in the order of marks
 pub record AreSortedOf (labels : List LabelSpot) (marks : List Mark) : Type 0 where

@@ -3,14 +3,14 @@ ghost use Rattle.std.specs.Prelude.{◌≡◌, ◌<◌, ◌≤◌, ◌^◌, ◌+
 ghost use Rattle.script.specs.Lines.{before, behind};
 ghost use Rattle.qpu_asm.specs.Lines.{read_line as line_read};
 ghost use Rattle.qpu_asm.specs.Items.{Spots};
-ghost use Rattle.qpu_asm.specs.Marks.{AreKeyed};
 ghost use Rattle.qpu_asm.specs.Walk.{IsCoded};
 ghost use Rattle.qpu_asm.specs.Draft.{IsWordOrPlace, IsDraftedOn, IsDraftOf, AreFilled};
 ghost use Rattle.qpu_asm.specs.Seen.{spots_in};
 
 use crate::form::Forms;
 use crate::item::read_code;
-use crate::label::{Labels, Mark, Name, Spot, add_mark};
+use crate::key::Name;
+use crate::label::{Labels, Mark, Spot, add_mark};
 use crate::labelled::read_labelled;
 use crate::lines::{Line, begins_branch, read_line};
 use crate::step::{read_branch, read_early};
@@ -66,8 +66,6 @@ fn put_line<'a>(
 ) -> Result<Option<&'a [u8]>, AllocError>
     requires few { vec_len words.old < 2 ^ 32 }
     requires place { at < 2 ^ 32 }
-    requires keyed { AreKeyed marks.old.items }
-    ensures keyed { OnOk result (AreKeyed marks.new.items) }
     ensures few { OnOk result (vec_len marks.new ≤ vec_len marks.old + 1) }
     ensures more { OnOk result (vec_len words.new ≤ vec_len words.old + 1) }
     ensures rest { IfOk result (λ put. IfSome put (λ rest. rest.now ≡ behind 10 text.now)) }
@@ -130,8 +128,6 @@ fn put_other<'a>(
 ) -> Result<Option<&'a [u8]>, AllocError>
     requires few { vec_len words.old < 2 ^ 32 }
     requires place { at < 2 ^ 32 }
-    requires keyed { AreKeyed marks.old.items }
-    ensures keyed { OnOk result (AreKeyed marks.new.items) }
     ensures few { OnOk result (vec_len marks.new ≤ vec_len marks.old + 1) }
     ensures more { OnOk result (vec_len words.new ≤ vec_len words.old + 1) }
     ensures rest { IfOk result (λ put. IfSome put (λ rest. rest.now ≡ behind 10 text.now)) }

@@ -1,14 +1,14 @@
 //! The labels of a text: a mark for each line that defines one, in buckets by the key of its name. A text whose keys crowd a bucket has them
 //! sorted in their place.
-ghost use Rattle.std.specs.Prelude.{◌≡◌, ◌<◌, ◌≤◌, ◌^◌, ◌++◌, ◌-◌, ◌/◌, ◌+◌, length, min, vec_len, IfOk, IfSome, OnOk, Some, None, bytes_eq, if◌then◌else◌};
+ghost use Rattle.std.specs.Prelude.{◌≡◌, ◌<◌, ◌≤◌, ◌^◌, ◌++◌, ◌-◌, ◌+◌, ◌*◌, length, max, min, vec_len, IfOk, IfSome, OnOk, Some, None, bytes_eq, if◌then◌else◌};
 ghost use Rattle.std.specs.Ordering.{is_lt};
 ghost use Rattle.std.specs.Prelude.{IsPermutation, List};
-ghost use Rattle.script.specs.Lines.{before, lines_of};
 ghost use Rattle.qpu_asm.specs.Lines.{Label, Line as LineSeen};
 ghost use Rattle.qpu_asm.specs.Labels.{spots_of, labels_of, labels_from, label_on, read_lines, size_of};
-ghost use Rattle.qpu_asm.specs.Marks.{key_of as key_by, key_with as longer_key, key_bucket, kept_cmp, AreInOrder, AreLinked, IsKeyed, AreKeyed, AreFirstBelow, AreLabelsOn, BoundsNext, BoundsLater, BoundsBehind, IsStart, AreSortedOf};
+ghost use Rattle.qpu_asm.specs.Marks.{key_bucket, kept_cmp, AreInOrder, AreLinked, AreFirstBelow, AreLabelsOn, BoundsNext, BoundsLater, BoundsBehind, IsStart, AreSortedOf};
 ghost use Rattle.qpu_asm.specs.Seen.{line_seen, labels_seen, spots_in};
 
+use crate::key::Name;
 use crate::lines::{Line, read_line};
 use script::next_line;
 use std::alloc::{AllocError, Global};
@@ -19,13 +19,6 @@ use std::marker::Model;
 pub struct Spot {
     pub line: u32,
     pub index: u32,
-}
-
-/// A label's name behind a key, so that nearly every comparison is one of two numbers.
-#[derive(Clone, Copy, Debug, PartialEq, Eq, PartialOrd, Ord)]
-pub struct Name<'a> {
-    pub key: u64,
-    pub bytes: &'a [u8],
 }
 
 /// A line that defines a label.
@@ -54,45 +47,13 @@ pub struct Labels<'a> {
 impl<'a> Model for Labels<'a> {
     ghost use Rattle.std.specs.Prelude.{List, MatchOption};
     ghost use Rattle.qpu_asm.specs.declared.label.Mark.{Mark};
-    ghost use Rattle.qpu_asm.specs.Marks.{AreInOrder, AreKeyed, AreLinked};
+    ghost use Rattle.qpu_asm.specs.Marks.{AreInOrder, AreLinked};
 
     ghost Value = { List Mark };
 
     ghost view = { λ l. l.marks.items };
 
-    ghost invariant = { λ l. MatchOption l.links (AreInOrder l.marks.items) (λ links. AreKeyed l.marks.items × AreLinked l.marks.items links) };
-}
-
-impl<'a> Name<'a> {
-    /// The name of these bytes.
-    pub fn of(bytes: &'a [u8]) -> Name<'a>
-        ensures key { result.key ≡ key_by bytes.now }
-        ensures bytes { result.bytes.now ≡ bytes.now }
-    {
-        Name {
-            key: key_of(bytes),
-            bytes,
-        }
-    }
-}
-
-/// The key of the bytes above with one more. Equal names have equal keys, and others nearly never.
-pub fn key_with(key: u64, byte: u8) -> u64
-    ensures { result ≡ longer_key key byte }
-{
-    key.wrapping_mul(0x2545_F491).wrapping_add(byte as u64)
-}
-
-// The key of a name.
-#[tactic(auto, unfolding(crate::specs::Marks::key_of))]
-fn key_of(bytes: &[u8]) -> u64
-    ensures { result ≡ key_by bytes.now }
-{
-    let mut key: u64 = 0;
-    for byte in bytes {
-        key = key_with(key, *byte);
-    }
-    key
+    ghost invariant = { λ l. MatchOption l.links (AreInOrder l.marks.items) (AreLinked l.marks.items) };
 }
 
 /// A text's labels; no line below `first_below` repeats one.
@@ -115,8 +76,7 @@ pub fn find_labels(alloc: Global, text: &[u8]) -> Result<Found<'_>, AllocError>
 
 /// The labels of these marks, which are those of a text's lines.
 pub fn found_among(alloc: Global, marks: Vec<Mark<'_>>) -> Result<Found<'_>, AllocError>
-    requires keyed { AreKeyed marks.items }
-    requires few { vec_len marks < 2 ^ 32 }
+    requires { vec_len marks < 2 ^ 32 }
     ensures { IfOk result (λ found. (lines : List LineSeen) → labels_seen marks.entry.items ≡ labels_from 1 0 lines
         → AreLabelsOn lines (spots_in found.labels) found.first_below) }
 {
@@ -136,7 +96,6 @@ pub fn found_among(alloc: Global, marks: Vec<Mark<'_>>) -> Result<Found<'_>, All
 // The same by sorting the marks.
 #[inline(never)]
 fn found_sorted(marks: Vec<Mark<'_>>) -> Found<'_>
-    requires { AreKeyed marks.items }
     ensures { (lines : List LineSeen) → labels_seen marks.entry.items ≡ labels_from 1 0 lines
         → AreLabelsOn lines (spots_in result.labels) result.first_below }
 {
@@ -154,9 +113,11 @@ fn found_sorted(marks: Vec<Mark<'_>>) -> Found<'_>
 // The most buckets, as a power of two: more would not fit the processor's near memory.
 const MOST_BITS: u32 = 17;
 
-// There are more buckets than marks, at most twice as many, and never above the most.
+// There are more buckets than marks, at most twice as many, and never above the most. No marks count as one.
 fn shift_of(count: usize) -> u32
-    ensures { (47 ≤ result) × (result < 64) }
+    ensures range { (47 ≤ result) × (result < 64) }
+    ensures most { 2 ^ (64 - result) ≤ 2 * max count 1 }
+    ensures more { 47 < result → max count 1 < 2 ^ (64 - result) }
 {
     63 - (count.max(1) as u64).ilog2().min(MOST_BITS - 1)
 }
@@ -198,7 +159,6 @@ const CROWD: u32 = 16;
 
 // A bound of the lines that repeat this mark's label, and of the others so far; or none where many marks come behind it in its bucket.
 fn bound_behind(marks: &[Mark<'_>], links: &Links, at: usize, bound: u64) -> Option<u64>
-    requires keyed { AreKeyed marks.now }
     requires linked { AreLinked marks.now links.now }
     requires inside { at < length marks.now }
     ensures less { IfSome result (λ new. new ≤ bound) }
@@ -220,8 +180,7 @@ fn bound_behind(marks: &[Mark<'_>], links: &Links, at: usize, bound: u64) -> Opt
 
 // A bound of the lines that repeat a label, or none where a bucket is crowded, as where keys don't differ at random.
 fn linked_repeat(marks: &[Mark<'_>], links: &Links) -> Option<u64>
-    requires keyed { AreKeyed marks.now }
-    requires linked { AreLinked marks.now links.now }
+    requires { AreLinked marks.now links.now }
     ensures { IfSome result (BoundsLater marks.now) }
 {
     let mut bound = u64::MAX;
@@ -233,7 +192,6 @@ fn linked_repeat(marks: &[Mark<'_>], links: &Links) -> Option<u64>
 
 // Marks by name, and those of one name by line.
 fn sorted_marks(marks: Vec<Mark<'_>>) -> Vec<Mark<'_>>
-    requires { AreKeyed marks.items }
     ensures { AreSortedOf (labels_seen marks.entry.items) result.items }
 {
     let mut marks = marks;
@@ -243,7 +201,6 @@ fn sorted_marks(marks: Vec<Mark<'_>>) -> Vec<Mark<'_>>
 
 // Sorts marks.
 fn sort_marks(marks: &mut [Mark<'_>])
-    requires { AreKeyed marks.old }
     ensures moved { IsPermutation marks.old marks.new }
     ensures order { AreInOrder marks.new }
 {
@@ -254,7 +211,6 @@ fn sort_marks(marks: &mut [Mark<'_>])
 fn marks_of(alloc: Global, text: &[u8]) -> Result<Vec<Mark<'_>>, AllocError>
     requires { length text.now < 2 ^ 32 }
     ensures labels { IfOk result (λ marks. labels_seen marks.items ≡ labels_of text.now) }
-    ensures keyed { IfOk result (λ marks. AreKeyed marks.items) }
     ensures few { IfOk result (λ marks. vec_len marks ≤ length text.now) }
 {
     let mut marks = Vec::new(alloc);
@@ -290,11 +246,8 @@ fn size(line: Line<'_>) -> u64
 }
 
 /// Puts a label's mark to those of the lines above it.
-#[tactic(auto, using(crate::proofs::Sorting::seen_push, crate::proofs::Sorting::keyed_push))]
+#[tactic(auto, using(crate::proofs::Sorting::seen_push))]
 pub fn add_mark<'a>(marks: &mut Vec<Mark<'a>>, name: Name<'a>, spot: Spot) -> Result<(), AllocError>
-    requires keyed { AreKeyed marks.old.items }
-    requires name { IsKeyed name }
-    ensures keyed { OnOk result (AreKeyed marks.new.items) }
     ensures few { OnOk result (vec_len marks.new ≤ vec_len marks.old + 1) }
     ensures labels { OnOk result (
         labels_seen marks.new.items ≡ labels_seen marks.old.items ++ label_on spot.line spot.index (Label name.entry.bytes.now)) }
@@ -305,8 +258,6 @@ pub fn add_mark<'a>(marks: &mut Vec<Mark<'a>>, name: Name<'a>, spot: Spot) -> Re
 
 // Puts the mark of a line, where it defines a label, to those of the lines above it.
 fn add_line<'a>(marks: &mut Vec<Mark<'a>>, line: Line<'a>, spot: Spot) -> Result<(), AllocError>
-    requires keyed { AreKeyed marks.old.items }
-    ensures keyed { OnOk result (AreKeyed marks.new.items) }
     ensures few { OnOk result (vec_len marks.new ≤ vec_len marks.old + 1) }
     ensures labels { OnOk result (
         labels_seen marks.new.items ≡ labels_seen marks.old.items ++ label_on spot.line spot.index (line_seen line.entry)) }
@@ -320,7 +271,6 @@ fn add_line<'a>(marks: &mut Vec<Mark<'a>>, line: Line<'a>, spot: Spot) -> Result
 // Two names are one.
 #[tactic(auto, using(crate::proofs::Sorting::same_keyed))]
 fn are_same(first: &Name<'_>, second: &Name<'_>) -> bool
-    requires { IsKeyed first.now × IsKeyed second.now }
     ensures { result ≡ bytes_eq first.now.bytes.now second.now.bytes.now }
 {
     *first == *second
@@ -328,7 +278,6 @@ fn are_same(first: &Name<'_>, second: &Name<'_>) -> bool
 
 // A line that repeats a label is a bound.
 fn bound_at(bound: u64, first: &Mark<'_>, second: &Mark<'_>) -> u64
-    requires { IsKeyed first.now.name × IsKeyed second.now.name }
     ensures { result ≡ (if bytes_eq first.now.name.bytes.now second.now.name.bytes.now then min bound second.now.spot.line else bound) }
 {
     if are_same(&first.name, &second.name) {
@@ -339,7 +288,6 @@ fn bound_at(bound: u64, first: &Mark<'_>, second: &Mark<'_>) -> u64
 
 // A bound of the lines that repeat a label, where marks are sorted, so that those of one name stand together.
 fn sorted_repeat(marks: &[Mark<'_>]) -> u64
-    requires { AreKeyed marks.now }
     ensures { BoundsNext marks.now (length marks.now) result }
 {
     let mut bound = u64::MAX;
@@ -361,8 +309,7 @@ fn is_before(name: &Name<'_>, other: &Name<'_>) -> bool
 
 // How many marks have names that come before.
 fn start_of(marks: &[Mark<'_>], name: &Name<'_>) -> usize
-    requires sorted { AreInOrder marks.now }
-    requires keyed { IsKeyed name.now }
+    requires { AreInOrder marks.now }
     ensures { IsStart marks.now name.now.bytes.now result }
 {
     marks.partition_point(|mark| is_before(&mark.name, name))
@@ -370,7 +317,6 @@ fn start_of(marks: &[Mark<'_>], name: &Name<'_>) -> usize
 
 // The mark's place, where it has this name.
 fn spot_by(mark: &Mark<'_>, name: &Name<'_>) -> Option<Spot>
-    requires { IsKeyed mark.now.name × IsKeyed name.now }
     ensures { result ≡ (if bytes_eq mark.now.name.bytes.now name.now.bytes.now then Some mark.now.spot else None) }
 {
     if are_same(&mark.name, name) {
@@ -382,7 +328,6 @@ fn spot_by(mark: &Mark<'_>, name: &Name<'_>) -> Option<Spot>
 // The place of the mark here, where it has this name; the marks before it have names that come before.
 fn spot_at(marks: &[Mark<'_>], at: usize, name: &Name<'_>) -> Option<Spot>
     requires sorted { AreInOrder marks.now }
-    requires keyed { IsKeyed name.now }
     requires start { IsStart marks.now name.now.bytes.now at }
     ensures { result ≡ spots_in marks.now name.now.bytes.now }
 {
@@ -395,8 +340,7 @@ fn spot_at(marks: &[Mark<'_>], at: usize, name: &Name<'_>) -> Option<Spot>
 // The place of a name's label among sorted marks.
 #[inline(never)]
 fn spot_sorted(marks: &[Mark<'_>], name: &Name<'_>) -> Option<Spot>
-    requires sorted { AreInOrder marks.now }
-    requires keyed { IsKeyed name.now }
+    requires { AreInOrder marks.now }
     ensures { result ≡ spots_in marks.now name.now.bytes.now }
 {
     let start = start_of(marks, name);
@@ -405,15 +349,14 @@ fn spot_sorted(marks: &[Mark<'_>], name: &Name<'_>) -> Option<Spot>
 
 // The place of a name's label among linked marks: the first one of its bucket that has the name.
 fn spot_linked(marks: &[Mark<'_>], links: &Links, name: &Name<'_>) -> Option<Spot>
-    requires marks { AreKeyed marks.now }
-    requires linked { AreLinked marks.now links.now }
-    requires keyed { IsKeyed name.now }
+    requires { AreLinked marks.now links.now }
     ensures { result ≡ spots_in marks.now name.now.bytes.now }
 {
     let mut at = links.firsts[bucket_of(name.key, links.shift)] as usize;
     while at < marks.len() {
-        if are_same(&marks[at].name, name) {
-            return Some(marks[at].spot);
+        let mark = &marks[at];
+        if are_same(&mark.name, name) {
+            return Some(mark.spot);
         }
         at = links.nexts[at] as usize;
     }
@@ -422,7 +365,6 @@ fn spot_linked(marks: &[Mark<'_>], links: &Links, name: &Name<'_>) -> Option<Spo
 
 /// Where the label of a name stands.
 pub fn spot_of<'a>(labels: &Labels<'a>, name: &Name<'a>) -> Option<Spot>
-    requires { IsKeyed name.now }
     ensures { result ≡ spots_in labels.now name.now.bytes.now }
 {
     match &labels.links {

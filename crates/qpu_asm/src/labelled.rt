@@ -4,9 +4,9 @@ ghost use Rattle.std.specs.List.{list_all};
 ghost use Rattle.std.specs.Char.{is_ascii_alphabetic};
 ghost use Rattle.script.specs.Lines.{before, behind};
 ghost use Rattle.qpu_asm.specs.Lines.{Label, is_name as name_test, is_name_byte, words_of, read_line};
-ghost use Rattle.qpu_asm.specs.Marks.{key_of as key_by, IsKeyed};
+ghost use Rattle.qpu_asm.specs.Keys.{key_of as key_by};
 
-use crate::label::{Name, key_with};
+use crate::key::{Name, key_with};
 use crate::names::is_name_part;
 
 /// The name of a label, and what is behind it.
@@ -25,7 +25,7 @@ struct NameEnd {
 
 // How many bytes of names a text begins with, and their key.
 #[inline(never)]
-#[tactic(auto, unfolding(crate::specs::Marks::key_of))]
+#[tactic(auto, unfolding(crate::specs::Keys::key_of))]
 fn name_end(text: &[u8]) -> NameEnd
     ensures within { result.at ≤ length text.now }
     ensures name { list_all is_name_byte (take result.at text.now) ≡ true }
@@ -46,7 +46,6 @@ fn name_end(text: &[u8]) -> NameEnd
 
 /// The bytes of names that a text begins with, and what is behind them.
 pub fn begun_name(text: &[u8]) -> Labelled<'_>
-    ensures keyed { IsKeyed result.name }
     ensures name { list_all is_name_byte result.name.bytes.now ≡ true }
     ensures text { text.now ≡ result.name.bytes.now ++ result.rest.now }
 {
@@ -75,7 +74,6 @@ pub fn begins_name(bytes: &[u8]) -> bool
 
 // The name and the colon that a text begins with, and what is behind them.
 fn first_label(text: &[u8]) -> Option<Labelled<'_>>
-    ensures keyed { IfSome result (λ labelled. IsKeyed labelled.name) }
     ensures name { IfSome result (λ labelled. name_test labelled.name.bytes.now ≡ true) }
     ensures text { IfSome result (λ labelled. text.now ≡ labelled.name.bytes.now ++ 58 ∷ labelled.rest.now) }
 {
@@ -108,7 +106,6 @@ fn behind_blank(text: &[u8]) -> Option<&[u8]>
 
 /// The name of the label's line that a text begins with, where it stands right at the start, as on most of them; and the lines below.
 pub fn read_labelled(text: &[u8]) -> Option<Labelled<'_>>
-    ensures keyed { IfSome result (λ labelled. IsKeyed labelled.name) }
     ensures label { IfSome result (λ labelled. read_line (before 10 text.now) ≡ Label labelled.name.bytes.now) }
     ensures rest { IfSome result (λ labelled. labelled.rest.now ≡ behind 10 text.now) }
 {

@@ -13,6 +13,7 @@ mod fault;
 mod field;
 mod form;
 mod item;
+mod key;
 mod label;
 mod labelled;
 mod learn;

@@ -9,7 +9,6 @@ ghost use Rattle.qpu_asm.specs.Items.{Spots, kind_named as kind_by, read_plain a
 ghost use Rattle.qpu_asm.specs.Lines.{words_of, is_name as name_test};
 ghost use Rattle.qpu_asm.specs.Walk.{kind_code, is_opcode, IsWord, IsAfter, IsNumberRead, AreSteps, IsCoded};
 ghost use Rattle.qpu_asm.specs.Forms.{front_of, are_behind, IsReadStep, IsWhole};
-ghost use Rattle.qpu_asm.specs.Marks.{IsKeyed};
 ghost use Rattle.qpu_asm.specs.Seen.{row_seen, spots_in, name_seen};
 
 use crate::form::{Field, Form, Forms, Place, find_place, find_value, kept_item};
@@ -215,7 +214,6 @@ pub fn read_own<'a>(row: &Row, field: Field, text: &'a [u8]) -> Option<Value<'a>
 
 // The label's name that a text begins with, and what is behind it on its line.
 fn first_name(text: &[u8]) -> Option<Labelled<'_>>
-    ensures keyed { IfSome result (λ target. IsKeyed target.name) }
     ensures name { IfSome result (λ target. name_test target.name.bytes.now ≡ true) }
     ensures word { IfSome result (λ target. before 32 (before 10 text.now) ≡ target.name.bytes.now) }
     ensures after { IfSome result (λ target. IsAfter text.now target.rest.now) }

@@ -4,7 +4,6 @@ use Rattle.qpu_asm.specs.{Lines.read_line, Labels.read_lines, Labels.labels_of, 
 use Rattle.qpu_asm.proofs.Assembling.{text_first, first_parts, labels_step, labels_end, words_step, words_end}
 use Rattle.qpu_asm.proofs.Drafting.{rest_place, no_words}
 use Rattle.qpu_asm.proofs.Heads.{behind_shorter}
-use Rattle.qpu_asm.proofs.Sorting.{none_keyed}
 use Rattle.qpu_asm.proofs.draft.draft_of.Goals as goal
 
 pub loop-at-init : goal.loop-at-init
@@ -14,7 +13,6 @@ loop-at-init c = record {
   lines = omega arith;
   indexes = omega (arith, c.in_ok-words.ensures.len);
   few = omega (arith, c.in_ok-marks.ensures.len);
-  keyed = none_keyed _ c.in_ok-marks.ensures.items;
   labels = rw (c.in_ok-marks.ensures.items, c.in_ok-words.ensures.len) refl;
   first = λ spots bound all. all;
   words = λ spots bound words big all filled.
@@ -71,7 +69,6 @@ loop-at-preserved c =
       lines = omega (arith, short, long, ap length is, c.loop-at.invariant.lines, c.loop-at-test.true);
       indexes = omega (arith, c.in_ok-rest.ensures.more, c.loop-at.invariant.indexes);
       few = omega (arith, c.in_ok-rest.ensures.few, c.loop-at.invariant.few);
-      keyed = c.in_ok-rest.ensures.keyed;
       labels = ap (λ size. labels_seen c.put_line.new.marks.items ++ labels_from (c.loop-at.line + 1) size (read_lines (drop (length text - length rest) text)))
           size
           ∙ labels_step _ _ _ _ line c.loop-at.line index (size_of line) lines refl
@@ -91,7 +88,6 @@ returns c =
     let none : length start ≤ 0 = omega (arith, length-drop c.loop-at.at text, c.loop-at-test.false) in
     record {
       labels = sym (labels_end (labels_seen c.loop-at.marks.items) start c.loop-at.line (vec_len c.loop-at.words) none) ∙ c.loop-at.invariant.labels;
-      keyed = c.loop-at.invariant.keyed;
       few = omega (arith, c.loop-at.invariant.few, c.loop-at.invariant.lines, c.loop-at.invariant.inside, c.requires, c.loop-at.marks.ok);
       short = omega (arith, c.loop-at.invariant.indexes, c.loop-at.invariant.lines, c.loop-at.invariant.inside, c.requires, c.loop-at.words.ok);
       words = λ spots bound words big all filled. c.loop-at.invariant.words spots bound words big all filled ∙ words_end spots start c.loop-at.line words none;

@@ -20,7 +20,7 @@ returns-clause-drafted c = λ whole place.
           (mark_drafted whole number line w.in-Label.name.now old w.deref.result.now w.spot_behind.result marks _
           (sym (w.in-Label.ensures ∙ first)) w.deref.ensures.value w.spot_behind.ensures
           (w.in_ok-add_mark-in-Label.ensures.labels
-          ∙ ap (λ name. labels_seen marks ++ label_on w.spot_behind.result.line w.spot_behind.result.index (Label name)) w.of.ensures.bytes))
+          ∙ ap (λ name. labels_seen marks ++ label_on w.spot_behind.result.line w.spot_behind.result.index (Label name)) w.of.ensures))
       | in-Coded+in_ok-push-in-Coded w ↦
           rw (w.words-is, w.marks-is)
           (left_drafted whole c.args.text.now number c.args.at old _ marks w.in_ok-push-in-Coded.ensures.items place

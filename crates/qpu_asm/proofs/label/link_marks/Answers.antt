@@ -26,7 +26,7 @@ pub returns : goal.returns
 returns c =
     let none : c.loop-at.at ≡ 0 = omega (arith, c.loop-at-test.false) in
     record {
-      high = omega (arith, c.shift_of-shift.ensures);
+      high = omega (arith, c.shift_of-shift.ensures.range);
       firsts = subst (λ n. AreFirsts c.args.marks.now c.shift_of-shift.result n c.loop-at.firsts.items) none c.loop-at.invariant.firsts;
       nexts = subst (λ n. AreNexts c.args.marks.now c.shift_of-shift.result n c.loop-at.nexts.items) none c.loop-at.invariant.nexts;
     }

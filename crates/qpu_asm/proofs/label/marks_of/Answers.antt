@@ -1,12 +1,11 @@
 use Rattle.std.proofs.{Common.sym, Common.◌∙◌, Common.arith, Common.refl, lemmas.Bool.Decides.nat_tests}
 use Rattle.qpu_asm.specs.{Labels.labels_of, Seen.line_seen}
 use Rattle.qpu_asm.proofs.Assembling.{lines_first, labels_step, labels_end, size_low}
-use Rattle.qpu_asm.proofs.Sorting.{none_keyed}
 use Rattle.qpu_asm.proofs.label.marks_of.Goals as goal
 
 pub loop-rest-init : goal.loop-rest-init
 unfolding labels_of
-loop-rest-init c = record { lines = omega arith; indexes = omega arith; few = omega (arith, c.new-marks.ensures.len); keyed = none_keyed _ c.new-marks.ensures.items; same = rw c.new-marks.ensures.items refl }
+loop-rest-init c = record { lines = omega arith; indexes = omega arith; few = omega (arith, c.new-marks.ensures.len); same = rw c.new-marks.ensures.items refl }
 
 pub loop-rest-preserved : goal.loop-rest-preserved
 loop-rest-preserved c =
@@ -15,7 +14,6 @@ loop-rest-preserved c =
       lines = omega (arith, c.next_line-cut.ensures.shorter);
       indexes = omega (arith, size_low first, c.size-index.ensures);
       few = omega (arith, c.in_ok-add_line.ensures.few);
-      keyed = c.in_ok-add_line.ensures.keyed;
       same =
           labels_step _ _ _ _ first _ _ _ (lines_first _ _ _ _ c.next_line-cut.ensures.lines c.read_line-first.ensures) c.size-index.ensures c.in_ok-add_line.ensures.labels
           ∙ c.loop-rest.invariant.same;
