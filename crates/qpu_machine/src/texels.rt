@@ -20,6 +20,22 @@ fn within(n: u32, side: u32) -> u32
     }
 }
 
+// What is left of `n` by a count of levels. Textures with sides from 256 to 2048 pixels have 9 to 12, which are constants here, since
+// to divide by a number that isn't known takes long.
+#[inline(always)]
+fn within_levels(n: u32, count: u32) -> u32
+    requires { 1 ≤ count }
+    ensures { result ≡ n % count }
+{
+    match count {
+        9 => n % 9,
+        10 => n % 10,
+        11 => n % 11,
+        12 => n % 12,
+        _ => within(n, count),
+    }
+}
+
 // The level that read `m` chooses.
 #[tactic(auto, unfolding(crate::specs::Request::chosen_level))]
 fn chosen_level(texture: &Texture, words: &[u32], m: u64) -> u32
@@ -28,7 +44,7 @@ fn chosen_level(texture: &Texture, words: &[u32], m: u64) -> u32
     ensures limit { result ≤ texture.now.levels }
     ensures few { result ≤ 15 }
 {
-    within(choice_word(words, 4 * m), texture.levels() + 1)
+    within_levels(choice_word(words, 4 * m), texture.levels() + 1)
 }
 
 // The face.
@@ -67,13 +83,16 @@ fn chosen_y(texture: &Texture, words: &[u32], m: u64, level: u32) -> u32
 }
 
 /// For each level of a texture the bytes of the levels from 1 to it, which lie below a face's level 0.
+#[tactic(auto, using(texture_layouts::proofs::Levels::below_none, texture_layouts::proofs::Levels::below_more))]
 pub(crate) fn sizes_below(texture: &Texture) -> [u64; 16]
     requires { is_unlisted texture.now ≡ false }
     ensures { AreBelow texture.now result }
 {
     let mut sizes = [0; 16];
-    for level in 0..texture.levels() + 1 {
-        sizes[level as usize] = texture.size_below(level);
+    let mut below = 0;
+    for level in 0..texture.levels() {
+        below += texture.level_size(level + 1);
+        sizes[level as usize + 1] = below;
     }
     sizes
 }
