@@ -1,4 +1,4 @@
--- A processor and its TMUs write nothing in memory, and touch that processor alone.
+-- A processor and its TMUs write nothing in memory, and touch that processor alone. The list units touch no TMU.
 use Rattle.std.proofs.Common.{◌≡◌, ◌≢◌, ℕ, zero, suc, ◌+◌, Bool, true, false, if◌then◌else◌, List, [], ◌∷◌, ◌++◌, slice_index, Option, Some, None, refl, sym, ap, subst}
 use Rattle.std.specs.{Prelude.option_map, Prelude.unwrap_or, Int.from_le_bytes, Int.w64}
 use Rattle.field_words.specs.declared.access.Actor.TheVariants.{Binner as TheBinner, Renderer as TheRenderer, Qpu as TheQpu, Tmu as TheTmu}
@@ -13,8 +13,14 @@ use Rattle.qpu_machine.specs.{declared.state.Ask.Ask, declared.state.Ask.TheVari
 use Rattle.qpu_machine.specs.{declared.state.Qpu.Qpu, declared.state.Request.Request, declared.state.Thread.Thread}
 use Rattle.qpu_machine.specs.{Step.ThreadTurn, Step.word_plan, Step.thread_plan, Step.executed, Writes.awake, Writes.past_uniform}
 use Rattle.qpu_machine.specs.Wild.{is_wild, takes_one}
-use Rattle.machine.specs.{State.State, State.item_at, State.put_at, Step.with_qpu, Step.qpu_turn, Step.tmu_turn, Step.step, Step.turn}
-use Rattle.replay.specs.Watched.{TouchesOne, LeavesOthers}
+use Rattle.list_machine.specs.Lists.{Lists, Turned, quiet, binner_of, renderer_of, binner_ended, renderer_ended}
+use Rattle.list_machine.specs.{Binner.binner_plan, Renderer.renderer_plan}
+use Rattle.machine_plan.specs.declared.launch.Launch.{Launch}
+use Rattle.qpu_machine.specs.Qpu.{free_in, in_first, in_other, started_in, takes_first, takes_other}
+use Rattle.qpu_machine.specs.Start.{thread_of}
+use Rattle.machine.specs.State.{State, Picked, item_at, put_at, binner_job, renderer_job}
+use Rattle.machine.specs.Step.{with_launch, with_lists, with_qpu, binner_turn, renderer_turn, qpu_turn, tmu_turn, tmu_may, step, turn}
+use Rattle.replay.specs.Watched.{TouchesOne, KeepsRequests, LeavesOthers}
 
 -- a plan without a write
 abbrev IsQuiet : {R : Type 0} → Plan R → Type 0
@@ -116,9 +122,49 @@ tmu_touches : (s : State) (k n : ℕ) (found : Option Qpu) (words : List ℕ) �
 tmu_touches s k n None words = untouched s k
 tmu_touches s k n (Some q) words = quiet_turn s k (record { unit = TheTmu k n; job = job_of_request (oldest (queue_of q n)) }) (tmu_plan q n words) (dropped q n) (quiet_tmu (oldest (queue_of q n)) q n words)
 
+-- a program that starts in a processor leaves its queues
+started_choice : (first other : Bool) (q : Qpu) (t : Thread) (qpus rest : List Qpu) (i n : ℕ) → ((j : ℕ) → tmu_may (item_at rest j) n ≡ tmu_may (item_at qpus j) n)
+    → tmu_may (item_at (if first then in_first q t ∷ qpus else (if other then in_other q t ∷ qpus else q ∷ rest)) i) n ≡ tmu_may (item_at (q ∷ qpus) i) n
+unfolding in_first in_other
+started_choice true other q t qpus rest zero n same = refl
+started_choice true other q t qpus rest (suc i) n same = refl
+started_choice false true q t qpus rest zero n same = refl
+started_choice false true q t qpus rest (suc i) n same = refl
+started_choice false false q t qpus rest zero n same = refl
+started_choice false false q t qpus rest (suc i) n same = same i
+
+started_keeps : (threaded : Bool) (t : Thread) (qpus : List Qpu) (i n : ℕ) → tmu_may (item_at (started_in threaded t qpus) i) n ≡ tmu_may (item_at qpus i) n
+started_keeps threaded t [] i n = refl
+started_keeps threaded t (q ∷ qpus) i n = started_choice (takes_first threaded q) (takes_other threaded q) q t qpus (started_in threaded t qpus) i n (λ j. started_keeps threaded t qpus j n)
+
+launch_keeps : (job : ℕ) (launch : Option Launch) (qpus : List Qpu) (i n : ℕ) → tmu_may (item_at (with_launch job launch qpus) i) n ≡ tmu_may (item_at qpus i) n
+launch_keeps job None qpus i n = refl
+launch_keeps job (Some launch) qpus i n = started_keeps launch.threaded (thread_of job launch) qpus i n
+
+lists_keep : (s : State) (job : ℕ) (m : List ℕ) (result : Option Turned) (wild : Turned)
+    → KeepsRequests s (record { memory = m; units = unwrap_or (option_map (with_lists s.units job) result) (with_lists s.units job wild) })
+lists_keep s job m None wild = launch_keeps job wild.launch s.units.qpus
+lists_keep s job m (Some came) wild = launch_keeps job came.launch s.units.qpus
+
+-- the turn of a list unit, by its plan
+lists_turn : (s : State) (job : ℕ) (who : Who) (plan : Plan Turned) (wild : Turned)
+    → KeepsRequests s (turned s (record { who = who; plan = mapped (with_lists s.units job) plan; wild = with_lists s.units job wild })).state
+lists_turn s job who plan wild =
+    let e = carried_mapped (with_lists s.units job) who plan s.memory in
+    subst (λ o. KeepsRequests s (record { memory = o.memory; units = unwrap_or o.result (with_lists s.units job wild) })) (sym e)
+    (lists_keep s job (carried who plan s.memory).memory (carried who plan s.memory).result wild)
+
+binner_keeps : (s : State) (found : Option (Picked Lists)) (words : List ℕ) → KeepsRequests s (turned s (binner_turn s.units found words)).state
+binner_keeps s None words = λ i n. refl
+binner_keeps s (Some b) words = lists_turn s b.number (binner_of b.number) (binner_plan b.item (free_in s.units.qpus) words) (quiet (binner_ended b.item))
+
+renderer_keeps : (s : State) (found : Option (Picked Lists)) (words : List ℕ) → KeepsRequests s (turned s (renderer_turn s.units found words)).state
+renderer_keeps s None words = λ i n. refl
+renderer_keeps s (Some r) words = lists_turn s r.number (renderer_of r.number) (renderer_plan r.item (free_in s.units.qpus) words) (quiet (renderer_ended r.item))
+
 pub leaves_others : (s : State) (unit : Actor) (words : List ℕ) → LeavesOthers unit s (step s (record { unit = unit; words = words })).state
 unfolding turn
-leaves_others s TheBinner words = tt
-leaves_others s TheRenderer words = tt
+leaves_others s TheBinner words = binner_keeps s (binner_job s.units) words
+leaves_others s TheRenderer words = renderer_keeps s (renderer_job s.units) words
 leaves_others s (TheQpu k) words = qpu_touches s k (item_at s.units.qpus k) words
 leaves_others s (TheTmu k n) words = tmu_touches s k n (item_at s.units.qpus k) words

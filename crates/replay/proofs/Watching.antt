@@ -3,12 +3,13 @@ use Rattle.std.proofs.Common.{◌≡◌, ◌≢◌, ◌≤◌, ◌<◌, ℕ, zer
 use Rattle.std.proofs.lemmas.Bool.{eqb-true, eqb-false}
 use Rattle.field_words.specs.declared.access.Actor.TheVariants.{Binner as TheBinner, Renderer as TheRenderer, Qpu as TheQpu, Tmu as TheTmu}
 use Rattle.field_words.specs.declared.access.Actor.{Actor}
-use Rattle.machine_plan.specs.Glance.{glanced}
+use Rattle.machine_plan.specs.Glance.{glanced, Now}
 use Rattle.machine.specs.{State.State, State.item_at, State.renderer_job, State.first_where}
 use Rattle.machine.specs.Step.{enabled, step, qpu_may, tmu_may, renderer_may}
 use Rattle.list_machine.specs.Renderer.{has_renderer_work}
-use Rattle.std.specs.{Prelude.filter, Prelude.if◌then◌else◌, List.range_with_len}
-use Rattle.replay.specs.Watched.{TouchesOne, LeavesOthers, IsRight, AreAsked, asked_units, IsBeside, IsElsewhere, StayAsked}
+use Rattle.std.specs.{Prelude.filter, Prelude.if◌then◌else◌, Prelude.Option, Prelude.Some, Prelude.None, Prelude.is_some, Prelude.nat_lt, List.range_with_len}
+use Rattle.qpu_machine.specs.{declared.state.Qpu.Qpu, Qpu.oldest, Qpu.queue_of}
+use Rattle.replay.specs.Watched.{TouchesOne, KeepsRequests, LeavesOthers, IsRight, AreAsked, asked_units, IsBeside, IsElsewhere, IsOfTmu, StayAsked}
 use Rattle.replay.specs.Units.{unit_count, unit_at, enabled_units}
 use Rattle.replay.proofs.{Quiet.leaves_others, Order.renderer_at, Order.qpu_at, Order.tmu0_at, Order.tmu1_at}
 
@@ -59,9 +60,41 @@ numbered_stays k (suc (suc n)) s t one where_is =
     let other : n / 3 ≢ k = λ same. elsewhere k n (n % 3) refl few same where_is in
     subst (λ m. enabled t (unit_at m) ≡ enabled s (unit_at m)) split (third_stays k i (n % 3) s t one other few)
 
+-- whether a TMU may step is told by its requests alone
+requests_alone : (b has : Bool) (m k : List ℕ) → glanced (if b then Now has else Now false) m ≡ glanced (if b then Now has else Now false) k
+requests_alone true has m k = refl
+requests_alone false has m k = refl
+
+by_requests : (found : Option Qpu) (n : ℕ) (m k : List ℕ) → glanced (tmu_may found n) m ≡ glanced (tmu_may found n) k
+by_requests None n m k = refl
+by_requests (Some q) n m k = requests_alone (nat_lt n 2) (is_some (oldest (queue_of q n))) m k
+
+tmu_keeps : (i j : ℕ) (s t : State) → KeepsRequests s t → enabled t (TheTmu i j) ≡ enabled s (TheTmu i j)
+unfolding enabled
+tmu_keeps i j s t keeps = ap (λ look. glanced look t.memory) (keeps i j) ∙ by_requests (item_at s.units.qpus i) j t.memory s.memory
+
+-- a TMU of processor i
+tmu_of_keeps : (i n r : ℕ) (s t : State) → KeepsRequests s t → n ≡ 3 * i + r → r < 3 → IsOfTmu (suc (suc n)) → enabled t (unit_at (suc (suc n))) ≡ enabled s (unit_at (suc (suc n)))
+tmu_of_keeps i n zero s t keeps is few of_tmu = absurd (of_tmu.qpu i (omega (arith, is)))
+tmu_of_keeps i n (suc zero) s t keeps is few of_tmu =
+    let e : 3 * i + 3 ≡ suc (suc n) = omega (arith, is) in
+    subst (λ unit. enabled t unit ≡ enabled s unit) (tmu0_at i ∙ ap unit_at e) (tmu_keeps i 0 s t keeps)
+tmu_of_keeps i n (suc (suc zero)) s t keeps is few of_tmu =
+    let e : 3 * i + 4 ≡ suc (suc n) = omega (arith, is) in
+    subst (λ unit. enabled t unit ≡ enabled s unit) (tmu1_at i ∙ ap unit_at e) (tmu_keeps i 1 s t keeps)
+tmu_of_keeps i n (suc (suc (suc r))) s t keeps is few of_tmu = absurd (omega (arith, few))
+
+tmu_numbered_keeps : (n : ℕ) (s t : State) → KeepsRequests s t → IsOfTmu n → enabled t (unit_at n) ≡ enabled s (unit_at n)
+tmu_numbered_keeps zero s t keeps of_tmu = absurd (of_tmu.binner refl)
+tmu_numbered_keeps (suc zero) s t keeps of_tmu = absurd (of_tmu.renderer refl)
+tmu_numbered_keeps (suc (suc n)) s t keeps of_tmu = tmu_of_keeps (n / 3) n (n % 3) s t keeps (omega arith) (omega arith) of_tmu
+
+tmus_stay : (s t : State) (may : List Bool) → KeepsRequests s t → AreAsked s may → (n : ℕ) → IsOfTmu n → IsRight t may n
+tmus_stay s t may keeps asked n of_tmu = asked.each n of_tmu.below ∙ sym (tmu_numbered_keeps n s t keeps of_tmu)
+
 stays_by : (unit : Actor) (s t : State) (may : List Bool) → LeavesOthers unit s t → AreAsked s may → StayAsked unit t may
-stays_by TheBinner s t may leaves asked = tt
-stays_by TheRenderer s t may leaves asked = tt
+stays_by TheBinner s t may leaves asked = tmus_stay s t may leaves asked
+stays_by TheRenderer s t may leaves asked = tmus_stay s t may leaves asked
 stays_by (TheQpu k) s t may leaves asked = λ n where_is. asked.each n where_is.below ∙ sym (numbered_stays k n s t leaves where_is)
 stays_by (TheTmu k m) s t may leaves asked = λ n where_is. asked.each n where_is.below ∙ sym (numbered_stays k n s t leaves where_is)
 
@@ -100,6 +133,35 @@ asked_anew s k old one new long right l1 h1 o1 l2 three = record {
       put_right (λ i. slice_index_or one i false) (λ i. slice_index_or old i false) (λ i. enabled s (unit_at i)) 0 h1 o1 n (λ a.
       right n (record { below = below; binner = a; qpu = beside.qpu; tmu0 = beside.tmu0; tmu1 = beside.tmu1 })));
 }
+
+-- All but the processors from k on are asked.
+abbrev pub AskedTo : State → ℕ → List Bool → Type 0
+AskedTo s k may = (n : ℕ) → n < unit_count → ((j : ℕ) → k ≤ j → n ≢ 3 * j + 2) → IsRight s may n
+
+-- the binner, the renderer and the TMUs, after a step of one of the first two
+pub asked_lists : (s : State) (old one two : List Bool) → ((n : ℕ) → IsOfTmu n → IsRight s old n)
+    → slice_index_or one 0 false ≡ enabled s (unit_at 0) → ((i : ℕ) → i ≢ 0 → slice_index_or one i false ≡ slice_index_or old i false)
+    → slice_index_or two 1 false ≡ enabled s (unit_at 1) → ((i : ℕ) → i ≢ 1 → slice_index_or two i false ≡ slice_index_or one i false)
+    → AskedTo s 0 two
+asked_lists s old one two tmus h0 o0 h1 o1 n below no_qpu =
+    put_right (λ i. slice_index_or two i false) (λ i. slice_index_or one i false) (λ i. enabled s (unit_at i)) 1 h1 o1 n (λ b.
+    put_right (λ i. slice_index_or one i false) (λ i. slice_index_or old i false) (λ i. enabled s (unit_at i)) 0 h0 o0 n (λ a.
+    tmus n (record { below = below; binner = a; renderer = b; qpu = λ j. no_qpu j (omega arith) })))
+
+past_one : (k n j : ℕ) → n ≢ 3 * k + 2 → ((i : ℕ) → k + 1 ≤ i → n ≢ 3 * i + 2) → k ≤ j → n ≢ 3 * j + 2
+past_one k n j here past low same = past j (omega (arith, here, low, same)) same
+
+-- one processor more
+pub asked_processor : (s : State) (k : ℕ) (old new : List Bool) → AskedTo s k old
+    → slice_index_or new (3 * k + 2) false ≡ enabled s (unit_at (3 * k + 2)) → ((i : ℕ) → i ≢ 3 * k + 2 → slice_index_or new i false ≡ slice_index_or old i false)
+    → AskedTo s (k + 1) new
+asked_processor s k old new before here others n below past =
+    put_right (λ i. slice_index_or new i false) (λ i. slice_index_or old i false) (λ i. enabled s (unit_at i)) (3 * k + 2) here others n (λ a.
+    before n below (λ j low. past_one k n j a past low))
+
+-- all
+pub asked_to_all : (s : State) (k : ℕ) (may : List Bool) → length may ≡ unit_count → 12 ≤ k → AskedTo s k may → AreAsked s may
+asked_to_all s k may long all asked = record { long = long; each = λ n below. asked n below (λ j high same. omega (arith, all, high, same, below)) }
 
 -- the units of one processor more
 pub asked_more : (s : State) (k : ℕ) (old new : List Bool) → ((n : ℕ) → n < 3 * k + 2 → IsRight s old n) → ((n : ℕ) → (IsBeside k n → IsRight s old n) → IsRight s new n)

@@ -3,7 +3,7 @@ use Rattle.std.specs.Prelude.{◌≡◌, ◌≢◌, ◌<◌, ℕ, ◌+◌, ◌*�
 use Rattle.std.specs.List.{range_with_len}
 use Rattle.field_words.specs.declared.access.Actor.TheVariants.{Binner as TheBinner, Renderer as TheRenderer, Qpu as TheQpu, Tmu as TheTmu}
 use Rattle.field_words.specs.declared.access.Actor.{Actor}
-use Rattle.machine.specs.{State.State, State.item_at, Step.enabled, Step.step}
+use Rattle.machine.specs.{State.State, State.item_at, Step.enabled, Step.step, Step.tmu_may}
 use Rattle.replay.specs.Units.{unit_count, unit_at, word_count}
 
 -- memory, the jobs and all processors but processor k are as before
@@ -12,10 +12,14 @@ pub record TouchesOne (k : ℕ) (before after : State) : Type 0 where
   pub jobs : after.units.jobs ≡ before.units.jobs
   pub others : (i : ℕ) → i ≢ k → item_at after.units.qpus i ≡ item_at before.units.qpus i
 
--- What a step of this unit leaves alone: a processor and its TMUs touch nothing but that processor.
+-- no TMU's requests have changed
+abbrev pub KeepsRequests : (before after : State) → Type 0
+KeepsRequests before after = (i n : ℕ) → tmu_may (item_at after.units.qpus i) n ≡ tmu_may (item_at before.units.qpus i) n
+
+-- What a step of this unit leaves alone: binner and renderer the TMUs, a processor and its TMUs all but that processor.
 abbrev pub LeavesOthers : Actor → (before after : State) → Type 0
-LeavesOthers TheBinner before after = Unit {0}
-LeavesOthers TheRenderer before after = Unit {0}
+LeavesOthers TheBinner before after = KeepsRequests before after
+LeavesOthers TheRenderer before after = KeepsRequests before after
 LeavesOthers (TheQpu k) before after = TouchesOne k before after
 LeavesOthers (TheTmu k n) before after = TouchesOne k before after
 
@@ -46,10 +50,17 @@ pub record IsElsewhere (k n : ℕ) : Type 0 where
   pub tmu0 : n ≢ 3 * k + 3
   pub tmu1 : n ≢ 3 * k + 4
 
+-- unit n is a TMU
+pub record IsOfTmu (n : ℕ) : Type 0 where
+  pub below : n < unit_count
+  pub binner : n ≢ 0
+  pub renderer : n ≢ 1
+  pub qpu : (k : ℕ) → n ≢ 3 * k + 2
+
 -- the same but for the units that a step of this unit may change
 abbrev pub StayAsked : Actor → State → List Bool → Type 0
-StayAsked TheBinner s may = Unit {0}
-StayAsked TheRenderer s may = Unit {0}
+StayAsked TheBinner s may = (n : ℕ) → IsOfTmu n → IsRight s may n
+StayAsked TheRenderer s may = (n : ℕ) → IsOfTmu n → IsRight s may n
 StayAsked (TheQpu k) s may = (n : ℕ) → IsElsewhere k n → IsRight s may n
 StayAsked (TheTmu k m) s may = (n : ℕ) → IsElsewhere k n → IsRight s may n
 

@@ -3,7 +3,7 @@ ghost use Rattle.std.specs.Prelude.{◌≡◌, ◌≢◌, ◌≤◌, ◌<◌, �
 ghost use Rattle.machine.specs.Step.{enabled, finished, job_of, step};
 ghost use Rattle.machine_plan.specs.World.{Moves};
 ghost use Rattle.replay.specs.Units.{unit_count, unit_at, word_count, enabled_units};
-ghost use Rattle.replay.specs.Watched.{IsRight, AreAsked, asked_units, IsBeside, IsElsewhere, StayAsked, IsEnough};
+ghost use Rattle.replay.specs.Watched.{IsRight, AreAsked, asked_units, IsBeside, IsElsewhere, IsOfTmu, StayAsked, IsEnough};
 
 use crate::units::word_count;
 use arrayvec::ArrayVec;
@@ -40,7 +40,7 @@ impl Model for Watched {
 }
 
 // Asks unit `n`, which is this one. False comes only where the answer is as before.
-#[inline]
+#[inline(always)]
 fn ask(machine: &Machine, n: u8, unit: Actor, may: &mut [bool; UNITS]) -> bool
     requires inside { n < unit_count }
     requires is { unit ≡ unit_at n }
@@ -107,6 +107,25 @@ fn ask_processor(machine: &Machine, k: u8, may: &mut [bool; UNITS]) -> bool
     one_of(binner, three)
 }
 
+// Asks anew after a step of the binner or of the renderer: both, and each processor, in which a program may have started. A TMU's
+// requests are as before. False comes only where all answers are.
+#[tactic(auto, using(crate::proofs::Order::binner_at, crate::proofs::Order::renderer_at, crate::proofs::Order::qpu_at))]
+fn ask_lists(machine: &Machine, may: &mut [bool; UNITS]) -> bool
+    requires long { length may.old ≡ unit_count }
+    requires tmus { (n : ℕ) → IsOfTmu n → IsRight machine.now may.old n }
+    ensures asked { AreAsked machine.now may.new }
+    ensures same { result ≡ false → may.new ≡ may.old }
+{
+    let binner = ask(machine, 0, Actor::Binner, may);
+    let renderer = ask(machine, 1, Actor::Renderer, may);
+    let mut changed = one_of(binner, renderer);
+    for k in 0..PROCESSORS {
+        let qpu = ask(machine, 3 * k + 2, Actor::Qpu(k), may);
+        changed = one_of(changed, qpu);
+    }
+    changed
+}
+
 // Asks anew after a step of this unit. False comes only where all answers are as before.
 fn ask_after(machine: &Machine, unit: Actor, may: &mut [bool; UNITS]) -> bool
     requires long { length may.old ≡ unit_count }
@@ -115,6 +134,7 @@ fn ask_after(machine: &Machine, unit: Actor, may: &mut [bool; UNITS]) -> bool
     ensures same { result ≡ false → may.new ≡ may.old }
 {
     match unit {
+        Actor::Binner | Actor::Renderer => ask_lists(machine, may),
         Actor::Qpu(k) if k < PROCESSORS => ask_processor(machine, k, may),
         Actor::Tmu(k, _) if k < PROCESSORS => ask_processor(machine, k, may),
         _ => {
