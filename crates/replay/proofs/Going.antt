@@ -8,7 +8,7 @@ use Rattle.machine_plan.specs.{Runs.Allowed, Runs.Moved, Runs.reached, World.Mov
 use Rattle.machine.specs.{State.State, Step.Event, Step.enabled, Step.may, Step.ready, Step.step, Step.job_of, Step.finished}
 use Rattle.replay.specs.declared.trace.Ending.TheVariants.{Finished, Waiting, Spent}
 use Rattle.replay.specs.Units.{unit_count, unit_at, word_count, enabled_units, is_of, preferred, candidates}
-use Rattle.replay.specs.Run.{IsTurn, Follows, lines_of, numbered, accesses_of, IsEnded, IsOver, StepsBy, IsTrace, IsLog}
+use Rattle.replay.specs.Run.{IsPicked, IsTurn, Follows, lines_of, numbered, accesses_of, IsEnded, IsOver, StepsBy, IsTrace, IsLog}
 use Rattle.replay.specs.{declared.logged.Log.Log, declared.logged.Logged.Logged, declared.trace.Ending.Ending, declared.trace.Trace.Trace}
 use Rattle.replay.specs.{declared.trace.TraceLine.TraceLine, declared.units.UnitKind.UnitKind, Trace.line_of, Watched.IsEnough}
 use Rattle.replay.proofs.Needing.{rest_of, length_rest, all_given}
@@ -28,8 +28,9 @@ candidates_may (Some kind) s =
     all_preferred (λ n. IsTrue (enabled s (unit_at n))) (filter (λ n. is_of kind (unit_at n)) (enabled_units s)) (enabled_units s)
     (All-filter (λ n. is_of kind (unit_at n)) (λ n. IsTrue (enabled s (unit_at n))) (enabled_units s) (all_may s)) (all_may s)
 
-pub among_may : (favoured : Option UnitKind) (s : State) (place : ℕ) → place < length (candidates favoured (enabled_units s)) → IsTrue (enabled s (unit_at (slice_index (candidates favoured (enabled_units s)) place)))
-among_may favoured s place below = candidates_may favoured s place 0 below
+-- so may the unit that is picked
+pub picked_may : (Chooses : ℕ → ℕ → ℕ → Type 0) (i : ℕ) (favoured : Option UnitKind) (s : State) (unit : Actor) → IsPicked Chooses i (candidates favoured (enabled_units s)) unit → IsTrue (enabled s unit)
+picked_may Chooses i favoured s unit pick = subst (λ u. IsTrue (enabled s u)) (sym pick.is) (candidates_may favoured s pick.place 0 pick.within)
 
 -- what was followed so far
 pub record Followed (Chooses Answers : ℕ → ℕ → ℕ → Type 0) (favoured : Option UnitKind) (start now : State) (done : ℕ) (events : List Event) : Type 0 where
@@ -165,42 +166,33 @@ pub log_from : (Chooses Answers : ℕ → ℕ → ℕ → Type 0) (favoured : Op
 log_from Chooses Answers favoured s start steps log same h = subst (λ was. (events : List Event) × IsLog Chooses Answers favoured was steps events log) same h
 
 -- the code's step is one that the script gave
-pub unit_may : (favoured : Option UnitKind) (s : State) (units : List ℕ) (place : ℕ) (unit : Actor) → units ≡ candidates favoured (enabled_units s) → place < length units → unit ≡ unit_at (slice_index units place) → IsTrue (enabled s unit)
-unit_may favoured s units place unit units_are below unit_is =
-    let within : place < length (candidates favoured (enabled_units s)) = subst (λ us. place < length us) units_are below in
-    subst (λ u. IsTrue (enabled s u)) (sym (unit_is ∙ ap (λ us. unit_at (slice_index us place)) units_are)) (among_may favoured s place within)
-
-pub steps_by : (Chooses Answers : ℕ → ℕ → ℕ → Type 0) (favoured : Option UnitKind) (i : ℕ) (s next : State) (units : List ℕ) (place : ℕ) (unit : Actor) (words : List ℕ) (listed found : List Access) (job : ℕ) (line : TraceLine)
-    → finished s ≡ false → units ≡ candidates favoured (enabled_units s) → place < length units → Chooses i (length units) place → unit ≡ unit_at (slice_index units place)
-    → length words ≡ word_count unit → ((k : ℕ) → k < length words → Answers i k (slice_index words k))
+pub steps_by : (Chooses Answers : ℕ → ℕ → ℕ → Type 0) (favoured : Option UnitKind) (i : ℕ) (s next : State) (unit : Actor) (words : List ℕ) (listed found : List Access) (job : ℕ) (line : TraceLine)
+    → finished s ≡ false → IsPicked Chooses i (candidates favoured (enabled_units s)) unit → length words ≡ word_count unit → ((k : ℕ) → k < length words → Answers i k (slice_index words k))
     → Moves (step s (record { unit = unit; words = words })) found next → listed ≡ found → job ≡ job_of s unit → line ≡ line_of unit job listed → StepsBy Chooses Answers favoured i s next listed line
-steps_by Chooses Answers favoured i s next units place unit words listed found job line goes units_are below picked unit_is long answers moves listed_is job_is line_is = record {
+steps_by Chooses Answers favoured i s next unit words listed found job line goes picked long answers moves listed_is job_is line_is = record {
   event = record { unit = unit; words = words };
   turn = record {
     goes = goes;
-    place = place;
-    picked = subst (λ us. Chooses i (length us) place) units_are picked;
-    within = subst (λ us. place < length us) units_are below;
-    unit = unit_is ∙ ap (λ us. unit_at (slice_index us place)) units_are;
+    picked = picked;
     count = long;
     words = answers;
   };
-  may = unit_may favoured s units place unit units_are below unit_is;
+  may = picked_may Chooses i favoured s unit picked;
   next_is = moves.state_is;
   listed_is = listed_is ∙ moves.accesses_are;
   line_is = line_is ∙ (ap (λ j. line_of unit j listed) job_is ∙ ap (line_of unit (job_of s unit)) (listed_is ∙ moves.accesses_are));
 }
 
 -- Where fewer words were asked for, which are enough, the event has those that the script says of the rest.
-pub steps_by_few : (Chooses Answers : ℕ → ℕ → ℕ → Type 0) (told : (i k : ℕ) → (word : ℕ) × Answers i k word) (favoured : Option UnitKind) (i : ℕ) (s next : State) (units : List ℕ) (place : ℕ) (unit : Actor) (needed : ℕ) (given : List ℕ) (listed found : List Access) (job : ℕ) (line : TraceLine)
-    → finished s ≡ false → units ≡ candidates favoured (enabled_units s) → place < length units → Chooses i (length units) place → unit ≡ unit_at (slice_index units place)
+pub steps_by_few : (Chooses Answers : ℕ → ℕ → ℕ → Type 0) (told : (i k : ℕ) → (word : ℕ) × Answers i k word) (favoured : Option UnitKind) (i : ℕ) (s next : State) (unit : Actor) (needed : ℕ) (given : List ℕ) (listed found : List Access) (job : ℕ) (line : TraceLine)
+    → finished s ≡ false → IsPicked Chooses i (candidates favoured (enabled_units s)) unit
     → needed ≤ word_count unit → IsEnough s unit needed → length given ≡ needed → ((k : ℕ) → k < length given → Answers i k (slice_index given k))
     → Moves (step s (record { unit = unit; words = given })) found next → listed ≡ found → job ≡ job_of s unit → line ≡ line_of unit job listed → StepsBy Chooses Answers favoured i s next listed line
-steps_by_few Chooses Answers told favoured i s next units place unit needed given listed found job line goes units_are below picked unit_is most enough long asked moves listed_is job_is line_is =
+steps_by_few Chooses Answers told favoured i s next unit needed given listed found job line goes picked most enough long asked moves listed_is job_is line_is =
     let more = word_count unit - needed in
     let rest = rest_of (Answers i) (told i) (length given) more in
     let rest_long : length rest ≡ more = length_rest (Answers i) (told i) (length given) more in
     let both : needed + length rest ≡ word_count unit = omega (arith, rest_long, most) in
     let all : length (given ++ rest) ≡ word_count unit = length-append given rest ∙ (ap (λ n. n + length rest) long ∙ both) in
-    steps_by Chooses Answers favoured i s next units place unit (given ++ rest) listed found job line goes units_are below picked unit_is all (all_given (Answers i) (told i) given more asked)
+    steps_by Chooses Answers favoured i s next unit (given ++ rest) listed found job line goes picked all (all_given (Answers i) (told i) given more asked)
     (subst (λ (moved : Moved State). Moves moved found next) (sym (enough given rest long both)) moves) listed_is job_is line_is

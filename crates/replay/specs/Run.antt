@@ -3,6 +3,7 @@
 use Rattle.std.specs.Prelude.{◌≡◌, ◌≢◌, ◌≤◌, ◌<◌, ℕ, ◌+◌, ◌^◌, true, false, IsTrue, List, [], ◌∷◌, ◌++◌, length, map, slice_index, Option}
 use Rattle.std.specs.Global.{Vec}
 use Rattle.field_words.specs.declared.access.Access.{Access}
+use Rattle.field_words.specs.declared.access.Actor.{Actor}
 use Rattle.machine_plan.specs.Runs.{found_by, reached}
 use Rattle.machine.specs.{State.State, Step.Event, Step.enabled, Step.finished, Step.job_of, Step.step, Step.IsRun}
 use Rattle.replay.specs.declared.trace.Ending.TheVariants.{Finished, Waiting, Spent}
@@ -25,14 +26,18 @@ MayAnswer Pre = (step k : ℕ) → step < 2 ^ 64 → k < 4096 → Pre step k
 abbrev pub IsTold : (ℕ → ℕ → ℕ → Type 0) → Type 0
 IsTold Gives = (step k : ℕ) → (word : ℕ) × Gives step k word
 
+-- at step i this unit was picked of these
+pub record IsPicked (Chooses : ℕ → ℕ → ℕ → Type 0) (i : ℕ) (units : List ℕ) (unit : Actor) : Type 0 where
+  pub place : ℕ
+  pub picked : Chooses i (length units) place
+  pub within : place < length units
+  pub is : unit ≡ unit_at (slice_index units place)
+
 -- Step number i is this event: the machine isn't finished; the unit is the one that was picked among those that may step, or
 -- of these among the favoured ones where there are any, with as many words as it gets, and they are what was answered.
 pub record IsTurn (Chooses Answers : ℕ → ℕ → ℕ → Type 0) (favoured : Option UnitKind) (i : ℕ) (s : State) (event : Event) : Type 0 where
   pub goes : finished s ≡ false
-  pub place : ℕ
-  pub picked : Chooses i (length (candidates favoured (enabled_units s))) place
-  pub within : place < length (candidates favoured (enabled_units s))
-  pub unit : event.unit ≡ unit_at (slice_index (candidates favoured (enabled_units s)) place)
+  pub picked : IsPicked Chooses i (candidates favoured (enabled_units s)) event.unit
   pub count : length event.words ≡ word_count event.unit
   pub words : (k : ℕ) → k < length event.words → Answers i k (slice_index event.words k)
 

@@ -1,9 +1,9 @@
 //! The run itself.
 ghost use Rattle.std.specs.Prelude.{◌≡◌, ◌≤◌, ◌<◌, ◌^◌, ℕ, true, false, [], length, slice_index, IfOk, IfErr, IsErr};
 ghost use Rattle.machine.specs.Step.{finished, step};
-ghost use Rattle.replay.specs.Units.{unit_at, word_count, enabled_units};
+ghost use Rattle.replay.specs.Units.{enabled_units, candidates};
 ghost use Rattle.replay.specs.Trace.{line_of};
-ghost use Rattle.replay.specs.Run.{IsOver, StepsBy, HasTrace, HasLines, HasLog, HasAccesses};
+ghost use Rattle.replay.specs.Run.{IsOver, IsPicked, StepsBy, HasTrace, HasLines, HasLog, HasAccesses};
 
 use crate::logged::{Log, Logged, put_step};
 use crate::script::Script;
@@ -11,7 +11,7 @@ use crate::trace::{Ending, Trace, TraceLine, line_of};
 use crate::units::{UnitKind, candidates, unit_at};
 use crate::watched::Watched;
 use arrayvec::ArrayVec;
-use field_words::NoMemory;
+use field_words::{Actor, NoMemory};
 use machine::Machine;
 use machine_plan::Accesses;
 use std::alloc::Global;
@@ -19,22 +19,45 @@ use std::alloc::Global;
 /// The most choice words that a step gets.
 const MOST_WORDS: usize = 4096;
 
-// The units that may step, or why the run is over. Where one may step the machine isn't finished, so that is asked of the others
+// Whether a unit may step, or else why the run is over. Where one may step the machine isn't finished, so that is asked of the others
 // alone.
-fn look(machine: &Watched) -> Result<ArrayVec<u8, 38>, Ending>
+fn look(machine: &Watched) -> Result<(), Ending>
     ensures goes { IfOk result (λ _. finished machine.now ≡ false) }
-    ensures some { IfOk result (λ units. 1 ≤ length units.items) }
-    ensures units { IfOk result (λ units. units.items ≡ enabled_units machine.now) }
+    ensures some { IfOk result (λ _. 1 ≤ length (enabled_units machine.now)) }
     ensures over { IfErr result (IsOver machine.now) }
 {
-    let units = machine.units();
-    if !units.is_empty() {
-        return Ok(units);
+    if !machine.units().is_empty() {
+        return Ok(());
     }
     if machine.finished() {
         return Err(Ending::Finished);
     }
     Err(Ending::Waiting)
+}
+
+// The unit that the script picks among these.
+fn picked_among<S: Script>(script: &S, step: u64, units: &[u8]) -> Actor
+    requires may { S.may script.now }
+    requires some { 1 ≤ length units.now }
+    requires few { length units.now ≤ 38 }
+    ensures { IsPicked (S.picks script.now) step units.now result }
+{
+    let place = script.pick(step, units.len() as u32);
+    unit_at(units[place as usize])
+}
+
+// The unit that the script picks among these that may step, or among the favoured ones of these where there are any.
+#[tactic(auto, unfolding(crate::specs::Units::candidates))]
+fn picked<S: Script>(script: &S, favoured: Option<UnitKind>, step: u64, units: &[u8]) -> Actor
+    requires may { S.may script.now }
+    requires some { 1 ≤ length units.now }
+    requires few { length units.now ≤ 38 }
+    ensures { IsPicked (S.picks script.now) step (candidates favoured units.now) result }
+{
+    match favoured {
+        None => picked_among(script, step, units),
+        Some(kind) => picked_among(script, step, candidates(kind, units).as_slice()),
+    }
 }
 
 // The step's first words, as many as there are places for.
@@ -49,26 +72,21 @@ fn fill<S: Script>(script: &S, step: u64, words: &mut [u32])
     }
 }
 
-// One step of the unit that the script picks among these, or among the favoured ones of these where there are any. Words behind those
-// that it may look at aren't asked for.
+// One step of the unit that the script picks. Words behind those that it may look at aren't asked for.
 fn take_step<S: Script>(
     script: &S,
     favoured: Option<UnitKind>,
     step: u64,
-    units: ArrayVec<u8, 38>,
     words: &mut [u32; MOST_WORDS],
     accesses: &mut Accesses,
     machine: &mut Watched,
 ) -> TraceLine
     requires may { S.may script.now }
     requires goes { finished machine.old ≡ false }
-    requires some { 1 ≤ length units.items }
-    requires units { units.items ≡ enabled_units machine.old }
+    requires some { 1 ≤ length (enabled_units machine.old) }
     ensures { StepsBy (S.picks script.now) (S.gives script.now) favoured step machine.old machine.new accesses.new.items result }
 {
-    let units = candidates(favoured, units);
-    let place = script.pick(step, units.len() as u32);
-    let unit = unit_at(units[place as usize]);
+    let unit = picked(script, favoured, step, machine.units());
     let words = &mut words[..machine.words_needed(unit) as usize];
     fill(script, step, words);
     let job = machine.job_of(unit);
@@ -92,7 +110,7 @@ fn go_on<S: Script>(
 {
     match look(machine) {
         Err(ending) => Err(ending),
-        Ok(units) => Ok(take_step(script, favoured, step, units, words, accesses, machine)),
+        Ok(()) => Ok(take_step(script, favoured, step, words, accesses, machine)),
     }
 }
 
@@ -126,7 +144,7 @@ fn follow<S: Script>(
     }
     match look(machine) {
         Err(ending) => Ok(ending),
-        Ok(_) => Ok(Ending::Spent),
+        Ok(()) => Ok(Ending::Spent),
     }
 }
 
@@ -179,7 +197,7 @@ fn note<S: Script>(
     }
     match look(machine) {
         Err(ending) => Ok((steps, ending)),
-        Ok(_) => Ok((steps, Ending::Spent)),
+        Ok(()) => Ok((steps, Ending::Spent)),
     }
 }
 

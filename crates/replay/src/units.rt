@@ -1,5 +1,5 @@
 //! The units in the order of a script.
-ghost use Rattle.std.specs.Prelude.{◌≡◌, ◌≤◌, ◌<◌, ◌+◌, length, filter};
+ghost use Rattle.std.specs.Prelude.{◌≡◌, ◌≤◌, ◌<◌, ◌+◌, length, filter, Some};
 ghost use Rattle.replay.specs.Units.{unit_count, unit_at, word_count, enabled_below, enabled_units, is_of, candidates, preferred};
 
 use arrayvec::ArrayVec;
@@ -111,16 +111,26 @@ fn of_kind(kind: UnitKind, units: &[u8]) -> ArrayVec<u8, 38>
     few
 }
 
-/// The numbers of the units among which the next one is picked, of these that may step: where some are of the favoured kind, those
-/// alone. It takes no memory.
-#[tactic(auto, unfolding(crate::specs::Units::candidates), using(crate::proofs::Order::preferred_none, crate::proofs::Order::preferred_some))]
-pub(crate) fn candidates(favoured: Option<UnitKind>, units: ArrayVec<u8, 38>) -> ArrayVec<u8, 38>
-    ensures value { result.items ≡ candidates favoured units.items }
-    ensures some { 1 ≤ length units.items → 1 ≤ length result.items }
+// The same list.
+fn copied(units: &[u8]) -> ArrayVec<u8, 38>
+    requires { length units.now ≤ 38 }
+    ensures { result.items ≡ units.now }
 {
-    let Some(kind) = favoured else {
-        return units;
-    };
-    let few = of_kind(kind, units.as_slice());
-    if few.is_empty() { units } else { few }
+    let mut copy = ArrayVec::new();
+    match copy.try_extend_from_slice(units) {
+        Ok(()) => copy,
+        Err(_) => copy,
+    }
+}
+
+/// The numbers of the units among which the next one is picked where this kind is favoured, of these that may step: where some are of
+/// the kind, those alone. It takes no memory.
+#[tactic(auto, unfolding(crate::specs::Units::candidates), using(crate::proofs::Order::preferred_none, crate::proofs::Order::preferred_some))]
+pub(crate) fn candidates(kind: UnitKind, units: &[u8]) -> ArrayVec<u8, 38>
+    requires { length units.now ≤ 38 }
+    ensures value { result.items ≡ candidates (Some kind) units.now }
+    ensures some { 1 ≤ length units.now → 1 ≤ length result.items }
+{
+    let few = of_kind(kind, units);
+    if few.is_empty() { copied(units) } else { few }
 }

@@ -158,17 +158,6 @@ fn asked_units(may: &[bool; UNITS]) -> ArrayVec<u8, UNITS>
     units
 }
 
-// The same list.
-fn copied(units: &ArrayVec<u8, UNITS>) -> ArrayVec<u8, UNITS>
-    ensures { result.items ≡ units.now.items }
-{
-    let mut copy = ArrayVec::new();
-    match copy.try_extend_from_slice(units.as_slice()) {
-        Ok(()) => copy,
-        Err(_) => copy,
-    }
-}
-
 impl Watched {
     /// The machine, of which each unit is asked.
     pub(crate) fn new(machine: Machine) -> Watched
@@ -184,10 +173,11 @@ impl Watched {
     }
 
     /// The numbers of the units that may step, the least first.
-    pub(crate) fn units(&self) -> ArrayVec<u8, UNITS>
-        ensures { result.items ≡ enabled_units self.now }
+    pub(crate) fn units(&self) -> &[u8]
+        ensures value { result.now ≡ enabled_units self.now }
+        ensures few { length result.now ≤ unit_count }
     {
-        copied(&self.units)
+        self.units.as_slice()
     }
 
     /// Whether no unit has any work left.

@@ -1,5 +1,5 @@
 -- One step more is followed; at the end the trace is that of the steps that were.
-use Rattle.std.proofs.Common.{◌≤◌, ◌∙◌, length, subst, arith}
+use Rattle.std.proofs.Common.{◌≤◌, length, subst, arith}
 use Rattle.replay.specs.declared.trace.Ending.TheVariants.{Spent}
 use Rattle.replay.proofs.Going.{lined_more, trace_over, trace_spent}
 use Rattle.replay.proofs.follow.follow.Goals as goal
@@ -25,5 +25,5 @@ returns-in-Ok-look g c =
     c.loop-i.auto.i-end (
       omega (arith, c.loop-i.auto.i-end, c.loop-i-test.false),
       c.in-Ok-look.ensures.goes,
-      λ none. let long = subst (λ units. 1 ≤ length units) (c.in-Ok-look.ensures.units ∙ none) c.in-Ok-look.ensures.some in omega (arith, long),
+      λ none. let long = subst (λ units. 1 ≤ length units) none c.in-Ok-look.ensures.some in omega (arith, long),
     )

@@ -27,5 +27,5 @@ returns-in-Ok-look g c =
     c.loop-i.auto.i-end (
       omega (arith, c.loop-i.auto.i-end, c.loop-i-test.false),
       c.in-Ok-look.ensures.goes,
-      λ none. let long = subst (λ units. 1 ≤ length units) (c.in-Ok-look.ensures.units ∙ none) c.in-Ok-look.ensures.some in omega (arith, long),
+      λ none. let long = subst (λ units. 1 ≤ length units) none c.in-Ok-look.ensures.some in omega (arith, long),
     )
