@@ -9,8 +9,8 @@ use Rattle.machine.specs.Step.{enabled, step, qpu_may, tmu_may, renderer_may}
 use Rattle.list_machine.specs.Renderer.{has_renderer_work}
 use Rattle.std.specs.{Prelude.filter, Prelude.if◌then◌else◌, Prelude.Option, Prelude.Some, Prelude.None, Prelude.is_some, Prelude.nat_lt, List.range_with_len}
 use Rattle.qpu_machine.specs.{declared.state.Qpu.Qpu, Qpu.oldest, Qpu.queue_of}
-use Rattle.replay.specs.Watched.{TouchesOne, KeepsRequests, LeavesOthers, IsRight, AreAsked, asked_units, IsBeside, IsElsewhere, IsOfTmu, StayAsked}
-use Rattle.replay.specs.Units.{unit_count, unit_at, enabled_units}
+use Rattle.replay.specs.Watched.{TouchesOne, KeepsRequests, LeavesOthers, IsRight, AreAsked, asked_units, IsBeside, IsElsewhere, IsTmu, StayAsked}
+use Rattle.replay.specs.{Units.unit_count, Units.unit_at, Units.enabled_units, Units.is_of, declared.units.UnitKind.TheVariants.Tmu}
 use Rattle.replay.proofs.{Quiet.leaves_others, Order.renderer_at, Order.qpu_at, Order.tmu0_at, Order.tmu1_at}
 
 renderer_stays : (k : ℕ) (s t : State) → TouchesOne k s t → enabled t TheRenderer ≡ enabled s TheRenderer
@@ -69,28 +69,15 @@ by_requests : (found : Option Qpu) (n : ℕ) (m k : List ℕ) → glanced (tmu_m
 by_requests None n m k = refl
 by_requests (Some q) n m k = requests_alone (nat_lt n 2) (is_some (oldest (queue_of q n))) m k
 
-tmu_keeps : (i j : ℕ) (s t : State) → KeepsRequests s t → enabled t (TheTmu i j) ≡ enabled s (TheTmu i j)
+tmu_keeps : (unit : Actor) (s t : State) → KeepsRequests s t → is_of Tmu unit ≡ true → enabled t unit ≡ enabled s unit
 unfolding enabled
-tmu_keeps i j s t keeps = ap (λ look. glanced look t.memory) (keeps i j) ∙ by_requests (item_at s.units.qpus i) j t.memory s.memory
+tmu_keeps TheBinner s t keeps kind = absurd (cc)
+tmu_keeps TheRenderer s t keeps kind = absurd (cc)
+tmu_keeps (TheQpu i) s t keeps kind = absurd (cc)
+tmu_keeps (TheTmu i j) s t keeps kind = ap (λ look. glanced look t.memory) (keeps i j) ∙ by_requests (item_at s.units.qpus i) j t.memory s.memory
 
--- a TMU of processor i
-tmu_of_keeps : (i n r : ℕ) (s t : State) → KeepsRequests s t → n ≡ 3 * i + r → r < 3 → IsOfTmu (suc (suc n)) → enabled t (unit_at (suc (suc n))) ≡ enabled s (unit_at (suc (suc n)))
-tmu_of_keeps i n zero s t keeps is few of_tmu = absurd (of_tmu.qpu i (omega (arith, is)))
-tmu_of_keeps i n (suc zero) s t keeps is few of_tmu =
-    let e : 3 * i + 3 ≡ suc (suc n) = omega (arith, is) in
-    subst (λ unit. enabled t unit ≡ enabled s unit) (tmu0_at i ∙ ap unit_at e) (tmu_keeps i 0 s t keeps)
-tmu_of_keeps i n (suc (suc zero)) s t keeps is few of_tmu =
-    let e : 3 * i + 4 ≡ suc (suc n) = omega (arith, is) in
-    subst (λ unit. enabled t unit ≡ enabled s unit) (tmu1_at i ∙ ap unit_at e) (tmu_keeps i 1 s t keeps)
-tmu_of_keeps i n (suc (suc (suc r))) s t keeps is few of_tmu = absurd (omega (arith, few))
-
-tmu_numbered_keeps : (n : ℕ) (s t : State) → KeepsRequests s t → IsOfTmu n → enabled t (unit_at n) ≡ enabled s (unit_at n)
-tmu_numbered_keeps zero s t keeps of_tmu = absurd (of_tmu.binner refl)
-tmu_numbered_keeps (suc zero) s t keeps of_tmu = absurd (of_tmu.renderer refl)
-tmu_numbered_keeps (suc (suc n)) s t keeps of_tmu = tmu_of_keeps (n / 3) n (n % 3) s t keeps (omega arith) (omega arith) of_tmu
-
-tmus_stay : (s t : State) (may : List Bool) → KeepsRequests s t → AreAsked s may → (n : ℕ) → IsOfTmu n → IsRight t may n
-tmus_stay s t may keeps asked n of_tmu = asked.each n of_tmu.below ∙ sym (tmu_numbered_keeps n s t keeps of_tmu)
+tmus_stay : (s t : State) (may : List Bool) → KeepsRequests s t → AreAsked s may → (n : ℕ) → IsTmu n → IsRight t may n
+tmus_stay s t may keeps asked n tmu = asked.each n tmu.below ∙ sym (tmu_keeps (unit_at n) s t keeps tmu.kind)
 
 stays_by : (unit : Actor) (s t : State) (may : List Bool) → LeavesOthers unit s t → AreAsked s may → StayAsked unit t may
 stays_by TheBinner s t may leaves asked = tmus_stay s t may leaves asked
@@ -138,15 +125,27 @@ asked_anew s k old one new long right l1 h1 o1 l2 three = record {
 abbrev pub AskedTo : State → ℕ → List Bool → Type 0
 AskedTo s k may = (n : ℕ) → n < unit_count → ((j : ℕ) → k ≤ j → n ≢ 3 * j + 2) → IsRight s may n
 
+third_tmu : (i n r : ℕ) → n ≡ 3 * i + r → r < 3 → suc (suc n) ≢ 3 * i + 2 → is_of Tmu (unit_at (suc (suc n))) ≡ true
+third_tmu i n zero is few no_qpu = absurd (no_qpu (omega (arith, is)))
+third_tmu i n (suc zero) is few no_qpu = let e : 3 * i + 3 ≡ suc (suc n) = omega (arith, is) in ap (is_of Tmu) (sym (tmu0_at i ∙ ap unit_at e))
+third_tmu i n (suc (suc zero)) is few no_qpu = let e : 3 * i + 4 ≡ suc (suc n) = omega (arith, is) in ap (is_of Tmu) (sym (tmu1_at i ∙ ap unit_at e))
+third_tmu i n (suc (suc (suc r))) is few no_qpu = absurd (omega (arith, few))
+
+-- a unit that is neither the binner nor the renderer nor a processor is a TMU
+other_tmu : (n : ℕ) → n ≢ 0 → n ≢ 1 → ((k : ℕ) → n ≢ 3 * k + 2) → is_of Tmu (unit_at n) ≡ true
+other_tmu zero no_binner no_renderer no_qpu = absurd (no_binner refl)
+other_tmu (suc zero) no_binner no_renderer no_qpu = absurd (no_renderer refl)
+other_tmu (suc (suc n)) no_binner no_renderer no_qpu = third_tmu (n / 3) n (n % 3) (omega arith) (omega arith) (no_qpu (n / 3))
+
 -- the binner, the renderer and the TMUs, after a step of one of the first two
-pub asked_lists : (s : State) (old one two : List Bool) → ((n : ℕ) → IsOfTmu n → IsRight s old n)
+pub asked_lists : (s : State) (old one two : List Bool) → ((n : ℕ) → IsTmu n → IsRight s old n)
     → slice_index_or one 0 false ≡ enabled s (unit_at 0) → ((i : ℕ) → i ≢ 0 → slice_index_or one i false ≡ slice_index_or old i false)
     → slice_index_or two 1 false ≡ enabled s (unit_at 1) → ((i : ℕ) → i ≢ 1 → slice_index_or two i false ≡ slice_index_or one i false)
     → AskedTo s 0 two
 asked_lists s old one two tmus h0 o0 h1 o1 n below no_qpu =
     put_right (λ i. slice_index_or two i false) (λ i. slice_index_or one i false) (λ i. enabled s (unit_at i)) 1 h1 o1 n (λ b.
     put_right (λ i. slice_index_or one i false) (λ i. slice_index_or old i false) (λ i. enabled s (unit_at i)) 0 h0 o0 n (λ a.
-    tmus n (record { below = below; binner = a; renderer = b; qpu = λ j. no_qpu j (omega arith) })))
+    tmus n (record { below = below; kind = other_tmu n a b (λ j. no_qpu j (omega arith)) })))
 
 past_one : (k n j : ℕ) → n ≢ 3 * k + 2 → ((i : ℕ) → k + 1 ≤ i → n ≢ 3 * i + 2) → k ≤ j → n ≢ 3 * j + 2
 past_one k n j here past low same = past j (omega (arith, here, low, same)) same

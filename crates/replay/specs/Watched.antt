@@ -1,10 +1,10 @@
 -- What is known of which units may step.
-use Rattle.std.specs.Prelude.{◌≡◌, ◌≢◌, ◌<◌, ℕ, ◌+◌, ◌*◌, Bool, false, List, ◌++◌, length, filter, slice_index_or}
+use Rattle.std.specs.Prelude.{◌≡◌, ◌≢◌, ◌<◌, ℕ, ◌+◌, ◌*◌, Bool, true, false, List, ◌++◌, length, filter, slice_index_or}
 use Rattle.std.specs.List.{range_with_len}
 use Rattle.field_words.specs.declared.access.Actor.TheVariants.{Binner as TheBinner, Renderer as TheRenderer, Qpu as TheQpu, Tmu as TheTmu}
 use Rattle.field_words.specs.declared.access.Actor.{Actor}
 use Rattle.machine.specs.{State.State, State.item_at, Step.enabled, Step.step, Step.tmu_may}
-use Rattle.replay.specs.Units.{unit_count, unit_at, word_count}
+use Rattle.replay.specs.{Units.unit_count, Units.unit_at, Units.word_count, Units.is_of, declared.units.UnitKind.TheVariants.Tmu}
 
 -- memory, the jobs and all processors but processor k are as before
 pub record TouchesOne (k : ℕ) (before after : State) : Type 0 where
@@ -51,16 +51,14 @@ pub record IsElsewhere (k n : ℕ) : Type 0 where
   pub tmu1 : n ≢ 3 * k + 4
 
 -- unit n is a TMU
-pub record IsOfTmu (n : ℕ) : Type 0 where
+pub record IsTmu (n : ℕ) : Type 0 where
   pub below : n < unit_count
-  pub binner : n ≢ 0
-  pub renderer : n ≢ 1
-  pub qpu : (k : ℕ) → n ≢ 3 * k + 2
+  pub kind : is_of Tmu (unit_at n) ≡ true
 
 -- the same but for the units that a step of this unit may change
 abbrev pub StayAsked : Actor → State → List Bool → Type 0
-StayAsked TheBinner s may = (n : ℕ) → IsOfTmu n → IsRight s may n
-StayAsked TheRenderer s may = (n : ℕ) → IsOfTmu n → IsRight s may n
+StayAsked TheBinner s may = (n : ℕ) → IsTmu n → IsRight s may n
+StayAsked TheRenderer s may = (n : ℕ) → IsTmu n → IsRight s may n
 StayAsked (TheQpu k) s may = (n : ℕ) → IsElsewhere k n → IsRight s may n
 StayAsked (TheTmu k m) s may = (n : ℕ) → IsElsewhere k n → IsRight s may n
 

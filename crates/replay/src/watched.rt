@@ -3,7 +3,7 @@ ghost use Rattle.std.specs.Prelude.{◌≡◌, ◌≢◌, ◌≤◌, ◌<◌, �
 ghost use Rattle.machine.specs.Step.{enabled, finished, job_of, step};
 ghost use Rattle.machine_plan.specs.World.{Moves};
 ghost use Rattle.replay.specs.Units.{unit_count, unit_at, word_count, enabled_units};
-ghost use Rattle.replay.specs.Watched.{IsRight, AreAsked, asked_units, IsBeside, IsElsewhere, IsOfTmu, StayAsked, IsEnough};
+ghost use Rattle.replay.specs.Watched.{IsRight, AreAsked, asked_units, IsBeside, IsElsewhere, IsTmu, StayAsked, IsEnough};
 
 use crate::units::word_count;
 use arrayvec::ArrayVec;
@@ -112,7 +112,7 @@ fn ask_processor(machine: &Machine, k: u8, may: &mut [bool; UNITS]) -> bool
 #[tactic(auto, using(crate::proofs::Order::binner_at, crate::proofs::Order::renderer_at, crate::proofs::Order::qpu_at))]
 fn ask_lists(machine: &Machine, may: &mut [bool; UNITS]) -> bool
     requires long { length may.old ≡ unit_count }
-    requires tmus { (n : ℕ) → IsOfTmu n → IsRight machine.now may.old n }
+    requires tmus { (n : ℕ) → IsTmu n → IsRight machine.now may.old n }
     ensures asked { AreAsked machine.now may.new }
     ensures same { result ≡ false → may.new ≡ may.old }
 {
