@@ -1,5 +1,5 @@
 //! A machine of which it is known which units may step.
-ghost use Rattle.std.specs.Prelude.{◌≡◌, ◌≢◌, ◌≤◌, ◌<◌, ℕ, false, length, IsTrue, slice_index_or};
+ghost use Rattle.std.specs.Prelude.{◌≡◌, ◌≢◌, ◌≤◌, ◌<◌, ◌||◌, ℕ, false, length, IsTrue, slice_index_or};
 ghost use Rattle.machine.specs.Step.{enabled, finished, job_of, step};
 ghost use Rattle.machine_plan.specs.World.{Moves};
 ghost use Rattle.replay.specs.Units.{unit_count, unit_at, word_count, enabled_units};
@@ -59,7 +59,7 @@ fn ask(machine: &Machine, n: u8, unit: Actor, may: &mut [bool; UNITS]) -> bool
 
 // Whether one of these holds.
 fn one_of(first: bool, second: bool) -> bool
-    ensures { result ≡ false → (first ≡ false) × (second ≡ false) }
+    ensures { result ≡ (first || second) }
 {
     first || second
 }
