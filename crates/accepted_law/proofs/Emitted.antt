@@ -8,7 +8,7 @@ use Rattle.job_format.specs.Model.{FileModel}
 use Rattle.job_check.specs.Jobs.{job_of, slot_of, layout_of, bin_list_of, records_of, streams_of, render_list_of}
 use Rattle.job_check.specs.{Shaders.table_of, Shaders.content_of, Emit.content_parts, Emit.lengths_of, Emit.memory_of, Emit.PartsFit}
 use Rattle.job_check.proofs.{Codes.content_long, Emission.length_zeros}
-use Rattle.list_law.proofs.Words.{byte_read}
+use Rattle.machine_plan.proofs.Words.{byte_read}
 use Rattle.machine_plan.specs.{Memory.bytes_at, Regions.Interval, Regions.LiesIn, Regions.Inside, Regions.Rights, Regions.rights_of}
 use Rattle.qpu_law.specs.Asks.{IsOneOf}
 use Rattle.apart_law.specs.Part.{Client}

@@ -14,7 +14,7 @@ use Rattle.shader_records.proofs.StreamFacts.{same_stream}
 use Rattle.job_check.specs.Shaders.{table_of, content_of, words_in, words_of, told_of}
 use Rattle.job_check.specs.{Jobs.job_of, Jobs.layout_of, Jobs.streams_of, Emit.lengths_of}
 use Rattle.job_check.proofs.Codes.{content_long, length_words, shader_short}
-use Rattle.list_law.proofs.Words.{word_read}
+use Rattle.machine_plan.proofs.Words.{word_read}
 use Rattle.qpu_law.specs.{Asks.IsOneOf, Home.Home, Emitted.Emits, Thread.IsHome, Thread.HasSamples}
 use Rattle.qpu_law.proofs.{Reading.one_inside, Emitting.streams_serve_law}
 use Rattle.machine_law.specs.Begins.{HomeBegins}

@@ -6,7 +6,7 @@ use Rattle.std.specs.{Int.from_le_bytes, Int.w64, List.range_with_len}
 use Rattle.field_words.specs.{Words.IsBytes, Words.u32_at, Words.u64_at, Pieces.IsPiece}
 use Rattle.field_words.proofs.Numbers.{u32_fits}
 use Rattle.machine_plan.specs.Memory.{bytes_at}
-use Rattle.list_law.proofs.Words.{byte_read}
+use Rattle.machine_plan.proofs.Words.{byte_read}
 
 -- bytes inside a memory are a part of its list
 bytes_are : (m : List ℕ) (p n : ℕ) → p + n ≤ length m → bytes_at m p n ≡ take n (drop p m)

@@ -7,13 +7,13 @@ use Rattle.emitted_facts.specs.Facts.{IsAttributeIn, IsIndexedPrimitive, IsArray
 use Rattle.packets.specs.StateWord.{attribute_count, is_extended, record_size}
 use Rattle.emitted_facts.proofs.Records.{entry_in, extension_in, header_in}
 use Rattle.machine_plan.specs.{declared.launch.Launch.Launch, Memory.bytes_at, Regions.Interval, Regions.Inside}
-use Rattle.machine_plan.proofs.Memory.{inside_part}
+use Rattle.machine_plan.proofs.{Memory.inside_part, Words.byte_read, Words.word_read}
 use Rattle.list_machine.specs.declared.state.Program.{Program, TheVariants.Fragment, TheVariants.Vertex, TheVariants.Coordinate}
 use Rattle.list_machine.specs.Fetch.{index_size, record_place, attribute_place, extension_place, data_size, stride_of, data_place}
 use Rattle.list_machine.specs.{Binner.primitive_of, Start.code_offset, Start.is_threaded}
 use Rattle.list_law.specs.Uses.{attribute_at, extension_at, Fetches, launched, threaded_by, Programs}
 use Rattle.list_law.specs.Emitted.{words_in, RecordStands, NamedInside, IsStateOf, program_in}
-use Rattle.list_law.proofs.{Logs.same, Logs.not_same, Words.byte_read, Words.word_read, Words.low_byte, Words.next_byte, Words.low_bit}
+use Rattle.list_law.proofs.{Logs.same, Logs.not_same, Words.low_byte, Words.next_byte, Words.low_bit}
 
 pub same_count : (state word : ℕ) → IsStateOf state word → attribute_count state ≡ attribute_count word
 unfolding attribute_count

@@ -4,7 +4,7 @@ use Rattle.std.specs.Int.{from_le_bytes, w64}
 use Rattle.field_words.specs.{Words.u32_at, Pieces.joined as joined_bytes}
 use Rattle.machine_plan.specs.Regions.{Inside, Rights, rights_of, joined, IsOutside, HasReadOnly, Interval}
 use Rattle.machine_plan.specs.{Memory.bytes_at, declared.launch.Launch.Launch}
-use Rattle.machine_plan.proofs.{Memory.inside_part, Memory.bytes_same, Safe.joined_covers}
+use Rattle.machine_plan.proofs.{Memory.inside_part, Memory.bytes_same, Safe.joined_covers, Words.word_read}
 use Rattle.uniform_stream.specs.Stream.{uniforms_of}
 use Rattle.qpu_law.specs.{Home.Home, Thread.IsHome}
 use Rattle.packets.specs.{StateWord.record_size, Packet.slots_text}
@@ -14,7 +14,7 @@ use Rattle.list_machine.specs.{Binner.primitive_of, Fetch.record_place, Lists.li
 use Rattle.list_law.specs.Emitted.{words_in, RecordStands, program_in}
 use Rattle.list_law.specs.{Uses.Fetches, Uses.Programs, Binning.DrawsSo, Lists.ListsFine}
 use Rattle.list_law.proofs.Emitted.{same_count, same_extended, emitted_fetches, emitted_programs}
-use Rattle.list_law.proofs.{Words.word_read, Start.lists_begin, Start.walks_so}
+use Rattle.list_law.proofs.Start.{lists_begin, walks_so}
 use Rattle.bin_walks.specs.Walks.{nothing_kept}
 use Rattle.machine.specs.{declared.job.Start.Start, State.job_start}
 use Rattle.machine_law.specs.Begins.{IsFixed, FixedStays, HomesStay, LaunchBegins, DrawBegins, DrawsStay, TextBegins, JobBegins}

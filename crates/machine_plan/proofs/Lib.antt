@@ -6,3 +6,4 @@ pub mod Worlds
 pub mod Others
 pub mod Reading
 pub mod Joining
+pub mod Words

@@ -14,7 +14,7 @@ use phys_mem::PhysMem;
 
 // The word at this place. Inside the memory it is read at once.
 #[inline(always)]
-#[tactic(auto, using(crate::proofs::Words::word_there), unfolding(field_words::specs::Words::u32_at))]
+#[tactic(auto, using(machine_plan::proofs::Words::word_read), unfolding(field_words::specs::Words::u32_at))]
 fn word_at(place: u64, memory: &PhysMem) -> u32
     requires { place < 2 ^ 63 }
     ensures { result ≡ u32_at (bytes_at memory.now place 4) 0 }
