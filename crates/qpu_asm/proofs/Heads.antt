@@ -1,12 +1,12 @@
 -- What a text begins with.
-use Rattle.std.proofs.Common.{◌≡◌, ◌≢◌, ℕ, ◌+◌, ◌<◌, Bool, true, false, not, ◌==◌, ◌&&◌, List, [], ◌∷◌, ◌++◌, length, take, drop, slice_index, refl, sym, ◌∙◌, ap, arith, ltb-true, eqb-true, ne_eqb, nat_lt, bytes_eq, drop-cons, add-one, codes, eq-eqb, length-append, append_assoc, inl, inr, le_refl, ◌≤◌, if◌then◌else◌}
+use Rattle.std.proofs.Common.{◌≡◌, ◌≢◌, ℕ, ◌+◌, ◌-◌, ◌<◌, Bool, true, false, not, ◌==◌, ◌&&◌, List, [], ◌∷◌, ◌++◌, length, take, drop, slice_index, refl, sym, ◌∙◌, ap, arith, ltb-true, eqb-true, ne_eqb, nat_lt, bytes_eq, drop-cons, add-one, codes, eq-eqb, length-append, append_assoc, inl, inr, le_refl, ◌≤◌, if◌then◌else◌}
 use Rattle.std.proofs.lemmas.Bool.{and_parts, and_from, not-true, false≢true, cases_Bool}
 use Rattle.std.proofs.lemmas.Bool.Decides.{nat_tests}
-use Rattle.std.proofs.lemmas.List.{take-append-drop}
+use Rattle.std.proofs.lemmas.List.{take-append-drop, take_rest}
 use Rattle.std.proofs.lemmas.List.Folds.{list_all-append}
 use Rattle.std.specs.{Char.is_ascii_digit, Str.all_ascii_digits}
 use Rattle.script.specs.{Lines.before, Lines.behind}
-use Rattle.qpu_asm.specs.{Walk.lacks, Walk.begins, Walk.IsBehind, Walk.is_opcode, Lines.is_full, Lines.is_comment, Lines.ends_label, Lines.words_of, Lines.line_of, Lines.read_line, Lines.Coded, Labels.size_of}
+use Rattle.qpu_asm.specs.{Walk.lacks, Walk.begins, Walk.is_opcode, Lines.is_full, Lines.is_comment, Lines.ends_label, Lines.words_of, Lines.line_of, Lines.read_line, Lines.Coded}
 use Rattle.qpu_asm.proofs.{Bytes.bytes_same, Words.word_first}
 
 pub cut_name : (mark : ℕ) (name text : List ℕ) → lacks mark name ≡ true → (before mark (name ++ mark ∷ text) ≡ name) × (behind mark (name ++ mark ∷ text) ≡ text)
@@ -17,14 +17,30 @@ cut_name mark (byte ∷ bytes) text test =
     let rest = cut_name mark bytes text parts.1 in
     rw (not-true (byte == mark) parts.0) (ap (λ b. byte ∷ b) rest.0, rest.1)
 
+-- a text from a place on, by its byte there
+from_byte : (text : List ℕ) (at byte : ℕ) → at < length text → slice_index text at ≡ byte → drop at text ≡ byte ∷ drop (at + 1) text
+from_byte text at byte inside is = rw add-one (drop-cons text at 0 inside) ∙ ap (λ b. b ∷ drop (at + 1) text) is
+
+-- a text by its first bytes and the others
+pub three_bytes : (text : List ℕ) (a b c : ℕ) → 3 ≤ length text → slice_index text 0 ≡ a → slice_index text 1 ≡ b → slice_index text 2 ≡ c
+    → text ≡ a ∷ b ∷ c ∷ take (length text - 3) (drop 3 text)
+three_bytes text a b c long is-a is-b is-c =
+    from_byte text 0 a (omega (arith, long)) is-a
+    ∙ ap (λ t. a ∷ t) (from_byte text 1 b (omega (arith, long)) is-b
+    ∙ ap (λ t. b ∷ t) (from_byte text 2 c long is-c ∙ ap (λ t. c ∷ t) (sym (take_rest text 3))))
+
+pub four_bytes : (text : List ℕ) (a b c d : ℕ) → 4 ≤ length text → slice_index text 0 ≡ a → slice_index text 1 ≡ b → slice_index text 2 ≡ c
+    → slice_index text 3 ≡ d → text ≡ a ∷ b ∷ c ∷ d ∷ take (length text - 4) (drop 4 text)
+four_bytes text a b c d long is-a is-b is-c is-d =
+    three_bytes text a b c (omega (arith, long)) is-a is-b is-c
+    ∙ ap (λ t. a ∷ b ∷ c ∷ t) (take_rest text 3 ∙ (from_byte text 3 d long is-d ∙ ap (λ t. d ∷ t) (sym (take_rest text 4))))
+
 pub begun_split : (mark : ℕ) (text name : List ℕ) → begins mark text name ≡ true → text ≡ name ++ mark ∷ drop (length name + 1) text
 unfolding begins
 begun_split mark text name begun =
     let parts = and_parts (nat_lt (length name) (length text)) (slice_index text (length name) == mark && bytes_eq (take (length name) text) name) begun in
     let here = and_parts (slice_index text (length name) == mark) (bytes_eq (take (length name) text) name) parts.1 in
-    let back : drop (length name) text ≡ mark ∷ drop (length name + 1) text =
-    rw add-one (drop-cons text (length name) 0 (ltb-true (length name) (length text) parts.0))
-    ∙ ap (λ byte. byte ∷ drop (length name + 1) text) (eqb-true (slice_index text (length name)) mark here.0) in
+    let back = from_byte text (length name) mark (ltb-true (length name) (length text) parts.0) (eqb-true (slice_index text (length name)) mark here.0) in
     sym (take-append-drop (length name) text) ∙ (ap (λ f. f ++ drop (length name) text) (bytes_same (take (length name) text) name here.1) ∙ ap (λ b. name ++ b) back)
 
 pub first_other : (word text : List ℕ) → lacks 32 word ≡ true → is_full word ≡ true → slice_index (word ++ text) 0 ≢ 32
@@ -69,7 +85,7 @@ words_coded word text test full =
     word_first (word ++ 32 ∷ text) word text (omega (arith, length-append word (32 ∷ text))) (first_other word (32 ∷ text) test full) (sym cut.0) (sym cut.1)
 
 -- an instruction that a text begins with
-pub text_coded : (text word rest : List ℕ) → is_opcode word ≡ true → IsBehind 32 text word rest
+pub text_coded : (text word rest : List ℕ) → is_opcode word ≡ true → text ≡ word ++ 32 ∷ rest
     → (read_line (before 10 text) ≡ Coded word (words_of (before 10 rest))) × (behind 10 text ≡ behind 10 rest)
 unfolding is_opcode read_line line_of
 text_coded text word rest test is =
@@ -77,17 +93,13 @@ text_coded text word rest test is =
     let lack = and_parts (lacks 32 word) (lacks 10 word) parts.0 in
     let full = and_parts (is_full word) (not (is_comment word) && not (ends_label word)) parts.1 in
     let kinds = and_parts (not (is_comment word)) (not (ends_label word)) full.1 in
-    let whole : text ≡ (word ++ 32 ∷ []) ++ rest =
-    begun_split 32 text word is.begun ∙ (ap (λ t. word ++ 32 ∷ t) (sym is.left) ∙ sym (append_assoc word (32 ∷ []) rest)) in
+    let whole : text ≡ (word ++ 32 ∷ []) ++ rest = is ∙ sym (append_assoc word (32 ∷ []) rest) in
     let cut = ahead 10 (word ++ 32 ∷ []) rest (lacks_append 10 word (32 ∷ []) lack.1 (space_lacks 10 refl)) in
     let words : words_of (before 10 text) ≡ word ∷ words_of (before 10 rest) =
     ap (λ t. words_of (before 10 t)) whole ∙ (ap words_of (cut.0 ∙ append_assoc word (32 ∷ []) (before 10 rest)) ∙ words_coded word (before 10 rest) lack.0 full.0) in (
       ap line_of words ∙ rw (not-true (is_comment word) kinds.0, not-true (ends_label word) kinds.1) refl,
       ap (behind 10) whole ∙ cut.1,
     )
-
-pub begun_coded : (text word rest : List ℕ) → is_opcode word ≡ true → IsBehind 32 text word rest → size_of (read_line (before 10 text)) ≡ 1
-begun_coded text word rest test is = ap size_of (text_coded text word rest test is).0
 
 nop_line : read_line (codes "nop") ≡ Coded (codes "nop") (words_of [])
 unfolding read_line line_of words_of is_full is_comment ends_label
@@ -111,12 +123,11 @@ unfolding lacks
 nop_lacks = refl
 
 -- the `nop` that a text begins with
-pub text_nop : (text rest : List ℕ) → IsBehind 10 text (codes "nop") rest
+pub text_nop : (text rest : List ℕ) → text ≡ codes "nop" ++ 10 ∷ rest
     → (read_line (before 10 text) ≡ Coded (codes "nop") (words_of [])) × (behind 10 text ≡ rest)
 text_nop text rest is =
-    let whole : text ≡ codes "nop" ++ 10 ∷ rest = begun_split 10 text (codes "nop") is.begun ∙ ap (λ t. codes "nop" ++ 10 ∷ t) (sym is.left) in
     let cut = cut_name 10 (codes "nop") rest nop_lacks in
-    (ap (λ t. read_line (before 10 t)) whole ∙ (ap read_line cut.0 ∙ nop_line), ap (behind 10) whole ∙ cut.1)
+    (ap (λ t. read_line (before 10 t)) is ∙ (ap read_line cut.0 ∙ nop_line), ap (behind 10) is ∙ cut.1)
 
 -- the end of a line
 pub end_none : (text : List ℕ) → length text ≡ 0 → (before 10 text ≡ []) × (text ≡ behind 10 text)

@@ -6,9 +6,9 @@ use Rattle.std.proofs.{lemmas.List.Folds.list_all_more}
 use Rattle.std.specs.{Char.is_ascii_digit, Str.all_ascii_digits}
 use Rattle.qpu_isa.specs.Fields.{joined}
 use Rattle.script.specs.{Lines.before, Lines.behind, Number.is_number, Number.number_of, Number.number_after}
-use Rattle.qpu_asm.specs.{Walk.lacks, Walk.is_part, Walk.begins, Walk.IsBehind, Walk.IsAfter, Walk.IsNumberRead, Walk.IsWord, Walk.IsOpen, Forms.IsPassed, Walk.skip_to, Walk.with_value, Walk.IsPlace, Walk.IsStep, Walk.AreSteps, Walk.read_items, Walk.code_of, Walk.option_code, Walk.kind_code, Walk.closed_word, Lines.words_of, Lines.is_full, Walk.read_item, Walk.read_named, Items.Spots, Items.read_number, Items.read_plain, Items.read_value, Items.find_named, Items.or_number, Items.has_value, Items.is_row, Items.has_row, Items.kind_named, Table.Row, Table.Kind, Table.nop_kind, Table.widths_of, Table.fallbacks_of, Seen.row_seen, Seen.named_seen}
+use Rattle.qpu_asm.specs.{Walk.lacks, Walk.is_part, Walk.begins, Walk.IsBehind, Walk.IsAfter, Walk.IsNumberRead, Walk.IsWord, Walk.is_opcode, Walk.IsCoded, Walk.IsOpen, Forms.IsPassed, Walk.skip_to, Walk.with_value, Walk.IsPlace, Walk.IsStep, Walk.AreSteps, Walk.read_items, Walk.code_of, Walk.option_code, Walk.kind_code, Walk.closed_word, Lines.words_of, Lines.is_full, Walk.read_item, Walk.read_named, Items.Spots, Items.read_number, Items.read_plain, Items.read_value, Items.find_named, Items.or_number, Items.has_value, Items.is_row, Items.has_row, Items.kind_named, Table.Row, Table.Kind, Table.nop_kind, Table.widths_of, Table.fallbacks_of, Seen.row_seen, Seen.named_seen}
 use Rattle.qpu_asm.specs.declared.table.Row as code
-use Rattle.qpu_asm.proofs.{Heads.cut_name, Heads.begun_split, Heads.ahead, Heads.lacks_append, Heads.digits_lack, Heads.first_other, Words.word_first, Bytes.bytes_same, Bytes.bytes_itself, Rows.none_left, Reading.value_small, Reading.open_facts, Reading.open_step}
+use Rattle.qpu_asm.proofs.{Heads.cut_name, Heads.begun_split, Heads.text_coded, Heads.ahead, Heads.lacks_append, Heads.digits_lack, Heads.first_other, Words.word_first, Bytes.bytes_same, Bytes.bytes_itself, Rows.none_left, Reading.value_small, Reading.open_facts, Reading.open_step}
 
 -- the first item is cut at its `=`, and has the name before it
 pub record IsItemOf (items name text : List ℕ) : Type 0 where
@@ -279,10 +279,16 @@ pub kind_read : (spots : Spots) (index : ℕ) (kind : Kind) (items : List (List 
 unfolding kind_code closed_word
 kind_read spots index kind items word value later steps is = ap closed_word (steps kind.rows) ∙ ap Ok (sym is)
 
-pub code_read : (spots : Spots) (index : ℕ) (opcode : List ℕ) (kind : Kind) (items : List (List ℕ)) (word : ℕ) → kind_named opcode ≡ Some kind
-    → kind_code spots index items kind ≡ Ok word → code_of spots index opcode items ≡ Ok word
+-- an instruction that a text begins with, of a kind that has items
+pub text_read : (spots : Spots) (index : ℕ) (text opcode rest : List ℕ) (kind : Kind) (word : ℕ) → is_opcode opcode ≡ true → kind_named opcode ≡ Some kind
+    → text ≡ opcode ++ 32 ∷ rest → kind_code spots index (words_of (before 10 rest)) kind ≡ Ok word → IsCoded spots index (before 10 text) word
 unfolding code_of
-code_read spots index opcode kind items word is read = ap (option_code spots index items) is ∙ read
+text_read spots index text opcode rest kind word test named is read = record {
+  opcode = opcode;
+  items = words_of (before 10 rest);
+  reads = (text_coded text opcode rest test is).0;
+  codes = ap (option_code spots index (words_of (before 10 rest))) named ∙ read;
+}
 
 -- a number of one digit
 pub digit_read : (below : ℕ) (text others rest : List ℕ) (value : ℕ) → 0 < length text → is_ascii_digit (slice_index text 0) ≡ true → others ≡ drop 1 text

@@ -280,8 +280,6 @@ fn behind_own<'a>(items: &'a [u8], first: u8, second: u8, name: &[u8]) -> Option
     }
 }
 
-const TO: &[u8] = b"to";
-
 // The place of the first of some items, where its row is this one.
 #[inline]
 fn place_at<'a>(form: &Form, at: usize, items: &'a [u8]) -> Option<Place<'a>>
@@ -305,14 +303,16 @@ fn place_at<'a>(form: &Form, at: usize, items: &'a [u8]) -> Option<Place<'a>>
     if !row.takes_label {
         return None;
     }
-    let text = behind_name(items, TO, b'=')?;
-    Some(Place {
-        at,
-        row,
-        field,
-        is_own: false,
-        text,
-    })
+    match items {
+        [b't', b'o', b'=', text @ ..] => Some(Place {
+            at,
+            row,
+            field,
+            is_own: false,
+            text,
+        }),
+        _ => None,
+    }
 }
 
 // The first row from this one on that may be of the name that items begin with.

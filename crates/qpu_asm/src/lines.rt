@@ -4,7 +4,7 @@ ghost use Rattle.script.specs.Lines.{before, behind, lines_of};
 ghost use Rattle.qpu_asm.specs.Labels.{size_of};
 ghost use Rattle.qpu_asm.specs.Lines.{Coded, words_of, label_line, line_of, is_alone, is_comment as comment_test, ends_label as label_test, read_line as line_read};
 ghost use Rattle.qpu_asm.specs.Seen.{line_seen};
-ghost use Rattle.qpu_asm.specs.Walk.{begins, is_opcode, IsBehind};
+ghost use Rattle.qpu_asm.specs.Walk.{begins, IsBehind};
 
 use crate::names::is_name;
 use script::{Cut, cut_at};
@@ -19,8 +19,6 @@ pub enum Line<'a> {
 }
 
 pub const ALU: &[u8] = b"alu";
-
-pub const NOP: &[u8] = b"nop";
 
 pub const LOAD_IMM: &[u8] = b"li";
 
@@ -82,9 +80,9 @@ pub fn behind_name<'a>(text: &'a [u8], name: &[u8], mark: u8) -> Option<&'a [u8]
 pub fn begins_branch(text: &[u8]) -> bool
     ensures { IsTrue result → size_of (line_read (before 10 text.now)) ≡ 1 }
 {
-    match behind_name(text, BRANCH, b' ') {
-        Some(_) => true,
-        None => false,
+    match text {
+        [b'b', b'r', b' ', ..] => true,
+        _ => false,
     }
 }
 

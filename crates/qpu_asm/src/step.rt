@@ -5,9 +5,9 @@ ghost use Rattle.std.specs.Io.{StartsWith};
 ghost use Rattle.std.specs.Str.{all_ascii_digits};
 ghost use Rattle.script.specs.Lines.{before, behind};
 ghost use Rattle.script.specs.Number.{is_number as number_test, number_of};
-ghost use Rattle.qpu_asm.specs.Items.{Spots, kind_named as kind_by, read_plain as plain_read, read_target as target_read, read_value as value_read};
+ghost use Rattle.qpu_asm.specs.Items.{Spots, read_plain as plain_read, read_target as target_read, read_value as value_read};
 ghost use Rattle.qpu_asm.specs.Lines.{words_of, is_name as name_test};
-ghost use Rattle.qpu_asm.specs.Walk.{kind_code, is_opcode, IsWord, IsAfter, IsNumberRead, AreSteps, IsCoded};
+ghost use Rattle.qpu_asm.specs.Walk.{kind_code, IsWord, IsAfter, IsNumberRead, AreSteps, IsCoded};
 ghost use Rattle.qpu_asm.specs.Forms.{front_of, are_behind, IsReadStep, IsWhole};
 ghost use Rattle.qpu_asm.specs.Seen.{row_seen, spots_in, name_seen};
 
@@ -15,7 +15,6 @@ use crate::form::{Field, Form, Forms, Place, find_place, find_value, kept_item};
 use crate::item::distance;
 use crate::label::{Labels, spot_of};
 use crate::labelled::{Labelled, begins_name, begun_name};
-use crate::lines::{ALU, BRANCH, LOAD_IMM, NOP, behind_name};
 use crate::table::{Row, nop};
 use script::Cut;
 
@@ -375,36 +374,16 @@ fn read_items<'a>(
     })
 }
 
-// The instruction that a text begins with, where it begins with this opcode, which is of this form.
+// The load immediate that a text begins with, where its items have no mistake.
 #[inline(always)]
-fn read_by<'a>(
-    labels: Option<&Labels<'a>>,
-    index: u32,
-    opcode: &[u8],
-    form: &Form,
-    text: &'a [u8],
-) -> Option<Coded<'a>>
-    requires word { is_opcode opcode.now ≡ true }
-    requires kind { kind_by opcode.now ≡ Some form.now }
-    ensures coded { IfSome result (λ coded. (spots : Spots) → IfSome labels.entry (λ l. spots ≡ spots_in l.now)
-        → IsCoded spots index (before 10 text.now) coded.word) }
+fn read_load_imm<'a>(forms: &Forms, index: u32, text: &'a [u8]) -> Option<Coded<'a>>
+    ensures coded { IfSome result (λ coded. (spots : Spots) → IsCoded spots index (before 10 text.now) coded.word) }
     ensures rest { IfSome result (λ coded. coded.rest.now ≡ behind 10 text.now) }
 {
-    let items = behind_name(text, opcode, b' ')?;
-    let coded = read_items(labels, index, form, items)?;
-    Some(coded)
-}
-
-// The `nop` that a text begins with.
-fn read_nop<'a>(text: &'a [u8]) -> Option<Coded<'a>>
-    ensures coded { IfSome result (λ coded. (spots : Spots) (index : ℕ) → IsCoded spots index (before 10 text.now) coded.word) }
-    ensures rest { IfSome result (λ coded. coded.rest.now ≡ behind 10 text.now) }
-{
-    let rest = behind_name(text, NOP, b'\n')?;
-    Some(Coded {
-        word: nop().above,
-        rest,
-    })
+    match text {
+        [b'l', b'i', b' ', items @ ..] => read_items(None, index, &forms.load_imm, items),
+        _ => None,
+    }
 }
 
 /// The instruction that a text begins with, where it is no branch and its items have no mistake, as most lines do.
@@ -412,11 +391,13 @@ pub fn read_early<'a>(forms: &Forms, index: u32, text: &'a [u8]) -> Option<Coded
     ensures coded { IfSome result (λ coded. (spots : Spots) → IsCoded spots index (before 10 text.now) coded.word) }
     ensures rest { IfSome result (λ coded. coded.rest.now ≡ behind 10 text.now) }
 {
-    match text.first() {
-        Some(b'a') => read_by(None, index, ALU, &forms.alu, text),
-        Some(b'l') => read_by(None, index, LOAD_IMM, &forms.load_imm, text),
-        Some(b'n') => read_nop(text),
-        _ => None,
+    match text {
+        [b'a', b'l', b'u', b' ', items @ ..] => read_items(None, index, &forms.alu, items),
+        [b'n', b'o', b'p', b'\n', rest @ ..] => Some(Coded {
+            word: nop().above,
+            rest,
+        }),
+        _ => read_load_imm(forms, index, text),
     }
 }
 
@@ -430,5 +411,8 @@ pub fn read_branch<'a>(
     ensures coded { IfSome result (λ coded. IsCoded (spots_in labels.now) index (before 10 text.now) coded.word) }
     ensures rest { IfSome result (λ coded. coded.rest.now ≡ behind 10 text.now) }
 {
-    read_by(Some(labels), index, BRANCH, &forms.branch, text)
+    match text {
+        [b'b', b'r', b' ', items @ ..] => read_items(Some(labels), index, &forms.branch, items),
+        _ => None,
+    }
 }
