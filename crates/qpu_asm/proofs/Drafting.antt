@@ -3,10 +3,10 @@ use Rattle.std.proofs.Common.{◌≡◌, ℕ, suc, ◌==◌, inl, inr, ◌+◌, 
 use Rattle.std.proofs.lemmas.Bool.{cases_Bool}
 use Rattle.std.proofs.Math.Seq.{get_or-append_seam}
 use Rattle.field_words.proofs.Pieces.{drop_drop}
-use Rattle.std.proofs.lemmas.List.{take_more, take_all, get_or-take, get_or_append_left, length-take, length-drop}
+use Rattle.std.proofs.lemmas.List.{take_more, take_all, get_or-take, get_or_append_left, length-take, length-drop, length-map}
 use Rattle.script.specs.Lines.{before, behind}
 use Rattle.qpu_asm.specs.{declared.label.Mark.Mark, declared.label.Spot.Spot, Items.Spots, Lines.Line, Lines.Blank, Lines.Label, Lines.BadLabel, Lines.Coded, Lines.read_line}
-use Rattle.qpu_asm.specs.{Labels.label_on, Labels.size_of, Walk.IsCoded, Walk.line_words, Seen.labels_seen}
+use Rattle.qpu_asm.specs.{Labels.label_on, Labels.size_of, Walk.IsCoded, Walk.line_words, Seen.labels_seen, Seen.mark_seen}
 use Rattle.qpu_asm.specs.Draft.{left_from, IsFilled, AreFilled, IsWordOrPlace, IsDraftedOn}
 use Rattle.qpu_asm.proofs.Assembling.{coded_words}
 
@@ -46,6 +46,17 @@ filled_last spots text old full word filled =
       },
       subst (λ w. IsFilled spots text count w (get_or full count 0)) (get_or-append_seam old word [] 0) (filled.each count inside),
     )
+
+one_label : (number index : ℕ) (line : Line) → length (label_on number index line) ≤ 1
+one_label number index Blank = omega arith
+one_label number index (Label name) = omega arith
+one_label number index BadLabel = omega arith
+one_label number index (Coded opcode items) = omega arith
+
+-- a line has one mark at most
+pub marks_more : (old new : List Mark) (number index : ℕ) (line : Line) → labels_seen new ≡ labels_seen old ++ label_on number index line → length new ≤ length old + 1
+marks_more old new number index line is =
+    omega (arith, ap length is, length-append (labels_seen old) (label_on number index line), length-map new mark_seen, length-map old mark_seen, one_label number index line)
 
 no_label : (number index : ℕ) (line : Line) → size_of line ≡ 1 → label_on number index line ≡ []
 no_label number index Blank one = refl

@@ -1,7 +1,7 @@
 -- What is drafted of a text before its labels are known. No part of what the crate claims.
 use Rattle.std.specs.Prelude.{◌≡◌, ℕ, ◌+◌, ◌-◌, ◌*◌, ◌^◌, ◌<◌, ◌≤◌, List, [], ◌++◌, length, drop, slice_index, Ok, ◌⊎◌}
-use Rattle.script.specs.Lines.{before}
-use Rattle.qpu_asm.specs.{declared.label.Mark.Mark, Items.Spots, Lines.Line, Labels.labels_of, Labels.label_on, Labels.size_of, Labels.read_lines, Marks.IsFirstBelow, Marks.AreFirstBelow, Walk.IsCoded, Walk.line_words, Walk.lines_words, Seen.labels_seen}
+use Rattle.script.specs.Lines.{before, behind}
+use Rattle.qpu_asm.specs.{declared.label.Mark.Mark, Items.Spots, Lines.Line, Lines.read_line, Labels.labels_of, Labels.label_on, Labels.size_of, Labels.read_lines, Marks.IsFirstBelow, Marks.AreFirstBelow, Walk.IsCoded, Walk.line_words, Walk.lines_words, Seen.labels_seen}
 
 -- from this number on, a drafted word tells where in the text the line lies that is left
 abbrev pub left_from : ℕ
@@ -36,6 +36,11 @@ pub record IsDraftedOn (text : List ℕ) (number : ℕ) (line : Line) (words_old
   pub labels : labels_seen marks_new ≡ labels_seen marks_old ++ label_on number (length words_old) line
   pub size : length words_new ≡ length words_old + size_of line
   pub words : IsPut text number line words_old words_new
+
+-- what a text's first line has is drafted, where the text stands at this place of a whole one
+pub record IsFirstDrafted (at number : ℕ) (text rest words_old words_new : List ℕ) (marks_old marks_new : List Mark) : Type 0 where
+  pub below : rest ≡ behind 10 text
+  pub drafted : (whole : List ℕ) → text ≡ drop at whole → IsDraftedOn whole number (read_line (before 10 text)) words_old words_new marks_old marks_new
 
 -- the words of a text, where its labels are known and none is repeated, and the left lines have no mistake
 pub record IsDraftOf (text drafted : List ℕ) (marks : List Mark) : Type 0 where

@@ -4,7 +4,7 @@ ghost use Rattle.script.specs.Lines.{before, behind};
 ghost use Rattle.qpu_asm.specs.Lines.{read_line as line_read};
 ghost use Rattle.qpu_asm.specs.Items.{Spots};
 ghost use Rattle.qpu_asm.specs.Walk.{IsCoded};
-ghost use Rattle.qpu_asm.specs.Draft.{IsWordOrPlace, IsDraftedOn, IsDraftOf, AreFilled};
+ghost use Rattle.qpu_asm.specs.Draft.{IsWordOrPlace, IsFirstDrafted, IsDraftOf, AreFilled};
 ghost use Rattle.qpu_asm.specs.Seen.{spots_in};
 
 use crate::form::Forms;
@@ -66,11 +66,8 @@ fn put_line<'a>(
 ) -> Result<Option<&'a [u8]>, AllocError>
     requires few { vec_len words.old < 2 ^ 32 }
     requires place { at < 2 ^ 32 }
-    ensures few { OnOk result (vec_len marks.new ≤ vec_len marks.old + 1) }
-    ensures more { OnOk result (vec_len words.new ≤ vec_len words.old + 1) }
-    ensures rest { IfOk result (λ put. IfSome put (λ rest. rest.now ≡ behind 10 text.now)) }
-    ensures drafted { IfOk result (λ put. IfSome put (λ _. (whole : List ℕ) → text.now ≡ drop at whole
-        → IsDraftedOn whole number (line_read (before 10 text.now)) words.old.items words.new.items marks.old.items marks.new.items)) }
+    ensures { IfOk result (λ put. IfSome put (λ rest. IsFirstDrafted at number text.now rest.now
+        words.old.items words.new.items marks.old.items marks.new.items)) }
 {
     if let Some(coded) = read_early(forms, words.len() as u32, text) {
         words.push(drafted_word(coded.word, at))?;
@@ -128,11 +125,8 @@ fn put_other<'a>(
 ) -> Result<Option<&'a [u8]>, AllocError>
     requires few { vec_len words.old < 2 ^ 32 }
     requires place { at < 2 ^ 32 }
-    ensures few { OnOk result (vec_len marks.new ≤ vec_len marks.old + 1) }
-    ensures more { OnOk result (vec_len words.new ≤ vec_len words.old + 1) }
-    ensures rest { IfOk result (λ put. IfSome put (λ rest. rest.now ≡ behind 10 text.now)) }
-    ensures drafted { IfOk result (λ put. IfSome put (λ _. (whole : List ℕ) → text.now ≡ drop at whole
-        → IsDraftedOn whole number (line_read (before 10 text.now)) words.old.items words.new.items marks.old.items marks.new.items)) }
+    ensures { IfOk result (λ put. IfSome put (λ rest. IsFirstDrafted at number text.now rest.now
+        words.old.items words.new.items marks.old.items marks.new.items)) }
 {
     let cut = cut_at(text, b'\n');
     match read_line(cut.first) {

@@ -195,16 +195,8 @@ fn sorted_marks(marks: Vec<Mark<'_>>) -> Vec<Mark<'_>>
     ensures { AreSortedOf (labels_seen marks.entry.items) result.items }
 {
     let mut marks = marks;
-    sort_marks(&mut marks);
-    marks
-}
-
-// Sorts marks.
-fn sort_marks(marks: &mut [Mark<'_>])
-    ensures moved { IsPermutation marks.old marks.new }
-    ensures order { AreInOrder marks.new }
-{
     marks.sort_unstable();
+    marks
 }
 
 // The marks of a text, line after line.
@@ -273,7 +265,22 @@ fn add_line<'a>(marks: &mut Vec<Mark<'a>>, line: Line<'a>, spot: Spot) -> Result
 fn are_same(first: &Name<'_>, second: &Name<'_>) -> bool
     ensures { result ≡ bytes_eq first.now.bytes.now second.now.bytes.now }
 {
-    *first == *second
+    first.key == second.key && are_equal(first.bytes, second.bytes)
+}
+
+// Names are short, so they are compared byte by byte.
+fn are_equal(first: &[u8], second: &[u8]) -> bool
+    ensures { result ≡ bytes_eq first.now second.now }
+{
+    if first.len() != second.len() {
+        return false;
+    }
+    for at in 0..first.len() {
+        if first[at] != second[at] {
+            return false;
+        }
+    }
+    true
 }
 
 // A line that repeats a label is a bound.

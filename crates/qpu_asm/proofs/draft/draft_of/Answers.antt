@@ -1,8 +1,8 @@
-use Rattle.std.proofs.{Common.◌≡◌, Common.◌<◌, Common.◌≤◌, Common.◌+◌, Common.◌++◌, Common.◌-◌, Common.◌∷◌, Common.sym, Common.refl, Common.subst, Common.ap, Common.◌∙◌, Common.arith, Common.drop, Common.take, Common.IfSome, Common.length, Common.vec_len, Common.ℕ, Common.List, lemmas.List.length-drop, lemmas.List.take_rest}
+use Rattle.std.proofs.{Common.◌≡◌, Common.◌<◌, Common.◌≤◌, Common.◌+◌, Common.◌++◌, Common.◌-◌, Common.◌∷◌, Common.sym, Common.refl, Common.subst, Common.ap, Common.◌∙◌, Common.arith, Common.drop, Common.take, Common.IfSome, Common.length, Common.vec_len, lemmas.List.length-drop, lemmas.List.take_rest}
 use Rattle.script.specs.Lines.{before, behind}
-use Rattle.qpu_asm.specs.{Lines.read_line, Labels.read_lines, Labels.labels_of, Labels.labels_from, Labels.size_of, Labels.label_on, Walk.lines_words, Draft.IsDraftedOn, Seen.labels_seen}
-use Rattle.qpu_asm.proofs.Assembling.{text_first, first_parts, labels_step, labels_end, words_step, words_end}
-use Rattle.qpu_asm.proofs.Drafting.{rest_place, no_words}
+use Rattle.qpu_asm.specs.{Lines.read_line, Labels.read_lines, Labels.labels_of, Labels.labels_from, Labels.size_of, Labels.label_on, Walk.lines_words, Draft.IsDraftedOn, Draft.IsFirstDrafted, Seen.labels_seen}
+use Rattle.qpu_asm.proofs.Assembling.{text_first, size_low, first_parts, labels_step, labels_end, words_step, words_end}
+use Rattle.qpu_asm.proofs.Drafting.{rest_place, no_words, marks_more}
 use Rattle.qpu_asm.proofs.Heads.{behind_shorter}
 use Rattle.qpu_asm.proofs.draft.draft_of.Goals as goal
 
@@ -26,12 +26,11 @@ put c =
     let text = c.args.text.now in
     let whole = take_rest text c.loop-at.at in
     let start = take (length text - c.loop-at.at) (drop c.loop-at.at text) in
-    let drafted = subst (λ o. IfSome o (λ _. (all : List ℕ) → start ≡ drop c.loop-at.at all
-    → IsDraftedOn all c.loop-at.line (read_line (before 10 start)) c.loop-at.words.items c.put_line.new.words.items c.loop-at.marks.items c.put_line.new.marks.items))
-    c.in-Some.is c.in_ok-rest.ensures.drafted in (
-      subst (λ o. IfSome o (λ rest. rest.now ≡ behind 10 start)) c.in-Some.is c.in_ok-rest.ensures.rest ∙ ap (behind 10) whole,
+    let first = subst (λ o. IfSome o (λ rest. IsFirstDrafted c.loop-at.at c.loop-at.line start rest.now
+    c.loop-at.words.items c.put_line.new.words.items c.loop-at.marks.items c.put_line.new.marks.items)) c.in-Some.is c.in_ok-rest.ensures in (
+      first.below ∙ ap (behind 10) whole,
       subst (λ front. IsDraftedOn text c.loop-at.line (read_line (before 10 front)) c.loop-at.words.items c.put_line.new.words.items c.loop-at.marks.items c.put_line.new.marks.items)
-          whole (drafted text whole),
+          whole (first.drafted text whole),
     )
 
 pub overflow_sub-at : goal.overflow_sub-at
@@ -67,8 +66,8 @@ loop-at-preserved c =
     record {
       inside = omega arith;
       lines = omega (arith, short, long, ap length is, c.loop-at.invariant.lines, c.loop-at-test.true);
-      indexes = omega (arith, c.in_ok-rest.ensures.more, c.loop-at.invariant.indexes);
-      few = omega (arith, c.in_ok-rest.ensures.few, c.loop-at.invariant.few);
+      indexes = omega (arith, size, size_low line, c.loop-at.invariant.indexes);
+      few = omega (arith, marks_more _ _ c.loop-at.line _ line drafted.labels, c.loop-at.marks.ok, c.put_line.new.marks.ok, c.loop-at.invariant.few);
       labels = ap (λ size. labels_seen c.put_line.new.marks.items ++ labels_from (c.loop-at.line + 1) size (read_lines (drop (length text - length rest) text)))
           size
           ∙ labels_step _ _ _ _ line c.loop-at.line index (size_of line) lines refl

@@ -5,24 +5,27 @@ use Rattle.qpu_asm.proofs.Drafting.{blank_drafted, left_drafted, mark_drafted}
 use Rattle.qpu_asm.proofs.draft.put_other.Goals.{in-Blank, in-Label+in_ok-add_mark-in-Label, in-Coded+in_ok-push-in-Coded}
 use Rattle.qpu_asm.proofs.draft.put_other.Goals as goal
 
-pub returns-clause-drafted : goal.returns-clause-drafted
-returns-clause-drafted c = λ whole place.
-    let number = c.args.number in
-    let old = c.args.words.now.items in
-    let marks = c.args.marks.now.items in
-    let line = read_line (before 10 c.args.text.now) in
-    let first = ap read_line c.cut_at-cut.ensures.first in
-    elim c.match-read_line.branch [
-      | in-Blank w ↦
-          rw (w.words-is, w.marks-is) (blank_drafted whole number line old marks (sym (w.in-Blank.ensures ∙ first)))
-      | in-Label+in_ok-add_mark-in-Label w ↦
-          rw (w.words-is, w.marks-is)
-          (mark_drafted whole number line w.in-Label.name.now old w.deref.result.now w.spot_behind.result marks _
-          (sym (w.in-Label.ensures ∙ first)) w.deref.ensures.value w.spot_behind.ensures
-          (w.in_ok-add_mark-in-Label.ensures.labels
-          ∙ ap (λ name. labels_seen marks ++ label_on w.spot_behind.result.line w.spot_behind.result.index (Label name)) w.of.ensures))
-      | in-Coded+in_ok-push-in-Coded w ↦
-          rw (w.words-is, w.marks-is)
-          (left_drafted whole c.args.text.now number c.args.at old _ marks w.in_ok-push-in-Coded.ensures.items place
-          (ap size_of (sym (w.in-Coded.ensures ∙ first))))
-    ]
+pub returns : goal.returns
+returns c = record {
+  below = c.cut_at-cut.ensures.rest;
+  drafted = λ whole place.
+      let number = c.args.number in
+      let old = c.args.words.now.items in
+      let marks = c.args.marks.now.items in
+      let line = read_line (before 10 c.args.text.now) in
+      let first = ap read_line c.cut_at-cut.ensures.first in
+      elim c.match-read_line.branch [
+        | in-Blank w ↦
+            rw (w.words-is, w.marks-is) (blank_drafted whole number line old marks (sym (w.in-Blank.ensures ∙ first)))
+        | in-Label+in_ok-add_mark-in-Label w ↦
+            rw (w.words-is, w.marks-is)
+            (mark_drafted whole number line w.in-Label.name.now old w.deref.result.now w.spot_behind.result marks _
+            (sym (w.in-Label.ensures ∙ first)) w.deref.ensures.value w.spot_behind.ensures
+            (w.in_ok-add_mark-in-Label.ensures.labels
+            ∙ ap (λ name. labels_seen marks ++ label_on w.spot_behind.result.line w.spot_behind.result.index (Label name)) w.of.ensures))
+        | in-Coded+in_ok-push-in-Coded w ↦
+            rw (w.words-is, w.marks-is)
+            (left_drafted whole c.args.text.now number c.args.at old _ marks w.in_ok-push-in-Coded.ensures.items place
+            (ap size_of (sym (w.in-Coded.ensures ∙ first))))
+      ];
+}
