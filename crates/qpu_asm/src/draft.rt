@@ -1,8 +1,6 @@
 //! A text's words in one walk: all but those of the lines that are left until its labels are known.
-ghost use Rattle.std.specs.Prelude.{◌≡◌, ◌<◌, ◌≤◌, ◌^◌, ◌+◌, ℕ, List, length, vec_len, drop, IfOk, IfSome, IsTrue, OnOk};
+ghost use Rattle.std.specs.Prelude.{◌≡◌, ◌<◌, ◌^◌, ◌+◌, length, vec_len, drop, IfOk, IfSome, IsTrue};
 ghost use Rattle.script.specs.Lines.{before, behind};
-ghost use Rattle.qpu_asm.specs.Lines.{read_line as line_read};
-ghost use Rattle.qpu_asm.specs.Items.{Spots};
 ghost use Rattle.qpu_asm.specs.Walk.{IsCoded};
 ghost use Rattle.qpu_asm.specs.Draft.{IsWordOrPlace, IsFirstDrafted, IsDraftOf, AreFilled};
 ghost use Rattle.qpu_asm.specs.Seen.{spots_in};

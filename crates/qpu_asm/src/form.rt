@@ -1,13 +1,12 @@
 //! What reads the items of a kind's lines: where the row of a name is, and where its field lies, so that no row before it is walked over.
-ghost use Rattle.std.specs.Prelude.{◌≡◌, ℕ, ◌≤◌, ◌<◌, ◌∷◌, ◌+◌, ◌/◌, ◌^◌, true, length, map, take, drop, slice_index, IfSome, MatchOption, Some, Ok, false, codes, bytes_eq, List, None};
-ghost use Rattle.qpu_isa.specs.Fields.{width_of};
-ghost use Rattle.qpu_asm.specs.Table.{Row as RowModel, alu_kind, load_imm_kind, branch_kind};
+ghost use Rattle.std.specs.Prelude.{◌≡◌, ◌≤◌, ◌<◌, ◌+◌, ◌/◌, ◌^◌, true, length, map, take, drop, slice_index, IfSome, MatchOption, Some, Ok, false, None};
+ghost use Rattle.qpu_asm.specs.Table.{alu_kind, load_imm_kind, branch_kind};
 ghost use Rattle.qpu_asm.specs.Items.{find_named};
 ghost use Rattle.std.specs.Int.{to_le_bytes, w64};
 ghost use Rattle.script.specs.Lines.{before};
 ghost use Rattle.qpu_asm.specs.Items.{read_plain};
 ghost use Rattle.std.specs.Io.{StartsWith};
-ghost use Rattle.qpu_asm.specs.Walk.{begins, IsAfter, IsBehind, IsWord};
+ghost use Rattle.qpu_asm.specs.Walk.{begins, IsBehind, IsWord};
 ghost use Rattle.qpu_asm.specs.Forms.{slot_of as slot_by, front_of, are_behind, changed, EndsKept, IsWhole, ArePassed, IsItemAt, IsNext, IsReadAt};
 ghost use Rattle.qpu_asm.specs.Seen.{named_seen, row_seen, name_seen};
 

@@ -2,7 +2,7 @@
 //! sorted in their place.
 ghost use Rattle.std.specs.Prelude.{◌≡◌, ◌<◌, ◌≤◌, ◌^◌, ◌++◌, ◌-◌, ◌+◌, ◌*◌, length, max, min, vec_len, IfOk, IfSome, OnOk, Some, None, bytes_eq, if◌then◌else◌};
 ghost use Rattle.std.specs.Ordering.{is_lt};
-ghost use Rattle.std.specs.Prelude.{IsPermutation, List};
+ghost use Rattle.std.specs.Prelude.{List};
 ghost use Rattle.qpu_asm.specs.Lines.{Label, Line as LineSeen};
 ghost use Rattle.qpu_asm.specs.Labels.{spots_of, labels_of, labels_from, label_on, read_lines, size_of};
 ghost use Rattle.qpu_asm.specs.Marks.{key_bucket, kept_cmp, AreInOrder, AreLinked, AreFirstBelow, AreLabelsOn, BoundsNext, BoundsLater, BoundsBehind, IsStart, AreSortedOf};

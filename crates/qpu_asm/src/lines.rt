@@ -1,6 +1,6 @@
 //! Lines and words of a text.
 ghost use Rattle.std.specs.Prelude.{◌≡◌, ℕ, ◌<◌, ◌≤◌, ◌+◌, ◌∷◌, [], length, MatchOption, true, false, IfSome, IsTrue, slice_index, ◌≢◌};
-ghost use Rattle.script.specs.Lines.{before, behind, lines_of};
+ghost use Rattle.script.specs.Lines.{before, behind};
 ghost use Rattle.qpu_asm.specs.Labels.{size_of};
 ghost use Rattle.qpu_asm.specs.Lines.{Coded, words_of, label_line, line_of, is_alone, is_comment as comment_test, ends_label as label_test, read_line as line_read};
 ghost use Rattle.qpu_asm.specs.Seen.{line_seen};

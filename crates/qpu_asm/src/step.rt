@@ -1,6 +1,6 @@
 //! An instruction without a mistake, each of whose items is read at once by the letters of its name. What isn't read here is read by
 //! `item`, which says the mistakes too.
-ghost use Rattle.std.specs.Prelude.{◌≡◌, ◌≤◌, ◌<◌, ◌∷◌, ◌+◌, ◌-◌, ◌*◌, ◌^◌, [], codes, ℕ, length, take, min, map, drop, bytes_eq, true, false, IfSome, IsTrue, Some, Ok, ⊤};
+ghost use Rattle.std.specs.Prelude.{◌≡◌, ◌≤◌, ◌<◌, ◌+◌, ◌-◌, ◌*◌, ◌^◌, [], codes, ℕ, length, take, min, map, drop, bytes_eq, true, false, IfSome, IsTrue, Some, Ok, ⊤};
 ghost use Rattle.std.specs.Io.{StartsWith};
 ghost use Rattle.std.specs.Str.{all_ascii_digits};
 ghost use Rattle.script.specs.Lines.{before, behind};
