@@ -280,7 +280,7 @@ fn behind_own<'a>(items: &'a [u8], first: u8, second: u8, name: &[u8]) -> Option
 }
 
 // The place of the first of some items, where its row is this one.
-#[inline]
+#[inline(always)]
 fn place_at<'a>(form: &Form, at: usize, items: &'a [u8]) -> Option<Place<'a>>
     requires inside { at < length form.now.rows }
     requires some { 2 < length items.now }
