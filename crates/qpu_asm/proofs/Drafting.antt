@@ -1,13 +1,13 @@
 -- A text in one walk: what its lines put to the draft, and what is filled in for the lines that are left.
-use Rattle.std.proofs.Common.{◌≡◌, ℕ, suc, ◌==◌, inl, inr, ◌+◌, ◌-◌, ◌<◌, ◌≤◌, List, [], ◌∷◌, ◌++◌, length, take, drop, get_or, refl, sym, ◌∙◌, ap, subst, arith, append-nil, length-append, Ok}
+use Rattle.std.proofs.Common.{◌≡◌, ℕ, suc, true, false, ◌==◌, inl, inr, ◌+◌, ◌-◌, ◌*◌, ◌/◌, ◌^◌, ◌<◌, ◌≤◌, List, [], ◌∷◌, ◌++◌, length, take, drop, get_or, refl, sym, ◌∙◌, ap, subst, arith, append-nil, length-append, eq-eqb, Ok}
 use Rattle.std.proofs.lemmas.Bool.{cases_Bool}
 use Rattle.std.proofs.Math.Seq.{get_or-append_seam}
 use Rattle.field_words.proofs.Pieces.{drop_drop}
 use Rattle.std.proofs.lemmas.List.{take_more, take_all, get_or-take, get_or_append_left, length-take, length-drop, length-map}
 use Rattle.script.specs.Lines.{before, behind}
-use Rattle.qpu_asm.specs.{declared.label.Mark.Mark, declared.label.Spot.Spot, Items.Spots, Lines.Line, Lines.Blank, Lines.Label, Lines.BadLabel, Lines.Coded, Lines.read_line}
-use Rattle.qpu_asm.specs.{Labels.label_on, Labels.size_of, Walk.IsCoded, Walk.line_words, Seen.labels_seen, Seen.mark_seen}
-use Rattle.qpu_asm.specs.Draft.{left_from, IsFilled, AreFilled, IsWordOrPlace, IsDraftedOn}
+use Rattle.qpu_asm.specs.{declared.mark.Mark.Mark, declared.mark.Spot.Spot, Items.Spots, Lines.Line, Lines.Blank, Lines.Label, Lines.BadLabel, Lines.Coded, Lines.read_line}
+use Rattle.qpu_asm.specs.{Labels.AreAtSpots, Labels.label_on, Labels.size_of, Walk.IsCoded, Walk.line_words, Seen.labels_seen, Seen.mark_seen}
+use Rattle.qpu_asm.specs.Draft.{left_from, is_left, IsFilled, AreFilled, IsWordOrPlace, IsDraftedOn}
 use Rattle.qpu_asm.proofs.Assembling.{coded_words}
 
 pub blank_drafted : (text : List ℕ) (number : ℕ) (line : Line) (words : List ℕ) (marks : List Mark) → line ≡ Blank → IsDraftedOn text number line words words marks marks
@@ -15,7 +15,7 @@ unfolding line_words
 blank_drafted text number line words marks is = rw is (record {
   labels = sym (append-nil (labels_seen marks));
   size = omega arith;
-  words = λ spots bound full below first filled. record { above = full; filled = filled; put = refl };
+  words = λ spots bound full below first standing filled. record { above = full; filled = filled; put = refl };
 })
 
 label_drafted : (text : List ℕ) (number : ℕ) (line : Line) (name words : List ℕ) (old new : List Mark) → line ≡ Label name
@@ -24,7 +24,7 @@ unfolding line_words
 label_drafted text number line name words old new is added = rw is (record {
   labels = added;
   size = omega arith;
-  words = λ spots bound full below first filled. record { above = full; filled = filled; put = rw (first below) refl };
+  words = λ spots bound full below first standing filled. record { above = full; filled = filled; put = rw (first below) refl };
 })
 
 -- what was drafted last
@@ -65,16 +65,16 @@ no_label number index BadLabel one = refl
 no_label number index (Coded opcode items) one = refl
 
 pub coded_drafted : (text : List ℕ) (number : ℕ) (line old new : List ℕ) (marks : List Mark) (word : ℕ) → new ≡ old ++ word ∷ [] → size_of (read_line line) ≡ 1
-    → ((spots : Spots) (made : ℕ) → IsFilled spots text (length old) word made → IsCoded spots (length old) line made)
+    → ((spots : Spots) (made : ℕ) → AreAtSpots spots (labels_seen marks) → IsFilled spots text (length old) word made → IsCoded spots (length old) line made)
     → IsDraftedOn text number (read_line line) old new marks marks
 coded_drafted text number line old new marks word is one codes = record {
   labels = sym (ap (λ l. labels_seen marks ++ l) (no_label number (length old) (read_line line) one) ∙ append-nil (labels_seen marks));
   size = ap length is ∙ omega (arith, length-append old (word ∷ []), one);
-  words = λ spots bound full below first filled.
+  words = λ spots bound full below first standing filled.
       let last = filled_last spots text old full word (subst (λ words. AreFilled spots text words full) is filled) in
       let front = take (length old) full in
       let made = get_or full (length old) 0 in
-      let coded = subst (λ index. IsCoded spots index line made) (sym last.1) (codes spots made last.3) in
+      let coded = subst (λ index. IsCoded spots index line made) (sym last.1) (codes spots made standing last.3) in
       record {
         above = front;
         filled = last.2;
@@ -83,29 +83,34 @@ coded_drafted text number line old new marks word is one codes = record {
 }
 
 -- the two ways in which a line is coded
-word_codes : (text line : List ℕ) (index word : ℕ) → word < left_from → ((spots : Spots) → IsCoded spots index line word)
-    → (spots : Spots) (made : ℕ) → IsFilled spots text index word made → IsCoded spots index line made
-word_codes text line index word small coded spots made filled = subst (IsCoded spots index line) (sym (filled.made small)) (coded spots)
+word_codes : (text line : List ℕ) (index word : ℕ) (spots : Spots) (made : ℕ) → is_left word ≡ false → IsCoded spots index line word
+    → IsFilled spots text index word made → IsCoded spots index line made
+word_codes text line index word spots made apart coded filled = subst (IsCoded spots index line) (sym (filled.made apart)) coded
 
-left_codes : (text : List ℕ) (index at : ℕ) (spots : Spots) (made : ℕ) → IsFilled spots text index (left_from + at) made
+left_place : (at : ℕ) → at < 2 ^ 32 → is_left (left_from + at) ≡ true
+left_place at low =
+    let high : (left_from + at) / 2 ^ 32 ≡ 15 * 2 ^ 28 = omega (arith, low) in
+    eq-eqb ((left_from + at) / 2 ^ 32) (15 * 2 ^ 28) high
+
+left_codes : (text : List ℕ) (index at : ℕ) (spots : Spots) (made : ℕ) → at < 2 ^ 32 → IsFilled spots text index (left_from + at) made
     → IsCoded spots index (before 10 (drop at text)) made
-left_codes text index at spots made filled =
+left_codes text index at spots made low filled =
     let place : left_from + at - left_from ≡ at = omega arith in
-    subst (λ from. IsCoded spots index (before 10 (drop from text)) made) place (filled.left (omega arith))
+    subst (λ from. IsCoded spots index (before 10 (drop from text)) made) place (filled.left (left_place at low))
 
-pub drafted_codes : (text line : List ℕ) (index word at drafted : ℕ) → IsWordOrPlace word at drafted → line ≡ before 10 (drop at text)
-    → ((spots : Spots) → IsCoded spots index line word) → (spots : Spots) (made : ℕ) → IsFilled spots text index drafted made → IsCoded spots index line made
-drafted_codes text line index word at drafted (inl (small, is)) place coded spots made filled =
-    word_codes text line index word small coded spots made (subst (λ d. IsFilled spots text index d made) is filled)
-drafted_codes text line index word at drafted (inr is) place coded spots made filled =
-    subst (λ l. IsCoded spots index l made) (sym place) (left_codes text index at spots made (subst (λ d. IsFilled spots text index d made) is filled))
+pub drafted_codes : (text line : List ℕ) (index word at drafted : ℕ) (spots : Spots) (made : ℕ) → at < 2 ^ 32 → IsWordOrPlace word at drafted
+    → line ≡ before 10 (drop at text) → IsCoded spots index line word → IsFilled spots text index drafted made → IsCoded spots index line made
+drafted_codes text line index word at drafted spots made low (inl (apart, is)) place coded filled =
+    word_codes text line index word spots made apart coded (subst (λ d. IsFilled spots text index d made) is filled)
+drafted_codes text line index word at drafted spots made low (inr is) place coded filled =
+    subst (λ l. IsCoded spots index l made) (sym place) (left_codes text index at spots made low (subst (λ d. IsFilled spots text index d made) is filled))
 
 -- a line that is left
-pub left_drafted : (text front : List ℕ) (number at : ℕ) (old new : List ℕ) (marks : List Mark) → new ≡ old ++ (left_from + at) ∷ [] → front ≡ drop at text
+pub left_drafted : (text front : List ℕ) (number at : ℕ) (old new : List ℕ) (marks : List Mark) → at < 2 ^ 32 → new ≡ old ++ (left_from + at) ∷ [] → front ≡ drop at text
     → size_of (read_line (before 10 front)) ≡ 1 → IsDraftedOn text number (read_line (before 10 front)) old new marks marks
-left_drafted text front number at old new marks is place one =
+left_drafted text front number at old new marks low is place one =
     coded_drafted text number (before 10 front) old new marks (left_from + at) is one
-    (λ spots made filled. subst (λ rest. IsCoded spots (length old) (before 10 rest) made) (sym place) (left_codes text (length old) at spots made filled))
+    (λ spots made standing filled. subst (λ rest. IsCoded spots (length old) (before 10 rest) made) (sym place) (left_codes text (length old) at spots made low filled))
 
 -- a label's line, whose mark has been put in
 pub mark_drafted : (text : List ℕ) (number : ℕ) (line : Line) (name words all : List ℕ) (spot : Spot) (old new : List Mark) → line ≡ Label name

@@ -37,7 +37,7 @@ letter_byte byte is = rw is refl
 letter_other : (byte : ℕ) → is_ascii_alphabetic byte ≡ true → (byte == 35) ≡ false
 letter_other byte is = grind (arith, nat_tests)
 
-name_bytes : (name : List ℕ) → is_name name ≡ true → list_all is_name_byte name ≡ true
+pub name_bytes : (name : List ℕ) → is_name name ≡ true → list_all is_name_byte name ≡ true
 unfolding is_name
 name_bytes [] is = absurd (false≢true is)
 name_bytes (byte ∷ bytes) is =

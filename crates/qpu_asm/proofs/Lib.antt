@@ -10,6 +10,7 @@ pub mod Steps
 pub mod Placing
 pub mod Faults
 pub mod Assembling
+pub mod Standing
 pub mod Drafting
 pub mod Known
 pub mod Stepping

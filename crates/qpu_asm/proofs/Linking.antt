@@ -2,7 +2,7 @@
 use Rattle.std.proofs.Common.{◌≡◌, ℕ, zero, suc, ◌+◌, ◌-◌, ◌*◌, ◌/◌, ◌^◌, ◌<◌, ◌≤◌, inl, inr, true, false, List, [], ◌∷◌, length, get_or, slice_index, refl, sym, ◌∙◌, ap, subst, arith, Some, None, bytes_eq}
 use Rattle.std.proofs.lemmas.Nat.{pow-add, shr_below}
 use Rattle.std.proofs.{lemmas.Bool.cases_lt, lemmas.Bool.cases_eq, lemmas.Bool.cases_Bool, lemmas.Bool.false≢true, lemmas.List.get_or_read, lemmas.List.length-set, lemmas.List.get_or-set_same, lemmas.List.get_or-set_other, Math.ListN.set}
-use Rattle.qpu_asm.specs.{declared.key.Name.Name, declared.label.Mark.Mark}
+use Rattle.qpu_asm.specs.{declared.key.Name.Name, declared.mark.Mark.Mark}
 use Rattle.qpu_asm.specs.Keys.{key_of}
 use Rattle.qpu_asm.specs.Marks.{key_bucket, bucket_of, IsFirstOf, AreFirsts, AreNexts, BoundsBehind}
 use Rattle.qpu_asm.specs.{Seen.spots_in, Labels.spot_among}

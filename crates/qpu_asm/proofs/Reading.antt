@@ -6,7 +6,7 @@ use Rattle.qpu_isa.specs.Fields.{joined, width_of}
 use Rattle.script.specs.Number.{number_of, is_number}
 use Rattle.qpu_asm.specs.Table.{Row, Named, widths_of, fallbacks_of, nop_kind, alu_kind, load_imm_kind, branch_kind}
 use Rattle.qpu_asm.specs.Items.{Spots, read_value, read_plain, or_number, read_number, find_named, read_target, distance, distance_to, is_row, kind_named}
-use Rattle.qpu_asm.specs.{declared.label.Spot.Spot, declared.fault.Mistake.Mistake, Lines.is_name, Lines.is_full, Seen.row_seen, Seen.rows_seen}
+use Rattle.qpu_asm.specs.{declared.mark.Spot.Spot, declared.fault.Mistake.Mistake, Lines.is_name, Lines.is_full, Seen.row_seen, Seen.rows_seen}
 use Rattle.qpu_asm.specs.declared.fault.Mistake.TheVariants.{BadOperand, OutOfRange}
 use Rattle.qpu_asm.specs.Walk.{IsOpen, is_ready, is_short, are_ready, is_part, lacks, skip_to, with_value}
 use Rattle.qpu_asm.specs.declared.table.Row as code

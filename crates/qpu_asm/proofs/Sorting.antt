@@ -9,7 +9,7 @@ use Rattle.std.specs.declared.cmp.Ordering.TheVariants.{Less, Equal, Greater}
 use Rattle.std.specs.{Cmp.IsTotalOrder, Cmp.IsStrictWeakOrder, Cmp.Lexicographic.slice_cmp, declared.cmp.Ordering.Ordering}
 use Rattle.std.specs.List.Sorted.{IsSorted, IsPermutation, IsPartitionedBy}
 use Rattle.std.specs.Ordering.{nat_cmp, ordering_then, ordering_reverse, is_lt, is_eq}
-use Rattle.qpu_asm.specs.{declared.label.Spot.Spot, declared.key.Name.Name, declared.label.Mark.Mark, Labels.is_before, Labels.labels_from, Labels.spot_among}
+use Rattle.qpu_asm.specs.{declared.mark.Spot.Spot, declared.key.Name.Name, declared.mark.Mark.Mark, Labels.is_before, Labels.labels_from, Labels.spot_among}
 use Rattle.qpu_asm.specs.{Lines.Line, Lines.Blank, Lines.Label, Lines.BadLabel, Lines.Coded, Seen.mark_seen, Seen.spots_in}
 use Rattle.qpu_asm.specs.Keys.{key_of}
 use Rattle.qpu_asm.specs.Marks.{name_cmp, kept_cmp, spot_cmp, mark_cmp, fields_cmp, AreInOrder, IsNotLater, AreFirstBelow, AreLabelsOn, BoundsNext, BoundsLater, IsStart}

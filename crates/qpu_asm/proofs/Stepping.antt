@@ -1,29 +1,42 @@
 -- The step over an item, and what is added to a word for it.
-use Rattle.std.proofs.Common.{◌≡◌, ℕ, ◌+◌, ◌-◌, ◌*◌, ◌^◌, ◌%◌, ◌<◌, ◌≤◌, true, List, ◌∷◌, sym, ◌∙◌, ap, subst, arith, Ok}
+use Rattle.std.proofs.Common.{◌≡◌, ℕ, ◌+◌, ◌-◌, ◌*◌, ◌^◌, ◌%◌, ◌<◌, ◌≤◌, Bool, true, false, List, ◌∷◌, refl, sym, ◌∙◌, ap, subst, arith, Ok, Some, codes, bytes_eq, if◌then◌else◌}
 use Rattle.script.specs.Lines.{before}
 use Rattle.qpu_isa.specs.Fields.{width_of}
-use Rattle.qpu_asm.specs.{Table.Row, Table.widths_of, Items.Spots, Items.read_value, Walk.is_part, Walk.IsAfter, Walk.IsBehind, Walk.IsStep, Forms.front_of, Forms.changed, Forms.IsNext, Forms.IsReadStep, Forms.IsWhole}
+use Rattle.qpu_asm.specs.{Table.Row, Table.widths_of, declared.mark.Spot.Spot, Items.Spots, Items.read_plain, Items.read_target, Items.read_value, Items.distance, Lines.is_name, Walk.is_part, Walk.IsAfter, Walk.IsBehind, Walk.IsStep, Forms.front_of, Forms.changed, Forms.IsNext, Forms.IsReadStep, Forms.IsWhole}
 use Rattle.qpu_asm.proofs.Forms.{replaced, IsReplaced}
-use Rattle.qpu_asm.proofs.Steps.{item_of, step_made, step_words, step_shorter, place_value}
+use Rattle.qpu_asm.proofs.Steps.{item_of, own_value, step_made, step_words, step_shorter, place_value}
+
+-- the value of an item of a row's own name, and of one that is `to`
+pub own_reads : (spots : Spots) (index : ℕ) (own : Bool) (row : Row) (text : List ℕ) (value : ℕ) → own ≡ true → read_plain row text ≡ Ok value
+    → read_value spots index (if own then row.name else codes "to") text row ≡ Ok value
+own_reads spots index own row text value is reads = rw is (own_value spots index row text ∙ reads)
+
+pub target_reads : (spots : Spots) (index : ℕ) (own : Bool) (row : Row) (text : List ℕ) (value : ℕ) → own ≡ false → bytes_eq row.name (codes "to") ≡ false
+    → read_target spots index text ≡ Ok value → read_value spots index (if own then row.name else codes "to") text row ≡ Ok value
+unfolding read_value
+target_reads spots index own row text value is other reads = rw (is, other) reads
+
+-- a label may have any name
+pub named_target : (index : ℕ) (spot : Spot) → read_target (λ name. Some spot) index (codes "a") ≡ Ok (distance index spot.index)
+unfolding read_target is_name
+named_target index spot = refl
 
 -- the word with the value of the item
-pub replaced_by : (told : Spots → Type 0) (spots : Spots) → told spots → (index word low value : ℕ) (rows rest : List Row) (row : Row) (later : List Row) (name text : List ℕ)
+pub replaced_by : (spots : Spots) (index word low value : ℕ) (rows rest : List Row) (row : Row) (later : List Row) (name text : List ℕ)
     → IsWhole word rows → rest ≡ row ∷ later → low ≡ width_of (widths_of later) → IsNext rows name rest row later
-    → ((some : Spots) → told some → read_value some index name (before 32 (before 10 text)) row ≡ Ok value)
-    → IsReplaced word (front_of word rest) row later low value
-replaced_by told spots known index word low value rows rest row later name text is here below next reads =
+    → read_value spots index name text row ≡ Ok value → IsReplaced word (front_of word rest) row later low value
+replaced_by spots index word low value rows rest row later name text is here below next reads =
     let place = next.place word is in
     replaced word rest row later low value here below (next.whole word is)
-    (place_value spots index (front_of word rest) value name (before 32 (before 10 text)) row later place.still place.named (reads spots known))
+    (place_value spots index (front_of word rest) value name text row later place.still place.named reads)
 
-pub step_read : (told : Spots → Type 0) (spots : Spots) → told spots → (index word low value : ℕ) (rows rest : List Row) (row : Row) (later : List Row) (items name text behind : List ℕ) (after : ℕ)
-    → IsWhole word rows → rest ≡ row ∷ later → low ≡ width_of (widths_of later) → IsNext rows name rest row later → IsBehind 61 items name text → is_part name ≡ true
+pub step_read : (told : Spots → Type 0) (index word low value : ℕ) (rows rest : List Row) (row : Row) (later : List Row) (items name text behind : List ℕ) (after : ℕ)
+    → IsWhole word rows → IsNext rows name rest row later → IsBehind 61 items name text → is_part name ≡ true
     → ((some : Spots) → told some → read_value some index name (before 32 (before 10 text)) row ≡ Ok value) → IsAfter text behind
-    → after ≡ word - row.fallback * 2 ^ low + value * 2 ^ low
+    → IsReplaced word (front_of word rest) row later low value → after ≡ word - row.fallback * 2 ^ low + value * 2 ^ low
     → IsReadStep told index word rows items after later behind
-step_read told spots known index word low value rows rest row later items name text behind after is here below next cut part reads ends made =
+step_read told index word low value rows rest row later items name text behind after is next cut part reads ends new made =
     let place = next.place word is in
-    let new = replaced_by told spots known index word low value rows rest row later name text is here below next reads in
     record {
       step = λ some told_some. subst (λ above. IsStep some index (front_of word rows) rows (before 32 (before 10 items)) above later)
           (sym (ap (λ w. front_of w later) made ∙ new.front))

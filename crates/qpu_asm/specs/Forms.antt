@@ -1,10 +1,10 @@
 -- How items are read without walking over the rows before theirs. No part of what the crate claims.
-use Rattle.std.specs.Prelude.{ℕ, ◌≤◌, ◌⊎◌, ◌++◌, Ok, All, ◌+◌, ◌-◌, ◌*◌, ◌/◌, ◌%◌, ◌^◌, ◌<◌, ◌≡◌, ◌==◌, Bool, true, false, not, ◌&&◌, ◌||◌, nat_le, List, [], ◌∷◌, length, map, drop, slice_index, bytes_eq, codes, Option, Result}
+use Rattle.std.specs.Prelude.{ℕ, ◌≤◌, ◌⊎◌, ◌++◌, Ok, All, ◌+◌, ◌-◌, ◌*◌, ◌/◌, ◌%◌, ◌^◌, ◌<◌, ◌≡◌, ◌==◌, Bool, true, false, not, ◌&&◌, ◌||◌, nat_le, List, [], ◌∷◌, length, map, drop, slice_index, bytes_eq, codes, Option, None, Result, ⊤}
 use Rattle.std.specs.List.{list_all}
 use Rattle.std.specs.Int.{to_le_bytes, w64}
 use Rattle.script.specs.Lines.{before, behind}
 use Rattle.qpu_isa.specs.Fields.{joined, width_of}
-use Rattle.qpu_asm.specs.{declared.form.Field.Field, declared.form.Place.Place, declared.form.Kept.Kept, declared.fault.Mistake.Mistake, Table.Row, Table.fallbacks_of, Table.widths_of, Items.Spots, Items.is_row, Items.has_row, Items.read_plain, Lines.words_of, Walk.skip_to, Walk.begins, Walk.IsOpen, Walk.IsPlace, Walk.IsBehind, Walk.IsWord, Walk.IsAfter, Walk.IsStep, Seen.row_seen, Seen.name_seen}
+use Rattle.qpu_asm.specs.{declared.form.Field.Field, declared.form.Place.Place, declared.form.Kept.Kept, declared.step.Step.Step, declared.fault.Mistake.Mistake, Table.Row, Table.Kind, Table.fallbacks_of, Table.widths_of, Items.Spots, Items.is_row, Items.has_row, Items.read_plain, Lines.words_of, Walk.skip_to, Walk.read_items, Walk.begins, Walk.IsOpen, Walk.IsPlace, Walk.IsBehind, Walk.IsWord, Walk.IsAfter, Walk.IsStep, Seen.row_seen, Seen.name_seen}
 
 -- the part of a word above the rows that may still come
 abbrev pub front_of : ℕ → List Row → ℕ
@@ -123,6 +123,19 @@ pub record IsReadStep (told : Spots → Type 0) (index word : ℕ) (rows : List 
   pub others : behind 10 items ≡ behind 10 rest
   pub whole : IsWhole after later
   pub shorter : length rest < length items
+
+-- and whatever the labels are
+abbrev pub IsPlainStep : Kind → ℕ → ℕ → List ℕ → Step → Type 0
+IsPlainStep kind word next items step =
+    (index : ℕ) → IsReadStep (λ spots. ⊤) index word (drop next kind.rows) items step.word (drop step.next kind.rows) step.rest.now
+
+-- a line's items are read up to a rest of them, which is read on with this word and these rows
+pub record AreReadTo (kind : Kind) (items : List ℕ) (word : ℕ) (rows : List Row) (rest : List ℕ) : Type 0 where
+  pub steps : (spots : Spots) (index : ℕ) (all : List Row)
+      → read_items spots index all (record { word = front_of word rows; rows = rows; fault = None }) (words_of (before 10 rest))
+      ≡ read_items spots index all (record { word = kind.above; rows = kind.rows; fault = None }) (words_of (before 10 items))
+  pub others : behind 10 items ≡ behind 10 rest
+  pub whole : IsWhole word rows
 
 -- a row of this name comes next among those that may still come
 pub record IsNext (rows : List Row) (name : List ℕ) (rest : List Row) (row : Row) (later : List Row) : Type 0 where

@@ -12,4 +12,5 @@ pub mod Faults
 pub mod Assembly
 pub mod Walk
 pub mod Forms
+pub mod Targets
 pub mod Printed

@@ -1,7 +1,7 @@
 -- The labels of a text as a list of marks, in the text's order and sorted. No part of what the crate claims.
 use Rattle.std.specs.Prelude.{◌≡◌, ℕ, ◌+◌, ◌-◌, ◌*◌, ◌/◌, ◌%◌, ◌^◌, ◌<◌, ◌≤◌, ◌⊎◌, true, false, List, [], ◌∷◌, slice_index, slice_index_or, length, IsSorted, IsPermutation}
 use Rattle.std.specs.{Cmp.Lexicographic.slice_cmp, Ordering.nat_cmp, Ordering.ordering_then, Ordering.is_lt, declared.cmp.Ordering.Ordering}
-use Rattle.qpu_asm.specs.{declared.label.Spot.Spot, declared.key.Name.Name, declared.label.Mark.Mark, declared.label.Links.Links, Keys.key_of, Items.Spots, Labels.is_before, Labels.LabelSpot, Labels.spot_among, Labels.labels_from, Seen.labels_seen}
+use Rattle.qpu_asm.specs.{declared.mark.Spot.Spot, declared.key.Name.Name, declared.mark.Mark.Mark, declared.label.Links.Links, Keys.key_of, Items.Spots, Labels.is_before, Labels.LabelSpot, Labels.spot_among, Labels.labels_from, Seen.labels_seen}
 use Rattle.qpu_asm.specs.Lines.{Line, Blank, Label, BadLabel, Coded}
 
 -- the order of names: by key, by bytes

@@ -2,7 +2,7 @@
 use Rattle.std.specs.Prelude.{ℕ, List, map, codes, if◌then◌else◌, Option, Result}
 use Rattle.script.specs.{declared.lines.Cut.Cut}
 use Rattle.qpu_asm.specs.{declared.fault.AsmFault.AsmFault, declared.fault.Mistake.Mistake, declared.lines.Line.Line, Printed.name_of}
-use Rattle.qpu_asm.specs.{declared.label.Mark.Mark, declared.form.Place.Place, Items.Spots, Items.read_value, Labels.LabelSpot, Labels.spot_among, Walk.line_words}
+use Rattle.qpu_asm.specs.{declared.mark.Mark.Mark, declared.form.Place.Place, Items.Spots, Items.read_value, Labels.LabelSpot, Labels.spot_among, Walk.line_words}
 use Rattle.qpu_asm.specs.{declared.table.Named.Named, declared.table.Row.Row, declared.table.Kind.Kind}
 use Rattle.qpu_asm.specs.declared.lines.Line.TheVariants as line
 use Rattle.qpu_asm.specs.Lines as lines

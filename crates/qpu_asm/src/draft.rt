@@ -1,23 +1,27 @@
 //! A text's words in one walk: all but those of the lines that are left until its labels are known.
-ghost use Rattle.std.specs.Prelude.{◌≡◌, ◌<◌, ◌^◌, ◌+◌, length, vec_len, drop, IfOk, IfSome, IsTrue};
+ghost use Rattle.std.specs.Prelude.{◌≡◌, ◌<◌, ◌^◌, ◌+◌, ℕ, length, vec_len, drop, IfOk, IfSome, IsTrue};
 ghost use Rattle.script.specs.Lines.{before, behind};
 ghost use Rattle.qpu_asm.specs.Walk.{IsCoded};
-ghost use Rattle.qpu_asm.specs.Draft.{IsWordOrPlace, IsFirstDrafted, IsDraftOf, AreFilled};
-ghost use Rattle.qpu_asm.specs.Seen.{spots_in};
+ghost use Rattle.qpu_asm.specs.Items.{Spots};
+ghost use Rattle.qpu_asm.specs.Labels.{AreAtSpots, size_of};
+ghost use Rattle.qpu_asm.specs.Lines.{read_line as line_read};
+ghost use Rattle.qpu_asm.specs.Draft.{is_left as left_test, IsWordOrPlace, IsFirstDrafted, IsDraftOf, AreFilled};
+ghost use Rattle.qpu_asm.specs.Seen.{labels_seen, spots_in};
 
 use crate::form::Forms;
 use crate::item::read_code;
 use crate::key::Name;
-use crate::label::{Labels, Mark, Spot, add_mark};
+use crate::label::{Labels, add_mark};
 use crate::labelled::read_labelled;
 use crate::lines::{Line, begins_branch, read_line};
-use crate::step::{read_branch, read_early};
+use crate::mark::{Mark, Spot};
+use crate::step::{Coded, Known, read_branch, read_early};
 use memchr::memchr;
 use script::cut_at;
 use std::alloc::{AllocError, Global};
 
-/// The least word of a branch, and above all words of other instructions. In a draft such a word stands for a line that is left: what it
-/// has above this one tells where in the text the line begins.
+/// In a draft, a word with the high half of this one stands for a line that is left, and its low half tells where in the text the line
+/// begins. No instruction has such a word but a branch, and few of those.
 const LEFT: u64 = 15 << 60;
 
 /// What was read of a text: for each instruction its word, or where its line lies, and a mark for each label.
@@ -52,7 +56,7 @@ pub fn draft_of<'a>(
 }
 
 // Puts the first line of what begins at a place of a text to the draft of the lines above it, and answers the lines below; or none where it
-// is a malformed label's. Most lines are read at once. A branch is left.
+// is a malformed label's. Most lines are read at once.
 #[inline]
 fn put_line<'a>(
     words: &mut Vec<u64>,
@@ -67,13 +71,13 @@ fn put_line<'a>(
     ensures { IfOk result (λ put. IfSome put (λ rest. IsFirstDrafted at number text.now rest.now
         words.old.items words.new.items marks.old.items marks.new.items)) }
 {
-    if let Some(coded) = read_early(forms, words.len() as u32, text) {
+    if let Some(coded) = read_early(forms, text) {
         words.push(drafted_word(coded.word, at))?;
         return Ok(Some(coded.rest));
     }
     if begins_branch(text) {
-        words.push(LEFT + at as u64)?;
-        return Ok(Some(lines_below(text)));
+        let rest = put_branch(words, marks, forms, at, text)?;
+        return Ok(Some(rest));
     }
     if let Some(labelled) = read_labelled(text) {
         add_mark(marks, labelled.name, spot_behind(words, number))?;
@@ -93,12 +97,68 @@ fn spot_behind(words: &[u64], number: u32) -> Spot
     }
 }
 
-// The word as it is; or, where it could be taken for the place of a line, as only a branch's could, the place of its line, which is left.
+// Puts a branch's line to the draft. Its word is known where its label is the last one above it, as a loop's; else the line is left.
+#[inline]
+fn put_branch<'a>(
+    words: &mut Vec<u64>,
+    marks: &[Mark<'a>],
+    forms: &Forms,
+    at: usize,
+    text: &'a [u8],
+) -> Result<&'a [u8], AllocError>
+    requires few { vec_len words.old < 2 ^ 32 }
+    requires place { at < 2 ^ 32 }
+    requires branch { size_of (line_read (before 10 text.now)) ≡ 1 }
+    ensures { IfOk result (λ rest. (number : ℕ) → IsFirstDrafted at number text.now rest.now
+        words.old.items words.new.items marks.now marks.now) }
+{
+    if let Some(coded) = near_branch(marks, forms, words.len() as u32, text) {
+        words.push(drafted_word(coded.word, at))?;
+        return Ok(coded.rest);
+    }
+    words.push(LEFT + at as u64)?;
+    Ok(lines_below(text))
+}
+
+// How many instructions above a branch its label is looked for at once. More are seldom in a loop without another label.
+const NEAR: u32 = 256;
+
+// The branch that a text begins with, where its label is the last one above it, and near.
+#[inline]
+fn near_branch<'a>(
+    marks: &[Mark<'a>],
+    forms: &Forms,
+    index: u32,
+    text: &'a [u8],
+) -> Option<Coded<'a>>
+    ensures coded { IfSome result (λ coded. (spots : Spots) → AreAtSpots spots (labels_seen marks.now)
+        → IsCoded spots index (before 10 text.now) coded.word) }
+    ensures rest { IfSome result (λ coded. coded.rest.now ≡ behind 10 text.now) }
+{
+    let mark = marks.last()?;
+    if index.saturating_sub(mark.spot.index) > NEAR {
+        return None;
+    }
+    read_branch(&Known::Last(*mark), forms, index, text)
+}
+
+// Whether a drafted word stands for a line that is left.
+fn is_left(word: u64) -> bool
+    ensures { result ≡ left_test word }
+{
+    word >> 32 == LEFT >> 32
+}
+
+// The word as it is; or, where it could be taken for the place of a line, the place of its line, which is left.
 fn drafted_word(word: u64, at: usize) -> u64
     requires { at < 2 ^ 32 }
     ensures { IsWordOrPlace word at result }
 {
-    if word < LEFT { word } else { LEFT + at as u64 }
+    if is_left(word) {
+        LEFT + at as u64
+    } else {
+        word
+    }
 }
 
 // The lines below a text's first one.
@@ -142,7 +202,7 @@ pub fn fill_left<'a>(words: &mut [u64], labels: &Labels<'a>, forms: &Forms, text
     ensures { IsTrue result → AreFilled (spots_in labels.now) text.now words.old words.new }
 {
     for index in 0..words.len() {
-        if words[index] >= LEFT {
+        if is_left(words[index]) {
             let Some(word) = left_word(labels, forms, index as u32, text, words[index] - LEFT)
             else {
                 return false;
@@ -167,7 +227,7 @@ fn left_word<'a>(
         return None;
     }
     let rest = &text[at as usize..];
-    match read_branch(labels, forms, index, rest) {
+    match read_branch(&Known::All(labels), forms, index, rest) {
         Some(coded) => Some(coded.word),
         None => other_word(labels, index, rest),
     }

@@ -256,9 +256,17 @@ fn slot_of(first: u8, second: u8) -> usize
     (61 * first as usize + second as usize) % 64
 }
 
+// What is behind a name of any length and its `=`, where items begin with them.
+#[inline(never)]
+fn behind_long<'a>(items: &'a [u8], name: &[u8]) -> Option<&'a [u8]>
+    ensures { MatchOption result (begins 61 items.now name.now ≡ false) (λ text. IsBehind 61 items.now name.now text.now) }
+{
+    behind_name(items, name, b'=')
+}
+
 // What is behind a name and its `=`, where items that begin with these two bytes begin with them. Most names have two letters.
 #[tactic(auto, unfolding(crate::specs::Walk::begins))]
-#[inline]
+#[inline(always)]
 fn behind_own<'a>(items: &'a [u8], first: u8, second: u8, name: &[u8]) -> Option<&'a [u8]>
     requires some { 2 < length items.now }
     requires first { slice_index items.now 0 ≡ first }
@@ -270,7 +278,7 @@ fn behind_own<'a>(items: &'a [u8], first: u8, second: u8, name: &[u8]) -> Option
         return None;
     }
     if name.len() > 2 {
-        return behind_name(items, name, b'=');
+        return behind_long(items, name);
     }
     if items[2] == b'=' {
         Some(&items[3..])

@@ -1,32 +1,20 @@
 //! The labels of a text: a mark for each line that defines one, in buckets by the key of its name. A text whose keys crowd a bucket has them
 //! sorted in their place.
-ghost use Rattle.std.specs.Prelude.{◌≡◌, ◌<◌, ◌≤◌, ◌^◌, ◌++◌, ◌-◌, ◌+◌, ◌*◌, length, max, min, vec_len, IfOk, IfSome, OnOk, Some, None, bytes_eq, if◌then◌else◌};
+ghost use Rattle.std.specs.Prelude.{◌≡◌, ◌<◌, ◌≤◌, ◌^◌, ◌++◌, ◌-◌, ◌+◌, ◌*◌, length, max, min, vec_len, IfOk, IfSome, OnOk, Some, None, bytes_eq, take, drop, true, false, MatchOption, if◌then◌else◌};
+ghost use Rattle.std.specs.Int.{to_le_bytes, w64};
 ghost use Rattle.std.specs.Ordering.{is_lt};
 ghost use Rattle.std.specs.Prelude.{List};
-ghost use Rattle.qpu_asm.specs.Lines.{Label, Line as LineSeen};
+ghost use Rattle.qpu_asm.specs.Lines.{Label, HasName, Line as LineSeen, is_name as name_test};
 ghost use Rattle.qpu_asm.specs.Labels.{spots_of, labels_of, labels_from, label_on, read_lines, size_of};
 ghost use Rattle.qpu_asm.specs.Marks.{key_bucket, kept_cmp, AreInOrder, AreLinked, AreFirstBelow, AreLabelsOn, BoundsNext, BoundsLater, BoundsBehind, IsStart, AreSortedOf};
 ghost use Rattle.qpu_asm.specs.Seen.{line_seen, labels_seen, spots_in};
 
 use crate::key::Name;
 use crate::lines::{Line, read_line};
+use crate::mark::{Mark, Spot};
 use script::next_line;
 use std::alloc::{AllocError, Global};
 use std::marker::Model;
-
-/// Where a label stands: its line, and the index of the next instruction.
-#[derive(Clone, Copy, Debug, PartialEq, Eq, PartialOrd, Ord)]
-pub struct Spot {
-    pub line: u32,
-    pub index: u32,
-}
-
-/// A line that defines a label.
-#[derive(Clone, Copy, Debug, PartialEq, Eq, PartialOrd, Ord)]
-pub struct Mark<'a> {
-    name: Name<'a>,
-    spot: Spot,
-}
 
 /// The place of each bucket's first mark, and for each mark that of the next one in its bucket, or where the marks end. A key is multiplied,
 /// and shifted by so many bits is its bucket.
@@ -46,7 +34,7 @@ pub struct Labels<'a> {
 
 impl<'a> Model for Labels<'a> {
     ghost use Rattle.std.specs.Prelude.{List, MatchOption};
-    ghost use Rattle.qpu_asm.specs.declared.label.Mark.{Mark};
+    ghost use Rattle.qpu_asm.specs.declared.mark.Mark.{Mark};
     ghost use Rattle.qpu_asm.specs.Marks.{AreInOrder, AreLinked};
 
     ghost Value = { List Mark };
@@ -240,6 +228,7 @@ fn size(line: Line<'_>) -> u64
 /// Puts a label's mark to those of the lines above it.
 #[tactic(auto, using(crate::proofs::Sorting::seen_push))]
 pub fn add_mark<'a>(marks: &mut Vec<Mark<'a>>, name: Name<'a>, spot: Spot) -> Result<(), AllocError>
+    requires { name_test name.bytes.now ≡ true }
     ensures few { OnOk result (vec_len marks.new ≤ vec_len marks.old + 1) }
     ensures labels { OnOk result (
         labels_seen marks.new.items ≡ labels_seen marks.old.items ++ label_on spot.line spot.index (Label name.entry.bytes.now)) }
@@ -250,6 +239,7 @@ pub fn add_mark<'a>(marks: &mut Vec<Mark<'a>>, name: Name<'a>, spot: Spot) -> Re
 
 // Puts the mark of a line, where it defines a label, to those of the lines above it.
 fn add_line<'a>(marks: &mut Vec<Mark<'a>>, line: Line<'a>, spot: Spot) -> Result<(), AllocError>
+    requires { HasName (line_seen line) }
     ensures few { OnOk result (vec_len marks.new ≤ vec_len marks.old + 1) }
     ensures labels { OnOk result (
         labels_seen marks.new.items ≡ labels_seen marks.old.items ++ label_on spot.line spot.index (line_seen line.entry)) }
@@ -268,19 +258,58 @@ fn are_same(first: &Name<'_>, second: &Name<'_>) -> bool
     first.key == second.key && are_equal(first.bytes, second.bytes)
 }
 
-// Names are short, so they are compared byte by byte.
-fn are_equal(first: &[u8], second: &[u8]) -> bool
+// The eight bytes that stand from a place on.
+#[inline(always)]
+fn eight_at(bytes: &[u8], at: usize) -> u64
+    requires { at + 8 ≤ length bytes.now }
+    ensures { to_le_bytes w64 result ≡ take 8 (drop at bytes.now) }
+{
+    u64::from_le_bytes(bytes[at..at + 8].try_into().unwrap())
+}
+
+// Up to where two names of one length have the same bytes, by eights; or none where eight of them differ.
+#[inline(always)]
+fn same_eights(first: &[u8], second: &[u8]) -> Option<usize>
+    requires { length first.now ≡ length second.now }
+    ensures { MatchOption result (bytes_eq first.now second.now ≡ false) (λ at. take at first.now ≡ take at second.now) }
+{
+    let mut at = 0;
+    while first.len() - at >= 8 {
+        if eight_at(first, at) != eight_at(second, at) {
+            return None;
+        }
+        at += 8;
+    }
+    Some(at)
+}
+
+// Two names of one length that have the same bytes up to a place have them behind it too.
+#[inline(always)]
+fn are_same_from(first: &[u8], second: &[u8], from: usize) -> bool
+    requires long { length first.now ≡ length second.now }
+    requires front { take from first.now ≡ take from second.now }
     ensures { result ≡ bytes_eq first.now second.now }
 {
-    if first.len() != second.len() {
-        return false;
-    }
-    for at in 0..first.len() {
+    for at in from..first.len() {
         if first[at] != second[at] {
             return false;
         }
     }
     true
+}
+
+/// Two names have the same bytes. Names are short, and few of their bytes are compared one by one.
+#[inline(never)]
+pub fn are_equal(first: &[u8], second: &[u8]) -> bool
+    ensures { result ≡ bytes_eq first.now second.now }
+{
+    if first.len() != second.len() {
+        return false;
+    }
+    match same_eights(first, second) {
+        Some(from) => are_same_from(first, second, from),
+        None => false,
+    }
 }
 
 // A line that repeats a label is a bound.

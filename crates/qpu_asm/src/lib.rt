@@ -18,6 +18,7 @@ mod label;
 mod labelled;
 mod learn;
 mod lines;
+mod mark;
 mod names;
 mod pen;
 mod piece;

@@ -1,20 +1,22 @@
 //! An instruction without a mistake, each of whose items is read at once by the letters of its name. What isn't read here is read by
 //! `item`, which says the mistakes too.
-ghost use Rattle.std.specs.Prelude.{◌≡◌, ◌≤◌, ◌<◌, ◌+◌, ◌-◌, ◌*◌, ◌^◌, [], codes, ℕ, length, take, min, map, drop, bytes_eq, true, false, IfSome, IsTrue, Some, Ok, ⊤};
+ghost use Rattle.std.specs.Prelude.{◌≡◌, ◌≤◌, ◌<◌, ◌+◌, ◌-◌, ◌*◌, ◌^◌, ◌++◌, [], ℕ, length, take, min, map, drop, true, false, IfSome, IsTrue, Some, Ok};
 ghost use Rattle.std.specs.Io.{StartsWith};
 ghost use Rattle.std.specs.Str.{all_ascii_digits};
 ghost use Rattle.script.specs.Lines.{before, behind};
 ghost use Rattle.script.specs.Number.{is_number as number_test, number_of};
-ghost use Rattle.qpu_asm.specs.Items.{Spots, read_plain as plain_read, read_target as target_read, read_value as value_read};
+ghost use Rattle.qpu_asm.specs.Items.{Spots, read_plain as plain_read};
 ghost use Rattle.qpu_asm.specs.Lines.{words_of, is_name as name_test};
-ghost use Rattle.qpu_asm.specs.Walk.{kind_code, IsWord, IsAfter, IsNumberRead, AreSteps, IsCoded};
-ghost use Rattle.qpu_asm.specs.Forms.{front_of, are_behind, IsReadStep, IsWhole};
-ghost use Rattle.qpu_asm.specs.Seen.{row_seen, spots_in, name_seen};
+ghost use Rattle.qpu_asm.specs.Walk.{kind_code, IsWord, IsAfter, IsNumberRead, IsCoded};
+ghost use Rattle.qpu_asm.specs.Forms.{are_behind, AreReadTo, IsPlainStep, IsReadStep, IsWhole};
+ghost use Rattle.qpu_asm.specs.Seen.{row_seen, spots_in};
+ghost use Rattle.qpu_asm.specs.Targets.{IsTarget, Tells};
 
-use crate::form::{Field, Form, Forms, Place, find_place, find_value, kept_item};
+use crate::form::{Field, Form, Forms, find_place, find_value, kept_item};
 use crate::item::distance;
-use crate::label::{Labels, spot_of};
+use crate::label::{Labels, are_equal, spot_of};
 use crate::labelled::{Labelled, begins_name, begun_name};
+use crate::mark::{Mark, Spot};
 use crate::table::{Row, nop};
 use script::Cut;
 
@@ -31,6 +33,20 @@ struct Step<'a> {
     word: u64,
     next: usize,
     rest: &'a [u8],
+}
+
+/// What is known of a text's labels: the mark of the last one above a line, or all.
+#[derive(Clone, Copy)]
+pub enum Known<'a> {
+    Last(Mark<'a>),
+    All(&'a Labels<'a>),
+}
+
+/// Where the label stands whose name a text begins with, and what is behind the name.
+#[derive(Clone, Copy)]
+pub struct Target<'a> {
+    pub spot: Spot,
+    pub rest: &'a [u8],
 }
 
 /// The word of an instruction, and the lines below its own.
@@ -229,35 +245,56 @@ fn first_name(text: &[u8]) -> Option<Labelled<'_>>
     }
 }
 
-// The value that a `to` has, where the labels are known.
-#[tactic(auto, unfolding(crate::specs::Items::read_target))]
-fn read_to<'a>(labels: Option<&Labels<'a>>, index: u32, text: &'a [u8]) -> Option<Value<'a>>
-    ensures value { IfSome result (λ read. (spots : Spots) → IfSome labels.entry (λ l. spots ≡ spots_in l.now)
-        → target_read spots index (before 32 (before 10 text.now)) ≡ Ok read.value) }
-    ensures after { IfSome result (λ read. IsAfter text.now read.rest.now) }
+// What is behind a name, where a text begins with it.
+#[inline(always)]
+fn behind_same<'a>(text: &'a [u8], name: &[u8]) -> Option<&'a [u8]>
+    ensures { IfSome result (λ rest. text.now ≡ name.now ++ rest.now) }
 {
-    let labels = labels?;
-    let target = first_name(text)?;
-    let spot = spot_of(labels, &target.name)?;
-    Some(Value {
-        value: distance(index, spot.index),
-        rest: target.rest,
+    if text.len() < name.len() {
+        return None;
+    }
+    let (front, rest) = text.split_at(name.len());
+    if are_equal(front, name) {
+        Some(rest)
+    } else {
+        None
+    }
+}
+
+// The label of this mark, where a text begins with its name.
+#[inline(always)]
+fn last_target<'a>(mark: &Mark<'a>, text: &'a [u8]) -> Option<Target<'a>>
+    ensures { IfSome result (IsTarget (λ spots. spots mark.now.name.bytes.now ≡ Some mark.now.spot) text.now) }
+{
+    let rest = behind_same(text, mark.name.bytes)?;
+    let rest = behind_word(rest)?;
+    Some(Target {
+        spot: mark.spot,
+        rest,
     })
 }
 
-#[tactic(auto, unfolding(crate::specs::Items::read_value))]
-fn read_placed<'a>(labels: Option<&Labels<'a>>, index: u32, place: &Place<'a>) -> Option<Value<'a>>
-    requires below { place.now.row.now.below ≤ 2 ^ 32 }
-    requires named { are_behind place.now.field.named.now 0 (map (λ named. named.name.now) place.now.row.now.named.now) ≡ true }
-    requires label { place.now.is_own ≡ false → bytes_eq place.now.row.now.name.now (codes "to") ≡ false }
-    ensures value { IfSome result (λ read. (spots : Spots) → IfSome labels.entry (λ l. spots ≡ spots_in l.now)
-        → value_read spots index (name_seen place.now) (before 32 (before 10 place.now.text.now)) (row_seen place.now.row.now) ≡ Ok read.value) }
-    ensures after { IfSome result (λ read. IsAfter place.now.text.now read.rest.now) }
+// The label whose name a text begins with.
+#[inline(never)]
+fn any_target<'a>(labels: &Labels<'a>, text: &'a [u8]) -> Option<Target<'a>>
+    ensures { IfSome result (IsTarget (λ spots. spots ≡ spots_in labels.now) text.now) }
 {
-    if place.is_own {
-        read_own(place.row, place.field, place.text)
-    } else {
-        read_to(labels, index, place.text)
+    let named = first_name(text)?;
+    let spot = spot_of(labels, &named.name)?;
+    Some(Target {
+        spot,
+        rest: named.rest,
+    })
+}
+
+// The label whose name a text begins with, where it is known.
+#[inline(always)]
+fn target_of<'a>(known: &Known<'a>, text: &'a [u8]) -> Option<Target<'a>>
+    ensures { IfSome result (IsTarget (Tells known.now) text.now) }
+{
+    match known {
+        Known::Last(mark) => last_target(mark, text),
+        Known::All(labels) => any_target(labels, text),
     }
 }
 
@@ -285,8 +322,7 @@ fn behind_bytes(text: &[u8], count: usize) -> &[u8]
 #[inline]
 fn known_step<'a>(form: &Form, word: u64, next: usize, items: &'a [u8]) -> Option<Step<'a>>
     requires { IsWhole word (drop next form.now.rows) }
-    ensures { IfSome result (λ step. (index : ℕ) → IsReadStep (λ _. ⊤) index word (drop next form.now.rows) items.now
-        step.word (drop step.next form.now.rows) step.rest.now) }
+    ensures { IfSome result (IsPlainStep form.now word next items.now) }
 {
     let kept = kept_item(form, next, items)?;
     Some(Step {
@@ -298,40 +334,46 @@ fn known_step<'a>(form: &Form, word: u64, next: usize, items: &'a [u8]) -> Optio
 
 // Reads the first of some items, where its row is this one or a later one and its value has no mistake.
 #[inline(never)]
-fn read_step<'a>(
-    labels: Option<&Labels<'a>>,
-    index: u32,
-    form: &Form,
-    word: u64,
-    next: usize,
-    items: &'a [u8],
-) -> Option<Step<'a>>
+fn read_step<'a>(form: &Form, word: u64, next: usize, items: &'a [u8]) -> Option<Step<'a>>
     requires { IsWhole word (drop next form.now.rows) }
-    ensures { IfSome result (λ step. IsReadStep (λ spots. IfSome labels.entry (λ l. spots ≡ spots_in l.now)) index
-        word (drop next form.now.rows) items.now step.word (drop step.next form.now.rows) step.rest.now) }
+    ensures { IfSome result (IsPlainStep form.now word next items.now) }
 {
     let place = find_place(form, next, items)?;
-    let read = read_placed(labels, index, &place)?;
-    Some(Step {
-        word: with_field(word, place.field.low, place.row.fallback, read.value),
-        next: place.at + 1,
-        rest: read.rest,
-    })
+    if place.is_own {
+        let read = read_own(place.row, place.field, place.text)?;
+        Some(Step {
+            word: with_field(word, place.field.low, place.row.fallback, read.value),
+            next: place.at + 1,
+            rest: read.rest,
+        })
+    } else {
+        None
+    }
 }
 
-// Reads all items of a line.
-fn read_steps<'a>(
-    labels: Option<&Labels<'a>>,
-    index: u32,
-    form: &Form,
-    items: &'a [u8],
-) -> Option<Step<'a>>
-    ensures steps { IfSome result (λ step. (spots : Spots) → IfSome labels.entry (λ l. spots ≡ spots_in l.now)
-        → AreSteps spots index form.now.above form.now.rows
-        (words_of (before 10 items.now)) (front_of step.word (drop step.next form.now.rows)) (drop step.next form.now.rows)) }
-    ensures others { IfSome result (λ step. behind 10 items.now ≡ behind 10 step.rest.now) }
-    ensures end { IfSome result (λ step. before 10 step.rest.now ≡ []) }
-    ensures whole { IfSome result (λ step. IsWhole step.word (drop step.next form.now.rows)) }
+// Whether items begin with a branch's target.
+fn begins_target(items: &[u8]) -> bool {
+    match items {
+        [b't', b'o', b'=', ..] => true,
+        _ => false,
+    }
+}
+
+// The same, but it reads no branch's target.
+fn other_step<'a>(form: &Form, word: u64, next: usize, items: &'a [u8]) -> Option<Step<'a>>
+    requires { IsWhole word (drop next form.now.rows) }
+    ensures { IfSome result (IsPlainStep form.now word next items.now) }
+{
+    if begins_target(items) {
+        return None;
+    }
+    read_step(form, word, next, items)
+}
+
+// Reads a line's items up to its end, or to one that isn't read here, as a branch's target.
+#[inline(always)]
+fn read_steps<'a>(form: &Form, items: &'a [u8]) -> Step<'a>
+    ensures { AreReadTo form.now items.now result.word (drop result.next form.now.rows) result.rest.now }
 {
     let mut step = Step {
         word: form.blank(),
@@ -341,10 +383,40 @@ fn read_steps<'a>(
     while !is_end(step.rest) {
         step = match known_step(form, step.word, step.next, step.rest) {
             Some(known) => known,
-            None => read_step(labels, index, form, step.word, step.next, step.rest)?,
+            None => match other_step(form, step.word, step.next, step.rest) {
+                Some(other) => other,
+                None => return step,
+            },
         };
     }
-    Some(step)
+    step
+}
+
+// Reads a branch's target, where its row is this one or a later one and its label is known.
+#[inline(always)]
+fn read_target<'a>(
+    known: &Known<'a>,
+    index: u32,
+    form: &Form,
+    word: u64,
+    next: usize,
+    items: &'a [u8],
+) -> Option<Step<'a>>
+    requires { IsWhole word (drop next form.now.rows) }
+    ensures { IfSome result (λ step. IsReadStep (Tells known.now) index
+        word (drop next form.now.rows) items.now step.word (drop step.next form.now.rows) step.rest.now) }
+{
+    let place = find_place(form, next, items)?;
+    if place.is_own {
+        return None;
+    }
+    let target = target_of(known, place.text)?;
+    let value = distance(index, target.spot.index);
+    Some(Step {
+        word: with_field(word, place.field.low, place.row.fallback, value),
+        next: place.at + 1,
+        rest: target.rest,
+    })
 }
 
 // What is behind the end of a line.
@@ -355,64 +427,88 @@ fn behind_end(text: &[u8]) -> &[u8]
     if text.is_empty() { text } else { &text[1..] }
 }
 
-// The word of an instruction of this form by its items.
-#[inline(always)]
-fn read_items<'a>(
-    labels: Option<&Labels<'a>>,
-    index: u32,
-    form: &Form,
-    items: &'a [u8],
-) -> Option<Coded<'a>>
-    ensures word { IfSome result (λ coded. (spots : Spots) → IfSome labels.entry (λ l. spots ≡ spots_in l.now)
-        → kind_code spots index (words_of (before 10 items.now)) form.now ≡ Ok coded.word) }
-    ensures rest { IfSome result (λ coded. coded.rest.now ≡ behind 10 items.now) }
+// The word whose items were read up to here, where their line ends here.
+fn coded_of(step: Step<'_>) -> Option<Coded<'_>>
+    ensures end { IfSome result (λ _. before 10 step.entry.rest.now ≡ []) }
+    ensures word { IfSome result (λ coded. coded.word ≡ step.entry.word) }
+    ensures rest { IfSome result (λ coded. coded.rest.now ≡ behind 10 step.entry.rest.now) }
 {
-    let step = read_steps(labels, index, form, items)?;
+    if !is_end(step.rest) {
+        return None;
+    }
     Some(Coded {
         word: step.word,
         rest: behind_end(step.rest),
     })
 }
 
+// The word of an instruction of this form by its items, which name no label.
+#[inline(always)]
+fn read_items<'a>(form: &Form, items: &'a [u8]) -> Option<Coded<'a>>
+    ensures word { IfSome result (λ coded. (spots : Spots) (index : ℕ)
+        → kind_code spots index (words_of (before 10 items.now)) form.now ≡ Ok coded.word) }
+    ensures rest { IfSome result (λ coded. coded.rest.now ≡ behind 10 items.now) }
+{
+    let coded = coded_of(read_steps(form, items))?;
+    Some(coded)
+}
+
+// The word of an instruction of this form by its items, of which the last one may name a label that is known.
+#[inline(always)]
+fn read_aimed<'a>(known: &Known<'a>, index: u32, form: &Form, items: &'a [u8]) -> Option<Coded<'a>>
+    ensures word { IfSome result (λ coded. (spots : Spots) → Tells known.now spots
+        → kind_code spots index (words_of (before 10 items.now)) form.now ≡ Ok coded.word) }
+    ensures rest { IfSome result (λ coded. coded.rest.now ≡ behind 10 items.now) }
+{
+    let step = read_steps(form, items);
+    if let Some(coded) = coded_of(step) {
+        return Some(coded);
+    }
+    let aimed = read_target(known, index, form, step.word, step.next, step.rest)?;
+    let coded = coded_of(aimed)?;
+    Some(coded)
+}
+
 // The load immediate that a text begins with, where its items have no mistake.
 #[inline(always)]
-fn read_load_imm<'a>(forms: &Forms, index: u32, text: &'a [u8]) -> Option<Coded<'a>>
-    ensures coded { IfSome result (λ coded. (spots : Spots) → IsCoded spots index (before 10 text.now) coded.word) }
+fn read_load_imm<'a>(forms: &Forms, text: &'a [u8]) -> Option<Coded<'a>>
+    ensures coded { IfSome result (λ coded. (spots : Spots) (index : ℕ) → IsCoded spots index (before 10 text.now) coded.word) }
     ensures rest { IfSome result (λ coded. coded.rest.now ≡ behind 10 text.now) }
 {
     match text {
-        [b'l', b'i', b' ', items @ ..] => read_items(None, index, &forms.load_imm, items),
+        [b'l', b'i', b' ', items @ ..] => read_items(&forms.load_imm, items),
         _ => None,
     }
 }
 
 /// The instruction that a text begins with, where it is no branch and its items have no mistake, as most lines do.
-pub fn read_early<'a>(forms: &Forms, index: u32, text: &'a [u8]) -> Option<Coded<'a>>
-    ensures coded { IfSome result (λ coded. (spots : Spots) → IsCoded spots index (before 10 text.now) coded.word) }
+pub fn read_early<'a>(forms: &Forms, text: &'a [u8]) -> Option<Coded<'a>>
+    ensures coded { IfSome result (λ coded. (spots : Spots) (index : ℕ) → IsCoded spots index (before 10 text.now) coded.word) }
     ensures rest { IfSome result (λ coded. coded.rest.now ≡ behind 10 text.now) }
 {
     match text {
-        [b'a', b'l', b'u', b' ', items @ ..] => read_items(None, index, &forms.alu, items),
+        [b'a', b'l', b'u', b' ', items @ ..] => read_items(&forms.alu, items),
         [b'n', b'o', b'p', b'\n', rest @ ..] => Some(Coded {
             word: nop().above,
             rest,
         }),
-        _ => read_load_imm(forms, index, text),
+        _ => read_load_imm(forms, text),
     }
 }
 
-/// The branch that a text begins with, where its items have no mistake.
+/// The branch that a text begins with, where its items have no mistake and its label is known.
+#[inline(always)]
 pub fn read_branch<'a>(
-    labels: &Labels<'a>,
+    known: &Known<'a>,
     forms: &Forms,
     index: u32,
     text: &'a [u8],
 ) -> Option<Coded<'a>>
-    ensures coded { IfSome result (λ coded. IsCoded (spots_in labels.now) index (before 10 text.now) coded.word) }
+    ensures coded { IfSome result (λ coded. (spots : Spots) → Tells known.now spots → IsCoded spots index (before 10 text.now) coded.word) }
     ensures rest { IfSome result (λ coded. coded.rest.now ≡ behind 10 text.now) }
 {
     match text {
-        [b'b', b'r', b' ', items @ ..] => read_items(Some(labels), index, &forms.branch, items),
+        [b'b', b'r', b' ', items @ ..] => read_aimed(known, index, &forms.branch, items),
         _ => None,
     }
 }

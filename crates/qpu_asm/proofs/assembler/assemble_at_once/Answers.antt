@@ -1,6 +1,6 @@
 use Rattle.std.proofs.Common.{◌≡◌, ◌∙◌, [], sym, subst, ap, arith, length, Ok, IfSome, refl}
-use Rattle.qpu_asm.specs.{Labels.labels_of, Labels.read_lines, Seen.spots_in, Draft.IsDraftOf, Draft.AreFilled}
-use Rattle.qpu_asm.proofs.Assembling.{words_begin, whole}
+use Rattle.qpu_asm.specs.{Labels.AreAtSpots, Labels.labels_of, Labels.read_lines, Seen.spots_in, Draft.IsDraftOf, Draft.AreFilled}
+use Rattle.qpu_asm.proofs.{Assembling.words_begin, Assembling.whole, Standing.text_stands}
 use Rattle.qpu_asm.proofs.assembler.assemble_at_once.Goals as goal
 
 pub returns-then-fill_left : goal.returns-then-fill_left
@@ -15,5 +15,6 @@ returns-then-fill_left c =
     let filled = subst (λ old. AreFilled spots text old words) c.deref_mut.ensures.value (c.if-fill_left.ensures refl) in
     let size : length words ≡ c.in-Some.draft.words.len = omega (arith, filled.count, c.in-Some.draft.words.ok) in
     sym (words_begin spots text [] labels.known refl)
-    ∙ draft.words spots bound words (omega (arith, c.if-found-gt-MOST_LINE.true)) labels.first filled
+    ∙ draft.words spots bound words (omega (arith, c.if-found-gt-MOST_LINE.true)) labels.first
+    (subst (AreAtSpots spots) (sym draft.labels) (text_stands text spots bound c.requires (omega (arith, c.if-found-gt-MOST_LINE.true)) labels)) filled
     ∙ ap Ok (sym (whole words _ c.in-Some.draft.words.len size))

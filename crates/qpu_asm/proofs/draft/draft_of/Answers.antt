@@ -1,9 +1,9 @@
 use Rattle.std.proofs.{Common.◌≡◌, Common.◌<◌, Common.◌≤◌, Common.◌+◌, Common.◌++◌, Common.◌-◌, Common.◌∷◌, Common.sym, Common.refl, Common.subst, Common.ap, Common.◌∙◌, Common.arith, Common.drop, Common.take, Common.IfSome, Common.length, Common.vec_len, lemmas.List.length-drop, lemmas.List.take_rest}
 use Rattle.script.specs.Lines.{before, behind}
-use Rattle.qpu_asm.specs.{Lines.read_line, Labels.read_lines, Labels.labels_of, Labels.labels_from, Labels.size_of, Labels.label_on, Walk.lines_words, Draft.IsDraftedOn, Draft.IsFirstDrafted, Seen.labels_seen}
+use Rattle.qpu_asm.specs.{Lines.read_line, Labels.AreAtSpots, Labels.read_lines, Labels.labels_of, Labels.labels_from, Labels.size_of, Labels.label_on, Walk.lines_words, Draft.IsDraftedOn, Draft.IsFirstDrafted, Seen.labels_seen}
 use Rattle.qpu_asm.proofs.Assembling.{text_first, size_low, first_parts, labels_step, labels_end, words_step, words_end}
 use Rattle.qpu_asm.proofs.Drafting.{rest_place, no_words, marks_more}
-use Rattle.qpu_asm.proofs.Heads.{behind_shorter}
+use Rattle.qpu_asm.proofs.{Heads.behind_shorter, Standing.front_stands}
 use Rattle.qpu_asm.proofs.draft.draft_of.Goals as goal
 
 pub loop-at-init : goal.loop-at-init
@@ -15,7 +15,7 @@ loop-at-init c = record {
   few = omega (arith, c.in_ok-marks.ensures.len);
   labels = rw (c.in_ok-marks.ensures.items, c.in_ok-words.ensures.len) refl;
   first = λ spots bound all. all;
-  words = λ spots bound words big all filled.
+  words = λ spots bound words big all standing filled.
       ap (lines_words spots 1 (read_lines c.args.text.now)) (no_words words (omega (arith, filled.count, c.in_ok-words.ensures.len, c.in_ok-words.words.ok)));
 }
 
@@ -73,10 +73,11 @@ loop-at-preserved c =
           ∙ labels_step _ _ _ _ line c.loop-at.line index (size_of line) lines refl
           (drafted.labels ∙ ap (λ at. labels_seen c.loop-at.marks.items ++ label_on c.loop-at.line at line) known) ∙ c.loop-at.invariant.labels;
       first = λ spots bound all. (first_parts bound spots c.loop-at.line _ line _ lines (c.loop-at.invariant.first spots bound all)).1;
-      words = λ spots bound words big all filled.
+      words = λ spots bound words big all standing filled.
+          let above = front_stands spots (labels_seen c.loop-at.marks.items) _ (subst (AreAtSpots spots) drafted.labels standing) in
           let first = (first_parts bound spots c.loop-at.line _ line _ lines (c.loop-at.invariant.first spots bound all)).0 in
-          let put = drafted.words spots bound words (omega (arith, big, c.loop-at.invariant.lines, c.requires, c.loop-at-test.true)) first filled in
-          c.loop-at.invariant.words spots bound put.above big all put.filled
+          let put = drafted.words spots bound words (omega (arith, big, c.loop-at.invariant.lines, c.requires, c.loop-at-test.true)) first above filled in
+          c.loop-at.invariant.words spots bound put.above big all above put.filled
           ∙ sym (words_step spots _ _ line c.loop-at.line put.above words lines put.put);
     }
 
@@ -89,5 +90,5 @@ returns c =
       labels = sym (labels_end (labels_seen c.loop-at.marks.items) start c.loop-at.line (vec_len c.loop-at.words) none) ∙ c.loop-at.invariant.labels;
       few = omega (arith, c.loop-at.invariant.few, c.loop-at.invariant.lines, c.loop-at.invariant.inside, c.requires, c.loop-at.marks.ok);
       short = omega (arith, c.loop-at.invariant.indexes, c.loop-at.invariant.lines, c.loop-at.invariant.inside, c.requires, c.loop-at.words.ok);
-      words = λ spots bound words big all filled. c.loop-at.invariant.words spots bound words big all filled ∙ words_end spots start c.loop-at.line words none;
+      words = λ spots bound words big all standing filled. c.loop-at.invariant.words spots bound words big all standing filled ∙ words_end spots start c.loop-at.line words none;
     }

@@ -1,8 +1,8 @@
-use Rattle.std.proofs.lemmas.Grind.{common_steps}
-use Rattle.std.proofs.Common.{◌≡◌, ap, subst, arith, length, None}
+use Rattle.std.proofs.Common.{ap, subst, length, None}
 use Rattle.script.specs.Lines.{before}
-use Rattle.qpu_asm.specs.{Items.Spots, Walk.IsCoded}
-use Rattle.qpu_asm.proofs.Drafting.{coded_drafted, drafted_codes, coded_size, left_drafted, mark_drafted}
+use Rattle.qpu_asm.specs.{Lines.HasName, Draft.IsFirstDrafted}
+use Rattle.qpu_asm.proofs.Drafting.{coded_drafted, drafted_codes, coded_size, mark_drafted}
+use Rattle.qpu_asm.proofs.Standing.{read_named}
 use Rattle.qpu_asm.proofs.draft.put_line.Goals as goal
 
 pub returns-in-Some : goal.returns-in-Some
@@ -10,21 +10,25 @@ returns-in-Some c =
     let line = before 10 c.args.text.now in
     let word = c.in-Some.coded.word in
     let old = c.args.words.now.items in
-    let same : c.len.result ≡ length old = grind (arith, common_steps, c.len.ensures, c.args.words.now.ok) in
-    let coded : (spots : Spots) → IsCoded spots (length old) line word = λ spots. subst (λ index. IsCoded spots index line word) same (c.in-Some.ensures.coded spots) in
+    let coded = c.in-Some.ensures.coded in
     record {
       below = c.in-Some.ensures.rest;
       drafted = λ whole place.
-          coded_drafted whole c.args.number line old _ _ _ c.in_ok-push.ensures.items (coded_size (λ name. None) (length old) line word (coded (λ name. None)))
-          (drafted_codes whole line (length old) word c.args.at _ c.drafted_word.ensures (ap (before 10) place) coded);
+          coded_drafted whole c.args.number line old _ _ _ c.in_ok-push.ensures.items (coded_size (λ name. None) (length old) line word (coded (λ name. None) (length old)))
+          (λ spots made standing filled. drafted_codes whole line (length old) word c.args.at _ spots made c.requires.place c.drafted_word.ensures (ap (before 10) place)
+          (coded spots (length old)) filled);
     }
 
+pub put_branch-requires-clause-branch : goal.put_branch-requires-clause-branch
+put_branch-requires-clause-branch c = c.begins_branch.ensures c.if-begins_branch.true
+
 pub returns-then-begins_branch : goal.returns-then-begins_branch
-returns-then-begins_branch c = record {
-  below = c.lines_below.ensures;
-  drafted = λ whole place.
-      left_drafted whole c.args.text.now c.args.number c.args.at c.args.words.now.items _ _ c.in_ok-push-2.ensures.items place (c.begins_branch.ensures c.if-begins_branch.true);
-}
+returns-then-begins_branch c =
+    subst (λ marks. IsFirstDrafted c.args.at c.args.number c.args.text.now c.in_ok-rest.rest.now c.args.words.now.items c.put_branch.new.words.items marks marks) c.deref.ensures.value
+    (c.in_ok-rest.ensures c.args.number)
+
+pub add_mark-requires : goal.add_mark-requires
+add_mark-requires c = subst HasName c.in-Some-read_labelled.ensures.label (read_named (before 10 c.args.text.now))
 
 pub returns-in-Some-read_labelled : goal.returns-in-Some-read_labelled
 returns-in-Some-read_labelled c =
@@ -32,6 +36,6 @@ returns-in-Some-read_labelled c =
     record {
       below = labelled.ensures.rest;
       drafted = λ whole place.
-          mark_drafted whole c.args.number _ labelled.labelled.name.bytes.now c.args.words.now.items c.deref.result.now c.spot_behind.result c.args.marks.now.items _
-          labelled.ensures.label c.deref.ensures.value c.spot_behind.ensures c.in_ok-add_mark.ensures.labels;
+          mark_drafted whole c.args.number _ labelled.labelled.name.bytes.now c.args.words.now.items c.deref-in-Some-read_labelled.result.now c.spot_behind.result c.args.marks.now.items _
+          labelled.ensures.label c.deref-in-Some-read_labelled.ensures.value c.spot_behind.ensures c.in_ok-add_mark.ensures.labels;
     }

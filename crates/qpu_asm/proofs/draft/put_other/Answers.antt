@@ -1,9 +1,14 @@
-use Rattle.std.proofs.Common.{◌++◌, ◌∙◌, ap, sym}
+use Rattle.std.proofs.Common.{◌≡◌, ◌++◌, ◌∙◌, true, ap, subst, sym}
 use Rattle.script.specs.Lines.{before}
-use Rattle.qpu_asm.specs.{Labels.size_of, Labels.label_on, Lines.Label, Lines.read_line, Seen.labels_seen}
+use Rattle.qpu_asm.specs.{Labels.size_of, Labels.label_on, Lines.Label, Lines.HasName, Lines.is_name, Lines.read_line, Seen.labels_seen}
 use Rattle.qpu_asm.proofs.Drafting.{blank_drafted, left_drafted, mark_drafted}
+use Rattle.qpu_asm.proofs.Standing.{read_named}
 use Rattle.qpu_asm.proofs.draft.put_other.Goals.{in-Blank, in-Label+in_ok-add_mark-in-Label, in-Coded+in_ok-push-in-Coded}
 use Rattle.qpu_asm.proofs.draft.put_other.Goals as goal
+
+pub add_mark-requires : goal.add_mark-requires
+add_mark-requires c =
+    subst (λ name. is_name name ≡ true) (sym c.of.ensures) (subst HasName (sym (c.in-Label.ensures ∙ ap read_line c.cut_at-cut.ensures.first)) (read_named _))
 
 pub returns : goal.returns
 returns c = record {
@@ -25,7 +30,7 @@ returns c = record {
             ∙ ap (λ name. labels_seen marks ++ label_on w.spot_behind.result.line w.spot_behind.result.index (Label name)) w.of.ensures))
         | in-Coded+in_ok-push-in-Coded w ↦
             rw (w.words-is, w.marks-is)
-            (left_drafted whole c.args.text.now number c.args.at old _ marks w.in_ok-push-in-Coded.ensures.items place
+            (left_drafted whole c.args.text.now number c.args.at old _ marks c.requires.place w.in_ok-push-in-Coded.ensures.items place
             (ap size_of (sym (w.in-Coded.ensures ∙ first))))
       ];
 }

@@ -1,11 +1,14 @@
-use Rattle.std.proofs.{Common.sym, Common.◌∙◌, Common.arith, Common.refl, lemmas.Bool.Decides.nat_tests}
-use Rattle.qpu_asm.specs.{Labels.labels_of, Seen.line_seen}
-use Rattle.qpu_asm.proofs.Assembling.{lines_first, labels_step, labels_end, size_low}
+use Rattle.std.proofs.{Common.sym, Common.subst, Common.◌∙◌, Common.arith, Common.refl, lemmas.Bool.Decides.nat_tests}
+use Rattle.qpu_asm.specs.{Labels.labels_of, Lines.HasName, Seen.line_seen}
+use Rattle.qpu_asm.proofs.{Assembling.lines_first, Assembling.labels_step, Assembling.labels_end, Assembling.size_low, Standing.read_named}
 use Rattle.qpu_asm.proofs.label.marks_of.Goals as goal
 
 pub loop-rest-init : goal.loop-rest-init
 unfolding labels_of
 loop-rest-init c = record { lines = omega arith; indexes = omega arith; few = omega (arith, c.new-marks.ensures.len); same = rw c.new-marks.ensures.items refl }
+
+pub add_line-requires : goal.add_line-requires
+add_line-requires c = subst HasName (sym c.read_line-first.ensures) (read_named _)
 
 pub loop-rest-preserved : goal.loop-rest-preserved
 loop-rest-preserved c =

@@ -3,8 +3,8 @@ use Rattle.script.specs.Lines.{before}
 use Rattle.qpu_isa.specs.Fields.{width_of}
 use Rattle.qpu_asm.specs.{Table.widths_of, Items.Spots, Items.read_value, Walk.IsAfter}
 use Rattle.qpu_asm.proofs.Forms.{next_here}
-use Rattle.qpu_asm.proofs.Steps.{own_row, own_value, name_part}
-use Rattle.qpu_asm.proofs.Stepping.{replaced_by, step_read, added_change}
+use Rattle.qpu_asm.proofs.Steps.{own_row, name_part}
+use Rattle.qpu_asm.proofs.Stepping.{own_reads, replaced_by, step_read, added_change}
 use Rattle.qpu_asm.proofs.step.known_step.Goals as goal
 
 pub behind_bytes-requires : goal.behind_bytes-requires
@@ -24,9 +24,9 @@ returns c = λ index.
     let text = drop (length row.name + 1) items in
     let next = next_here items rows rest row later row.name read.here read.passed read.begun (own_row row) in
     let place = next.place word c.requires in
-    let told : Spots → Type 0 = λ spots. Unit {0} in
-    let reads : (spots : Spots) → told spots → read_value spots index row.name (before 32 (before 10 text)) row ≡ Ok read.value = λ spots told. rw (own_value spots index row (before 32 (before 10 text))) read.reads in
-    let new = replaced_by told (λ name. None) tt index word low read.value rows rest row later row.name text c.requires read.here refl next reads in
-    step_read told (λ name. None) tt index word low read.value rows rest row later items row.name text _ _ c.requires read.here refl next
-    (record { begun = read.begun; left = refl }) (name_part true _ row later place.still) reads (subst (IsAfter text) (sym c.behind_bytes.ensures) read.after)
+    let reads : (spots : Spots) → read_value spots index row.name (before 32 (before 10 text)) row ≡ Ok read.value =
+    λ spots. own_reads spots index true row (before 32 (before 10 text)) read.value refl read.reads in
+    let new = replaced_by (λ name. None) index word low read.value rows rest row later row.name _ c.requires read.here refl next (reads (λ name. None)) in
+    step_read (λ spots. Unit {0}) index word low read.value rows rest row later items row.name text _ _ c.requires next
+    (record { begun = read.begun; left = refl }) (name_part true _ row later place.still) (λ spots told. reads spots) (subst (IsAfter text) (sym c.behind_bytes.ensures) read.after) new
     (ap (λ change. (word + change) % 2 ^ 64) read.change ∙ added_change word low row.fallback read.value c.ranges.word.fits new.inside new.room)

@@ -10,7 +10,7 @@ alu c = four_bytes c.args.text.now 97 108 117 32 c.in-97.len_at_least (search ru
 pub returns-in-97-clause-coded : goal.returns-in-97-clause-coded
 unfolding is_opcode lacks is_full is_comment ends_label kind_named
 returns-in-97-clause-coded c =
-    some_by c.read_items.result (λ coded read spots. text_read spots _ _ (codes "alu") _ _ _ refl (ap Some (sym c.forms.invariant.0)) (alu c) (read spots tt)) c.read_items.ensures.word
+    some_by c.read_items.result (λ coded read spots index. text_read spots index _ (codes "alu") _ _ _ refl (ap Some (sym c.forms.invariant.0)) (alu c) (read spots index)) c.read_items.ensures.word
 
 pub returns-in-97-clause-rest : goal.returns-in-97-clause-rest
 unfolding is_opcode lacks is_full is_comment ends_label
@@ -21,11 +21,11 @@ nop : (c : goal.After-nop) → c.args.text.now ≡ codes "nop" ++ 10 ∷ take (l
 nop c = four_bytes c.args.text.now 110 111 112 10 c.in-110.len_at_least (search rules) (search rules) (search rules) (search rules)
 
 pub returns-in-110-clause-coded : goal.returns-in-110-clause-coded
-returns-in-110-clause-coded c = λ spots. record {
+returns-in-110-clause-coded c = λ spots index. record {
   opcode = codes "nop";
   items = words_of [];
   reads = (text_nop _ _ (nop c)).0;
-  codes = nop_code spots _ ∙ ap (λ kind. Ok kind.above) (sym c.nop.ensures);
+  codes = nop_code spots index ∙ ap (λ kind. Ok kind.above) (sym c.nop.ensures);
 }
 
 pub returns-in-110-clause-rest : goal.returns-in-110-clause-rest

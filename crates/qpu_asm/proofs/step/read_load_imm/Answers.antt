@@ -10,7 +10,7 @@ load c = three_bytes c.args.text.now 108 105 32 c.in-108.len_at_least (search ru
 pub returns-in-108-clause-coded : goal.returns-in-108-clause-coded
 unfolding is_opcode lacks is_full is_comment ends_label kind_named
 returns-in-108-clause-coded c =
-    some_by c.read_items.result (λ coded read spots. text_read spots _ _ (codes "li") _ _ _ refl (ap Some (sym c.forms.invariant.1)) (load c) (read spots tt)) c.read_items.ensures.word
+    some_by c.read_items.result (λ coded read spots index. text_read spots index _ (codes "li") _ _ _ refl (ap Some (sym c.forms.invariant.1)) (load c) (read spots index)) c.read_items.ensures.word
 
 pub returns-in-108-clause-rest : goal.returns-in-108-clause-rest
 unfolding is_opcode lacks is_full is_comment ends_label

@@ -1,6 +1,6 @@
 use Rattle.std.proofs.Common.{◌≡◌, arith, sym, subst, take_all, ◌∙◌, bytes_eq, true}
 use Rattle.qpu_asm.proofs.Bytes.{bytes_itself}
-use Rattle.qpu_asm.proofs.label.are_equal.Goals as goal
+use Rattle.qpu_asm.proofs.label.are_same_from.Goals as goal
 
 pub returns : goal.returns
 returns c =
