@@ -1,11 +1,11 @@
 //! A text's words in one walk: all but those of the lines that are left until its labels are known.
-ghost use Rattle.std.specs.Prelude.{◌≡◌, ◌<◌, ◌^◌, ◌+◌, ℕ, length, vec_len, drop, IfOk, IfSome, IsTrue};
+ghost use Rattle.std.specs.Prelude.{◌≡◌, ◌<◌, ◌^◌, ◌∷◌, ◌++◌, [], ℕ, length, vec_len, drop, IfOk, IfSome, IsTrue, OnOk};
 ghost use Rattle.script.specs.Lines.{before, behind};
 ghost use Rattle.qpu_asm.specs.Walk.{IsCoded};
 ghost use Rattle.qpu_asm.specs.Items.{Spots};
 ghost use Rattle.qpu_asm.specs.Labels.{AreAtSpots, size_of};
 ghost use Rattle.qpu_asm.specs.Lines.{read_line as line_read};
-ghost use Rattle.qpu_asm.specs.Draft.{is_left as left_test, IsWordOrPlace, IsFirstDrafted, IsDraftOf, AreFilled};
+ghost use Rattle.qpu_asm.specs.Draft.{AreRising, IsFirstDrafted, IsDraftOf, AreFilled};
 ghost use Rattle.qpu_asm.specs.Seen.{labels_seen, spots_in};
 
 use crate::form::Forms;
@@ -20,14 +20,18 @@ use memchr::memchr;
 use script::cut_at;
 use std::alloc::{AllocError, Global};
 
-/// In a draft, a word with the high half of this one stands for a line that is left, and its low half tells where in the text the line
-/// begins. No instruction has such a word but a branch, and few of those.
-const LEFT: u64 = 15 << 60;
+/// An instruction's line that is left until the labels are known: the instruction's index, and where in the text the line begins.
+#[derive(Clone, Copy)]
+pub struct LeftLine {
+    pub index: u32,
+    pub at: u32,
+}
 
-/// What was read of a text: for each instruction its word, or where its line lies, and a mark for each label.
+/// What was read of a text: a word for each instruction, the lines that are left, for which the word is none, and a mark for each label.
 #[derive(Drop)]
 pub struct Draft<'a> {
     pub words: Vec<u64>,
+    pub left: Vec<LeftLine>,
     pub marks: Vec<Mark<'a>>,
 }
 
@@ -38,21 +42,22 @@ pub fn draft_of<'a>(
     text: &'a [u8],
 ) -> Result<Option<Draft<'a>>, AllocError>
     requires { length text.now < 2 ^ 32 }
-    ensures { IfOk result (λ draft. IfSome draft (λ d. IsDraftOf text.now d.words.items d.marks.items)) }
+    ensures { IfOk result (λ draft. IfSome draft (λ d. IsDraftOf text.now d.words.items d.left.items d.marks.items)) }
 {
     let mut words = Vec::with_capacity(alloc, text.len() / 16)?;
+    let mut left = Vec::new(alloc);
     let mut marks = Vec::with_capacity(alloc, text.len() / 64)?;
     let mut at = 0;
     let mut line: u64 = 1;
     while at < text.len() {
-        let Some(rest) = put_line(&mut words, &mut marks, forms, at, line as u32, &text[at..])?
+        let Some(rest) = put_line(&mut words, &mut left, &mut marks, forms, at, line as u32, &text[at..])?
         else {
             return Ok(None);
         };
         at = text.len() - rest.len();
         line += 1;
     }
-    Ok(Some(Draft { words, marks }))
+    Ok(Some(Draft { words, left, marks }))
 }
 
 // Puts the first line of what begins at a place of a text to the draft of the lines above it, and answers the lines below; or none where it
@@ -60,6 +65,7 @@ pub fn draft_of<'a>(
 #[inline]
 fn put_line<'a>(
     words: &mut Vec<u64>,
+    left: &mut Vec<LeftLine>,
     marks: &mut Vec<Mark<'a>>,
     forms: &Forms,
     at: usize,
@@ -69,21 +75,21 @@ fn put_line<'a>(
     requires few { vec_len words.old < 2 ^ 32 }
     requires place { at < 2 ^ 32 }
     ensures { IfOk result (λ put. IfSome put (λ rest. IsFirstDrafted at number text.now rest.now
-        words.old.items words.new.items marks.old.items marks.new.items)) }
+        words.old.items words.new.items left.old.items left.new.items marks.old.items marks.new.items)) }
 {
     if let Some(coded) = read_early(forms, text) {
-        words.push(drafted_word(coded.word, at))?;
+        words.push(coded.word)?;
         return Ok(Some(coded.rest));
     }
     if begins_branch(text) {
-        let rest = put_branch(words, marks, forms, at, text)?;
+        let rest = put_branch(words, left, marks, forms, at, text)?;
         return Ok(Some(rest));
     }
     if let Some(labelled) = read_labelled(text) {
         add_mark(marks, labelled.name, spot_behind(words, number))?;
         return Ok(Some(labelled.rest));
     }
-    put_other(words, marks, at, number, text)
+    put_other(words, left, marks, at, number, text)
 }
 
 // The spot of a label on a line of this number, behind these words.
@@ -101,6 +107,7 @@ fn spot_behind(words: &[u64], number: u32) -> Spot
 #[inline]
 fn put_branch<'a>(
     words: &mut Vec<u64>,
+    left: &mut Vec<LeftLine>,
     marks: &[Mark<'a>],
     forms: &Forms,
     at: usize,
@@ -110,13 +117,13 @@ fn put_branch<'a>(
     requires place { at < 2 ^ 32 }
     requires branch { size_of (line_read (before 10 text.now)) ≡ 1 }
     ensures { IfOk result (λ rest. (number : ℕ) → IsFirstDrafted at number text.now rest.now
-        words.old.items words.new.items marks.now marks.now) }
+        words.old.items words.new.items left.old.items left.new.items marks.now marks.now) }
 {
     if let Some(coded) = near_branch(marks, forms, words.len() as u32, text) {
-        words.push(drafted_word(coded.word, at))?;
+        words.push(coded.word)?;
         return Ok(coded.rest);
     }
-    words.push(LEFT + at as u64)?;
+    leave(words, left, at)?;
     Ok(lines_below(text))
 }
 
@@ -142,23 +149,20 @@ fn near_branch<'a>(
     read_branch(&Known::Last(*mark), forms, index, text)
 }
 
-// Whether a drafted word stands for a line that is left.
-fn is_left(word: u64) -> bool
-    ensures { result ≡ left_test word }
+// Leaves the line that begins at this place.
+#[inline]
+fn leave(words: &mut Vec<u64>, left: &mut Vec<LeftLine>, at: usize) -> Result<(), AllocError>
+    requires few { vec_len words.old < 2 ^ 32 }
+    requires place { at < 2 ^ 32 }
+    ensures words { OnOk result (words.new.items ≡ words.old.items ++ 0 ∷ []) }
+    ensures left { OnOk result (left.new.items ≡ left.old.items ++ record { index = vec_len words.old; at = at } ∷ []) }
 {
-    word >> 32 == LEFT >> 32
-}
-
-// The word as it is; or, where it could be taken for the place of a line, the place of its line, which is left.
-fn drafted_word(word: u64, at: usize) -> u64
-    requires { at < 2 ^ 32 }
-    ensures { IsWordOrPlace word at result }
-{
-    if is_left(word) {
-        LEFT + at as u64
-    } else {
-        word
-    }
+    left.push(LeftLine {
+        index: words.len() as u32,
+        at: at as u32,
+    })?;
+    words.push(0)?;
+    Ok(())
 }
 
 // The lines below a text's first one.
@@ -176,6 +180,7 @@ fn lines_below(text: &[u8]) -> &[u8]
 #[inline(never)]
 fn put_other<'a>(
     words: &mut Vec<u64>,
+    left: &mut Vec<LeftLine>,
     marks: &mut Vec<Mark<'a>>,
     at: usize,
     number: u32,
@@ -184,31 +189,36 @@ fn put_other<'a>(
     requires few { vec_len words.old < 2 ^ 32 }
     requires place { at < 2 ^ 32 }
     ensures { IfOk result (λ put. IfSome put (λ rest. IsFirstDrafted at number text.now rest.now
-        words.old.items words.new.items marks.old.items marks.new.items)) }
+        words.old.items words.new.items left.old.items left.new.items marks.old.items marks.new.items)) }
 {
     let cut = cut_at(text, b'\n');
     match read_line(cut.first) {
         Line::Blank => {}
         Line::Label(name) => add_mark(marks, Name::of(name), spot_behind(words, number))?,
         Line::BadLabel => return Ok(None),
-        Line::Coded(_) => words.push(LEFT + at as u64)?,
+        Line::Coded(_) => leave(words, left, at)?,
     }
     Ok(Some(cut.rest))
 }
 
 /// Puts the words in for the lines that are left, as far as they have no mistake, and says whether none had one.
-pub fn fill_left<'a>(words: &mut [u64], labels: &Labels<'a>, forms: &Forms, text: &'a [u8]) -> bool
-    requires { length words.old < 2 ^ 32 }
-    ensures { IsTrue result → AreFilled (spots_in labels.now) text.now words.old words.new }
+pub fn fill_left<'a>(
+    words: &mut [u64],
+    left: &[LeftLine],
+    labels: &Labels<'a>,
+    forms: &Forms,
+    text: &'a [u8],
+) -> bool
+    requires { AreRising 0 (length words.old) left.now }
+    ensures { IsTrue result → AreFilled (spots_in labels.now) text.now words.old left.now words.new }
 {
-    for index in 0..words.len() {
-        if is_left(words[index]) {
-            let Some(word) = left_word(labels, forms, index as u32, text, words[index] - LEFT)
-            else {
-                return false;
-            };
-            words[index] = word;
-        }
+    let mut rest = left;
+    while let Some((line, later)) = rest.split_first() {
+        let Some(word) = left_word(labels, forms, line, text) else {
+            return false;
+        };
+        words[line.index as usize] = word;
+        rest = later;
     }
     true
 }
@@ -217,19 +227,18 @@ pub fn fill_left<'a>(words: &mut [u64], labels: &Labels<'a>, forms: &Forms, text
 fn left_word<'a>(
     labels: &Labels<'a>,
     forms: &Forms,
-    index: u32,
+    line: &LeftLine,
     text: &'a [u8],
-    at: u64,
 ) -> Option<u64>
-    ensures { IfSome result (λ word. IsCoded (spots_in labels.now) index (before 10 (drop at text.now)) word) }
+    ensures { IfSome result (λ word. IsCoded (spots_in labels.now) line.now.index (before 10 (drop line.now.at text.now)) word) }
 {
-    if at > text.len() as u64 {
+    if line.at as usize > text.len() {
         return None;
     }
-    let rest = &text[at as usize..];
-    match read_branch(&Known::All(labels), forms, index, rest) {
+    let rest = &text[line.at as usize..];
+    match read_branch(&Known::All(labels), forms, line.index, rest) {
         Some(coded) => Some(coded.word),
-        None => other_word(labels, index, rest),
+        None => other_word(labels, line.index, rest),
     }
 }
 

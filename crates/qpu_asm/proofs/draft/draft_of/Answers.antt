@@ -1,18 +1,19 @@
 use Rattle.std.proofs.{Common.◌≡◌, Common.◌<◌, Common.◌≤◌, Common.◌+◌, Common.◌++◌, Common.◌-◌, Common.◌∷◌, Common.sym, Common.refl, Common.subst, Common.ap, Common.◌∙◌, Common.arith, Common.drop, Common.take, Common.IfSome, Common.length, Common.vec_len, lemmas.List.length-drop, lemmas.List.take_rest}
 use Rattle.script.specs.Lines.{before, behind}
-use Rattle.qpu_asm.specs.{Lines.read_line, Labels.AreAtSpots, Labels.read_lines, Labels.labels_of, Labels.labels_from, Labels.size_of, Labels.label_on, Walk.lines_words, Draft.IsDraftedOn, Draft.IsFirstDrafted, Seen.labels_seen}
+use Rattle.qpu_asm.specs.{Lines.read_line, Labels.AreAtSpots, Labels.read_lines, Labels.labels_of, Labels.labels_from, Labels.size_of, Labels.label_on, Walk.lines_words, Draft.AreRising, Draft.IsDraftedOn, Draft.IsFirstDrafted, Seen.labels_seen}
 use Rattle.qpu_asm.proofs.Assembling.{text_first, size_low, first_parts, labels_step, labels_end, words_step, words_end}
 use Rattle.qpu_asm.proofs.Drafting.{rest_place, no_words, marks_more}
 use Rattle.qpu_asm.proofs.{Heads.behind_shorter, Standing.front_stands}
 use Rattle.qpu_asm.proofs.draft.draft_of.Goals as goal
 
 pub loop-at-init : goal.loop-at-init
-unfolding labels_of
+unfolding labels_of AreRising
 loop-at-init c = record {
   inside = omega arith;
   lines = omega arith;
   indexes = omega (arith, c.in_ok-words.ensures.len);
   few = omega (arith, c.in_ok-marks.ensures.len);
+  rising = rw (c.new-left.ensures.items, c.in_ok-words.ensures.items) (omega arith);
   labels = rw (c.in_ok-marks.ensures.items, c.in_ok-words.ensures.len) refl;
   first = λ spots bound all. all;
   words = λ spots bound words big all standing filled.
@@ -21,15 +22,15 @@ loop-at-init c = record {
 
 -- what the line put to the draft
 put : (c : goal.In-Some) → (c.in-Some.rest.now ≡ behind 10 (drop c.loop-at.at c.args.text.now))
-    × IsDraftedOn c.args.text.now c.loop-at.line (read_line (before 10 (drop c.loop-at.at c.args.text.now))) c.loop-at.words.items c.put_line.new.words.items c.loop-at.marks.items c.put_line.new.marks.items
+    × IsDraftedOn c.args.text.now c.loop-at.line (read_line (before 10 (drop c.loop-at.at c.args.text.now))) c.loop-at.words.items c.put_line.new.words.items c.loop-at.left.items c.put_line.new.left.items c.loop-at.marks.items c.put_line.new.marks.items
 put c =
     let text = c.args.text.now in
     let whole = take_rest text c.loop-at.at in
     let start = take (length text - c.loop-at.at) (drop c.loop-at.at text) in
     let first = subst (λ o. IfSome o (λ rest. IsFirstDrafted c.loop-at.at c.loop-at.line start rest.now
-    c.loop-at.words.items c.put_line.new.words.items c.loop-at.marks.items c.put_line.new.marks.items)) c.in-Some.is c.in_ok-rest.ensures in (
+    c.loop-at.words.items c.put_line.new.words.items c.loop-at.left.items c.put_line.new.left.items c.loop-at.marks.items c.put_line.new.marks.items)) c.in-Some.is c.in_ok-rest.ensures in (
       first.below ∙ ap (behind 10) whole,
-      subst (λ front. IsDraftedOn text c.loop-at.line (read_line (before 10 front)) c.loop-at.words.items c.put_line.new.words.items c.loop-at.marks.items c.put_line.new.marks.items)
+      subst (λ front. IsDraftedOn text c.loop-at.line (read_line (before 10 front)) c.loop-at.words.items c.put_line.new.words.items c.loop-at.left.items c.put_line.new.left.items c.loop-at.marks.items c.put_line.new.marks.items)
           whole (first.drafted text whole),
     )
 
@@ -68,6 +69,7 @@ loop-at-preserved c =
       lines = omega (arith, short, long, ap length is, c.loop-at.invariant.lines, c.loop-at-test.true);
       indexes = omega (arith, size, size_low line, c.loop-at.invariant.indexes);
       few = omega (arith, marks_more _ _ c.loop-at.line _ line drafted.labels, c.loop-at.marks.ok, c.put_line.new.marks.ok, c.loop-at.invariant.few);
+      rising = drafted.rising c.loop-at.invariant.rising;
       labels = ap (λ size. labels_seen c.put_line.new.marks.items ++ labels_from (c.loop-at.line + 1) size (read_lines (drop (length text - length rest) text)))
           size
           ∙ labels_step _ _ _ _ line c.loop-at.line index (size_of line) lines refl
@@ -76,7 +78,7 @@ loop-at-preserved c =
       words = λ spots bound words big all standing filled.
           let above = front_stands spots (labels_seen c.loop-at.marks.items) _ (subst (AreAtSpots spots) drafted.labels standing) in
           let first = (first_parts bound spots c.loop-at.line _ line _ lines (c.loop-at.invariant.first spots bound all)).0 in
-          let put = drafted.words spots bound words (omega (arith, big, c.loop-at.invariant.lines, c.requires, c.loop-at-test.true)) first above filled in
+          let put = drafted.words c.loop-at.invariant.rising spots bound words (omega (arith, big, c.loop-at.invariant.lines, c.requires, c.loop-at-test.true)) first above filled in
           c.loop-at.invariant.words spots bound put.above big all above put.filled
           ∙ sym (words_step spots _ _ line c.loop-at.line put.above words lines put.put);
     }
@@ -87,8 +89,8 @@ returns c =
     let start = drop c.loop-at.at text in
     let none : length start ≤ 0 = omega (arith, length-drop c.loop-at.at text, c.loop-at-test.false) in
     record {
+      rising = c.loop-at.invariant.rising;
       labels = sym (labels_end (labels_seen c.loop-at.marks.items) start c.loop-at.line (vec_len c.loop-at.words) none) ∙ c.loop-at.invariant.labels;
       few = omega (arith, c.loop-at.invariant.few, c.loop-at.invariant.lines, c.loop-at.invariant.inside, c.requires, c.loop-at.marks.ok);
-      short = omega (arith, c.loop-at.invariant.indexes, c.loop-at.invariant.lines, c.loop-at.invariant.inside, c.requires, c.loop-at.words.ok);
       words = λ spots bound words big all standing filled. c.loop-at.invariant.words spots bound words big all standing filled ∙ words_end spots start c.loop-at.line words none;
     }

@@ -1,6 +1,6 @@
 -- What the lines above have is drafted.
 use Rattle.std.proofs.Common.{◌≡◌, ◌≤◌, ◌+◌, ◌++◌, ◌^◌, ◌-◌, ℕ, List, [], length, drop, vec_len}
-use Rattle.qpu_asm.specs.{Labels.AreAtSpots, Labels.labels_from, Labels.labels_of, Labels.read_lines, Items.Spots, Marks.AreFirstBelow, Walk.lines_words, Draft.AreFilled, Seen.labels_seen}
+use Rattle.qpu_asm.specs.{Labels.AreAtSpots, Labels.labels_from, Labels.labels_of, Labels.read_lines, Items.Spots, Marks.AreFirstBelow, Walk.lines_words, Draft.AreRising, Draft.AreFilled, Seen.labels_seen}
 use Rattle.qpu_asm.proofs.draft.draft_of.Given as goal
 
 abbrev pub invariant-loop-at : goal.invariant-loop-at
@@ -9,10 +9,11 @@ invariant-loop-at l = record {
   lines : l.line ≤ l.at + 1;
   indexes : vec_len l.words + 1 ≤ l.line;
   few : vec_len l.marks + 1 ≤ l.line;
+  rising : AreRising 0 (length l.words.items) l.left.items;
   labels : labels_seen l.marks.items ++ labels_from l.line (vec_len l.words) (read_lines (drop l.at l.text)) ≡ labels_of l.text;
   first : (spots : Spots) (bound : ℕ) → AreFirstBelow bound spots 1 (read_lines l.text) → AreFirstBelow bound spots l.line (read_lines (drop l.at l.text));
   words : (spots : Spots) (bound : ℕ) (words : List ℕ) → 2 ^ 32 ≤ bound → AreFirstBelow bound spots 1 (read_lines l.text)
-      → AreAtSpots spots (labels_seen l.marks.items) → AreFilled spots l.text l.words.items words → lines_words spots 1 (read_lines l.text) [] ≡ lines_words spots l.line (read_lines (drop l.at l.text)) words;
+      → AreAtSpots spots (labels_seen l.marks.items) → AreFilled spots l.text l.words.items l.left.items words → lines_words spots 1 (read_lines l.text) [] ≡ lines_words spots l.line (read_lines (drop l.at l.text)) words;
 }
 
 abbrev pub decreases-loop-at : goal.decreases-loop-at

@@ -1,7 +1,7 @@
 use Rattle.std.proofs.Common.{ap, subst, length, None}
 use Rattle.script.specs.Lines.{before}
 use Rattle.qpu_asm.specs.{Lines.HasName, Draft.IsFirstDrafted}
-use Rattle.qpu_asm.proofs.Drafting.{coded_drafted, drafted_codes, coded_size, mark_drafted}
+use Rattle.qpu_asm.proofs.Drafting.{coded_drafted, coded_size, mark_drafted}
 use Rattle.qpu_asm.proofs.Standing.{read_named}
 use Rattle.qpu_asm.proofs.draft.put_line.Goals as goal
 
@@ -14,9 +14,8 @@ returns-in-Some c =
     record {
       below = c.in-Some.ensures.rest;
       drafted = λ whole place.
-          coded_drafted whole c.args.number line old _ _ _ c.in_ok-push.ensures.items (coded_size (λ name. None) (length old) line word (coded (λ name. None) (length old)))
-          (λ spots made standing filled. drafted_codes whole line (length old) word c.args.at _ spots made c.requires.place c.drafted_word.ensures (ap (before 10) place)
-          (coded spots (length old)) filled);
+          coded_drafted whole c.args.number line old _ _ _ word c.in_ok-push.ensures.items (coded_size (λ name. None) (length old) line word (coded (λ name. None) (length old)))
+          (λ spots standing. coded spots (length old));
     }
 
 pub put_branch-requires-clause-branch : goal.put_branch-requires-clause-branch
@@ -24,7 +23,8 @@ put_branch-requires-clause-branch c = c.begins_branch.ensures c.if-begins_branch
 
 pub returns-then-begins_branch : goal.returns-then-begins_branch
 returns-then-begins_branch c =
-    subst (λ marks. IsFirstDrafted c.args.at c.args.number c.args.text.now c.in_ok-rest.rest.now c.args.words.now.items c.put_branch.new.words.items marks marks) c.deref.ensures.value
+    subst (λ marks. IsFirstDrafted c.args.at c.args.number c.args.text.now c.in_ok-rest.rest.now c.args.words.now.items c.put_branch.new.words.items
+    c.args.left.now.items c.put_branch.new.left.items marks marks) c.deref.ensures.value
     (c.in_ok-rest.ensures c.args.number)
 
 pub add_mark-requires : goal.add_mark-requires
@@ -36,6 +36,6 @@ returns-in-Some-read_labelled c =
     record {
       below = labelled.ensures.rest;
       drafted = λ whole place.
-          mark_drafted whole c.args.number _ labelled.labelled.name.bytes.now c.args.words.now.items c.deref-in-Some-read_labelled.result.now c.spot_behind.result c.args.marks.now.items _
+          mark_drafted whole c.args.number _ labelled.labelled.name.bytes.now c.args.words.now.items c.deref-in-Some-read_labelled.result.now _ c.spot_behind.result c.args.marks.now.items _
           labelled.ensures.label c.deref-in-Some-read_labelled.ensures.value c.spot_behind.ensures c.in_ok-add_mark.ensures.labels;
     }

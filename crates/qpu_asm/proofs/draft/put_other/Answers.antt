@@ -1,9 +1,9 @@
-use Rattle.std.proofs.Common.{◌≡◌, ◌++◌, ◌∙◌, true, ap, subst, sym}
+use Rattle.std.proofs.Common.{◌≡◌, refl, ◌++◌, ◌∙◌, true, ap, subst, sym}
 use Rattle.script.specs.Lines.{before}
 use Rattle.qpu_asm.specs.{Labels.size_of, Labels.label_on, Lines.Label, Lines.HasName, Lines.is_name, Lines.read_line, Seen.labels_seen}
 use Rattle.qpu_asm.proofs.Drafting.{blank_drafted, left_drafted, mark_drafted}
 use Rattle.qpu_asm.proofs.Standing.{read_named}
-use Rattle.qpu_asm.proofs.draft.put_other.Goals.{in-Blank, in-Label+in_ok-add_mark-in-Label, in-Coded+in_ok-push-in-Coded}
+use Rattle.qpu_asm.proofs.draft.put_other.Goals.{in-Blank, in-Label+in_ok-add_mark-in-Label, in-Coded+in_ok-leave-in-Coded}
 use Rattle.qpu_asm.proofs.draft.put_other.Goals as goal
 
 pub add_mark-requires : goal.add_mark-requires
@@ -16,21 +16,22 @@ returns c = record {
   drafted = λ whole place.
       let number = c.args.number in
       let old = c.args.words.now.items in
+      let left = c.args.left.now.items in
       let marks = c.args.marks.now.items in
       let line = read_line (before 10 c.args.text.now) in
       let first = ap read_line c.cut_at-cut.ensures.first in
       elim c.match-read_line.branch [
         | in-Blank w ↦
-            rw (w.words-is, w.marks-is) (blank_drafted whole number line old marks (sym (w.in-Blank.ensures ∙ first)))
+            rw (w.words-is, w.left-is, w.marks-is) (blank_drafted whole number line old left marks (sym (w.in-Blank.ensures ∙ first)))
         | in-Label+in_ok-add_mark-in-Label w ↦
-            rw (w.words-is, w.marks-is)
-            (mark_drafted whole number line w.in-Label.name.now old w.deref.result.now w.spot_behind.result marks _
+            rw (w.words-is, w.left-is, w.marks-is)
+            (mark_drafted whole number line w.in-Label.name.now old w.deref.result.now left w.spot_behind.result marks _
             (sym (w.in-Label.ensures ∙ first)) w.deref.ensures.value w.spot_behind.ensures
             (w.in_ok-add_mark-in-Label.ensures.labels
             ∙ ap (λ name. labels_seen marks ++ label_on w.spot_behind.result.line w.spot_behind.result.index (Label name)) w.of.ensures))
-        | in-Coded+in_ok-push-in-Coded w ↦
-            rw (w.words-is, w.marks-is)
-            (left_drafted whole c.args.text.now number c.args.at old _ marks c.requires.place w.in_ok-push-in-Coded.ensures.items place
-            (ap size_of (sym (w.in-Coded.ensures ∙ first))))
+        | in-Coded+in_ok-leave-in-Coded w ↦
+            rw (w.words-is, w.left-is, w.marks-is)
+            (left_drafted whole c.args.text.now number c.args.at old _ left _ marks _ _ w.in_ok-leave-in-Coded.ensures.words w.in_ok-leave-in-Coded.ensures.left
+            c.args.words.now.ok.0 refl place (ap size_of (sym (w.in-Coded.ensures ∙ first))))
       ];
 }
