@@ -178,11 +178,11 @@ coded_drafted text number line old new left marks word is one codes =
         (last.0, subst (IsCoded spots (length old) line) (sym last.1) (codes spots standing)))
 
 -- a line that is left
-pub left_drafted : (text front : List ℕ) (number at : ℕ) (old new : List ℕ) (left_old left_new : List LeftLine) (marks : List Mark) (word : ℕ) (line : LeftLine)
-    → new ≡ old ++ word ∷ [] → left_new ≡ left_old ++ line ∷ [] → line.index ≡ length old → line.at ≡ at → front ≡ drop at text
-    → size_of (read_line (before 10 front)) ≡ 1 → IsDraftedOn text number (read_line (before 10 front)) old new left_old left_new marks marks
-left_drafted text front number at old new left_old left_new marks word line is more here there place one =
-    rw more (line_drafted text number (before 10 front) old new left_old (left_old ++ line ∷ []) marks word is one (rising_push 0 (length old) left_old line here)
+pub left_drafted : (text front : List ℕ) (number at : ℕ) (old new : List ℕ) (left_old left_new : List LeftLine) (marks marks_new : List Mark) (word : ℕ) (line : LeftLine)
+    → new ≡ old ++ word ∷ [] → left_new ≡ left_old ++ line ∷ [] → marks_new ≡ marks → line.index ≡ length old → line.at ≡ at → front ≡ drop at text
+    → size_of (read_line (before 10 front)) ≡ 1 → IsDraftedOn text number (read_line (before 10 front)) old new left_old left_new marks marks_new
+left_drafted text front number at old new left_old left_new marks marks_new word line is more same here there place one =
+    rw (more, same) (line_drafted text number (before 10 front) old new left_old (left_old ++ line ∷ []) marks word is one (rising_push 0 (length old) left_old line here)
     (λ spots full rising standing filled. let last = last_left spots text old full word left_old line here rising filled in
         (last.0, subst (λ rest. IsCoded spots (length old) (before 10 rest) (get_or full (length old) 0)) (ap (λ n. drop n text) there ∙ sym place)
         (subst (λ index. IsCoded spots index (before 10 (drop line.at text)) (get_or full index 0)) here last.1))))

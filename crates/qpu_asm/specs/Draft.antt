@@ -1,7 +1,7 @@
 -- What is drafted of a text before its labels are known. No part of what the crate claims.
 use Rattle.std.specs.Prelude.{◌≡◌, ℕ, ◌+◌, ◌^◌, ◌<◌, ◌≤◌, ◌==◌, Bool, false, ◌||◌, List, [], ◌∷◌, ◌++◌, length, drop, slice_index, Ok}
 use Rattle.script.specs.Lines.{before, behind}
-use Rattle.qpu_asm.specs.{declared.draft.LeftLine.LeftLine, declared.mark.Mark.Mark, Items.Spots, Lines.Line, Lines.read_line, Labels.LabelSpot, Labels.AreAtSpots, Labels.labels_of, Labels.label_on, Labels.size_of, Labels.read_lines, Marks.IsFirstBelow, Marks.AreFirstBelow, Walk.IsCoded, Walk.line_words, Walk.lines_words, Seen.labels_seen}
+use Rattle.qpu_asm.specs.{declared.draft.Draft.Draft, declared.draft.LeftLine.LeftLine, declared.mark.Mark.Mark, Items.Spots, Lines.Line, Lines.read_line, Labels.LabelSpot, Labels.AreAtSpots, Labels.labels_of, Labels.label_on, Labels.size_of, Labels.read_lines, Marks.IsFirstBelow, Marks.AreFirstBelow, Walk.IsCoded, Walk.line_words, Walk.lines_words, Seen.labels_seen}
 
 -- the line of the instruction of this index is left
 unfoldable pub is_left : ℕ → List LeftLine → Bool
@@ -44,18 +44,18 @@ pub record IsDraftedOn (text : List ℕ) (number : ℕ) (line : Line) (words_old
   pub words : AreRising 0 (length words_old) left_old → IsPut text number line (labels_seen marks_old) words_old words_new left_old left_new
 
 -- what a text's first line has is drafted, where the text stands at this place of a whole one
-pub record IsFirstDrafted (at number : ℕ) (text rest words_old words_new : List ℕ) (left_old left_new : List LeftLine) (marks_old marks_new : List Mark) : Type 0 where
+pub record IsFirstDrafted (at number : ℕ) (text rest : List ℕ) (old new : Draft) : Type 0 where
   pub below : rest ≡ behind 10 text
   pub drafted : (whole : List ℕ) → text ≡ drop at whole
-      → IsDraftedOn whole number (read_line (before 10 text)) words_old words_new left_old left_new marks_old marks_new
+      → IsDraftedOn whole number (read_line (before 10 text)) old.words.items new.words.items old.left.items new.left.items old.marks.items new.marks.items
 
 -- the words of a text, where its labels are known and none is repeated, and the left lines have no mistake
-pub record IsDraftOf (text drafted : List ℕ) (left : List LeftLine) (marks : List Mark) : Type 0 where
-  pub labels : labels_seen marks ≡ labels_of text
-  pub few : length marks < 2 ^ 32
-  pub rising : AreRising 0 (length drafted) left
+pub record IsDraftOf (text : List ℕ) (draft : Draft) : Type 0 where
+  pub labels : labels_seen draft.marks.items ≡ labels_of text
+  pub few : length draft.marks.items < 2 ^ 32
+  pub rising : AreRising 0 (length draft.words.items) draft.left.items
   pub words : (spots : Spots) (bound : ℕ) (words : List ℕ) → 2 ^ 32 ≤ bound → AreFirstBelow bound spots 1 (read_lines text)
-      → AreAtSpots spots (labels_seen marks) → AreFilled spots text drafted left words → lines_words spots 1 (read_lines text) [] ≡ Ok words
+      → AreAtSpots spots (labels_seen draft.marks.items) → AreFilled spots text draft.words.items draft.left.items words → lines_words spots 1 (read_lines text) [] ≡ Ok words
 
 -- While the left lines are filled in: the words so far, where these lines are still left. Any words that agree with these up to the first
 -- of those, and in which those are coded, are the filled ones.

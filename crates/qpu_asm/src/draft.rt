@@ -42,54 +42,51 @@ pub fn draft_of<'a>(
     text: &'a [u8],
 ) -> Result<Option<Draft<'a>>, AllocError>
     requires { length text.now < 2 ^ 32 }
-    ensures { IfOk result (λ draft. IfSome draft (λ d. IsDraftOf text.now d.words.items d.left.items d.marks.items)) }
+    ensures { IfOk result (λ draft. IfSome draft (λ d. IsDraftOf text.now d)) }
 {
-    let mut words = Vec::with_capacity(alloc, text.len() / 16)?;
-    let mut left = Vec::new(alloc);
-    let mut marks = Vec::with_capacity(alloc, text.len() / 64)?;
+    let words = Vec::with_capacity(alloc, text.len() / 16)?;
+    let left = Vec::new(alloc);
+    let marks = Vec::with_capacity(alloc, text.len() / 64)?;
+    let mut draft = Draft { words, left, marks };
     let mut at = 0;
     let mut line: u64 = 1;
     while at < text.len() {
-        let Some(rest) = put_line(&mut words, &mut left, &mut marks, forms, at, line as u32, &text[at..])?
-        else {
+        let Some(rest) = put_line(&mut draft, forms, at, line as u32, &text[at..])? else {
             return Ok(None);
         };
         at = text.len() - rest.len();
         line += 1;
     }
-    Ok(Some(Draft { words, left, marks }))
+    Ok(Some(draft))
 }
 
 // Puts the first line of what begins at a place of a text to the draft of the lines above it, and answers the lines below; or none where it
 // is a malformed label's. Most lines are read at once.
 #[inline]
 fn put_line<'a>(
-    words: &mut Vec<u64>,
-    left: &mut Vec<LeftLine>,
-    marks: &mut Vec<Mark<'a>>,
+    draft: &mut Draft<'a>,
     forms: &Forms,
     at: usize,
     number: u32,
     text: &'a [u8],
 ) -> Result<Option<&'a [u8]>, AllocError>
-    requires few { vec_len words.old < 2 ^ 32 }
+    requires few { vec_len draft.old.words < 2 ^ 32 }
     requires place { at < 2 ^ 32 }
-    ensures { IfOk result (λ put. IfSome put (λ rest. IsFirstDrafted at number text.now rest.now
-        words.old.items words.new.items left.old.items left.new.items marks.old.items marks.new.items)) }
+    ensures { IfOk result (λ put. IfSome put (λ rest. IsFirstDrafted at number text.now rest.now draft.old draft.new)) }
 {
     if let Some(coded) = read_early(forms, text) {
-        words.push(coded.word)?;
+        draft.words.push(coded.word)?;
         return Ok(Some(coded.rest));
     }
     if begins_branch(text) {
-        let rest = put_branch(words, left, marks, forms, at, text)?;
+        let rest = put_branch(draft, forms, at, text)?;
         return Ok(Some(rest));
     }
     if let Some(labelled) = read_labelled(text) {
-        add_mark(marks, labelled.name, spot_behind(words, number))?;
+        add_mark(&mut draft.marks, labelled.name, spot_behind(&draft.words, number))?;
         return Ok(Some(labelled.rest));
     }
-    put_other(words, left, marks, at, number, text)
+    put_other(draft, at, number, text)
 }
 
 // The spot of a label on a line of this number, behind these words.
@@ -106,24 +103,21 @@ fn spot_behind(words: &[u64], number: u32) -> Spot
 // Puts a branch's line to the draft. Its word is known where its label is the last one above it, as a loop's; else the line is left.
 #[inline]
 fn put_branch<'a>(
-    words: &mut Vec<u64>,
-    left: &mut Vec<LeftLine>,
-    marks: &[Mark<'a>],
+    draft: &mut Draft<'a>,
     forms: &Forms,
     at: usize,
     text: &'a [u8],
 ) -> Result<&'a [u8], AllocError>
-    requires few { vec_len words.old < 2 ^ 32 }
+    requires few { vec_len draft.old.words < 2 ^ 32 }
     requires place { at < 2 ^ 32 }
     requires branch { size_of (line_read (before 10 text.now)) ≡ 1 }
-    ensures { IfOk result (λ rest. (number : ℕ) → IsFirstDrafted at number text.now rest.now
-        words.old.items words.new.items left.old.items left.new.items marks.now marks.now) }
+    ensures { IfOk result (λ rest. (number : ℕ) → IsFirstDrafted at number text.now rest.now draft.old draft.new) }
 {
-    if let Some(coded) = near_branch(marks, forms, words.len() as u32, text) {
-        words.push(coded.word)?;
+    if let Some(coded) = near_branch(&draft.marks, forms, draft.words.len() as u32, text) {
+        draft.words.push(coded.word)?;
         return Ok(coded.rest);
     }
-    leave(words, left, at)?;
+    leave(draft, at)?;
     Ok(lines_below(text))
 }
 
@@ -151,17 +145,18 @@ fn near_branch<'a>(
 
 // Leaves the line that begins at this place.
 #[inline]
-fn leave(words: &mut Vec<u64>, left: &mut Vec<LeftLine>, at: usize) -> Result<(), AllocError>
-    requires few { vec_len words.old < 2 ^ 32 }
+fn leave(draft: &mut Draft<'_>, at: usize) -> Result<(), AllocError>
+    requires few { vec_len draft.old.words < 2 ^ 32 }
     requires place { at < 2 ^ 32 }
-    ensures words { OnOk result (words.new.items ≡ words.old.items ++ 0 ∷ []) }
-    ensures left { OnOk result (left.new.items ≡ left.old.items ++ record { index = vec_len words.old; at = at } ∷ []) }
+    ensures words { OnOk result (draft.new.words.items ≡ draft.old.words.items ++ 0 ∷ []) }
+    ensures left { OnOk result (draft.new.left.items ≡ draft.old.left.items ++ record { index = vec_len draft.old.words; at = at } ∷ []) }
+    ensures marks { OnOk result (draft.new.marks.items ≡ draft.old.marks.items) }
 {
-    left.push(LeftLine {
-        index: words.len() as u32,
+    draft.left.push(LeftLine {
+        index: draft.words.len() as u32,
         at: at as u32,
     })?;
-    words.push(0)?;
+    draft.words.push(0)?;
     Ok(())
 }
 
@@ -179,24 +174,21 @@ fn lines_below(text: &[u8]) -> &[u8]
 // The same where the line isn't read at once: by its words. An instruction is left.
 #[inline(never)]
 fn put_other<'a>(
-    words: &mut Vec<u64>,
-    left: &mut Vec<LeftLine>,
-    marks: &mut Vec<Mark<'a>>,
+    draft: &mut Draft<'a>,
     at: usize,
     number: u32,
     text: &'a [u8],
 ) -> Result<Option<&'a [u8]>, AllocError>
-    requires few { vec_len words.old < 2 ^ 32 }
+    requires few { vec_len draft.old.words < 2 ^ 32 }
     requires place { at < 2 ^ 32 }
-    ensures { IfOk result (λ put. IfSome put (λ rest. IsFirstDrafted at number text.now rest.now
-        words.old.items words.new.items left.old.items left.new.items marks.old.items marks.new.items)) }
+    ensures { IfOk result (λ put. IfSome put (λ rest. IsFirstDrafted at number text.now rest.now draft.old draft.new)) }
 {
     let cut = cut_at(text, b'\n');
     match read_line(cut.first) {
         Line::Blank => {}
-        Line::Label(name) => add_mark(marks, Name::of(name), spot_behind(words, number))?,
+        Line::Label(name) => add_mark(&mut draft.marks, Name::of(name), spot_behind(&draft.words, number))?,
         Line::BadLabel => return Ok(None),
-        Line::Coded(_) => leave(words, left, at)?,
+        Line::Coded(_) => leave(draft, at)?,
     }
     Ok(Some(cut.rest))
 }

@@ -7,7 +7,7 @@ pub returns-then-fill_left : goal.returns-then-fill_left
 unfolding labels_of
 returns-then-fill_left c =
     let text = c.args.text.now in
-    let draft = subst (λ made. IfSome made (λ d. IsDraftOf text d.words.items d.left.items d.marks.items)) c.in-Some.is c.in_ok-draft.ensures in
+    let draft = subst (λ made. IfSome made (λ d. IsDraftOf text d)) c.in-Some.is c.in_ok-draft.ensures in
     let labels = c.in_ok-found.ensures (read_lines text) draft.labels in
     let spots = spots_in c.in_ok-found.found.labels in
     let bound = c.in_ok-found.found.first_below in

@@ -7,13 +7,13 @@ abbrev pub invariant-loop-at : goal.invariant-loop-at
 invariant-loop-at l = record {
   inside : l.at ≤ length l.text;
   lines : l.line ≤ l.at + 1;
-  indexes : vec_len l.words + 1 ≤ l.line;
-  few : vec_len l.marks + 1 ≤ l.line;
-  rising : AreRising 0 (length l.words.items) l.left.items;
-  labels : labels_seen l.marks.items ++ labels_from l.line (vec_len l.words) (read_lines (drop l.at l.text)) ≡ labels_of l.text;
+  indexes : vec_len l.draft.words + 1 ≤ l.line;
+  few : vec_len l.draft.marks + 1 ≤ l.line;
+  rising : AreRising 0 (length l.draft.words.items) l.draft.left.items;
+  labels : labels_seen l.draft.marks.items ++ labels_from l.line (vec_len l.draft.words) (read_lines (drop l.at l.text)) ≡ labels_of l.text;
   first : (spots : Spots) (bound : ℕ) → AreFirstBelow bound spots 1 (read_lines l.text) → AreFirstBelow bound spots l.line (read_lines (drop l.at l.text));
   words : (spots : Spots) (bound : ℕ) (words : List ℕ) → 2 ^ 32 ≤ bound → AreFirstBelow bound spots 1 (read_lines l.text)
-      → AreAtSpots spots (labels_seen l.marks.items) → AreFilled spots l.text l.words.items l.left.items words → lines_words spots 1 (read_lines l.text) [] ≡ lines_words spots l.line (read_lines (drop l.at l.text)) words;
+      → AreAtSpots spots (labels_seen l.draft.marks.items) → AreFilled spots l.text l.draft.words.items l.draft.left.items words → lines_words spots 1 (read_lines l.text) [] ≡ lines_words spots l.line (read_lines (drop l.at l.text)) words;
 }
 
 abbrev pub decreases-loop-at : goal.decreases-loop-at

@@ -9,7 +9,7 @@ pub returns-in-Some : goal.returns-in-Some
 returns-in-Some c =
     let line = before 10 c.args.text.now in
     let word = c.in-Some.coded.word in
-    let old = c.args.words.now.items in
+    let old = c.args.draft.now.words.items in
     let coded = c.in-Some.ensures.coded in
     record {
       below = c.in-Some.ensures.rest;
@@ -23,9 +23,7 @@ put_branch-requires-clause-branch c = c.begins_branch.ensures c.if-begins_branch
 
 pub returns-then-begins_branch : goal.returns-then-begins_branch
 returns-then-begins_branch c =
-    subst (λ marks. IsFirstDrafted c.args.at c.args.number c.args.text.now c.in_ok-rest.rest.now c.args.words.now.items c.put_branch.new.words.items
-    c.args.left.now.items c.put_branch.new.left.items marks marks) c.deref.ensures.value
-    (c.in_ok-rest.ensures c.args.number)
+    c.in_ok-rest.ensures c.args.number
 
 pub add_mark-requires : goal.add_mark-requires
 add_mark-requires c = subst HasName c.in-Some-read_labelled.ensures.label (read_named (before 10 c.args.text.now))
@@ -36,6 +34,6 @@ returns-in-Some-read_labelled c =
     record {
       below = labelled.ensures.rest;
       drafted = λ whole place.
-          mark_drafted whole c.args.number _ labelled.labelled.name.bytes.now c.args.words.now.items c.deref-in-Some-read_labelled.result.now _ c.spot_behind.result c.args.marks.now.items _
-          labelled.ensures.label c.deref-in-Some-read_labelled.ensures.value c.spot_behind.ensures c.in_ok-add_mark.ensures.labels;
+          mark_drafted whole c.args.number _ labelled.labelled.name.bytes.now c.args.draft.now.words.items c.deref.result.now _ c.spot_behind.result c.args.draft.now.marks.items _
+          labelled.ensures.label c.deref.ensures.value c.spot_behind.ensures c.in_ok-add_mark.ensures.labels;
     }
