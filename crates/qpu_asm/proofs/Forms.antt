@@ -5,7 +5,7 @@ use Rattle.std.proofs.lemmas.Bool.{and_parts, false≢true, cases_Bool}
 use Rattle.std.proofs.lemmas.Bool.Decides.{nat_tests}
 use Rattle.std.specs.List.{list_all}
 use Rattle.qpu_isa.specs.Fields.{joined, width_of}
-use Rattle.qpu_asm.specs.{Table.Row, Table.widths_of, Table.fallbacks_of, Items.find_named, Walk.IsOpen, Walk.are_ready, Walk.is_ready, Walk.begins, Forms.front_of, Forms.IsWhole, Forms.slot_of, Forms.are_behind, Forms.labels_behind, Forms.fields_fit, Forms.IsPassed, Forms.ArePassed, Forms.IsItemAt, Forms.IsNext, Walk.IsBehind, Seen.name_seen, Walk.IsPlace, Items.is_row, Seen.named_seen, Seen.row_seen, Seen.rows_seen}
+use Rattle.qpu_asm.specs.{Table.Row, Table.widths_of, Table.fallbacks_of, Items.find_named, Walk.IsOpen, Walk.are_ready, Walk.is_ready, Walk.begins, Forms.front_of, Forms.IsWhole, Forms.slot_of, Forms.are_behind, Forms.labels_behind, Forms.labels_apart, Forms.fields_fit, Forms.IsPassed, Forms.ArePassed, Forms.IsItemAt, Forms.IsNext, Walk.IsBehind, Seen.name_seen, Walk.IsPlace, Items.is_row, Seen.named_seen, Seen.row_seen, Seen.rows_seen}
 use Rattle.qpu_asm.specs.declared.table.Named as code
 use Rattle.qpu_asm.specs.declared.table.Row as code-row
 use Rattle.qpu_asm.specs.declared.form.{Field.Field, Place.Place}
@@ -328,6 +328,22 @@ field_here (row ∷ rows) (suc at) d (field ∷ fields) none inside test =
       low = later.low ∙ ap (λ rest. width_of (widths_of rest)) (rw (add-one, add-one) refl);
       names = later.names;
     }
+
+-- a row that takes a label has another name than the label's item
+apart_by : (label same : Bool) → label ≡ true → not (label && same) ≡ true → same ≡ false
+apart_by true true is test = absurd (false≢true test)
+apart_by true false is test = refl
+apart_by false same is test = absurd (false≢true is)
+
+pub name_apart : (at : ℕ) (rows : List code-row.Row) (d : code-row.Row) → at < length rows → labels_apart (rows_seen rows) ≡ true
+    → (get_or rows at d).takes_label ≡ true → bytes_eq (get_or rows at d).name.now (codes "to") ≡ false
+unfolding labels_apart
+name_apart at [] d inside test label = absurd (omega arith)
+name_apart zero (row ∷ rows) d inside test label =
+    apart_by row.takes_label (bytes_eq row.name.now (codes "to")) label
+    (and_parts (not (row.takes_label && bytes_eq row.name.now (codes "to"))) (labels_apart (rows_seen rows)) test).0
+name_apart (suc at) (row ∷ rows) d inside test label =
+    name_apart at rows d (omega (arith, inside)) (and_parts (not (row.takes_label && bytes_eq row.name.now (codes "to"))) (labels_apart (rows_seen rows)) test).1 label
 
 -- the place of an item whose row stands here
 ready_drop : (rows : List Row) (at : ℕ) → are_ready rows ≡ true → are_ready (drop at rows) ≡ true

@@ -32,6 +32,10 @@ labels_behind starts at [] = true
 labels_behind starts at (row ∷ rows) =
     (not row.takes_label || list_all (λ start. nat_le start at) starts) && labels_behind starts (at + 1) rows
 
+-- a row in whose place a label can be named has another name than the label's item
+unfoldable pub labels_apart : List Row → Bool
+labels_apart rows = list_all (λ row. not (row.takes_label && bytes_eq row.name (codes "to"))) rows
+
 -- each field lies where the rows after its own end, and finds the names of its row's values
 unfoldable pub fields_fit : List Row → List Field → Bool
 fields_fit [] fields = true
@@ -77,6 +81,7 @@ pub record IsForm (blank : ℕ) (rows : List Row) (fields : List Field) (starts 
   pub fields_fit : fields_fit rows fields ≡ true
   pub names : are_behind starts 0 (map (λ row. row.name) rows) ≡ true
   pub labels : labels_behind starts 0 rows ≡ true
+  pub apart : labels_apart rows ≡ true
   pub known : All (IsKept rows starts) kept
 
 -- the rows that were passed are of other names than the one that items begin with

@@ -1,5 +1,5 @@
 //! What reads the items of a kind's lines: where the row of a name is, and where its field lies, so that no row before it is walked over.
-ghost use Rattle.std.specs.Prelude.{◌≡◌, ◌≤◌, ◌<◌, ◌+◌, ◌/◌, ◌^◌, true, length, map, take, drop, slice_index, IfSome, MatchOption, Some, Ok, false, None};
+ghost use Rattle.std.specs.Prelude.{ℕ, List, codes, ◌≡◌, ◌≤◌, ◌<◌, ◌+◌, ◌/◌, ◌^◌, true, length, map, take, drop, slice_index, IfSome, MatchOption, Some, Ok, false, None};
 ghost use Rattle.qpu_asm.specs.Table.{alu_kind, load_imm_kind, branch_kind};
 ghost use Rattle.qpu_asm.specs.Items.{find_named};
 ghost use Rattle.std.specs.Int.{to_le_bytes, w64};
@@ -294,32 +294,18 @@ fn place_at<'a>(form: &Form, at: usize, items: &'a [u8]) -> Option<Place<'a>>
     requires some { 2 < length items.now }
     ensures item { IfSome result (IsItemAt form.now.rows items.now) }
     ensures at { IfSome result (λ place. place.at ≡ at) }
+    ensures own { IfSome result (λ place. place.is_own ≡ true) }
 {
     let rows = form.rows;
     let row = &rows[at];
-    let field = form.fields[at];
-    if let Some(text) = behind_own(items, items[0], items[1], row.name) {
-        return Some(Place {
-            at,
-            row,
-            field,
-            is_own: true,
-            text,
-        });
-    }
-    if !row.takes_label {
-        return None;
-    }
-    match items {
-        [b't', b'o', b'=', text @ ..] => Some(Place {
-            at,
-            row,
-            field,
-            is_own: false,
-            text,
-        }),
-        _ => None,
-    }
+    let text = behind_own(items, items[0], items[1], row.name)?;
+    Some(Place {
+        at,
+        row,
+        field: form.fields[at],
+        is_own: true,
+        text,
+    })
 }
 
 // The first row from this one on that may be of the name that items begin with.
@@ -431,13 +417,14 @@ pub fn kept_item(form: &Form, next: usize, items: &[u8]) -> Option<Kept>
     }
 }
 
-/// The place of the first of some items, where its row is this one or a later one, and the first of those that its slot tells of. Of all
-/// rows only `reg` is behind another one of its slot, `rel`.
+/// The place of the first of some items, which has a row's own name, where its row is this one or a later one, and the first of those that
+/// its slot tells of. Of all rows only `reg` is behind another one of its slot, `rel`.
 #[inline(always)]
 pub fn find_place<'a>(form: &Form, next: usize, items: &'a [u8]) -> Option<Place<'a>>
     ensures item { IfSome result (IsItemAt form.now.rows items.now) }
     ensures next { IfSome result (λ place. IsNext (drop next form.now.rows) (name_seen place) (drop place.at form.now.rows)
         (row_seen place.row.now) (drop (place.at + 1) form.now.rows)) }
+    ensures own { IfSome result (λ place. place.is_own ≡ true) }
 {
     if items.len() < 3 {
         return None;
@@ -447,6 +434,54 @@ pub fn find_place<'a>(form: &Form, next: usize, items: &'a [u8]) -> Option<Place
         return None;
     }
     let place = place_at(form, at, items)?;
+    Some(place)
+}
+
+// What is behind `to` and its `=`, where items begin with them.
+#[inline(always)]
+fn behind_to(items: &[u8]) -> Option<&[u8]>
+    ensures some { IfSome result (λ text. 2 < length items.now) }
+    ensures behind { IfSome result (λ text. IsBehind 61 items.now (codes "to") text.now) }
+{
+    match items {
+        [b't', b'o', b'=', text @ ..] => Some(text),
+        _ => None,
+    }
+}
+
+// The place of a branch's target of this text, where the row of this number takes one.
+#[inline(always)]
+fn target_at<'a>(form: &Form, at: usize, text: &'a [u8]) -> Option<Place<'a>>
+    ensures item { IfSome result (λ place. (items : List ℕ) → IsBehind 61 items (codes "to") text.now → IsItemAt form.now.rows items place) }
+    ensures at { IfSome result (λ place. place.at ≡ at) }
+    ensures target { IfSome result (λ place. place.is_own ≡ false) }
+{
+    if at >= form.rows.len() {
+        return None;
+    }
+    let row = &form.rows[at];
+    if !row.takes_label {
+        return None;
+    }
+    Some(Place {
+        at,
+        row,
+        field: form.fields[at],
+        is_own: false,
+        text,
+    })
+}
+
+/// The place of the branch's target that items begin with, where its row is this one or a later one.
+#[inline(always)]
+pub fn find_target<'a>(form: &Form, next: usize, items: &'a [u8]) -> Option<Place<'a>>
+    ensures item { IfSome result (IsItemAt form.now.rows items.now) }
+    ensures next { IfSome result (λ place. IsNext (drop next form.now.rows) (name_seen place) (drop place.at form.now.rows)
+        (row_seen place.row.now) (drop (place.at + 1) form.now.rows)) }
+    ensures target { IfSome result (λ place. place.is_own ≡ false) }
+{
+    let text = behind_to(items)?;
+    let place = target_at(form, first_row(form, next, items), text)?;
     Some(place)
 }
 

@@ -55,9 +55,6 @@ fn learn_item<'a>(form: &mut Form, items: &'a [u8]) -> Option<&'a [u8]>
     ensures shorter { IfSome result (λ rest. length rest.now < length items.now) }
 {
     let place = find_place(form, 0, items)?;
-    if !place.is_own {
-        return None;
-    }
     let word = first_word(place.text)?;
     let read = read_own(place.row, place.field, place.text)?;
     keep_item(form, items, &place, word.first, read.value);

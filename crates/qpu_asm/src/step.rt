@@ -12,7 +12,7 @@ ghost use Rattle.qpu_asm.specs.Forms.{are_behind, AreReadTo, IsPlainStep, IsRead
 ghost use Rattle.qpu_asm.specs.Seen.{row_seen, spots_in};
 ghost use Rattle.qpu_asm.specs.Targets.{IsTarget, Tells};
 
-use crate::form::{Field, Form, Forms, find_place, find_value, kept_item};
+use crate::form::{Field, Form, Forms, find_place, find_target, find_value, kept_item};
 use crate::item::distance;
 use crate::label::{Labels, are_equal, spot_of};
 use crate::labelled::{Labelled, begins_name, begun_name};
@@ -339,16 +339,12 @@ fn read_step<'a>(form: &Form, word: u64, next: usize, items: &'a [u8]) -> Option
     ensures { IfSome result (IsPlainStep form.now word next items.now) }
 {
     let place = find_place(form, next, items)?;
-    if place.is_own {
-        let read = read_own(place.row, place.field, place.text)?;
-        Some(Step {
-            word: with_field(word, place.field.low, place.row.fallback, read.value),
-            next: place.at + 1,
-            rest: read.rest,
-        })
-    } else {
-        None
-    }
+    let read = read_own(place.row, place.field, place.text)?;
+    Some(Step {
+        word: with_field(word, place.field.low, place.row.fallback, read.value),
+        next: place.at + 1,
+        rest: read.rest,
+    })
 }
 
 // Whether items begin with a branch's target.
@@ -406,10 +402,7 @@ fn read_target<'a>(
     ensures { IfSome result (λ step. IsReadStep (Tells known.now) index
         word (drop next form.now.rows) items.now step.word (drop step.next form.now.rows) step.rest.now) }
 {
-    let place = find_place(form, next, items)?;
-    if place.is_own {
-        return None;
-    }
+    let place = find_target(form, next, items)?;
     let target = target_of(known, place.text)?;
     let value = distance(index, target.spot.index);
     Some(Step {

@@ -21,6 +21,7 @@ invariant_of-form c =
       fields_fit = c.form.invariant.fields_fit;
       names = c.form.invariant.names;
       labels = c.form.invariant.labels;
+      apart = c.form.invariant.apart;
       known = All-set (IsKept rows c.form.inside.starts.now) c.form.inside.kept.items c.place_kept-here.result _
           (λ some. item_kept rows c.form.inside.starts.now items word place.text.now row _ place.at refl here behind c.requires.word.0 c.requires.word.1 c.in-Some.ensures.0 c.in-Some.ensures.1
           (omega (arith, c.if-end-ge8.false)) c.in-Some-size_kept.ensures
