@@ -14,3 +14,4 @@ pub mod Walk
 pub mod Forms
 pub mod Targets
 pub mod Printed
+pub mod Openings

@@ -1,6 +1,8 @@
 //! Lines and words of a text.
-ghost use Rattle.std.specs.Prelude.{◌≡◌, ℕ, ◌<◌, ◌≤◌, ◌+◌, ◌∷◌, [], length, MatchOption, true, false, IfSome, IsTrue, slice_index, ◌≢◌};
+ghost use Rattle.std.specs.Prelude.{◌≡◌, ℕ, ◌<◌, ◌≤◌, ◌+◌, ◌∷◌, [], length, take, MatchOption, true, false, IfSome, IsTrue, slice_index, ◌≢◌};
+ghost use Rattle.std.specs.Int.{to_le_bytes, w32};
 ghost use Rattle.script.specs.Lines.{before, behind};
+ghost use Rattle.qpu_asm.specs.Openings.{IsOpening};
 ghost use Rattle.qpu_asm.specs.Labels.{size_of};
 ghost use Rattle.qpu_asm.specs.Lines.{Coded, words_of, label_line, line_of, is_alone, is_comment as comment_test, ends_label as label_test, read_line as line_read};
 ghost use Rattle.qpu_asm.specs.Seen.{line_seen};
@@ -16,6 +18,16 @@ pub enum Line<'a> {
     Label(&'a [u8]),
     BadLabel,
     Coded(Cut<'a>),
+}
+
+/// What a text begins with, as far as its first four bytes tell, and what is behind that: an instruction's items, or the lines below it.
+#[derive(Clone, Copy)]
+pub enum Opening<'a> {
+    Alu(&'a [u8]),
+    Nop(&'a [u8]),
+    LoadImm(&'a [u8]),
+    Branch(&'a [u8]),
+    Other,
 }
 
 pub const ALU: &[u8] = b"alu";
@@ -76,12 +88,56 @@ pub fn behind_name<'a>(text: &'a [u8], name: &[u8], mark: u8) -> Option<&'a [u8]
     }
 }
 
+// The four bytes that a text begins with, as a number.
+#[inline(always)]
+fn first_four(text: &[u8]) -> Option<u32>
+    ensures { IfSome result (λ four. (4 ≤ length text.now) × (to_le_bytes w32 four ≡ take 4 text.now)) }
+{
+    if text.len() < 4 {
+        return None;
+    }
+    Some(u32::from_le_bytes(text[..4].try_into().unwrap()))
+}
+
+// The numbers of `alu ` and of `nop` with a line feed, and those of `li ` and `br ` below a fourth byte.
+const ALU_FOUR: u32 = 0x2075_6C61;
+
+const NOP_FOUR: u32 = 0x0A70_6F6E;
+
+const LOAD_IMM_THREE: u32 = 0x20_696C;
+
+const BRANCH_THREE: u32 = 0x20_7262;
+
+/// What a text begins with. Its bytes are compared as one number.
+#[inline(always)]
+pub fn opening_of(text: &[u8]) -> Opening<'_>
+    ensures { IsOpening text.now result }
+{
+    let Some(four) = first_four(text) else {
+        return Opening::Other;
+    };
+    if four == ALU_FOUR {
+        return Opening::Alu(&text[4..]);
+    }
+    if four == NOP_FOUR {
+        return Opening::Nop(&text[4..]);
+    }
+    let three = four % (1 << 24);
+    if three == LOAD_IMM_THREE {
+        return Opening::LoadImm(&text[3..]);
+    }
+    if three == BRANCH_THREE {
+        return Opening::Branch(&text[3..]);
+    }
+    Opening::Other
+}
+
 /// Whether a text begins with a branch's opcode and a space, as most of its lines do.
 pub fn begins_branch(text: &[u8]) -> bool
     ensures { IsTrue result → size_of (line_read (before 10 text.now)) ≡ 1 }
 {
-    match text {
-        [b'b', b'r', b' ', ..] => true,
+    match opening_of(text) {
+        Opening::Branch(_) => true,
         _ => false,
     }
 }

@@ -16,6 +16,7 @@ use crate::form::{Field, Form, Forms, find_place, find_target, find_value, kept_
 use crate::item::distance;
 use crate::label::{Labels, are_equal, spot_of};
 use crate::labelled::{Labelled, begins_name, begun_name};
+use crate::lines::{Opening, opening_of};
 use crate::mark::{Mark, Spot};
 use crate::table::{Row, nop};
 use script::Cut;
@@ -462,30 +463,20 @@ fn read_aimed<'a>(known: &Known<'a>, index: u32, form: &Form, items: &'a [u8]) -
     Some(coded)
 }
 
-// The load immediate that a text begins with, where its items have no mistake.
-#[inline(always)]
-fn read_load_imm<'a>(forms: &Forms, text: &'a [u8]) -> Option<Coded<'a>>
-    ensures coded { IfSome result (λ coded. (spots : Spots) (index : ℕ) → IsCoded spots index (before 10 text.now) coded.word) }
-    ensures rest { IfSome result (λ coded. coded.rest.now ≡ behind 10 text.now) }
-{
-    match text {
-        [b'l', b'i', b' ', items @ ..] => read_items(&forms.load_imm, items),
-        _ => None,
-    }
-}
-
 /// The instruction that a text begins with, where it is no branch and its items have no mistake, as most lines do.
+#[inline(always)]
 pub fn read_early<'a>(forms: &Forms, text: &'a [u8]) -> Option<Coded<'a>>
     ensures coded { IfSome result (λ coded. (spots : Spots) (index : ℕ) → IsCoded spots index (before 10 text.now) coded.word) }
     ensures rest { IfSome result (λ coded. coded.rest.now ≡ behind 10 text.now) }
 {
-    match text {
-        [b'a', b'l', b'u', b' ', items @ ..] => read_items(&forms.alu, items),
-        [b'n', b'o', b'p', b'\n', rest @ ..] => Some(Coded {
+    match opening_of(text) {
+        Opening::Alu(items) => read_items(&forms.alu, items),
+        Opening::Nop(rest) => Some(Coded {
             word: nop().above,
             rest,
         }),
-        _ => read_load_imm(forms, text),
+        Opening::LoadImm(items) => read_items(&forms.load_imm, items),
+        Opening::Branch(_) | Opening::Other => None,
     }
 }
 
@@ -500,8 +491,8 @@ pub fn read_branch<'a>(
     ensures coded { IfSome result (λ coded. (spots : Spots) → Tells known.now spots → IsCoded spots index (before 10 text.now) coded.word) }
     ensures rest { IfSome result (λ coded. coded.rest.now ≡ behind 10 text.now) }
 {
-    match text {
-        [b'b', b'r', b' ', items @ ..] => read_aimed(known, index, &forms.branch, items),
+    match opening_of(text) {
+        Opening::Branch(items) => read_aimed(known, index, &forms.branch, items),
         _ => None,
     }
 }
