@@ -1,9 +1,9 @@
 //! The items of a text's first lines are kept, since most lines below them have the same.
 ghost use Rattle.std.specs.Prelude.{◌≡◌, ◌<◌, length, IfSome};
 
-use crate::form::{Form, Forms, find_place, keep_item, make_room};
+use crate::form::{Form, Forms, find_place, keep_item, kept_item, make_room};
 use crate::lines::{ALU, BRANCH, LOAD_IMM, behind_name};
-use crate::step::{first_word, read_own};
+use crate::step::{behind_bytes, first_word, read_own};
 use script::next_line;
 use std::alloc::{AllocError, Global};
 
@@ -54,6 +54,9 @@ fn learn_item<'a>(form: &mut Form, items: &'a [u8]) -> Option<&'a [u8]>
     ensures same { form.new ≡ form.old }
     ensures shorter { IfSome result (λ rest. length rest.now < length items.now) }
 {
+    if let Some(kept) = kept_item(form, 0, items) {
+        return Some(behind_bytes(items, kept.size as usize));
+    }
     let place = find_place(form, 0, items)?;
     let word = first_word(place.text)?;
     let read = read_own(place.row, place.field, place.text)?;

@@ -309,10 +309,10 @@ fn with_field(word: u64, low: u32, fallback: u64, value: u64) -> u64
     word - fallback * (1 << low) + value * (1 << low)
 }
 
-// What is behind so many bytes of a text.
+/// What is behind so many bytes of a text.
 #[tactic(auto, using(std::proofs::lemmas::List::take_rest))]
 #[inline]
-fn behind_bytes(text: &[u8], count: usize) -> &[u8]
+pub fn behind_bytes(text: &[u8], count: usize) -> &[u8]
     requires { count ≤ length text.now }
     ensures { result.now ≡ drop count text.now }
 {
