@@ -299,7 +299,7 @@ fn are_same_from(first: &[u8], second: &[u8], from: usize) -> bool
 }
 
 /// Two names have the same bytes. Names are short, and few of their bytes are compared one by one.
-#[inline(never)]
+#[inline(always)]
 pub fn are_equal(first: &[u8], second: &[u8]) -> bool
     ensures { result ≡ bytes_eq first.now second.now }
 {

@@ -356,20 +356,9 @@ fn begins_target(items: &[u8]) -> bool {
     }
 }
 
-// The same, but it reads no branch's target.
-fn other_step<'a>(form: &Form, word: u64, next: usize, items: &'a [u8]) -> Option<Step<'a>>
-    requires { IsWhole word (drop next form.now.rows) }
-    ensures { IfSome result (IsPlainStep form.now word next items.now) }
-{
-    if begins_target(items) {
-        return None;
-    }
-    read_step(form, word, next, items)
-}
-
-// Reads a line's items up to its end, or to one that isn't read here, as a branch's target.
+// Reads a line's items up to its end, or to one that isn't read here; where the line is aimed, up to its target.
 #[inline(always)]
-fn read_steps<'a>(form: &Form, items: &'a [u8]) -> Step<'a>
+fn read_steps<'a>(form: &Form, is_aimed: bool, items: &'a [u8]) -> Step<'a>
     ensures { AreReadTo form.now items.now result.word (drop result.next form.now.rows) result.rest.now }
 {
     let mut step = Step {
@@ -377,10 +366,10 @@ fn read_steps<'a>(form: &Form, items: &'a [u8]) -> Step<'a>
         next: 0,
         rest: items,
     };
-    while !is_end(step.rest) {
+    while !is_end(step.rest) && !(is_aimed && begins_target(step.rest)) {
         step = match known_step(form, step.word, step.next, step.rest) {
             Some(known) => known,
-            None => match other_step(form, step.word, step.next, step.rest) {
+            None => match read_step(form, step.word, step.next, step.rest) {
                 Some(other) => other,
                 None => return step,
             },
@@ -443,7 +432,7 @@ fn read_items<'a>(form: &Form, items: &'a [u8]) -> Option<Coded<'a>>
         → kind_code spots index (words_of (before 10 items.now)) form.now ≡ Ok coded.word) }
     ensures rest { IfSome result (λ coded. coded.rest.now ≡ behind 10 items.now) }
 {
-    let coded = coded_of(read_steps(form, items))?;
+    let coded = coded_of(read_steps(form, false, items))?;
     Some(coded)
 }
 
@@ -454,7 +443,7 @@ fn read_aimed<'a>(known: &Known<'a>, index: u32, form: &Form, items: &'a [u8]) -
         → kind_code spots index (words_of (before 10 items.now)) form.now ≡ Ok coded.word) }
     ensures rest { IfSome result (λ coded. coded.rest.now ≡ behind 10 items.now) }
 {
-    let step = read_steps(form, items);
+    let step = read_steps(form, true, items);
     if let Some(coded) = coded_of(step) {
         return Some(coded);
     }

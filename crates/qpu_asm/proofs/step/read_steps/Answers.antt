@@ -28,7 +28,7 @@ pub loop-step-smaller-in-Some : goal.loop-step-smaller-in-Some
 loop-step-smaller-in-Some c = (c.in-Some.ensures 0).shorter
 
 pub loop-step-preserved : goal.loop-step-preserved
-loop-step-preserved c = more _ _ _ _ _ _ _ _ c.loop-step.invariant c.in-Some-other_step.ensures
+loop-step-preserved c = more _ _ _ _ _ _ _ _ c.loop-step.invariant c.in-Some-read_step.ensures
 
 pub loop-step-smaller : goal.loop-step-smaller
-loop-step-smaller c = (c.in-Some-other_step.ensures 0).shorter
+loop-step-smaller c = (c.in-Some-read_step.ensures 0).shorter
