@@ -1,5 +1,5 @@
 //! Lines and words of a text.
-ghost use Rattle.std.specs.Prelude.{◌≡◌, ℕ, ◌<◌, ◌≤◌, ◌+◌, ◌∷◌, [], length, take, MatchOption, true, false, IfSome, IsTrue, slice_index, ◌≢◌};
+ghost use Rattle.std.specs.Prelude.{◌≡◌, ℕ, ◌<◌, ◌≤◌, ◌+◌, ◌∷◌, ◌++◌, [], codes, length, take, MatchOption, true, false, IfSome, IsTrue, slice_index, ◌≢◌};
 ghost use Rattle.std.specs.Int.{to_le_bytes, w32};
 ghost use Rattle.script.specs.Lines.{before, behind};
 ghost use Rattle.qpu_asm.specs.Openings.{IsOpening};
@@ -21,12 +21,12 @@ pub enum Line<'a> {
 }
 
 /// What a text begins with, as far as its first four bytes tell, and what is behind that: an instruction's items, or the lines below it.
+/// A branch is another one.
 #[derive(Clone, Copy)]
 pub enum Opening<'a> {
     Alu(&'a [u8]),
     Nop(&'a [u8]),
     LoadImm(&'a [u8]),
-    Branch(&'a [u8]),
     Other,
 }
 
@@ -122,23 +122,32 @@ pub fn opening_of(text: &[u8]) -> Opening<'_>
     if four == NOP_FOUR {
         return Opening::Nop(&text[4..]);
     }
-    let three = four % (1 << 24);
-    if three == LOAD_IMM_THREE {
+    if four % (1 << 24) == LOAD_IMM_THREE {
         return Opening::LoadImm(&text[3..]);
     }
-    if three == BRANCH_THREE {
-        return Opening::Branch(&text[3..]);
-    }
     Opening::Other
+}
+
+/// What is behind a branch's opcode and a space, where a text begins with them.
+#[inline(always)]
+pub fn behind_branch(text: &[u8]) -> Option<&[u8]>
+    ensures { IfSome result (λ items. text.now ≡ codes "br" ++ 32 ∷ items.now) }
+{
+    let four = first_four(text)?;
+    if four % (1 << 24) == BRANCH_THREE {
+        Some(&text[3..])
+    } else {
+        None
+    }
 }
 
 /// Whether a text begins with a branch's opcode and a space, as most of its lines do.
 pub fn begins_branch(text: &[u8]) -> bool
     ensures { IsTrue result → size_of (line_read (before 10 text.now)) ≡ 1 }
 {
-    match opening_of(text) {
-        Opening::Branch(_) => true,
-        _ => false,
+    match behind_branch(text) {
+        Some(_) => true,
+        None => false,
     }
 }
 

@@ -16,7 +16,7 @@ use crate::form::{Field, Form, Forms, find_place, find_target, find_value, kept_
 use crate::item::distance;
 use crate::label::{Labels, are_equal, spot_of};
 use crate::labelled::{Labelled, begins_name, begun_name};
-use crate::lines::{Opening, opening_of};
+use crate::lines::{Opening, behind_branch, opening_of};
 use crate::mark::{Mark, Spot};
 use crate::table::{Row, nop};
 use script::Cut;
@@ -465,7 +465,7 @@ pub fn read_early<'a>(forms: &Forms, text: &'a [u8]) -> Option<Coded<'a>>
             rest,
         }),
         Opening::LoadImm(items) => read_items(&forms.load_imm, items),
-        Opening::Branch(_) | Opening::Other => None,
+        Opening::Other => None,
     }
 }
 
@@ -480,8 +480,5 @@ pub fn read_branch<'a>(
     ensures coded { IfSome result (λ coded. (spots : Spots) → Tells known.now spots → IsCoded spots index (before 10 text.now) coded.word) }
     ensures rest { IfSome result (λ coded. coded.rest.now ≡ behind 10 text.now) }
 {
-    match opening_of(text) {
-        Opening::Branch(items) => read_aimed(known, index, &forms.branch, items),
-        _ => None,
-    }
+    read_aimed(known, index, &forms.branch, behind_branch(text)?)
 }
