@@ -29,12 +29,6 @@ three_bytes text a b c long is-a is-b is-c =
     ∙ ap (λ t. a ∷ t) (from_byte text 1 b (omega (arith, long)) is-b
     ∙ ap (λ t. b ∷ t) (from_byte text 2 c long is-c ∙ ap (λ t. c ∷ t) (sym (take_rest text 3))))
 
-pub four_bytes : (text : List ℕ) (a b c d : ℕ) → 4 ≤ length text → slice_index text 0 ≡ a → slice_index text 1 ≡ b → slice_index text 2 ≡ c
-    → slice_index text 3 ≡ d → text ≡ a ∷ b ∷ c ∷ d ∷ take (length text - 4) (drop 4 text)
-four_bytes text a b c d long is-a is-b is-c is-d =
-    three_bytes text a b c (omega (arith, long)) is-a is-b is-c
-    ∙ ap (λ t. a ∷ b ∷ c ∷ t) (take_rest text 3 ∙ (from_byte text 3 d long is-d ∙ ap (λ t. d ∷ t) (sym (take_rest text 4))))
-
 pub begun_split : (mark : ℕ) (text name : List ℕ) → begins mark text name ≡ true → text ≡ name ++ mark ∷ drop (length name + 1) text
 unfolding begins
 begun_split mark text name begun =

@@ -114,13 +114,6 @@ not_row items name row here other plain =
       | inr apart ↦ rw (apart, plain) refl
     ]
 
--- a name that items don't begin with is another than one that they begin with
-pub begun_apart : (items name here : List ℕ) → begins 61 items name ≡ false → begins 61 items here ≡ true → bytes_eq name here ≡ false
-begun_apart items name here other begun = elim (cases_Bool (bytes_eq name here)) [
-  | inl same ↦ absurd (false≢true (sym other ∙ (ap (begins 61 items) (bytes_same name here same) ∙ begun)))
-  | inr apart ↦ apart
-]
-
 or_last : (b : Bool) → (b || true) ≡ true
 or_last true = refl
 or_last false = refl
