@@ -1,5 +1,5 @@
 -- A text in one walk: what its lines put to the draft, and what is filled in for the lines that are left.
-use Rattle.std.proofs.Common.{◌≡◌, ◌≢◌, ℕ, suc, Bool, true, false, ◌==◌, ◌||◌, inl, inr, ◌+◌, ◌-◌, ◌*◌, ◌<◌, ◌≤◌, nat_lt, List, [], ◌∷◌, ◌++◌, length, take, drop, set, get_or, refl, sym, ◌∙◌, ap, subst, arith, append-nil, length-append, eqb-true, ltb-true, Ok}
+use Rattle.std.proofs.Common.{◌≡◌, ℕ, suc, true, false, ◌==◌, ◌||◌, inl, inr, ◌+◌, ◌-◌, ◌<◌, ◌≤◌, nat_lt, List, [], ◌∷◌, ◌++◌, length, take, drop, set, get_or, refl, sym, ◌∙◌, ap, subst, arith, append-nil, length-append, ltb-true, Ok}
 use Rattle.std.proofs.lemmas.Bool.{cases_Bool, false≢true}
 use Rattle.std.proofs.lemmas.Bool.Decides.{nat_tests}
 use Rattle.std.proofs.Math.Seq.{get_or-append_seam}
@@ -149,7 +149,7 @@ no_label number index (Coded opcode items) one = refl
 line_drafted : (text : List ℕ) (number : ℕ) (line old new : List ℕ) (left_old left_new : List LeftLine) (marks : List Mark) (word : ℕ) → new ≡ old ++ word ∷ []
     → size_of (read_line line) ≡ 1 → (AreRising 0 (length old) left_old → AreRising 0 (length old + 1) left_new)
     → ((spots : Spots) (full : List ℕ) → AreRising 0 (length old) left_old → AreAtSpots spots (labels_seen marks) → AreFilled spots text (old ++ word ∷ []) left_new full
-      → IsLastOf spots text old left_old full × IsCoded spots (length old) line (get_or full (length old) 0))
+    → IsLastOf spots text old left_old full × IsCoded spots (length old) line (get_or full (length old) 0))
     → IsDraftedOn text number (read_line line) old new left_old left_new marks marks
 line_drafted text number line old new left_old left_new marks word is one rise last =
     let long : length new ≡ length old + 1 = ap length is ∙ omega (arith, length-append old (word ∷ [])) in
@@ -175,7 +175,7 @@ pub coded_drafted : (text : List ℕ) (number : ℕ) (line old new : List ℕ) (
 coded_drafted text number line old new left marks word is one codes =
     line_drafted text number line old new left left marks word is one (λ rising. rising_more 0 (length old) (length old + 1) left (omega arith) rising)
     (λ spots full rising standing filled. let last = last_word spots text old full word left rising filled in
-        (last.0, subst (IsCoded spots (length old) line) (sym last.1) (codes spots standing)))
+    (last.0, subst (IsCoded spots (length old) line) (sym last.1) (codes spots standing)))
 
 -- a line that is left
 pub left_drafted : (text front : List ℕ) (number at : ℕ) (old new : List ℕ) (left_old left_new : List LeftLine) (marks marks_new : List Mark) (word : ℕ) (line : LeftLine)
@@ -183,9 +183,11 @@ pub left_drafted : (text front : List ℕ) (number at : ℕ) (old new : List ℕ
     → size_of (read_line (before 10 front)) ≡ 1 → IsDraftedOn text number (read_line (before 10 front)) old new left_old left_new marks marks_new
 left_drafted text front number at old new left_old left_new marks marks_new word line is more same here there place one =
     rw (more, same) (line_drafted text number (before 10 front) old new left_old (left_old ++ line ∷ []) marks word is one (rising_push 0 (length old) left_old line here)
-    (λ spots full rising standing filled. let last = last_left spots text old full word left_old line here rising filled in
-        (last.0, subst (λ rest. IsCoded spots (length old) (before 10 rest) (get_or full (length old) 0)) (ap (λ n. drop n text) there ∙ sym place)
-        (subst (λ index. IsCoded spots index (before 10 (drop line.at text)) (get_or full index 0)) here last.1))))
+    (λ spots full rising standing filled. let last = last_left spots text old full word left_old line here rising filled in (
+      last.0,
+      subst (λ rest. IsCoded spots (length old) (before 10 rest) (get_or full (length old) 0)) (ap (λ n. drop n text) there ∙ sym place)
+          (subst (λ index. IsCoded spots index (before 10 (drop line.at text)) (get_or full index 0)) here last.1),
+    )))
 
 -- a label's line, whose mark has been put in
 pub mark_drafted : (text : List ℕ) (number : ℕ) (line : Line) (name words all : List ℕ) (left : List LeftLine) (spot : Spot) (old new : List Mark) → line ≡ Label name
@@ -280,11 +282,11 @@ filling_next spots text drafted left line later words word filling coded =
           (λ index less. below index (omega (arith, less, from)) ∙ get_or-set_other words place index word 0 (λ is. absurd (omega (arith, less, from, is))))
           (subst (IsCoded spots place (before 10 (drop line.at text))) (sym (below place (omega arith) ∙ get_or-set_same words place word 0 inside)) coded, codes)
           (λ index up within apart.
-              let parts = parts_apart index line later apart in
-              elim (cases_Bool (nat_lt place index)) [
-                | inl behind ↦ others index (omega (arith, ltb-true place index behind)) within parts.1
-                | inr front ↦
-                    let less = before_line index place parts.0 front in
-                    below index (omega (arith, less)) ∙ (get_or-set_other words place index word 0 (λ is. absurd (omega (arith, less, is))) ∙ filling.same index up)
-              ]);
+          let parts = parts_apart index line later apart in
+          elim (cases_Bool (nat_lt place index)) [
+            | inl behind ↦ others index (omega (arith, ltb-true place index behind)) within parts.1
+            | inr front ↦
+                let less = before_line index place parts.0 front in
+                below index (omega (arith, less)) ∙ (get_or-set_other words place index word 0 (λ is. absurd (omega (arith, less, is))) ∙ filling.same index up)
+          ]);
     }

@@ -1,7 +1,7 @@
 -- What is known of labels where a branch is read. No part of what the crate claims.
 use Rattle.std.specs.Prelude.{◌≡◌, ℕ, List, Ok, Some}
 use Rattle.script.specs.Lines.{before}
-use Rattle.qpu_asm.specs.{declared.step.Known.Known, declared.step.Target.Target, Items.Spots, Items.read_target, Items.distance, Walk.IsAfter, Seen.spots_in}
+use Rattle.qpu_asm.specs.{declared.step.Known.Known, declared.step.Target.Target, Items.Spots, Items.read_target, Items.distance, Walk.IsAfter, Walk.IsCoded, Seen.spots_in}
 use Rattle.qpu_asm.specs.declared.step.Known.TheVariants.{Last, All}
 
 -- this is told of where labels stand
@@ -13,3 +13,7 @@ Tells (All labels) spots = spots ≡ spots_in labels.now
 pub record IsTarget (told : Spots → Type 0) (text : List ℕ) (target : Target) : Type 0 where
   pub reads : (spots : Spots) (index : ℕ) → told spots → read_target spots index (before 32 (before 10 text)) ≡ Ok (distance index target.spot.index)
   pub after : IsAfter text target.rest.now
+
+-- a line has this word, whatever the labels are of which this is told
+abbrev pub IsCodedBy : (Spots → Type 0) → ℕ → List ℕ → ℕ → Type 0
+IsCodedBy told index line word = (spots : Spots) → told spots → IsCoded spots index line word

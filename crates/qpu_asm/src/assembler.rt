@@ -63,7 +63,11 @@ fn assemble_at_once(alloc: Global, text: &[u8]) -> Result<Option<Vec<u64>>, Allo
     let Some(draft) = draft_of(alloc, &forms, text)? else {
         return Ok(None);
     };
-    let Draft { mut words, left, marks } = draft;
+    let Draft {
+        mut words,
+        left,
+        marks,
+    } = draft;
     let found = found_among(alloc, marks)?;
     if found.first_below > MOST_LINE && fill_left(&mut words, &left, &found.labels, &forms, text) {
         return Ok(Some(words));

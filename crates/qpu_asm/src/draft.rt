@@ -7,6 +7,7 @@ ghost use Rattle.qpu_asm.specs.Labels.{AreAtSpots, size_of};
 ghost use Rattle.qpu_asm.specs.Lines.{read_line as line_read};
 ghost use Rattle.qpu_asm.specs.Draft.{AreRising, IsFirstDrafted, IsDraftOf, AreFilled};
 ghost use Rattle.qpu_asm.specs.Seen.{labels_seen, spots_in};
+ghost use Rattle.qpu_asm.specs.Targets.{IsCodedBy};
 
 use crate::form::Forms;
 use crate::item::read_code;
@@ -83,7 +84,11 @@ fn put_line<'a>(
         return Ok(Some(rest));
     }
     if let Some(labelled) = read_labelled(text) {
-        add_mark(&mut draft.marks, labelled.name, spot_behind(&draft.words, number))?;
+        add_mark(
+            &mut draft.marks,
+            labelled.name,
+            spot_behind(&draft.words, number),
+        )?;
         return Ok(Some(labelled.rest));
     }
     put_other(draft, at, number, text)
@@ -132,8 +137,7 @@ fn near_branch<'a>(
     index: u32,
     text: &'a [u8],
 ) -> Option<Coded<'a>>
-    ensures coded { IfSome result (λ coded. (spots : Spots) → AreAtSpots spots (labels_seen marks.now)
-        → IsCoded spots index (before 10 text.now) coded.word) }
+    ensures coded { IfSome result (λ coded. IsCodedBy (λ spots. AreAtSpots spots (labels_seen marks.now)) index (before 10 text.now) coded.word) }
     ensures rest { IfSome result (λ coded. coded.rest.now ≡ behind 10 text.now) }
 {
     let mark = marks.last()?;
@@ -186,7 +190,11 @@ fn put_other<'a>(
     let cut = cut_at(text, b'\n');
     match read_line(cut.first) {
         Line::Blank => {}
-        Line::Label(name) => add_mark(&mut draft.marks, Name::of(name), spot_behind(&draft.words, number))?,
+        Line::Label(name) => add_mark(
+            &mut draft.marks,
+            Name::of(name),
+            spot_behind(&draft.words, number),
+        )?,
         Line::BadLabel => return Ok(None),
         Line::Coded(_) => leave(draft, at)?,
     }
@@ -216,12 +224,7 @@ pub fn fill_left<'a>(
 }
 
 // The word of the line that begins here.
-fn left_word<'a>(
-    labels: &Labels<'a>,
-    forms: &Forms,
-    line: &LeftLine,
-    text: &'a [u8],
-) -> Option<u64>
+fn left_word<'a>(labels: &Labels<'a>, forms: &Forms, line: &LeftLine, text: &'a [u8]) -> Option<u64>
     ensures { IfSome result (λ word. IsCoded (spots_in labels.now) line.now.index (before 10 (drop line.now.at text.now)) word) }
 {
     if line.at as usize > text.len() {

@@ -11,6 +11,7 @@ ghost use Rattle.qpu_asm.specs.Forms.{slot_of as slot_by, front_of, are_behind, 
 ghost use Rattle.qpu_asm.specs.Seen.{named_seen, row_seen, name_seen};
 
 use crate::lines::behind_name;
+use crate::numbers::first_eight;
 use crate::table::{ALU, BRANCH, LOAD_IMM, NOP, Named, Row};
 use std::alloc::{AllocError, Global};
 use std::marker::Model;
@@ -317,16 +318,6 @@ fn first_row(form: &Form, next: usize, items: &[u8]) -> usize
     next.max(form.starts[slot_of(items[0], items[1])] as usize)
 }
 
-// The eight bytes that items begin with.
-fn window_of(items: &[u8]) -> Option<u64>
-    ensures { IfSome result (λ window. (8 ≤ length items.now) × (to_le_bytes w64 window ≡ take 8 items.now)) }
-{
-    if items.len() < 8 {
-        return None;
-    }
-    Some(u64::from_le_bytes(items[..8].try_into().unwrap()))
-}
-
 // Where the item of these bytes is kept. The product's high bits depend on all of them.
 fn place_kept(window: u64) -> usize {
     (window.wrapping_mul(0x9E37_79B9_7F4A_7C15) >> 55) as usize
@@ -380,7 +371,7 @@ pub fn keep_item(form: &mut Form, items: &[u8], place: &Place<'_>, word: &[u8], 
     ensures { form.new ≡ form.old }
 {
     let end = place.row.name.len() + 1 + word.len();
-    let Some(window) = window_of(items) else {
+    let Some(window) = first_eight(items) else {
         return;
     };
     if end >= 8 || place.at >= 255 || place.field.low >= 64 {
@@ -408,7 +399,7 @@ pub fn keep_item(form: &mut Form, items: &[u8], place: &Place<'_>, word: &[u8], 
 pub fn kept_item(form: &Form, next: usize, items: &[u8]) -> Option<Kept>
     ensures { IfSome result (IsReadAt form.now.rows next items.now) }
 {
-    let window = window_of(items)?;
+    let window = first_eight(items)?;
     let kept = form.kept.get(place_kept(window))?;
     if kept.window == window && next < kept.next as usize {
         Some(*kept)

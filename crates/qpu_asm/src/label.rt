@@ -12,6 +12,7 @@ ghost use Rattle.qpu_asm.specs.Seen.{line_seen, labels_seen, spots_in};
 use crate::key::Name;
 use crate::lines::{Line, read_line};
 use crate::mark::{Mark, Spot};
+use crate::numbers::eight_at;
 use script::next_line;
 use std::alloc::{AllocError, Global};
 use std::marker::Model;
@@ -256,15 +257,6 @@ fn are_same(first: &Name<'_>, second: &Name<'_>) -> bool
     ensures { result ≡ bytes_eq first.now.bytes.now second.now.bytes.now }
 {
     first.key == second.key && are_equal(first.bytes, second.bytes)
-}
-
-// The eight bytes that stand from a place on.
-#[inline(always)]
-fn eight_at(bytes: &[u8], at: usize) -> u64
-    requires { at + 8 ≤ length bytes.now }
-    ensures { to_le_bytes w64 result ≡ take 8 (drop at bytes.now) }
-{
-    u64::from_le_bytes(bytes[at..at + 8].try_into().unwrap())
 }
 
 // Up to where two names of one length have the same bytes, by eights; or none where eight of them differ.

@@ -2,7 +2,7 @@
 ghost use Rattle.std.specs.Prelude.{◌≡◌, ◌<◌, length, IfSome};
 
 use crate::form::{Form, Forms, find_place, keep_item, kept_item, make_room};
-use crate::lines::{ALU, BRANCH, LOAD_IMM, behind_name};
+use crate::lines::{Opening, behind_branch, opening_of};
 use crate::step::{behind_bytes, first_word, read_own};
 use script::next_line;
 use std::alloc::{AllocError, Global};
@@ -22,20 +22,15 @@ pub fn learn(alloc: Global, forms: &mut Forms, text: &[u8]) -> Result<(), AllocE
 
 // Keeps the items of the line that a text begins with.
 fn learn_line(forms: &mut Forms, text: &[u8]) {
-    match text.first() {
-        Some(b'a') => learn_by(&mut forms.alu, ALU, text),
-        Some(b'l') => learn_by(&mut forms.load_imm, LOAD_IMM, text),
-        Some(b'b') => learn_by(&mut forms.branch, BRANCH, text),
-        _ => {}
-    }
-}
-
-// Keeps the items of the line that a text begins with, where it begins with this opcode.
-fn learn_by(form: &mut Form, opcode: &[u8], text: &[u8])
-    ensures { form.new ≡ form.old }
-{
-    if let Some(items) = behind_name(text, opcode, b' ') {
-        learn_items(form, items);
+    match opening_of(text) {
+        Opening::Alu(items) => learn_items(&mut forms.alu, items),
+        Opening::LoadImm(items) => learn_items(&mut forms.load_imm, items),
+        Opening::Nop(_) => {}
+        Opening::Other => {
+            if let Some(items) = behind_branch(text) {
+                learn_items(&mut forms.branch, items);
+            }
+        }
     }
 }
 

@@ -20,6 +20,7 @@ mod learn;
 mod lines;
 mod mark;
 mod names;
+mod numbers;
 mod pen;
 mod piece;
 mod place;

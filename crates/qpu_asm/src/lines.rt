@@ -9,6 +9,7 @@ ghost use Rattle.qpu_asm.specs.Seen.{line_seen};
 ghost use Rattle.qpu_asm.specs.Walk.{begins, IsBehind};
 
 use crate::names::is_name;
+use crate::numbers::first_four;
 use script::{Cut, cut_at};
 
 /// What a line is. An instruction's items are still in one piece.
@@ -29,12 +30,6 @@ pub enum Opening<'a> {
     LoadImm(&'a [u8]),
     Other,
 }
-
-pub const ALU: &[u8] = b"alu";
-
-pub const LOAD_IMM: &[u8] = b"li";
-
-pub const BRANCH: &[u8] = b"br";
 
 /// The first word of a line, and what comes after it, where there is a word.
 pub fn next_word(line: &[u8]) -> Option<Cut<'_>>
@@ -86,17 +81,6 @@ pub fn behind_name<'a>(text: &'a [u8], name: &[u8], mark: u8) -> Option<&'a [u8]
     } else {
         None
     }
-}
-
-// The four bytes that a text begins with, as a number.
-#[inline(always)]
-fn first_four(text: &[u8]) -> Option<u32>
-    ensures { IfSome result (λ four. (4 ≤ length text.now) × (to_le_bytes w32 four ≡ take 4 text.now)) }
-{
-    if text.len() < 4 {
-        return None;
-    }
-    Some(u32::from_le_bytes(text[..4].try_into().unwrap()))
 }
 
 // The numbers of `alu ` and of `nop` with a line feed, and those of `li ` and `br ` below a fourth byte.

@@ -10,7 +10,8 @@ ghost use Rattle.qpu_asm.specs.Lines.{words_of, is_name as name_test};
 ghost use Rattle.qpu_asm.specs.Walk.{kind_code, IsWord, IsAfter, IsNumberRead, IsCoded};
 ghost use Rattle.qpu_asm.specs.Forms.{are_behind, AreReadTo, IsPlainStep, IsReadStep, IsWhole};
 ghost use Rattle.qpu_asm.specs.Seen.{row_seen, spots_in};
-ghost use Rattle.qpu_asm.specs.Targets.{IsTarget, Tells};
+ghost use Rattle.qpu_asm.specs.Targets.{IsCodedBy, IsTarget, Tells};
+ghost use Rattle.qpu_asm.specs.declared.step.Known.TheVariants.{Last};
 
 use crate::form::{Field, Form, Forms, find_place, find_target, find_value, kept_item};
 use crate::item::distance;
@@ -265,7 +266,7 @@ fn behind_same<'a>(text: &'a [u8], name: &[u8]) -> Option<&'a [u8]>
 // The label of this mark, where a text begins with its name.
 #[inline(always)]
 fn last_target<'a>(mark: &Mark<'a>, text: &'a [u8]) -> Option<Target<'a>>
-    ensures { IfSome result (IsTarget (λ spots. spots mark.now.name.bytes.now ≡ Some mark.now.spot) text.now) }
+    ensures { IfSome result (IsTarget (Tells (Last mark.now)) text.now) }
 {
     let rest = behind_same(text, mark.name.bytes)?;
     let rest = behind_word(rest)?;
@@ -477,7 +478,7 @@ pub fn read_branch<'a>(
     index: u32,
     text: &'a [u8],
 ) -> Option<Coded<'a>>
-    ensures coded { IfSome result (λ coded. (spots : Spots) → Tells known.now spots → IsCoded spots index (before 10 text.now) coded.word) }
+    ensures coded { IfSome result (λ coded. IsCodedBy (Tells known.now) index (before 10 text.now) coded.word) }
     ensures rest { IfSome result (λ coded. coded.rest.now ≡ behind 10 text.now) }
 {
     read_aimed(known, index, &forms.branch, behind_branch(text)?)

@@ -1,5 +1,5 @@
-use Rattle.std.proofs.Common.{◌≡◌, ◌≤◌, ◌∷◌, List, subst, arith, length}
-use Rattle.qpu_asm.specs.{declared.draft.LeftLine.LeftLine, Draft.AreFilling, Seen.spots_in}
+use Rattle.std.proofs.Common.{subst, arith}
+use Rattle.qpu_asm.specs.{Draft.AreFilling, Seen.spots_in}
 use Rattle.qpu_asm.proofs.Drafting.{filling_inside, filling_next, filling_last}
 use Rattle.qpu_asm.proofs.draft.fill_left.Goals as goal
 
