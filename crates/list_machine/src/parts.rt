@@ -8,7 +8,7 @@ ghost use Rattle.list_machine.specs.Store.{chosen_byte, chosen};
 ghost use Rattle.list_machine.specs.Cover.{IsSmall, part_count, part_place, parts_written, parts_read};
 ghost use Rattle.list_machine.specs.Surfaces.{Stores, Loads, aligned, names_none, whole_written, whole_read, cover_written, cover_read, general_written, general_read, frame_written, load_read, waiting_read};
 
-use crate::cover::{cover_for, part_count, part_place};
+use crate::cover::{cover_for, part_number, part_place};
 use crate::reads::end_wild;
 use crate::state::Load;
 use crate::surface::{Cover, Tile};
@@ -31,17 +31,31 @@ fn byte_of_words(words: &[u32], k: u64) -> u8
     ((word >> (8 * (k % 4)) as u32) % 256) as u8
 }
 
+/// Writes these words, each little endian. Sixteen of them, which are a microtile, need no loop.
+#[inline(always)]
+fn write_words(words: &[u32], window: &mut [u8])
+    requires { length window.old ≡ 4 * length words.now }
+    ensures { window.new ≡ flat_map (little_bytes 4) words.now }
+{
+    match <[u32; 16]>::try_from(words) {
+        Ok(microtile) => LittleEndian::write_u32_into(&microtile, window),
+        Err(_) => LittleEndian::write_u32_into(words, window),
+    }
+}
+
 /// Writes these words at `place`, each little endian.
+#[inline(always)]
 fn put_words(memory: &mut PhysMem, place: u32, words: &[u32])
     requires few { length words.now ≤ 2 ^ 12 }
     requires inside { place + 4 * length words.now ≤ length memory.old }
     ensures { memory.new ≡ with_bytes memory.old place (flat_map (little_bytes 4) words.now) }
 {
     let window = memory.window(place, 4 * words.len() as u32);
-    LittleEndian::write_u32_into(words, window);
+    write_words(words, window);
 }
 
 /// Writes `size` chosen bytes at `place`, from byte `from` of the choice words on, one by one.
+#[inline(never)]
 #[tactic(auto, using(crate::proofs::Storing::chosen_step), unfolding(crate::specs::Store::chosen, machine_plan::specs::Memory::stored))]
 fn store_by_bytes(memory: &mut PhysMem, place: u64, words: &[u32], from: u64, size: u32)
     requires few { size ≤ 2 ^ 14 }
@@ -111,7 +125,31 @@ fn bytes_before(cover: &Cover, i: u32) -> u64
     i as u64 * cover.size as u64
 }
 
-/// Writes all parts with the bytes of the choice words, and lists a write of each.
+/// Writes the parts of a row with the bytes of the choice words, and lists a write of each.
+fn write_row(
+    cover: &Cover,
+    row: u32,
+    words: &[u32],
+    who: Who,
+    memory: &mut PhysMem,
+    accesses: &mut Accesses,
+)
+    requires small { IsSmall cover.now }
+    requires row { row < cover.now.down }
+    requires room { array_vec_len accesses.old + cover.now.across ≤ 272 }
+    ensures parts { Stores who (parts_written cover.now words.now (row * cover.now.across) cover.now.across)
+        memory.old memory.new accesses.old accesses.new true }
+    ensures long { array_vec_len accesses.new ≡ array_vec_len accesses.old + cover.now.across }
+{
+    for column in 0..cover.across {
+        let place = part_place(cover, column, row);
+        let from = bytes_before(cover, part_number(cover, column, row));
+        store_chosen(memory, place, words, from, cover.size);
+        list_access(who, Way::Write, place, cover.size, accesses);
+    }
+}
+
+/// Writes all parts row by row with the bytes of the choice words, and lists a write of each.
 fn write_parts(
     cover: &Cover,
     words: &[u32],
@@ -123,21 +161,33 @@ fn write_parts(
     requires room { array_vec_len accesses.old ≤ 8 }
     ensures { Stores who (parts_written cover.now words.now 0 (part_count cover.now)) memory.old memory.new accesses.old accesses.new true }
 {
-    for i in 0..part_count(cover) {
-        let place = part_place(cover, i);
-        store_chosen(memory, place, words, bytes_before(cover, i), cover.size);
-        list_access(who, Way::Write, place, cover.size, accesses);
+    for row in 0..cover.down {
+        write_row(cover, row, words, who, memory, accesses);
     }
 }
 
-/// Lists a read of each part.
+/// Lists a read of each part of a row.
+fn read_row(cover: &Cover, row: u32, who: Who, accesses: &mut Accesses)
+    requires small { IsSmall cover.now }
+    requires row { row < cover.now.down }
+    requires room { array_vec_len accesses.old + cover.now.across ≤ 272 }
+    ensures parts { Loads who (parts_read cover.now (row * cover.now.across) cover.now.across) accesses.old accesses.new true }
+    ensures long { array_vec_len accesses.new ≡ array_vec_len accesses.old + cover.now.across }
+{
+    for column in 0..cover.across {
+        let place = part_place(cover, column, row);
+        list_access(who, Way::Read, place, cover.size, accesses);
+    }
+}
+
+/// Lists a read of each part, row by row.
 fn read_parts(cover: &Cover, who: Who, accesses: &mut Accesses)
     requires small { IsSmall cover.now }
     requires room { array_vec_len accesses.old ≤ 8 }
     ensures { Loads who (parts_read cover.now 0 (part_count cover.now)) accesses.old accesses.new true }
 {
-    for i in 0..part_count(cover) {
-        list_access(who, Way::Read, part_place(cover, i), cover.size, accesses);
+    for row in 0..cover.down {
+        read_row(cover, row, who, accesses);
     }
 }
 
