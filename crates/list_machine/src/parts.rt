@@ -21,6 +21,9 @@ use texture_layouts::{frame_style, general_style};
 /// The bytes of a tile in full resolution.
 const WHOLE_SIZE: u32 = 16384;
 
+/// The bytes of a microtile.
+const MICROTILE_SIZE: u32 = 64;
+
 /// Byte `k` of the choice words.
 #[tactic(auto, unfolding(crate::specs::Store::chosen_byte))]
 fn byte_of_words(words: &[u32], k: u64) -> u8
@@ -73,6 +76,7 @@ fn store_by_bytes(memory: &mut PhysMem, place: u64, words: &[u32], from: u64, si
 }
 
 /// Writes `count` whole choice words at `place`, from word `first` on, all of which are there.
+#[inline(always)]
 #[tactic(auto, using(crate::proofs::Words::words_stored))]
 fn store_by_words(memory: &mut PhysMem, place: u64, words: &[u32], first: u64, count: u32)
     requires few { count ≤ 2 ^ 12 }
@@ -86,6 +90,7 @@ fn store_by_words(memory: &mut PhysMem, place: u64, words: &[u32], first: u64, c
 }
 
 /// Whether these bytes of the choice words are whole words, all of which are there and go into the memory.
+#[inline(always)]
 fn are_words(memory: &PhysMem, place: u64, words: &[u32], from: u64, size: u32) -> bool
     requires few { size ≤ 2 ^ 14 }
     requires near { from ≤ 2 ^ 19 }
@@ -101,6 +106,7 @@ fn are_words(memory: &PhysMem, place: u64, words: &[u32], from: u64, size: u32) 
 }
 
 /// Writes `size` chosen bytes at `place`, from byte `from` of the choice words on.
+#[inline(always)]
 fn store_chosen(memory: &mut PhysMem, place: u64, words: &[u32], from: u64, size: u32)
     requires few { size ≤ 2 ^ 14 }
     requires near { from ≤ 2 ^ 19 }
@@ -114,15 +120,44 @@ fn store_chosen(memory: &mut PhysMem, place: u64, words: &[u32], from: u64, size
     }
 }
 
-/// How many bytes the parts before part `i` take.
+/// How many bytes the parts before part `i` take, of this size each.
+#[inline(always)]
 #[tactic(auto, using(crate::proofs::Storing::bytes_limit))]
-fn bytes_before(cover: &Cover, i: u32) -> u64
-    requires small { IsSmall cover.now }
+fn bytes_before(size: u32, i: u32) -> u64
+    requires small { size ≤ 256 }
     requires part { i < 256 }
-    ensures value { result ≡ i * cover.now.size }
+    ensures value { result ≡ i * size }
     ensures limit { result ≤ 2 ^ 19 }
 {
-    i as u64 * cover.size as u64
+    i as u64 * size as u64
+}
+
+/// Writes the parts of a row with the bytes of the choice words, and lists a write of each. `size` is the cover's: where a
+/// caller knows it, so does the code of its loop.
+#[inline(always)]
+fn write_row_by_size(
+    cover: &Cover,
+    row: u32,
+    size: u32,
+    words: &[u32],
+    who: Who,
+    memory: &mut PhysMem,
+    accesses: &mut Accesses,
+)
+    requires small { IsSmall cover.now }
+    requires row { row < cover.now.down }
+    requires size { size ≡ cover.now.size }
+    requires room { array_vec_len accesses.old + cover.now.across ≤ 272 }
+    ensures parts { Stores who (parts_written cover.now words.now (row * cover.now.across) cover.now.across)
+        memory.old memory.new accesses.old accesses.new true }
+    ensures long { array_vec_len accesses.new ≡ array_vec_len accesses.old + cover.now.across }
+{
+    for column in 0..cover.across {
+        let place = part_place(cover, column, row);
+        let from = bytes_before(size, part_number(cover, column, row));
+        store_chosen(memory, place, words, from, size);
+        list_access(who, Way::Write, place, size, accesses);
+    }
 }
 
 /// Writes the parts of a row with the bytes of the choice words, and lists a write of each.
@@ -141,11 +176,10 @@ fn write_row(
         memory.old memory.new accesses.old accesses.new true }
     ensures long { array_vec_len accesses.new ≡ array_vec_len accesses.old + cover.now.across }
 {
-    for column in 0..cover.across {
-        let place = part_place(cover, column, row);
-        let from = bytes_before(cover, part_number(cover, column, row));
-        store_chosen(memory, place, words, from, cover.size);
-        list_access(who, Way::Write, place, cover.size, accesses);
+    if cover.size == MICROTILE_SIZE {
+        write_row_by_size(cover, row, MICROTILE_SIZE, words, who, memory, accesses);
+    } else {
+        write_row_by_size(cover, row, cover.size, words, who, memory, accesses);
     }
 }
 

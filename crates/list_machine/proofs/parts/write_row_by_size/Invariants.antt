@@ -2,7 +2,7 @@ use Rattle.std.proofs.Common.{◌≡◌, ◌+◌, ◌-◌, ◌*◌}
 use Rattle.arrayvec.specs.ArrayVec.{array_vec_len}
 use Rattle.list_machine.specs.{Lists.Lists}
 use Rattle.list_machine.proofs.Left.{WritesLeft}
-use Rattle.list_machine.proofs.parts.write_row.Given as goal
+use Rattle.list_machine.proofs.parts.write_row_by_size.Given as goal
 
 abbrev pub invariant-loop-column : goal.invariant-loop-column
 invariant-loop-column l = record {
