@@ -10,4 +10,4 @@ pub mod Items
 pub mod Keeping
 pub mod Spots
 pub mod Words
-pub mod TwoWords
+pub mod Looking

@@ -8,3 +8,4 @@ pub mod Store
 pub mod Cover
 pub mod Surfaces
 pub mod Renderer
+pub mod Enough

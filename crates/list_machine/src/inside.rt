@@ -1,10 +1,10 @@
 //! The renderer's step in a tile's list, and its whole step.
-ghost use Rattle.std.specs.Prelude.{◌≡◌, ◌+◌, ◌≤◌, ◌<◌, ◌^◌, drop, length, true, false, is_some, IsTrue, Some, None, IfSome, option_map};
+ghost use Rattle.std.specs.Prelude.{◌≡◌, ◌+◌, ◌≤◌, ◌<◌, ◌^◌, drop, length, true, false, is_some, Some, None, IfSome, option_map};
 ghost use Rattle.arrayvec.specs.ArrayVec.{array_vec_len};
 ghost use Rattle.machine_plan.specs.Glance.{glanced};
 ghost use Rattle.machine_plan.specs.Turn.{Carries, CarriesOver, if_tame};
 ghost use Rattle.list_machine.specs.Lists.{Lists, Turned, turned_to, quiet, renderer_of, renderer_ended, most_items};
-ghost use Rattle.list_machine.specs.Renderer.{first_of_tile, item_at, at_item, vertex_plan, program_plan, choice_plan, found_plan, plan_in, renderer_plan, renderer_ready, LooksAt, has_renderer_work};
+ghost use Rattle.list_machine.specs.Renderer.{first_of_tile, item_at, at_item, vertex_plan, program_plan, choice_plan, found_plan, plan_in, renderer_plan, renderer_ready, has_renderer_work};
 
 use crate::fetch::fetch_vertex;
 use crate::job_lists::JobLists;
@@ -165,10 +165,9 @@ impl JobLists {
         self.take_packet(words, who, memory, accesses)
     }
 
-    /// Whether the renderer is in a tile's list. There its step looks at no choice words but the first two.
-    pub fn is_in_tile(&self) -> bool
-        ensures value { result ≡ is_some self.now.renderer.inside }
-        ensures two { IsTrue result → (free : _) → LooksAt 2 (renderer_plan self.now free) }
+    /// Whether the renderer is in a tile's list.
+    pub(crate) fn is_in_tile(&self) -> bool
+        ensures { result ≡ is_some self.now.renderer.inside }
     {
         self.renderer().inside.is_some()
     }

@@ -4,6 +4,7 @@
 mod binner;
 mod blocks;
 mod cover;
+mod enough;
 mod fetch;
 mod inside;
 mod job_lists;

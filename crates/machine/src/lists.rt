@@ -1,14 +1,15 @@
 //! The turns of binner and renderer.
-ghost use Rattle.std.specs.Prelude.{◌≡◌, ◌≤◌, ◌<◌, [], IsTrue, true, length};
+ghost use Rattle.std.specs.Prelude.{◌≡◌, ◌≤◌, ◌<◌, [], IsTrue, true, length, IfSome};
+ghost use Rattle.field_words.specs.declared.access.Actor.TheVariants.{Renderer as TheRenderer};
 ghost use Rattle.machine_plan.specs.Glance.{glanced};
 ghost use Rattle.list_machine.specs.Binner.{binner_ready};
-ghost use Rattle.list_machine.specs.Renderer.{renderer_ready, LooksAt};
+ghost use Rattle.list_machine.specs.Renderer.{renderer_ready};
 ghost use Rattle.qpu_machine.specs.Qpu.{free_in};
 ghost use Rattle.qpu_machine.specs.Bounds.{AreBounded};
 ghost use Rattle.machine.specs.State.{binner_job, renderer_job, picked_in, job_at};
-ghost use Rattle.machine.specs.Enough.{is_in_tile};
+ghost use Rattle.machine.specs.Enough.{renderer_words, StepLooksAt};
 ghost use Rattle.machine.specs.Moves.{BinnerMoves, RendererMoves};
-ghost use Rattle.machine.specs.Step.{with_launch, is_ahead, binner_may, renderer_may, renderer_turn};
+ghost use Rattle.machine.specs.Step.{with_launch, is_ahead, binner_may, renderer_may};
 
 use crate::machine::Machine;
 use machine_plan::{Accesses, Launch};
@@ -90,15 +91,16 @@ impl Machine {
         begin(job as u8, started.unwrap_or(None), &mut self.qpus);
     }
 
-    /// Whether the renderer is in a tile's list. There its turn looks at no choice words but the first two.
-    #[tactic(auto, using(crate::proofs::Words::turn_looks))]
-    pub(crate) fn is_in_tile(&self) -> bool
-        ensures value { result ≡ is_in_tile (renderer_job self.now.units) }
-        ensures two { IsTrue result → LooksAt 2 (renderer_turn self.now.units (renderer_job self.now.units)) }
+    /// How many choice words suffice for the renderer's turn, where it is known of fewer than it may look at.
+    #[inline(never)]
+    #[tactic(auto, using(crate::proofs::Words::renderer_words_look))]
+    pub(crate) fn renderer_words(&self) -> Option<u32>
+        ensures value { result ≡ renderer_words (renderer_job self.now.units) self.now.memory }
+        ensures enough { IfSome result (StepLooksAt self.now TheRenderer) }
     {
         match self.renderer_job() {
-            None => false,
-            Some(job) => self.jobs[job].is_in_tile(),
+            None => None,
+            Some(job) => self.jobs[job].renderer_words(&self.memory),
         }
     }
 

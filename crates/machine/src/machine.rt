@@ -139,7 +139,7 @@ impl Machine {
         ensures enough { IfSome result (λ n. LooksAt n (λ words. step self.now (record { unit = unit; words = words }))) }
     {
         match unit {
-            Actor::Renderer if self.is_in_tile() => Some(2),
+            Actor::Renderer => self.renderer_words(),
             Actor::Qpu(k) => self.qpu_words(k),
             _ => None,
         }

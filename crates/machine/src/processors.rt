@@ -1,10 +1,11 @@
 //! The turns of the shader processors and of their texture and memory units (TMUs).
 ghost use Rattle.std.specs.Prelude.{◌≡◌, ◌≤◌, ◌<◌, [], IsTrue, length, IfSome};
+ghost use Rattle.field_words.specs.declared.access.Actor.TheVariants.{Qpu as TheQpu};
 ghost use Rattle.machine_plan.specs.Glance.{glanced};
 ghost use Rattle.std.specs.List.{list_all};
 ghost use Rattle.qpu_machine.specs.Qpu.{is_idle};
 ghost use Rattle.machine.specs.State.{item_at};
-ghost use Rattle.machine.specs.Enough.{qpu_words, QpuLooksAt};
+ghost use Rattle.machine.specs.Enough.{qpu_words, StepLooksAt};
 ghost use Rattle.machine.specs.Moves.{QpuMoves, TmuMoves};
 ghost use Rattle.machine.specs.Step.{qpu_may, tmu_may, qpu_job, tmu_job};
 
@@ -66,7 +67,7 @@ impl Machine {
     /// How many choice words suffice for the turn of processor `k`, where it is known of fewer than it may look at.
     pub(crate) fn qpu_words(&self, k: u8) -> Option<u32>
         ensures value { result ≡ qpu_words (item_at self.now.units.qpus k) self.now.memory }
-        ensures enough { IfSome result (QpuLooksAt self.now k) }
+        ensures enough { IfSome result (StepLooksAt self.now (TheQpu k)) }
     {
         let k = k as usize;
         if k < self.qpus.len() {
