@@ -165,3 +165,10 @@ no_digits line bytes at = grind (arith, places)
 pub place_put : (place : ℕ) → place < 2 ^ 32 → with_bytes (codes "........") 0 (encode_lower (to_be_bytes w32 place)) ≡ place_text place
 unfolding encode_with
 place_put place small = place_is place small
+
+-- Those of two places in place of sixteen are their texts, with a blank between them.
+pub places_put : (low high : ℕ) → low < 2 ^ 32 → high < 2 ^ 32
+    → with_bytes (with_bytes (codes "........ ........") 0 (encode_lower (to_be_bytes w32 low))) 9 (encode_lower (to_be_bytes w32 high))
+    ≡ place_text low ++ (codes " " ++ place_text high)
+unfolding encode_with
+places_put low high small near = λ i. place_is low small i ++ (codes " " ++ place_is high near i)

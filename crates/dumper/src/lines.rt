@@ -42,18 +42,18 @@ fn pairs() -> &'static [u8; 512]
     PAIRS
 }
 
-/// Writes the eight digits of a place at the front of a line. They are looked up, since eight are too few to be made at once.
+/// Writes the eight digits of a place from `at` on. They are looked up, since eight are too few to be made at once.
 #[inline]
 #[tactic(auto, using(crate::proofs::Digits::no_digits))]
-pub(crate) fn put_place(line: &mut [u8], place: u32)
-    requires { 8 ≤ length line.old }
-    ensures { line.new ≡ with_bytes line.old 0 (encode_lower (to_be_bytes w32 place)) }
+pub(crate) fn put_place(line: &mut [u8], at: usize, place: u32)
+    requires { at + 8 ≤ length line.old }
+    ensures { line.new ≡ with_bytes line.old at (encode_lower (to_be_bytes w32 place)) }
 {
     let bytes = place.to_be_bytes();
     for k in 0..4 {
         let first = 2 * bytes[k] as usize;
-        line[2 * k] = pairs()[first];
-        line[2 * k + 1] = pairs()[first + 1];
+        line[at + 2 * k] = pairs()[first];
+        line[at + 2 * k + 1] = pairs()[first + 1];
     }
 }
 
@@ -77,7 +77,7 @@ fn row_line(place: u32, row: &[u8; 16]) -> [u8; ROW_LINE]
     ensures { result ≡ row_line place row.now }
 {
     let mut line = *b"........ ................................\n";
-    put_place(&mut line, place);
+    put_place(&mut line, 0, place);
     put_digits(&mut line, 9, row);
     line
 }

@@ -6,4 +6,4 @@ use Rattle.hex.specs.Hex.{encode_lower}
 use Rattle.dumper.proofs.lines.put_place.Given as goal
 
 abbrev pub invariant-loop-k : goal.invariant-loop-k
-invariant-loop-k l = l.line ≡ with_bytes l.fn.line 0 (encode_lower (take l.k (to_be_bytes w32 l.place)))
+invariant-loop-k l = l.line ≡ with_bytes l.fn.line l.fn.at (encode_lower (take l.k (to_be_bytes w32 l.place)))
