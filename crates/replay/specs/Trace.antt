@@ -1,5 +1,5 @@
 -- What is kept of a step.
-use Rattle.std.specs.Prelude.{ℕ, ◌+◌, ◌-◌, ◌^◌, ◌==◌, ◌&&◌, min, max, if◌then◌else◌, List, fold}
+use Rattle.std.specs.Prelude.{◌≡◌, ℕ, ◌+◌, ◌-◌, ◌^◌, ◌==◌, ◌&&◌, min, max, if◌then◌else◌, IsTrue, List, fold}
 use Rattle.field_words.specs.declared.access.Way.TheVariants.{Read, Write, Wild}
 use Rattle.field_words.specs.{declared.access.Access.Access, declared.access.Actor.Actor, declared.access.Way.Way}
 use Rattle.replay.specs.declared.trace.TraceLine.{TraceLine}
@@ -25,6 +25,14 @@ counted line a Wild = line
 -- greatest end. A wild one is left out.
 unfoldable pub with_access : TraceLine → Access → TraceLine
 with_access line a = counted line a a.way
+
+-- While a line is made, its least place is the greatest number as long as there is no access.
+abbrev pub IsOpen : TraceLine → Type 0
+IsOpen line = IsTrue (line.reads == 0 && line.writes == 0) → line.low ≡ 2 ^ 64 - 1
+
+-- the line as it is kept, whose least place is 0 where there is no access
+abbrev pub closed : TraceLine → TraceLine
+closed line = record line { low = if line.reads == 0 && line.writes == 0 then 0 else line.low }
 
 abbrev pub line_of : Actor → ℕ → List Access → TraceLine
 line_of unit job accesses = fold with_access (empty_line unit job) accesses

@@ -60,18 +60,6 @@ fn picked<S: Script>(script: &S, favoured: Option<UnitKind>, step: u64, units: &
     }
 }
 
-// The step's first words, as many as there are places for.
-fn fill<S: Script>(script: &S, step: u64, words: &mut [u32])
-    requires may { S.may script.now }
-    requires most { length words.old ≤ 4096 }
-    ensures given { (k : ℕ) → k < length words.new → S.gives script.now step k (slice_index words.new k) }
-    ensures long { length words.new ≡ length words.old }
-{
-    for k in 0..words.len() {
-        words[k] = script.word(step, k as u32);
-    }
-}
-
 // One step of the unit that the script picks. Words behind those that it may look at aren't asked for.
 fn take_step<S: Script>(
     script: &S,
@@ -88,7 +76,7 @@ fn take_step<S: Script>(
 {
     let unit = picked(script, favoured, step, machine.units());
     let words = &mut words[..machine.words_needed(unit) as usize];
-    fill(script, step, words);
+    script.fill(step, words);
     let job = machine.job_of(unit);
     machine.step(unit, words, accesses);
     line_of(unit, job, accesses.as_slice())

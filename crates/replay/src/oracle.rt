@@ -40,8 +40,10 @@ impl<C: Fn(u64, u32) -> u32, F: Fn(u64, u32) -> u32> Script for Oracle<C, F> {
         (self.choose)(step, count)
     }
 
-    fn word(&self, step: u64, k: u32) -> u32 {
-        (self.answer)(step, k)
+    fn fill(&self, step: u64, words: &mut [u32]) {
+        for k in 0..words.len() {
+            words[k] = (self.answer)(step, k as u32);
+        }
     }
 
     ghost told = { λ oracle may. may.1.1.1 };

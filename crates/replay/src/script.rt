@@ -1,5 +1,5 @@
 //! What says how a run goes.
-ghost use Rattle.std.specs.Prelude.{◌≤◌, ◌<◌, ℕ};
+ghost use Rattle.std.specs.Prelude.{◌≡◌, ◌≤◌, ◌<◌, ℕ, length, slice_index};
 ghost use Rattle.replay.specs.Run.{IsTold};
 
 /// A script of a run: which unit steps at each step, and what answers what the hardware leaves open there. It says of every step and of
@@ -21,11 +21,12 @@ pub trait Script {
         ensures picked { picks self.now step count result }
         ensures below { result < count };
 
-    /// Choice word `k` of a step. It takes no memory, and refuses nothing.
-    fn word(&self, step: u64, k: u32) -> u32
-        requires few { k < 4096 }
+    /// The first choice words of a step, as many as there are places for. It takes no memory, and refuses nothing.
+    fn fill(&self, step: u64, words: &mut [u32])
         requires may { may self.now }
-        ensures given { gives self.now step k result };
+        requires most { length words.old ≤ 4096 }
+        ensures given { (k : ℕ) → k < length words.new → gives self.now step k (slice_index words.new k) }
+        ensures long { length words.new ≡ length words.old };
 
     /// Each step has each word.
     ghost told: { (script : Self) → may script → IsTold (gives script) };

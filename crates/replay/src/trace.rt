@@ -1,7 +1,7 @@
 //! What is kept of a run: a line for each step, and how it ended.
 ghost use Rattle.std.specs.Prelude.{◌≡◌, ◌≤◌, ◌+◌, length};
 ghost use Rattle.std.specs.List.{fold};
-ghost use Rattle.replay.specs.Trace.{empty_line, with_access, end_of, line_of};
+ghost use Rattle.replay.specs.Trace.{with_access, closed, line_of, IsOpen};
 
 use field_words::{Access, Actor, Way};
 
@@ -35,46 +35,47 @@ pub struct Trace {
     pub ending: Ending,
 }
 
-// The line of a step that did nothing yet.
-fn empty_line(unit: Actor, job: u8) -> TraceLine
-    ensures { result ≡ empty_line unit job }
-{
-    TraceLine {
-        unit,
-        job,
-        reads: 0,
-        writes: 0,
-        low: 0,
-        high: 0,
-    }
-}
-
-// The line with one access more.
+// The line with one access more, while it isn't closed.
+#[inline]
 #[tactic(auto, unfolding(crate::specs::Trace::with_access, crate::specs::Trace::end_of))]
 fn with_access(line: TraceLine, access: &Access) -> TraceLine
+    requires opened { IsOpen line }
     requires reads { line.reads ≤ 1000 }
     requires writes { line.writes ≤ 1000 }
-    ensures value { result ≡ with_access line access.now }
+    ensures value { closed result ≡ with_access (closed line) access.now }
+    ensures opened { IsOpen result }
     ensures reads { result.reads ≤ line.reads + 1 }
     ensures writes { result.writes ≤ line.writes + 1 }
 {
-    if access.way == Way::Wild {
-        return line;
-    }
-    let first = line.reads == 0 && line.writes == 0;
-    TraceLine {
-        unit: line.unit,
-        job: line.job,
-        reads: line.reads + u32::from(access.way == Way::Read),
-        writes: line.writes + u32::from(access.way == Way::Write),
-        low: if first {
-            access.place
-        } else {
-            line.low.min(access.place)
+    match access.way {
+        Way::Read => TraceLine {
+            reads: line.reads + 1,
+            low: line.low.min(access.place),
+            high: line
+                .high
+                .max(access.place.saturating_add(access.len as u64)),
+            ..line
         },
-        high: line
-            .high
-            .max(access.place.saturating_add(access.len as u64)),
+        Way::Write => TraceLine {
+            writes: line.writes + 1,
+            low: line.low.min(access.place),
+            high: line
+                .high
+                .max(access.place.saturating_add(access.len as u64)),
+            ..line
+        },
+        Way::Wild => line,
+    }
+}
+
+// The line as it is kept, whose least place is 0 where there is no access.
+fn closed(line: TraceLine) -> TraceLine
+    ensures { result ≡ closed line }
+{
+    if line.reads == 0 && line.writes == 0 {
+        TraceLine { low: 0, ..line }
+    } else {
+        line
     }
 }
 
@@ -83,9 +84,16 @@ pub(crate) fn line_of(unit: Actor, job: u8, accesses: &[Access]) -> TraceLine
     requires { length accesses.now ≤ 272 }
     ensures { result ≡ line_of unit job accesses.now }
 {
-    let mut line = empty_line(unit, job);
+    let mut line = TraceLine {
+        unit,
+        job,
+        reads: 0,
+        writes: 0,
+        low: u64::MAX,
+        high: 0,
+    };
     for access in accesses {
         line = with_access(line, access);
     }
-    line
+    closed(line)
 }
