@@ -12,3 +12,4 @@ pub mod Same
 pub mod KnownRows
 pub mod Looking
 pub mod Words
+pub mod Grids

@@ -1,7 +1,7 @@
 -- What a texture and memory unit (TMU) does with a request.
-use Rattle.std.specs.Prelude.{◌≡◌, ◌≤◌, ℕ, zero, suc, ◌+◌, ◌-◌, ◌*◌, ◌%◌, ◌||◌, Bool, if◌then◌else◌, List, [], ◌∷◌, ◌++◌, Option, Some, None, slice_index}
+use Rattle.std.specs.Prelude.{ℕ, zero, suc, ◌+◌, ◌-◌, ◌*◌, ◌%◌, ◌||◌, Bool, if◌then◌else◌, List, [], ◌∷◌, ◌++◌, Option, Some, None, slice_index}
 use Rattle.field_words.specs.Words.{u32_at}
-use Rattle.texture_layouts.specs.Setup.{TextureModel, texture_of, faces_of, level_width_of, level_height_of, tiling_at, size_below}
+use Rattle.texture_layouts.specs.Setup.{TextureModel, texture_of, faces_of, level_width_of, level_height_of, tiling_at}
 use Rattle.texture_layouts.specs.Fetch.{fetch_place_of, fetch_size_of}
 use Rattle.texture_layouts.specs.Fits.{has_two_strides, lacks_stride, is_unlisted, has_child_image}
 use Rattle.machine_plan.specs.{Choice.word_at, Plan.Plan, Plan.Done, Plan.Wilds, Plan.Reads, World.mapped}
@@ -26,10 +26,6 @@ chosen_x t words m = word_at words (4 * m + 2) % level_width_of t (chosen_level 
 
 unfoldable pub chosen_y : TextureModel → List ℕ → ℕ → ℕ
 chosen_y t words m = word_at words (4 * m + 3) % level_height_of t (chosen_level t words m)
-
--- for each level of a texture the bytes of the levels from 1 to it
-abbrev pub AreBelow : TextureModel → List ℕ → Type 0
-AreBelow t sizes = (k : ℕ) → k ≤ t.levels → slice_index sizes k ≡ size_below t k
 
 -- what is fetched for the pixel
 unfoldable pub chosen_place : TextureModel → List ℕ → ℕ → Option ℕ

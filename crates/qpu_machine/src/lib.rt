@@ -6,8 +6,10 @@
 #![tactic(auto)]
 
 mod effects;
+mod grid;
 mod known;
 mod lanes;
+mod modulus;
 mod operands;
 mod qpu;
 mod reads;

@@ -8,9 +8,11 @@ ghost use Rattle.texture_layouts.specs.Fits.{is_unlisted};
 ghost use Rattle.texture_layouts.specs.Setup.{texture_of};
 ghost use Rattle.qpu_machine.specs.Request.{direct_plan, texture_reads, is_undefined, ask_plan};
 
+use crate::grid::grids_of;
+use crate::modulus::Modulus;
 use crate::reads::read_word;
 use crate::state::{Ask, Row};
-use crate::texels::{chosen_fetch, sizes_below};
+use crate::texels::chosen_fetch;
 use field_words::Way;
 use machine_plan::{Accesses, Who, list_access};
 use phys_mem::PhysMem;
@@ -40,9 +42,10 @@ fn list_texels(
     requires listed { is_unlisted texture.now ≡ false }
     ensures { CarriesOver who (texture_reads texture.now words.now 0 128) memory.now accesses.old accesses.new (if_tame result None) }
 {
-    let sizes = sizes_below(texture);
+    let grids = grids_of(texture);
+    let levels = Modulus::of_levels(texture.levels() + 1);
     for m in 0..128 {
-        match chosen_fetch(texture, &sizes, words, m) {
+        match chosen_fetch(texture, &levels, &grids, words, m) {
             Some(fetch) => list_access(who, Way::Read, fetch.place, fetch.len, accesses),
             None => {
                 list_access(who, Way::Wild, 0, 0, accesses);

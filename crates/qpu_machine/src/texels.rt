@@ -1,100 +1,62 @@
 //! Where the reads of a texture lie.
-ghost use Rattle.std.specs.Prelude.{◌≡◌, ◌<◌, ◌≤◌, ◌%◌, false, option_map, IfSome};
-ghost use Rattle.texture_layouts.specs.Fits.{is_unlisted};
-ghost use Rattle.qpu_machine.specs.Request.{AreBelow, chosen_level, chosen_face, chosen_x, chosen_y, chosen_place, chosen_length};
+ghost use Rattle.std.specs.Prelude.{◌≡◌, ◌<◌, ◌≤◌, ◌+◌, ◌*◌, ◌%◌, ◌^◌, option_map, IfSome, slice_index};
+ghost use Rattle.machine_plan.specs.Choice.{word_at};
+ghost use Rattle.texture_layouts.specs.Setup.{faces_of, face_place};
+ghost use Rattle.texture_layouts.specs.Fetch.{place_from};
+ghost use Rattle.qpu_machine.specs.Request.{chosen_place, chosen_length};
+ghost use Rattle.qpu_machine.specs.Grid.{IsModulus, AreShort, reach_by, IsGridOf, AreGridsOf};
 
+use crate::grid::Grid;
+use crate::modulus::Modulus;
 use machine_plan::choice_word;
 use texture_layouts::Texture;
 
-// What is left of `n` by a side. The sides of nearly all levels are powers of two, which need no division.
+// The four choice words of read `m`.
 #[inline(always)]
-fn within(n: u32, side: u32) -> u32
-    requires { 1 ≤ side }
-    ensures { result ≡ n % side }
+#[tactic(auto, unfolding(machine_plan::specs::Choice::word_at))]
+fn choices(words: &[u32], m: u64) -> [u32; 4]
+    requires { m < 128 }
+    ensures level { slice_index result 0 ≡ word_at words.now (4 * m) }
+    ensures face { slice_index result 1 ≡ word_at words.now (4 * m + 1) }
+    ensures x { slice_index result 2 ≡ word_at words.now (4 * m + 2) }
+    ensures y { slice_index result 3 ≡ word_at words.now (4 * m + 3) }
 {
-    let bits = side.ilog2();
-    if side == 1 << bits {
-        n % (1 << bits)
+    let at = 4 * m;
+    if at + 3 < words.len() as u64 {
+        let at = at as usize;
+        [words[at], words[at + 1], words[at + 2], words[at + 3]]
     } else {
-        n % side
+        [
+            choice_word(words, at),
+            choice_word(words, at + 1),
+            choice_word(words, at + 2),
+            choice_word(words, at + 3),
+        ]
     }
 }
 
-// What is left of `n` by a count of levels. Textures with sides from 256 to 2048 pixels have 9 to 12, which are constants here, since
-// to divide by a number that isn't known takes long.
+// Where level 0 of the face that a word chooses begins. Most textures have one face, and need no division.
 #[inline(always)]
-fn within_levels(n: u32, count: u32) -> u32
-    requires { 1 ≤ count }
-    ensures { result ≡ n % count }
-{
-    match count {
-        9 => n % 9,
-        10 => n % 10,
-        11 => n % 11,
-        12 => n % 12,
-        _ => within(n, count),
-    }
-}
-
-// The level that read `m` chooses.
-#[tactic(auto, unfolding(crate::specs::Request::chosen_level))]
-fn chosen_level(texture: &Texture, words: &[u32], m: u64) -> u32
-    requires { m < 128 }
-    ensures value { result ≡ chosen_level texture.now words.now m }
-    ensures limit { result ≤ texture.now.levels }
-    ensures few { result ≤ 15 }
-{
-    within_levels(choice_word(words, 4 * m), texture.levels() + 1)
-}
-
-// The face.
-#[tactic(auto, unfolding(crate::specs::Request::chosen_face))]
-fn chosen_face(texture: &Texture, words: &[u32], m: u64) -> u32
-    requires { m < 128 }
-    ensures value { result ≡ chosen_face texture.now words.now m }
-    ensures limit { result < 6 }
+#[tactic(auto, unfolding(texture_layouts::specs::Setup::faces_of))]
+fn face_by(texture: &Texture, word: u32) -> u64
+    ensures value { result ≡ face_place texture.now (word % faces_of texture.now) }
+    ensures limit { result < 2 ^ 34 }
 {
     if texture.faces() == 1 {
-        return 0;
+        return texture.face_place(0);
     }
-    choice_word(words, 4 * m + 1) % texture.faces()
+    texture.face_place(word % texture.faces())
 }
 
-// The pixel across, on the level that the read chooses.
-#[tactic(auto, unfolding(crate::specs::Request::chosen_x))]
-fn chosen_x(texture: &Texture, words: &[u32], m: u64, level: u32) -> u32
-    requires few { m < 128 }
-    requires level { level ≡ chosen_level texture.now words.now m }
-    requires limit { level ≤ texture.now.levels }
-    ensures { result ≡ chosen_x texture.now words.now m }
+// A difference, `None` where it would be below 0.
+#[inline(always)]
+fn place_above(reach: u64, below: u64) -> Option<u64>
+    ensures { result ≡ place_from reach below }
 {
-    within(choice_word(words, 4 * m + 2), texture.level_width(level))
-}
-
-// The pixel down.
-#[tactic(auto, unfolding(crate::specs::Request::chosen_y))]
-fn chosen_y(texture: &Texture, words: &[u32], m: u64, level: u32) -> u32
-    requires few { m < 128 }
-    requires level { level ≡ chosen_level texture.now words.now m }
-    requires limit { level ≤ texture.now.levels }
-    ensures { result ≡ chosen_y texture.now words.now m }
-{
-    within(choice_word(words, 4 * m + 3), texture.level_height(level))
-}
-
-/// For each level of a texture the bytes of the levels from 1 to it, which lie below a face's level 0.
-#[tactic(auto, using(texture_layouts::proofs::Levels::below_none, texture_layouts::proofs::Levels::below_more))]
-pub(crate) fn sizes_below(texture: &Texture) -> [u64; 16]
-    requires { is_unlisted texture.now ≡ false }
-    ensures { AreBelow texture.now result }
-{
-    let mut sizes = [0; 16];
-    let mut below = 0;
-    for level in 0..texture.levels() {
-        below += texture.level_size(level + 1);
-        sizes[level as usize + 1] = below;
+    if reach < below {
+        return None;
     }
-    sizes
+    Some(reach - below)
 }
 
 /// A read of a texture: where it lies, and how many bytes it takes.
@@ -104,27 +66,58 @@ pub(crate) struct Fetch {
     pub(crate) len: u32,
 }
 
-/// Read `m` of a texture, by the bytes of the levels below; `None` where it would be below 0.
-#[tactic(auto, unfolding(crate::specs::Request::chosen_place, crate::specs::Request::chosen_length))]
+// The grid of a level.
+#[inline(always)]
+fn grid_at(texture: &Texture, grids: &[Grid; 16], level: u32) -> Grid
+    requires grids { AreGridsOf texture.now grids.now }
+    requires level { level ≤ texture.now.levels }
+    requires few { level ≤ 15 }
+    ensures { IsGridOf texture.now level result }
+{
+    grids[level as usize]
+}
+
+// Where the fetch that four words choose would begin if the level stood where the face's level 0 does.
+#[inline(always)]
+#[tactic(auto, unfolding(crate::specs::Grid::reach_by), using(crate::proofs::Grids::left_limit))]
+fn reach_of(texture: &Texture, grid: &Grid, four: &[u32; 4]) -> u64
+    requires width { IsModulus grid.now.width }
+    requires height { IsModulus grid.now.height }
+    requires across { grid.now.across ≤ 3 }
+    requires down { grid.now.down ≤ 3 }
+    requires short { AreShort grid.now.steps }
+    ensures { result ≡ reach_by texture.now grid.now (slice_index four.now 1) (slice_index four.now 2) (slice_index four.now 3) }
+{
+    let x = grid.width.left_of(four[2]);
+    let y = grid.height.left_of(four[3]);
+    face_by(texture, four[1]) + u64::from(grid.offset(x, y))
+}
+
+/// Read `m` of a texture, by the number and the grids of its levels; `None` where it would be below 0.
+#[inline(always)]
 pub(crate) fn chosen_fetch(
     texture: &Texture,
-    sizes: &[u64; 16],
+    levels: &Modulus,
+    grids: &[Grid; 16],
     words: &[u32],
     m: u64,
 ) -> Option<Fetch>
-    requires sizes { AreBelow texture.now sizes.now }
+    requires levels { levels.now.number ≡ texture.now.levels + 1 }
+    requires few_levels { levels.now.number ≤ 16 }
+    requires modulus { IsModulus levels.now }
+    requires grids { AreGridsOf texture.now grids.now }
     requires few { m < 128 }
-    requires listed { is_unlisted texture.now ≡ false }
     ensures place { option_map (λ fetch. fetch.place) result ≡ chosen_place texture.now words.now m }
     ensures len { IfSome result (λ fetch. fetch.len ≡ chosen_length texture.now words.now m) }
 {
-    let level = chosen_level(texture, words, m);
-    let face = chosen_face(texture, words, m);
-    let x = chosen_x(texture, words, m, level);
-    let y = chosen_y(texture, words, m, level);
-    let place = texture.fetch_place_above(sizes[level as usize], face, level, x, y)?;
-    Some(Fetch {
-        place,
-        len: texture.fetch_size(level),
-    })
+    let four = choices(words, m);
+    let level = levels.left_of(four[0]);
+    let grid = grid_at(texture, grids, level);
+    match place_above(reach_of(texture, &grid, &four), grid.below) {
+        Some(place) => Some(Fetch {
+            place,
+            len: grid.len,
+        }),
+        None => None,
+    }
 }
