@@ -1,14 +1,15 @@
 -- A text in one walk: what its lines put to the draft, and what is filled in for the lines that are left.
-use Rattle.std.proofs.Common.{◌≡◌, ℕ, suc, true, false, ◌==◌, ◌||◌, inl, inr, ◌+◌, ◌-◌, ◌<◌, ◌≤◌, nat_lt, List, [], ◌∷◌, ◌++◌, length, take, drop, set, get_or, refl, sym, ◌∙◌, ap, subst, arith, append-nil, length-append, ltb-true, Ok}
+use Rattle.std.proofs.Common.{◌≡◌, ℕ, suc, true, false, ◌==◌, ◌||◌, inl, inr, ◌+◌, ◌-◌, ◌<◌, ◌≤◌, nat_lt, List, [], ◌∷◌, ◌++◌, length, take, drop, set, get_or, slice_index, refl, sym, ◌∙◌, ap, subst, arith, append-nil, length-append, ltb-true, Some, Ok}
 use Rattle.std.proofs.lemmas.Bool.{cases_Bool, false≢true}
 use Rattle.std.proofs.lemmas.Bool.Decides.{nat_tests}
 use Rattle.std.proofs.Math.Seq.{get_or-append_seam}
+use Rattle.std.proofs.lemmas.List.Elements.{All-nil, All-cons, All-head, All-tail, All-pop}
 use Rattle.field_words.proofs.Pieces.{drop_drop}
 use Rattle.std.proofs.lemmas.List.{take_more, take_all, get_or-take, get_or_append_left, get_or-set_other, get_or-set_same, length-take, length-drop, length-map, length-set}
 use Rattle.script.specs.Lines.{before, behind}
 use Rattle.qpu_asm.specs.{declared.draft.LeftLine.LeftLine, declared.mark.Mark.Mark, declared.mark.Spot.Spot, Items.Spots, Lines.Line, Lines.Blank, Lines.Label, Lines.BadLabel, Lines.Coded, Lines.read_line}
-use Rattle.qpu_asm.specs.{Labels.AreAtSpots, Labels.label_on, Labels.size_of, Walk.IsCoded, Walk.line_words, Seen.labels_seen, Seen.mark_seen}
-use Rattle.qpu_asm.specs.Draft.{is_left, AreRising, AreCoded, AreFilled, AreFilling, IsDraftedOn}
+use Rattle.qpu_asm.specs.{Labels.label_on, Labels.size_of, Walk.IsCoded, Walk.line_words, Seen.labels_seen, Seen.mark_seen}
+use Rattle.qpu_asm.specs.Draft.{AreAtSpots, is_left, AreRising, IsCodedIn, AreCoded, AreFilled, IsDraftedOn}
 use Rattle.qpu_asm.proofs.Assembling.{coded_words}
 
 -- lines that rise
@@ -50,19 +51,18 @@ left_push index (first ∷ left) line other apart = elim (cases_Bool (first.inde
 -- the coded lines that lie in a front of some words
 coded_front : (spots : Spots) (text words : List ℕ) (count from : ℕ) (left : List LeftLine) → AreRising from count left → AreCoded spots text words left
     → AreCoded spots text (take count words) left
-unfolding AreRising AreCoded
-coded_front spots text words count from [] rising coded = tt
-coded_front spots text words count from (line ∷ left) rising coded = (
-  subst (IsCoded spots line.index (before 10 (drop line.at text)))
-      (sym (get_or-take count words line.index 0 (omega (arith, rising_within (line.index + 1) count left rising.1)))) coded.0,
-  coded_front spots text words count (line.index + 1) left rising.1 coded.1,
-)
+unfolding AreRising
+coded_front spots text words count from [] rising coded = All-nil (IsCodedIn spots text (take count words))
+coded_front spots text words count from (line ∷ left) rising coded =
+    let was = IsCodedIn spots text words in
+    All-cons (IsCodedIn spots text (take count words)) line left
+    (subst (IsCoded spots line.index (before 10 (drop line.at text)))
+    (sym (get_or-take count words line.index 0 (omega (arith, rising_within (line.index + 1) count left rising.1)))) (All-head was line left coded))
+    (coded_front spots text words count (line.index + 1) left rising.1 (All-tail was line left coded))
 
 coded_push : (spots : Spots) (text words : List ℕ) (left : List LeftLine) (line : LeftLine) → AreCoded spots text words (left ++ line ∷ [])
     → AreCoded spots text words left × IsCoded spots line.index (before 10 (drop line.at text)) (get_or words line.index 0)
-unfolding AreCoded
-coded_push spots text words [] line coded = (tt, coded.0)
-coded_push spots text words (first ∷ left) line coded = let later = coded_push spots text words left line coded.1 in ((coded.0, later.0), later.1)
+coded_push spots text words left line coded = All-pop (IsCodedIn spots text words) (left ++ line ∷ []) left (Some line) refl coded
 
 -- what stands above the word that was drafted last
 pub record IsLastOf (spots : Spots) (text old : List ℕ) (left : List LeftLine) (full : List ℕ) : Type 0 where
@@ -225,6 +225,18 @@ pub no_words : (words : List ℕ) → length words ≤ 0 → [] ≡ words
 no_words [] none = refl
 no_words (word ∷ words) none = absurd (omega (arith, none))
 
+-- While the left lines are filled in: the words so far, where these lines are still left. Any words that agree with these up to the first
+-- of those, and in which those are coded, are the filled ones.
+pub record AreFilling (spots : Spots) (text drafted : List ℕ) (left rest : List LeftLine) (words : List ℕ) : Type 0 where
+  pub from : ℕ
+  pub count : length words ≡ length drafted
+  pub rising : AreRising from (length drafted) rest
+  pub same : (index : ℕ) → from ≤ index → slice_index words index ≡ slice_index drafted index
+  pub done : (final : List ℕ) → length final ≡ length drafted → ((index : ℕ) → index < from → slice_index final index ≡ slice_index words index)
+      → AreCoded spots text final rest
+      → ((index : ℕ) → from ≤ index → index < length drafted → is_left index rest ≡ false → slice_index final index ≡ slice_index drafted index)
+      → AreFilled spots text drafted left final
+
 -- the left lines are filled in one after the other
 pub filling_first : (spots : Spots) (text drafted : List ℕ) (left : List LeftLine) → AreRising 0 (length drafted) left → AreFilling spots text drafted left left drafted
 filling_first spots text drafted left rising = record {
@@ -241,9 +253,8 @@ filling_first spots text drafted left rising = record {
 
 pub filling_last : (spots : Spots) (text drafted : List ℕ) (left rest : List LeftLine) (words : List ℕ) → length rest ≤ 0 → AreFilling spots text drafted left rest words
     → AreFilled spots text drafted left words
-unfolding AreCoded
 filling_last spots text drafted left [] words none filling =
-    filling.done words filling.count (λ index below. refl) tt (λ index up inside apart. filling.same index up)
+    filling.done words filling.count (λ index below. refl) (All-nil (IsCodedIn spots text words)) (λ index up inside apart. filling.same index up)
 filling_last spots text drafted left (line ∷ rest) words none filling = absurd (omega (arith, none))
 
 parts_apart : (index : ℕ) (line : LeftLine) (later : List LeftLine) → is_left index (line ∷ later) ≡ false
@@ -268,7 +279,7 @@ filling_inside spots text drafted left line later words filling =
 pub filling_next : (spots : Spots) (text drafted : List ℕ) (left : List LeftLine) (line : LeftLine) (later : List LeftLine) (words : List ℕ) (word : ℕ)
     → AreFilling spots text drafted left (line ∷ later) words → IsCoded spots line.index (before 10 (drop line.at text)) word
     → AreFilling spots text drafted left later (set words line.index word)
-unfolding AreRising AreCoded
+unfolding AreRising
 filling_next spots text drafted left line later words word filling coded =
     let place = line.index in
     let inside = filling_inside spots text drafted left line later words filling in
@@ -280,7 +291,8 @@ filling_next spots text drafted left line later words word filling coded =
       same = λ index up. get_or-set_other words place index word 0 (λ is. absurd (omega (arith, up, is))) ∙ filling.same index (omega (arith, up, from));
       done = λ final count below codes others. filling.done final count
           (λ index less. below index (omega (arith, less, from)) ∙ get_or-set_other words place index word 0 (λ is. absurd (omega (arith, less, from, is))))
-          (subst (IsCoded spots place (before 10 (drop line.at text))) (sym (below place (omega arith) ∙ get_or-set_same words place word 0 inside)) coded, codes)
+          (All-cons (IsCodedIn spots text final) line later
+          (subst (IsCoded spots place (before 10 (drop line.at text))) (sym (below place (omega arith) ∙ get_or-set_same words place word 0 inside)) coded) codes)
           (λ index up within apart.
           let parts = parts_apart index line later apart in
           elim (cases_Bool (nat_lt place index)) [

@@ -5,7 +5,7 @@ use Rattle.std.proofs.lemmas.Bool.{and_parts, false≢true, cases_Bool}
 use Rattle.std.proofs.lemmas.Bool.Decides.{nat_tests}
 use Rattle.std.specs.List.{list_all}
 use Rattle.qpu_isa.specs.Fields.{joined, width_of}
-use Rattle.qpu_asm.specs.{Table.Row, Table.widths_of, Table.fallbacks_of, Items.find_named, Walk.IsOpen, Walk.are_ready, Walk.is_ready, Walk.begins, Forms.front_of, Forms.IsWhole, Forms.slot_of, Forms.are_behind, Forms.labels_behind, Forms.labels_apart, Forms.fields_fit, Forms.IsPassed, Forms.ArePassed, Forms.IsItemAt, Forms.IsNext, Walk.IsBehind, Seen.name_seen, Walk.IsPlace, Items.is_row, Seen.named_seen, Seen.row_seen, Seen.rows_seen}
+use Rattle.qpu_asm.specs.{Table.Row, Table.widths_of, Table.fallbacks_of, Items.find_named, Walk.IsOpen, Walk.are_ready, Walk.is_ready, Walk.begins, Forms.front_of, Forms.IsWhole, Forms.slot_of, Forms.are_behind, Forms.labels_behind, Forms.labels_apart, Forms.fields_fit, Forms.IsPassed, Forms.ArePassed, Forms.IsItemAt, Forms.IsNext, Walk.IsBehind, Walk.IsPlace, Items.is_row, Seen.named_seen, Seen.row_seen, Seen.rows_seen}
 use Rattle.qpu_asm.specs.declared.table.Named as code
 use Rattle.qpu_asm.specs.declared.table.Row as code-row
 use Rattle.qpu_asm.specs.declared.form.{Field.Field, Place.Place}
@@ -352,12 +352,11 @@ ready_drop rows zero ready = ready
 ready_drop [] (suc at) ready = refl
 ready_drop (row ∷ rows) (suc at) ready = ready_drop rows at (and_parts (is_ready row) (are_ready rows) ready).1
 
-pub item_here : (rows : List code-row.Row) (seen : List Row) (items : List ℕ) (fields : List Field) (d : code-row.Row) (none : Field) (place : Place)
+pub item_here : (name : List ℕ) (rows : List code-row.Row) (seen : List Row) (items : List ℕ) (fields : List Field) (d : code-row.Row) (none : Field) (place : Place)
     → rows_seen rows ≡ seen → place.at < length rows → place.at < 2 ^ 63 → are_ready seen ≡ true → fields_fit (rows_seen rows) fields ≡ true
     → place.row.now ≡ get_or rows place.at d → place.field ≡ get_or fields place.at none
-    → is_row (name_seen place) (row_seen place.row.now) ≡ true → (place.is_own ≡ false → bytes_eq place.row.now.name.now (codes "to") ≡ false)
-    → IsBehind 61 items (name_seen place) place.text.now → IsItemAt seen items place
-item_here rows seen items fields d none place is inside small ready fit row field named label cut =
+    → is_row name (row_seen place.row.now) ≡ true → IsBehind 61 items name place.text.now → IsItemAt name seen items place
+item_here name rows seen items fields d none place is inside small ready fit row field named cut =
     let facts = field_here rows place.at d fields none inside fit in
     let here = subst (λ all. drop place.at all ≡ row_seen place.row.now ∷ drop (place.at + 1) all) is
     (row_here rows place.at d inside ∙ ap (λ r. row_seen r ∷ drop (place.at + 1) (rows_seen rows)) (sym row)) in
@@ -366,7 +365,6 @@ item_here rows seen items fields d none place is inside small ready fit row fiel
       here = here;
       named = named;
       below = row_below _ (ready_by _ _ _ here (ready_drop seen place.at ready)).0;
-      label = label;
       low = ap (λ f. f.low) field ∙ (facts.low ∙ ap (λ all. width_of (widths_of (drop (place.at + 1) all))) is);
       names = ap (λ f. are_behind f.named.now 0 (map (λ one. one.name.now) place.row.now.named.now)) field
           ∙ (ap (λ r. are_behind (get_or fields place.at none).named.now 0 (map (λ one. one.name.now) r.named.now)) row ∙ facts.names);

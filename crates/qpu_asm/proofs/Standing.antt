@@ -2,9 +2,9 @@
 use Rattle.std.proofs.Common.{◌≡◌, ℕ, zero, suc, ◌+◌, ◌≤◌, ◌<◌, ◌^◌, ◌==◌, ◌&&◌, true, false, List, [], ◌∷◌, ◌++◌, length, map, refl, sym, ◌∙◌, ap, subst, arith, inl, inr, Some, IfSome, slice_get, bytes_eq, append_assoc, lt-ltb, if◌then◌else◌}
 use Rattle.std.proofs.lemmas.Bool.{and_parts, false≢true, cases_Bool}
 use Rattle.script.specs.Lines.{onto_line, lines_of}
-use Rattle.qpu_asm.specs.{declared.mark.Mark.Mark, Items.Spots, Seen.labels_seen, Marks.AreFirstBelow, Marks.AreLabelsOn}
-use Rattle.qpu_asm.specs.Lines.{Line, Blank, Label, BadLabel, Coded, HasName, is_name, is_alone, is_comment, ends_label, label_line, line_of, read_line, words_of}
-use Rattle.qpu_asm.specs.Labels.{LabelSpot, AreAtSpots, is_before, labels_from, labels_of, read_lines, spot_among}
+use Rattle.qpu_asm.specs.{declared.mark.Mark.Mark, Items.Spots, Seen.labels_seen, Marks.HasName, Marks.AreFirstBelow, Marks.AreLabelsOn, Draft.AreAtSpots}
+use Rattle.qpu_asm.specs.Lines.{Line, Blank, Label, BadLabel, Coded, is_name, is_alone, is_comment, ends_label, label_line, line_of, read_line, words_of}
+use Rattle.qpu_asm.specs.Labels.{LabelSpot, is_before, labels_from, labels_of, read_lines, spot_among}
 use Rattle.qpu_asm.proofs.Bytes.{bytes_itself}
 
 label_named : (name : List ℕ) (others : List (List ℕ)) → HasName (label_line name others)

@@ -1,5 +1,5 @@
 -- The step over an item, and what is added to a word for it.
-use Rattle.std.proofs.Common.{◌≡◌, ℕ, ◌+◌, ◌-◌, ◌*◌, ◌^◌, ◌%◌, ◌<◌, ◌≤◌, Bool, true, false, List, ◌∷◌, refl, sym, ◌∙◌, ap, subst, arith, Ok, Some, codes, bytes_eq, if◌then◌else◌}
+use Rattle.std.proofs.Common.{◌≡◌, ℕ, ◌+◌, ◌-◌, ◌*◌, ◌^◌, ◌%◌, ◌<◌, ◌≤◌, true, false, List, ◌∷◌, refl, sym, ◌∙◌, ap, subst, arith, Ok, Some, codes, bytes_eq}
 use Rattle.script.specs.Lines.{before}
 use Rattle.qpu_isa.specs.Fields.{width_of}
 use Rattle.qpu_asm.specs.{Table.Row, Table.widths_of, declared.mark.Spot.Spot, Items.Spots, Items.read_plain, Items.read_target, Items.read_value, Items.distance, Lines.is_name, Walk.is_part, Walk.IsAfter, Walk.IsBehind, Walk.IsStep, Forms.front_of, Forms.changed, Forms.IsNext, Forms.IsReadStep, Forms.IsWhole}
@@ -7,14 +7,14 @@ use Rattle.qpu_asm.proofs.Forms.{replaced, IsReplaced}
 use Rattle.qpu_asm.proofs.Steps.{item_of, own_value, step_made, step_words, step_shorter, place_value}
 
 -- the value of an item of a row's own name, and of one that is `to`
-pub own_reads : (spots : Spots) (index : ℕ) (own : Bool) (row : Row) (text : List ℕ) (value : ℕ) → own ≡ true → read_plain row text ≡ Ok value
-    → read_value spots index (if own then row.name else codes "to") text row ≡ Ok value
-own_reads spots index own row text value is reads = rw is (own_value spots index row text ∙ reads)
+pub own_reads : (spots : Spots) (index : ℕ) (row : Row) (text : List ℕ) (value : ℕ) → read_plain row text ≡ Ok value
+    → read_value spots index row.name text row ≡ Ok value
+own_reads spots index row text value reads = own_value spots index row text ∙ reads
 
-pub target_reads : (spots : Spots) (index : ℕ) (own : Bool) (row : Row) (text : List ℕ) (value : ℕ) → own ≡ false → bytes_eq row.name (codes "to") ≡ false
-    → read_target spots index text ≡ Ok value → read_value spots index (if own then row.name else codes "to") text row ≡ Ok value
+pub target_reads : (spots : Spots) (index : ℕ) (row : Row) (text : List ℕ) (value : ℕ) → bytes_eq row.name (codes "to") ≡ false
+    → read_target spots index text ≡ Ok value → read_value spots index (codes "to") text row ≡ Ok value
 unfolding read_value
-target_reads spots index own row text value is other reads = rw (is, other) reads
+target_reads spots index row text value other reads = rw other reads
 
 -- a label may have any name
 pub named_target : (index : ℕ) (spot : Spot) → read_target (λ name. Some spot) index (codes "a") ≡ Ok (distance index spot.index)

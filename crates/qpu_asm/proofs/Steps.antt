@@ -234,11 +234,13 @@ pub place_value : (spots : Spots) (index at value : ℕ) (name text : List ℕ) 
 place_value spots index at value name text row later room named read =
     subst (λ r. IfOk r (λ v. v < 2 ^ row.width)) read (value_small spots index name text row (open_facts at row later room) named)
 
--- each name of a row parts no item
-pub name_part : (named : Bool) (at : ℕ) (row : Row) (later : List Row) → IsOpen at (row ∷ later) → is_part (if named then row.name else codes "to") ≡ true
+-- no item ends in a row's name, nor in `to`
+pub own_part : (at : ℕ) (row : Row) (later : List Row) → IsOpen at (row ∷ later) → is_part row.name ≡ true
+own_part at row later room = (open_facts at row later room).part
+
+pub to_part : is_part (codes "to") ≡ true
 unfolding is_part lacks is_full
-name_part true at row later room = (open_facts at row later room).part
-name_part false at row later room = refl
+to_part = refl
 
 -- one more item is read
 pub steps_more : (spots : Spots) (index word : ℕ) (rows : List Row) (items : List (List ℕ)) (at : ℕ) (here : List Row) (line rest : List ℕ) (after : ℕ) (later : List Row)

@@ -4,7 +4,7 @@ use Rattle.std.specs.List.{list_all}
 use Rattle.std.specs.Int.{to_le_bytes, w64}
 use Rattle.script.specs.Lines.{before, behind}
 use Rattle.qpu_isa.specs.Fields.{joined, width_of}
-use Rattle.qpu_asm.specs.{declared.form.Field.Field, declared.form.Place.Place, declared.form.Kept.Kept, declared.step.Step.Step, declared.fault.Mistake.Mistake, Table.Row, Table.Kind, Table.fallbacks_of, Table.widths_of, Items.Spots, Items.is_row, Items.has_row, Items.read_plain, Lines.words_of, Walk.skip_to, Walk.read_items, Walk.begins, Walk.IsOpen, Walk.IsPlace, Walk.IsBehind, Walk.IsWord, Walk.IsAfter, Walk.IsStep, Seen.row_seen, Seen.name_seen}
+use Rattle.qpu_asm.specs.{declared.form.Field.Field, declared.form.Place.Place, declared.form.Kept.Kept, declared.step.Step.Step, declared.fault.Mistake.Mistake, Table.Row, Table.Kind, Table.fallbacks_of, Table.widths_of, Items.Spots, Items.is_row, Items.has_row, Items.read_plain, Lines.words_of, Walk.skip_to, Walk.read_items, Walk.begins, Walk.IsOpen, Walk.IsPlace, Walk.IsBehind, Walk.IsWord, Walk.IsAfter, Walk.IsStep, Seen.row_seen}
 
 -- the part of a word above the rows that may still come
 abbrev pub front_of : ℕ → List Row → ℕ
@@ -110,16 +110,23 @@ pub record IsReadAt (rows : List Row) (next : ℕ) (items : List ℕ) (kept : Ke
   pub change : IsChange rows row kept value
   pub after : IsAfter (drop (length row.name + 1) items) (drop kept.size items)
 
--- the place of the item that items begin with
-pub record IsItemAt (rows : List Row) (items : List ℕ) (place : Place) : Type 0 where
+-- the place of the item of this name that items begin with
+pub record IsItemAt (name : List ℕ) (rows : List Row) (items : List ℕ) (place : Place) : Type 0 where
   pub inside : place.at < 2 ^ 63
   pub here : drop place.at rows ≡ row_seen place.row.now ∷ drop (place.at + 1) rows
-  pub named : is_row (name_seen place) (row_seen place.row.now) ≡ true
+  pub named : is_row name (row_seen place.row.now) ≡ true
   pub below : place.row.now.below ≤ 2 ^ 32
-  pub label : place.is_own ≡ false → bytes_eq place.row.now.name.now (codes "to") ≡ false
   pub low : place.field.low ≡ width_of (widths_of (drop (place.at + 1) rows))
   pub names : are_behind place.field.named.now 0 (map (λ named. named.name.now) place.row.now.named.now) ≡ true
-  pub cut : IsBehind 61 items (name_seen place) place.text.now
+  pub cut : IsBehind 61 items name place.text.now
+
+-- that of an item of its row's own name
+abbrev pub IsOwnAt : List Row → List ℕ → Place → Type 0
+IsOwnAt rows items place = IsItemAt place.row.now.name.now rows items place
+
+-- that of any items that begin with `to=` and this text
+abbrev pub IsTargetAt : List Row → List ℕ → Place → Type 0
+IsTargetAt rows text place = (items : List ℕ) → IsBehind 61 items (codes "to") text → IsItemAt (codes "to") rows items place
 
 -- the first of some items is read without a mistake, whatever the labels are of which this is told
 pub record IsReadStep (told : Spots → Type 0) (index word : ℕ) (rows : List Row) (items : List ℕ) (after : ℕ) (later : List Row) (rest : List ℕ) : Type 0 where

@@ -1,5 +1,5 @@
 -- The labels of a text, and where each one stands.
-use Rattle.std.specs.Prelude.{ℕ, ◌≡◌, ◌+◌, Bool, false, nat_lt, List, [], ◌∷◌, ◌++◌, map, if◌then◌else◌, Option, None, Some, bytes_eq}
+use Rattle.std.specs.Prelude.{ℕ, ◌+◌, Bool, false, nat_lt, List, [], ◌∷◌, ◌++◌, map, if◌then◌else◌, Option, None, Some, bytes_eq}
 use Rattle.script.specs.Lines.{lines_of}
 use Rattle.qpu_asm.specs.{declared.mark.Spot.Spot, Lines.Line, Lines.Blank, Lines.Label, Lines.BadLabel, Lines.Coded, Lines.read_line}
 use Rattle.qpu_asm.specs.Items.{Spots}
@@ -31,11 +31,6 @@ labels_from line index (first ∷ lines) = label_on line index first ++ labels_f
 unfoldable pub spot_among : List LabelSpot → Spots
 spot_among [] name = None
 spot_among (label ∷ labels) name = if bytes_eq label.name name then Some label.spot else spot_among labels name
-
--- each of these labels stands where it is defined
-abbrev pub AreAtSpots : Spots → List LabelSpot → Type 0
-AreAtSpots spots [] = Unit {0}
-AreAtSpots spots (label ∷ labels) = (spots label.name ≡ Some label.spot) × AreAtSpots spots labels
 
 -- the label was defined before this line
 abbrev pub is_before : ℕ → Option Spot → Bool

@@ -1,5 +1,5 @@
 -- Lines and words of a text.
-use Rattle.std.specs.Prelude.{ℕ, ◌≡◌, ◌-◌, ◌==◌, Bool, true, false, ◌&&◌, ◌||◌, List, [], ◌∷◌, filter, length, take, slice_index, if◌then◌else◌}
+use Rattle.std.specs.Prelude.{ℕ, ◌-◌, ◌==◌, Bool, true, false, ◌&&◌, ◌||◌, List, [], ◌∷◌, filter, length, take, slice_index, if◌then◌else◌}
 use Rattle.std.specs.{List.slice_split, List.list_all, Char.is_ascii_alphabetic, Char.is_ascii_digit}
 
 unfoldable pub is_full : List ℕ → Bool
@@ -47,13 +47,6 @@ line_of [] = Blank
 line_of (word ∷ others) =
     if is_comment word then Blank
     else (if ends_label word then label_line (take (length word - 1) word) others else Coded word others)
-
--- where a line is a label's, its name is one
-abbrev pub HasName : Line → Type 0
-HasName Blank = Unit {0}
-HasName (Label name) = is_name name ≡ true
-HasName BadLabel = Unit {0}
-HasName (Coded opcode items) = Unit {0}
 
 unfoldable pub read_line : List ℕ → Line
 read_line line = line_of (words_of line)

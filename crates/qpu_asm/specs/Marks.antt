@@ -2,7 +2,7 @@
 use Rattle.std.specs.Prelude.{◌≡◌, ℕ, ◌+◌, ◌-◌, ◌*◌, ◌/◌, ◌%◌, ◌^◌, ◌<◌, ◌≤◌, ◌⊎◌, true, false, List, [], ◌∷◌, slice_index, slice_index_or, length, IsSorted, IsPermutation}
 use Rattle.std.specs.{Cmp.Lexicographic.slice_cmp, Ordering.nat_cmp, Ordering.ordering_then, Ordering.is_lt, declared.cmp.Ordering.Ordering}
 use Rattle.qpu_asm.specs.{declared.mark.Spot.Spot, declared.key.Name.Name, declared.mark.Mark.Mark, declared.label.Links.Links, Keys.key_of, Items.Spots, Labels.is_before, Labels.LabelSpot, Labels.spot_among, Labels.labels_from, Seen.labels_seen}
-use Rattle.qpu_asm.specs.Lines.{Line, Blank, Label, BadLabel, Coded}
+use Rattle.qpu_asm.specs.Lines.{Line, Blank, Label, BadLabel, Coded, is_name}
 
 -- the order of names: by key, by bytes
 abbrev pub name_cmp : List ℕ → List ℕ → Ordering
@@ -37,6 +37,13 @@ pub record AreSortedOf (labels : List LabelSpot) (marks : List Mark) : Type 0 wh
 -- by line, then by index
 abbrev pub IsNotLater : Spot → Spot → Type 0
 IsNotLater spot other = (spot.line < other.line) ⊎ ((spot.line ≡ other.line) × (spot.index ≤ other.index))
+
+-- where a line is a label's, its name is one
+abbrev pub HasName : Line → Type 0
+HasName Blank = Unit {0}
+HasName (Label name) = is_name name ≡ true
+HasName BadLabel = Unit {0}
+HasName (Coded opcode items) = Unit {0}
 
 -- a line below the bound does not repeat a label
 abbrev pub IsFirstBelow : ℕ → Spots → ℕ → Line → Type 0

@@ -1,8 +1,8 @@
 -- The code's tables as the definitions' tables, and what it has read as the definitions' words.
-use Rattle.std.specs.Prelude.{ℕ, List, map, codes, if◌then◌else◌, Option, Result}
+use Rattle.std.specs.Prelude.{ℕ, List, map, Option, Result}
 use Rattle.script.specs.{declared.lines.Cut.Cut}
 use Rattle.qpu_asm.specs.{declared.fault.AsmFault.AsmFault, declared.fault.Mistake.Mistake, declared.lines.Line.Line, Printed.name_of}
-use Rattle.qpu_asm.specs.{declared.mark.Mark.Mark, declared.form.Place.Place, Items.Spots, Items.read_value, Labels.LabelSpot, Labels.spot_among, Walk.line_words}
+use Rattle.qpu_asm.specs.{declared.mark.Mark.Mark, Items.Spots, Items.read_value, Labels.LabelSpot, Labels.spot_among, Walk.line_words}
 use Rattle.qpu_asm.specs.{declared.table.Named.Named, declared.table.Row.Row, declared.table.Kind.Kind}
 use Rattle.qpu_asm.specs.declared.lines.Line.TheVariants as line
 use Rattle.qpu_asm.specs.Lines as lines
@@ -55,7 +55,3 @@ value_seen marks index cut = read_value (spots_in marks) index cut.first.now cut
 -- the words with that of a line, or the least of the line's faults
 abbrev pub line_put : List Mark → ℕ → List ℕ → Line → Result (List ℕ) AsmFault
 line_put marks number words line = line_words (spots_in marks) number words (line_seen line)
-
--- the name of an item that stands at a place
-abbrev pub name_seen : Place → List ℕ
-name_seen place = if place.is_own then place.row.now.name.now else codes "to"

@@ -1,13 +1,13 @@
 //! A text's words in one walk: all but those of the lines that are left until its labels are known.
-ghost use Rattle.std.specs.Prelude.{◌≡◌, ◌<◌, ◌^◌, ◌∷◌, ◌++◌, [], ℕ, length, vec_len, drop, IfOk, IfSome, IsTrue, OnOk};
+ghost use Rattle.std.specs.Prelude.{◌≡◌, ◌<◌, ◌^◌, ℕ, length, vec_len, drop, IfOk, IfSome, IsTrue, OnOk};
 ghost use Rattle.script.specs.Lines.{before, behind};
 ghost use Rattle.qpu_asm.specs.Walk.{IsCoded};
 ghost use Rattle.qpu_asm.specs.Items.{Spots};
-ghost use Rattle.qpu_asm.specs.Labels.{AreAtSpots, size_of};
+ghost use Rattle.qpu_asm.specs.Labels.{size_of};
 ghost use Rattle.qpu_asm.specs.Lines.{read_line as line_read};
-ghost use Rattle.qpu_asm.specs.Draft.{AreRising, IsFirstDrafted, IsDraftOf, AreFilled};
-ghost use Rattle.qpu_asm.specs.Seen.{labels_seen, spots_in};
-ghost use Rattle.qpu_asm.specs.Targets.{IsCodedBy};
+ghost use Rattle.qpu_asm.specs.Draft.{AreRising, IsFirstDrafted, IsDraftOf, AreFilled, IsLeft};
+ghost use Rattle.qpu_asm.specs.Seen.{spots_in};
+ghost use Rattle.qpu_asm.specs.Targets.{AreMarked, IsCodedBy};
 
 use crate::form::Forms;
 use crate::item::read_code;
@@ -137,7 +137,7 @@ fn near_branch<'a>(
     index: u32,
     text: &'a [u8],
 ) -> Option<Coded<'a>>
-    ensures coded { IfSome result (λ coded. IsCodedBy (λ spots. AreAtSpots spots (labels_seen marks.now)) index (before 10 text.now) coded.word) }
+    ensures coded { IfSome result (λ coded. IsCodedBy (AreMarked marks.now) index (before 10 text.now) coded.word) }
     ensures rest { IfSome result (λ coded. coded.rest.now ≡ behind 10 text.now) }
 {
     let mark = marks.last()?;
@@ -152,9 +152,7 @@ fn near_branch<'a>(
 fn leave(draft: &mut Draft<'_>, at: usize) -> Result<(), AllocError>
     requires few { vec_len draft.old.words < 2 ^ 32 }
     requires place { at < 2 ^ 32 }
-    ensures words { OnOk result (draft.new.words.items ≡ draft.old.words.items ++ 0 ∷ []) }
-    ensures left { OnOk result (draft.new.left.items ≡ draft.old.left.items ++ record { index = vec_len draft.old.words; at = at } ∷ []) }
-    ensures marks { OnOk result (draft.new.marks.items ≡ draft.old.marks.items) }
+    ensures { OnOk result (IsLeft at draft.old draft.new) }
 {
     draft.left.push(LeftLine {
         index: draft.words.len() as u32,

@@ -1,5 +1,5 @@
 //! What reads the items of a kind's lines: where the row of a name is, and where its field lies, so that no row before it is walked over.
-ghost use Rattle.std.specs.Prelude.{ℕ, List, codes, ◌≡◌, ◌≤◌, ◌<◌, ◌+◌, ◌/◌, ◌^◌, true, length, map, take, drop, slice_index, IfSome, MatchOption, Some, Ok, false, None};
+ghost use Rattle.std.specs.Prelude.{bytes_eq, codes, ◌≡◌, ◌≤◌, ◌<◌, ◌+◌, ◌/◌, ◌^◌, true, length, map, take, drop, slice_index, IfSome, MatchOption, Some, Ok, false, None};
 ghost use Rattle.qpu_asm.specs.Table.{alu_kind, load_imm_kind, branch_kind};
 ghost use Rattle.qpu_asm.specs.Items.{find_named};
 ghost use Rattle.std.specs.Int.{to_le_bytes, w64};
@@ -7,8 +7,8 @@ ghost use Rattle.script.specs.Lines.{before};
 ghost use Rattle.qpu_asm.specs.Items.{read_plain};
 ghost use Rattle.std.specs.Io.{StartsWith};
 ghost use Rattle.qpu_asm.specs.Walk.{begins, IsBehind, IsWord};
-ghost use Rattle.qpu_asm.specs.Forms.{slot_of as slot_by, front_of, are_behind, changed, EndsKept, IsWhole, ArePassed, IsItemAt, IsNext, IsReadAt};
-ghost use Rattle.qpu_asm.specs.Seen.{named_seen, row_seen, name_seen};
+ghost use Rattle.qpu_asm.specs.Forms.{slot_of as slot_by, front_of, are_behind, changed, EndsKept, IsWhole, ArePassed, IsItemAt, IsOwnAt, IsTargetAt, IsNext, IsReadAt};
+ghost use Rattle.qpu_asm.specs.Seen.{named_seen, row_seen};
 
 use crate::lines::behind_name;
 use crate::numbers::first_eight;
@@ -62,13 +62,12 @@ impl Model for Form {
     ghost invariant = { λ f. IsForm f.blank (rows_seen f.rows.now) f.fields.now f.starts.now f.kept.items };
 }
 
-/// The row of an item, its number, and its field; and the text of the item's value. The item has the row's own name, or it is `to`.
+/// The row of an item, its number, and its field; and the text of the item's value.
 #[derive(Clone, Copy)]
 pub struct Place<'a> {
     pub at: usize,
     pub row: &'static Row,
     pub field: Field,
-    pub is_own: bool,
     pub text: &'a [u8],
 }
 
@@ -293,9 +292,8 @@ fn behind_own<'a>(items: &'a [u8], first: u8, second: u8, name: &[u8]) -> Option
 fn place_at<'a>(form: &Form, at: usize, items: &'a [u8]) -> Option<Place<'a>>
     requires inside { at < length form.now.rows }
     requires some { 2 < length items.now }
-    ensures item { IfSome result (IsItemAt form.now.rows items.now) }
+    ensures item { IfSome result (IsOwnAt form.now.rows items.now) }
     ensures at { IfSome result (λ place. place.at ≡ at) }
-    ensures own { IfSome result (λ place. place.is_own ≡ true) }
 {
     let rows = form.rows;
     let row = &rows[at];
@@ -304,7 +302,6 @@ fn place_at<'a>(form: &Form, at: usize, items: &'a [u8]) -> Option<Place<'a>>
         at,
         row,
         field: form.fields[at],
-        is_own: true,
         text,
     })
 }
@@ -364,8 +361,7 @@ fn change_of(low: u32, fallback: u64, value: u64) -> u64
 /// Keeps the first of some items, which has a row's own name and the value of this word, where it and the byte behind it are eight bytes at
 /// most. Another one in its place goes.
 pub fn keep_item(form: &mut Form, items: &[u8], place: &Place<'_>, word: &[u8], value: u64)
-    requires item { IsItemAt form.old.rows items.now place.now }
-    requires own { place.now.is_own ≡ true }
+    requires item { IsOwnAt form.old.rows items.now place.now }
     requires word { IsWord word.now × StartsWith place.now.text.now word.now }
     requires value { read_plain (row_seen place.now.row.now) word.now ≡ Ok value }
     ensures { form.new ≡ form.old }
@@ -412,10 +408,9 @@ pub fn kept_item(form: &Form, next: usize, items: &[u8]) -> Option<Kept>
 /// its slot tells of. Of all rows only `reg` is behind another one of its slot, `rel`.
 #[inline(always)]
 pub fn find_place<'a>(form: &Form, next: usize, items: &'a [u8]) -> Option<Place<'a>>
-    ensures item { IfSome result (IsItemAt form.now.rows items.now) }
-    ensures next { IfSome result (λ place. IsNext (drop next form.now.rows) (name_seen place) (drop place.at form.now.rows)
+    ensures item { IfSome result (IsOwnAt form.now.rows items.now) }
+    ensures next { IfSome result (λ place. IsNext (drop next form.now.rows) place.row.now.name.now (drop place.at form.now.rows)
         (row_seen place.row.now) (drop (place.at + 1) form.now.rows)) }
-    ensures own { IfSome result (λ place. place.is_own ≡ true) }
 {
     if items.len() < 3 {
         return None;
@@ -443,9 +438,9 @@ fn behind_to(items: &[u8]) -> Option<&[u8]>
 // The place of a branch's target of this text, where the row of this number takes one.
 #[inline(always)]
 fn target_at<'a>(form: &Form, at: usize, text: &'a [u8]) -> Option<Place<'a>>
-    ensures item { IfSome result (λ place. (items : List ℕ) → IsBehind 61 items (codes "to") text.now → IsItemAt form.now.rows items place) }
+    ensures item { IfSome result (IsTargetAt form.now.rows text.now) }
     ensures at { IfSome result (λ place. place.at ≡ at) }
-    ensures target { IfSome result (λ place. place.is_own ≡ false) }
+    ensures apart { IfSome result (λ place. bytes_eq place.row.now.name.now (codes "to") ≡ false) }
 {
     if at >= form.rows.len() {
         return None;
@@ -458,7 +453,6 @@ fn target_at<'a>(form: &Form, at: usize, text: &'a [u8]) -> Option<Place<'a>>
         at,
         row,
         field: form.fields[at],
-        is_own: false,
         text,
     })
 }
@@ -466,10 +460,10 @@ fn target_at<'a>(form: &Form, at: usize, text: &'a [u8]) -> Option<Place<'a>>
 /// The place of the branch's target that items begin with, where its row is this one or a later one.
 #[inline(always)]
 pub fn find_target<'a>(form: &Form, next: usize, items: &'a [u8]) -> Option<Place<'a>>
-    ensures item { IfSome result (IsItemAt form.now.rows items.now) }
-    ensures next { IfSome result (λ place. IsNext (drop next form.now.rows) (name_seen place) (drop place.at form.now.rows)
+    ensures item { IfSome result (IsItemAt (codes "to") form.now.rows items.now) }
+    ensures next { IfSome result (λ place. IsNext (drop next form.now.rows) (codes "to") (drop place.at form.now.rows)
         (row_seen place.row.now) (drop (place.at + 1) form.now.rows)) }
-    ensures target { IfSome result (λ place. place.is_own ≡ false) }
+    ensures apart { IfSome result (λ place. bytes_eq place.row.now.name.now (codes "to") ≡ false) }
 {
     let text = behind_to(items)?;
     let place = target_at(form, first_row(form, next, items), text)?;

@@ -4,9 +4,9 @@ ghost use Rattle.std.specs.Prelude.{◌≡◌, ◌<◌, ◌≤◌, ◌^◌, ◌+
 ghost use Rattle.std.specs.Int.{to_le_bytes, w64};
 ghost use Rattle.std.specs.Ordering.{is_lt};
 ghost use Rattle.std.specs.Prelude.{List};
-ghost use Rattle.qpu_asm.specs.Lines.{Label, HasName, Line as LineSeen, is_name as name_test};
+ghost use Rattle.qpu_asm.specs.Lines.{Label, Line as LineSeen, is_name as name_test};
 ghost use Rattle.qpu_asm.specs.Labels.{spots_of, labels_of, labels_from, label_on, read_lines, size_of};
-ghost use Rattle.qpu_asm.specs.Marks.{key_bucket, kept_cmp, AreInOrder, AreLinked, AreFirstBelow, AreLabelsOn, BoundsNext, BoundsLater, BoundsBehind, IsStart, AreSortedOf};
+ghost use Rattle.qpu_asm.specs.Marks.{key_bucket, kept_cmp, HasName, AreInOrder, AreLinked, AreFirstBelow, AreLabelsOn, BoundsNext, BoundsLater, BoundsBehind, IsStart, AreSortedOf};
 ghost use Rattle.qpu_asm.specs.Seen.{line_seen, labels_seen, spots_in};
 
 use crate::key::Name;

@@ -2,7 +2,8 @@
 //!
 //! The text's language is in `specs/`: `Table` (which items an instruction has, from the highest bit down, and their names),
 //! `Lines`, `Items`, `Labels`, `Faults` (all faults of a text), `Assembly` (its words, or the least of its faults) and `Printed`
-//! (the disassembler's text). `Walk`, `Forms`, `Marks`, `Draft`, `Seen` and `Sheets` tie the code to these.
+//! (the disassembler's text). `Walk`, `Forms`, `Openings`, `Keys`, `Marks`, `Targets`, `Draft`, `Seen` and `Sheets` tie the code
+//! to these.
 #![tactic(auto)]
 
 mod assembler;

@@ -1,17 +1,17 @@
 //! An instruction without a mistake, each of whose items is read at once by the letters of its name. What isn't read here is read by
 //! `item`, which says the mistakes too.
-ghost use Rattle.std.specs.Prelude.{◌≡◌, ◌≤◌, ◌<◌, ◌+◌, ◌-◌, ◌*◌, ◌^◌, ◌++◌, [], ℕ, length, take, min, map, drop, true, false, IfSome, IsTrue, Some, Ok};
+ghost use Rattle.std.specs.Prelude.{◌≡◌, ◌≤◌, ◌<◌, ◌+◌, ◌-◌, ◌*◌, ◌^◌, ◌++◌, [], ℕ, length, take, min, map, drop, codes, true, false, IfSome, IsTrue, Some, Ok};
 ghost use Rattle.std.specs.Io.{StartsWith};
 ghost use Rattle.std.specs.Str.{all_ascii_digits};
 ghost use Rattle.script.specs.Lines.{before, behind};
 ghost use Rattle.script.specs.Number.{is_number as number_test, number_of};
 ghost use Rattle.qpu_asm.specs.Items.{Spots, read_plain as plain_read};
 ghost use Rattle.qpu_asm.specs.Lines.{words_of, is_name as name_test};
-ghost use Rattle.qpu_asm.specs.Walk.{kind_code, IsWord, IsAfter, IsNumberRead, IsCoded};
+ghost use Rattle.qpu_asm.specs.Walk.{begins, kind_code, IsWord, IsAfter, IsNumberRead, IsCoded};
 ghost use Rattle.qpu_asm.specs.Forms.{are_behind, AreReadTo, IsPlainStep, IsReadStep, IsWhole};
-ghost use Rattle.qpu_asm.specs.Seen.{row_seen, spots_in};
+ghost use Rattle.qpu_asm.specs.Seen.{row_seen};
 ghost use Rattle.qpu_asm.specs.Targets.{IsCodedBy, IsTarget, Tells};
-ghost use Rattle.qpu_asm.specs.declared.step.Known.TheVariants.{Last};
+ghost use Rattle.qpu_asm.specs.declared.step.Known.TheVariants.{All, Last};
 
 use crate::form::{Field, Form, Forms, find_place, find_target, find_value, kept_item};
 use crate::item::distance;
@@ -279,7 +279,7 @@ fn last_target<'a>(mark: &Mark<'a>, text: &'a [u8]) -> Option<Target<'a>>
 // The label whose name a text begins with.
 #[inline(never)]
 fn any_target<'a>(labels: &Labels<'a>, text: &'a [u8]) -> Option<Target<'a>>
-    ensures { IfSome result (IsTarget (λ spots. spots ≡ spots_in labels.now) text.now) }
+    ensures { IfSome result (IsTarget (Tells (All labels.entry)) text.now) }
 {
     let named = first_name(text)?;
     let spot = spot_of(labels, &named.name)?;
@@ -350,7 +350,9 @@ fn read_step<'a>(form: &Form, word: u64, next: usize, items: &'a [u8]) -> Option
 }
 
 // Whether items begin with a branch's target.
-fn begins_target(items: &[u8]) -> bool {
+fn begins_target(items: &[u8]) -> bool
+    ensures { IsTrue result → begins 61 items.now (codes "to") ≡ true }
+{
     match items {
         [b't', b'o', b'=', ..] => true,
         _ => false,

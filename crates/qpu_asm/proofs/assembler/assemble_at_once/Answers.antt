@@ -1,5 +1,5 @@
 use Rattle.std.proofs.Common.{◌≡◌, ◌∙◌, [], sym, subst, ap, arith, length, Ok, IfSome, refl}
-use Rattle.qpu_asm.specs.{Labels.AreAtSpots, Labels.labels_of, Labels.read_lines, Seen.spots_in, Draft.IsDraftOf, Draft.AreFilled}
+use Rattle.qpu_asm.specs.{Draft.AreAtSpots, Labels.labels_of, Labels.read_lines, Seen.spots_in, Draft.IsDraftOf, Draft.AreFilled}
 use Rattle.qpu_asm.proofs.{Assembling.words_begin, Assembling.whole, Standing.text_stands}
 use Rattle.qpu_asm.proofs.assembler.assemble_at_once.Goals as goal
 

@@ -1,6 +1,6 @@
 use Rattle.std.proofs.{Common.◌≡◌, Common.◌<◌, Common.◌≤◌, Common.◌+◌, Common.◌++◌, Common.◌-◌, Common.◌∷◌, Common.sym, Common.refl, Common.subst, Common.ap, Common.◌∙◌, Common.arith, Common.drop, Common.take, Common.IfSome, Common.length, Common.vec_len, lemmas.List.length-drop, lemmas.List.take_rest}
 use Rattle.script.specs.Lines.{before, behind}
-use Rattle.qpu_asm.specs.{Lines.read_line, Labels.AreAtSpots, Labels.read_lines, Labels.labels_of, Labels.labels_from, Labels.size_of, Labels.label_on, Walk.lines_words, Draft.AreRising, Draft.IsDraftedOn, Draft.IsFirstDrafted, Seen.labels_seen}
+use Rattle.qpu_asm.specs.{Lines.read_line, Draft.AreAtSpots, Labels.read_lines, Labels.labels_of, Labels.labels_from, Labels.size_of, Labels.label_on, Walk.lines_words, Draft.AreRising, Draft.IsDraftedOn, Draft.IsFirstDrafted, Seen.labels_seen}
 use Rattle.qpu_asm.proofs.Assembling.{text_first, size_low, first_parts, labels_step, labels_end, words_step, words_end}
 use Rattle.qpu_asm.proofs.Drafting.{rest_place, no_words, marks_more}
 use Rattle.qpu_asm.proofs.{Heads.behind_shorter, Standing.front_stands}

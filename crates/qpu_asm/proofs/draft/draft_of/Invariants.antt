@@ -1,6 +1,6 @@
 -- What the lines above have is drafted.
 use Rattle.std.proofs.Common.{◌≡◌, ◌≤◌, ◌+◌, ◌++◌, ◌^◌, ◌-◌, ℕ, List, [], length, drop, vec_len}
-use Rattle.qpu_asm.specs.{Labels.AreAtSpots, Labels.labels_from, Labels.labels_of, Labels.read_lines, Items.Spots, Marks.AreFirstBelow, Walk.lines_words, Draft.AreRising, Draft.AreFilled, Seen.labels_seen}
+use Rattle.qpu_asm.specs.{Draft.AreAtSpots, Labels.labels_from, Labels.labels_of, Labels.read_lines, Items.Spots, Marks.AreFirstBelow, Walk.lines_words, Draft.AreRising, Draft.AreFilled, Seen.labels_seen}
 use Rattle.qpu_asm.proofs.draft.draft_of.Given as goal
 
 abbrev pub invariant-loop-at : goal.invariant-loop-at

@@ -1,6 +1,6 @@
 use Rattle.std.proofs.Common.{subst, arith}
-use Rattle.qpu_asm.specs.{Draft.AreFilling, Seen.spots_in}
-use Rattle.qpu_asm.proofs.Drafting.{filling_inside, filling_next, filling_last}
+use Rattle.qpu_asm.specs.Seen.{spots_in}
+use Rattle.qpu_asm.proofs.Drafting.{AreFilling, filling_inside, filling_next, filling_last}
 use Rattle.qpu_asm.proofs.draft.fill_left.Goals as goal
 
 pub bounds-words-line : goal.bounds-words-line

@@ -1,6 +1,7 @@
 -- Some of the lines that are left are filled in.
 use Rattle.std.proofs.Common.{length}
-use Rattle.qpu_asm.specs.{Draft.AreFilling, Seen.spots_in}
+use Rattle.qpu_asm.specs.Seen.{spots_in}
+use Rattle.qpu_asm.proofs.Drafting.{AreFilling}
 use Rattle.qpu_asm.proofs.draft.fill_left.Given as goal
 
 abbrev pub invariant-loop-line : goal.invariant-loop-line

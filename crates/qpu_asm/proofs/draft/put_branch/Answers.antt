@@ -1,7 +1,7 @@
 use Rattle.std.proofs.lemmas.Grind.{common_steps}
 use Rattle.std.proofs.Common.{◌≡◌, refl, sym, subst, arith, length}
 use Rattle.script.specs.Lines.{before}
-use Rattle.qpu_asm.specs.{Labels.AreAtSpots, Walk.IsCoded, Seen.labels_seen}
+use Rattle.qpu_asm.specs.{Targets.AreMarked, Walk.IsCoded}
 use Rattle.qpu_asm.proofs.Drafting.{coded_drafted, left_drafted}
 use Rattle.qpu_asm.proofs.draft.put_branch.Goals as goal
 
@@ -15,7 +15,7 @@ returns-in-Some c =
       below = c.in-Some.ensures.rest;
       drafted = λ whole place.
           coded_drafted whole number line old _ _ _ word c.in_ok-push.ensures.items c.requires.branch
-          (λ spots standing. subst (λ index. IsCoded spots index line word) same (c.in-Some.ensures.coded spots (subst (λ marks. AreAtSpots spots (labels_seen marks)) (sym c.deref.ensures.value) standing)));
+          (λ spots standing. subst (λ index. IsCoded spots index line word) same (c.in-Some.ensures.coded spots (subst (λ marks. AreMarked marks spots) (sym c.deref.ensures.value) standing)));
     }
 
 pub returns : goal.returns

@@ -1,6 +1,6 @@
 use Rattle.std.proofs.Common.{subst, length, None}
 use Rattle.script.specs.Lines.{before}
-use Rattle.qpu_asm.specs.{Lines.HasName}
+use Rattle.qpu_asm.specs.{Marks.HasName}
 use Rattle.qpu_asm.proofs.Drafting.{coded_drafted, coded_size, mark_drafted}
 use Rattle.qpu_asm.proofs.Standing.{read_named}
 use Rattle.qpu_asm.proofs.draft.put_line.Goals as goal

@@ -1,6 +1,6 @@
 use Rattle.std.proofs.Common.{◌≡◌, refl, ◌++◌, ◌∙◌, true, ap, subst, sym}
 use Rattle.script.specs.Lines.{before}
-use Rattle.qpu_asm.specs.{Labels.size_of, Labels.label_on, Lines.Label, Lines.HasName, Lines.is_name, Lines.read_line, Seen.labels_seen}
+use Rattle.qpu_asm.specs.{Labels.size_of, Labels.label_on, Lines.Label, Lines.is_name, Lines.read_line, Marks.HasName, Seen.labels_seen}
 use Rattle.qpu_asm.proofs.Drafting.{blank_drafted, left_drafted, mark_drafted}
 use Rattle.qpu_asm.proofs.Standing.{read_named}
 use Rattle.qpu_asm.proofs.draft.put_other.Goals.{in-Blank, in-Label+in_ok-add_mark-in-Label, in-Coded+in_ok-leave-in-Coded}

@@ -1,5 +1,5 @@
 use Rattle.std.proofs.{Common.sym, Common.subst, Common.◌∙◌, Common.arith, Common.refl, lemmas.Bool.Decides.nat_tests}
-use Rattle.qpu_asm.specs.{Labels.labels_of, Lines.HasName, Seen.line_seen}
+use Rattle.qpu_asm.specs.{Labels.labels_of, Marks.HasName, Seen.line_seen}
 use Rattle.qpu_asm.proofs.{Assembling.lines_first, Assembling.labels_step, Assembling.labels_end, Assembling.size_low, Standing.read_named}
 use Rattle.qpu_asm.proofs.label.marks_of.Goals as goal
 
