@@ -96,10 +96,7 @@ fn write_spans<const N: usize, K: Sink>(sink: &mut K, spans: &[Span]) -> Result<
     Ok(())
 }
 
-// How many bytes of lines are made at once where there are many rows: fewer and larger writes cost less.
-const LARGE: usize = 2 * PIECE;
-
-// The same where there are few, so that a small job touches few pages.
+// How many bytes of lines are made at once where there are few rows, so that a small job touches few pages.
 const SMALL: usize = PIECE / 8;
 
 // Whether a span has many rows.
@@ -123,7 +120,7 @@ fn write_rest<K: Sink>(sink: &mut K, spans: &[Span]) -> Result<(), Failed>
     ensures steady { OnOk result (K.faults sink.new ≡ K.faults sink.old) }
 {
     if are_many(spans) {
-        write_spans::<LARGE, K>(sink, spans)?;
+        write_spans::<PIECE, K>(sink, spans)?;
     } else {
         write_spans::<SMALL, K>(sink, spans)?;
     }

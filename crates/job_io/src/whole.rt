@@ -42,6 +42,10 @@ impl From<AllocError> for ReadEnd {
 /// How many bytes one call asks for. A short input touches two pages for it. A long file is read as fast as by larger pieces, a pipe is not.
 const PIECE: usize = 8192;
 
+/// How many bytes there is room for at first. So much is a mapping of its own, of which a short input touches a page; a room that grew to
+/// it on the heap would leave as much there.
+const FIRST_ROOM: usize = 32 * PIECE;
+
 /// Reads to the end of input, at most `limit` bytes. It stops at once where the source fails, and
 /// as soon as more than `limit` bytes were taken, which want of memory never hides; it takes at most
 /// one piece of 8,192 bytes past the limit. Each turn takes a byte or ends.
@@ -58,7 +62,7 @@ pub fn read_all<S: Source>(alloc: Global, source: &mut S, limit: usize) -> Resul
     ensures past { count_taken (S.left source.old) (S.left source.new) ≤ limit + piece_size }
     ensures counted { S.faults source.old ≤ S.faults source.new }
 {
-    let mut bytes = Vec::new(alloc);
+    let mut bytes = Vec::with_capacity(alloc, FIRST_ROOM)?;
     let mut piece = [0u8; PIECE];
     'reading: loop {
         let count = source.read(&mut piece)?;

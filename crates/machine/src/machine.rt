@@ -157,12 +157,21 @@ impl Machine {
         ensures emptied { result ≡ Stepped.NotEnabled → accesses.new.items ≡ [] }
         ensures moved { result ≡ Stepped.Done → UnitMoves self.old unit words.now accesses.new.items self.new }
     {
-        accesses.clear();
         if !self.enabled(unit) {
+            accesses.clear();
             return Stepped::NotEnabled;
         }
-        self.take_turn(unit, words, accesses);
+        self.step_enabled(unit, words, accesses);
         Stepped::Done
+    }
+
+    /// The same of a unit that may step, which isn't asked again.
+    pub fn step_enabled(&mut self, unit: Actor, words: &[u32], accesses: &mut Accesses)
+        requires { IsTrue (enabled self.old unit) }
+        ensures { UnitMoves self.old unit words.now accesses.new.items self.new }
+    {
+        accesses.clear();
+        self.take_turn(unit, words, accesses);
     }
 
     // This unit's turn, which may step.

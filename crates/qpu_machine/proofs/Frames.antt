@@ -1,5 +1,5 @@
 -- What the units' writes leave alone.
-use Rattle.std.proofs.Common.{◌≡◌, ℕ, List, refl}
+use Rattle.std.proofs.Common.{◌≡◌, ℕ, Bool, true, false, if◌then◌else◌, List, refl}
 use Rattle.qpu_machine.specs.Writes.{written_at, added, multiplied, written, stored, loaded, awake, past_uniform, rested}
 use Rattle.qpu_machine.specs.State.{Fate, Thread}
 
@@ -22,9 +22,11 @@ pub awake_keeps : (words : List ℕ) (t : Thread) → Keeps t (awake words t)
 unfolding awake
 awake_keeps words t = record { place = refl; setups0 = refl; setups1 = refl }
 
-pub past_keeps : (t : Thread) → Keeps t (past_uniform t)
+-- whether it takes a uniform or not
+pub fed_keeps : (takes : Bool) (t : Thread) → Keeps t (if takes then past_uniform t else t)
 unfolding past_uniform
-past_keeps t = record { place = refl; setups0 = refl; setups1 = refl }
+fed_keeps true t = record { place = refl; setups0 = refl; setups1 = refl }
+fed_keeps false t = record { place = refl; setups0 = refl; setups1 = refl }
 
 -- rest doesn't either
 pub rested_place : (fate : Fate) (t : Thread) → (rested fate t).place ≡ t.place

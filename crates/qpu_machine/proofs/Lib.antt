@@ -9,6 +9,7 @@ pub mod Settling
 pub mod Starts
 pub mod Served
 pub mod Same
+pub mod Nops
 pub mod KnownRows
 pub mod Looking
 pub mod Words

@@ -30,7 +30,7 @@ wild_shows who t word words m before listed wild listed_is =
     subst (λ plan. Shows (carried who plan m) before listed m None) (plan_is t word words true (takes_one t word) wild refl)
     (record { accesses = listed_is; memory_is = refl; result_is = refl })
 
-pub takes_shows : (who : Who) (t : Thread) (word uniform : ℕ) (words m : List ℕ) (before listed : List Access) (turn : ThreadTurn) → is_wild t word ≡ false → takes_one t word ≡ true
+takes_shows : (who : Who) (t : Thread) (word uniform : ℕ) (words m : List ℕ) (before listed : List Access) (turn : ThreadTurn) → is_wild t word ≡ false → takes_one t word ≡ true
     → listed ≡ before ++ access who Read t.uniforms 4 ∷ [] → uniform ≡ u32_at (bytes_at m t.uniforms 4) 0 → executed word uniform words (awake words (past_uniform t)) ≡ turn
     → Obeys who t word words m before listed (Some turn)
 takes_shows who t word uniform words m before listed turn tame takes listed_is uniform_is turn_is =
@@ -39,11 +39,21 @@ takes_shows who t word uniform words m before listed turn tame takes listed_is u
     subst (λ plan. Shows (carried who plan m) before listed m (Some turn)) (plan_is t word words false true tame takes)
     (record { accesses = listed_is; memory_is = refl; result_is = ap Some same })
 
-pub plain_shows : (who : Who) (t : Thread) (word : ℕ) (words m : List ℕ) (before : List Access) (turn : ThreadTurn) → is_wild t word ≡ false → takes_one t word ≡ false
+plain_shows : (who : Who) (t : Thread) (word : ℕ) (words m : List ℕ) (before : List Access) (turn : ThreadTurn) → is_wild t word ≡ false → takes_one t word ≡ false
     → executed word 0 words (awake words t) ≡ turn → Obeys who t word words m before before (Some turn)
 plain_shows who t word words m before turn tame takes turn_is =
     subst (λ plan. Shows (carried who plan m) before before m (Some turn)) (plan_is t word words false false tame takes)
     (record { accesses = sym (append-nil before); memory_is = refl; result_is = ap Some (sym turn_is) })
+
+-- One that isn't wild, with its uniform or without.
+pub fed_shows : (who : Who) (t fed : Thread) (word uniform : ℕ) (words m : List ℕ) (before listed : List Access) (turn : ThreadTurn) (takes : Bool) → takes_one t word ≡ takes → is_wild t word ≡ false
+    → fed ≡ (if takes then past_uniform t else t) → uniform ≡ (if takes then u32_at (bytes_at m t.uniforms 4) 0 else 0)
+    → listed ≡ (if takes then before ++ access who Read t.uniforms 4 ∷ [] else before) → executed word uniform words (awake words fed) ≡ turn → Obeys who t word words m before listed (Some turn)
+fed_shows who t fed word uniform words m before listed turn true takes tame fed_is uniform_is listed_is turn_is =
+    takes_shows who t word uniform words m before listed turn tame takes listed_is uniform_is (ap (λ s. executed word uniform words (awake words s)) (sym fed_is) ∙ turn_is)
+fed_shows who t fed word uniform words m before listed turn false takes tame fed_is uniform_is listed_is turn_is =
+    subst (λ l. Obeys who t word words m before l (Some turn)) (sym listed_is)
+    (plain_shows who t word words m before turn tame takes (ap (λ u. executed word u words (awake words t)) (sym uniform_is) ∙ (ap (λ s. executed word uniform words (awake words s)) (sym fed_is) ∙ turn_is)))
 
 pub thread_shows : (who : Who) (t : Thread) (word : ℕ) (words m bytes : List ℕ) (before listed after : List Access) (result : Option ThreadTurn) → bytes ≡ bytes_at m t.place 8 → word ≡ from_le_bytes w64 bytes
     → listed ≡ before ++ access who Read t.place 8 ∷ [] → Obeys who t word words m listed after result → Shows (carried who (thread_plan t words) m) before after m result

@@ -1,10 +1,23 @@
 //! Rows of 16 elements, and masks of elements.
-ghost use Rattle.std.specs.Prelude.{◌≡◌, ◌+◌, ◌≤◌, ◌<◌, ◌^◌, if◌then◌else◌, slice_index};
+ghost use Rattle.std.specs.Prelude.{◌≡◌, ◌+◌, ◌≤◌, ◌<◌, ◌^◌, if◌then◌else◌, length, slice_index};
 ghost use Rattle.machine_plan.specs.Choice.{word_at};
 ghost use Rattle.qpu_machine.specs.Row.{chosen_row, chosen_rows, has_lane, merged, mask_of};
 
 use crate::state::Row;
 use machine_plan::choice_word;
+
+// The same, of which none is missing.
+#[tactic(auto, using(crate::proofs::Fronts::front_more), unfolding(crate::specs::Row::chosen_row))]
+fn row_within(words: &[u32], from: usize) -> Row
+    requires { from + 16 ≤ length words.now }
+    ensures { result ≡ chosen_row words.now from }
+{
+    let mut row = [0; 16];
+    for e in 0..16 {
+        row[e] = words[from + e];
+    }
+    row
+}
 
 /// 16 choice words, from this one on.
 #[tactic(auto, using(crate::proofs::Fronts::front_more), unfolding(crate::specs::Row::chosen_row))]
@@ -12,6 +25,9 @@ pub(crate) fn chosen_row(words: &[u32], from: u64) -> Row
     requires { from ≤ 1000 }
     ensures { result ≡ chosen_row words.now from }
 {
+    if from + 16 <= words.len() as u64 {
+        return row_within(words, from as usize);
+    }
     let mut row = [0; 16];
     for e in 0..16 {
         row[e] = choice_word(words, from + e as u64);

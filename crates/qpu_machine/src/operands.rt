@@ -134,7 +134,7 @@ fn sums(op: u8, x: &Row, y: &Row, words: &[u32]) -> Row
 }
 
 /// What the add unit comes to.
-#[tactic(auto, unfolding(crate::specs::Operands::add_row))]
+#[tactic(auto, using(crate::proofs::Nops::no_sums), unfolding(crate::specs::Operands::add_row))]
 pub(crate) fn add_row(thread: &Thread, word: u64, uniform: u32, words: &[u32]) -> Row
     ensures { result ≡ add_row thread.now word uniform words.now }
 {
@@ -144,9 +144,13 @@ pub(crate) fn add_row(thread: &Thread, word: u64, uniform: u32, words: &[u32]) -
     if is_load_imm(word) {
         return immediate_row(word, words, 1);
     }
+    let op = op_add(word);
+    if op == 0 {
+        return [0; 16];
+    }
     let x = operand(thread, word, add_a(word), uniform, words);
     let y = operand(thread, word, add_b(word), uniform, words);
-    sums(op_add(word), &x, &y, words)
+    sums(op, &x, &y, words)
 }
 
 /// Whether the multiply unit's result is rotated.
@@ -188,7 +192,7 @@ fn products(op: u8, x: &Row, y: &Row, words: &[u32]) -> Row
 }
 
 /// What the multiply unit comes to.
-#[tactic(auto, unfolding(crate::specs::Operands::mul_row))]
+#[tactic(auto, using(crate::proofs::Nops::no_products), unfolding(crate::specs::Operands::mul_row))]
 pub(crate) fn mul_row(thread: &Thread, word: u64, uniform: u32, words: &[u32]) -> Row
     ensures { result ≡ mul_row thread.now word uniform words.now }
 {
@@ -198,7 +202,11 @@ pub(crate) fn mul_row(thread: &Thread, word: u64, uniform: u32, words: &[u32]) -
     if is_load_imm(word) {
         return immediate_row(word, words, 17);
     }
+    let op = op_mul(word);
+    if op == 0 {
+        return [0; 16];
+    }
     let x = operand(thread, word, mul_a(word), uniform, words);
     let y = operand(thread, word, mul_b(word), uniform, words);
-    products(op_mul(word), &x, &y, words)
+    products(op, &x, &y, words)
 }

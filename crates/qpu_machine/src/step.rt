@@ -1,5 +1,5 @@
 //! One instruction of a thread.
-ghost use Rattle.std.specs.Prelude.{◌≡◌, ◌<◌, ◌≤◌, ◌+◌, ◌++◌, ◌∷◌, [], ◌^◌, true, false, IfSome, None};
+ghost use Rattle.std.specs.Prelude.{◌≡◌, ◌<◌, ◌≤◌, ◌+◌, ◌++◌, ◌∷◌, [], ◌^◌, true, false, if◌then◌else◌, IfSome, None};
 ghost use Rattle.field_words.specs.Words.{u32_at};
 ghost use Rattle.machine_plan.specs.Turn.{CarriesOver};
 ghost use Rattle.qpu_machine.specs.State.{Read};
@@ -8,7 +8,7 @@ ghost use Rattle.arrayvec.specs.ArrayVec.{array_vec_len};
 ghost use Rattle.machine_plan.specs.Plan.{access};
 ghost use Rattle.machine_plan.specs.Glance.{glanced};
 ghost use Rattle.qpu_isa.specs.Terms.{writes_tmu};
-ghost use Rattle.qpu_machine.specs.Wild.{is_wild};
+ghost use Rattle.qpu_machine.specs.Wild.{is_wild, takes_one};
 ghost use Rattle.qpu_machine.specs.Writes.{past_uniform};
 ghost use Rattle.qpu_machine.specs.Step.{executed_with, executed, word_plan, thread_plan, is_held_by, is_held, thread_ready, turned};
 
@@ -71,8 +71,27 @@ fn take_uniform(thread: &mut Thread, who: Who, memory: &PhysMem, accesses: &mut 
     uniform
 }
 
+// The uniform for this instruction, which is taken where it takes one; else 0.
+fn uniform_for(
+    thread: &mut Thread,
+    word: u64,
+    who: Who,
+    memory: &PhysMem,
+    accesses: &mut Accesses,
+) -> u32
+    requires { array_vec_len accesses.old < 270 }
+    ensures thread { thread.new ≡ (if takes_one thread.old word then past_uniform thread.old else thread.old) }
+    ensures value { result ≡ (if takes_one thread.old word then u32_at (bytes_at memory.now thread.old.uniforms 4) 0 else 0) }
+    ensures items { accesses.new.items ≡ (if takes_one thread.old word then accesses.old.items ++ access who Read thread.old.uniforms 4 ∷ [] else accesses.old.items) }
+{
+    if takes_one(thread, word) {
+        return take_uniform(thread, who, memory, accesses);
+    }
+    0
+}
+
 // Does what an instruction says. `None` comes exactly where it is wild; then the thread is as it was.
-#[tactic(auto, using(crate::proofs::Tame::room0, crate::proofs::Tame::room1, crate::proofs::Frames::awake_keeps, crate::proofs::Frames::past_keeps))]
+#[tactic(auto, using(crate::proofs::Tame::room0, crate::proofs::Tame::room1, crate::proofs::Frames::awake_keeps, crate::proofs::Frames::fed_keeps))]
 fn obey(
     thread: &mut Thread,
     word: u64,
@@ -91,13 +110,9 @@ fn obey(
         list_access(who, Way::Wild, 0, 0, accesses);
         return None;
     }
-    if takes_one(thread, word) {
-        let uniform = take_uniform(thread, who, memory, accesses);
-        wake(words, thread);
-        return Some(execute(word, uniform, words, thread));
-    }
+    let uniform = uniform_for(thread, word, who, memory, accesses);
     wake(words, thread);
-    Some(execute(word, 0, words, thread))
+    Some(execute(word, uniform, words, thread))
 }
 
 /// One instruction of a thread, whose accesses are those of `who`. What the hardware leaves open is answered by the words; a

@@ -214,7 +214,7 @@ impl Watched {
         requires { IsTrue (enabled self.old unit) }
         ensures { Moves (step self.old (record { unit = unit; words = words.now })) accesses.new.items self.new }
     {
-        self.machine.step(unit, words, accesses);
+        self.machine.step_enabled(unit, words, accesses);
         if ask_after(&self.machine, unit, &mut self.may) {
             self.units = asked_units(&self.may);
         }
